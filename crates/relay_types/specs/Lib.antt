@@ -1,0 +1,10 @@
+pub mod Values
+pub mod Lists
+pub mod Records
+pub mod Judging
+pub mod Deliveries
+pub mod Endpoints
+pub mod Legal
+pub mod Rows
+pub mod SecretText
+pub mod Faults

@@ -1,0 +1,23 @@
+//! The values of the relay and the records of its history. Each value is made by a reader alone, which answers it exactly
+//! where its rule holds; contracts see it as a list of bytes or a number.
+#![tactic(auto)]
+
+mod body;
+mod fault;
+mod names;
+mod numbers;
+mod record;
+mod secret;
+mod shared;
+mod short;
+mod state;
+mod target;
+
+pub use crate::body::Body;
+pub use crate::fault::ReadFault;
+pub use crate::names::{MsgId, Name};
+pub use crate::numbers::{MaxLimit, Moment};
+pub use crate::record::{Record, Step};
+pub use crate::secret::{Secret, Secrets};
+pub use crate::state::State;
+pub use crate::target::Target;

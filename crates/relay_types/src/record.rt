@@ -1,0 +1,131 @@
+//! The records of a history, and the steps in which they are written.
+ghost use Rattle.std.specs.Prelude.{◌≡◌, [], ◌∷◌, IfOk};
+
+use crate::body::Body;
+use crate::names::{MsgId, Name};
+use crate::numbers::{MaxLimit, Moment};
+use crate::secret::Secrets;
+use crate::target::Target;
+use std::alloc::AllocError;
+use std::marker::Model;
+
+/// One entry of the history. Its sequence number is its place among all records, from 0.
+#[derive(Drop)]
+pub enum Record {
+    /// A new endpoint.
+    Put {
+        name: Name,
+        target: Target,
+        max: MaxLimit,
+        secrets: Secrets,
+    },
+    /// New secrets of an endpoint.
+    Secrets {
+        name: Name,
+        secrets: Secrets,
+    },
+    /// An endpoint is enabled or disabled.
+    Enabled {
+        name: Name,
+        flag: bool,
+    },
+    /// An event is taken in. Its sequence number names the delivery.
+    Accept {
+        name: Name,
+        id: MsgId,
+        body: Body,
+        at: Moment,
+    },
+    /// An attempt at a delivery ended: `status` is that of the answer, or 0 where none came.
+    Outcome {
+        delivery: u64,
+        attempt: u64,
+        status: u16,
+        at: Moment,
+    },
+}
+
+impl Record {
+    /// The same record for another holder. It copies no text and no body.
+    pub fn share(&self) -> Result<Record, AllocError>
+        ensures { IfOk result (λ same. same ≡ self.now) }
+    {
+        match self {
+            Record::Put {
+                name,
+                target,
+                max,
+                secrets,
+            } => Ok(Record::Put {
+                name: *name,
+                target: target.share()?,
+                max: *max,
+                secrets: *secrets,
+            }),
+            Record::Secrets { name, secrets } => Ok(Record::Secrets {
+                name: *name,
+                secrets: *secrets,
+            }),
+            Record::Enabled { name, flag } => Ok(Record::Enabled {
+                name: *name,
+                flag: *flag,
+            }),
+            Record::Accept { name, id, body, at } => Ok(Record::Accept {
+                name: *name,
+                id: *id,
+                body: body.share()?,
+                at: *at,
+            }),
+            Record::Outcome {
+                delivery,
+                attempt,
+                status,
+                at,
+            } => Ok(Record::Outcome {
+                delivery: *delivery,
+                attempt: *attempt,
+                status: *status,
+                at: *at,
+            }),
+        }
+    }
+}
+
+/// What is written at once. A contract sees the list of its records, of which there is one.
+#[derive(Drop)]
+pub struct Step {
+    entry: Record,
+}
+
+impl Model for Step {
+    ghost use Rattle.std.specs.Prelude.{List, [], ◌∷◌};
+    ghost use Rattle.relay_types.specs.declared.record.Record.{Record};
+
+    ghost Value = { List Record };
+
+    ghost view = { λ a. a.entry ∷ [] };
+}
+
+impl Step {
+    /// The step of this record.
+    pub fn of(entry: Record) -> Step
+        ensures { result ≡ entry ∷ [] }
+    {
+        Step { entry }
+    }
+
+    /// Its record.
+    pub fn record(&self) -> &Record
+        ensures { self.now ≡ result.now ∷ [] }
+    {
+        &self.entry
+    }
+
+    /// The same step for another holder. It copies no text and no body.
+    pub fn share(&self) -> Result<Step, AllocError>
+        ensures { IfOk result (λ same. same ≡ self.now) }
+    {
+        let entry = self.entry.share()?;
+        Ok(Step { entry })
+    }
+}

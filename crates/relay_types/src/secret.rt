@@ -1,0 +1,140 @@
+//! The secrets of endpoints.
+ghost use Rattle.std.specs.Prelude.{◌≡◌, ◌↔◌, ◌≤◌, length, IsTrue, IsOk, IfOk, IfErr, IfSome, slice_get};
+ghost use Rattle.relay_types.specs.Values.{is_secret, are_secrets};
+
+use crate::fault::ReadFault;
+use crate::short::Short;
+use std::marker::Model;
+
+/// A secret: 24 to 64 bytes.
+#[derive(Clone, Copy, PartialEq, Eq)]
+pub struct Secret {
+    bytes: Short<64>,
+}
+
+impl Model for Secret {
+    ghost use Rattle.std.specs.Prelude.{ℕ, List, IsTrue};
+    ghost use Rattle.relay_types.specs.Values.{is_secret};
+
+    ghost Value = { List ℕ };
+
+    ghost view = { λ a. a.bytes };
+
+    ghost invariant = { λ a. IsTrue (is_secret a.bytes) };
+
+    ghost inverse = { λ bytes. record { bytes = bytes } };
+}
+
+impl Secret {
+    /// The bytes.
+    pub fn as_bytes(&self) -> &[u8]
+        ensures bytes { result.now ≡ self.now }
+        ensures valid { IsTrue (is_secret self.now) }
+    {
+        self.bytes.as_slice()
+    }
+
+    // The secret itself, with what its type keeps.
+    fn checked(&self) -> Secret
+        ensures same { result ≡ self.now }
+        ensures valid { IsTrue (is_secret self.now) }
+    {
+        Secret { bytes: self.bytes }
+    }
+}
+
+/// 1 to 4 secrets, the newest first. A contract sees the list of them.
+#[derive(Clone, Copy, PartialEq, Eq)]
+pub struct Secrets {
+    first: Secret,
+    second: Option<Secret>,
+    third: Option<Secret>,
+    fourth: Option<Secret>,
+}
+
+impl Model for Secrets {
+    ghost use Rattle.std.specs.Prelude.{ℕ, List};
+    ghost use Rattle.relay_types.specs.Values.{the_secrets, AreFilledInOrder, nth_secret, first_secret};
+    ghost use Rattle.relay_types.specs.Values.{second_back, third_back, fourth_back};
+
+    ghost Value = { List (List ℕ) };
+
+    ghost view = { λ a. the_secrets a.first a.second a.third a.fourth };
+
+    ghost invariant = { λ a. AreFilledInOrder a.second a.third a.fourth };
+
+    ghost inverse = { λ list. record {
+      first = first_secret list;
+      second = nth_secret list 1;
+      third = nth_secret list 2;
+      fourth = nth_secret list 3;
+    } };
+
+    ghost inverse_ok = { λ a h i. record {
+      first = a.first;
+      second = second_back a.first a.second a.third a.fourth h i;
+      third = third_back a.first a.second a.third a.fourth h i;
+      fourth = fourth_back a.first a.second a.third a.fourth h i;
+    } };
+}
+
+impl Secrets {
+    /// Takes 1 to 4 secrets, the newest first.
+    pub fn of(secrets: &[Secret]) -> Result<Secrets, ReadFault>
+        ensures valid { IsOk result ↔ IsTrue (are_secrets secrets.now) }
+        ensures value { IfOk result (λ list. list ≡ secrets.now) }
+        ensures refusal { IfErr result (λ fault. fault ≡ ReadFault.BadSecret) }
+    {
+        match secrets {
+            [first] => Ok(Secrets {
+                first: first.checked(),
+                second: None,
+                third: None,
+                fourth: None,
+            }),
+            [first, second] => Ok(Secrets {
+                first: first.checked(),
+                second: Some(second.checked()),
+                third: None,
+                fourth: None,
+            }),
+            [first, second, third] => Ok(Secrets {
+                first: first.checked(),
+                second: Some(second.checked()),
+                third: Some(third.checked()),
+                fourth: None,
+            }),
+            [first, second, third, fourth] => Ok(Secrets {
+                first: first.checked(),
+                second: Some(second.checked()),
+                third: Some(third.checked()),
+                fourth: Some(fourth.checked()),
+            }),
+            _ => Err(ReadFault::BadSecret),
+        }
+    }
+
+    /// How many secrets these are.
+    pub fn count(&self) -> usize
+        ensures count { result ≡ length self.now }
+        ensures least { 1 ≤ length self.now }
+        ensures most { length self.now ≤ 4 }
+    {
+        1 + self.second.is_some() as usize
+            + self.third.is_some() as usize
+            + self.fourth.is_some() as usize
+    }
+
+    /// The secret at this place, 0 for the newest.
+    pub fn get(&self, place: usize) -> Option<Secret>
+        ensures { result ≡ slice_get self.now place }
+    {
+        match place {
+            0 => Some(self.first),
+            1 => self.second,
+            2 => self.third,
+            3 => self.fourth,
+            _ => None,
+        }
+    }
+}
