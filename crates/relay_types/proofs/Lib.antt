@@ -1,0 +1,2 @@
+pub mod Base64Laws
+pub mod SecretLaws
