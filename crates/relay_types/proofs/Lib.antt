@@ -1,2 +1,5 @@
 pub mod Base64Laws
 pub mod SecretLaws
+pub mod GrowthLaws
+mod WorkedValues
+mod WorkedRows
