@@ -1,8 +1,10 @@
 // HMAC at the vectors of RFC 4231, and headers that Python's `hmac` made.
 
-use crate::hmac;
+use crate::{hmac, signature_header};
+use relay_types::{Body, Moment, MsgId, Secret, Secrets};
 use std::alloc::{AllocError, Global};
 use std::process::Abort;
+use std::sync::Arc;
 use std::test::Fail;
 
 fn hex(alloc: Global, bytes: &[u8]) -> Result<String, AllocError> {
@@ -135,4 +137,60 @@ fn cuts(rt: HostRuntime) {
     for pieces in cuts {
         assert!(rt; hmac(b"Jefe", pieces) == whole, "{} pieces", pieces.len());
     }
+}
+
+fn secret(rt: &impl Abort, text: &[u8]) -> Secret {
+    match Secret::read(text) {
+        Ok(secret) => secret,
+        Err(fault) => panic!(rt; "{fault}"),
+    }
+}
+
+fn header(
+    rt: &impl Abort,
+    alloc: Global,
+    secrets: &[Secret],
+    id: &[u8],
+    at: u64,
+    body: &[u8],
+) -> Result<String, Fail> {
+    let body = Body::of(Arc::new(alloc, Vec::from_slice(alloc, body)?)?);
+    let parts = (Secrets::of(secrets), MsgId::read(id), Moment::of(at), body);
+    let (Ok(secrets), Ok(id), Ok(at), Ok(body)) = parts else {
+        panic!(rt; "no values")
+    };
+    Ok(signature_header(alloc, &secrets, &id, at, &body)?)
+}
+
+// The example of Standard Webhooks 1.0.0.
+#[test]
+fn example_of_standard_webhooks(rt: HostRuntime) -> Result<(), Fail> {
+    let secrets = [secret(&rt, b"whsec_MfKQ9r8GKYqrTwjUPD8ILPZIo2LaLaSw")];
+    let text = header(
+        &rt,
+        rt.alloc(),
+        &secrets,
+        b"msg_p5jXN8AQM9LWM0D4loKWxJek",
+        1_614_265_330,
+        b"{\"test\": 2432232314}",
+    )?;
+    assert_eq!(rt;
+        text.as_str(),
+        "v1,g0hM9SsE+OTPJTGt/tmIKtSyZlE3uFJELVlNIOLJ1OE="
+    );
+    Ok(())
+}
+
+// By Python's `hmac`.
+#[test]
+fn two_secrets(rt: HostRuntime) -> Result<(), Fail> {
+    let newest = secret(&rt, b"whsec_MDEyMzQ1Njc4OTAxMjM0NTY3ODkwMTIz");
+    let older = secret(&rt, b"whsec_AAAAAAAAAAAAAAAAAAAAAAAAAAAAAAAA");
+    let text = header(&rt, rt.alloc(), &[newest, older], b"msg_1", 1000, b"")?;
+    assert_eq!(rt; text.len(), 95);
+    assert_eq!(rt;
+        text.as_str(),
+        "v1,SWmnEwHTCxM5LOV+bjJ4VJ8UF8MOq1/kZ1YxmYp0p4g= v1,Yr85wgeyK4wnnPBNTS1SHnPM/J6uU3GDMZkDuR+XxGk="
+    );
+    Ok(())
 }
