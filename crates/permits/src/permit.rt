@@ -9,7 +9,7 @@ use std::sync::ledger::{Book, Ledger, Share, Total};
 /// The leave to post one attempt. `Pool::acquire` alone makes one and `Pool::give_back` alone ends one. It holds one part of
 /// the ledger, with one unit. Contracts see it as its row.
 pub struct Permit<L: Ledger> {
-    row: Row,
+    held: Row,
     unit: Share<L>,
 }
 
@@ -19,7 +19,7 @@ impl<L: Ledger> Model for Permit<L> {
 
     ghost Value = { Row };
 
-    ghost view = { λ p. p.row };
+    ghost view = { λ p. p.held };
 
     ghost invariant = { λ p. (p.unit.parts ≡ 1) × (p.unit.amount ≡ 1) };
 }
@@ -30,14 +30,14 @@ impl<L: Ledger> Permit<L> {
         requires amount { unit.amount ≡ 1 }
         ensures { result ≡ row }
     {
-        Permit { row, unit }
+        Permit { held: row, unit }
     }
 
     pub(crate) fn into_unit(self) -> Share<L>
         ensures parts { result.parts ≡ 1 }
         ensures amount { result.amount ≡ 1 }
     {
-        let Permit { row: _, unit } = self;
+        let Permit { held: _, unit } = self;
         unit
     }
 
@@ -62,27 +62,27 @@ impl<L: Ledger> Permit<L> {
     pub fn row(&self) -> Row
         ensures { result ≡ self.now }
     {
-        self.row
+        self.held
     }
 
     /// The endpoint that may be posted to.
     pub fn endpoint(&self) -> Name
         ensures { result ≡ self.now.endpoint }
     {
-        self.row.endpoint
+        self.row().endpoint
     }
 
     /// The sequence number of the delivery's Accept record.
     pub fn delivery(&self) -> u64
         ensures { result ≡ self.now.delivery }
     {
-        self.row.delivery
+        self.row().delivery
     }
 
     /// How many permits of the endpoint were out once this one was, itself counted.
     pub fn inflight(&self) -> u32
         ensures { result ≡ self.now.inflight }
     {
-        self.row.inflight
+        self.row().inflight
     }
 }

@@ -97,7 +97,7 @@ impl<L: Ledger> Pool<L> {
         if before >= limit {
             return Err(Refused::AtLimit);
         }
-        if self.rows.len() >= MOST {
+        if self.live() >= MOST {
             return Err(Refused::TooManyOut);
         }
         if self.is_out(delivery) {
