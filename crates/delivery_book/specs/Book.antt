@@ -1,25 +1,24 @@
 -- The histories for which a book stands, and what it tells of them.
-use Rattle.std.specs.Prelude.{◌≡◌, ℕ, ◌≤◌, Bool, true, false, List, length, Option, Some, None, option_map, filter_map, count_by, take, IsTrue}
+use Rattle.std.specs.Prelude.{◌≡◌, ℕ, ◌≤◌, Bool, true, false, List, length, Option, option_map, filter_map, count_by, IsTrue}
 use Rattle.std.specs.List.{list_all}
 use Rattle.relay_types.specs.declared.record.Record.{Record}
 use Rattle.relay_types.specs.declared.record.Record.TheVariants.{Put, Secrets, Enabled, Accept, Outcome}
 use Rattle.relay_types.specs.declared.state.State.{State}
 use Rattle.relay_types.specs.declared.state.State.TheVariants.{Pending, Delivered, Exhausted}
 use Rattle.relay_types.specs.Lists.{last_of}
-use Rattle.relay_types.specs.Records.{numbered}
-use Rattle.relay_types.specs.Deliveries.{accepted, deliveries, deliveries_of, attempts_of, state_of, is_in_state, is_pending, due_if_pending}
+use Rattle.relay_types.specs.Records.{Accepted, accepted_by, numbered}
+use Rattle.relay_types.specs.Deliveries.{accepted, deliveries, deliveries_of, attempts_of, state_of, is_in_state, due_if_pending}
 use Rattle.delivery_book.specs.declared.entry.Entry.{Entry}
 use Rattle.delivery_book.specs.declared.row.Counts.{Counts}
 use Rattle.delivery_book.specs.declared.row.Row.{Row}
 use Rattle.delivery_book.specs.Entries.{BookValue}
 
 -- the entry that a numbered record makes, if it is an Accept
+abbrev pub entry_for : ℕ → Accepted → Entry
+entry_for place a = record { place = place; name = a.endpoint; id = a.id; body = a.body; at = a.at }
+
 abbrev pub entry_by : (ℕ × Record) → Option Entry
-entry_by (place, Accept name id body at) = Some (record { place = place; name = name; id = id; body = body; at = at })
-entry_by (place, Put name target max secrets) = None
-entry_by (place, Secrets name secrets) = None
-entry_by (place, Enabled name flag) = None
-entry_by (place, Outcome delivery attempt status at) = None
+entry_by e = option_map (entry_for e.0) (accepted_by e.1)
 
 abbrev pub entries_of : List Record → List Entry
 entries_of records = filter_map entry_by (numbered records)

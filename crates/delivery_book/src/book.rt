@@ -1,11 +1,15 @@
 //! The book itself.
-ghost use Rattle.std.specs.Prelude.{◌≡◌, ◌≤◌, ◌<◌, ◌^◌, None, OnOk, OnErr};
+ghost use Rattle.std.specs.Prelude.{◌≡◌, ◌≤◌, ◌<◌, ◌^◌, ℕ, List, [], ◌∷◌, ◌++◌, length, take, None, option_copied, OnOk, OnErr};
+ghost use Rattle.relay_types.specs.declared.record.Record.{Record};
+ghost use Rattle.relay_types.specs.declared.record.Record.TheVariants.{Accept};
+ghost use Rattle.relay_types.specs.Deliveries.{known_as};
 ghost use Rattle.delivery_book.specs.Entries.{empty_book, with_entry, with_settled, known_in};
+ghost use Rattle.delivery_book.specs.Book.{StandsFor, row_of, body_of, counts_of, counts_of_all};
 
 use crate::entry::Entry;
 use crate::keys::EventKey;
 use crate::row::{Counts, Row};
-use crate::search::{count_below, entry_at, settle_all};
+use crate::search::{count_below, entry_at, settle_between};
 use crate::tally::Tally;
 use relay_types::{Body, Moment, MsgId, Name, State};
 use std::alloc::{AllocError, Global};
@@ -24,20 +28,22 @@ pub struct DeliveryBook {
 }
 
 impl Model for DeliveryBook {
-    ghost use Rattle.std.specs.Prelude.{◌≤◌, length};
     ghost use Rattle.delivery_book.specs.Entries.{BookValue};
 
     ghost Value = { BookValue };
 
     ghost view = { λ b. record { entries = b.entries.items; next_place = b.next_place; settled_place = b.settled_place } };
 
-    ghost invariant = { λ b. b.settled_entries ≤ length b.entries.items };
+    ghost use Rattle.delivery_book.specs.Kept.{IsBook};
+
+    ghost invariant = { λ b. IsBook b.entries.items b.index b.tally b.next_place b.settled_place b.settled_entries };
 }
 
 impl DeliveryBook {
     /// The book of the empty history.
     pub fn new(alloc: Global) -> DeliveryBook
         ensures value { result ≡ empty_book }
+        ensures stands { StandsFor result [] 0 }
     {
         DeliveryBook {
             entries: Vec::new(alloc),
@@ -62,6 +68,7 @@ impl DeliveryBook {
         requires above { self.old.next_place ≤ place }
         requires unknown { known_in self.old name id ≡ None }
         ensures accepted { OnOk result (self.new ≡ with_entry self.old (record { place = place; name = name; id = id; body = body; at = at })) }
+        ensures stands { OnOk result ((records : List Record) → (settled : ℕ) → StandsFor self.old records settled → place ≡ length records → StandsFor self.new (records ++ Accept name id body at ∷ []) settled) }
         ensures unchanged { OnErr result (self.new ≡ self.old) }
     {
         self.entries.reserve(1)?;
@@ -83,12 +90,11 @@ impl DeliveryBook {
     pub fn settle_to(&mut self, place: u64)
         requires { self.old.settled_place ≤ place }
         ensures value { self.new ≡ with_settled self.old place }
+        ensures stands { (records : List Record) → (settled : ℕ) → StandsFor self.old records settled → place ≤ length records → StandsFor self.new records place }
     {
         let upto = count_below(&self.entries, place);
-        if self.settled_entries < upto {
-            settle_all(&mut self.tally, &self.entries[self.settled_entries..upto]);
-            self.settled_entries = upto;
-        }
+        settle_between(&mut self.tally, &self.entries, self.settled_entries, upto);
+        self.settled_entries = upto;
         self.next_place = self.next_place.max(place);
         self.settled_place = place;
     }
@@ -108,26 +114,35 @@ impl DeliveryBook {
     }
 
     /// The delivery of the event that the endpoint knows by this id.
-    pub fn find(&self, name: Name, id: &MsgId) -> Option<u64> {
+    pub fn find(&self, name: Name, id: &MsgId) -> Option<u64>
+        ensures known { result ≡ known_in self.now name id.now }
+        ensures stands { (records : List Record) → (settled : ℕ) → StandsFor self.now records settled → result ≡ known_as records name id.now }
+    {
         self.index.get(&EventKey { name, id: *id }).copied()
     }
 
     /// The delivery.
-    pub fn row(&self, delivery: u64) -> Option<Row> {
-        let entry = entry_at(&self.entries, delivery)?;
-        Some(Row {
-            endpoint: entry.name,
-            id: entry.id,
-            at: entry.at,
-            attempts: 0,
-            state: State::Pending,
-            due: Some(entry.at),
-            last_status: None,
-        })
+    pub fn row(&self, delivery: u64) -> Option<Row>
+        ensures { (records : List Record) → (settled : ℕ) → StandsFor self.now records settled → result ≡ row_of records delivery }
+    {
+        match entry_at(&self.entries, delivery) {
+            Some(entry) => Some(Row {
+                endpoint: entry.name,
+                id: entry.id,
+                at: entry.at,
+                attempts: 0,
+                state: State::Pending,
+                due: Some(entry.at),
+                last_status: None,
+            }),
+            None => None,
+        }
     }
 
     /// The delivery as the settled records have it.
-    pub fn settled(&self, delivery: u64) -> Option<Row> {
+    pub fn settled(&self, delivery: u64) -> Option<Row>
+        ensures { (records : List Record) → (settled : ℕ) → StandsFor self.now records settled → result ≡ row_of (take settled records) delivery }
+    {
         if delivery < self.settled_place {
             self.row(delivery)
         } else {
@@ -136,23 +151,33 @@ impl DeliveryBook {
     }
 
     /// The body of the event.
-    pub fn body(&self, delivery: u64) -> Option<&Body> {
-        let entry = entry_at(&self.entries, delivery)?;
-        Some(&entry.body)
+    pub fn body(&self, delivery: u64) -> Option<&Body>
+        ensures { (records : List Record) → (settled : ℕ) → StandsFor self.now records settled → option_copied result ≡ body_of records delivery }
+    {
+        match entry_at(&self.entries, delivery) {
+            Some(entry) => Some(&entry.body),
+            None => None,
+        }
     }
 
     /// How many deliveries of the endpoint are pending.
-    pub fn pending(&self, name: Name) -> u64 {
+    pub fn pending(&self, name: Name) -> u64
+        ensures { (records : List Record) → (settled : ℕ) → StandsFor self.now records settled → result ≡ (counts_of records name).pending }
+    {
         self.tally.of(name).accepted
     }
 
     /// How many deliveries are pending.
-    pub fn pending_all(&self) -> u64 {
-        self.entries.len() as u64
+    pub fn pending_all(&self) -> u64
+        ensures { (records : List Record) → (settled : ℕ) → StandsFor self.now records settled → result ≡ (counts_of_all records).pending }
+    {
+        self.entries.as_slice().len() as u64
     }
 
     /// How many deliveries of the endpoint are in each state, as the settled records have them.
-    pub fn settled_counts(&self, name: Name) -> Counts {
+    pub fn settled_counts(&self, name: Name) -> Counts
+        ensures { (records : List Record) → (settled : ℕ) → StandsFor self.now records settled → result ≡ counts_of (take settled records) name }
+    {
         Counts {
             pending: self.tally.of(name).settled,
             delivered: 0,
@@ -161,7 +186,9 @@ impl DeliveryBook {
     }
 
     /// How many deliveries are in each state, as the settled records have them.
-    pub fn settled_counts_all(&self) -> Counts {
+    pub fn settled_counts_all(&self) -> Counts
+        ensures { (records : List Record) → (settled : ℕ) → StandsFor self.now records settled → result ≡ counts_of_all (take settled records) }
+    {
         Counts {
             pending: self.settled_entries as u64,
             delivered: 0,

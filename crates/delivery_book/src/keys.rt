@@ -1,10 +1,9 @@
 //! The keys of the book's maps, which are equal where their characters are.
-ghost use Rattle.std.specs.Prelude.{◌++◌, nat_eq};
+ghost use Rattle.std.specs.Prelude.{◌++◌};
 ghost use Rattle.std.specs.Hash as fed;
-ghost use Rattle.std.specs.Cmp.Lexicographic.{pointwise};
 ghost use Rattle.std.specs.Cmp.Rules.{comparing, hashing};
-ghost use Rattle.std.specs.Ordering.{on, eq_of_both};
 ghost use Rattle.std.proofs.Common.{rules};
+ghost use Rattle.delivery_book.specs.Kept.{same_endpoint, same_event};
 
 use relay_types::{MsgId, Name};
 use std::hash::{Hash, Hasher};
@@ -16,7 +15,7 @@ pub struct EndpointKey {
 }
 
 impl PartialEq for EndpointKey {
-    ghost eq = { on (λ k. k.name) (pointwise nat_eq) };
+    ghost eq = { same_endpoint };
 
     ghost laws = { Prim.search (comparing, rules) };
 
@@ -47,7 +46,7 @@ pub struct EventKey {
 }
 
 impl PartialEq for EventKey {
-    ghost eq = { eq_of_both (on (λ k. k.name) (pointwise nat_eq)) (on (λ k. k.id) (pointwise nat_eq)) };
+    ghost eq = { same_event };
 
     ghost laws = { Prim.search (comparing, rules) };
 
