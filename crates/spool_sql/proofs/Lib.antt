@@ -5,3 +5,5 @@ pub mod TypedLemmas
 pub mod UpdateLemmas
 pub mod Updates
 pub mod StepLemmas
+pub mod BareLemmas
+pub mod SelectLemmas

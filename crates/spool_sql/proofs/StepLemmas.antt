@@ -6,7 +6,7 @@ use Rattle.sqlite.specs.Order.{Row}
 use Rattle.sqlite.specs.State.{State, HasCleanDisk, Shows, IsUnchanged, IsRolledBack, KeepsCommit, Survives, ExecutesInside}
 use Rattle.sqlite.proofs.StateLemmas.{survives_then}
 use Rattle.relay_types.specs.Rows.{Rows}
-use Rattle.spool_sql.specs.Stored.{IsTables}
+use Rattle.spool_sql.specs.Stored.{IsTables, the_same}
 use Rattle.sqlite.specs.Store.{Ghosts}
 use Rattle.sqlite.specs.Held.{Held, state}
 use Rattle.sqlite.specs.Effect.{Database}
@@ -14,7 +14,7 @@ use Rattle.sqlite.proofs.Callers.{survives_begin}
 use Rattle.spool_sql.specs.Steps.{GoesOn, Alters, Spares, AreTablesOf, CommitsAs, Stands, MayLeave, Turns, Begins, Founds, IsBegun}
 use Rattle.spool_sql.specs.Tables.{no_schema, relay_schema}
 
-keeps_if : (a b : State) → IsUnchanged a b ⊎ IsRolledBack a b → KeepsCommit a b
+pub keeps_if : (a b : State) → IsUnchanged a b ⊎ IsRolledBack a b → KeepsCommit a b
 keeps_if a b (inl same) = record { was_open = λ _. same.0.was_open; committed = λ _. same.0.committed_is }
 keeps_if a b (inr back) = record { was_open = back.was_open; committed = λ is_open. (back.undone is_open).1 }
 
@@ -83,6 +83,10 @@ pub ok_then : {X E : Type 0} (r : Result X E) (P Q : X → Type 0) → IfOk r P 
 ok_then (Ok x) P Q h f = f x h
 ok_then (Err e) P Q h f = tt
 
+pub ok_always : {X E : Type 0} (r : Result X E) {P : Type 0} → P → IfOk r (λ _. P)
+ok_always (Ok x) p = p
+ok_always (Err e) p = tt
+
 -- what a commit makes of a connection
 pub turns_commit : {S : Type 0} (g : Ghosts S) (old : Held S) (mid new : State) (change : Rows → Rows) → Alters (state g (record old { in_transaction = true })) mid change
     → Shows mid new mid.now mid.now false → Turns (state g old) new change
@@ -103,3 +107,17 @@ pub founds_last : (a b c : State) (r : Result (Unit {0}) Error) → GoesOn a b �
 founds_last a b c (Ok done) on was h =
     record { on = record { was_open = on.was_open; is_open = h.on.is_open; now_is = refl; committed_is = h.on.committed_is ∙ on.committed_is; mode = h.on.mode }; founds = λ begun. h.begins (was begun) }
 founds_last a b c (Err e) on was h = tt
+
+-- a call that changes nothing
+pub alters_same : (a b : State) → IsTrue a.in_transaction → IsUnchanged a b → Alters a b the_same
+alters_same a b inside same = record {
+  on = record { was_open = same.0.was_open; is_open = same.0.is_open; now_is = refl; committed_is = same.0.committed_is; mode = same.0.mode ∙ inside };
+  makes = λ rows t. subst (λ d. IsTables d rows) (sym same.0.now_is) t;
+}
+
+pub alters_then_same : (a b c : State) (f : Rows → Rows) → Alters a b f → IsUnchanged b c → Alters a c f
+alters_then_same a b c f p same = alters_then a b c f the_same p (alters_same b c p.on.mode same)
+
+-- a change that is the same on every row
+pub alters_as : (a b : State) (f g : Rows → Rows) → ((rows : Rows) → f rows ≡ g rows) → Alters a b f → Alters a b g
+alters_as a b f g same p = record { on = p.on; makes = λ rows t. subst (IsTables b.now) (same rows) (p.makes rows t) }

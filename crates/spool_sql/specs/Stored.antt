@@ -1,5 +1,5 @@
 -- How the rows of a history are stored in the five tables.
-use Rattle.std.specs.Prelude.{◌≡◌, ℕ, pos, Bool, cond, List, [], ◌∷◌, ◌++◌, map, drop, filter, codes, bytes_eq, ◌&&◌, ◌==◌, Option, slice_get}
+use Rattle.std.specs.Prelude.{◌≡◌, ℕ, pos, Bool, cond, List, [], ◌∷◌, ◌++◌, map, drop, filter, codes, bytes_eq, Option, slice_get}
 use Rattle.sqlite.specs.declared.types.Value.TheVariants.{Null, Int, Text as Words, Blob as Bytes}
 use Rattle.sqlite.specs.Order.{Row}
 use Rattle.sqlite.specs.Effect.{Database}
@@ -67,9 +67,11 @@ first_rows = record { records = 0; endpoints = []; secrets = []; deliveries = []
 abbrev pub endpoints_named : List ℕ → Rows → List EndpointRow
 endpoints_named name rows = filter (λ (e : EndpointRow). bytes_eq e.name name) rows.endpoints
 
-abbrev pub deliveries_of : ℕ → List ℕ → Rows → List DeliveryRow
-deliveries_of endpoint id rows = filter (λ (d : DeliveryRow). (d.endpoint == endpoint) && bytes_eq d.id id) rows.deliveries
-
 -- the number of an endpoint of this name, none where no endpoint has it
 abbrev pub IsPutOf : List ℕ → Rows → Option ℕ → Type 0
 IsPutOf name rows found = (puts : List ℕ) × IsPermutation (map (λ (e : EndpointRow). e.put) (endpoints_named name rows)) puts × (found ≡ slice_get puts 0)
+
+-- the number that a row shows first
+abbrev pub number_of : Row → ℕ
+number_of (Int (pos n) ∷ rest) = n
+number_of _ = 0

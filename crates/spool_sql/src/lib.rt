@@ -3,11 +3,16 @@
 
 mod cause;
 mod create;
+mod find;
 mod opened;
 mod value;
 mod write;
 
 pub use crate::cause::{Cause, cause_of};
 pub use crate::create::create_tables;
+pub use crate::find::{count_endpoints, has_delivery, select_put};
 pub use crate::opened::probe;
 pub use crate::write::{insert_delivery, insert_endpoint, insert_secret, update_records};
+
+#[cfg(test)]
+mod tests;

@@ -1,0 +1,229 @@
+-- The SELECT statements.
+use Rattle.std.proofs.Common.{◌≡◌, ◌==◌, ◌&&◌, ◌||◌, ℕ, pos, List, [], ◌∷◌, map, filter, length, codes, bytes_eq, Bool, true, false, cond, Some, not, Option, slice_get, option_map, find, ◌≤◌, refl, sym, ap, subst, ◌∙◌, arith}
+use Rattle.std.proofs.lemmas.Bool.Decides.{nat_tests}
+use Rattle.std.specs.List.{list_any}
+use Rattle.std.specs.List.Sorted.{IsPermutation}
+use Rattle.std.specs.Ordering.{is_eq, int_cmp}
+use Rattle.sqlite_value.proofs.OrderLemmas.{value_cmp-Int, value_cmp-Text}
+use Rattle.sqlite_trees.proofs.ListLemmas.{IsPermutation-filter}
+use Rattle.std.proofs.lemmas.List.Sorted.{IsPermutation-map, IsPermutation-sym, IsPermutation-trans, length_permutation}
+use Rattle.std.proofs.lemmas.List.{length-map}
+use Rattle.std.proofs.lemmas.Map.Text.{is_eq-slice_cmp}
+use Rattle.sqlite.specs.Collation.TheVariants.{Binary}
+use Rattle.sqlite_sql.specs.declared.ops.BinaryOp.TheVariants.{Compare}
+use Rattle.sqlite_sql.specs.declared.ops.CompareOp.TheVariants.{Eq}
+use Rattle.sqlite.specs.declared.types.Value.TheVariants.{Int, Text}
+use Rattle.sqlite.specs.Order.{Row}
+use Rattle.sqlite_value.specs.Order.{column}
+use Rattle.sqlite_sql.specs.Ops.{binary, from_truth, is_true}
+use Rattle.sqlite.specs.Term.{Term, col, op2}
+use Rattle.sqlite.specs.Command.TheVariants.{Select}
+use Rattle.sqlite.specs.Listing.{understood, reads_listing}
+use Rattle.sqlite.specs.State.{State, Shown}
+use Rattle.sqlite.proofs.Callers.{IsPlain, command_of, reads_as, one_permutation}
+use Rattle.sqlite_tied.specs.Compute.{everything}
+use Rattle.relay_types.specs.Rows.{Rows, EndpointRow, DeliveryRow}
+use Rattle.spool_sql.specs.Tables.{relay_schema}
+use Rattle.spool_sql.specs.Stored.{IsTables, IsPutOf, number_of, endpoints_named, endpoint_stored, delivery_stored}
+use Rattle.spool_sql.proofs.BareLemmas.{IsBare}
+use Rattle.spool_sql.proofs.UpdateLemmas.{scan, shows, passes, scanned}
+
+abbrev pub named_select : List ℕ
+named_select = codes "SELECT put FROM endpoints WHERE name = ?1"
+
+abbrev by_name : List Term
+by_name = op2 (Compare Eq Binary) (col 1 2) (col 0 0) ∷ []
+
+named_select_is : command_of (understood relay_schema named_select) ≡ Select (record { lets = []; body = scan 1 by_name (col 1 0 ∷ []) }) (codes "put" ∷ [])
+unfolding understood everything
+named_select_is = refl
+
+named_select_plain : IsPlain (understood relay_schema named_select)
+unfolding understood everything
+named_select_plain = (refl, refl)
+
+named_select_unlisted : reads_listing relay_schema named_select ≡ false
+unfolding understood everything
+named_select_unlisted = refl
+
+pub named_select_bare : IsBare named_select
+unfolding understood everything
+named_select_bare schema base = refl
+
+abbrev pub endpoints_select : List ℕ
+endpoints_select = codes "SELECT put FROM endpoints"
+
+endpoints_select_is : command_of (understood relay_schema endpoints_select) ≡ Select (record { lets = []; body = scan 1 [] (col 1 0 ∷ []) }) (codes "put" ∷ [])
+unfolding understood everything
+endpoints_select_is = refl
+
+endpoints_select_plain : IsPlain (understood relay_schema endpoints_select)
+unfolding understood everything
+endpoints_select_plain = (refl, refl)
+
+endpoints_select_unlisted : reads_listing relay_schema endpoints_select ≡ false
+unfolding understood everything
+endpoints_select_unlisted = refl
+
+pub endpoints_select_bare : IsBare endpoints_select
+unfolding understood everything
+endpoints_select_bare schema base = refl
+
+abbrev pub delivery_select : List ℕ
+delivery_select = codes "SELECT seq FROM deliveries WHERE endpoint = ?1 AND id = ?2"
+
+abbrev by_id : List Term
+by_id = op2 (Compare Eq Binary) (col 1 2) (col 0 0) ∷ op2 (Compare Eq Binary) (col 1 3) (col 0 1) ∷ []
+
+delivery_select_is : command_of (understood relay_schema delivery_select) ≡ Select (record { lets = []; body = scan 5 by_id (col 1 0 ∷ []) }) (codes "seq" ∷ [])
+unfolding understood everything
+delivery_select_is = refl
+
+delivery_select_plain : IsPlain (understood relay_schema delivery_select)
+unfolding understood everything
+delivery_select_plain = (refl, refl)
+
+delivery_select_unlisted : reads_listing relay_schema delivery_select ≡ false
+unfolding understood everything
+delivery_select_unlisted = refl
+
+pub delivery_select_bare : IsBare delivery_select
+unfolding understood everything
+delivery_select_bare schema base = refl
+
+-- ---- what a test of a stored row says of the typed one
+
+told : (b : Bool) → is_true (from_truth (Some b)) ≡ b
+told true = refl
+told false = refl
+
+equal_texts : (s t : List ℕ) → is_true (binary (Compare Eq Binary) (Text s) (Text t)) ≡ bytes_eq s t
+unfolding binary
+equal_texts s t = told _ ∙ ap is_eq (value_cmp-Text s t) ∙ is_eq-slice_cmp s t
+
+equal_ints : (m n : ℕ) → is_eq (int_cmp (pos m) (pos n)) ≡ (m == n)
+equal_ints m n = grind (arith, nat_tests)
+
+equal_numbers : (m n : ℕ) → is_true (binary (Compare Eq Binary) (Int (pos m)) (Int (pos n))) ≡ (m == n)
+unfolding binary
+equal_numbers m n = told _ ∙ ap is_eq (value_cmp-Int (pos m) (pos n)) ∙ equal_ints m n
+
+and_true : (b : Bool) → b && true ≡ b
+and_true true = refl
+and_true false = refl
+
+-- ---- the typed rows that a query over one table finds
+
+filtered : {X : Type 0} (row : X → Row) (p : Row → Bool) (q : X → Bool) → ((x : X) → p (row x) ≡ q x) → (xs : List X) → filter p (map row xs) ≡ map row (filter q xs)
+filtered row p q same [] = refl
+filtered row p q same (x ∷ xs) = tested (p (row x)) (q x) (same x) (filtered row p q same xs)
+  where
+    tested : (a b : Bool) → a ≡ b → filter p (map row xs) ≡ map row (filter q xs) → cond a (row x ∷ filter p (map row xs)) (filter p (map row xs)) ≡ map row (cond b (x ∷ filter q xs) (filter q xs))
+    tested true true e rest = ap (λ zs. row x ∷ zs) rest
+    tested false false e rest = rest
+    tested true false e rest = absurd (let f = e in cc)
+    tested false true e rest = absurd (let f = e in cc)
+
+map_map : {X Y Z : Type 0} (f : X → Y) (g : Y → Z) (xs : List X) → map g (map f xs) ≡ map (λ x. g (f x)) xs
+map_map f g [] = refl
+map_map f g (x ∷ xs) = ap (λ zs. g (f x) ∷ zs) (map_map f g xs)
+
+finds : {X : Type 0} (row : X → Row) (params : Row) (tests shown : List Term) (q : X → Bool) → ((x : X) → passes params tests (row x) ≡ q x) → (tree : List Row) (xs : List X) (found : List Row)
+    → IsPermutation tree (map row xs) → IsPermutation (map (shows params shown) (filter (passes params tests) tree)) found → IsPermutation (map (λ x. shows params shown (row x)) (filter q xs)) found
+finds row params tests shown q same tree xs found are all =
+    let typed = IsPermutation-map (shows params shown) _ _ (IsPermutation-filter (passes params tests) _ _ (IsPermutation-sym _ _ are)) in
+    let these = ap (map (shows params shown)) (filtered row (passes params tests) q same xs) ∙ map_map row (shows params shown) (filter q xs) in
+    subst (λ l. IsPermutation l found) these (IsPermutation-trans _ _ _ typed all)
+
+-- ---- the three queries
+
+abbrev pub put_shown : EndpointRow → Row
+put_shown e = Int (pos e.put) ∷ []
+
+pub finds_named : (name : List ℕ) (old new : State) (found : List Row) → Shown named_select (Text name ∷ []) old new found → (rows : Rows) → IsTables old.now rows
+    → IsPermutation (map put_shown (endpoints_named name rows)) found
+finds_named name old new found h rows t =
+    let read = reads_as named_select (Text name ∷ []) old new relay_schema t.schema _ named_select_is named_select_plain named_select_unlisted found h in
+    finds endpoint_stored (Text name ∷ []) by_name (col 1 0 ∷ []) (λ (e : EndpointRow). bytes_eq e.name name) (λ e. and_true _ ∙ equal_texts e.name name) (old.now.trees 1) rows.endpoints found t.endpoints
+    (scanned 1 by_name (col 1 0 ∷ []) old.now.schema old.now.trees (Text name ∷ []) found read)
+
+pub finds_endpoints : (old new : State) (found : List Row) → Shown endpoints_select [] old new found → (rows : Rows) → IsTables old.now rows
+    → IsPermutation (map put_shown (filter (λ _. true) rows.endpoints)) found
+finds_endpoints old new found h rows t =
+    let read = reads_as endpoints_select [] old new relay_schema t.schema _ endpoints_select_is endpoints_select_plain endpoints_select_unlisted found h in
+    finds endpoint_stored [] [] (col 1 0 ∷ []) (λ _. true) (λ e. refl) (old.now.trees 1) rows.endpoints found t.endpoints
+    (scanned 1 [] (col 1 0 ∷ []) old.now.schema old.now.trees [] found read)
+
+abbrev pub delivery_params : ℕ → List ℕ → Row
+delivery_params endpoint id = Int (pos endpoint) ∷ Text id ∷ []
+
+abbrev pub is_delivery : ℕ → List ℕ → DeliveryRow → Bool
+is_delivery endpoint id d = (d.endpoint == endpoint) && bytes_eq d.id id
+
+pub finds_delivery : (endpoint : ℕ) (id : List ℕ) (old new : State) (found : List Row) → Shown delivery_select (delivery_params endpoint id) old new found → (rows : Rows) → IsTables old.now rows
+    → IsPermutation (map (λ (d : DeliveryRow). Int (pos d.seq) ∷ []) (filter (is_delivery endpoint id) rows.deliveries)) found
+finds_delivery endpoint id old new found h rows t =
+    let read = reads_as delivery_select (delivery_params endpoint id) old new relay_schema t.schema _ delivery_select_is delivery_select_plain delivery_select_unlisted found h in
+    finds delivery_stored (delivery_params endpoint id) by_id (col 1 0 ∷ []) (is_delivery endpoint id) (λ d. rw (equal_numbers d.endpoint endpoint, equal_texts d.id id) (ap (λ b. (d.endpoint == endpoint) && b) (and_true (bytes_eq d.id id))))
+    (old.now.trees 5) rows.deliveries found t.deliveries (scanned 5 by_id (col 1 0 ∷ []) old.now.schema old.now.trees (delivery_params endpoint id) found read)
+
+-- ---- what their answers say
+
+all_kept : {X : Type 0} (xs : List X) → filter (λ _. true) xs ≡ xs
+all_kept [] = refl
+all_kept (x ∷ xs) = ap (λ zs. x ∷ zs) (all_kept xs)
+
+any_kept : {X : Type 0} (q : X → Bool) (xs : List X) → not (length (filter q xs) == 0) ≡ list_any q xs
+any_kept q [] = refl
+any_kept q (x ∷ xs) = tested (q x) (any_kept q xs)
+  where
+    tested : (b : Bool) → not (length (filter q xs) == 0) ≡ list_any q xs → not (length (cond b (x ∷ filter q xs) (filter q xs)) == 0) ≡ (b || list_any q xs)
+    tested true e = grind (arith, nat_tests)
+    tested false e = e
+
+pub counts_endpoints : (old new : State) (found : List Row) → Shown endpoints_select [] old new found → (rows : Rows) → IsTables old.now rows → length found ≡ length rows.endpoints
+counts_endpoints old new found h rows t =
+    length_permutation _ found (finds_endpoints old new found h rows t) ∙ length-map _ put_shown ∙ ap length (all_kept rows.endpoints)
+
+pub tells_delivery : (endpoint : ℕ) (id : List ℕ) (old new : State) (found : List Row) → Shown delivery_select (delivery_params endpoint id) old new found → (rows : Rows) → IsTables old.now rows
+    → not (length found == 0) ≡ list_any (is_delivery endpoint id) rows.deliveries
+tells_delivery endpoint id old new found h rows t =
+    let many = length_permutation _ found (finds_delivery endpoint id old new found h rows t) ∙ length-map (filter (is_delivery endpoint id) rows.deliveries) _ in
+    ap (λ n. not (n == 0)) many ∙ any_kept (is_delivery endpoint id) rows.deliveries
+
+first_number : (found : List Row) → slice_get (map number_of found) 0 ≡ option_map number_of (slice_get found 0)
+first_number [] = refl
+first_number (r ∷ rest) = refl
+
+pub read_number : (r : Row) (n : ℕ) → column r 0 ≡ Int (pos n) → number_of r ≡ n
+read_number (v ∷ rest) n e = ap (λ x. number_of (x ∷ rest)) e
+read_number [] n e = absurd (let f = e in cc)
+
+puts_of : (name : List ℕ) (rows : Rows) (found : List Row) → IsPermutation (map put_shown (endpoints_named name rows)) found → IsPermutation (map (λ (e : EndpointRow). e.put) (endpoints_named name rows)) (map number_of found)
+puts_of name rows found same = subst (λ l. IsPermutation l (map number_of found)) (map_map put_shown number_of (endpoints_named name rows)) (IsPermutation-map number_of _ _ same)
+
+pub tells_put : (name : List ℕ) (old new : State) (found : List Row) → Shown named_select (Text name ∷ []) old new found → (put : Option ℕ) → put ≡ option_map number_of (slice_get found 0)
+    → (rows : Rows) → IsTables old.now rows → IsPutOf name rows put
+tells_put name old new found h put is rows t =
+    (map number_of found, puts_of name rows found (finds_named name old new found h rows t), is ∙ sym (first_number found))
+
+-- ---- for callers, where a name is that of at most one endpoint
+
+first_found : {X : Type 0} (q : X → Bool) (xs : List X) → find q xs ≡ slice_get (filter q xs) 0
+first_found q [] = refl
+first_found q (x ∷ xs) = tested (q x) (first_found q xs)
+  where
+    tested : (b : Bool) → find q xs ≡ slice_get (filter q xs) 0 → cond b (Some x) (find q xs) ≡ slice_get (cond b (x ∷ filter q xs) (filter q xs)) 0
+    tested true e = refl
+    tested false e = e
+
+one_at_most : (es : List EndpointRow) (puts : List ℕ) → length es ≤ 1 → IsPermutation (map (λ (e : EndpointRow). e.put) es) puts → slice_get puts 0 ≡ option_map (λ (e : EndpointRow). e.put) (slice_get es 0)
+one_at_most [] [] few same = refl
+one_at_most [] (p ∷ puts) few same = absurd (let e = length_permutation _ (p ∷ puts) same in omega (arith, e))
+one_at_most (e ∷ []) puts few same = ap (λ l. slice_get l 0) (one_permutation e.put puts same)
+one_at_most (e ∷ f ∷ es) puts few same = absurd (omega (arith, few))
+
+pub put_found : (name : List ℕ) (rows : Rows) (put : Option ℕ) → length (endpoints_named name rows) ≤ 1 → IsPutOf name rows put
+    → put ≡ option_map (λ (e : EndpointRow). e.put) (find (λ (e : EndpointRow). bytes_eq e.name name) rows.endpoints)
+put_found name rows put few it =
+    it.2 ∙ one_at_most (endpoints_named name rows) it.0 few it.1 ∙ ap (option_map (λ (e : EndpointRow). e.put)) (sym (first_found (λ (e : EndpointRow). bytes_eq e.name name) rows.endpoints))
