@@ -1,3 +1,5 @@
+pub mod TargetLemmas
+pub mod WorkedTargets
 pub mod Base64Laws
 pub mod SecretLaws
 pub mod GrowthLaws

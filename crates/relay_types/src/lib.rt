@@ -12,6 +12,8 @@ mod shared;
 mod short;
 mod state;
 mod target;
+#[cfg(test)]
+mod target_tests;
 
 pub use crate::body::Body;
 pub use crate::fault::ReadFault;
