@@ -1,6 +1,8 @@
 //! The header `webhook-signature`.
-ghost use Rattle.std.specs.Prelude.{◌≡◌, ◌++◌, codes, flat_map, IfOk, OnOk};
+ghost use Rattle.std.specs.Prelude.{◌≡◌, ◌++◌, codes, flat_map, IfOk, OnOk, IsTrue};
 ghost use Rattle.std.specs.String.{string_bytes};
+ghost use Rattle.std.specs.List.{list_all};
+ghost use Rattle.relay_types.specs.Values.{is_between};
 ghost use Rattle.hmac_signer.specs.Signature.{signature_header, signatures, signature};
 
 use crate::mac::hmac;
@@ -17,7 +19,8 @@ pub fn signature_header(
     at: Moment,
     body: &Body,
 ) -> Result<String, AllocError>
-    ensures { IfOk result (λ text. string_bytes text ≡ signature_header secrets.now id.now at body.now) }
+    ensures text { IfOk result (λ text. string_bytes text ≡ signature_header secrets.now id.now at body.now) }
+    ensures printable { IfOk result (λ text. IsTrue (list_all (is_between 32 126) (string_bytes text))) }
 {
     let timestamp = at.seconds().to_string(alloc)?;
     let content: [&[u8]; 5] = [
@@ -32,7 +35,8 @@ pub fn signature_header(
 
 // What each secret says of the joined pieces, with a space between each two.
 fn signatures(alloc: Global, secrets: &Secrets, pieces: &[&[u8]]) -> Result<String, AllocError>
-    ensures { IfOk result (λ text. string_bytes text ≡ signatures (flat_map (λ piece. piece.now) pieces.now) secrets.now) }
+    ensures { let content = flat_map (λ piece. piece.now) pieces.now in
+        IfOk result (λ text. string_bytes text ≡ signatures content secrets.now) }
 {
     let mut header = String::new(alloc);
     for place in 0..secrets.count() {
@@ -49,7 +53,8 @@ fn signatures(alloc: Global, secrets: &Secrets, pieces: &[&[u8]]) -> Result<Stri
 
 // Appends the signature that one secret makes of the joined pieces.
 fn add_signature(header: &mut String, secret: &[u8], pieces: &[&[u8]]) -> Result<(), AllocError>
-    ensures { OnOk result (string_bytes header.new ≡ string_bytes header.old ++ signature (flat_map (λ piece. piece.now) pieces.now) secret.now) }
+    ensures { let content = flat_map (λ piece. piece.now) pieces.now in
+        OnOk result (string_bytes header.new ≡ string_bytes header.old ++ signature content secret.now) }
 {
     header.push_str("v1,")?;
     STANDARD.encode_string(&hmac(secret, pieces), header)

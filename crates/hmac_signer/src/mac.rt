@@ -1,6 +1,6 @@
 //! HMAC over SHA-256.
 ghost use Rattle.std.specs.Prelude.{◌≡◌, ◌≤◌, length, flat_map};
-ghost use Rattle.hmac_signer.specs.Hmac.{block_key, with_zeros, xor_pad, pad_digest};
+ghost use Rattle.hmac_signer.specs.Hmac.{hmac, block_key, with_zeros, xor_pad, pad_digest};
 
 use sha2::{Digest, Sha256};
 
@@ -14,7 +14,7 @@ const OUTER_PAD: u8 = 0x5C;
 /// The HMAC-SHA256 (RFC 2104) of the joined pieces under a key of any length. It depends on the joined text alone, not on
 /// where it is cut, and takes no memory.
 pub fn hmac(key: &[u8], pieces: &[&[u8]]) -> [u8; 32]
-    ensures { result ≡ Rattle.hmac_signer.specs.Hmac.hmac key.now (flat_map (λ piece. piece.now) pieces.now) }
+    ensures { result ≡ hmac key.now (flat_map (λ piece. piece.now) pieces.now) }
 {
     let block = block_key(key);
     let inner = pad_digest(INNER_PAD, block, pieces);
