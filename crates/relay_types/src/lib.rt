@@ -23,3 +23,6 @@ pub use crate::record::{Record, Step};
 pub use crate::secret::{Secret, Secrets};
 pub use crate::state::State;
 pub use crate::target::Target;
+
+#[cfg(test)]
+mod tests;

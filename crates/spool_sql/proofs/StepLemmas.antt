@@ -1,0 +1,105 @@
+-- One statement after another.
+use Rattle.std.proofs.Common.{◌≡◌, ◌⊎◌, inl, inr, ℕ, List, Ok, Err, Result, IfOk, OnOk, IsTrue, true, false, refl, sym, subst, ◌∙◌, arith}
+use Rattle.sqlite.specs.declared.error.Error.{Error}
+use Rattle.sqlite.specs.Tree.{Trees}
+use Rattle.sqlite.specs.Order.{Row}
+use Rattle.sqlite.specs.State.{State, HasCleanDisk, Shows, IsUnchanged, IsRolledBack, KeepsCommit, Survives, ExecutesInside}
+use Rattle.sqlite.proofs.StateLemmas.{survives_then}
+use Rattle.relay_types.specs.Rows.{Rows}
+use Rattle.spool_sql.specs.Stored.{IsTables}
+use Rattle.sqlite.specs.Store.{Ghosts}
+use Rattle.sqlite.specs.Held.{Held, state}
+use Rattle.sqlite.specs.Effect.{Database}
+use Rattle.sqlite.proofs.Callers.{survives_begin}
+use Rattle.spool_sql.specs.Steps.{GoesOn, Alters, Spares, AreTablesOf, CommitsAs, Stands, MayLeave, Turns, Begins, Founds, IsBegun}
+use Rattle.spool_sql.specs.Tables.{no_schema, relay_schema}
+
+keeps_if : (a b : State) → IsUnchanged a b ⊎ IsRolledBack a b → KeepsCommit a b
+keeps_if a b (inl same) = record { was_open = λ _. same.0.was_open; committed = λ _. same.0.committed_is }
+keeps_if a b (inr back) = record { was_open = back.was_open; committed = λ is_open. (back.undone is_open).1 }
+
+-- a statement inside a transaction keeps the commit
+pub kept_inside : (sql : List ℕ) (params : Row) (a b : State) (r : Result ℕ Error) → ExecutesInside 0 sql params a b r → KeepsCommit a b
+kept_inside sql params a b (Ok count) h = record { was_open = λ _. h.1.was_open; committed = λ _. h.1.committed_is }
+kept_inside sql params a b (Err e) (inl h) = keeps_if a b h.1
+kept_inside sql params a b (Err e) (inr h) = keeps_if a b (inl h.2)
+
+keeps_then : (a b c : State) → KeepsCommit a b → KeepsCommit b c → KeepsCommit a c
+keeps_then a b c p q = record { was_open = λ is_open. p.was_open (q.was_open is_open); committed = λ is_open. q.committed is_open ∙ p.committed (q.was_open is_open) }
+
+pub spares_then : (a b c : State) → Spares a b → Spares b c → Spares a c
+spares_then a b c p q = record {
+  kept = λ clean. keeps_then a b c (p.kept (omega (arith, q.survives.clean))) (q.kept clean);
+  survives = survives_then a b c _ _ (λ _. ⊥) (λ _ db none. none) (λ _ db none. none) p.survives q.survives;
+}
+
+pub alters_then : (a b c : State) (f g : Rows → Rows) → Alters a b f → Alters b c g → Alters a c (λ rows. g (f rows))
+alters_then a b c f g p q = record {
+  on = record { was_open = p.on.was_open; is_open = q.on.is_open; now_is = refl; committed_is = q.on.committed_is ∙ p.on.committed_is; mode = q.on.mode };
+  makes = λ rows t. q.makes (f rows) (p.makes rows t);
+}
+
+pub alters_last : (a b c : State) (f g : Rows → Rows) (r : Result (Unit {0}) Error) → Alters a b f → OnOk r (Alters b c g) → OnOk r (Alters a c (λ rows. g (f rows)))
+alters_last a b c f g (Ok done) p q = alters_then a b c f g p q
+alters_last a b c f g (Err e) p q = tt
+
+pub tables_of : (d : Database) (rows : Rows) → IsTables d rows → AreTablesOf d.trees rows
+tables_of d rows t = record { schema = refl; meta = t.meta; endpoints = t.endpoints; secrets = t.secrets; deliveries = t.deliveries; attempts = t.attempts }
+
+-- what a transaction leaves that a commit ends
+pub survives_commit : {S : Type 0} (g : Ghosts S) (old : Held S) (mid new : State) (change : Rows → Rows) → Spares (state g (record old { in_transaction = true })) mid
+    → (HasCleanDisk mid → Alters (state g (record old { in_transaction = true })) mid change)
+    → Survives mid new (λ db. db ≡ mid.now.trees) → Survives (state g old) new (CommitsAs (state g old) change)
+survives_commit g old mid new change s made ended =
+    survives_then (state g old) mid new _ _ (CommitsAs (state g old) change) (λ _ db none. absurd none)
+    (λ clean db is rows at. rw is (tables_of mid.now (change rows) ((made (omega (arith, clean, ended.clean))).makes rows at.now)))
+    (survives_begin g old mid _ s.survives) ended
+
+pub stands_along : (a b : State) (rows : Rows) → Stands a rows → IsUnchanged a b → Stands b rows
+stands_along a b rows s same = record {
+  is_open = same.0.is_open;
+  autocommit = same.0.mode ∙ s.autocommit;
+  now = subst (λ d. IsTables d rows) (sym same.0.now_is) s.now;
+  committed = subst (λ d. IsTables d rows) (sym same.0.committed_is) s.committed;
+}
+
+-- while the store is open, a crash leaves the last commit
+pub leaves_commit : (s : State) (rows : Rows) → Stands s rows → ((db : Trees) → IsTrue s.is_open → s.may_leave db → db ≡ s.committed.trees) → MayLeave s (λ r. r ≡ rows)
+leaves_commit s rows at settled db may = (rows, refl, rw (settled db at.is_open may) (tables_of s.committed rows at.committed))
+
+-- what a call left that commits nothing
+pub leaves_along : (a b : State) (P : Rows → Type 0) → Survives a b (λ _. ⊥) → HasCleanDisk b → MayLeave a P → MayLeave b P
+leaves_along a b P s clean before db may = elim (s.crash clean db may) [ inl was ↦ before db was | inr none ↦ absurd none ]
+
+-- the old rows or the new ones
+pub leaves_either : (a b : State) (change : Rows → Rows) (rows : Rows) → Survives a b (CommitsAs a change) → HasCleanDisk b → Stands a rows
+    → ((db : Trees) → IsTrue a.is_open → a.may_leave db → db ≡ a.committed.trees) → MayLeave b (λ r. (r ≡ rows) ⊎ (r ≡ change rows))
+leaves_either a b change rows s clean at settled db may = elim (s.crash clean db may) [
+  | inl was ↦ (rows, inl refl, rw (settled db at.is_open was) (tables_of a.committed rows at.committed))
+  | inr new ↦ (change rows, inr refl, new rows at)
+]
+
+pub ok_then : {X E : Type 0} (r : Result X E) (P Q : X → Type 0) → IfOk r P → ((x : X) → P x → Q x) → IfOk r Q
+ok_then (Ok x) P Q h f = f x h
+ok_then (Err e) P Q h f = tt
+
+-- what a commit makes of a connection
+pub turns_commit : {S : Type 0} (g : Ghosts S) (old : Held S) (mid new : State) (change : Rows → Rows) → Alters (state g (record old { in_transaction = true })) mid change
+    → Shows mid new mid.now mid.now false → Turns (state g old) new change
+turns_commit g old mid new change made ended rows at =
+    let tables = made.makes rows at.now in
+    record {
+      is_open = ended.is_open;
+      autocommit = ended.mode;
+      now = subst (λ d. IsTables d (change rows)) (sym ended.now_is) tables;
+      committed = subst (λ d. IsTables d (change rows)) (sym ended.committed_is) tables;
+    }
+
+pub on_ok : {X E : Type 0} (r : Result X E) (P Q : Type 0) → OnOk r P → (P → Q) → OnOk r Q
+on_ok (Ok x) P Q h f = f h
+on_ok (Err e) P Q h f = tt
+
+pub founds_last : (a b c : State) (r : Result (Unit {0}) Error) → GoesOn a b → (IsBegun no_schema a.now → IsBegun relay_schema b.now) → OnOk r (Begins b c) → OnOk r (Founds a c)
+founds_last a b c (Ok done) on was h =
+    record { on = record { was_open = on.was_open; is_open = h.on.is_open; now_is = refl; committed_is = h.on.committed_is ∙ on.committed_is; mode = h.on.mode }; founds = λ begun. h.begins (was begun) }
+founds_last a b c (Err e) on was h = tt

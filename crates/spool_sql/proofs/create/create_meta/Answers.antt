@@ -1,0 +1,11 @@
+use Rattle.sqlite.specs.Held.{state}
+use Rattle.spool_sql.specs.Tables.{no_schema, meta, meta_text}
+use Rattle.spool_sql.proofs.CreateLemmas.{begins, makes_meta}
+use Rattle.spool_sql.proofs.create.create_meta.Goals as goal
+
+pub returns-clause-done : goal.returns-clause-done
+returns-clause-done g c clean inside =
+    let old = state g.S.Store c.args.tx.now.conn.now in
+    let new = state g.S.Store c.execute.new.self.conn.now in
+    let ran = c.in_ok-execute.ensures.runs clean inside in
+    record { on = ran.1; begins = begins no_schema meta_text meta makes_meta old new c.in_ok-execute.field-0 ran.0 }

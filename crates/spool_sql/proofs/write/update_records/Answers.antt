@@ -1,0 +1,10 @@
+use Rattle.sqlite.specs.Held.{state}
+use Rattle.spool_sql.proofs.Updates.{sets_records}
+use Rattle.spool_sql.proofs.write.update_records.Goals as goal
+
+pub returns-clause-done : goal.returns-clause-done
+returns-clause-done g c clean inside =
+    let old = state g.S.Store c.args.tx.now.conn.now in
+    let new = state g.S.Store c.execute.new.self.conn.now in
+    let ran = rw c.int.ensures at (c.in_ok-execute.ensures.runs clean inside) in
+    record { on = ran.1; makes = sets_records old new c.args.records c.in_ok-execute.field-0 ran.0 }

@@ -1,0 +1,4 @@
+pub mod Tables
+pub mod Stored
+pub mod Steps
+pub mod Causes

@@ -1,0 +1,92 @@
+-- What a statement of the relay leaves of a connection.
+use Rattle.std.specs.Prelude.{◌≡◌, ◌⊎◌, true, false, IsTrue, []}
+use Rattle.std.specs.List.{AllByRecursion}
+use Rattle.sqlite.specs.Tree.{Trees}
+use Rattle.sqlite.specs.Effect.{Database}
+use Rattle.sqlite.specs.Schema.{Schema}
+use Rattle.sqlite.specs.Table.{Table}
+use Rattle.sqlite.specs.State.{State, HasCleanDisk, Shows, KeepsCommit, Survives}
+use Rattle.sqlite_catalog.specs.Change.{created}
+use Rattle.relay_types.specs.Rows.{Rows}
+use Rattle.spool_sql.specs.Tables.{relay_schema, no_schema}
+use Rattle.spool_sql.specs.Stored.{IsTables, first_rows}
+
+-- ---- inside a transaction
+
+-- the transaction goes on, and the last commit stays
+abbrev pub GoesOn : State → State → Type 0
+GoesOn old new = Shows old new new.now old.committed true
+
+-- whatever rows the tables showed, they show these of them now
+abbrev pub Makes : State → State → (Rows → Rows) → Type 0
+Makes old new change = (rows : Rows) → IsTables old.now rows → IsTables new.now (change rows)
+
+-- the change is made, inside a transaction that goes on
+pub record Alters (old new : State) (change : Rows → Rows) : Type 0 where
+  pub on : GoesOn old new
+  pub makes : Makes old new change
+
+-- Whatever came of it, the last commit stands, and a crash leaves no more than it left before.
+pub record Spares (old new : State) : Type 0 where
+  pub kept : HasCleanDisk new → KeepsCommit old new
+  pub survives : Survives old new (λ _. ⊥)
+
+-- ---- a connection between transactions
+
+-- the connection is open, in no transaction, and the tables have these rows
+pub record Stands (s : State) (rows : Rows) : Type 0 where
+  pub is_open : IsTrue s.is_open
+  pub autocommit : s.in_transaction ≡ false
+  pub now : IsTables s.now rows
+  pub committed : IsTables s.committed rows
+
+abbrev pub AreTablesOf : Trees → Rows → Type 0
+AreTablesOf db rows = IsTables (record { schema = relay_schema; trees = db }) rows
+
+-- what an open after a crash at this moment may find
+abbrev pub MayLeave : State → (Rows → Type 0) → Type 0
+MayLeave s P = (db : Trees) → s.may_leave db → (rows : Rows) × P rows × AreTablesOf db rows
+
+-- where the tables had rows, they have these now
+abbrev pub Turns : State → State → (Rows → Rows) → Type 0
+Turns old new change = (rows : Rows) → Stands old rows → Stands new (change rows)
+
+-- what a commit of the change writes to the disk
+abbrev pub CommitsAs : State → (Rows → Rows) → Trees → Type 0
+CommitsAs old change db = (rows : Rows) → Stands old rows → AreTablesOf db (change rows)
+
+-- ---- how a commit of a change ends
+
+-- the change is made, and a stop leaves it
+abbrev pub EndsWith : State → State → (Rows → Rows) → Type 0
+EndsWith old new change = (rows : Rows) → Stands old rows → Stands new (change rows) × MayLeave new (λ r. r ≡ change rows)
+
+-- nothing is changed, and a stop leaves the old rows
+abbrev pub EndsWithout : State → State → Type 0
+EndsWithout old new = (rows : Rows) → Stands old rows → Stands new rows × MayLeave new (λ r. r ≡ rows)
+
+-- a stop leaves the old rows or the new ones
+abbrev pub EndsInDoubt : State → State → (Rows → Rows) → Type 0
+EndsInDoubt old new change = (rows : Rows) → Stands old rows → MayLeave new (λ r. (r ≡ rows) ⊎ (r ≡ change rows))
+
+-- ---- the tables as they are made
+
+-- the database has the tables of the schema, and they are empty
+pub record IsBegun (schema : Schema) (db : Database) : Type 0 where
+  pub schema_is : db.schema ≡ schema
+  pub empty : AllByRecursion (λ (t : Table). db.trees t.tree ≡ []) schema.tables
+
+-- inside a transaction, a table is added
+pub record Adds (schema : Schema) (table : Table) (old new : State) : Type 0 where
+  pub on : GoesOn old new
+  pub begins : IsBegun schema old.now → IsBegun (created schema table) new.now
+
+-- inside a transaction, the row of meta is added to the tables as they are made
+pub record Begins (old new : State) : Type 0 where
+  pub on : GoesOn old new
+  pub begins : IsBegun relay_schema old.now → IsTables new.now first_rows
+
+-- inside a transaction, a store without tables becomes that of the history with no record
+pub record Founds (old new : State) : Type 0 where
+  pub on : GoesOn old new
+  pub founds : IsBegun no_schema old.now → IsTables new.now first_rows

@@ -1,0 +1,75 @@
+-- How the rows of a history are stored in the five tables.
+use Rattle.std.specs.Prelude.{◌≡◌, ℕ, pos, Bool, cond, List, [], ◌∷◌, ◌++◌, map, drop, filter, codes, bytes_eq, ◌&&◌, ◌==◌, Option, slice_get}
+use Rattle.sqlite.specs.declared.types.Value.TheVariants.{Null, Int, Text as Words, Blob as Bytes}
+use Rattle.sqlite.specs.Order.{Row}
+use Rattle.sqlite.specs.Effect.{Database}
+use Rattle.std.specs.List.Sorted.{IsPermutation}
+use Rattle.relay_types.specs.Rows.{Rows, EndpointRow, SecretRow, DeliveryRow, AttemptRow}
+use Rattle.spool_sql.specs.Tables.{relay_schema}
+
+-- ---- a row as it is stored: its rowid, and then its columns, with NULL where the rowid stands for one
+
+-- the one row of meta: the application, the version of the tables and how many records they hold
+abbrev pub meta_stored : ℕ → Row
+meta_stored records = Int (pos 1) ∷ Null ∷ Words (codes "webhook-relay") ∷ Int (pos 1) ∷ Int (pos records) ∷ []
+
+abbrev pub flag_number : Bool → ℕ
+flag_number flag = cond flag 1 0
+
+abbrev pub endpoint_stored : EndpointRow → Row
+endpoint_stored e = Int (pos e.put) ∷ Null ∷ Words e.name ∷ Words e.url ∷ Int (pos e.max) ∷ Int (pos (flag_number e.enabled)) ∷ Int (pos e.enabled_by) ∷ Int (pos e.secrets_by) ∷ []
+
+abbrev pub delivery_stored : DeliveryRow → Row
+delivery_stored d = Int (pos d.seq) ∷ Null ∷ Int (pos d.endpoint) ∷ Words d.id ∷ Int (pos d.at) ∷ Bytes d.body ∷ []
+
+abbrev pub attempt_stored : AttemptRow → Row
+attempt_stored a = Int (pos a.seq) ∷ Null ∷ Int (pos a.delivery) ∷ Int (pos a.number) ∷ Int (pos a.status) ∷ Int (pos a.at) ∷ []
+
+-- what follows the rowid, which nobody sees
+abbrev pub secret_stored : SecretRow → Row
+secret_stored s = Int (pos s.endpoint) ∷ Int (pos s.place) ∷ Bytes s.secret ∷ []
+
+-- the tables of the relay, with these rows in any order
+pub record IsTables (db : Database) (rows : Rows) : Type 0 where
+  pub schema : db.schema ≡ relay_schema
+  pub meta : db.trees 0 ≡ meta_stored rows.records ∷ []
+  pub endpoints : IsPermutation (db.trees 1) (map endpoint_stored rows.endpoints)
+  pub secrets : IsPermutation (map (drop 1) (db.trees 3)) (map secret_stored rows.secrets)
+  pub deliveries : IsPermutation (db.trees 5) (map delivery_stored rows.deliveries)
+  pub attempts : IsPermutation (db.trees 7) (map attempt_stored rows.attempts)
+
+-- ---- what each statement makes of the rows
+
+abbrev pub with_records : ℕ → Rows → Rows
+with_records n rows = record rows { records = n }
+
+abbrev pub with_endpoint : EndpointRow → Rows → Rows
+with_endpoint e rows = record rows { endpoints = rows.endpoints ++ e ∷ [] }
+
+abbrev pub with_secret : SecretRow → Rows → Rows
+with_secret s rows = record rows { secrets = rows.secrets ++ s ∷ [] }
+
+abbrev pub with_delivery : DeliveryRow → Rows → Rows
+with_delivery d rows = record rows { deliveries = rows.deliveries ++ d ∷ [] }
+
+abbrev pub with_attempt : AttemptRow → Rows → Rows
+with_attempt a rows = record rows { attempts = rows.attempts ++ a ∷ [] }
+
+abbrev pub the_same : Rows → Rows
+the_same rows = rows
+
+-- the rows of the history with no record
+abbrev pub first_rows : Rows
+first_rows = record { records = 0; endpoints = []; secrets = []; deliveries = []; attempts = [] }
+
+-- ---- what is asked of the rows
+
+abbrev pub endpoints_named : List ℕ → Rows → List EndpointRow
+endpoints_named name rows = filter (λ (e : EndpointRow). bytes_eq e.name name) rows.endpoints
+
+abbrev pub deliveries_of : ℕ → List ℕ → Rows → List DeliveryRow
+deliveries_of endpoint id rows = filter (λ (d : DeliveryRow). (d.endpoint == endpoint) && bytes_eq d.id id) rows.deliveries
+
+-- the number of an endpoint of this name, none where no endpoint has it
+abbrev pub IsPutOf : List ℕ → Rows → Option ℕ → Type 0
+IsPutOf name rows found = (puts : List ℕ) × IsPermutation (map (λ (e : EndpointRow). e.put) (endpoints_named name rows)) puts × (found ≡ slice_get puts 0)

@@ -1,0 +1,93 @@
+//! The five tables, as they are made.
+ghost use Rattle.std.specs.Prelude.{◌≡◌, IsTrue, OnOk};
+ghost use Rattle.sqlite.specs.State.{HasCleanDisk};
+ghost use Rattle.sqlite.specs.Held.{state};
+ghost use Rattle.spool_sql.specs.Tables.{no_schema, schema_1, schema_2, schema_3, schema_4, meta, endpoints, secrets, deliveries, attempts};
+ghost use Rattle.spool_sql.specs.Steps.{Adds, Begins, Founds, Spares};
+
+use sqlite::{Alter, Error, Transaction};
+
+/// Makes the five tables and the row of `meta`, in a store without tables: the rows of the history with no record.
+///
+/// A table that is there already is refused as `NameTaken`.
+pub fn create_tables<S: Alter>(tx: &mut Transaction<'_, S>) -> Result<(), Error>
+    ensures same_reference { tx.new.conn.ghost_name ≡ tx.old.conn.ghost_name }
+    ensures done { HasCleanDisk (state S.Store tx.new.conn.now) → IsTrue (state S.Store tx.old.conn.now).in_transaction → OnOk result (Founds (state S.Store tx.old.conn.now) (state S.Store tx.new.conn.now)) }
+    ensures spares { Spares (state S.Store tx.old.conn.now) (state S.Store tx.new.conn.now) }
+{
+    create_meta(tx)?;
+    create_endpoints(tx)?;
+    create_secrets(tx)?;
+    create_deliveries(tx)?;
+    create_attempts(tx)?;
+    insert_first_meta(tx)
+}
+
+fn create_meta<S: Alter>(tx: &mut Transaction<'_, S>) -> Result<(), Error>
+    ensures same_reference { tx.new.conn.ghost_name ≡ tx.old.conn.ghost_name }
+    ensures done { HasCleanDisk (state S.Store tx.new.conn.now) → IsTrue (state S.Store tx.old.conn.now).in_transaction → OnOk result (Adds no_schema meta (state S.Store tx.old.conn.now) (state S.Store tx.new.conn.now)) }
+    ensures spares { Spares (state S.Store tx.old.conn.now) (state S.Store tx.new.conn.now) }
+{
+    tx.execute(
+        "CREATE TABLE meta(k INTEGER PRIMARY KEY CHECK(k = 1), app TEXT NOT NULL, version INTEGER NOT NULL, records INTEGER NOT NULL) STRICT",
+        &[],
+    )?;
+    Ok(())
+}
+
+fn create_endpoints<S: Alter>(tx: &mut Transaction<'_, S>) -> Result<(), Error>
+    ensures same_reference { tx.new.conn.ghost_name ≡ tx.old.conn.ghost_name }
+    ensures done { HasCleanDisk (state S.Store tx.new.conn.now) → IsTrue (state S.Store tx.old.conn.now).in_transaction → OnOk result (Adds schema_1 endpoints (state S.Store tx.old.conn.now) (state S.Store tx.new.conn.now)) }
+    ensures spares { Spares (state S.Store tx.old.conn.now) (state S.Store tx.new.conn.now) }
+{
+    tx.execute(
+        "CREATE TABLE endpoints(put INTEGER PRIMARY KEY, name TEXT NOT NULL UNIQUE, url TEXT NOT NULL, max INTEGER NOT NULL, enabled INTEGER NOT NULL, enabled_by INTEGER NOT NULL, secrets_by INTEGER NOT NULL) STRICT",
+        &[],
+    )?;
+    Ok(())
+}
+
+fn create_secrets<S: Alter>(tx: &mut Transaction<'_, S>) -> Result<(), Error>
+    ensures same_reference { tx.new.conn.ghost_name ≡ tx.old.conn.ghost_name }
+    ensures done { HasCleanDisk (state S.Store tx.new.conn.now) → IsTrue (state S.Store tx.old.conn.now).in_transaction → OnOk result (Adds schema_2 secrets (state S.Store tx.old.conn.now) (state S.Store tx.new.conn.now)) }
+    ensures spares { Spares (state S.Store tx.old.conn.now) (state S.Store tx.new.conn.now) }
+{
+    tx.execute(
+        "CREATE TABLE secrets(endpoint INTEGER NOT NULL REFERENCES endpoints(put), place INTEGER NOT NULL, secret BLOB NOT NULL, PRIMARY KEY(endpoint, place)) STRICT",
+        &[],
+    )?;
+    Ok(())
+}
+
+fn create_deliveries<S: Alter>(tx: &mut Transaction<'_, S>) -> Result<(), Error>
+    ensures same_reference { tx.new.conn.ghost_name ≡ tx.old.conn.ghost_name }
+    ensures done { HasCleanDisk (state S.Store tx.new.conn.now) → IsTrue (state S.Store tx.old.conn.now).in_transaction → OnOk result (Adds schema_3 deliveries (state S.Store tx.old.conn.now) (state S.Store tx.new.conn.now)) }
+    ensures spares { Spares (state S.Store tx.old.conn.now) (state S.Store tx.new.conn.now) }
+{
+    tx.execute(
+        "CREATE TABLE deliveries(seq INTEGER PRIMARY KEY, endpoint INTEGER NOT NULL REFERENCES endpoints(put), id TEXT NOT NULL, at INTEGER NOT NULL, body BLOB NOT NULL, UNIQUE(endpoint, id)) STRICT",
+        &[],
+    )?;
+    Ok(())
+}
+
+fn create_attempts<S: Alter>(tx: &mut Transaction<'_, S>) -> Result<(), Error>
+    ensures same_reference { tx.new.conn.ghost_name ≡ tx.old.conn.ghost_name }
+    ensures done { HasCleanDisk (state S.Store tx.new.conn.now) → IsTrue (state S.Store tx.old.conn.now).in_transaction → OnOk result (Adds schema_4 attempts (state S.Store tx.old.conn.now) (state S.Store tx.new.conn.now)) }
+    ensures spares { Spares (state S.Store tx.old.conn.now) (state S.Store tx.new.conn.now) }
+{
+    tx.execute(
+        "CREATE TABLE attempts(seq INTEGER PRIMARY KEY, delivery INTEGER NOT NULL REFERENCES deliveries(seq), number INTEGER NOT NULL, status INTEGER NOT NULL, at INTEGER NOT NULL, UNIQUE(delivery, number)) STRICT",
+        &[],
+    )?;
+    Ok(())
+}
+
+fn insert_first_meta<S: Alter>(tx: &mut Transaction<'_, S>) -> Result<(), Error>
+    ensures same_reference { tx.new.conn.ghost_name ≡ tx.old.conn.ghost_name }
+    ensures done { HasCleanDisk (state S.Store tx.new.conn.now) → IsTrue (state S.Store tx.old.conn.now).in_transaction → OnOk result (Begins (state S.Store tx.old.conn.now) (state S.Store tx.new.conn.now)) }
+    ensures spares { Spares (state S.Store tx.old.conn.now) (state S.Store tx.new.conn.now) }
+{
+    tx.execute("INSERT INTO meta VALUES(1, 'webhook-relay', 1, 0)", &[])?;
+    Ok(())
+}

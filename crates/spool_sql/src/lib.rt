@@ -1,0 +1,13 @@
+//! The prepared statements of the relay's tables. Each is a typed function, one call of the database inside a transaction.
+#![tactic(auto)]
+
+mod cause;
+mod create;
+mod opened;
+mod value;
+mod write;
+
+pub use crate::cause::{Cause, cause_of};
+pub use crate::create::create_tables;
+pub use crate::opened::probe;
+pub use crate::write::{insert_delivery, insert_endpoint, insert_secret, update_records};

@@ -1,0 +1,100 @@
+//! The rows that are added or changed.
+ghost use Rattle.std.specs.Prelude.{◌≡◌, ◌<◌, ◌^◌, true, IsTrue, OnOk};
+ghost use Rattle.sqlite.specs.State.{HasCleanDisk};
+ghost use Rattle.sqlite.specs.Held.{state};
+ghost use Rattle.spool_sql.specs.Stored.{with_endpoint, with_secret, with_delivery, with_records};
+ghost use Rattle.spool_sql.specs.Steps.{Alters, Spares};
+
+use crate::value::int;
+use sqlite::{Alter, Error, Transaction};
+use sqlite_value::value::ValueRef;
+
+/// Adds an enabled endpoint that the record with number `put` made. The name and the url are ASCII.
+pub fn insert_endpoint<S: Alter>(
+    tx: &mut Transaction<'_, S>,
+    put: u64,
+    name: &[u8],
+    url: &[u8],
+    max: u64,
+) -> Result<(), Error>
+    requires put { put < 2 ^ 63 }
+    requires max { max < 2 ^ 63 }
+    ensures same_reference { tx.new.conn.ghost_name ≡ tx.old.conn.ghost_name }
+    ensures done { HasCleanDisk (state S.Store tx.new.conn.now) → IsTrue (state S.Store tx.old.conn.now).in_transaction → OnOk result (Alters (state S.Store tx.old.conn.now) (state S.Store tx.new.conn.now)
+        (with_endpoint (record { put = put; name = name.now; url = url.now; max = max; enabled = true; enabled_by = put; secrets_by = put }))) }
+    ensures spares { Spares (state S.Store tx.old.conn.now) (state S.Store tx.new.conn.now) }
+{
+    tx.execute(
+        "INSERT INTO endpoints VALUES(?1, ?2, ?3, ?4, 1, ?1, ?1)",
+        &[
+            int(put),
+            ValueRef::Text(name),
+            ValueRef::Text(url),
+            int(max),
+        ],
+    )?;
+    Ok(())
+}
+
+/// Adds a secret of the endpoint that the record with number `endpoint` made.
+pub fn insert_secret<S: Alter>(
+    tx: &mut Transaction<'_, S>,
+    endpoint: u64,
+    place: u64,
+    secret: &[u8],
+) -> Result<(), Error>
+    requires endpoint { endpoint < 2 ^ 63 }
+    requires place { place < 2 ^ 63 }
+    ensures same_reference { tx.new.conn.ghost_name ≡ tx.old.conn.ghost_name }
+    ensures done { HasCleanDisk (state S.Store tx.new.conn.now) → IsTrue (state S.Store tx.old.conn.now).in_transaction → OnOk result (Alters (state S.Store tx.old.conn.now) (state S.Store tx.new.conn.now)
+        (with_secret (record { endpoint = endpoint; place = place; secret = secret.now }))) }
+    ensures spares { Spares (state S.Store tx.old.conn.now) (state S.Store tx.new.conn.now) }
+{
+    tx.execute(
+        "INSERT INTO secrets VALUES(?1, ?2, ?3)",
+        &[int(endpoint), int(place), ValueRef::Blob(secret)],
+    )?;
+    Ok(())
+}
+
+/// Adds an event that the record with number `seq` took in, for the endpoint that the record with number `endpoint`
+/// made. The id is ASCII, and `at` is in seconds since the epoch.
+pub fn insert_delivery<S: Alter>(
+    tx: &mut Transaction<'_, S>,
+    seq: u64,
+    endpoint: u64,
+    id: &[u8],
+    at: u64,
+    body: &[u8],
+) -> Result<(), Error>
+    requires seq { seq < 2 ^ 63 }
+    requires endpoint { endpoint < 2 ^ 63 }
+    requires at { at < 2 ^ 63 }
+    ensures same_reference { tx.new.conn.ghost_name ≡ tx.old.conn.ghost_name }
+    ensures done { HasCleanDisk (state S.Store tx.new.conn.now) → IsTrue (state S.Store tx.old.conn.now).in_transaction → OnOk result (Alters (state S.Store tx.old.conn.now) (state S.Store tx.new.conn.now)
+        (with_delivery (record { seq = seq; endpoint = endpoint; id = id.now; at = at; body = body.now }))) }
+    ensures spares { Spares (state S.Store tx.old.conn.now) (state S.Store tx.new.conn.now) }
+{
+    tx.execute(
+        "INSERT INTO deliveries VALUES(?1, ?2, ?3, ?4, ?5)",
+        &[
+            int(seq),
+            int(endpoint),
+            ValueRef::Text(id),
+            int(at),
+            ValueRef::Blob(body),
+        ],
+    )?;
+    Ok(())
+}
+
+/// Sets how many records the tables hold.
+pub fn update_records<S: Alter>(tx: &mut Transaction<'_, S>, records: u64) -> Result<(), Error>
+    requires records { records < 2 ^ 63 }
+    ensures same_reference { tx.new.conn.ghost_name ≡ tx.old.conn.ghost_name }
+    ensures done { HasCleanDisk (state S.Store tx.new.conn.now) → IsTrue (state S.Store tx.old.conn.now).in_transaction → OnOk result (Alters (state S.Store tx.old.conn.now) (state S.Store tx.new.conn.now) (with_records records)) }
+    ensures spares { Spares (state S.Store tx.old.conn.now) (state S.Store tx.new.conn.now) }
+{
+    tx.execute("UPDATE meta SET records = ?1", &[int(records)])?;
+    Ok(())
+}
