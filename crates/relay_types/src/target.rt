@@ -57,6 +57,7 @@ impl Target {
     pub fn as_bytes(&self) -> &[u8]
         ensures text { result.now ≡ self.now }
         ensures valid { IsTrue (is_target self.now) }
+        ensures most { length self.now ≤ 2048 }
     {
         self.text.as_slice()
     }
