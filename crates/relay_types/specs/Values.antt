@@ -1,7 +1,7 @@
 -- The rules that the small values keep.
-use Rattle.std.specs.Prelude.{◌≡◌, ℕ, ◌+◌, ◌-◌, ◌*◌, ◌^◌, Bool, true, ◌&&◌, ◌||◌, ◌==◌, nat_le, List, [], ◌∷◌, length, take, drop, fold, Option, Some, None, slice_get, codes, decimal, bytes_eq, refl}
-use Rattle.std.specs.List.{list_all, list_any, before_first}
-use Rattle.std.specs.Str.{str_to_ascii_lowercase}
+use Rattle.std.specs.Prelude.{◌≡◌, ℕ, ◌+◌, ◌-◌, ◌*◌, ◌^◌, Bool, true, ◌&&◌, ◌||◌, ◌==◌, nat_le, List, [], ◌∷◌, length, take, drop, fold, Option, Some, None, slice_get, codes, nat_eq, not, refl}
+use Rattle.std.specs.List.{list_all, list_any, before_first, starts_with}
+use Rattle.std.specs.Str.{str_eq_ignore_ascii_case}
 use Rattle.std.proofs.Common.{sym}
 
 abbrev pub is_between : ℕ → ℕ → ℕ → Bool
@@ -48,31 +48,25 @@ abbrev pub are_secrets : List (List ℕ) → Bool
 are_secrets secrets = is_between 1 4 (length secrets) && list_all is_secret secrets
 
 -- A target is `http://` in any letter case, a host, perhaps `:` and a port, and perhaps a path from its `/` on.
+abbrev pub has_scheme : List ℕ → Bool
+has_scheme text = str_eq_ignore_ascii_case (take 7 text) (codes "http://")
 
--- what stands behind the scheme; up to the first `/` of it; from that on
 abbrev pub behind_scheme : List ℕ → List ℕ
 behind_scheme text = drop 7 text
 
+-- up to the first `/` behind the scheme; from that `/` on
 abbrev pub authority_of : List ℕ → List ℕ
 authority_of text = before_first (λ c. c == 47) (behind_scheme text)
 
-abbrev pub path_of : List ℕ → List ℕ
-path_of text = drop (length (authority_of text)) (behind_scheme text)
+abbrev pub path_part_of : List ℕ → List ℕ
+path_part_of text = drop (length (authority_of text)) (behind_scheme text)
 
--- the host, and the port behind the `:` if there is one
+-- up to the first `:` of the authority; from that `:` on
 abbrev pub host_of : List ℕ → List ℕ
 host_of text = before_first (λ c. c == 58) (authority_of text)
 
-abbrev pub port_of : List ℕ → List ℕ
-port_of text = drop (length (host_of text)) (authority_of text)
-
-abbrev pub number_of : List ℕ → ℕ
-number_of digits = fold (λ n c. 10 * n + (c - 48)) 0 digits
-
--- nothing, or `:` and a number from 1 to 65535 as it is written in decimal
-abbrev pub is_port_part : List ℕ → Bool
-is_port_part [] = true
-is_port_part (colon ∷ digits) = is_text 1 5 is_digit digits && (is_between 1 65535 (number_of digits) && bytes_eq digits (decimal (number_of digits)))
+abbrev pub port_part_of : List ℕ → List ℕ
+port_part_of text = drop (length (host_of text)) (authority_of text)
 
 abbrev pub is_host_character : ℕ → Bool
 is_host_character c = is_letter c || (is_digit c || is_one_of (codes "._-") c)
@@ -80,17 +74,45 @@ is_host_character c = is_letter c || (is_digit c || is_one_of (codes "._-") c)
 abbrev pub is_host : List ℕ → Bool
 is_host text = is_text 1 253 is_host_character text
 
-abbrev pub is_path_character : ℕ → Bool
-is_path_character c = is_letter c || (is_digit c || is_one_of (codes "-._~!$&'()*+,;=:@/%?") c)
+abbrev pub number_of : List ℕ → ℕ
+number_of digits = fold (λ n c. 10 * n + (c - 48)) 0 digits
 
-abbrev pub is_path : List ℕ → Bool
-is_path text = list_all is_path_character text
+-- a number from 1 to 65535 in decimal, without leading zeros
+abbrev pub is_port : List ℕ → Bool
+is_port digits = is_text 1 5 is_digit digits && (not (starts_with nat_eq digits (codes "0")) && nat_le (number_of digits) 65535)
+
+-- nothing, or `:` and a port
+abbrev pub is_port_part : List ℕ → Bool
+is_port_part [] = true
+is_port_part (colon ∷ digits) = is_port digits
+
+abbrev pub is_path_mark : ℕ → Bool
+is_path_mark c = is_one_of (codes "-._~!$&'()*+,;=:@/%?") c
+
+abbrev pub is_path_character : ℕ → Bool
+is_path_character c = is_letter c || (is_digit c || is_path_mark c)
 
 abbrev pub is_target : List ℕ → Bool
 is_target text =
     nat_le (length text) 2048
-    && (bytes_eq (str_to_ascii_lowercase (take 7 text)) (codes "http://")
-    && (is_host (host_of text) && (is_port_part (port_of text) && is_path (path_of text))))
+    && (has_scheme text
+    && (is_host (host_of text) && (is_port_part (port_part_of text) && list_all is_path_character (path_part_of text))))
+
+-- the port, 80 where none is written
+abbrev pub number_of_part : List ℕ → ℕ
+number_of_part [] = 80
+number_of_part (colon ∷ digits) = number_of digits
+
+abbrev pub port_of : List ℕ → ℕ
+port_of text = number_of_part (port_part_of text)
+
+-- the path, `/` where none is written
+abbrev pub path_of_part : List ℕ → List ℕ
+path_of_part [] = codes "/"
+path_of_part (slash ∷ rest) = slash ∷ rest
+
+abbrev pub path_of : List ℕ → List ℕ
+path_of text = path_of_part (path_part_of text)
 
 abbrev pub is_max_limit : ℕ → Bool
 is_max_limit n = is_between 1 1000 n

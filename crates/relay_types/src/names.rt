@@ -119,11 +119,11 @@ impl MsgId {
     }
 
     /// Whether two ids are the same.
-    pub fn is(self, other: MsgId) -> bool
-        ensures same { IsTrue result ↔ (self ≡ other) }
-        ensures bytes { result ≡ bytes_eq self other }
+    pub fn is(self, id: MsgId) -> bool
+        ensures same { IsTrue result ↔ (self ≡ id) }
+        ensures bytes { result ≡ bytes_eq self id }
     {
-        self == other
+        self == id
     }
 }
 

@@ -6,7 +6,7 @@ use crate::fault::ReadFault;
 use std::marker::Model;
 
 /// The greatest concurrency limit of an endpoint, 1 to 1000.
-#[derive(Clone, Copy, PartialEq, Eq, PartialOrd, Ord)]
+#[derive(Clone, Copy, PartialEq, Eq, PartialOrd, Ord, Debug)]
 pub struct MaxLimit {
     limit: u32,
 }
@@ -51,7 +51,7 @@ impl MaxLimit {
 }
 
 /// Whole seconds since the Unix epoch, at most 2^40.
-#[derive(Clone, Copy, PartialEq, Eq, PartialOrd, Ord)]
+#[derive(Clone, Copy, PartialEq, Eq, PartialOrd, Ord, Debug)]
 pub struct Moment {
     seconds: u64,
 }

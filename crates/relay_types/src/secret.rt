@@ -1,9 +1,14 @@
 //! The secrets of endpoints.
-ghost use Rattle.std.specs.Prelude.{◌≡◌, ◌↔◌, ◌≤◌, length, IsTrue, IsOk, IfOk, IfErr, IfSome, slice_get};
+ghost use Rattle.std.specs.Prelude.{◌≡◌, ◌↔◌, ◌≤◌, ℕ, List, Ok, Some, length, IsTrue, IsOk, IfOk, IfErr, IfSome, slice_get};
+ghost use Rattle.std.specs.String.{string_bytes};
+ghost use Rattle.base64.specs.GeneralPurpose.{IsBytes, IsStrict, encode_of};
+ghost use Rattle.relay_types.specs.SecretText.{ReadsSecret, IsPaddedOrNot, secret_text};
 ghost use Rattle.relay_types.specs.Values.{is_secret, are_secrets};
 
 use crate::fault::ReadFault;
 use crate::short::Short;
+use base64::engine::general_purpose::{GeneralPurpose, STANDARD, STANDARD_NO_PAD};
+use std::alloc::{AllocError, Global};
 use std::marker::Model;
 
 /// A secret: 24 to 64 bytes.
@@ -26,6 +31,27 @@ impl Model for Secret {
 }
 
 impl Secret {
+    /// Reads a secret as it is written (Standard Webhooks 1.0.0): `whsec_` and its base64 (RFC 4648, section 4). The prefix
+    /// and the padding may be left out. It takes no memory.
+    pub fn read(text: &[u8]) -> Result<Secret, ReadFault>
+        ensures value { IfOk result (λ secret. ReadsSecret text.now secret) }
+        ensures each { (secret : List ℕ) → ReadsSecret text.now secret → result ≡ Ok secret }
+        ensures refusal { IfErr result (λ fault. fault ≡ ReadFault.BadSecret) }
+    {
+        let encoded = text.strip_prefix(b"whsec_").unwrap_or(text);
+        padded_or_not(encoded).ok_or(ReadFault::BadSecret)
+    }
+
+    /// The secret as it is written: `whsec_` and its padded base64.
+    pub fn write(&self, alloc: Global) -> Result<String, AllocError>
+        ensures { IfOk result (λ text. string_bytes text ≡ secret_text self.now) }
+    {
+        let mut text = String::new(alloc);
+        text.push_str("whsec_")?;
+        STANDARD.encode_string(self.as_bytes(), &mut text)?;
+        Ok(text)
+    }
+
     /// The bytes.
     pub fn as_bytes(&self) -> &[u8]
         ensures bytes { result.now ≡ self.now }
@@ -41,6 +67,35 @@ impl Secret {
     {
         Secret { bytes: self.bytes }
     }
+}
+
+// The secret whose base64 the text is, with its padding or with none.
+fn padded_or_not(text: &[u8]) -> Option<Secret>
+    ensures value { IfSome result (λ secret. IsPaddedOrNot text.now secret) }
+    ensures each { (secret : List ℕ) → IsPaddedOrNot text.now secret → result ≡ Some secret }
+{
+    match decoded(text, &STANDARD) {
+        Some(secret) => Some(secret),
+        None => decoded(text, &STANDARD_NO_PAD),
+    }
+}
+
+// The secret whose encoding the text is.
+fn decoded(text: &[u8], engine: &GeneralPurpose) -> Option<Secret>
+    requires { IsStrict engine.now }
+    ensures value { IfSome result (λ secret. IsBytes secret × IsTrue (is_secret secret) × (text.now ≡ encode_of engine.now secret)) }
+    ensures each { (secret : List ℕ) → IsBytes secret → IsTrue (is_secret secret) → text.now ≡ encode_of engine.now secret → result ≡ Some secret }
+{
+    let mut bytes = [0; 64];
+    let Ok(len) = engine.decode_slice(text, &mut bytes) else {
+        return None;
+    };
+    if len < 24 {
+        return None;
+    }
+    Some(Secret {
+        bytes: Short::of(&bytes[..len]),
+    })
 }
 
 /// 1 to 4 secrets, the newest first. A contract sees the list of them.

@@ -1,5 +1,5 @@
 -- The SELECT statements.
-use Rattle.std.proofs.Common.{◌≡◌, ◌==◌, ◌&&◌, ◌||◌, ◌+◌, ℕ, pos, ℤ, List, [], ◌∷◌, map, filter, length, codes, bytes_eq, Bool, true, false, cond, None, Some, not, Option, slice_get, option_map, refl, sym, ap, subst, ◌∙◌, arith}
+use Rattle.std.proofs.Common.{◌≡◌, ◌==◌, ◌&&◌, ◌||◌, ℕ, pos, List, [], ◌∷◌, map, filter, length, codes, bytes_eq, Bool, true, false, cond, Some, not, Option, slice_get, option_map, find, ◌≤◌, refl, sym, ap, subst, ◌∙◌, arith}
 use Rattle.std.proofs.lemmas.Bool.Decides.{nat_tests}
 use Rattle.std.specs.List.{list_any}
 use Rattle.std.specs.List.Sorted.{IsPermutation}
@@ -19,9 +19,8 @@ use Rattle.sqlite_sql.specs.Ops.{binary, from_truth, is_true}
 use Rattle.sqlite.specs.Term.{Term, col, op2}
 use Rattle.sqlite.specs.Command.TheVariants.{Select}
 use Rattle.sqlite.specs.Listing.{understood, reads_listing}
-use Rattle.sqlite.specs.State.{State, Shown, IsUnchanged, ShowsRows}
-use Rattle.sqlite.specs.Clock.{timed}
-use Rattle.sqlite.proofs.Callers.{IsPlain, command_of, reads_as}
+use Rattle.sqlite.specs.State.{State, Shown}
+use Rattle.sqlite.proofs.Callers.{IsPlain, command_of, reads_as, one_permutation}
 use Rattle.sqlite_tied.specs.Compute.{everything}
 use Rattle.relay_types.specs.Rows.{Rows, EndpointRow, DeliveryRow}
 use Rattle.spool_sql.specs.Tables.{relay_schema}
@@ -207,3 +206,24 @@ pub tells_put : (name : List ℕ) (old new : State) (found : List Row) → Shown
     → (rows : Rows) → IsTables old.now rows → IsPutOf name rows put
 tells_put name old new found h put is rows t =
     (map number_of found, puts_of name rows found (finds_named name old new found h rows t), is ∙ sym (first_number found))
+
+-- ---- for callers, where a name is that of at most one endpoint
+
+first_found : {X : Type 0} (q : X → Bool) (xs : List X) → find q xs ≡ slice_get (filter q xs) 0
+first_found q [] = refl
+first_found q (x ∷ xs) = tested (q x) (first_found q xs)
+  where
+    tested : (b : Bool) → find q xs ≡ slice_get (filter q xs) 0 → cond b (Some x) (find q xs) ≡ slice_get (cond b (x ∷ filter q xs) (filter q xs)) 0
+    tested true e = refl
+    tested false e = e
+
+one_at_most : (es : List EndpointRow) (puts : List ℕ) → length es ≤ 1 → IsPermutation (map (λ (e : EndpointRow). e.put) es) puts → slice_get puts 0 ≡ option_map (λ (e : EndpointRow). e.put) (slice_get es 0)
+one_at_most [] [] few same = refl
+one_at_most [] (p ∷ puts) few same = absurd (let e = length_permutation _ (p ∷ puts) same in omega (arith, e))
+one_at_most (e ∷ []) puts few same = ap (λ l. slice_get l 0) (one_permutation e.put puts same)
+one_at_most (e ∷ f ∷ es) puts few same = absurd (omega (arith, few))
+
+pub put_found : (name : List ℕ) (rows : Rows) (put : Option ℕ) → length (endpoints_named name rows) ≤ 1 → IsPutOf name rows put
+    → put ≡ option_map (λ (e : EndpointRow). e.put) (find (λ (e : EndpointRow). bytes_eq e.name name) rows.endpoints)
+put_found name rows put few it =
+    it.2 ∙ one_at_most (endpoints_named name rows) it.0 few it.1 ∙ ap (option_map (λ (e : EndpointRow). e.put)) (sym (first_found (λ (e : EndpointRow). bytes_eq e.name name) rows.endpoints))

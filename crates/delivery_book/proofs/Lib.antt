@@ -1,0 +1,4 @@
+pub mod Entries
+pub mod Histories
+pub mod Laws
+pub mod Books

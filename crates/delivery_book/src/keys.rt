@@ -1,0 +1,71 @@
+//! The keys of the book's maps, which are equal where their characters are.
+ghost use Rattle.std.specs.Prelude.{◌++◌};
+ghost use Rattle.std.specs.Hash as fed;
+ghost use Rattle.std.specs.Cmp.Rules.{comparing, hashing};
+ghost use Rattle.std.proofs.Common.{rules};
+ghost use Rattle.delivery_book.specs.Kept.{same_endpoint, same_event};
+
+use relay_types::{MsgId, Name};
+use std::hash::{Hash, Hasher};
+
+/// An endpoint.
+#[derive(Clone, Copy)]
+pub struct EndpointKey {
+    pub(crate) name: Name,
+}
+
+impl PartialEq for EndpointKey {
+    ghost eq = { same_endpoint };
+
+    ghost laws = { Prim.search (comparing, rules) };
+
+    fn eq(&self, other: &EndpointKey) -> bool {
+        self.name.is(other.name)
+    }
+}
+
+impl Eq for EndpointKey {
+    ghost laws = { Prim.search (comparing, rules) };
+}
+
+impl Hash for EndpointKey {
+    ghost hash_input = { λ k. fed.slice fed.u8 k.name };
+
+    ghost respects_eq = { Prim.search (hashing, rules) };
+
+    fn hash<H: Hasher>(&self, state: &mut H) {
+        self.name.as_bytes().hash(state);
+    }
+}
+
+/// An event of an endpoint.
+#[derive(Clone, Copy)]
+pub struct EventKey {
+    pub(crate) name: Name,
+    pub(crate) id: MsgId,
+}
+
+impl PartialEq for EventKey {
+    ghost eq = { same_event };
+
+    ghost laws = { Prim.search (comparing, rules) };
+
+    fn eq(&self, other: &EventKey) -> bool {
+        self.name.is(other.name) && self.id.is(other.id)
+    }
+}
+
+impl Eq for EventKey {
+    ghost laws = { Prim.search (comparing, rules) };
+}
+
+impl Hash for EventKey {
+    ghost hash_input = { λ k. fed.slice fed.u8 k.name ++ fed.slice fed.u8 k.id };
+
+    ghost respects_eq = { Prim.search (hashing, rules) };
+
+    fn hash<H: Hasher>(&self, state: &mut H) {
+        self.name.as_bytes().hash(state);
+        self.id.as_bytes().hash(state);
+    }
+}

@@ -1,0 +1,12 @@
+//! The book of deliveries: what the relay keeps in memory of every event that it took in.
+#![tactic(auto)]
+
+mod book;
+mod entry;
+mod keys;
+mod row;
+mod search;
+mod tally;
+
+pub use crate::book::DeliveryBook;
+pub use crate::row::{Counts, Row};

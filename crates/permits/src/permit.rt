@@ -1,0 +1,88 @@
+//! A permit. It has no `Drop`, so whoever holds one hands it on or gives it back.
+ghost use Rattle.std.specs.Prelude.{◌≡◌, ◌<◌};
+
+use crate::row::Row;
+use relay_types::Name;
+use std::marker::Model;
+use std::sync::ledger::{Book, Ledger, Share, Total};
+
+/// The leave to post one attempt. `Pool::acquire` alone makes one and `Pool::give_back` alone ends one. It holds one part of
+/// the ledger, with one unit. Contracts see it as its row.
+pub struct Permit<L: Ledger> {
+    held: Row,
+    unit: Share<L>,
+}
+
+impl<L: Ledger> Model for Permit<L> {
+    ghost use Rattle.std.specs.Prelude.{◌≡◌};
+    ghost use Rattle.permits.specs.declared.row.Row.{Row};
+
+    ghost Value = { Row };
+
+    ghost view = { λ p. p.held };
+
+    ghost invariant = { λ p. (p.unit.parts ≡ 1) × (p.unit.amount ≡ 1) };
+}
+
+impl<L: Ledger> Permit<L> {
+    pub(crate) fn of(row: Row, unit: Share<L>) -> Permit<L>
+        requires parts { unit.parts ≡ 1 }
+        requires amount { unit.amount ≡ 1 }
+        ensures { result ≡ row }
+    {
+        Permit { held: row, unit }
+    }
+
+    pub(crate) fn into_unit(self) -> Share<L>
+        ensures parts { result.parts ≡ 1 }
+        ensures amount { result.amount ≡ 1 }
+    {
+        let Permit { held: _, unit } = self;
+        unit
+    }
+
+    // Holds the unit against the book.
+    pub(crate) fn show(&mut self, book: &mut Book<L>)
+        ensures some { 0 < book.old.total }
+        ensures total { book.new.total ≡ book.old.total }
+        ensures same { self.new ≡ self.old }
+    {
+        book.audit(&mut self.unit);
+    }
+
+    /// Never comes to be called: where the ledger was closed at nothing, no permit is left.
+    pub fn refute(mut self, closed: &Total<L>) -> !
+        requires { closed.now.amount ≡ 0 }
+    {
+        closed.audit(&mut self.unit);
+        unreachable!()
+    }
+
+    /// What the pool keeps of the permit.
+    pub fn row(&self) -> Row
+        ensures { result ≡ self.now }
+    {
+        self.held
+    }
+
+    /// The endpoint that may be posted to.
+    pub fn endpoint(&self) -> Name
+        ensures { result ≡ self.now.endpoint }
+    {
+        self.row().endpoint
+    }
+
+    /// The sequence number of the delivery's Accept record.
+    pub fn delivery(&self) -> u64
+        ensures { result ≡ self.now.delivery }
+    {
+        self.row().delivery
+    }
+
+    /// How many permits of the endpoint were out once this one was, itself counted.
+    pub fn inflight(&self) -> u32
+        ensures { result ≡ self.now.inflight }
+    {
+        self.row().inflight
+    }
+}

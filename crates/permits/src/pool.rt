@@ -1,0 +1,167 @@
+//! The pool.
+ghost use Rattle.std.specs.Prelude.{◌≡◌, ◌<◌, ◌≤◌, ◌+◌, ◌↔◌, [], ◌∷◌, ◌++◌, ℕ, length, None, Some, remove, position, IfOk, IfErr, OnErr, OnOk, IsTrue, IsErr};
+ghost use Rattle.permits.specs.Rows.{in_flight_of, is_out, next_row, same_row};
+
+use crate::permit::Permit;
+use crate::refusal::{Foreign, Refused};
+use crate::row::{Returned, Row};
+use relay_types::Name;
+use std::alloc::{AllocError, Global};
+use std::marker::Model;
+use std::sync::ledger::{Blank, Book, Ledger, Share, Total};
+
+/// The most permits that are out at one time.
+pub const MOST: usize = 256;
+
+/// The parts of a pool's ledger: one for each permit that may be out.
+pub const PARTS: u64 = 256;
+
+/// The permits that are out, in the order in which they were acquired. Contracts see a pool as the list of their rows.
+#[derive(Drop)]
+pub struct Pool<L: Ledger> {
+    rows: Vec<Row>,
+    book: Book<L>,
+    rest: Share<L>,
+}
+
+impl<L: Ledger> Model for Pool<L> {
+    ghost use Rattle.std.specs.Prelude.{◌≡◌, ◌≤◌, ◌+◌, List, vec_len, vec_capacity};
+    ghost use Rattle.permits.specs.declared.row.Row.{Row};
+
+    ghost Value = { List Row };
+
+    ghost view = { λ p. p.rows.items };
+
+    // The book's total is the number of rows. For each row one part has left the rest, which has no unit. There is room for all.
+    ghost invariant = { λ p. (p.book.total ≡ vec_len p.rows) × (p.rest.parts + vec_len p.rows ≡ 256) × (p.rest.amount ≡ 0) × (vec_len p.rows ≤ 256) × (256 ≤ vec_capacity p.rows) };
+}
+
+impl<L: Ledger> Pool<L> {
+    /// An empty pool with 256 places, and the opened ledger.
+    pub fn new(alloc: Global, blank: Blank) -> Result<Pool<L>, AllocError>
+        requires name { blank.name ≡ L.name }
+        requires parts { blank.parts ≡ L.parts }
+        requires enough { blank.parts ≡ PARTS }
+        ensures { IfOk result (λ pool. pool ≡ []) }
+    {
+        let rows = Vec::with_capacity(alloc, MOST)?;
+        let (book, rest) = blank.open::<L>();
+        Ok(Pool { rows, book, rest })
+    }
+
+    /// How many permits of an endpoint are out.
+    pub fn in_flight(&self, endpoint: Name) -> u32
+        ensures { result ≡ in_flight_of endpoint self.now }
+    {
+        self.rows
+            .iter()
+            .filter(|row| row.endpoint.is(endpoint))
+            .count() as u32
+    }
+
+    /// How many permits are out.
+    pub fn live(&self) -> usize
+        ensures count { result ≡ length self.now }
+        ensures most { length self.now ≤ MOST }
+    {
+        self.rows.len()
+    }
+
+    fn is_out(&self, delivery: u64) -> bool
+        ensures { result ≡ is_out delivery self.now }
+    {
+        self.rows.iter().any(|row| row.delivery == delivery)
+    }
+
+    fn place_of(&self, row: Row) -> Option<usize>
+        ensures { result ≡ position (same_row row) self.now }
+    {
+        self.rows.iter().position(|live| row.is(*live))
+    }
+
+    /// A permit for one attempt of a delivery, where fewer of its endpoint than the limit are out. It takes no memory.
+    pub fn acquire(
+        &mut self,
+        endpoint: Name,
+        delivery: u64,
+        limit: u32,
+    ) -> Result<Permit<L>, Refused>
+        ensures at_limit { (result ≡ Err Refused.AtLimit) ↔ (limit ≤ in_flight_of endpoint self.old) }
+        ensures too_many { (result ≡ Err Refused.TooManyOut) ↔ ((in_flight_of endpoint self.old < limit) × (length self.old ≡ MOST)) }
+        ensures already { (result ≡ Err Refused.AlreadyOut) ↔ ((in_flight_of endpoint self.old < limit) × (length self.old < MOST) × IsTrue (is_out delivery self.old)) }
+        ensures permit { IfOk result (λ permit. permit ≡ next_row endpoint delivery self.old) }
+        ensures ok { OnOk result (self.new ≡ self.old ++ next_row endpoint delivery self.old ∷ []) }
+        ensures err { OnErr result (self.new ≡ self.old) }
+    {
+        let before = self.in_flight(endpoint);
+        if before >= limit {
+            return Err(Refused::AtLimit);
+        }
+        if self.live() >= MOST {
+            return Err(Refused::TooManyOut);
+        }
+        if self.is_out(delivery) {
+            return Err(Refused::AlreadyOut);
+        }
+        let row = Row {
+            endpoint,
+            delivery,
+            inflight: before + 1,
+        };
+        let kept = row;
+        let mut unit = self.rest.split_off(1, 0);
+        self.book.add(&mut unit, 1);
+        self.rows.push_reserved(kept);
+        Ok(Permit::of(row, unit))
+    }
+
+    /// Takes a permit back, or hands it back where no row is its own. It takes no memory.
+    pub fn give_back(&mut self, permit: Permit<L>) -> Result<Returned, (Permit<L>, Foreign)>
+        ensures foreign { IsErr result ↔ (position (same_row permit) self.old ≡ None) }
+        ensures handed_back { IfErr result (λ e. e.0 ≡ permit) }
+        ensures returned { IfOk result (λ r. (r.endpoint ≡ permit.endpoint) × (r.delivery ≡ permit.delivery) × (r.inflight ≡ permit.inflight)) }
+        ensures ok { (i : ℕ) → position (same_row permit) self.old ≡ Some i → self.new ≡ remove self.old i }
+        ensures one_less { OnOk result (length self.new + 1 ≡ length self.old) }
+        ensures err { OnErr result (self.new ≡ self.old) }
+    {
+        let Some(at) = self.place_of(permit.row()) else {
+            return Err((permit, Foreign));
+        };
+        let Row {
+            endpoint,
+            delivery,
+            inflight,
+        } = permit.row();
+        let mut unit = permit.into_unit();
+        self.rows.remove(at);
+        self.book.sub(&mut unit, 1);
+        self.rest.merge(unit);
+        Ok(Returned {
+            endpoint,
+            delivery,
+            inflight,
+        })
+    }
+
+    /// Shows that while a permit exists the pool isn't empty.
+    pub fn audit(&mut self, permit: &mut Permit<L>)
+        ensures some_out { 0 < length self.old }
+        ensures pool { self.new ≡ self.old }
+        ensures permit { permit.new ≡ permit.old }
+    {
+        permit.show(&mut self.book);
+    }
+
+    /// Closes the ledger of an empty pool (`live` tells whether it is), whose total is then fixed at nothing.
+    pub fn close(self) -> Total<L>
+        requires { self ≡ [] }
+        ensures { result.amount ≡ 0 }
+    {
+        let Pool {
+            rows: _,
+            book,
+            rest: _,
+        } = self;
+        book.close()
+    }
+}

@@ -1,0 +1,4 @@
+pub mod LeastLaws
+pub mod RuleLaws
+pub mod VegasLaws
+mod WorkedSamples

@@ -1,0 +1,2 @@
+pub mod Vegas
+pub mod Estimates

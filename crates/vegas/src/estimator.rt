@@ -1,0 +1,103 @@
+//! The estimator of one endpoint.
+ghost use Rattle.std.specs.Prelude.{◌≡◌, ◌≤◌, List, [], ◌∷◌, ◌++◌, IsOk, IfOk};
+ghost use Rattle.vegas.specs.Vegas.{Sample};
+ghost use Rattle.vegas.specs.Estimates.{StandsFor, sample_of};
+
+use crate::rules::{moved, queue};
+use relay_types::MaxLimit;
+use std::alloc::AllocError;
+use std::marker::Model;
+
+/// The limit that a new estimator starts from, if its maximum allows it.
+const FIRST_LIMIT: u32 = 20;
+
+/// An hour in microseconds: a longer round trip counts as this one.
+const LONGEST_ROUND_TRIP: u64 = 3_600_000_000;
+
+/// A probe comes after this many samples for each of the limit.
+const SAMPLES_BY_LIMIT: u32 = 30;
+
+/// The limit of one endpoint. It holds three running numbers and its maximum; contracts say that they are those of the list
+/// of samples that it was given.
+#[derive(Drop)]
+pub struct Estimator {
+    maximum: MaxLimit,
+    limit: u32,
+    noload: u64,
+    probes: u32,
+}
+
+impl Model for Estimator {
+    ghost use Rattle.vegas.specs.Estimates.{Estimate, AreBounded};
+
+    ghost Value = { Estimate };
+
+    ghost view = { λ a. record { maximum = a.maximum; limit = a.limit; noload = a.noload; probes = a.probes } };
+
+    ghost invariant = { λ a. AreBounded a.maximum a.limit a.noload a.probes };
+}
+
+impl Estimator {
+    /// An estimator that has seen no sample. It takes no memory.
+    pub fn new(maximum: MaxLimit) -> Result<Estimator, AllocError>
+        ensures made { IsOk result }
+        ensures maximum { IfOk result (λ e. e.maximum ≡ maximum) }
+        ensures empty { IfOk result (λ e. StandsFor e []) }
+    {
+        Ok(Estimator {
+            maximum,
+            limit: FIRST_LIMIT.min(maximum.get()),
+            noload: 0,
+            probes: 0,
+        })
+    }
+
+    /// How many posts may be in flight.
+    pub fn limit(&self) -> u32
+        ensures number { result ≡ self.now.limit }
+        ensures low { 1 ≤ result }
+        ensures high { result ≤ self.now.maximum }
+    {
+        self.limit // posts
+    }
+
+    /// The round trip of an endpoint without load, in microseconds, or 0 before the first sample.
+    pub fn noload(&self) -> u64
+        ensures number { result ≡ self.now.noload }
+        ensures hour { result ≤ 3600000000 }
+    {
+        self.noload // microseconds
+    }
+
+    /// Takes one more sample: a round trip in microseconds, how many posts were in flight as it began (its own counted), and
+    /// whether the endpoint dropped it. A round trip of 0 counts as 1, one above an hour as an hour.
+    ///
+    /// After 30 samples for each of the limit a probe takes the round trip as the new no-load time. Otherwise the first or a
+    /// lower round trip becomes the no-load time. The limit stays at both, even at a drop. Any other sample moves the limit: a
+    /// drop lowers it by a step; with less than half of the limit in flight it stays; a queue of at most one step raises it by
+    /// six steps, one below three steps by one, and one above six steps lowers it by one.
+    pub fn sample(&mut self, rtt: u64, inflight: u32, dropped: bool)
+        requires { inflight ≤ 1000 }
+        ensures maximum { self.new.maximum ≡ self.old.maximum }
+
+        // for every list that it stood for, it now stands for that list and this sample
+        ensures follows { (xs : List Sample) → StandsFor self.old xs
+            → StandsFor self.new (xs ++ sample_of rtt inflight dropped ∷ []) }
+    {
+        let round_trip = rtt.clamp(1, LONGEST_ROUND_TRIP);
+        let count = self.probes + 1;
+        if SAMPLES_BY_LIMIT * self.limit <= count {
+            self.probes = 0;
+            self.noload = round_trip;
+            return;
+        }
+        self.probes = count;
+        if self.noload == 0 || round_trip < self.noload {
+            self.noload = round_trip;
+            return;
+        }
+        let waiting = queue(self.limit, round_trip, self.noload);
+        let limit = moved(self.limit, waiting, inflight, dropped);
+        self.limit = limit.clamp(1, self.maximum.get());
+    }
+}

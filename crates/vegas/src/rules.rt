@@ -1,0 +1,51 @@
+//! The rules by which a limit moves.
+ghost use Rattle.std.specs.Prelude.{◌≡◌, ◌≤◌};
+ghost use Rattle.vegas.specs.Vegas.{queue, step_size, moved};
+
+/// By how much a limit moves: the whole part of its decimal logarithm, at least 1.
+pub(crate) fn step_size(limit: u32) -> u32
+    requires low { 1 ≤ limit }
+    requires high { limit ≤ 1000 }
+    ensures value { result ≡ step_size limit }
+    ensures low { 1 ≤ result }
+    ensures high { result ≤ limit }
+    ensures most { result ≤ 3 }
+{
+    limit.ilog10().max(1)
+}
+
+/// How many of as many posts as the limit wait in the endpoint's queue, rounded up: the share of the round trip that is not
+/// the no-load time, both in microseconds.
+pub(crate) fn queue(limit: u32, round_trip: u64, noload: u64) -> u32
+    requires limit { limit ≤ 1000 }
+    requires some { 1 ≤ round_trip }
+    requires hour { round_trip ≤ 3600000000 }
+    requires above { noload ≤ round_trip }
+    ensures value { result ≡ queue limit round_trip noload }
+{
+    let waiting = u64::from(limit) * (round_trip - noload);
+    waiting.div_ceil(round_trip) as u32
+}
+
+/// The limit that a queue asks for, not yet brought into its bounds.
+pub(crate) fn moved(limit: u32, queue: u32, inflight: u32, dropped: bool) -> u32
+    requires low { 1 ≤ limit }
+    requires high { limit ≤ 1000 }
+    requires inflight { inflight ≤ 1000 }
+    ensures value { result ≡ moved limit queue inflight dropped }
+{
+    let step = step_size(limit);
+    if dropped {
+        limit - step
+    } else if 2 * inflight < limit {
+        limit
+    } else if queue <= step {
+        limit + 6 * step
+    } else if queue < 3 * step {
+        limit + step
+    } else if queue > 6 * step {
+        limit - step
+    } else {
+        limit
+    }
+}
