@@ -154,7 +154,7 @@ impl DeliveryBook {
     pub fn body(&self, delivery: u64) -> Option<&Body>
         ensures { (records : List Record) → (settled : ℕ) → StandsFor self.now records settled → option_copied result ≡ body_of records delivery }
     {
-        match entry_at(&self.entries, delivery) {
+        match entry_at(self.entries.as_slice(), delivery) {
             Some(entry) => Some(&entry.body),
             None => None,
         }
