@@ -1,6 +1,6 @@
 //! What goes into a commit, and what comes of it.
 ghost use Rattle.std.specs.Prelude.{◌≡◌, ◌+◌, ◌<◌, ◌^◌, [], ◌∷◌};
-ghost use Rattle.spool.specs.Runs.{span_of};
+ghost use Rattle.spool.specs.Runs.{span_of, ArePutsAndAccepts};
 
 use relay_types::Step;
 use std::marker::Model;
@@ -15,17 +15,21 @@ pub struct Batch {
 }
 
 impl Model for Batch {
-    ghost use Rattle.std.specs.Prelude.{[], ◌∷◌};
-    ghost use Rattle.spool.specs.Runs.{Run};
+    ghost use Rattle.std.specs.Prelude.{◌<◌, ◌^◌, [], ◌∷◌};
+    ghost use Rattle.spool.specs.Runs.{Run, ArePutsAndAccepts};
 
     ghost Value = { Run };
 
     ghost view = { λ b. record { mark = b.mark; from = b.from; steps = b.step ∷ [] } };
+
+    ghost invariant = { λ b. (b.from < 2 ^ 62) × ArePutsAndAccepts (b.step ∷ []) };
 }
 
 impl Batch {
-    /// A batch of this step.
+    /// A batch of this step, which is a Put or an Accept.
     pub fn of(mark: u64, from: u64, step: Step) -> Batch
+        requires room { from < 2 ^ 62 }
+        requires kind { ArePutsAndAccepts (step ∷ []) }
         ensures { result ≡ record { mark = mark; from = from; steps = step ∷ [] } }
     {
         Batch { mark, from, step }
@@ -40,14 +44,16 @@ impl Batch {
 
     /// The number of the first record.
     pub fn from(&self) -> u64
-        ensures { result ≡ self.now.from }
+        ensures number { result ≡ self.now.from }
+        ensures room { result < 2 ^ 62 }
     {
         self.from
     }
 
     /// The step.
     pub fn step(&self) -> &Step
-        ensures { self.now.steps ≡ result.now ∷ [] }
+        ensures step { self.now.steps ≡ result.now ∷ [] }
+        ensures kind { ArePutsAndAccepts self.now.steps }
     {
         &self.step
     }
@@ -62,7 +68,6 @@ impl Batch {
 
     // What is left of a batch of which nobody knows whether it was written.
     pub(crate) fn into_doubt(self) -> Doubt
-        requires { self.from < 2 ^ 62 }
         ensures { result ≡ span_of self }
     {
         Doubt {
@@ -82,12 +87,14 @@ pub struct Receipt {
 }
 
 impl Model for Receipt {
-    ghost use Rattle.std.specs.Prelude.{[], ◌∷◌};
-    ghost use Rattle.spool.specs.Runs.{Run};
+    ghost use Rattle.std.specs.Prelude.{◌<◌, ◌^◌, [], ◌∷◌};
+    ghost use Rattle.spool.specs.Runs.{Run, ArePutsAndAccepts};
 
     ghost Value = { Run };
 
     ghost view = { λ b. record { mark = b.mark; from = b.from; steps = b.step ∷ [] } };
+
+    ghost invariant = { λ b. (b.from < 2 ^ 62) × ArePutsAndAccepts (b.step ∷ []) };
 }
 
 impl Receipt {
@@ -100,14 +107,16 @@ impl Receipt {
 
     /// The number of the first record.
     pub fn from(&self) -> u64
-        ensures { result ≡ self.now.from }
+        ensures number { result ≡ self.now.from }
+        ensures room { result < 2 ^ 62 }
     {
         self.from
     }
 
     /// The step that was written.
     pub fn step(&self) -> &Step
-        ensures { self.now.steps ≡ result.now ∷ [] }
+        ensures step { self.now.steps ≡ result.now ∷ [] }
+        ensures kind { ArePutsAndAccepts self.now.steps }
     {
         &self.step
     }

@@ -3,7 +3,6 @@ ghost use Rattle.std.specs.Prelude.{◌≡◌, ◌⊎◌, ◌↔◌, ◌+◌, fa
 ghost use Rattle.sqlite.specs.State.{HasCleanDisk};
 ghost use Rattle.sqlite.specs.Held.{state};
 ghost use Rattle.relay_types.specs.Records.{records_of};
-ghost use Rattle.spool.specs.Runs.{ArePutsAndAccepts};
 ghost use Rattle.spool.specs.Opening.{LeavesAt};
 ghost use Rattle.spool.specs.Commits.{IsOpened, IsNext, HandsBack, IsDoubt, IsRefused, AnswersSo};
 
@@ -13,9 +12,6 @@ use crate::open::found;
 use crate::write::{Written, write};
 use sqlite::{Alter, Connection};
 use std::marker::Model;
-
-// The most records of a history.
-const MOST_RECORDS: u64 = 1 << 62;
 
 /// The store of one opening. It alone writes.
 #[derive(Drop)]
@@ -64,7 +60,6 @@ impl<S: Alter> Vault<S> {
     /// Writes the batch in one transaction, all of it or nothing. Refusals are looked for in the order of `Unchanged`, but
     /// want of memory may come before `Illegal`. The same holds of a doubtful end.
     pub fn commit(&mut self, batch: Batch) -> Result<Receipt, CommitEnd>
-        requires { ArePutsAndAccepts batch.steps }
         ensures closed { (result ≡ Err (CommitEnd.Unchanged batch Unchanged.Closed)) ↔ IsTrue self.old.closed }
         ensures out_of_turn { (result ≡ Err (CommitEnd.Unchanged batch Unchanged.OutOfTurn)) ↔ ((self.old.closed ≡ false) × (¬ IsNext self.old batch)) }
         ensures receipt { IfOk result (λ receipt. receipt ≡ batch) }
@@ -80,9 +75,6 @@ impl<S: Alter> Vault<S> {
         }
         if batch.mark() != self.mark || batch.from() != self.next {
             return Err(CommitEnd::Unchanged(batch, Unchanged::OutOfTurn));
-        }
-        if self.next >= MOST_RECORDS {
-            return Err(CommitEnd::Unchanged(batch, Unchanged::Illegal));
         }
         match write(&mut self.conn, self.next, batch.step().record()) {
             Written::Made => {
