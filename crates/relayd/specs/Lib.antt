@@ -1,0 +1,5 @@
+pub mod World
+pub mod Moves
+pub mod Replies
+pub mod Script
+pub mod Runs

@@ -1,0 +1,58 @@
+-- The lines of a script: which text stands for which call. A text that stands for none is a bad line. The grammar is told by
+-- printing: a line has these words, and one space between.
+use Rattle.std.specs.Prelude.{◌≡◌, ℕ, ◌+◌, ◌*◌, ◌-◌, ◌&&◌, List, [], ◌∷◌, ◌++◌, Option, Some, None, IsTrue, codes, decimal, length, if◌then◌else◌}
+use Rattle.relay_types.specs.Values.{is_between, is_name, is_msg_id, is_target, is_max_limit, is_body, is_moment}
+use Rattle.relay_types.specs.SecretText.{ReadsSecret}
+use Rattle.relayd.specs.declared.event.Command.{Command}
+use Rattle.relayd.specs.declared.event.Command.TheVariants.{PutEndpoint}
+use Rattle.relayd.specs.declared.event.Event.{Event}
+use Rattle.relayd.specs.declared.event.Event.TheVariants as on
+use Rattle.relayd.specs.Replies.{line}
+
+-- texts of secrets, with commas between
+abbrev pub joined : List (List ℕ) → List ℕ
+joined [] = []
+joined (text ∷ []) = text
+joined (text ∷ next ∷ rest) = text ++ 44 ∷ joined (next ∷ rest)
+
+abbrev pub ReadSecrets : List (List ℕ) → List (List ℕ) → Type 0
+ReadSecrets [] [] = Unit {0}
+ReadSecrets (text ∷ texts) (secret ∷ secrets) = ReadsSecret text secret × ReadSecrets texts secrets
+ReadSecrets [] (secret ∷ secrets) = ⊥
+ReadSecrets (text ∷ texts) [] = ⊥
+
+abbrev pub IsSecretsWord : List ℕ → List (List ℕ) → Type 0
+IsSecretsWord word secrets = (texts : List (List ℕ)) × (word ≡ joined texts) × ReadSecrets texts secrets × IsTrue (is_between 1 4 (length secrets))
+
+-- a hexadecimal digit, in either case
+abbrev pub hex_digit : ℕ → Option ℕ
+hex_digit c = if is_between 48 57 c then Some (c - 48) else (if is_between 97 102 c then Some (c - 87) else (if is_between 65 70 c then Some (c - 55) else None))
+
+abbrev pub HexOf : List ℕ → List ℕ → Type 0
+HexOf [] [] = Unit {0}
+HexOf (high ∷ low ∷ word) (byte ∷ bytes) = ((h : ℕ) × (l : ℕ) × (hex_digit high ≡ Some h) × (hex_digit low ≡ Some l) × (byte ≡ 16 * h + l)) × HexOf word bytes
+HexOf word bytes = ⊥
+
+-- the empty body is written `-`
+abbrev pub IsBodyWord : List ℕ → List ℕ → Type 0
+IsBodyWord word [] = word ≡ codes "-"
+IsBodyWord word (byte ∷ bytes) = HexOf word (byte ∷ bytes)
+
+-- the words of a change of an endpoint
+abbrev pub IsChange : List (List ℕ) → Command → Type 0
+IsChange words (PutEndpoint name target max secrets) = (word : List ℕ) × IsSecretsWord word secrets × (words ≡ codes "put" ∷ name ∷ target ∷ decimal max ∷ word ∷ [])
+    × IsTrue (is_name name && is_target target && is_max_limit max)
+
+-- the words of a call
+abbrev pub IsCall : List (List ℕ) → Event → Type 0
+IsCall words (on.Change command) = IsChange words command
+IsCall words (on.Submit now name id body) = (word : List ℕ) × IsBodyWord word body × (words ≡ codes "submit" ∷ decimal now ∷ name ∷ id ∷ word ∷ [])
+    × IsTrue (is_moment now && is_name name && is_msg_id id && is_body body)
+IsCall words on.Seal = words ≡ codes "seal" ∷ []
+IsCall words on.Commit = words ≡ codes "commit" ∷ []
+IsCall words on.Settle = words ≡ codes "settle" ∷ []
+IsCall words (on.ShowEvent name id) = (words ≡ codes "show" ∷ name ∷ id ∷ []) × IsTrue (is_name name && is_msg_id id)
+
+-- a text stands for the call whose words it has
+abbrev pub ReadsLine : List ℕ → Event → Type 0
+ReadsLine text event = (words : List (List ℕ)) × (text ≡ line words) × IsCall words event

@@ -1,0 +1,53 @@
+//! Why a command ended early.
+
+use std::alloc::AllocError;
+use std::fmt;
+
+/// Why a script ended before its last line. The replies to the lines before it stand.
+#[derive(Clone, Copy, PartialEq, Eq, Debug)]
+pub enum ReplayFault {
+    /// The line of this number, from 1, is no line of a script.
+    BadLine(u64),
+    /// A line has more than 140,000 bytes, or the script more than 1,000,000 lines.
+    TooLong,
+    /// The reader failed, or was asked 2^32 times.
+    Read,
+    /// The writer failed.
+    Write,
+    /// The store couldn't be opened.
+    Lost,
+    /// Memory was refused.
+    OutOfMemory,
+}
+
+impl ReplayFault {
+    /// The exit status of a command that ends so: 2 for what was read, 3 for the rest.
+    pub fn status(self) -> u8 {
+        match self {
+            ReplayFault::BadLine(_) | ReplayFault::TooLong => 2,
+            ReplayFault::Read
+            | ReplayFault::Write
+            | ReplayFault::Lost
+            | ReplayFault::OutOfMemory => 3,
+        }
+    }
+}
+
+impl fmt::Display for ReplayFault {
+    fn fmt<W: fmt::Write>(&self, f: &mut fmt::Formatter<W>) -> fmt::Result {
+        match self {
+            ReplayFault::BadLine(number) => write!(f, "line {number}: bad line"),
+            ReplayFault::TooLong => f.write_str("TooLong"),
+            ReplayFault::Read => f.write_str("Read"),
+            ReplayFault::Write => f.write_str("Write"),
+            ReplayFault::Lost => f.write_str("Lost"),
+            ReplayFault::OutOfMemory => f.write_str("OutOfMemory"),
+        }
+    }
+}
+
+impl From<AllocError> for ReplayFault {
+    fn from(_: AllocError) -> ReplayFault {
+        ReplayFault::OutOfMemory
+    }
+}

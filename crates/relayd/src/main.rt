@@ -1,0 +1,37 @@
+//! The relay's program.
+#![tactic(auto)]
+
+mod commands;
+mod desk;
+mod event;
+mod fault;
+mod limits;
+mod lines;
+mod output;
+mod reply;
+mod signing;
+mod words;
+
+use std::alloc::Global;
+use std::io;
+use std::process::ExitCode;
+
+fn main(rt: HostRuntime) -> io::Result<ExitCode> {
+    let alloc = rt.alloc();
+    let words: Vec<String> = std::env::args(&rt)?.collect(alloc)?;
+    let mut shown = Vec::with_capacity(alloc, words.len())?;
+    for word in &words {
+        shown.push(word.as_str())?;
+    }
+    let status = commands::run(
+        alloc,
+        shown.as_slice(),
+        &mut rt.stdin(),
+        &mut rt.stdout(),
+        &mut rt.stderr(),
+    );
+    Ok(ExitCode::from(status))
+}
+
+#[cfg(test)]
+mod tests;
