@@ -35,7 +35,10 @@ pub enum Event {
     /// Settles the receipt.
     Settle,
     /// What the settled records say of an event.
-    ShowEvent { name: Name, id: MsgId },
+    ShowEvent {
+        name: Name,
+        id: MsgId,
+    },
 }
 
 /// The call that a line stands for.

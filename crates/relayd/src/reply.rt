@@ -28,11 +28,20 @@ pub enum Fault {
 /// What a call answered.
 #[derive(Clone, Copy, PartialEq, Eq, Debug)]
 pub enum Reply {
-    Staged { seq: u64 },
+    Staged {
+        seq: u64,
+    },
     NothingWaits,
-    Sealed { from: u64, to: u64 },
-    Committed { to: u64 },
-    SettledTo { to: u64 },
+    Sealed {
+        from: u64,
+        to: u64,
+    },
+    Committed {
+        to: u64,
+    },
+    SettledTo {
+        to: u64,
+    },
     Event {
         state: State,
         due: Option<Moment>,
@@ -41,7 +50,10 @@ pub enum Reply {
     Absent,
     NoBatch,
     NoReceipt,
-    Refused { number: u8, fault: Fault },
+    Refused {
+        number: u8,
+        fault: Fault,
+    },
 }
 
 impl fmt::Display for Fault {
