@@ -1,12 +1,22 @@
 //! The runner of scripts: it holds what the desk and the store hand out, and gives it to the line that asks for it.
+ghost use Rattle.std.specs.Prelude.{◌≡◌, ◌+◌, length};
+ghost use Rattle.sqlite.specs.State.{HasCleanDisk};
+ghost use Rattle.sqlite.specs.Held.{state};
+ghost use Rattle.relay_types.specs.Records.{records_of};
+ghost use Rattle.relayd.specs.declared.event.Event.TheVariants as on;
+ghost use Rattle.relayd.specs.declared.reply.Reply.TheVariants as says;
+ghost use Rattle.relayd.specs.Desks.{staged_reply, event_reply};
+ghost use Rattle.relayd.specs.Runners.{Answers, CommitsSo, unchanged_reply};
 
 use crate::desk::{Desk, Refusal, WrongTurn};
-use crate::event::{Event, read_event};
+use crate::event::{Command, Event, read_event};
 use crate::fault::ReplayFault;
 use crate::lines::{Lines, MOST_LINES};
 use crate::output::write_line;
 use crate::reply::{Fault, Reply};
 use crate::words::WordFault;
+use delivery_book::Row;
+use relay_types::{Body, Moment, MsgId, Name};
 use spool::{Batch, CommitEnd, Doubt, Receipt, Unchanged, Vault};
 use sqlite::{Alter, Connection};
 use std::alloc::Global;
@@ -31,42 +41,60 @@ struct Runner<S: Alter> {
 }
 
 impl<S: Alter> Runner<S> {
-    fn answer(&mut self, event: Event) -> Reply {
+    // Gives the call to the desk or the store.
+    fn answer(&mut self, event: Event) -> Reply
+        ensures { HasCleanDisk (state S.Store self.new.vault.conn) → Answers S.Store self.old event result self.new }
+    {
         match event {
             Event::Submit {
                 now,
                 name,
                 id,
                 body,
-            } => staged(self.desk.submit(now, name, id, body)),
-            Event::Change(command) => staged(self.desk.command(command)),
+            } => self.submit(now, name, id, body),
+            Event::Change(command) => self.change(command),
             Event::Seal => self.seal(),
             Event::Commit => self.commit(),
             Event::Settle => self.settle(),
-            Event::ShowEvent { name, id } => match self.desk.event(name, &id) {
-                Some(row) => Reply::Event {
-                    state: row.state,
-                    due: row.due,
-                    attempts: row.attempts,
-                },
-                None => Reply::Absent,
-            },
+            Event::ShowEvent { name, id } => self.show_event(name, &id),
         }
     }
 
-    fn seal(&mut self) -> Reply {
+    fn submit(&mut self, now: Moment, name: Name, id: MsgId, body: Body) -> Reply
+        ensures { Answers S.Store self.old (on.Submit now name id body) result self.new }
+    {
+        staged(self.desk.submit(now, name, id, body))
+    }
+
+    fn change(&mut self, command: Command) -> Reply
+        ensures { Answers S.Store self.old (on.Change command) result self.new }
+    {
+        staged(self.desk.command(command))
+    }
+
+    fn show_event(&self, name: Name, id: &MsgId) -> Reply
+        ensures { Answers S.Store self.now (on.ShowEvent name id.now) result self.now }
+    {
+        shown(self.desk.event(name, id))
+    }
+
+    fn seal(&mut self) -> Reply
+        ensures { Answers S.Store self.old on.Seal result self.new }
+    {
         match self.desk.seal() {
             Ok(Some(batch)) => {
-                let from = batch.from();
+                let reply = sealed(&batch);
                 self.held = Held::Batch(batch);
-                Reply::Sealed { from, to: from + 1 }
+                reply
             }
             Ok(None) => Reply::NothingWaits,
             Err(refusal) => refused(refusal),
         }
     }
 
-    fn commit(&mut self) -> Reply {
+    fn commit(&mut self) -> Reply
+        ensures { HasCleanDisk (state S.Store self.new.vault.conn) → Answers S.Store self.old on.Commit result self.new }
+    {
         match mem::replace(&mut self.held, Held::Nothing) {
             Held::Batch(batch) => {
                 let (held, reply) = commit_batch(&mut self.vault, batch);
@@ -80,7 +108,9 @@ impl<S: Alter> Runner<S> {
         }
     }
 
-    fn settle(&mut self) -> Reply {
+    fn settle(&mut self) -> Reply
+        ensures { Answers S.Store self.old on.Settle result self.new }
+    {
         match mem::replace(&mut self.held, Held::Nothing) {
             Held::Receipt(receipt) => match self.desk.settle(receipt) {
                 Ok(to) => Reply::SettledTo { to },
@@ -100,14 +130,40 @@ impl<S: Alter> Runner<S> {
     }
 }
 
-fn staged(answer: Result<u64, Refusal>) -> Reply {
+fn staged(answer: Result<u64, Refusal>) -> Reply
+    ensures { result ≡ staged_reply answer }
+{
     match answer {
         Ok(seq) => Reply::Staged { seq },
         Err(refusal) => refused(refusal),
     }
 }
 
-fn refused(refusal: Refusal) -> Reply {
+fn shown(row: Option<Row>) -> Reply
+    ensures { result ≡ event_reply row }
+{
+    match row {
+        Some(row) => Reply::Event {
+            state: row.state,
+            due: row.due,
+            attempts: row.attempts,
+        },
+        None => Reply::Absent,
+    }
+}
+
+// A batch has one record.
+fn sealed(batch: &Batch) -> Reply
+    ensures { result ≡ says.Sealed batch.now.from (batch.now.from + length (records_of batch.now.steps)) }
+{
+    let from = batch.from();
+    batch.step().record();
+    Reply::Sealed { from, to: from + 1 }
+}
+
+fn refused(refusal: Refusal) -> Reply
+    ensures { result ≡ says.Refused refusal.number refusal.fault }
+{
     Reply::Refused {
         number: refusal.number,
         fault: refusal.fault,
@@ -115,10 +171,13 @@ fn refused(refusal: Refusal) -> Reply {
 }
 
 // Commits the batch: what is held then, and the reply.
-fn commit_batch<S: Alter>(vault: &mut Vault<S>, batch: Batch) -> (Held, Reply) {
+fn commit_batch<S: Alter>(vault: &mut Vault<S>, batch: Batch) -> (Held, Reply)
+    ensures mark { vault.new.mark ≡ vault.old.mark }
+    ensures commits { HasCleanDisk (state S.Store vault.new.conn) → CommitsSo S.Store vault.old vault.new batch result.0 result.1 }
+{
     match vault.commit(batch) {
         Ok(receipt) => {
-            let to = receipt.from() + 1;
+            let to = vault.next();
             (Held::Receipt(receipt), Reply::Committed { to })
         }
         Err(CommitEnd::Unchanged(batch, why)) => (Held::Batch(batch), unchanged(why)),
@@ -132,7 +191,9 @@ fn commit_batch<S: Alter>(vault: &mut Vault<S>, batch: Batch) -> (Held, Reply) {
     }
 }
 
-fn unchanged(why: Unchanged) -> Reply {
+fn unchanged(why: Unchanged) -> Reply
+    ensures { result ≡ unchanged_reply why }
+{
     let (number, fault) = match why {
         Unchanged::Closed => (1, Fault::Closed),
         Unchanged::OutOfTurn => (2, Fault::OutOfTurn),
