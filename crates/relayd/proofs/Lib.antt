@@ -1,1 +1,4 @@
+mod FeedLaws
+mod LineLaws
+mod PartLaws
 mod StreamLaws

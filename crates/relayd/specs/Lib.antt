@@ -1,6 +1,7 @@
 pub mod Streams
 pub mod World
 pub mod Moves
+pub mod Parts
 pub mod Replies
 pub mod Script
 pub mod Runs

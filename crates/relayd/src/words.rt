@@ -1,5 +1,6 @@
 //! The words of a line.
-ghost use Rattle.std.specs.Prelude.{◌≡◌, IfSome, decimal};
+ghost use Rattle.std.specs.Prelude.{◌≡◌, IfOk, IfSome, decimal};
+ghost use Rattle.relayd.specs.Parts.{HasParts, texts};
 
 use hex::FromHexError;
 use itoa::Buffer;
@@ -32,8 +33,17 @@ impl From<ReadFault> for WordFault {
 }
 
 /// The words of a line, between which one space stands.
-pub fn split(alloc: Global, line: &[u8]) -> Result<Vec<&[u8]>, AllocError> {
-    line.split(|byte| *byte == b' ').collect(alloc)
+pub fn split(alloc: Global, line: &[u8]) -> Result<Vec<&[u8]>, AllocError>
+    ensures { IfOk result (λ words. HasParts 32 line.now (texts words.items)) }
+{
+    split_at(alloc, line, b' ')
+}
+
+// The parts of the text, between which the mark stands.
+fn split_at(alloc: Global, text: &[u8], mark: u8) -> Result<Vec<&[u8]>, AllocError>
+    ensures { IfOk result (λ parts. HasParts mark text.now (texts parts.items)) }
+{
+    text.split(|byte| *byte == mark).collect(alloc)
 }
 
 /// A number below 2^64 in decimal, without leading zeros.
