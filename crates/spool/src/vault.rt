@@ -8,6 +8,7 @@ ghost use Rattle.spool.specs.Opening.{LeavesAt};
 ghost use Rattle.spool.specs.Commits.{IsOpened, IsNext, HandsBack, IsDoubt, IsRefused, AnswersSo, AnswersOver, IsIllegal};
 
 use crate::batch::{Batch, Receipt};
+use crate::doubt::Doubt;
 use crate::ends::{CommitEnd, OpenFault, Unchanged};
 use crate::open::found;
 use crate::write::{Written, write};
@@ -97,7 +98,7 @@ impl<S: Alter> Vault<S> {
             Written::OutOfMemory => Err(CommitEnd::Unchanged(batch, Unchanged::OutOfMemory)),
             Written::Doubtful(cause) => {
                 self.closed = true;
-                Err(CommitEnd::Doubtful(batch.into_doubt(), cause))
+                Err(CommitEnd::Doubtful(Doubt::over(batch), cause))
             }
         }
     }
