@@ -1,6 +1,7 @@
 //! Why an opening or a commit gave no value.
 
-use crate::batch::{Batch, Doubt};
+use crate::batch::Batch;
+use crate::doubt::Doubt;
 use sqlite::Error;
 use std::fmt;
 
