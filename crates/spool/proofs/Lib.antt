@@ -1,0 +1,4 @@
+pub mod SecretLemmas
+pub mod RowLemmas
+pub mod EntryLemmas
+pub mod VaultLemmas

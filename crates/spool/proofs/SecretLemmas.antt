@@ -1,0 +1,64 @@
+-- The rows of an endpoint's secrets, written one after another.
+use Rattle.std.proofs.Common.{◌≡◌, ◌<◌, ℕ, zero, suc, ◌+◌, List, [], ◌∷◌, ◌++◌, map, length, take, Option, Some, None, IsTrue, inl, refl, sym, ap, subst, ◌∙◌, arith, add-zero, add-one, append-nil, append_assoc}
+use Rattle.std.specs.Prelude.{slice_get}
+use Rattle.std.specs.List.{enumerate_from}
+use Rattle.sqlite.specs.State.{State, HasCleanDisk, Survives}
+use Rattle.relay_types.specs.Rows.{Rows, SecretRow, secret_rows}
+use Rattle.spool_sql.specs.Stored.{IsTables, with_secret}
+use Rattle.spool_sql.specs.Steps.{GoesOn, Alters, Spares}
+use Rattle.spool_sql.proofs.StepLemmas.{alters_then}
+use Rattle.spool.specs.Entering.{with_secrets}
+
+-- nothing is done
+pub spares_none : (s : State) → Spares s s
+spares_none s = record {
+  kept = λ _. record { was_open = λ is_open. is_open; committed = λ _. refl };
+  survives = record { clean = omega arith; shield = λ it. it; counts = omega arith; limit = refl; closes = λ _ is_open. inl is_open; crash = λ _ db may. inl may };
+}
+
+pub alters_none : (s : State) (put : ℕ) → IsTrue s.in_transaction → IsTrue s.is_open → Alters s s (with_secrets put [])
+alters_none s put inside is_open = record {
+  on = record { was_open = is_open; is_open = is_open; now_is = refl; committed_is = refl; mode = inside };
+  makes = λ rows t. subst (λ all. IsTables s.now (record rows { secrets = all })) (sym (append-nil rows.secrets)) t;
+}
+
+abbrev row_at : ℕ → ℕ × List ℕ → SecretRow
+row_at put s = record { endpoint = put; place = s.0; secret = s.1 }
+
+one_more : (put n k : ℕ) (xs : List (List ℕ)) (x : List ℕ) → slice_get xs k ≡ Some x
+    → map (row_at put) (enumerate_from n (take (suc k) xs)) ≡ map (row_at put) (enumerate_from n (take k xs)) ++ row_at put (n + k, x) ∷ []
+one_more put n k [] x is = absurd (let e = is in cc)
+one_more put n zero (y ∷ ys) x is = λ i. row_at put (sym (add-zero n) i, same is i) ∷ []
+  where
+    same : {a b : List ℕ} → Some a ≡ Some b → a ≡ b
+    same e = cc
+one_more put n (suc k) (y ∷ ys) x is =
+    ap (λ rest. row_at put (n, y) ∷ rest) (one_more put (n + 1) k ys x is ∙ ap (λ p. map (row_at put) (enumerate_from (n + 1) (take k ys)) ++ row_at put (p, x) ∷ []) moved)
+  where
+    moved : n + 1 + k ≡ n + suc k
+    moved = omega arith
+
+pub secret_rows-more : (put k : ℕ) (xs : List (List ℕ)) (x : List ℕ) → slice_get xs k ≡ Some x
+    → secret_rows put (take (k + 1) xs) ≡ secret_rows put (take k xs) ++ record { endpoint = put; place = k; secret = x } ∷ []
+secret_rows-more put k xs x is =
+    ap (λ n. secret_rows put (take n xs)) (add-one k) ∙ one_more put 0 k xs x is ∙ ap (λ p. secret_rows put (take k xs) ++ row_at put (p, x) ∷ []) moved
+  where
+    moved : 0 + k ≡ k
+    moved = omega arith
+
+-- one secret more
+pub alters_more : (a b c : State) (put k : ℕ) (xs : List (List ℕ)) (x : List ℕ) → slice_get xs k ≡ Some x
+    → Alters a b (with_secrets put (take k xs)) → Alters b c (with_secret (record { endpoint = put; place = k; secret = x })) → Alters a c (with_secrets put (take (k + 1) xs))
+alters_more a b c put k xs x is so_far one =
+    let both = alters_then a b c _ _ so_far one in
+    record {
+      on = both.on;
+      makes = λ rows t. subst (λ all. IsTables c.now (record rows { secrets = all }))
+          (append_assoc rows.secrets (secret_rows put (take k xs)) (record { endpoint = put; place = k; secret = x } ∷ []) ∙ ap (λ more. rows.secrets ++ more) (sym (secret_rows-more put k xs x is))) (both.makes rows t);
+    }
+
+-- a place below the length has a secret
+pub get_is_there : (xs : List (List ℕ)) (k : ℕ) → k < length xs → None ≡ slice_get xs k → ⊥
+get_is_there [] k below is = omega (arith, below)
+get_is_there (x ∷ xs) zero below is = cc
+get_is_there (x ∷ xs) (suc k) below is = get_is_there xs k (omega (arith, below)) is

@@ -1,0 +1,52 @@
+-- How a commit ends, and what it leaves of a vault.
+use Rattle.std.specs.Prelude.{◌≡◌, ◌⊎◌, ◌+◌, ◌≤◌, ◌^◌, ℕ, false, [], length, IsTrue, Result, Ok, Err}
+use Rattle.sqlite.specs.Held.{Held, state}
+use Rattle.sqlite_trees.specs.declared.store.Store.{Ghosts}
+use Rattle.relay_types.specs.Rows.{Rows, rows_of, put_rows}
+use Rattle.relay_types.specs.Records.{records_of}
+use Rattle.spool_sql.specs.Steps.{MayLeave, IsBegun}
+use Rattle.spool_sql.specs.Tables.{no_schema}
+use Rattle.spool.specs.declared.ends.CommitEnd.{CommitEnd}
+use Rattle.spool.specs.declared.ends.CommitEnd.TheVariants as ends
+use Rattle.spool.specs.declared.ends.Unchanged.TheVariants as why
+use Rattle.spool.specs.Runs.{Run, span_of}
+use Rattle.spool.specs.Vaults.{Kept, StandsOn}
+
+-- the vault stands on these rows, and a stop leaves them
+abbrev pub Keeps : {S : Type 0} → Ghosts S → Kept S → Rows → Type 0
+Keeps g v rows = StandsOn g v rows × MayLeave (state g v.conn) (λ r. r ≡ rows)
+
+-- a vault of this mark without a record; if the store had no table, it stands on the rows of the empty history
+pub record IsOpened {S : Type 0} (g : Ghosts S) (conn : Held S) (mark : ℕ) (v : Kept S) : Type 0 where
+  pub marked : v.mark ≡ mark
+  pub next : v.next ≡ 0
+  pub closed : v.closed ≡ false
+  pub rows : IsBegun no_schema (state g conn).now → Keeps g v (rows_of [])
+
+-- the batch is of the vault's opening, and begins with its next record
+abbrev pub IsNext : {S : Type 0} → Kept S → Run → Type 0
+IsNext v batch = (batch.mark ≡ v.mark) × (batch.from ≡ v.next)
+
+-- the batch comes back, or of a doubtful one the places
+abbrev pub HandsBack : Run → CommitEnd → Type 0
+HandsBack batch (ends.Unchanged back reason) = back ≡ batch
+HandsBack batch (ends.Doubtful doubt cause) = doubt ≡ span_of batch
+
+-- the vault didn't look at the store
+abbrev pub IsRefused : CommitEnd → Type 0
+IsRefused (ends.Unchanged batch why.Closed) = Unit {0}
+IsRefused (ends.Unchanged batch why.OutOfTurn) = Unit {0}
+IsRefused (ends.Unchanged batch why.Illegal) = ⊥
+IsRefused (ends.Unchanged batch why.OutOfMemory) = ⊥
+IsRefused (ends.Doubtful doubt cause) = ⊥
+
+abbrev pub IsDoubt : Result Run CommitEnd → Type 0
+IsDoubt (Ok receipt) = ⊥
+IsDoubt (Err (ends.Unchanged batch reason)) = ⊥
+IsDoubt (Err (ends.Doubtful doubt cause)) = Unit {0}
+
+-- what the answer says of the rows
+abbrev pub AnswersSo : {S : Type 0} → Ghosts S → Kept S → Kept S → Run → Result Run CommitEnd → Type 0
+AnswersSo g old new batch (Ok receipt) = (rows : Rows) → StandsOn g old rows → Keeps g new (put_rows rows (records_of batch.steps))
+AnswersSo g old new batch (Err (ends.Unchanged back reason)) = (rows : Rows) → StandsOn g old rows → Keeps g new rows
+AnswersSo g old new batch (Err (ends.Doubtful doubt cause)) = (rows : Rows) → StandsOn g old rows → MayLeave (state g new.conn) (λ r. (r ≡ rows) ⊎ (r ≡ put_rows rows (records_of batch.steps)))

@@ -1,0 +1,5 @@
+pub mod Runs
+pub mod Vaults
+pub mod Entering
+pub mod Opening
+pub mod Commits

@@ -1,0 +1,55 @@
+//! Why an opening or a commit gave no value.
+
+use crate::batch::{Batch, Doubt};
+use sqlite::Error;
+use std::fmt;
+
+/// Why a store was not opened.
+#[derive(Clone, Copy)]
+pub enum OpenFault {
+    /// A table of the relay's is there already.
+    NotOurs,
+    /// The store refused a call for a fault of its own. What a stop may leave stands in the file.
+    Store(Error),
+    /// Memory was refused, and the tables are as they were.
+    OutOfMemory,
+}
+
+impl OpenFault {
+    /// Whether memory was refused.
+    pub fn is_memory(self) -> bool {
+        matches!(self, OpenFault::OutOfMemory)
+    }
+}
+
+impl fmt::Display for OpenFault {
+    fn fmt<W: fmt::Write>(&self, f: &mut fmt::Formatter<W>) -> fmt::Result {
+        f.write_str(match self {
+            OpenFault::NotOurs => "NotOurs",
+            OpenFault::Store(_) => "Store",
+            OpenFault::OutOfMemory => "OutOfMemory",
+        })
+    }
+}
+
+/// Why a commit changed nothing. The batch is handed back and the rows are as before.
+#[derive(Clone, Copy, PartialEq, Eq, Debug)]
+pub enum Unchanged {
+    /// An earlier commit was doubtful.
+    Closed,
+    /// The batch is of another opening, or isn't the next one.
+    OutOfTurn,
+    /// A record isn't legal after the rows.
+    Illegal,
+    /// Memory was refused.
+    OutOfMemory,
+}
+
+/// How a commit ends that gives no receipt.
+#[derive(Drop)]
+pub enum CommitEnd {
+    /// Nothing was written.
+    Unchanged(Batch, Unchanged),
+    /// The old or the new rows stand in the file, and the vault is closed.
+    Doubtful(Doubt, Error),
+}

@@ -1,0 +1,14 @@
+//! The spool: one SQLite store that holds the rows of the history, and whose only writer is a commit of a whole batch.
+#![tactic(auto)]
+
+mod batch;
+mod ends;
+mod entry;
+mod legal;
+mod open;
+mod vault;
+mod write;
+
+pub use crate::batch::{Batch, Doubt, Receipt};
+pub use crate::ends::{CommitEnd, OpenFault, Unchanged};
+pub use crate::vault::Vault;
