@@ -1,0 +1,4 @@
+pub mod DeskLists
+pub mod DeskEvents
+pub mod DeskLaws
+pub mod DeskBatches
