@@ -2,3 +2,7 @@ mod FeedLaws
 mod LineLaws
 mod PartLaws
 mod StreamLaws
+pub mod DeskLists
+pub mod DeskEvents
+pub mod DeskLaws
+pub mod DeskBatches

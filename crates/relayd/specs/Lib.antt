@@ -5,3 +5,4 @@ pub mod Parts
 pub mod Replies
 pub mod Script
 pub mod Runs
+pub mod Desks
