@@ -6,3 +6,4 @@ pub mod Replies
 pub mod Script
 pub mod Runs
 pub mod Desks
+pub mod Runners

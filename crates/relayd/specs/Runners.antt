@@ -1,5 +1,5 @@
 -- What the runner keeps between two lines, and the worlds for which it stands.
-use Rattle.std.specs.Prelude.{◌≡◌, ℕ, ◌-◌, ◌++◌, false, List, length, take, drop, IsTrue}
+use Rattle.std.specs.Prelude.{◌≡◌, ℕ, ◌++◌, false, List, IsTrue}
 use Rattle.sqlite.specs.Store.{Ghosts}
 use Rattle.sqlite.specs.State.{HasCleanDisk}
 use Rattle.sqlite.specs.Held as store
@@ -20,17 +20,13 @@ use Rattle.relayd.specs.declared.runner.Held.TheVariants as held
 use Rattle.relayd.specs.declared.runner.Runner.{Runner}
 use Rattle.relayd.specs.World.{World, Out, Nothing, Batch, Receipt, Doubt, settled_records, sealed_records}
 use Rattle.relayd.specs.Moves.{Move}
-use Rattle.relayd.specs.Desks.{StandsFor}
-
--- the sealed steps that aren't settled, as a batch of this mark
-abbrev pub batch_of : ℕ → World → batch.Run
-batch_of mark w = record { mark = mark; from = length (settled_records w); steps = take (w.sealed - w.settled) (drop w.settled w.history) }
+use Rattle.relayd.specs.Desks.{StandsFor, sealed_run}
 
 -- the runner holds what the core has handed out
 abbrev pub IsHeld : ℕ → World → Held → Type 0
 IsHeld mark w held.Nothing = w.out ≡ Nothing
-IsHeld mark w (held.Batch run) = (w.out ≡ Batch) × (run ≡ batch_of mark w)
-IsHeld mark w (held.Receipt run) = (w.out ≡ Receipt) × (run ≡ batch_of mark w)
+IsHeld mark w (held.Batch run) = (w.out ≡ Batch) × (run ≡ sealed_run mark w)
+IsHeld mark w (held.Receipt run) = (w.out ≡ Receipt) × (run ≡ sealed_run mark w)
 IsHeld mark w (held.Doubt span) = w.out ≡ Doubt
 
 -- the store takes commits, and holds these records
