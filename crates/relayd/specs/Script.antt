@@ -22,7 +22,7 @@ IsSecretsWord word secrets = (texts : List (List ℕ)) × (word ≡ join_with_by
 
 -- a hexadecimal digit, in either case
 abbrev pub hex_digit : ℕ → Option ℕ
-hex_digit c = if is_between 48 57 c then Some (c - 48) else (if is_between 97 102 c then Some (c - 87) else (if is_between 65 70 c then Some (c - 55) else None))
+hex_digit c = if is_between 65 70 c then Some (c - 55) else (if is_between 97 102 c then Some (c - 87) else (if is_between 48 57 c then Some (c - 48) else None))
 
 abbrev pub HexOf : List ℕ → List ℕ → Type 0
 HexOf [] [] = Unit {0}
