@@ -11,3 +11,4 @@ pub mod DeskEvents
 pub mod DeskLaws
 pub mod DeskBatches
 pub mod RunnerLaws
+pub mod ReplayLaws

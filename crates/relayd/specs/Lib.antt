@@ -8,3 +8,4 @@ pub mod Script
 pub mod Runs
 pub mod Desks
 pub mod Runners
+pub mod Replays

@@ -1,12 +1,16 @@
 //! The runner of scripts: it holds what the desk and the store hand out, and gives it to the line that asks for it.
-ghost use Rattle.std.specs.Prelude.{◌≡◌, ◌+◌, length};
+ghost use Rattle.std.specs.Prelude.{◌≡◌, ◌⊎◌, ◌+◌, [], length, IfOk, IfErr};
 ghost use Rattle.sqlite.specs.State.{HasCleanDisk};
 ghost use Rattle.sqlite.specs.Held.{state};
 ghost use Rattle.relay_types.specs.Records.{records_of};
+ghost use Rattle.spool_sql.specs.Tables.{no_schema};
+ghost use Rattle.spool_sql.specs.Steps.{IsBegun};
 ghost use Rattle.relayd.specs.declared.event.Event.TheVariants as on;
 ghost use Rattle.relayd.specs.declared.reply.Reply.TheVariants as says;
 ghost use Rattle.relayd.specs.Desks.{staged_reply, event_reply};
-ghost use Rattle.relayd.specs.Runners.{Answers, CommitsSo, unchanged_reply};
+ghost use Rattle.relayd.specs.Moves.{opened};
+ghost use Rattle.relayd.specs.Runners.{RunnerStandsFor, Answers, CommitsSo, IsAlwaysClean, unchanged_reply};
+ghost use Rattle.relayd.specs.Replays.{Replays, EndsLine};
 
 use crate::desk::{Desk, Refusal, WrongTurn};
 use crate::event::{Command, Event, read_event};
@@ -210,7 +214,22 @@ pub fn replay<S: Alter + Drop, I: Read, O: Write>(
     output: &mut O,
     conn: Connection<S>,
     mark: u64,
-) -> Result<(), ReplayFault> {
+) -> Result<(), ReplayFault>
+    ensures { IsAlwaysClean S.Store → IsBegun no_schema (state S.Store conn).now → Replays (I.remaining input.old) (O.contents output.old) (O.contents output.new) result }
+{
+    let mut runner = started(alloc, conn, mark)?;
+    run_lines(alloc, &mut runner, input, output)
+}
+
+// The runner over a store that has no table.
+fn started<S: Alter + Drop>(
+    alloc: Global,
+    conn: Connection<S>,
+    mark: u64,
+) -> Result<Runner<S>, ReplayFault>
+    ensures stands { IfOk result (λ runner. HasCleanDisk (state S.Store runner.vault.conn) → IsBegun no_schema (state S.Store conn).now → RunnerStandsFor S.Store runner (opened [] 0)) }
+    ensures faults { IfErr result (λ fault. (fault ≡ ReplayFault.Lost) ⊎ (fault ≡ ReplayFault.OutOfMemory)) }
+{
     if !conn.is_autocommit() {
         return Err(ReplayFault::Lost);
     }
@@ -219,17 +238,28 @@ pub fn replay<S: Alter + Drop, I: Read, O: Write>(
         Err((_, fault)) if fault.is_memory() => return Err(ReplayFault::OutOfMemory),
         Err(_) => return Err(ReplayFault::Lost),
     };
-    let mut runner = Runner {
+    Ok(Runner {
         desk: Desk::new(alloc, mark)?,
         vault,
         held: Held::Nothing,
-    };
+    })
+}
+
+// Answers the lines.
+fn run_lines<S: Alter, I: Read, O: Write>(
+    alloc: Global,
+    runner: &mut Runner<S>,
+    input: &mut I,
+    output: &mut O,
+) -> Result<(), ReplayFault>
+    ensures { IsAlwaysClean S.Store → RunnerStandsFor S.Store runner.old (opened [] 0) → Replays (I.remaining input.old) (O.contents output.old) (O.contents output.new) result }
+{
     let mut lines = Lines::new(alloc)?;
     for _ in 0..=MOST_LINES {
         if !lines.advance(input)? {
             return Ok(());
         }
-        run_line(alloc, &lines, &mut runner, output)?;
+        run_line(alloc, &lines, runner, output)?;
     }
     Err(ReplayFault::TooLong)
 }
@@ -240,7 +270,9 @@ fn run_line<S: Alter, O: Write>(
     lines: &Lines,
     runner: &mut Runner<S>,
     output: &mut O,
-) -> Result<(), ReplayFault> {
+) -> Result<(), ReplayFault>
+    ensures { HasCleanDisk (state S.Store runner.new.vault.conn) → EndsLine S.Store lines.now runner.old runner.new (O.contents output.old) (O.contents output.new) result }
+{
     let event = match read_event(alloc, lines.line()) {
         Ok(event) => event,
         Err(WordFault::Bad) => return Err(ReplayFault::BadLine(lines.number())),
