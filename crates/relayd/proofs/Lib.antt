@@ -1,3 +1,6 @@
+mod TargetWords
+mod CleanCalls
+mod CallLaws
 mod FeedLaws
 mod HexLaws
 mod LineLaws

@@ -1,5 +1,6 @@
 -- The lines of a script, answered one after another.
 use Rattle.std.proofs.Common.{◌≡◌, ◌≢◌, ℕ, ◌+◌, ◌==◌, Bool, true, false, not, ◌⊎◌, inl, inr, List, [], ◌∷◌, ◌++◌, length, Option, Some, None, Result, Ok, Err, IsTrue, refl, sym, ap, subst, ◌∙◌, arith, append_assoc, append-nil, length-append}
+use Rattle.std.specs.Prelude.{OnOk, OnErr, IfErr}
 use Rattle.std.specs.List.{list_all}
 use Rattle.std.specs.Io.KnownBytes.{Appends, Keeps, IsAtEnd}
 use Rattle.std.proofs.lemmas.List.Folds.{list_all-append}
@@ -281,3 +282,16 @@ ends_at_once text had contents fault output why = ([], output ∙ ap Some (sym (
 pub keeps_same : (known : Option (List ℕ)) → Keeps known known
 keeps_same None = tt
 keeps_same (Some xs) = refl
+
+-- what a written line comes to
+pub written_line : {S : Type 0} (g : Ghosts S) (lines : Reading) (old new : Runner S) (event : Event) (reply : Reply) (had now : Option (List ℕ)) (end : Result (Unit {0}) ReplayFault) → ReadsLine lines.line event
+    → Answers g old event reply new → OnOk end (Appends had now (with_feed (reply_text reply))) → OnErr end (AppendsFront had now (with_feed (reply_text reply))) → IfErr end (λ fault. (fault ≡ Write) ⊎ (fault ≡ OutOfMemory))
+    → EndsLine g lines old new had now end
+written_line g lines old new event reply had now (Ok done) reads answers whole_line front why = (event, reply, reads, answers, whole_line)
+written_line g lines old new event reply had now (Err fault) reads answers whole_line front (inl e) = subst (λ f. EndsLine g lines old new had now (Err f)) (sym e) (inr (event, reply, reads, answers, front))
+written_line g lines old new event reply had now (Err fault) reads answers whole_line front (inr e) = subst (λ f. EndsLine g lines old new had now (Err f)) (sym e) (inr (event, reply, reads, answers, front))
+
+-- a fault that is handed on
+pub exits : (end : Result (Unit {0}) ReplayFault) (text had : List ℕ) (contents : Option (List ℕ)) (fault : ReplayFault) → end ≡ Err fault → (written : List ℕ) × (contents ≡ Some (had ++ written)) × EndsSo (Err fault) text written
+    → (written : List ℕ) × (contents ≡ Some (had ++ written)) × EndsSo end text written
+exits end text had contents fault is h = (h.0, h.1, subst (λ e. EndsSo e text h.0) (sym is) h.2)

@@ -14,7 +14,10 @@ use Rattle.spool.specs.declared.ends.CommitEnd.{CommitEnd}
 use Rattle.spool.specs.declared.ends.CommitEnd.TheVariants as ends
 use Rattle.spool.specs.declared.ends.Unchanged.{Unchanged}
 use Rattle.spool.specs.declared.ends.Unchanged.TheVariants as why
-use Rattle.spool.specs.Commits.{IsNext, IsDoubt, IsIllegal, AnswersOver}
+use Rattle.sqlite.specs.Held as store
+use Rattle.spool_sql.specs.Tables.{no_schema}
+use Rattle.spool_sql.specs.Steps.{IsBegun}
+use Rattle.spool.specs.Commits.{IsOpened, IsNext, IsDoubt, IsIllegal, AnswersOver}
 use Rattle.spool.specs.Vaults.{Kept, Holds}
 use Rattle.relayd.specs.declared.event.Event.{Event}
 use Rattle.relayd.specs.declared.event.Event.TheVariants as on
@@ -27,7 +30,7 @@ use Rattle.relayd.specs.declared.runner.Held.{Held}
 use Rattle.relayd.specs.declared.runner.Held.TheVariants as held
 use Rattle.relayd.specs.declared.runner.Runner.{Runner}
 use Rattle.relayd.specs.World.{World, Out, Nothing, Batch, Receipt, Doubt, all_records, settled_records, sealed_records}
-use Rattle.relayd.specs.Moves.{Answer, Move, show_event, refused, unless, submit_faults, new_submit_faults, change_faults, at_moment, moment, staged, repeated, submit_new, record_of, served, seal, seal_waiting, with_batch, is_nothing_out, commit, commit_of, settle, settle_of, in_doubt, memory_refusal}
+use Rattle.relayd.specs.Moves.{opened, Answer, Move, show_event, refused, unless, submit_faults, new_submit_faults, change_faults, at_moment, moment, staged, repeated, submit_new, record_of, served, seal, seal_waiting, with_batch, is_nothing_out, commit, commit_of, settle, settle_of, in_doubt, memory_refusal}
 use Rattle.relayd.specs.Desks.{DeskValue, StandsFor, IsMove, Seals, Settles, sealed_run, run_of, steps_of}
 use Rattle.relayd.specs.Runners.{IsHeld, IsOpenAt, VaultStandsFor, RunnerStandsFor, Answers, EndsAs, CommitsSo, unchanged_reply}
 
@@ -393,3 +396,9 @@ pub no_wrong_turn : {S : Type 0} (g : Ghosts S) (runner : Runner S) (run : batch
 no_wrong_turn g runner run w on held_is =
     let had : (w.out ≡ Receipt) × (run ≡ sealed_run runner.desk.mark w) = subst (IsHeld runner.desk.mark w) held_is on.held in
     (on.desk.is_out ∙ ap (λ o. not (is_nothing_out o)) had.0, ap (λ (r : batch.Run). r.mark) had.1, ap (λ (r : batch.Run). r.from) had.1 ∙ sym on.desk.settled)
+
+-- The first world
+
+pub started_stands : {S : Type 0} (g : Ghosts S) (conn : store.Held S) (mark : ℕ) (vault : Kept S) (desk : DeskValue) → IsOpened g conn mark vault → IsBegun no_schema (store.state g conn).now → desk.mark ≡ mark
+    → StandsFor desk (opened [] 0) → RunnerStandsFor g (record { desk = desk; vault = vault; held = held.Nothing }) (opened [] 0)
+started_stands g conn mark vault desk made begun marked stands = record { desk = stands; held = refl; vault = (made.closed, made.history begun); mark = marked ∙ sym made.marked }

@@ -62,3 +62,17 @@ EndsLine g lines old new had now (Err Read) = CutsLine g lines old new had now
 EndsLine g lines old new had now (Err Write) = CutsLine g lines old new had now
 EndsLine g lines old new had now (Err Lost) = CutsLine g lines old new had now
 EndsLine g lines old new had now (Err OutOfMemory) = CutsLine g lines old new had now
+
+-- the exit status of an end: 2 for what was read, 3 for the rest
+abbrev pub status_of : Result (Unit {0}) ReplayFault → ℕ
+status_of (Ok done) = 0
+status_of (Err (BadLine number)) = 2
+status_of (Err TooLong) = 2
+status_of (Err Read) = 3
+status_of (Err Write) = 3
+status_of (Err Lost) = 3
+status_of (Err OutOfMemory) = 3
+
+-- the script ended so that the exit status tells of it
+abbrev pub ReplaysTo : Option (List ℕ) → Option (List ℕ) → Option (List ℕ) → ℕ → Type 0
+ReplaysTo input old new status = (end : Result (Unit {0}) ReplayFault) × (status ≡ status_of end) × Replays input old new end

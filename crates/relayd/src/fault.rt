@@ -1,5 +1,6 @@
 //! Why a command ended early.
-ghost use Rattle.std.specs.Prelude.{◌≡◌};
+ghost use Rattle.std.specs.Prelude.{◌≡◌, Err};
+ghost use Rattle.relayd.specs.Replays.{status_of};
 ghost use Rattle.relayd.specs.declared.fault.ReplayFault.TheVariants.{OutOfMemory};
 
 use std::alloc::AllocError;
@@ -24,7 +25,9 @@ pub enum ReplayFault {
 
 impl ReplayFault {
     /// The exit status of a command that ends so: 2 for what was read, 3 for the rest.
-    pub fn status(self) -> u8 {
+    pub fn status(self) -> u8
+        ensures { result ≡ status_of (Err self) }
+    {
         match self {
             ReplayFault::BadLine(_) | ReplayFault::TooLong => 2,
             ReplayFault::Read | ReplayFault::Write | ReplayFault::Lost | ReplayFault::OutOfMemory =>
