@@ -1,3 +1,4 @@
+pub mod Streams
 pub mod World
 pub mod Moves
 pub mod Replies

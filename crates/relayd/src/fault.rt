@@ -1,4 +1,6 @@
 //! Why a command ended early.
+ghost use Rattle.std.specs.Prelude.{◌≡◌};
+ghost use Rattle.relayd.specs.declared.fault.ReplayFault.TheVariants.{OutOfMemory};
 
 use std::alloc::AllocError;
 use std::fmt;
@@ -45,6 +47,8 @@ impl fmt::Display for ReplayFault {
 }
 
 impl From<AllocError> for ReplayFault {
+    ghost from_gives = { λ _ fault. fault ≡ OutOfMemory };
+
     fn from(_: AllocError) -> ReplayFault {
         ReplayFault::OutOfMemory
     }

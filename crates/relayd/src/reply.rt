@@ -1,4 +1,6 @@
 //! What a call answers, and how a script prints it.
+ghost use Rattle.std.specs.Prelude.{◌≡◌, Some};
+ghost use Rattle.relayd.specs.Replies.{fault_text, state_text, reply_text};
 
 use relay_types::{Moment, State};
 use std::fmt;
@@ -55,28 +57,38 @@ pub enum Reply {
 }
 
 impl fmt::Display for Fault {
+    ghost output = { λ fault. Some (fault_text fault) };
+
     fn fmt<W: fmt::Write>(&self, f: &mut fmt::Formatter<W>) -> fmt::Result {
-        f.write_str(match self {
-            Fault::UnknownEndpoint => "UnknownEndpoint",
-            Fault::Conflict => "Conflict",
-            Fault::Exists => "Exists",
-            Fault::EndpointBacklog => "EndpointBacklog",
-            Fault::Backlog => "Backlog",
-            Fault::TooManyEndpoints => "TooManyEndpoints",
-            Fault::WaitingFull => "WaitingFull",
-            Fault::SeqExhausted => "SeqExhausted",
-            Fault::BatchOut => "BatchOut",
-            Fault::WrongTurn => "WrongTurn",
-            Fault::Closed => "Closed",
-            Fault::OutOfTurn => "OutOfTurn",
-            Fault::Illegal => "Illegal",
-            Fault::Store => "Store",
-            Fault::OutOfMemory => "OutOfMemory",
-        })
+        f.write_str(fault_word(*self))
+    }
+}
+
+fn fault_word(fault: Fault) -> &'static str
+    ensures { result.now ≡ fault_text fault }
+{
+    match fault {
+        Fault::UnknownEndpoint => "UnknownEndpoint",
+        Fault::Conflict => "Conflict",
+        Fault::Exists => "Exists",
+        Fault::EndpointBacklog => "EndpointBacklog",
+        Fault::Backlog => "Backlog",
+        Fault::TooManyEndpoints => "TooManyEndpoints",
+        Fault::WaitingFull => "WaitingFull",
+        Fault::SeqExhausted => "SeqExhausted",
+        Fault::BatchOut => "BatchOut",
+        Fault::WrongTurn => "WrongTurn",
+        Fault::Closed => "Closed",
+        Fault::OutOfTurn => "OutOfTurn",
+        Fault::Illegal => "Illegal",
+        Fault::Store => "Store",
+        Fault::OutOfMemory => "OutOfMemory",
     }
 }
 
 impl fmt::Display for Reply {
+    ghost output = { λ reply. Some (reply_text reply) };
+
     fn fmt<W: fmt::Write>(&self, f: &mut fmt::Formatter<W>) -> fmt::Result {
         match self {
             Reply::Staged { seq } => write!(f, "staged {seq}"),
@@ -104,7 +116,9 @@ impl fmt::Display for Reply {
     }
 }
 
-fn state_word(state: State) -> &'static str {
+fn state_word(state: State) -> &'static str
+    ensures { result.now ≡ state_text state }
+{
     match state {
         State::Pending => "pending",
         State::Delivered => "delivered",
