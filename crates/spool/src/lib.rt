@@ -12,3 +12,6 @@ mod write;
 pub use crate::batch::{Batch, Doubt, Receipt};
 pub use crate::ends::{CommitEnd, OpenFault, Unchanged};
 pub use crate::vault::Vault;
+
+#[cfg(test)]
+mod tests;

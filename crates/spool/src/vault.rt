@@ -4,7 +4,7 @@ ghost use Rattle.sqlite.specs.State.{HasCleanDisk};
 ghost use Rattle.sqlite.specs.Held.{state};
 ghost use Rattle.relay_types.specs.Records.{records_of};
 ghost use Rattle.spool.specs.Opening.{LeavesAt};
-ghost use Rattle.spool.specs.Commits.{IsOpened, IsNext, HandsBack, IsDoubt, IsRefused, AnswersSo};
+ghost use Rattle.spool.specs.Commits.{IsOpened, IsNext, HandsBack, IsDoubt, IsRefused, AnswersSo, GoesOnWith, IsIllegal};
 
 use crate::batch::{Batch, Receipt};
 use crate::ends::{CommitEnd, OpenFault, Unchanged};
@@ -69,6 +69,8 @@ impl<S: Alter> Vault<S> {
         ensures next { self.new.next ≡ cond (is_ok result) (self.old.next + length (records_of batch.steps)) self.old.next }
         ensures doubt { IsTrue self.new.closed ↔ (IsTrue self.old.closed ⊎ IsDoubt result) }
         ensures rows { HasCleanDisk (state S.Store self.new.conn) → AnswersSo S.Store self.old self.new batch result }
+        ensures legal { HasCleanDisk (state S.Store self.new.conn) → IfOk result (λ _. GoesOnWith S.Store self.old self.new batch) }
+        ensures illegal { HasCleanDisk (state S.Store self.new.conn) → result ≡ Err (CommitEnd.Unchanged batch Unchanged.Illegal) → IsIllegal S.Store self.old batch }
     {
         if self.closed {
             return Err(CommitEnd::Unchanged(batch, Unchanged::Closed));

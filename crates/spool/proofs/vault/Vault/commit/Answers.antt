@@ -1,11 +1,20 @@
-use Rattle.std.proofs.Common.{◌≡◌, sym, ap, ◌∙◌, ◌∷◌, []}
+use Rattle.std.proofs.Common.{◌≡◌, ◌∙◌, ◌∷◌, [], ap, refl, arith}
 use Rattle.sqlite.specs.Held.{state}
-use Rattle.spool.proofs.VaultLemmas.{keeps_made, doubts_made}
+use Rattle.spool.proofs.VaultLemmas.{keeps_made, doubts_made, history_made, illegal_made}
 use Rattle.spool.proofs.vault.Vault.commit.Goals as goal
 
 pub returns-in-Made-clause-rows : goal.returns-in-Made-clause-rows
 returns-in-Made-clause-rows g c clean = rw (← c.self.view_is)
     (keeps_made g.S.Store _ c.write.new.conn c.record.result.now c.args.batch.steps (c.step.ensures.step ∙ ap (λ s. s ∷ []) c.record.ensures) (c.in-Made.ensures.ends clean))
+
+pub returns-in-Made-clause-legal : goal.returns-in-Made-clause-legal
+returns-in-Made-clause-legal g c clean = rw (← c.self.view_is)
+    (history_made g.S.Store _ c.write.new.conn c.record.result.now c.args.batch.steps (c.step.ensures ∙ ap (λ s. s ∷ []) c.record.ensures) c.requires (c.in-Made.ensures.limits refl)
+    (omega (arith, c.if-self-ge-MOST_RECORDS.false)) (c.in-Made.ensures.ends clean))
+
+pub returns-in-Illegal-clause-illegal : goal.returns-in-Illegal-clause-illegal
+returns-in-Illegal-clause-illegal g c clean answer = rw (← c.self.view_is)
+    (illegal_made g.S.Store _ c.write.new.conn c.record.result.now c.args.batch.steps (c.step.ensures ∙ ap (λ s. s ∷ []) c.record.ensures) c.requires (c.in-Illegal.ensures.ends clean))
 
 pub returns-in-Doubtful-clause-rows : goal.returns-in-Doubtful-clause-rows
 returns-in-Doubtful-clause-rows g c clean = rw (← c.self.view_is)
