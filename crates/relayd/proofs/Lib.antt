@@ -1,1 +1,3 @@
+mod FeedLaws
+mod LineLaws
 mod StreamLaws
