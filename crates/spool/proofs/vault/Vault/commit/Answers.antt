@@ -9,12 +9,12 @@ returns-in-Made-clause-rows g c clean = rw (← c.self.view_is)
 
 pub returns-in-Made-clause-legal : goal.returns-in-Made-clause-legal
 returns-in-Made-clause-legal g c clean = rw (← c.self.view_is)
-    (history_made g.S.Store _ c.write.new.conn c.record.result.now c.args.batch.steps (c.step.ensures ∙ ap (λ s. s ∷ []) c.record.ensures) c.requires (c.in-Made.ensures.limits refl)
-    (omega (arith, c.if-self-ge-MOST_RECORDS.false)) (c.in-Made.ensures.ends clean))
+    (history_made g.S.Store _ c.write.new.conn c.record.result.now c.args.batch.steps (c.step.ensures.step ∙ ap (λ s. s ∷ []) c.record.ensures) c.step.ensures.kind (c.in-Made.ensures.limits refl)
+    (omega (arith, c.from.ensures.room, c.if-from-self.false)) (c.in-Made.ensures.ends clean))
 
 pub returns-in-Illegal-clause-illegal : goal.returns-in-Illegal-clause-illegal
 returns-in-Illegal-clause-illegal g c clean answer = rw (← c.self.view_is)
-    (illegal_made g.S.Store _ c.write.new.conn c.record.result.now c.args.batch.steps (c.step.ensures ∙ ap (λ s. s ∷ []) c.record.ensures) c.requires (c.in-Illegal.ensures.ends clean))
+    (illegal_made g.S.Store _ c.write.new.conn c.record.result.now c.args.batch.steps (c.step.ensures.step ∙ ap (λ s. s ∷ []) c.record.ensures) c.step.ensures.kind (c.in-Illegal.ensures.ends clean))
 
 pub returns-in-Doubtful-clause-rows : goal.returns-in-Doubtful-clause-rows
 returns-in-Doubtful-clause-rows g c clean = rw (← c.self.view_is)
