@@ -95,12 +95,14 @@ fn read_all<R: Read>(alloc: Global, input: &mut R) -> Result<Vec<u8>, ReplayFaul
     ensures most { IfOk result (λ bytes. vec_len bytes ≤ MOST_BODY) }
     ensures too_long { result ≡ Err ReplayFault.TooLong → IfSome (R.remaining input.old) (λ body. MOST_BODY < length body) }
 {
-    let mut chunk = vec![in alloc; 0; CHUNK]?;
+    let mut chunk = [0; CHUNK];
     let mut bytes = Vec::new(alloc);
     for _ in 0..MOST_READS {
-        match read_into(input, chunk.as_mut_slice())? {
-            Some(count) => gather(&mut bytes, &chunk[..count])?,
-            None => return Ok(bytes),
+        let Some(count) = read_into(input, &mut chunk)? else {
+            return Ok(bytes);
+        };
+        if let Err(fault) = gather(&mut bytes, &chunk[..count]) {
+            return Err(fault);
         }
     }
     Err(ReplayFault::Read)
