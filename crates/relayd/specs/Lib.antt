@@ -4,3 +4,4 @@ pub mod Moves
 pub mod Replies
 pub mod Script
 pub mod Runs
+pub mod Desks

@@ -1,7 +1,15 @@
 //! The desk: the order of all changes. It takes submissions and commands, seals what waits, and settles what was committed.
-ghost use Rattle.std.specs.Prelude.{◌≡◌, ◌≤◌, ◌<◌, ◌+◌, ◌^◌, OnOk, None, [], ◌∷◌, vec_capacity};
-ghost use Rattle.spool.specs.Runs.{ArePutsAndAccepts};
+ghost use Rattle.std.specs.Prelude.{◌≡◌, ◌≤◌, ◌<◌, ◌+◌, ◌^◌, [], length, max, bytes_eq, ◌↔◌, OnOk, OnErr, IfOk, IfErr, IfSome, IsOk, IsTrue, None};
+ghost use Rattle.std.specs.List.{list_any};
+ghost use Rattle.relay_types.specs.declared.record.Record.TheVariants.{Put, Accept};
+ghost use Rattle.relay_types.specs.Legal.{is_within_limits};
+ghost use Rattle.relay_types.specs.Values.{are_secrets};
 ghost use Rattle.delivery_book.specs.Entries.{known_in};
+ghost use Rattle.spool.specs.Runs.{ArePutsAndAccepts};
+ghost use Rattle.relayd.specs.declared.event.Event.TheVariants as on;
+ghost use Rattle.relayd.specs.World.{World, all_records};
+ghost use Rattle.relayd.specs.Moves.{opened, show_event};
+ghost use Rattle.relayd.specs.Desks.{StandsFor, IsMove, Seals, Settles, run_of, settle_reply, staged_reply, event_reply, first_fault, same_faults, backlog_faults, waiting_faults, with_put, with_accept};
 
 use crate::event::Command;
 use crate::reply::Fault;
@@ -9,6 +17,7 @@ use delivery_book::{DeliveryBook, Row};
 use relay_types::{Body, MaxLimit, Moment, MsgId, Name, Record, Secrets, Step, Target};
 use spool::{Batch, Receipt};
 use std::alloc::{AllocError, Global};
+use std::marker::Model;
 
 /// The most endpoints.
 const MOST_ENDPOINTS: usize = 256;
@@ -40,15 +49,6 @@ impl Refusal {
 #[derive(Clone, Copy, PartialEq, Eq, Debug)]
 pub struct WrongTurn;
 
-// A step that waits, and the number of its record.
-#[derive(Drop)]
-struct Waiting {
-    seq: u64,
-    step: Step,
-    ghost room: { seq < 2 ^ 62 },
-    ghost kind: { ArePutsAndAccepts (step ∷ []) },
-}
-
 /// The desk of one opening.
 #[derive(Drop)]
 pub struct Desk {
@@ -56,20 +56,38 @@ pub struct Desk {
     clock: Moment,
     endpoints: Vec<Name>,
     deliveries: DeliveryBook,
-    waiting: Option<Waiting>,
+    waiting: Option<Step>,
     is_out: bool,
     records: u64,
     settled: u64,
-    ghost staged: { deliveries.next_place ≤ records },
-    ghost settled_book: { deliveries.settled_place ≤ settled },
-    ghost prefix: { settled ≤ records },
-    ghost room: { records ≤ 2 ^ 62 },
-    ghost places: { 256 ≤ vec_capacity endpoints },
+}
+
+impl Model for Desk {
+    ghost use Rattle.std.specs.Prelude.{vec_capacity};
+    ghost use Rattle.relayd.specs.Desks.{DeskValue, IsDesk, steps_of};
+
+    ghost Value = { DeskValue };
+
+    ghost view = { λ d. record {
+      mark = d.mark;
+      clock = d.clock;
+      endpoints = d.endpoints.items;
+      deliveries = d.deliveries;
+      waiting = d.waiting;
+      is_out = d.is_out;
+      records = d.records;
+      settled = d.settled;
+    } };
+
+    ghost invariant = { λ d. IsDesk d.deliveries.next_place d.deliveries.settled_place d.records d.settled (vec_capacity d.endpoints) (steps_of d.waiting) };
 }
 
 impl Desk {
     /// The desk of the empty history.
-    pub fn new(alloc: Global, mark: u64) -> Result<Desk, AllocError> {
+    pub fn new(alloc: Global, mark: u64) -> Result<Desk, AllocError>
+        ensures mark { IfOk result (λ desk. desk.mark ≡ mark) }
+        ensures stands { IfOk result (λ desk. StandsFor desk (opened [] 0)) }
+    {
         let Ok(clock) = Moment::of(0) else {
             unreachable!()
         };
@@ -86,17 +104,15 @@ impl Desk {
     }
 
     /// Takes an event: the number of its record. The same id with the same bytes gives the number of the first.
-    pub fn submit(
-        &mut self,
-        now: Moment,
-        name: Name,
-        id: MsgId,
-        body: Body,
-    ) -> Result<u64, Refusal> {
+    pub fn submit(&mut self, now: Moment, name: Name, id: MsgId, body: Body) -> Result<u64, Refusal>
+        ensures moves { IsMove self.old (on.Submit now name id body) (staged_reply result) self.new }
+        ensures mark { self.new.mark ≡ self.old.mark }
+        ensures err { OnErr result (self.new ≡ self.old) }
+    {
         if !self.has_endpoint(name) {
             return Err(Refusal::of(2, Fault::UnknownEndpoint));
         }
-        let at = self.clock.max(now);
+        let at = later(self.clock, now);
         if let Some(delivery) = self.deliveries.find(name, &id) {
             self.check_same(delivery, &body)?;
             self.clock = at;
@@ -110,51 +126,50 @@ impl Desk {
     }
 
     /// Changes an endpoint: the number of its record.
-    pub fn command(&mut self, command: Command) -> Result<u64, Refusal> {
-        let Command::PutEndpoint {
-            name,
-            target,
-            max,
-            secrets,
-        } = command;
-        if self.has_endpoint(name) {
-            return Err(Refusal::of(3, Fault::Exists));
+    pub fn command(&mut self, command: Command) -> Result<u64, Refusal>
+        ensures moves { IsMove self.old (on.Change command) (staged_reply result) self.new }
+        ensures mark { self.new.mark ≡ self.old.mark }
+        ensures err { OnErr result (self.new ≡ self.old) }
+    {
+        match command {
+            Command::PutEndpoint {
+                name,
+                target,
+                max,
+                secrets,
+            } => self.put_endpoint(name, target, max, secrets),
         }
-        if self.endpoints.len() >= MOST_ENDPOINTS {
-            return Err(Refusal::of(4, Fault::TooManyEndpoints));
-        }
-        self.check_waiting(5, 6)?;
-        let seq = self.records;
-        self.endpoints.push_reserved(name);
-        let step = Step::of(Record::Put {
-            name,
-            target,
-            max,
-            secrets,
-        });
-        self.waiting = Some(Waiting { seq, step });
-        self.records = seq + 1;
-        Ok(seq)
     }
 
     /// Puts what waits into a batch: `None` where nothing waits.
-    pub fn seal(&mut self) -> Result<Option<Batch>, Refusal> {
+    pub fn seal(&mut self) -> Result<Option<Batch>, Refusal>
+        ensures moves { Seals self.old result self.new }
+        ensures batch { IfOk result (λ sealed. IfSome sealed (λ batch. batch ≡ run_of self.old)) }
+        ensures kinds { IfOk result (λ sealed. IfSome sealed (λ batch. ArePutsAndAccepts batch.steps)) }
+        ensures mark { self.new.mark ≡ self.old.mark }
+        ensures err { OnErr result (self.new ≡ self.old) }
+    {
         if self.is_out {
             return Err(Refusal::of(2, Fault::BatchOut));
         }
-        let Some(waiting) = &self.waiting else {
+        let Some(step) = &self.waiting else {
             return Ok(None);
         };
-        let seq = waiting.seq;
-        let Ok(step) = waiting.step.share() else {
+        let Ok(step) = step.share() else {
             return Err(Refusal::of(3, Fault::OutOfMemory));
         };
         self.is_out = true;
-        Ok(Some(Batch::of(self.mark, seq, step)))
+        Ok(Some(Batch::of(self.mark, self.settled, step)))
     }
 
     /// Settles the batch that is out, by its receipt: how many records are settled.
-    pub fn settle(&mut self, receipt: Receipt) -> Result<u64, (Receipt, WrongTurn)> {
+    pub fn settle(&mut self, receipt: Receipt) -> Result<u64, (Receipt, WrongTurn)>
+        ensures moves { Settles self.old receipt (settle_reply result) self.new }
+        ensures turn { IsOk result ↔ (IsTrue self.old.is_out × (receipt.mark ≡ self.old.mark) × (receipt.from ≡ self.old.settled)) }
+        ensures back { IfErr result (λ back. back.0 ≡ receipt) }
+        ensures mark { self.new.mark ≡ self.old.mark }
+        ensures err { OnErr result (self.new ≡ self.old) }
+    {
         if !self.is_out || receipt.mark() != self.mark || receipt.from() != self.settled {
             return Err((receipt, WrongTurn));
         }
@@ -166,23 +181,52 @@ impl Desk {
     }
 
     /// What the settled records say of an event.
-    pub fn event(&self, name: Name, id: &MsgId) -> Option<Row> {
+    pub fn event(&self, name: Name, id: &MsgId) -> Option<Row>
+        ensures { (w : World) → StandsFor self.now w → event_reply result ≡ show_event w name id.now }
+    {
         let delivery = self.deliveries.find(name, id)?;
         self.deliveries.settled(delivery)
     }
 
-    fn has_endpoint(&self, name: Name) -> bool {
+    fn has_endpoint(&self, name: Name) -> bool
+        ensures { result ≡ list_any (λ known. bytes_eq known name) self.now.endpoints }
+    {
         self.endpoints.iter().any(|known| known.is(name))
     }
 
-    fn check_same(&self, delivery: u64, body: &Body) -> Result<(), Refusal> {
+    fn put_endpoint(
+        &mut self,
+        name: Name,
+        target: Target,
+        max: MaxLimit,
+        secrets: Secrets,
+    ) -> Result<u64, Refusal>
+        ensures moves { IsMove self.old (on.Change (Command.PutEndpoint name target max secrets)) (staged_reply result) self.new }
+        ensures mark { self.new.mark ≡ self.old.mark }
+        ensures err { OnErr result (self.new ≡ self.old) }
+    {
+        if self.has_endpoint(name) {
+            return Err(Refusal::of(3, Fault::Exists));
+        }
+        if self.endpoints.len() >= MOST_ENDPOINTS {
+            return Err(Refusal::of(4, Fault::TooManyEndpoints));
+        }
+        self.check_waiting(5, 6)?;
+        Ok(self.stage_put(name, target, max, secrets))
+    }
+
+    fn check_same(&self, delivery: u64, body: &Body) -> Result<(), Refusal>
+        ensures { (w : World) → StandsFor self.now w → result ≡ first_fault (same_faults (all_records w) delivery body.now) }
+    {
         match self.deliveries.body(delivery) {
             Some(known) if known.is(body) => Ok(()),
             _ => Err(Refusal::of(3, Fault::Conflict)),
         }
     }
 
-    fn check_backlog(&self, name: Name) -> Result<(), Refusal> {
+    fn check_backlog(&self, name: Name) -> Result<(), Refusal>
+        ensures { (w : World) → StandsFor self.now w → result ≡ first_fault (backlog_faults (all_records w) name) }
+    {
         if self.deliveries.pending(name) >= MOST_PENDING {
             return Err(Refusal::of(4, Fault::EndpointBacklog));
         }
@@ -193,7 +237,7 @@ impl Desk {
     }
 
     fn check_waiting(&self, full: u8, exhausted: u8) -> Result<(), Refusal>
-        ensures room { OnOk result (self.now.records < 2 ^ 62) }
+        ensures { result ≡ first_fault (waiting_faults self.now full exhausted) }
     {
         if self.waiting.is_some() {
             return Err(Refusal::of(full, Fault::WaitingFull));
@@ -202,6 +246,27 @@ impl Desk {
             return Err(Refusal::of(exhausted, Fault::SeqExhausted));
         }
         Ok(())
+    }
+
+    fn stage_put(&mut self, name: Name, target: Target, max: MaxLimit, secrets: Secrets) -> u64
+        requires room { self.old.records < 2 ^ 62 }
+        requires place { length self.old.endpoints < 256 }
+        ensures seq { result ≡ self.old.records }
+        ensures staged { self.new ≡ with_put self.old name target max secrets }
+        ensures limits { IsTrue (is_within_limits (Put name target max secrets)) }
+    {
+        let entry = Record::Put {
+            name,
+            target,
+            max,
+            secrets,
+        };
+        known_limits(&entry);
+        let seq = self.records;
+        self.endpoints.push_reserved(name);
+        self.waiting = Some(Step::of(entry));
+        self.records = seq + 1;
+        seq
     }
 
     fn stage_accept(
@@ -213,19 +278,79 @@ impl Desk {
     ) -> Result<u64, Refusal>
         requires room { self.old.records < 2 ^ 62 }
         requires unknown { known_in self.old.deliveries name id ≡ None }
+        ensures seq { IfOk result (λ seq. seq ≡ self.old.records) }
+        ensures staged { OnOk result (self.new ≡ with_accept self.old name id body at) }
+        ensures limits { IsTrue (is_within_limits (Accept name id body at)) }
+        ensures refusal { IfErr result (λ refusal. refusal ≡ record { number = 8; fault = Fault.OutOfMemory }) }
+        ensures err { OnErr result (self.new ≡ self.old) }
     {
         let seq = self.records;
-        let Ok(kept) = body.share() else {
+        let kept = body.share();
+        let entry = Record::Accept { name, id, body, at };
+        known_limits(&entry);
+        let Ok(kept) = kept else {
             return Err(Refusal::of(8, Fault::OutOfMemory));
         };
         match self.deliveries.stage_accept(seq, name, id, kept, at) {
             Ok(()) => {
-                let step = Step::of(Record::Accept { name, id, body, at });
-                self.waiting = Some(Waiting { seq, step });
+                self.waiting = Some(Step::of(entry));
                 self.records = seq + 1;
                 Ok(seq)
             }
             Err(_) => Err(Refusal::of(8, Fault::OutOfMemory)),
+        }
+    }
+}
+
+// The later of two moments.
+fn later(one: Moment, other: Moment) -> Moment
+    ensures { result ≡ max other one }
+{
+    one.max(other)
+}
+
+// The values of a record keep their limits: this tells the proof what their types keep.
+fn known_limits(entry: &Record)
+    ensures { IsTrue (is_within_limits entry.now) }
+{
+    match entry {
+        Record::Put {
+            name,
+            target,
+            max,
+            secrets,
+        } => {
+            name.as_bytes();
+            target.as_bytes();
+            max.get();
+            known_secrets(secrets);
+        }
+        Record::Secrets { name, secrets } => {
+            name.as_bytes();
+            known_secrets(secrets);
+        }
+        Record::Enabled { name, .. } => {
+            name.as_bytes();
+        }
+        Record::Accept { name, id, body, at } => {
+            name.as_bytes();
+            id.as_bytes();
+            body.as_bytes();
+            at.seconds();
+        }
+        Record::Outcome { at, .. } => {
+            at.seconds();
+        }
+    }
+}
+
+// Each of the secrets keeps its limits.
+fn known_secrets(secrets: &Secrets)
+    ensures { IsTrue (are_secrets secrets.now) }
+{
+    for place in 0..secrets.count() {
+        if let Some(secret) = secrets.get(place) {
+            secret.as_bytes();
         }
     }
 }
