@@ -63,8 +63,8 @@ impl<S: Alter> Vault<S> {
         }
     }
 
-    /// Writes the batch in one transaction, all of it or nothing. Refusals are looked for in the order of `Unchanged`, but
-    /// want of memory may come before `Illegal`. The same holds of a doubtful end.
+    /// Writes the batch in one transaction, all of it or nothing. Refusals come in the order of `Unchanged`, but want of
+    /// memory and a doubtful end may come before `Illegal`.
     pub fn commit(&mut self, batch: Batch) -> Result<Receipt, CommitEnd>
         requires { ArePutsAndAccepts batch.steps }
         ensures closed { (result ≡ Err (CommitEnd.Unchanged batch Unchanged.Closed)) ↔ IsTrue self.old.closed }
