@@ -8,11 +8,11 @@ use Rattle.relay_types.specs.Records.{History, records_of}
 use Rattle.relay_types.specs.Legal.{IsLegal, may_follow, is_within_limits}
 use Rattle.relay_types.specs.Rows.{Rows, rows_of, put_record, put_rows}
 use Rattle.spool_sql.specs.Steps.{MayLeave}
-use Rattle.spool.specs.Entering.{EndsSo}
+use Rattle.spool.specs.Entering.{Rests, EndsSo}
 use Rattle.spool.specs.Runs.{Run, is_put_or_accept}
 use Rattle.spool.specs.Vaults.{Kept, StandsOn, Holds}
 use Rattle.spool.specs.Commits.{Keeps, KeepsHistory}
-use Rattle.spool.specs.declared.write.Written.TheVariants.{Made, Illegal, Doubtful}
+use Rattle.spool.specs.declared.write.Written.TheVariants.{Made, Illegal, OutOfMemory, Doubtful}
 use Rattle.sqlite.specs.declared.error.Error.{Error}
 use Rattle.spool.proofs.RowLemmas.{once_after}
 use Rattle.spool.proofs.KnownLemmas.{and_first, legal_more, follows_if_legal, room_if_legal}
@@ -79,3 +79,25 @@ pub illegal_full : {S : Type 0} (g : Ghosts S) (old : Kept S) (entry : Record) (
     → (records : List Record) → Holds g old records → IsLegal (records ++ records_of steps) → ⊥
 illegal_full g old entry steps is full records on legal =
     omega (arith, room_if_legal records entry (subst (λ s. IsLegal (records ++ records_of s)) is legal), full, on.next)
+
+-- The same rows, and a doubtful end
+
+keeps_history : {S : Type 0} (g : Ghosts S) (old : Kept S) (conn : Held S) (records : List Record) → Holds g old records → Rests (state g conn) (rows_of records) → KeepsHistory g (record old { conn = conn }) records
+keeps_history g old conn records on rests = (record { legal = on.legal; stands = rests.0; next = on.next }, rests.1)
+
+pub history_refused : {S : Type 0} (g : Ghosts S) (old : Kept S) (conn : Held S) (entry : Record) → EndsSo (state g old.conn) (state g conn) old.next entry Illegal
+    → (records : List Record) → Holds g old records → KeepsHistory g (record old { conn = conn }) records
+history_refused g old conn entry ends records on = keeps_history g old conn records on (ends (rows_of records) (legal_once records on.legal, sym on.next) on.stands).1
+
+pub history_unwritten : {S : Type 0} (g : Ghosts S) (old : Kept S) (conn : Held S) (entry : Record) → EndsSo (state g old.conn) (state g conn) old.next entry OutOfMemory
+    → (records : List Record) → Holds g old records → KeepsHistory g (record old { conn = conn }) records
+history_unwritten g old conn entry ends records on = keeps_history g old conn records on (ends (rows_of records) on.stands)
+
+pub history_doubted : {S : Type 0} (g : Ghosts S) (old : Kept S) (conn : Held S) (entry : Record) (steps : History) (cause : Error) → steps ≡ (entry ∷ []) ∷ []
+    → IsTrue (list_all is_put_or_accept (records_of steps)) → EndsSo (state g old.conn) (state g conn) old.next entry (Doubtful cause)
+    → (records : List Record) → Holds g old records → IsLegal (records ++ records_of steps) → MayLeave (state g conn) (λ r. (r ≡ rows_of records) ⊎ (r ≡ rows_of (records ++ records_of steps)))
+history_doubted g old conn entry steps cause is taken ends records on legal =
+    let follows = follows_if_legal records entry (subst (λ s. IsLegal (records ++ records_of s)) is legal) in
+    let law = rows_of-more records entry on.legal follows (one_taken steps entry is taken) in
+    let after = sym law ∙ ap (λ s. rows_of (records ++ records_of s)) (sym is) in
+    subst (λ more. MayLeave (state g conn) (λ r. (r ≡ rows_of records) ⊎ (r ≡ more))) after (ends (rows_of records) (legal_once records on.legal, sym on.next) on.stands)

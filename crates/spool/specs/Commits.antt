@@ -43,6 +43,7 @@ IsRefused (ends.Unchanged batch why.Illegal) = ⊥
 IsRefused (ends.Unchanged batch why.OutOfMemory) = ⊥
 IsRefused (ends.Doubtful doubt cause) = ⊥
 
+-- nobody knows whether the batch was written
 abbrev pub IsDoubt : Result Run CommitEnd → Type 0
 IsDoubt (Ok receipt) = ⊥
 IsDoubt (Err (ends.Unchanged batch reason)) = ⊥
@@ -58,9 +59,11 @@ AnswersSo g old new batch (Err (ends.Doubtful doubt cause)) = (rows : Rows) → 
 abbrev pub KeepsHistory : {S : Type 0} → Ghosts S → Kept S → List Record → Type 0
 KeepsHistory g v records = Holds g v records × MayLeave (state g v.conn) (λ r. r ≡ rows_of records)
 
--- a history that the vault held goes on with the batch
-abbrev pub GoesOnWith : {S : Type 0} → Ghosts S → Kept S → Kept S → Run → Type 0
-GoesOnWith g old new batch = (records : List Record) → Holds g old records → KeepsHistory g new (records ++ records_of batch.steps)
+-- what the answer says of a history that the vault held
+abbrev pub AnswersOver : {S : Type 0} → Ghosts S → Kept S → Kept S → Run → Result Run CommitEnd → Type 0
+AnswersOver g old new batch (Ok receipt) = (records : List Record) → Holds g old records → KeepsHistory g new (records ++ records_of batch.steps)
+AnswersOver g old new batch (Err (ends.Unchanged back reason)) = (records : List Record) → Holds g old records → KeepsHistory g new records
+AnswersOver g old new batch (Err (ends.Doubtful doubt cause)) = (records : List Record) → Holds g old records → IsLegal (records ++ records_of batch.steps) → MayLeave (state g new.conn) (λ r. (r ≡ rows_of records) ⊎ (r ≡ rows_of (records ++ records_of batch.steps)))
 
 -- the batch isn't legal after a history that the vault holds
 abbrev pub IsIllegal : {S : Type 0} → Ghosts S → Kept S → Run → Type 0

@@ -1,6 +1,6 @@
-//! What goes into a commit, and what comes of it.
-ghost use Rattle.std.specs.Prelude.{◌≡◌, ◌+◌, ◌<◌, ◌^◌, [], ◌∷◌};
-ghost use Rattle.spool.specs.Runs.{span_of, ArePutsAndAccepts};
+//! What goes into a commit, and what stands after it.
+ghost use Rattle.std.specs.Prelude.{◌≡◌, ◌<◌, ◌^◌, [], ◌∷◌};
+ghost use Rattle.spool.specs.Runs.{ArePutsAndAccepts};
 
 use relay_types::Step;
 use std::marker::Model;
@@ -62,39 +62,22 @@ impl Batch {
     pub(crate) fn into_receipt(self) -> Receipt
         ensures { result ≡ self }
     {
-        let Batch { mark, from, step } = self;
-        Receipt { mark, from, step }
-    }
-
-    // What is left of a batch of which nobody knows whether it was written.
-    pub(crate) fn into_doubt(self) -> Doubt
-        ensures { result ≡ span_of self }
-    {
-        Doubt {
-            mark: self.mark,
-            from: self.from,
-            upto: self.from + 1,
-        }
+        Receipt { batch: self }
     }
 }
 
-/// A step that stands in the store. `Vault::commit` alone makes one.
+/// A batch that stands in the store. `Vault::commit` alone makes one.
 #[derive(Drop)]
 pub struct Receipt {
-    mark: u64,
-    from: u64,
-    step: Step,
+    batch: Batch,
 }
 
 impl Model for Receipt {
-    ghost use Rattle.std.specs.Prelude.{◌<◌, ◌^◌, [], ◌∷◌};
-    ghost use Rattle.spool.specs.Runs.{Run, ArePutsAndAccepts};
+    ghost use Rattle.spool.specs.Runs.{Run};
 
     ghost Value = { Run };
 
-    ghost view = { λ b. record { mark = b.mark; from = b.from; steps = b.step ∷ [] } };
-
-    ghost invariant = { λ b. (b.from < 2 ^ 62) × ArePutsAndAccepts (b.step ∷ []) };
+    ghost view = { λ r. r.batch };
 }
 
 impl Receipt {
@@ -102,7 +85,7 @@ impl Receipt {
     pub fn mark(&self) -> u64
         ensures { result ≡ self.now.mark }
     {
-        self.mark
+        self.batch.mark()
     }
 
     /// The number of the first record.
@@ -110,7 +93,7 @@ impl Receipt {
         ensures number { result ≡ self.now.from }
         ensures room { result < 2 ^ 62 }
     {
-        self.from
+        self.batch.from()
     }
 
     /// The step that was written.
@@ -118,45 +101,6 @@ impl Receipt {
         ensures step { self.now.steps ≡ result.now ∷ [] }
         ensures kind { ArePutsAndAccepts self.now.steps }
     {
-        &self.step
-    }
-}
-
-/// Places of which nobody knows whether they stand in the store.
-#[derive(Drop)]
-pub struct Doubt {
-    mark: u64,
-    from: u64,
-    upto: u64,
-}
-
-impl Model for Doubt {
-    ghost use Rattle.spool.specs.Runs.{Span};
-
-    ghost Value = { Span };
-
-    ghost view = { λ d. record { mark = d.mark; from = d.from; upto = d.upto } };
-}
-
-impl Doubt {
-    /// The mark of the opening that the places belong to.
-    pub fn mark(&self) -> u64
-        ensures { result ≡ self.now.mark }
-    {
-        self.mark
-    }
-
-    /// The number of the first record.
-    pub fn from(&self) -> u64
-        ensures { result ≡ self.now.from }
-    {
-        self.from
-    }
-
-    /// The number after the last record.
-    pub fn upto(&self) -> u64
-        ensures { result ≡ self.now.upto }
-    {
-        self.upto
+        self.batch.step()
     }
 }

@@ -1,3 +1,5 @@
+ghost use Rattle.std.specs.Prelude.{◌≡◌, false};
+
 use crate::{Batch, CommitEnd, OpenFault, Receipt, Unchanged, Vault};
 use relay_types::{Body, MaxLimit, Moment, MsgId, Name, Record, Secret, Secrets, Step, Target};
 use sqlite::{Connection, MemStore};
@@ -13,6 +15,15 @@ fn opened(alloc: Global) -> Result<Vault<MemStore>, Fail> {
     match Vault::create(conn, MARK) {
         Ok(vault) => Ok(vault),
         Err((_, _)) => Err(Fail::from("create was refused")),
+    }
+}
+
+fn refused(conn: Connection<MemStore>) -> Result<(Connection<MemStore>, OpenFault), Fail>
+    requires { conn.in_transaction ≡ false }
+{
+    match Vault::create(conn, 8) {
+        Ok(_) => Err(Fail::from("create was not refused")),
+        Err(refused) => Ok(refused),
     }
 }
 
@@ -127,13 +138,9 @@ fn rows_are_read_back(rt: HostRuntime) -> Result<(), Fail> {
 fn a_store_with_our_tables_is_not_ours(rt: HostRuntime) -> Result<(), Fail> {
     let alloc = rt.alloc();
     let conn = opened(alloc)?.release();
-    match Vault::create(conn, 8) {
-        Ok(_) => assert!(rt; false),
-        Err((mut conn, fault)) => {
-            assert!(rt; matches!(fault, OpenFault::NotOurs));
-            assert_eq!(rt; number(&mut conn, "SELECT records FROM meta")?, 0);
-        }
-    }
+    let (mut conn, fault) = refused(conn)?;
+    assert!(rt; matches!(fault, OpenFault::NotOurs));
+    assert_eq!(rt; number(&mut conn, "SELECT records FROM meta")?, 0);
     Ok(())
 }
 

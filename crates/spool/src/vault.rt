@@ -4,9 +4,10 @@ ghost use Rattle.sqlite.specs.State.{HasCleanDisk};
 ghost use Rattle.sqlite.specs.Held.{state};
 ghost use Rattle.relay_types.specs.Records.{records_of};
 ghost use Rattle.spool.specs.Opening.{LeavesAt};
-ghost use Rattle.spool.specs.Commits.{IsOpened, IsNext, HandsBack, IsDoubt, IsRefused, AnswersSo, GoesOnWith, IsIllegal};
+ghost use Rattle.spool.specs.Commits.{IsOpened, IsNext, HandsBack, IsDoubt, IsRefused, AnswersSo, AnswersOver, IsIllegal};
 
 use crate::batch::{Batch, Receipt};
+use crate::doubt::Doubt;
 use crate::ends::{CommitEnd, OpenFault, Unchanged};
 use crate::open::found;
 use crate::write::{Written, write};
@@ -43,6 +44,7 @@ impl<S: Alter> Vault<S> {
         requires { conn.in_transaction ≡ false }
         ensures opened { IfOk result (λ v. HasCleanDisk (state S.Store v.conn) → IsOpened S.Store conn mark v) }
         ensures refused { IfErr result (λ e. HasCleanDisk (state S.Store e.0) → LeavesAt (state S.Store conn) (state S.Store e.0) e.1) }
+        ensures clean { MatchResult result (λ v. HasCleanDisk (state S.Store v.conn) → HasCleanDisk (state S.Store conn)) (λ e. HasCleanDisk (state S.Store e.0) → HasCleanDisk (state S.Store conn)) }
         ensures mode { IfErr result (λ e. e.0.in_transaction ≡ false) }
     {
         let mut conn = conn;
@@ -57,8 +59,8 @@ impl<S: Alter> Vault<S> {
         }
     }
 
-    /// Writes the batch in one transaction, all of it or nothing. Refusals are looked for in the order of `Unchanged`, but
-    /// want of memory may come before `Illegal`. The same holds of a doubtful end.
+    /// Writes the batch in one transaction, all of it or nothing. Refusals come in the order of `Unchanged`, but want of
+    /// memory and a doubtful end may come before `Illegal`.
     pub fn commit(&mut self, batch: Batch) -> Result<Receipt, CommitEnd>
         ensures closed { (result ≡ Err (CommitEnd.Unchanged batch Unchanged.Closed)) ↔ IsTrue self.old.closed }
         ensures out_of_turn { (result ≡ Err (CommitEnd.Unchanged batch Unchanged.OutOfTurn)) ↔ ((self.old.closed ≡ false) × (¬ IsNext self.old batch)) }
@@ -69,8 +71,9 @@ impl<S: Alter> Vault<S> {
         ensures next { self.new.next ≡ cond (is_ok result) (self.old.next + length (records_of batch.steps)) self.old.next }
         ensures doubt { IsTrue self.new.closed ↔ (IsTrue self.old.closed ⊎ IsDoubt result) }
         ensures rows { HasCleanDisk (state S.Store self.new.conn) → AnswersSo S.Store self.old self.new batch result }
-        ensures legal { HasCleanDisk (state S.Store self.new.conn) → IfOk result (λ _. GoesOnWith S.Store self.old self.new batch) }
+        ensures history { HasCleanDisk (state S.Store self.new.conn) → AnswersOver S.Store self.old self.new batch result }
         ensures illegal { HasCleanDisk (state S.Store self.new.conn) → result ≡ Err (CommitEnd.Unchanged batch Unchanged.Illegal) → IsIllegal S.Store self.old batch }
+        ensures clean { HasCleanDisk (state S.Store self.new.conn) → HasCleanDisk (state S.Store self.old.conn) }
     {
         if self.closed {
             return Err(CommitEnd::Unchanged(batch, Unchanged::Closed));
@@ -87,7 +90,7 @@ impl<S: Alter> Vault<S> {
             Written::OutOfMemory => Err(CommitEnd::Unchanged(batch, Unchanged::OutOfMemory)),
             Written::Doubtful(cause) => {
                 self.closed = true;
-                Err(CommitEnd::Doubtful(batch.into_doubt(), cause))
+                Err(CommitEnd::Doubtful(Doubt::over(batch), cause))
             }
         }
     }

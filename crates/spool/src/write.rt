@@ -120,6 +120,7 @@ pub(crate) fn write<S: Alter>(conn: &mut Connection<S>, next: u64, entry: &Recor
     requires taken { IsTrue (is_put_or_accept entry.now) }
     ensures ends { HasCleanDisk (state S.Store conn.new) → EndsSo (state S.Store conn.old) (state S.Store conn.new) next entry.now result }
     ensures limits { result ≡ Written.Made → IsTrue (is_within_limits entry.now) }
+    ensures clean { HasCleanDisk (state S.Store conn.new) → HasCleanDisk (state S.Store conn.old) }
     ensures mode { conn.new.in_transaction ≡ false }
 {
     match try_write(conn, next, entry) {
