@@ -1,5 +1,10 @@
 mod FeedLaws
+mod HexLaws
 mod LineLaws
+mod MarkLaws
+mod NumberLaws
+mod PartLaws
+mod SecretWords
 mod StreamLaws
 pub mod DeskLists
 pub mod DeskEvents

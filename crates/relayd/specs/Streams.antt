@@ -1,6 +1,6 @@
 -- What is read from a reader and written to a writer, whose bytes are known.
-use Rattle.std.specs.Prelude.{◌≡◌, ◌≢◌, ℕ, ◌+◌, ◌<◌, ◌==◌, Bool, not, List, [], ◌∷◌, ◌++◌, length, take, drop, Option, Some, None, IsTrue, IfSome, ◌⊎◌}
-use Rattle.std.specs.List.{list_all}
+use Rattle.std.specs.Prelude.{◌≡◌, ◌≢◌, ℕ, ◌+◌, ◌<◌, Bool, List, [], ◌∷◌, ◌++◌, length, take, drop, Option, Some, None, IsTrue, IfSome, ◌⊎◌}
+use Rattle.relayd.specs.Parts.{has_no}
 use Rattle.std.specs.Io.KnownBytes.{Appends, prepend_known}
 
 -- a text and its line feed
@@ -8,7 +8,7 @@ abbrev pub with_feed : List ℕ → List ℕ
 with_feed text = text ++ 10 ∷ []
 
 abbrev pub has_no_feed : List ℕ → Bool
-has_no_feed text = list_all (λ c. not (c == 10)) text
+has_no_feed text = has_no 10 text
 
 -- known bytes grew by what stands before the rest
 abbrev pub AppendsBefore : List ℕ → Option (List ℕ) → Option (List ℕ) → List ℕ → Type 0
