@@ -2,3 +2,4 @@ pub mod DeskLists
 pub mod DeskEvents
 pub mod DeskLaws
 pub mod DeskBatches
+pub mod DeskRuns

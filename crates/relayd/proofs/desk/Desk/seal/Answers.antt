@@ -1,5 +1,4 @@
 use Rattle.std.proofs.Common.{◌≡◌, ◌∙◌, true, Some, ap, sym}
-use Rattle.spool.specs.Runs.{Run}
 use Rattle.relayd.specs.Desks.{DeskValue, steps_of, run_of}
 use Rattle.relayd.proofs.DeskBatches.{seal-made, seals_so}
 use Rattle.relayd.proofs.desk.Desk.seal.Goals as goal
