@@ -10,3 +10,4 @@ pub mod DeskLists
 pub mod DeskEvents
 pub mod DeskLaws
 pub mod DeskBatches
+pub mod DeskRuns
