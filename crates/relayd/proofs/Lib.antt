@@ -1,3 +1,5 @@
+mod CallLaws
+mod CleanCalls
 mod FeedLaws
 mod HexLaws
 mod LineLaws
@@ -6,3 +8,5 @@ mod NumberLaws
 mod PartLaws
 mod SecretWords
 mod StreamLaws
+mod TargetWords
+mod WorkedTexts
