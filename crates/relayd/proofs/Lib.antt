@@ -1,3 +1,5 @@
+mod CallLaws
+mod CleanCalls
 mod FeedLaws
 mod HexLaws
 mod LineLaws
@@ -11,3 +13,5 @@ pub mod DeskEvents
 pub mod DeskLaws
 pub mod DeskBatches
 pub mod DeskRuns
+mod TargetWords
+mod WorkedTexts
