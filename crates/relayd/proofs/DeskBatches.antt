@@ -1,20 +1,21 @@
 -- The moves by which a desk seals what waits, and settles what was committed.
-use Rattle.std.proofs.Common.{◌≡◌, ℕ, zero, suc, ◌+◌, ◌<◌, ◌≤◌, Bool, true, false, List, [], ◌∷◌, ◌++◌, Option, Some, None, length, take, drop, refl, sym, ◌∙◌, ap, arith, cond, subst, inl, inr, min, eqb, length-append}
-use Rattle.std.specs.Prelude.{Result, Ok, Err, not, IsSomeAnd, if◌then◌else◌}
+use Rattle.std.proofs.Common.{◌≡◌, ◌+◌, ◌≤◌, Bool, true, false, List, [], ◌∷◌, Option, Some, None, length, take, drop, refl, sym, ◌∙◌, ap, arith, subst, inl, inr, eqb, length-append}
+use Rattle.std.specs.Prelude.{Ok, Err, not, IsSomeAnd, if◌then◌else◌}
 use Rattle.std.proofs.lemmas.Bool.{eq-eqb, ne_eqb}
-use Rattle.std.proofs.lemmas.List.{length-drop, length-take-le, take_all}
+use Rattle.std.proofs.lemmas.List.{length-drop, take_all}
 use Rattle.relay_types.specs.declared.record.Record.{Record}
 use Rattle.relay_types.specs.Records.{records_of}
 use Rattle.delivery_book.specs.Book as book
+use Rattle.delivery_book.specs.Entries.{with_settled}
 use Rattle.delivery_book.proofs.Laws.{stands_settled}
 use Rattle.spool.specs.Runs.{Run}
 use Rattle.relayd.specs.declared.event.Event.TheVariants as on
 use Rattle.relayd.specs.declared.reply.Fault.TheVariants as fault
 use Rattle.relayd.specs.declared.reply.Reply.{Reply}
 use Rattle.relayd.specs.declared.reply.Reply.TheVariants as says
-use Rattle.relayd.specs.World.{World, Out, Nothing, Batch, Receipt, Doubt, all_records, settled_records, sealed_records, waiting_records}
-use Rattle.relayd.specs.Moves.{Answer, Move, served, refused, is_nothing_out, with_batch, seal, seal_waiting, settle, settle_of, memory_refusal}
-use Rattle.relayd.specs.Desks.{DeskValue, StandsFor, Seals, Settles, steps_of, run_of, sealed_run, seal_reply, with_all_settled}
+use Rattle.relayd.specs.World.{World, Receipt, all_records, settled_records, sealed_records, waiting_records}
+use Rattle.relayd.specs.Moves.{Answer, refused, is_nothing_out, with_batch, seal, seal_waiting, settle, settle_of, memory_refusal}
+use Rattle.relayd.specs.Desks.{DeskValue, StandsFor, Seals, Settles, steps_of, run_of}
 use Rattle.relayd.proofs.DeskLists.{records_of-split}
 use Rattle.relayd.proofs.DeskLaws.{settled_within, all_settled}
 
@@ -94,6 +95,10 @@ seal-made d step in_hand some = λ w h.
     )
 
 -- Settles
+
+-- the desk whose records are all settled
+abbrev pub with_all_settled : DeskValue → DeskValue
+with_all_settled desk = record desk { deliveries = with_settled desk.deliveries desk.records; settled = desk.records; waiting = None; is_out = false }
 
 -- what is out is sealed, and is all that isn't settled
 out_waits : {d : DeskValue} {w : World} → StandsFor d w → d.is_out ≡ true → w.sealed ≡ length w.history

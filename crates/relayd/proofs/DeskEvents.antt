@@ -1,6 +1,6 @@
 -- What the first records of a history say of its events, and which of its deliveries are pending.
-use Rattle.std.proofs.Common.{◌≡◌, ℕ, zero, suc, ◌+◌, ◌≤◌, Bool, true, false, List, [], ◌∷◌, ◌++◌, Option, Some, None, length, take, refl, sym, ◌∙◌, ap, arith, cond, ◌&&◌, map, add-zero, inl, inr}
-use Rattle.std.specs.Prelude.{slice_get, filter, find, count_by, option_map, option_and_then, is_some, bytes_eq, not, nat_le, Ok, Err, Result}
+use Rattle.std.proofs.Common.{◌≡◌, ℕ, zero, suc, ◌+◌, ◌≤◌, Bool, true, false, List, [], ◌∷◌, ◌++◌, Option, Some, None, length, refl, sym, ◌∙◌, ap, arith, cond, ◌&&◌, map, add-zero, inl, inr}
+use Rattle.std.specs.Prelude.{slice_get, filter, find, count_by, option_map, option_and_then, is_some, bytes_eq, not, nat_le}
 use Rattle.std.specs.List.{enumerate_from}
 use Rattle.std.specs.Option.{option_map_or}
 use Rattle.std.proofs.lemmas.List.Sums.{sum_by-cons}
@@ -9,10 +9,9 @@ use Rattle.std.proofs.lemmas.Slice.Eq.{bytes_eq-Decides}
 use Rattle.relay_types.specs.declared.record.Record.{Record}
 use Rattle.relay_types.specs.declared.state.State.TheVariants.{Pending}
 use Rattle.relay_types.specs.Lists.{last_of}
-use Rattle.relay_types.specs.Records.{Accepted, accepted_by, numbered}
-use Rattle.relay_types.specs.Deliveries.{accepted, is_accept, is_accept_of, is_accept_as, places_of, deliveries, deliveries_of, known_as, is_in_state, state_of, attempts_of, due_if_pending}
+use Rattle.relay_types.specs.Records.{Accepted, accepted_by}
+use Rattle.relay_types.specs.Deliveries.{accepted, is_accept, is_accept_of, is_accept_as, deliveries, deliveries_of, known_as, is_in_state, state_of, attempts_of, due_if_pending}
 use Rattle.delivery_book.specs.Book.{row_of, counts_of, counts_of_all}
-use Rattle.relayd.specs.declared.desk.Refusal.{Refusal}
 use Rattle.relayd.specs.declared.reply.Fault.TheVariants as fault
 use Rattle.relayd.specs.declared.reply.Reply.{Reply}
 use Rattle.relayd.specs.declared.reply.Reply.TheVariants as says

@@ -1,5 +1,5 @@
 -- The worlds for which a desk stands after a step, and the moves of its calls.
-use Rattle.std.proofs.Common.{◌≡◌, ℕ, ◌+◌, ◌<◌, ◌≤◌, Bool, true, false, List, [], ◌∷◌, ◌++◌, Option, Some, None, length, take, drop, refl, sym, ◌∙◌, ap, arith, cond, ◌&&◌, map, append-nil, length-append, subst, inl, inr, max}
+use Rattle.std.proofs.Common.{◌≡◌, ℕ, ◌+◌, ◌<◌, ◌≤◌, Bool, true, false, List, [], ◌∷◌, ◌++◌, Option, Some, None, length, take, drop, refl, sym, ◌∙◌, ap, arith, ◌&&◌, map, append-nil, length-append, subst, inl, inr, max}
 use Rattle.std.specs.Prelude.{Result, Ok, Err, nat_le, is_some, not, bytes_eq, IsTrue, IsSomeAnd, ◌^◌, if◌then◌else◌}
 use Rattle.std.specs.List.{list_any, list_all}
 use Rattle.std.specs.Option.{option_map_or}
@@ -31,7 +31,7 @@ use Rattle.relayd.specs.declared.reply.Fault.TheVariants as fault
 use Rattle.relayd.specs.declared.reply.Reply.{Reply}
 use Rattle.relayd.specs.declared.reply.Reply.TheVariants as says
 use Rattle.relayd.specs.World.{World, all_records, settled_records, waiting_records}
-use Rattle.relayd.specs.Moves.{Answer, Move, served, refused, unless, moment, at_moment, with_record, next_number, staged, repeated, has_body, is_waiting_full, are_numbers_spent, submit, submit_new, submit_faults, change, memory_refusal, show_event}
+use Rattle.relayd.specs.Moves.{Answer, Move, served, refused, unless, moment, at_moment, with_record, staged, repeated, has_body, is_waiting_full, submit, submit_new, change, memory_refusal, show_event}
 use Rattle.relayd.specs.Desks.{DeskValue, StandsFor, IsMove, steps_of, first_fault, same_faults, backlog_faults, waiting_faults, with_step, with_put, with_accept, staged_reply, event_reply}
 use Rattle.relayd.proofs.DeskLists.{records_of-snoc, records_of-split, named_any, legal-snoc}
 use Rattle.relayd.proofs.DeskEvents.{event_unknown, event_known}

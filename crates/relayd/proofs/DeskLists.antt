@@ -1,16 +1,14 @@
 -- Facts about lists of records and of steps.
-use Rattle.std.proofs.Common.{◌≡◌, ℕ, zero, suc, ◌+◌, ◌<◌, ◌≤◌, Bool, true, false, List, [], ◌∷◌, ◌++◌, Option, Some, None, length, take, drop, refl, sym, ◌∙◌, ap, arith, cond, ◌&&◌, ◌||◌, map, append_assoc, append-nil, length-append}
-use Rattle.std.specs.Prelude.{slice_get, filter, filter_map, find, count_by, option_map, option_and_then, is_some, bytes_eq, nat_le, nat_lt, IsTrue, ◌^◌}
-use Rattle.std.specs.List.{enumerate_from, list_any, list_all, cons_option}
-use Rattle.std.proofs.lemmas.List.{take-append-drop, map-append}
+use Rattle.std.proofs.Common.{◌≡◌, ℕ, ◌<◌, Bool, true, false, List, [], ◌∷◌, ◌++◌, Some, length, take, drop, refl, sym, ◌∙◌, ap, arith, cond, ◌&&◌, ◌||◌, map, append_assoc, append-nil, length-append}
+use Rattle.std.specs.Prelude.{find, is_some, bytes_eq, nat_le, IsTrue, ◌^◌}
+use Rattle.std.specs.List.{list_any, list_all}
+use Rattle.std.proofs.lemmas.List.{take-append-drop}
 use Rattle.std.proofs.lemmas.List.Folds.{list_all-append}
 use Rattle.std.proofs.lemmas.Bool.{le-leb}
 use Rattle.relay_types.specs.declared.record.Record.{Record}
-use Rattle.relay_types.specs.declared.record.Record.TheVariants.{Put, Accept}
-use Rattle.relay_types.specs.Records.{History, records_of, Accepted, accepted_by, numbered}
-use Rattle.relay_types.specs.Deliveries.{accepted}
+use Rattle.relay_types.specs.Records.{History, records_of}
 use Rattle.relay_types.specs.Endpoints.{Endpoint}
-use Rattle.relay_types.specs.Legal.{may_follow, may_all_follow, is_within_limits, is_legal, IsLegal}
+use Rattle.relay_types.specs.Legal.{may_follow, may_all_follow, is_within_limits, IsLegal}
 
 -- steps, one list after another
 pub records_of-append : (xs ys : History) → records_of (xs ++ ys) ≡ records_of xs ++ records_of ys

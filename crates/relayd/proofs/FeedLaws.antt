@@ -1,8 +1,8 @@
 -- The first line feed of a text, and what is read up to it.
-use Rattle.std.proofs.Common.{◌≡◌, ◌≢◌, ℕ, ◌+◌, ◌-◌, ◌<◌, ◌≤◌, ◌==◌, Bool, true, false, not, cond, ltb, ◌⊎◌, List, [], ◌∷◌, ◌++◌, length, take, drop, get_or, Option, Some, None, MatchOption, IsTrue, refl, sym, ap, ◌∙◌, subst, arith, add-one, suc, append_assoc, append-nil, take-append-drop, inl, inr}
+use Rattle.std.proofs.Common.{◌≡◌, ℕ, ◌+◌, ◌<◌, ◌≤◌, ◌==◌, Bool, false, not, cond, ltb, List, ◌∷◌, ◌++◌, length, take, drop, get_or, Option, Some, None, MatchOption, IsTrue, sym, ap, ◌∙◌, arith, add-one, suc, append_assoc, take-append-drop}
 use Rattle.std.specs.Prelude.{slice_range}
-use Rattle.std.specs.List.{position, position_or_len, list_all}
-use Rattle.std.specs.Io.KnownBytes.{Keeps, Consumes, IsAtEnd, prepend_known}
+use Rattle.std.specs.List.{position, position_or_len}
+use Rattle.std.specs.Io.KnownBytes.{Consumes}
 use Rattle.std.proofs.Math.Seq.{drop-cons}
 use Rattle.std.proofs.lemmas.Bool.Decides.{nat_tests}
 use Rattle.std.proofs.lemmas.Bool.{eqb-true}
@@ -11,7 +11,7 @@ use Rattle.std.proofs.lemmas.List.Folds.{list_all-append}
 use Rattle.std.proofs.lemmas.List.Sums.{list_all-from_AllPass, prefix_len_passes}
 use Rattle.std.proofs.lemmas.List.Quantifiers.{position-Some}
 use Rattle.std.proofs.lemmas.Slice.{between_is}
-use Rattle.relayd.specs.Streams.{Reading, left, has_no_feed, TakesLine, BeginsTooLong, IsFeedAt, TakesPiece, PassesBound}
+use Rattle.relayd.specs.Streams.{Reading, left, has_no_feed, BeginsTooLong, IsFeedAt, TakesPiece, PassesBound}
 
 abbrev is_feed : ℕ → Bool
 is_feed c = c == 10

@@ -1,6 +1,8 @@
 mod TargetWords
 mod CleanCalls
 mod CallLaws
+mod CallLaws
+mod CleanCalls
 mod FeedLaws
 mod HexLaws
 mod LineLaws
@@ -15,3 +17,6 @@ pub mod DeskLaws
 pub mod DeskBatches
 pub mod RunnerLaws
 pub mod ReplayLaws
+pub mod DeskRuns
+mod TargetWords
+mod WorkedTexts

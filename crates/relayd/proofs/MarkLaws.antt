@@ -1,11 +1,11 @@
 -- Marks that stand in no word: a word's characters pass a test that the mark fails.
-use Rattle.std.proofs.Common.{◌≡◌, ◌≢◌, ℕ, zero, suc, ◌+◌, ◌<◌, ◌==◌, Bool, true, false, not, List, [], ◌∷◌, ◌++◌, length, take, drop, get_or, replicate, codes, cond, IsTrue, eqb-true, refl, sym, ap, ◌∙◌, subst, arith, take-append-drop, inl, inr, ◌⊎◌}
+use Rattle.std.proofs.Common.{◌≡◌, ℕ, zero, suc, ◌==◌, Bool, true, false, not, List, [], ◌∷◌, ◌++◌, length, replicate, codes, IsTrue, eqb-true, refl, sym, ap, ◌∙◌, subst, inl, inr, ◌⊎◌}
 use Rattle.std.specs.Prelude.{◌&&◌, ◌||◌, bytes_eq, slice_index}
 use Rattle.std.specs.List.{list_all, join_with_byte}
 use Rattle.std.proofs.lemmas.Bool.{and_parts}
 use Rattle.std.proofs.lemmas.List.Folds.{list_all-append}
 use Rattle.std.proofs.lemmas.Slice.Eq.{bytes_eq-Decides}
-use Rattle.base64.specs.Rfc4648.{encode, encode_symbols, padding_len}
+use Rattle.base64.specs.Rfc4648.{encode_symbols, padding_len}
 use Rattle.relay_types.specs.SecretText.{ReadsSecret, base64_symbols, padded, unpadded}
 use Rattle.relayd.specs.Parts.{has_no}
 use Rattle.relayd.specs.Script.{ReadSecrets}

@@ -1,6 +1,6 @@
 -- What a desk keeps, the worlds for which it stands, and what its calls answer.
-use Rattle.std.specs.Prelude.{◌≡◌, ℕ, ◌≤◌, ◌+◌, ◌^◌, Bool, true, false, not, nat_le, List, [], ◌∷◌, ◌++◌, length, take, drop, map, Option, Some, None, is_some, Result, Ok, Err, IsTrue, if◌then◌else◌}
-use Rattle.std.specs.List.{list_all, list_any}
+use Rattle.std.specs.Prelude.{◌≡◌, ℕ, ◌≤◌, ◌+◌, ◌^◌, Bool, not, nat_le, List, [], ◌∷◌, ◌++◌, length, take, drop, map, Option, Some, None, is_some, Result, Ok, Err, IsTrue, if◌then◌else◌}
+use Rattle.std.specs.List.{list_all}
 use Rattle.relay_types.specs.declared.record.Record.{Record}
 use Rattle.relay_types.specs.declared.record.Record.TheVariants.{Put, Accept}
 use Rattle.relay_types.specs.Records.{History, records_of}
@@ -8,7 +8,7 @@ use Rattle.relay_types.specs.Deliveries.{accepted, deliveries, deliveries_of}
 use Rattle.relay_types.specs.Endpoints.{endpoints}
 use Rattle.relay_types.specs.Legal.{IsLegal}
 use Rattle.delivery_book.specs.declared.row.Row.{Row}
-use Rattle.delivery_book.specs.Entries.{BookValue, with_entry, with_settled}
+use Rattle.delivery_book.specs.Entries.{BookValue, with_entry}
 use Rattle.delivery_book.specs.Book as book
 use Rattle.spool.specs.Runs.{Run, is_put_or_accept, ArePutsAndAccepts}
 use Rattle.relayd.specs.declared.desk.Refusal.{Refusal}
@@ -33,7 +33,7 @@ pub record DeskValue : Type 0 where
   pub records : ℕ
   pub settled : ℕ
 
--- what holds of the numbers that a desk keeps
+-- what holds of a desk's fields in every world
 pub record IsDesk (next_place settled_place records settled capacity : ℕ) (steps : History) : Type 0 where
   pub staged : next_place ≤ records
   pub settled_book : settled_place ≤ settled
@@ -135,7 +135,3 @@ abbrev pub with_accept : DeskValue → List ℕ → List ℕ → List ℕ → �
 with_accept desk name id body at = record (with_step desk (Accept name id body at)) {
   deliveries = with_entry desk.deliveries (record { place = desk.records; name = name; id = id; body = body; at = at });
 }
-
--- the desk whose records are all settled
-abbrev pub with_all_settled : DeskValue → DeskValue
-with_all_settled desk = record desk { deliveries = with_settled desk.deliveries desk.records; settled = desk.records; waiting = None; is_out = false }

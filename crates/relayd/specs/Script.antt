@@ -1,6 +1,6 @@
 -- The lines of a script: which text stands for which call. A text that stands for none is a bad line. The grammar is told by
 -- printing: a line has these words, and one space between.
-use Rattle.std.specs.Prelude.{◌≡◌, ℕ, ◌+◌, ◌*◌, ◌-◌, ◌&&◌, List, [], ◌∷◌, ◌++◌, Option, Some, None, IsTrue, codes, decimal, length, if◌then◌else◌}
+use Rattle.std.specs.Prelude.{◌≡◌, ℕ, ◌+◌, ◌*◌, ◌-◌, ◌&&◌, List, [], ◌∷◌, Option, Some, None, IsTrue, codes, decimal, length, if◌then◌else◌}
 use Rattle.std.specs.List.{join_with_byte}
 use Rattle.relay_types.specs.Values.{is_between, is_name, is_msg_id, is_target, is_max_limit, is_body, is_moment}
 use Rattle.relay_types.specs.SecretText.{ReadsSecret}
@@ -45,6 +45,19 @@ IsSubmit words now name id body = (word : List ℕ) × IsBodyWord word body × (
 
 abbrev pub IsShow : List (List ℕ) → List ℕ → List ℕ → Type 0
 IsShow words name id = (words ≡ name ∷ id ∷ []) × IsTrue (is_name name && is_msg_id id)
+
+-- the words behind the first one of these calls
+abbrev pub IsPut : List (List ℕ) → Event → Type 0
+IsPut words (on.Change command) = IsChange words command
+IsPut words event = ⊥
+
+abbrev pub IsSubmitted : List (List ℕ) → Event → Type 0
+IsSubmitted words (on.Submit now name id body) = IsSubmit words now name id body
+IsSubmitted words event = ⊥
+
+abbrev pub IsShown : List (List ℕ) → Event → Type 0
+IsShown words (on.ShowEvent name id) = IsShow words name id
+IsShown words event = ⊥
 
 -- the first word of a call, and what is told by the words behind it
 abbrev pub call_word : Event → List ℕ

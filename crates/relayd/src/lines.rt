@@ -167,8 +167,8 @@ impl Lines {
     }
 }
 
-// Reads into the chunk: how many bytes, none of them where the reader was interrupted, and `None` at its end.
-fn read_into<R: Read>(reader: &mut R, chunk: &mut [u8]) -> Result<Option<usize>, ReplayFault>
+/// Reads into the chunk: how many bytes, none of them where the reader was interrupted, and `None` at its end.
+pub fn read_into<R: Read>(reader: &mut R, chunk: &mut [u8]) -> Result<Option<usize>, ReplayFault>
     requires { 0 < length chunk.old }
     ensures fits { IfOk result (λ got. unwrap_or got 0 ≤ length chunk.new) }
     ensures bytes { IfOk result (λ got. Consumes (R.remaining reader.old) (R.remaining reader.new) (take (unwrap_or got 0) chunk.new)) }

@@ -1,5 +1,5 @@
 -- The look-ups in the rows of a legal history tell which record may follow it.
-use Rattle.std.proofs.Common.{◌≡◌, ◌≤◌, ◌==◌, ℕ, zero, suc, ◌+◌, Bool, true, false, ◌&&◌, ◌||◌, not, nat_lt, cond, List, [], ◌∷◌, ◌++◌, length, map, Option, Some, None, IsTrue, refl, sym, ap, subst, ◌∙◌, arith, append-nil, append_assoc}
+use Rattle.std.proofs.Common.{◌≡◌, ◌≤◌, ◌==◌, ℕ, suc, ◌+◌, Bool, true, false, ◌&&◌, ◌||◌, not, nat_lt, cond, List, [], ◌∷◌, ◌++◌, length, map, Option, Some, None, IsTrue, refl, sym, ap, subst, ◌∙◌, arith, append-nil, append_assoc}
 use Rattle.std.specs.Prelude.{is_some, find, filter, filter_map, bytes_eq, slice_get, option_map, option_and_then, if◌then◌else◌}
 use Rattle.std.specs.List.{enumerate_from, cons_option, list_any}
 use Rattle.std.specs.Option.{option_map_or}
@@ -13,11 +13,11 @@ use Rattle.relay_types.specs.Records.{numbered}
 use Rattle.relay_types.specs.Deliveries.{is_accept_as, known_as}
 use Rattle.relay_types.specs.Endpoints.{Endpoint, endpoint_by, endpoints, endpoint_of, has_endpoint}
 use Rattle.relay_types.specs.Legal.{may_follow, may_all_follow, IsLegal}
-use Rattle.relay_types.specs.Rows.{Rows, EndpointRow, DeliveryRow, endpoint_row, delivery_row, put_of, put_by_name, rows_of}
+use Rattle.relay_types.specs.Rows.{EndpointRow, DeliveryRow, endpoint_row, delivery_row, put_of, put_by_name, rows_of}
 use Rattle.relay_types.proofs.GrowthLaws.{endpoints-snoc}
 use Rattle.spool.specs.Runs.{is_put_or_accept}
-use Rattle.spool.specs.Entering.{has_name, has_event, HasEachNameOnce, may_put, may_accept, may_enter}
-use Rattle.spool.proofs.KnownLemmas.{and_first, and_second, IsKnown, AllKnown, legal_known}
+use Rattle.spool.specs.Entering.{has_name, has_event, HasEachNameOnce, may_accept, may_enter}
+use Rattle.spool.proofs.KnownLemmas.{and_first, and_second, AllKnown, legal_known}
 use Rattle.spool.proofs.RowLemmas.{find_is_first, none_if_unnamed}
 use Rattle.spool.proofs.RowLaws.{find_map, put_by_name-is}
 

@@ -1,5 +1,5 @@
 -- One more Put or Accept changes the rows of a legal history as the table of changes says.
-use Rattle.std.proofs.Common.{◌≡◌, ◌<◌, ℕ, zero, suc, ◌+◌, Bool, true, false, ◌&&◌, not, nat_lt, List, [], ◌∷◌, ◌++◌, length, map, Option, Some, None, IsTrue, refl, sym, ap, subst, ◌∙◌, arith, append-nil, length-append}
+use Rattle.std.proofs.Common.{◌≡◌, ℕ, zero, suc, ◌+◌, Bool, true, false, ◌&&◌, not, nat_lt, List, [], ◌∷◌, ◌++◌, length, map, Option, Some, None, IsTrue, refl, sym, ap, ◌∙◌, append-nil}
 use Rattle.std.specs.Prelude.{is_some, find, filter, filter_map, flat_map, bytes_eq, slice_get, option_map, option_and_then, unwrap_or, if◌then◌else◌}
 use Rattle.std.specs.List.{enumerate_from, cons_option}
 use Rattle.std.specs.Option.{option_map_or}
@@ -13,12 +13,12 @@ use Rattle.relay_types.specs.Lists.{last_of}
 use Rattle.relay_types.specs.Judging.{is_gone_status}
 use Rattle.relay_types.specs.Records.{Accepted, accepted_by, numbered}
 use Rattle.relay_types.specs.Deliveries.{accepted}
-use Rattle.relay_types.specs.Endpoints.{Endpoint, endpoint_by, endpoints, endpoint_of, has_endpoint, enabled_by, is_enabled, secrets_by, secrets_of, is_delivery_of}
+use Rattle.relay_types.specs.Endpoints.{Endpoint, endpoints, endpoint_of, has_endpoint, enabled_by, is_enabled, secrets_by, secrets_of, is_delivery_of}
 use Rattle.relay_types.specs.Legal.{may_follow, IsLegal}
-use Rattle.relay_types.specs.Rows.{Rows, EndpointRow, SecretRow, DeliveryRow, endpoint_row, secret_rows, delivery_row, put_of, put_by_name, last_number, rows_of, put_record}
-use Rattle.relay_types.proofs.GrowthLaws.{numbered-snoc, secrets_of-snoc, accepted-before, endpoints-snoc, attempts_table-snoc, records-snoc, later_row, endpoint_row-snoc, endpoint_rows-snoc, endpoints_table-accept}
+use Rattle.relay_types.specs.Rows.{EndpointRow, endpoint_row, secret_rows, delivery_row, put_of, put_by_name, last_number, rows_of, put_record}
+use Rattle.relay_types.proofs.GrowthLaws.{numbered-snoc, secrets_of-snoc, endpoints-snoc, attempts_table-snoc, records-snoc, later_row, endpoint_row-snoc, endpoint_rows-snoc, endpoints_table-accept}
 use Rattle.spool.specs.Runs.{is_put_or_accept}
-use Rattle.spool.proofs.KnownLemmas.{and_first, IsKnown, AllKnown, endpoint_of-more, below_if_accepted, legal_known, known_below}
+use Rattle.spool.proofs.KnownLemmas.{and_first, IsKnown, AllKnown, endpoint_of-more, legal_known, known_below}
 
 -- A name that no endpoint has
 

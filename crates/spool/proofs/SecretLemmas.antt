@@ -1,12 +1,12 @@
 -- The rows of an endpoint's secrets, written one after another.
-use Rattle.std.proofs.Common.{◌≡◌, ◌<◌, ℕ, zero, suc, ◌+◌, Bool, true, ◌&&◌, List, [], ◌∷◌, ◌++◌, map, length, take, Option, Some, None, IsTrue, inl, refl, sym, ap, subst, ◌∙◌, arith, add-zero, add-one, append-nil, append_assoc}
+use Rattle.std.proofs.Common.{◌≡◌, ◌<◌, ℕ, zero, suc, ◌+◌, true, List, [], ◌∷◌, ◌++◌, map, length, take, Some, None, IsTrue, inl, refl, sym, ap, subst, ◌∙◌, arith, add-zero, add-one, append-nil, append_assoc}
 use Rattle.std.specs.Prelude.{slice_get}
 use Rattle.std.specs.List.{enumerate_from, list_all}
-use Rattle.sqlite.specs.State.{State, HasCleanDisk, Survives}
-use Rattle.relay_types.specs.Values.{is_secret, is_max_limit, is_moment, is_body}
-use Rattle.relay_types.specs.Rows.{Rows, SecretRow, secret_rows}
+use Rattle.sqlite.specs.State.{State}
+use Rattle.relay_types.specs.Values.{is_secret}
+use Rattle.relay_types.specs.Rows.{SecretRow, secret_rows}
 use Rattle.spool_sql.specs.Stored.{IsTables, with_secret}
-use Rattle.spool_sql.specs.Steps.{GoesOn, Alters, Spares}
+use Rattle.spool_sql.specs.Steps.{Alters, Spares}
 use Rattle.spool_sql.proofs.StepLemmas.{alters_then}
 use Rattle.spool.proofs.KnownLemmas.{and_first, and_second, and_both}
 use Rattle.spool.specs.Entering.{with_secrets}

@@ -1,15 +1,15 @@
 -- What a write makes of a vault.
-use Rattle.std.proofs.Common.{◌≡◌, ◌⊎◌, ◌<◌, ◌≤◌, ◌^◌, ℕ, ◌+◌, Bool, false, List, [], ◌∷◌, ◌++◌, length, IsTrue, refl, sym, ap, subst, ◌∙◌, arith, length-append}
+use Rattle.std.proofs.Common.{◌≡◌, ◌⊎◌, ◌<◌, ◌≤◌, ◌^◌, ◌+◌, List, [], ◌∷◌, ◌++◌, length, IsTrue, sym, ap, subst, ◌∙◌, arith, length-append}
 use Rattle.std.specs.List.{list_all}
 use Rattle.sqlite.specs.Store.{Ghosts}
 use Rattle.sqlite.specs.Held.{Held, state}
 use Rattle.relay_types.specs.declared.record.Record.{Record}
 use Rattle.relay_types.specs.Records.{History, records_of}
-use Rattle.relay_types.specs.Legal.{IsLegal, may_follow, is_within_limits}
+use Rattle.relay_types.specs.Legal.{IsLegal, is_within_limits}
 use Rattle.relay_types.specs.Rows.{Rows, rows_of, put_record, put_rows}
 use Rattle.spool_sql.specs.Steps.{MayLeave}
 use Rattle.spool.specs.Entering.{Rests, EndsSo}
-use Rattle.spool.specs.Runs.{Run, is_put_or_accept}
+use Rattle.spool.specs.Runs.{is_put_or_accept}
 use Rattle.spool.specs.Vaults.{Kept, StandsOn, Holds}
 use Rattle.spool.specs.Commits.{Keeps, KeepsHistory}
 use Rattle.spool.specs.declared.write.Written.TheVariants.{Made, Illegal, OutOfMemory, Doubtful}

@@ -43,6 +43,7 @@ IsRefused (ends.Unchanged batch why.Illegal) = ⊥
 IsRefused (ends.Unchanged batch why.OutOfMemory) = ⊥
 IsRefused (ends.Doubtful doubt cause) = ⊥
 
+-- nobody knows whether the batch was written
 abbrev pub IsDoubt : Result Run CommitEnd → Type 0
 IsDoubt (Ok receipt) = ⊥
 IsDoubt (Err (ends.Unchanged batch reason)) = ⊥

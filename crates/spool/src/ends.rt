@@ -1,4 +1,5 @@
 //! Why an opening or a commit gave no value.
+ghost use Rattle.std.specs.Prelude.{◌≡◌, ◌↔◌, IsTrue};
 
 use crate::batch::Batch;
 use crate::doubt::Doubt;
@@ -18,7 +19,9 @@ pub enum OpenFault {
 
 impl OpenFault {
     /// Whether memory was refused.
-    pub fn is_memory(self) -> bool {
+    pub fn is_memory(self) -> bool
+        ensures { IsTrue result ↔ (self ≡ OpenFault.OutOfMemory) }
+    {
         matches!(self, OpenFault::OutOfMemory)
     }
 }

@@ -59,8 +59,8 @@ impl<S: Alter> Vault<S> {
         }
     }
 
-    /// Writes the batch in one transaction, all of it or nothing. Refusals are looked for in the order of `Unchanged`, but
-    /// want of memory may come before `Illegal`. The same holds of a doubtful end.
+    /// Writes the batch in one transaction, all of it or nothing. Refusals come in the order of `Unchanged`, but want of
+    /// memory and a doubtful end may come before `Illegal`.
     pub fn commit(&mut self, batch: Batch) -> Result<Receipt, CommitEnd>
         ensures closed { (result ≡ Err (CommitEnd.Unchanged batch Unchanged.Closed)) ↔ IsTrue self.old.closed }
         ensures out_of_turn { (result ≡ Err (CommitEnd.Unchanged batch Unchanged.OutOfTurn)) ↔ ((self.old.closed ≡ false) × (¬ IsNext self.old batch)) }

@@ -1,4 +1,4 @@
-use Rattle.std.proofs.Common.{sym, ap, ◌∙◌, ◌≡◌, List, ℕ, true, false}
+use Rattle.std.proofs.Common.{sym, ap, ◌∙◌}
 use Rattle.relay_types.specs.Values.{is_body}
 use Rattle.relayd.proofs.HexLaws.{one_body}
 use Rattle.relayd.proofs.NumberLaws.{true_not_false}

@@ -1,4 +1,4 @@
-use Rattle.std.proofs.Common.{sym, ◌∙◌, ◌⊎◌, inl, inr, ◌≡◌}
+use Rattle.std.proofs.Common.{sym, ◌∙◌, inl, inr}
 use Rattle.relayd.proofs.HexLaws.{IsBodyWord-decoded, no_body}
 use Rattle.relayd.proofs.NumberLaws.{bytes_not_equal}
 use Rattle.relayd.proofs.words.read_bytes.Goals as goal

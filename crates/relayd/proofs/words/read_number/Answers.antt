@@ -1,4 +1,4 @@
-use Rattle.std.proofs.Common.{rules, sym, refl, ap, ◌∙◌, ◌≡◌, ℕ, Some, true, decimal}
+use Rattle.std.proofs.Common.{sym, ap, ◌∙◌, ◌≡◌, Some, true, decimal}
 use Rattle.relayd.proofs.NumberLaws.{none_some, some_equal, bytes_equal, no_text, number_parsed, text_read}
 use Rattle.relayd.proofs.words.read_number.Goals as goal
 

@@ -1,5 +1,4 @@
-use Rattle.std.proofs.Common.{rules, sym, ap, ◌∙◌, ◌≡◌, true, false, IsTrue}
-use Rattle.relay_types.specs.Values.{are_secrets}
+use Rattle.std.proofs.Common.{rules, sym}
 use Rattle.relayd.proofs.NumberLaws.{true_not_false}
 use Rattle.relayd.proofs.SecretWords.{are_secrets-read, the_words}
 use Rattle.relayd.proofs.words.read_secrets.Goals as goal

@@ -1,4 +1,4 @@
-use Rattle.std.proofs.Common.{◌∙◌, Err, length, ap, sym}
+use Rattle.std.proofs.Common.{◌∙◌, Err, length, ap}
 use Rattle.std.proofs.lemmas.Slice.Eq.{bytes_eq-Decides}
 use Rattle.relay_types.specs.Deliveries.{accepted}
 use Rattle.relayd.specs.World.{all_records, settled_records}

@@ -1,4 +1,4 @@
-use Rattle.std.proofs.Common.{sym, inr, rules, subst}
+use Rattle.std.proofs.Common.{inr, rules}
 use Rattle.std.proofs.KnownBytes.{Consumes-kept}
 use Rattle.relayd.proofs.FeedLaws.{BeginsTooLong-from_piece}
 use Rattle.relayd.proofs.lines.Lines.advance.Goals as goal

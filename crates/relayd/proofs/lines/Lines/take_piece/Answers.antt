@@ -1,4 +1,4 @@
-use Rattle.std.proofs.Common.{◌+◌, sym, refl, ap, ◌∙◌, take, ◌++◌, List, ℕ}
+use Rattle.std.proofs.Common.{◌+◌, sym, refl, ap}
 use Rattle.std.specs.Prelude.{slice_range}
 use Rattle.relayd.specs.Streams.{Reading}
 use Rattle.relayd.proofs.FeedLaws.{TakesPiece-from_range}

@@ -1,5 +1,4 @@
-use Rattle.std.proofs.Common.{◌≡◌, ◌∙◌, ◌∷◌, [], ap, refl, arith}
-use Rattle.sqlite.specs.Held.{state}
+use Rattle.std.proofs.Common.{◌∙◌, ◌∷◌, [], ap, refl, arith}
 use Rattle.spool.proofs.VaultLemmas.{keeps_made, doubts_made, history_made, history_refused, history_unwritten, history_doubted, illegal_made}
 use Rattle.spool.proofs.vault.Vault.commit.Goals as goal
 
