@@ -1,6 +1,3 @@
-mod TargetWords
-mod CleanCalls
-mod CallLaws
 mod CallLaws
 mod CleanCalls
 mod FeedLaws
@@ -15,8 +12,8 @@ pub mod DeskLists
 pub mod DeskEvents
 pub mod DeskLaws
 pub mod DeskBatches
+pub mod DeskRuns
 pub mod RunnerLaws
 pub mod ReplayLaws
-pub mod DeskRuns
 mod TargetWords
 mod WorkedTexts
