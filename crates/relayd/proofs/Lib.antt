@@ -2,4 +2,3 @@ pub mod DeskLists
 pub mod DeskEvents
 pub mod DeskLaws
 pub mod DeskBatches
-pub mod DeskRuns
