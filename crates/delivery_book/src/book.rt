@@ -16,7 +16,9 @@ use std::alloc::{AllocError, Global};
 use std::collections::HashMap;
 use std::marker::Model;
 
-/// The deliveries of a history.
+/// The deliveries of a history: each event that was taken in stays in memory with its body, and its id is known for good.
+/// A delivery is named by the place of its record among all records of the history, from 0. Records of endpoints concern
+/// no delivery and need no call; outcomes are not taken yet, so every delivery is pending and due when it was taken in.
 #[derive(Drop)]
 pub struct DeliveryBook {
     entries: Vec<Entry>,
@@ -40,7 +42,7 @@ impl Model for DeliveryBook {
 }
 
 impl DeliveryBook {
-    /// The book of the empty history.
+    /// The book of the empty history. It takes no memory, and keeps the allocator.
     pub fn new(alloc: Global) -> DeliveryBook
         ensures value { result ≡ empty_book }
         ensures stands { StandsFor result [] 0 }
@@ -55,7 +57,8 @@ impl DeliveryBook {
         }
     }
 
-    /// Takes in the event of the record at this place.
+    /// Takes in the event of the record at this place. `next_place` and `find` test the conditions; that the endpoint is
+    /// there is the caller's to know. An error is want of memory.
     pub fn stage_accept(
         &mut self,
         place: u64,
@@ -86,7 +89,7 @@ impl DeliveryBook {
         Ok(())
     }
 
-    /// The records below this place are settled.
+    /// The records below this place are settled from now on. It takes no memory.
     pub fn settle_to(&mut self, place: u64)
         requires { self.old.settled_place ≤ place }
         ensures value { self.new ≡ with_settled self.old place }
@@ -113,7 +116,7 @@ impl DeliveryBook {
         self.settled_place
     }
 
-    /// The delivery of the event that the endpoint knows by this id.
+    /// The delivery of the event that the endpoint knows by this id, whether it is settled or waits.
     pub fn find(&self, name: Name, id: &MsgId) -> Option<u64>
         ensures known { result ≡ known_in self.now name id.now }
         ensures stands { (records : List Record) → (settled : ℕ) → StandsFor self.now records settled → result ≡ known_as records name id.now }
@@ -121,7 +124,7 @@ impl DeliveryBook {
         self.index.get(&EventKey { name, id: *id }).copied()
     }
 
-    /// The delivery.
+    /// The delivery as all records have it.
     pub fn row(&self, delivery: u64) -> Option<Row>
         ensures { (records : List Record) → (settled : ℕ) → StandsFor self.now records settled → result ≡ row_of records delivery }
     {
@@ -150,24 +153,24 @@ impl DeliveryBook {
         }
     }
 
-    /// The body of the event.
+    /// The body of the delivery's event.
     pub fn body(&self, delivery: u64) -> Option<&Body>
         ensures { (records : List Record) → (settled : ℕ) → StandsFor self.now records settled → option_copied result ≡ body_of records delivery }
     {
-        match entry_at(&self.entries, delivery) {
+        match entry_at(self.entries.as_slice(), delivery) {
             Some(entry) => Some(&entry.body),
             None => None,
         }
     }
 
-    /// How many deliveries of the endpoint are pending.
+    /// How many deliveries of the endpoint are pending, those that wait included.
     pub fn pending(&self, name: Name) -> u64
         ensures { (records : List Record) → (settled : ℕ) → StandsFor self.now records settled → result ≡ (counts_of records name).pending }
     {
         self.tally.of(name).accepted
     }
 
-    /// How many deliveries are pending.
+    /// How many deliveries of all endpoints are pending, those that wait included.
     pub fn pending_all(&self) -> u64
         ensures { (records : List Record) → (settled : ℕ) → StandsFor self.now records settled → result ≡ (counts_of_all records).pending }
     {
@@ -185,7 +188,7 @@ impl DeliveryBook {
         }
     }
 
-    /// How many deliveries are in each state, as the settled records have them.
+    /// How many deliveries of all endpoints are in each state, as the settled records have them.
     pub fn settled_counts_all(&self) -> Counts
         ensures { (records : List Record) → (settled : ℕ) → StandsFor self.now records settled → result ≡ counts_of_all (take settled records) }
     {

@@ -1,6 +1,5 @@
 //! The keys of the book's maps, which are equal where their characters are.
-ghost use Rattle.std.specs.Prelude.{◌++◌};
-ghost use Rattle.std.specs.Hash as fed;
+ghost use Rattle.std.specs.Prelude.{[], ◌∷◌};
 ghost use Rattle.std.specs.Cmp.Rules.{comparing, hashing};
 ghost use Rattle.std.proofs.Common.{rules};
 ghost use Rattle.delivery_book.specs.Kept.{same_endpoint, same_event};
@@ -29,12 +28,12 @@ impl Eq for EndpointKey {
 }
 
 impl Hash for EndpointKey {
-    ghost hash_input = { λ k. fed.slice fed.u8 k.name };
+    ghost hash_input = { λ k. k.name ∷ [] };
 
     ghost respects_eq = { Prim.search (hashing, rules) };
 
     fn hash<H: Hasher>(&self, state: &mut H) {
-        self.name.as_bytes().hash(state);
+        state.write(self.name.as_bytes());
     }
 }
 
@@ -60,12 +59,12 @@ impl Eq for EventKey {
 }
 
 impl Hash for EventKey {
-    ghost hash_input = { λ k. fed.slice fed.u8 k.name ++ fed.slice fed.u8 k.id };
+    ghost hash_input = { λ k. k.name ∷ k.id ∷ [] };
 
     ghost respects_eq = { Prim.search (hashing, rules) };
 
     fn hash<H: Hasher>(&self, state: &mut H) {
-        self.name.as_bytes().hash(state);
-        self.id.as_bytes().hash(state);
+        state.write(self.name.as_bytes());
+        state.write(self.id.as_bytes());
     }
 }

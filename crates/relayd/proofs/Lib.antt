@@ -1,4 +1,22 @@
+mod TargetWords
+mod CleanCalls
+mod CallLaws
+mod CallLaws
+mod CleanCalls
+mod FeedLaws
+mod HexLaws
+mod LineLaws
+mod MarkLaws
+mod NumberLaws
+mod PartLaws
+mod SecretWords
+mod StreamLaws
 pub mod DeskLists
 pub mod DeskEvents
 pub mod DeskLaws
 pub mod DeskBatches
+pub mod RunnerLaws
+pub mod ReplayLaws
+pub mod DeskRuns
+mod TargetWords
+mod WorkedTexts

@@ -37,7 +37,7 @@ pub record DeskValue : Type 0 where
 pub record IsDesk (next_place settled_place records settled capacity : ℕ) (steps : History) : Type 0 where
   pub staged : next_place ≤ records
   pub settled_book : settled_place ≤ settled
-  pub prefix : settled ≤ records
+  pub prefix : settled + length steps ≤ records
   pub room : records ≤ 2 ^ 62
   pub places : 256 ≤ capacity
   pub kinds : ArePutsAndAccepts steps

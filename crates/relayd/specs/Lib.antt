@@ -1,6 +1,11 @@
+pub mod Streams
 pub mod World
 pub mod Moves
+pub mod Parts
 pub mod Replies
+pub mod WordFaults
 pub mod Script
 pub mod Runs
 pub mod Desks
+pub mod Runners
+pub mod Replays

@@ -1,5 +1,6 @@
 -- The reply lines of a script, without their line feed.
 use Rattle.std.specs.Prelude.{ℕ, List, [], ◌∷◌, ◌++◌, Option, Some, None, codes, decimal}
+use Rattle.std.specs.List.{join_with_byte}
 use Rattle.relay_types.specs.declared.state.State.{State}
 use Rattle.relay_types.specs.declared.state.State.TheVariants.{Pending, Delivered, Exhausted}
 use Rattle.relayd.specs.declared.reply.Fault.{Fault}
@@ -31,9 +32,7 @@ state_text Exhausted = codes "exhausted"
 
 -- words and numbers, with one space between
 abbrev pub line : List (List ℕ) → List ℕ
-line [] = []
-line (word ∷ []) = word
-line (word ∷ next ∷ rest) = word ++ 32 ∷ line (next ∷ rest)
+line words = join_with_byte 32 words
 
 abbrev pub range_text : ℕ → ℕ → List ℕ
 range_text from to = decimal from ++ codes ".." ++ decimal to

@@ -1,5 +1,5 @@
 -- A script's run: what is written for the lines that are read.
-use Rattle.std.specs.Prelude.{◌≡◌, ◌≢◌, ℕ, ◌==◌, Bool, not, List, [], ◌∷◌, ◌++◌, IsTrue, ◌⊎◌}
+use Rattle.std.specs.Prelude.{◌≡◌, ◌≢◌, ℕ, List, [], ◌∷◌, ◌++◌, IsTrue, ◌⊎◌}
 use Rattle.std.specs.List.{list_all}
 use Rattle.relayd.specs.declared.event.Event.{Event}
 use Rattle.relayd.specs.declared.reply.Reply.{Reply}
@@ -7,14 +7,12 @@ use Rattle.relayd.specs.World.{World}
 use Rattle.relayd.specs.Moves.{Run, opened}
 use Rattle.relayd.specs.Replies.{reply_text}
 use Rattle.relayd.specs.Script.{ReadsLine}
+use Rattle.relayd.specs.Streams.{has_no_feed}
 
 -- the lines, each with its line feed
 abbrev pub fed : List (List ℕ) → List ℕ
 fed [] = []
 fed (text ∷ texts) = text ++ 10 ∷ fed texts
-
-abbrev pub has_no_feed : List ℕ → Bool
-has_no_feed text = list_all (λ c. not (c == 10)) text
 
 -- A text and its lines: no line has a line feed in it, each ends in one, and the last may lack it unless it is empty.
 abbrev pub HasLines : List ℕ → List (List ℕ) → Type 0
@@ -37,3 +35,7 @@ replies_text (reply ∷ replies) = reply_text reply ++ 10 ∷ replies_text repli
 abbrev pub Replies : List (List ℕ) → List ℕ → Type 0
 Replies lines written = (events : List Event) × (replies : List Reply) × (last : World)
     × ReadLines lines events × Run (opened [] 0) events replies last × (written ≡ replies_text replies)
+
+-- How far the lines of a text are read: these lines are, and the last of them lacked its line feed only where nothing is left.
+abbrev pub HasLinesBefore : List ℕ → List (List ℕ) → List ℕ → Type 0
+HasLinesBefore text lines left = ((text ≡ fed lines ++ left) × IsTrue (list_all has_no_feed lines)) ⊎ ((left ≡ []) × HasLines text lines)

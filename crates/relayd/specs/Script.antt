@@ -1,6 +1,7 @@
 -- The lines of a script: which text stands for which call. A text that stands for none is a bad line. The grammar is told by
 -- printing: a line has these words, and one space between.
-use Rattle.std.specs.Prelude.{◌≡◌, ℕ, ◌+◌, ◌*◌, ◌-◌, ◌&&◌, List, [], ◌∷◌, ◌++◌, Option, Some, None, IsTrue, codes, decimal, length, if◌then◌else◌}
+use Rattle.std.specs.Prelude.{◌≡◌, ℕ, ◌+◌, ◌*◌, ◌-◌, ◌&&◌, List, [], ◌∷◌, Option, Some, None, IsTrue, codes, decimal, length, if◌then◌else◌}
+use Rattle.std.specs.List.{join_with_byte}
 use Rattle.relay_types.specs.Values.{is_between, is_name, is_msg_id, is_target, is_max_limit, is_body, is_moment}
 use Rattle.relay_types.specs.SecretText.{ReadsSecret}
 use Rattle.relayd.specs.declared.event.Command.{Command}
@@ -9,24 +10,19 @@ use Rattle.relayd.specs.declared.event.Event.{Event}
 use Rattle.relayd.specs.declared.event.Event.TheVariants as on
 use Rattle.relayd.specs.Replies.{line}
 
--- texts of secrets, with commas between
-abbrev pub joined : List (List ℕ) → List ℕ
-joined [] = []
-joined (text ∷ []) = text
-joined (text ∷ next ∷ rest) = text ++ 44 ∷ joined (next ∷ rest)
-
 abbrev pub ReadSecrets : List (List ℕ) → List (List ℕ) → Type 0
 ReadSecrets [] [] = Unit {0}
 ReadSecrets (text ∷ texts) (secret ∷ secrets) = ReadsSecret text secret × ReadSecrets texts secrets
 ReadSecrets [] (secret ∷ secrets) = ⊥
 ReadSecrets (text ∷ texts) [] = ⊥
 
+-- the texts of one to four secrets, with commas between
 abbrev pub IsSecretsWord : List ℕ → List (List ℕ) → Type 0
-IsSecretsWord word secrets = (texts : List (List ℕ)) × (word ≡ joined texts) × ReadSecrets texts secrets × IsTrue (is_between 1 4 (length secrets))
+IsSecretsWord word secrets = (texts : List (List ℕ)) × (word ≡ join_with_byte 44 texts) × ReadSecrets texts secrets × IsTrue (is_between 1 4 (length secrets))
 
 -- a hexadecimal digit, in either case
 abbrev pub hex_digit : ℕ → Option ℕ
-hex_digit c = if is_between 48 57 c then Some (c - 48) else (if is_between 97 102 c then Some (c - 87) else (if is_between 65 70 c then Some (c - 55) else None))
+hex_digit c = if is_between 65 70 c then Some (c - 55) else (if is_between 97 102 c then Some (c - 87) else (if is_between 48 57 c then Some (c - 48) else None))
 
 abbrev pub HexOf : List ℕ → List ℕ → Type 0
 HexOf [] [] = Unit {0}
@@ -38,20 +34,51 @@ abbrev pub IsBodyWord : List ℕ → List ℕ → Type 0
 IsBodyWord word [] = word ≡ codes "-"
 IsBodyWord word (byte ∷ bytes) = HexOf word (byte ∷ bytes)
 
--- the words of a change of an endpoint
+-- the words behind the first one of a change of an endpoint
 abbrev pub IsChange : List (List ℕ) → Command → Type 0
-IsChange words (PutEndpoint name target max secrets) = (word : List ℕ) × IsSecretsWord word secrets × (words ≡ codes "put" ∷ name ∷ target ∷ decimal max ∷ word ∷ [])
-    × IsTrue (is_name name && is_target target && is_max_limit max)
+IsChange words (PutEndpoint name target max secrets) = (word : List ℕ) × IsSecretsWord word secrets × (words ≡ name ∷ target ∷ decimal max ∷ word ∷ [])
+    × IsTrue (is_name name && (is_target target && is_max_limit max))
+
+abbrev pub IsSubmit : List (List ℕ) → ℕ → List ℕ → List ℕ → List ℕ → Type 0
+IsSubmit words now name id body = (word : List ℕ) × IsBodyWord word body × (words ≡ decimal now ∷ name ∷ id ∷ word ∷ [])
+    × IsTrue (is_moment now && (is_name name && (is_msg_id id && is_body body)))
+
+abbrev pub IsShow : List (List ℕ) → List ℕ → List ℕ → Type 0
+IsShow words name id = (words ≡ name ∷ id ∷ []) × IsTrue (is_name name && is_msg_id id)
+
+-- the words behind the first one of these calls
+abbrev pub IsPut : List (List ℕ) → Event → Type 0
+IsPut words (on.Change command) = IsChange words command
+IsPut words event = ⊥
+
+abbrev pub IsSubmitted : List (List ℕ) → Event → Type 0
+IsSubmitted words (on.Submit now name id body) = IsSubmit words now name id body
+IsSubmitted words event = ⊥
+
+abbrev pub IsShown : List (List ℕ) → Event → Type 0
+IsShown words (on.ShowEvent name id) = IsShow words name id
+IsShown words event = ⊥
+
+-- the first word of a call, and what is told by the words behind it
+abbrev pub call_word : Event → List ℕ
+call_word (on.Change (PutEndpoint name target max secrets)) = codes "put"
+call_word (on.Submit now name id body) = codes "submit"
+call_word on.Seal = codes "seal"
+call_word on.Commit = codes "commit"
+call_word on.Settle = codes "settle"
+call_word (on.ShowEvent name id) = codes "show"
+
+abbrev pub AreArguments : List (List ℕ) → Event → Type 0
+AreArguments words (on.Change command) = IsChange words command
+AreArguments words (on.Submit now name id body) = IsSubmit words now name id body
+AreArguments words on.Seal = words ≡ []
+AreArguments words on.Commit = words ≡ []
+AreArguments words on.Settle = words ≡ []
+AreArguments words (on.ShowEvent name id) = IsShow words name id
 
 -- the words of a call
 abbrev pub IsCall : List (List ℕ) → Event → Type 0
-IsCall words (on.Change command) = IsChange words command
-IsCall words (on.Submit now name id body) = (word : List ℕ) × IsBodyWord word body × (words ≡ codes "submit" ∷ decimal now ∷ name ∷ id ∷ word ∷ [])
-    × IsTrue (is_moment now && is_name name && is_msg_id id && is_body body)
-IsCall words on.Seal = words ≡ codes "seal" ∷ []
-IsCall words on.Commit = words ≡ codes "commit" ∷ []
-IsCall words on.Settle = words ≡ codes "settle" ∷ []
-IsCall words (on.ShowEvent name id) = (words ≡ codes "show" ∷ name ∷ id ∷ []) × IsTrue (is_name name && is_msg_id id)
+IsCall words event = (arguments : List (List ℕ)) × (words ≡ call_word event ∷ arguments) × AreArguments arguments event
 
 -- a text stands for the call whose words it has
 abbrev pub ReadsLine : List ℕ → Event → Type 0

@@ -1,9 +1,12 @@
 //! The commands: each reads one reader, writes two writers, and gives its exit status.
+ghost use Rattle.std.specs.Prelude.{◌≡◌};
+ghost use Rattle.relayd.specs.Replays.{ReplaysTo, status_of};
 
 use crate::fault::ReplayFault;
-use crate::{limits, signing};
+use crate::{limits, runner, signing};
 use clap::{Arg, ArgAction, ArgMatches, Command};
 use relay_types::ReadFault;
+use sqlite::Connection;
 use std::alloc::{AllocError, Global};
 use std::io::{Read, Write};
 
@@ -45,18 +48,22 @@ pub fn run<R: Read, O: Write, E: Write>(
     }
 }
 
-/// Runs the script on the reader over a store in memory, and writes its replies.
+/// Runs the script on the reader over a store in memory, and writes its replies: 0 done, 2 what was read, 3 every other fault.
 pub fn replay<R: Read, O: Write, E: Write>(
     alloc: Global,
     input: &mut R,
     output: &mut O,
     errors: &mut E,
-) -> u8 {
-    let _ = input;
-    let _ = output;
-    let _ = alloc;
-    let end = Ok(());
-    ended(errors, end)
+) -> u8
+    ensures { ReplaysTo (R.remaining input.old) (O.contents output.old) (O.contents output.new) result }
+{
+    match Connection::open_in_memory(alloc) {
+        Ok(conn) => {
+            let end = runner::replay(alloc, input, output, conn, 0);
+            ended(errors, end)
+        }
+        Err(AllocError) => ended(errors, Err(ReplayFault::OutOfMemory)),
+    }
 }
 
 /// Signs the body on the reader: the header's value for the id, the moment and the secrets that the words name.
@@ -99,10 +106,9 @@ fn relayd<'a>(alloc: Global) -> Result<Command<'a>, AllocError> {
     Command::new(alloc, "relayd")
         .about("Keeps webhook events and delivers each to its subscriber")
         .subcommand_required(true)
-        .subcommand(
-            Command::new(alloc, "replay")
-                .about("Runs the script on standard input over a store in memory"),
-        )?
+        .subcommand(Command::new(alloc, "replay").about(
+            "Runs the script on standard input over a store in memory",
+        ))?
         .subcommand(
             Command::new(alloc, "sign")
                 .about("Prints the webhook-signature header of the body on standard input")
@@ -137,7 +143,9 @@ fn misused<E: Write>(errors: &mut E, fault: ReadFault) -> u8 {
 }
 
 // The exit status of a command that ends so, after its fault was told.
-fn ended<E: Write>(errors: &mut E, end: Result<(), ReplayFault>) -> u8 {
+fn ended<E: Write>(errors: &mut E, end: Result<(), ReplayFault>) -> u8
+    ensures { result ≡ status_of end }
+{
     match end {
         Ok(()) => DONE,
         Err(fault) => {

@@ -1,4 +1,7 @@
 //! Why a command ended early.
+ghost use Rattle.std.specs.Prelude.{◌≡◌, Err};
+ghost use Rattle.relayd.specs.Replays.{status_of};
+ghost use Rattle.relayd.specs.declared.fault.ReplayFault.TheVariants.{OutOfMemory};
 
 use std::alloc::AllocError;
 use std::fmt;
@@ -22,13 +25,13 @@ pub enum ReplayFault {
 
 impl ReplayFault {
     /// The exit status of a command that ends so: 2 for what was read, 3 for the rest.
-    pub fn status(self) -> u8 {
+    pub fn status(self) -> u8
+        ensures { result ≡ status_of (Err self) }
+    {
         match self {
             ReplayFault::BadLine(_) | ReplayFault::TooLong => 2,
-            ReplayFault::Read
-            | ReplayFault::Write
-            | ReplayFault::Lost
-            | ReplayFault::OutOfMemory => 3,
+            ReplayFault::Read | ReplayFault::Write | ReplayFault::Lost | ReplayFault::OutOfMemory =>
+                3,
         }
     }
 }
@@ -47,6 +50,8 @@ impl fmt::Display for ReplayFault {
 }
 
 impl From<AllocError> for ReplayFault {
+    ghost from_gives = { λ _ fault. fault ≡ OutOfMemory };
+
     fn from(_: AllocError) -> ReplayFault {
         ReplayFault::OutOfMemory
     }

@@ -9,6 +9,7 @@ mod limits;
 mod lines;
 mod output;
 mod reply;
+mod runner;
 mod signing;
 mod words;
 

@@ -1,4 +1,6 @@
 //! What a call answers, and how a script prints it.
+ghost use Rattle.std.specs.Prelude.{◌≡◌, Some};
+ghost use Rattle.relayd.specs.Replies.{fault_text, state_text, reply_text};
 
 use relay_types::{Moment, State};
 use std::fmt;
@@ -26,11 +28,20 @@ pub enum Fault {
 /// What a call answered.
 #[derive(Clone, Copy, PartialEq, Eq, Debug)]
 pub enum Reply {
-    Staged { seq: u64 },
+    Staged {
+        seq: u64,
+    },
     NothingWaits,
-    Sealed { from: u64, to: u64 },
-    Committed { to: u64 },
-    SettledTo { to: u64 },
+    Sealed {
+        from: u64,
+        to: u64,
+    },
+    Committed {
+        to: u64,
+    },
+    SettledTo {
+        to: u64,
+    },
     Event {
         state: State,
         due: Option<Moment>,
@@ -39,32 +50,45 @@ pub enum Reply {
     Absent,
     NoBatch,
     NoReceipt,
-    Refused { number: u8, fault: Fault },
+    Refused {
+        number: u8,
+        fault: Fault,
+    },
 }
 
 impl fmt::Display for Fault {
+    ghost output = { λ fault. Some (fault_text fault) };
+
     fn fmt<W: fmt::Write>(&self, f: &mut fmt::Formatter<W>) -> fmt::Result {
-        f.write_str(match self {
-            Fault::UnknownEndpoint => "UnknownEndpoint",
-            Fault::Conflict => "Conflict",
-            Fault::Exists => "Exists",
-            Fault::EndpointBacklog => "EndpointBacklog",
-            Fault::Backlog => "Backlog",
-            Fault::TooManyEndpoints => "TooManyEndpoints",
-            Fault::WaitingFull => "WaitingFull",
-            Fault::SeqExhausted => "SeqExhausted",
-            Fault::BatchOut => "BatchOut",
-            Fault::WrongTurn => "WrongTurn",
-            Fault::Closed => "Closed",
-            Fault::OutOfTurn => "OutOfTurn",
-            Fault::Illegal => "Illegal",
-            Fault::Store => "Store",
-            Fault::OutOfMemory => "OutOfMemory",
-        })
+        f.write_str(fault_word(*self))
+    }
+}
+
+fn fault_word(fault: Fault) -> &'static str
+    ensures { result.now ≡ fault_text fault }
+{
+    match fault {
+        Fault::UnknownEndpoint => "UnknownEndpoint",
+        Fault::Conflict => "Conflict",
+        Fault::Exists => "Exists",
+        Fault::EndpointBacklog => "EndpointBacklog",
+        Fault::Backlog => "Backlog",
+        Fault::TooManyEndpoints => "TooManyEndpoints",
+        Fault::WaitingFull => "WaitingFull",
+        Fault::SeqExhausted => "SeqExhausted",
+        Fault::BatchOut => "BatchOut",
+        Fault::WrongTurn => "WrongTurn",
+        Fault::Closed => "Closed",
+        Fault::OutOfTurn => "OutOfTurn",
+        Fault::Illegal => "Illegal",
+        Fault::Store => "Store",
+        Fault::OutOfMemory => "OutOfMemory",
     }
 }
 
 impl fmt::Display for Reply {
+    ghost output = { λ reply. Some (reply_text reply) };
+
     fn fmt<W: fmt::Write>(&self, f: &mut fmt::Formatter<W>) -> fmt::Result {
         match self {
             Reply::Staged { seq } => write!(f, "staged {seq}"),
@@ -92,7 +116,9 @@ impl fmt::Display for Reply {
     }
 }
 
-fn state_word(state: State) -> &'static str {
+fn state_word(state: State) -> &'static str
+    ensures { result.now ≡ state_text state }
+{
     match state {
         State::Pending => "pending",
         State::Delivered => "delivered",

@@ -1,5 +1,10 @@
 //! The words of a line.
-ghost use Rattle.std.specs.Prelude.{◌≡◌, IfSome, decimal};
+ghost use Rattle.std.specs.Prelude.{◌≡◌, ℕ, ◌<◌, ◌^◌, List, false, IsTrue, IfOk, IfErr, IfSome, decimal};
+ghost use Rattle.relay_types.specs.Values.{is_moment, is_max_limit, is_body};
+ghost use Rattle.relayd.specs.Parts.{HasParts, texts};
+ghost use Rattle.relayd.specs.Script.{ReadSecrets, IsSecretsWord, IsBodyWord};
+ghost use Rattle.relayd.specs.WordFaults.{word_fault};
+ghost use Rattle.relayd.specs.declared.words.WordFault.TheVariants.{OutOfMemory};
 
 use hex::FromHexError;
 use itoa::Buffer;
@@ -17,12 +22,16 @@ pub enum WordFault {
 }
 
 impl From<AllocError> for WordFault {
+    ghost from_gives = { λ _ fault. fault ≡ OutOfMemory };
+
     fn from(_: AllocError) -> WordFault {
         WordFault::OutOfMemory
     }
 }
 
 impl From<ReadFault> for WordFault {
+    ghost from_gives = { λ refusal fault. fault ≡ word_fault refusal };
+
     fn from(fault: ReadFault) -> WordFault {
         match fault {
             ReadFault::OutOfMemory => WordFault::OutOfMemory,
@@ -32,13 +41,23 @@ impl From<ReadFault> for WordFault {
 }
 
 /// The words of a line, between which one space stands.
-pub fn split(alloc: Global, line: &[u8]) -> Result<Vec<&[u8]>, AllocError> {
-    line.split(|byte| *byte == b' ').collect(alloc)
+pub fn split(alloc: Global, line: &[u8]) -> Result<Vec<&[u8]>, AllocError>
+    ensures { IfOk result (λ words. HasParts 32 line.now (texts words.items)) }
+{
+    split_at(alloc, line, b' ')
+}
+
+// The parts of the text, between which the mark stands.
+fn split_at(alloc: Global, text: &[u8], mark: u8) -> Result<Vec<&[u8]>, AllocError>
+    ensures { IfOk result (λ parts. HasParts mark text.now (texts parts.items)) }
+{
+    text.split(|byte| *byte == mark).collect(alloc)
 }
 
 /// A number below 2^64 in decimal, without leading zeros.
 pub fn read_number(word: &[u8]) -> Option<u64>
-    ensures { IfSome result (λ n. word.now ≡ decimal n) }
+    ensures value { IfSome result (λ n. word.now ≡ decimal n) }
+    ensures each { (n : ℕ) → n < 2 ^ 64 → word.now ≡ decimal n → result ≡ Some n }
 {
     let text = str::from_utf8(word).ok()?;
     let number = text.parse::<u64>().ok()?;
@@ -47,43 +66,99 @@ pub fn read_number(word: &[u8]) -> Option<u64>
 }
 
 /// A moment.
-pub fn read_moment(word: &[u8]) -> Result<Moment, WordFault> {
-    let seconds = read_number(word).ok_or(WordFault::Bad)?;
-    Ok(Moment::of(seconds)?)
+pub fn read_moment(word: &[u8]) -> Result<Moment, WordFault>
+    ensures value { IfOk result (λ moment. word.now ≡ decimal moment) }
+    ensures valid { IfOk result (λ moment. IsTrue (is_moment moment)) }
+    ensures each { (moment : ℕ) → IsTrue (is_moment moment) → word.now ≡ decimal moment → result ≡ Ok moment }
+    ensures refusal { IfErr result (λ fault. fault ≡ WordFault.Bad) }
+{
+    match read_number(word) {
+        Some(seconds) => Ok(Moment::of(seconds)?),
+        None => Err(WordFault::Bad),
+    }
 }
 
 /// A maximum limit.
-pub fn read_max(word: &[u8]) -> Result<MaxLimit, WordFault> {
-    let limit = read_number(word).ok_or(WordFault::Bad)?;
-    Ok(MaxLimit::of(limit)?)
+pub fn read_max(word: &[u8]) -> Result<MaxLimit, WordFault>
+    ensures value { IfOk result (λ max. word.now ≡ decimal max) }
+    ensures valid { IfOk result (λ max. IsTrue (is_max_limit max)) }
+    ensures each { (max : ℕ) → IsTrue (is_max_limit max) → word.now ≡ decimal max → result ≡ Ok max }
+    ensures refusal { IfErr result (λ fault. fault ≡ WordFault.Bad) }
+{
+    match read_number(word) {
+        Some(limit) => Ok(MaxLimit::of(limit)?),
+        None => Err(WordFault::Bad),
+    }
 }
 
 /// One to four secrets, with commas between, the newest first.
-pub fn read_secrets(alloc: Global, word: &[u8]) -> Result<Secrets, WordFault> {
+pub fn read_secrets(alloc: Global, word: &[u8]) -> Result<Secrets, WordFault>
+    ensures value { IfOk result (λ secrets. IsSecretsWord word.now secrets) }
+    ensures bad { result ≡ Err WordFault.Bad → (secrets : List (List ℕ)) → IsSecretsWord word.now secrets → ⊥ }
+{
+    let texts = split_at(alloc, word, b',')?;
+    let secrets = read_each(alloc, texts.as_slice())?;
+    Ok(Secrets::of(secrets.as_slice())?)
+}
+
+// The secrets of the texts.
+fn read_each(alloc: Global, words: &[&[u8]]) -> Result<Vec<Secret>, WordFault>
+    ensures value { IfOk result (λ secrets. ReadSecrets (texts words.now) secrets.items) }
+    ensures bad { result ≡ Err WordFault.Bad → (secrets : List (List ℕ)) → ReadSecrets (texts words.now) secrets → ⊥ }
+{
     let mut secrets = Vec::new(alloc);
-    for text in word.split(|byte| *byte == b',') {
-        if secrets.len() == 4 {
-            return Err(WordFault::Bad);
-        }
-        let secret = Secret::read(text)?;
+    for word in words {
+        let secret = Secret::read(word)?;
         if secrets.push(secret).is_err() {
             return Err(WordFault::OutOfMemory);
         }
     }
-    Ok(Secrets::of(secrets.as_slice())?)
+    Ok(secrets)
 }
 
 /// The body of an event: two hexadecimal digits of either case for a byte, or `-` for the empty one.
-pub fn read_body(alloc: Global, word: &[u8]) -> Result<Body, WordFault> {
-    let bytes = match word {
-        b"-" => Vec::new(alloc),
-        b"" => return Err(WordFault::Bad),
-        _ => match hex::decode(alloc, word) {
-            Ok(bytes) => bytes,
-            Err(FromHexError::OutOfMemory) => return Err(WordFault::OutOfMemory),
-            Err(_) => return Err(WordFault::Bad),
-        },
-    };
-    let bytes = Arc::new(alloc, bytes).map_err(|_| AllocError)?;
-    Ok(Body::of(bytes)?)
+pub fn read_body(alloc: Global, word: &[u8]) -> Result<Body, WordFault>
+    ensures value { IfOk result (λ body. IsBodyWord word.now body) }
+    ensures valid { IfOk result (λ body. IsTrue (is_body body)) }
+    ensures bad { result ≡ Err WordFault.Bad → (body : List ℕ) → IsTrue (is_body body) → IsBodyWord word.now body → ⊥ }
+{
+    let bytes = read_bytes(alloc, word)?;
+    body_of(alloc, bytes)
+}
+
+// The bytes of the word.
+fn read_bytes(alloc: Global, word: &[u8]) -> Result<Vec<u8>, WordFault>
+    ensures value { IfOk result (λ bytes. IsBodyWord word.now bytes.items) }
+    ensures bad { result ≡ Err WordFault.Bad → (bytes : List ℕ) → IsBodyWord word.now bytes → ⊥ }
+{
+    if word == b"-".as_slice() {
+        return Ok(Vec::new(alloc));
+    }
+    if word.is_empty() {
+        return Err(WordFault::Bad);
+    }
+    match hex::decode(alloc, word) {
+        Ok(bytes) => Ok(bytes),
+        Err(error) => Err(hex_fault(error)),
+    }
+}
+
+fn hex_fault(error: FromHexError) -> WordFault
+    ensures { error ≡ FromHexError.OutOfMemory → result ≡ WordFault.OutOfMemory }
+{
+    match error {
+        FromHexError::OutOfMemory => WordFault::OutOfMemory,
+        _ => WordFault::Bad,
+    }
+}
+
+fn body_of(alloc: Global, bytes: Vec<u8>) -> Result<Body, WordFault>
+    ensures value { IfOk result (λ body. body ≡ bytes.items) }
+    ensures valid { IfOk result (λ body. IsTrue (is_body body)) }
+    ensures bad { result ≡ Err WordFault.Bad → is_body bytes.items ≡ false }
+{
+    match Arc::new(alloc, bytes) {
+        Ok(bytes) => Ok(Body::of(bytes)?),
+        Err(_) => Err(WordFault::OutOfMemory),
+    }
 }

@@ -2,7 +2,7 @@
 use Rattle.std.proofs.Common.{◌≡◌, ◌⊎◌, inl, inr, ℕ, Bool, true, false, Result, Ok, Err, IsTrue, refl, sym, subst, ◌∙◌, arith}
 use Rattle.sqlite.specs.declared.error.Error.{Error}
 use Rattle.sqlite.specs.Tree.{Trees}
-use Rattle.sqlite.specs.State.{State, HasCleanDisk, Shows, IsUnchanged, KeepsCommit, Survives}
+use Rattle.sqlite.specs.State.{State, HasCleanDisk, IsUnchanged, KeepsCommit, Survives}
 use Rattle.sqlite.specs.Steps.{FailsToCommit}
 use Rattle.sqlite.specs.Store.{Ghosts}
 use Rattle.sqlite.specs.Held.{Held, state}
@@ -13,8 +13,8 @@ use Rattle.relay_types.specs.Rows.{Rows, put_record}
 use Rattle.spool_sql.specs.Stored.{IsTables}
 use Rattle.spool_sql.specs.Steps.{Spares, Stands, MayLeave}
 use Rattle.spool_sql.proofs.StepLemmas.{tables_of, leaves_commit, leaves_along, stands_along}
-use Rattle.spool.specs.Entering.{AreRowsAt, may_enter, Enters, Turns, CommitsEntry, StaysAs, Rests, EndsSo}
-use Rattle.spool.specs.declared.write.Written.TheVariants.{Made, Illegal, OutOfMemory, Doubtful}
+use Rattle.spool.specs.Entering.{AreRowsAt, Enters, Turns, CommitsEntry, StaysAs, Rests, EndsSo}
+use Rattle.spool.specs.declared.write.Written.TheVariants.{Made}
 
 pub survives_entry : {S : Type 0} (g : Ghosts S) (old : Held S) (mid new : State) (next : ℕ) (entry : Record) (legal : Bool) → IsTrue legal → Spares (state g (record old { in_transaction = true })) mid
     → (HasCleanDisk mid → Enters (state g (record old { in_transaction = true })) mid next entry legal)

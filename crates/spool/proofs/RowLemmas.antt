@@ -1,5 +1,5 @@
 -- What the look-ups tell of the rows, and what a record leaves true of them.
-use Rattle.std.proofs.Common.{◌≡◌, ◌≤◌, ◌<◌, ◌==◌, ℕ, ◌+◌, Bool, true, false, ◌&&◌, ◌||◌, not, nat_lt, cond, List, [], ◌∷◌, ◌++◌, map, length, Option, Some, None, IsTrue, refl, sym, ap, subst, ◌∙◌, arith, append-nil}
+use Rattle.std.proofs.Common.{◌≡◌, ◌≤◌, ℕ, Bool, true, false, ◌&&◌, not, nat_lt, cond, List, [], ◌∷◌, ◌++◌, map, length, Option, Some, None, IsTrue, refl, sym, ap, subst, ◌∙◌, arith, append-nil}
 use Rattle.std.specs.Prelude.{slice_get, is_some, find, filter, bytes_eq, sum_by, if◌then◌else◌}
 use Rattle.std.specs.Option.{option_map_or}
 use Rattle.std.specs.List.Sorted.{IsPermutation}
@@ -14,7 +14,7 @@ use Rattle.spool_sql.specs.Stored.{endpoints_named, IsPutOf}
 use Rattle.spool.specs.Entering.{has_name, has_event, HasEachNameOnce, may_put, may_accept, accepting, may_enter}
 
 -- the first that passes is the first of those that pass
-find_is_first : {X : Type 0} (test : X → Bool) (xs : List X) → find test xs ≡ slice_get (filter test xs) 0
+pub find_is_first : {X : Type 0} (test : X → Bool) (xs : List X) → find test xs ≡ slice_get (filter test xs) 0
 find_is_first test [] = refl
 find_is_first test (x ∷ xs) = at (test x) (find_is_first test xs)
   where
@@ -116,7 +116,7 @@ unnamed rows name may = at (has_name rows name) may
     at true h = absurd (let e = h in cc)
     at false h = refl
 
-none_if_unnamed : (named : List EndpointRow) → is_some (slice_get named 0) ≡ false → named ≡ []
+pub none_if_unnamed : {X : Type 0} (named : List X) → is_some (slice_get named 0) ≡ false → named ≡ []
 none_if_unnamed [] h = refl
 none_if_unnamed (e ∷ rest) h = absurd (let i = h in cc)
 

@@ -1,12 +1,14 @@
 -- The rows of an endpoint's secrets, written one after another.
-use Rattle.std.proofs.Common.{◌≡◌, ◌<◌, ℕ, zero, suc, ◌+◌, List, [], ◌∷◌, ◌++◌, map, length, take, Option, Some, None, IsTrue, inl, refl, sym, ap, subst, ◌∙◌, arith, add-zero, add-one, append-nil, append_assoc}
+use Rattle.std.proofs.Common.{◌≡◌, ◌<◌, ℕ, zero, suc, ◌+◌, true, List, [], ◌∷◌, ◌++◌, map, length, take, Some, None, IsTrue, inl, refl, sym, ap, subst, ◌∙◌, arith, add-zero, add-one, append-nil, append_assoc}
 use Rattle.std.specs.Prelude.{slice_get}
-use Rattle.std.specs.List.{enumerate_from}
-use Rattle.sqlite.specs.State.{State, HasCleanDisk, Survives}
-use Rattle.relay_types.specs.Rows.{Rows, SecretRow, secret_rows}
+use Rattle.std.specs.List.{enumerate_from, list_all}
+use Rattle.sqlite.specs.State.{State}
+use Rattle.relay_types.specs.Values.{is_secret}
+use Rattle.relay_types.specs.Rows.{SecretRow, secret_rows}
 use Rattle.spool_sql.specs.Stored.{IsTables, with_secret}
-use Rattle.spool_sql.specs.Steps.{GoesOn, Alters, Spares}
+use Rattle.spool_sql.specs.Steps.{Alters, Spares}
 use Rattle.spool_sql.proofs.StepLemmas.{alters_then}
+use Rattle.spool.proofs.KnownLemmas.{and_first, and_second, and_both}
 use Rattle.spool.specs.Entering.{with_secrets}
 
 -- nothing is done
@@ -62,3 +64,14 @@ pub get_is_there : (xs : List (List ℕ)) (k : ℕ) → k < length xs → None �
 get_is_there [] k below is = omega (arith, below)
 get_is_there (x ∷ xs) zero below is = cc
 get_is_there (x ∷ xs) (suc k) below is = get_is_there xs k (omega (arith, below)) is
+
+all_next : (xs : List (List ℕ)) (k : ℕ) (x : List ℕ) → slice_get xs k ≡ Some x → list_all is_secret (take k xs) ≡ true → is_secret x ≡ true → list_all is_secret (take (suc k) xs) ≡ true
+all_next [] k x is all one = absurd (let e = is in cc)
+all_next (y ∷ ys) zero x is all one = and_both (is_secret y) true (ap is_secret (same is) ∙ one) refl
+  where
+    same : {a b : List ℕ} → Some a ≡ Some b → a ≡ b
+    same e = cc
+all_next (y ∷ ys) (suc k) x is all one = and_both (is_secret y) (list_all is_secret (take (suc k) ys)) (and_first (is_secret y) _ all) (all_next ys k x is (and_second (is_secret y) (list_all is_secret (take k ys)) all) one)
+
+pub all_more : (xs : List (List ℕ)) (k : ℕ) (x : List ℕ) → slice_get xs k ≡ Some x → IsTrue (list_all is_secret (take k xs)) → IsTrue (is_secret x) → IsTrue (list_all is_secret (take (k + 1) xs))
+all_more xs k x is all one = ap (λ n. list_all is_secret (take n xs)) (add-one k) ∙ all_next xs k x is all one

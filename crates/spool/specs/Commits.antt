@@ -1,16 +1,18 @@
 -- How a commit ends, and what it leaves of a vault.
-use Rattle.std.specs.Prelude.{◌≡◌, ◌⊎◌, ◌+◌, ◌≤◌, ◌^◌, ℕ, false, [], length, IsTrue, Result, Ok, Err}
+use Rattle.std.specs.Prelude.{◌≡◌, ◌⊎◌, ◌++◌, ℕ, false, List, [], Result, Ok, Err}
 use Rattle.sqlite.specs.Held.{Held, state}
 use Rattle.sqlite_trees.specs.declared.store.Store.{Ghosts}
 use Rattle.relay_types.specs.Rows.{Rows, rows_of, put_rows}
+use Rattle.relay_types.specs.declared.record.Record.{Record}
 use Rattle.relay_types.specs.Records.{records_of}
+use Rattle.relay_types.specs.Legal.{IsLegal}
 use Rattle.spool_sql.specs.Steps.{MayLeave, IsBegun}
 use Rattle.spool_sql.specs.Tables.{no_schema}
 use Rattle.spool.specs.declared.ends.CommitEnd.{CommitEnd}
 use Rattle.spool.specs.declared.ends.CommitEnd.TheVariants as ends
 use Rattle.spool.specs.declared.ends.Unchanged.TheVariants as why
 use Rattle.spool.specs.Runs.{Run, span_of}
-use Rattle.spool.specs.Vaults.{Kept, StandsOn}
+use Rattle.spool.specs.Vaults.{Kept, StandsOn, Holds}
 
 -- the vault stands on these rows, and a stop leaves them
 abbrev pub Keeps : {S : Type 0} → Ghosts S → Kept S → Rows → Type 0
@@ -22,6 +24,7 @@ pub record IsOpened {S : Type 0} (g : Ghosts S) (conn : Held S) (mark : ℕ) (v 
   pub next : v.next ≡ 0
   pub closed : v.closed ≡ false
   pub rows : IsBegun no_schema (state g conn).now → Keeps g v (rows_of [])
+  pub history : IsBegun no_schema (state g conn).now → Holds g v []
 
 -- the batch is of the vault's opening, and begins with its next record
 abbrev pub IsNext : {S : Type 0} → Kept S → Run → Type 0
@@ -40,6 +43,7 @@ IsRefused (ends.Unchanged batch why.Illegal) = ⊥
 IsRefused (ends.Unchanged batch why.OutOfMemory) = ⊥
 IsRefused (ends.Doubtful doubt cause) = ⊥
 
+-- nobody knows whether the batch was written
 abbrev pub IsDoubt : Result Run CommitEnd → Type 0
 IsDoubt (Ok receipt) = ⊥
 IsDoubt (Err (ends.Unchanged batch reason)) = ⊥
@@ -50,3 +54,17 @@ abbrev pub AnswersSo : {S : Type 0} → Ghosts S → Kept S → Kept S → Run �
 AnswersSo g old new batch (Ok receipt) = (rows : Rows) → StandsOn g old rows → Keeps g new (put_rows rows (records_of batch.steps))
 AnswersSo g old new batch (Err (ends.Unchanged back reason)) = (rows : Rows) → StandsOn g old rows → Keeps g new rows
 AnswersSo g old new batch (Err (ends.Doubtful doubt cause)) = (rows : Rows) → StandsOn g old rows → MayLeave (state g new.conn) (λ r. (r ≡ rows) ⊎ (r ≡ put_rows rows (records_of batch.steps)))
+
+-- the vault holds this history, and a stop leaves its rows
+abbrev pub KeepsHistory : {S : Type 0} → Ghosts S → Kept S → List Record → Type 0
+KeepsHistory g v records = Holds g v records × MayLeave (state g v.conn) (λ r. r ≡ rows_of records)
+
+-- what the answer says of a history that the vault held
+abbrev pub AnswersOver : {S : Type 0} → Ghosts S → Kept S → Kept S → Run → Result Run CommitEnd → Type 0
+AnswersOver g old new batch (Ok receipt) = (records : List Record) → Holds g old records → KeepsHistory g new (records ++ records_of batch.steps)
+AnswersOver g old new batch (Err (ends.Unchanged back reason)) = (records : List Record) → Holds g old records → KeepsHistory g new records
+AnswersOver g old new batch (Err (ends.Doubtful doubt cause)) = (records : List Record) → Holds g old records → IsLegal (records ++ records_of batch.steps) → MayLeave (state g new.conn) (λ r. (r ≡ rows_of records) ⊎ (r ≡ rows_of (records ++ records_of batch.steps)))
+
+-- the batch isn't legal after a history that the vault holds
+abbrev pub IsIllegal : {S : Type 0} → Ghosts S → Kept S → Run → Type 0
+IsIllegal g old batch = (records : List Record) → Holds g old records → ¬ IsLegal (records ++ records_of batch.steps)

@@ -1,5 +1,5 @@
 -- What contracts see of what is handed to the vault.
-use Rattle.std.specs.Prelude.{ℕ, ◌+◌, Bool, true, false, List, length, IsTrue}
+use Rattle.std.specs.Prelude.{ℕ, ◌+◌, Bool, true, false, length, IsTrue}
 use Rattle.std.specs.List.{list_all}
 use Rattle.relay_types.specs.declared.record.Record.{Record}
 use Rattle.relay_types.specs.declared.record.Record.TheVariants.{Put, Secrets, Enabled, Accept, Outcome}

@@ -1,9 +1,11 @@
 -- What a vault is, and which rows it stands on.
-use Rattle.std.specs.Prelude.{◌≡◌, ℕ, Bool, List, refl}
+use Rattle.std.specs.Prelude.{◌≡◌, ℕ, Bool, List, length, refl}
 use Rattle.std.specs.Coded.{Coded, code_by, coded×, coded_ℕ, coded_bool}
 use Rattle.sqlite.specs.Held.{Held, held_code, state}
 use Rattle.sqlite_trees.specs.declared.store.Store.{Ghosts}
-use Rattle.relay_types.specs.Rows.{Rows}
+use Rattle.relay_types.specs.declared.record.Record.{Record}
+use Rattle.relay_types.specs.Legal.{IsLegal}
+use Rattle.relay_types.specs.Rows.{Rows, rows_of}
 use Rattle.spool_sql.specs.Steps.{Stands}
 use Rattle.spool.specs.Entering.{HasEachNameOnce}
 
@@ -24,3 +26,9 @@ pub record StandsOn {S : Type 0} (g : Ghosts S) (v : Kept S) (rows : Rows) : Typ
   pub stands : Stands (state g v.conn) rows
   pub next : rows.records ≡ v.next
   pub once : HasEachNameOnce rows
+
+-- the store is open and has the rows of this legal history, and the vault's next record is the one behind it
+pub record Holds {S : Type 0} (g : Ghosts S) (v : Kept S) (records : List Record) : Type 0 where
+  pub legal : IsLegal records
+  pub stands : Stands (state g v.conn) (rows_of records)
+  pub next : v.next ≡ length records

@@ -1,6 +1,6 @@
-//! What goes into a commit, and what comes of it.
-ghost use Rattle.std.specs.Prelude.{◌≡◌, ◌+◌, ◌<◌, ◌^◌, [], ◌∷◌};
-ghost use Rattle.spool.specs.Runs.{span_of};
+//! What goes into a commit, and what stands after it.
+ghost use Rattle.std.specs.Prelude.{◌≡◌, ◌<◌, ◌^◌, [], ◌∷◌};
+ghost use Rattle.spool.specs.Runs.{ArePutsAndAccepts};
 
 use relay_types::Step;
 use std::marker::Model;
@@ -15,17 +15,21 @@ pub struct Batch {
 }
 
 impl Model for Batch {
-    ghost use Rattle.std.specs.Prelude.{[], ◌∷◌};
-    ghost use Rattle.spool.specs.Runs.{Run};
+    ghost use Rattle.std.specs.Prelude.{◌<◌, ◌^◌, [], ◌∷◌};
+    ghost use Rattle.spool.specs.Runs.{Run, ArePutsAndAccepts};
 
     ghost Value = { Run };
 
     ghost view = { λ b. record { mark = b.mark; from = b.from; steps = b.step ∷ [] } };
+
+    ghost invariant = { λ b. (b.from < 2 ^ 62) × ArePutsAndAccepts (b.step ∷ []) };
 }
 
 impl Batch {
-    /// A batch of this step.
+    /// A batch of this step, which is a Put or an Accept.
     pub fn of(mark: u64, from: u64, step: Step) -> Batch
+        requires room { from < 2 ^ 62 }
+        requires kind { ArePutsAndAccepts (step ∷ []) }
         ensures { result ≡ record { mark = mark; from = from; steps = step ∷ [] } }
     {
         Batch { mark, from, step }
@@ -40,14 +44,16 @@ impl Batch {
 
     /// The number of the first record.
     pub fn from(&self) -> u64
-        ensures { result ≡ self.now.from }
+        ensures number { result ≡ self.now.from }
+        ensures room { result < 2 ^ 62 }
     {
         self.from
     }
 
     /// The step.
     pub fn step(&self) -> &Step
-        ensures { self.now.steps ≡ result.now ∷ [] }
+        ensures step { self.now.steps ≡ result.now ∷ [] }
+        ensures kind { ArePutsAndAccepts self.now.steps }
     {
         &self.step
     }
@@ -56,38 +62,22 @@ impl Batch {
     pub(crate) fn into_receipt(self) -> Receipt
         ensures { result ≡ self }
     {
-        let Batch { mark, from, step } = self;
-        Receipt { mark, from, step }
-    }
-
-    // What is left of a batch of which nobody knows whether it was written.
-    pub(crate) fn into_doubt(self) -> Doubt
-        requires { self.from < 2 ^ 62 }
-        ensures { result ≡ span_of self }
-    {
-        Doubt {
-            mark: self.mark,
-            from: self.from,
-            upto: self.from + 1,
-        }
+        Receipt { batch: self }
     }
 }
 
-/// A step that stands in the store. `Vault::commit` alone makes one.
+/// A batch that stands in the store. `Vault::commit` alone makes one.
 #[derive(Drop)]
 pub struct Receipt {
-    mark: u64,
-    from: u64,
-    step: Step,
+    batch: Batch,
 }
 
 impl Model for Receipt {
-    ghost use Rattle.std.specs.Prelude.{[], ◌∷◌};
     ghost use Rattle.spool.specs.Runs.{Run};
 
     ghost Value = { Run };
 
-    ghost view = { λ b. record { mark = b.mark; from = b.from; steps = b.step ∷ [] } };
+    ghost view = { λ r. r.batch };
 }
 
 impl Receipt {
@@ -95,59 +85,22 @@ impl Receipt {
     pub fn mark(&self) -> u64
         ensures { result ≡ self.now.mark }
     {
-        self.mark
+        self.batch.mark()
     }
 
     /// The number of the first record.
     pub fn from(&self) -> u64
-        ensures { result ≡ self.now.from }
+        ensures number { result ≡ self.now.from }
+        ensures room { result < 2 ^ 62 }
     {
-        self.from
+        self.batch.from()
     }
 
     /// The step that was written.
     pub fn step(&self) -> &Step
-        ensures { self.now.steps ≡ result.now ∷ [] }
+        ensures step { self.now.steps ≡ result.now ∷ [] }
+        ensures kind { ArePutsAndAccepts self.now.steps }
     {
-        &self.step
-    }
-}
-
-/// Places of which nobody knows whether they stand in the store.
-#[derive(Drop)]
-pub struct Doubt {
-    mark: u64,
-    from: u64,
-    upto: u64,
-}
-
-impl Model for Doubt {
-    ghost use Rattle.spool.specs.Runs.{Span};
-
-    ghost Value = { Span };
-
-    ghost view = { λ d. record { mark = d.mark; from = d.from; upto = d.upto } };
-}
-
-impl Doubt {
-    /// The mark of the opening that the places belong to.
-    pub fn mark(&self) -> u64
-        ensures { result ≡ self.now.mark }
-    {
-        self.mark
-    }
-
-    /// The number of the first record.
-    pub fn from(&self) -> u64
-        ensures { result ≡ self.now.from }
-    {
-        self.from
-    }
-
-    /// The number after the last record.
-    pub fn upto(&self) -> u64
-        ensures { result ≡ self.now.upto }
-    {
-        self.upto
+        self.batch.step()
     }
 }

@@ -1,6 +1,8 @@
 //! Why an opening or a commit gave no value.
+ghost use Rattle.std.specs.Prelude.{◌≡◌, ◌↔◌, IsTrue};
 
-use crate::batch::{Batch, Doubt};
+use crate::batch::Batch;
+use crate::doubt::Doubt;
 use sqlite::Error;
 use std::fmt;
 
@@ -17,7 +19,9 @@ pub enum OpenFault {
 
 impl OpenFault {
     /// Whether memory was refused.
-    pub fn is_memory(self) -> bool {
+    pub fn is_memory(self) -> bool
+        ensures { IsTrue result ↔ (self ≡ OpenFault.OutOfMemory) }
+    {
         matches!(self, OpenFault::OutOfMemory)
     }
 }

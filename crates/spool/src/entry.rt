@@ -1,7 +1,8 @@
 //! The statements of one record, inside a transaction.
-ghost use Rattle.std.specs.Prelude.{◌≡◌, ◌<◌, ◌^◌, IsTrue, IfOk, OnOk};
+ghost use Rattle.std.specs.Prelude.{◌≡◌, ◌<◌, ◌^◌, ◌&&◌, IsTrue, OnOk};
 ghost use Rattle.sqlite.specs.State.{HasCleanDisk};
 ghost use Rattle.sqlite.specs.Held.{state};
+ghost use Rattle.relay_types.specs.Values.{are_secrets, is_name, is_target, is_max_limit, is_msg_id, is_body, is_moment};
 ghost use Rattle.spool_sql.specs.Steps.{Alters, Spares};
 ghost use Rattle.spool.specs.Entering.{with_secrets, with_put, with_accept};
 
@@ -18,6 +19,7 @@ fn insert_secrets<S: Alter>(
     requires { put < 2 ^ 63 }
     ensures same_reference { tx.new.conn.ghost_name ≡ tx.old.conn.ghost_name }
     ensures done { HasCleanDisk (state S.Store tx.new.conn.now) → IsTrue (state S.Store tx.old.conn.now).in_transaction → IsTrue (state S.Store tx.old.conn.now).is_open → OnOk result (Alters (state S.Store tx.old.conn.now) (state S.Store tx.new.conn.now) (with_secrets put secrets.now)) }
+    ensures limits { OnOk result (IsTrue (are_secrets secrets.now)) }
     ensures spares { Spares (state S.Store tx.old.conn.now) (state S.Store tx.new.conn.now) }
 {
     for place in 0..secrets.count() {
@@ -41,6 +43,7 @@ pub(crate) fn put_endpoint<S: Alter>(
     requires { put < 2 ^ 62 }
     ensures same_reference { tx.new.conn.ghost_name ≡ tx.old.conn.ghost_name }
     ensures done { HasCleanDisk (state S.Store tx.new.conn.now) → IsTrue (state S.Store tx.old.conn.now).in_transaction → OnOk result (Alters (state S.Store tx.old.conn.now) (state S.Store tx.new.conn.now) (with_put put name.now target.now max secrets.now)) }
+    ensures limits { OnOk result (IsTrue (is_name name.now && (is_target target.now && (is_max_limit max && are_secrets secrets.now)))) }
     ensures spares { Spares (state S.Store tx.old.conn.now) (state S.Store tx.new.conn.now) }
 {
     insert_endpoint(
@@ -67,6 +70,7 @@ pub(crate) fn add_event<S: Alter>(
     requires endpoint { endpoint < 2 ^ 63 }
     ensures same_reference { tx.new.conn.ghost_name ≡ tx.old.conn.ghost_name }
     ensures done { HasCleanDisk (state S.Store tx.new.conn.now) → IsTrue (state S.Store tx.old.conn.now).in_transaction → OnOk result (Alters (state S.Store tx.old.conn.now) (state S.Store tx.new.conn.now) (with_accept seq endpoint id.now at body.now)) }
+    ensures limits { IsTrue (is_msg_id id.now && (is_body body.now && is_moment at)) }
     ensures spares { Spares (state S.Store tx.old.conn.now) (state S.Store tx.new.conn.now) }
 {
     insert_delivery(

@@ -1,8 +1,9 @@
 //! Whether a record may follow the rows, asked inside the transaction that writes it.
-ghost use Rattle.std.specs.Prelude.{◌≡◌, ◌<◌, ◌^◌, IfOk, IfSome};
+ghost use Rattle.std.specs.Prelude.{◌≡◌, ◌<◌, ◌^◌, IsTrue, IfOk, IfSome};
 ghost use Rattle.sqlite.specs.State.{HasCleanDisk, IsUnchanged};
 ghost use Rattle.sqlite.specs.Held.{state};
 ghost use Rattle.relay_types.specs.Rows.{Rows};
+ghost use Rattle.relay_types.specs.Values.{is_name};
 ghost use Rattle.spool_sql.specs.Stored.{IsTables};
 ghost use Rattle.spool_sql.specs.Steps.{Spares};
 ghost use Rattle.spool.specs.Entering.{HasEachNameOnce, may_put, accepting};
@@ -40,6 +41,7 @@ pub(crate) fn accepting<S: Alter>(
     ensures same_reference { tx.new.conn.ghost_name ≡ tx.old.conn.ghost_name }
     ensures unchanged { HasCleanDisk (state S.Store tx.new.conn.now) → IfOk result (λ _. IsUnchanged (state S.Store tx.old.conn.now) (state S.Store tx.new.conn.now)) }
     ensures found { HasCleanDisk (state S.Store tx.new.conn.now) → IfOk result (λ found. (rows : Rows) → HasEachNameOnce rows → IsTables (state S.Store tx.old.conn.now).now rows → found ≡ accepting rows name.now id.now) }
+    ensures named { IsTrue (is_name name.now) }
     ensures bound { IfOk result (λ found. IfSome found (λ put. put < 2 ^ 62)) }
     ensures spares { Spares (state S.Store tx.old.conn.now) (state S.Store tx.new.conn.now) }
 {

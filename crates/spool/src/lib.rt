@@ -2,6 +2,7 @@
 #![tactic(auto)]
 
 mod batch;
+mod doubt;
 mod ends;
 mod entry;
 mod legal;
@@ -9,6 +10,10 @@ mod open;
 mod vault;
 mod write;
 
-pub use crate::batch::{Batch, Doubt, Receipt};
+pub use crate::batch::{Batch, Receipt};
+pub use crate::doubt::Doubt;
 pub use crate::ends::{CommitEnd, OpenFault, Unchanged};
 pub use crate::vault::Vault;
+
+#[cfg(test)]
+mod tests;

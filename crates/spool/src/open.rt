@@ -28,6 +28,7 @@ fn try_found<S: Alter>(conn: &mut Connection<S>) -> Result<(), Error>
 pub(crate) fn found<S: Alter>(conn: &mut Connection<S>) -> Result<(), OpenFault>
     requires { conn.old.in_transaction ≡ false }
     ensures ends { HasCleanDisk (state S.Store conn.new) → MatchResult result (λ _. IsFounded (state S.Store conn.old) (state S.Store conn.new)) (LeavesAt (state S.Store conn.old) (state S.Store conn.new)) }
+    ensures clean { HasCleanDisk (state S.Store conn.new) → HasCleanDisk (state S.Store conn.old) }
     ensures mode { conn.new.in_transaction ≡ false }
 {
     let error = match try_found(conn) {

@@ -3,19 +3,16 @@ ghost use Rattle.std.specs.Prelude.{◌≡◌, ◌⊎◌, ◌↔◌, ◌+◌, fa
 ghost use Rattle.sqlite.specs.State.{HasCleanDisk};
 ghost use Rattle.sqlite.specs.Held.{state};
 ghost use Rattle.relay_types.specs.Records.{records_of};
-ghost use Rattle.spool.specs.Runs.{ArePutsAndAccepts};
 ghost use Rattle.spool.specs.Opening.{LeavesAt};
-ghost use Rattle.spool.specs.Commits.{IsOpened, IsNext, HandsBack, IsDoubt, IsRefused, AnswersSo};
+ghost use Rattle.spool.specs.Commits.{IsOpened, IsNext, HandsBack, IsDoubt, IsRefused, AnswersSo, AnswersOver, IsIllegal};
 
 use crate::batch::{Batch, Receipt};
+use crate::doubt::Doubt;
 use crate::ends::{CommitEnd, OpenFault, Unchanged};
 use crate::open::found;
 use crate::write::{Written, write};
 use sqlite::{Alter, Connection};
 use std::marker::Model;
-
-// The most records of a history.
-const MOST_RECORDS: u64 = 1 << 62;
 
 /// The store of one opening. It alone writes.
 #[derive(Drop)]
@@ -47,6 +44,7 @@ impl<S: Alter> Vault<S> {
         requires { conn.in_transaction ≡ false }
         ensures opened { IfOk result (λ v. HasCleanDisk (state S.Store v.conn) → IsOpened S.Store conn mark v) }
         ensures refused { IfErr result (λ e. HasCleanDisk (state S.Store e.0) → LeavesAt (state S.Store conn) (state S.Store e.0) e.1) }
+        ensures clean { MatchResult result (λ v. HasCleanDisk (state S.Store v.conn) → HasCleanDisk (state S.Store conn)) (λ e. HasCleanDisk (state S.Store e.0) → HasCleanDisk (state S.Store conn)) }
         ensures mode { IfErr result (λ e. e.0.in_transaction ≡ false) }
     {
         let mut conn = conn;
@@ -61,10 +59,9 @@ impl<S: Alter> Vault<S> {
         }
     }
 
-    /// Writes the batch in one transaction, all of it or nothing. Refusals are looked for in the order of `Unchanged`, but
-    /// want of memory may come before `Illegal`. The same holds of a doubtful end.
+    /// Writes the batch in one transaction, all of it or nothing. Refusals come in the order of `Unchanged`, but want of
+    /// memory and a doubtful end may come before `Illegal`.
     pub fn commit(&mut self, batch: Batch) -> Result<Receipt, CommitEnd>
-        requires { ArePutsAndAccepts batch.steps }
         ensures closed { (result ≡ Err (CommitEnd.Unchanged batch Unchanged.Closed)) ↔ IsTrue self.old.closed }
         ensures out_of_turn { (result ≡ Err (CommitEnd.Unchanged batch Unchanged.OutOfTurn)) ↔ ((self.old.closed ≡ false) × (¬ IsNext self.old batch)) }
         ensures receipt { IfOk result (λ receipt. receipt ≡ batch) }
@@ -74,15 +71,15 @@ impl<S: Alter> Vault<S> {
         ensures next { self.new.next ≡ cond (is_ok result) (self.old.next + length (records_of batch.steps)) self.old.next }
         ensures doubt { IsTrue self.new.closed ↔ (IsTrue self.old.closed ⊎ IsDoubt result) }
         ensures rows { HasCleanDisk (state S.Store self.new.conn) → AnswersSo S.Store self.old self.new batch result }
+        ensures history { HasCleanDisk (state S.Store self.new.conn) → AnswersOver S.Store self.old self.new batch result }
+        ensures illegal { HasCleanDisk (state S.Store self.new.conn) → result ≡ Err (CommitEnd.Unchanged batch Unchanged.Illegal) → IsIllegal S.Store self.old batch }
+        ensures clean { HasCleanDisk (state S.Store self.new.conn) → HasCleanDisk (state S.Store self.old.conn) }
     {
         if self.closed {
             return Err(CommitEnd::Unchanged(batch, Unchanged::Closed));
         }
         if batch.mark() != self.mark || batch.from() != self.next {
             return Err(CommitEnd::Unchanged(batch, Unchanged::OutOfTurn));
-        }
-        if self.next >= MOST_RECORDS {
-            return Err(CommitEnd::Unchanged(batch, Unchanged::Illegal));
         }
         match write(&mut self.conn, self.next, batch.step().record()) {
             Written::Made => {
@@ -93,7 +90,7 @@ impl<S: Alter> Vault<S> {
             Written::OutOfMemory => Err(CommitEnd::Unchanged(batch, Unchanged::OutOfMemory)),
             Written::Doubtful(cause) => {
                 self.closed = true;
-                Err(CommitEnd::Doubtful(batch.into_doubt(), cause))
+                Err(CommitEnd::Doubtful(Doubt::over(batch), cause))
             }
         }
     }

@@ -3,6 +3,7 @@ ghost use Rattle.std.specs.Prelude.{◌≡◌, ◌≢◌, ◌<◌, ◌^◌, true
 ghost use Rattle.sqlite.specs.State.{HasCleanDisk, Survives};
 ghost use Rattle.sqlite.specs.Held.{state};
 ghost use Rattle.relay_types.specs.declared.record.Record.TheVariants as on;
+ghost use Rattle.relay_types.specs.Legal.{is_within_limits};
 ghost use Rattle.spool_sql.specs.Steps.{Spares};
 ghost use Rattle.spool.specs.Runs.{is_put_or_accept};
 ghost use Rattle.spool.specs.Entering.{Enters, Turns, CommitsEntry, StaysAs, EndsSo};
@@ -36,6 +37,7 @@ fn write_put<S: Alter>(
     requires { next < 2 ^ 62 }
     ensures same_reference { tx.new.conn.ghost_name ≡ tx.old.conn.ghost_name }
     ensures done { HasCleanDisk (state S.Store tx.new.conn.now) → IsTrue (state S.Store tx.old.conn.now).in_transaction → IfOk result (Enters (state S.Store tx.old.conn.now) (state S.Store tx.new.conn.now) next (on.Put name.now target.now max secrets.now)) }
+    ensures limits { IfOk result (λ legal. IsTrue legal → IsTrue (is_within_limits (on.Put name.now target.now max secrets.now))) }
     ensures spares { Spares (state S.Store tx.old.conn.now) (state S.Store tx.new.conn.now) }
 {
     if !may_put(tx, name)? {
@@ -56,6 +58,7 @@ fn write_accept<S: Alter>(
     requires { next < 2 ^ 62 }
     ensures same_reference { tx.new.conn.ghost_name ≡ tx.old.conn.ghost_name }
     ensures done { HasCleanDisk (state S.Store tx.new.conn.now) → IsTrue (state S.Store tx.old.conn.now).in_transaction → IfOk result (Enters (state S.Store tx.old.conn.now) (state S.Store tx.new.conn.now) next (on.Accept name.now id.now body.now at)) }
+    ensures limits { IfOk result (λ legal. IsTrue legal → IsTrue (is_within_limits (on.Accept name.now id.now body.now at))) }
     ensures spares { Spares (state S.Store tx.old.conn.now) (state S.Store tx.new.conn.now) }
 {
     let Some(endpoint) = accepting(tx, name, id)? else {
@@ -75,6 +78,7 @@ fn write_record<S: Alter>(
     requires taken { IsTrue (is_put_or_accept entry.now) }
     ensures same_reference { tx.new.conn.ghost_name ≡ tx.old.conn.ghost_name }
     ensures done { HasCleanDisk (state S.Store tx.new.conn.now) → IsTrue (state S.Store tx.old.conn.now).in_transaction → IfOk result (Enters (state S.Store tx.old.conn.now) (state S.Store tx.new.conn.now) next entry.now) }
+    ensures limits { IfOk result (λ legal. IsTrue legal → IsTrue (is_within_limits entry.now)) }
     ensures spares { Spares (state S.Store tx.old.conn.now) (state S.Store tx.new.conn.now) }
 {
     match entry {
@@ -95,6 +99,7 @@ fn try_write<S: Alter>(conn: &mut Connection<S>, next: u64, entry: &Record) -> R
     requires room { next < 2 ^ 62 }
     requires taken { IsTrue (is_put_or_accept entry.now) }
     ensures done { HasCleanDisk (state S.Store conn.new) → IfOk result (Turns (state S.Store conn.old) (state S.Store conn.new) next entry.now) }
+    ensures limits { IfOk result (λ legal. IsTrue legal → IsTrue (is_within_limits entry.now)) }
     ensures undone { HasCleanDisk (state S.Store conn.new) → result ≢ Ok true → IsTrue (state S.Store conn.new).is_open → StaysAs (state S.Store conn.old) (state S.Store conn.new) }
     ensures mode { conn.new.in_transaction ≡ false }
     ensures survives { Survives (state S.Store conn.old) (state S.Store conn.new) (CommitsEntry (state S.Store conn.old) next entry.now) }
@@ -114,6 +119,8 @@ pub(crate) fn write<S: Alter>(conn: &mut Connection<S>, next: u64, entry: &Recor
     requires room { next < 2 ^ 62 }
     requires taken { IsTrue (is_put_or_accept entry.now) }
     ensures ends { HasCleanDisk (state S.Store conn.new) → EndsSo (state S.Store conn.old) (state S.Store conn.new) next entry.now result }
+    ensures limits { result ≡ Written.Made → IsTrue (is_within_limits entry.now) }
+    ensures clean { HasCleanDisk (state S.Store conn.new) → HasCleanDisk (state S.Store conn.old) }
     ensures mode { conn.new.in_transaction ≡ false }
 {
     match try_write(conn, next, entry) {

@@ -14,7 +14,6 @@ use Rattle.sqlite_sql.specs.declared.ops.BinaryOp.TheVariants.{Compare}
 use Rattle.sqlite_sql.specs.declared.ops.CompareOp.TheVariants.{Eq}
 use Rattle.sqlite.specs.declared.types.Value.TheVariants.{Int, Text}
 use Rattle.sqlite.specs.Order.{Row}
-use Rattle.sqlite_value.specs.Order.{column}
 use Rattle.sqlite_sql.specs.Ops.{binary, from_truth, is_true}
 use Rattle.sqlite.specs.Term.{Term, col, op2}
 use Rattle.sqlite.specs.Command.TheVariants.{Select}
@@ -194,10 +193,6 @@ tells_delivery endpoint id old new found h rows t =
 first_number : (found : List Row) → slice_get (map number_of found) 0 ≡ option_map number_of (slice_get found 0)
 first_number [] = refl
 first_number (r ∷ rest) = refl
-
-pub read_number : (r : Row) (n : ℕ) → column r 0 ≡ Int (pos n) → number_of r ≡ n
-read_number (v ∷ rest) n e = ap (λ x. number_of (x ∷ rest)) e
-read_number [] n e = absurd (let f = e in cc)
 
 puts_of : (name : List ℕ) (rows : Rows) (found : List Row) → IsPermutation (map put_shown (endpoints_named name rows)) found → IsPermutation (map (λ (e : EndpointRow). e.put) (endpoints_named name rows)) (map number_of found)
 puts_of name rows found same = subst (λ l. IsPermutation l (map number_of found)) (map_map put_shown number_of (endpoints_named name rows)) (IsPermutation-map number_of _ _ same)

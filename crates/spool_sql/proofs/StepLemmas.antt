@@ -6,12 +6,12 @@ use Rattle.sqlite.specs.Order.{Row}
 use Rattle.sqlite.specs.State.{State, HasCleanDisk, Shows, IsUnchanged, IsRolledBack, KeepsCommit, Survives, ExecutesInside}
 use Rattle.sqlite.proofs.StateLemmas.{survives_then}
 use Rattle.relay_types.specs.Rows.{Rows}
-use Rattle.spool_sql.specs.Stored.{IsTables, the_same}
+use Rattle.spool_sql.specs.Stored.{IsTables, the_same, first_rows}
 use Rattle.sqlite.specs.Store.{Ghosts}
 use Rattle.sqlite.specs.Held.{Held, state}
 use Rattle.sqlite.specs.Effect.{Database}
 use Rattle.sqlite.proofs.Callers.{survives_begin}
-use Rattle.spool_sql.specs.Steps.{GoesOn, Alters, Spares, AreTablesOf, CommitsAs, Stands, MayLeave, Turns, Begins, Founds, IsBegun}
+use Rattle.spool_sql.specs.Steps.{GoesOn, Alters, Spares, AreTablesOf, CommitsAs, Stands, MayLeave, Turns, Begins, Founds, FoundsAs, IsBegun}
 use Rattle.spool_sql.specs.Tables.{no_schema, relay_schema}
 
 pub keeps_if : (a b : State) → IsUnchanged a b ⊎ IsRolledBack a b → KeepsCommit a b
@@ -121,3 +121,24 @@ alters_then_same a b c f p same = alters_then a b c f the_same p (alters_same b 
 -- a change that is the same on every row
 pub alters_as : (a b : State) (f g : Rows → Rows) → ((rows : Rows) → f rows ≡ g rows) → Alters a b f → Alters a b g
 alters_as a b f g same p = record { on = p.on; makes = λ rows t. subst (IsTables b.now) (same rows) (p.makes rows t) }
+
+-- what a transaction leaves that made the tables and that a commit ends
+pub survives_founding : {S : Type 0} (g : Ghosts S) (old : Held S) (mid new : State) → Spares (state g (record old { in_transaction = true })) mid
+    → (HasCleanDisk mid → Founds (state g (record old { in_transaction = true })) mid)
+    → Survives mid new (λ db. db ≡ mid.now.trees) → Survives (state g old) new (FoundsAs (state g old))
+survives_founding g old mid new s made ended =
+    survives_then (state g old) mid new _ _ (FoundsAs (state g old)) (λ _ db none. absurd none)
+    (λ clean db is begun. rw is (tables_of mid.now first_rows ((made (omega (arith, clean, ended.clean))).founds begun)))
+    (survives_begin g old mid _ s.survives) ended
+
+-- what a commit makes of a connection where the tables were made
+pub stands_founded : {S : Type 0} (g : Ghosts S) (old : Held S) (mid new : State) → Founds (state g (record old { in_transaction = true })) mid
+    → Shows mid new mid.now mid.now false → IsBegun no_schema (state g old).now → Stands new first_rows
+stands_founded g old mid new made ended begun =
+    let tables = made.founds begun in
+    record {
+      is_open = ended.is_open;
+      autocommit = ended.mode;
+      now = subst (λ d. IsTables d first_rows) (sym ended.now_is) tables;
+      committed = subst (λ d. IsTables d first_rows) (sym ended.committed_is) tables;
+    }

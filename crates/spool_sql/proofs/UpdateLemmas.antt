@@ -1,4 +1,4 @@
--- What an UPDATE or a DELETE does to a database of the relay.
+-- What an UPDATE does to a database of the relay.
 use Rattle.std.proofs.Common.{◌≡◌, ◌≢◌, ℕ, ◌==◌, ◌-◌, ◌^◌, pos, negsuc, List, [], ◌∷◌, ◌++◌, map, filter, flat_map, length, slice_get, unwrap_or, Bool, true, false, cond, Some, None, Ok, refl, sym, ap, subst, subst₂, ◌∙◌}
 use Rattle.std.specs.List.{AllByRecursion, filter_map, list_all}
 use Rattle.std.specs.List.Sorted.{IsPermutation}
@@ -12,14 +12,14 @@ use Rattle.sqlite_schema.specs.declared.program.Program.{Program}
 use Rattle.sqlite_value.specs.declared.keys.Key.{Key}
 use Rattle.sqlite.specs.Table.{Table}
 use Rattle.sqlite.specs.Schema.{Schema}
-use Rattle.sqlite.specs.Command.TheVariants.{Update, Delete}
+use Rattle.sqlite.specs.Command.TheVariants.{Update}
 use Rattle.sqlite_rules.specs.Edit.{Edit, Applies, edit_of, edited, taken_by}
 use Rattle.sqlite_rules.specs.Action.{works, work_by, pairs, deed_for, Writes as Goes}
 use Rattle.sqlite_rules.specs.Calls.{ids_of}
 use Rattle.sqlite_schema.specs.Rules.{parent_key}
 use Rattle.sqlite.specs.Rowids.TheVariants.{Given}
 use Rattle.sqlite.specs.Does.{Does, OnRows}
-use Rattle.sqlite.specs.Rows.{Written, Task, Updates, Deletes}
+use Rattle.sqlite.specs.Rows.{Written, Task, Updates}
 use Rattle.sqlite.specs.Effect.{Database, Answers}
 use Rattle.sqlite.specs.Tree.{Trees}
 use Rattle.sqlite.specs.Listing.{understood}
@@ -113,13 +113,6 @@ updated_by task q db w h =
     let made = went found.2 in
     (found.0, found.1, subst (λ t. Goes task.schema task.keys db (edit_of db task.table (ids_of found.0) Given 1 found.0) (Ok t)) (sym (ap (λ (it : Written). it.trees) (same_value made.2))) made.1)
 
-pub deleted_by : (task : Task) (q : Program) (db : Trees) (w : Written) → Deletes task q db (Ok w)
-    → (rows : List Row) × Answers (record { schema = task.schema; trees = db }) q task.params rows × Goes task.schema task.keys db (edit_of db task.table (ids_of rows) Given 0 []) (Ok w.trees)
-deleted_by task q db w h =
-    let found = went h in
-    let made = went found.2 in
-    (found.0, found.1, subst (λ t. Goes task.schema task.keys db (edit_of db task.table (ids_of found.0) Given 0 []) (Ok t)) (sym (ap (λ (it : Written). it.trees) (same_value made.2))) made.1)
-
 wrote_by : (old new : State) (edit : Edit) (next : Trees) → Shows old new new.now (cond old.in_transaction old.committed new.now) old.in_transaction → new.marks ≡ old.marks
     → new.now ≡ record { schema = relay_schema; trees = next } → Applies relay_schema Enforced old.now.trees edit next → Wrote old new edit.table.tree (edited old.now.trees edit)
 wrote_by old new edit next shown marks same it =
@@ -146,17 +139,3 @@ module _ (sql : List ℕ) (params : Row) (at : ℕ) (q : Program) (table : Table
       let edit = updated_by task q db made.0 made.1 in
       let it = one_edit db made.0.trees (edit_of db table (ids_of edit.0) Given 1 edit.0) edit.2 in
       (edit.0, edit.1, wrote_by old new (edit_of db table (ids_of edit.0) Given 1 edit.0) made.0.trees w.shown w.marks made.2 it)
-
-  pub deletes : command_of (understood relay_schema sql) ≡ Delete at q → (old new : State) (count : ℕ) → old.now.schema ≡ relay_schema → Executes sql params old new (Ok count)
-      → (rows : List Row) × Answers (record { schema = relay_schema; trees = old.now.trees }) q params rows
-      × Wrote old new table.tree (edited old.now.trees (edit_of old.now.trees table (ids_of rows) Given 0 []))
-  deletes is old new count has h =
-      let db = old.now.trees in
-      let w = runs_as sql params old new relay_schema has (Delete at q) is plain count h in
-      let text = statement_of sql (understood relay_schema sql) in
-      let task : Task = record { limit = old.step_limit; keys = Enforced; schema = relay_schema; table = table; params = params } in
-      let on : OnRows task (mode_of old) None (Delete at q) db (Ok (w.tally, new.now)) = rw listed at (subst (λ s. Does old.step_limit (mode_of old) params (record old.now { schema = s }) text None (Delete at q) (Ok (w.tally, new.now))) has w.changed) in
-      let made = left_as task (mode_of old) (Delete at q) db w.tally new.now on in
-      let edit = deleted_by task q db made.0 made.1 in
-      let it = one_edit db made.0.trees (edit_of db table (ids_of edit.0) Given 0 []) edit.2 in
-      (edit.0, edit.1, wrote_by old new (edit_of db table (ids_of edit.0) Given 0 []) made.0.trees w.shown w.marks made.2 it)

@@ -90,3 +90,7 @@ pub record Begins (old new : State) : Type 0 where
 pub record Founds (old new : State) : Type 0 where
   pub on : GoesOn old new
   pub founds : IsBegun no_schema old.now → IsTables new.now first_rows
+
+-- what a commit of the tables as they are made writes to the disk
+abbrev pub FoundsAs : State → Trees → Type 0
+FoundsAs old db = IsBegun no_schema old.now → AreTablesOf db first_rows

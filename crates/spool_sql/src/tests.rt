@@ -1,12 +1,12 @@
 use crate::{
-    Cause, cause_of, count_endpoints, create_tables, has_delivery, insert_delivery,
+    Cause, cause_of, count_endpoints, create_tables, has_delivery, insert_attempt, insert_delivery,
     insert_endpoint, insert_secret, probe, select_put, update_records,
 };
 use sqlite::{Connection, Error, ErrorCode, MemStore};
 use std::alloc::Global;
 use std::test::Fail;
 
-/// A store with one endpoint, two secrets of it and one event.
+/// A store with one endpoint, two secrets of it, one event and one attempt at it.
 fn filled(alloc: Global) -> Result<Connection<MemStore>, Error> {
     let mut conn = Connection::open_in_memory(alloc)?;
     let mut tx = conn.transaction();
@@ -15,7 +15,8 @@ fn filled(alloc: Global) -> Result<Connection<MemStore>, Error> {
     insert_secret(&mut tx, 3, 0, b"new")?;
     insert_secret(&mut tx, 3, 1, b"old")?;
     insert_delivery(&mut tx, 4, 3, b"msg_1", 1000, b"hello")?;
-    update_records(&mut tx, 5)?;
+    insert_attempt(&mut tx, 5, 4, 1, 503, 1002)?;
+    update_records(&mut tx, 6)?;
     tx.commit()?;
     Ok(conn)
 }
@@ -31,7 +32,7 @@ fn rows_are_written(rt: HostRuntime) -> Result<(), Fail> {
     let wanted = [
         ("SELECT * FROM meta", 1),
         (
-            "SELECT * FROM meta WHERE k = 1 AND app = 'webhook-relay' AND version = 1 AND records = 5",
+            "SELECT * FROM meta WHERE k = 1 AND app = 'webhook-relay' AND version = 1 AND records = 6",
             1,
         ),
         ("SELECT * FROM endpoints", 1),
@@ -57,7 +58,11 @@ fn rows_are_written(rt: HostRuntime) -> Result<(), Fail> {
             "SELECT * FROM deliveries WHERE seq = 4 AND endpoint = 3 AND id = 'msg_1' AND at = 1000 AND body = x'68656c6c6f'",
             1,
         ),
-        ("SELECT * FROM attempts", 0),
+        ("SELECT * FROM attempts", 1),
+        (
+            "SELECT * FROM attempts WHERE seq = 5 AND delivery = 4 AND number = 1 AND status = 503 AND at = 1002",
+            1,
+        ),
     ];
     for (sql, count) in wanted {
         assert_eq!(rt; rows_of(&mut conn, sql)?, count);
@@ -92,10 +97,11 @@ fn rows_that_repeat_are_refused(rt: HostRuntime) -> Result<(), Fail> {
     let mut tx = conn.transaction();
     let refused = [
         create_tables(&mut tx),
-        insert_endpoint(&mut tx, 5, b"alpha", b"http://h/", 10),
+        insert_endpoint(&mut tx, 6, b"alpha", b"http://h/", 10),
         insert_secret(&mut tx, 3, 1, b"other"),
-        insert_delivery(&mut tx, 5, 3, b"msg_1", 1000, b"hello"),
-        insert_delivery(&mut tx, 5, 7, b"msg_2", 1000, b"hello"),
+        insert_delivery(&mut tx, 6, 3, b"msg_1", 1000, b"hello"),
+        insert_delivery(&mut tx, 6, 7, b"msg_2", 1000, b"hello"),
+        insert_attempt(&mut tx, 6, 4, 1, 200, 1003),
     ];
     for answer in refused {
         assert!(rt; matches!(answer, Err(error) if cause_of(error) == Cause::Other));

@@ -2,7 +2,7 @@
 ghost use Rattle.std.specs.Prelude.{◌≡◌, ◌<◌, ◌^◌, true, IsTrue, OnOk};
 ghost use Rattle.sqlite.specs.State.{HasCleanDisk};
 ghost use Rattle.sqlite.specs.Held.{state};
-ghost use Rattle.spool_sql.specs.Stored.{with_endpoint, with_secret, with_delivery, with_records};
+ghost use Rattle.spool_sql.specs.Stored.{with_endpoint, with_secret, with_delivery, with_attempt, with_records};
 ghost use Rattle.spool_sql.specs.Steps.{Alters, Spares};
 
 use crate::value::int;
@@ -84,6 +84,33 @@ pub fn insert_delivery<S: Alter>(
             int(at),
             ValueRef::Blob(body),
         ],
+    )?;
+    Ok(())
+}
+
+/// Adds an attempt, which the record with number `seq` tells of, at the event that the record with number `delivery` took
+/// in. `status` is that of the answer, or 0 where none came, and `at` is in seconds since the epoch.
+pub fn insert_attempt<S: Alter>(
+    tx: &mut Transaction<'_, S>,
+    seq: u64,
+    delivery: u64,
+    number: u64,
+    status: u64,
+    at: u64,
+) -> Result<(), Error>
+    requires seq { seq < 2 ^ 63 }
+    requires delivery { delivery < 2 ^ 63 }
+    requires number { number < 2 ^ 63 }
+    requires status { status < 2 ^ 63 }
+    requires at { at < 2 ^ 63 }
+    ensures same_reference { tx.new.conn.ghost_name ≡ tx.old.conn.ghost_name }
+    ensures done { HasCleanDisk (state S.Store tx.new.conn.now) → IsTrue (state S.Store tx.old.conn.now).in_transaction → OnOk result (Alters (state S.Store tx.old.conn.now) (state S.Store tx.new.conn.now)
+        (with_attempt (record { seq = seq; delivery = delivery; number = number; status = status; at = at }))) }
+    ensures spares { Spares (state S.Store tx.old.conn.now) (state S.Store tx.new.conn.now) }
+{
+    tx.execute(
+        "INSERT INTO attempts VALUES(?1, ?2, ?3, ?4, ?5)",
+        &[int(seq), int(delivery), int(number), int(status), int(at)],
     )?;
     Ok(())
 }

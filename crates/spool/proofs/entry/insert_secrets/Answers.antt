@@ -1,8 +1,8 @@
-use Rattle.std.proofs.Common.{sym, subst, arith, ◌∙◌}
+use Rattle.std.proofs.Common.{sym, arith, ◌∙◌}
 use Rattle.sqlite.specs.State.{HasCleanDisk}
 use Rattle.sqlite.specs.Held.{state}
 use Rattle.spool_sql.proofs.StepLemmas.{spares_then}
-use Rattle.spool.proofs.SecretLemmas.{alters_more, get_is_there}
+use Rattle.spool.proofs.SecretLemmas.{alters_more, get_is_there, all_more}
 use Rattle.spool.proofs.entry.insert_secrets.Goals as goal
 use Rattle.spool.proofs.entry.insert_secrets.Goals.{in-Some+in_ok-insert_secret-in-Some, in-None}
 
@@ -20,6 +20,7 @@ loop-place-preserved g c = elim c.match-get.branch [
             let before : HasCleanDisk b = omega (arith, clean, step.spares.survives.clean) in
             let so_far = c.loop-place.invariant.done before inside is_open in
             alters_more a b z c.args.put c.loop-place.place c.args.secrets.now _ (sym c.get.ensures ∙ w.in-Some.is) so_far (rw w.as_bytes.ensures.bytes at (step.done clean so_far.on.mode));
+        valid = all_more c.args.secrets.now c.loop-place.place _ (sym c.get.ensures ∙ w.in-Some.is) c.loop-place.invariant.valid w.as_bytes.ensures.valid;
       })
   | in-None w ↦ absurd (get_is_there c.args.secrets.now c.loop-place.place (omega (arith, c.loop-place-test.true, c.count-place-end.ensures.count)) (sym w.in-None.is ∙ c.get.ensures))
 ]

@@ -1,6 +1,8 @@
 use Rattle.std.proofs.Common.{◌≡◌, IsTrue, take}
+use Rattle.std.specs.List.{list_all}
 use Rattle.sqlite.specs.State.{HasCleanDisk}
 use Rattle.sqlite.specs.Held.{state}
+use Rattle.relay_types.specs.Values.{is_secret}
 use Rattle.spool_sql.specs.Steps.{Alters, Spares}
 use Rattle.spool.specs.Entering.{with_secrets}
 use Rattle.spool.proofs.entry.insert_secrets.Given as goal
@@ -11,4 +13,5 @@ invariant-loop-place g l = record {
   spares : Spares (state g.S.Store l.fn.tx.conn.now) (state g.S.Store l.tx.conn.now);
   done : HasCleanDisk (state g.S.Store l.tx.conn.now) → IsTrue (state g.S.Store l.fn.tx.conn.now).in_transaction → IsTrue (state g.S.Store l.fn.tx.conn.now).is_open
       → Alters (state g.S.Store l.fn.tx.conn.now) (state g.S.Store l.tx.conn.now) (with_secrets l.put (take l.place l.secrets));
+  valid : IsTrue (list_all is_secret (take l.place l.secrets));
 }

@@ -1,4 +1,4 @@
-use Rattle.std.proofs.Common.{true, false, sym, subst, arith, ◌∙◌}
+use Rattle.std.proofs.Common.{true, false, sym, subst, arith}
 use Rattle.sqlite.specs.State.{HasCleanDisk}
 use Rattle.sqlite.specs.Held.{state}
 use Rattle.spool_sql.specs.Stored.{IsTables}

@@ -1,4 +1,4 @@
-use Rattle.std.proofs.Common.{◌≡◌, refl, sym, subst, rules, arith}
+use Rattle.std.proofs.Common.{◌≡◌, refl, subst, rules, arith}
 use Rattle.sqlite.specs.State.{HasCleanDisk, Survives}
 use Rattle.sqlite.specs.Held.{state}
 use Rattle.spool.specs.Entering.{CommitsEntry, StaysAs}

@@ -8,11 +8,11 @@ use Rattle.delivery_book.proofs.book.DeliveryBook.body.Goals as goal
 pub returns-in-Some : goal.returns-in-Some
 returns-in-Some c = λ records settled h.
     ap (option_map (λ (e : Entry). e.body)) c.in-Some.ensures
-    ∙ ap (λ es. option_map (λ (e : Entry). e.body) (entry_at es c.args.delivery)) (c.deref.ensures.value ∙ ap (λ b. b.entries) c.self.view_is)
+    ∙ ap (λ es. option_map (λ (e : Entry). e.body) (entry_at es c.args.delivery)) (c.as_slice.ensures.value ∙ ap (λ b. b.entries) c.self.view_is)
     ∙ stands_body c.args.self.now records settled c.args.delivery h
 
 pub returns-in-None : goal.returns-in-None
 returns-in-None c = λ records settled h.
     ap (option_map (λ (e : Entry). e.body)) c.in-None.ensures
-    ∙ ap (λ es. option_map (λ (e : Entry). e.body) (entry_at es c.args.delivery)) (c.deref.ensures.value ∙ ap (λ b. b.entries) c.self.view_is)
+    ∙ ap (λ es. option_map (λ (e : Entry). e.body) (entry_at es c.args.delivery)) (c.as_slice.ensures.value ∙ ap (λ b. b.entries) c.self.view_is)
     ∙ stands_body c.args.self.now records settled c.args.delivery h

@@ -1,4 +1,5 @@
-use Rattle.std.proofs.Common.{◌≡◌, ◌∙◌, true, Some, ap, sym}
+use Rattle.std.proofs.Common.{◌≡◌, ◌∙◌, ◌≤◌, ◌<◌, ◌+◌, ◌^◌, ℕ, List, length, true, Option, Some, None, ap, sym, arith, rules}
+use Rattle.relay_types.specs.declared.record.Record.{Record}
 use Rattle.relayd.specs.Desks.{DeskValue, steps_of, run_of}
 use Rattle.relayd.proofs.DeskBatches.{seal-made, seals_so}
 use Rattle.relayd.proofs.desk.Desk.seal.Goals as goal
@@ -14,3 +15,11 @@ returns-clause-moves c =
     (seal-made d c.in-Some.step (ap (λ (v : DeskValue). v.is_out) (sym c.self.view_is) ∙ c.if-self.false) (ap (λ (v : DeskValue). v.waiting) (sym c.self.view_is) ∙ c.in-Some.is))
     _ _ batch
     (ap (λ (v : DeskValue). record v { is_out = true }) c.self.view_is)
+
+-- a step that waits has a number below those of the records
+below_records : (waiting : Option (List Record)) (step : List Record) (settled records : ℕ) → waiting ≡ Some step → settled + length (steps_of waiting) ≤ records → records ≤ 2 ^ 62 → settled < 2 ^ 62
+below_records None step settled records e h room = absurd (search (rules, e))
+below_records (Some s) step settled records e h room = omega (arith, h, room)
+
+pub of-requires-2-clause-room : goal.of-requires-2-clause-room
+of-requires-2-clause-room c = below_records _ _ _ _ c.in-Some.is c.self.invariant.prefix c.self.invariant.room

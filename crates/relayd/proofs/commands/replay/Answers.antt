@@ -1,0 +1,12 @@
+use Rattle.std.proofs.Common.{Err, inr, refl}
+use Rattle.sqlite.specs.View.{doubt}
+use Rattle.relayd.specs.declared.fault.ReplayFault.TheVariants.{OutOfMemory}
+use Rattle.relayd.proofs.ReplayLaws.{ends_at_once}
+use Rattle.relayd.proofs.commands.replay.Goals as goal
+
+pub returns-in-Ok : goal.returns-in-Ok
+unfolding doubt
+returns-in-Ok g c = (c.replay-end.result, c.ended.ensures, c.replay-end.ensures (λ conn. refl) (record { schema_is = c.in-Ok.ensures.empty.2; empty = tt }))
+
+pub returns-in-Err : goal.returns-in-Err
+returns-in-Err g c = (Err OutOfMemory, c.ended-in-Err.ensures, λ text had input output. ends_at_once text had _ OutOfMemory output (inr refl))

@@ -1,0 +1,130 @@
+-- Each record of a legal history speaks of an endpoint or a delivery that is there.
+use Rattle.std.proofs.Common.{◌≡◌, ◌<◌, ◌^◌, ℕ, zero, suc, Bool, true, false, ◌&&◌, List, [], ◌∷◌, ◌++◌, length, Option, Some, None, IsTrue, refl, sym, ap, subst, ◌∙◌, arith, append-nil, append_assoc, length-append}
+use Rattle.std.specs.Prelude.{is_some, find, bytes_eq, nat_le}
+use Rattle.std.specs.Option.{option_or}
+use Rattle.std.specs.List.{list_all, cons_option}
+use Rattle.std.proofs.lemmas.List.Folds.{find-append, list_all-append}
+use Rattle.std.proofs.lemmas.Bool.{le-leb, leb-true}
+use Rattle.relay_types.specs.declared.record.Record.{Record}
+use Rattle.relay_types.specs.declared.record.Record.TheVariants.{Put, Secrets, Enabled, Accept, Outcome}
+use Rattle.relay_types.specs.Deliveries.{accepted, is_pending}
+use Rattle.relay_types.specs.Endpoints.{Endpoint, endpoint_by, endpoints, endpoint_of, has_endpoint}
+use Rattle.relay_types.specs.Legal.{may_follow, may_all_follow, is_within_limits, IsLegal}
+use Rattle.relay_types.proofs.GrowthLaws.{endpoints-snoc, accepted-before, AllPointBelow}
+
+pub and_first : (a b : Bool) → a && b ≡ true → a ≡ true
+and_first true b h = refl
+and_first false b h = h
+
+pub and_second : (a b : Bool) → a && b ≡ true → b ≡ true
+and_second true b h = h
+and_second false b h = absurd (let e = h in cc)
+
+pub and_both : (a b : Bool) → a ≡ true → b ≡ true → a && b ≡ true
+and_both true b h i = i
+and_both false b h i = h
+
+and_assoc : (a b c : Bool) → a && (b && c) ≡ (a && b) && c
+and_assoc true b c = refl
+and_assoc false b c = refl
+
+and_true : (a : Bool) → a && true ≡ a
+and_true true = refl
+and_true false = refl
+
+-- the record speaks of what the records have
+abbrev pub IsKnown : List Record → Record → Type 0
+IsKnown records (Put name target max secrets) = Unit {0}
+IsKnown records (Secrets name secrets) = IsTrue (has_endpoint records name)
+IsKnown records (Enabled name flag) = IsTrue (has_endpoint records name)
+IsKnown records (Accept name id body at) = IsTrue (has_endpoint records name)
+IsKnown records (Outcome delivery attempt status at) = IsTrue (is_some (accepted records delivery))
+
+abbrev pub AllKnown : List Record → List Record → Type 0
+AllKnown records [] = Unit {0}
+AllKnown records (entry ∷ rest) = IsKnown records entry × AllKnown records rest
+
+some_or : {X : Type 0} (o p : Option X) → is_some o ≡ true → option_or o p ≡ o
+some_or (Some x) p h = refl
+some_or None p h = absurd (let e = h in cc)
+
+-- an endpoint stays as it is
+pub endpoint_of-more : (records : List Record) (entry : Record) (name : List ℕ) → IsTrue (has_endpoint records name) → endpoint_of (records ++ entry ∷ []) name ≡ endpoint_of records name
+endpoint_of-more records entry name h =
+    ap (find (λ (e : Endpoint). bytes_eq e.name name)) (endpoints-snoc records entry)
+    ∙ find-append (λ (e : Endpoint). bytes_eq e.name name) (endpoints records) (cons_option (endpoint_by (length records, entry)) [])
+    ∙ some_or (endpoint_of records name) (find (λ (e : Endpoint). bytes_eq e.name name) (cons_option (endpoint_by (length records, entry)) [])) h
+
+has_endpoint-more : (records : List Record) (entry : Record) (name : List ℕ) → IsTrue (has_endpoint records name) → IsTrue (has_endpoint (records ++ entry ∷ []) name)
+has_endpoint-more records entry name h = ap is_some (endpoint_of-more records entry name h) ∙ h
+
+pub below_if_accepted : (records : List Record) (d : ℕ) → is_some (accepted records d) ≡ true → d < length records
+below_if_accepted [] d h = absurd (let e = h in cc)
+below_if_accepted (r ∷ rest) zero h = omega arith
+below_if_accepted (r ∷ rest) (suc d) h = omega (arith, below_if_accepted rest d h)
+
+known-more : (records : List Record) (new entry : Record) → IsKnown records entry → IsKnown (records ++ new ∷ []) entry
+known-more records new (Put name target max secrets) h = tt
+known-more records new (Secrets name secrets) h = has_endpoint-more records new name h
+known-more records new (Enabled name flag) h = has_endpoint-more records new name h
+known-more records new (Accept name id body at) h = has_endpoint-more records new name h
+known-more records new (Outcome delivery attempt status at) h = ap is_some (accepted-before records (new ∷ []) delivery (below_if_accepted records delivery h)) ∙ h
+
+all_known-more : (records : List Record) (new : Record) (some : List Record) → AllKnown records some → AllKnown (records ++ new ∷ []) some
+all_known-more records new [] h = tt
+all_known-more records new (entry ∷ rest) h = (known-more records new entry h.0, all_known-more records new rest h.1)
+
+all_known-append : (records some more : List Record) → AllKnown records some → AllKnown records more → AllKnown records (some ++ more)
+all_known-append records [] more h i = i
+all_known-append records (entry ∷ rest) more h i = (h.0, all_known-append records rest more h.1 i)
+
+known_if : (before : List Record) (entry : Record) → may_follow before entry ≡ true → IsKnown before entry
+known_if before (Put name target max secrets) h = tt
+known_if before (Secrets name secrets) h = h
+known_if before (Enabled name flag) h = h
+known_if before (Accept name id body at) h = and_first (has_endpoint before name) _ h
+known_if before (Outcome delivery attempt status at) h = and_first (is_some (accepted before delivery)) _ (and_first (is_pending before delivery) _ h)
+
+all_known : (before later : List Record) → AllKnown before before → may_all_follow before later ≡ true → AllKnown (before ++ later) (before ++ later)
+all_known before [] known h = subst (λ r. AllKnown r r) (sym (append-nil before)) known
+all_known before (entry ∷ later) known h =
+    let follows = and_first (may_follow before entry) (may_all_follow (before ++ entry ∷ []) later) h in
+    let rest = and_second (may_follow before entry) (may_all_follow (before ++ entry ∷ []) later) h in
+    let here = all_known-append (before ++ entry ∷ []) before (entry ∷ []) (all_known-more before entry before known) (known-more before entry entry (known_if before entry follows), tt) in
+    subst (λ r. AllKnown r r) (append_assoc before (entry ∷ []) later) (all_known (before ++ entry ∷ []) later here rest)
+
+pub legal_known : (records : List Record) → IsLegal records → AllKnown records records
+legal_known records h = all_known [] records tt (and_first (may_all_follow [] records) _ h)
+
+pub known_below : (records some : List Record) → AllKnown records some → AllPointBelow (length records) some
+known_below records [] h = tt
+known_below records (Put name target max secrets ∷ rest) h = (tt, known_below records rest h.1)
+known_below records (Secrets name secrets ∷ rest) h = (tt, known_below records rest h.1)
+known_below records (Enabled name flag ∷ rest) h = (tt, known_below records rest h.1)
+known_below records (Accept name id body at ∷ rest) h = (tt, known_below records rest h.1)
+known_below records (Outcome delivery attempt status at ∷ rest) h = (below_if_accepted records delivery h.0, known_below records rest h.1)
+
+-- One more record of a legal history
+
+may_all-snoc : (before later : List Record) (entry : Record) → may_all_follow before (later ++ entry ∷ []) ≡ may_all_follow before later && may_follow (before ++ later) entry
+may_all-snoc before [] entry = and_true (may_follow before entry) ∙ ap (λ b. may_follow b entry) (sym (append-nil before))
+may_all-snoc before (r ∷ later) entry =
+    ap (λ b. may_follow before r && b) (may_all-snoc (before ++ r ∷ []) later entry ∙ ap (λ b. may_all_follow (before ++ r ∷ []) later && may_follow b entry) (append_assoc before (r ∷ []) later))
+    ∙ and_assoc (may_follow before r) (may_all_follow (before ++ r ∷ []) later) (may_follow (before ++ r ∷ later) entry)
+
+pub legal_more : (records : List Record) (entry : Record) → IsLegal records → may_follow records entry ≡ true → is_within_limits entry ≡ true → length records < 2 ^ 62 → IsLegal (records ++ entry ∷ [])
+legal_more records entry h follows within room =
+    let order = and_first (may_all_follow [] records) (list_all is_within_limits records && nat_le (length records) (2 ^ 62)) h in
+    let values = and_first (list_all is_within_limits records) _ (and_second (may_all_follow [] records) (list_all is_within_limits records && nat_le (length records) (2 ^ 62)) h) in
+    and_both _ _ (may_all-snoc [] records entry ∙ and_both _ _ order follows)
+    (and_both _ _ (list_all-append is_within_limits records (entry ∷ []) ∙ and_both _ _ values (and_both _ _ within refl))
+    (le-leb (length (records ++ entry ∷ [])) (2 ^ 62) (omega (arith, room, length-append records (entry ∷ [])))))
+
+pub follows_if_legal : (records : List Record) (entry : Record) → IsLegal (records ++ entry ∷ []) → may_follow records entry ≡ true
+follows_if_legal records entry h =
+    and_second (may_all_follow [] records) (may_follow records entry) (sym (may_all-snoc [] records entry) ∙ and_first (may_all_follow [] (records ++ entry ∷ [])) _ h)
+
+pub room_if_legal : (records : List Record) (entry : Record) → IsLegal (records ++ entry ∷ []) → length records < 2 ^ 62
+room_if_legal records entry h =
+    let short = and_second (list_all is_within_limits (records ++ entry ∷ [])) (nat_le (length (records ++ entry ∷ [])) (2 ^ 62)) (and_second (may_all_follow [] (records ++ entry ∷ [])) _ h) in
+    omega (arith, leb-true (length (records ++ entry ∷ [])) (2 ^ 62) short, length-append records (entry ∷ []))

@@ -1,0 +1,13 @@
+use Rattle.std.proofs.Common.{refl, arith}
+use Rattle.spool.proofs.vault.Vault.create.Goals as goal
+
+pub returns-in-Ok-clause-opened : goal.returns-in-Ok-clause-opened
+returns-in-Ok-clause-opened g c clean =
+    let rests = c.in-Ok.ensures.ends clean in
+    record {
+      marked = refl;
+      next = refl;
+      closed = refl;
+      rows = λ begun. (record { stands = (rests begun).0; next = refl; once = λ name. omega arith }, (rests begun).1);
+      history = λ begun. record { legal = refl; stands = (rests begun).0; next = refl };
+    }

@@ -1,0 +1,59 @@
+//! What is left of a commit of which nobody knows how it ended.
+ghost use Rattle.std.specs.Prelude.{◌≡◌, ◌<◌, ◌^◌};
+ghost use Rattle.spool.specs.Runs.{span_of};
+
+use crate::batch::Batch;
+use std::marker::Model;
+
+/// Places of which nobody knows whether they stand in the store.
+#[derive(Drop)]
+pub struct Doubt {
+    mark: u64,
+    from: u64,
+    upto: u64,
+}
+
+impl Model for Doubt {
+    ghost use Rattle.spool.specs.Runs.{Span};
+
+    ghost Value = { Span };
+
+    ghost view = { λ d. record { mark = d.mark; from = d.from; upto = d.upto } };
+}
+
+impl Doubt {
+    // The places of this batch.
+    pub(crate) fn over(batch: Batch) -> Doubt
+        requires { batch.from < 2 ^ 62 }
+        ensures { result ≡ span_of batch }
+    {
+        let mark = batch.mark();
+        let from = batch.from();
+        Doubt {
+            mark,
+            from,
+            upto: from + 1,
+        }
+    }
+
+    /// The mark of the opening that the places belong to.
+    pub fn mark(&self) -> u64
+        ensures { result ≡ self.now.mark }
+    {
+        self.mark
+    }
+
+    /// The number of the first record.
+    pub fn from(&self) -> u64
+        ensures { result ≡ self.now.from }
+    {
+        self.from
+    }
+
+    /// The number after the last record.
+    pub fn upto(&self) -> u64
+        ensures { result ≡ self.now.upto }
+    {
+        self.upto
+    }
+}
