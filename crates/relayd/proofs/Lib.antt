@@ -1,8 +1,6 @@
 mod TargetWords
 mod CleanCalls
 mod CallLaws
-mod CallLaws
-mod CleanCalls
 mod FeedLaws
 mod HexLaws
 mod LineLaws
@@ -17,6 +15,4 @@ pub mod DeskLaws
 pub mod DeskBatches
 pub mod RunnerLaws
 pub mod ReplayLaws
-pub mod DeskRuns
-mod TargetWords
 mod WorkedTexts
