@@ -201,8 +201,7 @@ bad_line : {S : Type 0} (g : Ghosts S) (text had : List ℕ) (runner : Runner S)
     → (number ≡ reading.count) × IsNoCall reading.line × Keeps before after → (written : List ℕ) × (after ≡ Some (had ++ written)) × IsUpTo number text written
 bad_line g text had runner reading remaining before after number t h =
     let a = t.answered in
-    let all = goes_on text (t.lines ++ reading.line ∷ []) t.rest t.taken in
-    (
+    let all = goes_on text (t.lines ++ reading.line ∷ []) t.rest t.taken in (
       replies_text a.replies,
       kept before after (had ++ replies_text a.replies) a.written h.2,
       (t.lines, reading.line, all.0, subst (HasLines text) (append_assoc t.lines (reading.line ∷ []) all.0) all.1, h.0 ∙ t.count, h.1, (a.events, a.replies, a.last, a.reads, a.run, refl)),
@@ -212,8 +211,7 @@ cut_line : {S : Type 0} (g : Ghosts S) (text had : List ℕ) (old new : Runner S
     → CutsLine g reading old new before after → (written : List ℕ) × (after ≡ Some (had ++ written)) × IsCut text written
 cut_line g text had old new reading remaining before after t (inl same) =
     let a = t.answered in
-    let all = goes_on text (t.lines ++ reading.line ∷ []) t.rest t.taken in
-    (
+    let all = goes_on text (t.lines ++ reading.line ∷ []) t.rest t.taken in (
       replies_text a.replies,
       kept before after (had ++ replies_text a.replies) a.written same,
       (t.lines, reading.line ∷ all.0, [], subst (HasLines text) (append_assoc t.lines (reading.line ∷ []) all.0) all.1, (a.events, a.replies, a.last, a.reads, a.run, append-nil (replies_text a.replies))),
@@ -224,8 +222,7 @@ cut_line g text had old new reading remaining before after t (inr line) =
     let move = line.3 a.last a.stands in
     let rest : List ℕ = line.4.0 in
     let front : List ℕ = line.4.1.0 in
-    let whole_reply : with_feed (reply_text line.1) ≡ front ++ rest = line.4.1.1 in
-    (
+    let whole_reply : with_feed (reply_text line.1) ≡ front ++ rest = line.4.1.1 in (
       replies_text a.replies ++ front,
       grown before after (had ++ replies_text a.replies) front a.written line.4.1.2 ∙ ap Some (append_assoc had (replies_text a.replies) front),
       (
