@@ -1,8 +1,6 @@
 mod TargetWords
 mod CleanCalls
 mod CallLaws
-mod CallLaws
-mod CleanCalls
 mod FeedLaws
 mod HexLaws
 mod LineLaws
@@ -15,8 +13,6 @@ pub mod DeskLists
 pub mod DeskEvents
 pub mod DeskLaws
 pub mod DeskBatches
-pub mod DeskRuns
 pub mod RunnerLaws
 pub mod ReplayLaws
-mod TargetWords
 mod WorkedTexts
