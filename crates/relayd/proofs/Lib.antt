@@ -1,6 +1,5 @@
-mod TargetWords
-mod CleanCalls
 mod CallLaws
+mod CleanCalls
 mod FeedLaws
 mod HexLaws
 mod LineLaws
@@ -15,4 +14,5 @@ pub mod DeskLaws
 pub mod DeskBatches
 pub mod RunnerLaws
 pub mod ReplayLaws
+mod TargetWords
 mod WorkedTexts
