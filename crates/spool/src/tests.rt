@@ -30,7 +30,7 @@ fn refused(conn: Connection<MemStore>) -> Result<(Connection<MemStore>, OpenFaul
 fn put(
     vault: &mut Vault<MemStore>,
     alloc: Global,
-    (mark, from): (u64, u64),
+    (mark, from): (u64, u32),
     name: &[u8],
 ) -> Result<Result<Receipt, CommitEnd>, Fail> {
     let newest = Secret::read(b"whsec_MDEyMzQ1Njc4OWFiY2RlZjAxMjM0NTY3")?;
@@ -41,13 +41,13 @@ fn put(
         max: MaxLimit::of(100)?,
         secrets: Secrets::of(&[newest, older])?,
     };
-    Ok(vault.commit(Batch::of(mark, from, Step::of(entry))))
+    Ok(vault.commit(Batch::of(mark, u64::from(from), Step::of(entry))))
 }
 
 fn accept(
     vault: &mut Vault<MemStore>,
     alloc: Global,
-    (mark, from): (u64, u64),
+    (mark, from): (u64, u32),
     name: &[u8],
     id: &[u8],
 ) -> Result<Result<Receipt, CommitEnd>, Fail> {
@@ -59,7 +59,7 @@ fn accept(
         body: Body::of(shared)?,
         at: Moment::of(1000)?,
     };
-    Ok(vault.commit(Batch::of(mark, from, Step::of(entry))))
+    Ok(vault.commit(Batch::of(mark, u64::from(from), Step::of(entry))))
 }
 
 /// Why nothing was written, where that is the answer.
@@ -70,9 +70,9 @@ fn refusal(answer: Result<Receipt, CommitEnd>) -> Option<Unchanged> {
     }
 }
 
-fn is_made(answer: &Result<Receipt, CommitEnd>, from: u64) -> bool {
+fn is_made(answer: &Result<Receipt, CommitEnd>, from: u32) -> bool {
     match answer {
-        Ok(receipt) => receipt.mark() == MARK && receipt.from() == from,
+        Ok(receipt) => receipt.mark() == MARK && receipt.from() == u64::from(from),
         Err(_) => false,
     }
 }
@@ -172,7 +172,7 @@ fn refusals_change_nothing(rt: HostRuntime) -> Result<(), Fail> {
 fn at_most_256_endpoints(rt: HostRuntime) -> Result<(), Fail> {
     let alloc = rt.alloc();
     let mut vault = opened(alloc)?;
-    for n in 0..256u64 {
+    for n in 0..256u32 {
         let name = format!(in alloc; "e{n}")?;
         assert!(rt; is_made(&put(&mut vault, alloc, (MARK, n), name.as_bytes())?, n));
     }
