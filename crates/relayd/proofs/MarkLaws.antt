@@ -1,5 +1,5 @@
 -- Marks that stand in no word: a word's characters pass a test that the mark fails.
-use Rattle.std.proofs.Common.{◌≡◌, ℕ, zero, suc, ◌==◌, Bool, true, false, not, List, [], ◌∷◌, ◌++◌, length, replicate, codes, IsTrue, eqb-true, refl, sym, ap, ◌∙◌, subst, inl, inr, ◌⊎◌}
+use Rattle.std.proofs.Common.{◌+◌, ◌*◌, ◌/◌, ◌%◌, ◌≡◌, ℕ, zero, suc, ◌==◌, Bool, true, false, not, List, [], ◌∷◌, ◌++◌, length, replicate, codes, IsTrue, eqb-true, refl, sym, ap, ◌∙◌, subst, inl, inr, ◌⊎◌}
 use Rattle.std.specs.Prelude.{◌&&◌, ◌||◌, bytes_eq, slice_index}
 use Rattle.std.specs.List.{list_all, join_with_byte}
 use Rattle.std.proofs.lemmas.Bool.{and_parts}
@@ -52,9 +52,12 @@ clean-at mark (c ∷ table) (suc i) h =
 clean-symbols : (mark : ℕ) (table bytes : List ℕ) → IsTrue (has_no mark (0 ∷ table)) → IsTrue (has_no mark (encode_symbols table bytes))
 unfolding encode_symbols
 clean-symbols mark table [] h = refl
-clean-symbols mark table (a ∷ []) h = rw (clean-at mark table _ h, clean-at mark table _ h) refl
-clean-symbols mark table (a ∷ b ∷ []) h = rw (clean-at mark table _ h, clean-at mark table _ h, clean-at mark table _ h) refl
-clean-symbols mark table (a ∷ b ∷ c ∷ rest) h = rw (clean-at mark table _ h, clean-at mark table _ h, clean-at mark table _ h, clean-at mark table _ h) (clean-symbols mark table rest h)
+clean-symbols mark table (a ∷ []) h = rw (clean-at mark table (a / 4) h, clean-at mark table (a % 4 * 16) h) refl
+clean-symbols mark table (a ∷ b ∷ []) h =
+    rw (clean-at mark table (a / 4) h, clean-at mark table (a % 4 * 16 + b / 16) h, clean-at mark table (b % 16 * 4) h) refl
+clean-symbols mark table (a ∷ b ∷ c ∷ rest) h =
+    rw (clean-at mark table (a / 4) h, clean-at mark table (a % 4 * 16 + b / 16) h, clean-at mark table (b % 16 * 4 + c / 64) h, clean-at mark table (c % 64) h)
+    (clean-symbols mark table rest h)
 
 clean-replicate : (mark c n : ℕ) → not (c == mark) ≡ true → IsTrue (has_no mark (replicate n c))
 clean-replicate mark c zero h = refl

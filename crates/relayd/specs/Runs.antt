@@ -1,5 +1,5 @@
 -- A script's run: what is written for the lines that are read.
-use Rattle.std.specs.Prelude.{◌≡◌, ◌≢◌, ℕ, List, [], ◌∷◌, ◌++◌, IsTrue, ◌⊎◌}
+use Rattle.std.specs.Prelude.{◌≡◌, ◌≢◌, ℕ, List, [], ◌∷◌, ◌++◌, Option, Some, None, IsTrue, ◌⊎◌}
 use Rattle.std.specs.List.{list_all}
 use Rattle.relayd.specs.declared.event.Event.{Event}
 use Rattle.relayd.specs.declared.reply.Reply.{Reply}
@@ -39,3 +39,9 @@ Replies lines written = (events : List Event) × (replies : List Reply) × (last
 -- How far the lines of a text are read: these lines are, and the last of them lacked its line feed only where nothing is left.
 abbrev pub HasLinesBefore : List ℕ → List (List ℕ) → List ℕ → Type 0
 HasLinesBefore text lines left = ((text ≡ fed lines ++ left) × IsTrue (list_all has_no_feed lines)) ⊎ ((left ≡ []) × HasLines text lines)
+
+-- the same where the bytes may not be known
+abbrev pub KnownLines : Option (List ℕ) → List (List ℕ) → Option (List ℕ) → Type 0
+KnownLines None lines left = Unit {0}
+KnownLines (Some text) lines None = ⊥
+KnownLines (Some text) lines (Some left) = HasLinesBefore text lines left

@@ -49,7 +49,7 @@ impl Lines {
         ensures { IfOk result (λ lines. lines ≡ record { pending = []; line = []; count = 0 }) }
     {
         Ok(Lines {
-            chunk: vec![in alloc; 0; CHUNK]?,
+            chunk: room(alloc)?,
             at: 0,
             end: 0,
             line: Vec::new(alloc),
@@ -165,6 +165,13 @@ impl Lines {
         self.count += 1;
         Ok(true)
     }
+}
+
+// The bytes of one read.
+fn room(alloc: Global) -> Result<Vec<u8>, AllocError>
+    ensures { IfOk result (λ chunk. 0 < vec_len chunk) }
+{
+    vec![in alloc; 0; CHUNK]
 }
 
 /// Reads into the chunk: how many bytes, none of them where the reader was interrupted, and `None` at its end.
