@@ -12,7 +12,6 @@ pub mod DeskLists
 pub mod DeskEvents
 pub mod DeskLaws
 pub mod DeskBatches
-pub mod DeskRuns
 pub mod RunnerLaws
 pub mod ReplayLaws
 mod TargetWords
