@@ -1,5 +1,5 @@
 -- The lines of a script, answered one after another.
-use Rattle.std.proofs.Common.{◌≡◌, ◌≢◌, ℕ, ◌+◌, ◌==◌, Bool, true, false, not, ◌⊎◌, inl, inr, List, [], ◌∷◌, ◌++◌, length, Option, Some, None, Result, Ok, Err, IsTrue, refl, sym, ap, subst, ◌∙◌, arith, append_assoc, append-nil, length-append}
+use Rattle.std.proofs.Common.{◌≡◌, ℕ, ◌+◌, ◌==◌, Bool, true, false, ◌⊎◌, inl, inr, List, [], ◌∷◌, ◌++◌, length, Option, Some, None, Result, Ok, Err, IsTrue, refl, sym, ap, subst, ◌∙◌, arith, append_assoc, append-nil, length-append}
 use Rattle.std.specs.Prelude.{OnOk, OnErr, IfErr}
 use Rattle.std.specs.List.{list_all}
 use Rattle.std.specs.Io.KnownBytes.{Appends, Keeps, IsAtEnd}
@@ -16,7 +16,7 @@ use Rattle.relayd.specs.Moves.{Move, Run, opened}
 use Rattle.relayd.specs.Replies.{reply_text}
 use Rattle.relayd.specs.Script.{ReadsLine}
 use Rattle.relayd.specs.Streams.{Reading, left, has_no_feed, with_feed, TakesLine, AppendsFront}
-use Rattle.relayd.specs.Runs.{fed, HasLines, HasLinesBefore, ReadLines, replies_text, Replies}
+use Rattle.relayd.specs.Runs.{fed, HasLines, HasLinesBefore, ReadLines, replies_text}
 use Rattle.relayd.specs.Runners.{RunnerStandsFor, Answers}
 use Rattle.relayd.specs.Replays.{IsNoCall, IsWhole, IsUpTo, IsCut, EndsSo, RunsLine, CutsLine, EndsLine}
 use Rattle.relayd.proofs.LineLaws.{fed-append, HasLines-from_all, HasLinesBefore-none, HasLinesBefore-more}

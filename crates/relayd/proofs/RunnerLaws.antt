@@ -1,6 +1,6 @@
 -- What the moves make of the runner and its world.
-use Rattle.std.proofs.Common.{◌≡◌, ℕ, ◌+◌, ◌-◌, ◌≤◌, ◌==◌, Bool, true, false, not, List, [], ◌∷◌, ◌++◌, length, take, drop, Option, Some, None, Result, Ok, Err, ◌⊎◌, inl, inr, refl, sym, ap, subst, ◌∙◌, arith, append-nil, append_assoc, length-append}
-use Rattle.std.specs.Prelude.{IsTrue, IsSomeAnd, if◌then◌else◌, min}
+use Rattle.std.proofs.Common.{◌≡◌, ℕ, ◌+◌, ◌-◌, ◌≤◌, ◌==◌, Bool, true, false, not, List, [], ◌∷◌, ◌++◌, length, take, drop, Option, Some, None, Result, Ok, Err, ◌⊎◌, inl, inr, refl, sym, ap, subst, ◌∙◌, arith, append-nil, append_assoc}
+use Rattle.std.specs.Prelude.{IsTrue, IsSomeAnd, if◌then◌else◌}
 use Rattle.std.specs.Option.{option_map_or}
 use Rattle.std.proofs.lemmas.List.{take-append-le, take-append-drop, take-take, length-drop}
 use Rattle.std.proofs.Math.Seq.{take-length}
@@ -18,7 +18,7 @@ use Rattle.sqlite.specs.Held as store
 use Rattle.spool_sql.specs.Tables.{no_schema}
 use Rattle.spool_sql.specs.Steps.{IsBegun}
 use Rattle.spool.specs.Commits.{IsOpened, IsNext, IsDoubt, IsIllegal, AnswersOver}
-use Rattle.spool.specs.Vaults.{Kept, Holds}
+use Rattle.spool.specs.Vaults.{Kept}
 use Rattle.relayd.specs.declared.event.Event.{Event}
 use Rattle.relayd.specs.declared.event.Event.TheVariants as on
 use Rattle.relayd.specs.declared.event.Command.{Command}
@@ -30,8 +30,8 @@ use Rattle.relayd.specs.declared.runner.Held.{Held}
 use Rattle.relayd.specs.declared.runner.Held.TheVariants as held
 use Rattle.relayd.specs.declared.runner.Runner.{Runner}
 use Rattle.relayd.specs.World.{World, Out, Nothing, Batch, Receipt, Doubt, all_records, settled_records, sealed_records}
-use Rattle.relayd.specs.Moves.{opened, Answer, Move, show_event, refused, unless, submit_faults, new_submit_faults, change_faults, at_moment, moment, staged, repeated, submit_new, record_of, served, seal, seal_waiting, with_batch, is_nothing_out, commit, commit_of, settle, settle_of, in_doubt, memory_refusal}
-use Rattle.relayd.specs.Desks.{DeskValue, StandsFor, IsMove, Seals, Settles, sealed_run, run_of, steps_of}
+use Rattle.relayd.specs.Moves.{opened, Answer, Move, show_event, refused, unless, submit_faults, new_submit_faults, change_faults, staged, repeated, submit_new, record_of, served, seal, seal_waiting, with_batch, is_nothing_out, commit_of, in_doubt, memory_refusal}
+use Rattle.relayd.specs.Desks.{DeskValue, StandsFor, IsMove, Seals, sealed_run, steps_of}
 use Rattle.relayd.specs.Runners.{IsHeld, IsOpenAt, VaultStandsFor, RunnerStandsFor, Answers, EndsAs, CommitsSo, unchanged_reply}
 
 -- Moves after which what is out, settled and sealed is as before
@@ -338,64 +338,6 @@ answers_commit g old new run reply held_is desk mark commits w stands =
     let ends = commits (settled_records w) open_at next (subst IsLegal (sym whole) stands.desk.legal) in
     subst (λ d. (after : World) × Move w on.Commit reply after × RunnerStandsFor g (record { desk = d; vault = new.vault; held = new.held }) after) (sym desk)
     (answers_end g old.desk new.vault run new.held reply w stands.desk had.0 had.1 (stands.mark ∙ sym mark) ends)
-
--- there is no batch
-pub answers_no_batch : {S : Type 0} (g : Ghosts S) (runner : Runner S) → ((run : batch.Run) → runner.held ≡ held.Batch run → ⊥) → Answers g runner on.Commit says.NoBatch runner
-answers_no_batch g runner none w on = (w, inl (at runner.held refl on.held), on)
-  where
-    by : (o : Out) → w.out ≡ o → (says.NoBatch ≡ (commit_of o w).reply) × (w ≡ (commit_of o w).next) → (says.NoBatch ≡ (commit w).reply) × (w ≡ (commit w).next)
-    by o is h = subst (λ p. (says.NoBatch ≡ (commit_of p w).reply) × (w ≡ (commit_of p w).next)) (sym is) h
-
-    at : (now : Held) → runner.held ≡ now → IsHeld runner.desk.mark w now → (says.NoBatch ≡ (commit w).reply) × (w ≡ (commit w).next)
-    at held.Nothing is h = by Nothing h (refl, refl)
-    at (held.Batch run) is h = absurd (none run is)
-    at (held.Receipt run) is h = by Receipt h.0 (refl, refl)
-    at (held.Doubt span) is h = by Doubt h (refl, refl)
-
--- Settling
-
-pub answers_no_receipt : {S : Type 0} (g : Ghosts S) (runner : Runner S) → ((run : batch.Run) → runner.held ≡ held.Receipt run → ⊥) → Answers g runner on.Settle says.NoReceipt runner
-answers_no_receipt g runner none w on = (w, inl (at runner.held refl on.held), on)
-  where
-    by : (o : Out) → w.out ≡ o → (says.NoReceipt ≡ (settle_of o w).reply) × (w ≡ (settle_of o w).next) → (says.NoReceipt ≡ (settle w).reply) × (w ≡ (settle w).next)
-    by o is h = subst (λ p. (says.NoReceipt ≡ (settle_of p w).reply) × (w ≡ (settle_of p w).next)) (sym is) h
-
-    at : (now : Held) → runner.held ≡ now → IsHeld runner.desk.mark w now → (says.NoReceipt ≡ (settle w).reply) × (w ≡ (settle w).next)
-    at held.Nothing is h = by Nothing h (refl, refl)
-    at (held.Batch run) is h = by Batch h.0 (refl, refl)
-    at (held.Receipt run) is h = absurd (none run is)
-    at (held.Doubt span) is h = by Doubt h (refl, refl)
-
-settled_move : (w next : World) (to : ℕ) → w.out ≡ Receipt → Move w on.Settle (says.SettledTo to) next → next ≡ record w { settled = w.sealed; out = Nothing }
-settled_move w next to out (inl answered) = answered.1 ∙ ap (λ o. (settle_of o w).next) out
-settled_move w next to out (inr (inl lacks)) = absurd lacks
-settled_move w next to out (inr (inr stopped)) = absurd (let e = stopped.0 in cc)
-
-pub answers_settle : {S : Type 0} (g : Ghosts S) (old new : Runner S) (run : batch.Run) (to : ℕ) → old.held ≡ held.Receipt run → Settles old.desk run (says.SettledTo to) new.desk → new.desk.mark ≡ old.desk.mark
-    → new.vault ≡ old.vault → new.held ≡ held.Nothing → Answers g old on.Settle (says.SettledTo to) new
-answers_settle g old new run to held_is settles mark vault same w on =
-    let had : (w.out ≡ Receipt) × (run ≡ sealed_run old.desk.mark w) = subst (IsHeld old.desk.mark w) held_is on.held in
-    let move = settles w on.desk had.0 had.1 in
-    let next : move.0 ≡ record w { settled = w.sealed; out = Nothing } = settled_move w move.0 to had.0 move.1 in
-    let out : move.0.out ≡ Nothing = ap (λ (v : World). v.out) next in
-    let kept : sealed_records w ≡ settled_records move.0 = ap settled_records (sym next) in
-    let was : IsOpenAt g old.vault (sealed_records w) = subst (VaultStandsFor g old.vault w) had.0 on.vault in (
-      move.0,
-      move.1,
-      record {
-        desk = move.2;
-        held = subst (IsHeld new.desk.mark move.0) (sym same) out;
-        vault = subst (VaultStandsFor g new.vault move.0) (sym out) (subst (λ v. IsOpenAt g v (settled_records move.0)) (sym vault) (subst (IsOpenAt g old.vault) kept was));
-        mark = mark ∙ on.mark ∙ ap (λ v. v.mark) (sym vault);
-      },
-    )
-
--- the receipt that is held is the desk's
-pub no_wrong_turn : {S : Type 0} (g : Ghosts S) (runner : Runner S) (run : batch.Run) (w : World) → RunnerStandsFor g runner w → runner.held ≡ held.Receipt run
-    → IsTrue runner.desk.is_out × (run.mark ≡ runner.desk.mark) × (run.from ≡ runner.desk.settled)
-no_wrong_turn g runner run w on held_is =
-    let had : (w.out ≡ Receipt) × (run ≡ sealed_run runner.desk.mark w) = subst (IsHeld runner.desk.mark w) held_is on.held in
-    (on.desk.is_out ∙ ap (λ o. not (is_nothing_out o)) had.0, ap (λ (r : batch.Run). r.mark) had.1, ap (λ (r : batch.Run). r.from) had.1 ∙ sym on.desk.settled)
 
 -- The first world
 

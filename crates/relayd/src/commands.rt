@@ -1,5 +1,5 @@
 //! The commands: each reads one reader, writes two writers, and gives its exit status.
-ghost use Rattle.std.specs.Prelude.{◌≡◌};
+ghost use Rattle.std.specs.Prelude.{◌≡◌, ◌≤◌};
 ghost use Rattle.relayd.specs.Replays.{ReplaysTo, status_of};
 
 use crate::fault::ReplayFault;
@@ -24,7 +24,9 @@ pub fn run<R: Read, O: Write, E: Write>(
     input: &mut R,
     output: &mut O,
     errors: &mut E,
-) -> u8 {
+) -> u8
+    ensures { result ≤ 3 }
+{
     let command = match relayd(alloc) {
         Ok(command) => command,
         Err(AllocError) => return ended(errors, Err(ReplayFault::OutOfMemory)),
@@ -55,7 +57,8 @@ pub fn replay<R: Read, O: Write, E: Write>(
     output: &mut O,
     errors: &mut E,
 ) -> u8
-    ensures { ReplaysTo (R.remaining input.old) (O.contents output.old) (O.contents output.new) result }
+    ensures replays { ReplaysTo (R.remaining input.old) (O.contents output.old) (O.contents output.new) result }
+    ensures status { result ≤ 3 }
 {
     match Connection::open_in_memory(alloc) {
         Ok(conn) => {
@@ -73,7 +76,9 @@ fn sign<R: Read, O: Write, E: Write>(
     input: &mut R,
     output: &mut O,
     errors: &mut E,
-) -> u8 {
+) -> u8
+    ensures { result ≤ 3 }
+{
     let (id, at) = (words.get_str("id"), words.get_str("at"));
     let (Some(id), Some(at), Some(secrets)) = (id, at, words.get_strs("secret")) else {
         return USAGE;
@@ -91,7 +96,9 @@ fn vegas<R: Read, O: Write, E: Write>(
     input: &mut R,
     output: &mut O,
     errors: &mut E,
-) -> u8 {
+) -> u8
+    ensures { result ≤ 3 }
+{
     let Some(max) = words.get_str("max") else {
         return USAGE;
     };
@@ -134,7 +141,9 @@ fn text<'a>(alloc: Global, name: &'a str) -> Arg<'a> {
 }
 
 // The exit status where an argument isn't what its reader takes, after its refusal was told.
-fn misused<E: Write>(errors: &mut E, fault: ReadFault) -> u8 {
+fn misused<E: Write>(errors: &mut E, fault: ReadFault) -> u8
+    ensures { result ≤ 3 }
+{
     let _ = writeln!(errors, "relayd: {fault}");
     match fault {
         ReadFault::OutOfMemory => ReplayFault::OutOfMemory.status(),
@@ -144,7 +153,8 @@ fn misused<E: Write>(errors: &mut E, fault: ReadFault) -> u8 {
 
 // The exit status of a command that ends so, after its fault was told.
 fn ended<E: Write>(errors: &mut E, end: Result<(), ReplayFault>) -> u8
-    ensures { result ≡ status_of end }
+    ensures end { result ≡ status_of end }
+    ensures status { result ≤ 3 }
 {
     match end {
         Ok(()) => DONE,

@@ -1,5 +1,5 @@
 //! Why a command ended early.
-ghost use Rattle.std.specs.Prelude.{◌≡◌, Err};
+ghost use Rattle.std.specs.Prelude.{◌≡◌, ◌≤◌, Err};
 ghost use Rattle.relayd.specs.Replays.{status_of};
 ghost use Rattle.relayd.specs.declared.fault.ReplayFault.TheVariants.{OutOfMemory};
 
@@ -26,7 +26,8 @@ pub enum ReplayFault {
 impl ReplayFault {
     /// The exit status of a command that ends so: 2 for what was read, 3 for the rest.
     pub fn status(self) -> u8
-        ensures { result ≡ status_of (Err self) }
+        ensures status { result ≡ status_of (Err self) }
+        ensures most { result ≤ 3 }
     {
         match self {
             ReplayFault::BadLine(_) | ReplayFault::TooLong => 2,

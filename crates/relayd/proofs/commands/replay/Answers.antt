@@ -4,9 +4,9 @@ use Rattle.relayd.specs.declared.fault.ReplayFault.TheVariants.{OutOfMemory}
 use Rattle.relayd.proofs.ReplayLaws.{ends_at_once}
 use Rattle.relayd.proofs.commands.replay.Goals as goal
 
-pub returns-in-Ok : goal.returns-in-Ok
+pub returns-in-Ok-clause-replays : goal.returns-in-Ok-clause-replays
 unfolding doubt
-returns-in-Ok g c = (c.replay-end.result, c.ended.ensures, c.replay-end.ensures (λ conn. refl) (record { schema_is = c.in-Ok.ensures.empty.2; empty = tt }))
+returns-in-Ok-clause-replays g c = (c.replay-end.result, c.ended.ensures.end, c.replay-end.ensures (λ conn. refl) (record { schema_is = c.in-Ok.ensures.empty.2; empty = tt }))
 
-pub returns-in-Err : goal.returns-in-Err
-returns-in-Err g c = (Err OutOfMemory, c.ended-in-Err.ensures, λ text had input output. ends_at_once text had _ OutOfMemory output (inr refl))
+pub returns-in-Err-clause-replays : goal.returns-in-Err-clause-replays
+returns-in-Err-clause-replays g c = (Err OutOfMemory, c.ended-in-Err.ensures.end, λ text had input output. ends_at_once text had _ OutOfMemory output (inr refl))
