@@ -29,7 +29,7 @@ clean-digits (c ∷ text) h =
     let both = and_parts (is_ascii_digit c) (all_ascii_digits text) h in
     clean-cons 32 c text (passes is_ascii_digit 32 c refl both.0) (clean-digits text both.1)
 
-clean-decimal : (n : ℕ) → n < 2 ^ 64 → IsTrue (has_no 32 (decimal n))
+pub clean-decimal : (n : ℕ) → n < 2 ^ 64 → IsTrue (has_no 32 (decimal n))
 clean-decimal n h = clean-digits (decimal n) (digits_decimal (numerals_by_value (λ ds. all_ascii_digits ds ≡ true) tells_all_ascii_digits) n h)
 
 at_most : (n k : ℕ) → nat_le n k ≡ true → k < 2 ^ 64 → n < 2 ^ 64

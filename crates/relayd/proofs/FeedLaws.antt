@@ -1,5 +1,5 @@
 -- The first line feed of a text, and what is read up to it.
-use Rattle.std.proofs.Common.{◌≡◌, ℕ, ◌+◌, ◌<◌, ◌≤◌, ◌==◌, Bool, false, not, cond, ltb, List, ◌∷◌, ◌++◌, length, take, drop, get_or, Option, Some, None, MatchOption, IsTrue, sym, ap, ◌∙◌, arith, add-one, suc, append_assoc, take-append-drop}
+use Rattle.std.proofs.Common.{◌≡◌, ◌≢◌, ℕ, ◌+◌, ◌<◌, ◌≤◌, ◌==◌, Bool, false, not, cond, ltb, List, [], ◌∷◌, ◌++◌, length, take, drop, get_or, Option, Some, None, MatchOption, IsTrue, inl, inr, refl, sym, ap, ◌∙◌, arith, add-one, suc, append_assoc, take-append-drop}
 use Rattle.std.specs.Prelude.{slice_range}
 use Rattle.std.specs.List.{position, position_or_len}
 use Rattle.std.specs.Io.KnownBytes.{Consumes}
@@ -11,7 +11,7 @@ use Rattle.std.proofs.lemmas.List.Folds.{list_all-append}
 use Rattle.std.proofs.lemmas.List.Sums.{list_all-from_AllPass, prefix_len_passes}
 use Rattle.std.proofs.lemmas.List.Quantifiers.{position-Some}
 use Rattle.std.proofs.lemmas.Slice.{between_is}
-use Rattle.relayd.specs.Streams.{Reading, left, has_no_feed, BeginsTooLong, IsFeedAt, TakesPiece, PassesBound}
+use Rattle.relayd.specs.Streams.{Reading, left, has_no_feed, BeginsTooLong, IsTooLong, IsFeedAt, TakesPiece, PassesBound}
 
 abbrev is_feed : ℕ → Bool
 is_feed c = c == 10
@@ -69,3 +69,30 @@ BeginsTooLong-from_piece (Some bytes) reading (Some xs) taken clean (piece, rest
     taken ∙ ap (λ ys. reading.line ++ (ys ++ xs)) is ∙ ap (λ ys. reading.line ++ ys) (append_assoc piece rest xs) ∙ sym (append_assoc reading.line piece (rest ++ xs)) in
     let both : IsTrue (has_no_feed (reading.line ++ piece)) = rw (list_all-append, clean, clean_piece) in
     (reading.line ++ piece, rest ++ xs, whole, both, omega (arith, length-append reading.line piece))
+
+not_empty : (line : List ℕ) (c : ℕ) (rest : List ℕ) → line ++ c ∷ rest ≢ []
+not_empty [] c rest e = cc
+not_empty (d ∷ line) c rest e = cc
+
+-- a line that was taken, and is one too many
+pub IsTooLong-from_line : (count : ℕ) (old new : Option (List ℕ)) (line : List ℕ) → 1000000 ≤ count → Consumes old new line → line ≢ [] → IsTooLong count old
+IsTooLong-from_line count None new line many taken some = inl (many, tt)
+IsTooLong-from_line count (Some bytes) None line many taken some = absurd taken
+IsTooLong-from_line count (Some bytes) (Some xs) [] many taken some = absurd (some refl)
+IsTooLong-from_line count (Some bytes) (Some xs) (c ∷ line) many taken some = inl (many, λ none. not_empty [] c (line ++ xs) (sym taken ∙ none))
+
+-- the same where it ends with the piece
+pub IsTooLong-from_piece : (count : ℕ) (old : Option (List ℕ)) (reading next : Reading) (remaining : Option (List ℕ)) → 1000000 ≤ count → Consumes old (left reading remaining) reading.line → TakesPiece reading next
+    → IsTooLong count old
+IsTooLong-from_piece count None reading next remaining many taken piece = inl (many, tt)
+IsTooLong-from_piece count (Some bytes) reading next None many taken piece = absurd taken
+IsTooLong-from_piece count (Some bytes) reading next (Some xs) many taken (piece, is, grown, clean) =
+    let whole : bytes ≡ (reading.line ++ piece) ++ 10 ∷ (next.pending ++ xs) =
+    taken ∙ ap (λ ys. reading.line ++ (ys ++ xs)) is ∙ ap (λ ys. reading.line ++ ys) (append_assoc piece (10 ∷ next.pending) xs) ∙ sym (append_assoc reading.line piece (10 ∷ (next.pending ++ xs))) in
+    inl (many, λ none. not_empty (reading.line ++ piece) 10 (next.pending ++ xs) (sym whole ∙ none))
+
+-- where a line is too long, or one too many, something is left
+pub IsTooLong-none : (count : ℕ) → IsTooLong count (Some []) → ⊥
+IsTooLong-none count (inl (many, some)) = some refl
+IsTooLong-none count (inr ([], rest, is, clean, over)) = omega (arith, over)
+IsTooLong-none count (inr (c ∷ front, rest, is, clean, over)) = not_empty [] c (front ++ rest) (sym is)

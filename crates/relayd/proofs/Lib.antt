@@ -2,7 +2,6 @@ mod CallLaws
 mod CleanCalls
 mod FeedLaws
 mod HexLaws
-mod LineLaws
 mod MarkLaws
 mod NumberLaws
 mod PartLaws
@@ -13,6 +12,9 @@ pub mod DeskEvents
 pub mod DeskLaws
 pub mod DeskBatches
 pub mod RunnerLaws
+pub mod EndLaws
 pub mod ReplayLaws
+pub mod TraceLaws
+mod SampleWords
 mod TargetWords
 mod WorkedTexts

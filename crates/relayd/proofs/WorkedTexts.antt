@@ -1,12 +1,12 @@
 -- Worked rows of the script's texts.
-use Rattle.std.proofs.Common.{◌≡◌, List, [], ◌∷◌, ◌++◌, Some, None, codes, inl, inr, refl}
+use Rattle.std.proofs.Common.{◌≡◌, [], ◌∷◌, ◌++◌, Some, None, codes, inl, inr, refl}
 use Rattle.std.specs.Fmt.{digits}
 use Rattle.relay_types.specs.declared.state.State.TheVariants.{Pending, Delivered}
 use Rattle.relayd.specs.declared.event.Event.TheVariants as on
 use Rattle.relayd.specs.declared.reply.Fault.TheVariants as fault
 use Rattle.relayd.specs.declared.reply.Reply.TheVariants as says
 use Rattle.relayd.specs.Replies.{reply_text}
-use Rattle.relayd.specs.Runs.{HasLines}
+use Rattle.relayd.specs.Ends.{HasLines}
 use Rattle.relayd.specs.Script.{ReadsLine}
 
 refused_row : reply_text (says.Refused 3 fault.Exists) ≡ codes "refused 3 Exists"

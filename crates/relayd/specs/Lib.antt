@@ -6,6 +6,8 @@ pub mod Replies
 pub mod WordFaults
 pub mod Script
 pub mod Runs
+pub mod Ends
 pub mod Desks
 pub mod Runners
 pub mod Replays
+pub mod Traces

@@ -1,5 +1,5 @@
 -- What is read from a reader and written to a writer, whose bytes are known.
-use Rattle.std.specs.Prelude.{◌≡◌, ◌≢◌, ℕ, ◌+◌, ◌<◌, Bool, List, [], ◌∷◌, ◌++◌, length, take, drop, Option, Some, None, IsTrue, IfSome, ◌⊎◌}
+use Rattle.std.specs.Prelude.{◌≡◌, ◌≢◌, ℕ, ◌+◌, ◌≤◌, ◌<◌, Bool, List, [], ◌∷◌, ◌++◌, length, take, drop, Option, Some, None, IsTrue, IfSome, ◌⊎◌}
 use Rattle.relayd.specs.Parts.{has_no}
 use Rattle.std.specs.Io.KnownBytes.{Appends, prepend_known}
 
@@ -37,6 +37,10 @@ TakesLine (Some old) (Some new) line = (old ≡ line ++ 10 ∷ new) ⊎ ((old �
 -- more than 140,000 known bytes stand before the first line feed
 abbrev pub BeginsTooLong : Option (List ℕ) → Type 0
 BeginsTooLong known = IfSome known (λ bytes. (front : List ℕ) × (rest : List ℕ) × (bytes ≡ front ++ rest) × IsTrue (has_no_feed front) × (140000 < length front))
+
+-- The line after this many is too long, or one too many.
+abbrev pub IsTooLong : ℕ → Option (List ℕ) → Type 0
+IsTooLong count known = ((1000000 ≤ count) × IfSome known (λ bytes. bytes ≢ [])) ⊎ BeginsTooLong known
 
 -- the first line feed stands at the place
 abbrev pub IsFeedAt : List ℕ → ℕ → Type 0

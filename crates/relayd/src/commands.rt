@@ -1,8 +1,11 @@
 //! The commands: each reads one reader, writes two writers, and gives its exit status.
-ghost use Rattle.std.specs.Prelude.{◌≡◌, ◌≤◌};
-ghost use Rattle.relayd.specs.Replays.{ReplaysTo, status_of};
+ghost use Rattle.std.specs.Prelude.{◌≡◌, ◌≢◌, ◌≤◌};
+ghost use Rattle.relayd.specs.Ends.{status_of};
+ghost use Rattle.relayd.specs.Replays.{ReplaysTo};
+ghost use Rattle.relayd.specs.Traces.{TracesTo};
 
 use crate::fault::ReplayFault;
+use crate::words::read_max;
 use crate::{limits, runner, signing};
 use clap::{Arg, ArgAction, ArgMatches, Command};
 use relay_types::ReadFault;
@@ -45,7 +48,10 @@ pub fn run<R: Read, O: Write, E: Write>(
     match matches.subcommand() {
         Some(("replay", _)) => replay(alloc, input, output, errors),
         Some(("sign", words)) => sign(alloc, words, input, output, errors),
-        Some(("vegas", words)) => vegas(alloc, words, input, output, errors),
+        Some(("vegas", words)) => match words.get_str("max") {
+            Some(max) => vegas(alloc, max, input, output, errors),
+            None => USAGE,
+        },
         _ => USAGE,
     }
 }
@@ -89,21 +95,23 @@ fn sign<R: Read, O: Write, E: Write>(
     }
 }
 
-/// Takes a sample from each line of the reader, and writes the limit and the no-load time after it.
-fn vegas<R: Read, O: Write, E: Write>(
+/// Takes a sample from each line of the reader, and writes the limit, which is at most the maximum, and the no-load time after
+/// it: 0 done, 1 no maximum, 2 what was read, 3 every other fault.
+pub fn vegas<R: Read, O: Write, E: Write>(
     alloc: Global,
-    words: &ArgMatches<'_>,
+    max: &str,
     input: &mut R,
     output: &mut O,
     errors: &mut E,
 ) -> u8
-    ensures { result ≤ 3 }
+    ensures traces { TracesTo max.now (R.remaining input.old) (O.contents output.old) (O.contents output.new) result }
+    ensures status { result ≤ 3 }
 {
-    let Some(max) = words.get_str("max") else {
-        return USAGE;
-    };
-    match limits::read_max(max) {
-        Ok(max) => ended(errors, limits::trace(alloc, max, input, output)),
+    match read_max(max.as_bytes()) {
+        Ok(max) => {
+            let end = limits::trace(alloc, max, input, output);
+            ended(errors, end)
+        }
         Err(fault) => misused(errors, fault),
     }
 }
@@ -142,7 +150,9 @@ fn text<'a>(alloc: Global, name: &'a str) -> Arg<'a> {
 
 // The exit status where an argument isn't what its reader takes, after its refusal was told.
 fn misused<E: Write>(errors: &mut E, fault: ReadFault) -> u8
-    ensures { result ≤ 3 }
+    ensures lacked { fault ≡ ReadFault.OutOfMemory → result ≡ 3 }
+    ensures refused { fault ≢ ReadFault.OutOfMemory → result ≡ 1 }
+    ensures status { result ≤ 3 }
 {
     let _ = writeln!(errors, "relayd: {fault}");
     match fault {

@@ -1,11 +1,11 @@
 //! The calls that a script's lines stand for.
-ghost use Rattle.std.specs.Prelude.{◌≡◌, ◌↔◌, ℕ, List, [], ◌∷◌, IsTrue, IfOk};
+ghost use Rattle.std.specs.Prelude.{◌≡◌, ℕ, List, [], ◌∷◌, IfOk};
 ghost use Rattle.relayd.specs.Parts.{texts};
 ghost use Rattle.relayd.specs.Script.{ReadsLine, IsCall, call_word, AreArguments, IsPut, IsChange, IsSubmitted, IsSubmit, IsShown, IsShow};
 ghost use Rattle.relayd.specs.declared.event.Event.{Event};
 ghost use Rattle.relayd.specs.declared.event.Command.{Command};
 
-use crate::words::{WordFault, read_body, read_max, read_moment, read_secrets, split};
+use crate::words::{WordFault, is_word, read_body, read_max, read_moment, read_secrets, split};
 use relay_types::{Body, MaxLimit, Moment, MsgId, Name, Secrets, Target};
 use std::alloc::Global;
 
@@ -86,12 +86,6 @@ fn read_call(alloc: Global, call: &[u8], arguments: &[&[u8]]) -> Result<Event, W
     } else {
         Err(WordFault::Bad)
     }
-}
-
-fn is_word(word: &[u8], text: &str) -> bool
-    ensures { IsTrue result ↔ (word.now ≡ text.now) }
-{
-    word == text.as_bytes()
 }
 
 // The event of a call that has no arguments.

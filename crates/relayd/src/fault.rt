@@ -1,6 +1,6 @@
 //! Why a command ended early.
 ghost use Rattle.std.specs.Prelude.{◌≡◌, ◌≤◌, Err};
-ghost use Rattle.relayd.specs.Replays.{status_of};
+ghost use Rattle.relayd.specs.Ends.{status_of};
 ghost use Rattle.relayd.specs.declared.fault.ReplayFault.TheVariants.{OutOfMemory};
 
 use std::alloc::AllocError;

@@ -3,7 +3,7 @@ ghost use Rattle.std.specs.Prelude.{◌≡◌, ◌≢◌, ◌==◌, ◌⊎◌, t
 ghost use Rattle.std.specs.List.{position};
 ghost use Rattle.std.specs.Option.{unwrap_or};
 ghost use Rattle.std.specs.Io.KnownBytes.{Consumes, Keeps, IsAtEnd};
-ghost use Rattle.relayd.specs.Streams.{Reading, left, has_no_feed, IsFeedAt, TakesPiece, PassesBound, TakesLine, BeginsTooLong};
+ghost use Rattle.relayd.specs.Streams.{Reading, left, has_no_feed, IsFeedAt, TakesPiece, PassesBound, TakesLine, IsTooLong};
 
 use crate::fault::ReplayFault;
 use std::alloc::{AllocError, Global};
@@ -80,7 +80,7 @@ impl Lines {
         ensures most_bytes { result ≡ Ok true → length self.new.line ≤ 140000 }
         ensures most_lines { result ≡ Ok true → self.new.count ≤ 1000000 }
         ensures end { result ≡ Ok false → IsAtEnd (left self.old (R.remaining reader.old)) }
-        ensures too_long { result ≡ Err ReplayFault.TooLong → (1000000 ≤ self.old.count) ⊎ BeginsTooLong (left self.old (R.remaining reader.old)) }
+        ensures too_long { result ≡ Err ReplayFault.TooLong → IsTooLong self.old.count (left self.old (R.remaining reader.old)) }
         ensures faults { IfErr result (λ fault. (fault ≡ ReplayFault.TooLong) ⊎ ((fault ≡ ReplayFault.Read) ⊎ (fault ≡ ReplayFault.OutOfMemory))) }
     {
         self.line.clear();
@@ -144,7 +144,7 @@ impl Lines {
         ensures some { result ≡ Ok true → self.old.line ≢ [] }
         ensures number { result ≡ Ok true → self.new.count ≡ self.old.count + 1 }
         ensures bounds { result ≡ Ok true → (length self.new.line ≤ 140000) × (self.new.count ≤ 1000000) }
-        ensures too_long { IfErr result (λ fault. (fault ≡ ReplayFault.TooLong) × (1000000 ≤ self.old.count)) }
+        ensures too_long { IfErr result (λ fault. (fault ≡ ReplayFault.TooLong) × (1000000 ≤ self.old.count) × (self.old.line ≢ [])) }
     {
         if self.line.is_empty() {
             return Ok(false);

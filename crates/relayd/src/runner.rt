@@ -10,12 +10,14 @@ ghost use Rattle.relayd.specs.declared.reply.Reply.TheVariants as says;
 ghost use Rattle.relayd.specs.Desks.{staged_reply, event_reply};
 ghost use Rattle.relayd.specs.Moves.{opened};
 ghost use Rattle.relayd.specs.Runners.{RunnerStandsFor, Answers, CommitsSo, IsAlwaysClean, unchanged_reply};
-ghost use Rattle.relayd.specs.Replays.{Replays, EndsLine};
+ghost use Rattle.relayd.specs.Ends.{EndsLine};
+ghost use Rattle.relayd.specs.Runs.{IsNoCall};
+ghost use Rattle.relayd.specs.Replays.{Replays, RunsLine};
 
 use crate::desk::{Desk, Refusal, WrongTurn};
 use crate::event::{Command, Event, read_event};
 use crate::fault::ReplayFault;
-use crate::lines::{Lines, MOST_LINES};
+use crate::lines::Lines;
 use crate::output::write_line;
 use crate::reply::{Fault, Reply};
 use crate::words::WordFault;
@@ -255,13 +257,10 @@ fn run_lines<S: Alter, I: Read, O: Write>(
     ensures { IsAlwaysClean S.Store → RunnerStandsFor S.Store runner.old (opened [] 0) → Replays (I.remaining input.old) (O.contents output.old) (O.contents output.new) result }
 {
     let mut lines = Lines::new(alloc)?;
-    for _ in 0..=MOST_LINES {
-        if !lines.advance(input)? {
-            return Ok(());
-        }
+    while lines.advance(input)? {
         run_line(alloc, &lines, runner, output)?;
     }
-    Err(ReplayFault::TooLong)
+    Ok(())
 }
 
 // Answers one line.
@@ -271,7 +270,7 @@ fn run_line<S: Alter, O: Write>(
     runner: &mut Runner<S>,
     output: &mut O,
 ) -> Result<(), ReplayFault>
-    ensures { HasCleanDisk (state S.Store runner.new.vault.conn) → EndsLine S.Store lines.now runner.old runner.new (O.contents output.old) (O.contents output.new) result }
+    ensures { HasCleanDisk (state S.Store runner.new.vault.conn) → EndsLine (RunsLine S.Store lines.now.line runner.old runner.new) IsNoCall lines.now (O.contents output.old) (O.contents output.new) result }
 {
     let event = match read_event(alloc, lines.line()) {
         Ok(event) => event,

@@ -1,5 +1,5 @@
 //! The words of a line.
-ghost use Rattle.std.specs.Prelude.{◌≡◌, ℕ, ◌<◌, ◌^◌, List, false, IsTrue, IfOk, IfErr, IfSome, decimal};
+ghost use Rattle.std.specs.Prelude.{◌≡◌, ◌↔◌, ℕ, ◌<◌, ◌^◌, List, false, IsTrue, IfOk, IfErr, IfSome, decimal};
 ghost use Rattle.relay_types.specs.Values.{is_moment, is_max_limit, is_body};
 ghost use Rattle.relayd.specs.Parts.{HasParts, texts};
 ghost use Rattle.relayd.specs.Script.{ReadSecrets, IsSecretsWord, IsBodyWord};
@@ -54,6 +54,13 @@ fn split_at(alloc: Global, text: &[u8], mark: u8) -> Result<Vec<&[u8]>, AllocErr
     text.split(|byte| *byte == mark).collect(alloc)
 }
 
+/// Whether the word is this one.
+pub fn is_word(word: &[u8], text: &str) -> bool
+    ensures { IsTrue result ↔ (word.now ≡ text.now) }
+{
+    word == text.as_bytes()
+}
+
 /// A number below 2^64 in decimal, without leading zeros.
 pub fn read_number(word: &[u8]) -> Option<u64>
     ensures value { IfSome result (λ n. word.now ≡ decimal n) }
@@ -79,15 +86,15 @@ pub fn read_moment(word: &[u8]) -> Result<Moment, WordFault>
 }
 
 /// A maximum limit.
-pub fn read_max(word: &[u8]) -> Result<MaxLimit, WordFault>
+pub fn read_max(word: &[u8]) -> Result<MaxLimit, ReadFault>
     ensures value { IfOk result (λ max. word.now ≡ decimal max) }
     ensures valid { IfOk result (λ max. IsTrue (is_max_limit max)) }
     ensures each { (max : ℕ) → IsTrue (is_max_limit max) → word.now ≡ decimal max → result ≡ Ok max }
-    ensures refusal { IfErr result (λ fault. fault ≡ WordFault.Bad) }
+    ensures refusal { IfErr result (λ fault. fault ≡ ReadFault.BadMax) }
 {
     match read_number(word) {
-        Some(limit) => Ok(MaxLimit::of(limit)?),
-        None => Err(WordFault::Bad),
+        Some(limit) => MaxLimit::of(limit),
+        None => Err(ReadFault::BadMax),
     }
 }
 

@@ -1,11 +1,17 @@
-use Rattle.std.proofs.Common.{Err, ap, subst, sym, ◌∙◌}
+use Rattle.std.proofs.Common.{Err, ap, subst, sym, refl, ◌∙◌}
+use Rattle.relayd.specs.Replies.{reply_text}
+use Rattle.relayd.specs.Runs.{IsNoCall}
 use Rattle.relayd.specs.Script.{ReadsLine}
-use Rattle.relayd.proofs.ReplayLaws.{keeps_same, written_line}
+use Rattle.relayd.specs.Streams.{with_feed}
+use Rattle.relayd.specs.Replays.{RunsLine}
+use Rattle.relayd.proofs.EndLaws.{keeps_same, written_line}
 use Rattle.relayd.proofs.runner.run_line.Goals as goal
 
 pub returns : goal.returns
-returns g c clean = written_line g.S.Store c.args.lines.now c.args.runner.now c.answer-reply.new.self c.in-Ok.event c.answer-reply.result _ _ c.write_line.result
-    (subst (λ line. ReadsLine line c.in-Ok.event) c.line.ensures c.in-Ok.ensures.stands) (c.answer-reply.ensures clean) c.write_line.ensures.written c.write_line.ensures.failed c.write_line.ensures.faults
+returns g c clean =
+    let reads = subst (λ line. ReadsLine line c.in-Ok.event) c.line.ensures c.in-Ok.ensures.stands in
+    written_line (RunsLine g.S.Store c.args.lines.now.line c.args.runner.now c.answer-reply.new.self) IsNoCall c.args.lines.now _ _ (with_feed (reply_text c.answer-reply.result)) c.write_line.result
+    (c.in-Ok.event, c.answer-reply.result, reads, c.answer-reply.ensures clean, refl) c.write_line.ensures.written c.write_line.ensures.failed c.write_line.ensures.faults
 
 pub returns-in-Err-Bad : goal.returns-in-Err-Bad
 returns-in-Err-Bad g c clean = (

@@ -1,10 +1,14 @@
-use Rattle.std.proofs.Common.{◌≡◌, ℕ, List, [], Some}
+use Rattle.std.proofs.Common.{◌≡◌, ℕ, ◌-◌, List, [], Some}
 use Rattle.relayd.specs.Moves.{opened}
 use Rattle.relayd.specs.Runners.{IsAlwaysClean, RunnerStandsFor}
-use Rattle.relayd.proofs.ReplayLaws.{Progress}
+use Rattle.relayd.proofs.EndLaws.{Progress}
+use Rattle.relayd.proofs.ReplayLaws.{Answered}
 use Rattle.relayd.proofs.runner.run_lines.Given as goal
 
-abbrev pub invariant-loop : goal.invariant-loop
-invariant-loop g l =
+abbrev pub invariant-loop-lines : goal.invariant-loop-lines
+invariant-loop-lines g l =
     IsAlwaysClean g.S.Store → RunnerStandsFor g.S.Store l.fn.runner (opened [] 0) → (text had : List ℕ) → g.I.Read.remaining l.fn.input ≡ Some text → g.O.Write.contents l.fn.output ≡ Some had
-    → Progress g.S.Store text had l.runner l.lines (g.I.Read.remaining l.input) (g.O.Write.contents l.output)
+    → Progress (Answered g.S.Store l.runner) text had l.lines (g.I.Read.remaining l.input) (g.O.Write.contents l.output)
+
+abbrev pub decreases-loop-lines : goal.decreases-loop-lines
+decreases-loop-lines g l = 1000000 - l.lines.count
