@@ -1,5 +1,5 @@
 -- The lines of a text, read and answered one after another.
-use Rattle.std.proofs.Common.{◌≡◌, ℕ, ◌+◌, ◌==◌, Bool, true, false, ◌⊎◌, inl, inr, List, [], ◌∷◌, ◌++◌, length, Option, Some, None, Result, Ok, Err, IsTrue, refl, sym, ap, subst, ◌∙◌, arith, append_assoc, append-nil, length-append}
+use Rattle.std.proofs.Common.{◌≡◌, ℕ, ◌+◌, ◌≤◌, ◌==◌, Bool, true, false, ◌⊎◌, inl, inr, List, [], ◌∷◌, ◌++◌, length, Option, Some, None, Result, Ok, Err, IsTrue, refl, sym, ap, subst, ◌∙◌, arith, le-leb, append_assoc, append-nil, length-append}
 use Rattle.std.specs.Prelude.{OnOk, OnErr, IfErr}
 use Rattle.std.specs.List.{list_all}
 use Rattle.std.specs.Io.KnownBytes.{Appends, Keeps, IsAtEnd}
@@ -8,7 +8,7 @@ use Rattle.std.proofs.lemmas.Bool.{eqb-true}
 use Rattle.relayd.specs.declared.fault.ReplayFault.{ReplayFault}
 use Rattle.relayd.specs.declared.fault.ReplayFault.TheVariants.{BadLine, TooLong, Read, Write, Lost, OutOfMemory}
 use Rattle.relayd.specs.Streams.{Reading, left, has_no_feed, TakesLine, IsTooLong, AppendsFront}
-use Rattle.relayd.specs.Ends.{fed, HasLines, IsWhole, IsUpToBad, IsUpToTooLong, IsCut, EndsSo, CutsLine, EndsLine}
+use Rattle.relayd.specs.Ends.{fed, HasLines, AreWithinBounds, IsWhole, IsUpToBad, IsUpToTooLong, IsCut, EndsSo, CutsLine, EndsLine}
 use Rattle.relayd.proofs.FeedLaws.{IsTooLong-none}
 
 -- ---- the lines of a text
@@ -122,6 +122,7 @@ pub record Progress (Holds : List (List ℕ) → List ℕ → Type 0) (text had 
   pub written : List ℕ
   pub is_left : left reading remaining ≡ Some rest
   pub taken : HasLinesBefore text lines rest
+  pub within : AreWithinBounds lines
   pub count : reading.count ≡ length lines
   pub holds : Holds lines written
   pub is_written : contents ≡ Some (had ++ written)
@@ -133,6 +134,7 @@ pub record Taken (Holds : List (List ℕ) → List ℕ → Type 0) (text had : L
   pub written : List ℕ
   pub is_left : left reading remaining ≡ Some rest
   pub taken : HasLinesBefore text (lines ++ reading.line ∷ []) rest
+  pub within : AreWithinBounds (lines ++ reading.line ∷ [])
   pub count : reading.count ≡ length lines + 1
   pub holds : Holds lines written
   pub is_written : contents ≡ Some (had ++ written)
@@ -149,20 +151,25 @@ begins Holds text had reading remaining contents holds input output new = record
   written = [];
   is_left = (λ i. left (new i) (input i));
   taken = inl (refl, refl);
+  within = (omega arith, refl);
   count = ap (λ r. r.count) new;
   holds = holds;
   is_written = output ∙ ap Some (sym (append-nil had));
 }
 
+within_more : (lines : List (List ℕ)) (line : List ℕ) → AreWithinBounds lines → length lines + 1 ≤ 1000000 → length line ≤ 140000 → AreWithinBounds (lines ++ line ∷ [])
+within_more lines line within few short = (omega (arith, length-append lines (line ∷ []), few), rw (list_all-append, within.1, le-leb (length line) 140000 short) refl)
+
 pub takes : {Holds : List (List ℕ) → List ℕ → Type 0} (text had : List ℕ) (old new : Reading) (before after contents : Option (List ℕ)) → Progress Holds text had old before contents
-    → TakesLine (left old before) (left new after) new.line → IsTrue (has_no_feed new.line) → new.count ≡ old.count + 1 → Taken Holds text had new after contents
-takes {Holds} text had old new before after contents p line clean number = at (left new after) refl
+    → TakesLine (left old before) (left new after) new.line → IsTrue (has_no_feed new.line) → new.count ≡ old.count + 1 → length new.line ≤ 140000 → new.count ≤ 1000000
+    → Taken Holds text had new after contents
+takes {Holds} text had old new before after contents p line clean number short few = at (left new after) refl
   where
     at : (o : Option (List ℕ)) → left new after ≡ o → Taken Holds text had new after contents
     at None e = absurd (let h : TakesLine (Some p.rest) None new.line = subst (λ o. TakesLine (Some p.rest) o new.line) e (subst (λ o. TakesLine o (left new after) new.line) p.is_left line) in h)
     at (Some rest) e =
         let h : TakesLine (Some p.rest) (Some rest) new.line = subst (λ o. TakesLine (Some p.rest) o new.line) e (subst (λ o. TakesLine o (left new after) new.line) p.is_left line) in
-        record { lines = p.lines; rest = rest; written = p.written; is_left = e; taken = HasLinesBefore-more text p.lines p.rest rest new.line p.taken h clean; count = number ∙ ap (λ n. n + 1) p.count; holds = p.holds; is_written = p.is_written }
+        record { lines = p.lines; rest = rest; written = p.written; is_left = e; taken = HasLinesBefore-more text p.lines p.rest rest new.line p.taken h clean; within = within_more p.lines new.line p.within (omega (arith, number, p.count, few)) short; count = number ∙ ap (λ n. n + 1) p.count; holds = p.holds; is_written = p.is_written }
 
 -- the line is answered
 pub answered : {Before After : List (List ℕ) → List ℕ → Type 0} (text had : List ℕ) (reading : Reading) (remaining old new : Option (List ℕ)) (answer : List ℕ) (t : Taken Before text had reading remaining old)
@@ -173,6 +180,7 @@ answered text had reading remaining old new answer t holds grows = record {
   written = t.written ++ answer;
   is_left = t.is_left;
   taken = t.taken;
+  within = t.within;
   count = omega (arith, t.count, length-append t.lines (reading.line ∷ []));
   holds = holds;
   is_written = grown old new (had ++ t.written) answer t.is_written grows ∙ ap Some (append_assoc had t.written answer);
@@ -185,7 +193,7 @@ pub whole : {Holds : List (List ℕ) → List ℕ → Type 0} (Says : List (List
     → Says p.lines p.written → IsAtEnd (left reading remaining) → Written (IsWhole Says text) had contents
 whole Says text had reading remaining contents p says end =
     let none : p.rest ≡ [] = subst IsAtEnd p.is_left end in
-    (p.written, p.is_written, (p.lines, HasLines-from_all text p.lines (subst (HasLinesBefore text p.lines) none p.taken), says))
+    (p.written, p.is_written, (p.lines, HasLines-from_all text p.lines (subst (HasLinesBefore text p.lines) none p.taken), p.within, says))
 
 cut_at : (Says : List (List ℕ) → List ℕ → Type 0) (text : List ℕ) (lines : List (List ℕ)) (rest written : List ℕ) → HasLinesBefore text lines rest → Says lines written → IsCut Says text written
 cut_at Says text lines rest written taken says =

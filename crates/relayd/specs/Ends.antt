@@ -1,5 +1,5 @@
 -- How a command that answers each line of a reader ends, and what it has written then.
-use Rattle.std.specs.Prelude.{◌≡◌, ◌≢◌, ℕ, ◌+◌, ◌⊎◌, List, [], ◌∷◌, ◌++◌, length, Option, Some, Result, Ok, Err, IsTrue}
+use Rattle.std.specs.Prelude.{◌≡◌, ◌≢◌, ℕ, ◌+◌, ◌≤◌, ◌⊎◌, nat_le, List, [], ◌∷◌, ◌++◌, length, Option, Some, Result, Ok, Err, IsTrue}
 use Rattle.std.specs.List.{list_all}
 use Rattle.std.specs.Io.KnownBytes.{Appends, Keeps}
 use Rattle.relayd.specs.declared.fault.ReplayFault.{ReplayFault}
@@ -16,11 +16,15 @@ abbrev pub HasLines : List ℕ → List (List ℕ) → Type 0
 HasLines text lines = IsTrue (list_all has_no_feed lines)
     × ((text ≡ fed lines) ⊎ ((first : List (List ℕ)) × (last : List ℕ) × (last ≢ []) × (lines ≡ first ++ last ∷ []) × (text ≡ fed first ++ last)))
 
+-- at most 1,000,000 lines of at most 140,000 bytes
+abbrev pub AreWithinBounds : List (List ℕ) → Type 0
+AreWithinBounds lines = (length lines ≤ 1000000) × IsTrue (list_all (λ line. nat_le (length line) 140000) lines)
+
 -- Below, `Says lines written` is that this is written for these lines, and `IsBad line` that the text is no line of the command.
 
 -- the answers to all lines
 abbrev pub IsWhole : (List (List ℕ) → List ℕ → Type 0) → List ℕ → List ℕ → Type 0
-IsWhole Says text written = (lines : List (List ℕ)) × HasLines text lines × Says lines written
+IsWhole Says text written = (lines : List (List ℕ)) × HasLines text lines × AreWithinBounds lines × Says lines written
 
 -- the answers to the lines before the one of this number, which is a bad line
 abbrev pub IsUpToBad : (List (List ℕ) → List ℕ → Type 0) → (List ℕ → Type 0) → ℕ → List ℕ → List ℕ → Type 0

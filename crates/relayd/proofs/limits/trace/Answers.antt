@@ -25,7 +25,7 @@ pub returns-in_err-take_line : goal.returns-in_err-take_line
 returns-in_err-take_line g c text had input output =
     let p = err_from_is_err_and c.from_residual-in_err-take_line.result c.from_residual-in_err-take_line.ensures.1 in
     let line = c.in_ok-advance.was ∙ ap Ok c.if-branch.true in
-    let read = takes text had c.loop-lines.lines c.advance.new.self (g.R.Read.remaining c.loop-lines.input) (g.R.Read.remaining c.advance.new.reader) (g.O.Write.contents c.loop-lines.output) (c.loop-lines.invariant text had input output) (c.advance.ensures.line line) (c.advance.ensures.no_feed line) (c.advance.ensures.number line) in
+    let read = takes text had c.loop-lines.lines c.advance.new.self (g.R.Read.remaining c.loop-lines.input) (g.R.Read.remaining c.advance.new.reader) (g.O.Write.contents c.loop-lines.output) (c.loop-lines.invariant text had input output) (c.advance.ensures.line line) (c.advance.ensures.no_feed line) (c.advance.ensures.number line) (c.advance.ensures.most_bytes line) (c.advance.ensures.most_lines line) in
     exits (Traced c.args.max) IsNoSample c.from_residual-in_err-take_line.result text had _ _ (p.1 ∙ ap Err p.2)
     (ends_at_line (Traced c.args.max) IsNoSample (TakesSample c.advance.new.self.line c.loop-lines.estimator c.take_line.new.estimator) text had c.advance.new.self (g.R.Read.remaining c.advance.new.reader) (g.O.Write.contents c.loop-lines.output) (g.O.Write.contents c.take_line.new.output) _ read
     (Traced-from_sampled c.args.max c.loop-lines.estimator read.lines read.written read.holds) (λ answer gives. Traced-more c.args.max c.loop-lines.estimator c.take_line.new.estimator read.lines read.written c.advance.new.self.line answer read.holds gives) c.in_err-take_line.ensures)
@@ -33,7 +33,7 @@ returns-in_err-take_line g c text had input output =
 pub loop-lines-preserved : goal.loop-lines-preserved
 loop-lines-preserved g c text had input output =
     let line = c.in_ok-advance.was ∙ ap Ok c.if-branch.true in
-    let read = takes text had c.loop-lines.lines c.advance.new.self (g.R.Read.remaining c.loop-lines.input) (g.R.Read.remaining c.advance.new.reader) (g.O.Write.contents c.loop-lines.output) (c.loop-lines.invariant text had input output) (c.advance.ensures.line line) (c.advance.ensures.no_feed line) (c.advance.ensures.number line) in
+    let read = takes text had c.loop-lines.lines c.advance.new.self (g.R.Read.remaining c.loop-lines.input) (g.R.Read.remaining c.advance.new.reader) (g.O.Write.contents c.loop-lines.output) (c.loop-lines.invariant text had input output) (c.advance.ensures.line line) (c.advance.ensures.no_feed line) (c.advance.ensures.number line) (c.advance.ensures.most_bytes line) (c.advance.ensures.most_lines line) in
     let given = c.in_ok-take_line.ensures in
     answered text had c.advance.new.self (g.R.Read.remaining c.advance.new.reader) (g.O.Write.contents c.loop-lines.output) (g.O.Write.contents c.take_line.new.output) given.0 read (Sampled-more c.args.max c.loop-lines.estimator c.take_line.new.estimator read.lines read.written c.advance.new.self.line given.0 read.holds given.1) given.2
 

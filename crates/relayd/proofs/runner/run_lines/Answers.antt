@@ -26,7 +26,7 @@ pub returns-in_err-run_line : goal.returns-in_err-run_line
 returns-in_err-run_line g c clean stands text had input output =
     let p = err_from_is_err_and c.from_residual-in_err-run_line.result c.from_residual-in_err-run_line.ensures.1 in
     let line = c.in_ok-advance.was ∙ ap Ok c.if-branch.true in
-    let read = takes text had c.loop-lines.lines c.advance.new.self (g.I.Read.remaining c.loop-lines.input) (g.I.Read.remaining c.advance.new.reader) (g.O.Write.contents c.loop-lines.output) (c.loop-lines.invariant clean stands text had input output) (c.advance.ensures.line line) (c.advance.ensures.no_feed line) (c.advance.ensures.number line) in
+    let read = takes text had c.loop-lines.lines c.advance.new.self (g.I.Read.remaining c.loop-lines.input) (g.I.Read.remaining c.advance.new.reader) (g.O.Write.contents c.loop-lines.output) (c.loop-lines.invariant clean stands text had input output) (c.advance.ensures.line line) (c.advance.ensures.no_feed line) (c.advance.ensures.number line) (c.advance.ensures.most_bytes line) (c.advance.ensures.most_lines line) in
     exits Replies IsNoCall c.from_residual-in_err-run_line.result text had _ _ (p.1 ∙ ap Err p.2)
     (ends_at_line Replies IsNoCall (RunsLine g.S.Store c.advance.new.self.line c.loop-lines.runner c.run_line.new.runner) text had c.advance.new.self (g.I.Read.remaining c.advance.new.reader) (g.O.Write.contents c.loop-lines.output) (g.O.Write.contents c.run_line.new.output) _ read
     (Replies-from_answered g.S.Store c.loop-lines.runner read.lines read.written read.holds) (λ answer runs. Replies-more g.S.Store c.loop-lines.runner c.run_line.new.runner read.lines read.written c.advance.new.self.line answer read.holds runs) (c.in_err-run_line.ensures (clean c.run_line.new.runner.vault.conn)))
@@ -34,7 +34,7 @@ returns-in_err-run_line g c clean stands text had input output =
 pub loop-lines-preserved : goal.loop-lines-preserved
 loop-lines-preserved g c clean stands text had input output =
     let line = c.in_ok-advance.was ∙ ap Ok c.if-branch.true in
-    let read = takes text had c.loop-lines.lines c.advance.new.self (g.I.Read.remaining c.loop-lines.input) (g.I.Read.remaining c.advance.new.reader) (g.O.Write.contents c.loop-lines.output) (c.loop-lines.invariant clean stands text had input output) (c.advance.ensures.line line) (c.advance.ensures.no_feed line) (c.advance.ensures.number line) in
+    let read = takes text had c.loop-lines.lines c.advance.new.self (g.I.Read.remaining c.loop-lines.input) (g.I.Read.remaining c.advance.new.reader) (g.O.Write.contents c.loop-lines.output) (c.loop-lines.invariant clean stands text had input output) (c.advance.ensures.line line) (c.advance.ensures.no_feed line) (c.advance.ensures.number line) (c.advance.ensures.most_bytes line) (c.advance.ensures.most_lines line) in
     let given = c.in_ok-run_line.ensures (clean c.run_line.new.runner.vault.conn) in
     answered text had c.advance.new.self (g.I.Read.remaining c.advance.new.reader) (g.O.Write.contents c.loop-lines.output) (g.O.Write.contents c.run_line.new.output) given.0 read (Answered-more g.S.Store c.loop-lines.runner c.run_line.new.runner read.lines read.written c.advance.new.self.line given.0 read.holds given.1) given.2
 
