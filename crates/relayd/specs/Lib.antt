@@ -5,6 +5,7 @@ pub mod Parts
 pub mod Replies
 pub mod WordFaults
 pub mod Script
+pub mod Signs
 pub mod Runs
 pub mod Desks
 pub mod Runners

@@ -1,6 +1,8 @@
 //! The commands: each reads one reader, writes two writers, and gives its exit status.
-ghost use Rattle.std.specs.Prelude.{◌≡◌, ◌≤◌};
+ghost use Rattle.std.specs.Prelude.{◌≡◌, ◌≢◌, ◌≤◌};
+ghost use Rattle.relayd.specs.Parts.{texts};
 ghost use Rattle.relayd.specs.Replays.{ReplaysTo, status_of};
+ghost use Rattle.relayd.specs.Signs.{SignsTo};
 
 use crate::fault::ReplayFault;
 use crate::{limits, runner, signing};
@@ -44,7 +46,7 @@ pub fn run<R: Read, O: Write, E: Write>(
     };
     match matches.subcommand() {
         Some(("replay", _)) => replay(alloc, input, output, errors),
-        Some(("sign", words)) => sign(alloc, words, input, output, errors),
+        Some(("sign", words)) => sign_words(alloc, words, input, output, errors),
         Some(("vegas", words)) => vegas(alloc, words, input, output, errors),
         _ => USAGE,
     }
@@ -69,8 +71,8 @@ pub fn replay<R: Read, O: Write, E: Write>(
     }
 }
 
-/// Signs the body on the reader: the header's value for the id, the moment and the secrets that the words name.
-fn sign<R: Read, O: Write, E: Write>(
+/// Signs the body on the reader as the words ask.
+fn sign_words<R: Read, O: Write, E: Write>(
     alloc: Global,
     words: &ArgMatches<'_>,
     input: &mut R,
@@ -83,8 +85,28 @@ fn sign<R: Read, O: Write, E: Write>(
     let (Some(id), Some(at), Some(secrets)) = (id, at, words.get_strs("secret")) else {
         return USAGE;
     };
+    sign(alloc, id, at, secrets, input, output, errors)
+}
+
+/// Writes the header's value for the body on the reader, by the id, the moment and the secrets, the newest first: 0 done,
+/// 1 an argument isn't what its reader takes, 2 the body is too long, 3 every other fault.
+pub fn sign<R: Read, O: Write, E: Write>(
+    alloc: Global,
+    id: &str,
+    at: &str,
+    secrets: &[&str],
+    input: &mut R,
+    output: &mut O,
+    errors: &mut E,
+) -> u8
+    ensures signs { SignsTo id.now at.now (texts secrets.now) (R.remaining input.old) (O.contents output.old) (O.contents output.new) result }
+    ensures status { result ≤ 3 }
+{
     match signing::read_asked(alloc, id, at, secrets) {
-        Ok(asked) => ended(errors, signing::sign(alloc, &asked, input, output)),
+        Ok(asked) => {
+            let signed = signing::sign(alloc, &asked, input, output);
+            ended(errors, signed)
+        }
         Err(fault) => misused(errors, fault),
     }
 }
@@ -142,7 +164,9 @@ fn text<'a>(alloc: Global, name: &'a str) -> Arg<'a> {
 
 // The exit status where an argument isn't what its reader takes, after its refusal was told.
 fn misused<E: Write>(errors: &mut E, fault: ReadFault) -> u8
-    ensures { result ≤ 3 }
+    ensures usage { fault ≢ ReadFault.OutOfMemory → result ≡ USAGE }
+    ensures lacked { fault ≡ ReadFault.OutOfMemory → result ≡ 3 }
+    ensures status { result ≤ 3 }
 {
     let _ = writeln!(errors, "relayd: {fault}");
     match fault {
