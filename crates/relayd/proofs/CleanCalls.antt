@@ -53,7 +53,7 @@ clean-body word [] h = subst (λ xs. IsTrue (has_no 32 xs)) (sym h) refl
 clean-body word (b ∷ bytes) h = clean-bytes word (b ∷ bytes) h
 
 clean-secrets_word : (word : List ℕ) (secrets : List (List ℕ)) → IsSecretsWord word secrets → IsTrue (has_no 32 word)
-clean-secrets_word word secrets (words, e, reads, many) =
+clean-secrets_word word secrets (words, e, (reads, many)) =
     subst (λ xs. IsTrue (has_no 32 xs)) (sym e) (clean-join 32 44 words refl (clean-secrets 32 words secrets refl reads))
 
 four_clean : (a b c d : List ℕ) → IsTrue (has_no 32 a) → IsTrue (has_no 32 b) → IsTrue (has_no 32 c) → IsTrue (has_no 32 d) → IsTrue (list_all (has_no 32) (a ∷ b ∷ c ∷ d ∷ []))

@@ -6,6 +6,7 @@ mod MarkLaws
 mod NumberLaws
 mod PartLaws
 mod SecretWords
+mod SignLaws
 mod StreamLaws
 pub mod DeskLists
 pub mod DeskEvents

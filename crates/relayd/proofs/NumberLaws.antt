@@ -3,7 +3,7 @@ use Rattle.std.proofs.Common.{◌≡◌, ℕ, ◌<◌, ◌^◌, List, Option, So
 use Rattle.std.specs.Prelude.{bytes_eq, Bool, true, false}
 use Rattle.std.proofs.lemmas.Slice.Eq.{bytes_eq-Decides}
 use Rattle.std.specs.Borrow.{Bor}
-use Rattle.std.specs.Result.{result_ok}
+use Rattle.std.specs.Result.{result_ok, IsOk}
 use Rattle.std.specs.Str.{IsUtf8}
 use Rattle.std.specs.Str.Parse.{ParsesUnsigned}
 use Rattle.std.proofs.lemmas.Fmt.{IsAscii-decimal, parse-decimal}
@@ -39,6 +39,10 @@ bytes_not_equal a b r is differs e = let yes = bytes_equal a b e in cc
 
 pub err_not_ok : {T E : Type 0} {e : E} {x : T} → Err e ≡ Ok x → ⊥
 err_not_ok h = cc
+
+pub ok_not_err : {T E : Type 0} (r : Result T E) (e : E) → IsOk r → r ≡ Err e → ⊥
+ok_not_err (Ok x) e ok h = cc
+ok_not_err (Err y) e ok h = cc
 
 pub true_not_false : true ≡ false → ⊥
 true_not_false h = cc

@@ -1,12 +1,18 @@
 -- The texts of secrets, one after another.
-use Rattle.std.proofs.Common.{◌≡◌, ◌≢◌, IsTrue, ℕ, zero, suc, ◌+◌, ◌<◌, List, [], ◌∷◌, ◌++◌, length, take, get_or, map, refl, sym, ap, ◌∙◌, subst, arith}
+use Rattle.std.proofs.Common.{◌≡◌, ◌≢◌, IsTrue, ℕ, zero, suc, ◌+◌, ◌<◌, List, [], ◌∷◌, ◌++◌, length, take, get_or, map, refl, sym, ap, ◌∙◌, subst, arith, ◌⊎◌, inl, inr, Result, Ok, Err}
 use Rattle.std.specs.Borrow.{Bor}
 use Rattle.std.proofs.lemmas.List.{take_more, map-append, get_or-map, length-map}
 use Rattle.relay_types.specs.SecretText.{ReadsSecret}
 use Rattle.relay_types.specs.Values.{is_between, is_secret, are_secrets}
 use Rattle.std.specs.List.{list_all}
+use Rattle.relay_types.specs.declared.fault.ReadFault.{ReadFault}
+use Rattle.relay_types.specs.declared.fault.ReadFault.TheVariants as reader
+use Rattle.std.specs.Prelude.{IsErrAnd}
+use Rattle.relayd.specs.declared.words.WordFault.{WordFault}
+use Rattle.relayd.specs.declared.words.WordFault.TheVariants.{Bad, OutOfMemory}
+use Rattle.relayd.specs.WordFaults.{word_fault}
 use Rattle.relayd.specs.Parts.{texts, HasParts}
-use Rattle.relayd.specs.Script.{ReadSecrets, IsSecretsWord}
+use Rattle.relayd.specs.Script.{ReadSecrets, AreSecretTexts, IsSecretsWord}
 use Rattle.relayd.proofs.MarkLaws.{clean-secrets}
 use Rattle.relayd.proofs.PartLaws.{parts_equal}
 
@@ -52,8 +58,8 @@ some_word [] (s ∷ secrets) h many none = h
 some_word (w ∷ words) secrets h many none = cc
 
 -- the texts of the secrets are the parts of the word
-pub the_words : (word : List ℕ) (parts secrets : List (List ℕ)) → HasParts 44 word parts → IsSecretsWord word secrets → ReadSecrets parts secrets × IsTrue (is_between 1 4 (length secrets))
-the_words word parts secrets h (words, e, reads, many) =
+pub the_words : (word : List ℕ) (parts secrets : List (List ℕ)) → HasParts 44 word parts → IsSecretsWord word secrets → AreSecretTexts parts secrets
+the_words word parts secrets h (words, e, (reads, many)) =
     let same = parts_equal 44 word words parts (e, some_word words secrets reads many, clean-secrets 44 words secrets refl reads) h in
     (subst (λ xs. ReadSecrets xs secrets) same reads, many)
 
@@ -68,3 +74,10 @@ pub are_secrets-read : (words read secrets : List (List ℕ)) → ReadSecrets wo
 are_secrets-read words read secrets h k many =
     let same = sym (length-ReadSecrets words secrets k) ∙ length-ReadSecrets words read h in
     rw (← same, many) (all_secrets words read h)
+
+-- of the refusals of secrets only that of a bad secret makes a bad word
+pub bad_secret : {T : Type 0} (r : Result T WordFault) (fault : ReadFault) → IsErrAnd r (λ told. told ≡ word_fault fault) → r ≡ Err Bad
+    → (fault ≡ reader.BadSecret) ⊎ (fault ≡ reader.OutOfMemory) → fault ≡ reader.BadSecret
+bad_secret (Ok x) fault told e why = absurd told
+bad_secret (Err f) fault told e (inl bad) = bad
+bad_secret (Err f) fault told e (inr lacked) = let same : f ≡ OutOfMemory = told ∙ ap word_fault lacked in cc

@@ -1,5 +1,5 @@
 -- Writes and reads joined.
-use Rattle.std.proofs.Common.{ℕ, ◌-◌, subst, List, [], ◌++◌, length, take, drop, Option, Some, None, Result, Ok, Err, IfSome, OnErr, refl, sym, ap, ◌∙◌, append_assoc, append-nil, take-append-drop}
+use Rattle.std.proofs.Common.{◌≡◌, ℕ, ◌-◌, subst, List, [], ◌++◌, length, take, drop, Option, Some, None, Result, Ok, Err, IfSome, OnErr, refl, sym, ap, ◌∙◌, append_assoc, append-nil, take-append-drop}
 use Rattle.std.proofs.lemmas.List.{take_rest}
 use Rattle.std.specs.Io.KnownBytes.{Appends, Keeps}
 use Rattle.std.proofs.KnownBytes.{Appends-nil, Appends-trans}
@@ -8,6 +8,11 @@ use Rattle.relayd.specs.Streams.{AppendsBefore, AppendsFront, with_feed}
 -- nothing is a front of any bytes
 pub AppendsFront-none : (known : Option (List ℕ)) (bytes : List ℕ) → AppendsFront known known bytes
 AppendsFront-none known bytes = (bytes, ([], refl, Appends-nil known))
+
+-- so it is at every end
+pub AppendsFront-any : {T E : Type 0} (r : Result T E) (known : Option (List ℕ)) (bytes : List ℕ) → OnErr r (AppendsFront known known bytes)
+AppendsFront-any (Ok x) known bytes = tt
+AppendsFront-any (Err e) known bytes = AppendsFront-none known bytes
 
 pub AppendsFront-unwritten : {T E : Type 0} (r : Result T E) (text : Option (List ℕ)) (known : Option (List ℕ))
     → OnErr r (IfSome text (λ bytes. AppendsFront known known (with_feed bytes)))
@@ -36,3 +41,14 @@ pub Appends-from_kept : (old new : Option (List ℕ)) → Keeps old new → Appe
 Appends-from_kept None new h = tt
 Appends-from_kept (Some xs) None h = h
 Appends-from_kept (Some xs) (Some ys) h = h ∙ sym (append-nil xs)
+
+-- what known bytes became
+pub Appends-known : (old new : Option (List ℕ)) (had more : List ℕ) → old ≡ Some had → Appends old new more → new ≡ Some (had ++ more)
+Appends-known old new had more is h = at new (subst (λ known. Appends known new more) is h)
+  where
+    at : (known : Option (List ℕ)) → Appends (Some had) known more → known ≡ Some (had ++ more)
+    at None k = absurd k
+    at (Some xs) k = ap Some k
+
+pub Keeps-known : (old new : Option (List ℕ)) (had : List ℕ) → old ≡ Some had → Keeps old new → new ≡ Some (had ++ [])
+Keeps-known old new had is h = Appends-known old new had [] is (Appends-from_kept old new h)

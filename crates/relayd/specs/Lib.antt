@@ -5,6 +5,7 @@ pub mod Parts
 pub mod Replies
 pub mod WordFaults
 pub mod Script
+pub mod Signs
 pub mod Runs
 pub mod Ends
 pub mod Desks

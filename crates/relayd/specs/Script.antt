@@ -16,9 +16,13 @@ ReadSecrets (text ∷ texts) (secret ∷ secrets) = ReadsSecret text secret × R
 ReadSecrets [] (secret ∷ secrets) = ⊥
 ReadSecrets (text ∷ texts) [] = ⊥
 
+-- the texts of one to four secrets
+abbrev pub AreSecretTexts : List (List ℕ) → List (List ℕ) → Type 0
+AreSecretTexts texts secrets = ReadSecrets texts secrets × IsTrue (is_between 1 4 (length secrets))
+
 -- the texts of one to four secrets, with commas between
 abbrev pub IsSecretsWord : List ℕ → List (List ℕ) → Type 0
-IsSecretsWord word secrets = (texts : List (List ℕ)) × (word ≡ join_with_byte 44 texts) × ReadSecrets texts secrets × IsTrue (is_between 1 4 (length secrets))
+IsSecretsWord word secrets = (texts : List (List ℕ)) × (word ≡ join_with_byte 44 texts) × AreSecretTexts texts secrets
 
 -- a hexadecimal digit, in either case
 abbrev pub hex_digit : ℕ → Option ℕ

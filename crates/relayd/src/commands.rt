@@ -1,7 +1,9 @@
 //! The commands: each reads one reader, writes two writers, and gives its exit status.
 ghost use Rattle.std.specs.Prelude.{◌≡◌, ◌≢◌, ◌≤◌};
 ghost use Rattle.relayd.specs.Ends.{status_of};
+ghost use Rattle.relayd.specs.Parts.{texts};
 ghost use Rattle.relayd.specs.Replays.{ReplaysTo};
+ghost use Rattle.relayd.specs.Signs.{SignsTo};
 ghost use Rattle.relayd.specs.Traces.{TracesTo};
 
 use crate::fault::ReplayFault;
@@ -47,7 +49,7 @@ pub fn run<R: Read, O: Write, E: Write>(
     };
     match matches.subcommand() {
         Some(("replay", _)) => replay(alloc, input, output, errors),
-        Some(("sign", words)) => sign(alloc, words, input, output, errors),
+        Some(("sign", words)) => sign_words(alloc, words, input, output, errors),
         Some(("vegas", words)) => match words.get_str("max") {
             Some(max) => vegas(alloc, max, input, output, errors),
             None => USAGE,
@@ -75,8 +77,8 @@ pub fn replay<R: Read, O: Write, E: Write>(
     }
 }
 
-/// Signs the body on the reader: the header's value for the id, the moment and the secrets that the words name.
-fn sign<R: Read, O: Write, E: Write>(
+/// Signs the body on the reader as the words ask.
+fn sign_words<R: Read, O: Write, E: Write>(
     alloc: Global,
     words: &ArgMatches<'_>,
     input: &mut R,
@@ -89,8 +91,28 @@ fn sign<R: Read, O: Write, E: Write>(
     let (Some(id), Some(at), Some(secrets)) = (id, at, words.get_strs("secret")) else {
         return USAGE;
     };
+    sign(alloc, id, at, secrets, input, output, errors)
+}
+
+/// Writes the header's value for the body on the reader, by the id, the moment and the secrets, the newest first: 0 done,
+/// 1 an argument isn't what its reader takes, 2 the body is too long, 3 every other fault.
+pub fn sign<R: Read, O: Write, E: Write>(
+    alloc: Global,
+    id: &str,
+    at: &str,
+    secrets: &[&str],
+    input: &mut R,
+    output: &mut O,
+    errors: &mut E,
+) -> u8
+    ensures signs { SignsTo id.now at.now (texts secrets.now) (R.remaining input.old) (O.contents output.old) (O.contents output.new) result }
+    ensures status { result ≤ 3 }
+{
     match signing::read_asked(alloc, id, at, secrets) {
-        Ok(asked) => ended(errors, signing::sign(alloc, &asked, input, output)),
+        Ok(asked) => {
+            let signed = signing::sign(alloc, &asked, input, output);
+            ended(errors, signed)
+        }
         Err(fault) => misused(errors, fault),
     }
 }
@@ -150,8 +172,8 @@ fn text<'a>(alloc: Global, name: &'a str) -> Arg<'a> {
 
 // The exit status where an argument isn't what its reader takes, after its refusal was told.
 fn misused<E: Write>(errors: &mut E, fault: ReadFault) -> u8
+    ensures usage { fault ≢ ReadFault.OutOfMemory → result ≡ USAGE }
     ensures lacked { fault ≡ ReadFault.OutOfMemory → result ≡ 3 }
-    ensures refused { fault ≢ ReadFault.OutOfMemory → result ≡ 1 }
     ensures status { result ≤ 3 }
 {
     let _ = writeln!(errors, "relayd: {fault}");

@@ -1,6 +1,6 @@
 // The commands over readers and writers in memory. Expected texts are those of the rules, worked by hand.
 
-use crate::commands::run;
+use crate::commands::{run, sign};
 use std::alloc::{AllocError, Global};
 use std::io::{self, ErrorKind, Read, Write};
 use std::process::Abort;
@@ -184,18 +184,22 @@ fn ends_where_a_reader_or_a_writer_fails(rt: HostRuntime) -> Result<(), Fail> {
 
 const SECRET: &str = "whsec_MDEyMzQ1Njc4OTAxMjM0NTY3ODkwMTIz";
 
+// The example of Standard Webhooks 1.0.0.
+const EXAMPLE_ID: &str = "msg_p5jXN8AQM9LWM0D4loKWxJek";
+
+const EXAMPLE_AT: &str = "1614265330";
+
+const EXAMPLE_SECRET: &str = "whsec_MfKQ9r8GKYqrTwjUPD8ILPZIo2LaLaSw";
+
+const EXAMPLE_BODY: &[u8] = b"{\"test\": 2432232314}";
+
+const EXAMPLE_HEADER: &str = "v1,g0hM9SsE+OTPJTGt/tmIKtSyZlE3uFJELVlNIOLJ1OE=\n";
+
 #[test]
 fn signs(rt: HostRuntime) -> Result<(), Fail> {
-    let words = [
-        "relayd",
-        "sign",
-        "msg_p5jXN8AQM9LWM0D4loKWxJek",
-        "1614265330",
-        "whsec_MfKQ9r8GKYqrTwjUPD8ILPZIo2LaLaSw",
-    ];
-    let told = tell(rt.alloc(), &words, b"{\"test\": 2432232314}");
-    let header = "v1,g0hM9SsE+OTPJTGt/tmIKtSyZlE3uFJELVlNIOLJ1OE=\n";
-    check(&rt, &told, header, "", 0);
+    let words = ["relayd", "sign", EXAMPLE_ID, EXAMPLE_AT, EXAMPLE_SECRET];
+    let told = tell(rt.alloc(), &words, EXAMPLE_BODY);
+    check(&rt, &told, EXAMPLE_HEADER, "", 0);
     let two = [
         "relayd",
         "sign",
@@ -208,6 +212,49 @@ fn signs(rt: HostRuntime) -> Result<(), Fail> {
     assert_eq!(rt; told.output.len(), 96);
     assert_eq!(rt; told.output.get(47), Some(&b' '));
     Ok(())
+}
+
+// The example with these secrets, through a reader and a writer that may fail.
+fn sign_example(alloc: Global, secrets: &[&str], reads: u32, writes: u32) -> Told {
+    let mut input = Pieces {
+        rest: EXAMPLE_BODY,
+        size: 7,
+        reads,
+    };
+    let mut output = Limited {
+        bytes: Vec::new(alloc),
+        writes,
+    };
+    let mut errors = Vec::new(alloc);
+    let status = sign(
+        alloc,
+        EXAMPLE_ID,
+        EXAMPLE_AT,
+        secrets,
+        &mut input,
+        &mut output,
+        &mut errors,
+    );
+    Told {
+        output: output.bytes,
+        errors,
+        status,
+    }
+}
+
+#[test]
+fn signs_by_its_arguments(rt: HostRuntime) {
+    let one = [EXAMPLE_SECRET];
+    let told = sign_example(rt.alloc(), &one, 4, 1);
+    check(&rt, &told, EXAMPLE_HEADER, "", 0);
+    let told = sign_example(rt.alloc(), &one, 3, 1);
+    check(&rt, &told, "", "relayd: Read\n", 3);
+    let told = sign_example(rt.alloc(), &one, 4, 0);
+    check(&rt, &told, "", "relayd: Write\n", 3);
+    let told = sign_example(rt.alloc(), &[], 4, 1);
+    check(&rt, &told, "", "relayd: BadSecret\n", 1);
+    let told = sign_example(rt.alloc(), &[EXAMPLE_SECRET; 5], 4, 1);
+    check(&rt, &told, "", "relayd: BadSecret\n", 1);
 }
 
 #[test]
@@ -235,6 +282,8 @@ fn bounds_a_body(rt: HostRuntime) -> Result<(), Fail> {
     let body = vec![in rt.alloc(); b'a'; 65_537]?;
     let told = tell(rt.alloc(), &words, body.as_slice());
     check(&rt, &told, "", "relayd: TooLong\n", 2);
+    let told = tell(rt.alloc(), &words, &body.as_slice()[1..]);
+    assert_eq!(rt; told.status, 0);
     Ok(())
 }
 

@@ -1,8 +1,8 @@
 //! The words of a line.
-ghost use Rattle.std.specs.Prelude.{◌≡◌, ◌↔◌, ℕ, ◌<◌, ◌^◌, List, false, IsTrue, IfOk, IfErr, IfSome, decimal};
+ghost use Rattle.std.specs.Prelude.{◌≡◌, ◌↔◌, ◌⊎◌, ℕ, ◌<◌, ◌^◌, List, false, IsTrue, IfOk, IfErr, IfSome, decimal};
 ghost use Rattle.relay_types.specs.Values.{is_moment, is_max_limit, is_body};
 ghost use Rattle.relayd.specs.Parts.{HasParts, texts};
-ghost use Rattle.relayd.specs.Script.{ReadSecrets, IsSecretsWord, IsBodyWord};
+ghost use Rattle.relayd.specs.Script.{ReadSecrets, AreSecretTexts, IsSecretsWord, IsBodyWord};
 ghost use Rattle.relayd.specs.WordFaults.{word_fault};
 ghost use Rattle.relayd.specs.declared.words.WordFault.TheVariants.{OutOfMemory};
 
@@ -73,15 +73,15 @@ pub fn read_number(word: &[u8]) -> Option<u64>
 }
 
 /// A moment.
-pub fn read_moment(word: &[u8]) -> Result<Moment, WordFault>
+pub fn read_moment(word: &[u8]) -> Result<Moment, ReadFault>
     ensures value { IfOk result (λ moment. word.now ≡ decimal moment) }
     ensures valid { IfOk result (λ moment. IsTrue (is_moment moment)) }
     ensures each { (moment : ℕ) → IsTrue (is_moment moment) → word.now ≡ decimal moment → result ≡ Ok moment }
-    ensures refusal { IfErr result (λ fault. fault ≡ WordFault.Bad) }
+    ensures refusal { IfErr result (λ fault. fault ≡ ReadFault.BadMoment) }
 {
     match read_number(word) {
-        Some(seconds) => Ok(Moment::of(seconds)?),
-        None => Err(WordFault::Bad),
+        Some(seconds) => Moment::of(seconds),
+        None => Err(ReadFault::BadMoment),
     }
 }
 
@@ -104,20 +104,30 @@ pub fn read_secrets(alloc: Global, word: &[u8]) -> Result<Secrets, WordFault>
     ensures bad { result ≡ Err WordFault.Bad → (secrets : List (List ℕ)) → IsSecretsWord word.now secrets → ⊥ }
 {
     let texts = split_at(alloc, word, b',')?;
-    let secrets = read_each(alloc, texts.as_slice())?;
-    Ok(Secrets::of(secrets.as_slice())?)
+    Ok(secrets_of(alloc, texts.as_slice())?)
+}
+
+/// The secrets of one to four texts, the newest first.
+pub fn secrets_of(alloc: Global, words: &[&[u8]]) -> Result<Secrets, ReadFault>
+    ensures value { IfOk result (λ secrets. AreSecretTexts (texts words.now) secrets) }
+    ensures bad { result ≡ Err ReadFault.BadSecret → (secrets : List (List ℕ)) → AreSecretTexts (texts words.now) secrets → ⊥ }
+    ensures refusal { IfErr result (λ fault. (fault ≡ ReadFault.BadSecret) ⊎ (fault ≡ ReadFault.OutOfMemory)) }
+{
+    let secrets = read_each(alloc, words)?;
+    Secrets::of(secrets.as_slice())
 }
 
 // The secrets of the texts.
-fn read_each(alloc: Global, words: &[&[u8]]) -> Result<Vec<Secret>, WordFault>
+fn read_each(alloc: Global, words: &[&[u8]]) -> Result<Vec<Secret>, ReadFault>
     ensures value { IfOk result (λ secrets. ReadSecrets (texts words.now) secrets.items) }
-    ensures bad { result ≡ Err WordFault.Bad → (secrets : List (List ℕ)) → ReadSecrets (texts words.now) secrets → ⊥ }
+    ensures bad { result ≡ Err ReadFault.BadSecret → (secrets : List (List ℕ)) → ReadSecrets (texts words.now) secrets → ⊥ }
+    ensures refusal { IfErr result (λ fault. (fault ≡ ReadFault.BadSecret) ⊎ (fault ≡ ReadFault.OutOfMemory)) }
 {
     let mut secrets = Vec::new(alloc);
     for word in words {
         let secret = Secret::read(word)?;
         if secrets.push(secret).is_err() {
-            return Err(WordFault::OutOfMemory);
+            return Err(ReadFault::OutOfMemory);
         }
     }
     Ok(secrets)
