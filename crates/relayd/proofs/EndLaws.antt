@@ -10,6 +10,7 @@ use Rattle.relayd.specs.declared.fault.ReplayFault.TheVariants.{BadLine, TooLong
 use Rattle.relayd.specs.Streams.{Reading, left, has_no_feed, TakesLine, IsTooLong, AppendsFront}
 use Rattle.relayd.specs.Ends.{fed, HasLines, AreWithinBounds, IsWhole, IsUpToBad, IsUpToTooLong, IsCut, EndsSo, CutsLine, EndsLine}
 use Rattle.relayd.proofs.FeedLaws.{IsTooLong-none}
+use Rattle.relayd.proofs.StreamLaws.{Appends-known}
 
 -- ---- the lines of a text
 
@@ -95,13 +96,6 @@ goes_on text lines rest (inl before) = at s.last refl
 
 -- ---- known bytes
 
-grown : (before after : Option (List ℕ)) (old more : List ℕ) → before ≡ Some old → Appends before after more → after ≡ Some (old ++ more)
-grown before after old more is h = at after (subst (λ o. Appends o after more) is h)
-  where
-    at : (o : Option (List ℕ)) → Appends (Some old) o more → o ≡ Some (old ++ more)
-    at None h = absurd h
-    at (Some new) h = ap Some h
-
 kept : (before after : Option (List ℕ)) (old : List ℕ) → before ≡ Some old → Keeps before after → after ≡ Some old
 kept before after old is h = at after (subst (λ o. Keeps o after) is h)
   where
@@ -183,7 +177,7 @@ answered text had reading remaining old new answer t holds grows = record {
   within = t.within;
   count = omega (arith, t.count, length-append t.lines (reading.line ∷ []));
   holds = holds;
-  is_written = grown old new (had ++ t.written) answer t.is_written grows ∙ ap Some (append_assoc had t.written answer);
+  is_written = Appends-known old new (had ++ t.written) answer t.is_written grows ∙ ap Some (append_assoc had t.written answer);
 }
 
 -- ---- the ends
@@ -235,7 +229,7 @@ cut_line Says Gives text had reading remaining old new t says more (inl same) =
 cut_line Says Gives text had reading remaining old new t says more (inr (answer, gives, (rest, (front, is, grows)))) =
     let all = goes_on text (t.lines ++ reading.line ∷ []) t.rest t.taken in (
       t.written ++ front,
-      grown old new (had ++ t.written) front t.is_written grows ∙ ap Some (append_assoc had t.written front),
+      Appends-known old new (had ++ t.written) front t.is_written grows ∙ ap Some (append_assoc had t.written front),
       (t.lines ++ reading.line ∷ [], all.0, rest, all.1, subst (Says (t.lines ++ reading.line ∷ [])) (ap (λ xs. t.written ++ xs) is ∙ sym (append_assoc t.written front rest)) (more answer gives)),
     )
 
