@@ -4,11 +4,10 @@ use Rattle.std.specs.Borrow.{Bor}
 use Rattle.std.specs.List.{list_all}
 use Rattle.std.proofs.lemmas.List.{length-map}
 use Rattle.vegas.specs.Vegas.{Sample}
-use Rattle.relayd.specs.Parts.{has_no, HasParts, texts}
-use Rattle.relayd.specs.Replies.{line}
+use Rattle.text_lines.specs.Parts.{line, has_no, HasParts, texts}
 use Rattle.relayd.specs.Traces.{end_word, sample_words, IsSample, ReadsSample}
-use Rattle.relayd.proofs.CleanCalls.{clean-decimal}
-use Rattle.relayd.proofs.PartLaws.{parts_equal}
+use Rattle.text_lines.proofs.CleanWords.{clean-decimal}
+use Rattle.text_lines.proofs.PartLaws.{parts_equal}
 
 clean_end : (dropped : Bool) → IsTrue (has_no 32 (end_word dropped))
 clean_end true = refl

@@ -5,15 +5,15 @@ use Rattle.std.specs.Io.KnownBytes.{Appends, Keeps}
 use Rattle.relay_types.specs.Values.{is_msg_id}
 use Rattle.relay_types.specs.declared.fault.ReadFault.{ReadFault}
 use Rattle.relay_types.specs.declared.fault.ReadFault.TheVariants as reader
-use Rattle.relayd.specs.declared.fault.ReplayFault.{ReplayFault}
-use Rattle.relayd.specs.declared.fault.ReplayFault.TheVariants.{TooLong, Read, Write, OutOfMemory}
+use Rattle.text_lines.specs.declared.fault.ReplayFault.{ReplayFault}
+use Rattle.text_lines.specs.declared.fault.ReplayFault.TheVariants.{TooLong, Read, Write, OutOfMemory}
 use Rattle.relayd.specs.declared.signing.Asked.{Asked}
-use Rattle.relayd.specs.Ends.{status_of}
-use Rattle.relayd.specs.Script.{AreSecretTexts}
+use Rattle.text_lines.specs.Ends.{status_of}
+use Rattle.text_lines.specs.Words.{AreSecretTexts}
 use Rattle.relayd.specs.Signs.{IsMomentText, AreAsked, AsksNothing, signed_line, SignsTo}
-use Rattle.relayd.specs.Streams.{AppendsFront}
-use Rattle.relayd.proofs.NumberLaws.{true_not_false}
-use Rattle.relayd.proofs.StreamLaws.{Appends-known, Keeps-known}
+use Rattle.text_lines.specs.Streams.{AppendsFront}
+use Rattle.text_lines.proofs.NumberLaws.{true_not_false}
+use Rattle.text_lines.proofs.StreamLaws.{Appends-known, Keeps-known}
 
 known : (input : Option (List ℕ)) (body : List ℕ) (P : List ℕ → Type 0) → input ≡ Some body → IfSome input P → P body
 known input body P is h = subst (λ o. IfSome o P) is h

@@ -1,14 +1,2 @@
-pub mod Streams
-pub mod World
-pub mod Moves
-pub mod Parts
-pub mod Replies
-pub mod WordFaults
-pub mod Script
 pub mod Signs
-pub mod Runs
-pub mod Ends
-pub mod Desks
-pub mod Runners
-pub mod Replays
 pub mod Traces

@@ -3,8 +3,8 @@ use Rattle.std.specs.Prelude.{◌≡◌, ℕ, ◌<◌, ◌≤◌, ◌⊎◌, Lis
 use Rattle.hmac_signer.specs.Signature.{signature_header}
 use Rattle.relay_types.specs.Values.{is_msg_id, is_moment}
 use Rattle.relayd.specs.declared.signing.Asked.{Asked}
-use Rattle.relayd.specs.Script.{AreSecretTexts}
-use Rattle.relayd.specs.Streams.{with_feed}
+use Rattle.text_lines.specs.Words.{AreSecretTexts}
+use Rattle.text_lines.specs.Streams.{with_feed}
 
 -- the text of a moment, in whole seconds
 abbrev pub IsMomentText : List ℕ → ℕ → Type 0

@@ -4,10 +4,10 @@ use Rattle.std.specs.Io.KnownBytes.{Keeps}
 use Rattle.relay_types.specs.Values.{is_max_limit}
 use Rattle.vegas.specs.Vegas.{Sample, limit_of, noload_of}
 use Rattle.vegas.specs.Estimates.{Estimate, StandsFor}
-use Rattle.relayd.specs.declared.fault.ReplayFault.{ReplayFault}
-use Rattle.relayd.specs.Ends.{Ends, EndsTo}
-use Rattle.relayd.specs.Replies.{line}
-use Rattle.relayd.specs.Streams.{with_feed}
+use Rattle.text_lines.specs.declared.fault.ReplayFault.{ReplayFault}
+use Rattle.text_lines.specs.Ends.{Ends, EndsTo}
+use Rattle.text_lines.specs.Parts.{line}
+use Rattle.text_lines.specs.Streams.{with_feed}
 
 -- the words `RTT INFLIGHT ok` or `RTT INFLIGHT drop` of a sample
 abbrev pub end_word : Bool → List ℕ

@@ -1,19 +1,18 @@
 //! The commands: each reads one reader, writes two writers, and gives its exit status.
 ghost use Rattle.std.specs.Prelude.{◌≡◌, ◌≢◌, ◌≤◌};
-ghost use Rattle.relayd.specs.Ends.{status_of};
-ghost use Rattle.relayd.specs.Parts.{texts};
-ghost use Rattle.relayd.specs.Replays.{ReplaysTo};
+ghost use Rattle.text_lines.specs.Ends.{status_of};
+ghost use Rattle.text_lines.specs.Parts.{texts};
+ghost use Rattle.drill.specs.Replays.{ReplaysTo};
 ghost use Rattle.relayd.specs.Signs.{SignsTo};
 ghost use Rattle.relayd.specs.Traces.{TracesTo};
 
-use crate::fault::ReplayFault;
-use crate::words::read_max;
-use crate::{limits, runner, signing};
+use crate::{limits, signing};
 use clap::{Arg, ArgAction, ArgMatches, Command};
 use relay_types::ReadFault;
 use sqlite::Connection;
 use std::alloc::{AllocError, Global};
 use std::io::{Read, Write};
+use text_lines::{ReplayFault, read_max};
 
 /// Done.
 pub const DONE: u8 = 0;
@@ -70,7 +69,7 @@ pub fn replay<R: Read, O: Write, E: Write>(
 {
     match Connection::open_in_memory(alloc) {
         Ok(conn) => {
-            let end = runner::replay(alloc, input, output, conn, 0);
+            let end = drill::replay(alloc, input, output, conn, 0);
             ended(errors, end)
         }
         Err(AllocError) => ended(errors, Err(ReplayFault::OutOfMemory)),

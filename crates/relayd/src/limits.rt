@@ -2,18 +2,15 @@
 ghost use Rattle.std.specs.Prelude.{◌≡◌, ◌<◌, ◌≤◌, Bool, [], ◌∷◌, decimal, Some, IfSome, IfOk};
 ghost use Rattle.vegas.specs.Vegas.{Sample as Taken};
 ghost use Rattle.vegas.specs.Estimates.{sample_of};
-ghost use Rattle.relayd.specs.Ends.{EndsLine};
-ghost use Rattle.relayd.specs.Replies.{line};
+ghost use Rattle.text_lines.specs.Ends.{EndsLine};
+ghost use Rattle.text_lines.specs.Parts.{line};
 ghost use Rattle.relayd.specs.Traces.{Traces, TakesSample, ReadsSample, IsNoSample, IsSample, end_word};
 
-use crate::fault::ReplayFault;
-use crate::lines::Lines;
-use crate::output::write_line;
-use crate::words::{WordFault, is_word, read_number, split};
 use relay_types::MaxLimit;
 use std::alloc::Global;
 use std::fmt;
 use std::io::{Read, Write};
+use text_lines::{Lines, ReplayFault, WordFault, is_word, read_number, split, write_line};
 use vegas::Estimator;
 
 /// The most posts in flight.

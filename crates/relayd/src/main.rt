@@ -2,16 +2,8 @@
 #![tactic(auto)]
 
 mod commands;
-mod desk;
-mod event;
-mod fault;
 mod limits;
-mod lines;
-mod output;
-mod reply;
-mod runner;
 mod signing;
-mod words;
 
 use std::alloc::Global;
 use std::io;

@@ -2,20 +2,17 @@
 ghost use Rattle.std.specs.Prelude.{◌≡◌, ◌↔◌, ℕ, List, ◌<◌, ◌≤◌, ◌+◌, ◌++◌, ◌⊎◌, false, length, IsTrue, IfSome, IfOk, IfErr, OnOk, OnErr, vec_len};
 ghost use Rattle.std.specs.Io.KnownBytes.{Appends, Keeps};
 ghost use Rattle.relay_types.specs.Values.{is_msg_id};
-ghost use Rattle.relayd.specs.Parts.{texts};
-ghost use Rattle.relayd.specs.Script.{AreSecretTexts};
+ghost use Rattle.text_lines.specs.Parts.{texts};
+ghost use Rattle.text_lines.specs.Words.{AreSecretTexts};
 ghost use Rattle.relayd.specs.Signs.{AreAsked, IsMomentText, signed_line};
-ghost use Rattle.relayd.specs.Streams.{AppendsFront};
+ghost use Rattle.text_lines.specs.Streams.{AppendsFront};
 
-use crate::fault::ReplayFault;
-use crate::lines::{MOST_READS, read_into};
-use crate::output::write_line;
-use crate::words::{read_moment, secrets_of};
 use hmac_signer::signature_header;
 use relay_types::{Body, Moment, MsgId, ReadFault, Secrets};
 use std::alloc::{AllocError, Global};
 use std::io::{Read, Write};
 use std::sync::Arc;
+use text_lines::{MOST_READS, ReplayFault, read_into, read_moment, secrets_of, write_line};
 
 /// The most bytes of a body.
 const MOST_BODY: usize = 65_536;

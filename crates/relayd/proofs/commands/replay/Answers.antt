@@ -1,9 +1,9 @@
 use Rattle.std.proofs.Common.{Err, inr, refl}
 use Rattle.sqlite.specs.View.{doubt}
-use Rattle.relayd.specs.declared.fault.ReplayFault.TheVariants.{OutOfMemory}
-use Rattle.relayd.specs.Runs.{IsNoCall, Replies}
-use Rattle.relayd.proofs.EndLaws.{ends_at_once}
-use Rattle.relayd.proofs.ReplayLaws.{Replies-none}
+use Rattle.text_lines.specs.declared.fault.ReplayFault.TheVariants.{OutOfMemory}
+use Rattle.drill.specs.Runs.{IsNoCall, Replies}
+use Rattle.text_lines.proofs.EndLaws.{ends_at_once}
+use Rattle.drill.proofs.ReplayLaws.{Replies-none}
 use Rattle.relayd.proofs.commands.replay.Goals as goal
 
 pub returns-in-Ok-clause-replays : goal.returns-in-Ok-clause-replays

@@ -1,4 +1,4 @@
-use Rattle.relayd.specs.Parts.{texts}
+use Rattle.text_lines.specs.Parts.{texts}
 use Rattle.relayd.proofs.SignLaws.{ends_misused, ends_signing, refused_arguments}
 use Rattle.relayd.proofs.commands.sign.Goals as goal
 

@@ -1,6 +1,6 @@
 use Rattle.std.proofs.Common.{arith, rules, List, ℕ, subst}
 use borrow.Author.Tests.{ltb-true, ltb-false}
-use Rattle.relayd.specs.Parts.{texts}
+use Rattle.text_lines.specs.Parts.{texts}
 use Rattle.relayd.specs.Traces.{IsSample}
 use Rattle.relayd.proofs.SampleWords.{the_sample, three_texts, length-IsSample}
 use Rattle.relayd.proofs.limits.read_sample.Goals as goal

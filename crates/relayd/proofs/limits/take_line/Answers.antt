@@ -1,7 +1,7 @@
 use Rattle.std.proofs.Common.{Err, ap, subst, sym, refl, ◌∙◌}
 use Rattle.vegas.specs.Estimates.{sample_of}
 use Rattle.relayd.specs.Traces.{ReadsSample, TakesSample, IsNoSample, numbers_text}
-use Rattle.relayd.proofs.EndLaws.{keeps_same, written_line}
+use Rattle.text_lines.proofs.EndLaws.{keeps_same, written_line}
 use Rattle.relayd.proofs.limits.take_line.Goals as goal
 
 pub returns-in-Err-Bad : goal.returns-in-Err-Bad

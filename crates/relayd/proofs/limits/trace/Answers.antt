@@ -1,7 +1,7 @@
 use Rattle.std.proofs.Common.{Ok, Err, inr, ap, ◌∙◌}
 use Rattle.std.proofs.lemmas.Result.{err_from_is_err_and}
 use Rattle.relayd.specs.Traces.{IsNoSample, Traced, TakesSample}
-use Rattle.relayd.proofs.EndLaws.{begins, takes, answered, whole, ends_at_once, ends_between, ends_at_line, exits}
+use Rattle.text_lines.proofs.EndLaws.{begins, takes, answered, whole, ends_at_once, ends_between, ends_at_line, exits}
 use Rattle.relayd.proofs.TraceLaws.{Sampled, Traced-none, Sampled-none, Traced-from_sampled, Sampled-more, Traced-more}
 use Rattle.relayd.proofs.limits.trace.Goals as goal
 

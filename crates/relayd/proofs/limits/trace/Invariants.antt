@@ -1,5 +1,5 @@
 use Rattle.std.proofs.Common.{◌≡◌, ℕ, ◌-◌, List, Some}
-use Rattle.relayd.proofs.EndLaws.{Progress}
+use Rattle.text_lines.proofs.EndLaws.{Progress}
 use Rattle.relayd.proofs.TraceLaws.{Sampled}
 use Rattle.relayd.proofs.limits.trace.Given as goal
 

@@ -1,4 +1,4 @@
-use Rattle.relayd.proofs.StreamLaws.{AppendsFront-any}
+use Rattle.text_lines.proofs.StreamLaws.{AppendsFront-any}
 use Rattle.relayd.specs.Signs.{signed_line}
 use Rattle.relayd.proofs.signing.write_header.Goals as goal
 

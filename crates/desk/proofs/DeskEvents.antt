@@ -1,0 +1,176 @@
+-- What the first records of a history say of its events, and which of its deliveries are pending.
+use Rattle.std.proofs.Common.{◌≡◌, ℕ, zero, suc, ◌+◌, ◌≤◌, Bool, true, false, List, [], ◌∷◌, ◌++◌, Option, Some, None, length, refl, sym, ◌∙◌, ap, arith, cond, ◌&&◌, map, add-zero, inl, inr}
+use Rattle.std.specs.Prelude.{slice_get, filter, find, count_by, option_map, option_and_then, is_some, bytes_eq, not, nat_le}
+use Rattle.std.specs.List.{enumerate_from}
+use Rattle.std.specs.Option.{option_map_or}
+use Rattle.std.proofs.lemmas.List.Sums.{sum_by-cons}
+use Rattle.std.proofs.lemmas.Bool.{cases_Bool, false≢true}
+use Rattle.std.proofs.lemmas.Slice.Eq.{bytes_eq-Decides}
+use Rattle.relay_types.specs.declared.record.Record.{Record}
+use Rattle.relay_types.specs.declared.state.State.TheVariants.{Pending}
+use Rattle.relay_types.specs.Lists.{last_of}
+use Rattle.relay_types.specs.Records.{Accepted, accepted_by}
+use Rattle.relay_types.specs.Deliveries.{accepted, is_accept, is_accept_of, is_accept_as, deliveries, deliveries_of, known_as, is_in_state, state_of, attempts_of, due_if_pending}
+use Rattle.delivery_book.specs.Book.{row_of, counts_of, counts_of_all}
+use Rattle.desk.specs.declared.reply.Fault.TheVariants as fault
+use Rattle.desk.specs.declared.reply.Reply.{Reply}
+use Rattle.desk.specs.declared.reply.Reply.TheVariants as says
+use Rattle.desk.specs.Moves.{event_shown, has_body, pending_among}
+use Rattle.desk.specs.Desks.{event_reply, first_fault, same_faults, backlog_faults}
+
+-- An event's number among the first records
+
+abbrev known_from : (Record → Bool) → ℕ → List Record → Option ℕ
+known_from test n records = option_map (λ (e : ℕ × Record). e.0) (find (λ e. test e.1) (enumerate_from n records))
+
+known_least : (test : Record → Bool) (n j : ℕ) (records : List Record) → known_from test n records ≡ Some j → n ≤ j
+known_least test n j [] e = cc
+known_least test n j (r ∷ rest) e = step (test r) e (known_least test (n + 1) j rest)
+  where
+    same : (a b : ℕ) → Some a ≡ Some b → a ≡ b
+    same a b e = cc
+
+    step : (b : Bool) → option_map (λ (e : ℕ × Record). e.0) (cond b (Some (n, r)) (find (λ e. test e.1) (enumerate_from (n + 1) rest))) ≡ Some j → (known_from test (n + 1) rest ≡ Some j → n + 1 ≤ j) → n ≤ j
+    step true h later = omega (arith, same n j h)
+    step false h later = omega (arith, later h)
+
+unknown_first : (test : Record → Bool) (n : ℕ) (xs ys : List Record) → known_from test n (xs ++ ys) ≡ None → known_from test n xs ≡ None
+unknown_first test n [] ys e = refl
+unknown_first test n (x ∷ xs) ys e = step (test x) e (unknown_first test (n + 1) xs ys)
+  where
+    step : (b : Bool) → option_map (λ (e : ℕ × Record). e.0) (cond b (Some (n, x)) (find (λ e. test e.1) (enumerate_from (n + 1) (xs ++ ys)))) ≡ None
+        → (known_from test (n + 1) (xs ++ ys) ≡ None → known_from test (n + 1) xs ≡ None)
+        → option_map (λ (e : ℕ × Record). e.0) (cond b (Some (n, x)) (find (λ e. test e.1) (enumerate_from (n + 1) xs))) ≡ None
+    step true h later = cc
+    step false h later = later h
+
+known_first : (test : Record → Bool) (n k j : ℕ) (xs ys : List Record) (a : Accepted) → j ≡ n + k → known_from test n (xs ++ ys) ≡ Some j
+    → option_and_then accepted_by (slice_get xs k) ≡ Some a → known_from test n xs ≡ Some j
+known_first test n k j [] ys a p e h = cc
+known_first test n zero j (x ∷ xs) ys a p e h = step (test x) e
+  where
+    step : (b : Bool) → option_map (λ (e : ℕ × Record). e.0) (cond b (Some (n, x)) (find (λ e. test e.1) (enumerate_from (n + 1) (xs ++ ys)))) ≡ Some j
+        → option_map (λ (e : ℕ × Record). e.0) (cond b (Some (n, x)) (find (λ e. test e.1) (enumerate_from (n + 1) xs))) ≡ Some j
+    step true t = t
+    step false t = absurd (omega (arith, p, known_least test (n + 1) j (xs ++ ys) t))
+known_first test n (suc k) j (x ∷ xs) ys a p e h = step (test x) e (λ t. known_first test (n + 1) k j xs ys a (omega (arith, p)) t h)
+  where
+    step : (b : Bool) → option_map (λ (e : ℕ × Record). e.0) (cond b (Some (n, x)) (find (λ e. test e.1) (enumerate_from (n + 1) (xs ++ ys)))) ≡ Some j
+        → (known_from test (n + 1) (xs ++ ys) ≡ Some j → known_from test (n + 1) xs ≡ Some j)
+        → option_map (λ (e : ℕ × Record). e.0) (cond b (Some (n, x)) (find (λ e. test e.1) (enumerate_from (n + 1) xs))) ≡ Some j
+    step true t later = t
+    step false t later = later t
+
+unknown_later : (test : Record → Bool) → ((r : Record) → test r ≡ true → is_some (accepted_by r) ≡ true) → (n k j : ℕ) (xs ys : List Record) → j ≡ n + k → known_from test n (xs ++ ys) ≡ Some j
+    → option_and_then accepted_by (slice_get xs k) ≡ None → known_from test n xs ≡ None
+unknown_later test accepts n k j [] ys p e h = refl
+unknown_later test accepts n zero j (x ∷ xs) ys p e h = step (test x) refl e
+  where
+    step : (b : Bool) → test x ≡ b → option_map (λ (e : ℕ × Record). e.0) (cond b (Some (n, x)) (find (λ e. test e.1) (enumerate_from (n + 1) (xs ++ ys)))) ≡ Some j
+        → option_map (λ (e : ℕ × Record). e.0) (cond b (Some (n, x)) (find (λ e. test e.1) (enumerate_from (n + 1) xs))) ≡ None
+    step true q t = let none : false ≡ true = ap is_some (sym h) ∙ accepts x q in cc
+    step false q t = absurd (omega (arith, p, known_least test (n + 1) j (xs ++ ys) t))
+unknown_later test accepts n (suc k) j (x ∷ xs) ys p e h = step (test x) e (λ t. unknown_later test accepts (n + 1) k j xs ys (omega (arith, p)) t h)
+  where
+    same : (a b : ℕ) → Some a ≡ Some b → a ≡ b
+    same a b e = cc
+
+    step : (b : Bool) → option_map (λ (e : ℕ × Record). e.0) (cond b (Some (n, x)) (find (λ e. test e.1) (enumerate_from (n + 1) (xs ++ ys)))) ≡ Some j
+        → (known_from test (n + 1) (xs ++ ys) ≡ Some j → known_from test (n + 1) xs ≡ None)
+        → option_map (λ (e : ℕ × Record). e.0) (cond b (Some (n, x)) (find (λ e. test e.1) (enumerate_from (n + 1) xs))) ≡ None
+    step true t later = absurd (omega (arith, p, same n j t))
+    step false t later = later t
+
+passes : (o : Option Accepted) (f : Accepted → Bool) → option_map_or f o false ≡ true → is_some o ≡ true
+passes None f e = e
+passes (Some a) f e = refl
+
+pub event_unknown : (first rest : List Record) (name id : List ℕ) → known_as (first ++ rest) name id ≡ None → says.Absent ≡ option_map_or (event_shown first) (known_as first name id) says.Absent
+event_unknown first rest name id e = ap (λ o. option_map_or (event_shown first) o says.Absent) (sym (unknown_first (is_accept_as name id) 0 first rest e))
+
+pub event_known : (first rest : List Record) (name id : List ℕ) (d : ℕ) → known_as (first ++ rest) name id ≡ Some d
+    → event_reply (row_of first d) ≡ option_map_or (event_shown first) (known_as first name id) says.Absent
+event_known first rest name id d e = step (accepted first d) refl
+  where
+    shown : Option Accepted → Reply
+    shown o = event_reply (option_map (λ a. record {
+      endpoint = a.endpoint;
+      id = a.id;
+      at = a.at;
+      attempts = length (attempts_of first d);
+      state = state_of first d;
+      due = due_if_pending first d;
+      last_status = option_map (λ t. t.status) (last_of (attempts_of first d));
+    }) o)
+
+    step : (o : Option Accepted) → accepted first d ≡ o → shown o ≡ option_map_or (event_shown first) (known_as first name id) says.Absent
+    step None h = ap (λ k. option_map_or (event_shown first) k says.Absent) (sym (unknown_later (is_accept_as name id) (λ r t. passes (accepted_by r) _ t) 0 d d first rest (omega arith) e h))
+    step (Some a) h = ap (λ k. option_map_or (event_shown first) k says.Absent) (sym (known_first (is_accept_as name id) 0 d d first rest a (omega arith) e h))
+
+-- Pending deliveries
+
+abbrev places_from : (Record → Bool) → ℕ → List Record → List ℕ
+places_from test n records = map (λ (e : ℕ × Record). e.0) (filter (λ e. test e.1) (enumerate_from n records))
+
+pending_from : (records : List Record) (of : ℕ → Bool) (test : Record → Bool) → ((r : Record) → test r ≡ true → is_some (accepted_by r) ≡ true) → (n : ℕ) (rest : List Record)
+    → ((k : ℕ) → accepted records (n + k) ≡ option_and_then accepted_by (slice_get rest k))
+    → count_by of (places_from test n rest) ≡ count_by (λ d. is_some (accepted records d) && of d) (places_from test n rest)
+pending_from records of test accepts n [] at = refl
+pending_from records of test accepts n (r ∷ rest) at =
+    step (test r) refl
+    (pending_from records of test accepts (n + 1) rest (λ k. ap (accepted records) (moved k) ∙ at (suc k)))
+  where
+    moved : (k : ℕ) → n + 1 + k ≡ n + suc k
+    moved k = omega arith
+
+    step : (b : Bool) → test r ≡ b → count_by of (places_from test (n + 1) rest) ≡ count_by (λ d. is_some (accepted records d) && of d) (places_from test (n + 1) rest)
+        → count_by of (map (λ (e : ℕ × Record). e.0) (cond b ((n, r) ∷ filter (λ e. test e.1) (enumerate_from (n + 1) rest)) (filter (λ e. test e.1) (enumerate_from (n + 1) rest))))
+        ≡ count_by (λ d. is_some (accepted records d) && of d) (map (λ (e : ℕ × Record). e.0) (cond b ((n, r) ∷ filter (λ e. test e.1) (enumerate_from (n + 1) rest)) (filter (λ e. test e.1) (enumerate_from (n + 1) rest))))
+    step true q h =
+        let here : is_some (accepted records n) ≡ true = ap is_some (ap (accepted records) (sym (add-zero n)) ∙ at 0) ∙ accepts r q in
+        sum_by-cons (λ d. cond (of d) 1 0) n (places_from test (n + 1) rest)
+        ∙ (λ i. cond (sym here i && of n) 1 0 + h i)
+        ∙ sym (sum_by-cons (λ d. cond (is_some (accepted records d) && of d) 1 0) n (places_from test (n + 1) rest))
+    step false q h = h
+
+starts : (records : List Record) (k : ℕ) → accepted records (0 + k) ≡ option_and_then accepted_by (slice_get records k)
+starts records k = ap (accepted records) moved
+  where
+    moved : 0 + k ≡ k
+    moved = omega arith
+
+pending_is : (records : List Record) (name : List ℕ) → (counts_of records name).pending ≡ pending_among records (deliveries_of records name)
+pending_is records name = pending_from records (λ d. is_in_state Pending (state_of records d)) (is_accept_of name) (λ r t. passes (accepted_by r) _ t) 0 records (starts records)
+
+pending_all_is : (records : List Record) → (counts_of_all records).pending ≡ pending_among records (deliveries records)
+pending_all_is records = pending_from records (λ d. is_in_state Pending (state_of records d)) is_accept (λ r t. t) 0 records (starts records)
+
+-- the backlog that the book's counts tell
+pub backlog_is : (records : List Record) (name : List ℕ) (some all : Bool) → nat_le 10000 (counts_of records name).pending ≡ some → nat_le 50000 (counts_of_all records).pending ≡ all
+    → first_fault ((some, 4, fault.EndpointBacklog) ∷ (all, 5, fault.Backlog) ∷ []) ≡ first_fault (backlog_faults records name)
+backlog_is records name some all e f i =
+    first_fault (
+    (((sym e) ∙ ap (nat_le 10000) (pending_is records name)) i, 4, fault.EndpointBacklog)
+    ∷ ((sym f ∙ ap (nat_le 50000) (pending_all_is records)) i, 5, fault.Backlog)
+    ∷ []
+    )
+
+-- Bodies
+
+pub has_body-some : (body known : List ℕ) (o : Option Accepted) → Some known ≡ option_map (λ a. a.body) o → has_body body o ≡ bytes_eq known body
+has_body-some body known None e = cc
+has_body-some body known (Some a) e = let same : known ≡ a.body = cc in ap (λ b. bytes_eq b body) (sym same)
+
+pub has_body-none : (body : List ℕ) (o : Option Accepted) → None ≡ option_map (λ a. a.body) o → has_body body o ≡ false
+has_body-none body None e = refl
+has_body-none body (Some a) e = cc
+
+pub bodies_differ : (a b : List ℕ) (r : Bool) → (a ≡ b → r ≡ true) → r ≡ false → bytes_eq a b ≡ false
+bodies_differ a b r h e = elim (cases_Bool (bytes_eq a b)) [
+  | inl same ↦ absurd (false≢true (sym e ∙ h ((bytes_eq-Decides a b).0 same)))
+  | inr other ↦ other
+]
+
+pub same_body : (records : List Record) (d : ℕ) (body : List ℕ) (b : Bool) → has_body body (accepted records d) ≡ b
+    → first_fault ((not b, 3, fault.Conflict) ∷ []) ≡ first_fault (same_faults records d body)
+same_body records d body b e = ap (λ x. first_fault ((not x, 3, fault.Conflict) ∷ [])) (sym e)

@@ -1,0 +1,5 @@
+mod DeskLists
+mod DeskEvents
+mod DeskLaws
+mod DeskBatches
+mod WorkedReplies

@@ -1,0 +1,23 @@
+-- Worked rows of the replies' texts.
+use Rattle.std.proofs.Common.{◌≡◌, Some, None, codes, refl}
+use Rattle.std.specs.Fmt.{digits}
+use Rattle.relay_types.specs.declared.state.State.TheVariants.{Pending, Delivered}
+use Rattle.desk.specs.declared.reply.Fault.TheVariants as fault
+use Rattle.desk.specs.declared.reply.Reply.TheVariants as says
+use Rattle.desk.specs.Replies.{reply_text}
+
+refused_row : reply_text (says.Refused 3 fault.Exists) ≡ codes "refused 3 Exists"
+unfolding digits
+refused_row = refl
+
+sealed_row : reply_text (says.Sealed 9 12) ≡ codes "sealed 9..12"
+unfolding digits
+sealed_row = refl
+
+pending_row : reply_text (says.Event Pending (Some 1000) 0) ≡ codes "pending due 1000 attempts 0"
+unfolding digits
+pending_row = refl
+
+delivered_row : reply_text (says.Event Delivered None 2) ≡ codes "delivered attempts 2"
+unfolding digits
+delivered_row = refl

@@ -1,0 +1,4 @@
+pub mod World
+pub mod Moves
+pub mod Replies
+pub mod Desks

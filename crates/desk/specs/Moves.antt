@@ -1,0 +1,217 @@
+-- The moves of the core: what each call answers, and the world after it.
+use Rattle.std.specs.Prelude.{◌≡◌, ℕ, ◌+◌, ◌^◌, min, max, Bool, true, false, ◌==◌, not, nat_le, List, [], ◌∷◌, ◌++◌, length, Option, Some, None, bytes_eq, count_by, if◌then◌else◌, ◌⊎◌, IsSomeAnd}
+use Rattle.std.specs.Option.{option_map_or}
+use Rattle.relay_types.specs.declared.record.Record.{Record}
+use Rattle.relay_types.specs.declared.record.Record.TheVariants.{Put, Accept}
+use Rattle.relay_types.specs.Records.{History, Accepted}
+use Rattle.relay_types.specs.Deliveries.{accepted, deliveries, deliveries_of, known_as, is_pending, state_of, due_if_pending, attempts_of}
+use Rattle.relay_types.specs.Endpoints.{endpoints, has_endpoint}
+use Rattle.desk.specs.declared.event.Command.{Command}
+use Rattle.desk.specs.declared.event.Command.TheVariants.{PutEndpoint}
+use Rattle.desk.specs.declared.event.Event.{Event}
+use Rattle.desk.specs.declared.event.Event.TheVariants as on
+use Rattle.desk.specs.declared.reply.Fault.{Fault}
+use Rattle.desk.specs.declared.reply.Fault.TheVariants as fault
+use Rattle.desk.specs.declared.reply.Reply.{Reply}
+use Rattle.desk.specs.declared.reply.Reply.TheVariants as says
+use Rattle.desk.specs.World.{World, Out, Nothing, Batch, Receipt, Doubt, most_waiting, most_sealed, all_records, settled_records, sealed_records, waiting_records}
+
+-- a reply, and the world after it
+pub record Answer : Type 0 where
+  pub reply : Reply
+  pub next : World
+
+-- the world stays, and the call is refused
+abbrev pub refused : World → ℕ → Fault → Answer
+refused w number fault = record { reply = says.Refused number fault; next = w }
+
+-- the first of these faults that is there, each with its number; otherwise the answer
+abbrev pub unless : List (Bool × ℕ × Fault) → World → Answer → Answer
+unless [] w answer = answer
+unless ((there, number, fault) ∷ rest) w answer = if there then refused w number fault else unless rest w answer
+
+-- the moment of a call: the clock never goes back
+abbrev pub moment : World → ℕ → ℕ
+moment w now = max now w.clock
+
+abbrev pub at_moment : World → ℕ → World
+at_moment w now = record w { clock = moment w now }
+
+-- the world with one more record, and the number that this record gets
+abbrev pub with_record : World → Record → World
+with_record w entry = record w { history = w.history ++ (entry ∷ []) ∷ [] }
+
+abbrev pub next_number : World → ℕ
+next_number w = length (all_records w)
+
+abbrev pub staged : World → Record → Answer
+staged w entry = record { reply = says.Staged (next_number w); next = with_record w entry }
+
+-- how many events of some deliveries are pending
+abbrev pub pending_among : List Record → List ℕ → ℕ
+pending_among records ds = count_by (is_pending records) ds
+
+abbrev pub is_waiting_full : World → Bool
+is_waiting_full w = nat_le most_waiting (length (waiting_records w))
+
+abbrev pub are_numbers_spent : World → Bool
+are_numbers_spent w = nat_le (2 ^ 62) (next_number w)
+
+abbrev pub has_body : List ℕ → Option Accepted → Bool
+has_body body accept = option_map_or (λ a. bytes_eq a.body body) accept false
+
+-- the refusals of a submission, in order: those before a repeated one is answered, and those of a new one
+abbrev pub submit_faults : World → List ℕ → List ℕ → List ℕ → List (Bool × ℕ × Fault)
+submit_faults w name id body =
+    (not (has_endpoint (all_records w) name), 2, fault.UnknownEndpoint)
+    ∷ (option_map_or (λ d. not (has_body body (accepted (all_records w) d))) (known_as (all_records w) name id) false, 3, fault.Conflict)
+    ∷ []
+
+abbrev pub new_submit_faults : World → List ℕ → List (Bool × ℕ × Fault)
+new_submit_faults w name =
+    (nat_le 10000 (pending_among (all_records w) (deliveries_of (all_records w) name)), 4, fault.EndpointBacklog)
+    ∷ (nat_le 50000 (pending_among (all_records w) (deliveries (all_records w))), 5, fault.Backlog)
+    ∷ (is_waiting_full w, 6, fault.WaitingFull)
+    ∷ (are_numbers_spent w, 7, fault.SeqExhausted)
+    ∷ []
+
+abbrev pub submit_new : World → ℕ → List ℕ → List ℕ → List ℕ → Answer
+submit_new w now name id body = unless (new_submit_faults w name) w (staged (at_moment w now) (Accept name id body (moment w now)))
+
+-- the same id with the same bytes gives the number of the first
+abbrev pub repeated : World → ℕ → ℕ → Answer
+repeated w now d = record { reply = says.Staged d; next = at_moment w now }
+
+-- A submission.
+abbrev pub submit : World → ℕ → List ℕ → List ℕ → List ℕ → Answer
+submit w now name id body =
+    unless (submit_faults w name id body) w
+    (option_map_or (repeated w now) (known_as (all_records w) name id) (submit_new w now name id body))
+
+-- what a command adds
+abbrev pub record_of : Command → Record
+record_of (PutEndpoint name target max secrets) = Put name target max secrets
+
+abbrev pub makes_known_endpoint : List Record → Command → Bool
+makes_known_endpoint records (PutEndpoint name target max secrets) = has_endpoint records name
+
+abbrev pub makes_one_too_many : List Record → Command → Bool
+makes_one_too_many records (PutEndpoint name target max secrets) = nat_le 256 (length (endpoints records))
+
+-- the refusals of a command, in order
+abbrev pub change_faults : World → Command → List (Bool × ℕ × Fault)
+change_faults w command =
+    (makes_known_endpoint (all_records w) command, 3, fault.Exists)
+    ∷ (makes_one_too_many (all_records w) command, 4, fault.TooManyEndpoints)
+    ∷ (is_waiting_full w, 5, fault.WaitingFull)
+    ∷ (are_numbers_spent w, 6, fault.SeqExhausted)
+    ∷ []
+
+abbrev pub change : World → Command → Answer
+change w command = unless (change_faults w command) w (staged w (record_of command))
+
+-- what is out
+abbrev pub is_nothing_out : Out → Bool
+is_nothing_out Nothing = true
+is_nothing_out Batch = false
+is_nothing_out Receipt = false
+is_nothing_out Doubt = false
+
+-- Sealing puts the first steps that wait into a batch.
+abbrev pub with_batch : World → World
+with_batch w = record w { sealed = min (length w.history) (w.settled + most_sealed); out = Batch }
+
+abbrev pub seal_waiting : World → Bool → Answer
+seal_waiting w true = record { reply = says.NothingWaits; next = w }
+seal_waiting w false = record { reply = says.Sealed (length (settled_records w)) (length (sealed_records (with_batch w))); next = with_batch w }
+
+abbrev pub seal_faults : World → List (Bool × ℕ × Fault)
+seal_faults w = (not (is_nothing_out w.out), 2, fault.BatchOut) ∷ []
+
+abbrev pub seal : World → Answer
+seal w = unless (seal_faults w) w (seal_waiting w (length w.history == w.settled))
+
+abbrev pub commit_of : Out → World → Answer
+commit_of Batch w = record { reply = says.Committed (length (sealed_records w)); next = record w { out = Receipt; left = w.sealed ∷ [] } }
+commit_of Nothing w = record { reply = says.NoBatch; next = w }
+commit_of Receipt w = record { reply = says.NoBatch; next = w }
+commit_of Doubt w = record { reply = says.NoBatch; next = w }
+
+-- A commit of the batch that is out, where the store serves.
+abbrev pub commit : World → Answer
+commit w = commit_of w.out w
+
+abbrev pub settle_of : Out → World → Answer
+settle_of Receipt w = record { reply = says.SettledTo (length (sealed_records w)); next = record w { settled = w.sealed; out = Nothing } }
+settle_of Nothing w = record { reply = says.NoReceipt; next = w }
+settle_of Batch w = record { reply = says.NoReceipt; next = w }
+settle_of Doubt w = record { reply = says.NoReceipt; next = w }
+
+abbrev pub settle : World → Answer
+settle w = settle_of w.out w
+
+-- what the settled records say of an event
+abbrev pub event_shown : List Record → ℕ → Reply
+event_shown records d = says.Event (state_of records d) (due_if_pending records d) (length (attempts_of records d))
+
+abbrev pub show_event : World → List ℕ → List ℕ → Reply
+show_event w name id = option_map_or (event_shown (settled_records w)) (known_as (settled_records w) name id) says.Absent
+
+-- a look leaves the world
+abbrev pub look : World → Reply → Answer
+look w reply = record { reply = reply; next = w }
+
+-- What each call answers where it is given memory and the store serves.
+abbrev pub served : World → Event → Answer
+served w (on.Submit now name id body) = submit w now name id body
+served w (on.Change command) = change w command
+served w on.Seal = seal w
+served w on.Commit = commit w
+served w on.Settle = settle w
+served w (on.ShowEvent name id) = look w (show_event w name id)
+
+-- The number of OutOfMemory, where the call took memory to answer so. It is the last refusal of each call.
+abbrev pub memory_refusal : Event → Reply → Option ℕ
+memory_refusal (on.Submit now name id body) (says.Staged seq) = Some 8
+memory_refusal (on.Change command) (says.Staged seq) = Some 7
+memory_refusal on.Seal (says.Sealed from to) = Some 3
+memory_refusal on.Commit (says.Committed to) = Some 4
+memory_refusal event reply = None
+
+-- the refusal for want of memory leaves all as it was
+abbrev pub LacksMemory : World → Event → Reply → World → Type 0
+LacksMemory w event reply next = IsSomeAnd (memory_refusal event (served w event).reply) (λ number. (reply ≡ says.Refused number fault.OutOfMemory) × (next ≡ w))
+
+-- a commit that the store doesn't finish: a stop leaves the rows of before or those with the whole batch
+abbrev pub in_doubt : World → World
+in_doubt w = record w { out = Doubt; left = w.settled ∷ w.sealed ∷ [] }
+
+abbrev pub IsStoreFault : World → Event → Reply → World → Type 0
+IsStoreFault w event reply next = (event ≡ on.Commit) × (w.out ≡ Batch) × (reply ≡ says.Refused 5 fault.Store) × (next ≡ in_doubt w)
+
+-- From w, the core may give this reply to the call and go on to next.
+abbrev pub Move : World → Event → Reply → World → Type 0
+Move w event reply next = ((reply ≡ (served w event).reply) × (next ≡ (served w event).next)) ⊎ LacksMemory w event reply next ⊎ IsStoreFault w event reply next
+
+-- the core may give these replies to these calls, one move after another
+abbrev pub Run : World → List Event → List Reply → World → Type 0
+Run w [] [] last = last ≡ w
+Run w (event ∷ events) (reply ∷ replies) last = (next : World) × Move w event reply next × Run next events replies last
+Run w [] (reply ∷ replies) last = ⊥
+Run w (event ∷ events) [] last = ⊥
+
+-- the run in which memory is given and the store serves
+abbrev pub replies_of : World → List Event → List Reply
+replies_of w [] = []
+replies_of w (event ∷ events) = (served w event).reply ∷ replies_of (served w event).next events
+
+-- a world in which everything is settled, and nothing is out
+abbrev pub opened : History → ℕ → World
+opened history clock = record {
+  history = history;
+  settled = length history;
+  sealed = length history;
+  out = Nothing;
+  left = length history ∷ [];
+  clock = clock;
+}

@@ -1,0 +1,55 @@
+-- The reply lines of a script, without their line feed.
+use Rattle.std.specs.Prelude.{ℕ, List, [], ◌∷◌, ◌++◌, Option, Some, None, codes, decimal}
+use Rattle.std.specs.List.{join_with_byte}
+use Rattle.relay_types.specs.declared.state.State.{State}
+use Rattle.relay_types.specs.declared.state.State.TheVariants.{Pending, Delivered, Exhausted}
+use Rattle.desk.specs.declared.reply.Fault.{Fault}
+use Rattle.desk.specs.declared.reply.Fault.TheVariants as fault
+use Rattle.desk.specs.declared.reply.Reply.{Reply}
+use Rattle.desk.specs.declared.reply.Reply.TheVariants as says
+
+abbrev pub fault_text : Fault → List ℕ
+fault_text fault.UnknownEndpoint = codes "UnknownEndpoint"
+fault_text fault.Conflict = codes "Conflict"
+fault_text fault.Exists = codes "Exists"
+fault_text fault.EndpointBacklog = codes "EndpointBacklog"
+fault_text fault.Backlog = codes "Backlog"
+fault_text fault.TooManyEndpoints = codes "TooManyEndpoints"
+fault_text fault.WaitingFull = codes "WaitingFull"
+fault_text fault.SeqExhausted = codes "SeqExhausted"
+fault_text fault.BatchOut = codes "BatchOut"
+fault_text fault.WrongTurn = codes "WrongTurn"
+fault_text fault.Closed = codes "Closed"
+fault_text fault.OutOfTurn = codes "OutOfTurn"
+fault_text fault.Illegal = codes "Illegal"
+fault_text fault.Store = codes "Store"
+fault_text fault.OutOfMemory = codes "OutOfMemory"
+
+abbrev pub state_text : State → List ℕ
+state_text Pending = codes "pending"
+state_text Delivered = codes "delivered"
+state_text Exhausted = codes "exhausted"
+
+abbrev pub range_text : ℕ → ℕ → List ℕ
+range_text from to = decimal from ++ codes ".." ++ decimal to
+
+abbrev pub event_words : State → Option ℕ → ℕ → List (List ℕ)
+event_words state None attempts = state_text state ∷ codes "attempts" ∷ decimal attempts ∷ []
+event_words state (Some due) attempts = state_text state ∷ codes "due" ∷ decimal due ∷ codes "attempts" ∷ decimal attempts ∷ []
+
+-- The words of a reply.
+abbrev pub reply_words : Reply → List (List ℕ)
+reply_words (says.Staged seq) = codes "staged" ∷ decimal seq ∷ []
+reply_words says.NothingWaits = codes "nothing" ∷ []
+reply_words (says.Sealed from to) = codes "sealed" ∷ range_text from to ∷ []
+reply_words (says.Committed to) = codes "committed" ∷ decimal to ∷ []
+reply_words (says.SettledTo to) = codes "settled" ∷ decimal to ∷ []
+reply_words (says.Event state due attempts) = event_words state due attempts
+reply_words says.Absent = codes "absent" ∷ []
+reply_words says.NoBatch = codes "no-batch" ∷ []
+reply_words says.NoReceipt = codes "no-receipt" ∷ []
+reply_words (says.Refused number fault) = codes "refused" ∷ decimal number ∷ fault_text fault ∷ []
+
+-- its text: the words, with one space between
+abbrev pub reply_text : Reply → List ℕ
+reply_text reply = join_with_byte 32 (reply_words reply)

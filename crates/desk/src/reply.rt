@@ -1,0 +1,127 @@
+//! What a call answers, and how a script prints it.
+ghost use Rattle.std.specs.Prelude.{◌≡◌, Some};
+ghost use Rattle.desk.specs.Replies.{fault_text, state_text, reply_text};
+
+use relay_types::{Moment, State};
+use std::fmt;
+
+/// The name of a refusal.
+#[derive(Clone, Copy, PartialEq, Eq, Debug)]
+pub enum Fault {
+    UnknownEndpoint,
+    Conflict,
+    Exists,
+    EndpointBacklog,
+    Backlog,
+    TooManyEndpoints,
+    WaitingFull,
+    SeqExhausted,
+    BatchOut,
+    WrongTurn,
+    Closed,
+    OutOfTurn,
+    Illegal,
+    Store,
+    OutOfMemory,
+}
+
+/// What a call answered.
+#[derive(Clone, Copy, PartialEq, Eq, Debug)]
+pub enum Reply {
+    Staged {
+        seq: u64,
+    },
+    NothingWaits,
+    Sealed {
+        from: u64,
+        to: u64,
+    },
+    Committed {
+        to: u64,
+    },
+    SettledTo {
+        to: u64,
+    },
+    Event {
+        state: State,
+        due: Option<Moment>,
+        attempts: u64,
+    },
+    Absent,
+    NoBatch,
+    NoReceipt,
+    Refused {
+        number: u8,
+        fault: Fault,
+    },
+}
+
+impl fmt::Display for Fault {
+    ghost output = { λ fault. Some (fault_text fault) };
+
+    fn fmt<W: fmt::Write>(&self, f: &mut fmt::Formatter<W>) -> fmt::Result {
+        f.write_str(fault_word(*self))
+    }
+}
+
+fn fault_word(fault: Fault) -> &'static str
+    ensures { result.now ≡ fault_text fault }
+{
+    match fault {
+        Fault::UnknownEndpoint => "UnknownEndpoint",
+        Fault::Conflict => "Conflict",
+        Fault::Exists => "Exists",
+        Fault::EndpointBacklog => "EndpointBacklog",
+        Fault::Backlog => "Backlog",
+        Fault::TooManyEndpoints => "TooManyEndpoints",
+        Fault::WaitingFull => "WaitingFull",
+        Fault::SeqExhausted => "SeqExhausted",
+        Fault::BatchOut => "BatchOut",
+        Fault::WrongTurn => "WrongTurn",
+        Fault::Closed => "Closed",
+        Fault::OutOfTurn => "OutOfTurn",
+        Fault::Illegal => "Illegal",
+        Fault::Store => "Store",
+        Fault::OutOfMemory => "OutOfMemory",
+    }
+}
+
+impl fmt::Display for Reply {
+    ghost output = { λ reply. Some (reply_text reply) };
+
+    fn fmt<W: fmt::Write>(&self, f: &mut fmt::Formatter<W>) -> fmt::Result {
+        match self {
+            Reply::Staged { seq } => write!(f, "staged {seq}"),
+            Reply::NothingWaits => f.write_str("nothing"),
+            Reply::Sealed { from, to } => write!(f, "sealed {from}..{to}"),
+            Reply::Committed { to } => write!(f, "committed {to}"),
+            Reply::SettledTo { to } => write!(f, "settled {to}"),
+            Reply::Event {
+                state,
+                due,
+                attempts,
+            } => {
+                f.write_str(state_word(*state))?;
+                if let Some(due) = due {
+                    let seconds = due.seconds();
+                    write!(f, " due {seconds}")?;
+                }
+                write!(f, " attempts {attempts}")
+            }
+            Reply::Absent => f.write_str("absent"),
+            Reply::NoBatch => f.write_str("no-batch"),
+            Reply::NoReceipt => f.write_str("no-receipt"),
+            Reply::Refused { number, fault } => write!(f, "refused {number} {fault}"),
+        }
+    }
+}
+
+fn state_word(state: State) -> &'static str
+    ensures { result.now ≡ state_text state }
+{
+    match state {
+        State::Pending => "pending",
+        State::Delivered => "delivered",
+        State::Exhausted => "exhausted",
+    }
+}

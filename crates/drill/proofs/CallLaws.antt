@@ -1,0 +1,105 @@
+-- A call by its first word, and by the words behind it.
+use Rattle.std.proofs.Common.{◌≡◌, ◌==◌, subst, length, get_or, arith, ℕ, Bool, false, List, [], ◌∷◌, codes, refl, sym, ap, ◌∙◌}
+use Rattle.std.specs.Prelude.{bytes_eq}
+use Rattle.std.specs.Borrow.{Bor}
+use Rattle.std.proofs.lemmas.List.{length-map}
+use Rattle.text_lines.specs.Parts.{texts}
+use Rattle.desk.specs.declared.event.Command.TheVariants.{PutEndpoint}
+use Rattle.desk.specs.declared.event.Event.{Event}
+use Rattle.desk.specs.declared.event.Event.TheVariants as on
+use Rattle.text_lines.specs.Words.{IsSecretsWord}
+use Rattle.drill.specs.Script.{IsChange, IsSubmit, IsShow, call_word, AreArguments}
+use Rattle.text_lines.proofs.NumberLaws.{bytes_equal, true_not_false}
+
+-- two words that differ are not one
+apart : (a b word : List ℕ) → bytes_eq a b ≡ false → word ≡ a → word ≡ b → ⊥
+apart a b word different h k = true_not_false (sym (bytes_equal a b (sym h ∙ k)) ∙ different)
+
+-- ---- the events of a first word
+
+pub only_put : (call : List ℕ) (words : List (List ℕ)) → call ≡ codes "put" → ((name target : List ℕ) (max : ℕ) (secrets : List (List ℕ)) → IsChange words (PutEndpoint name target max secrets) → ⊥)
+    → (event : Event) → call ≡ call_word event → AreArguments words event → ⊥
+only_put call words is none (on.Change (PutEndpoint name target max secrets)) e h = none name target max secrets h
+only_put call words is none (on.Submit now name id body) e h = apart (codes "put") (codes "submit") call refl is e
+only_put call words is none on.Seal e h = apart (codes "put") (codes "seal") call refl is e
+only_put call words is none on.Commit e h = apart (codes "put") (codes "commit") call refl is e
+only_put call words is none on.Settle e h = apart (codes "put") (codes "settle") call refl is e
+only_put call words is none (on.ShowEvent name id) e h = apart (codes "put") (codes "show") call refl is e
+
+pub only_submit : (call : List ℕ) (words : List (List ℕ)) → call ≡ codes "submit" → ((now : ℕ) (name id body : List ℕ) → IsSubmit words now name id body → ⊥)
+    → (event : Event) → call ≡ call_word event → AreArguments words event → ⊥
+only_submit call words is none (on.Change (PutEndpoint name target max secrets)) e h = apart (codes "submit") (codes "put") call refl is e
+only_submit call words is none (on.Submit now name id body) e h = none now name id body h
+only_submit call words is none on.Seal e h = apart (codes "submit") (codes "seal") call refl is e
+only_submit call words is none on.Commit e h = apart (codes "submit") (codes "commit") call refl is e
+only_submit call words is none on.Settle e h = apart (codes "submit") (codes "settle") call refl is e
+only_submit call words is none (on.ShowEvent name id) e h = apart (codes "submit") (codes "show") call refl is e
+
+pub only_show : (call : List ℕ) (words : List (List ℕ)) → call ≡ codes "show" → ((name id : List ℕ) → IsShow words name id → ⊥)
+    → (event : Event) → call ≡ call_word event → AreArguments words event → ⊥
+only_show call words is none (on.Change (PutEndpoint name target max secrets)) e h = apart (codes "show") (codes "put") call refl is e
+only_show call words is none (on.Submit now name id body) e h = apart (codes "show") (codes "submit") call refl is e
+only_show call words is none on.Seal e h = apart (codes "show") (codes "seal") call refl is e
+only_show call words is none on.Commit e h = apart (codes "show") (codes "commit") call refl is e
+only_show call words is none on.Settle e h = apart (codes "show") (codes "settle") call refl is e
+only_show call words is none (on.ShowEvent name id) e h = none name id h
+
+pub only_seal : (call : List ℕ) (words : List (List ℕ)) → call ≡ codes "seal" → (words ≡ [] → ⊥) → (event : Event) → call ≡ call_word event → AreArguments words event → ⊥
+only_seal call words is none (on.Change (PutEndpoint name target max secrets)) e h = apart (codes "seal") (codes "put") call refl is e
+only_seal call words is none (on.Submit now name id body) e h = apart (codes "seal") (codes "submit") call refl is e
+only_seal call words is none on.Seal e h = none h
+only_seal call words is none on.Commit e h = none h
+only_seal call words is none on.Settle e h = none h
+only_seal call words is none (on.ShowEvent name id) e h = apart (codes "seal") (codes "show") call refl is e
+
+pub only_commit : (call : List ℕ) (words : List (List ℕ)) → call ≡ codes "commit" → (words ≡ [] → ⊥) → (event : Event) → call ≡ call_word event → AreArguments words event → ⊥
+only_commit call words is none (on.Change (PutEndpoint name target max secrets)) e h = apart (codes "commit") (codes "put") call refl is e
+only_commit call words is none (on.Submit now name id body) e h = apart (codes "commit") (codes "submit") call refl is e
+only_commit call words is none on.Seal e h = none h
+only_commit call words is none on.Commit e h = none h
+only_commit call words is none on.Settle e h = none h
+only_commit call words is none (on.ShowEvent name id) e h = apart (codes "commit") (codes "show") call refl is e
+
+pub only_settle : (call : List ℕ) (words : List (List ℕ)) → call ≡ codes "settle" → (words ≡ [] → ⊥) → (event : Event) → call ≡ call_word event → AreArguments words event → ⊥
+only_settle call words is none (on.Change (PutEndpoint name target max secrets)) e h = apart (codes "settle") (codes "put") call refl is e
+only_settle call words is none (on.Submit now name id body) e h = apart (codes "settle") (codes "submit") call refl is e
+only_settle call words is none on.Seal e h = none h
+only_settle call words is none on.Commit e h = none h
+only_settle call words is none on.Settle e h = none h
+only_settle call words is none (on.ShowEvent name id) e h = apart (codes "settle") (codes "show") call refl is e
+
+-- no other word begins a call
+pub is_call_word : (call : List ℕ) → (call ≡ codes "put" → ⊥) → (call ≡ codes "submit" → ⊥) → (call ≡ codes "show" → ⊥) → (call ≡ codes "seal" → ⊥) → (call ≡ codes "commit" → ⊥)
+    → (call ≡ codes "settle" → ⊥) → (event : Event) → call ≡ call_word event → ⊥
+is_call_word call put submit show seal commit settle (on.Change (PutEndpoint name target max secrets)) e = put e
+is_call_word call put submit show seal commit settle (on.Submit now name id body) e = submit e
+is_call_word call put submit show seal commit settle on.Seal e = seal e
+is_call_word call put submit show seal commit settle on.Commit e = commit e
+is_call_word call put submit show seal commit settle on.Settle e = settle e
+is_call_word call put submit show seal commit settle (on.ShowEvent name id) e = show e
+
+-- ---- the words behind the first one
+
+pub some_text : (words : List (Bor (List ℕ))) (r : Bool) → r ≡ (length words == 0) → r ≡ false → texts words ≡ [] → ⊥
+some_text [] r e none h = cc
+some_text (word ∷ words) r e none h = cc
+
+pub four_texts : (words : List (Bor (List ℕ))) (d : Bor (List ℕ)) → length words ≡ 4
+    → texts words ≡ (get_or words 0 d).now ∷ (get_or words 1 d).now ∷ (get_or words 2 d).now ∷ (get_or words 3 d).now ∷ []
+four_texts [] d h = cc
+four_texts (a ∷ []) d h = cc
+four_texts (a ∷ b ∷ []) d h = cc
+four_texts (a ∷ b ∷ c ∷ []) d h = cc
+four_texts (a ∷ b ∷ c ∷ e ∷ []) d h = refl
+four_texts (a ∷ b ∷ c ∷ e ∷ f ∷ more) d h = absurd (omega (arith, h))
+
+pub length-IsChange : (words : List (Bor (List ℕ))) (name target : List ℕ) (max : ℕ) (secrets : List (List ℕ)) → IsChange (texts words) (PutEndpoint name target max secrets)
+    → length words ≡ 4
+length-IsChange words name target max secrets (word, reads, e, valid) =
+    let same : length (texts words) ≡ length words = simp length-map in
+    sym same ∙ ap length e
+
+pub put_secrets : (a b c d name target : List ℕ) (max : ℕ) (secrets : List (List ℕ)) → IsChange (a ∷ b ∷ c ∷ d ∷ []) (PutEndpoint name target max secrets) → IsSecretsWord d secrets
+put_secrets a b c d name target max secrets (word, reads, e, valid) =
+    let same : word ≡ d = cc in
+    subst (λ xs. IsSecretsWord xs secrets) same reads

@@ -1,0 +1,58 @@
+-- No space stands in a word of a call, so the words of a line tell its call.
+use Rattle.std.proofs.Common.{◌≡◌, ◌≢◌, ℕ, ◌^◌, List, [], ◌∷◌, decimal, IsTrue, refl, sym, ◌∙◌, subst, lit<}
+use Rattle.std.specs.Prelude.{◌&&◌, nat_le}
+use Rattle.std.specs.List.{list_all}
+use Rattle.std.proofs.lemmas.Bool.{and_parts}
+use Rattle.relay_types.specs.Values.{is_name, is_msg_id, is_target, is_max_limit, is_moment, is_body}
+use Rattle.text_lines.specs.Parts.{has_no, HasParts}
+use Rattle.text_lines.proofs.CleanWords.{clean-name, clean-id, clean-decimal, clean-body, clean-secrets_word, at_most}
+use Rattle.text_lines.proofs.PartLaws.{parts_equal}
+use Rattle.text_lines.proofs.TargetWords.{clean-target}
+use Rattle.desk.specs.declared.event.Command.TheVariants.{PutEndpoint}
+use Rattle.desk.specs.declared.event.Event.{Event}
+use Rattle.desk.specs.declared.event.Event.TheVariants as on
+use Rattle.drill.specs.Script.{call_word, AreArguments, IsCall, ReadsLine}
+
+four_clean : (a b c d : List ℕ) → IsTrue (has_no 32 a) → IsTrue (has_no 32 b) → IsTrue (has_no 32 c) → IsTrue (has_no 32 d) → IsTrue (list_all (has_no 32) (a ∷ b ∷ c ∷ d ∷ []))
+four_clean a b c d ha hb hc hd = rw (ha, hb, hc, hd) refl
+
+two_clean : (a b : List ℕ) → IsTrue (has_no 32 a) → IsTrue (has_no 32 b) → IsTrue (list_all (has_no 32) (a ∷ b ∷ []))
+two_clean a b ha hb = rw (ha, hb) refl
+
+clean-arguments : (words : List (List ℕ)) (event : Event) → AreArguments words event → IsTrue (list_all (has_no 32) words)
+clean-arguments words (on.Change (PutEndpoint name target max secrets)) (word, reads, e, valid) =
+    let one = and_parts (is_name name) (is_target target && is_max_limit max) valid in
+    let two = and_parts (is_target target) (is_max_limit max) one.1 in
+    let most = (and_parts (nat_le 1 max) (nat_le max 1000) two.1).1 in
+    subst (λ xs. IsTrue (list_all (has_no 32) xs)) (sym e)
+    (four_clean name target (decimal max) word (clean-name name one.0) (clean-target target two.0) (clean-decimal max (at_most max 1000 most (lit< tt))) (clean-secrets_word word secrets reads))
+clean-arguments words (on.Submit now name id body) (word, reads, e, valid) =
+    let one = and_parts (is_moment now) (is_name name && (is_msg_id id && is_body body)) valid in
+    let two = and_parts (is_name name) (is_msg_id id && is_body body) one.1 in
+    let three = and_parts (is_msg_id id) (is_body body) two.1 in
+    subst (λ xs. IsTrue (list_all (has_no 32) xs)) (sym e)
+    (four_clean (decimal now) name id word (clean-decimal now (at_most now (2 ^ 40) one.0 (lit< tt))) (clean-name name two.0) (clean-id id three.0) (clean-body word body reads))
+clean-arguments words on.Seal e = subst (λ xs. IsTrue (list_all (has_no 32) xs)) (sym e) refl
+clean-arguments words on.Commit e = subst (λ xs. IsTrue (list_all (has_no 32) xs)) (sym e) refl
+clean-arguments words on.Settle e = subst (λ xs. IsTrue (list_all (has_no 32) xs)) (sym e) refl
+clean-arguments words (on.ShowEvent name id) (e, valid) =
+    let both = and_parts (is_name name) (is_msg_id id) valid in
+    subst (λ xs. IsTrue (list_all (has_no 32) xs)) (sym e) (two_clean name id (clean-name name both.0) (clean-id id both.1))
+
+clean-word : (event : Event) → IsTrue (has_no 32 (call_word event))
+clean-word (on.Change (PutEndpoint name target max secrets)) = refl
+clean-word (on.Submit now name id body) = refl
+clean-word on.Seal = refl
+clean-word on.Commit = refl
+clean-word on.Settle = refl
+clean-word (on.ShowEvent name id) = refl
+
+some_word : (words rest : List (List ℕ)) (word : List ℕ) → words ≡ word ∷ rest → words ≢ []
+some_word words rest word e none = cc
+
+-- the parts of a line are the words of its call
+pub the_call : (text : List ℕ) (parts : List (List ℕ)) (event : Event) → HasParts 32 text parts → ReadsLine text event → IsCall parts event
+the_call text parts event h (words, e, (arguments, is, told)) =
+    let clean : IsTrue (list_all (has_no 32) words) = rw (is, clean-word event) (clean-arguments arguments event told) in
+    let same = parts_equal 32 text words parts (e, some_word words arguments (call_word event) is, clean) h in
+    (arguments, sym same ∙ is, told)

@@ -1,0 +1,5 @@
+mod CallLaws
+mod CleanCalls
+mod RunnerLaws
+pub mod ReplayLaws
+mod WorkedTexts

@@ -1,0 +1,346 @@
+-- What the moves make of the runner and its world.
+use Rattle.std.proofs.Common.{◌≡◌, ℕ, ◌+◌, ◌-◌, ◌≤◌, ◌==◌, Bool, true, false, not, List, [], ◌∷◌, ◌++◌, length, take, drop, Option, Some, None, Result, Ok, Err, ◌⊎◌, inl, inr, refl, sym, ap, subst, ◌∙◌, arith, append-nil, append_assoc}
+use Rattle.std.specs.Prelude.{IsTrue, IsSomeAnd, if◌then◌else◌}
+use Rattle.std.specs.Option.{option_map_or}
+use Rattle.std.proofs.lemmas.List.{take-append-le, take-append-drop, take-take, length-drop}
+use Rattle.std.proofs.Math.Seq.{take-length}
+use Rattle.sqlite.specs.Store.{Ghosts}
+use Rattle.relay_types.specs.declared.record.Record.{Record}
+use Rattle.relay_types.specs.Records.{History, records_of}
+use Rattle.relay_types.specs.Deliveries.{known_as}
+use Rattle.relay_types.specs.Legal.{IsLegal}
+use Rattle.spool.specs.Runs as batch
+use Rattle.spool.specs.declared.ends.CommitEnd.{CommitEnd}
+use Rattle.spool.specs.declared.ends.CommitEnd.TheVariants as ends
+use Rattle.spool.specs.declared.ends.Unchanged.{Unchanged}
+use Rattle.spool.specs.declared.ends.Unchanged.TheVariants as why
+use Rattle.sqlite.specs.Held as store
+use Rattle.spool_sql.specs.Tables.{no_schema}
+use Rattle.spool_sql.specs.Steps.{IsBegun}
+use Rattle.spool.specs.Commits.{IsOpened, IsNext, IsDoubt, IsIllegal, AnswersOver}
+use Rattle.spool.specs.Vaults.{Kept}
+use Rattle.desk.specs.declared.event.Event.{Event}
+use Rattle.desk.specs.declared.event.Event.TheVariants as on
+use Rattle.desk.specs.declared.event.Command.{Command}
+use Rattle.desk.specs.declared.reply.Fault.{Fault}
+use Rattle.desk.specs.declared.reply.Fault.TheVariants as fault
+use Rattle.desk.specs.declared.reply.Reply.{Reply}
+use Rattle.desk.specs.declared.reply.Reply.TheVariants as says
+use Rattle.drill.specs.declared.runner.Held.{Held}
+use Rattle.drill.specs.declared.runner.Held.TheVariants as held
+use Rattle.drill.specs.declared.runner.Runner.{Runner}
+use Rattle.desk.specs.World.{World, Out, Nothing, Batch, Receipt, Doubt, all_records, settled_records, sealed_records}
+use Rattle.desk.specs.Moves.{opened, Answer, Move, show_event, refused, unless, submit_faults, new_submit_faults, change_faults, staged, repeated, submit_new, record_of, served, seal, seal_waiting, with_batch, is_nothing_out, commit_of, in_doubt, memory_refusal}
+use Rattle.desk.specs.Desks.{DeskValue, StandsFor, IsMove, Seals, sealed_run, steps_of}
+use Rattle.drill.specs.Runners.{IsHeld, IsOpenAt, VaultStandsFor, RunnerStandsFor, Answers, EndsAs, CommitsSo, unchanged_reply}
+
+-- Moves after which what is out, settled and sealed is as before
+
+-- at most steps behind the others are new, and the clock
+record Goes (w next : World) : Type 0 where
+  out : next.out ≡ w.out
+  settled : next.settled ≡ w.settled
+  sealed : next.sealed ≡ w.sealed
+  more : History
+  history : next.history ≡ w.history ++ more
+
+stays : (w : World) → Goes w w
+stays w = record { out = refl; settled = refl; sealed = refl; more = []; history = sym (append-nil w.history) }
+
+goes_unless : (faults : List (Bool × ℕ × Fault)) (w : World) (answer : Answer) → Goes w answer.next → Goes w (unless faults w answer).next
+goes_unless [] w answer h = h
+goes_unless ((there, number, why) ∷ rest) w answer h = at there (goes_unless rest w answer h)
+  where
+    at : (b : Bool) → Goes w (unless rest w answer).next → Goes w (if b then refused w number why else unless rest w answer).next
+    at true h = stays w
+    at false h = h
+
+goes_submit : (w : World) (now : ℕ) (name id body : List ℕ) → Goes w (served w (on.Submit now name id body)).next
+goes_submit w now name id body = goes_unless (submit_faults w name id body) w (option_map_or (repeated w now) (known_as (all_records w) name id) (submit_new w now name id body)) (at (known_as (all_records w) name id))
+  where
+    new : Goes w (submit_new w now name id body).next
+    new = goes_unless (new_submit_faults w name) w _ (record { out = refl; settled = refl; sealed = refl; more = _; history = refl })
+
+    at : (o : Option ℕ) → Goes w (option_map_or (repeated w now) o (submit_new w now name id body)).next
+    at None = new
+    at (Some d) = record { out = refl; settled = refl; sealed = refl; more = []; history = sym (append-nil w.history) }
+
+goes_change : (w : World) (command : Command) → Goes w (served w (on.Change command)).next
+goes_change w command = goes_unless (change_faults w command) w (staged w (record_of command)) (record { out = refl; settled = refl; sealed = refl; more = _; history = refl })
+
+lacks_stays : (o : Option ℕ) (reply : Reply) (w next : World) → IsSomeAnd o (λ number. (reply ≡ says.Refused number fault.OutOfMemory) × (next ≡ w)) → next ≡ w
+lacks_stays None reply w next h = absurd h
+lacks_stays (Some number) reply w next h = h.1
+
+goes_move : (w : World) (event : Event) (reply : Reply) (next : World) → Goes w (served w event).next → ((event ≡ on.Commit) → ⊥) → Move w event reply next → Goes w next
+goes_move w event reply next plain other (inl answered) = subst (Goes w) (sym answered.1) plain
+goes_move w event reply next plain other (inr (inl lacks)) = subst (Goes w) (sym (lacks_stays (memory_refusal event (served w event).reply) reply w next lacks)) (stays w)
+goes_move w event reply next plain other (inr (inr stopped)) = absurd (other stopped.0)
+
+settled_within : (desk : DeskValue) (w : World) → StandsFor desk w → w.settled ≤ w.sealed
+settled_within desk w s = at desk.is_out s.sealed
+  where
+    at : (b : Bool) → w.sealed ≡ (if b then w.settled + 1 else w.settled) → w.settled ≤ w.sealed
+    at true h = omega (arith, h)
+    at false h = omega (arith, h)
+
+take_more : (n m : ℕ) (xs ys more : History) → n ≡ m → m ≤ length xs → ys ≡ xs ++ more → take n ys ≡ take m xs
+take_more n m xs ys more same within is = (λ i. take (same i) (is i)) ∙ take-append-le m xs more within
+
+batch_goes : (mark : ℕ) (w next : World) → Goes w next → w.settled ≤ w.sealed → w.sealed ≤ length w.history → sealed_run mark w ≡ sealed_run mark next
+batch_goes mark w next g below within =
+    let settled : settled_records w ≡ settled_records next = ap records_of (sym (take_more next.settled w.settled w.history next.history g.more g.settled (omega arith) g.history)) in
+    let sealed : take w.sealed w.history ≡ take next.sealed next.history = sym (take_more next.sealed w.sealed w.history next.history g.more g.sealed within g.history) in
+    λ i. record { mark = mark; from = length (settled i); steps = drop (sym g.settled i) (sealed i) }
+
+held_goes : (mark : ℕ) (w next : World) (now : Held) → Goes w next → w.settled ≤ w.sealed → w.sealed ≤ length w.history → IsHeld mark w now → IsHeld mark next now
+held_goes mark w next held.Nothing g below within h = g.out ∙ h
+held_goes mark w next (held.Batch run) g below within h = (g.out ∙ h.0, h.1 ∙ batch_goes mark w next g below within)
+held_goes mark w next (held.Receipt run) g below within h = (g.out ∙ h.0, h.1 ∙ batch_goes mark w next g below within)
+held_goes mark w next (held.Doubt span) g below within h = g.out ∙ h
+
+vault_goes : {S : Type 0} (g : Ghosts S) (vault : Kept S) (w next : World) → Goes w next → w.settled ≤ w.sealed → w.sealed ≤ length w.history → VaultStandsFor g vault w w.out → VaultStandsFor g vault next next.out
+vault_goes g vault w next goes below within h = subst (VaultStandsFor g vault next) (sym goes.out) (at w.out h)
+  where
+    settled : settled_records w ≡ settled_records next
+    settled = ap records_of (sym (take_more next.settled w.settled w.history next.history goes.more goes.settled (omega arith) goes.history))
+
+    sealed : sealed_records w ≡ sealed_records next
+    sealed = ap records_of (sym (take_more next.sealed w.sealed w.history next.history goes.more goes.sealed within goes.history))
+
+    at : (o : Out) → VaultStandsFor g vault w o → VaultStandsFor g vault next o
+    at Nothing h = subst (IsOpenAt g vault) settled h
+    at Batch h = subst (IsOpenAt g vault) settled h
+    at Receipt h = subst (IsOpenAt g vault) sealed h
+    at Doubt h = h
+
+answers_plain : {S : Type 0} (g : Ghosts S) (old new : Runner S) (event : Event) (reply : Reply) → ((w : World) → Goes w (served w event).next) → ((event ≡ on.Commit) → ⊥) → IsMove old.desk event reply new.desk
+    → new.desk.mark ≡ old.desk.mark → new.vault ≡ old.vault → new.held ≡ old.held → Answers g old event reply new
+answers_plain g old new event reply plain other moves mark vault same w on =
+    let move = moves w on.desk in
+    let goes = goes_move w event reply move.0 (plain w) other move.1 in
+    let below = settled_within old.desk w on.desk in
+    let within = on.desk.sealed_within in (
+      move.0,
+      move.1,
+      record {
+        desk = move.2;
+        held = subst (λ m. IsHeld m move.0 new.held) (sym mark) (subst (IsHeld old.desk.mark move.0) (sym same) (held_goes old.desk.mark w move.0 old.held goes below within on.held));
+        vault = subst (λ v. VaultStandsFor g v move.0 move.0.out) (sym vault) (vault_goes g old.vault w move.0 goes below within on.vault);
+        mark = mark ∙ on.mark ∙ ap (λ v. v.mark) (sym vault);
+      },
+    )
+
+-- A look leaves the world as it is
+pub answers_look : {S : Type 0} (g : Ghosts S) (runner : Runner S) (name id : List ℕ) (reply : Reply) → ((w : World) → StandsFor runner.desk w → reply ≡ show_event w name id) → Answers g runner (on.ShowEvent name id) reply runner
+answers_look g runner name id reply says w on = (w, inl (says w on.desk, refl), on)
+
+pub answers_submit : {S : Type 0} (g : Ghosts S) (old new : Runner S) (now : ℕ) (name id body : List ℕ) (reply : Reply) → IsMove old.desk (on.Submit now name id body) reply new.desk
+    → new.desk.mark ≡ old.desk.mark → new.vault ≡ old.vault → new.held ≡ old.held → Answers g old (on.Submit now name id body) reply new
+answers_submit g old new now name id body reply = answers_plain g old new (on.Submit now name id body) reply (λ w. goes_submit w now name id body) (λ e. cc)
+
+pub answers_change : {S : Type 0} (g : Ghosts S) (old new : Runner S) (command : Command) (reply : Reply) → IsMove old.desk (on.Change command) reply new.desk
+    → new.desk.mark ≡ old.desk.mark → new.vault ≡ old.vault → new.held ≡ old.held → Answers g old (on.Change command) reply new
+answers_change g old new command reply = answers_plain g old new (on.Change command) reply (λ w. goes_change w command) (λ e. cc)
+
+-- Sealing
+
+abbrev pub is_sealed : Reply → Bool
+is_sealed (says.Sealed from to) = true
+is_sealed (says.Staged seq) = false
+is_sealed says.NothingWaits = false
+is_sealed (says.Committed to) = false
+is_sealed (says.SettledTo to) = false
+is_sealed (says.Event state due attempts) = false
+is_sealed says.Absent = false
+is_sealed says.NoBatch = false
+is_sealed says.NoReceipt = false
+is_sealed (says.Refused number why) = false
+
+is_nothing : (o : Out) → is_nothing_out o ≡ true → o ≡ Nothing
+is_nothing Nothing h = refl
+is_nothing Batch h = absurd (let e = h in cc)
+is_nothing Receipt h = absurd (let e = h in cc)
+is_nothing Doubt h = absurd (let e = h in cc)
+
+-- sealing changes the world exactly where it answers a batch
+abbrev SealsSo : World → Answer → Type 0
+SealsSo w answer = ((answer.next ≡ w) × (is_sealed answer.reply ≡ false)) ⊎ (((answer.next ≡ with_batch w) × (w.out ≡ Nothing)) × (is_sealed answer.reply ≡ true))
+
+seals_so : (w : World) → SealsSo w (seal w)
+seals_so w = at (is_nothing_out w.out) (length w.history == w.settled) (is_nothing w.out)
+  where
+    at : (nothing none : Bool) → (nothing ≡ true → w.out ≡ Nothing) → SealsSo w (if not nothing then refused w 2 fault.BatchOut else seal_waiting w none)
+    at false none h = inl (refl, refl)
+    at true true h = inl (refl, refl)
+    at true false h = inr ((refl, h refl), refl)
+
+lacks_unsealed : (o : Option ℕ) (reply : Reply) (w next : World) → is_sealed reply ≡ true → IsSomeAnd o (λ number. (reply ≡ says.Refused number fault.OutOfMemory) × (next ≡ w)) → ⊥
+lacks_unsealed None reply w next sealed h = h
+lacks_unsealed (Some number) reply w next sealed h = let no : false ≡ true = ap is_sealed (sym h.0) ∙ sealed in cc
+
+sealed_move : (w : World) (reply : Reply) (next : World) → is_sealed reply ≡ true → Move w on.Seal reply next → (next ≡ with_batch w) × (w.out ≡ Nothing)
+sealed_move w reply next sealed (inl answered) = at (seals_so w)
+  where
+    at : SealsSo w (seal w) → (next ≡ with_batch w) × (w.out ≡ Nothing)
+    at (inl stayed) = absurd (let no : true ≡ false = sym sealed ∙ ap is_sealed answered.0 ∙ stayed.1 in cc)
+    at (inr made) = (answered.1 ∙ made.0.0, made.0.1)
+sealed_move w reply next sealed (inr (inl lacks)) = absurd (lacks_unsealed (memory_refusal on.Seal (seal w).reply) reply w next sealed lacks)
+sealed_move w reply next sealed (inr (inr stopped)) = absurd (let e = stopped.0 in cc)
+
+unsealed_move : (w : World) (reply : Reply) (next : World) → is_sealed reply ≡ false → Move w on.Seal reply next → next ≡ w
+unsealed_move w reply next sealed (inl answered) = at (seals_so w)
+  where
+    at : SealsSo w (seal w) → next ≡ w
+    at (inl stayed) = answered.1 ∙ stayed.0
+    at (inr made) = absurd (let no : true ≡ false = sym made.1 ∙ ap is_sealed (sym answered.0) ∙ sealed in cc)
+unsealed_move w reply next sealed (inr (inl lacks)) = lacks_stays (memory_refusal on.Seal (seal w).reply) reply w next lacks
+unsealed_move w reply next sealed (inr (inr stopped)) = absurd (let e = stopped.0 in cc)
+
+pub answers_sealed : {S : Type 0} (g : Ghosts S) (old new : Runner S) (run : batch.Run) → Seals old.desk (Ok (Some run)) new.desk → new.desk.mark ≡ old.desk.mark → new.vault ≡ old.vault → new.held ≡ held.Batch run
+    → Answers g old on.Seal (says.Sealed run.from (run.from + length (records_of run.steps))) new
+answers_sealed g old new run moves mark vault same w on =
+    let move = moves w on.desk in
+    let made = sealed_move w _ move.0 refl move.1 in
+    let out : move.0.out ≡ Batch = ap (λ v. v.out) made.0 in
+    let was : IsOpenAt g old.vault (settled_records w) = subst (VaultStandsFor g old.vault w) made.1 on.vault in
+    let settled : settled_records w ≡ settled_records move.0 = ap settled_records (sym made.0) in (
+      move.0,
+      move.1,
+      record {
+        desk = move.2;
+        held = subst (IsHeld new.desk.mark move.0) (sym same) (out, move.3);
+        vault = subst (VaultStandsFor g new.vault move.0) (sym out) (subst (λ v. IsOpenAt g v (settled_records move.0)) (sym vault) (subst (IsOpenAt g old.vault) settled was));
+        mark = mark ∙ on.mark ∙ ap (λ v. v.mark) (sym vault);
+      },
+    )
+
+pub answers_unsealed : {S : Type 0} (g : Ghosts S) (old new : Runner S) (reply : Reply) → is_sealed reply ≡ false → IsMove old.desk on.Seal reply new.desk
+    → new.desk.mark ≡ old.desk.mark → new.vault ≡ old.vault → new.held ≡ old.held → Answers g old on.Seal reply new
+answers_unsealed g old new reply sealed moves mark vault same w on =
+    let move = moves w on.desk in
+    let stayed = unsealed_move w reply move.0 sealed move.1 in (
+      move.0,
+      move.1,
+      record {
+        desk = move.2;
+        held = subst (λ m. IsHeld m move.0 new.held) (sym mark) (subst (IsHeld old.desk.mark move.0) (sym same) (subst (λ v. IsHeld old.desk.mark v old.held) (sym stayed) on.held));
+        vault = subst (λ v. VaultStandsFor g v move.0 move.0.out) (sym vault) (subst (λ v. VaultStandsFor g old.vault v v.out) (sym stayed) on.vault);
+        mark = mark ∙ on.mark ∙ ap (λ v. v.mark) (sym vault);
+      },
+    )
+
+-- Committing
+
+flatten_both : (xs ys : History) → records_of (xs ++ ys) ≡ records_of xs ++ records_of ys
+flatten_both [] ys = refl
+flatten_both (x ∷ xs) ys = ap (λ r. x ++ r) (flatten_both xs ys) ∙ sym (append_assoc x (records_of xs) (records_of ys))
+
+-- the settled records and those of the batch are the sealed ones
+sealed_is : (mark : ℕ) (w : World) → w.settled ≤ w.sealed → settled_records w ++ records_of (sealed_run mark w).steps ≡ sealed_records w
+sealed_is mark w below =
+    sym (flatten_both (take w.settled w.history) (drop w.settled (take w.sealed w.history)))
+    ∙ ap records_of (ap (λ front. front ++ drop w.settled (take w.sealed w.history)) (sym (take-take w.settled w.sealed w.history below)) ∙ take-append-drop w.settled (take w.sealed w.history))
+
+one_step : (waiting : Option (List Record)) → length (steps_of waiting) ≤ 1
+one_step None = omega arith
+one_step (Some step) = omega arith
+
+-- while a batch is out, all steps are sealed
+all_sealed : (desk : DeskValue) (w : World) → StandsFor desk w → desk.is_out ≡ true → sealed_records w ≡ all_records w
+all_sealed desk w s out =
+    let sealed : w.sealed ≡ w.settled + 1 = s.sealed ∙ ap (λ (b : Bool). if b then w.settled + 1 else w.settled) out in
+    let rest : length w.history - w.settled ≤ 1 = omega (arith, length-drop w.settled w.history, ap length s.waiting, one_step desk.waiting) in
+    let all : w.sealed ≡ length w.history = omega (arith, sealed, rest, s.sealed_within) in
+    ap records_of (ap (λ n. take n w.history) all ∙ take-length w.history)
+
+-- the desk stands for the world in which something else is out
+out_again : (desk : DeskValue) (w : World) (o : Out) (left : List ℕ) → StandsFor desk w → is_nothing_out w.out ≡ is_nothing_out o → StandsFor desk (record w { out = o; left = left })
+out_again desk w o left s same = record {
+  clock = s.clock;
+  endpoints = s.endpoints;
+  deliveries = s.deliveries;
+  waiting = s.waiting;
+  one_each = s.one_each;
+  is_out = s.is_out ∙ ap not same;
+  sealed = s.sealed;
+  sealed_within = s.sealed_within;
+  records = s.records;
+  settled = s.settled;
+  legal = s.legal;
+  kinds = s.kinds;
+}
+
+answers_end : {S : Type 0} (g : Ghosts S) (desk : DeskValue) (vault : Kept S) (run : batch.Run) (now : Held) (reply : Reply) (w : World) → StandsFor desk w → w.out ≡ Batch → run ≡ sealed_run desk.mark w → desk.mark ≡ vault.mark
+    → EndsAs g vault (settled_records w) run now reply → (next : World) × Move w on.Commit reply next × RunnerStandsFor g (record { desk = desk; vault = vault; held = now }) next
+answers_end g desk vault run (held.Receipt receipt) reply w s out is mark h =
+    let whole : settled_records w ++ records_of run.steps ≡ sealed_records w = ap (λ (r : batch.Run). settled_records w ++ records_of r.steps) is ∙ sealed_is desk.mark w (settled_within desk w s) in
+    let stands : IsOpenAt g vault (sealed_records w) = subst (IsOpenAt g vault) whole h.2 in
+    let said : reply ≡ says.Committed (length (sealed_records w)) = h.1 ∙ ap says.Committed stands.1.next in (
+      record w { out = Receipt; left = w.sealed ∷ [] },
+      inl (subst (λ o. reply ≡ (commit_of o w).reply) (sym out) said, subst (λ o. record w { out = Receipt; left = w.sealed ∷ [] } ≡ (commit_of o w).next) (sym out) refl),
+      record {
+        desk = out_again desk w Receipt (w.sealed ∷ []) s (ap is_nothing_out out);
+        held = (refl, h.0 ∙ is);
+        vault = stands;
+        mark = mark;
+      },
+    )
+answers_end g desk vault run (held.Batch back) reply w s out is mark h = (
+  w,
+  inr (inl (subst (λ o. IsSomeAnd (memory_refusal on.Commit (commit_of o w).reply) (λ number. (reply ≡ says.Refused number fault.OutOfMemory) × (w ≡ w))) (sym out) (h.1, refl))),
+  record {
+    desk = s;
+    held = (out, h.0 ∙ is);
+    vault = subst (VaultStandsFor g vault w) (sym out) h.2;
+    mark = mark;
+  },
+)
+answers_end g desk vault run (held.Doubt span) reply w s out is mark h = (
+  in_doubt w,
+  inr (inr (refl, out, h.0, refl)),
+  record {
+    desk = out_again desk w Doubt (w.settled ∷ w.sealed ∷ []) s (ap is_nothing_out out);
+    held = refl;
+    vault = h.1;
+    mark = mark;
+  },
+)
+answers_end g desk vault run held.Nothing reply w s out is mark h = absurd h
+
+-- the store takes the next batch, unless it has no memory
+pub unchanged_ends : {S : Type 0} (g : Ghosts S) (old new : Kept S) (run back : batch.Run) (reason : Unchanged) (result : Result batch.Run CommitEnd) → result ≡ Err (ends.Unchanged back reason) → back ≡ run
+    → (result ≡ Err (ends.Unchanged run why.Closed) → IsTrue old.closed) → (result ≡ Err (ends.Unchanged run why.OutOfTurn) → IsNext old run → ⊥) → (result ≡ Err (ends.Unchanged run why.Illegal) → IsIllegal g old run)
+    → (IsTrue new.closed → IsTrue old.closed ⊎ IsDoubt result) → AnswersOver g old new run result
+    → (records : List Record) → IsOpenAt g old records → IsNext old run → IsLegal (records ++ records_of run.steps) → EndsAs g new records run (held.Batch back) (unchanged_reply reason)
+unchanged_ends g old new run back why.Closed result is same closed turn illegal doubt over records open_at next legal =
+    absurd (let shut : old.closed ≡ true = closed (is ∙ ap (λ b. Err (ends.Unchanged b why.Closed)) same) in let free : old.closed ≡ false = open_at.0 in cc)
+unchanged_ends g old new run back why.OutOfTurn result is same closed turn illegal doubt over records open_at next legal =
+    absurd (turn (is ∙ ap (λ b. Err (ends.Unchanged b why.OutOfTurn)) same) next)
+unchanged_ends g old new run back why.Illegal result is same closed turn illegal doubt over records open_at next legal =
+    absurd (illegal (is ∙ ap (λ b. Err (ends.Unchanged b why.Illegal)) same) records open_at.1 legal)
+unchanged_ends g old new run back why.OutOfMemory result is same closed turn illegal doubt over records open_at next legal =
+    (same, refl, (at new.closed refl, (subst (AnswersOver g old new run) is over records open_at.1).0))
+  where
+    at : (b : Bool) → new.closed ≡ b → b ≡ false
+    at false e = refl
+    at true e = elim (doubt e) [ inl h ↦ absurd (let shut : old.closed ≡ true = h in let free : old.closed ≡ false = open_at.0 in cc) | inr h ↦ absurd (subst IsDoubt is h) ]
+
+pub answers_commit : {S : Type 0} (g : Ghosts S) (old new : Runner S) (run : batch.Run) (reply : Reply) → old.held ≡ held.Batch run → new.desk ≡ old.desk → new.vault.mark ≡ old.vault.mark
+    → CommitsSo g old.vault new.vault run new.held reply → Answers g old on.Commit reply new
+answers_commit g old new run reply held_is desk mark commits w stands =
+    let had : (w.out ≡ Batch) × (run ≡ sealed_run old.desk.mark w) = subst (IsHeld old.desk.mark w) held_is stands.held in
+    let open_at : IsOpenAt g old.vault (settled_records w) = subst (VaultStandsFor g old.vault w) had.0 stands.vault in
+    let next : IsNext old.vault run = (ap (λ (r : batch.Run). r.mark) had.1 ∙ stands.mark, ap (λ (r : batch.Run). r.from) had.1 ∙ sym open_at.1.next) in
+    let whole : settled_records w ++ records_of run.steps ≡ all_records w =
+    ap (λ (r : batch.Run). settled_records w ++ records_of r.steps) had.1 ∙ sealed_is old.desk.mark w (settled_within old.desk w stands.desk)
+    ∙ all_sealed old.desk w stands.desk (stands.desk.is_out ∙ ap (λ o. not (is_nothing_out o)) had.0) in
+    let ends = commits (settled_records w) open_at next (subst IsLegal (sym whole) stands.desk.legal) in
+    subst (λ d. (after : World) × Move w on.Commit reply after × RunnerStandsFor g (record { desk = d; vault = new.vault; held = new.held }) after) (sym desk)
+    (answers_end g old.desk new.vault run new.held reply w stands.desk had.0 had.1 (stands.mark ∙ sym mark) ends)
+
+-- The first world
+
+pub started_stands : {S : Type 0} (g : Ghosts S) (conn : store.Held S) (mark : ℕ) (vault : Kept S) (desk : DeskValue) → IsOpened g conn mark vault → IsBegun no_schema (store.state g conn).now → desk.mark ≡ mark
+    → StandsFor desk (opened [] 0) → RunnerStandsFor g (record { desk = desk; vault = vault; held = held.Nothing }) (opened [] 0)
+started_stands g conn mark vault desk made begun marked stands = record { desk = stands; held = refl; vault = (made.closed, made.history begun); mark = marked ∙ sym made.marked }

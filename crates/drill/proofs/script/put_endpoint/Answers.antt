@@ -1,0 +1,7 @@
+use Rattle.std.proofs.Common.{rules}
+use Rattle.drill.proofs.CallLaws.{put_secrets}
+use Rattle.drill.proofs.script.put_endpoint.Goals as goal
+
+pub returns-in_err-read_secrets-clause-bad : goal.returns-in_err-read_secrets-clause-bad
+returns-in_err-read_secrets-clause-bad c = λ e of to most by h.
+    c.in_err-read_secrets.ensures.bad (search rules) by (put_secrets c.args.name.now c.args.url.now c.args.max.now c.args.secrets.now of to most by h)

@@ -1,0 +1,4 @@
+pub mod Script
+pub mod Runs
+pub mod Runners
+pub mod Replays

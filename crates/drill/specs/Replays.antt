@@ -1,0 +1,25 @@
+-- What the replay of a script writes, by how it ends.
+use Rattle.std.specs.Prelude.{◌≡◌, ℕ, List, Option, Result}
+use Rattle.sqlite.specs.Store.{Ghosts}
+use Rattle.desk.specs.declared.event.Event.{Event}
+use Rattle.text_lines.specs.declared.fault.ReplayFault.{ReplayFault}
+use Rattle.desk.specs.declared.reply.Reply.{Reply}
+use Rattle.drill.specs.declared.runner.Runner.{Runner}
+use Rattle.text_lines.specs.Ends.{Ends, EndsTo}
+use Rattle.desk.specs.Replies.{reply_text}
+use Rattle.drill.specs.Runners.{Answers}
+use Rattle.drill.specs.Runs.{IsNoCall, Replies}
+use Rattle.drill.specs.Script.{ReadsLine}
+use Rattle.text_lines.specs.Streams.{with_feed}
+
+-- The replies to the lines of the reader's text are written, as far as this end says.
+abbrev pub Replays : Option (List ℕ) → Option (List ℕ) → Option (List ℕ) → Result (Unit {0}) ReplayFault → Type 0
+Replays input old new end = Ends Replies IsNoCall input old new end
+
+-- the same where the exit status tells of the end
+abbrev pub ReplaysTo : Option (List ℕ) → Option (List ℕ) → Option (List ℕ) → ℕ → Type 0
+ReplaysTo input old new status = EndsTo Replies IsNoCall input old new status
+
+-- the line's call is answered by its reply line
+abbrev pub RunsLine : {S : Type 0} → Ghosts S → List ℕ → Runner S → Runner S → List ℕ → Type 0
+RunsLine g line old new answer = (event : Event) × (reply : Reply) × ReadsLine line event × Answers g old event reply new × (answer ≡ with_feed (reply_text reply))

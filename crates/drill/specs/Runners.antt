@@ -1,0 +1,74 @@
+-- What the runner keeps between two lines, and the worlds for which it stands.
+use Rattle.std.specs.Prelude.{◌≡◌, ℕ, ◌++◌, false, List, IsTrue}
+use Rattle.sqlite.specs.Store.{Ghosts}
+use Rattle.sqlite.specs.State.{HasCleanDisk}
+use Rattle.sqlite.specs.Held as store
+use Rattle.relay_types.specs.declared.record.Record.{Record}
+use Rattle.relay_types.specs.Records.{records_of}
+use Rattle.relay_types.specs.Legal.{IsLegal}
+use Rattle.spool.specs.Runs as batch
+use Rattle.spool.specs.declared.ends.Unchanged.{Unchanged}
+use Rattle.spool.specs.declared.ends.Unchanged.TheVariants as why
+use Rattle.spool.specs.Commits.{IsNext}
+use Rattle.spool.specs.Vaults.{Kept, Holds}
+use Rattle.desk.specs.declared.event.Event.{Event}
+use Rattle.desk.specs.declared.reply.Fault.TheVariants as fault
+use Rattle.desk.specs.declared.reply.Reply.{Reply}
+use Rattle.desk.specs.declared.reply.Reply.TheVariants as says
+use Rattle.drill.specs.declared.runner.Held.{Held}
+use Rattle.drill.specs.declared.runner.Held.TheVariants as held
+use Rattle.drill.specs.declared.runner.Runner.{Runner}
+use Rattle.desk.specs.World.{World, Out, Nothing, Batch, Receipt, Doubt, settled_records, sealed_records}
+use Rattle.desk.specs.Moves.{Move}
+use Rattle.desk.specs.Desks.{StandsFor, sealed_run}
+
+-- the runner holds what the core has handed out
+abbrev pub IsHeld : ℕ → World → Held → Type 0
+IsHeld mark w held.Nothing = w.out ≡ Nothing
+IsHeld mark w (held.Batch run) = (w.out ≡ Batch) × (run ≡ sealed_run mark w)
+IsHeld mark w (held.Receipt run) = (w.out ≡ Receipt) × (run ≡ sealed_run mark w)
+IsHeld mark w (held.Doubt span) = w.out ≡ Doubt
+
+-- the store takes commits, and holds these records
+abbrev pub IsOpenAt : {S : Type 0} → Ghosts S → Kept S → List Record → Type 0
+IsOpenAt g vault records = (vault.closed ≡ false) × Holds g vault records
+
+-- The store holds the settled records, or the sealed ones once they are committed. After a doubt it takes no commit.
+abbrev pub VaultStandsFor : {S : Type 0} → Ghosts S → Kept S → World → Out → Type 0
+VaultStandsFor g vault w Nothing = IsOpenAt g vault (settled_records w)
+VaultStandsFor g vault w Batch = IsOpenAt g vault (settled_records w)
+VaultStandsFor g vault w Receipt = IsOpenAt g vault (sealed_records w)
+VaultStandsFor g vault w Doubt = IsTrue vault.closed
+
+-- the desk, the store and what is held stand for one world
+pub record RunnerStandsFor {S : Type 0} (g : Ghosts S) (runner : Runner S) (w : World) : Type 0 where
+  pub desk : StandsFor runner.desk w
+  pub held : IsHeld runner.desk.mark w runner.held
+  pub vault : VaultStandsFor g runner.vault w w.out
+  pub mark : runner.desk.mark ≡ runner.vault.mark
+
+-- From each world for which the runner stood, the call made this move of the model, and the runner stands for what came of it.
+abbrev pub Answers : {S : Type 0} → Ghosts S → Runner S → Event → Reply → Runner S → Type 0
+Answers g old event reply new = (w : World) → RunnerStandsFor g old w → (next : World) × Move w event reply next × RunnerStandsFor g new next
+
+-- the disk of each connection returns what was written
+abbrev pub IsAlwaysClean : {S : Type 0} → Ghosts S → Type 0
+IsAlwaysClean {S} g = (conn : store.Held S) → HasCleanDisk (store.state g conn)
+
+-- the reply to a commit that changed nothing
+abbrev pub unchanged_reply : Unchanged → Reply
+unchanged_reply why.Closed = says.Refused 1 fault.Closed
+unchanged_reply why.OutOfTurn = says.Refused 2 fault.OutOfTurn
+unchanged_reply why.Illegal = says.Refused 3 fault.Illegal
+unchanged_reply why.OutOfMemory = says.Refused 4 fault.OutOfMemory
+
+-- where the batch goes on with a legal history that the store holds, the store takes it as this says, by what is held then
+abbrev pub EndsAs : {S : Type 0} → Ghosts S → Kept S → List Record → batch.Run → Held → Reply → Type 0
+EndsAs g vault records run (held.Receipt receipt) reply = (receipt ≡ run) × (reply ≡ says.Committed vault.next) × IsOpenAt g vault (records ++ records_of run.steps)
+EndsAs g vault records run (held.Batch back) reply = (back ≡ run) × (reply ≡ says.Refused 4 fault.OutOfMemory) × IsOpenAt g vault records
+EndsAs g vault records run (held.Doubt span) reply = (reply ≡ says.Refused 5 fault.Store) × IsTrue vault.closed
+EndsAs g vault records run held.Nothing reply = ⊥
+
+-- what a commit of the vault's next batch answers
+abbrev pub CommitsSo : {S : Type 0} → Ghosts S → Kept S → Kept S → batch.Run → Held → Reply → Type 0
+CommitsSo g old new run now reply = (records : List Record) → IsOpenAt g old records → IsNext old run → IsLegal (records ++ records_of run.steps) → EndsAs g new records run now reply

@@ -1,0 +1,60 @@
+-- The lines of a script: which text stands for which call. A text that stands for none is a bad line. The grammar is told by
+-- printing: a line has these words, and one space between.
+use Rattle.std.specs.Prelude.{◌≡◌, ℕ, ◌&&◌, List, [], ◌∷◌, IsTrue, codes, decimal}
+use Rattle.relay_types.specs.Values.{is_name, is_msg_id, is_target, is_max_limit, is_body, is_moment}
+use Rattle.text_lines.specs.Parts.{line}
+use Rattle.text_lines.specs.Words.{IsSecretsWord, IsBodyWord}
+use Rattle.desk.specs.declared.event.Command.{Command}
+use Rattle.desk.specs.declared.event.Command.TheVariants.{PutEndpoint}
+use Rattle.desk.specs.declared.event.Event.{Event}
+use Rattle.desk.specs.declared.event.Event.TheVariants as on
+
+-- the words behind the first one of a change of an endpoint
+abbrev pub IsChange : List (List ℕ) → Command → Type 0
+IsChange words (PutEndpoint name target max secrets) = (word : List ℕ) × IsSecretsWord word secrets × (words ≡ name ∷ target ∷ decimal max ∷ word ∷ [])
+    × IsTrue (is_name name && (is_target target && is_max_limit max))
+
+abbrev pub IsSubmit : List (List ℕ) → ℕ → List ℕ → List ℕ → List ℕ → Type 0
+IsSubmit words now name id body = (word : List ℕ) × IsBodyWord word body × (words ≡ decimal now ∷ name ∷ id ∷ word ∷ [])
+    × IsTrue (is_moment now && (is_name name && (is_msg_id id && is_body body)))
+
+abbrev pub IsShow : List (List ℕ) → List ℕ → List ℕ → Type 0
+IsShow words name id = (words ≡ name ∷ id ∷ []) × IsTrue (is_name name && is_msg_id id)
+
+-- the words behind the first one of these calls
+abbrev pub IsPut : List (List ℕ) → Event → Type 0
+IsPut words (on.Change command) = IsChange words command
+IsPut words event = ⊥
+
+abbrev pub IsSubmitted : List (List ℕ) → Event → Type 0
+IsSubmitted words (on.Submit now name id body) = IsSubmit words now name id body
+IsSubmitted words event = ⊥
+
+abbrev pub IsShown : List (List ℕ) → Event → Type 0
+IsShown words (on.ShowEvent name id) = IsShow words name id
+IsShown words event = ⊥
+
+-- the first word of a call, and what is told by the words behind it
+abbrev pub call_word : Event → List ℕ
+call_word (on.Change (PutEndpoint name target max secrets)) = codes "put"
+call_word (on.Submit now name id body) = codes "submit"
+call_word on.Seal = codes "seal"
+call_word on.Commit = codes "commit"
+call_word on.Settle = codes "settle"
+call_word (on.ShowEvent name id) = codes "show"
+
+abbrev pub AreArguments : List (List ℕ) → Event → Type 0
+AreArguments words (on.Change command) = IsChange words command
+AreArguments words (on.Submit now name id body) = IsSubmit words now name id body
+AreArguments words on.Seal = words ≡ []
+AreArguments words on.Commit = words ≡ []
+AreArguments words on.Settle = words ≡ []
+AreArguments words (on.ShowEvent name id) = IsShow words name id
+
+-- the words of a call
+abbrev pub IsCall : List (List ℕ) → Event → Type 0
+IsCall words event = (arguments : List (List ℕ)) × (words ≡ call_word event ∷ arguments) × AreArguments arguments event
+
+-- a text stands for the call whose words it has
+abbrev pub ReadsLine : List ℕ → Event → Type 0
+ReadsLine text event = (words : List (List ℕ)) × (text ≡ line words) × IsCall words event

@@ -1,0 +1,278 @@
+//! The runner of scripts: it holds what the desk and the store hand out, and gives it to the line that asks for it.
+ghost use Rattle.std.specs.Prelude.{◌≡◌, ◌⊎◌, ◌+◌, [], length, IfOk, IfErr};
+ghost use Rattle.sqlite.specs.State.{HasCleanDisk};
+ghost use Rattle.sqlite.specs.Held.{state};
+ghost use Rattle.relay_types.specs.Records.{records_of};
+ghost use Rattle.spool_sql.specs.Tables.{no_schema};
+ghost use Rattle.spool_sql.specs.Steps.{IsBegun};
+ghost use Rattle.desk.specs.declared.event.Event.TheVariants as on;
+ghost use Rattle.desk.specs.declared.reply.Reply.TheVariants as says;
+ghost use Rattle.desk.specs.Desks.{staged_reply, event_reply};
+ghost use Rattle.desk.specs.Moves.{opened};
+ghost use Rattle.drill.specs.Runners.{RunnerStandsFor, Answers, CommitsSo, IsAlwaysClean, unchanged_reply};
+ghost use Rattle.text_lines.specs.Ends.{EndsLine};
+ghost use Rattle.drill.specs.Runs.{IsNoCall};
+ghost use Rattle.drill.specs.Replays.{Replays, RunsLine};
+
+use crate::script::read_event;
+use delivery_book::Row;
+use desk::{Command, Desk, Event, Fault, Refusal, Reply, WrongTurn};
+use relay_types::{Body, Moment, MsgId, Name};
+use spool::{Batch, CommitEnd, Doubt, Receipt, Unchanged, Vault};
+use sqlite::{Alter, Connection};
+use std::alloc::Global;
+use std::io::{Read, Write};
+use std::mem;
+use text_lines::{Lines, ReplayFault, WordFault, write_line};
+
+/// What the runner holds between two lines.
+#[derive(Drop)]
+enum Held {
+    Nothing,
+    Batch(Batch),
+    Receipt(Receipt),
+    Doubt(Doubt),
+}
+
+/// The desk, the store and what is out.
+#[derive(Drop)]
+struct Runner<S: Alter> {
+    desk: Desk,
+    vault: Vault<S>,
+    held: Held,
+}
+
+impl<S: Alter> Runner<S> {
+    // Gives the call to the desk or the store.
+    fn answer(&mut self, event: Event) -> Reply
+        ensures { HasCleanDisk (state S.Store self.new.vault.conn) → Answers S.Store self.old event result self.new }
+    {
+        match event {
+            Event::Submit {
+                now,
+                name,
+                id,
+                body,
+            } => self.submit(now, name, id, body),
+            Event::Change(command) => self.change(command),
+            Event::Seal => self.seal(),
+            Event::Commit => self.commit(),
+            Event::Settle => self.settle(),
+            Event::ShowEvent { name, id } => self.show_event(name, &id),
+        }
+    }
+
+    fn submit(&mut self, now: Moment, name: Name, id: MsgId, body: Body) -> Reply
+        ensures { Answers S.Store self.old (on.Submit now name id body) result self.new }
+    {
+        staged(self.desk.submit(now, name, id, body))
+    }
+
+    fn change(&mut self, command: Command) -> Reply
+        ensures { Answers S.Store self.old (on.Change command) result self.new }
+    {
+        staged(self.desk.command(command))
+    }
+
+    fn show_event(&self, name: Name, id: &MsgId) -> Reply
+        ensures { Answers S.Store self.now (on.ShowEvent name id.now) result self.now }
+    {
+        shown(self.desk.event(name, id))
+    }
+
+    fn seal(&mut self) -> Reply
+        ensures { Answers S.Store self.old on.Seal result self.new }
+    {
+        match self.desk.seal() {
+            Ok(Some(batch)) => {
+                let reply = sealed(&batch);
+                self.held = Held::Batch(batch);
+                reply
+            }
+            Ok(None) => Reply::NothingWaits,
+            Err(refusal) => refused(refusal),
+        }
+    }
+
+    fn commit(&mut self) -> Reply
+        ensures { HasCleanDisk (state S.Store self.new.vault.conn) → Answers S.Store self.old on.Commit result self.new }
+    {
+        match mem::replace(&mut self.held, Held::Nothing) {
+            Held::Batch(batch) => {
+                let (held, reply) = commit_batch(&mut self.vault, batch);
+                self.held = held;
+                reply
+            }
+            other => {
+                self.held = other;
+                Reply::NoBatch
+            }
+        }
+    }
+
+    fn settle(&mut self) -> Reply
+        ensures { Answers S.Store self.old on.Settle result self.new }
+    {
+        match mem::replace(&mut self.held, Held::Nothing) {
+            Held::Receipt(receipt) => match self.desk.settle(receipt) {
+                Ok(to) => Reply::SettledTo { to },
+                Err((receipt, WrongTurn)) => {
+                    self.held = Held::Receipt(receipt);
+                    Reply::Refused {
+                        number: 1,
+                        fault: Fault::WrongTurn,
+                    }
+                }
+            },
+            other => {
+                self.held = other;
+                Reply::NoReceipt
+            }
+        }
+    }
+}
+
+fn staged(answer: Result<u64, Refusal>) -> Reply
+    ensures { result ≡ staged_reply answer }
+{
+    match answer {
+        Ok(seq) => Reply::Staged { seq },
+        Err(refusal) => refused(refusal),
+    }
+}
+
+fn shown(row: Option<Row>) -> Reply
+    ensures { result ≡ event_reply row }
+{
+    match row {
+        Some(row) => Reply::Event {
+            state: row.state,
+            due: row.due,
+            attempts: row.attempts,
+        },
+        None => Reply::Absent,
+    }
+}
+
+// A batch has one record.
+fn sealed(batch: &Batch) -> Reply
+    ensures { result ≡ says.Sealed batch.now.from (batch.now.from + length (records_of batch.now.steps)) }
+{
+    let from = batch.from();
+    batch.step().record();
+    Reply::Sealed { from, to: from + 1 }
+}
+
+fn refused(refusal: Refusal) -> Reply
+    ensures { result ≡ says.Refused refusal.number refusal.fault }
+{
+    Reply::Refused {
+        number: refusal.number,
+        fault: refusal.fault,
+    }
+}
+
+// Commits the batch: what is held then, and the reply.
+fn commit_batch<S: Alter>(vault: &mut Vault<S>, batch: Batch) -> (Held, Reply)
+    ensures mark { vault.new.mark ≡ vault.old.mark }
+    ensures commits { HasCleanDisk (state S.Store vault.new.conn) → CommitsSo S.Store vault.old vault.new batch result.0 result.1 }
+{
+    match vault.commit(batch) {
+        Ok(receipt) => {
+            let to = vault.next();
+            (Held::Receipt(receipt), Reply::Committed { to })
+        }
+        Err(CommitEnd::Unchanged(batch, why)) => (Held::Batch(batch), unchanged(why)),
+        Err(CommitEnd::Doubtful(doubt, _)) => (
+            Held::Doubt(doubt),
+            Reply::Refused {
+                number: 5,
+                fault: Fault::Store,
+            },
+        ),
+    }
+}
+
+fn unchanged(why: Unchanged) -> Reply
+    ensures { result ≡ unchanged_reply why }
+{
+    let (number, fault) = match why {
+        Unchanged::Closed => (1, Fault::Closed),
+        Unchanged::OutOfTurn => (2, Fault::OutOfTurn),
+        Unchanged::Illegal => (3, Fault::Illegal),
+        Unchanged::OutOfMemory => (4, Fault::OutOfMemory),
+    };
+    Reply::Refused { number, fault }
+}
+
+/// Runs the script that the reader gives over an empty store, and writes a reply for each line.
+pub fn replay<S: Alter + Drop, I: Read, O: Write>(
+    alloc: Global,
+    input: &mut I,
+    output: &mut O,
+    conn: Connection<S>,
+    mark: u64,
+) -> Result<(), ReplayFault>
+    ensures { IsAlwaysClean S.Store → IsBegun no_schema (state S.Store conn).now → Replays (I.remaining input.old) (O.contents output.old) (O.contents output.new) result }
+{
+    let mut runner = started(alloc, conn, mark)?;
+    run_lines(alloc, &mut runner, input, output)
+}
+
+// The runner over a store that has no table.
+fn started<S: Alter + Drop>(
+    alloc: Global,
+    conn: Connection<S>,
+    mark: u64,
+) -> Result<Runner<S>, ReplayFault>
+    ensures stands { IfOk result (λ runner. HasCleanDisk (state S.Store runner.vault.conn) → IsBegun no_schema (state S.Store conn).now → RunnerStandsFor S.Store runner (opened [] 0)) }
+    ensures faults { IfErr result (λ fault. (fault ≡ ReplayFault.Lost) ⊎ (fault ≡ ReplayFault.OutOfMemory)) }
+{
+    if !conn.is_autocommit() {
+        return Err(ReplayFault::Lost);
+    }
+    let vault = match Vault::create(conn, mark) {
+        Ok(vault) => vault,
+        Err((_, fault)) if fault.is_memory() => return Err(ReplayFault::OutOfMemory),
+        Err(_) => return Err(ReplayFault::Lost),
+    };
+    Ok(Runner {
+        desk: Desk::new(alloc, mark)?,
+        vault,
+        held: Held::Nothing,
+    })
+}
+
+// Answers the lines.
+fn run_lines<S: Alter, I: Read, O: Write>(
+    alloc: Global,
+    runner: &mut Runner<S>,
+    input: &mut I,
+    output: &mut O,
+) -> Result<(), ReplayFault>
+    ensures { IsAlwaysClean S.Store → RunnerStandsFor S.Store runner.old (opened [] 0) → Replays (I.remaining input.old) (O.contents output.old) (O.contents output.new) result }
+{
+    let mut lines = Lines::new(alloc)?;
+    while lines.advance(input)? {
+        run_line(alloc, &lines, runner, output)?;
+    }
+    Ok(())
+}
+
+// Answers one line.
+fn run_line<S: Alter, O: Write>(
+    alloc: Global,
+    lines: &Lines,
+    runner: &mut Runner<S>,
+    output: &mut O,
+) -> Result<(), ReplayFault>
+    ensures { HasCleanDisk (state S.Store runner.new.vault.conn) → EndsLine (RunsLine S.Store lines.now.line runner.old runner.new) IsNoCall lines.now (O.contents output.old) (O.contents output.new) result }
+{
+    let event = match read_event(alloc, lines.line()) {
+        Ok(event) => event,
+        Err(WordFault::Bad) => return Err(ReplayFault::BadLine(lines.number())),
+        Err(WordFault::OutOfMemory) => return Err(ReplayFault::OutOfMemory),
+    };
+    let reply = runner.answer(event);
+    write_line(alloc, output, &reply)
+}

@@ -1,0 +1,141 @@
+//! The lines of a script: the calls that they stand for.
+ghost use Rattle.std.specs.Prelude.{◌≡◌, ℕ, List, [], ◌∷◌, IfOk};
+ghost use Rattle.text_lines.specs.Parts.{texts};
+ghost use Rattle.drill.specs.Script.{ReadsLine, IsCall, call_word, AreArguments, IsPut, IsChange, IsSubmitted, IsSubmit, IsShown, IsShow};
+ghost use Rattle.desk.specs.declared.event.Event.{Event};
+ghost use Rattle.desk.specs.declared.event.Command.{Command};
+
+use desk::{Command, Event};
+use relay_types::{MsgId, Name, Target};
+use std::alloc::Global;
+use text_lines::{WordFault, is_word, read_body, read_max, read_moment, read_secrets, split};
+
+/// The call that a line stands for.
+pub fn read_event(alloc: Global, line: &[u8]) -> Result<Event, WordFault>
+    ensures stands { IfOk result (λ event. ReadsLine line.now event) }
+    ensures bad { result ≡ Err WordFault.Bad → (event : Event) → ReadsLine line.now event → ⊥ }
+{
+    let words = split(alloc, line)?;
+    read_words(alloc, words.as_slice())
+}
+
+// The call that has these words.
+fn read_words(alloc: Global, words: &[&[u8]]) -> Result<Event, WordFault>
+    ensures stands { IfOk result (λ event. IsCall (texts words.now) event) }
+    ensures bad { result ≡ Err WordFault.Bad → (event : Event) → IsCall (texts words.now) event → ⊥ }
+{
+    match words.split_first() {
+        Some((call, arguments)) => read_call(alloc, call, arguments),
+        None => Err(WordFault::Bad),
+    }
+}
+
+// The call of this word and the words behind it.
+fn read_call(alloc: Global, call: &[u8], arguments: &[&[u8]]) -> Result<Event, WordFault>
+    ensures stands { IfOk result (λ event. (call.now ≡ call_word event) × AreArguments (texts arguments.now) event) }
+    ensures bad { result ≡ Err WordFault.Bad → (event : Event) → call.now ≡ call_word event → AreArguments (texts arguments.now) event → ⊥ }
+{
+    if is_word(call, "put") {
+        read_put(alloc, arguments)
+    } else if is_word(call, "submit") {
+        read_submit(alloc, arguments)
+    } else if is_word(call, "show") {
+        read_show(arguments)
+    } else if is_word(call, "seal") {
+        alone(arguments, Event::Seal)
+    } else if is_word(call, "commit") {
+        alone(arguments, Event::Commit)
+    } else if is_word(call, "settle") {
+        alone(arguments, Event::Settle)
+    } else {
+        Err(WordFault::Bad)
+    }
+}
+
+// The event of a call that has no arguments.
+fn alone(arguments: &[&[u8]], event: Event) -> Result<Event, WordFault>
+    ensures stands { IfOk result (λ same. (same ≡ event) × (texts arguments.now ≡ [])) }
+    ensures bad { result ≡ Err WordFault.Bad → texts arguments.now ≡ [] → ⊥ }
+{
+    if arguments.is_empty() {
+        Ok(event)
+    } else {
+        Err(WordFault::Bad)
+    }
+}
+
+fn read_put(alloc: Global, arguments: &[&[u8]]) -> Result<Event, WordFault>
+    ensures stands { IfOk result (λ event. IsPut (texts arguments.now) event) }
+    ensures bad { result ≡ Err WordFault.Bad → (of to : List ℕ) (most : ℕ) (by : List (List ℕ)) → IsChange (texts arguments.now) (Command.PutEndpoint of to most by) → ⊥ }
+{
+    match arguments {
+        [name, url, max, secrets] => put_endpoint(alloc, name, url, max, secrets),
+        _ => Err(WordFault::Bad),
+    }
+}
+
+fn put_endpoint(
+    alloc: Global,
+    name: &[u8],
+    url: &[u8],
+    max: &[u8],
+    secrets: &[u8],
+) -> Result<Event, WordFault>
+    ensures stands { IfOk result (λ event. IsPut (name.now ∷ url.now ∷ max.now ∷ secrets.now ∷ []) event) }
+    ensures bad { result ≡ Err WordFault.Bad → (of to : List ℕ) (most : ℕ) (by : List (List ℕ)) → IsChange (name.now ∷ url.now ∷ max.now ∷ secrets.now ∷ []) (Command.PutEndpoint of to most by) → ⊥ }
+{
+    Ok(Event::Change(Command::PutEndpoint {
+        name: Name::read(name)?,
+        target: Target::read(alloc, url)?,
+        max: read_max(max)?,
+        secrets: read_secrets(alloc, secrets)?,
+    }))
+}
+
+fn read_submit(alloc: Global, arguments: &[&[u8]]) -> Result<Event, WordFault>
+    ensures stands { IfOk result (λ event. IsSubmitted (texts arguments.now) event) }
+    ensures bad { result ≡ Err WordFault.Bad → (now : ℕ) (name id body : List ℕ) → IsSubmit (texts arguments.now) now name id body → ⊥ }
+{
+    match arguments {
+        [now, name, id, body] => submit(alloc, now, name, id, body),
+        _ => Err(WordFault::Bad),
+    }
+}
+
+fn submit(
+    alloc: Global,
+    now: &[u8],
+    name: &[u8],
+    id: &[u8],
+    body: &[u8],
+) -> Result<Event, WordFault>
+    ensures stands { IfOk result (λ event. IsSubmitted (now.now ∷ name.now ∷ id.now ∷ body.now ∷ []) event) }
+    ensures bad { result ≡ Err WordFault.Bad → (at : ℕ) (of with bytes : List ℕ) → IsSubmit (now.now ∷ name.now ∷ id.now ∷ body.now ∷ []) at of with bytes → ⊥ }
+{
+    Ok(Event::Submit {
+        now: read_moment(now)?,
+        name: Name::read(name)?,
+        id: MsgId::read(id)?,
+        body: read_body(alloc, body)?,
+    })
+}
+
+fn read_show(arguments: &[&[u8]]) -> Result<Event, WordFault>
+    ensures stands { IfOk result (λ event. IsShown (texts arguments.now) event) }
+    ensures bad { result ≡ Err WordFault.Bad → (name id : List ℕ) → IsShow (texts arguments.now) name id → ⊥ }
+{
+    match arguments {
+        [name, id] => show(name, id),
+        _ => Err(WordFault::Bad),
+    }
+}
+
+fn show(name: &[u8], id: &[u8]) -> Result<Event, WordFault>
+    ensures stands { IfOk result (λ event. IsShown (name.now ∷ id.now ∷ []) event) }
+    ensures bad { result ≡ Err WordFault.Bad → (of with : List ℕ) → IsShow (name.now ∷ id.now ∷ []) of with → ⊥ }
+{
+    Ok(Event::ShowEvent {
+        name: Name::read(name)?,
+        id: MsgId::read(id)?,
+    })
+}

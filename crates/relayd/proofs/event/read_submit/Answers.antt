@@ -1,8 +1,0 @@
-use Rattle.std.proofs.Common.{List, ℕ, subst, arith}
-use Rattle.relayd.specs.Script.{IsSubmit}
-use Rattle.relayd.proofs.CallLaws.{four_texts}
-use Rattle.relayd.proofs.event.read_submit.Goals as goal
-
-pub returns-in-len4-clause-bad : goal.returns-in-len4-clause-bad
-returns-in-len4-clause-bad c = λ e now name id body h.
-    c.submit.ensures.bad e now name id body (subst (λ (words : List (List ℕ)). IsSubmit words now name id body) (four_texts c.args.arguments.now _ (omega arith)) h)

@@ -1,5 +1,0 @@
-use Rattle.relayd.proofs.FeedLaws.{IsFeedAt-from_position}
-use Rattle.relayd.proofs.lines.next_feed.Goals as goal
-
-pub returns : goal.returns
-returns c = IsFeedAt-from_position c.args.bytes.now c.place_of_feed.result c.place_of_feed.ensures

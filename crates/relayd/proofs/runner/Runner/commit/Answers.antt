@@ -1,6 +1,0 @@
-use Rattle.std.proofs.Common.{refl, sym}
-use Rattle.relayd.proofs.RunnerLaws.{answers_commit}
-use Rattle.relayd.proofs.runner.Runner.commit.Goals as goal
-
-pub returns-in-Batch : goal.returns-in-Batch
-returns-in-Batch g c clean = answers_commit g.S.Store c.args.self.now _ c.in-Batch.batch c.commit_batch-held.result.1 (sym c.in-Batch.ensures.value) refl c.commit_batch-held.ensures.mark (c.commit_batch-held.ensures.commits clean)

@@ -1,6 +1,0 @@
-use Rattle.std.proofs.Common.{◌∙◌}
-use Rattle.relayd.proofs.RunnerLaws.{answers_look}
-use Rattle.relayd.proofs.runner.Runner.show_event.Goals as goal
-
-pub returns : goal.returns
-returns g c = answers_look g.S.Store c.args.self.now c.args.name c.args.id.now _ (λ w s. c.shown.ensures ∙ c.event.ensures w s)

@@ -1,6 +1,0 @@
-use Rattle.std.proofs.Common.{refl}
-use Rattle.relayd.proofs.RunnerLaws.{answers_submit}
-use Rattle.relayd.proofs.runner.Runner.submit.Goals as goal
-
-pub returns : goal.returns
-returns g c = rw c.staged.ensures (answers_submit g.S.Store _ _ c.args.now c.args.name c.args.id c.args.body _ c.submit.ensures.moves c.submit.ensures.mark refl refl)

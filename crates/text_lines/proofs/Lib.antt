@@ -1,0 +1,11 @@
+mod FeedLaws
+mod HexLaws
+mod MarkLaws
+pub mod NumberLaws
+pub mod PartLaws
+mod SecretWords
+pub mod StreamLaws
+pub mod TargetWords
+pub mod CleanWords
+pub mod EndLaws
+mod WorkedLines

@@ -1,0 +1,5 @@
+pub mod Parts
+pub mod Streams
+pub mod Words
+pub mod WordFaults
+pub mod Ends

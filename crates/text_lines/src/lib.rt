@@ -1,0 +1,16 @@
+//! The lines and words that commands read and write: a reader's lines within bounds, the words of a line and what they stand
+//! for, and lines that are written.
+#![tactic(auto)]
+
+mod fault;
+mod lines;
+mod output;
+mod words;
+
+pub use crate::fault::ReplayFault;
+pub use crate::lines::{Lines, MOST_READS, read_into};
+pub use crate::output::write_line;
+pub use crate::words::{
+    WordFault, is_word, read_body, read_max, read_moment, read_number, read_secrets, secrets_of,
+    split,
+};

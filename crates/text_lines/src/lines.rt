@@ -1,0 +1,219 @@
+//! The lines of a reader, within bounds.
+ghost use Rattle.std.specs.Prelude.{◌≡◌, ◌≢◌, ◌==◌, ◌⊎◌, true, false, ◌≤◌, ◌<◌, ◌+◌, [], ◌∷◌, ◌++◌, length, take, drop, vec_len, IsTrue, IfOk, OnOk, IfErr, MatchOption};
+ghost use Rattle.std.specs.List.{position};
+ghost use Rattle.std.specs.Option.{unwrap_or};
+ghost use Rattle.std.specs.Io.KnownBytes.{Consumes, Keeps, IsAtEnd};
+ghost use Rattle.text_lines.specs.Streams.{Reading, left, has_no_feed, IsFeedAt, TakesPiece, PassesBound, TakesLine, IsTooLong};
+
+use crate::fault::ReplayFault;
+use std::alloc::{AllocError, Global};
+use std::io::{ErrorKind, Read};
+use std::marker::Model;
+
+/// The most bytes of a line, its line feed not counted.
+pub const MOST_BYTES: usize = 140_000;
+
+/// The most lines of a reader.
+pub const MOST_LINES: u64 = 1_000_000;
+
+/// The most reads that are asked of a reader.
+pub const MOST_READS: u64 = 1 << 32;
+
+const CHUNK: usize = 65_536;
+
+/// The lines of a reader, one after another. A line ends in a line feed, which the last one may lack.
+#[derive(Drop)]
+pub struct Lines {
+    chunk: Vec<u8>,
+    at: usize,
+    end: usize,
+    line: Vec<u8>,
+    count: u64,
+    reads: u64,
+}
+
+impl Model for Lines {
+    ghost use Rattle.std.specs.Prelude.{◌≤◌, ◌<◌, slice_range, vec_len};
+    ghost use Rattle.text_lines.specs.Streams.{Reading};
+
+    ghost Value = { Reading };
+
+    ghost view = { λ a. record { pending = slice_range a.chunk.items a.at a.end; line = a.line.items; count = a.count } };
+
+    ghost invariant = { λ a. (a.at ≤ a.end) × (a.end ≤ vec_len a.chunk) × (0 < vec_len a.chunk) × (vec_len a.line ≤ 140000) × (a.count ≤ 1000000) };
+}
+
+impl Lines {
+    /// No line yet.
+    pub fn new(alloc: Global) -> Result<Lines, AllocError>
+        ensures { IfOk result (λ lines. lines ≡ record { pending = []; line = []; count = 0 }) }
+    {
+        Ok(Lines {
+            chunk: room(alloc)?,
+            at: 0,
+            end: 0,
+            line: Vec::new(alloc),
+            count: 0,
+            reads: 0,
+        })
+    }
+
+    /// The number of the line, from 1.
+    pub fn number(&self) -> u64
+        ensures { result ≡ self.now.count }
+    {
+        self.count
+    }
+
+    /// The bytes of the line, without its line feed.
+    pub fn line(&self) -> &[u8]
+        ensures { result.now ≡ self.now.line }
+    {
+        self.line.as_slice()
+    }
+
+    /// Goes to the next line: `false` where there is none.
+    pub fn advance<R: Read>(&mut self, reader: &mut R) -> Result<bool, ReplayFault>
+        ensures line { result ≡ Ok true → TakesLine (left self.old (R.remaining reader.old)) (left self.new (R.remaining reader.new)) self.new.line }
+        ensures no_feed { result ≡ Ok true → IsTrue (has_no_feed self.new.line) }
+        ensures number { result ≡ Ok true → self.new.count ≡ self.old.count + 1 }
+        ensures most_bytes { result ≡ Ok true → length self.new.line ≤ 140000 }
+        ensures most_lines { result ≡ Ok true → self.new.count ≤ 1000000 }
+        ensures end { result ≡ Ok false → IsAtEnd (left self.old (R.remaining reader.old)) }
+        ensures too_long { result ≡ Err ReplayFault.TooLong → IsTooLong self.old.count (left self.old (R.remaining reader.old)) }
+        ensures faults { IfErr result (λ fault. (fault ≡ ReplayFault.TooLong) ⊎ ((fault ≡ ReplayFault.Read) ⊎ (fault ≡ ReplayFault.OutOfMemory))) }
+    {
+        self.line.clear();
+        for _ in self.reads..MOST_READS {
+            if !self.supply(reader)? {
+                return self.ended();
+            }
+            if self.take_piece()? {
+                return self.counted();
+            }
+        }
+        Err(ReplayFault::Read)
+    }
+
+    // Reads the next bytes if none are pending: `false` at the reader's end.
+    fn supply<R: Read>(&mut self, reader: &mut R) -> Result<bool, ReplayFault>
+        ensures line { self.new.line ≡ self.old.line }
+        ensures number { self.new.count ≡ self.old.count }
+        ensures left { OnOk result (Keeps (left self.old (R.remaining reader.old)) (left self.new (R.remaining reader.new))) }
+        ensures end { result ≡ Ok false → IsAtEnd (left self.new (R.remaining reader.new)) }
+        ensures fault { IfErr result (λ fault. fault ≡ ReplayFault.Read) }
+    {
+        if self.at < self.end {
+            return Ok(true);
+        }
+        self.reads = self.reads.saturating_add(1);
+        let got = read_into(reader, self.chunk.as_mut_slice())?;
+        self.at = 0;
+        self.end = got.unwrap_or(0);
+        Ok(got.is_some())
+    }
+
+    // Takes the pending bytes into the line, up to a line feed: whether there was one.
+    fn take_piece(&mut self) -> Result<bool, ReplayFault>
+        ensures number { self.new.count ≡ self.old.count }
+        ensures whole { result ≡ Ok true → TakesPiece self.old self.new }
+        ensures part { result ≡ Ok false → (self.new.pending ≡ []) × (self.new.line ≡ self.old.line ++ self.old.pending) × IsTrue (has_no_feed self.old.pending) }
+        ensures too_long { result ≡ Err ReplayFault.TooLong → PassesBound self.old }
+        ensures faults { IfErr result (λ fault. (fault ≡ ReplayFault.TooLong) ⊎ (fault ≡ ReplayFault.OutOfMemory)) }
+    {
+        let rest = &self.chunk[self.at..self.end];
+        match next_feed(rest) {
+            Some(place) => {
+                lengthen(&mut self.line, &rest[..place])?;
+                self.at += place + 1;
+                Ok(true)
+            }
+            None => {
+                lengthen(&mut self.line, rest)?;
+                self.at = self.end;
+                Ok(false)
+            }
+        }
+    }
+
+    // The reader is at its end: whether the line has bytes.
+    fn ended(&mut self) -> Result<bool, ReplayFault>
+        ensures line { self.new.line ≡ self.old.line }
+        ensures pending { self.new.pending ≡ self.old.pending }
+        ensures none { result ≡ Ok false → self.old.line ≡ [] }
+        ensures some { result ≡ Ok true → self.old.line ≢ [] }
+        ensures number { result ≡ Ok true → self.new.count ≡ self.old.count + 1 }
+        ensures bounds { result ≡ Ok true → (length self.new.line ≤ 140000) × (self.new.count ≤ 1000000) }
+        ensures too_long { IfErr result (λ fault. (fault ≡ ReplayFault.TooLong) × (1000000 ≤ self.old.count) × (self.old.line ≢ [])) }
+    {
+        if self.line.is_empty() {
+            return Ok(false);
+        }
+        self.counted()
+    }
+
+    fn counted(&mut self) -> Result<bool, ReplayFault>
+        ensures line { self.new.line ≡ self.old.line }
+        ensures pending { self.new.pending ≡ self.old.pending }
+        ensures number { IfOk result (λ is_line. (is_line ≡ true) × (self.new.count ≡ self.old.count + 1)) }
+        ensures bounds { OnOk result ((length self.new.line ≤ 140000) × (self.new.count ≤ 1000000)) }
+        ensures too_long { IfErr result (λ fault. (fault ≡ ReplayFault.TooLong) × (1000000 ≤ self.old.count)) }
+    {
+        if self.count >= MOST_LINES {
+            return Err(ReplayFault::TooLong);
+        }
+        self.count += 1;
+        Ok(true)
+    }
+}
+
+// The bytes of one read.
+fn room(alloc: Global) -> Result<Vec<u8>, AllocError>
+    ensures { IfOk result (λ chunk. 0 < vec_len chunk) }
+{
+    vec![in alloc; 0; CHUNK]
+}
+
+/// Reads into the chunk: how many bytes, none of them where the reader was interrupted, and `None` at its end.
+pub fn read_into<R: Read>(reader: &mut R, chunk: &mut [u8]) -> Result<Option<usize>, ReplayFault>
+    requires { 0 < length chunk.old }
+    ensures fits { IfOk result (λ got. unwrap_or got 0 ≤ length chunk.new) }
+    ensures bytes { IfOk result (λ got. Consumes (R.remaining reader.old) (R.remaining reader.new) (take (unwrap_or got 0) chunk.new)) }
+    ensures end { IfOk result (λ got. MatchOption got (IsAtEnd (R.remaining reader.new)) (λ _. Unit {0})) }
+    ensures fault { IfErr result (λ fault. fault ≡ ReplayFault.Read) }
+{
+    match reader.read(chunk) {
+        Ok(0) => Ok(None),
+        Ok(count) => Ok(Some(count)),
+        Err(error) if error.kind() == ErrorKind::Interrupted => Ok(Some(0)),
+        Err(_) => Err(ReplayFault::Read),
+    }
+}
+
+// The place of the first line feed.
+fn next_feed(bytes: &[u8]) -> Option<usize>
+    ensures { MatchOption result (IsTrue (has_no_feed bytes.now)) (λ place. IsFeedAt bytes.now place) }
+{
+    place_of_feed(bytes)
+}
+
+fn place_of_feed(bytes: &[u8]) -> Option<usize>
+    ensures { result ≡ position (λ byte. byte == 10) bytes.now }
+{
+    bytes.iter().position(|byte| *byte == b'\n')
+}
+
+// Puts the piece behind the line, unless it is too long with it.
+fn lengthen(line: &mut Vec<u8>, piece: &[u8]) -> Result<(), ReplayFault>
+    requires { vec_len line.old ≤ 140000 }
+    ensures line { OnOk result (line.new.items ≡ line.old.items ++ piece.now) }
+    ensures most { vec_len line.new ≤ 140000 }
+    ensures too_long { result ≡ Err ReplayFault.TooLong → 140000 < vec_len line.old + length piece.now }
+    ensures faults { IfErr result (λ fault. (fault ≡ ReplayFault.TooLong) ⊎ (fault ≡ ReplayFault.OutOfMemory)) }
+{
+    if piece.len() > MOST_BYTES - line.len() {
+        return Err(ReplayFault::TooLong);
+    }
+    line.extend_from_slice(piece)?;
+    Ok(())
+}
