@@ -135,7 +135,7 @@ impl DeliveryBook {
                 at: entry.at,
                 attempts: 0,
                 state: State::Pending,
-                due: Some(entry.at),
+                due: Some(entry.at.seconds()),
                 last_status: None,
             }),
             None => None,

@@ -62,7 +62,7 @@ fn is_fresh(row: Option<Row>, name: &[u8], id: &[u8], at: u64) -> bool {
                 && row.at.seconds() == at
                 && row.attempts == 0
                 && row.state == State::Pending
-                && row.due.map(|due| due.seconds()) == Some(at)
+                && row.due == Some(at)
                 && row.last_status.is_none()
         }
         None => false,

@@ -2,7 +2,7 @@
 ghost use Rattle.std.specs.Prelude.{◌≡◌, Some};
 ghost use Rattle.desk.specs.Replies.{fault_text, state_text, reply_text};
 
-use relay_types::{Moment, State};
+use relay_types::State;
 use std::fmt;
 
 /// The name of a refusal.
@@ -44,7 +44,7 @@ pub enum Reply {
     },
     Event {
         state: State,
-        due: Option<Moment>,
+        due: Option<u64>,
         attempts: u64,
     },
     Absent,
@@ -103,8 +103,7 @@ impl fmt::Display for Reply {
             } => {
                 f.write_str(state_word(*state))?;
                 if let Some(due) = due {
-                    let seconds = due.seconds();
-                    write!(f, " due {seconds}")?;
+                    write!(f, " due {due}")?;
                 }
                 write!(f, " attempts {attempts}")
             }
