@@ -12,7 +12,7 @@ use Rattle.relay_types.specs.declared.record.Record.{Record}
 use Rattle.relay_types.specs.Rows.{Rows, put_record}
 use Rattle.spool_sql.specs.Stored.{IsTables}
 use Rattle.spool_sql.specs.Steps.{Spares, Stands, MayLeave}
-use Rattle.spool_sql.proofs.StepLemmas.{tables_of, leaves_commit, leaves_along, stands_along}
+use Rattle.spool_sql.proofs.StepLemmas.{leaves_commit, leaves_along, stands_along}
 use Rattle.spool.specs.Entering.{AreRowsAt, Enters, Turns, CommitsEntry, StaysAs, Rests, EndsSo}
 use Rattle.spool.specs.declared.write.Written.TheVariants.{Made}
 
@@ -21,7 +21,7 @@ pub survives_entry : {S : Type 0} (g : Ghosts S) (old : Held S) (mid new : State
     → Survives mid new (λ db. db ≡ mid.now.trees) → Survives (state g old) new (CommitsEntry (state g old) next entry)
 survives_entry g old mid new next entry legal is s made ended =
     survives_then (state g old) mid new _ _ (CommitsEntry (state g old) next entry) (λ _ db none. absurd none)
-    (λ clean db now rows at stands. rw now (tables_of mid.now (put_record rows entry) ((made (omega (arith, clean, ended.clean))).makes is rows at stands.now)))
+    (λ clean db now rows at stands. rw now ((made (omega (arith, clean, ended.clean))).makes is rows at stands.now).tables)
     (survives_begin g old mid _ s.survives) ended
 
 pub not_made : (b : Bool) → b ≡ false → let x : Result Bool Error = Ok b in x ≡ Ok true → ⊥
@@ -61,7 +61,7 @@ rests_along old mid new rows stays same settled stands =
 pub leaves_entry : (a b : State) (next : ℕ) (entry : Record) (rows : Rows) → Survives a b (CommitsEntry a next entry) → HasCleanDisk b → AreRowsAt next rows → Stands a rows → IsSettled a
     → MayLeave b (λ r. (r ≡ rows) ⊎ (r ≡ put_record rows entry))
 leaves_entry a b next entry rows s clean at stands settled db may = elim (s.crash clean db may) [
-  | inl was ↦ (rows, inl refl, rw (settled db stands.is_open was) (tables_of a.committed rows stands.committed))
+  | inl was ↦ (rows, inl refl, rw (settled db stands.is_open was) stands.committed.tables)
   | inr new ↦ (put_record rows entry, inr refl, new rows at stands)
 ]
 

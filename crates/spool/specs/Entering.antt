@@ -6,8 +6,8 @@ use Rattle.sqlite.specs.Tree.{Trees}
 use Rattle.relay_types.specs.declared.record.Record.{Record}
 use Rattle.relay_types.specs.declared.record.Record.TheVariants.{Put, Secrets, Enabled, Accept, Outcome}
 use Rattle.relay_types.specs.Rows.{Rows, EndpointRow, DeliveryRow, put_by_name, put_record, secret_rows}
-use Rattle.spool_sql.specs.Stored.{IsTables, endpoints_named}
-use Rattle.spool_sql.specs.Steps.{GoesOn, Stands, MayLeave, AreTablesOf}
+use Rattle.spool_sql.specs.Stored.{IsTables, AreTablesOf, endpoints_named}
+use Rattle.spool_sql.specs.Steps.{GoesOn, Stands, MayLeave}
 use Rattle.spool.specs.declared.write.Written.{Written}
 use Rattle.spool.specs.declared.write.Written.TheVariants.{Made, Illegal, OutOfMemory, Doubtful}
 

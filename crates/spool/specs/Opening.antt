@@ -4,7 +4,8 @@ use Rattle.sqlite.specs.State.{State}
 use Rattle.sqlite.specs.Tree.{Trees}
 use Rattle.relay_types.specs.Rows.{rows_of}
 use Rattle.spool_sql.specs.Tables.{no_schema}
-use Rattle.spool_sql.specs.Steps.{IsBegun, AreTablesOf}
+use Rattle.spool_sql.specs.Stored.{AreTablesOf}
+use Rattle.spool_sql.specs.Steps.{IsBegun}
 use Rattle.spool.specs.Entering.{Rests}
 use Rattle.spool.specs.declared.ends.OpenFault.{OpenFault}
 use Rattle.spool.specs.declared.ends.OpenFault.TheVariants.{NotOurs, Store, OutOfMemory}

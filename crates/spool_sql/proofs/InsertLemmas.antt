@@ -22,6 +22,7 @@ use Rattle.sqlite.specs.Listing.{understood}
 use Rattle.sqlite.specs.State.{State, mode_of, Shows, Executes}
 use Rattle.sqlite_schema.specs.declared.schema.Keys.TheVariants.{Enforced}
 use Rattle.sqlite.proofs.Callers.{IsPlain, command_of, statement_of, runs_as, one_step}
+use Rattle.sqlite_catalog.specs.Listing.{IsSound}
 use Rattle.spool_sql.specs.Tables.{relay_schema}
 
 -- a part that gave a value did not stop on the way
@@ -35,6 +36,7 @@ same_value e = cc
 -- one tree of a table has these rows now, and all else of the relay's database is as it was
 pub record Wrote (old new : State) (tree : ℕ) (rows : List Row) : Type 0 where
   pub schema : new.now.schema ≡ relay_schema
+  pub sound : IsSound relay_schema new.now.trees
   pub rows_are : new.now.trees tree ≡ rows
   pub others : AllByRecursion (λ (t : Table). t.tree ≢ tree → new.now.trees t.tree ≡ old.now.trees t.tree) relay_schema.tables
   pub shown : Shows old new new.now (cond old.in_transaction old.committed new.now) old.in_transaction
@@ -100,6 +102,7 @@ module _ (sql : List ℕ) (params : Row) (at : ℕ) (terms : List Term) (width :
       let trees : new.now.trees ≡ made.0.trees = ap (λ (d : Database). d.trees) same in (
         record {
           schema = ap (λ (d : Database). d.schema) same;
+          sound = subst (λ schema. IsSound schema new.now.trees) (ap (λ (d : Database). d.schema) same) w.sound;
           rows_are = ap (λ (t : Trees). t table.tree) trees ∙ it.rows ∙ ap (put_all (db table.tree)) new_rows;
           others = subst (λ (t : Trees). AllByRecursion (λ (x : Table). x.tree ≢ table.tree → t x.tree ≡ db x.tree) relay_schema.tables) (sym trees) it.tables;
           shown = w.shown;

@@ -71,11 +71,14 @@ adds_delivery old new d count h rows t =
     let w = u.0 in
     record {
       schema = w.schema;
-      meta = w.others.0 (λ e. absurd (omega (arith, e))) ∙ t.meta;
-      endpoints = subst (λ x. IsPermutation x (map endpoint_stored rows.endpoints)) (sym (w.others.1.0 (λ e. absurd (omega (arith, e))))) t.endpoints;
-      secrets = subst (λ x. IsPermutation (map (drop 1) x) (map secret_stored rows.secrets)) (sym (w.others.1.1.0 (λ e. absurd (omega (arith, e))))) t.secrets;
-      deliveries = subst (λ x. IsPermutation x (map delivery_stored (rows.deliveries ++ d ∷ []))) (sym w.rows_are) (put_typed delivery_stored d (old.now.trees 5) rows.deliveries u.1 t.deliveries);
-      attempts = subst (λ x. IsPermutation x (map attempt_stored rows.attempts)) (sym (w.others.1.1.1.1.0 (λ e. absurd (omega (arith, e))))) t.attempts;
+      tables = record {
+        sound = w.sound;
+        meta = w.others.0 (λ e. absurd (omega (arith, e))) ∙ t.tables.meta;
+        endpoints = subst (λ x. IsPermutation x (map endpoint_stored rows.endpoints)) (sym (w.others.1.0 (λ e. absurd (omega (arith, e))))) t.tables.endpoints;
+        secrets = subst (λ x. IsPermutation (map (drop 1) x) (map secret_stored rows.secrets)) (sym (w.others.1.1.0 (λ e. absurd (omega (arith, e))))) t.tables.secrets;
+        deliveries = subst (λ x. IsPermutation x (map delivery_stored (rows.deliveries ++ d ∷ []))) (sym w.rows_are) (put_typed delivery_stored d (old.now.trees 5) rows.deliveries u.1 t.tables.deliveries);
+        attempts = subst (λ x. IsPermutation x (map attempt_stored rows.attempts)) (sym (w.others.1.1.1.1.0 (λ e. absurd (omega (arith, e))))) t.tables.attempts;
+      };
     }
 
 abbrev pub attempts_insert : List ℕ
@@ -101,11 +104,14 @@ adds_attempt old new a count h rows t =
     let w = u.0 in
     record {
       schema = w.schema;
-      meta = w.others.0 (λ e. absurd (omega (arith, e))) ∙ t.meta;
-      endpoints = subst (λ x. IsPermutation x (map endpoint_stored rows.endpoints)) (sym (w.others.1.0 (λ e. absurd (omega (arith, e))))) t.endpoints;
-      secrets = subst (λ x. IsPermutation (map (drop 1) x) (map secret_stored rows.secrets)) (sym (w.others.1.1.0 (λ e. absurd (omega (arith, e))))) t.secrets;
-      deliveries = subst (λ x. IsPermutation x (map delivery_stored rows.deliveries)) (sym (w.others.1.1.1.0 (λ e. absurd (omega (arith, e))))) t.deliveries;
-      attempts = subst (λ x. IsPermutation x (map attempt_stored (rows.attempts ++ a ∷ []))) (sym w.rows_are) (put_typed attempt_stored a (old.now.trees 7) rows.attempts u.1 t.attempts);
+      tables = record {
+        sound = w.sound;
+        meta = w.others.0 (λ e. absurd (omega (arith, e))) ∙ t.tables.meta;
+        endpoints = subst (λ x. IsPermutation x (map endpoint_stored rows.endpoints)) (sym (w.others.1.0 (λ e. absurd (omega (arith, e))))) t.tables.endpoints;
+        secrets = subst (λ x. IsPermutation (map (drop 1) x) (map secret_stored rows.secrets)) (sym (w.others.1.1.0 (λ e. absurd (omega (arith, e))))) t.tables.secrets;
+        deliveries = subst (λ x. IsPermutation x (map delivery_stored rows.deliveries)) (sym (w.others.1.1.1.0 (λ e. absurd (omega (arith, e))))) t.tables.deliveries;
+        attempts = subst (λ x. IsPermutation x (map attempt_stored (rows.attempts ++ a ∷ []))) (sym w.rows_are) (put_typed attempt_stored a (old.now.trees 7) rows.attempts u.1 t.tables.attempts);
+      };
     }
 
 abbrev pub endpoints_insert : List ℕ
@@ -138,11 +144,14 @@ adds_endpoint old new put name url max count h rows t =
     let w = u.0 in
     record {
       schema = w.schema;
-      meta = w.others.0 (λ e. absurd (omega (arith, e))) ∙ t.meta;
-      endpoints = subst (λ x. IsPermutation x (map endpoint_stored (rows.endpoints ++ e ∷ []))) (sym w.rows_are) (put_typed endpoint_stored e (old.now.trees 1) rows.endpoints u.1 t.endpoints);
-      secrets = subst (λ x. IsPermutation (map (drop 1) x) (map secret_stored rows.secrets)) (sym (w.others.1.1.0 (λ e. absurd (omega (arith, e))))) t.secrets;
-      deliveries = subst (λ x. IsPermutation x (map delivery_stored rows.deliveries)) (sym (w.others.1.1.1.0 (λ e. absurd (omega (arith, e))))) t.deliveries;
-      attempts = subst (λ x. IsPermutation x (map attempt_stored rows.attempts)) (sym (w.others.1.1.1.1.0 (λ e. absurd (omega (arith, e))))) t.attempts;
+      tables = record {
+        sound = w.sound;
+        meta = w.others.0 (λ e. absurd (omega (arith, e))) ∙ t.tables.meta;
+        endpoints = subst (λ x. IsPermutation x (map endpoint_stored (rows.endpoints ++ e ∷ []))) (sym w.rows_are) (put_typed endpoint_stored e (old.now.trees 1) rows.endpoints u.1 t.tables.endpoints);
+        secrets = subst (λ x. IsPermutation (map (drop 1) x) (map secret_stored rows.secrets)) (sym (w.others.1.1.0 (λ e. absurd (omega (arith, e))))) t.tables.secrets;
+        deliveries = subst (λ x. IsPermutation x (map delivery_stored rows.deliveries)) (sym (w.others.1.1.1.0 (λ e. absurd (omega (arith, e))))) t.tables.deliveries;
+        attempts = subst (λ x. IsPermutation x (map attempt_stored rows.attempts)) (sym (w.others.1.1.1.1.0 (λ e. absurd (omega (arith, e))))) t.tables.attempts;
+      };
     }
 
 abbrev pub secrets_insert : List ℕ
@@ -175,12 +184,15 @@ adds_secret old new s count h rows t =
     let w = u.0 in
     record {
       schema = w.schema;
-      meta = w.others.0 (λ e. absurd (omega (arith, e))) ∙ t.meta;
-      endpoints = subst (λ x. IsPermutation x (map endpoint_stored rows.endpoints)) (sym (w.others.1.0 (λ e. absurd (omega (arith, e))))) t.endpoints;
-      secrets = subst (λ x. IsPermutation (map (drop 1) x) (map secret_stored (rows.secrets ++ s ∷ []))) (sym w.rows_are)
-          (put_hidden secret_stored s (Int (next_rowid (old.now.trees 3))) (old.now.trees 3) rows.secrets u.1 t.secrets);
-      deliveries = subst (λ x. IsPermutation x (map delivery_stored rows.deliveries)) (sym (w.others.1.1.1.0 (λ e. absurd (omega (arith, e))))) t.deliveries;
-      attempts = subst (λ x. IsPermutation x (map attempt_stored rows.attempts)) (sym (w.others.1.1.1.1.0 (λ e. absurd (omega (arith, e))))) t.attempts;
+      tables = record {
+        sound = w.sound;
+        meta = w.others.0 (λ e. absurd (omega (arith, e))) ∙ t.tables.meta;
+        endpoints = subst (λ x. IsPermutation x (map endpoint_stored rows.endpoints)) (sym (w.others.1.0 (λ e. absurd (omega (arith, e))))) t.tables.endpoints;
+        secrets = subst (λ x. IsPermutation (map (drop 1) x) (map secret_stored (rows.secrets ++ s ∷ []))) (sym w.rows_are)
+            (put_hidden secret_stored s (Int (next_rowid (old.now.trees 3))) (old.now.trees 3) rows.secrets u.1 t.tables.secrets);
+        deliveries = subst (λ x. IsPermutation x (map delivery_stored rows.deliveries)) (sym (w.others.1.1.1.0 (λ e. absurd (omega (arith, e))))) t.tables.deliveries;
+        attempts = subst (λ x. IsPermutation x (map attempt_stored rows.attempts)) (sym (w.others.1.1.1.1.0 (λ e. absurd (omega (arith, e))))) t.tables.attempts;
+      };
     }
 
 abbrev pub meta_insert : List ℕ
@@ -197,19 +209,22 @@ meta_insert_plain : IsPlain (understood relay_schema meta_insert)
 unfolding understood everything
 meta_insert_plain = (refl, refl)
 
-meta_news : (db : Trees) → (edit_of db meta [] Chosen 0 (value_rows (stamped meta []) 5 (length first_terms / 5) first_terms)).news ≡ meta_stored 0 ∷ []
+meta_news : (db : Trees) → (edit_of db meta [] Chosen 0 (value_rows (stamped meta []) 5 (length first_terms / 5) first_terms)).news ≡ meta_stored 1 0 ∷ []
 meta_news db = rw (cast_null, cast_int (pos 1), cast_int (pos 0)) refl
 
 -- of the tables as they are made
 pub adds_meta : (old new : State) (count : ℕ) → Executes meta_insert [] old new (Ok count) → IsBegun relay_schema old.now → IsTables new.now first_rows
 adds_meta old new count h b =
-    let w = (inserts meta_insert [] 0 first_terms 5 meta meta_insert_is meta_insert_plain refl refl (λ _. meta_stored 0) meta_news (idle 0) old new count b.schema_is h).0 in
+    let w = (inserts meta_insert [] 0 first_terms 5 meta meta_insert_is meta_insert_plain refl refl (λ _. meta_stored 1 0) meta_news (idle 0) old new count b.schema_is h).0 in
     let none = IsPermutation-refl [] in
     record {
       schema = w.schema;
-      meta = w.rows_are ∙ ap (put_row (meta_stored 0)) b.empty.0;
-      endpoints = subst (λ x. IsPermutation x []) (sym (w.others.1.0 (λ e. absurd (omega (arith, e))) ∙ b.empty.1.0)) none;
-      secrets = subst (λ x. IsPermutation (map (drop 1) x) []) (sym (w.others.1.1.0 (λ e. absurd (omega (arith, e))) ∙ b.empty.1.1.0)) none;
-      deliveries = subst (λ x. IsPermutation x []) (sym (w.others.1.1.1.0 (λ e. absurd (omega (arith, e))) ∙ b.empty.1.1.1.0)) none;
-      attempts = subst (λ x. IsPermutation x []) (sym (w.others.1.1.1.1.0 (λ e. absurd (omega (arith, e))) ∙ b.empty.1.1.1.1.0)) none;
+      tables = record {
+        sound = w.sound;
+        meta = w.rows_are ∙ ap (put_row (meta_stored 1 0)) b.empty.0;
+        endpoints = subst (λ x. IsPermutation x []) (sym (w.others.1.0 (λ e. absurd (omega (arith, e))) ∙ b.empty.1.0)) none;
+        secrets = subst (λ x. IsPermutation (map (drop 1) x) []) (sym (w.others.1.1.0 (λ e. absurd (omega (arith, e))) ∙ b.empty.1.1.0)) none;
+        deliveries = subst (λ x. IsPermutation x []) (sym (w.others.1.1.1.0 (λ e. absurd (omega (arith, e))) ∙ b.empty.1.1.1.0)) none;
+        attempts = subst (λ x. IsPermutation x []) (sym (w.others.1.1.1.1.0 (λ e. absurd (omega (arith, e))) ∙ b.empty.1.1.1.1.0)) none;
+      };
     }

@@ -143,14 +143,14 @@ pub finds_named : (name : List ℕ) (old new : State) (found : List Row) → Sho
     → IsPermutation (map put_shown (endpoints_named name rows)) found
 finds_named name old new found h rows t =
     let read = reads_as named_select (Text name ∷ []) old new relay_schema t.schema _ named_select_is named_select_plain named_select_unlisted found h in
-    finds endpoint_stored (Text name ∷ []) by_name (col 1 0 ∷ []) (λ (e : EndpointRow). bytes_eq e.name name) (λ e. and_true _ ∙ equal_texts e.name name) (old.now.trees 1) rows.endpoints found t.endpoints
+    finds endpoint_stored (Text name ∷ []) by_name (col 1 0 ∷ []) (λ (e : EndpointRow). bytes_eq e.name name) (λ e. and_true _ ∙ equal_texts e.name name) (old.now.trees 1) rows.endpoints found t.tables.endpoints
     (scanned 1 by_name (col 1 0 ∷ []) old.now.schema old.now.trees (Text name ∷ []) found read)
 
 pub finds_endpoints : (old new : State) (found : List Row) → Shown endpoints_select [] old new found → (rows : Rows) → IsTables old.now rows
     → IsPermutation (map put_shown (filter (λ _. true) rows.endpoints)) found
 finds_endpoints old new found h rows t =
     let read = reads_as endpoints_select [] old new relay_schema t.schema _ endpoints_select_is endpoints_select_plain endpoints_select_unlisted found h in
-    finds endpoint_stored [] [] (col 1 0 ∷ []) (λ _. true) (λ e. refl) (old.now.trees 1) rows.endpoints found t.endpoints
+    finds endpoint_stored [] [] (col 1 0 ∷ []) (λ _. true) (λ e. refl) (old.now.trees 1) rows.endpoints found t.tables.endpoints
     (scanned 1 [] (col 1 0 ∷ []) old.now.schema old.now.trees [] found read)
 
 abbrev pub delivery_params : ℕ → List ℕ → Row
@@ -164,7 +164,7 @@ pub finds_delivery : (endpoint : ℕ) (id : List ℕ) (old new : State) (found :
 finds_delivery endpoint id old new found h rows t =
     let read = reads_as delivery_select (delivery_params endpoint id) old new relay_schema t.schema _ delivery_select_is delivery_select_plain delivery_select_unlisted found h in
     finds delivery_stored (delivery_params endpoint id) by_id (col 1 0 ∷ []) (is_delivery endpoint id) (λ d. rw (equal_numbers d.endpoint endpoint, equal_texts d.id id) (ap (λ b. (d.endpoint == endpoint) && b) (and_true (bytes_eq d.id id))))
-    (old.now.trees 5) rows.deliveries found t.deliveries (scanned 5 by_id (col 1 0 ∷ []) old.now.schema old.now.trees (delivery_params endpoint id) found read)
+    (old.now.trees 5) rows.deliveries found t.tables.deliveries (scanned 5 by_id (col 1 0 ∷ []) old.now.schema old.now.trees (delivery_params endpoint id) found read)
 
 -- ---- what their answers say
 

@@ -3,15 +3,16 @@ use Rattle.std.proofs.Common.{◌≡◌, ◌⊎◌, inl, inr, ℕ, List, Ok, Err
 use Rattle.sqlite.specs.declared.error.Error.{Error}
 use Rattle.sqlite.specs.Tree.{Trees}
 use Rattle.sqlite.specs.Order.{Row}
-use Rattle.sqlite.specs.State.{State, HasCleanDisk, Shows, IsUnchanged, IsRolledBack, KeepsCommit, Survives, ExecutesInside}
+use Rattle.sqlite.specs.State.{State, HasCleanDisk, IsLive, Shows, IsUnchanged, IsRolledBack, KeepsCommit, Survives, ExecutesInside}
 use Rattle.sqlite.proofs.StateLemmas.{survives_then}
+use Rattle.sqlite_catalog.proofs.ReadLemmas.{lists_once}
 use Rattle.relay_types.specs.Rows.{Rows}
-use Rattle.spool_sql.specs.Stored.{IsTables, the_same, first_rows}
+use Rattle.spool_sql.specs.Stored.{IsTables, AreTablesOf, the_same, first_rows}
 use Rattle.sqlite.specs.Store.{Ghosts}
 use Rattle.sqlite.specs.Held.{Held, state}
-use Rattle.sqlite.specs.Effect.{Database}
+use Rattle.sqlite.specs.Effect.{Database, IsDatabase}
 use Rattle.sqlite.proofs.Callers.{survives_begin}
-use Rattle.spool_sql.specs.Steps.{GoesOn, Alters, Spares, AreTablesOf, CommitsAs, Stands, MayLeave, Turns, Begins, Founds, FoundsAs, IsBegun}
+use Rattle.spool_sql.specs.Steps.{GoesOn, Alters, Spares, CommitsAs, Stands, MayLeave, Reopens, Turns, Begins, Founds, FoundsAs, IsBegun}
 use Rattle.spool_sql.specs.Tables.{no_schema, relay_schema}
 
 pub keeps_if : (a b : State) → IsUnchanged a b ⊎ IsRolledBack a b → KeepsCommit a b
@@ -43,17 +44,23 @@ pub alters_last : (a b c : State) (f g : Rows → Rows) (r : Result (Unit {0}) E
 alters_last a b c f g (Ok done) p q = alters_then a b c f g p q
 alters_last a b c f g (Err e) p q = tt
 
-pub tables_of : (d : Database) (rows : Rows) → IsTables d rows → AreTablesOf d.trees rows
-tables_of d rows t = record { schema = refl; meta = t.meta; endpoints = t.endpoints; secrets = t.secrets; deliveries = t.deliveries; attempts = t.attempts }
-
 -- what a transaction leaves that a commit ends
 pub survives_commit : {S : Type 0} (g : Ghosts S) (old : Held S) (mid new : State) (change : Rows → Rows) → Spares (state g (record old { in_transaction = true })) mid
     → (HasCleanDisk mid → Alters (state g (record old { in_transaction = true })) mid change)
     → Survives mid new (λ db. db ≡ mid.now.trees) → Survives (state g old) new (CommitsAs (state g old) change)
 survives_commit g old mid new change s made ended =
     survives_then (state g old) mid new _ _ (CommitsAs (state g old) change) (λ _ db none. absurd none)
-    (λ clean db is rows at. rw is (tables_of mid.now (change rows) ((made (omega (arith, clean, ended.clean))).makes rows at.now)))
+    (λ clean db is rows at. rw is ((made (omega (arith, clean, ended.clean))).makes rows at.now).tables)
     (survives_begin g old mid _ s.survives) ended
+
+-- a list of objects lists one schema
+pub opened_tables : (d : Database) (rows : Rows) → IsDatabase d → AreTablesOf d.trees rows → IsTables d rows
+opened_tables d rows sound t = record { schema = lists_once _ d.schema relay_schema sound.lists t.sound.lists; tables = t }
+
+pub reopens : (s : State) → IsLive s → Reopens s
+reopens s live rows opened t =
+    let tables = opened_tables s.committed rows (live opened.is_open).1 t in
+    record { is_open = opened.is_open; autocommit = opened.autocommit; now = subst (λ d. IsTables d rows) (sym opened.clean) tables; committed = tables }
 
 pub stands_along : (a b : State) (rows : Rows) → Stands a rows → IsUnchanged a b → Stands b rows
 stands_along a b rows s same = record {
@@ -65,7 +72,7 @@ stands_along a b rows s same = record {
 
 -- while the store is open, a crash leaves the last commit
 pub leaves_commit : (s : State) (rows : Rows) → Stands s rows → ((db : Trees) → IsTrue s.is_open → s.may_leave db → db ≡ s.committed.trees) → MayLeave s (λ r. r ≡ rows)
-leaves_commit s rows at settled db may = (rows, refl, rw (settled db at.is_open may) (tables_of s.committed rows at.committed))
+leaves_commit s rows at settled db may = (rows, refl, rw (settled db at.is_open may) at.committed.tables)
 
 -- what a call left that commits nothing
 pub leaves_along : (a b : State) (P : Rows → Type 0) → Survives a b (λ _. ⊥) → HasCleanDisk b → MayLeave a P → MayLeave b P
@@ -75,7 +82,7 @@ leaves_along a b P s clean before db may = elim (s.crash clean db may) [ inl was
 pub leaves_either : (a b : State) (change : Rows → Rows) (rows : Rows) → Survives a b (CommitsAs a change) → HasCleanDisk b → Stands a rows
     → ((db : Trees) → IsTrue a.is_open → a.may_leave db → db ≡ a.committed.trees) → MayLeave b (λ r. (r ≡ rows) ⊎ (r ≡ change rows))
 leaves_either a b change rows s clean at settled db may = elim (s.crash clean db may) [
-  | inl was ↦ (rows, inl refl, rw (settled db at.is_open was) (tables_of a.committed rows at.committed))
+  | inl was ↦ (rows, inl refl, rw (settled db at.is_open was) at.committed.tables)
   | inr new ↦ (change rows, inr refl, new rows at)
 ]
 
@@ -128,7 +135,7 @@ pub survives_founding : {S : Type 0} (g : Ghosts S) (old : Held S) (mid new : St
     → Survives mid new (λ db. db ≡ mid.now.trees) → Survives (state g old) new (FoundsAs (state g old))
 survives_founding g old mid new s made ended =
     survives_then (state g old) mid new _ _ (FoundsAs (state g old)) (λ _ db none. absurd none)
-    (λ clean db is begun. rw is (tables_of mid.now first_rows ((made (omega (arith, clean, ended.clean))).founds begun)))
+    (λ clean db is begun. rw is ((made (omega (arith, clean, ended.clean))).founds begun).tables)
     (survives_begin g old mid _ s.survives) ended
 
 -- what a commit makes of a connection where the tables were made

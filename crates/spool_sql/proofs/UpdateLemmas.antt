@@ -20,12 +20,13 @@ use Rattle.sqlite_schema.specs.Rules.{parent_key}
 use Rattle.sqlite.specs.Rowids.TheVariants.{Given}
 use Rattle.sqlite.specs.Does.{Does, OnRows}
 use Rattle.sqlite.specs.Rows.{Written, Task, Updates}
-use Rattle.sqlite.specs.Effect.{Database, Answers}
+use Rattle.sqlite.specs.Effect.{Database, IsDatabase, Answers}
 use Rattle.sqlite.specs.Tree.{Trees}
 use Rattle.sqlite.specs.Listing.{understood}
 use Rattle.sqlite.specs.State.{State, mode_of, Shows, Executes}
 use Rattle.sqlite_schema.specs.declared.schema.Keys.TheVariants.{Enforced}
 use Rattle.sqlite.proofs.Callers.{IsPlain, command_of, statement_of, runs_as, one_step}
+use Rattle.sqlite_catalog.specs.Listing.{IsSound}
 use Rattle.spool_sql.specs.Tables.{relay_schema}
 use Rattle.spool_sql.proofs.InsertLemmas.{Wrote, left_as, went, same_value}
 
@@ -113,12 +114,13 @@ updated_by task q db w h =
     let made = went found.2 in
     (found.0, found.1, subst (λ t. Goes task.schema task.keys db (edit_of db task.table (ids_of found.0) Given 1 found.0) (Ok t)) (sym (ap (λ (it : Written). it.trees) (same_value made.2))) made.1)
 
-wrote_by : (old new : State) (edit : Edit) (next : Trees) → Shows old new new.now (cond old.in_transaction old.committed new.now) old.in_transaction → new.marks ≡ old.marks
+wrote_by : (old new : State) (edit : Edit) (next : Trees) → IsDatabase new.now → Shows old new new.now (cond old.in_transaction old.committed new.now) old.in_transaction → new.marks ≡ old.marks
     → new.now ≡ record { schema = relay_schema; trees = next } → Applies relay_schema Enforced old.now.trees edit next → Wrote old new edit.table.tree (edited old.now.trees edit)
-wrote_by old new edit next shown marks same it =
+wrote_by old new edit next sound shown marks same it =
     let trees : new.now.trees ≡ next = ap (λ (d : Database). d.trees) same in
     record {
       schema = ap (λ (d : Database). d.schema) same;
+      sound = subst (λ schema. IsSound schema new.now.trees) (ap (λ (d : Database). d.schema) same) sound;
       rows_are = ap (λ (t : Trees). t edit.table.tree) trees ∙ it.rows;
       others = subst (λ (t : Trees). AllByRecursion (λ (x : Table). x.tree ≢ edit.table.tree → t x.tree ≡ old.now.trees x.tree) relay_schema.tables) (sym trees) it.tables;
       shown = shown;
@@ -138,4 +140,4 @@ module _ (sql : List ℕ) (params : Row) (at : ℕ) (q : Program) (table : Table
       let made = left_as task (mode_of old) (Update at q) db w.tally new.now on in
       let edit = updated_by task q db made.0 made.1 in
       let it = one_edit db made.0.trees (edit_of db table (ids_of edit.0) Given 1 edit.0) edit.2 in
-      (edit.0, edit.1, wrote_by old new (edit_of db table (ids_of edit.0) Given 1 edit.0) made.0.trees w.shown w.marks made.2 it)
+      (edit.0, edit.1, wrote_by old new (edit_of db table (ids_of edit.0) Given 1 edit.0) made.0.trees w.sound w.shown w.marks made.2 it)

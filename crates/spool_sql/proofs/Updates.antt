@@ -40,14 +40,14 @@ meta_update_plain = (refl, refl)
 one_is_one : is_eq (value_cmp (Int (pos 1)) (Int (pos 1))) ≡ true
 one_is_one = ap is_eq (value_cmp-Int (pos 1) (pos 1))
 
-left_alone : (m : ℕ) → without_rowid (pos 1) (meta_stored m ∷ []) ≡ []
+left_alone : (m : ℕ) → without_rowid (pos 1) (meta_stored 1 m ∷ []) ≡ []
 left_alone m = rw one_is_one refl
 
-edited_meta : (m : ℕ) (n : ℕ) (db : Trees) (rows : List Row) → db 0 ≡ meta_stored m ∷ []
+edited_meta : (m : ℕ) (n : ℕ) (db : Trees) (rows : List Row) → db 0 ≡ meta_stored 1 m ∷ []
     → IsPermutation (map (shows (Int (pos n) ∷ []) counted) (filter (passes (Int (pos n) ∷ []) []) (db 0))) rows
-    → edited db (edit_of db meta (ids_of rows) Given 1 rows) ≡ meta_stored n ∷ []
+    → edited db (edit_of db meta (ids_of rows) Given 1 rows) ≡ meta_stored 1 n ∷ []
 edited_meta m n db rows has same =
-    let one : rows ≡ shows (Int (pos n) ∷ []) counted (meta_stored m) ∷ [] = one_permutation _ rows (subst (λ t. IsPermutation (map (shows (Int (pos n) ∷ []) counted) (filter (passes (Int (pos n) ∷ []) []) t)) rows) has same) in
+    let one : rows ≡ shows (Int (pos n) ∷ []) counted (meta_stored 1 m) ∷ [] = one_permutation _ rows (subst (λ t. IsPermutation (map (shows (Int (pos n) ∷ []) counted) (filter (passes (Int (pos n) ∷ []) []) t)) rows) has same) in
     ap (λ all. edited db (edit_of db meta (ids_of all) Given 1 all)) one ∙ rw (has, left_alone m, cast_null, cast_int (pos 1), cast_int (pos n)) refl
 
 pub sets_records : (old new : State) (n count : ℕ) → Executes meta_update (Int (pos n) ∷ []) old new (Ok count) → Makes old new (with_records n)
@@ -57,9 +57,12 @@ sets_records old new n count h rows t =
     let w : Wrote old new 0 (edited old.now.trees (edit_of old.now.trees meta (ids_of u.0) Given 1 u.0)) = u.2 in
     record {
       schema = w.schema;
-      meta = w.rows_are ∙ edited_meta rows.records n old.now.trees u.0 t.meta found;
-      endpoints = subst (λ x. IsPermutation x (map endpoint_stored rows.endpoints)) (sym (w.others.1.0 (λ e. absurd (omega (arith, e))))) t.endpoints;
-      secrets = subst (λ x. IsPermutation (map (drop 1) x) (map secret_stored rows.secrets)) (sym (w.others.1.1.0 (λ e. absurd (omega (arith, e))))) t.secrets;
-      deliveries = subst (λ x. IsPermutation x (map delivery_stored rows.deliveries)) (sym (w.others.1.1.1.0 (λ e. absurd (omega (arith, e))))) t.deliveries;
-      attempts = subst (λ x. IsPermutation x (map attempt_stored rows.attempts)) (sym (w.others.1.1.1.1.0 (λ e. absurd (omega (arith, e))))) t.attempts;
+      tables = record {
+        sound = w.sound;
+        meta = w.rows_are ∙ edited_meta rows.records n old.now.trees u.0 t.tables.meta found;
+        endpoints = subst (λ x. IsPermutation x (map endpoint_stored rows.endpoints)) (sym (w.others.1.0 (λ e. absurd (omega (arith, e))))) t.tables.endpoints;
+        secrets = subst (λ x. IsPermutation (map (drop 1) x) (map secret_stored rows.secrets)) (sym (w.others.1.1.0 (λ e. absurd (omega (arith, e))))) t.tables.secrets;
+        deliveries = subst (λ x. IsPermutation x (map delivery_stored rows.deliveries)) (sym (w.others.1.1.1.0 (λ e. absurd (omega (arith, e))))) t.tables.deliveries;
+        attempts = subst (λ x. IsPermutation x (map attempt_stored rows.attempts)) (sym (w.others.1.1.1.1.0 (λ e. absurd (omega (arith, e))))) t.tables.attempts;
+      };
     }

@@ -5,11 +5,11 @@ use Rattle.sqlite.specs.Tree.{Trees}
 use Rattle.sqlite.specs.Effect.{Database}
 use Rattle.sqlite.specs.Schema.{Schema}
 use Rattle.sqlite.specs.Table.{Table}
-use Rattle.sqlite.specs.State.{State, HasCleanDisk, Shows, KeepsCommit, Survives}
+use Rattle.sqlite.specs.State.{State, HasCleanDisk, Opens, Shows, KeepsCommit, Survives}
 use Rattle.sqlite_catalog.specs.Change.{created}
 use Rattle.relay_types.specs.Rows.{Rows}
 use Rattle.spool_sql.specs.Tables.{relay_schema, no_schema}
-use Rattle.spool_sql.specs.Stored.{IsTables, first_rows}
+use Rattle.spool_sql.specs.Stored.{IsTables, AreTablesOf, first_rows}
 
 -- ---- inside a transaction
 
@@ -40,12 +40,13 @@ pub record Stands (s : State) (rows : Rows) : Type 0 where
   pub now : IsTables s.now rows
   pub committed : IsTables s.committed rows
 
-abbrev pub AreTablesOf : Trees → Rows → Type 0
-AreTablesOf db rows = IsTables (record { schema = relay_schema; trees = db }) rows
-
 -- what an open after a crash at this moment may find
 abbrev pub MayLeave : State → (Rows → Type 0) → Type 0
 MayLeave s P = (db : Trees) → s.may_leave db → (rows : Rows) × P rows × AreTablesOf db rows
+
+-- An open of trees that are the relay's tables of some rows stands on these rows, whatever else it finds.
+abbrev pub Reopens : State → Type 0
+Reopens s = (rows : Rows) → Opens s → AreTablesOf s.committed.trees rows → Stands s rows
 
 -- where the tables had rows, they have these now
 abbrev pub Turns : State → State → (Rows → Rows) → Type 0

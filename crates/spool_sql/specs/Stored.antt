@@ -3,6 +3,9 @@ use Rattle.std.specs.Prelude.{◌≡◌, ℕ, pos, Bool, cond, List, [], ◌∷�
 use Rattle.sqlite.specs.declared.types.Value.TheVariants.{Null, Int, Text as Words, Blob as Bytes}
 use Rattle.sqlite.specs.Order.{Row}
 use Rattle.sqlite.specs.Effect.{Database}
+use Rattle.sqlite.specs.Tree.{Trees}
+use Rattle.sqlite.specs.Schema.{Schema}
+use Rattle.sqlite_catalog.specs.Listing.{IsSound}
 use Rattle.std.specs.List.Sorted.{IsPermutation}
 use Rattle.relay_types.specs.Rows.{Rows, EndpointRow, SecretRow, DeliveryRow, AttemptRow}
 use Rattle.spool_sql.specs.Tables.{relay_schema}
@@ -10,8 +13,8 @@ use Rattle.spool_sql.specs.Tables.{relay_schema}
 -- ---- a row as it is stored: its rowid, and then its columns, with NULL where the rowid stands for one
 
 -- the one row of meta: the application, the version of the tables and how many records they hold
-abbrev pub meta_stored : ℕ → Row
-meta_stored records = Int (pos 1) ∷ Null ∷ Words (codes "webhook-relay") ∷ Int (pos 1) ∷ Int (pos records) ∷ []
+abbrev pub meta_stored : ℕ → ℕ → Row
+meta_stored version records = Int (pos 1) ∷ Null ∷ Words (codes "webhook-relay") ∷ Int (pos version) ∷ Int (pos records) ∷ []
 
 abbrev pub flag_number : Bool → ℕ
 flag_number flag = cond flag 1 0
@@ -29,14 +32,23 @@ attempt_stored a = Int (pos a.seq) ∷ Null ∷ Int (pos a.delivery) ∷ Int (po
 abbrev pub secret_stored : SecretRow → Row
 secret_stored s = Int (pos s.endpoint) ∷ Int (pos s.place) ∷ Bytes s.secret ∷ []
 
--- the tables of the relay, with these rows in any order
+-- the trees list the tables of a schema and obey it, meta tells their version, and they have these rows in any order
+pub record AreTables (schema : Schema) (version : ℕ) (db : Trees) (rows : Rows) : Type 0 where
+  pub sound : IsSound schema db
+  pub meta : db 0 ≡ meta_stored version rows.records ∷ []
+  pub endpoints : IsPermutation (db 1) (map endpoint_stored rows.endpoints)
+  pub secrets : IsPermutation (map (drop 1) (db 3)) (map secret_stored rows.secrets)
+  pub deliveries : IsPermutation (db 5) (map delivery_stored rows.deliveries)
+  pub attempts : IsPermutation (db 7) (map attempt_stored rows.attempts)
+
+-- the relay's tables of version 1
+abbrev pub AreTablesOf : Trees → Rows → Type 0
+AreTablesOf = AreTables relay_schema 1
+
+-- a connection sees these tables
 pub record IsTables (db : Database) (rows : Rows) : Type 0 where
   pub schema : db.schema ≡ relay_schema
-  pub meta : db.trees 0 ≡ meta_stored rows.records ∷ []
-  pub endpoints : IsPermutation (db.trees 1) (map endpoint_stored rows.endpoints)
-  pub secrets : IsPermutation (map (drop 1) (db.trees 3)) (map secret_stored rows.secrets)
-  pub deliveries : IsPermutation (db.trees 5) (map delivery_stored rows.deliveries)
-  pub attempts : IsPermutation (db.trees 7) (map attempt_stored rows.attempts)
+  pub tables : AreTablesOf db.trees rows
 
 -- ---- what each statement makes of the rows
 
