@@ -7,8 +7,6 @@ mod keys;
 mod row;
 mod search;
 mod tally;
-#[cfg(test)]
-mod tests;
 
 pub use crate::book::DeliveryBook;
 pub use crate::row::{Counts, Row};

@@ -3,8 +3,6 @@
 
 mod header;
 mod mac;
-#[cfg(test)]
-mod tests;
 
 pub use crate::header::signature_header;
 pub use crate::mac::hmac;

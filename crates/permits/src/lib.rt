@@ -11,6 +11,3 @@ pub use crate::permit::Permit;
 pub use crate::pool::{MOST, PARTS, Pool};
 pub use crate::refusal::{Foreign, Refused};
 pub use crate::row::{Returned, Row};
-
-#[cfg(test)]
-mod tests;

@@ -12,8 +12,6 @@ mod shared;
 mod short;
 mod state;
 mod target;
-#[cfg(test)]
-mod target_tests;
 
 pub use crate::body::Body;
 pub use crate::fault::ReadFault;
@@ -23,6 +21,3 @@ pub use crate::record::{Record, Step};
 pub use crate::secret::{Secret, Secrets};
 pub use crate::state::State;
 pub use crate::target::Target;
-
-#[cfg(test)]
-mod tests;

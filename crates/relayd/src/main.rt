@@ -1,10 +1,6 @@
 //! The relay's program.
 #![tactic(auto)]
 
-mod commands;
-mod limits;
-mod signing;
-
 use std::alloc::Global;
 use std::io;
 use std::process::ExitCode;
@@ -16,7 +12,7 @@ fn main(rt: HostRuntime) -> io::Result<ExitCode> {
     for word in &words {
         shown.push(word.as_str())?;
     }
-    let status = commands::run(
+    let status = relay_commands::run(
         alloc,
         shown.as_slice(),
         &mut rt.stdin(),
@@ -25,6 +21,3 @@ fn main(rt: HostRuntime) -> io::Result<ExitCode> {
     );
     Ok(ExitCode::from(status))
 }
-
-#[cfg(test)]
-mod tests;

@@ -5,8 +5,6 @@
 mod delay;
 mod post;
 mod status;
-#[cfg(test)]
-mod tests;
 mod verdict;
 
 pub use crate::delay::delay_after;

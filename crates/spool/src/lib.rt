@@ -14,6 +14,3 @@ pub use crate::batch::{Batch, Receipt};
 pub use crate::doubt::Doubt;
 pub use crate::ends::{CommitEnd, OpenFault, Unchanged};
 pub use crate::vault::Vault;
-
-#[cfg(test)]
-mod tests;

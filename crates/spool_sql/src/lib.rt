@@ -15,6 +15,3 @@ pub use crate::opened::{is_empty, probe};
 pub use crate::write::{
     insert_attempt, insert_delivery, insert_endpoint, insert_secret, update_records,
 };
-
-#[cfg(test)]
-mod tests;

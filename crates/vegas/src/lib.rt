@@ -8,7 +8,5 @@
 
 mod estimator;
 mod rules;
-#[cfg(test)]
-mod tests;
 
 pub use crate::estimator::Estimator;

@@ -1,0 +1,6 @@
+//! The tests of the program's layers: `text_lines`, `desk`, `drill` and `relay_commands`. Nothing stands on this crate, and its
+//! tests call public items only.
+#![tactic(auto)]
+
+#[cfg(test)]
+mod program;

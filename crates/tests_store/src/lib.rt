@@ -1,0 +1,7 @@
+//! The tests of the store: `spool_sql` and `spool`. Nothing stands on this crate, and its tests call public items only.
+#![tactic(auto)]
+
+#[cfg(test)]
+mod statements;
+#[cfg(test)]
+mod vault;

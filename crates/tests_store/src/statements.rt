@@ -1,0 +1,140 @@
+use spool_sql::{
+    Cause, cause_of, count_endpoints, create_tables, has_delivery, insert_attempt, insert_delivery,
+    insert_endpoint, insert_secret, probe, select_put, update_records,
+};
+use sqlite::{Connection, Error, ErrorCode, MemStore};
+use std::alloc::Global;
+use std::test::Fail;
+
+/// A store with one endpoint, two secrets of it, one event and one attempt at it.
+fn filled(alloc: Global) -> Result<Connection<MemStore>, Error> {
+    let mut conn = Connection::open_in_memory(alloc)?;
+    let mut tx = conn.transaction();
+    create_tables(&mut tx)?;
+    insert_endpoint(&mut tx, 3, b"alpha", b"http://h/", 10)?;
+    insert_secret(&mut tx, 3, 0, b"new")?;
+    insert_secret(&mut tx, 3, 1, b"old")?;
+    insert_delivery(&mut tx, 4, 3, b"msg_1", 1000, b"hello")?;
+    insert_attempt(&mut tx, 5, 4, 1, 503, 1002)?;
+    update_records(&mut tx, 6)?;
+    tx.commit()?;
+    Ok(conn)
+}
+
+fn rows_of(conn: &mut Connection<MemStore>, sql: &str) -> Result<usize, Error> {
+    let rows = conn.query_all(sql, &[])?;
+    Ok(rows.len())
+}
+
+#[test]
+fn rows_are_written(rt: HostRuntime) -> Result<(), Fail> {
+    let mut conn = filled(rt.alloc())?;
+    let wanted = [
+        ("SELECT * FROM meta", 1),
+        (
+            "SELECT * FROM meta WHERE k = 1 AND app = 'webhook-relay' AND version = 1 AND records = 6",
+            1,
+        ),
+        ("SELECT * FROM endpoints", 1),
+        (
+            "SELECT * FROM endpoints WHERE put = 3 AND name = 'alpha' AND url = 'http://h/' AND max = 10",
+            1,
+        ),
+        (
+            "SELECT * FROM endpoints WHERE enabled = 1 AND enabled_by = 3 AND secrets_by = 3",
+            1,
+        ),
+        ("SELECT * FROM secrets", 2),
+        (
+            "SELECT * FROM secrets WHERE endpoint = 3 AND place = 0 AND secret = x'6e6577'",
+            1,
+        ),
+        (
+            "SELECT * FROM secrets WHERE endpoint = 3 AND place = 1 AND secret = x'6f6c64'",
+            1,
+        ),
+        ("SELECT * FROM deliveries", 1),
+        (
+            "SELECT * FROM deliveries WHERE seq = 4 AND endpoint = 3 AND id = 'msg_1' AND at = 1000 AND body = x'68656c6c6f'",
+            1,
+        ),
+        ("SELECT * FROM attempts", 1),
+        (
+            "SELECT * FROM attempts WHERE seq = 5 AND delivery = 4 AND number = 1 AND status = 503 AND at = 1002",
+            1,
+        ),
+    ];
+    for (sql, count) in wanted {
+        assert_eq!(rt; rows_of(&mut conn, sql)?, count);
+    }
+    Ok(())
+}
+
+#[test]
+fn rows_are_found(rt: HostRuntime) -> Result<(), Fail> {
+    let mut conn = filled(rt.alloc())?;
+    assert!(rt; conn.is_autocommit());
+    if !conn.is_autocommit() {
+        return Ok(());
+    }
+    let mut tx = conn.transaction();
+    assert_eq!(rt; select_put(&mut tx, b"alpha")?, Some(3));
+    assert_eq!(rt; select_put(&mut tx, b"alph")?, None);
+    assert_eq!(rt; count_endpoints(&mut tx)?, 1);
+    let asked = [(3, "msg_1", true), (3, "msg_2", false), (4, "msg_1", false)];
+    for (endpoint, id, is_there) in asked {
+        assert_eq!(rt; has_delivery(&mut tx, endpoint, id.as_bytes())?, is_there);
+    }
+    Ok(())
+}
+
+#[test]
+fn rows_that_repeat_are_refused(rt: HostRuntime) -> Result<(), Fail> {
+    let mut conn = filled(rt.alloc())?;
+    if !conn.is_autocommit() {
+        return Ok(());
+    }
+    let mut tx = conn.transaction();
+    let refused = [
+        create_tables(&mut tx),
+        insert_endpoint(&mut tx, 6, b"alpha", b"http://h/", 10),
+        insert_secret(&mut tx, 3, 1, b"other"),
+        insert_delivery(&mut tx, 6, 3, b"msg_1", 1000, b"hello"),
+        insert_delivery(&mut tx, 6, 7, b"msg_2", 1000, b"hello"),
+        insert_attempt(&mut tx, 6, 4, 1, 200, 1003),
+    ];
+    for answer in refused {
+        assert!(rt; matches!(answer, Err(error) if cause_of(error) == Cause::Other));
+    }
+    Ok(())
+}
+
+#[test]
+fn open_store_answers(rt: HostRuntime) -> Result<(), Fail> {
+    let mut conn = filled(rt.alloc())?;
+    if conn.is_autocommit() {
+        assert!(rt; probe(&mut conn).is_ok());
+    }
+    Ok(())
+}
+
+#[test]
+fn causes(rt: HostRuntime) -> Result<(), Fail> {
+    let wanted = [
+        (ErrorCode::OutOfMemory, Cause::Memory),
+        (ErrorCode::SystemIoFailure, Cause::Store),
+        (ErrorCode::DatabaseCorrupt, Cause::Store),
+        (ErrorCode::DiskFull, Cause::Store),
+        (ErrorCode::Closed, Cause::Store),
+        (ErrorCode::TooBig, Cause::Store),
+        (ErrorCode::OperationInterrupted, Cause::Store),
+        (ErrorCode::TransactionState, Cause::Store),
+        (ErrorCode::NameTaken, Cause::Other),
+        (ErrorCode::NoRowid, Cause::Other),
+    ];
+    for (code, cause) in wanted {
+        assert_eq!(rt; cause_of(Error::SqliteFailure(code)), cause);
+    }
+    assert_eq!(rt; cause_of(Error::MultipleStatement), Cause::Other);
+    Ok(())
+}
