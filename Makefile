@@ -6,4 +6,16 @@ run:
 test:
 	./scripts/test
 
-.PHONY: run test
+# Proves every crate that changed and those above it, over what earlier checks kept in out/.
+check:
+	rt all check
+
+# Tries the wrong bodies of one crate: make edits CRATE=vegas
+edits:
+	rt must-fail $(or $(CRATE),$(error say which crate: make edits CRATE=vegas))
+
+# Lays out the files of every crate.
+fmt:
+	for crate in crates/*/; do (cd "$$crate" && rt fmt) || exit 1; done
+
+.PHONY: run test check edits fmt
