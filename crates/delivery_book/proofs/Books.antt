@@ -1,9 +1,14 @@
 -- What ties the index and the counts to the entries stays so.
-use Rattle.std.proofs.Common.{◌≡◌, ℕ, ◌+◌, ◌-◌, ◌<◌, ◌≤◌, Bool, true, false, List, [], ◌∷◌, ◌++◌, Option, Some, None, length, take, drop, get_or, refl, sym, ◌∙◌, ap, arith, cond, ⊎_elim, length-append, append-nil}
+use Rattle.std.proofs.Common.{◌≡◌, ◌&&◌, ℕ, ◌+◌, ◌-◌, ◌<◌, ◌≤◌, Bool, true, false, List, [], ◌∷◌, ◌++◌, Option, Some, None, length, take, drop, get_or, refl, sym, ◌∙◌, ap, arith, cond, ⊎_elim, length-append, append-nil}
 use Rattle.std.specs.Prelude.{filter, find, count_by, option_map, max, bytes_eq}
 use Rattle.std.specs.Cmp.{first_so, second_so}
 use Rattle.std.specs.Cmp.Lexicographic.{bytes_decides}
-use Rattle.std.specs.HashMap.{HashMap, get}
+use Rattle.std.specs.BTreeMap.{BTreeMap, get, is_at}
+use Rattle.std.specs.declared.cmp.Ordering.{Ordering}
+use Rattle.std.specs.Ordering.{is_eq, nat_cmp, ordering_then}
+use Rattle.std.specs.declared.cmp.Ordering.TheVariants.{Less, Equal, Greater}
+use Rattle.std.specs.Cmp.Lexicographic.{slice_cmp}
+use Rattle.std.proofs.lemmas.Map.Text.{is_eq-slice_cmp}
 use Rattle.std.specs.Option.{option_or}
 use Rattle.std.proofs.lemmas.Bool.{cases_lt, le-ltb}
 use Rattle.std.proofs.Math.Seq.{get_or-append_seam}
@@ -15,19 +20,29 @@ use Rattle.delivery_book.specs.declared.entry.Entry.{Entry}
 use Rattle.delivery_book.specs.declared.keys.EventKey.{EventKey}
 use Rattle.delivery_book.specs.declared.tally.Tally.{Tally}
 use Rattle.delivery_book.specs.Entries.{is_entry_of, is_entry_as}
-use Rattle.delivery_book.specs.Kept.{IsBook, IsIndex, IsTally, is_below, same_event, accepted_in, settled_in, one_of}
+use Rattle.delivery_book.specs.Kept.{IsBook, IsIndex, IsTally, is_below, event_cmp, accepted_in, settled_in, one_of}
 use Rattle.delivery_book.proofs.Entries.{count-slice}
 
+ties : (a b : Ordering) → is_eq (ordering_then a b) ≡ is_eq a && is_eq b
+ties Less b = refl
+ties Equal b = refl
+ties Greater b = refl
+
+-- keys tie exactly where their characters are the same
+same_at : (k q : EventKey) → is_at (event_cmp k) q ≡ bytes_eq k.name q.name && bytes_eq k.id q.id
+same_at k q = ties (slice_cmp nat_cmp k.name q.name) (slice_cmp nat_cmp k.id q.id) ∙ (λ i. is_eq-slice_cmp k.name q.name i && is_eq-slice_cmp k.id q.id i)
+
 -- the index with the key of one more entry
-indexed-push : {S : Type 0} (index later : HashMap EventKey ℕ S) (entries : List Entry) (e : Entry) → IsIndex index entries → find (is_entry_as e.name e.id) entries ≡ None
-    → ((q : EventKey) → get same_event later q ≡ cond (same_event (record { name = e.name; id = e.id }) q) (Some e.place) (get same_event index q)) → IsIndex later (entries ++ e ∷ [])
+indexed-push : (index later : BTreeMap EventKey ℕ) (entries : List Entry) (e : Entry) → IsIndex index entries → find (is_entry_as e.name e.id) entries ≡ None
+    → ((q : EventKey) → get event_cmp later q ≡ cond (is_at (event_cmp (record { name = e.name; id = e.id })) q) (Some e.place) (get event_cmp index q)) → IsIndex later (entries ++ e ∷ [])
 indexed-push index later entries e h unknown updated q =
     updated q
-    ∙ pick (same_event (record { name = e.name; id = e.id }) q) refl
+    ∙ ap (λ b. cond b (Some e.place) (get event_cmp index q)) (same_at (record { name = e.name; id = e.id }) q)
+    ∙ pick (bytes_eq e.name q.name && bytes_eq e.id q.id) refl
     ∙ ap (option_map (λ x. x.place)) (sym (find-append (is_entry_as q.name q.id) entries (e ∷ [])))
   where
-    pick : (b : Bool) → same_event (record { name = e.name; id = e.id }) q ≡ b
-        → cond b (Some e.place) (get same_event index q) ≡ option_map (λ x. x.place) (option_or (find (is_entry_as q.name q.id) entries) (cond b (Some e) None))
+    pick : (b : Bool) → bytes_eq e.name q.name && bytes_eq e.id q.id ≡ b
+        → cond b (Some e.place) (get event_cmp index q) ≡ option_map (λ x. x.place) (option_or (find (is_entry_as q.name q.id) entries) (cond b (Some e) None))
     pick true same = ap (λ o. option_map (λ (x : Entry). x.place) (option_or o (Some e))) (sym (sym (ap (λ p. find p entries) alike) ∙ unknown))
       where
         alike : is_entry_as e.name e.id ≡ is_entry_as q.name q.id
@@ -53,9 +68,9 @@ read-last : (entries : List Entry) (e : Entry) (k : ℕ) (d : Entry) → k ≡ l
 read-last entries e k d h = ap (λ i. get_or (entries ++ e ∷ []) i d) h ∙ get_or-append_seam entries e [] d
 
 -- the book with one more entry
-pub book-push : {S : Type 0} (index later : HashMap EventKey ℕ S) (tally counted : Tally) (entries : List Entry) (next settled n : ℕ) (e : Entry)
+pub book-push : (index later : BTreeMap EventKey ℕ) (tally counted : Tally) (entries : List Entry) (next settled n : ℕ) (e : Entry)
     → IsBook entries index tally next settled n → next ≤ e.place → find (is_entry_as e.name e.id) entries ≡ None
-    → ((q : EventKey) → get same_event later q ≡ cond (same_event (record { name = e.name; id = e.id }) q) (Some e.place) (get same_event index q))
+    → ((q : EventKey) → get event_cmp later q ≡ cond (is_at (event_cmp (record { name = e.name; id = e.id })) q) (Some e.place) (get event_cmp index q))
     → ((name : List ℕ) → accepted_in counted name ≡ accepted_in tally name + one_of e.name name) → ((name : List ℕ) → settled_in counted name ≡ settled_in tally name)
     → IsBook (entries ++ e ∷ []) later counted (e.place + 1) settled n
 book-push index later tally counted entries next settled n e h l unknown updated accepted same = record {
@@ -83,7 +98,7 @@ book-push index later tally counted entries next settled n e h l unknown updated
 }
 
 -- the book with more records settled
-pub book-settled : {S : Type 0} (index : HashMap EventKey ℕ S) (tally counted : Tally) (entries : List Entry) (next settled n place m : ℕ)
+pub book-settled : (index : BTreeMap EventKey ℕ) (tally counted : Tally) (entries : List Entry) (next settled n place m : ℕ)
     → IsBook entries index tally next settled n → n ≤ m → m ≤ length entries → take m entries ≡ filter (is_below place) entries
     → ((name : List ℕ) → accepted_in counted name ≡ accepted_in tally name)
     → ((name : List ℕ) → settled_in counted name ≡ settled_in tally name + count_by (is_entry_of name) (take (m - n) (drop n entries)))

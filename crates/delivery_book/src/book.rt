@@ -13,7 +13,7 @@ use crate::search::{count_below, entry_at, settle_between};
 use crate::tally::Tally;
 use relay_types::{Body, Moment, MsgId, Name, State};
 use std::alloc::{AllocError, Global};
-use std::collections::HashMap;
+use std::collections::BTreeMap;
 use std::marker::Model;
 
 /// The deliveries of a history: each event that was taken in stays in memory with its body, and its id is known for good.
@@ -22,7 +22,7 @@ use std::marker::Model;
 #[derive(Drop)]
 pub struct DeliveryBook {
     entries: Vec<Entry>,
-    index: HashMap<EventKey, u64>,
+    index: BTreeMap<EventKey, u64>,
     tally: Tally,
     next_place: u64,
     settled_place: u64,
@@ -49,7 +49,7 @@ impl DeliveryBook {
     {
         DeliveryBook {
             entries: Vec::new(alloc),
-            index: HashMap::new(alloc),
+            index: BTreeMap::new(alloc),
             tally: Tally::new(alloc),
             next_place: 0,
             settled_place: 0,

@@ -1,10 +1,13 @@
 //! The keys of the book's maps, which are equal where their characters are.
 ghost use Rattle.std.specs.Prelude.{[], ◌∷◌};
+ghost use Rattle.std.specs.Cmp.{partial_order_from_own_ties};
 ghost use Rattle.std.specs.Cmp.Rules.{comparing, hashing};
+ghost use Rattle.std.specs.Ordering.{as_partial_cmp};
 ghost use Rattle.std.proofs.Common.{rules};
-ghost use Rattle.delivery_book.specs.Kept.{same_endpoint, same_event};
+ghost use Rattle.delivery_book.specs.Kept.{same_endpoint, same_event, event_cmp};
 
 use relay_types::{MsgId, Name};
+use std::cmp::Ordering;
 use std::hash::{Hash, Hasher};
 
 /// An endpoint.
@@ -37,7 +40,8 @@ impl Hash for EndpointKey {
     }
 }
 
-/// An event of an endpoint.
+/// An event of an endpoint. Keys are ordered by their characters, since strangers choose the ids: a search compares as few of
+/// them whatever they are, where a hash with a fixed seed could be made to collide.
 #[derive(Clone, Copy)]
 pub struct EventKey {
     pub(crate) name: Name,
@@ -58,13 +62,29 @@ impl Eq for EventKey {
     ghost laws = { Prim.search (comparing, rules) };
 }
 
-impl Hash for EventKey {
-    ghost hash_input = { λ k. k.name ∷ k.id ∷ [] };
+impl Ord for EventKey {
+    ghost cmp = { event_cmp };
 
-    ghost respects_eq = { Prim.search (hashing, rules) };
+    ghost total = { Prim.search (comparing, rules) };
 
-    fn hash<H: Hasher>(&self, state: &mut H) {
-        state.write(self.name.as_bytes());
-        state.write(self.id.as_bytes());
+    ghost matches_partial_cmp = { Prim.search (comparing, rules) };
+
+    ghost matches_eq = { Prim.search (comparing, rules) };
+
+    fn cmp(&self, other: &EventKey) -> Ordering {
+        match self.name.as_bytes().cmp(other.name.as_bytes()) {
+            Ordering::Equal => self.id.as_bytes().cmp(other.id.as_bytes()),
+            unequal => unequal,
+        }
+    }
+}
+
+impl PartialOrd for EventKey {
+    ghost partial_cmp = { as_partial_cmp event_cmp };
+
+    ghost laws = { partial_order_from_own_ties (Prim.search (comparing, rules)) (Prim.search (comparing, rules)) };
+
+    fn partial_cmp(&self, other: &EventKey) -> Option<Ordering> {
+        Some(self.cmp(other))
     }
 }
