@@ -1,3 +1,4 @@
+pub mod ByteLaws
 pub mod TargetLemmas
 pub mod WorkedTargets
 pub mod Base64Laws

@@ -11,13 +11,17 @@ use Rattle.base64.proofs.RoundTrip.{length-encode_symbols}
 use Rattle.base64.proofs.Tables.{all_below_at}
 use Rattle.relay_types.specs.SecretText.{IsPaddedOrNot, ReadsSecret, base64_symbols, padded, unpadded, is_secret_text}
 use Rattle.relay_types.specs.Values.{is_secret}
+use Rattle.relay_types.proofs.ByteLaws.{IsBytes-from_all}
 
--- how long a secret is
+-- how long a secret is, and that it is of bytes
 pub least_secret : (secret : List ℕ) → IsTrue (is_secret secret) → 24 ≤ length secret
-least_secret secret h = leb-true 24 (length secret) (and_parts _ _ h).0
+least_secret secret h = leb-true 24 (length secret) (and_parts _ _ (and_parts _ _ h).0).0
 
 pub most_secret : (secret : List ℕ) → IsTrue (is_secret secret) → length secret ≤ 64
-most_secret secret h = leb-true (length secret) 64 (and_parts _ _ h).1
+most_secret secret h = leb-true (length secret) 64 (and_parts _ _ (and_parts _ _ h).0).1
+
+pub secret_bytes : (secret : List ℕ) → IsTrue (is_secret secret) → IsBytes secret
+secret_bytes secret h = IsBytes-from_all secret (and_parts _ _ h).1
 
 -- base64 that is as long as padded base64 needs no padding
 pub no_padding : (a b : List ℕ) → padded a ≡ unpadded b → unpadded b ≡ padded b
@@ -71,13 +75,12 @@ in_some_form text encoded secret (inr p) (inr e) =
 
 -- a text is a secret's where its base64 is
 pub reads_secret : (text encoded secret : List ℕ) → IsBase64Part text encoded → IsPaddedOrNot encoded secret → ReadsSecret text secret
-reads_secret text encoded secret part h = (h.0, h.1, in_some_form text encoded secret part h.2)
+reads_secret text encoded secret part h = (h.0, in_some_form text encoded secret part h.1)
 
 pub base64_reads : (text encoded secret : List ℕ) → IsBase64Part text encoded → ReadsSecret text secret → IsPaddedOrNot encoded secret
 base64_reads text encoded secret part h = (
   h.0,
-  h.1,
-  elim (or_cases _ _ h.2) [
+  elim (or_cases _ _ h.1) [
     | inl a ↦ inl (behind (padded secret) part (told _ _ a))
     | inr r ↦ elim (or_cases _ _ r) [
       | inl b ↦ inr (behind (unpadded secret) part (told _ _ b))
@@ -94,5 +97,5 @@ base64_reads text encoded secret part h = (
     behind x (inr p) e = absurd (p.1 x e)
 
     whole : (padding : Bool) → IsBase64Part text encoded → text ≡ encode base64_symbols 61 padding secret → encoded ≡ encode base64_symbols 61 padding secret
-    whole padding (inl p) e = absurd (no_prefix padding secret encoded h.0 (least_secret secret h.1) (sym e ∙ p))
+    whole padding (inl p) e = absurd (no_prefix padding secret encoded (secret_bytes secret h.0) (least_secret secret h.0) (sym e ∙ p))
     whole padding (inr p) e = sym p.0 ∙ e

@@ -1,5 +1,5 @@
 -- The rules that the small values keep.
-use Rattle.std.specs.Prelude.{◌≡◌, ℕ, ◌+◌, ◌-◌, ◌*◌, ◌^◌, Bool, true, ◌&&◌, ◌||◌, ◌==◌, nat_le, List, [], ◌∷◌, length, take, drop, fold, Option, Some, None, slice_get, codes, nat_eq, not, refl}
+use Rattle.std.specs.Prelude.{◌≡◌, ℕ, ◌+◌, ◌-◌, ◌*◌, ◌^◌, Bool, true, ◌&&◌, ◌||◌, ◌==◌, nat_le, nat_lt, List, [], ◌∷◌, length, take, drop, fold, Option, Some, None, slice_get, codes, nat_eq, not, refl}
 use Rattle.std.specs.List.{list_all, list_any, before_first, starts_with}
 use Rattle.std.specs.Str.{str_eq_ignore_ascii_case}
 use Rattle.std.proofs.Common.{sym}
@@ -39,9 +39,12 @@ is_msg_id_character c = is_letter c || (is_digit c || is_one_of (codes "_-") c)
 abbrev pub is_msg_id : List ℕ → Bool
 is_msg_id text = is_text 1 64 is_msg_id_character text
 
+abbrev pub is_byte : ℕ → Bool
+is_byte n = nat_lt n 256
+
 -- 24 to 64 bytes
 abbrev pub is_secret : List ℕ → Bool
-is_secret bytes = is_between 24 64 (length bytes)
+is_secret bytes = is_text 24 64 is_byte bytes
 
 -- 1 to 4 of them
 abbrev pub are_secrets : List (List ℕ) → Bool
@@ -117,8 +120,9 @@ path_of text = path_of_part (path_part_of text)
 abbrev pub is_max_limit : ℕ → Bool
 is_max_limit n = is_between 1 1000 n
 
+-- at most 65,536 bytes
 abbrev pub is_body : List ℕ → Bool
-is_body bytes = nat_le (length bytes) 65536
+is_body bytes = nat_le (length bytes) 65536 && list_all is_byte bytes
 
 abbrev pub is_moment : ℕ → Bool
 is_moment seconds = nat_le seconds (2 ^ 40)

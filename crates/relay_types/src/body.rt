@@ -33,13 +33,12 @@ impl Body {
         ensures value { IfOk result (λ body. body ≡ (arc_value bytes).items) }
         ensures refusal { IfErr result (λ fault. fault ≡ ReadFault.TooLong) }
     {
-        if bytes.len() <= 65_536 {
-            Ok(Body {
-                bytes: Shared::of(bytes),
-            })
-        } else {
-            Err(ReadFault::TooLong)
+        if !is_body(bytes.as_slice()) {
+            return Err(ReadFault::TooLong);
         }
+        Ok(Body {
+            bytes: Shared::of(bytes),
+        })
     }
 
     /// The same body for another holder. It copies nothing, and fails only where too many hold it.
@@ -53,6 +52,7 @@ impl Body {
     /// The bytes.
     pub fn as_bytes(&self) -> &[u8]
         ensures bytes { result.now ≡ self.now }
+        ensures valid { IsTrue (is_body self.now) }
         ensures most { length self.now ≤ 65536 }
     {
         self.bytes.as_slice()
@@ -64,4 +64,10 @@ impl Body {
     {
         self.as_bytes() == other.as_bytes()
     }
+}
+
+fn is_body(bytes: &[u8]) -> bool
+    ensures { result ≡ is_body bytes.now }
+{
+    bytes.len() <= 65_536
 }

@@ -1,7 +1,7 @@
 //! The secrets of endpoints.
 ghost use Rattle.std.specs.Prelude.{◌≡◌, ◌↔◌, ◌≤◌, ℕ, List, Ok, Some, length, IsTrue, IsOk, IfOk, IfErr, IfSome, slice_get};
 ghost use Rattle.std.specs.String.{string_bytes};
-ghost use Rattle.base64.specs.GeneralPurpose.{IsBytes, IsStrict, encode_of};
+ghost use Rattle.base64.specs.GeneralPurpose.{IsStrict, encode_of};
 ghost use Rattle.relay_types.specs.SecretText.{ReadsSecret, IsPaddedOrNot, secret_text};
 ghost use Rattle.relay_types.specs.Values.{is_secret, are_secrets};
 
@@ -31,6 +31,20 @@ impl Model for Secret {
 }
 
 impl Secret {
+    /// Takes 24 to 64 bytes. It takes no memory.
+    pub fn of(bytes: &[u8]) -> Result<Secret, ReadFault>
+        ensures valid { IsOk result ↔ IsTrue (is_secret bytes.now) }
+        ensures value { IfOk result (λ secret. secret ≡ bytes.now) }
+        ensures refusal { IfErr result (λ fault. fault ≡ ReadFault.BadSecret) }
+    {
+        if !is_secret(bytes) {
+            return Err(ReadFault::BadSecret);
+        }
+        Ok(Secret {
+            bytes: Short::of(bytes),
+        })
+    }
+
     /// Reads a secret as it is written (Standard Webhooks 1.0.0): `whsec_` and its base64 (RFC 4648, section 4). The prefix
     /// and the padding may be left out. It takes no memory.
     pub fn read(text: &[u8]) -> Result<Secret, ReadFault>
@@ -60,6 +74,13 @@ impl Secret {
         self.bytes.as_slice()
     }
 
+    /// Whether two secrets are the same.
+    pub fn is(self, other: Secret) -> bool
+        ensures { IsTrue result ↔ (self ≡ other) }
+    {
+        self == other
+    }
+
     // The secret itself, with what its type keeps.
     fn checked(&self) -> Secret
         ensures same { result ≡ self.now }
@@ -67,6 +88,12 @@ impl Secret {
     {
         Secret { bytes: self.bytes }
     }
+}
+
+fn is_secret(bytes: &[u8]) -> bool
+    ensures { result ≡ is_secret bytes.now }
+{
+    24 <= bytes.len() && bytes.len() <= 64
 }
 
 // The secret whose base64 the text is, with its padding or with none.
@@ -83,19 +110,14 @@ fn padded_or_not(text: &[u8]) -> Option<Secret>
 // The secret whose encoding the text is.
 fn decoded(text: &[u8], engine: &GeneralPurpose) -> Option<Secret>
     requires { IsStrict engine.now }
-    ensures value { IfSome result (λ secret. IsBytes secret × IsTrue (is_secret secret) × (text.now ≡ encode_of engine.now secret)) }
-    ensures each { (secret : List ℕ) → IsBytes secret → IsTrue (is_secret secret) → text.now ≡ encode_of engine.now secret → result ≡ Some secret }
+    ensures value { IfSome result (λ secret. IsTrue (is_secret secret) × (text.now ≡ encode_of engine.now secret)) }
+    ensures each { (secret : List ℕ) → IsTrue (is_secret secret) → text.now ≡ encode_of engine.now secret → result ≡ Some secret }
 {
     let mut bytes = [0; 64];
     let Ok(len) = engine.decode_slice(text, &mut bytes) else {
         return None;
     };
-    if len < 24 {
-        return None;
-    }
-    Some(Secret {
-        bytes: Short::of(&bytes[..len]),
-    })
+    Secret::of(&bytes[..len]).ok()
 }
 
 /// 1 to 4 secrets, the newest first. A contract sees the list of them.
@@ -192,4 +214,19 @@ impl Secrets {
             _ => None,
         }
     }
+    /// Whether these are the same secrets in the same order.
+    pub fn is(&self, other: &Secrets) -> bool
+        ensures { IsTrue result ↔ (self.now ≡ other.now) }
+    {
+        self.first.is(other.first)
+            && is_same_secret(self.second, other.second)
+            && is_same_secret(self.third, other.third)
+            && is_same_secret(self.fourth, other.fourth)
+    }
+}
+
+fn is_same_secret(one: Option<Secret>, other: Option<Secret>) -> bool
+    ensures { IsTrue result ↔ (one ≡ other) }
+{
+    one == other
 }

@@ -62,6 +62,13 @@ impl Target {
         self.text.as_slice()
     }
 
+    /// Whether two targets have the same text.
+    pub fn is(&self, other: &Target) -> bool
+        ensures { IsTrue result ↔ (self.now ≡ other.now) }
+    {
+        self.as_bytes() == other.as_bytes()
+    }
+
     /// The host as written.
     pub fn host(&self) -> &[u8]
         ensures { result.now ≡ host_of self.now }

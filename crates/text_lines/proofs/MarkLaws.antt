@@ -92,7 +92,7 @@ clean-secret mark text secret h reads =
     let prefix = (and_parts (has_no mark (0 ∷ base64_symbols)) _ (and_parts (not (61 == mark)) _ h).1).1 in
     let whole = clean-padded mark secret h in
     let bare = clean-unpadded mark secret h in
-    elim (one_of_four (bytes_eq text (codes "whsec_" ++ padded secret)) (bytes_eq text (codes "whsec_" ++ unpadded secret)) (bytes_eq text (padded secret)) (bytes_eq text (unpadded secret)) reads.2) [
+    elim (one_of_four (bytes_eq text (codes "whsec_" ++ padded secret)) (bytes_eq text (codes "whsec_" ++ unpadded secret)) (bytes_eq text (padded secret)) (bytes_eq text (unpadded secret)) reads.1) [
       | inl e ↦ clean-equal mark text _ e (clean-append mark (codes "whsec_") _ prefix whole)
       | inr (inl e) ↦ clean-equal mark text _ e (clean-append mark (codes "whsec_") _ prefix bare)
       | inr (inr (inl e)) ↦ clean-equal mark text _ e whole

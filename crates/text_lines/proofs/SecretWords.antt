@@ -67,7 +67,7 @@ all_secrets : (words secrets : List (List ℕ)) → ReadSecrets words secrets �
 all_secrets [] [] h = refl
 all_secrets [] (s ∷ secrets) h = absurd h
 all_secrets (w ∷ words) [] h = absurd h
-all_secrets (w ∷ words) (s ∷ secrets) h = rw h.0.1 (all_secrets words secrets h.1)
+all_secrets (w ∷ words) (s ∷ secrets) h = rw h.0.0 (all_secrets words secrets h.1)
 
 -- as many secrets as an endpoint may have
 pub are_secrets-read : (words read secrets : List (List ℕ)) → ReadSecrets words read → ReadSecrets words secrets → IsTrue (is_between 1 4 (length secrets)) → IsTrue (are_secrets read)

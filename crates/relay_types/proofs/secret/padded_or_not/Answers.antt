@@ -4,19 +4,19 @@ use Rattle.relay_types.proofs.SecretLaws.{no_padding}
 use Rattle.relay_types.proofs.secret.padded_or_not.Goals as goal
 
 pub returns-in-Some-clause-value : goal.returns-in-Some-clause-value
-returns-in-Some-clause-value c = let h = c.in-Some.ensures.value in (h.0, h.1, inl h.2)
+returns-in-Some-clause-value c = let h = c.in-Some.ensures.value in (h.0, inl h.1)
 
 pub returns-in-Some-clause-each : goal.returns-in-Some-clause-each
-returns-in-Some-clause-each c = λ secret h. elim h.2 [
-  | inl e ↦ c.in-Some.ensures.each secret h.0 h.1 e
-  | inr e ↦ c.in-Some.ensures.each secret h.0 h.1 (e ∙ no_padding c.in-Some.secret secret (sym c.in-Some.ensures.value.2 ∙ e))
+returns-in-Some-clause-each c = λ secret h. elim h.1 [
+  | inl e ↦ c.in-Some.ensures.each secret h.0 e
+  | inr e ↦ c.in-Some.ensures.each secret h.0 (e ∙ no_padding c.in-Some.secret secret (sym c.in-Some.ensures.value.1 ∙ e))
 ]
 
 pub returns-in-None-clause-value : goal.returns-in-None-clause-value
-returns-in-None-clause-value c = IfSome_then c.decoded-in-None.result c.decoded-in-None.ensures.value (λ secret h. (h.0, h.1, inr h.2))
+returns-in-None-clause-value c = IfSome_then c.decoded-in-None.result c.decoded-in-None.ensures.value (λ secret h. (h.0, inr h.1))
 
 pub returns-in-None-clause-each : goal.returns-in-None-clause-each
-returns-in-None-clause-each c = λ secret h. elim h.2 [
-  | inl e ↦ cc (c.in-None.ensures.each secret h.0 h.1 e)
-  | inr e ↦ c.decoded-in-None.ensures.each secret h.0 h.1 e
+returns-in-None-clause-each c = λ secret h. elim h.1 [
+  | inl e ↦ cc (c.in-None.ensures.each secret h.0 e)
+  | inr e ↦ c.decoded-in-None.ensures.each secret h.0 e
 ]

@@ -1,0 +1,7 @@
+use Rattle.std.proofs.Common.{arith}
+use Rattle.std.proofs.lemmas.Grind.{common_steps}
+use Rattle.relay_types.proofs.ByteLaws.{are_bytes}
+use Rattle.relay_types.proofs.secret.is_secret.Goals as goal
+
+pub returns-then-bytes-ge24 : goal.returns-then-bytes-ge24
+returns-then-bytes-ge24 c = let bytes = are_bytes c.args.bytes.now c.type_inv.bytes in grind (arith, common_steps)
