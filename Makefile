@@ -18,4 +18,9 @@ edits:
 fmt:
 	for crate in crates/*/; do (cd "$$crate" && rt fmt) || exit 1; done
 
-.PHONY: run test check edits fmt
+# Prints one table of measurements, each beside what stands for comparison.
+bench:
+	cd crates/bench && rt run
+	./scripts/bench crates/bench/out/bench
+
+.PHONY: run test check edits fmt bench
