@@ -66,7 +66,7 @@ unchanged_by text bare params old new rows h =
     let none = understood_bare text bare old.now.schema h.0 h.1.is in
     (subst (ShowsRows old new text h.0 (timed params h.0.formats h.1.now) rows) none h.2).3
 
-not_run_keeps : (text : List ℕ) (params : Row) (old new : State) (e : Error) → IsNotRun old new text params e → KeepsCommit old new
+pub not_run_keeps : (text : List ℕ) (params : Row) (old new : State) (e : Error) → IsNotRun old new text params e → KeepsCommit old new
 unfolding IsNotRun
 not_run_keeps text params old new e (inl h) = keeps_if old new (inl h.1)
 not_run_keeps text params old new e (inr h) = keeps_if old new (inr h.3)

@@ -7,3 +7,4 @@ pub mod Updates
 pub mod StepLemmas
 pub mod BareLemmas
 pub mod SelectLemmas
+pub mod ProbeLemmas

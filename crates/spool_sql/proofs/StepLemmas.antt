@@ -11,8 +11,9 @@ use Rattle.spool_sql.specs.Stored.{IsTables, AreTablesOf, the_same, first_rows}
 use Rattle.sqlite.specs.Store.{Ghosts}
 use Rattle.sqlite.specs.Held.{Held, state}
 use Rattle.sqlite.specs.Effect.{Database, IsDatabase}
+use Rattle.sqlite.specs.Schema.{Schema}
 use Rattle.sqlite.proofs.Callers.{survives_begin}
-use Rattle.spool_sql.specs.Steps.{GoesOn, Alters, Spares, CommitsAs, Stands, MayLeave, Reopens, Turns, Begins, Founds, FoundsAs, IsBegun}
+use Rattle.spool_sql.specs.Steps.{GoesOn, Alters, Spares, CommitsAs, Stands, MayLeave, Reopens, Turns, Grows, Founds, FoundsAs, IsBegun}
 use Rattle.spool_sql.specs.Tables.{no_schema, relay_schema}
 
 pub keeps_if : (a b : State) → IsUnchanged a b ⊎ IsRolledBack a b → KeepsCommit a b
@@ -34,9 +35,15 @@ spares_then a b c p q = record {
   survives = survives_then a b c _ _ (λ _. ⊥) (λ _ db none. none) (λ _ db none. none) p.survives q.survives;
 }
 
+goes_on_then : (a b c : State) → GoesOn a b → GoesOn b c → GoesOn a c
+goes_on_then a b c p q = record { was_open = p.was_open; is_open = q.is_open; now_is = refl; committed_is = q.committed_is ∙ p.committed_is; mode = q.mode }
+
+goes_on_same : (a b c : State) → GoesOn a b → IsUnchanged b c → GoesOn a c
+goes_on_same a b c p same = record { was_open = p.was_open; is_open = same.0.is_open; now_is = refl; committed_is = same.0.committed_is ∙ p.committed_is; mode = same.0.mode ∙ p.mode }
+
 pub alters_then : (a b c : State) (f g : Rows → Rows) → Alters a b f → Alters b c g → Alters a c (λ rows. g (f rows))
 alters_then a b c f g p q = record {
-  on = record { was_open = p.on.was_open; is_open = q.on.is_open; now_is = refl; committed_is = q.on.committed_is ∙ p.on.committed_is; mode = q.on.mode };
+  on = goes_on_then a b c p.on q.on;
   makes = λ rows t. q.makes (f rows) (p.makes rows t);
 }
 
@@ -110,10 +117,14 @@ pub on_ok : {X E : Type 0} (r : Result X E) (P Q : Type 0) → OnOk r P → (P �
 on_ok (Ok x) P Q h f = f h
 on_ok (Err e) P Q h f = tt
 
-pub founds_last : (a b c : State) (r : Result (Unit {0}) Error) → GoesOn a b → (IsBegun no_schema a.now → IsBegun relay_schema b.now) → OnOk r (Begins b c) → OnOk r (Founds a c)
-founds_last a b c (Ok done) on was h =
-    record { on = record { was_open = on.was_open; is_open = h.on.is_open; now_is = refl; committed_is = h.on.committed_is ∙ on.committed_is; mode = h.on.mode }; founds = λ begun. h.begins (was begun) }
-founds_last a b c (Err e) on was h = tt
+pub grows_then : (s t u : Schema) (a b c : State) → Grows s t a b → Grows t u b c → Grows s u a c
+grows_then s t u a b c p q = record { on = goes_on_then a b c p.on q.on; begins = λ begun. q.begins (p.begins begun) }
+
+pub founds_then : (s t : Schema) (a b c : State) → Grows s t a b → Founds t b c → Founds s a c
+founds_then s t a b c p q = record { on = goes_on_then a b c p.on q.on; founds = λ begun. q.founds (p.begins begun) }
+
+pub founds_same : (s : Schema) (a b c : State) → Founds s a b → IsUnchanged b c → Founds s a c
+founds_same s a b c p same = record { on = goes_on_same a b c p.on same; founds = λ begun. subst (λ d. IsTables d first_rows) (sym same.0.now_is) (p.founds begun) }
 
 -- a call that changes nothing
 pub alters_same : (a b : State) → IsTrue a.in_transaction → IsUnchanged a b → Alters a b the_same
@@ -131,7 +142,7 @@ alters_as a b f g same p = record { on = p.on; makes = λ rows t. subst (IsTable
 
 -- what a transaction leaves that made the tables and that a commit ends
 pub survives_founding : {S : Type 0} (g : Ghosts S) (old : Held S) (mid new : State) → Spares (state g (record old { in_transaction = true })) mid
-    → (HasCleanDisk mid → Founds (state g (record old { in_transaction = true })) mid)
+    → (HasCleanDisk mid → Founds no_schema (state g (record old { in_transaction = true })) mid)
     → Survives mid new (λ db. db ≡ mid.now.trees) → Survives (state g old) new (FoundsAs (state g old))
 survives_founding g old mid new s made ended =
     survives_then (state g old) mid new _ _ (FoundsAs (state g old)) (λ _ db none. absurd none)
@@ -139,7 +150,7 @@ survives_founding g old mid new s made ended =
     (survives_begin g old mid _ s.survives) ended
 
 -- what a commit makes of a connection where the tables were made
-pub stands_founded : {S : Type 0} (g : Ghosts S) (old : Held S) (mid new : State) → Founds (state g (record old { in_transaction = true })) mid
+pub stands_founded : {S : Type 0} (g : Ghosts S) (old : Held S) (mid new : State) → Founds no_schema (state g (record old { in_transaction = true })) mid
     → Shows mid new mid.now mid.now false → IsBegun no_schema (state g old).now → Stands new first_rows
 stands_founded g old mid new made ended begun =
     let tables = made.founds begun in

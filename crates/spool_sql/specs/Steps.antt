@@ -8,7 +8,7 @@ use Rattle.sqlite.specs.Table.{Table}
 use Rattle.sqlite.specs.State.{State, HasCleanDisk, Opens, Shows, KeepsCommit, Survives}
 use Rattle.sqlite_catalog.specs.Change.{created}
 use Rattle.relay_types.specs.Rows.{Rows}
-use Rattle.spool_sql.specs.Tables.{relay_schema, no_schema}
+use Rattle.spool_sql.specs.Tables.{no_schema}
 use Rattle.spool_sql.specs.Stored.{IsTables, AreTablesOf, first_rows}
 
 -- ---- inside a transaction
@@ -77,20 +77,19 @@ pub record IsBegun (schema : Schema) (db : Database) : Type 0 where
   pub schema_is : db.schema ≡ schema
   pub empty : AllByRecursion (λ (t : Table). db.trees t.tree ≡ []) schema.tables
 
+-- inside a transaction, the tables of a schema become those of another, and are empty still
+pub record Grows (before after : Schema) (old new : State) : Type 0 where
+  pub on : GoesOn old new
+  pub begins : IsBegun before old.now → IsBegun after new.now
+
 -- inside a transaction, a table is added
-pub record Adds (schema : Schema) (table : Table) (old new : State) : Type 0 where
-  pub on : GoesOn old new
-  pub begins : IsBegun schema old.now → IsBegun (created schema table) new.now
+abbrev pub Adds : Schema → Table → State → State → Type 0
+Adds schema table = Grows schema (created schema table)
 
--- inside a transaction, the row of meta is added to the tables as they are made
-pub record Begins (old new : State) : Type 0 where
+-- inside a transaction, empty tables of a schema become those of the history with no record
+pub record Founds (schema : Schema) (old new : State) : Type 0 where
   pub on : GoesOn old new
-  pub begins : IsBegun relay_schema old.now → IsTables new.now first_rows
-
--- inside a transaction, a store without tables becomes that of the history with no record
-pub record Founds (old new : State) : Type 0 where
-  pub on : GoesOn old new
-  pub founds : IsBegun no_schema old.now → IsTables new.now first_rows
+  pub founds : IsBegun schema old.now → IsTables new.now first_rows
 
 -- what a commit of the tables as they are made writes to the disk
 abbrev pub FoundsAs : State → Trees → Type 0

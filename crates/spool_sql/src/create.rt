@@ -2,25 +2,36 @@
 ghost use Rattle.std.specs.Prelude.{◌≡◌, IsTrue, OnOk};
 ghost use Rattle.sqlite.specs.State.{HasCleanDisk};
 ghost use Rattle.sqlite.specs.Held.{state};
-ghost use Rattle.spool_sql.specs.Tables.{no_schema, schema_1, schema_2, schema_3, schema_4, meta, endpoints, secrets, deliveries, attempts};
-ghost use Rattle.spool_sql.specs.Steps.{Adds, Begins, Founds, Spares};
+ghost use Rattle.spool_sql.specs.Tables.{relay_schema, no_schema, schema_1, schema_2, schema_3, schema_4, meta, endpoints, secrets, deliveries, attempts};
+ghost use Rattle.spool_sql.specs.Steps.{Adds, Grows, Founds, Spares};
 
+use crate::opened::prepare_probe;
 use sqlite::{Alter, Error, Transaction};
 
-/// Makes the five tables and the row of `meta`, in a store without tables: the rows of the history with no record.
+/// Makes the five tables and the row of `meta`, in a store without tables: the rows of the history with no record. The
+/// connection then has the statement of `probe` compiled.
 ///
 /// A table that is there already is refused as `NameTaken`.
 pub fn create_tables<S: Alter>(tx: &mut Transaction<'_, S>) -> Result<(), Error>
     ensures same_reference { tx.new.conn.ghost_name ≡ tx.old.conn.ghost_name }
-    ensures done { HasCleanDisk (state S.Store tx.new.conn.now) → IsTrue (state S.Store tx.old.conn.now).in_transaction → OnOk result (Founds (state S.Store tx.old.conn.now) (state S.Store tx.new.conn.now)) }
+    ensures done { HasCleanDisk (state S.Store tx.new.conn.now) → IsTrue (state S.Store tx.old.conn.now).in_transaction → OnOk result (Founds no_schema (state S.Store tx.old.conn.now) (state S.Store tx.new.conn.now)) }
+    ensures spares { Spares (state S.Store tx.old.conn.now) (state S.Store tx.new.conn.now) }
+{
+    create_schema(tx)?;
+    insert_first_meta(tx)?;
+    prepare_probe(tx)
+}
+
+fn create_schema<S: Alter>(tx: &mut Transaction<'_, S>) -> Result<(), Error>
+    ensures same_reference { tx.new.conn.ghost_name ≡ tx.old.conn.ghost_name }
+    ensures done { HasCleanDisk (state S.Store tx.new.conn.now) → IsTrue (state S.Store tx.old.conn.now).in_transaction → OnOk result (Grows no_schema relay_schema (state S.Store tx.old.conn.now) (state S.Store tx.new.conn.now)) }
     ensures spares { Spares (state S.Store tx.old.conn.now) (state S.Store tx.new.conn.now) }
 {
     create_meta(tx)?;
     create_endpoints(tx)?;
     create_secrets(tx)?;
     create_deliveries(tx)?;
-    create_attempts(tx)?;
-    insert_first_meta(tx)
+    create_attempts(tx)
 }
 
 fn create_meta<S: Alter>(tx: &mut Transaction<'_, S>) -> Result<(), Error>
@@ -85,7 +96,7 @@ fn create_attempts<S: Alter>(tx: &mut Transaction<'_, S>) -> Result<(), Error>
 
 fn insert_first_meta<S: Alter>(tx: &mut Transaction<'_, S>) -> Result<(), Error>
     ensures same_reference { tx.new.conn.ghost_name ≡ tx.old.conn.ghost_name }
-    ensures done { HasCleanDisk (state S.Store tx.new.conn.now) → IsTrue (state S.Store tx.old.conn.now).in_transaction → OnOk result (Begins (state S.Store tx.old.conn.now) (state S.Store tx.new.conn.now)) }
+    ensures done { HasCleanDisk (state S.Store tx.new.conn.now) → IsTrue (state S.Store tx.old.conn.now).in_transaction → OnOk result (Founds relay_schema (state S.Store tx.old.conn.now) (state S.Store tx.new.conn.now)) }
     ensures spares { Spares (state S.Store tx.old.conn.now) (state S.Store tx.new.conn.now) }
 {
     tx.execute("INSERT INTO meta VALUES(1, 'webhook-relay', 1, 0)", &[])?;

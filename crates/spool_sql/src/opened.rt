@@ -1,11 +1,11 @@
 //! What a connection tells of its store.
-ghost use Rattle.std.specs.Prelude.{◌≡◌, ◌↔◌, false, IsTrue, OnOk};
-ghost use Rattle.sqlite.specs.State.{HasCleanDisk, Survives, IsUnchanged};
+ghost use Rattle.std.specs.Prelude.{◌≡◌, ◌↔◌, false, IsTrue, IfErr, OnOk};
+ghost use Rattle.sqlite.specs.State.{HasCleanDisk, Survives, Fails, IsUnchanged};
 ghost use Rattle.sqlite.specs.Held.{state};
-ghost use Rattle.spool_sql.specs.Steps.{Reopens};
+ghost use Rattle.spool_sql.specs.Steps.{Reopens, Spares};
 ghost use Rattle.spool_sql.specs.Tables.{no_schema};
 
-use sqlite::{Alter, Connection, Error};
+use sqlite::{Alter, Connection, Error, Transaction};
 
 /// Whether the store has no table, no index and no view yet.
 ///
@@ -18,13 +18,32 @@ pub fn is_empty<S: Alter>(conn: &Connection<S>) -> bool
     schema.tables.is_empty() && schema.indexes.is_empty() && schema.views.is_empty()
 }
 
-/// Answers `Ok` only where the store is still open, and changes nothing. It can fail for memory as well.
+/// Answers `Ok` only where the store is still open, and changes nothing; an error says why it can't tell.
+///
+/// It takes no memory once the connection has compiled its statement, as behind `prepare_probe`, and the schema stayed.
 pub fn probe<S: Alter>(conn: &mut Connection<S>) -> Result<(), Error>
     requires settled { conn.old.in_transaction ≡ false }
     ensures same { HasCleanDisk (state S.Store conn.new) → OnOk result (IsUnchanged (state S.Store conn.old) (state S.Store conn.new)) }
+    ensures failed { HasCleanDisk (state S.Store conn.new) → IfErr result (Fails (state S.Store conn.old) (state S.Store conn.new) ⊥) }
     ensures mode { conn.new.in_transaction ≡ false }
     ensures survives { Survives (state S.Store conn.old) (state S.Store conn.new) (λ _. ⊥) }
 {
-    conn.prepare("SELECT 1")?;
+    // It has no rows, and an open store refuses it for that before it does anything.
+    let Err(error) = conn.query_all("ROLLBACK", &[]) else {
+        return Ok(());
+    };
+    match error {
+        Error::InvalidQuery => Ok(()),
+        _ => Err(error),
+    }
+}
+
+/// Has the connection compile the statement of `probe`, which it keeps until the schema changes.
+pub fn prepare_probe<S: Alter>(tx: &mut Transaction<'_, S>) -> Result<(), Error>
+    ensures same_reference { tx.new.conn.ghost_name ≡ tx.old.conn.ghost_name }
+    ensures same { HasCleanDisk (state S.Store tx.new.conn.now) → OnOk result (IsUnchanged (state S.Store tx.old.conn.now) (state S.Store tx.new.conn.now)) }
+    ensures spares { Spares (state S.Store tx.old.conn.now) (state S.Store tx.new.conn.now) }
+{
+    tx.prepare("ROLLBACK")?;
     Ok(())
 }
