@@ -19,11 +19,11 @@ use Rattle.sqlite.specs.Rowids.{Rowids}
 use Rattle.sqlite.specs.Effect.{Database, value_rows, IsSource}
 use Rattle.sqlite.specs.Tree.{Trees, put_row}
 use Rattle.sqlite.specs.Listing.{understood}
-use Rattle.sqlite.specs.State.{State, mode_of, Shows, Executes}
+use Rattle.sqlite.specs.State.{State, mode_of, Executes}
 use Rattle.sqlite_schema.specs.declared.schema.Keys.TheVariants.{Enforced}
 use Rattle.sqlite.proofs.Callers.{IsPlain, command_of, statement_of, runs_as, one_step}
+use Rattle.sqlite.specs.Schema.{Schema}
 use Rattle.sqlite_catalog.specs.Listing.{IsSound}
-use Rattle.spool_sql.specs.Tables.{relay_schema}
 
 -- a part that gave a value did not stop on the way
 pub went : {B E R : Type 0} {b : B} {Stops : E → Type 0} → ((stop : E) × Stops stop × (Ok b ≡ Err stop)) ⊎ R → R
@@ -33,14 +33,17 @@ went (inr on) = on
 pub same_value : {B E : Type 0} {a b : B} → ◌≡◌ {A = Result B E} (Ok a) (Ok b) → a ≡ b
 same_value e = cc
 
--- one tree of a table has these rows now, and all else of the relay's database is as it was
-pub record Wrote (old new : State) (tree : ℕ) (rows : List Row) : Type 0 where
-  pub schema : new.now.schema ≡ relay_schema
-  pub sound : IsSound relay_schema new.now.trees
+-- under the schema the text is this command
+pub record Means (schema : Schema) (sql : List ℕ) (command : Command) : Type 0 where
+  pub is : command_of (understood schema sql) ≡ command
+  pub plain : IsPlain (understood schema sql)
+
+-- one tree of a table has these rows now, and all else of a database of this schema is as it was
+pub record Wrote (schema : Schema) (old new : State) (tree : ℕ) (rows : List Row) : Type 0 where
+  pub schema_is : new.now.schema ≡ schema
+  pub sound : IsSound schema new.now.trees
   pub rows_are : new.now.trees tree ≡ rows
-  pub others : AllByRecursion (λ (t : Table). t.tree ≢ tree → new.now.trees t.tree ≡ old.now.trees t.tree) relay_schema.tables
-  pub shown : Shows old new new.now (cond old.in_transaction old.committed new.now) old.in_transaction
-  pub marks : new.marks ≡ old.marks
+  pub others : AllByRecursion (λ (t : Table). t.tree ≢ tree → new.now.trees t.tree ≡ old.now.trees t.tree) schema.tables
 
 -- a statement on rows leaves the trees that its part made
 pub left_as : (task : Task) (mode : Mode) (command : Command) (db : Trees) (tally : Tally) (after : Database) → OnRows task mode None command db (Ok (tally, after))
@@ -77,36 +80,34 @@ inserted_by task from db w bare h =
     let edit = λ (ids : Rowids). edit_of db task.table [] ids 0 given.0 in
     (given.0, given.1, subst₂ (λ i t. Goes task.schema task.keys db (edit i) (Ok t)) ids (sym trees) written.1)
 
-module _ (sql : List ℕ) (params : Row) (at : ℕ) (terms : List Term) (width : ℕ) (table : Table)
-    (is : command_of (understood relay_schema sql) ≡ Insert at (Values terms width)) (plain : IsPlain (understood relay_schema sql))
-    (listed : slice_get relay_schema.tables at ≡ Some table) (uncounted : table.is_counted ≡ false)
+module _ (schema : Schema) (sql : List ℕ) (params : Row) (at : ℕ) (terms : List Term) (width : ℕ) (table : Table)
+    (means : Means schema sql (Insert at (Values terms width))) (listed : slice_get schema.tables at ≡ Some table) (uncounted : table.is_counted ≡ false)
     (row : Trees → Row)
     (news : (db : Trees) → (edit_of db table [] Chosen 0 (value_rows (stamped table params) width (length terms / width) terms)).news ≡ row db ∷ [])
-    (idle : (olds : List Row) (r : Row) → works relay_schema Enforced 0 table.tree olds (r ∷ []) ≡ []) where
-  pub inserts : (old new : State) (count : ℕ) → old.now.schema ≡ relay_schema → Executes sql params old new (Ok count)
-      → Wrote old new table.tree (put_row (row old.now.trees) (old.now.trees table.tree)) × (are_fresh (old.now.trees table.tree) (row old.now.trees ∷ []) ≡ true)
+    (idle : (tree : ℕ) (olds news : List Row) → works schema Enforced 0 tree olds news ≡ []) where
+  pub inserts : (old new : State) (count : ℕ) → old.now.schema ≡ schema → Executes sql params old new (Ok count)
+      → Wrote schema old new table.tree (put_row (row old.now.trees) (old.now.trees table.tree)) × (are_fresh (old.now.trees table.tree) (row old.now.trees ∷ []) ≡ true)
   inserts old new count has h =
       let db = old.now.trees in
       let command = Insert at (Values terms width) in
-      let w = runs_as sql params old new relay_schema has command is plain count h in
-      let text = statement_of sql (understood relay_schema sql) in
-      let task : Task = record { limit = old.step_limit; keys = Enforced; schema = relay_schema; table = table; params = params } in
+      let w = runs_as sql params old new schema has command means.is means.plain count h in
+      let text = statement_of sql (understood schema sql) in
+      let task : Task = record { limit = old.step_limit; keys = Enforced; schema = schema; table = table; params = params } in
       let on : OnRows task (mode_of old) None command db (Ok (w.tally, new.now)) = rw listed at (subst (λ s. Does old.step_limit (mode_of old) params (record old.now { schema = s }) text None command (Ok (w.tally, new.now))) has w.changed) in
       let made = left_as task (mode_of old) command db w.tally new.now on in
       let edit = inserted_by task (Values terms width) db made.0 uncounted made.1 in
       let only : edit.0 ≡ value_rows (stamped table params) width (length terms / width) terms = edit.1.1 in
       let the = edit_of db table [] Chosen 0 edit.0 in
       let new_rows : the.news ≡ row db ∷ [] = ap (λ all. (edit_of db table [] Chosen 0 all).news) only ∙ news db in
-      let it = one_step relay_schema Enforced db made.0.trees the (subst (λ all. works relay_schema Enforced 0 table.tree [] all ≡ []) (sym new_rows) (idle [] (row db))) edit.2 in
-      let same : new.now ≡ record { schema = relay_schema; trees = made.0.trees } = made.2 in
-      let trees : new.now.trees ≡ made.0.trees = ap (λ (d : Database). d.trees) same in (
+      let it = one_step schema Enforced db made.0.trees the (idle table.tree [] the.news) edit.2 in
+      let same : new.now ≡ record { schema = schema; trees = made.0.trees } = made.2 in
+      let trees : new.now.trees ≡ made.0.trees = ap (λ (d : Database). d.trees) same in
+      let schema_is : new.now.schema ≡ schema = ap (λ (d : Database). d.schema) same in (
         record {
-          schema = ap (λ (d : Database). d.schema) same;
-          sound = subst (λ schema. IsSound schema new.now.trees) (ap (λ (d : Database). d.schema) same) w.sound;
+          schema_is = schema_is;
+          sound = subst (λ s. IsSound s new.now.trees) schema_is w.sound;
           rows_are = ap (λ (t : Trees). t table.tree) trees ∙ it.rows ∙ ap (put_all (db table.tree)) new_rows;
-          others = subst (λ (t : Trees). AllByRecursion (λ (x : Table). x.tree ≢ table.tree → t x.tree ≡ db x.tree) relay_schema.tables) (sym trees) it.tables;
-          shown = w.shown;
-          marks = w.marks;
+          others = subst (λ (t : Trees). AllByRecursion (λ (x : Table). x.tree ≢ table.tree → t x.tree ≡ db x.tree) schema.tables) (sym trees) it.tables;
         },
         subst (λ all. are_fresh (db table.tree) all ≡ true) new_rows it.fresh,
       )

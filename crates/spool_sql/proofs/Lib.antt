@@ -1,5 +1,6 @@
 pub mod CreateLemmas
 pub mod InsertLemmas
+pub mod RelayLemmas
 pub mod Inserts
 pub mod TypedLemmas
 pub mod UpdateLemmas

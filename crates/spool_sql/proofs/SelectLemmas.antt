@@ -16,16 +16,24 @@ use Rattle.sqlite.specs.declared.types.Value.TheVariants.{Int, Text}
 use Rattle.sqlite.specs.Order.{Row}
 use Rattle.sqlite_sql.specs.Ops.{binary, from_truth, is_true}
 use Rattle.sqlite.specs.Term.{Term, col, op2}
+use Rattle.sqlite.specs.Query.{Query}
+use Rattle.sqlite.specs.Schema.{Schema}
 use Rattle.sqlite.specs.Command.TheVariants.{Select}
 use Rattle.sqlite.specs.Listing.{understood, reads_listing}
 use Rattle.sqlite.specs.State.{State, Shown}
-use Rattle.sqlite.proofs.Callers.{IsPlain, command_of, reads_as, one_permutation}
+use Rattle.sqlite.proofs.Callers.{reads_as, one_permutation}
 use Rattle.sqlite_tied.specs.Compute.{everything}
 use Rattle.relay_types.specs.Rows.{Rows, EndpointRow, DeliveryRow}
 use Rattle.spool_sql.specs.Tables.{relay_schema}
-use Rattle.spool_sql.specs.Stored.{IsTables, IsPutOf, number_of, endpoints_named, endpoint_stored, delivery_stored}
+use Rattle.spool_sql.specs.Stored.{IsTables, IsPutOf, is_delivery, number_of, endpoints_named, endpoint_stored, delivery_stored}
 use Rattle.spool_sql.proofs.BareLemmas.{IsBare}
+use Rattle.spool_sql.proofs.InsertLemmas.{Means}
 use Rattle.spool_sql.proofs.UpdateLemmas.{scan, shows, passes, scanned}
+
+-- under the schema the text is this query
+pub record Asks (schema : Schema) (sql : List ℕ) (query : Query) (names : List (List ℕ)) : Type 0 where
+  pub means : Means schema sql (Select (record { lets = []; body = query }) names)
+  pub unlisted : reads_listing schema sql ≡ false
 
 abbrev pub named_select : List ℕ
 named_select = codes "SELECT put FROM endpoints WHERE name = ?1"
@@ -33,17 +41,9 @@ named_select = codes "SELECT put FROM endpoints WHERE name = ?1"
 abbrev by_name : List Term
 by_name = op2 (Compare Eq Binary) (col 1 2) (col 0 0) ∷ []
 
-named_select_is : command_of (understood relay_schema named_select) ≡ Select (record { lets = []; body = scan 1 by_name (col 1 0 ∷ []) }) (codes "put" ∷ [])
+named_select_asks : Asks relay_schema named_select (scan 1 by_name (col 1 0 ∷ [])) (codes "put" ∷ [])
 unfolding understood everything
-named_select_is = refl
-
-named_select_plain : IsPlain (understood relay_schema named_select)
-unfolding understood everything
-named_select_plain = (refl, refl)
-
-named_select_unlisted : reads_listing relay_schema named_select ≡ false
-unfolding understood everything
-named_select_unlisted = refl
+named_select_asks = record { means = record { is = refl; plain = (refl, refl) }; unlisted = refl }
 
 pub named_select_bare : IsBare named_select
 unfolding understood everything
@@ -52,17 +52,9 @@ named_select_bare schema base = refl
 abbrev pub endpoints_select : List ℕ
 endpoints_select = codes "SELECT put FROM endpoints"
 
-endpoints_select_is : command_of (understood relay_schema endpoints_select) ≡ Select (record { lets = []; body = scan 1 [] (col 1 0 ∷ []) }) (codes "put" ∷ [])
+endpoints_select_asks : Asks relay_schema endpoints_select (scan 1 [] (col 1 0 ∷ [])) (codes "put" ∷ [])
 unfolding understood everything
-endpoints_select_is = refl
-
-endpoints_select_plain : IsPlain (understood relay_schema endpoints_select)
-unfolding understood everything
-endpoints_select_plain = (refl, refl)
-
-endpoints_select_unlisted : reads_listing relay_schema endpoints_select ≡ false
-unfolding understood everything
-endpoints_select_unlisted = refl
+endpoints_select_asks = record { means = record { is = refl; plain = (refl, refl) }; unlisted = refl }
 
 pub endpoints_select_bare : IsBare endpoints_select
 unfolding understood everything
@@ -74,17 +66,9 @@ delivery_select = codes "SELECT seq FROM deliveries WHERE endpoint = ?1 AND id =
 abbrev by_id : List Term
 by_id = op2 (Compare Eq Binary) (col 1 2) (col 0 0) ∷ op2 (Compare Eq Binary) (col 1 3) (col 0 1) ∷ []
 
-delivery_select_is : command_of (understood relay_schema delivery_select) ≡ Select (record { lets = []; body = scan 5 by_id (col 1 0 ∷ []) }) (codes "seq" ∷ [])
+delivery_select_asks : Asks relay_schema delivery_select (scan 5 by_id (col 1 0 ∷ [])) (codes "seq" ∷ [])
 unfolding understood everything
-delivery_select_is = refl
-
-delivery_select_plain : IsPlain (understood relay_schema delivery_select)
-unfolding understood everything
-delivery_select_plain = (refl, refl)
-
-delivery_select_unlisted : reads_listing relay_schema delivery_select ≡ false
-unfolding understood everything
-delivery_select_unlisted = refl
+delivery_select_asks = record { means = record { is = refl; plain = (refl, refl) }; unlisted = refl }
 
 pub delivery_select_bare : IsBare delivery_select
 unfolding understood everything
@@ -134,6 +118,13 @@ finds row params tests shown q same tree xs found are all =
     let these = ap (map (shows params shown)) (filtered row (passes params tests) q same xs) ∙ map_map row (shows params shown) (filter q xs) in
     subst (λ l. IsPermutation l found) these (IsPermutation-trans _ _ _ typed all)
 
+-- ---- a query over one table, whatever the version of the tables
+
+module _ (schema : Schema) (sql : List ℕ) (tree : ℕ) (tests shown : List Term) (names : List (List ℕ)) (asks : Asks schema sql (scan tree tests shown) names) (params : Row) where
+  pub found_in : (old new : State) (found : List Row) → old.now.schema ≡ schema → Shown sql params old new found → IsPermutation (map (shows params shown) (filter (passes params tests) (old.now.trees tree))) found
+  found_in old new found has h =
+      scanned tree tests shown old.now.schema old.now.trees params found (reads_as sql params old new schema has _ asks.means.is asks.means.plain asks.unlisted found h)
+
 -- ---- the three queries
 
 abbrev pub put_shown : EndpointRow → Row
@@ -142,29 +133,23 @@ put_shown e = Int (pos e.put) ∷ []
 pub finds_named : (name : List ℕ) (old new : State) (found : List Row) → Shown named_select (Text name ∷ []) old new found → (rows : Rows) → IsTables old.now rows
     → IsPermutation (map put_shown (endpoints_named name rows)) found
 finds_named name old new found h rows t =
-    let read = reads_as named_select (Text name ∷ []) old new relay_schema t.schema _ named_select_is named_select_plain named_select_unlisted found h in
     finds endpoint_stored (Text name ∷ []) by_name (col 1 0 ∷ []) (λ (e : EndpointRow). bytes_eq e.name name) (λ e. and_true _ ∙ equal_texts e.name name) (old.now.trees 1) rows.endpoints found t.tables.endpoints
-    (scanned 1 by_name (col 1 0 ∷ []) old.now.schema old.now.trees (Text name ∷ []) found read)
+    (found_in relay_schema named_select 1 by_name (col 1 0 ∷ []) _ named_select_asks (Text name ∷ []) old new found t.schema_is h)
 
 pub finds_endpoints : (old new : State) (found : List Row) → Shown endpoints_select [] old new found → (rows : Rows) → IsTables old.now rows
     → IsPermutation (map put_shown (filter (λ _. true) rows.endpoints)) found
 finds_endpoints old new found h rows t =
-    let read = reads_as endpoints_select [] old new relay_schema t.schema _ endpoints_select_is endpoints_select_plain endpoints_select_unlisted found h in
     finds endpoint_stored [] [] (col 1 0 ∷ []) (λ _. true) (λ e. refl) (old.now.trees 1) rows.endpoints found t.tables.endpoints
-    (scanned 1 [] (col 1 0 ∷ []) old.now.schema old.now.trees [] found read)
+    (found_in relay_schema endpoints_select 1 [] (col 1 0 ∷ []) _ endpoints_select_asks [] old new found t.schema_is h)
 
 abbrev pub delivery_params : ℕ → List ℕ → Row
 delivery_params endpoint id = Int (pos endpoint) ∷ Text id ∷ []
 
-abbrev pub is_delivery : ℕ → List ℕ → DeliveryRow → Bool
-is_delivery endpoint id d = (d.endpoint == endpoint) && bytes_eq d.id id
-
 pub finds_delivery : (endpoint : ℕ) (id : List ℕ) (old new : State) (found : List Row) → Shown delivery_select (delivery_params endpoint id) old new found → (rows : Rows) → IsTables old.now rows
     → IsPermutation (map (λ (d : DeliveryRow). Int (pos d.seq) ∷ []) (filter (is_delivery endpoint id) rows.deliveries)) found
 finds_delivery endpoint id old new found h rows t =
-    let read = reads_as delivery_select (delivery_params endpoint id) old new relay_schema t.schema _ delivery_select_is delivery_select_plain delivery_select_unlisted found h in
     finds delivery_stored (delivery_params endpoint id) by_id (col 1 0 ∷ []) (is_delivery endpoint id) (λ d. rw (equal_numbers d.endpoint endpoint, equal_texts d.id id) (ap (λ b. (d.endpoint == endpoint) && b) (and_true (bytes_eq d.id id))))
-    (old.now.trees 5) rows.deliveries found t.tables.deliveries (scanned 5 by_id (col 1 0 ∷ []) old.now.schema old.now.trees (delivery_params endpoint id) found read)
+    (old.now.trees 5) rows.deliveries found t.tables.deliveries (found_in relay_schema delivery_select 5 by_id (col 1 0 ∷ []) _ delivery_select_asks (delivery_params endpoint id) old new found t.schema_is h)
 
 -- ---- what their answers say
 

@@ -62,7 +62,7 @@ survives_commit g old mid new change s made ended =
 
 -- a list of objects lists one schema
 pub opened_tables : (d : Database) (rows : Rows) → IsDatabase d → AreTablesOf d.trees rows → IsTables d rows
-opened_tables d rows sound t = record { schema = lists_once _ d.schema relay_schema sound.lists t.sound.lists; tables = t }
+opened_tables d rows sound t = record { schema_is = lists_once _ d.schema relay_schema sound.lists t.sound.lists; tables = t }
 
 pub reopens : (s : State) → IsLive s → Reopens s
 reopens s live rows opened t =
@@ -97,7 +97,7 @@ pub ok_then : {X E : Type 0} (r : Result X E) (P Q : X → Type 0) → IfOk r P 
 ok_then (Ok x) P Q h f = f x h
 ok_then (Err e) P Q h f = tt
 
-pub ok_always : {X E : Type 0} (r : Result X E) {P : Type 0} → P → IfOk r (λ _. P)
+pub ok_always : {X E : Type 0} (r : Result X E) {P : Type 0} → P → OnOk r P
 ok_always (Ok x) p = p
 ok_always (Err e) p = tt
 

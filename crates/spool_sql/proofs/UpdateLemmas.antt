@@ -1,6 +1,6 @@
 -- What an UPDATE does to a database of the relay.
-use Rattle.std.proofs.Common.{◌≡◌, ◌≢◌, ℕ, ◌==◌, ◌-◌, ◌^◌, pos, negsuc, List, [], ◌∷◌, ◌++◌, map, filter, flat_map, length, slice_get, unwrap_or, Bool, true, false, cond, Some, None, Ok, refl, sym, ap, subst, subst₂, ◌∙◌}
-use Rattle.std.specs.List.{AllByRecursion, filter_map, list_all}
+use Rattle.std.proofs.Common.{◌≡◌, ◌≢◌, ℕ, ◌-◌, ◌^◌, pos, negsuc, List, [], ◌∷◌, ◌++◌, map, filter, flat_map, slice_get, unwrap_or, Bool, true, false, cond, Some, None, Ok, refl, sym, ap, subst, subst₂, ◌∙◌}
+use Rattle.std.specs.List.{AllByRecursion, list_all}
 use Rattle.std.specs.List.Sorted.{IsPermutation}
 use Rattle.std.proofs.lemmas.List.Sorted.{IsPermutation-map}
 use Rattle.sqlite.specs.declared.types.Value.TheVariants.{Null, Int}
@@ -14,34 +14,19 @@ use Rattle.sqlite.specs.Table.{Table}
 use Rattle.sqlite.specs.Schema.{Schema}
 use Rattle.sqlite.specs.Command.TheVariants.{Update}
 use Rattle.sqlite_rules.specs.Edit.{Edit, Applies, edit_of, edited, taken_by}
-use Rattle.sqlite_rules.specs.Action.{works, work_by, pairs, deed_for, Writes as Goes}
+use Rattle.sqlite_rules.specs.Action.{works, Writes as Goes}
 use Rattle.sqlite_rules.specs.Calls.{ids_of}
-use Rattle.sqlite_schema.specs.Rules.{parent_key}
 use Rattle.sqlite.specs.Rowids.TheVariants.{Given}
 use Rattle.sqlite.specs.Does.{Does, OnRows}
 use Rattle.sqlite.specs.Rows.{Written, Task, Updates}
 use Rattle.sqlite.specs.Effect.{Database, IsDatabase, Answers}
 use Rattle.sqlite.specs.Tree.{Trees}
 use Rattle.sqlite.specs.Listing.{understood}
-use Rattle.sqlite.specs.State.{State, mode_of, Shows, Executes}
+use Rattle.sqlite.specs.State.{State, mode_of, Executes}
 use Rattle.sqlite_schema.specs.declared.schema.Keys.TheVariants.{Enforced}
-use Rattle.sqlite.proofs.Callers.{IsPlain, command_of, statement_of, runs_as, one_step}
+use Rattle.sqlite.proofs.Callers.{statement_of, runs_as, one_step}
 use Rattle.sqlite_catalog.specs.Listing.{IsSound}
-use Rattle.spool_sql.specs.Tables.{relay_schema}
-use Rattle.spool_sql.proofs.InsertLemmas.{Wrote, left_as, went, same_value}
-
-idle_by : (b : Bool) (tree : ℕ) (olds news : List Row)
-    → flat_map (λ child. filter_map (λ ref. work_by 0 tree (pairs olds news) child ref (deed_for Enforced b ref) (parent_key relay_schema.tables ref)) child.references) relay_schema.tables ≡ []
-idle_by true tree olds news = refl
-idle_by false tree olds news = refl
-
--- no foreign key of the relay acts on a row
-pub idle : (tree : ℕ) (olds news : List Row) → works relay_schema Enforced 0 tree olds news ≡ []
-idle tree olds news = idle_by (length news == 0) tree olds news
-
--- a step of a statement is its one edit
-pub one_edit : (db next : Trees) (edit : Edit) → Goes relay_schema Enforced db edit (Ok next) → Applies relay_schema Enforced db edit next
-one_edit db next edit = one_step relay_schema Enforced db next edit (idle edit.table.tree (taken_by db edit) edit.news)
+use Rattle.spool_sql.proofs.InsertLemmas.{Means, Wrote, left_as, went, same_value}
 
 -- ---- a query over one table
 
@@ -114,30 +99,32 @@ updated_by task q db w h =
     let made = went found.2 in
     (found.0, found.1, subst (λ t. Goes task.schema task.keys db (edit_of db task.table (ids_of found.0) Given 1 found.0) (Ok t)) (sym (ap (λ (it : Written). it.trees) (same_value made.2))) made.1)
 
-wrote_by : (old new : State) (edit : Edit) (next : Trees) → IsDatabase new.now → Shows old new new.now (cond old.in_transaction old.committed new.now) old.in_transaction → new.marks ≡ old.marks
-    → new.now ≡ record { schema = relay_schema; trees = next } → Applies relay_schema Enforced old.now.trees edit next → Wrote old new edit.table.tree (edited old.now.trees edit)
-wrote_by old new edit next sound shown marks same it =
+wrote_by : (schema : Schema) (old new : State) (edit : Edit) (next : Trees) → IsDatabase new.now → new.now ≡ record { schema = schema; trees = next }
+    → Applies schema Enforced old.now.trees edit next → Wrote schema old new edit.table.tree (edited old.now.trees edit)
+wrote_by schema old new edit next sound same it =
     let trees : new.now.trees ≡ next = ap (λ (d : Database). d.trees) same in
+    let schema_is : new.now.schema ≡ schema = ap (λ (d : Database). d.schema) same in
     record {
-      schema = ap (λ (d : Database). d.schema) same;
-      sound = subst (λ schema. IsSound schema new.now.trees) (ap (λ (d : Database). d.schema) same) sound;
+      schema_is = schema_is;
+      sound = subst (λ s. IsSound s new.now.trees) schema_is sound;
       rows_are = ap (λ (t : Trees). t edit.table.tree) trees ∙ it.rows;
-      others = subst (λ (t : Trees). AllByRecursion (λ (x : Table). x.tree ≢ edit.table.tree → t x.tree ≡ old.now.trees x.tree) relay_schema.tables) (sym trees) it.tables;
-      shown = shown;
-      marks = marks;
+      others = subst (λ (t : Trees). AllByRecursion (λ (x : Table). x.tree ≢ edit.table.tree → t x.tree ≡ old.now.trees x.tree) schema.tables) (sym trees) it.tables;
     }
 
-module _ (sql : List ℕ) (params : Row) (at : ℕ) (q : Program) (table : Table) (plain : IsPlain (understood relay_schema sql)) (listed : slice_get relay_schema.tables at ≡ Some table) where
-  pub updates : command_of (understood relay_schema sql) ≡ Update at q → (old new : State) (count : ℕ) → old.now.schema ≡ relay_schema → Executes sql params old new (Ok count)
-      → (rows : List Row) × Answers (record { schema = relay_schema; trees = old.now.trees }) q params rows
-      × Wrote old new table.tree (edited old.now.trees (edit_of old.now.trees table (ids_of rows) Given 1 rows))
-  updates is old new count has h =
+module _ (schema : Schema) (sql : List ℕ) (params : Row) (at : ℕ) (q : Program) (table : Table)
+    (means : Means schema sql (Update at q)) (listed : slice_get schema.tables at ≡ Some table)
+    (idle : (tree : ℕ) (olds news : List Row) → works schema Enforced 0 tree olds news ≡ []) where
+  pub updates : (old new : State) (count : ℕ) → old.now.schema ≡ schema → Executes sql params old new (Ok count)
+      → (rows : List Row) × Answers (record { schema = schema; trees = old.now.trees }) q params rows
+      × Wrote schema old new table.tree (edited old.now.trees (edit_of old.now.trees table (ids_of rows) Given 1 rows))
+  updates old new count has h =
       let db = old.now.trees in
-      let w = runs_as sql params old new relay_schema has (Update at q) is plain count h in
-      let text = statement_of sql (understood relay_schema sql) in
-      let task : Task = record { limit = old.step_limit; keys = Enforced; schema = relay_schema; table = table; params = params } in
+      let w = runs_as sql params old new schema has (Update at q) means.is means.plain count h in
+      let text = statement_of sql (understood schema sql) in
+      let task : Task = record { limit = old.step_limit; keys = Enforced; schema = schema; table = table; params = params } in
       let on : OnRows task (mode_of old) None (Update at q) db (Ok (w.tally, new.now)) = rw listed at (subst (λ s. Does old.step_limit (mode_of old) params (record old.now { schema = s }) text None (Update at q) (Ok (w.tally, new.now))) has w.changed) in
       let made = left_as task (mode_of old) (Update at q) db w.tally new.now on in
       let edit = updated_by task q db made.0 made.1 in
-      let it = one_edit db made.0.trees (edit_of db table (ids_of edit.0) Given 1 edit.0) edit.2 in
-      (edit.0, edit.1, wrote_by old new (edit_of db table (ids_of edit.0) Given 1 edit.0) made.0.trees w.sound w.shown w.marks made.2 it)
+      let the = edit_of db table (ids_of edit.0) Given 1 edit.0 in
+      let it = one_step schema Enforced db made.0.trees the (idle table.tree (taken_by db the) the.news) edit.2 in
+      (edit.0, edit.1, wrote_by schema old new the made.0.trees w.sound made.2 it)

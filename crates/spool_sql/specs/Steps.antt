@@ -1,11 +1,14 @@
 -- What a statement of the relay leaves of a connection.
-use Rattle.std.specs.Prelude.{◌≡◌, ◌⊎◌, true, false, IsTrue, []}
+use Rattle.std.specs.Prelude.{◌≡◌, ◌⊎◌, true, false, IsTrue, [], Result, IfOk, IfErr, OnOk}
 use Rattle.std.specs.List.{AllByRecursion}
 use Rattle.sqlite.specs.Tree.{Trees}
 use Rattle.sqlite.specs.Effect.{Database}
 use Rattle.sqlite.specs.Schema.{Schema}
 use Rattle.sqlite.specs.Table.{Table}
-use Rattle.sqlite.specs.State.{State, HasCleanDisk, Opens, Shows, KeepsCommit, Survives}
+use Rattle.sqlite.specs.State.{State, HasCleanDisk, Opens, Shows, Fails, IsUnchanged, KeepsCommit, Survives}
+use Rattle.sqlite.specs.declared.error.Error.{Error}
+use Rattle.sqlite.specs.Held.{Held, state}
+use Rattle.sqlite_trees.specs.declared.store.Store.{Ghosts}
 use Rattle.sqlite_catalog.specs.Change.{created}
 use Rattle.relay_types.specs.Rows.{Rows}
 use Rattle.spool_sql.specs.Tables.{no_schema}
@@ -94,3 +97,26 @@ pub record Founds (schema : Schema) (old new : State) : Type 0 where
 -- what a commit of the tables as they are made writes to the disk
 abbrev pub FoundsAs : State → Trees → Type 0
 FoundsAs old db = IsBegun no_schema old.now → AreTablesOf db first_rows
+
+-- ---- the clauses that the statements share
+
+module _ {S X : Type 0} (g : Ghosts S) (old new : Held S) (result : Result X Error) where
+  -- inside a transaction, and while the disk has returned what was written, an Ok says so much of the two states
+  abbrev pub Achieves : (State → State → Type 0) → Type 0
+  Achieves P = HasCleanDisk (state g new) → IsTrue (state g old).in_transaction → OnOk result (P (state g old) (state g new))
+
+  -- an Ok says that the rows were changed so
+  abbrev pub Changes : (Rows → Rows) → Type 0
+  Changes change = Achieves (λ a b. Alters a b change)
+
+  -- an Ok changed nothing
+  abbrev pub LeavesAll : Type 0
+  LeavesAll = HasCleanDisk (state g new) → OnOk result (IsUnchanged (state g old) (state g new))
+
+  -- an answer says so much of the rows
+  abbrev pub LooksUp : (X → Rows → Type 0) → Type 0
+  LooksUp P = HasCleanDisk (state g new) → IfOk result (λ found. (rows : Rows) → IsTables (state g old).now rows → P found rows)
+
+  -- an error is a failure of the store, under its name
+  abbrev pub FailsAsStore : Type 0
+  FailsAsStore = HasCleanDisk (state g new) → IfErr result (Fails (state g old) (state g new) ⊥)

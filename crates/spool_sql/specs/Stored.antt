@@ -1,5 +1,6 @@
 -- How the rows of a history are stored in the five tables.
-use Rattle.std.specs.Prelude.{◌≡◌, ℕ, pos, Bool, cond, List, [], ◌∷◌, ◌++◌, map, drop, filter, codes, bytes_eq, Option, slice_get}
+use Rattle.std.specs.List.{list_any}
+use Rattle.std.specs.Prelude.{◌≡◌, ℕ, ◌==◌, ◌&&◌, pos, Bool, true, cond, List, [], ◌∷◌, ◌++◌, map, drop, filter, codes, bytes_eq, Option, slice_get}
 use Rattle.sqlite.specs.declared.types.Value.TheVariants.{Null, Int, Text as Words, Blob as Bytes}
 use Rattle.sqlite.specs.Order.{Row}
 use Rattle.sqlite.specs.Effect.{Database}
@@ -41,19 +42,26 @@ pub record AreTables (schema : Schema) (version : ℕ) (db : Trees) (rows : Rows
   pub deliveries : IsPermutation (db 5) (map delivery_stored rows.deliveries)
   pub attempts : IsPermutation (db 7) (map attempt_stored rows.attempts)
 
+-- a connection sees these tables
+pub record IsTablesOf (schema : Schema) (version : ℕ) (db : Database) (rows : Rows) : Type 0 where
+  pub schema_is : db.schema ≡ schema
+  pub tables : AreTables schema version db.trees rows
+
 -- the relay's tables of version 1
 abbrev pub AreTablesOf : Trees → Rows → Type 0
 AreTablesOf = AreTables relay_schema 1
 
--- a connection sees these tables
-pub record IsTables (db : Database) (rows : Rows) : Type 0 where
-  pub schema : db.schema ≡ relay_schema
-  pub tables : AreTablesOf db.trees rows
+abbrev pub IsTables : Database → Rows → Type 0
+IsTables = IsTablesOf relay_schema 1
 
 -- ---- what each statement makes of the rows
 
 abbrev pub with_records : ℕ → Rows → Rows
 with_records n rows = record rows { records = n }
+
+-- as its Put makes it
+abbrev pub new_endpoint : ℕ → List ℕ → List ℕ → ℕ → EndpointRow
+new_endpoint put name url max = record { put = put; name = name; url = url; max = max; enabled = true; enabled_by = put; secrets_by = put }
 
 abbrev pub with_endpoint : EndpointRow → Rows → Rows
 with_endpoint e rows = record rows { endpoints = rows.endpoints ++ e ∷ [] }
@@ -82,6 +90,13 @@ endpoints_named name rows = filter (λ (e : EndpointRow). bytes_eq e.name name) 
 -- the number of an endpoint of this name, none where no endpoint has it
 abbrev pub IsPutOf : List ℕ → Rows → Option ℕ → Type 0
 IsPutOf name rows found = (puts : List ℕ) × IsPermutation (map (λ (e : EndpointRow). e.put) (endpoints_named name rows)) puts × (found ≡ slice_get puts 0)
+
+abbrev pub is_delivery : ℕ → List ℕ → DeliveryRow → Bool
+is_delivery endpoint id d = (d.endpoint == endpoint) && bytes_eq d.id id
+
+-- whether the endpoint that the record with this number made has an event of this id
+abbrev pub has_id : Rows → ℕ → List ℕ → Bool
+has_id rows endpoint id = list_any (is_delivery endpoint id) rows.deliveries
 
 -- the number that a row shows first
 abbrev pub number_of : Row → ℕ

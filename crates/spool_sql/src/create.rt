@@ -1,9 +1,9 @@
 //! The five tables, as they are made.
-ghost use Rattle.std.specs.Prelude.{◌≡◌, IsTrue, OnOk};
-ghost use Rattle.sqlite.specs.State.{HasCleanDisk};
+ghost use Rattle.std.specs.Prelude.{◌≡◌};
 ghost use Rattle.sqlite.specs.Held.{state};
-ghost use Rattle.spool_sql.specs.Tables.{relay_schema, no_schema, schema_1, schema_2, schema_3, schema_4, meta, endpoints, secrets, deliveries, attempts};
-ghost use Rattle.spool_sql.specs.Steps.{Adds, Grows, Founds, Spares};
+ghost use Rattle.spool_sql.specs.Tables.{relay_schema, no_schema, schema_1, schema_2, schema_3, schema_4};
+ghost use Rattle.spool_sql.specs.Tables.{meta, endpoints, secrets, deliveries, attempts};
+ghost use Rattle.spool_sql.specs.Steps.{Achieves, Adds, Grows, Founds, Spares};
 
 use crate::opened::prepare_probe;
 use sqlite::{Alter, Error, Transaction};
@@ -14,7 +14,7 @@ use sqlite::{Alter, Error, Transaction};
 /// A table that is there already is refused as `NameTaken`.
 pub fn create_tables<S: Alter>(tx: &mut Transaction<'_, S>) -> Result<(), Error>
     ensures same_reference { tx.new.conn.ghost_name ≡ tx.old.conn.ghost_name }
-    ensures done { HasCleanDisk (state S.Store tx.new.conn.now) → IsTrue (state S.Store tx.old.conn.now).in_transaction → OnOk result (Founds no_schema (state S.Store tx.old.conn.now) (state S.Store tx.new.conn.now)) }
+    ensures done { Achieves S.Store tx.old.conn.now tx.new.conn.now result (Founds no_schema) }
     ensures spares { Spares (state S.Store tx.old.conn.now) (state S.Store tx.new.conn.now) }
 {
     create_schema(tx)?;
@@ -24,7 +24,7 @@ pub fn create_tables<S: Alter>(tx: &mut Transaction<'_, S>) -> Result<(), Error>
 
 fn create_schema<S: Alter>(tx: &mut Transaction<'_, S>) -> Result<(), Error>
     ensures same_reference { tx.new.conn.ghost_name ≡ tx.old.conn.ghost_name }
-    ensures done { HasCleanDisk (state S.Store tx.new.conn.now) → IsTrue (state S.Store tx.old.conn.now).in_transaction → OnOk result (Grows no_schema relay_schema (state S.Store tx.old.conn.now) (state S.Store tx.new.conn.now)) }
+    ensures done { Achieves S.Store tx.old.conn.now tx.new.conn.now result (Grows no_schema relay_schema) }
     ensures spares { Spares (state S.Store tx.old.conn.now) (state S.Store tx.new.conn.now) }
 {
     create_meta(tx)?;
@@ -36,11 +36,12 @@ fn create_schema<S: Alter>(tx: &mut Transaction<'_, S>) -> Result<(), Error>
 
 fn create_meta<S: Alter>(tx: &mut Transaction<'_, S>) -> Result<(), Error>
     ensures same_reference { tx.new.conn.ghost_name ≡ tx.old.conn.ghost_name }
-    ensures done { HasCleanDisk (state S.Store tx.new.conn.now) → IsTrue (state S.Store tx.old.conn.now).in_transaction → OnOk result (Adds no_schema meta (state S.Store tx.old.conn.now) (state S.Store tx.new.conn.now)) }
+    ensures done { Achieves S.Store tx.old.conn.now tx.new.conn.now result (Adds no_schema meta) }
     ensures spares { Spares (state S.Store tx.old.conn.now) (state S.Store tx.new.conn.now) }
 {
     tx.execute(
-        "CREATE TABLE meta(k INTEGER PRIMARY KEY CHECK(k = 1), app TEXT NOT NULL, version INTEGER NOT NULL, records INTEGER NOT NULL) STRICT",
+        "CREATE TABLE meta(k INTEGER PRIMARY KEY CHECK(k = 1), app TEXT NOT NULL, \
+         version INTEGER NOT NULL, records INTEGER NOT NULL) STRICT",
         &[],
     )?;
     Ok(())
@@ -48,11 +49,13 @@ fn create_meta<S: Alter>(tx: &mut Transaction<'_, S>) -> Result<(), Error>
 
 fn create_endpoints<S: Alter>(tx: &mut Transaction<'_, S>) -> Result<(), Error>
     ensures same_reference { tx.new.conn.ghost_name ≡ tx.old.conn.ghost_name }
-    ensures done { HasCleanDisk (state S.Store tx.new.conn.now) → IsTrue (state S.Store tx.old.conn.now).in_transaction → OnOk result (Adds schema_1 endpoints (state S.Store tx.old.conn.now) (state S.Store tx.new.conn.now)) }
+    ensures done { Achieves S.Store tx.old.conn.now tx.new.conn.now result (Adds schema_1 endpoints) }
     ensures spares { Spares (state S.Store tx.old.conn.now) (state S.Store tx.new.conn.now) }
 {
     tx.execute(
-        "CREATE TABLE endpoints(put INTEGER PRIMARY KEY, name TEXT NOT NULL UNIQUE, url TEXT NOT NULL, max INTEGER NOT NULL, enabled INTEGER NOT NULL, enabled_by INTEGER NOT NULL, secrets_by INTEGER NOT NULL) STRICT",
+        "CREATE TABLE endpoints(put INTEGER PRIMARY KEY, name TEXT NOT NULL UNIQUE, \
+         url TEXT NOT NULL, max INTEGER NOT NULL, enabled INTEGER NOT NULL, \
+         enabled_by INTEGER NOT NULL, secrets_by INTEGER NOT NULL) STRICT",
         &[],
     )?;
     Ok(())
@@ -60,11 +63,13 @@ fn create_endpoints<S: Alter>(tx: &mut Transaction<'_, S>) -> Result<(), Error>
 
 fn create_secrets<S: Alter>(tx: &mut Transaction<'_, S>) -> Result<(), Error>
     ensures same_reference { tx.new.conn.ghost_name ≡ tx.old.conn.ghost_name }
-    ensures done { HasCleanDisk (state S.Store tx.new.conn.now) → IsTrue (state S.Store tx.old.conn.now).in_transaction → OnOk result (Adds schema_2 secrets (state S.Store tx.old.conn.now) (state S.Store tx.new.conn.now)) }
+    ensures done { Achieves S.Store tx.old.conn.now tx.new.conn.now result (Adds schema_2 secrets) }
     ensures spares { Spares (state S.Store tx.old.conn.now) (state S.Store tx.new.conn.now) }
 {
     tx.execute(
-        "CREATE TABLE secrets(endpoint INTEGER NOT NULL REFERENCES endpoints(put), place INTEGER NOT NULL, secret BLOB NOT NULL, PRIMARY KEY(endpoint, place)) STRICT",
+        "CREATE TABLE secrets(endpoint INTEGER NOT NULL REFERENCES endpoints(put), \
+         place INTEGER NOT NULL, secret BLOB NOT NULL, \
+         PRIMARY KEY(endpoint, place)) STRICT",
         &[],
     )?;
     Ok(())
@@ -72,11 +77,13 @@ fn create_secrets<S: Alter>(tx: &mut Transaction<'_, S>) -> Result<(), Error>
 
 fn create_deliveries<S: Alter>(tx: &mut Transaction<'_, S>) -> Result<(), Error>
     ensures same_reference { tx.new.conn.ghost_name ≡ tx.old.conn.ghost_name }
-    ensures done { HasCleanDisk (state S.Store tx.new.conn.now) → IsTrue (state S.Store tx.old.conn.now).in_transaction → OnOk result (Adds schema_3 deliveries (state S.Store tx.old.conn.now) (state S.Store tx.new.conn.now)) }
+    ensures done { Achieves S.Store tx.old.conn.now tx.new.conn.now result (Adds schema_3 deliveries) }
     ensures spares { Spares (state S.Store tx.old.conn.now) (state S.Store tx.new.conn.now) }
 {
     tx.execute(
-        "CREATE TABLE deliveries(seq INTEGER PRIMARY KEY, endpoint INTEGER NOT NULL REFERENCES endpoints(put), id TEXT NOT NULL, at INTEGER NOT NULL, body BLOB NOT NULL, UNIQUE(endpoint, id)) STRICT",
+        "CREATE TABLE deliveries(seq INTEGER PRIMARY KEY, \
+         endpoint INTEGER NOT NULL REFERENCES endpoints(put), id TEXT NOT NULL, \
+         at INTEGER NOT NULL, body BLOB NOT NULL, UNIQUE(endpoint, id)) STRICT",
         &[],
     )?;
     Ok(())
@@ -84,11 +91,14 @@ fn create_deliveries<S: Alter>(tx: &mut Transaction<'_, S>) -> Result<(), Error>
 
 fn create_attempts<S: Alter>(tx: &mut Transaction<'_, S>) -> Result<(), Error>
     ensures same_reference { tx.new.conn.ghost_name ≡ tx.old.conn.ghost_name }
-    ensures done { HasCleanDisk (state S.Store tx.new.conn.now) → IsTrue (state S.Store tx.old.conn.now).in_transaction → OnOk result (Adds schema_4 attempts (state S.Store tx.old.conn.now) (state S.Store tx.new.conn.now)) }
+    ensures done { Achieves S.Store tx.old.conn.now tx.new.conn.now result (Adds schema_4 attempts) }
     ensures spares { Spares (state S.Store tx.old.conn.now) (state S.Store tx.new.conn.now) }
 {
     tx.execute(
-        "CREATE TABLE attempts(seq INTEGER PRIMARY KEY, delivery INTEGER NOT NULL REFERENCES deliveries(seq), number INTEGER NOT NULL, status INTEGER NOT NULL, at INTEGER NOT NULL, UNIQUE(delivery, number)) STRICT",
+        "CREATE TABLE attempts(seq INTEGER PRIMARY KEY, \
+         delivery INTEGER NOT NULL REFERENCES deliveries(seq), \
+         number INTEGER NOT NULL, status INTEGER NOT NULL, at INTEGER NOT NULL, \
+         UNIQUE(delivery, number)) STRICT",
         &[],
     )?;
     Ok(())
@@ -96,7 +106,7 @@ fn create_attempts<S: Alter>(tx: &mut Transaction<'_, S>) -> Result<(), Error>
 
 fn insert_first_meta<S: Alter>(tx: &mut Transaction<'_, S>) -> Result<(), Error>
     ensures same_reference { tx.new.conn.ghost_name ≡ tx.old.conn.ghost_name }
-    ensures done { HasCleanDisk (state S.Store tx.new.conn.now) → IsTrue (state S.Store tx.old.conn.now).in_transaction → OnOk result (Founds relay_schema (state S.Store tx.old.conn.now) (state S.Store tx.new.conn.now)) }
+    ensures done { Achieves S.Store tx.old.conn.now tx.new.conn.now result (Founds relay_schema) }
     ensures spares { Spares (state S.Store tx.old.conn.now) (state S.Store tx.new.conn.now) }
 {
     tx.execute("INSERT INTO meta VALUES(1, 'webhook-relay', 1, 0)", &[])?;

@@ -1,11 +1,8 @@
 //! What is looked up in the tables.
-ghost use Rattle.std.specs.Prelude.{◌≡◌, ◌<◌, ◌^◌, ◌==◌, ◌&&◌, length, bytes_eq, option_map, slice_get, IfOk};
-ghost use Rattle.std.specs.List.{list_any};
-ghost use Rattle.sqlite.specs.State.{HasCleanDisk, IsUnchanged};
+ghost use Rattle.std.specs.Prelude.{◌≡◌, ◌<◌, ◌^◌, length, option_map, slice_get, IfOk};
 ghost use Rattle.sqlite.specs.Held.{state};
-ghost use Rattle.relay_types.specs.Rows.{Rows};
-ghost use Rattle.spool_sql.specs.Stored.{IsTables, IsPutOf, number_of};
-ghost use Rattle.spool_sql.specs.Steps.{Spares};
+ghost use Rattle.spool_sql.specs.Stored.{IsPutOf, has_id, number_of};
+ghost use Rattle.spool_sql.specs.Steps.{LeavesAll, LooksUp, Spares};
 
 use crate::value::int;
 use sqlite::{Alter, Error, Row, Transaction};
@@ -14,8 +11,8 @@ use sqlite_value::value::ValueRef;
 /// The number of the record that made the endpoint of this name, if the table has one. The name is ASCII.
 pub fn select_put<S: Alter>(tx: &mut Transaction<'_, S>, name: &[u8]) -> Result<Option<u64>, Error>
     ensures same_reference { tx.new.conn.ghost_name ≡ tx.old.conn.ghost_name }
-    ensures unchanged { HasCleanDisk (state S.Store tx.new.conn.now) → IfOk result (λ _. IsUnchanged (state S.Store tx.old.conn.now) (state S.Store tx.new.conn.now)) }
-    ensures found { HasCleanDisk (state S.Store tx.new.conn.now) → IfOk result (λ found. (rows : Rows) → IsTables (state S.Store tx.old.conn.now).now rows → IsPutOf name.now rows found) }
+    ensures unchanged { LeavesAll S.Store tx.old.conn.now tx.new.conn.now result }
+    ensures found { LooksUp S.Store tx.old.conn.now tx.new.conn.now result (λ found rows. IsPutOf name.now rows found) }
     ensures spares { Spares (state S.Store tx.old.conn.now) (state S.Store tx.new.conn.now) }
 {
     let rows = tx.query_all(
@@ -38,8 +35,9 @@ fn first_number(rows: &[Row]) -> Result<Option<u64>, Error>
 /// How many endpoints there are.
 pub fn count_endpoints<S: Alter>(tx: &mut Transaction<'_, S>) -> Result<usize, Error>
     ensures same_reference { tx.new.conn.ghost_name ≡ tx.old.conn.ghost_name }
-    ensures unchanged { HasCleanDisk (state S.Store tx.new.conn.now) → IfOk result (λ _. IsUnchanged (state S.Store tx.old.conn.now) (state S.Store tx.new.conn.now)) }
-    ensures counted { HasCleanDisk (state S.Store tx.new.conn.now) → IfOk result (λ count. (rows : Rows) → IsTables (state S.Store tx.old.conn.now).now rows → count ≡ length rows.endpoints) }
+    ensures unchanged { LeavesAll S.Store tx.old.conn.now tx.new.conn.now result }
+    ensures counted { LooksUp S.Store tx.old.conn.now tx.new.conn.now result
+        (λ count rows. count ≡ length rows.endpoints) }
     ensures spares { Spares (state S.Store tx.old.conn.now) (state S.Store tx.new.conn.now) }
 {
     let rows = tx.query_all("SELECT put FROM endpoints", &[])?;
@@ -54,8 +52,9 @@ pub fn has_delivery<S: Alter>(
 ) -> Result<bool, Error>
     requires endpoint { endpoint < 2 ^ 63 }
     ensures same_reference { tx.new.conn.ghost_name ≡ tx.old.conn.ghost_name }
-    ensures unchanged { HasCleanDisk (state S.Store tx.new.conn.now) → IfOk result (λ _. IsUnchanged (state S.Store tx.old.conn.now) (state S.Store tx.new.conn.now)) }
-    ensures found { HasCleanDisk (state S.Store tx.new.conn.now) → IfOk result (λ found. (rows : Rows) → IsTables (state S.Store tx.old.conn.now).now rows → found ≡ list_any (λ d. (d.endpoint == endpoint) && bytes_eq d.id id.now) rows.deliveries) }
+    ensures unchanged { LeavesAll S.Store tx.old.conn.now tx.new.conn.now result }
+    ensures found { LooksUp S.Store tx.old.conn.now tx.new.conn.now result
+        (λ found rows. found ≡ has_id rows endpoint id.now) }
     ensures spares { Spares (state S.Store tx.old.conn.now) (state S.Store tx.new.conn.now) }
 {
     let rows = tx.query_all(

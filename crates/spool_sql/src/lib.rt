@@ -1,4 +1,5 @@
-//! The prepared statements of the relay's tables. Each is a typed function, one call of the database inside a transaction.
+//! The relay's tables: the statements that make, write and look up their rows, each a typed function inside a
+//! transaction, and what a connection tells of its store between transactions.
 #![tactic(auto)]
 
 mod cause;

@@ -1,8 +1,8 @@
 //! What a connection tells of its store.
-ghost use Rattle.std.specs.Prelude.{◌≡◌, ◌↔◌, false, IsTrue, IfErr, OnOk};
-ghost use Rattle.sqlite.specs.State.{HasCleanDisk, Survives, Fails, IsUnchanged};
+ghost use Rattle.std.specs.Prelude.{◌≡◌, ◌↔◌, false, IsTrue};
+ghost use Rattle.sqlite.specs.State.{Survives};
 ghost use Rattle.sqlite.specs.Held.{state};
-ghost use Rattle.spool_sql.specs.Steps.{Reopens, Spares};
+ghost use Rattle.spool_sql.specs.Steps.{FailsAsStore, LeavesAll, Reopens, Spares};
 ghost use Rattle.spool_sql.specs.Tables.{no_schema};
 
 use sqlite::{Alter, Connection, Error, Transaction};
@@ -23,8 +23,8 @@ pub fn is_empty<S: Alter>(conn: &Connection<S>) -> bool
 /// It takes no memory once the connection has compiled its statement, as behind `prepare_probe`, and the schema stayed.
 pub fn probe<S: Alter>(conn: &mut Connection<S>) -> Result<(), Error>
     requires settled { conn.old.in_transaction ≡ false }
-    ensures same { HasCleanDisk (state S.Store conn.new) → OnOk result (IsUnchanged (state S.Store conn.old) (state S.Store conn.new)) }
-    ensures failed { HasCleanDisk (state S.Store conn.new) → IfErr result (Fails (state S.Store conn.old) (state S.Store conn.new) ⊥) }
+    ensures same { LeavesAll S.Store conn.old conn.new result }
+    ensures failed { FailsAsStore S.Store conn.old conn.new result }
     ensures mode { conn.new.in_transaction ≡ false }
     ensures survives { Survives (state S.Store conn.old) (state S.Store conn.new) (λ _. ⊥) }
 {
@@ -41,7 +41,7 @@ pub fn probe<S: Alter>(conn: &mut Connection<S>) -> Result<(), Error>
 /// Has the connection compile the statement of `probe`, which it keeps until the schema changes.
 pub fn prepare_probe<S: Alter>(tx: &mut Transaction<'_, S>) -> Result<(), Error>
     ensures same_reference { tx.new.conn.ghost_name ≡ tx.old.conn.ghost_name }
-    ensures same { HasCleanDisk (state S.Store tx.new.conn.now) → OnOk result (IsUnchanged (state S.Store tx.old.conn.now) (state S.Store tx.new.conn.now)) }
+    ensures same { LeavesAll S.Store tx.old.conn.now tx.new.conn.now result }
     ensures spares { Spares (state S.Store tx.old.conn.now) (state S.Store tx.new.conn.now) }
 {
     tx.prepare("ROLLBACK")?;

@@ -1,9 +1,8 @@
 //! The rows that are added or changed.
-ghost use Rattle.std.specs.Prelude.{◌≡◌, ◌<◌, ◌^◌, true, IsTrue, OnOk};
-ghost use Rattle.sqlite.specs.State.{HasCleanDisk};
+ghost use Rattle.std.specs.Prelude.{◌≡◌, ◌<◌, ◌^◌};
 ghost use Rattle.sqlite.specs.Held.{state};
-ghost use Rattle.spool_sql.specs.Stored.{with_endpoint, with_secret, with_delivery, with_attempt, with_records};
-ghost use Rattle.spool_sql.specs.Steps.{Alters, Spares};
+ghost use Rattle.spool_sql.specs.Stored.{new_endpoint, with_endpoint, with_secret, with_delivery, with_attempt, with_records};
+ghost use Rattle.spool_sql.specs.Steps.{Changes, Spares};
 
 use crate::value::int;
 use sqlite::{Alter, Error, Transaction};
@@ -20,8 +19,8 @@ pub fn insert_endpoint<S: Alter>(
     requires put { put < 2 ^ 63 }
     requires max { max < 2 ^ 63 }
     ensures same_reference { tx.new.conn.ghost_name ≡ tx.old.conn.ghost_name }
-    ensures done { HasCleanDisk (state S.Store tx.new.conn.now) → IsTrue (state S.Store tx.old.conn.now).in_transaction → OnOk result (Alters (state S.Store tx.old.conn.now) (state S.Store tx.new.conn.now)
-        (with_endpoint (record { put = put; name = name.now; url = url.now; max = max; enabled = true; enabled_by = put; secrets_by = put }))) }
+    ensures done { Changes S.Store tx.old.conn.now tx.new.conn.now result
+        (with_endpoint (new_endpoint put name.now url.now max)) }
     ensures spares { Spares (state S.Store tx.old.conn.now) (state S.Store tx.new.conn.now) }
 {
     tx.execute(
@@ -46,8 +45,8 @@ pub fn insert_secret<S: Alter>(
     requires endpoint { endpoint < 2 ^ 63 }
     requires place { place < 2 ^ 63 }
     ensures same_reference { tx.new.conn.ghost_name ≡ tx.old.conn.ghost_name }
-    ensures done { HasCleanDisk (state S.Store tx.new.conn.now) → IsTrue (state S.Store tx.old.conn.now).in_transaction → OnOk result (Alters (state S.Store tx.old.conn.now) (state S.Store tx.new.conn.now)
-        (with_secret (record { endpoint = endpoint; place = place; secret = secret.now }))) }
+    ensures done { Changes S.Store tx.old.conn.now tx.new.conn.now result
+        (with_secret (record { endpoint = endpoint; place = place; secret = secret.now })) }
     ensures spares { Spares (state S.Store tx.old.conn.now) (state S.Store tx.new.conn.now) }
 {
     tx.execute(
@@ -71,8 +70,8 @@ pub fn insert_delivery<S: Alter>(
     requires endpoint { endpoint < 2 ^ 63 }
     requires at { at < 2 ^ 63 }
     ensures same_reference { tx.new.conn.ghost_name ≡ tx.old.conn.ghost_name }
-    ensures done { HasCleanDisk (state S.Store tx.new.conn.now) → IsTrue (state S.Store tx.old.conn.now).in_transaction → OnOk result (Alters (state S.Store tx.old.conn.now) (state S.Store tx.new.conn.now)
-        (with_delivery (record { seq = seq; endpoint = endpoint; id = id.now; at = at; body = body.now }))) }
+    ensures done { Changes S.Store tx.old.conn.now tx.new.conn.now result
+        (with_delivery (record { seq = seq; endpoint = endpoint; id = id.now; at = at; body = body.now })) }
     ensures spares { Spares (state S.Store tx.old.conn.now) (state S.Store tx.new.conn.now) }
 {
     tx.execute(
@@ -88,8 +87,8 @@ pub fn insert_delivery<S: Alter>(
     Ok(())
 }
 
-/// Adds an attempt, which the record with number `seq` tells of, at the event that the record with number `delivery` took
-/// in. `status` is that of the answer, or 0 where none came, and `at` is in seconds since the epoch.
+/// Adds an attempt, which the record with number `seq` tells of, at the event that the record with number `delivery`
+/// took in. `status` is that of the answer, or 0 where none came, and `at` is in seconds since the epoch.
 pub fn insert_attempt<S: Alter>(
     tx: &mut Transaction<'_, S>,
     seq: u64,
@@ -104,8 +103,8 @@ pub fn insert_attempt<S: Alter>(
     requires status { status < 2 ^ 63 }
     requires at { at < 2 ^ 63 }
     ensures same_reference { tx.new.conn.ghost_name ≡ tx.old.conn.ghost_name }
-    ensures done { HasCleanDisk (state S.Store tx.new.conn.now) → IsTrue (state S.Store tx.old.conn.now).in_transaction → OnOk result (Alters (state S.Store tx.old.conn.now) (state S.Store tx.new.conn.now)
-        (with_attempt (record { seq = seq; delivery = delivery; number = number; status = status; at = at }))) }
+    ensures done { Changes S.Store tx.old.conn.now tx.new.conn.now result
+        (with_attempt (record { seq = seq; delivery = delivery; number = number; status = status; at = at })) }
     ensures spares { Spares (state S.Store tx.old.conn.now) (state S.Store tx.new.conn.now) }
 {
     tx.execute(
@@ -119,7 +118,7 @@ pub fn insert_attempt<S: Alter>(
 pub fn update_records<S: Alter>(tx: &mut Transaction<'_, S>, records: u64) -> Result<(), Error>
     requires records { records < 2 ^ 63 }
     ensures same_reference { tx.new.conn.ghost_name ≡ tx.old.conn.ghost_name }
-    ensures done { HasCleanDisk (state S.Store tx.new.conn.now) → IsTrue (state S.Store tx.old.conn.now).in_transaction → OnOk result (Alters (state S.Store tx.old.conn.now) (state S.Store tx.new.conn.now) (with_records records)) }
+    ensures done { Changes S.Store tx.old.conn.now tx.new.conn.now result (with_records records) }
     ensures spares { Spares (state S.Store tx.old.conn.now) (state S.Store tx.new.conn.now) }
 {
     tx.execute("UPDATE meta SET records = ?1", &[int(records)])?;

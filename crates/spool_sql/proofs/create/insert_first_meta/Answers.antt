@@ -1,5 +1,5 @@
 use Rattle.sqlite.specs.Held.{state}
-use Rattle.spool_sql.proofs.Inserts.{adds_meta}
+use Rattle.spool_sql.proofs.Inserts.{makes_first_rows}
 use Rattle.spool_sql.proofs.create.insert_first_meta.Goals as goal
 
 pub returns-clause-done : goal.returns-clause-done
@@ -7,4 +7,4 @@ returns-clause-done g c clean inside =
     let old = state g.S.Store c.args.tx.now.conn.now in
     let new = state g.S.Store c.execute.new.self.conn.now in
     let ran = c.in_ok-execute.ensures.runs clean inside in
-    record { on = ran.1; founds = adds_meta old new c.in_ok-execute.field-0 ran.0 }
+    record { on = ran.1; founds = makes_first_rows old new c.in_ok-execute.field-0 ran.0 }

@@ -1,5 +1,5 @@
 use Rattle.sqlite.specs.Held.{state}
-use Rattle.spool_sql.proofs.Inserts.{adds_attempt}
+use Rattle.spool_sql.proofs.Inserts.{makes_attempt}
 use Rattle.spool_sql.proofs.write.insert_attempt.Goals as goal
 
 pub returns-clause-done : goal.returns-clause-done
@@ -7,4 +7,4 @@ returns-clause-done g c clean inside =
     let old = state g.S.Store c.args.tx.now.conn.now in
     let new = state g.S.Store c.execute.new.self.conn.now in
     let ran = rw (c.int.ensures, c.int-2.ensures, c.int-3.ensures, c.int-4.ensures, c.int-5.ensures) at (c.in_ok-execute.ensures.runs clean inside) in
-    record { on = ran.1; makes = adds_attempt old new (record { seq = c.args.seq; delivery = c.args.delivery; number = c.args.number; status = c.args.status; at = c.args.at }) c.in_ok-execute.field-0 ran.0 }
+    record { on = ran.1; makes = makes_attempt old new (record { seq = c.args.seq; delivery = c.args.delivery; number = c.args.number; status = c.args.status; at = c.args.at }) c.in_ok-execute.field-0 ran.0 }

@@ -1,5 +1,5 @@
 use Rattle.sqlite.specs.Held.{state}
-use Rattle.spool_sql.proofs.Inserts.{adds_delivery}
+use Rattle.spool_sql.proofs.Inserts.{makes_delivery}
 use Rattle.spool_sql.proofs.write.insert_delivery.Goals as goal
 
 pub returns-clause-done : goal.returns-clause-done
@@ -7,4 +7,4 @@ returns-clause-done g c clean inside =
     let old = state g.S.Store c.args.tx.now.conn.now in
     let new = state g.S.Store c.execute.new.self.conn.now in
     let ran = rw (c.int.ensures, c.int-2.ensures, c.int-3.ensures) at (c.in_ok-execute.ensures.runs clean inside) in
-    record { on = ran.1; makes = adds_delivery old new (record { seq = c.args.seq; endpoint = c.args.endpoint; id = c.args.id.now; at = c.args.at; body = c.args.body.now }) c.in_ok-execute.field-0 ran.0 }
+    record { on = ran.1; makes = makes_delivery old new (record { seq = c.args.seq; endpoint = c.args.endpoint; id = c.args.id.now; at = c.args.at; body = c.args.body.now }) c.in_ok-execute.field-0 ran.0 }

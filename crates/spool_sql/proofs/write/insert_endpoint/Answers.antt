@@ -1,5 +1,5 @@
 use Rattle.sqlite.specs.Held.{state}
-use Rattle.spool_sql.proofs.Inserts.{adds_endpoint}
+use Rattle.spool_sql.proofs.Inserts.{makes_endpoint}
 use Rattle.spool_sql.proofs.write.insert_endpoint.Goals as goal
 
 pub returns-clause-done : goal.returns-clause-done
@@ -7,4 +7,4 @@ returns-clause-done g c clean inside =
     let old = state g.S.Store c.args.tx.now.conn.now in
     let new = state g.S.Store c.execute.new.self.conn.now in
     let ran = rw (c.int.ensures, c.int-2.ensures) at (c.in_ok-execute.ensures.runs clean inside) in
-    record { on = ran.1; makes = adds_endpoint old new c.args.put c.args.name.now c.args.url.now c.args.max c.in_ok-execute.field-0 ran.0 }
+    record { on = ran.1; makes = makes_endpoint old new c.args.put c.args.name.now c.args.url.now c.args.max c.in_ok-execute.field-0 ran.0 }

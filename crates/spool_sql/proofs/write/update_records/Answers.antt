@@ -1,5 +1,5 @@
 use Rattle.sqlite.specs.Held.{state}
-use Rattle.spool_sql.proofs.Updates.{sets_records}
+use Rattle.spool_sql.proofs.Updates.{makes_records}
 use Rattle.spool_sql.proofs.write.update_records.Goals as goal
 
 pub returns-clause-done : goal.returns-clause-done
@@ -7,4 +7,4 @@ returns-clause-done g c clean inside =
     let old = state g.S.Store c.args.tx.now.conn.now in
     let new = state g.S.Store c.execute.new.self.conn.now in
     let ran = rw c.int.ensures at (c.in_ok-execute.ensures.runs clean inside) in
-    record { on = ran.1; makes = sets_records old new c.args.records c.in_ok-execute.field-0 ran.0 }
+    record { on = ran.1; makes = makes_records old new c.args.records c.in_ok-execute.field-0 ran.0 }
