@@ -1,6 +1,6 @@
 use spool_sql::{
     Cause, cause_of, count_endpoints, create_tables, has_delivery, insert_attempt, insert_delivery,
-    insert_endpoint, insert_secret, probe, select_put, update_records,
+    insert_endpoint, insert_secret, is_empty, probe, select_put, update_records,
 };
 use sqlite::{Connection, Error, ErrorCode, MemStore};
 use std::alloc::Global;
@@ -110,9 +110,50 @@ fn rows_that_repeat_are_refused(rt: HostRuntime) -> Result<(), Fail> {
 }
 
 #[test]
+fn tables_are_kept_as_written(rt: HostRuntime) -> Result<(), Fail> {
+    let alloc = rt.alloc();
+    let mut conn = filled(alloc)?;
+    let texts = [
+        "CREATE TABLE meta(k INTEGER PRIMARY KEY CHECK(k = 1), app TEXT NOT NULL, \
+         version INTEGER NOT NULL, records INTEGER NOT NULL) STRICT",
+        "CREATE TABLE endpoints(put INTEGER PRIMARY KEY, name TEXT NOT NULL UNIQUE, \
+         url TEXT NOT NULL, max INTEGER NOT NULL, enabled INTEGER NOT NULL, \
+         enabled_by INTEGER NOT NULL, secrets_by INTEGER NOT NULL) STRICT",
+        "CREATE TABLE secrets(endpoint INTEGER NOT NULL REFERENCES endpoints(put), \
+         place INTEGER NOT NULL, secret BLOB NOT NULL, PRIMARY KEY(endpoint, place)) STRICT",
+        "CREATE TABLE deliveries(seq INTEGER PRIMARY KEY, \
+         endpoint INTEGER NOT NULL REFERENCES endpoints(put), id TEXT NOT NULL, \
+         at INTEGER NOT NULL, body BLOB NOT NULL, UNIQUE(endpoint, id)) STRICT",
+        "CREATE TABLE attempts(seq INTEGER PRIMARY KEY, \
+         delivery INTEGER NOT NULL REFERENCES deliveries(seq), number INTEGER NOT NULL, \
+         status INTEGER NOT NULL, at INTEGER NOT NULL, UNIQUE(delivery, number)) STRICT",
+    ];
+    for text in texts {
+        let sql = format!(in alloc; "SELECT name FROM sqlite_schema WHERE sql = '{text}'")?;
+        assert_eq!(rt; rows_of(&mut conn, &sql)?, 1);
+    }
+    assert_eq!(rt;
+        rows_of(
+            &mut conn,
+            "SELECT name FROM sqlite_schema WHERE sql IS NOT NULL"
+        )?,
+        5
+    );
+    Ok(())
+}
+
+#[test]
+fn a_new_store_is_empty(rt: HostRuntime) -> Result<(), Fail> {
+    assert!(rt; is_empty(&Connection::open_in_memory(rt.alloc())?));
+    assert!(rt; !is_empty(&filled(rt.alloc())?));
+    Ok(())
+}
+
+#[test]
 fn open_store_answers(rt: HostRuntime) -> Result<(), Fail> {
     let mut conn = filled(rt.alloc())?;
     if conn.is_autocommit() {
+        assert!(rt; probe(&mut conn).is_ok());
         assert!(rt; probe(&mut conn).is_ok());
     }
     Ok(())
