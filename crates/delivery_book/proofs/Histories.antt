@@ -181,7 +181,7 @@ row_from attempts o = option_map (λ a. record {
   at = a.at;
   attempts = length attempts;
   state = state_from attempts;
-  due = if is_in_state Pending (state_from attempts) then Some (option_map_or (λ last. due_after last (count_by (λ t. is_failed_status t.status) attempts)) (last_of attempts) (option_map_or (λ t. t.at) o 0)) else None;
+  due = if is_some o && is_in_state Pending (state_from attempts) then Some (option_map_or (λ last. due_after last (count_by (λ t. is_failed_status t.status) attempts)) (last_of attempts) (option_map_or (λ t. t.at) o 0)) else None;
   last_status = option_map (λ t. t.status) (last_of attempts);
 }) o
 

@@ -73,6 +73,6 @@ accepted_at records d = option_map_or (λ a. a.at) (accepted records d) 0
 abbrev pub due_of : List Record → ℕ → ℕ
 due_of records d = option_map_or (λ last. due_after last (failures_of records d)) (last_of (attempts_of records d)) (accepted_at records d)
 
--- the due moment of a pending delivery
+-- the due moment of a pending delivery; a number that names no Accept is due at no moment
 abbrev pub due_if_pending : List Record → ℕ → Option ℕ
-due_if_pending records d = if is_in_state Pending (state_of records d) then Some (due_of records d) else None
+due_if_pending records d = if is_pending records d then Some (due_of records d) else None
