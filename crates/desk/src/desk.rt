@@ -3,7 +3,6 @@ ghost use Rattle.std.specs.Prelude.{◌≡◌, ◌≤◌, ◌<◌, ◌+◌, ◌^
 ghost use Rattle.std.specs.List.{list_any};
 ghost use Rattle.relay_types.specs.declared.record.Record.TheVariants.{Put, Accept};
 ghost use Rattle.relay_types.specs.Legal.{is_within_limits};
-ghost use Rattle.relay_types.specs.Values.{are_secrets};
 ghost use Rattle.delivery_book.specs.Entries.{known_in};
 ghost use Rattle.spool.specs.Runs.{ArePutsAndAccepts};
 ghost use Rattle.desk.specs.declared.event.Event.TheVariants as on;
@@ -323,11 +322,11 @@ fn known_limits(entry: &Record)
             name.as_bytes();
             target.as_bytes();
             max.get();
-            known_secrets(secrets);
+            secrets.count();
         }
         Record::Secrets { name, secrets } => {
             name.as_bytes();
-            known_secrets(secrets);
+            secrets.count();
         }
         Record::Enabled { name, .. } => {
             name.as_bytes();
@@ -340,17 +339,6 @@ fn known_limits(entry: &Record)
         }
         Record::Outcome { at, .. } => {
             at.seconds();
-        }
-    }
-}
-
-// Each of the secrets keeps its limits.
-fn known_secrets(secrets: &Secrets)
-    ensures { IsTrue (are_secrets secrets.now) }
-{
-    for place in 0..secrets.count() {
-        if let Some(secret) = secrets.get(place) {
-            secret.as_bytes();
         }
     }
 }

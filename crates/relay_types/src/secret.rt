@@ -93,7 +93,7 @@ impl Secret {
 fn is_secret(bytes: &[u8]) -> bool
     ensures { result ≡ is_secret bytes.now }
 {
-    24 <= bytes.len() && bytes.len() <= 64
+    (24..=64).contains(&bytes.len())
 }
 
 // The secret whose base64 the text is, with its padding or with none.
@@ -130,15 +130,18 @@ pub struct Secrets {
 }
 
 impl Model for Secrets {
-    ghost use Rattle.std.specs.Prelude.{ℕ, List};
-    ghost use Rattle.relay_types.specs.Values.{the_secrets, AreFilledInOrder, nth_secret, first_secret};
+    ghost use Rattle.std.specs.Prelude.{ℕ, List, IsTrue};
+    ghost use Rattle.relay_types.specs.Values.{are_secrets, the_secrets, AreFilledInOrder, nth_secret, first_secret};
     ghost use Rattle.relay_types.specs.Values.{second_back, third_back, fourth_back};
 
     ghost Value = { List (List ℕ) };
 
     ghost view = { λ a. the_secrets a.first a.second a.third a.fourth };
 
-    ghost invariant = { λ a. AreFilledInOrder a.second a.third a.fourth };
+    ghost invariant = { λ a. record {
+      in_order : AreFilledInOrder a.second a.third a.fourth;
+      valid : IsTrue (are_secrets (the_secrets a.first a.second a.third a.fourth));
+    } };
 
     ghost inverse = { λ list. record {
       first = first_secret list;
@@ -149,9 +152,9 @@ impl Model for Secrets {
 
     ghost inverse_ok = { λ a h i. record {
       first = a.first;
-      second = second_back a.first a.second a.third a.fourth h i;
-      third = third_back a.first a.second a.third a.fourth h i;
-      fourth = fourth_back a.first a.second a.third a.fourth h i;
+      second = second_back a.first a.second a.third a.fourth h.in_order i;
+      third = third_back a.first a.second a.third a.fourth h.in_order i;
+      fourth = fourth_back a.first a.second a.third a.fourth h.in_order i;
     } };
 }
 
@@ -194,6 +197,7 @@ impl Secrets {
     /// How many secrets these are.
     pub fn count(&self) -> usize
         ensures count { result ≡ length self.now }
+        ensures valid { IsTrue (are_secrets self.now) }
         ensures least { 1 ≤ length self.now }
         ensures most { length self.now ≤ 4 }
     {

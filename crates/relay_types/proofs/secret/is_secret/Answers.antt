@@ -3,5 +3,5 @@ use Rattle.std.proofs.lemmas.Grind.{common_steps}
 use Rattle.relay_types.proofs.ByteLaws.{are_bytes}
 use Rattle.relay_types.proofs.secret.is_secret.Goals as goal
 
-pub returns-then-bytes-ge24 : goal.returns-then-bytes-ge24
-returns-then-bytes-ge24 c = let bytes = are_bytes c.args.bytes.now c.type_inv.bytes in grind (arith, common_steps)
+pub returns : goal.returns
+returns c = let bytes = are_bytes c.args.bytes.now c.type_inv.bytes in grind (arith, common_steps)
