@@ -1,5 +1,5 @@
--- The numbers of the readers' refusals.
-use Rattle.std.specs.Prelude.{ℕ}
+-- The numbers and the names of the readers' refusals.
+use Rattle.std.specs.Prelude.{ℕ, List, codes}
 use Rattle.relay_types.specs.declared.fault.ReadFault.{ReadFault}
 use Rattle.relay_types.specs.declared.fault.ReadFault.TheVariants.{BadName, BadId, BadSecret, BadUrl, BadMax, TooLong, BadMoment, OutOfMemory}
 
@@ -12,3 +12,13 @@ fault_number BadMax = 5
 fault_number TooLong = 6
 fault_number BadMoment = 7
 fault_number OutOfMemory = 8
+
+abbrev pub fault_name : ReadFault → List ℕ
+fault_name BadName = codes "BadName"
+fault_name BadId = codes "BadId"
+fault_name BadSecret = codes "BadSecret"
+fault_name BadUrl = codes "BadUrl"
+fault_name BadMax = codes "BadMax"
+fault_name TooLong = codes "TooLong"
+fault_name BadMoment = codes "BadMoment"
+fault_name OutOfMemory = codes "OutOfMemory"

@@ -1,6 +1,6 @@
 //! Why a reader gave no value.
-ghost use Rattle.std.specs.Prelude.{◌≡◌};
-ghost use Rattle.relay_types.specs.Faults.{fault_number};
+ghost use Rattle.std.specs.Prelude.{◌≡◌, Some};
+ghost use Rattle.relay_types.specs.Faults.{fault_number, fault_name};
 
 use std::fmt;
 
@@ -44,16 +44,24 @@ impl ReadFault {
 }
 
 impl fmt::Display for ReadFault {
+    ghost output = { λ fault. Some (fault_name fault) };
+
     fn fmt<W: fmt::Write>(&self, f: &mut fmt::Formatter<W>) -> fmt::Result {
-        f.write_str(match self {
-            ReadFault::BadName => "BadName",
-            ReadFault::BadId => "BadId",
-            ReadFault::BadSecret => "BadSecret",
-            ReadFault::BadUrl => "BadUrl",
-            ReadFault::BadMax => "BadMax",
-            ReadFault::TooLong => "TooLong",
-            ReadFault::BadMoment => "BadMoment",
-            ReadFault::OutOfMemory => "OutOfMemory",
-        })
+        f.write_str(fault_name(*self))
+    }
+}
+
+fn fault_name(fault: ReadFault) -> &'static str
+    ensures { result.now ≡ fault_name fault }
+{
+    match fault {
+        ReadFault::BadName => "BadName",
+        ReadFault::BadId => "BadId",
+        ReadFault::BadSecret => "BadSecret",
+        ReadFault::BadUrl => "BadUrl",
+        ReadFault::BadMax => "BadMax",
+        ReadFault::TooLong => "TooLong",
+        ReadFault::BadMoment => "BadMoment",
+        ReadFault::OutOfMemory => "OutOfMemory",
     }
 }
