@@ -2,7 +2,7 @@ use spool_sql::{
     Cause, cause_of, count_endpoints, create_tables, has_delivery, insert_attempt, insert_delivery,
     insert_endpoint, insert_secret, is_empty, probe, select_put, update_records,
 };
-use sqlite::{Connection, Error, ErrorCode, MemStore};
+use sqlite::{Connection, Error, ErrorCode, MemStore, Transaction};
 use std::alloc::Global;
 use std::test::Fail;
 
@@ -11,76 +11,93 @@ fn filled(alloc: Global) -> Result<Connection<MemStore>, Error> {
     let mut conn = Connection::open_in_memory(alloc)?;
     let mut tx = conn.transaction();
     create_tables(&mut tx)?;
-    insert_endpoint(&mut tx, 3, b"alpha", b"http://h/", 10)?;
-    insert_secret(&mut tx, 3, 0, b"new")?;
-    insert_secret(&mut tx, 3, 1, b"old")?;
-    insert_delivery(&mut tx, 4, 3, b"msg_1", 1000, b"hello")?;
-    insert_attempt(&mut tx, 5, 4, 1, 503, 1002)?;
-    update_records(&mut tx, 6)?;
+    add_endpoint(&mut tx)?;
+    add_event(&mut tx)?;
     tx.commit()?;
     Ok(conn)
 }
 
-fn rows_of(conn: &mut Connection<MemStore>, sql: &str) -> Result<usize, Error> {
-    let rows = conn.query_all(sql, &[])?;
-    Ok(rows.len())
+fn add_endpoint(tx: &mut Transaction<'_, MemStore>) -> Result<(), Error> {
+    insert_endpoint(tx, 3, b"alpha", b"http://h/", 10)?;
+    insert_secret(tx, 3, 0, b"new")?;
+    insert_secret(tx, 3, 1, b"old")
+}
+
+fn add_event(tx: &mut Transaction<'_, MemStore>) -> Result<(), Error> {
+    insert_delivery(tx, 4, 3, b"msg_1", 1000, b"hello")?;
+    insert_attempt(tx, 5, 4, 1, 503, 1002)?;
+    update_records(tx, 6)
+}
+
+fn number(conn: &mut Connection<MemStore>, sql: &str) -> Result<i64, Fail> {
+    Ok(conn.query_row(sql, &[])?.get(0)?)
 }
 
 #[test]
 fn rows_are_written(rt: HostRuntime) -> Result<(), Fail> {
     let mut conn = filled(rt.alloc())?;
     let wanted = [
-        ("SELECT * FROM meta", 1),
+        ("SELECT count(*) FROM meta", 1),
         (
-            "SELECT * FROM meta WHERE k = 1 AND app = 'webhook-relay' AND version = 1 AND records = 6",
+            "SELECT count(*) FROM meta WHERE k = 1 AND app = 'webhook-relay' AND version = 1 AND records = 6",
             1,
         ),
-        ("SELECT * FROM endpoints", 1),
+        ("SELECT count(*) FROM endpoints", 1),
         (
-            "SELECT * FROM endpoints WHERE put = 3 AND name = 'alpha' AND url = 'http://h/' AND max = 10",
-            1,
-        ),
-        (
-            "SELECT * FROM endpoints WHERE enabled = 1 AND enabled_by = 3 AND secrets_by = 3",
-            1,
-        ),
-        ("SELECT * FROM secrets", 2),
-        (
-            "SELECT * FROM secrets WHERE endpoint = 3 AND place = 0 AND secret = x'6e6577'",
+            "SELECT count(*) FROM endpoints WHERE put = 3 AND name = 'alpha' AND url = 'http://h/' AND max = 10",
             1,
         ),
         (
-            "SELECT * FROM secrets WHERE endpoint = 3 AND place = 1 AND secret = x'6f6c64'",
+            "SELECT count(*) FROM endpoints WHERE enabled = 1 AND enabled_by = 3 AND secrets_by = 3",
             1,
         ),
-        ("SELECT * FROM deliveries", 1),
+        ("SELECT count(*) FROM secrets", 2),
         (
-            "SELECT * FROM deliveries WHERE seq = 4 AND endpoint = 3 AND id = 'msg_1' AND at = 1000 AND body = x'68656c6c6f'",
+            "SELECT count(*) FROM secrets WHERE endpoint = 3 AND place = 0 AND secret = x'6e6577'",
             1,
         ),
-        ("SELECT * FROM attempts", 1),
         (
-            "SELECT * FROM attempts WHERE seq = 5 AND delivery = 4 AND number = 1 AND status = 503 AND at = 1002",
+            "SELECT count(*) FROM secrets WHERE endpoint = 3 AND place = 1 AND secret = x'6f6c64'",
+            1,
+        ),
+        ("SELECT count(*) FROM deliveries", 1),
+        (
+            "SELECT count(*) FROM deliveries WHERE seq = 4 AND endpoint = 3 AND id = 'msg_1' AND at = 1000 AND body = x'68656c6c6f'",
+            1,
+        ),
+        ("SELECT count(*) FROM attempts", 1),
+        (
+            "SELECT count(*) FROM attempts WHERE seq = 5 AND delivery = 4 AND number = 1 AND status = 503 AND at = 1002",
             1,
         ),
     ];
     for (sql, count) in wanted {
-        assert_eq!(rt; rows_of(&mut conn, sql)?, count);
+        assert_eq!(rt; number(&mut conn, sql)?, count, "at {sql}");
     }
     Ok(())
 }
 
 #[test]
-fn rows_are_found(rt: HostRuntime) -> Result<(), Fail> {
+fn endpoints_are_found(rt: HostRuntime) -> Result<(), Fail> {
     let mut conn = filled(rt.alloc())?;
-    assert!(rt; conn.is_autocommit());
     if !conn.is_autocommit() {
-        return Ok(());
+        return Err(Fail::from("a transaction is open"));
     }
     let mut tx = conn.transaction();
-    assert_eq!(rt; select_put(&mut tx, b"alpha")?, Some(3));
-    assert_eq!(rt; select_put(&mut tx, b"alph")?, None);
+    for (name, put) in [("alpha", Some(3)), ("alph", None)] {
+        assert_eq!(rt; select_put(&mut tx, name.as_bytes())?, put);
+    }
     assert_eq!(rt; count_endpoints(&mut tx)?, 1);
+    Ok(())
+}
+
+#[test]
+fn events_are_found(rt: HostRuntime) -> Result<(), Fail> {
+    let mut conn = filled(rt.alloc())?;
+    if !conn.is_autocommit() {
+        return Err(Fail::from("a transaction is open"));
+    }
+    let mut tx = conn.transaction();
     let asked = [(3, "msg_1", true), (3, "msg_2", false), (4, "msg_1", false)];
     for (endpoint, id, is_there) in asked {
         assert_eq!(rt; has_delivery(&mut tx, endpoint, id.as_bytes())?, is_there);
@@ -88,24 +105,36 @@ fn rows_are_found(rt: HostRuntime) -> Result<(), Fail> {
     Ok(())
 }
 
+fn is_refused(answer: Result<(), Error>) -> bool {
+    matches!(answer, Err(error) if cause_of(error) == Cause::Other)
+}
+
 #[test]
-fn rows_that_repeat_are_refused(rt: HostRuntime) -> Result<(), Fail> {
+fn endpoints_that_repeat_are_refused(rt: HostRuntime) -> Result<(), Fail> {
     let mut conn = filled(rt.alloc())?;
     if !conn.is_autocommit() {
-        return Ok(());
+        return Err(Fail::from("a transaction is open"));
     }
     let mut tx = conn.transaction();
-    let refused = [
-        create_tables(&mut tx),
-        insert_endpoint(&mut tx, 6, b"alpha", b"http://h/", 10),
-        insert_secret(&mut tx, 3, 1, b"other"),
-        insert_delivery(&mut tx, 6, 3, b"msg_1", 1000, b"hello"),
-        insert_delivery(&mut tx, 6, 7, b"msg_2", 1000, b"hello"),
-        insert_attempt(&mut tx, 6, 4, 1, 200, 1003),
-    ];
-    for answer in refused {
-        assert!(rt; matches!(answer, Err(error) if cause_of(error) == Cause::Other));
+    assert!(rt; is_refused(create_tables(&mut tx)));
+    assert!(rt; is_refused(insert_endpoint(&mut tx, 6, b"alpha", b"http://h/", 10)));
+    assert!(rt; is_refused(insert_secret(&mut tx, 3, 1, b"other")));
+    Ok(())
+}
+
+#[test]
+fn events_that_repeat_are_refused(rt: HostRuntime) -> Result<(), Fail> {
+    let mut conn = filled(rt.alloc())?;
+    if !conn.is_autocommit() {
+        return Err(Fail::from("a transaction is open"));
     }
+    let mut tx = conn.transaction();
+    for (endpoint, id) in [(3, "msg_1"), (7, "msg_2")] {
+        assert!(rt;
+            is_refused(insert_delivery(&mut tx, 6, endpoint, id.as_bytes(), 1000, b"hello"))
+        );
+    }
+    assert!(rt; is_refused(insert_attempt(&mut tx, 6, 4, 1, 200, 1003)));
     Ok(())
 }
 
@@ -129,16 +158,11 @@ fn tables_are_kept_as_written(rt: HostRuntime) -> Result<(), Fail> {
          status INTEGER NOT NULL, at INTEGER NOT NULL, UNIQUE(delivery, number)) STRICT",
     ];
     for text in texts {
-        let sql = format!(in alloc; "SELECT name FROM sqlite_schema WHERE sql = '{text}'")?;
-        assert_eq!(rt; rows_of(&mut conn, &sql)?, 1);
+        let sql = format!(in alloc; "SELECT count(*) FROM sqlite_schema WHERE sql = '{text}'")?;
+        assert_eq!(rt; number(&mut conn, &sql)?, 1, "at {text}");
     }
-    assert_eq!(rt;
-        rows_of(
-            &mut conn,
-            "SELECT name FROM sqlite_schema WHERE sql IS NOT NULL"
-        )?,
-        5
-    );
+    let all = "SELECT count(*) FROM sqlite_schema WHERE sql IS NOT NULL";
+    assert_eq!(rt; number(&mut conn, all)?, 5);
     Ok(())
 }
 
@@ -152,10 +176,11 @@ fn a_new_store_is_empty(rt: HostRuntime) -> Result<(), Fail> {
 #[test]
 fn open_store_answers(rt: HostRuntime) -> Result<(), Fail> {
     let mut conn = filled(rt.alloc())?;
-    if conn.is_autocommit() {
-        assert!(rt; probe(&mut conn).is_ok());
-        assert!(rt; probe(&mut conn).is_ok());
+    if !conn.is_autocommit() {
+        return Err(Fail::from("a transaction is open"));
     }
+    assert!(rt; probe(&mut conn).is_ok());
+    assert!(rt; probe(&mut conn).is_ok());
     Ok(())
 }
 
