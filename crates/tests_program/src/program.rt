@@ -172,13 +172,20 @@ fn fails(alloc: Global, reads: u32, writes: u32) -> Result<Told, AllocError> {
 
 #[test]
 fn ends_where_a_reader_or_a_writer_fails(rt: HostRuntime) -> Result<(), Fail> {
-    let told = fails(rt.alloc(), 1000, 1000)?;
-    check(&rt, &told, REPLIES, "", 0);
-    let told = fails(rt.alloc(), 12, 1000)?;
-    check(&rt, &told, "staged 0\nsealed 0..1\n", "relayd: Read\n", 3);
-    let told = fails(rt.alloc(), 1000, 3)?;
-    let three = "staged 0\nsealed 0..1\ncommitted 1\n";
-    check(&rt, &told, three, "relayd: Write\n", 3);
+    for (reads, writes, output, errors, status) in [
+        (1000, 1000, REPLIES, "", 0),
+        (12, 1000, "staged 0\nsealed 0..1\n", "relayd: Read\n", 3),
+        (
+            1000,
+            3,
+            "staged 0\nsealed 0..1\ncommitted 1\n",
+            "relayd: Write\n",
+            3,
+        ),
+    ] {
+        let told = fails(rt.alloc(), reads, writes)?;
+        check(&rt, &told, output, errors, status);
+    }
     Ok(())
 }
 
@@ -244,17 +251,18 @@ fn sign_example(alloc: Global, secrets: &[&str], reads: u32, writes: u32) -> Tol
 
 #[test]
 fn signs_by_its_arguments(rt: HostRuntime) {
-    let one = [EXAMPLE_SECRET];
-    let told = sign_example(rt.alloc(), &one, 4, 1);
-    check(&rt, &told, EXAMPLE_HEADER, "", 0);
-    let told = sign_example(rt.alloc(), &one, 3, 1);
-    check(&rt, &told, "", "relayd: Read\n", 3);
-    let told = sign_example(rt.alloc(), &one, 4, 0);
-    check(&rt, &told, "", "relayd: Write\n", 3);
-    let told = sign_example(rt.alloc(), &[], 4, 1);
-    check(&rt, &told, "", "relayd: BadSecret\n", 1);
-    let told = sign_example(rt.alloc(), &[EXAMPLE_SECRET; 5], 4, 1);
-    check(&rt, &told, "", "relayd: BadSecret\n", 1);
+    let one: &[&str] = &[EXAMPLE_SECRET];
+    let five: &[&str] = &[EXAMPLE_SECRET; 5];
+    for (secrets, reads, writes, output, errors, status) in [
+        (one, 4, 1, EXAMPLE_HEADER, "", 0),
+        (one, 3, 1, "", "relayd: Read\n", 3),
+        (one, 4, 0, "", "relayd: Write\n", 3),
+        (&[], 4, 1, "", "relayd: BadSecret\n", 1),
+        (five, 4, 1, "", "relayd: BadSecret\n", 1),
+    ] {
+        let told = sign_example(rt.alloc(), secrets, reads, writes);
+        check(&rt, &told, output, errors, status);
+    }
 }
 
 #[test]
