@@ -1,5 +1,5 @@
 //! The body of an event.
-ghost use Rattle.std.specs.Prelude.{◌≡◌, ◌≤◌, ◌↔◌, length, IsTrue, IsOk, IfOk, IfErr};
+ghost use Rattle.std.specs.Prelude.{◌≡◌, ◌≤◌, ◌↔◌, length, nat_le, IsTrue, IsOk, IfOk, IfErr};
 ghost use Rattle.std.specs.Arc.{arc_value};
 ghost use Rattle.relay_types.specs.Values.{is_body};
 
@@ -30,6 +30,7 @@ impl Body {
     /// Takes up to 65,536 bytes. It takes no memory, since the caller's reference is kept.
     pub fn of(bytes: Arc<Vec<u8>>) -> Result<Body, ReadFault>
         ensures valid { IsOk result ↔ IsTrue (is_body (arc_value bytes).items) }
+        ensures room { IsOk result ↔ (length (arc_value bytes).items ≤ 65536) }
         ensures value { IfOk result (λ body. body ≡ (arc_value bytes).items) }
         ensures refusal { IfErr result (λ fault. fault ≡ ReadFault.TooLong) }
     {
@@ -67,7 +68,8 @@ impl Body {
 }
 
 fn is_body(bytes: &[u8]) -> bool
-    ensures { result ≡ is_body bytes.now }
+    ensures valid { result ≡ is_body bytes.now }
+    ensures room { result ≡ nat_le (length bytes.now) 65536 }
 {
     bytes.len() <= 65_536
 }
