@@ -1,6 +1,7 @@
 -- What a result of a post counts as.
-use Rattle.std.specs.Prelude.{ℕ, Option, Some, None, if◌then◌else◌}
+use Rattle.std.specs.Prelude.{ℕ, true, false, Option, Some, None, if◌then◌else◌}
 use Rattle.relay_types.specs.Judging.{is_overload_status}
+use Rattle.retry_table.specs.declared.post.Measured.{Measured}
 use Rattle.retry_table.specs.declared.post.PostResult.{PostResult}
 use Rattle.retry_table.specs.declared.post.PostResult.TheVariants.{Answered, TimedOut, Unreached, Unsent}
 use Rattle.retry_table.specs.declared.post.Spend.{Spend}
@@ -30,3 +31,12 @@ round_trip_of (Answered status rtt) = rtt
 round_trip_of (TimedOut rtt) = rtt
 round_trip_of Unreached = 0
 round_trip_of Unsent = 0
+
+-- what a spend tells of the endpoint's speed: the round trip, and whether the post was dropped; nothing where it is ignored
+abbrev pub measure_as : Spend → ℕ → Option Measured
+measure_as Success rtt = Some (record { rtt = rtt; dropped = false })
+measure_as Dropped rtt = Some (record { rtt = rtt; dropped = true })
+measure_as Ignored rtt = None
+
+abbrev pub measure_of : PostResult → Option Measured
+measure_of post = measure_as (spend_of post) (round_trip_of post)

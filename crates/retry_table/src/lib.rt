@@ -1,5 +1,5 @@
-//! What came of a post, and what follows from it: what its permit is spent as, which status is recorded, what that status
-//! means for the event, and how long to wait after a failure. Nothing here takes memory.
+//! What came of a post, and what follows from it: what its permit is spent as, what it tells of the endpoint's speed, which
+//! status is recorded, what that status means for the event, and how long to wait after a failure. Nothing here takes memory.
 #![tactic(auto)]
 
 mod delay;
@@ -8,6 +8,6 @@ mod status;
 mod verdict;
 
 pub use crate::delay::delay_after;
-pub use crate::post::{PostResult, Spend, judge, round_trip};
+pub use crate::post::{Measured, PostResult, Spend, judge, measure, round_trip};
 pub use crate::status::Status;
 pub use crate::verdict::{Verdict, verdict_of};

@@ -1,7 +1,7 @@
 //! What came of a post, what its permit is spent as, and the status to record.
 ghost use Rattle.std.specs.Prelude.{◌≡◌, IsTrue, IfSome};
 ghost use Rattle.relay_types.specs.Legal.{is_status};
-ghost use Rattle.retry_table.specs.Judging.{spend_of, spend_of_status, recorded_status, round_trip_of};
+ghost use Rattle.retry_table.specs.Judging.{spend_of, spend_of_status, recorded_status, round_trip_of, measure_of};
 
 use crate::status::Status;
 
@@ -27,6 +27,15 @@ pub enum Spend {
     Dropped,
     /// No sample: nothing was learnt of the endpoint's speed.
     Ignored,
+}
+
+/// What a post tells of its endpoint's speed.
+#[derive(Clone, Copy, PartialEq, Eq, Debug)]
+pub struct Measured {
+    /// The round trip in microseconds.
+    pub rtt: u64,
+    /// Whether the endpoint dropped the post.
+    pub dropped: bool,
 }
 
 /// What the permit of a post is spent as, and the status of the outcome to record: 0 where none came, and no outcome at all
@@ -66,4 +75,19 @@ pub fn round_trip(post: &PostResult) -> u64
         PostResult::Answered { rtt, .. } | PostResult::TimedOut { rtt } => *rtt,
         PostResult::Unreached | PostResult::Unsent => 0,
     }
+}
+
+/// What the estimator of the endpoint is told of a post: nothing where its permit is spent as `Ignored`.
+pub fn measure(post: &PostResult) -> Option<Measured>
+    ensures { result ≡ measure_of post.now }
+{
+    let dropped = match judge(post).0 {
+        Spend::Success => false,
+        Spend::Dropped => true,
+        Spend::Ignored => return None,
+    };
+    Some(Measured {
+        rtt: round_trip(post),
+        dropped,
+    })
 }
