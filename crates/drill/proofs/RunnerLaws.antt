@@ -343,4 +343,4 @@ answers_commit g old new run reply held_is desk mark commits w stands =
 
 pub started_stands : {S : Type 0} (g : Ghosts S) (conn : store.Held S) (mark : ℕ) (vault : Kept S) (desk : DeskValue) → IsOpened g conn mark vault → IsBegun no_schema (store.state g conn).now → desk.mark ≡ mark
     → StandsFor desk (opened [] 0) → RunnerStandsFor g (record { desk = desk; vault = vault; held = held.Nothing }) (opened [] 0)
-started_stands g conn mark vault desk made begun marked stands = record { desk = stands; held = refl; vault = (made.closed, made.history begun); mark = marked ∙ sym made.marked }
+started_stands g conn mark vault desk made begun marked stands = record { desk = stands; held = refl; vault = (made.closed, (made.history begun).0); mark = marked ∙ sym made.marked }

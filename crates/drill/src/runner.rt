@@ -154,13 +154,13 @@ fn shown(row: Option<Row>) -> Reply
     }
 }
 
-// A batch has one record.
 fn sealed(batch: &Batch) -> Reply
     ensures { result ≡ says.Sealed batch.now.from (batch.now.from + length (records_of batch.now.steps)) }
 {
-    let from = batch.from();
-    batch.step().record();
-    Reply::Sealed { from, to: from + 1 }
+    Reply::Sealed {
+        from: batch.from(),
+        to: batch.upto(),
+    }
 }
 
 fn refused(refusal: Refusal) -> Reply

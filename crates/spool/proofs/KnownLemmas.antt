@@ -9,7 +9,7 @@ use Rattle.relay_types.specs.declared.record.Record.{Record}
 use Rattle.relay_types.specs.declared.record.Record.TheVariants.{Put, Secrets, Enabled, Accept, Outcome}
 use Rattle.relay_types.specs.Deliveries.{accepted, is_pending}
 use Rattle.relay_types.specs.Endpoints.{Endpoint, endpoint_by, endpoints, endpoint_of, has_endpoint}
-use Rattle.relay_types.specs.Legal.{may_follow, may_all_follow, is_within_limits, IsLegal}
+use Rattle.relay_types.specs.Legal.{may_follow, may_all_follow, is_within_limits, is_legal, IsLegal}
 use Rattle.relay_types.proofs.GrowthLaws.{endpoints-snoc, accepted-before, AllPointBelow}
 
 pub and_first : (a b : Bool) → a && b ≡ true → a ≡ true
@@ -128,3 +128,34 @@ pub room_if_legal : (records : List Record) (entry : Record) → IsLegal (record
 room_if_legal records entry h =
     let short = and_second (list_all is_within_limits (records ++ entry ∷ [])) (nat_le (length (records ++ entry ∷ [])) (2 ^ 62)) (and_second (may_all_follow [] (records ++ entry ∷ [])) _ h) in
     omega (arith, leb-true (length (records ++ entry ∷ [])) (2 ^ 62) short, length-append records (entry ∷ []))
+
+-- a front of a legal history is legal
+
+may_all-append : (before some more : List Record) → may_all_follow before (some ++ more) ≡ true → may_all_follow before some ≡ true
+may_all-append before [] more h = refl
+may_all-append before (r ∷ some) more h =
+    and_both _ _ (and_first (may_follow before r) _ h) (may_all-append (before ++ r ∷ []) some more (and_second (may_follow before r) (may_all_follow (before ++ r ∷ []) (some ++ more)) h))
+
+pub legal_front : (some more : List Record) → IsLegal (some ++ more) → IsLegal some
+legal_front some more h =
+    let order = and_first (may_all_follow [] (some ++ more)) _ h in
+    let rest = and_second (may_all_follow [] (some ++ more)) (list_all is_within_limits (some ++ more) && nat_le (length (some ++ more)) (2 ^ 62)) h in
+    let values = and_first (list_all is_within_limits (some ++ more)) _ rest in
+    let short = leb-true (length (some ++ more)) (2 ^ 62) (and_second (list_all is_within_limits (some ++ more)) (nat_le (length (some ++ more)) (2 ^ 62)) rest) in
+    and_both _ _ (may_all-append [] some more order)
+    (and_both _ _ (and_first (list_all is_within_limits some) _ (sym (list_all-append is_within_limits some more) ∙ values)) (le-leb (length some) (2 ^ 62) (omega (arith, short, length-append some more))))
+
+pub illegal_if : (records : List Record) (entry : Record) → may_follow records entry ≡ false → is_legal (records ++ entry ∷ []) ≡ false
+illegal_if records entry h = at (is_legal (records ++ entry ∷ [])) refl
+  where
+    at : (b : Bool) → is_legal (records ++ entry ∷ []) ≡ b → b ≡ false
+    at false e = refl
+    at true e = absurd (let follows = follows_if_legal records entry e in let no = h in cc)
+
+-- what is illegal stays so
+pub illegal_front : (some more : List Record) → is_legal some ≡ false → is_legal (some ++ more) ≡ false
+illegal_front some more h = at (is_legal (some ++ more)) refl
+  where
+    at : (b : Bool) → is_legal (some ++ more) ≡ b → b ≡ false
+    at false e = refl
+    at true e = absurd (let front = legal_front some more e in let no = h in cc)

@@ -1,5 +1,5 @@
 -- The look-ups in the rows of a legal history tell which record may follow it.
-use Rattle.std.proofs.Common.{◌≡◌, ◌≤◌, ◌==◌, ℕ, suc, ◌+◌, Bool, true, false, ◌&&◌, ◌||◌, not, nat_lt, cond, List, [], ◌∷◌, ◌++◌, length, map, Option, Some, None, IsTrue, refl, sym, ap, subst, ◌∙◌, arith, append-nil, append_assoc}
+use Rattle.std.proofs.Common.{◌≡◌, ◌≤◌, ◌==◌, ℕ, suc, ◌+◌, Bool, true, false, ◌&&◌, ◌||◌, not, nat_lt, cond, List, [], ◌∷◌, ◌++◌, length, map, Option, Some, None, refl, sym, ap, subst, ◌∙◌, arith, append-nil, append_assoc}
 use Rattle.std.specs.Prelude.{is_some, find, filter, filter_map, bytes_eq, slice_get, option_map, option_and_then, if◌then◌else◌}
 use Rattle.std.specs.List.{enumerate_from, cons_option, list_any}
 use Rattle.std.specs.Option.{option_map_or}
@@ -15,10 +15,9 @@ use Rattle.relay_types.specs.Endpoints.{Endpoint, endpoint_by, endpoints, endpoi
 use Rattle.relay_types.specs.Legal.{may_follow, may_all_follow, IsLegal}
 use Rattle.relay_types.specs.Rows.{EndpointRow, DeliveryRow, endpoint_row, delivery_row, put_of, put_by_name, rows_of}
 use Rattle.relay_types.proofs.GrowthLaws.{endpoints-snoc}
-use Rattle.spool.specs.Runs.{is_put_or_accept}
-use Rattle.spool.specs.Entering.{has_name, has_event, HasEachNameOnce, may_accept, may_enter}
+use Rattle.spool.specs.Entering.{may_put, may_accept, accepting}
 use Rattle.spool.proofs.KnownLemmas.{and_first, and_second, AllKnown, legal_known}
-use Rattle.spool.proofs.RowLemmas.{find_is_first, none_if_unnamed}
+use Rattle.spool.proofs.RowLemmas.{has_name, has_event, HasEachNameOnce, allows_put, allows_accept, allowed_for, find_is_first, none_if_unnamed}
 use Rattle.spool.proofs.RowLaws.{find_map, put_by_name-is}
 
 some_map : {X Y : Type 0} (f : X → Y) (o : Option X) → is_some (option_map f o) ≡ is_some o
@@ -118,20 +117,40 @@ has_event-is records name id known has =
     ap (λ p. has_event (rows_of records) p id) (put_by_name-is records name)
     ∙ sym (some_map (λ (e : ℕ × Record). e.0) (find (λ (e : ℕ × Record). is_accept_as name id e.1) (numbered records)) ∙ known_in records name id 0 records has known)
 
--- what may enter the rows of a legal history may follow it
-pub may_enter-is : (records : List Record) (entry : Record) → IsLegal records → IsTrue (is_put_or_accept entry) → may_enter (rows_of records) entry ≡ may_follow records entry
-may_enter-is records (Put name target max secrets) legal taken =
-    λ i. not (has_name-is records name i) && nat_lt (length-map (endpoints records) (endpoint_row records) i) 256
-may_enter-is records (Accept name id body at) legal taken = by (has_endpoint records name) refl ∙ refl
+-- the look-ups allow what may follow
+
+pub allows_put-is : (records : List Record) (name : List ℕ) → allows_put (rows_of records) name ≡ may_put records name
+allows_put-is records name = λ i. not (has_name-is records name i) && nat_lt (length-map (endpoints records) (endpoint_row records) i) 256
+
+allows_accept-is : (records : List Record) (name id : List ℕ) → IsLegal records → allows_accept (rows_of records) name id ≡ may_accept records name id
+allows_accept-is records name id legal = by (has_endpoint records name) refl
   where
-    by : (b : Bool) → has_endpoint records name ≡ b → may_accept (rows_of records) name id ≡ has_endpoint records name && not (is_some (known_as records name id))
+    by : (b : Bool) → has_endpoint records name ≡ b → allows_accept (rows_of records) name id ≡ has_endpoint records name && not (is_some (known_as records name id))
     by true has = λ i. has_name-is records name i && not (has_event-is records name id (legal_known records legal) has i)
     by false lacks =
         ap (λ b. b && not (has_event (rows_of records) (put_by_name (rows_of records) name) id)) (has_name-is records name ∙ lacks)
         ∙ ap (λ b. b && not (is_some (known_as records name id))) (sym lacks)
-may_enter-is records (Secrets name secrets) legal taken = absurd (let e = taken in cc)
-may_enter-is records (Enabled name flag) legal taken = absurd (let e = taken in cc)
-may_enter-is records (Outcome delivery attempt status at) legal taken = absurd (let e = taken in cc)
+
+pub allowed_for-is : (records : List Record) (name id : List ℕ) → IsLegal records → allowed_for (rows_of records) name id ≡ accepting records name id
+allowed_for-is records name id legal = λ i. if allows_accept-is records name id legal i then Some (put_by_name-is records name i) else None
+
+-- what the answer tells of an Accept
+pub accepting-none : (records : List Record) (name id : List ℕ) → None ≡ accepting records name id → false ≡ may_accept records name id
+accepting-none records name id h = at (may_accept records name id) h
+  where
+    at : (b : Bool) → None ≡ (if b then Some (put_of records name) else None) → false ≡ b
+    at true e = absurd (let h = e in cc)
+    at false e = refl
+
+pub accepting-some : (records : List Record) (name id : List ℕ) (put : ℕ) → Some put ≡ accepting records name id → (true ≡ may_accept records name id) × (put ≡ put_of records name)
+accepting-some records name id put h = at (may_accept records name id) h
+  where
+    at : (b : Bool) → Some put ≡ (if b then Some (put_of records name) else None) → (true ≡ b) × (put ≡ put_of records name)
+    at true e = (refl, same e)
+      where
+        same : Some put ≡ Some (put_of records name) → put ≡ put_of records name
+        same h = cc
+    at false e = absurd (let h = e in cc)
 
 -- No two endpoints of a legal history have one name
 

@@ -4,4 +4,6 @@ pub mod RowLemmas
 pub mod RowLaws
 pub mod LegalLemmas
 pub mod EntryLemmas
+pub mod CommitLemmas
 pub mod VaultLemmas
+pub mod OpenLemmas

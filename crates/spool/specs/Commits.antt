@@ -2,7 +2,7 @@
 use Rattle.std.specs.Prelude.{◌≡◌, ◌⊎◌, ◌++◌, ℕ, false, List, [], Result, Ok, Err}
 use Rattle.sqlite.specs.Held.{Held, state}
 use Rattle.sqlite_trees.specs.declared.store.Store.{Ghosts}
-use Rattle.relay_types.specs.Rows.{Rows, rows_of, put_rows}
+use Rattle.relay_types.specs.Rows.{rows_of, put_rows}
 use Rattle.relay_types.specs.declared.record.Record.{Record}
 use Rattle.relay_types.specs.Records.{records_of}
 use Rattle.relay_types.specs.Legal.{IsLegal}
@@ -12,19 +12,19 @@ use Rattle.spool.specs.declared.ends.CommitEnd.{CommitEnd}
 use Rattle.spool.specs.declared.ends.CommitEnd.TheVariants as ends
 use Rattle.spool.specs.declared.ends.Unchanged.TheVariants as why
 use Rattle.spool.specs.Runs.{Run, span_of}
-use Rattle.spool.specs.Vaults.{Kept, StandsOn, Holds}
+use Rattle.spool.specs.Entering.{Rests, RestsInDoubt}
+use Rattle.spool.specs.Vaults.{Kept, Holds}
 
--- the vault stands on these rows, and a stop leaves them
-abbrev pub Keeps : {S : Type 0} → Ghosts S → Kept S → Rows → Type 0
-Keeps g v rows = StandsOn g v rows × MayLeave (state g v.conn) (λ r. r ≡ rows)
+-- the vault holds this history, and a stop leaves its rows
+abbrev pub Keeps : {S : Type 0} → Ghosts S → Kept S → List Record → Type 0
+Keeps g v records = Holds g v records × MayLeave (state g v.conn) (λ r. r ≡ rows_of records)
 
--- a vault of this mark without a record; if the store had no table, it stands on the rows of the empty history
+-- a vault of this mark without a record; if the store had no table, it holds the empty history
 pub record IsOpened {S : Type 0} (g : Ghosts S) (conn : Held S) (mark : ℕ) (v : Kept S) : Type 0 where
   pub marked : v.mark ≡ mark
   pub next : v.next ≡ 0
   pub closed : v.closed ≡ false
-  pub rows : IsBegun no_schema (state g conn).now → Keeps g v (rows_of [])
-  pub history : IsBegun no_schema (state g conn).now → Holds g v []
+  pub history : IsBegun no_schema (state g conn).now → Keeps g v []
 
 -- the batch is of the vault's opening, and begins with its next record
 abbrev pub IsNext : {S : Type 0} → Kept S → Run → Type 0
@@ -49,21 +49,18 @@ IsDoubt (Ok receipt) = ⊥
 IsDoubt (Err (ends.Unchanged batch reason)) = ⊥
 IsDoubt (Err (ends.Doubtful doubt cause)) = Unit {0}
 
--- what the answer says of the rows
+-- what the answer says of the rows of a history that the vault held
 abbrev pub AnswersSo : {S : Type 0} → Ghosts S → Kept S → Kept S → Run → Result Run CommitEnd → Type 0
-AnswersSo g old new batch (Ok receipt) = (rows : Rows) → StandsOn g old rows → Keeps g new (put_rows rows (records_of batch.steps))
-AnswersSo g old new batch (Err (ends.Unchanged back reason)) = (rows : Rows) → StandsOn g old rows → Keeps g new rows
-AnswersSo g old new batch (Err (ends.Doubtful doubt cause)) = (rows : Rows) → StandsOn g old rows → MayLeave (state g new.conn) (λ r. (r ≡ rows) ⊎ (r ≡ put_rows rows (records_of batch.steps)))
+AnswersSo g old new batch (Ok receipt) = (records : List Record) → Holds g old records → Rests (state g new.conn) (put_rows (rows_of records) (records_of batch.steps))
+AnswersSo g old new batch (Err (ends.Unchanged back reason)) = (records : List Record) → Holds g old records → Rests (state g new.conn) (rows_of records)
+AnswersSo g old new batch (Err (ends.Doubtful doubt cause)) =
+    (records : List Record) → Holds g old records → MayLeave (state g new.conn) (λ r. (r ≡ rows_of records) ⊎ (r ≡ put_rows (rows_of records) (records_of batch.steps)))
 
--- the vault holds this history, and a stop leaves its rows
-abbrev pub KeepsHistory : {S : Type 0} → Ghosts S → Kept S → List Record → Type 0
-KeepsHistory g v records = Holds g v records × MayLeave (state g v.conn) (λ r. r ≡ rows_of records)
-
--- what the answer says of a history that the vault held
+-- what the answer says of the history itself
 abbrev pub AnswersOver : {S : Type 0} → Ghosts S → Kept S → Kept S → Run → Result Run CommitEnd → Type 0
-AnswersOver g old new batch (Ok receipt) = (records : List Record) → Holds g old records → KeepsHistory g new (records ++ records_of batch.steps)
-AnswersOver g old new batch (Err (ends.Unchanged back reason)) = (records : List Record) → Holds g old records → KeepsHistory g new records
-AnswersOver g old new batch (Err (ends.Doubtful doubt cause)) = (records : List Record) → Holds g old records → IsLegal (records ++ records_of batch.steps) → MayLeave (state g new.conn) (λ r. (r ≡ rows_of records) ⊎ (r ≡ rows_of (records ++ records_of batch.steps)))
+AnswersOver g old new batch (Ok receipt) = (records : List Record) → Holds g old records → Keeps g new (records ++ records_of batch.steps)
+AnswersOver g old new batch (Err (ends.Unchanged back reason)) = (records : List Record) → Holds g old records → Keeps g new records
+AnswersOver g old new batch (Err (ends.Doubtful doubt cause)) = (records : List Record) → Holds g old records → RestsInDoubt (state g new.conn) records (records_of batch.steps)
 
 -- the batch isn't legal after a history that the vault holds
 abbrev pub IsIllegal : {S : Type 0} → Ghosts S → Kept S → Run → Type 0

@@ -1,84 +1,74 @@
--- Which record may enter the rows, and what a transaction makes of them.
-use Rattle.std.specs.Prelude.{◌≡◌, ◌⊎◌, ◌≤◌, ℕ, ◌+◌, ◌==◌, Bool, true, false, ◌&&◌, not, nat_lt, List, [], ◌∷◌, ◌++◌, length, is_some, find, bytes_eq, IsTrue, Option, Some, None, if◌then◌else◌}
-use Rattle.std.specs.List.{list_any}
-use Rattle.sqlite.specs.State.{State}
+-- What a transaction makes of the rows of a legal history: the statements, the commit, and what a stop leaves of it.
+use Rattle.std.specs.Prelude.{◌≡◌, ◌⊎◌, ℕ, Bool, true, false, ◌&&◌, not, nat_lt, List, [], ◌∷◌, ◌++◌, length, is_some, IsTrue, Option, Some, None, Result, Ok, Err, if◌then◌else◌}
+use Rattle.sqlite.specs.declared.error.Error.{Error}
+use Rattle.sqlite.specs.State.{State, HasCleanDisk, Fails}
+use Rattle.sqlite.specs.Effect.{Database}
 use Rattle.sqlite.specs.Tree.{Trees}
 use Rattle.relay_types.specs.declared.record.Record.{Record}
-use Rattle.relay_types.specs.declared.record.Record.TheVariants.{Put, Secrets, Enabled, Accept, Outcome}
-use Rattle.relay_types.specs.Rows.{Rows, EndpointRow, DeliveryRow, put_by_name, put_record, secret_rows}
-use Rattle.spool_sql.specs.Stored.{IsTables, AreTablesOf, endpoints_named}
+use Rattle.relay_types.specs.Deliveries.{known_as}
+use Rattle.relay_types.specs.Endpoints.{endpoints, has_endpoint}
+use Rattle.relay_types.specs.Legal.{is_legal, IsLegal}
+use Rattle.relay_types.specs.Rows.{Rows, EndpointRow, put_of, rows_of, secret_rows}
+use Rattle.spool_sql.specs.Stored.{IsTables, AreTablesOf, with_records}
 use Rattle.spool_sql.specs.Steps.{GoesOn, Stands, MayLeave}
+use Rattle.spool_sql.specs.Causes.{cause}
+use Rattle.spool_sql.specs.declared.cause.Cause.TheVariants.{Memory}
+use Rattle.spool.specs.Vaults.{HoldsAt}
 use Rattle.spool.specs.declared.write.Written.{Written}
 use Rattle.spool.specs.declared.write.Written.TheVariants.{Made, Illegal, OutOfMemory, Doubtful}
 
--- whether an endpoint has this name
-abbrev pub has_name : Rows → List ℕ → Bool
-has_name rows name = is_some (find (λ (e : EndpointRow). bytes_eq e.name name) rows.endpoints)
+-- ---- what is asked before a record is written
 
--- whether the endpoint that the record with this number made has an event of this id
-abbrev pub has_event : Rows → ℕ → List ℕ → Bool
-has_event rows put id = list_any (λ (d : DeliveryRow). (d.endpoint == put) && bytes_eq d.id id) rows.deliveries
+-- whether an endpoint of this name may be put behind the records
+abbrev pub may_put : List Record → List ℕ → Bool
+may_put records name = not (has_endpoint records name) && nat_lt (length (endpoints records)) 256
 
--- no two endpoints have one name
-abbrev pub HasEachNameOnce : Rows → Type 0
-HasEachNameOnce rows = (name : List ℕ) → length (endpoints_named name rows) ≤ 1
-
--- the rows of so many records, in which no two endpoints have one name
-abbrev pub AreRowsAt : ℕ → Rows → Type 0
-AreRowsAt next rows = HasEachNameOnce rows × (rows.records ≡ next)
-
--- whether an endpoint of this name may be put
-abbrev pub may_put : Rows → List ℕ → Bool
-may_put rows name = not (has_name rows name) && nat_lt (length rows.endpoints) 256
-
--- whether an event of this id may be taken in for the endpoint of this name
-abbrev pub may_accept : Rows → List ℕ → List ℕ → Bool
-may_accept rows name id = has_name rows name && not (has_event rows (put_by_name rows name) id)
+-- whether an event of this id may be taken in behind the records for the endpoint of this name
+abbrev pub may_accept : List Record → List ℕ → List ℕ → Bool
+may_accept records name id = has_endpoint records name && not (is_some (known_as records name id))
 
 -- the number of that endpoint's Put, if the event may be taken in
-abbrev pub accepting : Rows → List ℕ → List ℕ → Option ℕ
-accepting rows name id = if may_accept rows name id then Some (put_by_name rows name) else None
+abbrev pub accepting : List Record → List ℕ → List ℕ → Option ℕ
+accepting records name id = if may_accept records name id then Some (put_of records name) else None
 
--- Whether a Put or an Accept may follow the records of these rows. No other record is written yet.
-abbrev pub may_enter : Rows → Record → Bool
-may_enter rows (Put name target max secrets) = may_put rows name
-may_enter rows (Accept name id body at) = may_accept rows name id
-may_enter rows (Secrets name secrets) = false
-may_enter rows (Enabled name flag) = false
-may_enter rows (Outcome delivery attempt status at) = false
-
--- what the statements of a Put with this number change
-abbrev pub with_put : ℕ → List ℕ → List ℕ → ℕ → List (List ℕ) → Rows → Rows
-with_put put name url max secrets rows = record rows {
-  records = put + 1;
-  endpoints = rows.endpoints ++ record { put = put; name = name; url = url; max = max; enabled = true; enabled_by = put; secrets_by = put } ∷ [];
-  secrets = rows.secrets ++ secret_rows put secrets;
-}
+-- ---- what the statements of a record change, beside the number of records
 
 abbrev pub with_secrets : ℕ → List (List ℕ) → Rows → Rows
 with_secrets put secrets rows = record rows { secrets = rows.secrets ++ secret_rows put secrets }
 
--- what the statements of an Accept with this number change
-abbrev pub with_accept : ℕ → ℕ → List ℕ → ℕ → List ℕ → Rows → Rows
-with_accept seq endpoint id at body rows = record rows {
-  records = seq + 1;
-  deliveries = rows.deliveries ++ record { seq = seq; endpoint = endpoint; id = id; at = at; body = body } ∷ [];
-}
+-- the rows of a Put with this number
+abbrev pub with_put : EndpointRow → List (List ℕ) → Rows → Rows
+with_put e secrets rows = record rows { endpoints = rows.endpoints ++ e ∷ []; secrets = rows.secrets ++ secret_rows e.put secrets }
 
--- inside a transaction, the record with this number is written exactly where it may enter the rows
-pub record Enters (old new : State) (next : ℕ) (entry : Record) (legal : Bool) : Type 0 where
+-- ---- inside a transaction
+
+-- The tables have the rows of this legal history, but for the number of records: it is `count` until the transaction writes it.
+pub record HasRows (db : Database) (count : ℕ) (records : List Record) : Type 0 where
+  pub legal : IsLegal records
+  pub tables : IsTables db (with_records count (rows_of records))
+
+-- the records with these numbers are written, and their number isn't, exactly where the longer history is legal
+pub record Enters (old new : State) (next : ℕ) (entries : List Record) (legal : Bool) : Type 0 where
   pub on : GoesOn old new
-  pub judges : (rows : Rows) → AreRowsAt next rows → IsTables old.now rows → legal ≡ may_enter rows entry
-  pub makes : IsTrue legal → (rows : Rows) → AreRowsAt next rows → IsTables old.now rows → IsTables new.now (put_record rows entry)
+  pub judges : (count : ℕ) (records : List Record) → next ≡ length records → HasRows old.now count records → legal ≡ is_legal (records ++ entries)
+  pub makes : IsTrue legal → (count : ℕ) (records : List Record) → next ≡ length records → HasRows old.now count records → HasRows new.now count (records ++ entries)
 
--- between transactions, the record is committed exactly where it may enter the rows
-pub record Turns (old new : State) (next : ℕ) (entry : Record) (legal : Bool) : Type 0 where
-  pub judges : (rows : Rows) → AreRowsAt next rows → Stands old rows → legal ≡ may_enter rows entry
-  pub makes : IsTrue legal → (rows : Rows) → AreRowsAt next rows → Stands old rows → Stands new (put_record rows entry)
+-- the same where the number of records is written too
+pub record EntersWhole (old new : State) (next : ℕ) (entries : List Record) (legal : Bool) : Type 0 where
+  pub on : GoesOn old new
+  pub judges : (records : List Record) → IsLegal records → next ≡ length records → IsTables old.now (rows_of records) → legal ≡ is_legal (records ++ entries)
+  pub makes : IsTrue legal → (records : List Record) → IsLegal records → next ≡ length records → IsTables old.now (rows_of records) → IsTables new.now (rows_of (records ++ entries))
 
--- what a commit of the record writes to the disk
-abbrev pub CommitsEntry : State → ℕ → Record → Trees → Type 0
-CommitsEntry old next entry db = (rows : Rows) → AreRowsAt next rows → Stands old rows → AreTablesOf db (put_record rows entry)
+-- ---- between transactions
+
+-- the records with these numbers are committed exactly where the longer history is legal
+pub record Turns (old new : State) (next : ℕ) (entries : List Record) (legal : Bool) : Type 0 where
+  pub judges : (records : List Record) → HoldsAt old next records → legal ≡ is_legal (records ++ entries)
+  pub makes : IsTrue legal → (records : List Record) → HoldsAt old next records → Stands new (rows_of (records ++ entries))
+
+-- What a commit of the records writes to the disk. Records that aren't legal are never committed.
+abbrev pub CommitsAll : State → ℕ → List Record → Trees → Type 0
+CommitsAll old next entries db = (records : List Record) → HoldsAt old next records → IsLegal (records ++ entries) × AreTablesOf db (rows_of (records ++ entries))
 
 -- the connection stands as it stood
 abbrev pub StaysAs : State → State → Type 0
@@ -88,9 +78,35 @@ StaysAs old new = (rows : Rows) → Stands old rows → Stands new rows
 abbrev pub Rests : State → Rows → Type 0
 Rests s rows = Stands s rows × MayLeave s (λ r. r ≡ rows)
 
--- how the write of a record ends
-abbrev pub EndsSo : State → State → ℕ → Record → Written → Type 0
-EndsSo old new next entry Made = (rows : Rows) → AreRowsAt next rows → Stands old rows → IsTrue (may_enter rows entry) × Rests new (put_record rows entry)
-EndsSo old new next entry Illegal = (rows : Rows) → AreRowsAt next rows → Stands old rows → (may_enter rows entry ≡ false) × Rests new rows
-EndsSo old new next entry OutOfMemory = (rows : Rows) → Stands old rows → Rests new rows
-EndsSo old new next entry (Doubtful cause) = (rows : Rows) → AreRowsAt next rows → Stands old rows → MayLeave new (λ r. (r ≡ rows) ⊎ (r ≡ put_record rows entry))
+-- a stop leaves the rows of the history, or it goes on legally with these records, and a stop leaves the rows of both
+abbrev pub RestsInDoubt : State → List Record → List Record → Type 0
+RestsInDoubt s records entries = MayLeave s (λ r. (r ≡ rows_of records) ⊎ (IsLegal (records ++ entries) × (r ≡ rows_of (records ++ entries))))
+
+-- how the write of records ends
+abbrev pub EndsSo : State → State → ℕ → List Record → Written → Type 0
+EndsSo old new next entries Made = (records : List Record) → HoldsAt old next records → IsLegal (records ++ entries) × Rests new (rows_of (records ++ entries))
+EndsSo old new next entries Illegal = (records : List Record) → HoldsAt old next records → (¬ IsLegal (records ++ entries)) × Rests new (rows_of records)
+EndsSo old new next entries OutOfMemory = (rows : Rows) → Stands old rows → Rests new rows
+EndsSo old new next entries (Doubtful cause) = (records : List Record) → HoldsAt old next records → RestsInDoubt new records entries
+
+-- ---- which error was met where
+
+-- nothing was written, and the store was seen to be usable
+abbrev pub IsUnwritten : Written → Type 0
+IsUnwritten Made = ⊥
+IsUnwritten Illegal = Unit {0}
+IsUnwritten OutOfMemory = Unit {0}
+IsUnwritten (Doubtful error) = ⊥
+
+-- a look at the store is owed after a transaction that was left, or refused for memory
+abbrev pub AsksForLook : Result Bool Error → Type 0
+AsksForLook (Ok made) = made ≡ false
+AsksForLook (Err error) = cause error ≡ Memory
+
+-- What is told of a transaction with this answer. A doubt has the transaction's own error, or that of the look at the store behind it,
+-- where the store failed.
+abbrev pub Tells : State → State → Result Bool Error → Written → Type 0
+Tells old new tried Made = tried ≡ Ok true
+Tells old new tried Illegal = tried ≡ Ok false
+Tells old new tried OutOfMemory = (error : Error) × (tried ≡ Err error) × (cause error ≡ Memory)
+Tells old new tried (Doubtful error) = ((tried ≡ Err error) × (¬ (cause error ≡ Memory))) ⊎ (AsksForLook tried × (HasCleanDisk new → Fails old new ⊥ error))

@@ -3,3 +3,4 @@ pub mod Vaults
 pub mod Entering
 pub mod Opening
 pub mod Commits
+pub mod Laws

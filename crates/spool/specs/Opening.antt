@@ -1,14 +1,29 @@
--- What is left of a store in which the tables were to be made.
-use Rattle.std.specs.Prelude.{◌≡◌, ◌⊎◌, false, [], IsTrue}
-use Rattle.sqlite.specs.State.{State}
+-- Which store takes the tables, and what is left of one in which they were to be made.
+use Rattle.std.specs.Prelude.{◌≡◌, ◌⊎◌, Bool, ◌||◌, false, [], codes, IsTrue}
+use Rattle.sqlite.specs.declared.error.Error.{Error}
+use Rattle.sqlite.specs.State.{State, HasCleanDisk, Fails}
+use Rattle.sqlite.specs.Schema.{Schema}
 use Rattle.sqlite.specs.Tree.{Trees}
+use Rattle.sqlite_catalog.specs.Change.{is_used}
 use Rattle.relay_types.specs.Rows.{rows_of}
 use Rattle.spool_sql.specs.Tables.{no_schema}
 use Rattle.spool_sql.specs.Stored.{AreTablesOf}
 use Rattle.spool_sql.specs.Steps.{IsBegun}
+use Rattle.spool_sql.specs.Causes.{cause}
+use Rattle.spool_sql.specs.declared.cause.Cause.TheVariants.{Memory}
 use Rattle.spool.specs.Entering.{Rests}
 use Rattle.spool.specs.declared.ends.OpenFault.{OpenFault}
 use Rattle.spool.specs.declared.ends.OpenFault.TheVariants.{NotOurs, Store, OutOfMemory}
+
+-- a table, an index or a view of the store has the name of one of the five tables, in any case of its letters
+abbrev pub has_ours : Schema → Bool
+has_ours schema = is_used schema (codes "meta") || (is_used schema (codes "endpoints") || (is_used schema (codes "secrets") || (is_used schema (codes "deliveries") || is_used schema (codes "attempts"))))
+
+-- NotOurs comes only of such a store, and want of memory only of another
+abbrev pub IsRefusedFor : Schema → OpenFault → Type 0
+IsRefusedFor schema NotOurs = IsTrue (has_ours schema)
+IsRefusedFor schema OutOfMemory = has_ours schema ≡ false
+IsRefusedFor schema (Store cause) = Unit {0}
 
 -- the last commit stands, in no transaction
 pub record IsBack (old new : State) : Type 0 where
@@ -30,12 +45,19 @@ pub record KeepsTables (old new : State) : Type 0 where
   pub back : IsBack old new
   pub leaves : (db : Trees) → new.may_leave db → db ≡ old.committed.trees
 
--- a stop leaves what it left before, or the rows of the empty history
+-- a stop leaves what it left before, or, where no table of ours was there, what the commit writes
 abbrev pub MayBeMade : State → State → Type 0
-MayBeMade old new = (db : Trees) → new.may_leave db → old.may_leave db ⊎ Founded old db
+MayBeMade old new = (db : Trees) → new.may_leave db → old.may_leave db ⊎ ((has_ours old.now.schema ≡ false) × Founded old db)
 
 -- what each refusal leaves
 abbrev pub LeavesAt : State → State → OpenFault → Type 0
-LeavesAt old new NotOurs = KeepsTables old new
+LeavesAt old new NotOurs = (db : Trees) → new.may_leave db → old.may_leave db
 LeavesAt old new OutOfMemory = KeepsTables old new
 LeavesAt old new (Store cause) = MayBeMade old new
+
+-- What is told of an error for which the tables weren't made. A fault of the store has that error, or that of the look at the store
+-- behind it, where the store failed.
+abbrev pub TellsFault : State → State → Error → OpenFault → Type 0
+TellsFault old new error NotOurs = ⊥
+TellsFault old new error OutOfMemory = cause error ≡ Memory
+TellsFault old new error (Store told) = ((told ≡ error) × (¬ (cause error ≡ Memory))) ⊎ ((cause error ≡ Memory) × (HasCleanDisk new → Fails old new ⊥ told))

@@ -1,9 +1,11 @@
 //! What goes into a commit, and what stands after it.
-ghost use Rattle.std.specs.Prelude.{◌≡◌, ◌<◌, ◌^◌, [], ◌∷◌};
-ghost use Rattle.spool.specs.Runs.{ArePutsAndAccepts};
+ghost use Rattle.std.specs.Prelude.{◌≡◌, ◌≤◌, ◌<◌, ◌+◌, ◌^◌, [], ◌∷◌, length};
+ghost use Rattle.relay_types.specs.Records.{records_of};
+ghost use Rattle.spool.specs.Runs.{ArePutsAndAccepts, span_of};
 
 use relay_types::Step;
 use std::marker::Model;
+use std::slice;
 
 /// A step to be written, with the mark of its opening and the number of its first record. Until batches are widened, a batch
 /// holds one step.
@@ -50,12 +52,21 @@ impl Batch {
         self.from
     }
 
-    /// The step.
-    pub fn step(&self) -> &Step
-        ensures step { self.now.steps ≡ result.now ∷ [] }
+    /// The number after the last record. A step has one record.
+    pub fn upto(&self) -> u64
+        ensures number { result ≡ (span_of self.now).upto }
+        ensures room { result ≤ 2 ^ 62 }
+    {
+        self.step.record();
+        self.from + 1
+    }
+
+    /// The steps.
+    pub fn steps(&self) -> &[Step]
+        ensures steps { result.now ≡ self.now.steps }
         ensures kind { ArePutsAndAccepts self.now.steps }
     {
-        &self.step
+        slice::from_ref(&self.step)
     }
 
     // What a commit that was made gives.
@@ -96,11 +107,11 @@ impl Receipt {
         self.batch.from()
     }
 
-    /// The step that was written.
-    pub fn step(&self) -> &Step
-        ensures step { self.now.steps ≡ result.now ∷ [] }
+    /// The steps that were written.
+    pub fn steps(&self) -> &[Step]
+        ensures steps { result.now ≡ self.now.steps }
         ensures kind { ArePutsAndAccepts self.now.steps }
     {
-        self.batch.step()
+        self.batch.steps()
     }
 }

@@ -1,5 +1,5 @@
 //! What is left of a commit of which nobody knows how it ended.
-ghost use Rattle.std.specs.Prelude.{◌≡◌, ◌<◌, ◌^◌};
+ghost use Rattle.std.specs.Prelude.{◌≡◌};
 ghost use Rattle.spool.specs.Runs.{span_of};
 
 use crate::batch::Batch;
@@ -24,15 +24,12 @@ impl Model for Doubt {
 impl Doubt {
     // The places of this batch.
     pub(crate) fn over(batch: Batch) -> Doubt
-        requires { batch.from < 2 ^ 62 }
         ensures { result ≡ span_of batch }
     {
-        let mark = batch.mark();
-        let from = batch.from();
         Doubt {
-            mark,
-            from,
-            upto: from + 1,
+            mark: batch.mark(),
+            from: batch.from(),
+            upto: batch.upto(),
         }
     }
 

@@ -9,7 +9,7 @@ use std::fmt;
 /// Why a store was not opened.
 #[derive(Clone, Copy)]
 pub enum OpenFault {
-    /// A table of the relay's is there already.
+    /// A table, an index or a view already has the name of one of the relay's tables.
     NotOurs,
     /// The store refused a call for a fault of its own. What a stop may leave stands in the file.
     Store(Error),

@@ -3,7 +3,7 @@ ghost use Rattle.std.specs.Prelude.{◌≡◌, ◌⊎◌, ◌↔◌, ◌+◌, fa
 ghost use Rattle.sqlite.specs.State.{HasCleanDisk};
 ghost use Rattle.sqlite.specs.Held.{state};
 ghost use Rattle.relay_types.specs.Records.{records_of};
-ghost use Rattle.spool.specs.Opening.{LeavesAt};
+ghost use Rattle.spool.specs.Opening.{has_ours, IsRefusedFor, LeavesAt};
 ghost use Rattle.spool.specs.Commits.{IsOpened, IsNext, HandsBack, IsDoubt, IsRefused, AnswersSo, AnswersOver, IsIllegal};
 
 use crate::batch::{Batch, Receipt};
@@ -38,11 +38,15 @@ impl<S: Alter> Model for Vault<S> {
 
 impl<S: Alter> Vault<S> {
     /// Makes the tables in one transaction, with the rows of the history that has no record. The store's connection comes
-    /// back with each refusal. A store that already has one of these tables is `NotOurs`. The caller sees by
-    /// `is_autocommit` that the connection is outside a transaction.
+    /// back with each refusal. A store where a table, an index or a view already has the name of one of these tables is
+    /// `NotOurs`, and it isn't touched. The caller sees by `is_autocommit` that the connection is outside a
+    /// transaction.
     pub fn create(conn: Connection<S>, mark: u64) -> Result<Vault<S>, (Connection<S>, OpenFault)>
         requires { conn.in_transaction ≡ false }
         ensures opened { IfOk result (λ v. HasCleanDisk (state S.Store v.conn) → IsOpened S.Store conn mark v) }
+        ensures free { IfOk result (λ _. has_ours (state S.Store conn).now.schema ≡ false) }
+        ensures cause { IfErr result (λ e. IsRefusedFor (state S.Store conn).now.schema e.1) }
+        ensures untouched { IfErr result (λ e. e.1 ≡ OpenFault.NotOurs → e.0 ≡ conn) }
         ensures refused { IfErr result (λ e. HasCleanDisk (state S.Store e.0) → LeavesAt (state S.Store conn) (state S.Store e.0) e.1) }
         ensures clean { MatchResult result (λ v. HasCleanDisk (state S.Store v.conn) → HasCleanDisk (state S.Store conn)) (λ e. HasCleanDisk (state S.Store e.0) → HasCleanDisk (state S.Store conn)) }
         ensures mode { IfErr result (λ e. e.0.in_transaction ≡ false) }
@@ -81,9 +85,9 @@ impl<S: Alter> Vault<S> {
         if batch.mark() != self.mark || batch.from() != self.next {
             return Err(CommitEnd::Unchanged(batch, Unchanged::OutOfTurn));
         }
-        match write(&mut self.conn, self.next, batch.step().record()) {
+        match write(&mut self.conn, self.next, batch.steps()) {
             Written::Made => {
-                self.next += 1;
+                self.next = batch.upto();
                 Ok(batch.into_receipt())
             }
             Written::Illegal => Err(CommitEnd::Unchanged(batch, Unchanged::Illegal)),

@@ -1,9 +1,16 @@
-use Rattle.std.proofs.Common.{inl, inr, arith}
+use Rattle.std.proofs.Common.{◌≡◌, false, sym, ◌∙◌, arith}
 use Rattle.sqlite.specs.State.{HasCleanDisk}
 use Rattle.sqlite.specs.Held.{state}
+use Rattle.spool.specs.Opening.{has_ours}
+use Rattle.spool.proofs.OpenLemmas.{leaves_told}
 use Rattle.spool.proofs.open.found.Goals as goal
 
-pub returns-in-Err-probe-clause-ends : goal.returns-in-Err-probe-clause-ends
-returns-in-Err-probe-clause-ends g c clean db may =
-    let early : HasCleanDisk (state g.S.Store c.try_found.new.conn) = omega (arith, clean, c.probe.ensures.survives.clean) in
-    elim (c.probe.ensures.survives.crash clean db may) [ inl was ↦ c.in-Err.ensures.survives.crash early db was | inr none ↦ absurd none ]
+pub returns-in-Err-clause-ends : goal.returns-in-Err-clause-ends
+returns-in-Err-clause-ends g c clean =
+    let old = state g.S.Store c.args.conn.now in
+    let mid = state g.S.Store c.try_found.new.conn in
+    let new = state g.S.Store c.refusal.new.conn in
+    let early : HasCleanDisk mid = omega (arith, clean, c.refusal.ensures.survives.clean) in
+    let free : has_ours old.now.schema ≡ false = rw c.schema.ensures.value at (sym c.has_ours.ensures ∙ c.if-has_ours.false) in
+    leaves_told old mid new c.in-Err.error c.refusal.result free (c.in-Err.ensures.undone early) c.in-Err.ensures.survives c.refusal.ensures.survives clean c.refusal.ensures.told
+    (c.refusal.ensures.same clean) (g.met.S.Store.settled c.refusal.new.conn.store)

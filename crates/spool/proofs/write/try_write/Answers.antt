@@ -1,14 +1,15 @@
 use Rattle.std.proofs.Common.{◌≡◌, refl, subst, rules, arith}
 use Rattle.sqlite.specs.State.{HasCleanDisk, Survives}
 use Rattle.sqlite.specs.Held.{state}
-use Rattle.spool.specs.Entering.{CommitsEntry, StaysAs}
-use Rattle.spool.proofs.EntryLemmas.{survives_entry, back_entry}
+use Rattle.relay_types.specs.Records.{records_of}
+use Rattle.spool.specs.Entering.{CommitsAll, StaysAs}
+use Rattle.spool.proofs.CommitLemmas.{survives_all, back_along}
 use Rattle.spool.proofs.write.try_write.Goals as goal
 
 pub returns-in_err-commit-clause-undone : goal.returns-in_err-commit-clause-undone
 returns-in_err-commit-clause-undone g c clean not_made is_open =
     let old = c.args.conn.now in
-    let mid = state g.S.Store c.write_record.new.tx.conn.now in
+    let mid = state g.S.Store c.write_steps.new.tx.conn.now in
     let begun = c.transaction-tx.ensures.begun in
     let same : c.commit.new.self.0 ≡ c.conn-then-legal-1.given.0 = search rules in
     let late : HasCleanDisk (state g.S.Store c.commit.new.self.0) = rw same clean in
@@ -16,24 +17,24 @@ returns-in_err-commit-clause-undone g c clean not_made is_open =
     let entered = (rw begun at c.in_ok-legal.ensures.done) early refl in
     let spares = rw begun at c.in_ok-legal.ensures.spares in
     subst (λ h. StaysAs (state g.S.Store old) (state g.S.Store h)) same
-    (back_entry g.S.Store old mid (state g.S.Store c.commit.new.self.0) _ entered.on.mode (spares.kept early) (c.in_err-commit.ensures.err late) (rw same is_open))
+    (back_along g.S.Store old mid (state g.S.Store c.commit.new.self.0) _ entered.on.mode (spares.kept early) (c.in_err-commit.ensures.err late) (rw same is_open))
 
 pub returns-in_err-commit-clause-survives : goal.returns-in_err-commit-clause-survives
 returns-in_err-commit-clause-survives g c =
     let old = c.args.conn.now in
-    let mid = state g.S.Store c.write_record.new.tx.conn.now in
+    let mid = state g.S.Store c.write_steps.new.tx.conn.now in
     let begun = c.transaction-tx.ensures.begun in
-    let whole = survives_entry g.S.Store old mid (state g.S.Store c.commit.new.self.0) c.args.next c.args.entry.now c.in_ok-legal.legal c.if-legal.true (rw begun at c.in_ok-legal.ensures.spares)
+    let whole = survives_all g.S.Store old mid (state g.S.Store c.commit.new.self.0) c.args.next (records_of c.args.steps.now) c.in_ok-legal.legal c.if-legal.true (rw begun at c.in_ok-legal.ensures.spares)
     (λ clean. (rw begun at c.in_ok-legal.ensures.done) clean refl) c.commit.ensures.survives in
     let same : c.commit.new.self.0 ≡ c.conn-then-legal-1.given.0 = search rules in
-    subst (λ h. Survives (state g.S.Store old) (state g.S.Store h) (CommitsEntry (state g.S.Store old) c.args.next c.args.entry.now)) same whole
+    subst (λ h. Survives (state g.S.Store old) (state g.S.Store h) (CommitsAll (state g.S.Store old) c.args.next (records_of c.args.steps.now))) same whole
 
 pub returns-then-legal-clause-survives : goal.returns-then-legal-clause-survives
 returns-then-legal-clause-survives g c =
     let old = c.args.conn.now in
-    let mid = state g.S.Store c.write_record.new.tx.conn.now in
+    let mid = state g.S.Store c.write_steps.new.tx.conn.now in
     let begun = c.transaction-tx.ensures.begun in
-    let whole = survives_entry g.S.Store old mid (state g.S.Store c.commit.new.self.0) c.args.next c.args.entry.now c.in_ok-legal.legal c.if-legal.true (rw begun at c.in_ok-legal.ensures.spares)
+    let whole = survives_all g.S.Store old mid (state g.S.Store c.commit.new.self.0) c.args.next (records_of c.args.steps.now) c.in_ok-legal.legal c.if-legal.true (rw begun at c.in_ok-legal.ensures.spares)
     (λ clean. (rw begun at c.in_ok-legal.ensures.done) clean refl) c.commit.ensures.survives in
     let same : c.commit.new.self.0 ≡ c.conn-then-legal-1.given.0 = search rules in
-    subst (λ h. Survives (state g.S.Store old) (state g.S.Store h) (CommitsEntry (state g.S.Store old) c.args.next c.args.entry.now)) same whole
+    subst (λ h. Survives (state g.S.Store old) (state g.S.Store h) (CommitsAll (state g.S.Store old) c.args.next (records_of c.args.steps.now))) same whole

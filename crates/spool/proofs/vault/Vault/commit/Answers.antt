@@ -1,30 +1,20 @@
-use Rattle.std.proofs.Common.{◌∙◌, ◌∷◌, [], ap, refl, arith}
-use Rattle.spool.proofs.VaultLemmas.{keeps_made, doubts_made, history_made, history_refused, history_unwritten, history_doubted, illegal_made}
+use Rattle.std.proofs.Common.{arith}
+use Rattle.sqlite.specs.Held.{state}
+use Rattle.spool.proofs.VaultLemmas.{rows_made, rows_doubted, history_made, history_unwritten}
 use Rattle.spool.proofs.vault.Vault.commit.Goals as goal
-
-pub returns-in-Made-clause-rows : goal.returns-in-Made-clause-rows
-returns-in-Made-clause-rows g c clean = rw (← c.self.view_is)
-    (keeps_made g.S.Store _ c.write.new.conn c.record.result.now c.args.batch.steps (c.step.ensures.step ∙ ap (λ s. s ∷ []) c.record.ensures) (c.in-Made.ensures.ends clean))
 
 pub returns-in-Made-clause-history : goal.returns-in-Made-clause-history
 returns-in-Made-clause-history g c clean = rw (← c.self.view_is)
-    (history_made g.S.Store _ c.write.new.conn c.record.result.now c.args.batch.steps (c.step.ensures.step ∙ ap (λ s. s ∷ []) c.record.ensures) c.step.ensures.kind (c.in-Made.ensures.limits refl)
-    (omega (arith, c.from.ensures.room, c.if-from-self.false)) (c.in-Made.ensures.ends clean))
+    (history_made _ _ _ _ _ (omega (arith, c.upto-self-inside.ensures.number, c.from.ensures.number, c.if-from-self.false)) (rw c.steps.ensures.steps at (c.in-Made.ensures.ends clean)))
 
-pub returns-in-Illegal-clause-illegal : goal.returns-in-Illegal-clause-illegal
-returns-in-Illegal-clause-illegal g c clean answer = rw (← c.self.view_is)
-    (illegal_made g.S.Store _ c.write.new.conn c.record.result.now c.args.batch.steps (c.step.ensures.step ∙ ap (λ s. s ∷ []) c.record.ensures) c.step.ensures.kind (c.in-Illegal.ensures.ends clean))
-
-pub returns-in-Doubtful-clause-rows : goal.returns-in-Doubtful-clause-rows
-returns-in-Doubtful-clause-rows g c clean = rw (← c.self.view_is)
-    (doubts_made g.S.Store _ c.write.new.conn c.record.result.now c.args.batch.steps c.in-Doubtful.cause (c.step.ensures.step ∙ ap (λ s. s ∷ []) c.record.ensures) (c.in-Doubtful.ensures.ends clean))
-
-pub returns-in-Doubtful-clause-history : goal.returns-in-Doubtful-clause-history
-returns-in-Doubtful-clause-history g c clean = rw (← c.self.view_is)
-    (history_doubted g.S.Store _ c.write.new.conn c.record.result.now c.args.batch.steps c.in-Doubtful.cause (c.step.ensures.step ∙ ap (λ s. s ∷ []) c.record.ensures) c.step.ensures.kind (c.in-Doubtful.ensures.ends clean))
-
-pub returns-in-Illegal-clause-history : goal.returns-in-Illegal-clause-history
-returns-in-Illegal-clause-history g c clean = rw (← c.self.view_is) (history_refused g.S.Store _ c.write.new.conn c.record.result.now (c.in-Illegal.ensures.ends clean))
+pub returns-in-Made-clause-rows : goal.returns-in-Made-clause-rows
+returns-in-Made-clause-rows g c clean = rows_made _ _ _ _ _ c.steps.ensures.kind (returns-in-Made-clause-history g c clean)
 
 pub returns-in-OutOfMemory-clause-history : goal.returns-in-OutOfMemory-clause-history
-returns-in-OutOfMemory-clause-history g c clean = rw (← c.self.view_is) (history_unwritten g.S.Store _ c.write.new.conn c.record.result.now (c.in-OutOfMemory.ensures.ends clean))
+returns-in-OutOfMemory-clause-history g c clean = rw (← c.self.view_is) (history_unwritten _ _ _ (c.in-OutOfMemory.ensures.ends clean))
+
+pub returns-in-OutOfMemory-clause-rows : goal.returns-in-OutOfMemory-clause-rows
+returns-in-OutOfMemory-clause-rows g c clean records on = let kept = returns-in-OutOfMemory-clause-history g c clean records on in (kept.0.stands, kept.1)
+
+pub returns-in-Doubtful-clause-rows : goal.returns-in-Doubtful-clause-rows
+returns-in-Doubtful-clause-rows g c clean = rw (← c.self.view_is) (rows_doubted _ (state g.S.Store c.write.new.conn) _ _ c.steps.ensures.kind (rw c.steps.ensures.steps at (c.in-Doubtful.ensures.ends clean)))

@@ -1,4 +1,4 @@
-use Rattle.std.proofs.Common.{refl, arith}
+use Rattle.std.proofs.Common.{refl}
 use Rattle.spool.proofs.vault.Vault.create.Goals as goal
 
 pub returns-in-Ok-clause-opened : goal.returns-in-Ok-clause-opened
@@ -8,6 +8,5 @@ returns-in-Ok-clause-opened g c clean =
       marked = refl;
       next = refl;
       closed = refl;
-      rows = λ begun. (record { stands = (rests begun).0; next = refl; once = λ name. omega arith }, (rests begun).1);
-      history = λ begun. record { legal = refl; stands = (rests begun).0; next = refl };
+      history = λ begun. (record { legal = refl; stands = (rests begun).0; next = refl }, (rests begun).1);
     }

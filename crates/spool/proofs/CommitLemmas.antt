@@ -1,0 +1,88 @@
+-- Records in one transaction that is committed, and what a stop leaves.
+use Rattle.std.proofs.Common.{◌≡◌, inl, inr, ℕ, Bool, true, false, List, ◌++◌, Result, Ok, IfOk, IsTrue, refl, sym, subst, ◌∙◌, arith}
+use Rattle.sqlite.specs.declared.error.Error.{Error}
+use Rattle.sqlite.specs.Tree.{Trees}
+use Rattle.sqlite.specs.State.{State, HasCleanDisk, IsUnchanged, KeepsCommit, Survives}
+use Rattle.sqlite.specs.Steps.{FailsToCommit}
+use Rattle.sqlite.specs.Store.{Ghosts}
+use Rattle.sqlite.specs.Held.{Held, state}
+use Rattle.sqlite.proofs.StateLemmas.{survives_then}
+use Rattle.sqlite.proofs.Callers.{survives_begin}
+use Rattle.relay_types.specs.declared.record.Record.{Record}
+use Rattle.relay_types.specs.Rows.{Rows, rows_of}
+use Rattle.spool_sql.specs.Stored.{IsTables}
+use Rattle.spool_sql.specs.Steps.{Spares, Stands}
+use Rattle.spool_sql.proofs.StepLemmas.{leaves_commit, leaves_along, stands_along}
+use Rattle.spool.specs.Vaults.{HoldsAt}
+use Rattle.spool.specs.Entering.{EntersWhole, Turns, CommitsAll, StaysAs, Rests, RestsInDoubt, EndsSo, IsUnwritten, Tells}
+use Rattle.spool.specs.declared.write.Written.{Written}
+use Rattle.spool.specs.declared.write.Written.TheVariants.{Made, Illegal, OutOfMemory, Doubtful}
+
+pub survives_all : {S : Type 0} (g : Ghosts S) (old : Held S) (mid new : State) (next : ℕ) (entries : List Record) (legal : Bool) → IsTrue legal → Spares (state g (record old { in_transaction = true })) mid
+    → (HasCleanDisk mid → EntersWhole (state g (record old { in_transaction = true })) mid next entries legal)
+    → Survives mid new (λ db. db ≡ mid.now.trees) → Survives (state g old) new (CommitsAll (state g old) next entries)
+survives_all g old mid new next entries legal is s made ended =
+    survives_then (state g old) mid new _ _ (CommitsAll (state g old) next entries) (λ _ db none. absurd none)
+    (λ clean db now records at.
+    let whole = made (omega (arith, clean, ended.clean)) in (
+      sym (whole.judges records at.legal at.next at.stands.now) ∙ is,
+      rw now (whole.makes is records at.legal at.next at.stands.now).tables,
+    ))
+    (survives_begin g old mid _ s.survives) ended
+
+-- a refused commit is rolled back
+pub back_along : {S : Type 0} (g : Ghosts S) (old : Held S) (mid new : State) (e : Error) → IsTrue mid.in_transaction → KeepsCommit (state g (record old { in_transaction = true })) mid
+    → FailsToCommit mid new e → IsTrue new.is_open → StaysAs (state g old) new
+back_along g old mid new e inside kept (inl fails) is_open rows at =
+    let back = fails.3 in
+    let undone = back.undone is_open in
+    let same = kept.committed (back.was_open is_open) in
+    record {
+      is_open = is_open;
+      autocommit = back.autocommit;
+      now = subst (λ d. IsTables d rows) (sym (undone.0 ∙ same)) at.committed;
+      committed = subst (λ d. IsTables d rows) (sym (undone.1 ∙ same)) at.committed;
+    }
+back_along g old mid new e inside kept (inr late) is_open rows at = absurd (let a = inside in let b = late.1 in cc)
+
+abbrev IsSettled : State → Type 0
+IsSettled s = (db : Trees) → IsTrue s.is_open → s.may_leave db → db ≡ s.committed.trees
+
+rests_along : (old mid new : State) (rows : Rows) → StaysAs old mid → IsUnchanged mid new → IsSettled new → Stands old rows → Rests new rows
+rests_along old mid new rows stays same settled stands =
+    let now = stands_along mid new rows (stays rows stands) same in
+    (now, leaves_commit new rows now settled)
+
+ends_illegal : (old mid new : State) (next : ℕ) (entries : List Record) (legal : Bool) → Turns old mid next entries legal → legal ≡ false → StaysAs old mid → IsUnchanged mid new → IsSettled new
+    → EndsSo old new next entries Illegal
+ends_illegal old mid new next entries legal turns is stays same settled records at =
+    (λ yes. absurd (let no = sym (turns.judges records at) ∙ is in let h = yes in cc), rests_along old mid new (rows_of records) stays same settled at.stands)
+
+leaves_all : (a b : State) (next : ℕ) (entries records : List Record) → Survives a b (CommitsAll a next entries) → HasCleanDisk b → HoldsAt a next records → IsSettled a → RestsInDoubt b records entries
+leaves_all a b next entries records s clean at settled db may = elim (s.crash clean db may) [
+  | inl was ↦ (rows_of records, inl refl, rw (settled db at.stands.is_open was) at.stands.committed.tables)
+  | inr new ↦ let now = new records at in (rows_of (records ++ entries), inr (now.0, refl), now.1)
+]
+
+doubts_all : (a b c : State) (next : ℕ) (entries : List Record) → Survives a b (CommitsAll a next entries) → Survives b c (λ _. ⊥) → HasCleanDisk c → IsSettled a
+    → (records : List Record) → HoldsAt a next records → RestsInDoubt c records entries
+doubts_all a b c next entries s probed clean settled records at =
+    let early : HasCleanDisk b = omega (arith, clean, probed.clean) in
+    leaves_along b c _ probed clean (leaves_all a b next entries records s early at settled)
+
+-- how the write ends, by what is told of the transaction
+pub ends_told : (old mid new : State) (next : ℕ) (entries : List Record) (tried : Result Bool Error) (told : Written) → IfOk tried (Turns old mid next entries)
+    → ((tried ≡ Ok true → ⊥) → IsTrue mid.is_open → StaysAs old mid) → Survives old mid (CommitsAll old next entries) → Survives mid new (λ _. ⊥) → HasCleanDisk new
+    → Tells mid new tried told → (told ≡ Made → StaysAs mid new) → (IsUnwritten told → IsUnchanged mid new) → IsSettled old → IsSettled new → EndsSo old new next entries told
+ends_told old mid new next entries tried Made turns undone first later clean told made same was_settled settled = λ records at.
+    let turned : Turns old mid next entries true = subst (λ t. IfOk t (Turns old mid next entries)) told turns in
+    let now = made refl (rows_of (records ++ entries)) (turned.makes refl records at) in
+    (sym (turned.judges records at), (now, leaves_commit new (rows_of (records ++ entries)) now settled))
+ends_told old mid new next entries tried Illegal turns undone first later clean told made same was_settled settled =
+    let turned : Turns old mid next entries false = subst (λ t. IfOk t (Turns old mid next entries)) told turns in
+    let unchanged = same tt in
+    ends_illegal old mid new next entries false turned refl (undone (λ yes. absurd (let a = sym told ∙ yes in cc)) unchanged.0.was_open) unchanged settled
+ends_told old mid new next entries tried OutOfMemory turns undone first later clean told made same was_settled settled = λ rows stands.
+    let unchanged = same tt in
+    rests_along old mid new rows (undone (λ yes. absurd (let a = sym told.1 ∙ yes in cc)) unchanged.0.was_open) unchanged settled stands
+ends_told old mid new next entries tried (Doubtful error) turns undone first later clean told made same was_settled settled = doubts_all old mid new next entries first later clean was_settled
