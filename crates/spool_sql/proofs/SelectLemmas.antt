@@ -23,9 +23,9 @@ use Rattle.sqlite.specs.Listing.{understood, reads_listing}
 use Rattle.sqlite.specs.State.{State, Shown}
 use Rattle.sqlite.proofs.Callers.{reads_as, one_permutation}
 use Rattle.sqlite_tied.specs.Compute.{everything}
-use Rattle.relay_types.specs.Rows.{Rows, EndpointRow, DeliveryRow}
+use Rattle.relay_types.specs.Rows.{Rows, EndpointRow}
 use Rattle.spool_sql.specs.Tables.{relay_schema}
-use Rattle.spool_sql.specs.Stored.{IsTables, IsPutOf, is_delivery, number_of, endpoints_named, endpoint_stored, delivery_stored}
+use Rattle.spool_sql.specs.Stored.{IsTablesOf, IsPutOf, is_delivery, has_id, number_of, endpoints_named, endpoint_stored, delivery_stored}
 use Rattle.spool_sql.proofs.BareLemmas.{IsBare}
 use Rattle.spool_sql.proofs.InsertLemmas.{Means}
 use Rattle.spool_sql.proofs.UpdateLemmas.{scan, shows, passes, scanned}
@@ -41,7 +41,7 @@ named_select = codes "SELECT put FROM endpoints WHERE name = ?1"
 abbrev by_name : List Term
 by_name = op2 (Compare Eq Binary) (col 1 2) (col 0 0) ∷ []
 
-named_select_asks : Asks relay_schema named_select (scan 1 by_name (col 1 0 ∷ [])) (codes "put" ∷ [])
+pub named_select_asks : Asks relay_schema named_select (scan 1 by_name (col 1 0 ∷ [])) (codes "put" ∷ [])
 unfolding understood everything
 named_select_asks = record { means = record { is = refl; plain = (refl, refl) }; unlisted = refl }
 
@@ -52,7 +52,7 @@ named_select_bare schema base = refl
 abbrev pub endpoints_select : List ℕ
 endpoints_select = codes "SELECT put FROM endpoints"
 
-endpoints_select_asks : Asks relay_schema endpoints_select (scan 1 [] (col 1 0 ∷ [])) (codes "put" ∷ [])
+pub endpoints_select_asks : Asks relay_schema endpoints_select (scan 1 [] (col 1 0 ∷ [])) (codes "put" ∷ [])
 unfolding understood everything
 endpoints_select_asks = record { means = record { is = refl; plain = (refl, refl) }; unlisted = refl }
 
@@ -66,7 +66,7 @@ delivery_select = codes "SELECT seq FROM deliveries WHERE endpoint = ?1 AND id =
 abbrev by_id : List Term
 by_id = op2 (Compare Eq Binary) (col 1 2) (col 0 0) ∷ op2 (Compare Eq Binary) (col 1 3) (col 0 1) ∷ []
 
-delivery_select_asks : Asks relay_schema delivery_select (scan 5 by_id (col 1 0 ∷ [])) (codes "seq" ∷ [])
+pub delivery_select_asks : Asks relay_schema delivery_select (scan 5 by_id (col 1 0 ∷ [])) (codes "seq" ∷ [])
 unfolding understood everything
 delivery_select_asks = record { means = record { is = refl; plain = (refl, refl) }; unlisted = refl }
 
@@ -125,33 +125,11 @@ module _ (schema : Schema) (sql : List ℕ) (tree : ℕ) (tests shown : List Ter
   found_in old new found has h =
       scanned tree tests shown old.now.schema old.now.trees params found (reads_as sql params old new schema has _ asks.means.is asks.means.plain asks.unlisted found h)
 
--- ---- the three queries
-
 abbrev pub put_shown : EndpointRow → Row
 put_shown e = Int (pos e.put) ∷ []
 
-pub finds_named : (name : List ℕ) (old new : State) (found : List Row) → Shown named_select (Text name ∷ []) old new found → (rows : Rows) → IsTables old.now rows
-    → IsPermutation (map put_shown (endpoints_named name rows)) found
-finds_named name old new found h rows t =
-    finds endpoint_stored (Text name ∷ []) by_name (col 1 0 ∷ []) (λ (e : EndpointRow). bytes_eq e.name name) (λ e. and_true _ ∙ equal_texts e.name name) (old.now.trees 1) rows.endpoints found t.tables.endpoints
-    (found_in relay_schema named_select 1 by_name (col 1 0 ∷ []) _ named_select_asks (Text name ∷ []) old new found t.schema_is h)
-
-pub finds_endpoints : (old new : State) (found : List Row) → Shown endpoints_select [] old new found → (rows : Rows) → IsTables old.now rows
-    → IsPermutation (map put_shown (filter (λ _. true) rows.endpoints)) found
-finds_endpoints old new found h rows t =
-    finds endpoint_stored [] [] (col 1 0 ∷ []) (λ _. true) (λ e. refl) (old.now.trees 1) rows.endpoints found t.tables.endpoints
-    (found_in relay_schema endpoints_select 1 [] (col 1 0 ∷ []) _ endpoints_select_asks [] old new found t.schema_is h)
-
 abbrev pub delivery_params : ℕ → List ℕ → Row
 delivery_params endpoint id = Int (pos endpoint) ∷ Text id ∷ []
-
-pub finds_delivery : (endpoint : ℕ) (id : List ℕ) (old new : State) (found : List Row) → Shown delivery_select (delivery_params endpoint id) old new found → (rows : Rows) → IsTables old.now rows
-    → IsPermutation (map (λ (d : DeliveryRow). Int (pos d.seq) ∷ []) (filter (is_delivery endpoint id) rows.deliveries)) found
-finds_delivery endpoint id old new found h rows t =
-    finds delivery_stored (delivery_params endpoint id) by_id (col 1 0 ∷ []) (is_delivery endpoint id) (λ d. rw (equal_numbers d.endpoint endpoint, equal_texts d.id id) (ap (λ b. (d.endpoint == endpoint) && b) (and_true (bytes_eq d.id id))))
-    (old.now.trees 5) rows.deliveries found t.tables.deliveries (found_in relay_schema delivery_select 5 by_id (col 1 0 ∷ []) _ delivery_select_asks (delivery_params endpoint id) old new found t.schema_is h)
-
--- ---- what their answers say
 
 all_kept : {X : Type 0} (xs : List X) → filter (λ _. true) xs ≡ xs
 all_kept [] = refl
@@ -165,16 +143,6 @@ any_kept q (x ∷ xs) = tested (q x) (any_kept q xs)
     tested true e = grind (arith, nat_tests)
     tested false e = e
 
-pub counts_endpoints : (old new : State) (found : List Row) → Shown endpoints_select [] old new found → (rows : Rows) → IsTables old.now rows → length found ≡ length rows.endpoints
-counts_endpoints old new found h rows t =
-    length_permutation _ found (finds_endpoints old new found h rows t) ∙ length-map _ put_shown ∙ ap length (all_kept rows.endpoints)
-
-pub tells_delivery : (endpoint : ℕ) (id : List ℕ) (old new : State) (found : List Row) → Shown delivery_select (delivery_params endpoint id) old new found → (rows : Rows) → IsTables old.now rows
-    → not (length found == 0) ≡ list_any (is_delivery endpoint id) rows.deliveries
-tells_delivery endpoint id old new found h rows t =
-    let many = length_permutation _ found (finds_delivery endpoint id old new found h rows t) ∙ length-map (filter (is_delivery endpoint id) rows.deliveries) _ in
-    ap (λ n. not (n == 0)) many ∙ any_kept (is_delivery endpoint id) rows.deliveries
-
 first_number : (found : List Row) → slice_get (map number_of found) 0 ≡ option_map number_of (slice_get found 0)
 first_number [] = refl
 first_number (r ∷ rest) = refl
@@ -182,10 +150,30 @@ first_number (r ∷ rest) = refl
 puts_of : (name : List ℕ) (rows : Rows) (found : List Row) → IsPermutation (map put_shown (endpoints_named name rows)) found → IsPermutation (map (λ (e : EndpointRow). e.put) (endpoints_named name rows)) (map number_of found)
 puts_of name rows found same = subst (λ l. IsPermutation l (map number_of found)) (map_map put_shown number_of (endpoints_named name rows)) (IsPermutation-map number_of _ _ same)
 
-pub tells_put : (name : List ℕ) (old new : State) (found : List Row) → Shown named_select (Text name ∷ []) old new found → (put : Option ℕ) → put ≡ option_map number_of (slice_get found 0)
-    → (rows : Rows) → IsTables old.now rows → IsPutOf name rows put
-tells_put name old new found h put is rows t =
-    (map number_of found, puts_of name rows found (finds_named name old new found h rows t), is ∙ sym (first_number found))
+-- ---- the three queries and what their answers say, whatever the version of the tables
+
+module _ (schema : Schema) (version : ℕ) (old new : State) (found : List Row) (rows : Rows) (t : IsTablesOf schema version old.now rows) where
+  pub counts_endpoints : Asks schema endpoints_select (scan 1 [] (col 1 0 ∷ [])) (codes "put" ∷ []) → Shown endpoints_select [] old new found → length found ≡ length rows.endpoints
+  counts_endpoints asks h =
+      let same = finds endpoint_stored [] [] (col 1 0 ∷ []) (λ _. true) (λ e. refl) (old.now.trees 1) rows.endpoints found t.tables.endpoints
+      (found_in schema endpoints_select 1 [] (col 1 0 ∷ []) _ asks [] old new found t.schema_is h) in
+      length_permutation _ found same ∙ length-map _ put_shown ∙ ap length (all_kept rows.endpoints)
+
+  pub tells_delivery : Asks schema delivery_select (scan 5 by_id (col 1 0 ∷ [])) (codes "seq" ∷ []) → (endpoint : ℕ) (id : List ℕ) → Shown delivery_select (delivery_params endpoint id) old new found
+      → not (length found == 0) ≡ has_id rows endpoint id
+  tells_delivery asks endpoint id h =
+      let same = finds delivery_stored (delivery_params endpoint id) by_id (col 1 0 ∷ []) (is_delivery endpoint id)
+      (λ d. rw (equal_numbers d.endpoint endpoint, equal_texts d.id id) (ap (λ b. (d.endpoint == endpoint) && b) (and_true (bytes_eq d.id id))))
+      (old.now.trees 5) rows.deliveries found t.tables.deliveries (found_in schema delivery_select 5 by_id (col 1 0 ∷ []) _ asks (delivery_params endpoint id) old new found t.schema_is h) in
+      let many = length_permutation _ found same ∙ length-map (filter (is_delivery endpoint id) rows.deliveries) _ in
+      ap (λ n. not (n == 0)) many ∙ any_kept (is_delivery endpoint id) rows.deliveries
+
+  pub tells_put : Asks schema named_select (scan 1 by_name (col 1 0 ∷ [])) (codes "put" ∷ []) → (name : List ℕ) → Shown named_select (Text name ∷ []) old new found
+      → (put : Option ℕ) → put ≡ option_map number_of (slice_get found 0) → IsPutOf name rows put
+  tells_put asks name h put is =
+      let same = finds endpoint_stored (Text name ∷ []) by_name (col 1 0 ∷ []) (λ (e : EndpointRow). bytes_eq e.name name) (λ e. and_true _ ∙ equal_texts e.name name) (old.now.trees 1) rows.endpoints found t.tables.endpoints
+      (found_in schema named_select 1 by_name (col 1 0 ∷ []) _ asks (Text name ∷ []) old new found t.schema_is h) in
+      (map number_of found, puts_of name rows found same, is ∙ sym (first_number found))
 
 -- ---- for callers, where a name is that of at most one endpoint
 

@@ -1,6 +1,7 @@
 use Rattle.sqlite.specs.Held.{state}
+use Rattle.spool_sql.specs.Tables.{relay_schema}
 use Rattle.spool_sql.proofs.BareLemmas.{unchanged_by, spares_found, spares_failed}
-use Rattle.spool_sql.proofs.SelectLemmas.{named_select, named_select_bare, tells_put}
+use Rattle.spool_sql.proofs.SelectLemmas.{named_select, named_select_asks, named_select_bare, tells_put}
 use Rattle.spool_sql.proofs.StepLemmas.{ok_then, ok_always}
 use Rattle.spool_sql.proofs.find.select_put.Goals as goal
 
@@ -10,7 +11,8 @@ returns-clause-unchanged g c clean =
 
 pub returns-clause-found : goal.returns-clause-found
 returns-clause-found g c clean =
-    ok_then c.first_number.result _ _ c.first_number.ensures (λ put is rows t. tells_put c.args.name.now (state g.S.Store c.args.tx.now.conn.now) (state g.S.Store c.query_all.new.self.conn.now) c.in_ok-rows.rows.items (c.in_ok-rows.ensures.ok clean) put (rw c.deref.ensures.value at is) rows t)
+    ok_then c.first_number.result _ _ c.first_number.ensures (λ put is rows t.
+    tells_put relay_schema 1 (state g.S.Store c.args.tx.now.conn.now) (state g.S.Store c.query_all.new.self.conn.now) c.in_ok-rows.rows.items rows t named_select_asks c.args.name.now (c.in_ok-rows.ensures.ok clean) put (rw c.deref.ensures.value at is))
 
 pub returns-clause-spares : goal.returns-clause-spares
 returns-clause-spares g c =
