@@ -1,6 +1,6 @@
 -- The moves by which a desk seals what waits, and settles what was committed.
-use Rattle.std.proofs.Common.{◌≡◌, ◌+◌, ◌≤◌, Bool, true, false, List, [], ◌∷◌, Option, Some, None, length, take, drop, refl, sym, ◌∙◌, ap, arith, subst, inl, inr, eqb, length-append}
-use Rattle.std.specs.Prelude.{Ok, Err, not, IsSomeAnd, if◌then◌else◌}
+use Rattle.std.proofs.Common.{◌≡◌, ℕ, ◌+◌, ◌≤◌, Bool, true, false, List, [], ◌∷◌, Option, Some, None, length, take, drop, refl, sym, ◌∙◌, ap, arith, subst, inl, inr, eqb, length-append}
+use Rattle.std.specs.Prelude.{Ok, Err, not, ◌&&◌, if◌then◌else◌}
 use Rattle.std.proofs.lemmas.Bool.{eq-eqb, ne_eqb}
 use Rattle.std.proofs.lemmas.List.{length-drop, take_all}
 use Rattle.relay_types.specs.declared.record.Record.{Record}
@@ -9,15 +9,16 @@ use Rattle.delivery_book.specs.Book as book
 use Rattle.delivery_book.specs.Entries.{with_settled}
 use Rattle.delivery_book.proofs.Laws.{stands_settled}
 use Rattle.spool.specs.Runs.{Run}
+use Rattle.desk.specs.declared.desk.WrongTurn.{WrongTurn}
 use Rattle.desk.specs.declared.event.Event.TheVariants as on
 use Rattle.desk.specs.declared.reply.Fault.TheVariants as fault
 use Rattle.desk.specs.declared.reply.Reply.{Reply}
 use Rattle.desk.specs.declared.reply.Reply.TheVariants as says
-use Rattle.desk.specs.World.{World, Receipt, all_records, settled_records, sealed_records, waiting_records}
-use Rattle.desk.specs.Moves.{Answer, refused, is_nothing_out, with_batch, seal, seal_waiting, settle, settle_of, memory_refusal}
+use Rattle.desk.specs.World.{World, all_records, settled_records, sealed_records, waiting_records}
+use Rattle.desk.specs.Moves.{Answer, refused, is_nothing_out, with_batch, seal, seal_waiting, has_new_batch}
 use Rattle.desk.specs.Desks.{DeskValue, StandsFor, Seals, Settles, steps_of, run_of}
 use Rattle.desk.proofs.DeskLists.{records_of-split}
-use Rattle.desk.proofs.DeskLaws.{settled_within, all_settled}
+use Rattle.desk.proofs.DeskLaws.{settled_within, all_settled, lacks_memory}
 
 empty : {X : Type 0} (xs : List X) → length xs ≡ 0 → xs ≡ []
 empty [] e = refl
@@ -48,15 +49,16 @@ one_waits {d} {w} step h some = omega (arith, settled_within h, length-drop w.se
 seal_some : (d : DeskValue) (w : World) (step : List Record) → StandsFor d w → d.is_out ≡ false → d.waiting ≡ Some step → seal w ≡ seal_waiting w false
 seal_some d w step h in_hand some = seal_is d w h in_hand false (ne_eqb (length w.history) w.settled (λ e. absurd (omega (arith, e, one_waits step h some))))
 
+is_free : (free : Bool) → not free ≡ false → free ≡ true
+is_free true e = refl
+is_free false e = sym e
+
 pub seal-memory : (d : DeskValue) (step : List Record) → d.is_out ≡ false → d.waiting ≡ Some step → Seals d (Err (record { number = 3; fault = fault.OutOfMemory })) d
-seal-memory d step in_hand some = λ w h. (
-  w,
-  inr (inl (subst
-      (λ (answer : Answer). IsSomeAnd (memory_refusal on.Seal answer.reply) (λ number. (says.Refused 3 fault.OutOfMemory ≡ says.Refused number fault.OutOfMemory) × (w ≡ w)))
-      (sym (seal_some d w step h in_hand some)) (refl, refl))),
-  h,
-  tt,
-)
+seal-memory d step in_hand some = λ w h.
+    let made : has_new_batch w (seal w).next ≡ true =
+    ap (λ (answer : Answer). has_new_batch w answer.next) (seal_some d w step h in_hand some)
+    ∙ ap (λ free. free && true) (is_free (is_nothing_out w.out) (sym h.is_out ∙ in_hand)) in
+    (w, inr (inl (lacks_memory w 3 (has_new_batch w (seal w).next) made)), h, tt)
 
 -- all records are sealed then
 all_sealed : {d : DeskValue} {w : World} (step : List Record) → StandsFor d w → d.waiting ≡ Some step → (with_batch w).sealed ≡ length w.history
@@ -109,24 +111,18 @@ out_waits {d} {w} h out =
     at_most None = omega arith
     at_most (Some step) = omega arith
 
-pub is_receipt_out : {d : DeskValue} {w : World} → StandsFor d w → w.out ≡ Receipt → d.is_out ≡ true
-is_receipt_out {d} {w} h out = h.is_out ∙ ap (λ o. not (is_nothing_out o)) out
-
-pub settle-made : (d : DeskValue) (receipt : Run) → d.is_out ≡ true → Settles d receipt (says.SettledTo d.records) (with_all_settled d)
-settle-made d receipt is_out = λ w h out same.
+pub settle-made : (d : DeskValue) (receipt : Run) → d.is_out ≡ true → receipt.mark ≡ d.mark → receipt.from ≡ d.settled → Settles d receipt (Ok d.records) (with_all_settled d)
+settle-made d receipt is_out marked begins = λ w h.
     let sealed : w.sealed ≡ length w.history = out_waits h is_out in
-    let e : settle w ≡ settle_of Receipt w = ap (λ o. settle_of o w) out in
-    let all : take w.sealed w.history ≡ w.history = take_all w.sealed w.history (omega (arith, sealed)) in
-    let none : drop w.sealed w.history ≡ [] = empty (drop w.sealed w.history) (omega (arith, length-drop w.sealed w.history, sealed)) in (
-      (settle_of Receipt w).next,
-      inl (
-        ap says.SettledTo (h.records ∙ ap (λ steps. length (records_of steps)) (sym all)) ∙ sym (ap (λ (a : Answer). a.reply) e),
-        sym (ap (λ (a : Answer). a.next) e),
-      ),
+    let all : sealed_records w ≡ all_records w = ap records_of (take_all w.sealed w.history (omega (arith, sealed))) in
+    let none : drop w.sealed w.history ≡ [] = empty (drop w.sealed w.history) (omega (arith, length-drop w.sealed w.history, sealed)) in
+    let counted : d.records ≡ length (sealed_records w) = h.records ∙ ap length (sym all) in (
+      (is_taken (is_nothing_out w.out) (sym h.is_out ∙ is_out), marked, begins ∙ h.settled),
+      counted,
       record {
         clock = h.clock;
         endpoints = h.endpoints;
-        deliveries = subst (λ n. book.StandsFor (with_all_settled d).deliveries (all_records w) n) (h.records ∙ ap (λ steps. length (records_of steps)) (sym all))
+        deliveries = subst (λ n. book.StandsFor (with_all_settled d).deliveries (all_records w) n) counted
             (stands_settled d.deliveries (all_records w) (length (settled_records w)) d.records h.deliveries (omega (arith, h.records)));
         waiting = none;
         one_each = ap (λ steps. length (records_of steps)) none;
@@ -134,20 +130,27 @@ settle-made d receipt is_out = λ w h out same.
         sealed = refl;
         sealed_within = h.sealed_within;
         records = h.records;
-        settled = h.records ∙ ap (λ steps. length (records_of steps)) (sym all);
+        settled = counted;
         legal = h.legal;
         kinds = h.kinds;
       },
     )
+  where
+    is_taken : (free : Bool) → not free ≡ true → free ≡ false
+    is_taken false e = refl
+    is_taken true e = sym e
 
-pub settle-turned : (d : DeskValue) (receipt : Run) (reply : Reply) (new : DeskValue) → (d.is_out ≡ true → receipt.mark ≡ d.mark → receipt.from ≡ d.settled → ⊥) → Settles d receipt reply new
-settle-turned d receipt reply new wrong = λ w h out same.
-    absurd (wrong (is_receipt_out h out) (ap (λ (r : Run). r.mark) same) (ap (λ (r : Run). r.from) same ∙ sym h.settled))
+-- a receipt that the desk doesn't take isn't that of what is out
+pub settle-turned : (d : DeskValue) (receipt : Run) (back : Run × WrongTurn) → (d.is_out ≡ true → receipt.mark ≡ d.mark → receipt.from ≡ d.settled → ⊥) → Settles d receipt (Err back) d
+settle-turned d receipt back wrong = λ w h. (
+  (λ is. wrong (h.is_out ∙ ap not is.0) is.1 (is.2 ∙ sym h.settled)),
+  h,
+)
 
 -- the same answer and desk, in other words
 
 pub seals_so : {old new : DeskValue} {batch : Run} → Seals old (Ok (Some batch)) new → (a : Run) (b : DeskValue) → a ≡ batch → b ≡ new → Seals old (Ok (Some a)) b
 seals_so {old} {new} {batch} s a b e f = subst (λ (x : Run). Seals old (Ok (Some x)) b) (sym e) (subst (λ (y : DeskValue). Seals old (Ok (Some batch)) y) (sym f) s)
 
-pub settles_so : {old new : DeskValue} {receipt : Run} {reply : Reply} → Settles old receipt reply new → (a : Reply) (b : DeskValue) → a ≡ reply → b ≡ new → Settles old receipt a b
-settles_so {old} {new} {receipt} {reply} s a b e f = subst (λ (x : Reply). Settles old receipt x b) (sym e) (subst (λ (y : DeskValue). Settles old receipt reply y) (sym f) s)
+pub settles_so : (old new : DeskValue) (receipt : Run) (n : ℕ) → Settles old receipt (Ok n) new → (a : ℕ) (b : DeskValue) → a ≡ n → b ≡ new → Settles old receipt (Ok a) b
+settles_so old new receipt n s a b e f = subst (λ (x : ℕ). Settles old receipt (Ok x) b) (sym e) (subst (λ (y : DeskValue). Settles old receipt (Ok n) y) (sym f) s)

@@ -8,15 +8,12 @@ use Rattle.std.proofs.lemmas.Bool.{cases_Bool, false≢true}
 use Rattle.std.proofs.lemmas.Slice.Eq.{bytes_eq-Decides}
 use Rattle.relay_types.specs.declared.record.Record.{Record}
 use Rattle.relay_types.specs.declared.state.State.TheVariants.{Pending}
-use Rattle.relay_types.specs.Lists.{last_of}
 use Rattle.relay_types.specs.Records.{Accepted, accepted_by}
-use Rattle.relay_types.specs.Deliveries.{accepted, is_accept, is_accept_of, is_accept_as, deliveries, deliveries_of, known_as, is_in_state, state_of, attempts_of, due_if_pending}
+use Rattle.relay_types.specs.Deliveries.{accepted, is_accept, is_accept_of, is_accept_as, deliveries, deliveries_of, known_as, is_in_state, state_of}
 use Rattle.delivery_book.specs.Book.{row_of, counts_of, counts_of_all}
 use Rattle.desk.specs.declared.reply.Fault.TheVariants as fault
-use Rattle.desk.specs.declared.reply.Reply.{Reply}
-use Rattle.desk.specs.declared.reply.Reply.TheVariants as says
-use Rattle.desk.specs.Moves.{event_shown, has_body, pending_among}
-use Rattle.desk.specs.Desks.{event_reply, first_fault, same_faults, backlog_faults}
+use Rattle.desk.specs.Moves.{has_body, pending_among}
+use Rattle.desk.specs.Desks.{first_fault, same_faults, backlog_faults}
 
 -- An event's number among the first records
 
@@ -85,27 +82,19 @@ passes : (o : Option Accepted) (f : Accepted → Bool) → option_map_or f o fal
 passes None f e = e
 passes (Some a) f e = refl
 
-pub event_unknown : (first rest : List Record) (name id : List ℕ) → known_as (first ++ rest) name id ≡ None → says.Absent ≡ option_map_or (event_shown first) (known_as first name id) says.Absent
-event_unknown first rest name id e = ap (λ o. option_map_or (event_shown first) o says.Absent) (sym (unknown_first (is_accept_as name id) 0 first rest e))
+pub event_unknown : (first rest : List Record) (name id : List ℕ) → known_as (first ++ rest) name id ≡ None → None ≡ option_and_then (row_of first) (known_as first name id)
+event_unknown first rest name id e = ap (option_and_then (row_of first)) (sym (unknown_first (is_accept_as name id) 0 first rest e))
 
 pub event_known : (first rest : List Record) (name id : List ℕ) (d : ℕ) → known_as (first ++ rest) name id ≡ Some d
-    → event_reply (row_of first d) ≡ option_map_or (event_shown first) (known_as first name id) says.Absent
+    → row_of first d ≡ option_and_then (row_of first) (known_as first name id)
 event_known first rest name id d e = step (accepted first d) refl
   where
-    shown : Option Accepted → Reply
-    shown o = event_reply (option_map (λ a. record {
-      endpoint = a.endpoint;
-      id = a.id;
-      at = a.at;
-      attempts = length (attempts_of first d);
-      state = state_of first d;
-      due = due_if_pending first d;
-      last_status = option_map (λ t. t.status) (last_of (attempts_of first d));
-    }) o)
+    none : accepted first d ≡ None → row_of first d ≡ None
+    none h = rw h refl
 
-    step : (o : Option Accepted) → accepted first d ≡ o → shown o ≡ option_map_or (event_shown first) (known_as first name id) says.Absent
-    step None h = ap (λ k. option_map_or (event_shown first) k says.Absent) (sym (unknown_later (is_accept_as name id) (λ r t. passes (accepted_by r) _ t) 0 d d first rest (omega arith) e h))
-    step (Some a) h = ap (λ k. option_map_or (event_shown first) k says.Absent) (sym (known_first (is_accept_as name id) 0 d d first rest a (omega arith) e h))
+    step : (o : Option Accepted) → accepted first d ≡ o → row_of first d ≡ option_and_then (row_of first) (known_as first name id)
+    step None h = none h ∙ ap (option_and_then (row_of first)) (sym (unknown_later (is_accept_as name id) (λ r t. passes (accepted_by r) _ t) 0 d d first rest (omega arith) e h))
+    step (Some a) h = ap (option_and_then (row_of first)) (sym (known_first (is_accept_as name id) 0 d d first rest a (omega arith) e h))
 
 -- Pending deliveries
 

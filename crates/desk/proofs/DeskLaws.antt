@@ -31,8 +31,8 @@ use Rattle.desk.specs.declared.reply.Fault.TheVariants as fault
 use Rattle.desk.specs.declared.reply.Reply.{Reply}
 use Rattle.desk.specs.declared.reply.Reply.TheVariants as says
 use Rattle.desk.specs.World.{World, all_records, settled_records, waiting_records}
-use Rattle.desk.specs.Moves.{Answer, Move, served, refused, unless, moment, at_moment, with_record, staged, repeated, has_body, is_waiting_full, submit, submit_new, change, memory_refusal, show_event}
-use Rattle.desk.specs.Desks.{DeskValue, StandsFor, IsMove, steps_of, first_fault, same_faults, backlog_faults, waiting_faults, with_step, with_put, with_accept, staged_reply, event_reply}
+use Rattle.desk.specs.Moves.{Answer, Move, served, refused, unless, moment, at_moment, with_record, staged, repeated, has_body, is_waiting_full, submit, submit_new, change, has_new_record, event_row}
+use Rattle.desk.specs.Desks.{DeskValue, StandsFor, IsMove, steps_of, first_fault, same_faults, backlog_faults, waiting_faults, with_step, with_put, with_accept, staged_reply}
 use Rattle.desk.proofs.DeskLists.{records_of-snoc, records_of-split, named_any, legal-snoc}
 use Rattle.desk.proofs.DeskEvents.{event_unknown, event_known}
 
@@ -279,6 +279,16 @@ accepted_submit d w now name id body u v h e f g k =
     ∙ fault_passes (backlog_faults (all_records w) name) w (unless (waiting_faults d 6 7) w (taken w now name id body)) u g
     ∙ fault_passes (waiting_faults d 6 7) w (taken w now name id body) v k
 
+-- one more record is a new one
+record_grows : (w : World) (entry : Record) → has_new_record w (with_record w entry) ≡ true
+record_grows w entry = lt-ltb (length w.history) (length (w.history ++ (entry ∷ []) ∷ [])) (omega (arith, length-append w.history ((entry ∷ []) ∷ [])))
+
+-- a call that takes memory may be refused for want of it
+pub lacks_memory : (w : World) (number : ℕ) (grows : Bool) → grows ≡ true
+    → IsSomeAnd (if grows then Some number else None) (λ (n : ℕ). (says.Refused number fault.OutOfMemory ≡ says.Refused n fault.OutOfMemory) × (w ≡ w))
+lacks_memory w number true e = (refl, refl)
+lacks_memory w number false e = cc
+
 -- what the book says of an event, and what the desk looked for, in each world for which the desk stands
 abbrev pub Finds : DeskValue → List ℕ → List ℕ → Option ℕ → Type 0
 Finds d name id found = (w : World) → StandsFor d w → found ≡ known_as (all_records w) name id
@@ -322,13 +332,11 @@ submit-waiting d now name id body u r e f g k = λ w h.
 
 pub submit-memory : (d : DeskValue) (now : ℕ) (name id body : List ℕ) (u v : Unit {0}) → list_any (λ known. bytes_eq known name) d.endpoints ≡ true → Finds d name id None
     → Checks d (λ w. backlog_faults (all_records w) name) (Ok u) → first_fault (waiting_faults d 6 7) ≡ Ok v → IsMove d (on.Submit now name id body) (says.Refused 8 fault.OutOfMemory) d
-submit-memory d now name id body u v e f g k = λ w h. (
-  w,
-  inr (inl (subst
-      (λ (answer : Answer). IsSomeAnd (memory_refusal (on.Submit now name id body) answer.reply) (λ number. (says.Refused 8 fault.OutOfMemory ≡ says.Refused number fault.OutOfMemory) × (w ≡ w)))
-      (sym (accepted_submit d w now name id body u v h e (sym (f w h)) (sym (g w h)) k)) (refl, refl))),
-  h,
-)
+submit-memory d now name id body u v e f g k = λ w h.
+    let grows : has_new_record w (submit w now name id body).next ≡ true =
+    ap (λ (answer : Answer). has_new_record w answer.next) (accepted_submit d w now name id body u v h e (sym (f w h)) (sym (g w h)) k)
+    ∙ record_grows w (Accept name id body (moment w now)) in
+    (w, inr (inl (lacks_memory w 8 (has_new_record w (submit w now name id body).next) grows)), h)
 
 pub submit-staged : (d : DeskValue) (now : ℕ) (name id body : List ℕ) (u v : Unit {0}) → list_any (λ known. bytes_eq known name) d.endpoints ≡ true → Finds d name id None
     → Checks d (λ w. backlog_faults (all_records w) name) (Ok u) → first_fault (waiting_faults d 6 7) ≡ Ok v → IsTrue (is_within_limits (Accept name id body (max now d.clock)))
@@ -351,12 +359,12 @@ submit-staged d now name id body u v e f g k limits = λ w h.
 settled_first : {d : DeskValue} {w : World} → StandsFor d w → all_records w ≡ settled_records w ++ waiting_records w
 settled_first {d} {w} h = records_of-split w.settled w.history
 
-pub event_absent : {d : DeskValue} {w : World} → StandsFor d w → (name id : List ℕ) → None ≡ known_as (all_records w) name id → says.Absent ≡ show_event w name id
+pub event_absent : {d : DeskValue} {w : World} → StandsFor d w → (name id : List ℕ) → None ≡ known_as (all_records w) name id → None ≡ event_row w name id
 event_absent {d} {w} h name id e =
     event_unknown (settled_records w) (waiting_records w) name id (ap (λ records. known_as records name id) (sym (settled_first h)) ∙ sym e)
 
 pub event_found : {d : DeskValue} {w : World} → StandsFor d w → (name id : List ℕ) (delivery : ℕ) {row : Option Row} → Some delivery ≡ known_as (all_records w) name id
-    → row ≡ row_of (take (length (settled_records w)) (all_records w)) delivery → event_reply row ≡ show_event w name id
+    → row ≡ row_of (take (length (settled_records w)) (all_records w)) delivery → row ≡ event_row w name id
 event_found {d} {w} h name id delivery e f =
-    ap event_reply (f ∙ ap (λ records. row_of records delivery) (ap (take (length (settled_records w))) (settled_first h) ∙ take-append_seam (settled_records w) (waiting_records w)))
+    f ∙ ap (λ records. row_of records delivery) (ap (take (length (settled_records w))) (settled_first h) ∙ take-append_seam (settled_records w) (waiting_records w))
     ∙ event_known (settled_records w) (waiting_records w) name id delivery (ap (λ records. known_as records name id) (sym (settled_first h)) ∙ sym e)

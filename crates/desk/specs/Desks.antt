@@ -1,5 +1,5 @@
 -- What a desk keeps, the worlds for which it stands, and what its calls answer.
-use Rattle.std.specs.Prelude.{◌≡◌, ℕ, ◌≤◌, ◌+◌, ◌^◌, Bool, not, nat_le, List, [], ◌∷◌, ◌++◌, length, take, drop, map, Option, Some, None, is_some, Result, Ok, Err, IsTrue, if◌then◌else◌}
+use Rattle.std.specs.Prelude.{◌≡◌, ℕ, ◌≤◌, ◌+◌, ◌^◌, Bool, false, not, nat_le, List, [], ◌∷◌, ◌++◌, length, take, drop, map, Option, Some, None, is_some, Result, Ok, Err, IsTrue, if◌then◌else◌}
 use Rattle.std.specs.List.{list_all}
 use Rattle.relay_types.specs.declared.record.Record.{Record}
 use Rattle.relay_types.specs.declared.record.Record.TheVariants.{Put, Accept}
@@ -7,7 +7,6 @@ use Rattle.relay_types.specs.Records.{History, records_of}
 use Rattle.relay_types.specs.Deliveries.{accepted, deliveries, deliveries_of}
 use Rattle.relay_types.specs.Endpoints.{endpoints}
 use Rattle.relay_types.specs.Legal.{IsLegal}
-use Rattle.delivery_book.specs.declared.row.Row.{Row}
 use Rattle.delivery_book.specs.Entries.{BookValue, with_entry}
 use Rattle.delivery_book.specs.Book as book
 use Rattle.spool.specs.Runs.{Run, is_put_or_accept, ArePutsAndAccepts}
@@ -19,8 +18,8 @@ use Rattle.desk.specs.declared.reply.Fault.{Fault}
 use Rattle.desk.specs.declared.reply.Fault.TheVariants as fault
 use Rattle.desk.specs.declared.reply.Reply.{Reply}
 use Rattle.desk.specs.declared.reply.Reply.TheVariants as says
-use Rattle.desk.specs.World.{World, Receipt, all_records, settled_records, waiting_records}
-use Rattle.desk.specs.Moves.{Move, is_nothing_out, has_body, pending_among}
+use Rattle.desk.specs.World.{World, all_records, settled_records, sealed_records, waiting_records}
+use Rattle.desk.specs.Moves.{Move, with_sealed_settled, is_nothing_out, has_body, pending_among}
 
 -- The names stand in the order of their Puts; `waiting` is the step that isn't settled, and `is_out` whether it was sealed.
 pub record DeskValue : Type 0 where
@@ -67,18 +66,10 @@ abbrev pub staged_reply : Result ℕ Refusal → Reply
 staged_reply (Ok seq) = says.Staged seq
 staged_reply (Err refusal) = says.Refused refusal.number refusal.fault
 
-abbrev pub event_reply : Option Row → Reply
-event_reply None = says.Absent
-event_reply (Some row) = says.Event row.state row.due row.attempts
-
 abbrev pub seal_reply : Result (Option Run) Refusal → Reply
 seal_reply (Ok None) = says.NothingWaits
 seal_reply (Ok (Some batch)) = says.Sealed batch.from (batch.from + length (records_of batch.steps))
 seal_reply (Err refusal) = says.Refused refusal.number refusal.fault
-
-abbrev pub settle_reply : Result ℕ (Run × WrongTurn) → Reply
-settle_reply (Ok settled) = says.SettledTo settled
-settle_reply (Err back) = says.NoReceipt
 
 -- From each world for which the desk stood, the call made this move of the model, and the desk stands for what came of it.
 abbrev pub IsMove : DeskValue → Event → Reply → DeskValue → Type 0
@@ -97,9 +88,15 @@ HasBatch mark w (Err refusal) = Unit {0}
 abbrev pub Seals : DeskValue → Result (Option Run) Refusal → DeskValue → Type 0
 Seals old result new = (w : World) → StandsFor old w → (next : World) × Move w on.Seal (seal_reply result) next × StandsFor new next × HasBatch new.mark next result
 
--- To settle the receipt of what is sealed, where it is out, is a move.
-abbrev pub Settles : DeskValue → Run → Reply → DeskValue → Type 0
-Settles old receipt reply new = (w : World) → StandsFor old w → w.out ≡ Receipt → receipt ≡ sealed_run old.mark w → (next : World) × Move w on.Settle reply next × StandsFor new next
+-- the receipt is of this opening and begins where what is out begins
+abbrev pub IsReceiptOf : ℕ → World → Run → Type 0
+IsReceiptOf mark w receipt = (is_nothing_out w.out ≡ false) × (receipt.mark ≡ mark) × (receipt.from ≡ length (settled_records w))
+
+-- From each world for which the desk stood: the receipt of what is out settles it, and every other comes back.
+abbrev pub Settles : DeskValue → Run → Result ℕ (Run × WrongTurn) → DeskValue → Type 0
+Settles old receipt (Ok to) new =
+    (w : World) → StandsFor old w → IsReceiptOf old.mark w receipt × (to ≡ length (sealed_records w)) × StandsFor new (with_sealed_settled w)
+Settles old receipt (Err back) new = (w : World) → StandsFor old w → ¬ IsReceiptOf old.mark w receipt × StandsFor new w
 
 -- what the desk puts into a batch
 abbrev pub run_of : DeskValue → Run

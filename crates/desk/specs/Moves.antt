@@ -1,11 +1,13 @@
 -- The moves of the core: what each call answers, and the world after it.
-use Rattle.std.specs.Prelude.{◌≡◌, ℕ, ◌+◌, ◌^◌, min, max, Bool, true, false, ◌==◌, not, nat_le, List, [], ◌∷◌, ◌++◌, length, Option, Some, None, bytes_eq, count_by, if◌then◌else◌, ◌⊎◌, IsSomeAnd}
+use Rattle.std.specs.Prelude.{◌≡◌, ℕ, ◌+◌, ◌^◌, min, max, Bool, true, false, ◌==◌, not, ◌&&◌, nat_le, nat_lt, List, [], ◌∷◌, ◌++◌, length, Option, Some, None, option_and_then, bytes_eq, count_by, if◌then◌else◌, ◌⊎◌, IsSomeAnd}
 use Rattle.std.specs.Option.{option_map_or}
 use Rattle.relay_types.specs.declared.record.Record.{Record}
 use Rattle.relay_types.specs.declared.record.Record.TheVariants.{Put, Accept}
 use Rattle.relay_types.specs.Records.{History, Accepted}
-use Rattle.relay_types.specs.Deliveries.{accepted, deliveries, deliveries_of, known_as, is_pending, state_of, due_if_pending, attempts_of}
+use Rattle.relay_types.specs.Deliveries.{accepted, deliveries, deliveries_of, known_as, is_pending}
 use Rattle.relay_types.specs.Endpoints.{endpoints, has_endpoint}
+use Rattle.delivery_book.specs.declared.row.Row.{Row}
+use Rattle.delivery_book.specs.Book.{row_of}
 use Rattle.desk.specs.declared.event.Command.{Command}
 use Rattle.desk.specs.declared.event.Command.TheVariants.{PutEndpoint}
 use Rattle.desk.specs.declared.event.Event.{Event}
@@ -141,8 +143,12 @@ commit_of Doubt w = record { reply = says.NoBatch; next = w }
 abbrev pub commit : World → Answer
 commit w = commit_of w.out w
 
+-- Settling takes back what is out: what is sealed is settled.
+abbrev pub with_sealed_settled : World → World
+with_sealed_settled w = record w { settled = w.sealed; out = Nothing }
+
 abbrev pub settle_of : Out → World → Answer
-settle_of Receipt w = record { reply = says.SettledTo (length (sealed_records w)); next = record w { settled = w.sealed; out = Nothing } }
+settle_of Receipt w = record { reply = says.SettledTo (length (sealed_records w)); next = with_sealed_settled w }
 settle_of Nothing w = record { reply = says.NoReceipt; next = w }
 settle_of Batch w = record { reply = says.NoReceipt; next = w }
 settle_of Doubt w = record { reply = says.NoReceipt; next = w }
@@ -150,12 +156,16 @@ settle_of Doubt w = record { reply = says.NoReceipt; next = w }
 abbrev pub settle : World → Answer
 settle w = settle_of w.out w
 
--- what the settled records say of an event
-abbrev pub event_shown : List Record → ℕ → Reply
-event_shown records d = says.Event (state_of records d) (due_if_pending records d) (length (attempts_of records d))
+-- what the settled records say of the event that the endpoint knows by this id
+abbrev pub event_row : World → List ℕ → List ℕ → Option Row
+event_row w name id = option_and_then (row_of (settled_records w)) (known_as (settled_records w) name id)
+
+abbrev pub event_reply : Option Row → Reply
+event_reply None = says.Absent
+event_reply (Some row) = says.Event row.state row.due row.attempts
 
 abbrev pub show_event : World → List ℕ → List ℕ → Reply
-show_event w name id = option_map_or (event_shown (settled_records w)) (known_as (settled_records w) name id) says.Absent
+show_event w name id = event_reply (event_row w name id)
 
 -- a look leaves the world
 abbrev pub look : World → Reply → Answer
@@ -170,17 +180,32 @@ served w on.Commit = commit w
 served w on.Settle = settle w
 served w (on.ShowEvent name id) = look w (show_event w name id)
 
--- The number of OutOfMemory, where the call took memory to answer so. It is the last refusal of each call.
-abbrev pub memory_refusal : Event → Reply → Option ℕ
-memory_refusal (on.Submit now name id body) (says.Staged seq) = Some 8
-memory_refusal (on.Change command) (says.Staged seq) = Some 7
-memory_refusal on.Seal (says.Sealed from to) = Some 3
-memory_refusal on.Commit (says.Committed to) = Some 4
-memory_refusal event reply = None
+-- whether the call made a record, or handed out a batch
+abbrev pub has_new_record : World → World → Bool
+has_new_record w next = nat_lt (length w.history) (length next.history)
+
+abbrev pub is_batch_out : Out → Bool
+is_batch_out Nothing = false
+is_batch_out Batch = true
+is_batch_out Receipt = false
+is_batch_out Doubt = false
+
+abbrev pub has_new_batch : World → World → Bool
+has_new_batch w next = is_nothing_out w.out && is_batch_out next.out
+
+-- The number of OutOfMemory, where the call takes memory: to make a record, a batch or the receipt of one. It is the call's
+-- last refusal. What makes nothing takes no memory.
+abbrev pub memory_refusal : World → Event → Option ℕ
+memory_refusal w (on.Submit now name id body) = if has_new_record w (submit w now name id body).next then Some 8 else None
+memory_refusal w (on.Change command) = if has_new_record w (change w command).next then Some 7 else None
+memory_refusal w on.Seal = if has_new_batch w (seal w).next then Some 3 else None
+memory_refusal w on.Commit = if is_batch_out w.out then Some 4 else None
+memory_refusal w on.Settle = None
+memory_refusal w (on.ShowEvent name id) = None
 
 -- the refusal for want of memory leaves all as it was
 abbrev pub LacksMemory : World → Event → Reply → World → Type 0
-LacksMemory w event reply next = IsSomeAnd (memory_refusal event (served w event).reply) (λ number. (reply ≡ says.Refused number fault.OutOfMemory) × (next ≡ w))
+LacksMemory w event reply next = IsSomeAnd (memory_refusal w event) (λ number. (reply ≡ says.Refused number fault.OutOfMemory) × (next ≡ w))
 
 -- a commit that the store doesn't finish: a stop leaves the rows of before or those with the whole batch
 abbrev pub in_doubt : World → World

@@ -7,8 +7,8 @@ ghost use Rattle.delivery_book.specs.Entries.{known_in};
 ghost use Rattle.spool.specs.Runs.{ArePutsAndAccepts};
 ghost use Rattle.desk.specs.declared.event.Event.TheVariants as on;
 ghost use Rattle.desk.specs.World.{World, all_records};
-ghost use Rattle.desk.specs.Moves.{opened, show_event};
-ghost use Rattle.desk.specs.Desks.{StandsFor, IsMove, Seals, Settles, run_of, settle_reply, staged_reply, event_reply, first_fault, same_faults, backlog_faults, waiting_faults, with_put, with_accept};
+ghost use Rattle.desk.specs.Moves.{opened, event_row};
+ghost use Rattle.desk.specs.Desks.{StandsFor, IsMove, Seals, Settles, run_of, staged_reply, first_fault, same_faults, backlog_faults, waiting_faults, with_put, with_accept};
 
 use crate::event::Command;
 use crate::reply::Fault;
@@ -163,7 +163,7 @@ impl Desk {
 
     /// Settles the batch that is out, by its receipt: how many records are settled.
     pub fn settle(&mut self, receipt: Receipt) -> Result<u64, (Receipt, WrongTurn)>
-        ensures moves { Settles self.old receipt (settle_reply result) self.new }
+        ensures moves { Settles self.old receipt result self.new }
         ensures turn { IsOk result ↔ (IsTrue self.old.is_out × (receipt.mark ≡ self.old.mark) × (receipt.from ≡ self.old.settled)) }
         ensures back { IfErr result (λ back. back.0 ≡ receipt) }
         ensures mark { self.new.mark ≡ self.old.mark }
@@ -181,7 +181,7 @@ impl Desk {
 
     /// What the settled records say of an event.
     pub fn event(&self, name: Name, id: &MsgId) -> Option<Row>
-        ensures { (w : World) → StandsFor self.now w → event_reply result ≡ show_event w name id.now }
+        ensures { (w : World) → StandsFor self.now w → result ≡ event_row w name id.now }
     {
         let delivery = self.deliveries.find(name, id)?;
         self.deliveries.settled(delivery)

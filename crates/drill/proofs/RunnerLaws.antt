@@ -30,7 +30,7 @@ use Rattle.drill.specs.declared.runner.Held.{Held}
 use Rattle.drill.specs.declared.runner.Held.TheVariants as held
 use Rattle.drill.specs.declared.runner.Runner.{Runner}
 use Rattle.desk.specs.World.{World, Out, Nothing, Batch, Receipt, Doubt, all_records, settled_records, sealed_records}
-use Rattle.desk.specs.Moves.{opened, Answer, Move, show_event, refused, unless, submit_faults, new_submit_faults, change_faults, staged, repeated, submit_new, record_of, served, seal, seal_waiting, with_batch, is_nothing_out, commit_of, in_doubt, memory_refusal}
+use Rattle.desk.specs.Moves.{opened, Answer, Move, show_event, refused, unless, submit_faults, new_submit_faults, change_faults, staged, repeated, submit_new, record_of, served, seal, seal_waiting, with_batch, is_nothing_out, is_batch_out, commit_of, in_doubt, memory_refusal}
 use Rattle.desk.specs.Desks.{DeskValue, StandsFor, IsMove, Seals, sealed_run, steps_of}
 use Rattle.drill.specs.Runners.{IsHeld, IsOpenAt, VaultStandsFor, RunnerStandsFor, Answers, EndsAs, CommitsSo, unchanged_reply}
 
@@ -74,7 +74,7 @@ lacks_stays (Some number) reply w next h = h.1
 
 goes_move : (w : World) (event : Event) (reply : Reply) (next : World) → Goes w (served w event).next → ((event ≡ on.Commit) → ⊥) → Move w event reply next → Goes w next
 goes_move w event reply next plain other (inl answered) = subst (Goes w) (sym answered.1) plain
-goes_move w event reply next plain other (inr (inl lacks)) = subst (Goes w) (sym (lacks_stays (memory_refusal event (served w event).reply) reply w next lacks)) (stays w)
+goes_move w event reply next plain other (inr (inl lacks)) = subst (Goes w) (sym (lacks_stays (memory_refusal w event) reply w next lacks)) (stays w)
 goes_move w event reply next plain other (inr (inr stopped)) = absurd (other stopped.0)
 
 settled_within : (desk : DeskValue) (w : World) → StandsFor desk w → w.settled ≤ w.sealed
@@ -185,7 +185,7 @@ sealed_move w reply next sealed (inl answered) = at (seals_so w)
     at : SealsSo w (seal w) → (next ≡ with_batch w) × (w.out ≡ Nothing)
     at (inl stayed) = absurd (let no : true ≡ false = sym sealed ∙ ap is_sealed answered.0 ∙ stayed.1 in cc)
     at (inr made) = (answered.1 ∙ made.0.0, made.0.1)
-sealed_move w reply next sealed (inr (inl lacks)) = absurd (lacks_unsealed (memory_refusal on.Seal (seal w).reply) reply w next sealed lacks)
+sealed_move w reply next sealed (inr (inl lacks)) = absurd (lacks_unsealed (memory_refusal w on.Seal) reply w next sealed lacks)
 sealed_move w reply next sealed (inr (inr stopped)) = absurd (let e = stopped.0 in cc)
 
 unsealed_move : (w : World) (reply : Reply) (next : World) → is_sealed reply ≡ false → Move w on.Seal reply next → next ≡ w
@@ -194,7 +194,7 @@ unsealed_move w reply next sealed (inl answered) = at (seals_so w)
     at : SealsSo w (seal w) → next ≡ w
     at (inl stayed) = answered.1 ∙ stayed.0
     at (inr made) = absurd (let no : true ≡ false = sym made.1 ∙ ap is_sealed (sym answered.0) ∙ sealed in cc)
-unsealed_move w reply next sealed (inr (inl lacks)) = lacks_stays (memory_refusal on.Seal (seal w).reply) reply w next lacks
+unsealed_move w reply next sealed (inr (inl lacks)) = lacks_stays (memory_refusal w on.Seal) reply w next lacks
 unsealed_move w reply next sealed (inr (inr stopped)) = absurd (let e = stopped.0 in cc)
 
 pub answers_sealed : {S : Type 0} (g : Ghosts S) (old new : Runner S) (run : batch.Run) → Seals old.desk (Ok (Some run)) new.desk → new.desk.mark ≡ old.desk.mark → new.vault ≡ old.vault → new.held ≡ held.Batch run
@@ -288,7 +288,7 @@ answers_end g desk vault run (held.Receipt receipt) reply w s out is mark h =
     )
 answers_end g desk vault run (held.Batch back) reply w s out is mark h = (
   w,
-  inr (inl (subst (λ o. IsSomeAnd (memory_refusal on.Commit (commit_of o w).reply) (λ number. (reply ≡ says.Refused number fault.OutOfMemory) × (w ≡ w))) (sym out) (h.1, refl))),
+  inr (inl (subst (λ o. IsSomeAnd (if is_batch_out o then Some 4 else None) (λ (number : ℕ). (reply ≡ says.Refused number fault.OutOfMemory) × (w ≡ w))) (sym out) (h.1, refl))),
   record {
     desk = s;
     held = (out, h.0 ∙ is);

@@ -51,9 +51,9 @@ pub record RunnerStandsFor {S : Type 0} (g : Ghosts S) (runner : Runner S) (w : 
 abbrev pub Answers : {S : Type 0} → Ghosts S → Runner S → Event → Reply → Runner S → Type 0
 Answers g old event reply new = (w : World) → RunnerStandsFor g old w → (next : World) × Move w event reply next × RunnerStandsFor g new next
 
--- the disk of each connection returns what was written
-abbrev pub IsAlwaysClean : {S : Type 0} → Ghosts S → Type 0
-IsAlwaysClean {S} g = (conn : store.Held S) → HasCleanDisk (store.state g conn)
+-- the disk has returned what was written to the runner's store
+abbrev pub IsClean : {S : Type 0} → Ghosts S → Runner S → Type 0
+IsClean g runner = HasCleanDisk (store.state g runner.vault.conn)
 
 -- the reply to a commit that changed nothing
 abbrev pub unchanged_reply : Unchanged → Reply

@@ -1,5 +1,5 @@
 //! The runner of scripts: it holds what the desk and the store hand out, and gives it to the line that asks for it.
-ghost use Rattle.std.specs.Prelude.{◌≡◌, ◌⊎◌, ◌+◌, [], length, IfOk, IfErr};
+ghost use Rattle.std.specs.Prelude.{◌≡◌, ◌⊎◌, ◌+◌, [], length, IfOk, IfErr, MatchResult};
 ghost use Rattle.sqlite.specs.State.{HasCleanDisk};
 ghost use Rattle.sqlite.specs.Held.{state};
 ghost use Rattle.relay_types.specs.Records.{records_of};
@@ -7,9 +7,9 @@ ghost use Rattle.spool_sql.specs.Tables.{no_schema};
 ghost use Rattle.spool_sql.specs.Steps.{IsBegun};
 ghost use Rattle.desk.specs.declared.event.Event.TheVariants as on;
 ghost use Rattle.desk.specs.declared.reply.Reply.TheVariants as says;
-ghost use Rattle.desk.specs.Desks.{staged_reply, event_reply};
-ghost use Rattle.desk.specs.Moves.{opened};
-ghost use Rattle.drill.specs.Runners.{RunnerStandsFor, Answers, CommitsSo, IsAlwaysClean, unchanged_reply};
+ghost use Rattle.desk.specs.Desks.{staged_reply};
+ghost use Rattle.desk.specs.Moves.{opened, event_reply};
+ghost use Rattle.drill.specs.Runners.{RunnerStandsFor, IsClean, Answers, CommitsSo, unchanged_reply};
 ghost use Rattle.text_lines.specs.Ends.{EndsLine};
 ghost use Rattle.drill.specs.Runs.{IsNoCall};
 ghost use Rattle.drill.specs.Replays.{Replays, RunsLine};
@@ -20,7 +20,7 @@ use desk::{Command, Desk, Event, Fault, Refusal, Reply, WrongTurn};
 use relay_types::{Body, Moment, MsgId, Name};
 use spool::{Batch, CommitEnd, Doubt, Receipt, Unchanged, Vault};
 use sqlite::{Alter, Connection};
-use std::alloc::Global;
+use std::alloc::{AllocError, Global};
 use std::io::{Read, Write};
 use std::mem;
 use text_lines::{Lines, ReplayFault, WordFault, write_line};
@@ -45,7 +45,8 @@ struct Runner<S: Alter> {
 impl<S: Alter> Runner<S> {
     // Gives the call to the desk or the store.
     fn answer(&mut self, event: Event) -> Reply
-        ensures { HasCleanDisk (state S.Store self.new.vault.conn) → Answers S.Store self.old event result self.new }
+        ensures answers { IsClean S.Store self.new → Answers S.Store self.old event result self.new }
+        ensures clean { IsClean S.Store self.new → IsClean S.Store self.old }
     {
         match event {
             Event::Submit {
@@ -63,13 +64,15 @@ impl<S: Alter> Runner<S> {
     }
 
     fn submit(&mut self, now: Moment, name: Name, id: MsgId, body: Body) -> Reply
-        ensures { Answers S.Store self.old (on.Submit now name id body) result self.new }
+        ensures answers { Answers S.Store self.old (on.Submit now name id body) result self.new }
+        ensures clean { IsClean S.Store self.new → IsClean S.Store self.old }
     {
         staged(self.desk.submit(now, name, id, body))
     }
 
     fn change(&mut self, command: Command) -> Reply
-        ensures { Answers S.Store self.old (on.Change command) result self.new }
+        ensures answers { Answers S.Store self.old (on.Change command) result self.new }
+        ensures clean { IsClean S.Store self.new → IsClean S.Store self.old }
     {
         staged(self.desk.command(command))
     }
@@ -81,7 +84,8 @@ impl<S: Alter> Runner<S> {
     }
 
     fn seal(&mut self) -> Reply
-        ensures { Answers S.Store self.old on.Seal result self.new }
+        ensures answers { Answers S.Store self.old on.Seal result self.new }
+        ensures clean { IsClean S.Store self.new → IsClean S.Store self.old }
     {
         match self.desk.seal() {
             Ok(Some(batch)) => {
@@ -95,7 +99,8 @@ impl<S: Alter> Runner<S> {
     }
 
     fn commit(&mut self) -> Reply
-        ensures { HasCleanDisk (state S.Store self.new.vault.conn) → Answers S.Store self.old on.Commit result self.new }
+        ensures answers { IsClean S.Store self.new → Answers S.Store self.old on.Commit result self.new }
+        ensures clean { IsClean S.Store self.new → IsClean S.Store self.old }
     {
         match mem::replace(&mut self.held, Held::Nothing) {
             Held::Batch(batch) => {
@@ -111,7 +116,8 @@ impl<S: Alter> Runner<S> {
     }
 
     fn settle(&mut self) -> Reply
-        ensures { Answers S.Store self.old on.Settle result self.new }
+        ensures answers { Answers S.Store self.old on.Settle result self.new }
+        ensures clean { IsClean S.Store self.new → IsClean S.Store self.old }
     {
         match mem::replace(&mut self.held, Held::Nothing) {
             Held::Receipt(receipt) => match self.desk.settle(receipt) {
@@ -176,6 +182,7 @@ fn refused(refusal: Refusal) -> Reply
 fn commit_batch<S: Alter>(vault: &mut Vault<S>, batch: Batch) -> (Held, Reply)
     ensures mark { vault.new.mark ≡ vault.old.mark }
     ensures commits { HasCleanDisk (state S.Store vault.new.conn) → CommitsSo S.Store vault.old vault.new batch result.0 result.1 }
+    ensures clean { HasCleanDisk (state S.Store vault.new.conn) → HasCleanDisk (state S.Store vault.old.conn) }
 {
     match vault.commit(batch) {
         Ok(receipt) => {
@@ -205,42 +212,53 @@ fn unchanged(why: Unchanged) -> Reply
     Reply::Refused { number, fault }
 }
 
-/// Runs the script that the reader gives over an empty store, and writes a reply for each line.
-pub fn replay<S: Alter + Drop, I: Read, O: Write>(
+/// Runs the script that the reader gives over an empty store, and writes a reply for each line. The connection comes back.
+pub fn replay<S: Alter, I: Read, O: Write>(
     alloc: Global,
     input: &mut I,
     output: &mut O,
     conn: Connection<S>,
     mark: u64,
-) -> Result<(), ReplayFault>
-    ensures { IsAlwaysClean S.Store → IsBegun no_schema (state S.Store conn).now → Replays (I.remaining input.old) (O.contents output.old) (O.contents output.new) result }
+) -> (Connection<S>, Result<(), ReplayFault>)
+    ensures replays { HasCleanDisk (state S.Store result.0) → IsBegun no_schema (state S.Store conn).now → Replays (I.remaining input.old) (O.contents output.old) (O.contents output.new) result.1 }
+    ensures clean { HasCleanDisk (state S.Store result.0) → HasCleanDisk (state S.Store conn) }
 {
-    let mut runner = started(alloc, conn, mark)?;
-    run_lines(alloc, &mut runner, input, output)
+    match start(alloc, conn, mark) {
+        Ok(runner) => {
+            let mut runner = runner;
+            let end = run_lines(alloc, &mut runner, input, output);
+            (runner.vault.release(), end)
+        }
+        Err((conn, fault)) => (conn, Err(fault)),
+    }
 }
 
-// The runner over a store that has no table.
-fn started<S: Alter + Drop>(
+// The runner over a store that has no table, or the store's connection.
+fn start<S: Alter>(
     alloc: Global,
     conn: Connection<S>,
     mark: u64,
-) -> Result<Runner<S>, ReplayFault>
-    ensures stands { IfOk result (λ runner. HasCleanDisk (state S.Store runner.vault.conn) → IsBegun no_schema (state S.Store conn).now → RunnerStandsFor S.Store runner (opened [] 0)) }
-    ensures faults { IfErr result (λ fault. (fault ≡ ReplayFault.Lost) ⊎ (fault ≡ ReplayFault.OutOfMemory)) }
+) -> Result<Runner<S>, (Connection<S>, ReplayFault)>
+    ensures stands { IfOk result (λ runner. IsClean S.Store runner → IsBegun no_schema (state S.Store conn).now → RunnerStandsFor S.Store runner (opened [] 0)) }
+    ensures clean { MatchResult result (λ runner. IsClean S.Store runner → HasCleanDisk (state S.Store conn)) (λ back. HasCleanDisk (state S.Store back.0) → HasCleanDisk (state S.Store conn)) }
+    ensures faults { IfErr result (λ back. (back.1 ≡ ReplayFault.Lost) ⊎ (back.1 ≡ ReplayFault.OutOfMemory)) }
 {
     if !conn.is_autocommit() {
-        return Err(ReplayFault::Lost);
+        return Err((conn, ReplayFault::Lost));
     }
     let vault = match Vault::create(conn, mark) {
         Ok(vault) => vault,
-        Err((_, fault)) if fault.is_memory() => return Err(ReplayFault::OutOfMemory),
-        Err(_) => return Err(ReplayFault::Lost),
+        Err((conn, fault)) if fault.is_memory() => return Err((conn, ReplayFault::OutOfMemory)),
+        Err((conn, _)) => return Err((conn, ReplayFault::Lost)),
     };
-    Ok(Runner {
-        desk: Desk::new(alloc, mark)?,
-        vault,
-        held: Held::Nothing,
-    })
+    match Desk::new(alloc, mark) {
+        Ok(desk) => Ok(Runner {
+            desk,
+            vault,
+            held: Held::Nothing,
+        }),
+        Err(AllocError) => Err((vault.release(), ReplayFault::OutOfMemory)),
+    }
 }
 
 // Answers the lines.
@@ -250,7 +268,8 @@ fn run_lines<S: Alter, I: Read, O: Write>(
     input: &mut I,
     output: &mut O,
 ) -> Result<(), ReplayFault>
-    ensures { IsAlwaysClean S.Store → RunnerStandsFor S.Store runner.old (opened [] 0) → Replays (I.remaining input.old) (O.contents output.old) (O.contents output.new) result }
+    ensures replays { IsClean S.Store runner.new → RunnerStandsFor S.Store runner.old (opened [] 0) → Replays (I.remaining input.old) (O.contents output.old) (O.contents output.new) result }
+    ensures clean { IsClean S.Store runner.new → IsClean S.Store runner.old }
 {
     let mut lines = Lines::new(alloc)?;
     while lines.advance(input)? {
@@ -266,7 +285,8 @@ fn run_line<S: Alter, O: Write>(
     runner: &mut Runner<S>,
     output: &mut O,
 ) -> Result<(), ReplayFault>
-    ensures { HasCleanDisk (state S.Store runner.new.vault.conn) → EndsLine (RunsLine S.Store lines.now.line runner.old runner.new) IsNoCall lines.now (O.contents output.old) (O.contents output.new) result }
+    ensures ends { IsClean S.Store runner.new → EndsLine (RunsLine S.Store lines.now.line runner.old runner.new) IsNoCall lines.now (O.contents output.old) (O.contents output.new) result }
+    ensures clean { IsClean S.Store runner.new → IsClean S.Store runner.old }
 {
     let event = match read_event(alloc, lines.line()) {
         Ok(event) => event,

@@ -69,7 +69,7 @@ pub fn replay<R: Read, O: Write, E: Write>(
 {
     match Connection::open_in_memory(alloc) {
         Ok(conn) => {
-            let end = drill::replay(alloc, input, output, conn, 0);
+            let (_, end) = drill::replay(alloc, input, output, conn, 0);
             ended(errors, end)
         }
         Err(AllocError) => ended(errors, Err(ReplayFault::OutOfMemory)),

@@ -2,5 +2,5 @@ use Rattle.std.proofs.Common.{refl, sym}
 use Rattle.drill.proofs.RunnerLaws.{answers_commit}
 use Rattle.drill.proofs.runner.Runner.commit.Goals as goal
 
-pub returns-in-Batch : goal.returns-in-Batch
-returns-in-Batch g c clean = answers_commit g.S.Store c.args.self.now _ c.in-Batch.batch c.commit_batch-held.result.1 (sym c.in-Batch.ensures.value) refl c.commit_batch-held.ensures.mark (c.commit_batch-held.ensures.commits clean)
+pub returns-in-Batch-clause-answers : goal.returns-in-Batch-clause-answers
+returns-in-Batch-clause-answers g c clean = answers_commit g.S.Store c.args.self.now _ c.in-Batch.batch c.commit_batch-held.result.1 (sym c.in-Batch.ensures.value) refl c.commit_batch-held.ensures.mark (c.commit_batch-held.ensures.commits clean)
