@@ -15,58 +15,60 @@ use Rattle.text_lines.proofs.NumberLaws.{bytes_equal, true_not_false}
 apart : (a b word : List ℕ) → bytes_eq a b ≡ false → word ≡ a → word ≡ b → ⊥
 apart a b word different h k = true_not_false (sym (bytes_equal a b (sym h ∙ k)) ∙ different)
 
--- ---- the events of a first word
+-- ---- what holds of each event of a first word
 
-pub only_put : (call : List ℕ) (words : List (List ℕ)) → call ≡ codes "put" → ((name target : List ℕ) (max : ℕ) (secrets : List (List ℕ)) → IsChange words (PutEndpoint name target max secrets) → ⊥)
-    → (event : Event) → call ≡ call_word event → AreArguments words event → ⊥
-only_put call words is none (on.Change (PutEndpoint name target max secrets)) e h = none name target max secrets h
-only_put call words is none (on.Submit now name id body) e h = apart (codes "put") (codes "submit") call refl is e
-only_put call words is none on.Seal e h = apart (codes "put") (codes "seal") call refl is e
-only_put call words is none on.Commit e h = apart (codes "put") (codes "commit") call refl is e
-only_put call words is none on.Settle e h = apart (codes "put") (codes "settle") call refl is e
-only_put call words is none (on.ShowEvent name id) e h = apart (codes "put") (codes "show") call refl is e
+pub only_put : (P : Event → Type 0) (call : List ℕ) (words : List (List ℕ)) → call ≡ codes "put"
+    → ((name target : List ℕ) (max : ℕ) (secrets : List (List ℕ)) → IsChange words (PutEndpoint name target max secrets) → P (on.Change (PutEndpoint name target max secrets)))
+    → (event : Event) → call ≡ call_word event → AreArguments words event → P event
+only_put P call words is own (on.Change (PutEndpoint name target max secrets)) e h = own name target max secrets h
+only_put P call words is own (on.Submit now name id body) e h = absurd (apart (codes "put") (codes "submit") call refl is e)
+only_put P call words is own on.Seal e h = absurd (apart (codes "put") (codes "seal") call refl is e)
+only_put P call words is own on.Commit e h = absurd (apart (codes "put") (codes "commit") call refl is e)
+only_put P call words is own on.Settle e h = absurd (apart (codes "put") (codes "settle") call refl is e)
+only_put P call words is own (on.ShowEvent name id) e h = absurd (apart (codes "put") (codes "show") call refl is e)
 
-pub only_submit : (call : List ℕ) (words : List (List ℕ)) → call ≡ codes "submit" → ((now : ℕ) (name id body : List ℕ) → IsSubmit words now name id body → ⊥)
-    → (event : Event) → call ≡ call_word event → AreArguments words event → ⊥
-only_submit call words is none (on.Change (PutEndpoint name target max secrets)) e h = apart (codes "submit") (codes "put") call refl is e
-only_submit call words is none (on.Submit now name id body) e h = none now name id body h
-only_submit call words is none on.Seal e h = apart (codes "submit") (codes "seal") call refl is e
-only_submit call words is none on.Commit e h = apart (codes "submit") (codes "commit") call refl is e
-only_submit call words is none on.Settle e h = apart (codes "submit") (codes "settle") call refl is e
-only_submit call words is none (on.ShowEvent name id) e h = apart (codes "submit") (codes "show") call refl is e
+pub only_submit : (P : Event → Type 0) (call : List ℕ) (words : List (List ℕ)) → call ≡ codes "submit"
+    → ((now : ℕ) (name id body : List ℕ) → IsSubmit words now name id body → P (on.Submit now name id body))
+    → (event : Event) → call ≡ call_word event → AreArguments words event → P event
+only_submit P call words is own (on.Change (PutEndpoint name target max secrets)) e h = absurd (apart (codes "submit") (codes "put") call refl is e)
+only_submit P call words is own (on.Submit now name id body) e h = own now name id body h
+only_submit P call words is own on.Seal e h = absurd (apart (codes "submit") (codes "seal") call refl is e)
+only_submit P call words is own on.Commit e h = absurd (apart (codes "submit") (codes "commit") call refl is e)
+only_submit P call words is own on.Settle e h = absurd (apart (codes "submit") (codes "settle") call refl is e)
+only_submit P call words is own (on.ShowEvent name id) e h = absurd (apart (codes "submit") (codes "show") call refl is e)
 
-pub only_show : (call : List ℕ) (words : List (List ℕ)) → call ≡ codes "show" → ((name id : List ℕ) → IsShow words name id → ⊥)
-    → (event : Event) → call ≡ call_word event → AreArguments words event → ⊥
-only_show call words is none (on.Change (PutEndpoint name target max secrets)) e h = apart (codes "show") (codes "put") call refl is e
-only_show call words is none (on.Submit now name id body) e h = apart (codes "show") (codes "submit") call refl is e
-only_show call words is none on.Seal e h = apart (codes "show") (codes "seal") call refl is e
-only_show call words is none on.Commit e h = apart (codes "show") (codes "commit") call refl is e
-only_show call words is none on.Settle e h = apart (codes "show") (codes "settle") call refl is e
-only_show call words is none (on.ShowEvent name id) e h = none name id h
+pub only_show : (P : Event → Type 0) (call : List ℕ) (words : List (List ℕ)) → call ≡ codes "show" → ((name id : List ℕ) → IsShow words name id → P (on.ShowEvent name id))
+    → (event : Event) → call ≡ call_word event → AreArguments words event → P event
+only_show P call words is own (on.Change (PutEndpoint name target max secrets)) e h = absurd (apart (codes "show") (codes "put") call refl is e)
+only_show P call words is own (on.Submit now name id body) e h = absurd (apart (codes "show") (codes "submit") call refl is e)
+only_show P call words is own on.Seal e h = absurd (apart (codes "show") (codes "seal") call refl is e)
+only_show P call words is own on.Commit e h = absurd (apart (codes "show") (codes "commit") call refl is e)
+only_show P call words is own on.Settle e h = absurd (apart (codes "show") (codes "settle") call refl is e)
+only_show P call words is own (on.ShowEvent name id) e h = own name id h
 
-pub only_seal : (call : List ℕ) (words : List (List ℕ)) → call ≡ codes "seal" → (words ≡ [] → ⊥) → (event : Event) → call ≡ call_word event → AreArguments words event → ⊥
-only_seal call words is none (on.Change (PutEndpoint name target max secrets)) e h = apart (codes "seal") (codes "put") call refl is e
-only_seal call words is none (on.Submit now name id body) e h = apart (codes "seal") (codes "submit") call refl is e
-only_seal call words is none on.Seal e h = none h
-only_seal call words is none on.Commit e h = none h
-only_seal call words is none on.Settle e h = none h
-only_seal call words is none (on.ShowEvent name id) e h = apart (codes "seal") (codes "show") call refl is e
+pub only_seal : (P : Event → Type 0) (call : List ℕ) (words : List (List ℕ)) → call ≡ codes "seal" → (words ≡ [] → P on.Seal) → (event : Event) → call ≡ call_word event → AreArguments words event → P event
+only_seal P call words is own (on.Change (PutEndpoint name target max secrets)) e h = absurd (apart (codes "seal") (codes "put") call refl is e)
+only_seal P call words is own (on.Submit now name id body) e h = absurd (apart (codes "seal") (codes "submit") call refl is e)
+only_seal P call words is own on.Seal e h = own h
+only_seal P call words is own on.Commit e h = absurd (apart (codes "seal") (codes "commit") call refl is e)
+only_seal P call words is own on.Settle e h = absurd (apart (codes "seal") (codes "settle") call refl is e)
+only_seal P call words is own (on.ShowEvent name id) e h = absurd (apart (codes "seal") (codes "show") call refl is e)
 
-pub only_commit : (call : List ℕ) (words : List (List ℕ)) → call ≡ codes "commit" → (words ≡ [] → ⊥) → (event : Event) → call ≡ call_word event → AreArguments words event → ⊥
-only_commit call words is none (on.Change (PutEndpoint name target max secrets)) e h = apart (codes "commit") (codes "put") call refl is e
-only_commit call words is none (on.Submit now name id body) e h = apart (codes "commit") (codes "submit") call refl is e
-only_commit call words is none on.Seal e h = none h
-only_commit call words is none on.Commit e h = none h
-only_commit call words is none on.Settle e h = none h
-only_commit call words is none (on.ShowEvent name id) e h = apart (codes "commit") (codes "show") call refl is e
+pub only_commit : (P : Event → Type 0) (call : List ℕ) (words : List (List ℕ)) → call ≡ codes "commit" → (words ≡ [] → P on.Commit) → (event : Event) → call ≡ call_word event → AreArguments words event → P event
+only_commit P call words is own (on.Change (PutEndpoint name target max secrets)) e h = absurd (apart (codes "commit") (codes "put") call refl is e)
+only_commit P call words is own (on.Submit now name id body) e h = absurd (apart (codes "commit") (codes "submit") call refl is e)
+only_commit P call words is own on.Seal e h = absurd (apart (codes "commit") (codes "seal") call refl is e)
+only_commit P call words is own on.Commit e h = own h
+only_commit P call words is own on.Settle e h = absurd (apart (codes "commit") (codes "settle") call refl is e)
+only_commit P call words is own (on.ShowEvent name id) e h = absurd (apart (codes "commit") (codes "show") call refl is e)
 
-pub only_settle : (call : List ℕ) (words : List (List ℕ)) → call ≡ codes "settle" → (words ≡ [] → ⊥) → (event : Event) → call ≡ call_word event → AreArguments words event → ⊥
-only_settle call words is none (on.Change (PutEndpoint name target max secrets)) e h = apart (codes "settle") (codes "put") call refl is e
-only_settle call words is none (on.Submit now name id body) e h = apart (codes "settle") (codes "submit") call refl is e
-only_settle call words is none on.Seal e h = none h
-only_settle call words is none on.Commit e h = none h
-only_settle call words is none on.Settle e h = none h
-only_settle call words is none (on.ShowEvent name id) e h = apart (codes "settle") (codes "show") call refl is e
+pub only_settle : (P : Event → Type 0) (call : List ℕ) (words : List (List ℕ)) → call ≡ codes "settle" → (words ≡ [] → P on.Settle) → (event : Event) → call ≡ call_word event → AreArguments words event → P event
+only_settle P call words is own (on.Change (PutEndpoint name target max secrets)) e h = absurd (apart (codes "settle") (codes "put") call refl is e)
+only_settle P call words is own (on.Submit now name id body) e h = absurd (apart (codes "settle") (codes "submit") call refl is e)
+only_settle P call words is own on.Seal e h = absurd (apart (codes "settle") (codes "seal") call refl is e)
+only_settle P call words is own on.Commit e h = absurd (apart (codes "settle") (codes "commit") call refl is e)
+only_settle P call words is own on.Settle e h = own h
+only_settle P call words is own (on.ShowEvent name id) e h = absurd (apart (codes "settle") (codes "show") call refl is e)
 
 -- no other word begins a call
 pub is_call_word : (call : List ℕ) → (call ≡ codes "put" → ⊥) → (call ≡ codes "submit" → ⊥) → (call ≡ codes "show" → ⊥) → (call ≡ codes "seal" → ⊥) → (call ≡ codes "commit" → ⊥)

@@ -1,10 +1,10 @@
 -- No space stands in a word of a call, so the words of a line tell its call.
-use Rattle.std.proofs.Common.{◌≡◌, ◌≢◌, ℕ, ◌^◌, List, [], ◌∷◌, decimal, IsTrue, refl, sym, ◌∙◌, subst, lit<}
+use Rattle.std.proofs.Common.{◌≡◌, ◌≢◌, ℕ, ◌^◌, List, [], ◌∷◌, decimal, IsTrue, refl, sym, subst, lit<}
 use Rattle.std.specs.Prelude.{◌&&◌, nat_le}
 use Rattle.std.specs.List.{list_all}
 use Rattle.std.proofs.lemmas.Bool.{and_parts}
 use Rattle.relay_types.specs.Values.{is_name, is_msg_id, is_target, is_max_limit, is_moment, is_body}
-use Rattle.text_lines.specs.Parts.{has_no, HasParts}
+use Rattle.text_lines.specs.Parts.{line, has_no, HasParts}
 use Rattle.text_lines.proofs.CleanWords.{clean-name, clean-id, clean-decimal, clean-body, clean-secrets_word, at_most}
 use Rattle.text_lines.proofs.PartLaws.{parts_equal}
 use Rattle.text_lines.proofs.TargetWords.{clean-target}
@@ -50,9 +50,12 @@ clean-word (on.ShowEvent name id) = refl
 some_word : (words rest : List (List ℕ)) (word : List ℕ) → words ≡ word ∷ rest → words ≢ []
 some_word words rest word e none = cc
 
--- the parts of a line are the words of its call
-pub the_call : (text : List ℕ) (parts : List (List ℕ)) (event : Event) → HasParts 32 text parts → ReadsLine text event → IsCall parts event
-the_call text parts event h (words, e, (arguments, is, told)) =
+-- the words of a call are the parts of its line
+pub parts_of_call : (text : List ℕ) (words : List (List ℕ)) (event : Event) → text ≡ line words → IsCall words event → HasParts 32 text words
+parts_of_call text words event e (arguments, is, told) =
     let clean : IsTrue (list_all (has_no 32) words) = rw (is, clean-word event) (clean-arguments arguments event told) in
-    let same = parts_equal 32 text words parts (e, some_word words arguments (call_word event) is, clean) h in
-    (arguments, sym same ∙ is, told)
+    (e, some_word words arguments (call_word event) is, clean)
+
+pub the_call : (text : List ℕ) (parts : List (List ℕ)) (event : Event) → HasParts 32 text parts → ReadsLine text event → IsCall parts event
+the_call text parts event h (words, e, call) =
+    subst (λ xs. IsCall xs event) (parts_equal 32 text words parts (parts_of_call text words event e call) h) call

@@ -58,3 +58,7 @@ IsCall words event = (arguments : List (List ℕ)) × (words ≡ call_word event
 -- a text stands for the call whose words it has
 abbrev pub ReadsLine : List ℕ → Event → Type 0
 ReadsLine text event = (words : List (List ℕ)) × (text ≡ line words) × IsCall words event
+
+-- a law: one text stands for one call at most
+abbrev pub HasOneCallAtMost : Type 0
+HasOneCallAtMost = (text : List ℕ) (one other : Event) → ReadsLine text one → ReadsLine text other → one ≡ other

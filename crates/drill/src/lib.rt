@@ -5,3 +5,4 @@ mod runner;
 mod script;
 
 pub use crate::runner::replay;
+pub use crate::script::one_call_at_most;

@@ -1,7 +1,7 @@
 //! The lines of a script: the calls that they stand for.
 ghost use Rattle.std.specs.Prelude.{◌≡◌, ℕ, List, [], ◌∷◌, IfOk};
 ghost use Rattle.text_lines.specs.Parts.{texts};
-ghost use Rattle.drill.specs.Script.{ReadsLine, IsCall, call_word, AreArguments, IsPut, IsChange, IsSubmitted, IsSubmit, IsShown, IsShow};
+ghost use Rattle.drill.specs.Script.{ReadsLine, HasOneCallAtMost, IsCall, call_word, AreArguments, IsPut, IsChange, IsSubmitted, IsSubmit, IsShown, IsShow};
 ghost use Rattle.desk.specs.declared.event.Event.{Event};
 ghost use Rattle.desk.specs.declared.event.Command.{Command};
 
@@ -18,6 +18,11 @@ pub fn read_event(alloc: Global, line: &[u8]) -> Result<Event, WordFault>
     let words = split(alloc, line)?;
     read_words(alloc, words.as_slice())
 }
+
+/// A law of scripts: a line stands for one call at most.
+pub fn one_call_at_most()
+    ensures { HasOneCallAtMost }
+{}
 
 // The call that has these words.
 fn read_words(alloc: Global, words: &[&[u8]]) -> Result<Event, WordFault>

@@ -1,5 +1,5 @@
 mod FeedLaws
-mod HexLaws
+pub mod HexLaws
 mod MarkLaws
 pub mod NumberLaws
 pub mod PartLaws
@@ -8,4 +8,5 @@ pub mod StreamLaws
 pub mod TargetWords
 pub mod CleanWords
 pub mod EndLaws
+pub mod WordLaws
 mod WorkedLines
