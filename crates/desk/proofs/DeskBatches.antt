@@ -10,10 +10,10 @@ use Rattle.delivery_book.specs.Entries.{with_settled}
 use Rattle.delivery_book.proofs.Laws.{stands_settled}
 use Rattle.spool.specs.Runs.{Run}
 use Rattle.desk.specs.declared.desk.WrongTurn.{WrongTurn}
-use Rattle.desk.specs.declared.event.Event.TheVariants as on
-use Rattle.desk.specs.declared.reply.Fault.TheVariants as fault
-use Rattle.desk.specs.declared.reply.Reply.{Reply}
-use Rattle.desk.specs.declared.reply.Reply.TheVariants as says
+use Rattle.script_lines.specs.declared.event.Event.TheVariants as on
+use Rattle.script_lines.specs.declared.reply.Fault.TheVariants as fault
+use Rattle.script_lines.specs.declared.reply.Reply.{Reply}
+use Rattle.script_lines.specs.declared.reply.Reply.TheVariants as says
 use Rattle.desk.specs.World.{World, all_records, settled_records, sealed_records, waiting_records}
 use Rattle.desk.specs.Moves.{Answer, refused, is_nothing_out, with_batch, seal, seal_waiting, has_new_batch}
 use Rattle.desk.specs.Desks.{DeskValue, StandsFor, Seals, Settles, steps_of, run_of}

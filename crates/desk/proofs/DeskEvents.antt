@@ -11,7 +11,7 @@ use Rattle.relay_types.specs.declared.state.State.TheVariants.{Pending}
 use Rattle.relay_types.specs.Records.{Accepted, accepted_by}
 use Rattle.relay_types.specs.Deliveries.{accepted, is_accept, is_accept_of, is_accept_as, deliveries, deliveries_of, known_as, is_in_state, state_of}
 use Rattle.delivery_book.specs.Book.{row_of, counts_of, counts_of_all}
-use Rattle.desk.specs.declared.reply.Fault.TheVariants as fault
+use Rattle.script_lines.specs.declared.reply.Fault.TheVariants as fault
 use Rattle.desk.specs.Moves.{has_body, pending_among}
 use Rattle.desk.specs.Desks.{first_fault, same_faults, backlog_faults}
 

@@ -23,13 +23,13 @@ use Rattle.delivery_book.specs.declared.row.Row.{Row}
 use Rattle.delivery_book.proofs.Laws.{stands_accept, stands_other}
 use Rattle.spool.specs.Runs.{is_put_or_accept}
 use Rattle.desk.specs.declared.desk.Refusal.{Refusal}
-use Rattle.desk.specs.declared.event.Command.TheVariants.{PutEndpoint}
-use Rattle.desk.specs.declared.event.Event.{Event}
-use Rattle.desk.specs.declared.event.Event.TheVariants as on
-use Rattle.desk.specs.declared.reply.Fault.{Fault}
-use Rattle.desk.specs.declared.reply.Fault.TheVariants as fault
-use Rattle.desk.specs.declared.reply.Reply.{Reply}
-use Rattle.desk.specs.declared.reply.Reply.TheVariants as says
+use Rattle.script_lines.specs.declared.event.Command.TheVariants.{PutEndpoint}
+use Rattle.script_lines.specs.declared.event.Event.{Event}
+use Rattle.script_lines.specs.declared.event.Event.TheVariants as on
+use Rattle.script_lines.specs.declared.reply.Fault.{Fault}
+use Rattle.script_lines.specs.declared.reply.Fault.TheVariants as fault
+use Rattle.script_lines.specs.declared.reply.Reply.{Reply}
+use Rattle.script_lines.specs.declared.reply.Reply.TheVariants as says
 use Rattle.desk.specs.World.{World, all_records, settled_records, waiting_records}
 use Rattle.desk.specs.Moves.{Answer, Move, served, refused, unless, moment, at_moment, with_record, staged, repeated, has_body, is_waiting_full, submit, submit_new, change, has_new_record, event_row}
 use Rattle.desk.specs.Desks.{DeskValue, StandsFor, IsMove, steps_of, first_fault, same_faults, backlog_faults, waiting_faults, with_step, with_put, with_accept, staged_reply}

@@ -2,4 +2,3 @@ mod DeskLists
 mod DeskEvents
 mod DeskLaws
 mod DeskBatches
-mod WorkedReplies

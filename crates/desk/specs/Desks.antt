@@ -12,12 +12,12 @@ use Rattle.delivery_book.specs.Book as book
 use Rattle.spool.specs.Runs.{Run, is_put_or_accept, ArePutsAndAccepts}
 use Rattle.desk.specs.declared.desk.Refusal.{Refusal}
 use Rattle.desk.specs.declared.desk.WrongTurn.{WrongTurn}
-use Rattle.desk.specs.declared.event.Event.{Event}
-use Rattle.desk.specs.declared.event.Event.TheVariants as on
-use Rattle.desk.specs.declared.reply.Fault.{Fault}
-use Rattle.desk.specs.declared.reply.Fault.TheVariants as fault
-use Rattle.desk.specs.declared.reply.Reply.{Reply}
-use Rattle.desk.specs.declared.reply.Reply.TheVariants as says
+use Rattle.script_lines.specs.declared.event.Event.{Event}
+use Rattle.script_lines.specs.declared.event.Event.TheVariants as on
+use Rattle.script_lines.specs.declared.reply.Fault.{Fault}
+use Rattle.script_lines.specs.declared.reply.Fault.TheVariants as fault
+use Rattle.script_lines.specs.declared.reply.Reply.{Reply}
+use Rattle.script_lines.specs.declared.reply.Reply.TheVariants as says
 use Rattle.desk.specs.World.{World, all_records, settled_records, sealed_records, waiting_records}
 use Rattle.desk.specs.Moves.{Move, with_sealed_settled, is_nothing_out, has_body, pending_among}
 

@@ -1,4 +1,3 @@
 pub mod World
 pub mod Moves
-pub mod Replies
 pub mod Desks

@@ -8,14 +8,14 @@ use Rattle.relay_types.specs.Deliveries.{accepted, deliveries, deliveries_of, kn
 use Rattle.relay_types.specs.Endpoints.{endpoints, has_endpoint}
 use Rattle.delivery_book.specs.declared.row.Row.{Row}
 use Rattle.delivery_book.specs.Book.{row_of}
-use Rattle.desk.specs.declared.event.Command.{Command}
-use Rattle.desk.specs.declared.event.Command.TheVariants.{PutEndpoint}
-use Rattle.desk.specs.declared.event.Event.{Event}
-use Rattle.desk.specs.declared.event.Event.TheVariants as on
-use Rattle.desk.specs.declared.reply.Fault.{Fault}
-use Rattle.desk.specs.declared.reply.Fault.TheVariants as fault
-use Rattle.desk.specs.declared.reply.Reply.{Reply}
-use Rattle.desk.specs.declared.reply.Reply.TheVariants as says
+use Rattle.script_lines.specs.declared.event.Command.{Command}
+use Rattle.script_lines.specs.declared.event.Command.TheVariants.{PutEndpoint}
+use Rattle.script_lines.specs.declared.event.Event.{Event}
+use Rattle.script_lines.specs.declared.event.Event.TheVariants as on
+use Rattle.script_lines.specs.declared.reply.Fault.{Fault}
+use Rattle.script_lines.specs.declared.reply.Fault.TheVariants as fault
+use Rattle.script_lines.specs.declared.reply.Reply.{Reply}
+use Rattle.script_lines.specs.declared.reply.Reply.TheVariants as says
 use Rattle.desk.specs.World.{World, Out, Nothing, Batch, Receipt, Doubt, most_waiting, most_sealed, all_records, settled_records, sealed_records, waiting_records}
 
 -- a reply, and the world after it

@@ -5,15 +5,14 @@ ghost use Rattle.relay_types.specs.declared.record.Record.TheVariants.{Put, Acce
 ghost use Rattle.relay_types.specs.Legal.{is_within_limits};
 ghost use Rattle.delivery_book.specs.Entries.{known_in};
 ghost use Rattle.spool.specs.Runs.{ArePutsAndAccepts};
-ghost use Rattle.desk.specs.declared.event.Event.TheVariants as on;
+ghost use Rattle.script_lines.specs.declared.event.Event.TheVariants as on;
 ghost use Rattle.desk.specs.World.{World, all_records};
 ghost use Rattle.desk.specs.Moves.{opened, event_row};
 ghost use Rattle.desk.specs.Desks.{StandsFor, IsMove, Seals, Settles, run_of, staged_reply, first_fault, same_faults, backlog_faults, waiting_faults, with_put, with_accept};
 
-use crate::event::Command;
-use crate::reply::Fault;
 use delivery_book::{DeliveryBook, Row};
 use relay_types::{Body, MaxLimit, Moment, MsgId, Name, Record, Secrets, Step, Target};
+use script_lines::{Command, Fault};
 use spool::{Batch, Receipt};
 use std::alloc::{AllocError, Global};
 use std::marker::Model;

@@ -3,9 +3,5 @@
 #![tactic(auto)]
 
 mod desk;
-mod event;
-mod reply;
 
 pub use crate::desk::{Desk, Refusal, WrongTurn};
-pub use crate::event::{Command, Event};
-pub use crate::reply::{Fault, Reply};

@@ -1,6 +1,2 @@
-mod CallLaws
-mod CleanCalls
-mod OneCall
 mod RunnerLaws
 pub mod ReplayLaws
-mod WorkedTexts

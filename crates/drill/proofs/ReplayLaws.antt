@@ -1,13 +1,13 @@
 -- The lines of a script, run one after another.
 use Rattle.std.proofs.Common.{◌≡◌, ℕ, List, [], ◌∷◌, ◌++◌, refl, sym, ap, subst, ◌∙◌, append_assoc}
 use Rattle.sqlite.specs.Store.{Ghosts}
-use Rattle.desk.specs.declared.event.Event.{Event}
-use Rattle.desk.specs.declared.reply.Reply.{Reply}
+use Rattle.script_lines.specs.declared.event.Event.{Event}
+use Rattle.script_lines.specs.declared.reply.Reply.{Reply}
 use Rattle.drill.specs.declared.runner.Runner.{Runner}
 use Rattle.desk.specs.World.{World}
 use Rattle.desk.specs.Moves.{Move, Run, opened}
-use Rattle.desk.specs.Replies.{reply_text}
-use Rattle.drill.specs.Script.{ReadsLine}
+use Rattle.script_lines.specs.Replies.{reply_text}
+use Rattle.script_lines.specs.Script.{ReadsLine}
 use Rattle.text_lines.specs.Streams.{with_feed}
 use Rattle.drill.specs.Runs.{ReadLines, replies_text, Replies}
 use Rattle.drill.specs.Runners.{RunnerStandsFor}

@@ -19,13 +19,13 @@ use Rattle.spool_sql.specs.Tables.{no_schema}
 use Rattle.spool_sql.specs.Steps.{IsBegun}
 use Rattle.spool.specs.Commits.{IsOpened, IsNext, IsDoubt, IsIllegal, AnswersOver}
 use Rattle.spool.specs.Vaults.{Kept}
-use Rattle.desk.specs.declared.event.Event.{Event}
-use Rattle.desk.specs.declared.event.Event.TheVariants as on
-use Rattle.desk.specs.declared.event.Command.{Command}
-use Rattle.desk.specs.declared.reply.Fault.{Fault}
-use Rattle.desk.specs.declared.reply.Fault.TheVariants as fault
-use Rattle.desk.specs.declared.reply.Reply.{Reply}
-use Rattle.desk.specs.declared.reply.Reply.TheVariants as says
+use Rattle.script_lines.specs.declared.event.Event.{Event}
+use Rattle.script_lines.specs.declared.event.Event.TheVariants as on
+use Rattle.script_lines.specs.declared.event.Command.{Command}
+use Rattle.script_lines.specs.declared.reply.Fault.{Fault}
+use Rattle.script_lines.specs.declared.reply.Fault.TheVariants as fault
+use Rattle.script_lines.specs.declared.reply.Reply.{Reply}
+use Rattle.script_lines.specs.declared.reply.Reply.TheVariants as says
 use Rattle.drill.specs.declared.runner.Held.{Held}
 use Rattle.drill.specs.declared.runner.Held.TheVariants as held
 use Rattle.drill.specs.declared.runner.Runner.{Runner}

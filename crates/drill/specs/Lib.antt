@@ -1,4 +1,3 @@
-pub mod Script
 pub mod Runs
 pub mod Runners
 pub mod Replays

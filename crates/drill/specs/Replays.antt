@@ -1,15 +1,15 @@
 -- What the replay of a script writes, by how it ends.
 use Rattle.std.specs.Prelude.{◌≡◌, ℕ, List, Option, Result}
 use Rattle.sqlite.specs.Store.{Ghosts}
-use Rattle.desk.specs.declared.event.Event.{Event}
+use Rattle.script_lines.specs.declared.event.Event.{Event}
 use Rattle.text_lines.specs.declared.fault.ReplayFault.{ReplayFault}
-use Rattle.desk.specs.declared.reply.Reply.{Reply}
+use Rattle.script_lines.specs.declared.reply.Reply.{Reply}
 use Rattle.drill.specs.declared.runner.Runner.{Runner}
 use Rattle.text_lines.specs.Ends.{Ends, EndsTo}
-use Rattle.desk.specs.Replies.{reply_text}
+use Rattle.script_lines.specs.Replies.{reply_text}
 use Rattle.drill.specs.Runners.{Answers}
 use Rattle.drill.specs.Runs.{IsNoCall, Replies}
-use Rattle.drill.specs.Script.{ReadsLine}
+use Rattle.script_lines.specs.Script.{ReadsLine}
 use Rattle.text_lines.specs.Streams.{with_feed}
 
 -- The replies to the lines of the reader's text are written, as far as this end says.

@@ -11,10 +11,10 @@ use Rattle.spool.specs.declared.ends.Unchanged.{Unchanged}
 use Rattle.spool.specs.declared.ends.Unchanged.TheVariants as why
 use Rattle.spool.specs.Commits.{IsNext}
 use Rattle.spool.specs.Vaults.{Kept, Holds}
-use Rattle.desk.specs.declared.event.Event.{Event}
-use Rattle.desk.specs.declared.reply.Fault.TheVariants as fault
-use Rattle.desk.specs.declared.reply.Reply.{Reply}
-use Rattle.desk.specs.declared.reply.Reply.TheVariants as says
+use Rattle.script_lines.specs.declared.event.Event.{Event}
+use Rattle.script_lines.specs.declared.reply.Fault.TheVariants as fault
+use Rattle.script_lines.specs.declared.reply.Reply.{Reply}
+use Rattle.script_lines.specs.declared.reply.Reply.TheVariants as says
 use Rattle.drill.specs.declared.runner.Held.{Held}
 use Rattle.drill.specs.declared.runner.Held.TheVariants as held
 use Rattle.drill.specs.declared.runner.Runner.{Runner}

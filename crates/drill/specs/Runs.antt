@@ -1,11 +1,11 @@
 -- A script's run: what is written for its lines.
 use Rattle.std.specs.Prelude.{◌≡◌, ℕ, List, [], ◌∷◌, ◌++◌}
-use Rattle.desk.specs.declared.event.Event.{Event}
-use Rattle.desk.specs.declared.reply.Reply.{Reply}
+use Rattle.script_lines.specs.declared.event.Event.{Event}
+use Rattle.script_lines.specs.declared.reply.Reply.{Reply}
 use Rattle.desk.specs.World.{World}
 use Rattle.desk.specs.Moves.{Run, opened}
-use Rattle.desk.specs.Replies.{reply_text}
-use Rattle.drill.specs.Script.{ReadsLine}
+use Rattle.script_lines.specs.Replies.{reply_text}
+use Rattle.script_lines.specs.Script.{ReadsLine}
 
 -- the texts stand for the calls
 abbrev pub ReadLines : List (List ℕ) → List Event → Type 0

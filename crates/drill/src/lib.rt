@@ -2,7 +2,5 @@
 #![tactic(auto)]
 
 mod runner;
-mod script;
 
 pub use crate::runner::replay;
-pub use crate::script::one_call_at_most;

@@ -1,7 +1,7 @@
 use Rattle.std.proofs.Common.{Err, ap, subst, sym, refl, ◌∙◌}
-use Rattle.desk.specs.Replies.{reply_text}
+use Rattle.script_lines.specs.Replies.{reply_text}
 use Rattle.drill.specs.Runs.{IsNoCall}
-use Rattle.drill.specs.Script.{ReadsLine}
+use Rattle.script_lines.specs.Script.{ReadsLine}
 use Rattle.text_lines.specs.Streams.{with_feed}
 use Rattle.drill.specs.Replays.{RunsLine}
 use Rattle.text_lines.proofs.EndLaws.{keeps_same, written_line}

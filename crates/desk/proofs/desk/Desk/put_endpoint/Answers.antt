@@ -1,6 +1,6 @@
 use Rattle.std.proofs.Common.{length, ap, sym, arith}
 use Rattle.desk.specs.declared.desk.Refusal.{Refusal}
-use Rattle.desk.specs.declared.reply.Reply.TheVariants as says
+use Rattle.script_lines.specs.declared.reply.Reply.TheVariants as says
 use Rattle.desk.proofs.DeskLaws.{replies, leaves, refuses_so, change-exists, change-many, change-waiting, change-staged}
 use Rattle.desk.proofs.desk.Desk.put_endpoint.Goals as goal
 

@@ -5,7 +5,7 @@ use Rattle.relay_types.specs.Legal.{is_within_limits}
 use Rattle.desk.specs.Desks.{DeskValue, with_accept}
 use Rattle.desk.specs.World.{all_records, settled_records}
 use Rattle.desk.specs.declared.desk.Refusal.{Refusal}
-use Rattle.desk.specs.declared.reply.Reply.TheVariants as says
+use Rattle.script_lines.specs.declared.reply.Reply.TheVariants as says
 use Rattle.desk.proofs.DeskLaws.{book_of, replies, leaves, refuses_so, submit-unknown, submit-conflict, submit-repeated, submit-backlog, submit-waiting, submit-memory, submit-staged}
 use Rattle.desk.proofs.desk.Desk.submit.Goals as goal
 

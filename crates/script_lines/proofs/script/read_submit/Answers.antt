@@ -1,7 +1,7 @@
 use Rattle.std.proofs.Common.{List, ℕ, subst, arith}
-use Rattle.drill.specs.Script.{IsSubmit}
-use Rattle.drill.proofs.CallLaws.{four_texts}
-use Rattle.drill.proofs.script.read_submit.Goals as goal
+use Rattle.script_lines.specs.Script.{IsSubmit}
+use Rattle.script_lines.proofs.CallLaws.{four_texts}
+use Rattle.script_lines.proofs.script.read_submit.Goals as goal
 
 pub returns-in-len4-clause-bad : goal.returns-in-len4-clause-bad
 returns-in-len4-clause-bad c = λ e now name id body h.

@@ -1,7 +1,7 @@
 use Rattle.std.proofs.Common.{refl}
 use Rattle.text_lines.specs.Parts.{texts}
-use Rattle.drill.proofs.CallLaws.{only_put, only_submit}
-use Rattle.drill.proofs.script.read_call.Goals as goal
+use Rattle.script_lines.proofs.CallLaws.{only_put, only_submit}
+use Rattle.script_lines.proofs.script.read_call.Goals as goal
 
 pub returns-then-is_word-clause-bad : goal.returns-then-is_word-clause-bad
 returns-then-is_word-clause-bad c = λ e. only_put (λ event. ⊥) c.args.call.now (texts c.args.arguments.now) (c.if-is_word.ensures.0 refl) (c.read_put.ensures.bad e)

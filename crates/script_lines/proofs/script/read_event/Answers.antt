@@ -1,6 +1,6 @@
 use Rattle.text_lines.specs.Parts.{texts}
-use Rattle.drill.proofs.CleanCalls.{the_call}
-use Rattle.drill.proofs.script.read_event.Goals as goal
+use Rattle.script_lines.proofs.CleanCalls.{the_call}
+use Rattle.script_lines.proofs.script.read_event.Goals as goal
 
 pub returns-clause-bad : goal.returns-clause-bad
 returns-clause-bad c = λ e event h.

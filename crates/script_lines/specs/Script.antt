@@ -4,10 +4,10 @@ use Rattle.std.specs.Prelude.{◌≡◌, ℕ, ◌&&◌, List, [], ◌∷◌, IsT
 use Rattle.relay_types.specs.Values.{is_name, is_msg_id, is_target, is_max_limit, is_body, is_moment}
 use Rattle.text_lines.specs.Parts.{line}
 use Rattle.text_lines.specs.Words.{IsSecretsWord, IsBodyWord}
-use Rattle.desk.specs.declared.event.Command.{Command}
-use Rattle.desk.specs.declared.event.Command.TheVariants.{PutEndpoint}
-use Rattle.desk.specs.declared.event.Event.{Event}
-use Rattle.desk.specs.declared.event.Event.TheVariants as on
+use Rattle.script_lines.specs.declared.event.Command.{Command}
+use Rattle.script_lines.specs.declared.event.Command.TheVariants.{PutEndpoint}
+use Rattle.script_lines.specs.declared.event.Event.{Event}
+use Rattle.script_lines.specs.declared.event.Event.TheVariants as on
 
 -- the words behind the first one of a change of an endpoint
 abbrev pub IsChange : List (List ℕ) → Command → Type 0

@@ -1,10 +1,10 @@
 use Rattle.std.proofs.Common.{arith, List, ℕ, subst}
-use Rattle.desk.specs.declared.event.Command.TheVariants.{PutEndpoint}
-use Rattle.drill.specs.Script.{IsChange}
+use Rattle.script_lines.specs.declared.event.Command.TheVariants.{PutEndpoint}
+use Rattle.script_lines.specs.Script.{IsChange}
 use borrow.Author.Tests.{ltb-true, ltb-false}
-use Rattle.drill.proofs.CallLaws.{four_texts, length-IsChange}
-use Rattle.drill.proofs.script.read_put.Goals as goal
-use Rattle.drill.proofs.script.read_put.Goals.{in_default-via-then-arguments-lt4, in_default-via-else-arguments-lt4+else-arguments-lt5}
+use Rattle.script_lines.proofs.CallLaws.{four_texts, length-IsChange}
+use Rattle.script_lines.proofs.script.read_put.Goals as goal
+use Rattle.script_lines.proofs.script.read_put.Goals.{in_default-via-then-arguments-lt4, in_default-via-else-arguments-lt4+else-arguments-lt5}
 
 pub returns-in_default-clause-bad : goal.returns-in_default-clause-bad
 returns-in_default-clause-bad c = λ e of to most by h.

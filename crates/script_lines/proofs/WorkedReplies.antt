@@ -2,9 +2,9 @@
 use Rattle.std.proofs.Common.{◌≡◌, Some, None, codes, refl}
 use Rattle.std.specs.Fmt.{digits}
 use Rattle.relay_types.specs.declared.state.State.TheVariants.{Pending, Delivered}
-use Rattle.desk.specs.declared.reply.Fault.TheVariants as fault
-use Rattle.desk.specs.declared.reply.Reply.TheVariants as says
-use Rattle.desk.specs.Replies.{reply_text}
+use Rattle.script_lines.specs.declared.reply.Fault.TheVariants as fault
+use Rattle.script_lines.specs.declared.reply.Reply.TheVariants as says
+use Rattle.script_lines.specs.Replies.{reply_text}
 
 refused_row : reply_text (says.Refused 3 fault.Exists) ≡ codes "refused 3 Exists"
 unfolding digits

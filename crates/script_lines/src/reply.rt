@@ -1,6 +1,6 @@
 //! What a call answers, and how a script prints it.
 ghost use Rattle.std.specs.Prelude.{◌≡◌, Some};
-ghost use Rattle.desk.specs.Replies.{fault_text, state_text, reply_text};
+ghost use Rattle.script_lines.specs.Replies.{fault_text, state_text, reply_text};
 
 use relay_types::State;
 use std::fmt;

@@ -1,8 +1,8 @@
 -- Worked rows of a script's lines.
 use Rattle.std.proofs.Common.{[], ◌∷◌, codes, refl}
 use Rattle.std.specs.Fmt.{digits}
-use Rattle.desk.specs.declared.event.Event.TheVariants as on
-use Rattle.drill.specs.Script.{ReadsLine}
+use Rattle.script_lines.specs.declared.event.Event.TheVariants as on
+use Rattle.script_lines.specs.Script.{ReadsLine}
 
 show_row : ReadsLine (codes "show a msg_1") (on.ShowEvent (codes "a") (codes "msg_1"))
 show_row = (codes "show" ∷ codes "a" ∷ codes "msg_1" ∷ [], refl, (codes "a" ∷ codes "msg_1" ∷ [], refl, (refl, refl)))

@@ -1,11 +1,11 @@
 //! The lines of a script: the calls that they stand for.
 ghost use Rattle.std.specs.Prelude.{◌≡◌, ℕ, List, [], ◌∷◌, IfOk};
 ghost use Rattle.text_lines.specs.Parts.{texts};
-ghost use Rattle.drill.specs.Script.{ReadsLine, HasOneCallAtMost, IsCall, call_word, AreArguments, IsPut, IsChange, IsSubmitted, IsSubmit, IsShown, IsShow};
-ghost use Rattle.desk.specs.declared.event.Event.{Event};
-ghost use Rattle.desk.specs.declared.event.Command.{Command};
+ghost use Rattle.script_lines.specs.Script.{ReadsLine, HasOneCallAtMost, IsCall, call_word, AreArguments, IsPut, IsChange, IsSubmitted, IsSubmit, IsShown, IsShow};
+ghost use Rattle.script_lines.specs.declared.event.Event.{Event};
+ghost use Rattle.script_lines.specs.declared.event.Command.{Command};
 
-use desk::{Command, Event};
+use crate::event::{Command, Event};
 use relay_types::{MsgId, Name, Target};
 use std::alloc::Global;
 use text_lines::{WordFault, is_word, read_body, read_max, read_moment, read_secrets, split};

@@ -8,10 +8,10 @@ use Rattle.text_lines.specs.Parts.{line, has_no, HasParts}
 use Rattle.text_lines.proofs.CleanWords.{clean-name, clean-id, clean-decimal, clean-body, clean-secrets_word, at_most}
 use Rattle.text_lines.proofs.PartLaws.{parts_equal}
 use Rattle.text_lines.proofs.TargetWords.{clean-target}
-use Rattle.desk.specs.declared.event.Command.TheVariants.{PutEndpoint}
-use Rattle.desk.specs.declared.event.Event.{Event}
-use Rattle.desk.specs.declared.event.Event.TheVariants as on
-use Rattle.drill.specs.Script.{call_word, AreArguments, IsCall, ReadsLine}
+use Rattle.script_lines.specs.declared.event.Command.TheVariants.{PutEndpoint}
+use Rattle.script_lines.specs.declared.event.Event.{Event}
+use Rattle.script_lines.specs.declared.event.Event.TheVariants as on
+use Rattle.script_lines.specs.Script.{call_word, AreArguments, IsCall, ReadsLine}
 
 four_clean : (a b c d : List ℕ) → IsTrue (has_no 32 a) → IsTrue (has_no 32 b) → IsTrue (has_no 32 c) → IsTrue (has_no 32 d) → IsTrue (list_all (has_no 32) (a ∷ b ∷ c ∷ d ∷ []))
 four_clean a b c d ha hb hc hd = rw (ha, hb, hc, hd) refl

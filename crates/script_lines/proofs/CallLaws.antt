@@ -4,11 +4,11 @@ use Rattle.std.specs.Prelude.{bytes_eq}
 use Rattle.std.specs.Borrow.{Bor}
 use Rattle.std.proofs.lemmas.List.{length-map}
 use Rattle.text_lines.specs.Parts.{texts}
-use Rattle.desk.specs.declared.event.Command.TheVariants.{PutEndpoint}
-use Rattle.desk.specs.declared.event.Event.{Event}
-use Rattle.desk.specs.declared.event.Event.TheVariants as on
+use Rattle.script_lines.specs.declared.event.Command.TheVariants.{PutEndpoint}
+use Rattle.script_lines.specs.declared.event.Event.{Event}
+use Rattle.script_lines.specs.declared.event.Event.TheVariants as on
 use Rattle.text_lines.specs.Words.{IsSecretsWord}
-use Rattle.drill.specs.Script.{IsChange, IsSubmit, IsShow, call_word, AreArguments}
+use Rattle.script_lines.specs.Script.{IsChange, IsSubmit, IsShow, call_word, AreArguments}
 use Rattle.text_lines.proofs.NumberLaws.{bytes_equal, true_not_false}
 
 -- two words that differ are not one

@@ -8,12 +8,12 @@ use Rattle.text_lines.specs.Words.{IsSecretsWord, IsBodyWord}
 use Rattle.text_lines.proofs.CleanWords.{at_most}
 use Rattle.text_lines.proofs.HexLaws.{one_body}
 use Rattle.text_lines.proofs.WordLaws.{one_secrets}
-use Rattle.desk.specs.declared.event.Command.TheVariants.{PutEndpoint}
-use Rattle.desk.specs.declared.event.Event.{Event}
-use Rattle.desk.specs.declared.event.Event.TheVariants as on
-use Rattle.drill.specs.Script.{IsChange, IsSubmit, IsShow, call_word, AreArguments, IsCall, HasOneCallAtMost}
-use Rattle.drill.proofs.CallLaws.{only_put, only_submit, only_show, only_seal, only_commit, only_settle}
-use Rattle.drill.proofs.CleanCalls.{the_call, parts_of_call}
+use Rattle.script_lines.specs.declared.event.Command.TheVariants.{PutEndpoint}
+use Rattle.script_lines.specs.declared.event.Event.{Event}
+use Rattle.script_lines.specs.declared.event.Event.TheVariants as on
+use Rattle.script_lines.specs.Script.{IsChange, IsSubmit, IsShow, call_word, AreArguments, IsCall, HasOneCallAtMost}
+use Rattle.script_lines.proofs.CallLaws.{only_put, only_submit, only_show, only_seal, only_commit, only_settle}
+use Rattle.script_lines.proofs.CleanCalls.{the_call, parts_of_call}
 
 same_put : (words : List (List ℕ)) (name target : List ℕ) (max : ℕ) (secrets : List (List ℕ)) (name' target' : List ℕ) (max' : ℕ) (secrets' : List (List ℕ)) → IsChange words (PutEndpoint name target max secrets)
     → IsChange words (PutEndpoint name' target' max' secrets') → on.Change (PutEndpoint name target max secrets) ≡ on.Change (PutEndpoint name' target' max' secrets')

@@ -1,0 +1,5 @@
+mod CallLaws
+mod CleanCalls
+mod OneCall
+mod WorkedReplies
+mod WorkedTexts
