@@ -199,7 +199,8 @@ impl Desk {
         max: MaxLimit,
         secrets: Secrets,
     ) -> Result<u64, Refusal>
-        ensures moves { IsMove self.old (on.Change (Command.PutEndpoint name target max secrets)) (staged_reply result) self.new }
+        ensures moves { IsMove self.old (on.Change (Command.PutEndpoint name target max secrets))
+            (staged_reply result) self.new }
         ensures mark { self.new.mark ≡ self.old.mark }
         ensures err { OnErr result (self.new ≡ self.old) }
     {
@@ -214,7 +215,8 @@ impl Desk {
     }
 
     fn check_same(&self, delivery: u64, body: &Body) -> Result<(), Refusal>
-        ensures { (w : World) → StandsFor self.now w → result ≡ first_fault (same_faults (all_records w) delivery body.now) }
+        ensures { (w : World) → StandsFor self.now w
+            → result ≡ first_fault (same_faults (all_records w) delivery body.now) }
     {
         match self.deliveries.body(delivery) {
             Some(known) if known.is(body) => Ok(()),

@@ -6,6 +6,8 @@ use Rattle.sqlite.specs.Held as store
 use Rattle.relay_types.specs.declared.record.Record.{Record}
 use Rattle.relay_types.specs.Records.{records_of}
 use Rattle.relay_types.specs.Legal.{IsLegal}
+use Rattle.spool_sql.specs.Tables.{no_schema}
+use Rattle.spool_sql.specs.Steps.{IsBegun}
 use Rattle.spool.specs.Runs as batch
 use Rattle.spool.specs.declared.ends.Unchanged.{Unchanged}
 use Rattle.spool.specs.declared.ends.Unchanged.TheVariants as why
@@ -51,9 +53,16 @@ pub record RunnerStandsFor {S : Type 0} (g : Ghosts S) (runner : Runner S) (w : 
 abbrev pub Answers : {S : Type 0} → Ghosts S → Runner S → Event → Reply → Runner S → Type 0
 Answers g old event reply new = (w : World) → RunnerStandsFor g old w → (next : World) × Move w event reply next × RunnerStandsFor g new next
 
--- the disk has returned what was written to the runner's store
+-- the connection's disk has returned what was written
+abbrev pub IsCleanAt : {S : Type 0} → Ghosts S → store.Held S → Type 0
+IsCleanAt g conn = HasCleanDisk (store.state g conn)
+
 abbrev pub IsClean : {S : Type 0} → Ghosts S → Runner S → Type 0
-IsClean g runner = HasCleanDisk (store.state g runner.vault.conn)
+IsClean g runner = IsCleanAt g runner.vault.conn
+
+-- the store is open and has no table
+abbrev pub HasNoTable : {S : Type 0} → Ghosts S → store.Held S → Type 0
+HasNoTable g conn = IsBegun no_schema (store.state g conn).now
 
 -- the reply to a commit that changed nothing
 abbrev pub unchanged_reply : Unchanged → Reply

@@ -1,18 +1,12 @@
 //! The runner of scripts: it holds what the desk and the store hand out, and gives it to the line that asks for it.
 ghost use Rattle.std.specs.Prelude.{◌≡◌, ◌⊎◌, ◌+◌, [], length, IfOk, IfErr, MatchResult};
-ghost use Rattle.sqlite.specs.State.{HasCleanDisk};
-ghost use Rattle.sqlite.specs.Held.{state};
 ghost use Rattle.relay_types.specs.Records.{records_of};
-ghost use Rattle.spool_sql.specs.Tables.{no_schema};
-ghost use Rattle.spool_sql.specs.Steps.{IsBegun};
 ghost use Rattle.script_lines.specs.declared.event.Event.TheVariants as on;
 ghost use Rattle.script_lines.specs.declared.reply.Reply.TheVariants as says;
 ghost use Rattle.desk.specs.Desks.{staged_reply};
 ghost use Rattle.desk.specs.Moves.{opened, event_reply};
-ghost use Rattle.drill.specs.Runners.{RunnerStandsFor, IsClean, Answers, CommitsSo, unchanged_reply};
-ghost use Rattle.text_lines.specs.Ends.{EndsLine};
-ghost use Rattle.drill.specs.Runs.{IsNoCall};
-ghost use Rattle.drill.specs.Replays.{Replays, RunsLine};
+ghost use Rattle.drill.specs.Runners.{RunnerStandsFor, IsCleanAt, IsClean, HasNoTable, Answers, CommitsSo, unchanged_reply};
+ghost use Rattle.drill.specs.Replays.{Replays, AnswersLine};
 
 use delivery_book::Row;
 use desk::{Desk, Refusal, WrongTurn};
@@ -181,8 +175,8 @@ fn refused(refusal: Refusal) -> Reply
 // Commits the batch: what is held then, and the reply.
 fn commit_batch<S: Alter>(vault: &mut Vault<S>, batch: Batch) -> (Held, Reply)
     ensures mark { vault.new.mark ≡ vault.old.mark }
-    ensures commits { HasCleanDisk (state S.Store vault.new.conn) → CommitsSo S.Store vault.old vault.new batch result.0 result.1 }
-    ensures clean { HasCleanDisk (state S.Store vault.new.conn) → HasCleanDisk (state S.Store vault.old.conn) }
+    ensures commits { IsCleanAt S.Store vault.new.conn → CommitsSo S.Store vault.old vault.new batch result.0 result.1 }
+    ensures clean { IsCleanAt S.Store vault.new.conn → IsCleanAt S.Store vault.old.conn }
 {
     match vault.commit(batch) {
         Ok(receipt) => {
@@ -212,7 +206,8 @@ fn unchanged(why: Unchanged) -> Reply
     Reply::Refused { number, fault }
 }
 
-/// Runs the script that the reader gives over an empty store, and writes a reply for each line. The connection comes back.
+/// Runs the script that the reader gives over a store without tables, and writes a reply for each line. The connection
+/// comes back.
 pub fn replay<S: Alter, I: Read, O: Write>(
     alloc: Global,
     input: &mut I,
@@ -220,8 +215,9 @@ pub fn replay<S: Alter, I: Read, O: Write>(
     conn: Connection<S>,
     mark: u64,
 ) -> (Connection<S>, Result<(), ReplayFault>)
-    ensures replays { HasCleanDisk (state S.Store result.0) → IsBegun no_schema (state S.Store conn).now → Replays (I.remaining input.old) (O.contents output.old) (O.contents output.new) result.1 }
-    ensures clean { HasCleanDisk (state S.Store result.0) → HasCleanDisk (state S.Store conn) }
+    ensures replays { IsCleanAt S.Store result.0 → HasNoTable S.Store conn
+        → Replays (I.remaining input.old) (O.contents output.old) (O.contents output.new) result.1 }
+    ensures clean { IsCleanAt S.Store result.0 → IsCleanAt S.Store conn }
 {
     match start(alloc, conn, mark) {
         Ok(runner) => {
@@ -239,8 +235,11 @@ fn start<S: Alter>(
     conn: Connection<S>,
     mark: u64,
 ) -> Result<Runner<S>, (Connection<S>, ReplayFault)>
-    ensures stands { IfOk result (λ runner. IsClean S.Store runner → IsBegun no_schema (state S.Store conn).now → RunnerStandsFor S.Store runner (opened [] 0)) }
-    ensures clean { MatchResult result (λ runner. IsClean S.Store runner → HasCleanDisk (state S.Store conn)) (λ back. HasCleanDisk (state S.Store back.0) → HasCleanDisk (state S.Store conn)) }
+    ensures stands { IfOk result
+        (λ runner. IsClean S.Store runner → HasNoTable S.Store conn → RunnerStandsFor S.Store runner (opened [] 0)) }
+    ensures clean { MatchResult result
+        (λ runner. IsClean S.Store runner → IsCleanAt S.Store conn)
+        (λ back. IsCleanAt S.Store back.0 → IsCleanAt S.Store conn) }
     ensures faults { IfErr result (λ back. (back.1 ≡ ReplayFault.Lost) ⊎ (back.1 ≡ ReplayFault.OutOfMemory)) }
 {
     if !conn.is_autocommit() {
@@ -268,7 +267,8 @@ fn run_lines<S: Alter, I: Read, O: Write>(
     input: &mut I,
     output: &mut O,
 ) -> Result<(), ReplayFault>
-    ensures replays { IsClean S.Store runner.new → RunnerStandsFor S.Store runner.old (opened [] 0) → Replays (I.remaining input.old) (O.contents output.old) (O.contents output.new) result }
+    ensures replays { IsClean S.Store runner.new → RunnerStandsFor S.Store runner.old (opened [] 0)
+        → Replays (I.remaining input.old) (O.contents output.old) (O.contents output.new) result }
     ensures clean { IsClean S.Store runner.new → IsClean S.Store runner.old }
 {
     let mut lines = Lines::new(alloc)?;
@@ -285,7 +285,8 @@ fn run_line<S: Alter, O: Write>(
     runner: &mut Runner<S>,
     output: &mut O,
 ) -> Result<(), ReplayFault>
-    ensures ends { IsClean S.Store runner.new → EndsLine (RunsLine S.Store lines.now.line runner.old runner.new) IsNoCall lines.now (O.contents output.old) (O.contents output.new) result }
+    ensures ends { IsClean S.Store runner.new
+        → AnswersLine S.Store lines.now runner.old runner.new (O.contents output.old) (O.contents output.new) result }
     ensures clean { IsClean S.Store runner.new → IsClean S.Store runner.old }
 {
     let event = match read_event(alloc, lines.line()) {

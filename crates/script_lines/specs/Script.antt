@@ -21,6 +21,16 @@ IsSubmit words now name id body = (word : List ℕ) × IsBodyWord word body × (
 abbrev pub IsShow : List (List ℕ) → List ℕ → List ℕ → Type 0
 IsShow words name id = (words ≡ name ∷ id ∷ []) × IsTrue (is_name name && is_msg_id id)
 
+-- the words are behind the first one of no such call
+abbrev pub AreOfNoPut : List (List ℕ) → Type 0
+AreOfNoPut words = (name target : List ℕ) (max : ℕ) (secrets : List (List ℕ)) → ¬ IsChange words (PutEndpoint name target max secrets)
+
+abbrev pub AreOfNoSubmit : List (List ℕ) → Type 0
+AreOfNoSubmit words = (now : ℕ) (name id body : List ℕ) → ¬ IsSubmit words now name id body
+
+abbrev pub AreOfNoShow : List (List ℕ) → Type 0
+AreOfNoShow words = (name id : List ℕ) → ¬ IsShow words name id
+
 -- the words behind the first one of these calls
 abbrev pub IsPut : List (List ℕ) → Event → Type 0
 IsPut words (on.Change command) = IsChange words command

@@ -1,9 +1,9 @@
 //! The lines of a script: the calls that they stand for.
-ghost use Rattle.std.specs.Prelude.{◌≡◌, ℕ, List, [], ◌∷◌, IfOk};
+ghost use Rattle.std.specs.Prelude.{◌≡◌, [], ◌∷◌, IfOk};
 ghost use Rattle.text_lines.specs.Parts.{texts};
-ghost use Rattle.script_lines.specs.Script.{ReadsLine, HasOneCallAtMost, IsCall, call_word, AreArguments, IsPut, IsChange, IsSubmitted, IsSubmit, IsShown, IsShow};
+ghost use Rattle.script_lines.specs.Script.{ReadsLine, HasOneCallAtMost, IsCall, call_word, AreArguments, IsPut, IsSubmitted, IsShown};
+ghost use Rattle.script_lines.specs.Script.{AreOfNoPut, AreOfNoSubmit, AreOfNoShow};
 ghost use Rattle.script_lines.specs.declared.event.Event.{Event};
-ghost use Rattle.script_lines.specs.declared.event.Command.{Command};
 
 use crate::event::{Command, Event};
 use relay_types::{MsgId, Name, Target};
@@ -13,7 +13,7 @@ use text_lines::{WordFault, is_word, read_body, read_max, read_moment, read_secr
 /// The call that a line stands for.
 pub fn read_event(alloc: Global, line: &[u8]) -> Result<Event, WordFault>
     ensures stands { IfOk result (λ event. ReadsLine line.now event) }
-    ensures bad { result ≡ Err WordFault.Bad → (event : Event) → ReadsLine line.now event → ⊥ }
+    ensures bad { result ≡ Err WordFault.Bad → (event : Event) → ¬ ReadsLine line.now event }
 {
     let words = split(alloc, line)?;
     read_words(alloc, words.as_slice())
@@ -27,7 +27,7 @@ pub fn one_call_at_most()
 // The call that has these words.
 fn read_words(alloc: Global, words: &[&[u8]]) -> Result<Event, WordFault>
     ensures stands { IfOk result (λ event. IsCall (texts words.now) event) }
-    ensures bad { result ≡ Err WordFault.Bad → (event : Event) → IsCall (texts words.now) event → ⊥ }
+    ensures bad { result ≡ Err WordFault.Bad → (event : Event) → ¬ IsCall (texts words.now) event }
 {
     match words.split_first() {
         Some((call, arguments)) => read_call(alloc, call, arguments),
@@ -38,7 +38,8 @@ fn read_words(alloc: Global, words: &[&[u8]]) -> Result<Event, WordFault>
 // The call of this word and the words behind it.
 fn read_call(alloc: Global, call: &[u8], arguments: &[&[u8]]) -> Result<Event, WordFault>
     ensures stands { IfOk result (λ event. (call.now ≡ call_word event) × AreArguments (texts arguments.now) event) }
-    ensures bad { result ≡ Err WordFault.Bad → (event : Event) → call.now ≡ call_word event → AreArguments (texts arguments.now) event → ⊥ }
+    ensures bad { result ≡ Err WordFault.Bad
+        → (event : Event) → call.now ≡ call_word event → ¬ AreArguments (texts arguments.now) event }
 {
     if is_word(call, "put") {
         read_put(alloc, arguments)
@@ -71,7 +72,7 @@ fn alone(arguments: &[&[u8]], event: Event) -> Result<Event, WordFault>
 
 fn read_put(alloc: Global, arguments: &[&[u8]]) -> Result<Event, WordFault>
     ensures stands { IfOk result (λ event. IsPut (texts arguments.now) event) }
-    ensures bad { result ≡ Err WordFault.Bad → (of to : List ℕ) (most : ℕ) (by : List (List ℕ)) → IsChange (texts arguments.now) (Command.PutEndpoint of to most by) → ⊥ }
+    ensures bad { result ≡ Err WordFault.Bad → AreOfNoPut (texts arguments.now) }
 {
     match arguments {
         [name, url, max, secrets] => put_endpoint(alloc, name, url, max, secrets),
@@ -87,7 +88,7 @@ fn put_endpoint(
     secrets: &[u8],
 ) -> Result<Event, WordFault>
     ensures stands { IfOk result (λ event. IsPut (name.now ∷ url.now ∷ max.now ∷ secrets.now ∷ []) event) }
-    ensures bad { result ≡ Err WordFault.Bad → (of to : List ℕ) (most : ℕ) (by : List (List ℕ)) → IsChange (name.now ∷ url.now ∷ max.now ∷ secrets.now ∷ []) (Command.PutEndpoint of to most by) → ⊥ }
+    ensures bad { result ≡ Err WordFault.Bad → AreOfNoPut (name.now ∷ url.now ∷ max.now ∷ secrets.now ∷ []) }
 {
     Ok(Event::Change(Command::PutEndpoint {
         name: Name::read(name)?,
@@ -99,7 +100,7 @@ fn put_endpoint(
 
 fn read_submit(alloc: Global, arguments: &[&[u8]]) -> Result<Event, WordFault>
     ensures stands { IfOk result (λ event. IsSubmitted (texts arguments.now) event) }
-    ensures bad { result ≡ Err WordFault.Bad → (now : ℕ) (name id body : List ℕ) → IsSubmit (texts arguments.now) now name id body → ⊥ }
+    ensures bad { result ≡ Err WordFault.Bad → AreOfNoSubmit (texts arguments.now) }
 {
     match arguments {
         [now, name, id, body] => submit(alloc, now, name, id, body),
@@ -115,7 +116,7 @@ fn submit(
     body: &[u8],
 ) -> Result<Event, WordFault>
     ensures stands { IfOk result (λ event. IsSubmitted (now.now ∷ name.now ∷ id.now ∷ body.now ∷ []) event) }
-    ensures bad { result ≡ Err WordFault.Bad → (at : ℕ) (of with bytes : List ℕ) → IsSubmit (now.now ∷ name.now ∷ id.now ∷ body.now ∷ []) at of with bytes → ⊥ }
+    ensures bad { result ≡ Err WordFault.Bad → AreOfNoSubmit (now.now ∷ name.now ∷ id.now ∷ body.now ∷ []) }
 {
     Ok(Event::Submit {
         now: read_moment(now)?,
@@ -127,7 +128,7 @@ fn submit(
 
 fn read_show(arguments: &[&[u8]]) -> Result<Event, WordFault>
     ensures stands { IfOk result (λ event. IsShown (texts arguments.now) event) }
-    ensures bad { result ≡ Err WordFault.Bad → (name id : List ℕ) → IsShow (texts arguments.now) name id → ⊥ }
+    ensures bad { result ≡ Err WordFault.Bad → AreOfNoShow (texts arguments.now) }
 {
     match arguments {
         [name, id] => show(name, id),
@@ -137,7 +138,7 @@ fn read_show(arguments: &[&[u8]]) -> Result<Event, WordFault>
 
 fn show(name: &[u8], id: &[u8]) -> Result<Event, WordFault>
     ensures stands { IfOk result (λ event. IsShown (name.now ∷ id.now ∷ []) event) }
-    ensures bad { result ≡ Err WordFault.Bad → (of with : List ℕ) → IsShow (name.now ∷ id.now ∷ []) of with → ⊥ }
+    ensures bad { result ≡ Err WordFault.Bad → AreOfNoShow (name.now ∷ id.now ∷ []) }
 {
     Ok(Event::ShowEvent {
         name: Name::read(name)?,
