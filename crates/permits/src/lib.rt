@@ -10,4 +10,4 @@ mod row;
 pub use crate::permit::Permit;
 pub use crate::pool::{MOST, PARTS, Pool};
 pub use crate::refusal::{Foreign, Refused};
-pub use crate::row::{Returned, Row};
+pub use crate::row::Row;

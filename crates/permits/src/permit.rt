@@ -1,33 +1,36 @@
 //! A permit. It has no `Drop`, so whoever holds one hands it on or gives it back.
-ghost use Rattle.std.specs.Prelude.{◌≡◌, ◌<◌};
+ghost use Rattle.std.specs.Prelude.{◌≡◌, ◌≤◌, ◌+◌, length};
 
+use crate::pool::MOST;
 use crate::row::Row;
 use relay_types::Name;
 use std::marker::Model;
 use std::sync::ledger::{Book, Ledger, Share, Total};
 
 /// The leave to post one attempt. `Pool::acquire` alone makes one and `Pool::give_back` alone ends one. It holds one part of
-/// the ledger, with one unit. Contracts see it as its row.
+/// the ledger, with one unit. Contracts see it as its row, whose in-flight number is 1 to 256.
 pub struct Permit<L: Ledger> {
     held: Row,
     unit: Share<L>,
 }
 
 impl<L: Ledger> Model for Permit<L> {
-    ghost use Rattle.std.specs.Prelude.{◌≡◌};
+    ghost use Rattle.std.specs.Prelude.{◌≡◌, ◌≤◌};
     ghost use Rattle.permits.specs.declared.row.Row.{Row};
 
     ghost Value = { Row };
 
     ghost view = { λ p. p.held };
 
-    ghost invariant = { λ p. (p.unit.parts ≡ 1) × (p.unit.amount ≡ 1) };
+    ghost invariant = { λ p. (p.unit.parts ≡ 1) × (p.unit.amount ≡ 1) × (1 ≤ p.held.inflight) × (p.held.inflight ≤ 256) };
 }
 
 impl<L: Ledger> Permit<L> {
     pub(crate) fn of(row: Row, unit: Share<L>) -> Permit<L>
         requires parts { unit.parts ≡ 1 }
         requires amount { unit.amount ≡ 1 }
+        requires itself { 1 ≤ row.inflight }
+        requires most { row.inflight ≤ MOST }
         ensures { result ≡ row }
     {
         Permit { held: row, unit }
@@ -41,15 +44,6 @@ impl<L: Ledger> Permit<L> {
         unit
     }
 
-    // Holds the unit against the book.
-    pub(crate) fn show(&mut self, book: &mut Book<L>)
-        ensures some { 0 < book.old.total }
-        ensures total { book.new.total ≡ book.old.total }
-        ensures same { self.new ≡ self.old }
-    {
-        book.audit(&mut self.unit);
-    }
-
     /// Never comes to be called: where the ledger was closed at nothing, no permit is left.
     pub fn refute(mut self, closed: &Total<L>) -> !
         requires { closed.now.amount ≡ 0 }
@@ -60,7 +54,9 @@ impl<L: Ledger> Permit<L> {
 
     /// What the pool keeps of the permit.
     pub fn row(&self) -> Row
-        ensures { result ≡ self.now }
+        ensures row { result ≡ self.now }
+        ensures itself { 1 ≤ self.now.inflight }
+        ensures most { self.now.inflight ≤ MOST }
     {
         self.held
     }
@@ -81,8 +77,33 @@ impl<L: Ledger> Permit<L> {
 
     /// How many permits of the endpoint were out once this one was, itself counted.
     pub fn inflight(&self) -> u32
-        ensures { result ≡ self.now.inflight }
+        ensures number { result ≡ self.now.inflight }
+        ensures itself { 1 ≤ result }
+        ensures most { result ≤ MOST }
     {
         self.row().inflight
+    }
+}
+
+// Holds the units of these permits, with those that were counted before, against the book.
+pub(crate) fn audit_units<L: Ledger>(
+    book: &mut Book<L>,
+    counted: &mut Share<L>,
+    permits: &mut [Permit<L>],
+)
+    requires units { counted.old.parts ≡ counted.old.amount }
+    ensures at_most { counted.old.amount + length permits.old ≤ book.old.total }
+    ensures total { book.new.total ≡ book.old.total }
+    ensures parts { counted.new.parts ≡ counted.old.parts }
+    ensures amount { counted.new.amount ≡ counted.old.amount }
+    ensures permits { permits.new ≡ permits.old }
+{
+    match permits.split_first_mut() {
+        Some((first, others)) => {
+            first.unit.give(counted, 1, 1);
+            audit_units(book, counted, others);
+            counted.give(&mut first.unit, 1, 1);
+        }
+        None => book.audit(counted),
     }
 }

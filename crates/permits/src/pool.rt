@@ -1,10 +1,11 @@
 //! The pool.
-ghost use Rattle.std.specs.Prelude.{◌≡◌, ◌<◌, ◌≤◌, ◌+◌, ◌↔◌, [], ◌∷◌, ◌++◌, ℕ, length, None, Some, remove, position, IfOk, IfErr, OnErr, OnOk, IsTrue, IsErr};
+ghost use Rattle.std.specs.Prelude.{◌≡◌, ◌<◌, ◌≤◌, ◌+◌, ◌↔◌, [], ◌∷◌, ◌++◌, ℕ, length, None, Some, remove, position, IfOk, IfErr, OnErr, OnOk, IsErr};
+ghost use Rattle.permits.specs.Refusals.{IsAtLimit, IsFull, IsAlreadyOut};
 ghost use Rattle.permits.specs.Rows.{in_flight_of, is_out, next_row, same_row};
 
-use crate::permit::Permit;
+use crate::permit::{Permit, audit_units};
 use crate::refusal::{Foreign, Refused};
-use crate::row::{Returned, Row};
+use crate::row::Row;
 use relay_types::Name;
 use std::alloc::{AllocError, Global};
 use std::marker::Model;
@@ -51,7 +52,9 @@ impl<L: Ledger> Pool<L> {
 
     /// How many permits of an endpoint are out.
     pub fn in_flight(&self, endpoint: Name) -> u32
-        ensures { result ≡ in_flight_of endpoint self.now }
+        ensures count { result ≡ in_flight_of endpoint self.now }
+        ensures within { result ≤ length self.now }
+        ensures most { result ≤ MOST }
     {
         self.rows
             .iter()
@@ -79,19 +82,14 @@ impl<L: Ledger> Pool<L> {
         self.rows.iter().position(|live| row.is(*live))
     }
 
-    /// A permit for one attempt of a delivery, where fewer of its endpoint than the limit are out. It takes no memory.
-    pub fn acquire(
-        &mut self,
-        endpoint: Name,
-        delivery: u64,
-        limit: u32,
-    ) -> Result<Permit<L>, Refused>
-        ensures at_limit { (result ≡ Err Refused.AtLimit) ↔ (limit ≤ in_flight_of endpoint self.old) }
-        ensures too_many { (result ≡ Err Refused.TooManyOut) ↔ ((in_flight_of endpoint self.old < limit) × (length self.old ≡ MOST)) }
-        ensures already { (result ≡ Err Refused.AlreadyOut) ↔ ((in_flight_of endpoint self.old < limit) × (length self.old < MOST) × IsTrue (is_out delivery self.old)) }
-        ensures permit { IfOk result (λ permit. permit ≡ next_row endpoint delivery self.old) }
-        ensures ok { OnOk result (self.new ≡ self.old ++ next_row endpoint delivery self.old ∷ []) }
-        ensures err { OnErr result (self.new ≡ self.old) }
+    // How many permits of the endpoint are out, where one more may be.
+    fn admits(&self, endpoint: Name, delivery: u64, limit: u32) -> Result<u32, Refused>
+        ensures at_limit { (result ≡ Err Refused.AtLimit) ↔ IsAtLimit endpoint limit self.now }
+        ensures too_many { (result ≡ Err Refused.TooManyOut) ↔ IsFull endpoint limit self.now }
+        ensures already { (result ≡ Err Refused.AlreadyOut) ↔ IsAlreadyOut endpoint delivery limit self.now }
+        ensures count { IfOk result (λ before. before ≡ in_flight_of endpoint self.now) }
+        ensures fewer { IfOk result (λ before. before ≤ length self.now) }
+        ensures place { OnOk result (length self.now < MOST) }
     {
         let before = self.in_flight(endpoint);
         if before >= limit {
@@ -103,59 +101,94 @@ impl<L: Ledger> Pool<L> {
         if self.is_out(delivery) {
             return Err(Refused::AlreadyOut);
         }
-        let row = Row {
+        Ok(before)
+    }
+
+    /// A permit for one attempt of a delivery, where fewer of its endpoint than the limit are out. It takes no memory.
+    pub fn acquire(
+        &mut self,
+        endpoint: Name,
+        delivery: u64,
+        limit: u32,
+    ) -> Result<Permit<L>, Refused>
+        ensures at_limit { (result ≡ Err Refused.AtLimit) ↔ IsAtLimit endpoint limit self.old }
+        ensures too_many { (result ≡ Err Refused.TooManyOut) ↔ IsFull endpoint limit self.old }
+        ensures already { (result ≡ Err Refused.AlreadyOut) ↔ IsAlreadyOut endpoint delivery limit self.old }
+        ensures permit { IfOk result (λ permit. permit ≡ next_row endpoint delivery self.old) }
+        ensures ok { OnOk result (self.new ≡ self.old ++ next_row endpoint delivery self.old ∷ []) }
+        ensures err { OnErr result (self.new ≡ self.old) }
+    {
+        let before = self.admits(endpoint, delivery, limit)?;
+        Ok(self.add(Row {
             endpoint,
             delivery,
             inflight: before + 1,
-        };
-        let kept = row;
-        let mut unit = self.rest.split_off(1, 0);
-        self.book.add(&mut unit, 1);
-        self.rows.push_reserved(kept);
-        Ok(Permit::of(row, unit))
+        }))
     }
 
-    /// Takes a permit back, or hands it back where no row is its own. It takes no memory.
-    pub fn give_back(&mut self, permit: Permit<L>) -> Result<Returned, (Permit<L>, Foreign)>
+    // Adds a row, for which there is a place.
+    fn add(&mut self, row: Row) -> Permit<L>
+        requires place { length self.old < MOST }
+        requires itself { 1 ≤ row.inflight }
+        requires most { row.inflight ≤ MOST }
+        ensures permit { result ≡ row }
+        ensures rows { self.new ≡ self.old ++ row ∷ [] }
+    {
+        let mut unit = self.rest.split_off(1, 0);
+        self.book.add(&mut unit, 1);
+        let permit = Permit::of(row, unit);
+        self.rows.push_reserved(permit.row());
+        permit
+    }
+
+    /// Takes a permit back and tells its row, or hands it back where no row is its own. It takes no memory.
+    pub fn give_back(&mut self, permit: Permit<L>) -> Result<Row, (Permit<L>, Foreign)>
         ensures foreign { IsErr result ↔ (position (same_row permit) self.old ≡ None) }
         ensures handed_back { IfErr result (λ e. e.0 ≡ permit) }
-        ensures returned { IfOk result (λ r. (r.endpoint ≡ permit.endpoint) × (r.delivery ≡ permit.delivery) × (r.inflight ≡ permit.inflight)) }
+        ensures returned { IfOk result (λ row. row ≡ permit) }
+        ensures itself { IfOk result (λ row. 1 ≤ row.inflight) }
+        ensures most { IfOk result (λ row. row.inflight ≤ MOST) }
         ensures ok { (i : ℕ) → position (same_row permit) self.old ≡ Some i → self.new ≡ remove self.old i }
         ensures one_less { OnOk result (length self.new + 1 ≡ length self.old) }
         ensures err { OnErr result (self.new ≡ self.old) }
     {
-        let Some(at) = self.place_of(permit.row()) else {
-            return Err((permit, Foreign));
-        };
-        let Row {
-            endpoint,
-            delivery,
-            inflight,
-        } = permit.row();
+        match self.place_of(permit.row()) {
+            Some(at) => Ok(self.take_out(at, permit)),
+            None => Err((permit, Foreign)),
+        }
+    }
+
+    // Takes out the row at this place, which is the permit's.
+    fn take_out(&mut self, at: usize, permit: Permit<L>) -> Row
+        requires { at < length self.old }
+        ensures row { result ≡ permit }
+        ensures rows { self.new ≡ remove self.old at }
+        ensures itself { 1 ≤ result.inflight }
+        ensures most { result.inflight ≤ MOST }
+    {
+        let row = permit.row();
         let mut unit = permit.into_unit();
         self.rows.remove(at);
         self.book.sub(&mut unit, 1);
         self.rest.merge(unit);
-        Ok(Returned {
-            endpoint,
-            delivery,
-            inflight,
-        })
+        row
     }
 
-    /// Shows that while a permit exists the pool isn't empty.
-    pub fn audit(&mut self, permit: &mut Permit<L>)
-        ensures some_out { 0 < length self.old }
+    /// How many permits are out beside these, which are no more than the rows.
+    pub fn audit(&mut self, permits: &mut [Permit<L>]) -> usize
+        ensures others { result + length permits.old ≡ length self.old }
         ensures pool { self.new ≡ self.old }
-        ensures permit { permit.new ≡ permit.old }
+        ensures permits { permits.new ≡ permits.old }
     {
-        permit.show(&mut self.book);
+        let mut counted = self.rest.empty();
+        audit_units(&mut self.book, &mut counted, permits);
+        self.rows.len() - permits.len()
     }
 
-    /// Closes the ledger of an empty pool (`live` tells whether it is), whose total is then fixed at nothing.
+    /// Closes the ledger, whose total is then fixed at the number of rows. `live` tells it: permits that are out can't be given
+    /// back any more.
     pub fn close(self) -> Total<L>
-        requires { self ≡ [] }
-        ensures { result.amount ≡ 0 }
+        ensures { result.amount ≡ length self }
     {
         let Pool {
             rows: _,

@@ -11,7 +11,7 @@ pub struct Row {
     pub endpoint: Name,
     /// The sequence number of the delivery's Accept record.
     pub delivery: u64,
-    /// How many permits of the endpoint were out once this one was, itself counted.
+    /// How many permits of the endpoint were out once this one was, itself counted. A permit's row has 1 to 256.
     pub inflight: u32,
 }
 
@@ -24,15 +24,4 @@ impl Row {
             && self.delivery == other.delivery
             && self.inflight == other.inflight
     }
-}
-
-/// What a permit that came back had.
-#[derive(Clone, Copy, PartialEq, Eq)]
-pub struct Returned {
-    /// The endpoint that could be posted to.
-    pub endpoint: Name,
-    /// The sequence number of the delivery's Accept record.
-    pub delivery: u64,
-    /// How many permits of the endpoint were out once this one was, itself counted.
-    pub inflight: u32,
 }

@@ -1,7 +1,7 @@
 // The pool at a ledger of its own.
 ghost use Rattle.std.specs.Prelude.{◌≡◌};
 
-use permits::{Foreign, MOST, PARTS, Permit, Pool, Refused, Returned, Row};
+use permits::{Foreign, MOST, PARTS, Permit, Pool, Refused, Row};
 use relay_types::Name;
 use std::alloc::Global;
 use std::marker::Brand;
@@ -9,8 +9,8 @@ use std::process::Abort;
 use std::sync::ledger::{Blank, Ledger};
 use std::sync::{Mutex, Wait};
 use std::test::Fail;
-use std::thread;
 use std::thread::Threads;
+use std::{slice, thread};
 
 fn name(rt: &impl Abort, text: &[u8]) -> Name {
     match Name::read(text) {
@@ -45,7 +45,7 @@ fn refusal<L: Ledger>(
     }
 }
 
-fn put<L: Ledger>(rt: &impl Abort, pool: &mut Pool<L>, permit: Permit<L>) -> Returned {
+fn put<L: Ledger>(rt: &impl Abort, pool: &mut Pool<L>, permit: Permit<L>) -> Row {
     match pool.give_back(permit) {
         Ok(returned) => returned,
         Err((permit, Foreign)) => panic!(rt; "{} is foreign", permit.delivery()),
@@ -88,7 +88,7 @@ fn turns<L: Ledger>(rt: &impl Abort, alloc: Global, blank: Blank) -> Result<(), 
         (pool.in_flight(a), pool.in_flight(b), pool.live()),
         (2, 0, 2)
     );
-    pool.audit(&mut one);
+    assert_eq!(rt; pool.audit(slice::from_mut(&mut one)), 1);
     assert_eq!(rt; put(rt, &mut pool, one).delivery, 1);
     assert_eq!(rt; pool.in_flight(a), 1);
     let back = put(rt, &mut pool, two);
@@ -122,6 +122,7 @@ fn full<L: Ledger>(rt: &impl Abort, alloc: Global, blank: Blank) -> Result<(), F
     assert_eq!(rt; refusal(rt, &mut pool, a, 256, 1000), Refused::TooManyOut);
     assert_eq!(rt; refusal(rt, &mut pool, a, 0, 1000), Refused::TooManyOut);
     assert_eq!(rt; refusal(rt, &mut pool, a, 256, 256), Refused::AtLimit);
+    assert_eq!(rt; pool.audit(out.as_mut_slice()), 0);
     while let Some(permit) = out.pop() {
         put(rt, &mut pool, permit);
     }
@@ -154,7 +155,7 @@ fn deliver<L: Ledger, R: Wait + Abort>(
     pool: &Mutex<Pool<L>>,
     endpoint: Name,
     delivery: u64,
-) -> Returned {
+) -> Row {
     for _ in rt.forever() {
         let answer = pool.lock(rt).acquire(endpoint, delivery, 1);
         match answer {
