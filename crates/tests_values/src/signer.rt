@@ -15,76 +15,65 @@ fn hex(alloc: Global, bytes: &[u8]) -> Result<String, AllocError> {
     Ok(text)
 }
 
-// The first digits of the HMAC are these.
+// The HMAC of each text begins with these digits.
 fn expect(
     rt: &impl Abort,
     alloc: Global,
-    key: &[u8],
-    pieces: &[&[u8]],
-    digits: &str,
+    table: &[(&[u8], &[u8], &str)],
 ) -> Result<(), AllocError> {
-    let text = hex(alloc, &hmac(key, pieces))?;
-    assert!(rt; text.as_str().starts_with(digits), "{digits}, not {text}");
+    for (key, text, digits) in table {
+        let found = hex(alloc, &hmac(key, &[text]))?;
+        assert!(rt; found.as_str().starts_with(digits), "{digits}, not {found}");
+    }
     Ok(())
 }
 
+// Of the fifth the first 16 bytes are given.
 #[test]
 fn vectors_of_rfc_4231(rt: HostRuntime) -> Result<(), Fail> {
-    let alloc = rt.alloc();
-    expect(
-        &rt,
-        alloc,
-        &[0x0B; 20],
-        &[b"Hi There"],
-        "b0344c61d8db38535ca8afceaf0bf12b881dc200c9833da726e9376c2e32cff7",
-    )?;
-    expect(
-        &rt,
-        alloc,
-        b"Jefe",
-        &[b"what do ya want for nothing?"],
-        "5bdcc146bf60754e6a042426089575c75a003f089d2739839dec58b964ec3843",
-    )?;
-    expect(
-        &rt,
-        alloc,
-        &[0xAA; 20],
-        &[&[0xDD; 50]],
-        "773ea91e36800e46854db8ebd09181a72959098b3ef8c122d9635514ced565fe",
-    )?;
     let rising = [
         1, 2, 3, 4, 5, 6, 7, 8, 9, 10, 11, 12, 13, 14, 15, 16, 17, 18, 19, 20, 21, 22, 23, 24, 25,
     ];
     expect(
         &rt,
-        alloc,
-        &rising,
-        &[&[0xCD; 50]],
-        "82558a389a443c0ea4cc819899f2083a85f0faa3e578f8077a2e3ff46729665b",
-    )?;
-    // Of the fifth the first 16 bytes are given.
-    expect(
-        &rt,
-        alloc,
-        &[0x0C; 20],
-        &[b"Test With Truncation"],
-        "a3b6167473100ee06e0c796c2955552b",
-    )?;
-    expect(
-        &rt,
-        alloc,
-        &[0xAA; 131],
-        &[b"Test Using Larger Than Block-Size Key - Hash Key First"],
-        "60e431591ee0b67f0d8a26aacbf5b77f8e0bc6213728c5140546040f0ee37f54",
-    )?;
-    expect(
-        &rt,
-        alloc,
-        &[0xAA; 131],
+        rt.alloc(),
         &[
-            b"This is a test using a larger than block-size key and a larger than block-size data. The key needs to be hashed before being used by the HMAC algorithm.",
+            (
+                &[0x0B; 20],
+                b"Hi There",
+                "b0344c61d8db38535ca8afceaf0bf12b881dc200c9833da726e9376c2e32cff7",
+            ),
+            (
+                b"Jefe",
+                b"what do ya want for nothing?",
+                "5bdcc146bf60754e6a042426089575c75a003f089d2739839dec58b964ec3843",
+            ),
+            (
+                &[0xAA; 20],
+                &[0xDD; 50],
+                "773ea91e36800e46854db8ebd09181a72959098b3ef8c122d9635514ced565fe",
+            ),
+            (
+                &rising,
+                &[0xCD; 50],
+                "82558a389a443c0ea4cc819899f2083a85f0faa3e578f8077a2e3ff46729665b",
+            ),
+            (
+                &[0x0C; 20],
+                b"Test With Truncation",
+                "a3b6167473100ee06e0c796c2955552b",
+            ),
+            (
+                &[0xAA; 131],
+                b"Test Using Larger Than Block-Size Key - Hash Key First",
+                "60e431591ee0b67f0d8a26aacbf5b77f8e0bc6213728c5140546040f0ee37f54",
+            ),
+            (
+                &[0xAA; 131],
+                b"This is a test using a larger than block-size key and a larger than block-size data. The key needs to be hashed before being used by the HMAC algorithm.",
+                "9b09ffa71b942fcb27635fbcd5b0e944bfdc63644f0713938a7f51535c3a35e2",
+            ),
         ],
-        "9b09ffa71b942fcb27635fbcd5b0e944bfdc63644f0713938a7f51535c3a35e2",
     )?;
     Ok(())
 }
@@ -92,27 +81,26 @@ fn vectors_of_rfc_4231(rt: HostRuntime) -> Result<(), Fail> {
 // Keys about the length of a block, by Python's `hmac`.
 #[test]
 fn keys_of_a_block(rt: HostRuntime) -> Result<(), Fail> {
-    let alloc = rt.alloc();
     expect(
         &rt,
-        alloc,
-        b"",
-        &[b"abc"],
-        "fd7adb152c05ef80dccf50a1fa4c05d5a3ec6da95575fc312ae7c5d091836351",
-    )?;
-    expect(
-        &rt,
-        alloc,
-        &[b'k'; 64],
-        &[b"abc"],
-        "ae0c0e4a2340cf50185eb46aaa8723f4769153661612e212fb0d1fa3170c6202",
-    )?;
-    expect(
-        &rt,
-        alloc,
-        &[b'k'; 65],
-        &[b"abc"],
-        "ed378e5dfa30dc98814ba09b2e610d9b6af66054922ceef9480da094a3f11b2d",
+        rt.alloc(),
+        &[
+            (
+                b"",
+                b"abc",
+                "fd7adb152c05ef80dccf50a1fa4c05d5a3ec6da95575fc312ae7c5d091836351",
+            ),
+            (
+                &[b'k'; 64],
+                b"abc",
+                "ae0c0e4a2340cf50185eb46aaa8723f4769153661612e212fb0d1fa3170c6202",
+            ),
+            (
+                &[b'k'; 65],
+                b"abc",
+                "ed378e5dfa30dc98814ba09b2e610d9b6af66054922ceef9480da094a3f11b2d",
+            ),
+        ],
     )?;
     Ok(())
 }
