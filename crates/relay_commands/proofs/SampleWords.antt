@@ -3,7 +3,7 @@ use Rattle.std.proofs.Common.{◌≡◌, ℕ, Bool, true, false, List, [], ◌�
 use Rattle.std.specs.Borrow.{Bor}
 use Rattle.std.specs.List.{list_all}
 use Rattle.std.proofs.lemmas.List.{length-map}
-use Rattle.vegas.specs.Vegas.{Sample}
+use Rattle.vegas.specs.declared.sample.Sample.{Sample}
 use Rattle.text_lines.specs.Parts.{line, has_no, HasParts, texts}
 use Rattle.relay_commands.specs.Traces.{end_word, sample_words, IsSample, ReadsSample}
 use Rattle.text_lines.proofs.CleanWords.{clean-decimal}

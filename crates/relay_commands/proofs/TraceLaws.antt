@@ -1,6 +1,7 @@
 -- The lines of samples, taken one after another.
 use Rattle.std.proofs.Common.{◌≡◌, ℕ, zero, suc, ◌≤◌, List, [], ◌∷◌, ◌++◌, length, take, refl, sym, ap, ◌∙◌, arith, length-append}
-use Rattle.vegas.specs.Vegas.{Sample, limit_of, noload_of}
+use Rattle.vegas.specs.declared.sample.Sample.{Sample}
+use Rattle.vegas.specs.Vegas.{limit_of, noload_of}
 use Rattle.vegas.specs.Estimates.{Estimate, StandsFor}
 use Rattle.relay_commands.specs.Traces.{ReadsSample, ReadSamples, numbers_text, sampled_text, trace_text, Traced, TakesSample}
 
@@ -46,7 +47,7 @@ Sampled-none maximum e is stands = record { xs = []; reads = tt; is_maximum = is
 pub Traced-from_sampled : (maximum : ℕ) (e : Estimate) (lines : List (List ℕ)) (written : List ℕ) → Sampled maximum e lines written → Traced maximum lines written
 Traced-from_sampled maximum e lines written s = (s.xs, s.reads, s.is_written)
 
-numbers : (maximum : ℕ) (e : Estimate) (xs : List Sample) → e.maximum ≡ maximum → StandsFor e xs → numbers_text e.limit e.noload ≡ sampled_text maximum xs
+numbers : (maximum : ℕ) (e : Estimate) (xs : List Sample) → e.maximum ≡ maximum → StandsFor e xs → numbers_text e.state.limit e.state.noload ≡ sampled_text maximum xs
 numbers maximum e xs is stands = λ i. numbers_text ((stands.limit ∙ ap (λ m. limit_of m xs) is) i) ((stands.noload ∙ ap (λ m. noload_of m xs) is) i)
 
 pub Sampled-more : (maximum : ℕ) (old new : Estimate) (lines : List (List ℕ)) (written line answer : List ℕ) → Sampled maximum old lines written → TakesSample line old new answer

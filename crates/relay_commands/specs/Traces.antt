@@ -2,7 +2,8 @@
 use Rattle.std.specs.Prelude.{◌≡◌, ℕ, zero, suc, ◌^◌, ◌≤◌, ◌<◌, ◌⊎◌, Bool, IsTrue, List, [], ◌∷◌, ◌++◌, length, take, Option, Result, codes, decimal, if◌then◌else◌}
 use Rattle.std.specs.Io.KnownBytes.{Keeps}
 use Rattle.relay_types.specs.Values.{is_max_limit}
-use Rattle.vegas.specs.Vegas.{Sample, limit_of, noload_of}
+use Rattle.vegas.specs.declared.sample.Sample.{Sample}
+use Rattle.vegas.specs.Vegas.{limit_of, noload_of}
 use Rattle.vegas.specs.Estimates.{Estimate, StandsFor}
 use Rattle.text_lines.specs.declared.fault.ReplayFault.{ReplayFault}
 use Rattle.text_lines.specs.Ends.{Ends, EndsTo}
@@ -64,4 +65,4 @@ TracesTo word input old new status =
 -- the line's sample is taken, and answered by the numbers after it
 abbrev pub TakesSample : List ℕ → Estimate → Estimate → List ℕ → Type 0
 TakesSample text old new answer = (x : Sample) × ReadsSample text x × (new.maximum ≡ old.maximum)
-    × ((xs : List Sample) → StandsFor old xs → StandsFor new (xs ++ x ∷ [])) × (answer ≡ numbers_text new.limit new.noload)
+    × ((xs : List Sample) → StandsFor old xs → StandsFor new (xs ++ x ∷ [])) × (answer ≡ numbers_text new.state.limit new.state.noload)

@@ -1,6 +1,6 @@
 //! `relayd vegas`: the limit after each of some samples.
 ghost use Rattle.std.specs.Prelude.{◌≡◌, ◌<◌, ◌≤◌, Bool, [], ◌∷◌, decimal, Some, IfSome, IfOk};
-ghost use Rattle.vegas.specs.Vegas.{Sample as Taken};
+ghost use Rattle.vegas.specs.declared.sample.Sample.{Sample as Taken};
 ghost use Rattle.vegas.specs.Estimates.{sample_of};
 ghost use Rattle.text_lines.specs.Ends.{EndsLine};
 ghost use Rattle.text_lines.specs.Parts.{line};

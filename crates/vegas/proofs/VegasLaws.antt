@@ -6,7 +6,8 @@ use Rattle.std.proofs.Math.Dec.{leb}
 use Rattle.std.proofs.Math.Seq.{drop-append_seam}
 use Rattle.std.proofs.lemmas.Bool.Decides.{nat_tests}
 use Rattle.std.proofs.lemmas.List.{take-append-le, drop-append-le, length-drop}
-use Rattle.vegas.specs.Vegas.{Sample, Place, round_trip, least_round_trip, noload_after, limit_at, next_place, place_after, limit_of, noload_of, probes_of}
+use Rattle.vegas.specs.declared.sample.Sample.{Sample}
+use Rattle.vegas.specs.Vegas.{Place, round_trip, least_round_trip, noload_after, limit_at, next_place, place_after, limit_of, noload_of, probes_of}
 use Rattle.vegas.specs.Estimates.{Estimate, StandsFor}
 
 -- a sample more leaves the elements before it
@@ -189,7 +190,7 @@ place-moved most xs x h known high =
 -- what a place tells of a list with one more sample
 place-follows : (most : ℕ) (xs : List Sample) (x : Sample) (p : Place) (noload count : ℕ) → last_place most (xs ++ x ∷ []) ≡ p
     → least_round_trip (drop (p.probe - 1) (xs ++ x ∷ [])) ≡ noload → suc (length xs) - p.probe ≡ count
-    → StandsFor (record { maximum = most; limit = p.limit; noload = noload; probes = count }) (xs ++ x ∷ [])
+    → StandsFor (record { maximum = most; state = record { limit = p.limit; noload = noload; probes = count } }) (xs ++ x ∷ [])
 unfolding limit_of probes_of
 place-follows most xs x p noload count place least counted = record {
   limit = ap (λ (q : Place). q.limit) (sym place);
@@ -208,14 +209,14 @@ counted-snoc most xs = omega (arith, last_probe most xs)
 
 -- the estimate of a list
 abbrev estimate_of : ℕ → List Sample → Estimate
-estimate_of most xs = record { maximum = most; limit = limit_of most xs; noload = noload_of most xs; probes = probes_of most xs }
+estimate_of most xs = record { maximum = most; state = record { limit = limit_of most xs; noload = noload_of most xs; probes = probes_of most xs } }
 
 estimate_of-is : (e : Estimate) (xs : List Sample) → StandsFor e xs → estimate_of e.maximum xs ≡ e
-estimate_of-is e xs s i = record { maximum = e.maximum; limit = sym s.limit i; noload = sym s.noload i; probes = sym s.probes i }
+estimate_of-is e xs s i = record { maximum = e.maximum; state = record { limit = sym s.limit i; noload = sym s.noload i; probes = sym s.probes i } }
 
 -- A probe makes the round trip the no-load time, and leaves the limit.
 abbrev Probe : List Sample → Sample → Estimate → Type 0
-Probe xs x e = 30 * e.limit ≤ e.probes + 1 → StandsFor (record e { noload = round_trip x; probes = 0 }) (xs ++ x ∷ [])
+Probe xs x e = 30 * e.state.limit ≤ e.state.probes + 1 → StandsFor (record e { state = record e.state { noload = round_trip x; probes = 0 } }) (xs ++ x ∷ [])
 
 probe-at : (most : ℕ) (xs : List Sample) (x : Sample) → Probe xs x (estimate_of most xs)
 unfolding limit_of
@@ -229,8 +230,8 @@ probe-follows e xs x s = subst (Probe xs x) (estimate_of-is e xs s) (probe-at e.
 
 -- The first round trip of all, or a lower one, becomes the no-load time, and the limit stays.
 abbrev Low : List Sample → Sample → Estimate → Type 0
-Low xs x e = e.probes + 1 < 30 * e.limit → (e.noload ≡ 0) ⊎ (round_trip x < e.noload)
-    → StandsFor (record e { noload = round_trip x; probes = e.probes + 1 }) (xs ++ x ∷ [])
+Low xs x e = e.state.probes + 1 < 30 * e.state.limit → (e.state.noload ≡ 0) ⊎ (round_trip x < e.state.noload)
+    → StandsFor (record e { state = record e.state { noload = round_trip x; probes = e.state.probes + 1 } }) (xs ++ x ∷ [])
 
 low-at : (most : ℕ) (xs : List Sample) (x : Sample) → Low xs x (estimate_of most xs)
 unfolding limit_of
@@ -245,8 +246,8 @@ low-follows e xs x s = subst (Low xs x) (estimate_of-is e xs s) (low-at e.maximu
 
 -- Any other sample moves the limit, and leaves the no-load time.
 abbrev Other : List Sample → Sample → Estimate → Type 0
-Other xs x e = e.probes + 1 < 30 * e.limit → e.noload ≢ 0 → e.noload ≤ round_trip x
-    → StandsFor (record e { limit = limit_at e.maximum e.limit e.noload x; probes = e.probes + 1 }) (xs ++ x ∷ [])
+Other xs x e = e.state.probes + 1 < 30 * e.state.limit → e.state.noload ≢ 0 → e.state.noload ≤ round_trip x
+    → StandsFor (record e { state = record e.state { limit = limit_at e.maximum e.state.limit e.state.noload x; probes = e.state.probes + 1 } }) (xs ++ x ∷ [])
 
 other-at : (most : ℕ) (xs : List Sample) (x : Sample) → Other xs x (estimate_of most xs)
 unfolding limit_of

@@ -1,6 +1,7 @@
 -- Worked limits, computed from the definition.
 use Rattle.std.specs.Prelude.{◌≡◌, ℕ, true, false, List, [], ◌∷◌, ◌++◌, replicate, take, map, refl}
-use Rattle.vegas.specs.Vegas.{Sample, place_after, limit_of, noload_of, probes_of, queue, step_size}
+use Rattle.vegas.specs.declared.sample.Sample.{Sample}
+use Rattle.vegas.specs.Vegas.{place_after, limit_of, noload_of, probes_of, queue, step_size}
 
 abbrev ok : ℕ → ℕ → Sample
 ok rtt inflight = record { rtt = rtt; inflight = inflight; dropped = false }

@@ -2,12 +2,7 @@
 use Rattle.std.specs.Prelude.{ℕ, zero, suc, ◌+◌, ◌-◌, ◌*◌, ◌^◌, min, max, Bool, ◌||◌, nat_le, nat_lt, ◌==◌, List, [], ◌∷◌, length, take, drop, if◌then◌else◌, slice_get}
 use Rattle.std.specs.Option.{option_map_or}
 use Rattle.relay_types.specs.Lists.{least}
-
--- a round trip in microseconds, how many posts were in flight as it began, and whether it was a drop
-pub record Sample : Type 0 where
-  pub rtt : ℕ
-  pub inflight : ℕ
-  pub dropped : Bool
+use Rattle.vegas.specs.declared.sample.Sample.{Sample}
 
 -- the limit after some samples, and the place of the last probe among them, 0 if there is none
 pub record Place : Type 0 where

@@ -1,9 +1,10 @@
 //! The estimator of one endpoint.
 ghost use Rattle.std.specs.Prelude.{◌≡◌, ◌≤◌, List, [], ◌∷◌, ◌++◌, IsOk, IfOk};
-ghost use Rattle.vegas.specs.Vegas.{Sample};
+ghost use Rattle.vegas.specs.declared.sample.Sample.{Sample};
 ghost use Rattle.vegas.specs.Estimates.{StandsFor, sample_of};
 
 use crate::rules::{moved, queue};
+use crate::state::State;
 use relay_types::MaxLimit;
 use std::alloc::AllocError;
 use std::marker::Model;
@@ -17,14 +18,12 @@ const LONGEST_ROUND_TRIP: u64 = 3_600_000_000;
 /// A probe comes after this many samples for each of the limit.
 const SAMPLES_BY_LIMIT: u32 = 30;
 
-/// The limit of one endpoint. It holds three running numbers and its maximum; contracts say that they are those of the list
+/// The limit of one endpoint. It holds its maximum and three running numbers; contracts say that these are those of the list
 /// of samples that it was given.
 #[derive(Drop)]
 pub struct Estimator {
     maximum: MaxLimit,
-    limit: u32,
-    noload: u64,
-    probes: u32,
+    state: State,
 }
 
 impl Model for Estimator {
@@ -32,9 +31,9 @@ impl Model for Estimator {
 
     ghost Value = { Estimate };
 
-    ghost view = { λ a. record { maximum = a.maximum; limit = a.limit; noload = a.noload; probes = a.probes } };
+    ghost view = { λ a. record { maximum = a.maximum; state = a.state } };
 
-    ghost invariant = { λ a. AreBounded a.maximum a.limit a.noload a.probes };
+    ghost invariant = { λ a. AreBounded a.maximum a.state };
 }
 
 impl Estimator {
@@ -46,27 +45,29 @@ impl Estimator {
     {
         Ok(Estimator {
             maximum,
-            limit: FIRST_LIMIT.min(maximum.get()),
-            noload: 0,
-            probes: 0,
+            state: State {
+                limit: FIRST_LIMIT.min(maximum.get()),
+                noload: 0,
+                probes: 0,
+            },
         })
     }
 
     /// How many posts may be in flight.
     pub fn limit(&self) -> u32
-        ensures number { result ≡ self.now.limit }
+        ensures number { result ≡ self.now.state.limit }
         ensures low { 1 ≤ result }
         ensures high { result ≤ self.now.maximum }
     {
-        self.limit // posts
+        self.state.limit // posts
     }
 
     /// The round trip of an endpoint without load, in microseconds, or 0 before the first sample.
     pub fn noload(&self) -> u64
-        ensures number { result ≡ self.now.noload }
+        ensures number { result ≡ self.now.state.noload }
         ensures hour { result ≤ 3600000000 }
     {
-        self.noload // microseconds
+        self.state.noload // microseconds
     }
 
     /// Takes one more sample: a round trip in microseconds, how many posts were in flight as it began (its own counted), and
@@ -85,19 +86,19 @@ impl Estimator {
             → StandsFor self.new (xs ++ sample_of rtt inflight dropped ∷ []) }
     {
         let round_trip = rtt.clamp(1, LONGEST_ROUND_TRIP);
-        let count = self.probes + 1;
-        if SAMPLES_BY_LIMIT * self.limit <= count {
-            self.probes = 0;
-            self.noload = round_trip;
+        let count = self.state.probes + 1;
+        if SAMPLES_BY_LIMIT * self.state.limit <= count {
+            self.state.probes = 0;
+            self.state.noload = round_trip;
             return;
         }
-        self.probes = count;
-        if self.noload == 0 || round_trip < self.noload {
-            self.noload = round_trip;
+        self.state.probes = count;
+        if self.state.noload == 0 || round_trip < self.state.noload {
+            self.state.noload = round_trip;
             return;
         }
-        let waiting = queue(self.limit, round_trip, self.noload);
-        let limit = moved(self.limit, waiting, inflight, dropped);
-        self.limit = limit.clamp(1, self.maximum.get());
+        let waiting = queue(self.state.limit, round_trip, self.state.noload);
+        let limit = moved(self.state.limit, waiting, inflight, dropped);
+        self.state.limit = limit.clamp(1, self.maximum.get());
     }
 }

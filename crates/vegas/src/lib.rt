@@ -8,5 +8,9 @@
 
 mod estimator;
 mod rules;
+mod sample;
+mod state;
 
 pub use crate::estimator::Estimator;
+pub use crate::sample::Sample;
+pub use crate::state::State;

@@ -15,6 +15,6 @@ pub returns : goal.returns
 returns g c =
     let s = c.in-Ok.sample in
     let reads = subst (λ line. ReadsSample line (sample_of s.rtt s.inflight s.dropped)) c.line.ensures c.in-Ok.ensures.stands in
-    written_line (TakesSample c.args.lines.now.line c.args.estimator.now c.sample.new.self) IsNoSample c.args.lines.now _ _ (numbers_text c.sample.new.self.limit c.sample.new.self.noload) c.write_line.result
+    written_line (TakesSample c.args.lines.now.line c.args.estimator.now c.sample.new.self) IsNoSample c.args.lines.now _ _ (numbers_text c.sample.new.self.state.limit c.sample.new.self.state.noload) c.write_line.result
     (sample_of s.rtt s.inflight s.dropped, reads, c.sample.ensures.maximum, c.sample.ensures.follows, refl)
     (rw (c.limit.ensures.number, c.noload.ensures.number) at c.write_line.ensures.written) (rw (c.limit.ensures.number, c.noload.ensures.number) at c.write_line.ensures.failed) c.write_line.ensures.faults
