@@ -1,10 +1,10 @@
 -- The lines of a text, read and answered one after another.
 use Rattle.std.proofs.Common.{◌≡◌, ℕ, ◌+◌, ◌≤◌, ◌==◌, Bool, true, false, ◌⊎◌, inl, inr, List, [], ◌∷◌, ◌++◌, length, Option, Some, None, Result, Ok, Err, IsTrue, refl, sym, ap, subst, ◌∙◌, arith, le-leb, append_assoc, append-nil, length-append}
-use Rattle.std.specs.Prelude.{OnOk, OnErr, IfErr}
+use Rattle.std.specs.Prelude.{OnOk, OnErr, IfErr, nat_le}
 use Rattle.std.specs.List.{list_all}
 use Rattle.std.specs.Io.KnownBytes.{Appends, Keeps, IsAtEnd}
 use Rattle.std.proofs.lemmas.List.Folds.{list_all-append}
-use Rattle.std.proofs.lemmas.Bool.{eqb-true}
+use Rattle.std.proofs.lemmas.Bool.{eqb-true, and_parts}
 use Rattle.text_lines.specs.declared.fault.ReplayFault.{ReplayFault}
 use Rattle.text_lines.specs.declared.fault.ReplayFault.TheVariants.{BadLine, TooLong, Read, Write, Lost, OutOfMemory}
 use Rattle.text_lines.specs.Streams.{Reading, left, has_no_feed, TakesLine, IsTooLong, AppendsFront}
@@ -138,7 +138,7 @@ abbrev pub Written : (List ℕ → Type 0) → List ℕ → Option (List ℕ) �
 Written Is had contents = (written : List ℕ) × (contents ≡ Some (had ++ written)) × Is written
 
 pub begins : (Holds : List (List ℕ) → List ℕ → Type 0) (text had : List ℕ) (reading : Reading) (remaining contents : Option (List ℕ)) → Holds [] [] → remaining ≡ Some text → contents ≡ Some had
-    → reading ≡ record { pending = []; line = []; count = 0 } → Progress Holds text had reading remaining contents
+    → reading ≡ record { pending = []; line = []; count = 0; failed = false } → Progress Holds text had reading remaining contents
 begins Holds text had reading remaining contents holds input output new = record {
   lines = [];
   rest = text;
@@ -153,6 +153,15 @@ begins Holds text had reading remaining contents holds input output new = record
 
 within_more : (lines : List (List ℕ)) (line : List ℕ) → AreWithinBounds lines → length lines + 1 ≤ 1000000 → length line ≤ 140000 → AreWithinBounds (lines ++ line ∷ [])
 within_more lines line within few short = (omega (arith, length-append lines (line ∷ []), few), rw (list_all-append, within.1, le-leb (length line) 140000 short) refl)
+
+none_within : AreWithinBounds []
+none_within = (omega arith, refl)
+
+within_front : (lines : List (List ℕ)) (line : List ℕ) → AreWithinBounds (lines ++ line ∷ []) → AreWithinBounds lines
+within_front lines line within = (
+  omega (arith, length-append lines (line ∷ []), within.0),
+  (and_parts (list_all (λ l. nat_le (length l) 140000) lines) _ (rw list_all-append at within.1)).0,
+)
 
 pub takes : {Holds : List (List ℕ) → List ℕ → Type 0} (text had : List ℕ) (old new : Reading) (before after contents : Option (List ℕ)) → Progress Holds text had old before contents
     → TakesLine (left old before) (left new after) new.line → IsTrue (has_no_feed new.line) → new.count ≡ old.count + 1 → length new.line ≤ 140000 → new.count ≤ 1000000
@@ -189,14 +198,15 @@ whole Says text had reading remaining contents p says end =
     let none : p.rest ≡ [] = subst IsAtEnd p.is_left end in
     (p.written, p.is_written, (p.lines, HasLines-from_all text p.lines (subst (HasLinesBefore text p.lines) none p.taken), p.within, says))
 
-cut_at : (Says : List (List ℕ) → List ℕ → Type 0) (text : List ℕ) (lines : List (List ℕ)) (rest written : List ℕ) → HasLinesBefore text lines rest → Says lines written → IsCut Says text written
-cut_at Says text lines rest written taken says =
+cut_at : (Says : List (List ℕ) → List ℕ → Type 0) (text : List ℕ) (lines : List (List ℕ)) (rest written : List ℕ) → HasLinesBefore text lines rest → AreWithinBounds lines → Says lines written → IsCut Says text written
+cut_at Says text lines rest written taken within says =
     let all = goes_on text lines rest taken in
-    (lines, all.0, [], all.1, subst (Says lines) (sym (append-nil written)) says)
+    (lines, all.0, [], all.1, within, subst (Says lines) (sym (append-nil written)) says)
 
-too_long_at : (Says : List (List ℕ) → List ℕ → Type 0) (text : List ℕ) (lines : List (List ℕ)) (rest written : List ℕ) → HasLinesBefore text lines rest → IsTooLong (length lines) (Some rest) → Says lines written → IsUpToTooLong Says text written
-too_long_at Says text lines rest written (inl (is, clean)) long says = (lines, rest, is, clean, long, says)
-too_long_at Says text lines rest written (inr (none, all)) long says = absurd (IsTooLong-none (length lines) (subst (λ bytes. IsTooLong (length lines) (Some bytes)) none long))
+too_long_at : (Says : List (List ℕ) → List ℕ → Type 0) (text : List ℕ) (lines : List (List ℕ)) (rest written : List ℕ) → HasLinesBefore text lines rest → AreWithinBounds lines → IsTooLong (length lines) (Some rest) → Says lines written
+    → IsUpToTooLong Says text written
+too_long_at Says text lines rest written (inl (is, clean)) within long says = (lines, rest, is, clean, within, long, says)
+too_long_at Says text lines rest written (inr (none, all)) within long says = absurd (IsTooLong-none (length lines) (subst (λ bytes. IsTooLong (length lines) (Some bytes)) none long))
 
 -- a fault before the next line is read
 pub ends_between : {Holds : List (List ℕ) → List ℕ → Type 0} (Says : List (List ℕ) → List ℕ → Type 0) (IsBad : List ℕ → Type 0) (text had : List ℕ) (reading : Reading) (remaining contents : Option (List ℕ)) (fault : ReplayFault)
@@ -207,9 +217,9 @@ ends_between Says IsBad text had reading remaining contents fault p says why lon
     at : (fault ≡ TooLong) ⊎ ((fault ≡ Read) ⊎ (fault ≡ OutOfMemory)) → EndsSo Says IsBad (Err fault) text p.written
     at (inl e) =
         let behind : IsTooLong (length p.lines) (Some p.rest) = subst (λ n. IsTooLong n (Some p.rest)) p.count (subst (IsTooLong reading.count) p.is_left (long e)) in
-        subst (λ f. EndsSo Says IsBad (Err f) text p.written) (sym e) (too_long_at Says text p.lines p.rest p.written p.taken behind says)
-    at (inr (inl e)) = subst (λ f. EndsSo Says IsBad (Err f) text p.written) (sym e) (cut_at Says text p.lines p.rest p.written p.taken says)
-    at (inr (inr e)) = subst (λ f. EndsSo Says IsBad (Err f) text p.written) (sym e) (cut_at Says text p.lines p.rest p.written p.taken says)
+        subst (λ f. EndsSo Says IsBad (Err f) text p.written) (sym e) (too_long_at Says text p.lines p.rest p.written p.taken p.within behind says)
+    at (inr (inl e)) = subst (λ f. EndsSo Says IsBad (Err f) text p.written) (sym e) (cut_at Says text p.lines p.rest p.written p.taken p.within says)
+    at (inr (inr e)) = subst (λ f. EndsSo Says IsBad (Err f) text p.written) (sym e) (cut_at Says text p.lines p.rest p.written p.taken p.within says)
 
 -- a fault before the first line is read
 pub ends_at_once : (Says : List (List ℕ) → List ℕ → Type 0) (IsBad : List ℕ → Type 0) (text had : List ℕ) (contents : Option (List ℕ)) (fault : ReplayFault) → Says [] [] → contents ≡ Some had
@@ -217,27 +227,27 @@ pub ends_at_once : (Says : List (List ℕ) → List ℕ → Type 0) (IsBad : Lis
 ends_at_once Says IsBad text had contents fault says output why = ([], output ∙ ap Some (sym (append-nil had)), at why)
   where
     at : (fault ≡ Lost) ⊎ (fault ≡ OutOfMemory) → EndsSo Says IsBad (Err fault) text []
-    at (inl e) = subst (λ f. EndsSo Says IsBad (Err f) text []) (sym e) (cut_at Says text [] text [] (inl (refl, refl)) says)
-    at (inr e) = subst (λ f. EndsSo Says IsBad (Err f) text []) (sym e) (cut_at Says text [] text [] (inl (refl, refl)) says)
+    at (inl e) = subst (λ f. EndsSo Says IsBad (Err f) text []) (sym e) (cut_at Says text [] text [] (inl (refl, refl)) none_within says)
+    at (inr e) = subst (λ f. EndsSo Says IsBad (Err f) text []) (sym e) (cut_at Says text [] text [] (inl (refl, refl)) none_within says)
 
 cut_line : {Holds : List (List ℕ) → List ℕ → Type 0} (Says : List (List ℕ) → List ℕ → Type 0) (Gives : List ℕ → Type 0) (text had : List ℕ) (reading : Reading) (remaining old new : Option (List ℕ))
     (t : Taken Holds text had reading remaining old) → Says t.lines t.written → ((answer : List ℕ) → Gives answer → Says (t.lines ++ reading.line ∷ []) (t.written ++ answer)) → CutsLine Gives old new
     → Written (IsCut Says text) had new
 cut_line Says Gives text had reading remaining old new t says more (inl same) =
     let all = goes_on text (t.lines ++ reading.line ∷ []) t.rest t.taken in
-    (t.written, kept old new (had ++ t.written) t.is_written same, (t.lines, reading.line ∷ all.0, [], subst (HasLines text) (append_assoc t.lines (reading.line ∷ []) all.0) all.1, subst (Says t.lines) (sym (append-nil t.written)) says))
+    (t.written, kept old new (had ++ t.written) t.is_written same, (t.lines, reading.line ∷ all.0, [], subst (HasLines text) (append_assoc t.lines (reading.line ∷ []) all.0) all.1, within_front t.lines reading.line t.within, subst (Says t.lines) (sym (append-nil t.written)) says))
 cut_line Says Gives text had reading remaining old new t says more (inr (answer, gives, (rest, (front, is, grows)))) =
     let all = goes_on text (t.lines ++ reading.line ∷ []) t.rest t.taken in (
       t.written ++ front,
       Appends-known old new (had ++ t.written) front t.is_written grows ∙ ap Some (append_assoc had t.written front),
-      (t.lines ++ reading.line ∷ [], all.0, rest, all.1, subst (Says (t.lines ++ reading.line ∷ [])) (ap (λ xs. t.written ++ xs) is ∙ sym (append_assoc t.written front rest)) (more answer gives)),
+      (t.lines ++ reading.line ∷ [], all.0, rest, all.1, t.within, subst (Says (t.lines ++ reading.line ∷ [])) (ap (λ xs. t.written ++ xs) is ∙ sym (append_assoc t.written front rest)) (more answer gives)),
     )
 
 bad_line : {Holds : List (List ℕ) → List ℕ → Type 0} (Says : List (List ℕ) → List ℕ → Type 0) (IsBad : List ℕ → Type 0) (text had : List ℕ) (reading : Reading) (remaining old new : Option (List ℕ)) (number : ℕ)
     (t : Taken Holds text had reading remaining old) → Says t.lines t.written → (number ≡ reading.count) × IsBad reading.line × Keeps old new → Written (IsUpToBad Says IsBad number text) had new
 bad_line Says IsBad text had reading remaining old new number t says (is, bad, same) =
     let all = goes_on text (t.lines ++ reading.line ∷ []) t.rest t.taken in
-    (t.written, kept old new (had ++ t.written) t.is_written same, (t.lines, reading.line, all.0, subst (HasLines text) (append_assoc t.lines (reading.line ∷ []) all.0) all.1, is ∙ t.count, bad, says))
+    (t.written, kept old new (had ++ t.written) t.is_written same, (t.lines, reading.line, all.0, subst (HasLines text) (append_assoc t.lines (reading.line ∷ []) all.0) all.1, t.within, is ∙ t.count, bad, says))
 
 -- a fault of the line
 pub ends_at_line : {Holds : List (List ℕ) → List ℕ → Type 0} (Says : List (List ℕ) → List ℕ → Type 0) (IsBad Gives : List ℕ → Type 0) (text had : List ℕ) (reading : Reading) (remaining old new : Option (List ℕ)) (fault : ReplayFault)

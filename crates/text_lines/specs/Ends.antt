@@ -1,5 +1,5 @@
 -- How a command that answers each line of a reader ends, and what it has written then.
-use Rattle.std.specs.Prelude.{◌≡◌, ◌≢◌, ℕ, ◌+◌, ◌≤◌, ◌⊎◌, nat_le, List, [], ◌∷◌, ◌++◌, length, Option, Some, Result, Ok, Err, IsTrue}
+use Rattle.std.specs.Prelude.{◌≡◌, ◌≢◌, ℕ, ◌+◌, ◌≤◌, ◌⊎◌, nat_le, List, [], ◌∷◌, ◌++◌, length, Option, Some, Result, Ok, Err, IsTrue, codes, decimal}
 use Rattle.std.specs.List.{list_all}
 use Rattle.std.specs.Io.KnownBytes.{Appends, Keeps}
 use Rattle.text_lines.specs.declared.fault.ReplayFault.{ReplayFault}
@@ -26,19 +26,22 @@ AreWithinBounds lines = (length lines ≤ 1000000) × IsTrue (list_all (λ line.
 abbrev pub IsWhole : (List (List ℕ) → List ℕ → Type 0) → List ℕ → List ℕ → Type 0
 IsWhole Says text written = (lines : List (List ℕ)) × HasLines text lines × AreWithinBounds lines × Says lines written
 
--- the answers to the lines before the one of this number, which is a bad line
+-- the answers to the lines before the one of this number, which is a bad line within the bounds
 abbrev pub IsUpToBad : (List (List ℕ) → List ℕ → Type 0) → (List ℕ → Type 0) → ℕ → List ℕ → List ℕ → Type 0
 IsUpToBad Says IsBad number text written =
-    (before : List (List ℕ)) × (bad : List ℕ) × (rest : List (List ℕ)) × HasLines text (before ++ bad ∷ rest) × (number ≡ length before + 1) × IsBad bad × Says before written
+    (before : List (List ℕ)) × (bad : List ℕ) × (rest : List (List ℕ)) × HasLines text (before ++ bad ∷ rest)
+    × AreWithinBounds (before ++ bad ∷ []) × (number ≡ length before + 1) × IsBad bad × Says before written
 
 -- the answers to the lines before one that is too long, or one too many
 abbrev pub IsUpToTooLong : (List (List ℕ) → List ℕ → Type 0) → List ℕ → List ℕ → Type 0
 IsUpToTooLong Says text written =
-    (before : List (List ℕ)) × (rest : List ℕ) × (text ≡ fed before ++ rest) × IsTrue (list_all has_no_feed before) × IsTooLong (length before) (Some rest) × Says before written
+    (before : List (List ℕ)) × (rest : List ℕ) × (text ≡ fed before ++ rest) × IsTrue (list_all has_no_feed before)
+    × AreWithinBounds before × IsTooLong (length before) (Some rest) × Says before written
 
 -- a front of the answers to the first lines
 abbrev pub IsCut : (List (List ℕ) → List ℕ → Type 0) → List ℕ → List ℕ → Type 0
-IsCut Says text written = (before rest : List (List ℕ)) × (more : List ℕ) × HasLines text (before ++ rest) × Says before (written ++ more)
+IsCut Says text written =
+    (before rest : List (List ℕ)) × (more : List ℕ) × HasLines text (before ++ rest) × AreWithinBounds before × Says before (written ++ more)
 
 -- what was written at this end
 abbrev pub EndsSo : (List (List ℕ) → List ℕ → Type 0) → (List ℕ → Type 0) → Result (Unit {0}) ReplayFault → List ℕ → List ℕ → Type 0
@@ -64,6 +67,15 @@ status_of (Err Read) = 3
 status_of (Err Write) = 3
 status_of (Err Lost) = 3
 status_of (Err OutOfMemory) = 3
+
+-- how a fault is told
+abbrev pub fault_text : ReplayFault → List ℕ
+fault_text (BadLine number) = codes "line " ++ decimal number ++ codes ": bad line"
+fault_text TooLong = codes "TooLong"
+fault_text Read = codes "Read"
+fault_text Write = codes "Write"
+fault_text Lost = codes "Lost"
+fault_text OutOfMemory = codes "OutOfMemory"
 
 -- the same where the exit status tells of the end
 abbrev pub EndsTo : (List (List ℕ) → List ℕ → Type 0) → (List ℕ → Type 0) → Option (List ℕ) → Option (List ℕ) → Option (List ℕ) → ℕ → Type 0

@@ -18,11 +18,13 @@ AppendsBefore rest old new bytes = (front : List ℕ) × (bytes ≡ front ++ res
 abbrev pub AppendsFront : Option (List ℕ) → Option (List ℕ) → List ℕ → Type 0
 AppendsFront old new bytes = (rest : List ℕ) × AppendsBefore rest old new bytes
 
--- Where the reading of lines stands: the bytes that are read but in no line yet, the line, and its number.
+-- Where the reading of lines stands: the bytes that are read but in no line yet, the line, its number, and whether it ended in a
+-- fault.
 pub record Reading : Type 0 where
   pub pending : List ℕ
   pub line : List ℕ
   pub count : ℕ
+  pub failed : Bool
 
 -- what is left: the pending bytes, and then those of the reader
 abbrev pub left : Reading → Option (List ℕ) → Option (List ℕ)

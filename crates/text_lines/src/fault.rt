@@ -1,6 +1,6 @@
 //! Why a command ended early.
-ghost use Rattle.std.specs.Prelude.{◌≡◌, ◌≤◌, Err};
-ghost use Rattle.text_lines.specs.Ends.{status_of};
+ghost use Rattle.std.specs.Prelude.{◌≡◌, ◌≤◌, Err, Some};
+ghost use Rattle.text_lines.specs.Ends.{status_of, fault_text};
 ghost use Rattle.text_lines.specs.declared.fault.ReplayFault.TheVariants.{OutOfMemory};
 
 use std::alloc::AllocError;
@@ -38,6 +38,8 @@ impl ReplayFault {
 }
 
 impl fmt::Display for ReplayFault {
+    ghost output = { λ fault. Some (fault_text fault) };
+
     fn fmt<W: fmt::Write>(&self, f: &mut fmt::Formatter<W>) -> fmt::Result {
         match self {
             ReplayFault::BadLine(number) => write!(f, "line {number}: bad line"),

@@ -9,7 +9,7 @@ mod words;
 
 pub use crate::fault::ReplayFault;
 pub use crate::lines::{Lines, MOST_READS, read_into};
-pub use crate::output::write_line;
+pub use crate::output::{write_bytes, write_line};
 pub use crate::words::{
     WordFault, is_word, read_body, read_max, read_moment, read_number, read_secrets, secrets_of,
     split,

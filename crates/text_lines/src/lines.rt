@@ -1,5 +1,5 @@
 //! The lines of a reader, within bounds.
-ghost use Rattle.std.specs.Prelude.{◌≡◌, ◌≢◌, ◌==◌, ◌⊎◌, true, false, ◌≤◌, ◌<◌, ◌+◌, [], ◌∷◌, ◌++◌, length, take, drop, vec_len, IsTrue, IfOk, OnOk, IfErr, MatchOption};
+ghost use Rattle.std.specs.Prelude.{◌≡◌, ◌≢◌, ◌==◌, ◌⊎◌, true, false, ◌≤◌, ◌<◌, ◌+◌, [], ◌∷◌, ◌++◌, length, take, drop, vec_len, IsTrue, IfOk, OnOk, OnErr, IfErr, MatchOption};
 ghost use Rattle.std.specs.List.{position};
 ghost use Rattle.std.specs.Option.{unwrap_or};
 ghost use Rattle.std.specs.Io.KnownBytes.{Consumes, Keeps, IsAtEnd};
@@ -21,7 +21,8 @@ pub const MOST_READS: u64 = 1 << 32;
 
 const CHUNK: usize = 65_536;
 
-/// The lines of a reader, one after another. A line ends in a line feed, which the last one may lack.
+/// The lines of a reader, one after another. A line ends in a line feed, which the last one may lack. After a fault no further
+/// line comes.
 #[derive(Drop)]
 pub struct Lines {
     chunk: Vec<u8>,
@@ -30,6 +31,7 @@ pub struct Lines {
     line: Vec<u8>,
     count: u64,
     reads: u64,
+    failed: bool,
 }
 
 impl Model for Lines {
@@ -38,7 +40,7 @@ impl Model for Lines {
 
     ghost Value = { Reading };
 
-    ghost view = { λ a. record { pending = slice_range a.chunk.items a.at a.end; line = a.line.items; count = a.count } };
+    ghost view = { λ a. record { pending = slice_range a.chunk.items a.at a.end; line = a.line.items; count = a.count; failed = a.failed } };
 
     ghost invariant = { λ a. (a.at ≤ a.end) × (a.end ≤ vec_len a.chunk) × (0 < vec_len a.chunk) × (vec_len a.line ≤ 140000) × (a.count ≤ 1000000) };
 }
@@ -46,7 +48,7 @@ impl Model for Lines {
 impl Lines {
     /// No line yet.
     pub fn new(alloc: Global) -> Result<Lines, AllocError>
-        ensures { IfOk result (λ lines. lines ≡ record { pending = []; line = []; count = 0 }) }
+        ensures { IfOk result (λ lines. lines ≡ record { pending = []; line = []; count = 0; failed = false }) }
     {
         Ok(Lines {
             chunk: room(alloc)?,
@@ -55,6 +57,7 @@ impl Lines {
             line: Vec::new(alloc),
             count: 0,
             reads: 0,
+            failed: false,
         })
     }
 
@@ -72,8 +75,29 @@ impl Lines {
         self.line.as_slice()
     }
 
-    /// Goes to the next line: `false` where there is none.
+    /// Goes to the next line: `false` where there is none. After a fault each further call answers Read.
     pub fn advance<R: Read>(&mut self, reader: &mut R) -> Result<bool, ReplayFault>
+        ensures line { result ≡ Ok true → TakesLine (left self.old (R.remaining reader.old)) (left self.new (R.remaining reader.new)) self.new.line }
+        ensures no_feed { result ≡ Ok true → IsTrue (has_no_feed self.new.line) }
+        ensures number { result ≡ Ok true → self.new.count ≡ self.old.count + 1 }
+        ensures most_bytes { result ≡ Ok true → length self.new.line ≤ 140000 }
+        ensures most_lines { result ≡ Ok true → self.new.count ≤ 1000000 }
+        ensures end { result ≡ Ok false → IsAtEnd (left self.old (R.remaining reader.old)) }
+        ensures too_long { result ≡ Err ReplayFault.TooLong → IsTooLong self.old.count (left self.old (R.remaining reader.old)) }
+        ensures faults { IfErr result (λ fault. (fault ≡ ReplayFault.TooLong) ⊎ ((fault ≡ ReplayFault.Read) ⊎ (fault ≡ ReplayFault.OutOfMemory))) }
+        ensures fails { OnErr result (self.new.failed ≡ true) }
+        ensures failed { self.old.failed ≡ true → result ≡ Err ReplayFault.Read }
+    {
+        if self.failed {
+            return Err(ReplayFault::Read);
+        }
+        let is_line = self.take_line(reader);
+        self.failed = is_line.is_err();
+        is_line
+    }
+
+    // Takes the next line: `false` where there is none.
+    fn take_line<R: Read>(&mut self, reader: &mut R) -> Result<bool, ReplayFault>
         ensures line { result ≡ Ok true → TakesLine (left self.old (R.remaining reader.old)) (left self.new (R.remaining reader.new)) self.new.line }
         ensures no_feed { result ≡ Ok true → IsTrue (has_no_feed self.new.line) }
         ensures number { result ≡ Ok true → self.new.count ≡ self.old.count + 1 }

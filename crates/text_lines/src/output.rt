@@ -26,8 +26,8 @@ pub fn write_line<T: Display, O: Write>(
     write_bytes(output, line.as_bytes())
 }
 
-// Writes the bytes in their order. Where the writer fails, some of them may be written.
-fn write_bytes<O: Write>(output: &mut O, bytes: &[u8]) -> Result<(), ReplayFault>
+/// Writes the bytes in their order. Where the writer fails, some of them may be written.
+pub fn write_bytes<O: Write>(output: &mut O, bytes: &[u8]) -> Result<(), ReplayFault>
     ensures written { OnOk result (Appends (O.contents output.old) (O.contents output.new) bytes.now) }
     ensures failed { OnErr result (AppendsFront (O.contents output.old) (O.contents output.new) bytes.now) }
     ensures fault { IfErr result (λ fault. fault ≡ ReplayFault.Write) }

@@ -1,7 +1,7 @@
 use Rattle.std.proofs.Common.{◌≡◌, IsTrue}
 use Rattle.std.specs.Io.KnownBytes.{Consumes}
 use Rattle.text_lines.specs.Streams.{left, has_no_feed}
-use Rattle.text_lines.proofs.lines.Lines.advance.Given as goal
+use Rattle.text_lines.proofs.lines.Lines.take_line.Given as goal
 
 abbrev pub invariant-loop : goal.invariant-loop
 invariant-loop g l = record {

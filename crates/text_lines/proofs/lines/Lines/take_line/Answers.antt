@@ -1,7 +1,7 @@
 use Rattle.std.proofs.Common.{inr, rules}
 use Rattle.std.proofs.KnownBytes.{Consumes-kept}
 use Rattle.text_lines.proofs.FeedLaws.{BeginsTooLong-from_piece}
-use Rattle.text_lines.proofs.lines.Lines.advance.Goals as goal
+use Rattle.text_lines.proofs.lines.Lines.take_line.Goals as goal
 
 pub returns-in_err-take_piece-clause-too_long : goal.returns-in_err-take_piece-clause-too_long
 returns-in_err-take_piece-clause-too_long g c = λ e.
