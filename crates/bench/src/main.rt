@@ -78,7 +78,8 @@ fn print_limit(rt: &HostRuntime, count: u64) -> io::Result<()> {
 /// Replays the script on standard input over a store in memory.
 fn replay_in_memory(rt: &HostRuntime) -> Result<(), ReplayFault> {
     let conn = Connection::open_in_memory(rt.alloc())?;
-    drill::replay(rt.alloc(), &mut rt.stdin(), &mut rt.stdout(), conn, 0)
+    let (_, end) = drill::replay(rt.alloc(), &mut rt.stdin(), &mut rt.stdout(), conn, 0);
+    end
 }
 
 /// Replays the script on standard input over the file, which is to have no table.
@@ -86,7 +87,8 @@ fn replay_in_file(rt: &HostRuntime, path: &str) -> Result<(), ReplayFault> {
     let Ok(conn) = Connection::open(rt, path) else {
         return Err(ReplayFault::Lost);
     };
-    drill::replay(rt.alloc(), &mut rt.stdin(), &mut rt.stdout(), conn, 0)
+    let (_, end) = drill::replay(rt.alloc(), &mut rt.stdin(), &mut rt.stdout(), conn, 0);
+    end
 }
 
 /// Runs what the words name. Whether they name a run that ended well.
