@@ -5,7 +5,7 @@ use Rattle.script_lines.specs.declared.event.Event.{Event}
 use Rattle.text_lines.specs.declared.fault.ReplayFault.{ReplayFault}
 use Rattle.script_lines.specs.declared.reply.Reply.{Reply}
 use Rattle.drill.specs.declared.runner.Runner.{Runner}
-use Rattle.text_lines.specs.Ends.{Ends, EndsTo, EndsLine}
+use Rattle.text_lines.specs.Ends.{Ends, EndsLine}
 use Rattle.script_lines.specs.Replies.{reply_text}
 use Rattle.drill.specs.Runners.{Answers}
 use Rattle.drill.specs.Runs.{IsNoCall, Replies}
@@ -15,10 +15,6 @@ use Rattle.text_lines.specs.Streams.{Reading, with_feed}
 -- The replies to the lines of the reader's text are written, as far as this end says.
 abbrev pub Replays : Option (List ℕ) → Option (List ℕ) → Option (List ℕ) → Result (Unit {0}) ReplayFault → Type 0
 Replays input old new end = Ends Replies IsNoCall input old new end
-
--- the same where the exit status tells of the end
-abbrev pub ReplaysTo : Option (List ℕ) → Option (List ℕ) → Option (List ℕ) → ℕ → Type 0
-ReplaysTo input old new status = EndsTo Replies IsNoCall input old new status
 
 -- the line's call is answered by its reply line
 abbrev pub RunsLine : {S : Type 0} → Ghosts S → List ℕ → Runner S → Runner S → List ℕ → Type 0

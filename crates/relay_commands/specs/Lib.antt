@@ -1,2 +1,4 @@
+pub mod Reports
+pub mod Replays
 pub mod Signs
 pub mod Traces

@@ -1,10 +1,17 @@
--- What `relayd sign` is asked by its arguments, and what it writes, by its exit status.
-use Rattle.std.specs.Prelude.{◌≡◌, ℕ, ◌<◌, ◌≤◌, ◌⊎◌, List, [], ◌++◌, length, decimal, Option, Some, IsTrue}
+-- What `relayd sign` is asked by its arguments, and what it writes, by how it ends.
+use Rattle.std.specs.Prelude.{◌≡◌, ℕ, ◌<◌, ◌≤◌, false, List, length, decimal, Option, Result, Ok, Err, IsTrue, IfSome}
+use Rattle.std.specs.Io.KnownBytes.{Appends, Keeps}
 use Rattle.hmac_signer.specs.Signature.{signature_header}
 use Rattle.relay_types.specs.Values.{is_msg_id, is_moment}
-use Rattle.relay_commands.specs.declared.signing.Asked.{Asked}
+use Rattle.relay_types.specs.declared.fault.ReadFault.{ReadFault}
+use Rattle.relay_types.specs.declared.fault.ReadFault.TheVariants.{BadId, BadMoment, BadSecret}
+use Rattle.text_lines.specs.declared.fault.ReplayFault.TheVariants.{BadLine, TooLong, Read, Write, Lost, OutOfMemory}
 use Rattle.text_lines.specs.Words.{AreSecretTexts}
-use Rattle.text_lines.specs.Streams.{with_feed}
+use Rattle.text_lines.specs.Streams.{AppendsFront, with_feed}
+use Rattle.relay_commands.specs.declared.ends.CommandFault.{CommandFault}
+use Rattle.relay_commands.specs.declared.ends.CommandFault.TheVariants.{Argument, Ended}
+use Rattle.relay_commands.specs.declared.signing.Asked.{Asked}
+use Rattle.relay_commands.specs.Reports.{Reports}
 
 -- the text of a moment, in whole seconds
 abbrev pub IsMomentText : List ℕ → ℕ → Type 0
@@ -22,28 +29,42 @@ signed_line asked body = with_feed (signature_header asked.secrets asked.id aske
 abbrev pub Asks : List ℕ → List ℕ → List (List ℕ) → (Asked → Type 0) → Type 0
 Asks id at texts Holds = (asked : Asked) × AreAsked id at texts asked × Holds asked
 
--- no such are read from the arguments
-abbrev pub AsksNothing : List ℕ → List ℕ → List (List ℕ) → Type 0
-AsksNothing id at texts = (asked : Asked) → AreAsked id at texts asked → ⊥
+-- the first two arguments, which are read before the secrets
+abbrev pub HasIdAndMoment : List ℕ → List ℕ → Type 0
+HasIdAndMoment id at = IsTrue (is_msg_id id) × ((moment : ℕ) × IsMomentText at moment)
 
--- the line of a body of at most 65,536 bytes
-abbrev pub IsSigned : List ℕ → List ℕ → Asked → Type 0
-IsSigned body written asked = (length body ≤ 65536) × (written ≡ signed_line asked body)
+-- This is the first refusal of the arguments, read in their order.
+abbrev pub Refuses : List ℕ → List ℕ → List (List ℕ) → ReadFault → Type 0
+Refuses id at texts BadId = is_msg_id id ≡ false
+Refuses id at texts BadMoment = IsTrue (is_msg_id id) × ((moment : ℕ) → IsMomentText at moment → ⊥)
+Refuses id at texts BadSecret = HasIdAndMoment id at × ((secrets : List (List ℕ)) → AreSecretTexts texts secrets → ⊥)
+Refuses id at texts fault = ⊥
 
--- a front of that line
-abbrev pub IsCutSigned : List ℕ → List ℕ → Asked → Type 0
-IsCutSigned body written asked = (rest : List ℕ) × IsSigned body (written ++ rest) asked
+-- Known bytes of a reader are a body of at most 65,536 bytes, and those of a writer grew by its line.
+abbrev pub Signs : Option (List ℕ) → Option (List ℕ) → Option (List ℕ) → Asked → Type 0
+Signs input old new asked = IfSome input (λ body. (length body ≤ 65536) × Appends old new (signed_line asked body))
 
--- What was written at this exit status: 0 the line; 1 nothing, as the arguments ask for nothing; 2 nothing, as the body is too
--- long; 3 a front of the line, or nothing.
-abbrev pub SignsSo : List ℕ → List ℕ → List (List ℕ) → List ℕ → List ℕ → ℕ → Type 0
-SignsSo id at texts body written status =
-    ((status ≡ 0) × Asks id at texts (IsSigned body written))
-    ⊎ (((status ≡ 1) × AsksNothing id at texts × (written ≡ []))
-    ⊎ (((status ≡ 2) × Asks id at texts (λ asked. 65536 < length body) × (written ≡ []))
-    ⊎ ((status ≡ 3) × ((written ≡ []) ⊎ Asks id at texts (IsCutSigned body written)))))
+-- the same with a front of the line
+abbrev pub SignsFront : Option (List ℕ) → Option (List ℕ) → Option (List ℕ) → Asked → Type 0
+SignsFront input old new asked = IfSome input (λ body. (length body ≤ 65536) × AppendsFront old new (signed_line asked body))
 
--- Known bytes of a reader are the body, and those of a writer grew by what the exit status tells.
-abbrev pub SignsTo : List ℕ → List ℕ → List (List ℕ) → Option (List ℕ) → Option (List ℕ) → Option (List ℕ) → ℕ → Type 0
-SignsTo id at texts input old new status =
-    (body had : List ℕ) → input ≡ Some body → old ≡ Some had → (written : List ℕ) × (new ≡ Some (had ++ written)) × SignsSo id at texts body written status
+-- known bytes of a reader are more than a body has room for
+abbrev pub IsNoBody : Option (List ℕ) → Type 0
+IsNoBody input = IfSome input (λ body. 65536 < length body)
+
+-- What is written at an end. Memory may be refused only once an id and a moment were read.
+abbrev pub SignsSo : List ℕ → List ℕ → List (List ℕ) → Option (List ℕ) → Option (List ℕ) → Option (List ℕ)
+    → Result (Unit {0}) CommandFault → Type 0
+SignsSo id at texts input old new (Ok done) = Asks id at texts (Signs input old new)
+SignsSo id at texts input old new (Err (Argument fault)) = Refuses id at texts fault × Keeps old new
+SignsSo id at texts input old new (Err (Ended TooLong)) = Asks id at texts (λ asked. IsNoBody input) × Keeps old new
+SignsSo id at texts input old new (Err (Ended Read)) = Asks id at texts (λ asked. Keeps old new)
+SignsSo id at texts input old new (Err (Ended Write)) = Asks id at texts (SignsFront input old new)
+SignsSo id at texts input old new (Err (Ended OutOfMemory)) = HasIdAndMoment id at × Keeps old new
+SignsSo id at texts input old new (Err (Ended Lost)) = ⊥
+SignsSo id at texts input old new (Err (Ended (BadLine number))) = ⊥
+
+-- So it is, and the exit status and standard error tell of the same end.
+abbrev pub SignsTo : List ℕ → List ℕ → List (List ℕ) → Option (List ℕ) → Option (List ℕ) → Option (List ℕ)
+    → Option (List ℕ) → Option (List ℕ) → ℕ → Type 0
+SignsTo id at texts input old new untold told status = Reports (SignsSo id at texts input old new) untold told status

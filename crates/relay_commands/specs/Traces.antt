@@ -1,14 +1,18 @@
 -- What `relayd vegas` writes: for each line of its reader, the limit and the no-load time after the samples so far.
-use Rattle.std.specs.Prelude.{◌≡◌, ℕ, zero, suc, ◌^◌, ◌≤◌, ◌<◌, ◌⊎◌, Bool, IsTrue, List, [], ◌∷◌, ◌++◌, length, take, Option, Result, codes, decimal, if◌then◌else◌}
+use Rattle.std.specs.Prelude.{◌≡◌, ℕ, zero, suc, ◌^◌, ◌≤◌, ◌<◌, Bool, IsTrue, List, [], ◌∷◌, ◌++◌, length, take, Option, Result, Ok, Err, codes, decimal, if◌then◌else◌}
 use Rattle.std.specs.Io.KnownBytes.{Keeps}
 use Rattle.relay_types.specs.Values.{is_max_limit}
+use Rattle.relay_types.specs.declared.fault.ReadFault.TheVariants.{BadMax}
 use Rattle.vegas.specs.declared.sample.Sample.{Sample}
 use Rattle.vegas.specs.Vegas.{limit_of, noload_of}
 use Rattle.vegas.specs.Estimates.{Estimate, StandsFor}
 use Rattle.text_lines.specs.declared.fault.ReplayFault.{ReplayFault}
-use Rattle.text_lines.specs.Ends.{Ends, EndsTo}
+use Rattle.text_lines.specs.Ends.{Ends}
 use Rattle.text_lines.specs.Parts.{line}
 use Rattle.text_lines.specs.Streams.{with_feed}
+use Rattle.relay_commands.specs.declared.ends.CommandFault.{CommandFault}
+use Rattle.relay_commands.specs.declared.ends.CommandFault.TheVariants.{Argument, Ended}
+use Rattle.relay_commands.specs.Reports.{Reports}
 
 -- the words `RTT INFLIGHT ok` or `RTT INFLIGHT drop` of a sample
 abbrev pub end_word : Bool → List ℕ
@@ -56,11 +60,23 @@ Traced maximum lines written = (xs : List Sample) × ReadSamples lines xs × (wr
 abbrev pub Traces : ℕ → Option (List ℕ) → Option (List ℕ) → Option (List ℕ) → Result (Unit {0}) ReplayFault → Type 0
 Traces maximum input old new end = Ends (Traced maximum) IsNoSample input old new end
 
--- The same where the exit status tells of the end. It is 1, and nothing is written, where the word is no maximum.
-abbrev pub TracesTo : List ℕ → Option (List ℕ) → Option (List ℕ) → Option (List ℕ) → ℕ → Type 0
-TracesTo word input old new status =
-    ((maximum : ℕ) × IsTrue (is_max_limit maximum) × (word ≡ decimal maximum) × EndsTo (Traced maximum) IsNoSample input old new status)
-    ⊎ (((maximum : ℕ) → IsTrue (is_max_limit maximum) → word ≡ decimal maximum → ⊥) × (status ≡ 1) × Keeps old new)
+-- a maximum is read from the word, of which this holds
+abbrev pub HasMaximum : List ℕ → (ℕ → Type 0) → Type 0
+HasMaximum word Holds = (maximum : ℕ) × IsTrue (is_max_limit maximum) × (word ≡ decimal maximum) × Holds maximum
+
+abbrev pub HasNoMaximum : List ℕ → Type 0
+HasNoMaximum word = (maximum : ℕ) → IsTrue (is_max_limit maximum) → word ≡ decimal maximum → ⊥
+
+-- What is written at an end. The word is an argument: where it is no maximum, it is refused and nothing is written.
+abbrev pub TracesSo : List ℕ → Option (List ℕ) → Option (List ℕ) → Option (List ℕ) → Result (Unit {0}) CommandFault → Type 0
+TracesSo word input old new (Ok done) = HasMaximum word (λ maximum. Traces maximum input old new (Ok done))
+TracesSo word input old new (Err (Argument fault)) = (fault ≡ BadMax) × HasNoMaximum word × Keeps old new
+TracesSo word input old new (Err (Ended fault)) = HasMaximum word (λ maximum. Traces maximum input old new (Err fault))
+
+-- So it is, and the exit status and standard error tell of the same end.
+abbrev pub TracesTo : List ℕ → Option (List ℕ) → Option (List ℕ) → Option (List ℕ)
+    → Option (List ℕ) → Option (List ℕ) → ℕ → Type 0
+TracesTo word input old new untold told status = Reports (TracesSo word input old new) untold told status
 
 -- the line's sample is taken, and answered by the numbers after it
 abbrev pub TakesSample : List ℕ → Estimate → Estimate → List ℕ → Type 0

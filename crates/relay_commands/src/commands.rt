@@ -1,50 +1,34 @@
 //! The commands: each reads one reader, writes two writers, and gives its exit status.
-ghost use Rattle.std.specs.Prelude.{◌≡◌, ◌≢◌, ◌≤◌};
-ghost use Rattle.text_lines.specs.Ends.{status_of};
+ghost use Rattle.std.specs.Prelude.{◌≤◌};
 ghost use Rattle.text_lines.specs.Parts.{texts};
-ghost use Rattle.drill.specs.Replays.{ReplaysTo};
-ghost use Rattle.relay_commands.specs.Signs.{SignsTo};
-ghost use Rattle.relay_commands.specs.Traces.{TracesTo};
+ghost use Rattle.relay_commands.specs.Replays.{ReplaysSo, ReplaysTo};
+ghost use Rattle.relay_commands.specs.Signs.{SignsSo, SignsTo};
+ghost use Rattle.relay_commands.specs.Traces.{TracesSo, TracesTo};
 
+use crate::ends::{CommandFault, DONE, USAGE, end};
 use crate::{limits, signing};
+use clap::error::{Error, ErrorKind};
 use clap::{Arg, ArgAction, ArgMatches, Command};
-use relay_types::ReadFault;
 use sqlite::Connection;
 use std::alloc::{AllocError, Global};
+use std::convert::AsStr;
 use std::io::{Read, Write};
-use text_lines::{ReplayFault, read_max};
-
-/// Done.
-pub const DONE: u8 = 0;
-
-/// The words are no command, or an argument isn't what its reader takes.
-pub const USAGE: u8 = 1;
+use text_lines::read_max;
 
 /// Runs the command that the words name, the first of which is the program's own: 0 done, 1 usage, 2 what was read,
 /// 3 every other fault.
-pub fn run<R: Read, O: Write, E: Write>(
+pub fn run<S: AsStr, R: Read, O: Write, E: Write>(
     alloc: Global,
-    words: &[&str],
+    words: &[S],
     input: &mut R,
     output: &mut O,
     errors: &mut E,
 ) -> u8
     ensures { result ≤ 3 }
 {
-    let command = match relayd(alloc) {
-        Ok(command) => command,
-        Err(AllocError) => return ended(errors, Err(ReplayFault::OutOfMemory)),
-    };
-    let matches = match command.try_get_matches_from(words) {
+    let matches = match parse(alloc, words) {
         Ok(matches) => matches,
-        Err(error) if error.use_stderr() => {
-            let _ = write!(errors, "{error}");
-            return USAGE;
-        }
-        Err(error) => {
-            let _ = write!(output, "{error}");
-            return DONE;
-        }
+        Err(error) => return show(&error, output, errors),
     };
     match matches.subcommand() {
         Some(("replay", _)) => replay(alloc, input, output, errors),
@@ -57,6 +41,28 @@ pub fn run<R: Read, O: Write, E: Write>(
     }
 }
 
+// The command that the words name, and its arguments.
+fn parse<'a, S: AsStr>(alloc: Global, words: &'a [S]) -> Result<ArgMatches<'a>, Error> {
+    relayd(alloc)?.try_get_matches_from(words)
+}
+
+// Shows what the parser answers in place of a command: help, or what is wrong with the words.
+fn show<O: Write, E: Write>(error: &Error, output: &mut O, errors: &mut E) -> u8
+    ensures { result ≤ 3 }
+{
+    match error.kind() {
+        ErrorKind::OutOfMemory => end(errors, Err(CommandFault::from(AllocError))),
+        ErrorKind::DisplayHelp | ErrorKind::DisplayVersion => {
+            let _ = write!(output, "{error}");
+            DONE
+        }
+        _ => {
+            let _ = write!(errors, "{error}");
+            USAGE
+        }
+    }
+}
+
 /// Runs the script on the reader over a store in memory, and writes its replies: 0 done, 2 what was read, 3 every other fault.
 pub fn replay<R: Read, O: Write, E: Write>(
     alloc: Global,
@@ -64,15 +70,25 @@ pub fn replay<R: Read, O: Write, E: Write>(
     output: &mut O,
     errors: &mut E,
 ) -> u8
-    ensures replays { ReplaysTo (R.remaining input.old) (O.contents output.old) (O.contents output.new) result }
+    ensures replays { ReplaysTo (R.remaining input.old) (O.contents output.old) (O.contents output.new)
+        (E.contents errors.old) (E.contents errors.new) result }
     ensures status { result ≤ 3 }
 {
-    match Connection::open_in_memory(alloc) {
-        Ok(conn) => {
-            let (_, end) = drill::replay(alloc, input, output, conn, 0);
-            ended(errors, end)
-        }
-        Err(AllocError) => ended(errors, Err(ReplayFault::OutOfMemory)),
+    end(errors, run_script(alloc, input, output))
+}
+
+fn run_script<R: Read, O: Write>(
+    alloc: Global,
+    input: &mut R,
+    output: &mut O,
+) -> Result<(), CommandFault>
+    ensures { ReplaysSo (R.remaining input.old) (O.contents output.old) (O.contents output.new) result }
+{
+    let conn = Connection::open_in_memory(alloc)?;
+    let (_, end) = drill::replay(alloc, input, output, conn, 0);
+    match end {
+        Ok(()) => Ok(()),
+        Err(fault) => Err(CommandFault::Ended(fault)),
     }
 }
 
@@ -104,16 +120,26 @@ pub fn sign<R: Read, O: Write, E: Write>(
     output: &mut O,
     errors: &mut E,
 ) -> u8
-    ensures signs { SignsTo id.now at.now (texts secrets.now) (R.remaining input.old) (O.contents output.old) (O.contents output.new) result }
+    ensures signs { SignsTo id.now at.now (texts secrets.now) (R.remaining input.old)
+        (O.contents output.old) (O.contents output.new) (E.contents errors.old) (E.contents errors.new) result }
     ensures status { result ≤ 3 }
 {
-    match signing::read_asked(alloc, id, at, secrets) {
-        Ok(asked) => {
-            let signed = signing::sign(alloc, &asked, input, output);
-            ended(errors, signed)
-        }
-        Err(fault) => misused(errors, fault),
-    }
+    end(errors, sign_body(alloc, id, at, secrets, input, output))
+}
+
+fn sign_body<R: Read, O: Write>(
+    alloc: Global,
+    id: &str,
+    at: &str,
+    secrets: &[&str],
+    input: &mut R,
+    output: &mut O,
+) -> Result<(), CommandFault>
+    ensures { SignsSo id.now at.now (texts secrets.now) (R.remaining input.old)
+        (O.contents output.old) (O.contents output.new) result }
+{
+    let asked = signing::read_asked(alloc, id, at, secrets)?;
+    Ok(signing::sign(alloc, &asked, input, output)?)
 }
 
 /// Takes a sample from each line of the reader, and writes the limit, which is at most the maximum, and the no-load time after
@@ -125,16 +151,23 @@ pub fn vegas<R: Read, O: Write, E: Write>(
     output: &mut O,
     errors: &mut E,
 ) -> u8
-    ensures traces { TracesTo max.now (R.remaining input.old) (O.contents output.old) (O.contents output.new) result }
+    ensures traces { TracesTo max.now (R.remaining input.old) (O.contents output.old) (O.contents output.new)
+        (E.contents errors.old) (E.contents errors.new) result }
     ensures status { result ≤ 3 }
 {
-    match read_max(max.as_bytes()) {
-        Ok(max) => {
-            let end = limits::trace(alloc, max, input, output);
-            ended(errors, end)
-        }
-        Err(fault) => misused(errors, fault),
-    }
+    end(errors, follow_samples(alloc, max, input, output))
+}
+
+fn follow_samples<R: Read, O: Write>(
+    alloc: Global,
+    max: &str,
+    input: &mut R,
+    output: &mut O,
+) -> Result<(), CommandFault>
+    ensures { TracesSo max.now (R.remaining input.old) (O.contents output.old) (O.contents output.new) result }
+{
+    let max = read_max(max.as_bytes())?;
+    Ok(limits::trace(alloc, max, input, output)?)
 }
 
 // The commands and their arguments.
@@ -167,31 +200,4 @@ fn relayd<'a>(alloc: Global) -> Result<Command<'a>, AllocError> {
 // A required argument of one word.
 fn text<'a>(alloc: Global, name: &'a str) -> Arg<'a> {
     Arg::new(alloc, name).required(true).action(ArgAction::Set)
-}
-
-// The exit status where an argument isn't what its reader takes, after its refusal was told.
-fn misused<E: Write>(errors: &mut E, fault: ReadFault) -> u8
-    ensures usage { fault ≢ ReadFault.OutOfMemory → result ≡ USAGE }
-    ensures lacked { fault ≡ ReadFault.OutOfMemory → result ≡ 3 }
-    ensures status { result ≤ 3 }
-{
-    let _ = writeln!(errors, "relayd: {fault}");
-    match fault {
-        ReadFault::OutOfMemory => ReplayFault::OutOfMemory.status(),
-        _ => USAGE,
-    }
-}
-
-// The exit status of a command that ends so, after its fault was told.
-fn ended<E: Write>(errors: &mut E, end: Result<(), ReplayFault>) -> u8
-    ensures end { result ≡ status_of end }
-    ensures status { result ≤ 3 }
-{
-    match end {
-        Ok(()) => DONE,
-        Err(fault) => {
-            let _ = writeln!(errors, "relayd: {fault}");
-            fault.status()
-        }
-    }
 }

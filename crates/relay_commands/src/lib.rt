@@ -2,7 +2,9 @@
 #![tactic(auto)]
 
 mod commands;
+mod ends;
 mod limits;
 mod signing;
 
-pub use crate::commands::{DONE, USAGE, replay, run, sign, vegas};
+pub use crate::commands::{replay, run, sign, vegas};
+pub use crate::ends::{CommandFault, DONE, USAGE, end};

@@ -4,7 +4,7 @@ ghost use Rattle.std.specs.Io.KnownBytes.{Appends, Keeps};
 ghost use Rattle.relay_types.specs.Values.{is_msg_id};
 ghost use Rattle.text_lines.specs.Parts.{texts};
 ghost use Rattle.text_lines.specs.Words.{AreSecretTexts};
-ghost use Rattle.relay_commands.specs.Signs.{AreAsked, IsMomentText, signed_line};
+ghost use Rattle.relay_commands.specs.Signs.{AreAsked, IsMomentText, HasIdAndMoment, signed_line, Signs, SignsFront, IsNoBody};
 ghost use Rattle.text_lines.specs.Streams.{AppendsFront};
 
 use hmac_signer::signature_header;
@@ -32,7 +32,9 @@ pub fn read_asked(alloc: Global, id: &str, at: &str, secrets: &[&str]) -> Result
     ensures asked { IfOk result (λ asked. AreAsked id.now at.now (texts secrets.now) asked) }
     ensures bad_id { (result ≡ Err ReadFault.BadId) ↔ (is_msg_id id.now ≡ false) }
     ensures bad_moment { (result ≡ Err ReadFault.BadMoment) ↔ (IsTrue (is_msg_id id.now) × ((moment : ℕ) → IsMomentText at.now moment → ⊥)) }
-    ensures bad_secret { result ≡ Err ReadFault.BadSecret → IsTrue (is_msg_id id.now) × ((moment : ℕ) × IsMomentText at.now moment) × ((list : List (List ℕ)) → AreSecretTexts (texts secrets.now) list → ⊥) }
+    ensures bad_secret { result ≡ Err ReadFault.BadSecret
+        → HasIdAndMoment id.now at.now × ((list : List (List ℕ)) → AreSecretTexts (texts secrets.now) list → ⊥) }
+    ensures lacked { result ≡ Err ReadFault.OutOfMemory → HasIdAndMoment id.now at.now }
     ensures refusal { IfErr result (λ fault. (fault ≡ ReadFault.BadId) ⊎ ((fault ≡ ReadFault.BadMoment) ⊎ ((fault ≡ ReadFault.BadSecret) ⊎ (fault ≡ ReadFault.OutOfMemory)))) }
 {
     Ok(Asked {
@@ -67,11 +69,13 @@ pub fn sign<R: Read, O: Write>(
     input: &mut R,
     output: &mut O,
 ) -> Result<(), ReplayFault>
-    ensures signed { OnOk result (IfSome (R.remaining input.old) (λ body.
-        (length body ≤ MOST_BODY) × Appends (O.contents output.old) (O.contents output.new) (signed_line asked.now body))) }
-    ensures too_long { result ≡ Err ReplayFault.TooLong → IfSome (R.remaining input.old) (λ body. MOST_BODY < length body) × Keeps (O.contents output.old) (O.contents output.new) }
-    ensures failed { OnErr result (Keeps (O.contents output.old) (O.contents output.new) ⊎ IfSome (R.remaining input.old) (λ body.
-        (length body ≤ MOST_BODY) × AppendsFront (O.contents output.old) (O.contents output.new) (signed_line asked.now body))) }
+    ensures signed { OnOk result
+        (Signs (R.remaining input.old) (O.contents output.old) (O.contents output.new) asked.now) }
+    ensures too_long { result ≡ Err ReplayFault.TooLong → IsNoBody (R.remaining input.old) }
+    ensures cut { result ≡ Err ReplayFault.Write
+        → SignsFront (R.remaining input.old) (O.contents output.old) (O.contents output.new) asked.now }
+    ensures unwritten { IfErr result
+        (λ fault. (fault ≡ ReplayFault.Write) ⊎ Keeps (O.contents output.old) (O.contents output.new)) }
     ensures faults { IfErr result (λ fault. (fault ≡ ReplayFault.TooLong) ⊎ ((fault ≡ ReplayFault.Read) ⊎ ((fault ≡ ReplayFault.Write) ⊎ (fault ≡ ReplayFault.OutOfMemory)))) }
 {
     let body = read_body(alloc, input)?;
@@ -87,7 +91,8 @@ fn write_header<O: Write>(
 ) -> Result<(), ReplayFault>
     ensures written { OnOk result (Appends (O.contents output.old) (O.contents output.new) (signed_line asked.now body.now)) }
     ensures failed { OnErr result (AppendsFront (O.contents output.old) (O.contents output.new) (signed_line asked.now body.now)) }
-    ensures faults { IfErr result (λ fault. (fault ≡ ReplayFault.Write) ⊎ (fault ≡ ReplayFault.OutOfMemory)) }
+    ensures unwritten { IfErr result
+        (λ fault. (fault ≡ ReplayFault.Write) ⊎ ((fault ≡ ReplayFault.OutOfMemory) × Keeps (O.contents output.old) (O.contents output.new))) }
 {
     let header = signature_header(alloc, &asked.secrets, &asked.id, asked.at, body)?;
     write_line(alloc, output, &header)

@@ -1,23 +1,31 @@
 //! The relay's program.
 #![tactic(auto)]
 
-use std::alloc::Global;
+use relay_commands::{CommandFault, end, run};
+use std::alloc::{AllocError, Global};
 use std::io;
+use std::io::ErrorKind;
 use std::process::ExitCode;
 
 fn main(rt: HostRuntime) -> io::Result<ExitCode> {
-    let alloc = rt.alloc();
-    let words: Vec<String> = std::env::args(&rt)?.collect(alloc)?;
-    let mut shown = Vec::with_capacity(alloc, words.len())?;
-    for word in &words {
-        shown.push(word.as_str())?;
-    }
-    let status = relay_commands::run(
-        alloc,
-        shown.as_slice(),
-        &mut rt.stdin(),
-        &mut rt.stdout(),
-        &mut rt.stderr(),
-    );
+    let status = match words_of(&rt) {
+        Ok(words) => run(
+            rt.alloc(),
+            words.as_slice(),
+            &mut rt.stdin(),
+            &mut rt.stdout(),
+            &mut rt.stderr(),
+        ),
+        Err(error) if error.kind() == ErrorKind::OutOfMemory => end(
+            &mut rt.stderr(),
+            Err(CommandFault::from(AllocError)),
+        ),
+        Err(error) => return Err(error),
+    };
     Ok(ExitCode::from(status))
+}
+
+// The words of the command line, of which the first is the program's name.
+fn words_of(rt: &HostRuntime) -> io::Result<Vec<String>> {
+    Ok(std::env::args(rt)?.collect(rt.alloc())?)
 }

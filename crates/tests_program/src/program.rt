@@ -11,18 +11,18 @@ const PUT: &str = "put a http://127.0.0.1:9000/hook 100 whsec_MDEyMzQ1Njc4OTAxMj
 const REST: &str =
     "seal\ncommit\nsettle\nsubmit 1000 a msg_1 7b7d\nseal\ncommit\nsettle\nshow a msg_1\n";
 
-const REPLIES: &str =
+pub(crate) const REPLIES: &str =
     "staged 0\nsealed 0..1\ncommitted 1\nsettled 1\nstaged 1\nsealed 1..2\ncommitted 2\nsettled 2\npending due 1000 attempts 0\n";
 
 // What a command wrote, and its status.
 #[derive(Drop)]
-struct Told {
-    output: Vec<u8>,
-    errors: Vec<u8>,
-    status: u8,
+pub(crate) struct Told {
+    pub(crate) output: Vec<u8>,
+    pub(crate) errors: Vec<u8>,
+    pub(crate) status: u8,
 }
 
-fn tell(alloc: Global, words: &[&str], text: &[u8]) -> Told {
+pub(crate) fn tell(alloc: Global, words: &[&str], text: &[u8]) -> Told {
     let mut input = text;
     let mut output = Vec::new(alloc);
     let mut errors = Vec::new(alloc);
@@ -34,14 +34,14 @@ fn tell(alloc: Global, words: &[&str], text: &[u8]) -> Told {
     }
 }
 
-fn check(rt: &impl Abort, told: &Told, output: &str, errors: &str, status: u8) {
+pub(crate) fn check(rt: &impl Abort, told: &Told, output: &str, errors: &str, status: u8) {
     assert_eq!(rt; told.output.as_slice(), output.as_bytes());
     assert_eq!(rt; told.errors.as_slice(), errors.as_bytes());
     assert_eq!(rt; told.status, status);
 }
 
 // The script of the first path and these lines.
-fn after_first(alloc: Global, tail: &str) -> Result<String, AllocError> {
+pub(crate) fn after_first(alloc: Global, tail: &str) -> Result<String, AllocError> {
     format!(in alloc; "{PUT}{REST}{tail}")
 }
 
@@ -189,7 +189,7 @@ fn ends_where_a_reader_or_a_writer_fails(rt: HostRuntime) -> Result<(), Fail> {
     Ok(())
 }
 
-const SECRET: &str = "whsec_MDEyMzQ1Njc4OTAxMjM0NTY3ODkwMTIz";
+pub(crate) const SECRET: &str = "whsec_MDEyMzQ1Njc4OTAxMjM0NTY3ODkwMTIz";
 
 // The example of Standard Webhooks 1.0.0.
 const EXAMPLE_ID: &str = "msg_p5jXN8AQM9LWM0D4loKWxJek";

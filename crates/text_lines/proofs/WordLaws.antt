@@ -1,5 +1,5 @@
 -- A word stands for one list of secrets at most.
-use Rattle.std.proofs.Common.{◌≡◌, ◌∙◌, ◌==◌, ◌⊎◌, inl, inr, Bool, true, false, List, ℕ, [], ◌∷◌, ◌++◌, take, drop, codes, refl, sym, ap, bytes_eq}
+use Rattle.std.proofs.Common.{◌≡◌, ◌∙◌, inl, inr, Bool, true, false, List, ℕ, [], ◌∷◌, ◌++◌, take, drop, codes, refl, sym, ap, bytes_eq}
 use Rattle.std.proofs.lemmas.Bool.{cases_Bool, false≢true}
 use Rattle.std.proofs.lemmas.List.{take-append-drop}
 use Rattle.std.proofs.lemmas.Slice.Eq.{bytes_eq-Decides}
@@ -9,7 +9,7 @@ use Rattle.base64.specs.GeneralPurpose.{IsBytes}
 use Rattle.base64.specs.Rfc4648.{encode}
 use Rattle.base64.specs.declared.engine.DecodePaddingMode.TheVariants.{Indifferent}
 use Rattle.base64.proofs.RoundTrip.{decode-encode}
-use Rattle.relay_types.specs.SecretText.{ReadsSecret, IsPaddedOrNot, padded, unpadded, base64_symbols}
+use Rattle.relay_types.specs.SecretText.{ReadsSecret, IsPaddedOrNot, base64_symbols}
 use Rattle.relay_types.proofs.SecretLaws.{IsBase64Part, base64_reads, no_padding, secret_bytes}
 use Rattle.text_lines.specs.Words.{ReadSecrets, IsSecretsWord}
 use Rattle.text_lines.proofs.PartLaws.{HasParts-split}

@@ -77,10 +77,6 @@ fault_text Write = codes "Write"
 fault_text Lost = codes "Lost"
 fault_text OutOfMemory = codes "OutOfMemory"
 
--- the same where the exit status tells of the end
-abbrev pub EndsTo : (List (List ℕ) → List ℕ → Type 0) → (List ℕ → Type 0) → Option (List ℕ) → Option (List ℕ) → Option (List ℕ) → ℕ → Type 0
-EndsTo Says IsBad input old new status = (end : Result (Unit {0}) ReplayFault) × (status ≡ status_of end) × Ends Says IsBad input old new end
-
 -- Below, `Gives answer` is that the line that was read is answered by these bytes.
 
 -- nothing was written, or a front of the line's answer

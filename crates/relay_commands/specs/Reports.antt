@@ -1,0 +1,42 @@
+-- How a command ends: its exit status, and what it tells on standard error.
+use Rattle.std.specs.Prelude.{◌≡◌, ℕ, List, ◌++◌, Option, Result, Ok, Err, codes}
+use Rattle.std.specs.Io.KnownBytes.{Keeps}
+use Rattle.relay_types.specs.Faults.{fault_name}
+use Rattle.relay_types.specs.declared.fault.ReadFault.{ReadFault}
+use Rattle.relay_types.specs.declared.fault.ReadFault.TheVariants as reader
+use Rattle.text_lines.specs.declared.fault.ReplayFault.TheVariants as command
+use Rattle.text_lines.specs.Ends.{status_of, fault_text}
+use Rattle.text_lines.specs.Streams.{AppendsFront, with_feed}
+use Rattle.relay_commands.specs.declared.ends.CommandFault.{CommandFault}
+use Rattle.relay_commands.specs.declared.ends.CommandFault.TheVariants.{Argument, Ended}
+
+-- the fault of a command whose argument is refused so
+abbrev pub argument_fault : ReadFault → CommandFault
+argument_fault reader.OutOfMemory = Ended command.OutOfMemory
+argument_fault fault = Argument fault
+
+-- the exit status of an end: 0 done, 1 an argument is refused, 2 what was read, 3 the rest
+abbrev pub exit_status : Result (Unit {0}) CommandFault → ℕ
+exit_status (Ok done) = 0
+exit_status (Err (Argument fault)) = 1
+exit_status (Err (Ended fault)) = status_of (Err fault)
+
+-- how a fault is told
+abbrev pub told_text : CommandFault → List ℕ
+told_text (Argument fault) = fault_name fault
+told_text (Ended fault) = fault_text fault
+
+-- the line that tells it
+abbrev pub told_line : CommandFault → List ℕ
+told_line fault = with_feed (codes "relayd: " ++ told_text fault)
+
+-- What standard error gets: nothing where the command is done, and else a front of the fault's line (all of it where the
+-- writer takes it).
+abbrev pub Tells : Result (Unit {0}) CommandFault → Option (List ℕ) → Option (List ℕ) → Type 0
+Tells (Ok done) old new = Keeps old new
+Tells (Err fault) old new = AppendsFront old new (told_line fault)
+
+-- The exit status and standard error, as it was and is, tell of one end, of which this holds.
+abbrev pub Reports : (Result (Unit {0}) CommandFault → Type 0) → Option (List ℕ) → Option (List ℕ) → ℕ → Type 0
+Reports Holds old new status =
+    (end : Result (Unit {0}) CommandFault) × (status ≡ exit_status end) × Tells end old new × Holds end

@@ -1,0 +1,109 @@
+//! How a command ends: its exit status, and what it tells on standard error.
+ghost use Rattle.std.specs.Prelude.{◌≡◌, ◌≤◌, Err, Some, OnOk};
+ghost use Rattle.std.specs.Io.KnownBytes.{Appends};
+ghost use Rattle.text_lines.specs.Streams.{AppendsFront};
+ghost use Rattle.text_lines.specs.declared.fault.ReplayFault.TheVariants as command;
+ghost use Rattle.relay_commands.specs.declared.ends.CommandFault.TheVariants.{Ended};
+ghost use Rattle.relay_commands.specs.Reports.{argument_fault, exit_status, told_text, told_line, Tells};
+
+use arrayvec::ArrayString;
+use relay_types::ReadFault;
+use std::alloc::AllocError;
+use std::fmt;
+use std::fmt::Write as _;
+use std::io::Write;
+use text_lines::{ReplayFault, write_bytes};
+
+/// Done.
+pub const DONE: u8 = 0;
+
+/// The words are no command, or an argument isn't what its reader takes.
+pub const USAGE: u8 = 1;
+
+/// Why a command wasn't done.
+#[derive(Clone, Copy, PartialEq, Eq, Debug)]
+pub enum CommandFault {
+    /// An argument isn't what its reader takes.
+    Argument(ReadFault),
+    /// The command ended early.
+    Ended(ReplayFault),
+}
+
+impl CommandFault {
+    /// The exit status of a command that ends so: 1 for an argument, 2 for what was read, 3 for the rest.
+    fn status(self) -> u8
+        ensures status { result ≡ exit_status (Err self) }
+        ensures most { result ≤ 3 }
+    {
+        match self {
+            CommandFault::Argument(_) => USAGE,
+            CommandFault::Ended(fault) => fault.status(),
+        }
+    }
+}
+
+impl fmt::Display for CommandFault {
+    ghost output = { λ fault. Some (told_text fault) };
+
+    fn fmt<W: fmt::Write>(&self, f: &mut fmt::Formatter<W>) -> fmt::Result {
+        match self {
+            CommandFault::Argument(fault) => write!(f, "{fault}"),
+            CommandFault::Ended(fault) => write!(f, "{fault}"),
+        }
+    }
+}
+
+impl From<ReadFault> for CommandFault {
+    ghost from_gives = { λ refusal fault. fault ≡ argument_fault refusal };
+
+    fn from(fault: ReadFault) -> CommandFault {
+        match fault {
+            ReadFault::OutOfMemory => CommandFault::Ended(ReplayFault::OutOfMemory),
+            _ => CommandFault::Argument(fault),
+        }
+    }
+}
+
+impl From<ReplayFault> for CommandFault {
+    ghost from_gives = { λ early fault. fault ≡ Ended early };
+
+    fn from(fault: ReplayFault) -> CommandFault {
+        CommandFault::Ended(fault)
+    }
+}
+
+impl From<AllocError> for CommandFault {
+    ghost from_gives = { λ _ fault. fault ≡ Ended command.OutOfMemory };
+
+    fn from(_: AllocError) -> CommandFault {
+        CommandFault::Ended(ReplayFault::OutOfMemory)
+    }
+}
+
+/// Tells the fault of an end, and gives its exit status: 0 done, 1 an argument is refused, 2 what was read, 3 the rest.
+pub fn end<E: Write>(errors: &mut E, end: Result<(), CommandFault>) -> u8
+    ensures status { result ≡ exit_status end }
+    ensures tells { Tells end (E.contents errors.old) (E.contents errors.new) }
+    ensures most { result ≤ 3 }
+{
+    match end {
+        Ok(()) => DONE,
+        Err(fault) => {
+            let _ = tell(errors, fault);
+            fault.status()
+        }
+    }
+}
+
+// Tells the fault. No memory is taken, since there may be none.
+fn tell<E: Write>(errors: &mut E, fault: CommandFault) -> Result<(), ReplayFault>
+    ensures told { OnOk result (Appends (E.contents errors.old) (E.contents errors.new) (told_line fault)) }
+    ensures front { AppendsFront (E.contents errors.old) (E.contents errors.new) (told_line fault) }
+{
+    // A line has at most 44 bytes: `relayd: line 18446744073709551615: bad line`.
+    let mut line = ArrayString::<64>::new();
+    match writeln!(line, "relayd: {fault}") {
+        Ok(()) => write_bytes(errors, line.as_str().as_bytes()),
+        Err(fmt::Error) => Err(ReplayFault::Write),
+    }
+}

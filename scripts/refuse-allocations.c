@@ -1,0 +1,70 @@
+// A library to be loaded before the C library. It refuses the allocation whose number, from 1, stands in REFUSE, and keeps how many
+// were asked for in the file that ASKED names.
+#define _GNU_SOURCE
+#include <dlfcn.h>
+#include <errno.h>
+#include <fcntl.h>
+#include <stdlib.h>
+#include <sys/mman.h>
+#include <unistd.h>
+
+static unsigned long number;
+static unsigned long refuse;
+static unsigned long *asked;
+
+__attribute__((constructor)) static void start(void) {
+    const char *text = getenv("REFUSE");
+    const char *path = getenv("ASKED");
+    int file;
+    if (text == NULL || path == NULL)
+        return;
+    file = open(path, O_RDWR);
+    if (file < 0)
+        return;
+    asked = mmap(NULL, sizeof *asked, PROT_READ | PROT_WRITE, MAP_SHARED, file, 0);
+    close(file);
+    if (asked == MAP_FAILED)
+        asked = NULL;
+    refuse = strtoul(text, NULL, 10);
+}
+
+// Counts an allocation: whether it is the one to be refused. Those before `start` aren't the program's.
+static int is_refused(void) {
+    if (asked == NULL)
+        return 0;
+    *asked = ++number;
+    if (number != refuse)
+        return 0;
+    errno = ENOMEM;
+    return 1;
+}
+
+static void *library(void **known, const char *name) {
+    if (*known == NULL)
+        *known = dlsym(RTLD_NEXT, name);
+    return *known;
+}
+
+void *malloc(size_t size) {
+    static void *next;
+    void *(*call)(size_t) = library(&next, "malloc");
+    return is_refused() ? NULL : call(size);
+}
+
+void *realloc(void *block, size_t size) {
+    static void *next;
+    void *(*call)(void *, size_t) = library(&next, "realloc");
+    return is_refused() ? NULL : call(block, size);
+}
+
+void *aligned_alloc(size_t alignment, size_t size) {
+    static void *next;
+    void *(*call)(size_t, size_t) = library(&next, "aligned_alloc");
+    return is_refused() ? NULL : call(alignment, size);
+}
+
+int posix_memalign(void **block, size_t alignment, size_t size) {
+    static void *next;
+    int (*call)(void **, size_t, size_t) = library(&next, "posix_memalign");
+    return is_refused() ? ENOMEM : call(block, alignment, size);
+}
