@@ -11,6 +11,7 @@ use Rattle.text_lines.specs.Streams.{Reading, left, has_no_feed, TakesLine, IsTo
 use Rattle.text_lines.specs.Ends.{fed, HasLines, AreWithinBounds, IsWhole, IsUpToBad, IsUpToTooLong, IsCut, EndsSo, CutsLine, EndsLine}
 use Rattle.text_lines.proofs.FeedLaws.{IsTooLong-none}
 use Rattle.text_lines.proofs.StreamLaws.{Appends-known}
+use Rattle.text_lines.specs.declared.limits.TheConstants.{MAX_LINE_BYTES, MAX_LINES}
 
 -- ---- the lines of a text
 
@@ -151,8 +152,8 @@ begins Holds text had reading remaining contents holds input output new = record
   is_written = output ∙ ap Some (sym (append-nil had));
 }
 
-within_more : (lines : List (List ℕ)) (line : List ℕ) → AreWithinBounds lines → length lines + 1 ≤ 1000000 → length line ≤ 140000 → AreWithinBounds (lines ++ line ∷ [])
-within_more lines line within few short = (omega (arith, length-append lines (line ∷ []), few), rw (list_all-append, within.1, le-leb (length line) 140000 short) refl)
+within_more : (lines : List (List ℕ)) (line : List ℕ) → AreWithinBounds lines → length lines + 1 ≤ MAX_LINES → length line ≤ MAX_LINE_BYTES → AreWithinBounds (lines ++ line ∷ [])
+within_more lines line within few short = (omega (arith, length-append lines (line ∷ []), few), rw (list_all-append, within.1, le-leb (length line) MAX_LINE_BYTES short) refl)
 
 none_within : AreWithinBounds []
 none_within = (omega arith, refl)
@@ -160,11 +161,11 @@ none_within = (omega arith, refl)
 within_front : (lines : List (List ℕ)) (line : List ℕ) → AreWithinBounds (lines ++ line ∷ []) → AreWithinBounds lines
 within_front lines line within = (
   omega (arith, length-append lines (line ∷ []), within.0),
-  (and_parts (list_all (λ l. nat_le (length l) 140000) lines) _ (rw list_all-append at within.1)).0,
+  (and_parts (list_all (λ l. nat_le (length l) MAX_LINE_BYTES) lines) _ (rw list_all-append at within.1)).0,
 )
 
 pub takes : {Holds : List (List ℕ) → List ℕ → Type 0} (text had : List ℕ) (old new : Reading) (before after contents : Option (List ℕ)) → Progress Holds text had old before contents
-    → TakesLine (left old before) (left new after) new.line → IsTrue (has_no_feed new.line) → new.count ≡ old.count + 1 → length new.line ≤ 140000 → new.count ≤ 1000000
+    → TakesLine (left old before) (left new after) new.line → IsTrue (has_no_feed new.line) → new.count ≡ old.count + 1 → length new.line ≤ MAX_LINE_BYTES → new.count ≤ MAX_LINES
     → Taken Holds text had new after contents
 takes {Holds} text had old new before after contents p line clean number short few = at (left new after) refl
   where

@@ -12,6 +12,7 @@ use Rattle.std.proofs.lemmas.List.Sums.{list_all-from_AllPass, prefix_len_passes
 use Rattle.std.proofs.lemmas.List.Quantifiers.{position-Some}
 use Rattle.std.proofs.lemmas.Slice.{between_is}
 use Rattle.text_lines.specs.Streams.{Reading, left, has_no_feed, BeginsTooLong, IsTooLong, IsFeedAt, TakesPiece, PassesBound}
+use Rattle.text_lines.specs.declared.limits.TheConstants.{MAX_LINES}
 
 abbrev is_feed : ℕ → Bool
 is_feed c = c == 10
@@ -75,14 +76,14 @@ not_empty [] c rest e = cc
 not_empty (d ∷ line) c rest e = cc
 
 -- a line that was taken, and is one too many
-pub IsTooLong-from_line : (count : ℕ) (old new : Option (List ℕ)) (line : List ℕ) → 1000000 ≤ count → Consumes old new line → line ≢ [] → IsTooLong count old
+pub IsTooLong-from_line : (count : ℕ) (old new : Option (List ℕ)) (line : List ℕ) → MAX_LINES ≤ count → Consumes old new line → line ≢ [] → IsTooLong count old
 IsTooLong-from_line count None new line many taken some = inl (many, tt)
 IsTooLong-from_line count (Some bytes) None line many taken some = absurd taken
 IsTooLong-from_line count (Some bytes) (Some xs) [] many taken some = absurd (some refl)
 IsTooLong-from_line count (Some bytes) (Some xs) (c ∷ line) many taken some = inl (many, λ none. not_empty [] c (line ++ xs) (sym taken ∙ none))
 
 -- the same where it ends with the piece
-pub IsTooLong-from_piece : (count : ℕ) (old : Option (List ℕ)) (reading next : Reading) (remaining : Option (List ℕ)) → 1000000 ≤ count → Consumes old (left reading remaining) reading.line → TakesPiece reading next
+pub IsTooLong-from_piece : (count : ℕ) (old : Option (List ℕ)) (reading next : Reading) (remaining : Option (List ℕ)) → MAX_LINES ≤ count → Consumes old (left reading remaining) reading.line → TakesPiece reading next
     → IsTooLong count old
 IsTooLong-from_piece count None reading next remaining many taken piece = inl (many, tt)
 IsTooLong-from_piece count (Some bytes) reading next None many taken piece = absurd taken

@@ -8,5 +8,6 @@ pub mod StreamLaws
 pub mod TargetWords
 pub mod CleanWords
 pub mod EndLaws
+pub mod AnswerLaws
 pub mod WordLaws
 mod WorkedLines

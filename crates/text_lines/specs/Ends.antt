@@ -5,6 +5,7 @@ use Rattle.std.specs.Io.KnownBytes.{Appends, Keeps}
 use Rattle.text_lines.specs.declared.fault.ReplayFault.{ReplayFault}
 use Rattle.text_lines.specs.declared.fault.ReplayFault.TheVariants.{BadLine, TooLong, Read, Write, Lost, OutOfMemory}
 use Rattle.text_lines.specs.Streams.{Reading, AppendsFront, IsTooLong, has_no_feed}
+use Rattle.text_lines.specs.declared.limits.TheConstants.{MAX_LINE_BYTES, MAX_LINES}
 
 -- the lines, each with its line feed
 abbrev pub fed : List (List ℕ) → List ℕ
@@ -16,9 +17,9 @@ abbrev pub HasLines : List ℕ → List (List ℕ) → Type 0
 HasLines text lines = IsTrue (list_all has_no_feed lines)
     × ((text ≡ fed lines) ⊎ ((first : List (List ℕ)) × (last : List ℕ) × (last ≢ []) × (lines ≡ first ++ last ∷ []) × (text ≡ fed first ++ last)))
 
--- at most 1,000,000 lines of at most 140,000 bytes
+-- as many lines as a reader may have, and of as many bytes as a line may have
 abbrev pub AreWithinBounds : List (List ℕ) → Type 0
-AreWithinBounds lines = (length lines ≤ 1000000) × IsTrue (list_all (λ line. nat_le (length line) 140000) lines)
+AreWithinBounds lines = (length lines ≤ MAX_LINES) × IsTrue (list_all (λ line. nat_le (length line) MAX_LINE_BYTES) lines)
 
 -- Below, `Says lines written` is that this is written for these lines, and `IsBad line` that the text is no line of the command.
 

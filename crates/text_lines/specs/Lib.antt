@@ -2,4 +2,5 @@ pub mod Parts
 pub mod Streams
 pub mod Words
 pub mod WordFaults
+pub mod Answers
 pub mod Ends

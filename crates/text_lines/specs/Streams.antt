@@ -2,6 +2,7 @@
 use Rattle.std.specs.Prelude.{◌≡◌, ◌≢◌, ℕ, ◌+◌, ◌≤◌, ◌<◌, Bool, List, [], ◌∷◌, ◌++◌, length, take, drop, Option, Some, None, IsTrue, IfSome, ◌⊎◌}
 use Rattle.text_lines.specs.Parts.{has_no}
 use Rattle.std.specs.Io.KnownBytes.{Appends, prepend_known}
+use Rattle.text_lines.specs.declared.limits.TheConstants.{MAX_LINE_BYTES, MAX_LINES}
 
 -- a text and its line feed
 abbrev pub with_feed : List ℕ → List ℕ
@@ -36,13 +37,13 @@ TakesLine None new line = Unit {0}
 TakesLine (Some old) None line = ⊥
 TakesLine (Some old) (Some new) line = (old ≡ line ++ 10 ∷ new) ⊎ ((old ≡ line) × (line ≢ []) × (new ≡ []))
 
--- more than 140,000 known bytes stand before the first line feed
+-- more known bytes than a line may have stand before the first line feed
 abbrev pub BeginsTooLong : Option (List ℕ) → Type 0
-BeginsTooLong known = IfSome known (λ bytes. (front : List ℕ) × (rest : List ℕ) × (bytes ≡ front ++ rest) × IsTrue (has_no_feed front) × (140000 < length front))
+BeginsTooLong known = IfSome known (λ bytes. (front : List ℕ) × (rest : List ℕ) × (bytes ≡ front ++ rest) × IsTrue (has_no_feed front) × (MAX_LINE_BYTES < length front))
 
 -- The line after this many is too long, or one too many.
 abbrev pub IsTooLong : ℕ → Option (List ℕ) → Type 0
-IsTooLong count known = ((1000000 ≤ count) × IfSome known (λ bytes. bytes ≢ [])) ⊎ BeginsTooLong known
+IsTooLong count known = ((MAX_LINES ≤ count) × IfSome known (λ bytes. bytes ≢ [])) ⊎ BeginsTooLong known
 
 -- the first line feed stands at the place
 abbrev pub IsFeedAt : List ℕ → ℕ → Type 0
@@ -54,4 +55,4 @@ TakesPiece old new = (piece : List ℕ) × (old.pending ≡ piece ++ 10 ∷ new.
 
 -- with the pending bytes before the first line feed, the line is too long
 abbrev pub PassesBound : Reading → Type 0
-PassesBound old = (piece : List ℕ) × (rest : List ℕ) × (old.pending ≡ piece ++ rest) × IsTrue (has_no_feed piece) × (140000 < length old.line + length piece)
+PassesBound old = (piece : List ℕ) × (rest : List ℕ) × (old.pending ≡ piece ++ rest) × IsTrue (has_no_feed piece) × (MAX_LINE_BYTES < length old.line + length piece)

@@ -2,13 +2,17 @@
 //! for, and lines that are written.
 #![tactic(auto)]
 
+mod answering;
 mod fault;
+mod limits;
 mod lines;
 mod output;
 mod words;
 
+pub use crate::answering::{Answerer, answer_lines};
 pub use crate::fault::ReplayFault;
-pub use crate::lines::{Lines, MOST_READS, read_into};
+pub use crate::limits::{MAX_LINE_BYTES, MAX_LINES, MAX_READS, MAX_WRITES};
+pub use crate::lines::{Lines, read_into};
 pub use crate::output::{write_bytes, write_line};
 pub use crate::words::{
     WordFault, is_word, read_body, read_max, read_moment, read_number, read_secrets, secrets_of,

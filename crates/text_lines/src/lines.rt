@@ -6,19 +6,12 @@ ghost use Rattle.std.specs.Io.KnownBytes.{Consumes, Keeps, IsAtEnd};
 ghost use Rattle.text_lines.specs.Streams.{Reading, left, has_no_feed, IsFeedAt, TakesPiece, PassesBound, TakesLine, IsTooLong};
 
 use crate::fault::ReplayFault;
+use crate::limits::{MAX_LINE_BYTES, MAX_LINES, MAX_READS};
 use std::alloc::{AllocError, Global};
 use std::io::{ErrorKind, Read};
 use std::marker::Model;
 
-/// The most bytes of a line, its line feed not counted.
-pub const MOST_BYTES: usize = 140_000;
-
-/// The most lines of a reader.
-pub const MOST_LINES: u64 = 1_000_000;
-
-/// The most reads that are asked of a reader.
-pub const MOST_READS: u64 = 1 << 32;
-
+// The bytes of one read.
 const CHUNK: usize = 65_536;
 
 /// The lines of a reader, one after another. A line ends in a line feed, which the last one may lack. After a fault no further
@@ -37,12 +30,13 @@ pub struct Lines {
 impl Model for Lines {
     ghost use Rattle.std.specs.Prelude.{◌≤◌, ◌<◌, slice_range, vec_len};
     ghost use Rattle.text_lines.specs.Streams.{Reading};
+    ghost use Rattle.text_lines.specs.declared.limits.TheConstants.{MAX_LINE_BYTES, MAX_LINES};
 
     ghost Value = { Reading };
 
     ghost view = { λ a. record { pending = slice_range a.chunk.items a.at a.end; line = a.line.items; count = a.count; failed = a.failed } };
 
-    ghost invariant = { λ a. (a.at ≤ a.end) × (a.end ≤ vec_len a.chunk) × (0 < vec_len a.chunk) × (vec_len a.line ≤ 140000) × (a.count ≤ 1000000) };
+    ghost invariant = { λ a. (a.at ≤ a.end) × (a.end ≤ vec_len a.chunk) × (0 < vec_len a.chunk) × (vec_len a.line ≤ MAX_LINE_BYTES) × (a.count ≤ MAX_LINES) };
 }
 
 impl Lines {
@@ -51,7 +45,7 @@ impl Lines {
         ensures { IfOk result (λ lines. lines ≡ record { pending = []; line = []; count = 0; failed = false }) }
     {
         Ok(Lines {
-            chunk: room(alloc)?,
+            chunk: new_chunk(alloc)?,
             at: 0,
             end: 0,
             line: Vec::new(alloc),
@@ -80,8 +74,8 @@ impl Lines {
         ensures line { result ≡ Ok true → TakesLine (left self.old (R.remaining reader.old)) (left self.new (R.remaining reader.new)) self.new.line }
         ensures no_feed { result ≡ Ok true → IsTrue (has_no_feed self.new.line) }
         ensures number { result ≡ Ok true → self.new.count ≡ self.old.count + 1 }
-        ensures most_bytes { result ≡ Ok true → length self.new.line ≤ 140000 }
-        ensures most_lines { result ≡ Ok true → self.new.count ≤ 1000000 }
+        ensures most_bytes { result ≡ Ok true → length self.new.line ≤ MAX_LINE_BYTES }
+        ensures most_lines { result ≡ Ok true → self.new.count ≤ MAX_LINES }
         ensures end { result ≡ Ok false → IsAtEnd (left self.old (R.remaining reader.old)) }
         ensures too_long { result ≡ Err ReplayFault.TooLong → IsTooLong self.old.count (left self.old (R.remaining reader.old)) }
         ensures faults { IfErr result (λ fault. (fault ≡ ReplayFault.TooLong) ⊎ ((fault ≡ ReplayFault.Read) ⊎ (fault ≡ ReplayFault.OutOfMemory))) }
@@ -101,19 +95,19 @@ impl Lines {
         ensures line { result ≡ Ok true → TakesLine (left self.old (R.remaining reader.old)) (left self.new (R.remaining reader.new)) self.new.line }
         ensures no_feed { result ≡ Ok true → IsTrue (has_no_feed self.new.line) }
         ensures number { result ≡ Ok true → self.new.count ≡ self.old.count + 1 }
-        ensures most_bytes { result ≡ Ok true → length self.new.line ≤ 140000 }
-        ensures most_lines { result ≡ Ok true → self.new.count ≤ 1000000 }
+        ensures most_bytes { result ≡ Ok true → length self.new.line ≤ MAX_LINE_BYTES }
+        ensures most_lines { result ≡ Ok true → self.new.count ≤ MAX_LINES }
         ensures end { result ≡ Ok false → IsAtEnd (left self.old (R.remaining reader.old)) }
         ensures too_long { result ≡ Err ReplayFault.TooLong → IsTooLong self.old.count (left self.old (R.remaining reader.old)) }
         ensures faults { IfErr result (λ fault. (fault ≡ ReplayFault.TooLong) ⊎ ((fault ≡ ReplayFault.Read) ⊎ (fault ≡ ReplayFault.OutOfMemory))) }
     {
         self.line.clear();
-        for _ in self.reads..MOST_READS {
+        for _ in self.reads..MAX_READS {
             if !self.supply(reader)? {
-                return self.ended();
+                return self.take_open_line();
             }
             if self.take_piece()? {
-                return self.counted();
+                return self.count_line();
             }
         }
         Err(ReplayFault::Read)
@@ -160,30 +154,31 @@ impl Lines {
         }
     }
 
-    // The reader is at its end: whether the line has bytes.
-    fn ended(&mut self) -> Result<bool, ReplayFault>
+    // At the reader's end a line is one more only if it has bytes: whether it has.
+    fn take_open_line(&mut self) -> Result<bool, ReplayFault>
         ensures line { self.new.line ≡ self.old.line }
         ensures pending { self.new.pending ≡ self.old.pending }
         ensures none { result ≡ Ok false → self.old.line ≡ [] }
         ensures some { result ≡ Ok true → self.old.line ≢ [] }
         ensures number { result ≡ Ok true → self.new.count ≡ self.old.count + 1 }
-        ensures bounds { result ≡ Ok true → (length self.new.line ≤ 140000) × (self.new.count ≤ 1000000) }
-        ensures too_long { IfErr result (λ fault. (fault ≡ ReplayFault.TooLong) × (1000000 ≤ self.old.count) × (self.old.line ≢ [])) }
+        ensures bounds { result ≡ Ok true → (length self.new.line ≤ MAX_LINE_BYTES) × (self.new.count ≤ MAX_LINES) }
+        ensures too_long { IfErr result (λ fault. (fault ≡ ReplayFault.TooLong) × (MAX_LINES ≤ self.old.count) × (self.old.line ≢ [])) }
     {
         if self.line.is_empty() {
             return Ok(false);
         }
-        self.counted()
+        self.count_line()
     }
 
-    fn counted(&mut self) -> Result<bool, ReplayFault>
+    // Counts one line more.
+    fn count_line(&mut self) -> Result<bool, ReplayFault>
         ensures line { self.new.line ≡ self.old.line }
         ensures pending { self.new.pending ≡ self.old.pending }
         ensures number { IfOk result (λ is_line. (is_line ≡ true) × (self.new.count ≡ self.old.count + 1)) }
-        ensures bounds { OnOk result ((length self.new.line ≤ 140000) × (self.new.count ≤ 1000000)) }
-        ensures too_long { IfErr result (λ fault. (fault ≡ ReplayFault.TooLong) × (1000000 ≤ self.old.count)) }
+        ensures bounds { OnOk result ((length self.new.line ≤ MAX_LINE_BYTES) × (self.new.count ≤ MAX_LINES)) }
+        ensures too_long { IfErr result (λ fault. (fault ≡ ReplayFault.TooLong) × (MAX_LINES ≤ self.old.count)) }
     {
-        if self.count >= MOST_LINES {
+        if self.count >= MAX_LINES {
             return Err(ReplayFault::TooLong);
         }
         self.count += 1;
@@ -191,8 +186,8 @@ impl Lines {
     }
 }
 
-// The bytes of one read.
-fn room(alloc: Global) -> Result<Vec<u8>, AllocError>
+// Zeros for one read.
+fn new_chunk(alloc: Global) -> Result<Vec<u8>, AllocError>
     ensures { IfOk result (λ chunk. 0 < vec_len chunk) }
 {
     vec![in alloc; 0; CHUNK]
@@ -229,13 +224,13 @@ fn place_of_feed(bytes: &[u8]) -> Option<usize>
 
 // Puts the piece behind the line, unless it is too long with it.
 fn lengthen(line: &mut Vec<u8>, piece: &[u8]) -> Result<(), ReplayFault>
-    requires { vec_len line.old ≤ 140000 }
+    requires { vec_len line.old ≤ MAX_LINE_BYTES }
     ensures line { OnOk result (line.new.items ≡ line.old.items ++ piece.now) }
-    ensures most { vec_len line.new ≤ 140000 }
-    ensures too_long { result ≡ Err ReplayFault.TooLong → 140000 < vec_len line.old + length piece.now }
+    ensures most { vec_len line.new ≤ MAX_LINE_BYTES }
+    ensures too_long { result ≡ Err ReplayFault.TooLong → MAX_LINE_BYTES < vec_len line.old + length piece.now }
     ensures faults { IfErr result (λ fault. (fault ≡ ReplayFault.TooLong) ⊎ (fault ≡ ReplayFault.OutOfMemory)) }
 {
-    if piece.len() > MOST_BYTES - line.len() {
+    if piece.len() > MAX_LINE_BYTES - line.len() {
         return Err(ReplayFault::TooLong);
     }
     line.extend_from_slice(piece)?;

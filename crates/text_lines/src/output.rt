@@ -4,12 +4,10 @@ ghost use Rattle.std.specs.Io.KnownBytes.{Appends, Keeps, WriteAppends};
 ghost use Rattle.text_lines.specs.Streams.{AppendsFront, with_feed};
 
 use crate::fault::ReplayFault;
+use crate::limits::MAX_WRITES;
 use std::alloc::Global;
 use std::fmt::Display;
 use std::io::{ErrorKind, Write};
-
-/// The most writes that are asked of a writer for one text.
-const MOST_WRITES: u64 = 1 << 32;
 
 /// Writes the text and a line feed.
 pub fn write_line<T: Display, O: Write>(
@@ -33,7 +31,7 @@ pub fn write_bytes<O: Write>(output: &mut O, bytes: &[u8]) -> Result<(), ReplayF
     ensures fault { IfErr result (λ fault. fault ≡ ReplayFault.Write) }
 {
     let mut rest = bytes;
-    for _ in 0..MOST_WRITES {
+    for _ in 0..MAX_WRITES {
         if rest.is_empty() {
             return Ok(());
         }

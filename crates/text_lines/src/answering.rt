@@ -1,0 +1,68 @@
+//! Lines that are answered one after another.
+ghost use Rattle.std.specs.Prelude.{◌≡◌, List, ℕ, Some, IfOk};
+ghost use Rattle.text_lines.specs.Answers.{AnswersFrom, Gives};
+ghost use Rattle.text_lines.specs.Ends.{Ends, EndsLine};
+
+use crate::fault::ReplayFault;
+use crate::lines::Lines;
+use crate::output::write_line;
+use crate::words::WordFault;
+use std::alloc::Global;
+use std::fmt::Display;
+use std::io::{Read, Write};
+
+/// What answers lines, one after another.
+pub trait Answerer {
+    /// What a line is answered by.
+    type Reply: Display + Drop;
+
+    // From the first to the second, it answers the line by this text.
+    ghost Answers: { Self → List ℕ → List ℕ → Self → Type 0 };
+
+    // The text is no line for it.
+    ghost IsNoLine: { List ℕ → Type 0 };
+
+    // What lies below it did what it promised, until now.
+    ghost IsClean: { Self → Type 0 };
+
+    /// Answers the line.
+    fn answer(&mut self, alloc: Global, line: &[u8]) -> Result<Self::Reply, WordFault>
+        ensures answers { IsClean self.new → IfOk result (λ reply. (text : List ℕ) × (Self.Reply.output reply ≡ Some text) × Answers self.old line.now text self.new) }
+        ensures bad { result ≡ Err WordFault.Bad → IsNoLine line.now }
+        ensures clean { IsClean self.new → IsClean self.old };
+}
+
+/// Answers each line of the reader, in its turn, by a line.
+pub fn answer_lines<A: Answerer, R: Read, O: Write>(
+    alloc: Global,
+    answerer: &mut A,
+    input: &mut R,
+    output: &mut O,
+) -> Result<(), ReplayFault>
+    ensures ends { A.IsClean answerer.new → Ends (AnswersFrom A.Answers answerer.old) A.IsNoLine (R.remaining input.old) (O.contents output.old) (O.contents output.new) result }
+    ensures clean { A.IsClean answerer.new → A.IsClean answerer.old }
+{
+    let mut lines = Lines::new(alloc)?;
+    while lines.advance(input)? {
+        answer_line(alloc, answerer, &lines, output)?;
+    }
+    Ok(())
+}
+
+// Answers the line that was read.
+fn answer_line<A: Answerer, O: Write>(
+    alloc: Global,
+    answerer: &mut A,
+    lines: &Lines,
+    output: &mut O,
+) -> Result<(), ReplayFault>
+    ensures ends { A.IsClean answerer.new → EndsLine (Gives A.Answers answerer.old lines.now.line answerer.new) A.IsNoLine lines.now (O.contents output.old) (O.contents output.new) result }
+    ensures clean { A.IsClean answerer.new → A.IsClean answerer.old }
+{
+    let reply = match answerer.answer(alloc, lines.line()) {
+        Ok(reply) => reply,
+        Err(WordFault::Bad) => return Err(ReplayFault::BadLine(lines.number())),
+        Err(WordFault::OutOfMemory) => return Err(ReplayFault::OutOfMemory),
+    };
+    write_line(alloc, output, &reply)
+}
