@@ -4,9 +4,11 @@
 mod book;
 mod entry;
 mod keys;
+mod law;
 mod row;
 mod search;
 mod tally;
 
 pub use crate::book::DeliveryBook;
+pub use crate::law::endpoint_records_leave;
 pub use crate::row::{Counts, Row};

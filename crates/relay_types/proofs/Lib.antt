@@ -4,5 +4,8 @@ pub mod WorkedTargets
 pub mod Base64Laws
 pub mod SecretLaws
 pub mod GrowthLaws
+pub mod KnownLaws
+pub mod OrderLaws
+pub mod RowLaws
 mod WorkedValues
 mod WorkedRows

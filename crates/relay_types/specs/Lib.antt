@@ -8,3 +8,4 @@ pub mod Legal
 pub mod Rows
 pub mod SecretText
 pub mod Faults
+pub mod Laws

@@ -4,6 +4,7 @@
 
 mod body;
 mod fault;
+mod laws;
 mod names;
 mod numbers;
 mod record;
@@ -15,6 +16,7 @@ mod target;
 
 pub use crate::body::Body;
 pub use crate::fault::ReadFault;
+pub use crate::laws::rows_follow;
 pub use crate::names::{MsgId, Name};
 pub use crate::numbers::{MaxLimit, Moment};
 pub use crate::record::{Record, Step};

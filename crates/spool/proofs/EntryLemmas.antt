@@ -14,9 +14,9 @@ use Rattle.spool_sql.specs.Stored.{IsTables, with_records, with_delivery}
 use Rattle.spool_sql.specs.Steps.{GoesOn, Alters}
 use Rattle.spool.specs.Runs.{is_put_or_accept}
 use Rattle.spool.specs.Entering.{HasRows, Enters, EntersWhole, with_put, may_put, accepting}
-use Rattle.spool.proofs.KnownLemmas.{and_first, and_second, legal_more, illegal_if, illegal_front}
+use Rattle.relay_types.proofs.KnownLaws.{and_first, and_second, legal_more, illegal_if, illegal_front}
 use Rattle.spool.proofs.LegalLemmas.{accepting-none, accepting-some}
-use Rattle.spool.proofs.RowLaws.{rows_of-more, put_by_name-is}
+use Rattle.relay_types.proofs.RowLaws.{rows_of-more, put_by_name-is}
 
 goes_then : (a b c : State) → GoesOn a b → GoesOn b c → GoesOn a c
 goes_then a b c p q = record { was_open = p.was_open; is_open = q.is_open; now_is = refl; committed_is = q.committed_is ∙ p.committed_is; mode = q.mode }
@@ -41,12 +41,12 @@ IsChangeOf a next entry change = (count : ℕ) (records : List Record) → next 
 
 enters_made : (a b c : State) (next : ℕ) (entry : Record) (change : Rows → Rows) → IsTrue a.in_transaction → IsUnchanged a b
     → ((count : ℕ) (records : List Record) → HasRows a.now count records → true ≡ may_follow records entry)
-    → IsTrue (is_put_or_accept entry) → IsTrue (is_within_limits entry) → next < 2 ^ 62 → Alters b c change → IsChangeOf a next entry change → Enters a c next (entry ∷ []) true
-enters_made a b c next entry change inside same follows taken within room made is = record {
+    → IsTrue (is_within_limits entry) → next < 2 ^ 62 → Alters b c change → IsChangeOf a next entry change → Enters a c next (entry ∷ []) true
+enters_made a b c next entry change inside same follows within room made is = record {
   on = goes_then a b c (goes_if_same a b inside same) made.on;
   judges = λ count records at has. sym (legal count records at has);
   makes = λ _ count records at has.
-      let law = rows_of-more records entry has.legal (sym (follows count records has)) taken in
+      let law = rows_of-more records entry has.legal (sym (follows count records has)) in
       let now = made.makes (with_records count (rows_of records)) (subst (λ d. IsTables d (with_records count (rows_of records))) (sym same.0.now_is) has.tables) in
       record { legal = legal count records at has; tables = subst (IsTables c.now) (is count records at has ∙ ap (with_records count) (sym law)) now };
 }
@@ -63,7 +63,7 @@ pub put_made : (a b c : State) (next : ℕ) (name target : List ℕ) (max : ℕ)
     → IsTrue (is_within_limits (Put name target max secrets)) → next < 2 ^ 62
     → Alters b c (with_put (record { put = next; name = name; url = target; max = max; enabled = true; enabled_by = next; secrets_by = next }) secrets)
     → Enters a c next (Put name target max secrets ∷ []) true
-put_made a b c next name target max secrets inside same may within room made = enters_made a b c next (Put name target max secrets) _ inside same may refl within room made
+put_made a b c next name target max secrets inside same may within room made = enters_made a b c next (Put name target max secrets) _ inside same may within room made
     (λ count records at has. ap (λ n. with_put (record { put = n; name = name; url = target; max = max; enabled = true; enabled_by = n; secrets_by = n }) secrets (with_records count (rows_of records))) at)
 
 pub accept_refused : (a b : State) (next : ℕ) (name id body : List ℕ) (at : ℕ) → IsTrue a.in_transaction → IsUnchanged a b
@@ -75,7 +75,7 @@ pub accept_made : (a b c : State) (next : ℕ) (name id body : List ℕ) (at put
     → IsTrue (is_within_limits (Accept name id body at)) → next < 2 ^ 62 → Alters b c (with_delivery (record { seq = next; endpoint = put; id = id; at = at; body = body }))
     → Enters a c next (Accept name id body at ∷ []) true
 accept_made a b c next name id body at put inside same found within room made =
-    enters_made a b c next (Accept name id body at) _ inside same (λ count records has. (accepting-some records name id put (found count records has)).0) refl within room made
+    enters_made a b c next (Accept name id body at) _ inside same (λ count records has. (accepting-some records name id put (found count records has)).0) within room made
     (λ count records place has.
     let known = (accepting-some records name id put (found count records has)).1 ∙ sym (put_by_name-is records name) in
     λ i. with_delivery (record { seq = place i; endpoint = known i; id = id; at = at; body = body }) (with_records count (rows_of records)))

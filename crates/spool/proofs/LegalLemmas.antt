@@ -16,9 +16,9 @@ use Rattle.relay_types.specs.Legal.{may_follow, may_all_follow, IsLegal}
 use Rattle.relay_types.specs.Rows.{EndpointRow, DeliveryRow, endpoint_row, delivery_row, put_of, put_by_name, rows_of}
 use Rattle.relay_types.proofs.GrowthLaws.{endpoints-snoc}
 use Rattle.spool.specs.Entering.{may_put, may_accept, accepting}
-use Rattle.spool.proofs.KnownLemmas.{and_first, and_second, AllKnown, legal_known}
+use Rattle.relay_types.proofs.KnownLaws.{and_first, and_second, AllKnown, legal_known}
 use Rattle.spool.proofs.RowLemmas.{has_name, has_event, HasEachNameOnce, allows_put, allows_accept, allowed_for, find_is_first, none_if_unnamed}
-use Rattle.spool.proofs.RowLaws.{find_map, put_by_name-is}
+use Rattle.relay_types.proofs.RowLaws.{find_map, put_by_name-is}
 
 some_map : {X Y : Type 0} (f : X → Y) (o : Option X) → is_some (option_map f o) ≡ is_some o
 some_map f None = refl

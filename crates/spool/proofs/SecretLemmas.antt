@@ -8,7 +8,7 @@ use Rattle.relay_types.specs.Rows.{SecretRow, secret_rows}
 use Rattle.spool_sql.specs.Stored.{IsTables, with_secret}
 use Rattle.spool_sql.specs.Steps.{Alters, Spares}
 use Rattle.spool_sql.proofs.StepLemmas.{alters_then}
-use Rattle.spool.proofs.KnownLemmas.{and_first, and_second, and_both}
+use Rattle.relay_types.proofs.KnownLaws.{and_first, and_second, and_both}
 use Rattle.spool.specs.Entering.{with_secrets}
 
 -- nothing is done

@@ -1,42 +1,31 @@
 -- What a write makes of a vault.
 use Rattle.std.proofs.Common.{◌≡◌, ◌⊎◌, inl, inr, ℕ, ◌+◌, List, [], ◌∷◌, ◌++◌, length, IsTrue, sym, ap, subst, ◌∙◌, arith, append-nil, append_assoc, length-append}
-use Rattle.std.specs.List.{list_all}
 use Rattle.sqlite.specs.State.{State}
 use Rattle.relay_types.specs.declared.record.Record.{Record}
 use Rattle.relay_types.specs.Legal.{IsLegal}
 use Rattle.relay_types.specs.Rows.{Rows, rows_of, put_rows}
 use Rattle.spool_sql.specs.Steps.{Stands, MayLeave}
 use Rattle.spool.specs.Entering.{Rests, RestsInDoubt, EndsSo}
-use Rattle.spool.specs.Runs.{is_put_or_accept}
 use Rattle.spool.specs.Vaults.{HoldsAt}
 use Rattle.spool.specs.declared.write.Written.TheVariants.{Made}
-use Rattle.spool.proofs.KnownLemmas.{and_first, and_second, follows_if_legal, legal_front}
-use Rattle.spool.proofs.RowLaws.{rows_of-more}
-
--- the rows after records that go on legally are those of the table of changes
-pub rows_of-all : (records more : List Record) → IsLegal (records ++ more) → IsTrue (list_all is_put_or_accept more) → rows_of (records ++ more) ≡ put_rows (rows_of records) more
-rows_of-all records [] legal taken = ap rows_of (append-nil records)
-rows_of-all records (entry ∷ more) legal taken =
-    let longer : IsLegal ((records ++ entry ∷ []) ++ more) = subst IsLegal (sym (append_assoc records (entry ∷ []) more)) legal in
-    let one = legal_front (records ++ entry ∷ []) more longer in
-    let law = rows_of-more records entry (legal_front records (entry ∷ []) one) (follows_if_legal records entry one) (and_first (is_put_or_accept entry) _ taken) in
-    ap rows_of (sym (append_assoc records (entry ∷ []) more)) ∙ rows_of-all (records ++ entry ∷ []) more longer (and_second (is_put_or_accept entry) _ taken) ∙ ap (λ r. put_rows r more) law
+use Rattle.relay_types.proofs.KnownLaws.{and_first, and_second, follows_if_legal, legal_front}
+use Rattle.relay_types.proofs.RowLaws.{rows_of-all}
 
 -- what is said of the history tells of the rows
 
-pub rows_made : (old new : State) (count next : ℕ) (entries : List Record) → IsTrue (list_all is_put_or_accept entries)
+pub rows_made : (old new : State) (count next : ℕ) (entries : List Record)
     → ((records : List Record) → HoldsAt old count records → HoldsAt new next (records ++ entries) × MayLeave new (λ r. r ≡ rows_of (records ++ entries)))
     → (records : List Record) → HoldsAt old count records → Rests new (put_rows (rows_of records) entries)
-rows_made old new count next entries taken over records on =
+rows_made old new count next entries over records on =
     let kept = over records on in
-    subst (Rests new) (rows_of-all records entries kept.0.legal taken) (kept.0.stands, kept.1)
+    subst (Rests new) (rows_of-all records entries kept.0.legal) (kept.0.stands, kept.1)
 
-pub rows_doubted : (old new : State) (count : ℕ) (entries : List Record) → IsTrue (list_all is_put_or_accept entries) → ((records : List Record) → HoldsAt old count records → RestsInDoubt new records entries)
+pub rows_doubted : (old new : State) (count : ℕ) (entries : List Record) → ((records : List Record) → HoldsAt old count records → RestsInDoubt new records entries)
     → (records : List Record) → HoldsAt old count records → MayLeave new (λ r. (r ≡ rows_of records) ⊎ (r ≡ put_rows (rows_of records) entries))
-rows_doubted old new count entries taken over records on db may =
+rows_doubted old new count entries over records on db may =
     let left = over records on db may in (
       left.0,
-      elim left.1 [ inl was ↦ inl was | inr new ↦ inr (new.1 ∙ rows_of-all records entries new.0 taken) ],
+      elim left.1 [ inl was ↦ inl was | inr new ↦ inr (new.1 ∙ rows_of-all records entries new.0) ],
       left.2,
     )
 

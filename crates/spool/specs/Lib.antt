@@ -3,4 +3,3 @@ pub mod Vaults
 pub mod Entering
 pub mod Opening
 pub mod Commits
-pub mod Laws

@@ -7,6 +7,8 @@ mod book;
 #[cfg(test)]
 mod estimator;
 #[cfg(test)]
+mod laws;
+#[cfg(test)]
 mod pool;
 #[cfg(test)]
 mod retries;

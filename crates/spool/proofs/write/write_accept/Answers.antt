@@ -1,7 +1,7 @@
 use Rattle.std.proofs.Common.{sym, arith, ◌∙◌}
 use Rattle.sqlite.specs.State.{HasCleanDisk}
 use Rattle.sqlite.specs.Held.{state}
-use Rattle.spool.proofs.KnownLemmas.{and_both}
+use Rattle.relay_types.proofs.KnownLaws.{and_both}
 use Rattle.spool.proofs.EntryLemmas.{accept_refused, accept_made}
 use Rattle.spool.proofs.write.write_accept.Goals as goal
 
