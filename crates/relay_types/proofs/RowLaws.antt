@@ -16,7 +16,7 @@ use Rattle.relay_types.specs.Records.{Accepted, accepted_by, numbered}
 use Rattle.relay_types.specs.Deliveries.{accepted, is_pending}
 use Rattle.relay_types.specs.Endpoints.{Endpoint, endpoint_by, endpoints, endpoint_of, has_endpoint, enabled_by, is_enabled, secrets_by, secrets_of, is_delivery_of}
 use Rattle.relay_types.specs.Legal.{may_follow, IsLegal}
-use Rattle.relay_types.specs.Rows.{EndpointRow, SecretRow, DeliveryRow, endpoint_row, secret_rows, replace_secrets, delivery_row, change_where, put_of, put_by_name, put_by_delivery, last_number, rows_of, put_record, put_rows}
+use Rattle.relay_types.specs.Rows.{EndpointRow, SecretRow, DeliveryRow, endpoint_row, secret_rows, replace_secrets, delivery_row, change_where, put_of, put_by_name, put_by_delivery, last_seq, rows_of, put_record, put_rows}
 use Rattle.relay_types.proofs.GrowthLaws.{numbered-snoc, secrets_of-snoc, endpoints-snoc, attempts_table-snoc, records-snoc, later_row, endpoint_row-snoc, endpoint_rows-snoc, accepted-before, endpoints_table-accept, endpoints_table-secrets, endpoints_table-enabled}
 use Rattle.relay_types.proofs.OrderLaws.{finds, flip_false, not_first, unnamed_if, Rises, HasNamesOnce, TellsByNumber, finds_above, tells_by_number, puts_rise, legal_names}
 use Rattle.relay_types.proofs.KnownLaws.{and_first, IsKnown, AllKnown, endpoint_of-more, legal_known, known_below, below_if_accepted, legal_front, follows_if_legal}
@@ -82,7 +82,7 @@ new_row records name target max secrets known lacks = endpoint_row-snoc records 
     enabled : is_enabled records name ≡ true
     enabled = ap (λ said. unwrap_or (last_of said) true) (no_enabled records name records known lacks known)
 
-    by : last_number (λ r. is_some (enabled_by records name r)) records (length records) ≡ length records
+    by : last_seq (λ r. is_some (enabled_by records name r)) records (length records) ≡ length records
     by = ap (λ ns. unwrap_or (last_of (map (λ (e : ℕ × Record). e.0) ns)) (length records)) (no_numbers records name 0 records known lacks known)
 
     itself : bytes_eq name name ≡ true
@@ -97,7 +97,7 @@ new_row records name target max secrets known lacks = endpoint_row-snoc records 
       max = max;
       enabled = enabled i;
       enabled_by = by i;
-      secrets_by = ap (λ b. if is_some (if b then Some secrets else None) then length records else last_number (λ r. is_some (secrets_by name r)) records (length records)) itself i;
+      secrets_by = ap (λ b. if is_some (if b then Some secrets else None) then length records else last_seq (λ r. is_some (secrets_by name r)) records (length records)) itself i;
     }
 
 -- The endpoints of other names stay as they are

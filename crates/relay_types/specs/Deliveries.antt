@@ -5,6 +5,7 @@ use Rattle.std.specs.Option.{option_map_or}
 use Rattle.relay_types.specs.declared.record.Record.{Record}
 use Rattle.relay_types.specs.declared.state.State.{State}
 use Rattle.relay_types.specs.declared.state.State.TheVariants.{Pending, Delivered, Exhausted}
+use Rattle.relay_types.specs.declared.limits.TheConstants.{MAX_FAILURES}
 use Rattle.relay_types.specs.Lists.{last_of}
 use Rattle.relay_types.specs.Records.{Accepted, Attempt, accepted_by, attempt_by, numbered}
 use Rattle.relay_types.specs.Judging.{is_delivered_status, is_gone_status, is_failed_status, delay_after}
@@ -22,18 +23,19 @@ is_accept_of endpoint entry = option_map_or (λ a. bytes_eq a.endpoint endpoint)
 
 -- whether the record is the Accept of this endpoint and id
 abbrev pub is_accept_as : List ℕ → List ℕ → Record → Bool
-is_accept_as endpoint id entry = option_map_or (λ a. bytes_eq a.endpoint endpoint && bytes_eq a.id id) (accepted_by entry) false
+is_accept_as endpoint id entry =
+    option_map_or (λ a. bytes_eq a.endpoint endpoint && bytes_eq a.id id) (accepted_by entry) false
 
 -- the numbers of the records that pass the test, in order
-abbrev pub places_of : (Record → Bool) → List Record → List ℕ
-places_of test records = map (λ e. e.0) (filter (λ e. test e.1) (numbered records))
+abbrev pub seqs_of : (Record → Bool) → List Record → List ℕ
+seqs_of test records = map (λ e. e.0) (filter (λ e. test e.1) (numbered records))
 
 -- all deliveries, and those of an endpoint, in order
 abbrev pub deliveries : List Record → List ℕ
-deliveries records = places_of is_accept records
+deliveries records = seqs_of is_accept records
 
 abbrev pub deliveries_of : List Record → List ℕ → List ℕ
-deliveries_of records endpoint = places_of (is_accept_of endpoint) records
+deliveries_of records endpoint = seqs_of (is_accept_of endpoint) records
 
 -- the delivery that the endpoint knows by this id
 abbrev pub known_as : List Record → List ℕ → List ℕ → Option ℕ
@@ -49,9 +51,11 @@ failures_of records d = count_by (λ a. is_failed_status a.status) (attempts_of 
 abbrev pub is_delivered : List Record → ℕ → Bool
 is_delivered records d = list_any (λ a. is_delivered_status a.status) (attempts_of records d)
 
--- delivered if an attempt delivered it, exhausted if ten failed, pending otherwise
+-- delivered if an attempt delivered it, exhausted if as many failed as may fail, pending otherwise
 abbrev pub state_of : List Record → ℕ → State
-state_of records d = if is_delivered records d then Delivered else (if nat_le 10 (failures_of records d) then Exhausted else Pending)
+state_of records d =
+    if is_delivered records d then Delivered else (
+    if nat_le MAX_FAILURES (failures_of records d) then Exhausted else Pending)
 
 abbrev pub is_in_state : State → State → Bool
 is_in_state Pending Pending = true
@@ -71,7 +75,8 @@ accepted_at records d = option_map_or (λ a. a.at) (accepted records d) 0
 
 -- the moment at which a delivery is due, which means something while it is pending
 abbrev pub due_of : List Record → ℕ → ℕ
-due_of records d = option_map_or (λ last. due_after last (failures_of records d)) (last_of (attempts_of records d)) (accepted_at records d)
+due_of records d =
+    option_map_or (λ last. due_after last (failures_of records d)) (last_of (attempts_of records d)) (accepted_at records d)
 
 -- the due moment of a pending delivery; a number that names no Accept is due at no moment
 abbrev pub due_if_pending : List Record → ℕ → Option ℕ

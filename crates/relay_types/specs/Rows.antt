@@ -45,9 +45,9 @@ pub record Rows : Type 0 where
   pub deliveries : List DeliveryRow
   pub attempts : List AttemptRow
 
--- the number of the last record of which the test says something, the Put's if there is none
-abbrev pub last_number : (Record → Bool) → List Record → ℕ → ℕ
-last_number test records put = unwrap_or (last_of (map (λ e. e.0) (filter (λ e. test e.1) (numbered records)))) put
+-- the sequence number of the last record of which the test says something, the Put's if there is none
+abbrev pub last_seq : (Record → Bool) → List Record → ℕ → ℕ
+last_seq test records put = unwrap_or (last_of (map (λ e. e.0) (filter (λ e. test e.1) (numbered records)))) put
 
 abbrev pub endpoint_row : List Record → Endpoint → EndpointRow
 endpoint_row records e = record {
@@ -56,8 +56,8 @@ endpoint_row records e = record {
   url = e.target;
   max = e.max;
   enabled = is_enabled records e.name;
-  enabled_by = last_number (λ entry. is_some (enabled_by records e.name entry)) records e.put;
-  secrets_by = last_number (λ entry. is_some (secrets_by e.name entry)) records e.put;
+  enabled_by = last_seq (λ entry. is_some (enabled_by records e.name entry)) records e.put;
+  secrets_by = last_seq (λ entry. is_some (secrets_by e.name entry)) records e.put;
 }
 
 -- the secrets of the endpoint with this number, the newest at place 0
@@ -69,18 +69,20 @@ abbrev pub put_of : List Record → List ℕ → ℕ
 put_of records name = option_map_or (λ e. e.put) (endpoint_of records name) 0
 
 abbrev pub delivery_row : List Record → ℕ × Record → Option DeliveryRow
-delivery_row records (place, Accept name id body at) = Some (record { seq = place; endpoint = put_of records name; id = id; at = at; body = body })
-delivery_row records (place, Put name target max secrets) = None
-delivery_row records (place, Secrets name secrets) = None
-delivery_row records (place, Enabled name flag) = None
-delivery_row records (place, Outcome delivery attempt status at) = None
+delivery_row records (seq, Accept name id body at) =
+    Some (record { seq = seq; endpoint = put_of records name; id = id; at = at; body = body })
+delivery_row records (seq, Put name target max secrets) = None
+delivery_row records (seq, Secrets name secrets) = None
+delivery_row records (seq, Enabled name flag) = None
+delivery_row records (seq, Outcome delivery attempt status at) = None
 
 abbrev pub attempt_row : ℕ × Record → Option AttemptRow
-attempt_row (place, Outcome delivery attempt status at) = Some (record { seq = place; delivery = delivery; number = attempt; status = status; at = at })
-attempt_row (place, Put name target max secrets) = None
-attempt_row (place, Secrets name secrets) = None
-attempt_row (place, Enabled name flag) = None
-attempt_row (place, Accept name id body at) = None
+attempt_row (seq, Outcome delivery attempt status at) =
+    Some (record { seq = seq; delivery = delivery; number = attempt; status = status; at = at })
+attempt_row (seq, Put name target max secrets) = None
+attempt_row (seq, Secrets name secrets) = None
+attempt_row (seq, Enabled name flag) = None
+attempt_row (seq, Accept name id body at) = None
 
 -- the rows of a history
 abbrev pub rows_of : List Record → Rows
@@ -106,11 +108,20 @@ put_by_delivery rows d = option_map_or (λ row. row.endpoint) (find (λ row. row
 
 -- the secrets of this endpoint are replaced, in their place
 abbrev pub replace_secrets : ℕ → List (List ℕ) → List SecretRow → List SecretRow
-replace_secrets put secrets rows = filter (λ s. nat_lt s.endpoint put) rows ++ secret_rows put secrets ++ filter (λ s. nat_lt put s.endpoint) rows
+replace_secrets put secrets rows =
+    filter (λ s. nat_lt s.endpoint put) rows ++ secret_rows put secrets ++ filter (λ s. nat_lt put s.endpoint) rows
 
 abbrev pub change_of : Rows → Record → Rows
 change_of rows (Put name target max secrets) = record rows {
-  endpoints = rows.endpoints ++ record { put = rows.records; name = name; url = target; max = max; enabled = true; enabled_by = rows.records; secrets_by = rows.records } ∷ [];
+  endpoints = rows.endpoints ++ record {
+    put = rows.records;
+    name = name;
+    url = target;
+    max = max;
+    enabled = true;
+    enabled_by = rows.records;
+    secrets_by = rows.records;
+  } ∷ [];
   secrets = rows.secrets ++ secret_rows rows.records secrets;
 }
 change_of rows (Secrets name secrets) = record rows {
@@ -118,14 +129,28 @@ change_of rows (Secrets name secrets) = record rows {
   secrets = replace_secrets (put_by_name rows name) secrets rows.secrets;
 }
 change_of rows (Enabled name flag) = record rows {
-  endpoints = change_where (λ e. bytes_eq name e.name) (λ e. record e { enabled = flag; enabled_by = rows.records }) rows.endpoints;
+  endpoints = change_where (λ e. bytes_eq name e.name)
+      (λ e. record e { enabled = flag; enabled_by = rows.records }) rows.endpoints;
 }
 change_of rows (Accept name id body at) = record rows {
-  deliveries = rows.deliveries ++ record { seq = rows.records; endpoint = put_by_name rows name; id = id; at = at; body = body } ∷ [];
+  deliveries = rows.deliveries ++ record {
+    seq = rows.records;
+    endpoint = put_by_name rows name;
+    id = id;
+    at = at;
+    body = body;
+  } ∷ [];
 }
 change_of rows (Outcome delivery attempt status at) = record rows {
-  endpoints = change_where (λ e. is_gone_status status && (e.put == put_by_delivery rows delivery)) (λ e. record e { enabled = false; enabled_by = rows.records }) rows.endpoints;
-  attempts = rows.attempts ++ record { seq = rows.records; delivery = delivery; number = attempt; status = status; at = at } ∷ [];
+  endpoints = change_where (λ e. is_gone_status status && (e.put == put_by_delivery rows delivery))
+      (λ e. record e { enabled = false; enabled_by = rows.records }) rows.endpoints;
+  attempts = rows.attempts ++ record {
+    seq = rows.records;
+    delivery = delivery;
+    number = attempt;
+    status = status;
+    at = at;
+  } ∷ [];
 }
 
 abbrev pub put_record : Rows → Record → Rows

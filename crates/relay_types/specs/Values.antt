@@ -1,8 +1,9 @@
 -- The rules that the small values keep.
-use Rattle.std.specs.Prelude.{◌≡◌, ℕ, ◌+◌, ◌-◌, ◌*◌, ◌^◌, Bool, true, ◌&&◌, ◌||◌, ◌==◌, nat_le, nat_lt, List, [], ◌∷◌, length, take, drop, fold, Option, Some, None, slice_get, codes, nat_eq, not, refl}
+use Rattle.std.specs.Prelude.{◌≡◌, ℕ, ◌+◌, ◌-◌, ◌*◌, Bool, true, ◌&&◌, ◌||◌, ◌==◌, nat_le, nat_lt, List, [], ◌∷◌, length, take, drop, fold, Option, Some, None, slice_get, codes, nat_eq, not, refl}
 use Rattle.std.specs.List.{list_all, list_any, before_first, starts_with}
 use Rattle.std.specs.Str.{str_eq_ignore_ascii_case}
 use Rattle.std.proofs.Common.{sym}
+use Rattle.relay_types.specs.declared.limits.TheConstants.{MAX_NAME_LEN, MAX_ID_LEN, MIN_SECRET_BYTES, MAX_SECRET_BYTES, MAX_SECRETS, MAX_TARGET_BYTES, MAX_HOST_LEN, MAX_LIMIT, MAX_BODY_BYTES, MAX_MOMENT}
 
 abbrev pub is_between : ℕ → ℕ → ℕ → Bool
 is_between low high n = nat_le low n && nat_le n high
@@ -30,25 +31,25 @@ abbrev pub is_name_character : ℕ → Bool
 is_name_character c = is_lower c || (is_digit c || is_one_of (codes "-") c)
 
 abbrev pub is_name : List ℕ → Bool
-is_name text = is_text 1 32 is_name_character text
+is_name text = is_text 1 MAX_NAME_LEN is_name_character text
 
 -- 1 to 64 characters of `A-Z a-z 0-9 _ -`
 abbrev pub is_msg_id_character : ℕ → Bool
 is_msg_id_character c = is_letter c || (is_digit c || is_one_of (codes "_-") c)
 
 abbrev pub is_msg_id : List ℕ → Bool
-is_msg_id text = is_text 1 64 is_msg_id_character text
+is_msg_id text = is_text 1 MAX_ID_LEN is_msg_id_character text
 
 abbrev pub is_byte : ℕ → Bool
 is_byte n = nat_lt n 256
 
 -- 24 to 64 bytes
 abbrev pub is_secret : List ℕ → Bool
-is_secret bytes = is_text 24 64 is_byte bytes
+is_secret bytes = is_text MIN_SECRET_BYTES MAX_SECRET_BYTES is_byte bytes
 
 -- 1 to 4 of them
 abbrev pub are_secrets : List (List ℕ) → Bool
-are_secrets secrets = is_between 1 4 (length secrets) && list_all is_secret secrets
+are_secrets secrets = is_between 1 MAX_SECRETS (length secrets) && list_all is_secret secrets
 
 -- A target is `http://` in any letter case, a host, perhaps `:` and a port, and perhaps a path from its `/` on.
 abbrev pub has_scheme : List ℕ → Bool
@@ -75,14 +76,15 @@ abbrev pub is_host_character : ℕ → Bool
 is_host_character c = is_letter c || (is_digit c || is_one_of (codes "._-") c)
 
 abbrev pub is_host : List ℕ → Bool
-is_host text = is_text 1 253 is_host_character text
+is_host text = is_text 1 MAX_HOST_LEN is_host_character text
 
 abbrev pub number_of : List ℕ → ℕ
 number_of digits = fold (λ n c. 10 * n + (c - 48)) 0 digits
 
 -- a number from 1 to 65535 in decimal, without leading zeros
 abbrev pub is_port : List ℕ → Bool
-is_port digits = is_text 1 5 is_digit digits && (not (starts_with nat_eq digits (codes "0")) && nat_le (number_of digits) 65535)
+is_port digits =
+    is_text 1 5 is_digit digits && (not (starts_with nat_eq digits (codes "0")) && nat_le (number_of digits) 65535)
 
 -- nothing, or `:` and a port
 abbrev pub is_port_part : List ℕ → Bool
@@ -97,7 +99,7 @@ is_path_character c = is_letter c || (is_digit c || is_path_mark c)
 
 abbrev pub is_target : List ℕ → Bool
 is_target text =
-    nat_le (length text) 2048
+    nat_le (length text) MAX_TARGET_BYTES
     && (has_scheme text
     && (is_host (host_of text) && (is_port_part (port_part_of text) && list_all is_path_character (path_part_of text))))
 
@@ -118,14 +120,14 @@ abbrev pub path_of : List ℕ → List ℕ
 path_of text = path_of_part (path_part_of text)
 
 abbrev pub is_max_limit : ℕ → Bool
-is_max_limit n = is_between 1 1000 n
+is_max_limit n = is_between 1 MAX_LIMIT n
 
 -- at most 65,536 bytes
 abbrev pub is_body : List ℕ → Bool
-is_body bytes = nat_le (length bytes) 65536 && list_all is_byte bytes
+is_body bytes = nat_le (length bytes) MAX_BODY_BYTES && list_all is_byte bytes
 
 abbrev pub is_moment : ℕ → Bool
-is_moment seconds = nat_le seconds (2 ^ 40)
+is_moment seconds = nat_le seconds MAX_MOMENT
 
 -- The secrets of an endpoint stand in four places, the filled ones first.
 abbrev pub cons_some : Option (List ℕ) → List (List ℕ) → List (List ℕ)

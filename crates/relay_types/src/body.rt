@@ -4,6 +4,7 @@ ghost use Rattle.std.specs.Arc.{arc_value};
 ghost use Rattle.relay_types.specs.Values.{is_body};
 
 use crate::fault::ReadFault;
+use crate::limits::MAX_BODY_BYTES;
 use crate::shared::Shared;
 use std::alloc::AllocError;
 use std::marker::Model;
@@ -30,7 +31,7 @@ impl Body {
     /// Takes up to 65,536 bytes. It takes no memory, since the caller's reference is kept.
     pub fn of(bytes: Arc<Vec<u8>>) -> Result<Body, ReadFault>
         ensures valid { IsOk result ↔ IsTrue (is_body (arc_value bytes).items) }
-        ensures room { IsOk result ↔ (length (arc_value bytes).items ≤ 65536) }
+        ensures room { IsOk result ↔ (length (arc_value bytes).items ≤ MAX_BODY_BYTES) }
         ensures value { IfOk result (λ body. body ≡ (arc_value bytes).items) }
         ensures refusal { IfErr result (λ fault. fault ≡ ReadFault.TooLong) }
     {
@@ -54,7 +55,7 @@ impl Body {
     pub fn as_bytes(&self) -> &[u8]
         ensures bytes { result.now ≡ self.now }
         ensures valid { IsTrue (is_body self.now) }
-        ensures most { length self.now ≤ 65536 }
+        ensures most { length self.now ≤ MAX_BODY_BYTES }
     {
         self.bytes.as_slice()
     }
@@ -69,7 +70,7 @@ impl Body {
 
 fn is_body(bytes: &[u8]) -> bool
     ensures valid { result ≡ is_body bytes.now }
-    ensures room { result ≡ nat_le (length bytes.now) 65536 }
+    ensures room { result ≡ nat_le (length bytes.now) MAX_BODY_BYTES }
 {
-    bytes.len() <= 65_536
+    bytes.len() <= MAX_BODY_BYTES
 }

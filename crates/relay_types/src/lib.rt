@@ -5,6 +5,7 @@
 mod body;
 mod fault;
 mod laws;
+mod limits;
 mod names;
 mod numbers;
 mod record;
@@ -17,6 +18,10 @@ mod target;
 pub use crate::body::Body;
 pub use crate::fault::ReadFault;
 pub use crate::laws::rows_follow;
+pub use crate::limits::{
+    MAX_BODY_BYTES, MAX_ENDPOINTS, MAX_FAILURES, MAX_HOST_LEN, MAX_ID_LEN, MAX_LIMIT, MAX_MOMENT,
+    MAX_NAME_LEN, MAX_RECORDS, MAX_SECRET_BYTES, MAX_SECRETS, MAX_TARGET_BYTES, MIN_SECRET_BYTES,
+};
 pub use crate::names::{MsgId, Name};
 pub use crate::numbers::{MaxLimit, Moment};
 pub use crate::record::{Record, Step};

@@ -4,13 +4,14 @@ ghost use Rattle.std.specs.List.{list_all};
 ghost use Rattle.relay_types.specs.Values.{is_name, is_name_character, is_msg_id, is_msg_id_character};
 
 use crate::fault::ReadFault;
+use crate::limits::{MAX_ID_LEN, MAX_NAME_LEN};
 use crate::short::Short;
 use std::marker::Model;
 
 /// The name of an endpoint: 1 to 32 characters of `a-z 0-9 -`.
 #[derive(Clone, Copy, PartialEq, Eq)]
 pub struct Name {
-    text: Short<32>,
+    text: Short<MAX_NAME_LEN>,
 }
 
 impl Model for Name {
@@ -61,7 +62,7 @@ impl Name {
 fn is_name_text(text: &[u8]) -> bool
     ensures { result ≡ is_name text.now }
 {
-    1 <= text.len() && text.len() <= 32 && are_name_characters(text)
+    1 <= text.len() && text.len() <= MAX_NAME_LEN && are_name_characters(text)
 }
 
 fn are_name_characters(text: &[u8]) -> bool
@@ -79,7 +80,7 @@ fn is_name_character(c: u8) -> bool
 /// The id of an event: 1 to 64 characters of `A-Z a-z 0-9 _ -`.
 #[derive(Clone, Copy, PartialEq, Eq)]
 pub struct MsgId {
-    text: Short<64>,
+    text: Short<MAX_ID_LEN>,
 }
 
 impl Model for MsgId {
@@ -130,7 +131,7 @@ impl MsgId {
 fn is_msg_id_text(text: &[u8]) -> bool
     ensures { result ≡ is_msg_id text.now }
 {
-    1 <= text.len() && text.len() <= 64 && are_msg_id_characters(text)
+    1 <= text.len() && text.len() <= MAX_ID_LEN && are_msg_id_characters(text)
 }
 
 fn are_msg_id_characters(text: &[u8]) -> bool

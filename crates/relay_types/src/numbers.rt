@@ -1,8 +1,9 @@
 //! The numbers with limits of their own.
-ghost use Rattle.std.specs.Prelude.{◌≡◌, ◌≤◌, ◌^◌, ◌↔◌, IsTrue, IsOk, IfOk, IfErr};
+ghost use Rattle.std.specs.Prelude.{◌≡◌, ◌≤◌, ◌↔◌, IsTrue, IsOk, IfOk, IfErr};
 ghost use Rattle.relay_types.specs.Values.{is_max_limit, is_moment};
 
 use crate::fault::ReadFault;
+use crate::limits::{MAX_LIMIT, MAX_MOMENT};
 use std::marker::Model;
 
 /// The greatest concurrency limit of an endpoint, 1 to 1000.
@@ -31,7 +32,7 @@ impl MaxLimit {
         ensures value { IfOk result (λ max. max ≡ limit) }
         ensures refusal { IfErr result (λ fault. fault ≡ ReadFault.BadMax) }
     {
-        if 1 <= limit && limit <= 1000 {
+        if 1 <= limit && limit <= MAX_LIMIT.into() {
             Ok(MaxLimit {
                 limit: limit as u32,
             })
@@ -44,7 +45,7 @@ impl MaxLimit {
     pub fn get(self) -> u32
         ensures number { result ≡ self }
         ensures least { 1 ≤ self }
-        ensures most { self ≤ 1000 }
+        ensures most { self ≤ MAX_LIMIT }
     {
         self.limit
     }
@@ -76,7 +77,7 @@ impl Moment {
         ensures value { IfOk result (λ moment. moment ≡ seconds) }
         ensures refusal { IfErr result (λ fault. fault ≡ ReadFault.BadMoment) }
     {
-        if seconds <= 1 << 40 {
+        if seconds <= MAX_MOMENT {
             Ok(Moment { seconds })
         } else {
             Err(ReadFault::BadMoment)
@@ -86,7 +87,7 @@ impl Moment {
     /// The seconds since the Unix epoch.
     pub fn seconds(self) -> u64
         ensures number { result ≡ self }
-        ensures most { self ≤ 2 ^ 40 }
+        ensures most { self ≤ MAX_MOMENT }
     {
         self.seconds
     }

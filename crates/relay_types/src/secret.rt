@@ -3,9 +3,10 @@ ghost use Rattle.std.specs.Prelude.{◌≡◌, ◌↔◌, ◌≤◌, ℕ, List, 
 ghost use Rattle.std.specs.String.{string_bytes};
 ghost use Rattle.base64.specs.GeneralPurpose.{IsStrict, encode_of};
 ghost use Rattle.relay_types.specs.SecretText.{ReadsSecret, IsPaddedOrNot, secret_text};
-ghost use Rattle.relay_types.specs.Values.{is_secret, are_secrets};
+ghost use Rattle.relay_types.specs.Values.{is_secret, are_secrets, the_secrets, AreFilledInOrder};
 
 use crate::fault::ReadFault;
+use crate::limits::{MAX_SECRET_BYTES, MAX_SECRETS, MIN_SECRET_BYTES};
 use crate::short::Short;
 use base64::engine::general_purpose::{GeneralPurpose, STANDARD, STANDARD_NO_PAD};
 use std::alloc::{AllocError, Global};
@@ -14,7 +15,7 @@ use std::marker::Model;
 /// A secret: 24 to 64 bytes.
 #[derive(Clone, Copy, PartialEq, Eq)]
 pub struct Secret {
-    bytes: Short<64>,
+    bytes: Short<MAX_SECRET_BYTES>,
 }
 
 impl Model for Secret {
@@ -53,7 +54,7 @@ impl Secret {
         ensures refusal { IfErr result (λ fault. fault ≡ ReadFault.BadSecret) }
     {
         let encoded = text.strip_prefix(b"whsec_").unwrap_or(text);
-        padded_or_not(encoded).ok_or(ReadFault::BadSecret)
+        read_base64(encoded).ok_or(ReadFault::BadSecret)
     }
 
     /// The secret as it is written: `whsec_` and its padded base64.
@@ -80,40 +81,33 @@ impl Secret {
     {
         self == other
     }
-
-    // The secret itself, with what its type keeps.
-    fn checked(&self) -> Secret
-        ensures same { result ≡ self.now }
-        ensures valid { IsTrue (is_secret self.now) }
-    {
-        Secret { bytes: self.bytes }
-    }
 }
 
 fn is_secret(bytes: &[u8]) -> bool
     ensures { result ≡ is_secret bytes.now }
 {
-    (24..=64).contains(&bytes.len())
+    (MIN_SECRET_BYTES..=MAX_SECRET_BYTES).contains(&bytes.len())
 }
 
 // The secret whose base64 the text is, with its padding or with none.
-fn padded_or_not(text: &[u8]) -> Option<Secret>
+fn read_base64(text: &[u8]) -> Option<Secret>
     ensures value { IfSome result (λ secret. IsPaddedOrNot text.now secret) }
     ensures each { (secret : List ℕ) → IsPaddedOrNot text.now secret → result ≡ Some secret }
 {
-    match decoded(text, &STANDARD) {
+    match decode(text, &STANDARD) {
         Some(secret) => Some(secret),
-        None => decoded(text, &STANDARD_NO_PAD),
+        None => decode(text, &STANDARD_NO_PAD),
     }
 }
 
 // The secret whose encoding the text is.
-fn decoded(text: &[u8], engine: &GeneralPurpose) -> Option<Secret>
+fn decode(text: &[u8], engine: &GeneralPurpose) -> Option<Secret>
     requires { IsStrict engine.now }
     ensures value { IfSome result (λ secret. IsTrue (is_secret secret) × (text.now ≡ encode_of engine.now secret)) }
-    ensures each { (secret : List ℕ) → IsTrue (is_secret secret) → text.now ≡ encode_of engine.now secret → result ≡ Some secret }
+    ensures each { (secret : List ℕ) → IsTrue (is_secret secret) → text.now ≡ encode_of engine.now secret
+        → result ≡ Some secret }
 {
-    let mut bytes = [0; 64];
+    let mut bytes = [0; MAX_SECRET_BYTES];
     let Ok(len) = engine.decode_slice(text, &mut bytes) else {
         return None;
     };
@@ -166,31 +160,36 @@ impl Secrets {
         ensures refusal { IfErr result (λ fault. fault ≡ ReadFault.BadSecret) }
     {
         match secrets {
-            [first] => Ok(Secrets {
-                first: first.checked(),
-                second: None,
-                third: None,
-                fourth: None,
-            }),
-            [first, second] => Ok(Secrets {
-                first: first.checked(),
-                second: Some(second.checked()),
-                third: None,
-                fourth: None,
-            }),
-            [first, second, third] => Ok(Secrets {
-                first: first.checked(),
-                second: Some(second.checked()),
-                third: Some(third.checked()),
-                fourth: None,
-            }),
-            [first, second, third, fourth] => Ok(Secrets {
-                first: first.checked(),
-                second: Some(second.checked()),
-                third: Some(third.checked()),
-                fourth: Some(fourth.checked()),
-            }),
+            [first] => Ok(Secrets::new(*first, None, None, None)),
+            [first, second] => Ok(Secrets::new(*first, Some(*second), None, None)),
+            [first, second, third] => {
+                Ok(Secrets::new(*first, Some(*second), Some(*third), None))
+            }
+            [first, second, third, fourth] => Ok(Secrets::new(
+                *first,
+                Some(*second),
+                Some(*third),
+                Some(*fourth),
+            )),
             _ => Err(ReadFault::BadSecret),
+        }
+    }
+
+    fn new(
+        first: Secret,
+        second: Option<Secret>,
+        third: Option<Secret>,
+        fourth: Option<Secret>,
+    ) -> Secrets
+        requires { AreFilledInOrder second third fourth }
+        ensures value { result ≡ the_secrets first second third fourth }
+        ensures valid { IsTrue (are_secrets result) }
+    {
+        Secrets {
+            first,
+            second,
+            third,
+            fourth,
         }
     }
 
@@ -199,7 +198,7 @@ impl Secrets {
         ensures count { result ≡ length self.now }
         ensures valid { IsTrue (are_secrets self.now) }
         ensures least { 1 ≤ length self.now }
-        ensures most { length self.now ≤ 4 }
+        ensures most { length self.now ≤ MAX_SECRETS }
     {
         1 + self.second.is_some() as usize
             + self.third.is_some() as usize
@@ -218,6 +217,7 @@ impl Secrets {
             _ => None,
         }
     }
+
     /// Whether these are the same secrets in the same order.
     pub fn is(&self, other: &Secrets) -> bool
         ensures { IsTrue result ↔ (self.now ≡ other.now) }

@@ -6,6 +6,7 @@ ghost use Rattle.relay_types.specs.Values.{is_host, is_host_character, is_port, 
 ghost use Rattle.relay_types.specs.Values.{number_of, number_of_part, path_of_part, port_of, path_of};
 
 use crate::fault::ReadFault;
+use crate::limits::{MAX_HOST_LEN, MAX_TARGET_BYTES};
 use crate::shared::Shared;
 use std::alloc::{AllocError, Global};
 use std::marker::Model;
@@ -39,7 +40,7 @@ impl Target {
         if !is_target(text) {
             return Err(ReadFault::BadUrl);
         }
-        match copied(alloc, text) {
+        match share_copy(alloc, text) {
             Ok(text) => Ok(Target { text }),
             Err(_) => Err(ReadFault::OutOfMemory),
         }
@@ -57,7 +58,7 @@ impl Target {
     pub fn as_bytes(&self) -> &[u8]
         ensures text { result.now ≡ self.now }
         ensures valid { IsTrue (is_target self.now) }
-        ensures most { length self.now ≤ 2048 }
+        ensures most { length self.now ≤ MAX_TARGET_BYTES }
     {
         self.text.as_slice()
     }
@@ -98,7 +99,7 @@ impl Target {
     }
 }
 
-fn copied(alloc: Global, text: &[u8]) -> Result<Shared, AllocError>
+fn share_copy(alloc: Global, text: &[u8]) -> Result<Shared, AllocError>
     ensures { IfOk result (λ shared. shared ≡ text.now) }
 {
     let bytes = text.to_vec(alloc)?;
@@ -109,7 +110,7 @@ fn copied(alloc: Global, text: &[u8]) -> Result<Shared, AllocError>
 fn is_target(text: &[u8]) -> bool
     ensures { result ≡ is_target text.now }
 {
-    text.len() <= 2048
+    text.len() <= MAX_TARGET_BYTES
         && has_scheme(text)
         && is_host(host(text))
         && is_port_part(port_part(text))
@@ -183,7 +184,7 @@ fn port_part(text: &[u8]) -> &[u8]
 fn is_host(text: &[u8]) -> bool
     ensures { result ≡ is_host text.now }
 {
-    1 <= text.len() && text.len() <= 253 && are_host_characters(text)
+    1 <= text.len() && text.len() <= MAX_HOST_LEN && are_host_characters(text)
 }
 
 fn are_host_characters(text: &[u8]) -> bool

@@ -12,9 +12,9 @@ value text encoded (Some secret) part h = reads_secret text encoded secret part 
 pub returns-clause-value : goal.returns-clause-value
 returns-clause-value c =
     let part = base64_part c.strip_prefix.result c.args.text c.unwrap_or-encoded.result c.strip_prefix.ensures.cases c.unwrap_or-encoded.ensures in
-    subst (λ r. IfOk r (λ secret. ReadsSecret c.args.text.now secret)) (sym c.ok_or.ensures.value) (value c.args.text.now c.unwrap_or-encoded.result.now c.padded_or_not.result part c.padded_or_not.ensures.value)
+    subst (λ r. IfOk r (λ secret. ReadsSecret c.args.text.now secret)) (sym c.ok_or.ensures.value) (value c.args.text.now c.unwrap_or-encoded.result.now c.read_base64.result part c.read_base64.ensures.value)
 
 pub returns-clause-each : goal.returns-clause-each
 returns-clause-each c = λ secret h.
     let part = base64_part c.strip_prefix.result c.args.text c.unwrap_or-encoded.result c.strip_prefix.ensures.cases c.unwrap_or-encoded.ensures in
-    c.ok_or.ensures.value ∙ ap (λ o. ok_or o BadSecret) (c.padded_or_not.ensures.each secret (base64_reads c.args.text.now c.unwrap_or-encoded.result.now secret part h))
+    c.ok_or.ensures.value ∙ ap (λ o. ok_or o BadSecret) (c.read_base64.ensures.each secret (base64_reads c.args.text.now c.unwrap_or-encoded.result.now secret part h))

@@ -10,7 +10,7 @@ use Rattle.relay_types.specs.Values.{is_secret}
 use Rattle.relay_types.specs.declared.fault.ReadFault.{ReadFault}
 use Rattle.relay_types.proofs.Base64Laws.{decodes_encoding, encoding_decodes}
 use Rattle.relay_types.proofs.SecretLaws.{most_secret, secret_bytes}
-use Rattle.relay_types.proofs.secret.decoded.Goals as goal
+use Rattle.relay_types.proofs.secret.decode.Goals as goal
 
 -- the text of a secret decodes
 known : (e : GeneralPurpose) (text secret : List ℕ) → IsStrict e → IsTrue (is_secret secret) → text ≡ encode_of e secret
