@@ -4,38 +4,39 @@ use Rattle.std.specs.List.{enumerate_from}
 use Rattle.std.specs.Option.{option_map_or}
 use Rattle.relay_types.specs.declared.record.Record.{Record}
 use Rattle.relay_types.specs.declared.record.Record.TheVariants.{Put, Secrets, Enabled, Accept, Outcome}
+use Rattle.relay_types.specs.Values.{Text, Seq, Seconds}
 use Rattle.relay_types.specs.Lists.{last_of}
 use Rattle.relay_types.specs.Records.{numbered}
 use Rattle.relay_types.specs.Judging.{is_gone_status}
 use Rattle.relay_types.specs.Endpoints.{Endpoint, endpoints, endpoint_of, is_enabled, secrets_of, enabled_by, secrets_by}
 
 pub record EndpointRow : Type 0 where
-  pub put : ℕ
-  pub name : List ℕ
-  pub url : List ℕ
+  pub put : Seq
+  pub name : Text
+  pub url : Text
   pub max : ℕ
   pub enabled : Bool
-  pub enabled_by : ℕ
-  pub secrets_by : ℕ
+  pub enabled_by : Seq
+  pub secrets_by : Seq
 
 pub record SecretRow : Type 0 where
-  pub endpoint : ℕ
+  pub endpoint : Seq
   pub place : ℕ
-  pub secret : List ℕ
+  pub secret : Text
 
 pub record DeliveryRow : Type 0 where
-  pub seq : ℕ
-  pub endpoint : ℕ
-  pub id : List ℕ
-  pub at : ℕ
-  pub body : List ℕ
+  pub seq : Seq
+  pub endpoint : Seq
+  pub id : Text
+  pub at : Seconds
+  pub body : Text
 
 pub record AttemptRow : Type 0 where
-  pub seq : ℕ
-  pub delivery : ℕ
+  pub seq : Seq
+  pub delivery : Seq
   pub number : ℕ
   pub status : ℕ
-  pub at : ℕ
+  pub at : Seconds
 
 -- `records` stands in the one row of meta, beside the name of the application and the version
 pub record Rows : Type 0 where
@@ -46,7 +47,7 @@ pub record Rows : Type 0 where
   pub attempts : List AttemptRow
 
 -- the sequence number of the last record of which the test says something, the Put's if there is none
-abbrev pub last_seq : (Record → Bool) → List Record → ℕ → ℕ
+abbrev pub last_seq : (test : Record → Bool) (records : List Record) (put : Seq) → Seq
 last_seq test records put = unwrap_or (last_of (map (λ e. e.0) (filter (λ e. test e.1) (numbered records)))) put
 
 abbrev pub endpoint_row : List Record → Endpoint → EndpointRow
@@ -61,14 +62,14 @@ endpoint_row records e = record {
 }
 
 -- the secrets of the endpoint with this number, the newest at place 0
-abbrev pub secret_rows : ℕ → List (List ℕ) → List SecretRow
+abbrev pub secret_rows : (put : Seq) (secrets : List Text) → List SecretRow
 secret_rows put secrets = map (λ s. record { endpoint = put; place = s.0; secret = s.1 }) (enumerate_from 0 secrets)
 
 -- the number of the endpoint's Put
-abbrev pub put_of : List Record → List ℕ → ℕ
+abbrev pub put_of : (records : List Record) (name : Text) → Seq
 put_of records name = option_map_or (λ e. e.put) (endpoint_of records name) 0
 
-abbrev pub delivery_row : List Record → ℕ × Record → Option DeliveryRow
+abbrev pub delivery_row : (records : List Record) → Seq × Record → Option DeliveryRow
 delivery_row records (seq, Accept name id body at) =
     Some (record { seq = seq; endpoint = put_of records name; id = id; at = at; body = body })
 delivery_row records (seq, Put name target max secrets) = None
@@ -76,7 +77,7 @@ delivery_row records (seq, Secrets name secrets) = None
 delivery_row records (seq, Enabled name flag) = None
 delivery_row records (seq, Outcome delivery attempt status at) = None
 
-abbrev pub attempt_row : ℕ × Record → Option AttemptRow
+abbrev pub attempt_row : Seq × Record → Option AttemptRow
 attempt_row (seq, Outcome delivery attempt status at) =
     Some (record { seq = seq; delivery = delivery; number = attempt; status = status; at = at })
 attempt_row (seq, Put name target max secrets) = None
@@ -97,17 +98,17 @@ rows_of records = record {
 -- What a record changes, beside `records`, which grows by one.
 
 -- the rows of the endpoint with this number are changed so
-abbrev pub change_where : (EndpointRow → Bool) → (EndpointRow → EndpointRow) → List EndpointRow → List EndpointRow
+abbrev pub change_where : (test : EndpointRow → Bool) (edit : EndpointRow → EndpointRow) → List EndpointRow → List EndpointRow
 change_where test edit es = map (λ e. if test e then edit e else e) es
 
-abbrev pub put_by_name : Rows → List ℕ → ℕ
+abbrev pub put_by_name : (rows : Rows) (name : Text) → Seq
 put_by_name rows name = option_map_or (λ e. e.put) (find (λ e. bytes_eq e.name name) rows.endpoints) 0
 
-abbrev pub put_by_delivery : Rows → ℕ → ℕ
+abbrev pub put_by_delivery : (rows : Rows) (delivery : Seq) → Seq
 put_by_delivery rows d = option_map_or (λ row. row.endpoint) (find (λ row. row.seq == d) rows.deliveries) 0
 
 -- the secrets of this endpoint are replaced, in their place
-abbrev pub replace_secrets : ℕ → List (List ℕ) → List SecretRow → List SecretRow
+abbrev pub replace_secrets : (put : Seq) (secrets : List Text) → List SecretRow → List SecretRow
 replace_secrets put secrets rows =
     filter (λ s. nat_lt s.endpoint put) rows ++ secret_rows put secrets ++ filter (λ s. nat_lt put s.endpoint) rows
 

@@ -5,6 +5,20 @@ use Rattle.std.specs.Str.{str_eq_ignore_ascii_case}
 use Rattle.std.proofs.Common.{sym}
 use Rattle.relay_types.specs.declared.limits.TheConstants.{MAX_NAME_LEN, MAX_ID_LEN, MIN_SECRET_BYTES, MAX_SECRET_BYTES, MAX_SECRETS, MAX_TARGET_BYTES, MAX_HOST_LEN, MAX_LIMIT, MAX_BODY_BYTES, MAX_MOMENT}
 
+-- What values are seen as: a text, an id or a body as the list of its bytes, a record by its number, a moment in seconds since the Unix
+-- epoch, a span of time in microseconds.
+abbrev pub Text : Type 0
+Text = List ℕ
+
+abbrev pub Seq : Type 0
+Seq = ℕ
+
+abbrev pub Seconds : Type 0
+Seconds = ℕ
+
+abbrev pub Micros : Type 0
+Micros = ℕ
+
 abbrev pub is_between : ℕ → ℕ → ℕ → Bool
 is_between low high n = nat_le low n && nat_le n high
 
@@ -30,32 +44,32 @@ is_text low high test text = is_between low high (length text) && list_all test 
 abbrev pub is_name_character : ℕ → Bool
 is_name_character c = is_lower c || (is_digit c || is_one_of (codes "-") c)
 
-abbrev pub is_name : List ℕ → Bool
+abbrev pub is_name : Text → Bool
 is_name text = is_text 1 MAX_NAME_LEN is_name_character text
 
 -- 1 to 64 characters of `A-Z a-z 0-9 _ -`
 abbrev pub is_msg_id_character : ℕ → Bool
 is_msg_id_character c = is_letter c || (is_digit c || is_one_of (codes "_-") c)
 
-abbrev pub is_msg_id : List ℕ → Bool
+abbrev pub is_msg_id : Text → Bool
 is_msg_id text = is_text 1 MAX_ID_LEN is_msg_id_character text
 
 abbrev pub is_byte : ℕ → Bool
 is_byte n = nat_lt n 256
 
 -- 24 to 64 bytes
-abbrev pub is_secret : List ℕ → Bool
+abbrev pub is_secret : Text → Bool
 is_secret bytes = is_text MIN_SECRET_BYTES MAX_SECRET_BYTES is_byte bytes
 
 -- 1 to 4 of them
-abbrev pub are_secrets : List (List ℕ) → Bool
+abbrev pub are_secrets : List Text → Bool
 are_secrets secrets = is_between 1 MAX_SECRETS (length secrets) && list_all is_secret secrets
 
 -- A target is `http://` in any letter case, a host, perhaps `:` and a port, and perhaps a path from its `/` on.
-abbrev pub has_scheme : List ℕ → Bool
+abbrev pub has_scheme : Text → Bool
 has_scheme text = str_eq_ignore_ascii_case (take 7 text) (codes "http://")
 
-abbrev pub behind_scheme : List ℕ → List ℕ
+abbrev pub behind_scheme : Text → List ℕ
 behind_scheme text = drop 7 text
 
 -- up to the first `/` behind the scheme; from that `/` on
