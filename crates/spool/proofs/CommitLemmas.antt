@@ -14,9 +14,9 @@ use Rattle.spool_sql.specs.Stored.{IsTables}
 use Rattle.spool_sql.specs.Steps.{Spares, Stands}
 use Rattle.spool_sql.proofs.StepLemmas.{leaves_commit, leaves_along, stands_along}
 use Rattle.spool.specs.Vaults.{HoldsAt}
-use Rattle.spool.specs.Entering.{EntersWhole, Turns, CommitsAll, StaysAs, Rests, RestsInDoubt, EndsSo, IsUnwritten, Tells}
-use Rattle.spool.specs.declared.write.Written.{Written}
-use Rattle.spool.specs.declared.write.Written.TheVariants.{Made, Illegal, OutOfMemory, Doubtful}
+use Rattle.spool.specs.Entering.{EntersWhole, Commits, CommitsAll, StaysAs, Rests, RestsInDoubt, EndsAs, IsUnwritten, Tells}
+use Rattle.spool.specs.declared.transaction.WriteEnd.{WriteEnd}
+use Rattle.spool.specs.declared.transaction.WriteEnd.TheVariants.{Committed, Illegal, OutOfMemory, Doubtful}
 
 pub survives_all : {S : Type 0} (g : Ghosts S) (old : Held S) (mid new : State) (next : ℕ) (entries : List Record) (legal : Bool) → IsTrue legal → Spares (state g (record old { in_transaction = true })) mid
     → (HasCleanDisk mid → EntersWhole (state g (record old { in_transaction = true })) mid next entries legal)
@@ -53,8 +53,8 @@ rests_along old mid new rows stays same settled stands =
     let now = stands_along mid new rows (stays rows stands) same in
     (now, leaves_commit new rows now settled)
 
-ends_illegal : (old mid new : State) (next : ℕ) (entries : List Record) (legal : Bool) → Turns old mid next entries legal → legal ≡ false → StaysAs old mid → IsUnchanged mid new → IsSettled new
-    → EndsSo old new next entries Illegal
+ends_illegal : (old mid new : State) (next : ℕ) (entries : List Record) (legal : Bool) → Commits old mid next entries legal → legal ≡ false → StaysAs old mid → IsUnchanged mid new → IsSettled new
+    → EndsAs old new next entries Illegal
 ends_illegal old mid new next entries legal turns is stays same settled records at =
     (λ yes. absurd (let no = sym (turns.judges records at) ∙ is in let h = yes in cc), rests_along old mid new (rows_of records) stays same settled at.stands)
 
@@ -71,15 +71,15 @@ doubts_all a b c next entries s probed clean settled records at =
     leaves_along b c _ probed clean (leaves_all a b next entries records s early at settled)
 
 -- how the write ends, by what is told of the transaction
-pub ends_told : (old mid new : State) (next : ℕ) (entries : List Record) (tried : Result Bool Error) (told : Written) → IfOk tried (Turns old mid next entries)
+pub ends_told : (old mid new : State) (next : ℕ) (entries : List Record) (tried : Result Bool Error) (told : WriteEnd) → IfOk tried (Commits old mid next entries)
     → ((tried ≡ Ok true → ⊥) → IsTrue mid.is_open → StaysAs old mid) → Survives old mid (CommitsAll old next entries) → Survives mid new (λ _. ⊥) → HasCleanDisk new
-    → Tells mid new tried told → (told ≡ Made → StaysAs mid new) → (IsUnwritten told → IsUnchanged mid new) → IsSettled old → IsSettled new → EndsSo old new next entries told
-ends_told old mid new next entries tried Made turns undone first later clean told made same was_settled settled = λ records at.
-    let turned : Turns old mid next entries true = subst (λ t. IfOk t (Turns old mid next entries)) told turns in
+    → Tells mid new tried told → (told ≡ Committed → StaysAs mid new) → (IsUnwritten told → IsUnchanged mid new) → IsSettled old → IsSettled new → EndsAs old new next entries told
+ends_told old mid new next entries tried Committed turns undone first later clean told made same was_settled settled = λ records at.
+    let turned : Commits old mid next entries true = subst (λ t. IfOk t (Commits old mid next entries)) told turns in
     let now = made refl (rows_of (records ++ entries)) (turned.makes refl records at) in
     (sym (turned.judges records at), (now, leaves_commit new (rows_of (records ++ entries)) now settled))
 ends_told old mid new next entries tried Illegal turns undone first later clean told made same was_settled settled =
-    let turned : Turns old mid next entries false = subst (λ t. IfOk t (Turns old mid next entries)) told turns in
+    let turned : Commits old mid next entries false = subst (λ t. IfOk t (Commits old mid next entries)) told turns in
     let unchanged = same tt in
     ends_illegal old mid new next entries false turned refl (undone (λ yes. absurd (let a = sym told ∙ yes in cc)) unchanged.0.was_open) unchanged settled
 ends_told old mid new next entries tried OutOfMemory turns undone first later clean told made same was_settled settled = λ rows stands.

@@ -61,10 +61,10 @@ put_refused a b next name target max secrets inside same may = enters_refused a 
 pub put_made : (a b c : State) (next : ℕ) (name target : List ℕ) (max : ℕ) (secrets : List (List ℕ)) → IsTrue a.in_transaction → IsUnchanged a b
     → ((count : ℕ) (records : List Record) → HasRows a.now count records → true ≡ may_put records name)
     → IsTrue (is_within_limits (Put name target max secrets)) → next < 2 ^ 62
-    → Alters b c (with_put (record { put = next; name = name; url = target; max = max; enabled = true; enabled_by = next; secrets_by = next }) secrets)
+    → Alters b c (with_put next name target max secrets)
     → Enters a c next (Put name target max secrets ∷ []) true
 put_made a b c next name target max secrets inside same may within room made = enters_made a b c next (Put name target max secrets) _ inside same may within room made
-    (λ count records at has. ap (λ n. with_put (record { put = n; name = name; url = target; max = max; enabled = true; enabled_by = n; secrets_by = n }) secrets (with_records count (rows_of records))) at)
+    (λ count records at has. ap (λ n. with_put n name target max secrets (with_records count (rows_of records))) at)
 
 pub accept_refused : (a b : State) (next : ℕ) (name id body : List ℕ) (at : ℕ) → IsTrue a.in_transaction → IsUnchanged a b
     → ((count : ℕ) (records : List Record) → HasRows a.now count records → None ≡ accepting records name id) → Enters a b next (Accept name id body at ∷ []) false

@@ -4,4 +4,4 @@ pub mod LegalLemmas
 pub mod EntryLemmas
 pub mod CommitLemmas
 pub mod VaultLemmas
-pub mod OpenLemmas
+pub mod CreateLemmas

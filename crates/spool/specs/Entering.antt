@@ -1,21 +1,23 @@
 -- What a transaction makes of the rows of a legal history: the statements, the commit, and what a stop leaves of it.
-use Rattle.std.specs.Prelude.{◌≡◌, ◌⊎◌, ℕ, Bool, true, false, ◌&&◌, not, nat_lt, List, [], ◌∷◌, ◌++◌, length, is_some, IsTrue, Option, Some, None, Result, Ok, Err, if◌then◌else◌}
+use Rattle.std.specs.Prelude.{◌≡◌, ◌⊎◌, ℕ, Bool, true, false, ◌&&◌, not, nat_lt, List, ◌++◌, length, is_some, IsTrue, Option, Some, None, Result, Ok, Err, IfOk, if◌then◌else◌}
 use Rattle.sqlite.specs.declared.error.Error.{Error}
 use Rattle.sqlite.specs.State.{State, HasCleanDisk, Fails}
+use Rattle.sqlite.specs.Held.{Held}
 use Rattle.sqlite.specs.Effect.{Database}
+use Rattle.sqlite_trees.specs.declared.store.Store.{Ghosts}
 use Rattle.sqlite.specs.Tree.{Trees}
 use Rattle.relay_types.specs.declared.record.Record.{Record}
 use Rattle.relay_types.specs.Deliveries.{known_as}
 use Rattle.relay_types.specs.Endpoints.{endpoints, has_endpoint}
 use Rattle.relay_types.specs.Legal.{is_legal, IsLegal}
-use Rattle.relay_types.specs.Rows.{Rows, EndpointRow, put_of, rows_of, secret_rows}
-use Rattle.spool_sql.specs.Stored.{IsTables, AreTablesOf, with_records}
-use Rattle.spool_sql.specs.Steps.{GoesOn, Stands, MayLeave}
+use Rattle.relay_types.specs.Rows.{Rows, put_of, rows_of, secret_rows}
+use Rattle.spool_sql.specs.Stored.{IsTables, AreTablesOf, with_records, with_endpoint, new_endpoint}
+use Rattle.spool_sql.specs.Steps.{GoesOn, IfClean, Stands, MayLeave}
 use Rattle.spool_sql.specs.Causes.{cause}
 use Rattle.spool_sql.specs.declared.cause.Cause.TheVariants.{Memory}
 use Rattle.spool.specs.Vaults.{HoldsAt}
-use Rattle.spool.specs.declared.write.Written.{Written}
-use Rattle.spool.specs.declared.write.Written.TheVariants.{Made, Illegal, OutOfMemory, Doubtful}
+use Rattle.spool.specs.declared.transaction.WriteEnd.{WriteEnd}
+use Rattle.spool.specs.declared.transaction.WriteEnd.TheVariants.{Committed, Illegal, OutOfMemory, Doubtful}
 
 -- ---- what is asked before a record is written
 
@@ -37,8 +39,8 @@ abbrev pub with_secrets : ℕ → List (List ℕ) → Rows → Rows
 with_secrets put secrets rows = record rows { secrets = rows.secrets ++ secret_rows put secrets }
 
 -- the rows of a Put with this number
-abbrev pub with_put : EndpointRow → List (List ℕ) → Rows → Rows
-with_put e secrets rows = record rows { endpoints = rows.endpoints ++ e ∷ []; secrets = rows.secrets ++ secret_rows e.put secrets }
+abbrev pub with_put : ℕ → List ℕ → List ℕ → ℕ → List (List ℕ) → Rows → Rows
+with_put put name url max secrets rows = with_secrets put secrets (with_endpoint (new_endpoint put name url max) rows)
 
 -- ---- inside a transaction
 
@@ -46,6 +48,10 @@ with_put e secrets rows = record rows { endpoints = rows.endpoints ++ e ∷ []; 
 pub record HasRows (db : Database) (count : ℕ) (records : List Record) : Type 0 where
   pub legal : IsLegal records
   pub tables : IsTables db (with_records count (rows_of records))
+
+-- while the disk has returned what was written, an answer says so much of each legal history whose rows the tables have
+abbrev pub LooksAt : {S X : Type 0} → Ghosts S → Held S → Held S → Result X Error → (X → List Record → Type 0) → Type 0
+LooksAt g old new result P = IfClean g old new (λ a b. IfOk result (λ x. (count : ℕ) (records : List Record) → HasRows a.now count records → P x records))
 
 -- the records with these numbers are written, and their number isn't, exactly where the longer history is legal
 pub record Enters (old new : State) (next : ℕ) (entries : List Record) (legal : Bool) : Type 0 where
@@ -62,7 +68,7 @@ pub record EntersWhole (old new : State) (next : ℕ) (entries : List Record) (l
 -- ---- between transactions
 
 -- the records with these numbers are committed exactly where the longer history is legal
-pub record Turns (old new : State) (next : ℕ) (entries : List Record) (legal : Bool) : Type 0 where
+pub record Commits (old new : State) (next : ℕ) (entries : List Record) (legal : Bool) : Type 0 where
   pub judges : (records : List Record) → HoldsAt old next records → legal ≡ is_legal (records ++ entries)
   pub makes : IsTrue legal → (records : List Record) → HoldsAt old next records → Stands new (rows_of (records ++ entries))
 
@@ -83,17 +89,17 @@ abbrev pub RestsInDoubt : State → List Record → List Record → Type 0
 RestsInDoubt s records entries = MayLeave s (λ r. (r ≡ rows_of records) ⊎ (IsLegal (records ++ entries) × (r ≡ rows_of (records ++ entries))))
 
 -- how the write of records ends
-abbrev pub EndsSo : State → State → ℕ → List Record → Written → Type 0
-EndsSo old new next entries Made = (records : List Record) → HoldsAt old next records → IsLegal (records ++ entries) × Rests new (rows_of (records ++ entries))
-EndsSo old new next entries Illegal = (records : List Record) → HoldsAt old next records → (¬ IsLegal (records ++ entries)) × Rests new (rows_of records)
-EndsSo old new next entries OutOfMemory = (rows : Rows) → Stands old rows → Rests new rows
-EndsSo old new next entries (Doubtful cause) = (records : List Record) → HoldsAt old next records → RestsInDoubt new records entries
+abbrev pub EndsAs : State → State → ℕ → List Record → WriteEnd → Type 0
+EndsAs old new next entries Committed = (records : List Record) → HoldsAt old next records → IsLegal (records ++ entries) × Rests new (rows_of (records ++ entries))
+EndsAs old new next entries Illegal = (records : List Record) → HoldsAt old next records → (¬ IsLegal (records ++ entries)) × Rests new (rows_of records)
+EndsAs old new next entries OutOfMemory = (rows : Rows) → Stands old rows → Rests new rows
+EndsAs old new next entries (Doubtful cause) = (records : List Record) → HoldsAt old next records → RestsInDoubt new records entries
 
 -- ---- which error was met where
 
 -- nothing was written, and the store was seen to be usable
-abbrev pub IsUnwritten : Written → Type 0
-IsUnwritten Made = ⊥
+abbrev pub IsUnwritten : WriteEnd → Type 0
+IsUnwritten Committed = ⊥
 IsUnwritten Illegal = Unit {0}
 IsUnwritten OutOfMemory = Unit {0}
 IsUnwritten (Doubtful error) = ⊥
@@ -105,8 +111,8 @@ AsksForLook (Err error) = cause error ≡ Memory
 
 -- What is told of a transaction with this answer. A doubt has the transaction's own error, or that of the look at the store behind it,
 -- where the store failed.
-abbrev pub Tells : State → State → Result Bool Error → Written → Type 0
-Tells old new tried Made = tried ≡ Ok true
+abbrev pub Tells : State → State → Result Bool Error → WriteEnd → Type 0
+Tells old new tried Committed = tried ≡ Ok true
 Tells old new tried Illegal = tried ≡ Ok false
 Tells old new tried OutOfMemory = (error : Error) × (tried ≡ Err error) × (cause error ≡ Memory)
 Tells old new tried (Doubtful error) = ((tried ≡ Err error) × (¬ (cause error ≡ Memory))) ⊎ (AsksForLook tried × (HasCleanDisk new → Fails old new ⊥ error))

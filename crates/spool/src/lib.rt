@@ -1,14 +1,15 @@
 //! The spool: one SQLite store that holds the rows of the history, and whose only writer is a commit of a whole batch.
 #![tactic(auto)]
 
+mod accept;
 mod batch;
+mod create;
 mod doubt;
 mod ends;
-mod entry;
-mod legal;
-mod open;
+mod put;
+mod records;
+mod transaction;
 mod vault;
-mod write;
 
 pub use crate::batch::{Batch, Receipt};
 pub use crate::doubt::Doubt;

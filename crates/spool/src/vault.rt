@@ -3,14 +3,15 @@ ghost use Rattle.std.specs.Prelude.{◌≡◌, ◌⊎◌, ◌↔◌, ◌+◌, fa
 ghost use Rattle.sqlite.specs.State.{HasCleanDisk};
 ghost use Rattle.sqlite.specs.Held.{state};
 ghost use Rattle.relay_types.specs.Records.{records_of};
+ghost use Rattle.spool_sql.specs.Steps.{IfClean};
 ghost use Rattle.spool.specs.Opening.{has_ours, IsRefusedFor, LeavesAt};
 ghost use Rattle.spool.specs.Commits.{IsOpened, IsNext, HandsBack, IsDoubt, IsRefused, AnswersSo, AnswersOver, IsIllegal};
 
 use crate::batch::{Batch, Receipt};
+use crate::create::create_store;
 use crate::doubt::Doubt;
 use crate::ends::{CommitEnd, OpenFault, Unchanged};
-use crate::open::found;
-use crate::write::{Written, write};
+use crate::transaction::{WriteEnd, write_steps};
 use sqlite::{Alter, Connection};
 use std::marker::Model;
 
@@ -43,16 +44,17 @@ impl<S: Alter> Vault<S> {
     /// transaction.
     pub fn create(conn: Connection<S>, mark: u64) -> Result<Vault<S>, (Connection<S>, OpenFault)>
         requires { conn.in_transaction ≡ false }
-        ensures opened { IfOk result (λ v. HasCleanDisk (state S.Store v.conn) → IsOpened S.Store conn mark v) }
+        ensures opened { IfOk result (λ v. IfClean S.Store conn v.conn (λ _ _. IsOpened S.Store conn mark v)) }
         ensures free { IfOk result (λ _. has_ours (state S.Store conn).now.schema ≡ false) }
         ensures cause { IfErr result (λ e. IsRefusedFor (state S.Store conn).now.schema e.1) }
         ensures untouched { IfErr result (λ e. e.1 ≡ OpenFault.NotOurs → e.0 ≡ conn) }
-        ensures refused { IfErr result (λ e. HasCleanDisk (state S.Store e.0) → LeavesAt (state S.Store conn) (state S.Store e.0) e.1) }
-        ensures clean { MatchResult result (λ v. HasCleanDisk (state S.Store v.conn) → HasCleanDisk (state S.Store conn)) (λ e. HasCleanDisk (state S.Store e.0) → HasCleanDisk (state S.Store conn)) }
+        ensures refused { IfErr result (λ e. IfClean S.Store conn e.0 (λ a b. LeavesAt a b e.1)) }
+        ensures clean { MatchResult result (λ v. IfClean S.Store conn v.conn (λ a _. HasCleanDisk a))
+            (λ e. IfClean S.Store conn e.0 (λ a _. HasCleanDisk a)) }
         ensures mode { IfErr result (λ e. e.0.in_transaction ≡ false) }
     {
         let mut conn = conn;
-        match found(&mut conn) {
+        match create_store(&mut conn) {
             Ok(()) => Ok(Vault {
                 conn,
                 mark,
@@ -67,17 +69,22 @@ impl<S: Alter> Vault<S> {
     /// memory and a doubtful end may come before `Illegal`.
     pub fn commit(&mut self, batch: Batch) -> Result<Receipt, CommitEnd>
         ensures closed { (result ≡ Err (CommitEnd.Unchanged batch Unchanged.Closed)) ↔ IsTrue self.old.closed }
-        ensures out_of_turn { (result ≡ Err (CommitEnd.Unchanged batch Unchanged.OutOfTurn)) ↔ ((self.old.closed ≡ false) × (¬ IsNext self.old batch)) }
+        ensures out_of_turn { (result ≡ Err (CommitEnd.Unchanged batch Unchanged.OutOfTurn))
+            ↔ ((self.old.closed ≡ false) × (¬ IsNext self.old batch)) }
         ensures receipt { IfOk result (λ receipt. receipt ≡ batch) }
         ensures handed_back { IfErr result (HandsBack batch) }
         ensures untouched { IfErr result (λ end. IsRefused end → self.new ≡ self.old) }
         ensures mark { self.new.mark ≡ self.old.mark }
-        ensures next { self.new.next ≡ cond (is_ok result) (self.old.next + length (records_of batch.steps)) self.old.next }
+        ensures next { self.new.next
+            ≡ cond (is_ok result) (self.old.next + length (records_of batch.steps)) self.old.next }
         ensures doubt { IsTrue self.new.closed ↔ (IsTrue self.old.closed ⊎ IsDoubt result) }
-        ensures rows { HasCleanDisk (state S.Store self.new.conn) → AnswersSo S.Store self.old self.new batch result }
-        ensures history { HasCleanDisk (state S.Store self.new.conn) → AnswersOver S.Store self.old self.new batch result }
-        ensures illegal { HasCleanDisk (state S.Store self.new.conn) → result ≡ Err (CommitEnd.Unchanged batch Unchanged.Illegal) → IsIllegal S.Store self.old batch }
-        ensures clean { HasCleanDisk (state S.Store self.new.conn) → HasCleanDisk (state S.Store self.old.conn) }
+        ensures rows { IfClean S.Store self.old.conn self.new.conn
+            (λ _ _. AnswersSo S.Store self.old self.new batch result) }
+        ensures history { IfClean S.Store self.old.conn self.new.conn
+            (λ _ _. AnswersOver S.Store self.old self.new batch result) }
+        ensures illegal { IfClean S.Store self.old.conn self.new.conn (λ _ _.
+            result ≡ Err (CommitEnd.Unchanged batch Unchanged.Illegal) → IsIllegal S.Store self.old batch) }
+        ensures clean { IfClean S.Store self.old.conn self.new.conn (λ a _. HasCleanDisk a) }
     {
         if self.closed {
             return Err(CommitEnd::Unchanged(batch, Unchanged::Closed));
@@ -85,14 +92,14 @@ impl<S: Alter> Vault<S> {
         if batch.mark() != self.mark || batch.from() != self.next {
             return Err(CommitEnd::Unchanged(batch, Unchanged::OutOfTurn));
         }
-        match write(&mut self.conn, self.next, batch.steps()) {
-            Written::Made => {
+        match write_steps(&mut self.conn, self.next, batch.steps()) {
+            WriteEnd::Committed => {
                 self.next = batch.upto();
                 Ok(batch.into_receipt())
             }
-            Written::Illegal => Err(CommitEnd::Unchanged(batch, Unchanged::Illegal)),
-            Written::OutOfMemory => Err(CommitEnd::Unchanged(batch, Unchanged::OutOfMemory)),
-            Written::Doubtful(cause) => {
+            WriteEnd::Illegal => Err(CommitEnd::Unchanged(batch, Unchanged::Illegal)),
+            WriteEnd::OutOfMemory => Err(CommitEnd::Unchanged(batch, Unchanged::OutOfMemory)),
+            WriteEnd::Doubtful(cause) => {
                 self.closed = true;
                 Err(CommitEnd::Doubtful(Doubt::over(batch), cause))
             }

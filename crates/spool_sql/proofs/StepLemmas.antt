@@ -1,20 +1,17 @@
 -- One statement after another.
-use Rattle.std.proofs.Common.{◌≡◌, ◌⊎◌, inl, inr, ℕ, List, Ok, Err, Result, IfOk, OnOk, IsTrue, true, false, refl, sym, subst, ◌∙◌, arith}
+use Rattle.std.proofs.Common.{◌≡◌, ◌⊎◌, inl, inr, ℕ, List, Ok, Err, Result, IfOk, OnOk, IsTrue, refl, sym, subst, ◌∙◌, arith}
 use Rattle.sqlite.specs.declared.error.Error.{Error}
 use Rattle.sqlite.specs.Tree.{Trees}
 use Rattle.sqlite.specs.Order.{Row}
-use Rattle.sqlite.specs.State.{State, HasCleanDisk, IsLive, Shows, IsUnchanged, IsRolledBack, KeepsCommit, Survives, ExecutesInside}
+use Rattle.sqlite.specs.State.{State, HasCleanDisk, IsLive, IsUnchanged, IsRolledBack, KeepsCommit, Survives, ExecutesInside}
 use Rattle.sqlite.proofs.StateLemmas.{survives_then}
 use Rattle.sqlite_catalog.proofs.ReadLemmas.{lists_once}
 use Rattle.relay_types.specs.Rows.{Rows}
-use Rattle.spool_sql.specs.Stored.{IsTables, AreTablesOf, the_same, first_rows}
-use Rattle.sqlite.specs.Store.{Ghosts}
-use Rattle.sqlite.specs.Held.{Held, state}
+use Rattle.spool_sql.specs.Stored.{IsTables, AreTablesOf, first_rows}
 use Rattle.sqlite.specs.Effect.{Database, IsDatabase}
 use Rattle.sqlite.specs.Schema.{Schema}
-use Rattle.sqlite.proofs.Callers.{survives_begin}
-use Rattle.spool_sql.specs.Steps.{GoesOn, Alters, Spares, CommitsAs, Stands, MayLeave, Reopens, Turns, Grows, Founds, FoundsAs, IsBegun}
-use Rattle.spool_sql.specs.Tables.{no_schema, relay_schema}
+use Rattle.spool_sql.specs.Steps.{GoesOn, Alters, Spares, Stands, MayLeave, Reopens, Grows, Founds}
+use Rattle.spool_sql.specs.Tables.{relay_schema}
 
 pub keeps_if : (a b : State) → IsUnchanged a b ⊎ IsRolledBack a b → KeepsCommit a b
 keeps_if a b (inl same) = record { was_open = λ _. same.0.was_open; committed = λ _. same.0.committed_is }
@@ -51,15 +48,6 @@ pub alters_last : (a b c : State) (f g : Rows → Rows) (r : Result (Unit {0}) E
 alters_last a b c f g (Ok done) p q = alters_then a b c f g p q
 alters_last a b c f g (Err e) p q = tt
 
--- what a transaction leaves that a commit ends
-pub survives_commit : {S : Type 0} (g : Ghosts S) (old : Held S) (mid new : State) (change : Rows → Rows) → Spares (state g (record old { in_transaction = true })) mid
-    → (HasCleanDisk mid → Alters (state g (record old { in_transaction = true })) mid change)
-    → Survives mid new (λ db. db ≡ mid.now.trees) → Survives (state g old) new (CommitsAs (state g old) change)
-survives_commit g old mid new change s made ended =
-    survives_then (state g old) mid new _ _ (CommitsAs (state g old) change) (λ _ db none. absurd none)
-    (λ clean db is rows at. rw is ((made (omega (arith, clean, ended.clean))).makes rows at.now).tables)
-    (survives_begin g old mid _ s.survives) ended
-
 -- a list of objects lists one schema
 pub opened_tables : (d : Database) (rows : Rows) → IsDatabase d → AreTablesOf d.trees rows → IsTables d rows
 opened_tables d rows sound t = record { schema_is = lists_once _ d.schema relay_schema sound.lists t.sound.lists; tables = t }
@@ -85,14 +73,6 @@ leaves_commit s rows at settled db may = (rows, refl, rw (settled db at.is_open 
 pub leaves_along : (a b : State) (P : Rows → Type 0) → Survives a b (λ _. ⊥) → HasCleanDisk b → MayLeave a P → MayLeave b P
 leaves_along a b P s clean before db may = elim (s.crash clean db may) [ inl was ↦ before db was | inr none ↦ absurd none ]
 
--- the old rows or the new ones
-pub leaves_either : (a b : State) (change : Rows → Rows) (rows : Rows) → Survives a b (CommitsAs a change) → HasCleanDisk b → Stands a rows
-    → ((db : Trees) → IsTrue a.is_open → a.may_leave db → db ≡ a.committed.trees) → MayLeave b (λ r. (r ≡ rows) ⊎ (r ≡ change rows))
-leaves_either a b change rows s clean at settled db may = elim (s.crash clean db may) [
-  | inl was ↦ (rows, inl refl, rw (settled db at.is_open was) at.committed.tables)
-  | inr new ↦ (change rows, inr refl, new rows at)
-]
-
 pub ok_then : {X E : Type 0} (r : Result X E) (P Q : X → Type 0) → IfOk r P → ((x : X) → P x → Q x) → IfOk r Q
 ok_then (Ok x) P Q h f = f x h
 ok_then (Err e) P Q h f = tt
@@ -100,18 +80,6 @@ ok_then (Err e) P Q h f = tt
 pub ok_always : {X E : Type 0} (r : Result X E) {P : Type 0} → P → OnOk r P
 ok_always (Ok x) p = p
 ok_always (Err e) p = tt
-
--- what a commit makes of a connection
-pub turns_commit : {S : Type 0} (g : Ghosts S) (old : Held S) (mid new : State) (change : Rows → Rows) → Alters (state g (record old { in_transaction = true })) mid change
-    → Shows mid new mid.now mid.now false → Turns (state g old) new change
-turns_commit g old mid new change made ended rows at =
-    let tables = made.makes rows at.now in
-    record {
-      is_open = ended.is_open;
-      autocommit = ended.mode;
-      now = subst (λ d. IsTables d (change rows)) (sym ended.now_is) tables;
-      committed = subst (λ d. IsTables d (change rows)) (sym ended.committed_is) tables;
-    }
 
 pub on_ok : {X E : Type 0} (r : Result X E) (P Q : Type 0) → OnOk r P → (P → Q) → OnOk r Q
 on_ok (Ok x) P Q h f = f h
@@ -125,38 +93,3 @@ founds_then s t a b c p q = record { on = goes_on_then a b c p.on q.on; founds =
 
 pub founds_same : (s : Schema) (a b c : State) → Founds s a b → IsUnchanged b c → Founds s a c
 founds_same s a b c p same = record { on = goes_on_same a b c p.on same; founds = λ begun. subst (λ d. IsTables d first_rows) (sym same.0.now_is) (p.founds begun) }
-
--- a call that changes nothing
-pub alters_same : (a b : State) → IsTrue a.in_transaction → IsUnchanged a b → Alters a b the_same
-alters_same a b inside same = record {
-  on = record { was_open = same.0.was_open; is_open = same.0.is_open; now_is = refl; committed_is = same.0.committed_is; mode = same.0.mode ∙ inside };
-  makes = λ rows t. subst (λ d. IsTables d rows) (sym same.0.now_is) t;
-}
-
-pub alters_then_same : (a b c : State) (f : Rows → Rows) → Alters a b f → IsUnchanged b c → Alters a c f
-alters_then_same a b c f p same = alters_then a b c f the_same p (alters_same b c p.on.mode same)
-
--- a change that is the same on every row
-pub alters_as : (a b : State) (f g : Rows → Rows) → ((rows : Rows) → f rows ≡ g rows) → Alters a b f → Alters a b g
-alters_as a b f g same p = record { on = p.on; makes = λ rows t. subst (IsTables b.now) (same rows) (p.makes rows t) }
-
--- what a transaction leaves that made the tables and that a commit ends
-pub survives_founding : {S : Type 0} (g : Ghosts S) (old : Held S) (mid new : State) → Spares (state g (record old { in_transaction = true })) mid
-    → (HasCleanDisk mid → Founds no_schema (state g (record old { in_transaction = true })) mid)
-    → Survives mid new (λ db. db ≡ mid.now.trees) → Survives (state g old) new (FoundsAs (state g old))
-survives_founding g old mid new s made ended =
-    survives_then (state g old) mid new _ _ (FoundsAs (state g old)) (λ _ db none. absurd none)
-    (λ clean db is begun. rw is ((made (omega (arith, clean, ended.clean))).founds begun).tables)
-    (survives_begin g old mid _ s.survives) ended
-
--- what a commit makes of a connection where the tables were made
-pub stands_founded : {S : Type 0} (g : Ghosts S) (old : Held S) (mid new : State) → Founds no_schema (state g (record old { in_transaction = true })) mid
-    → Shows mid new mid.now mid.now false → IsBegun no_schema (state g old).now → Stands new first_rows
-stands_founded g old mid new made ended begun =
-    let tables = made.founds begun in
-    record {
-      is_open = ended.is_open;
-      autocommit = ended.mode;
-      now = subst (λ d. IsTables d first_rows) (sym ended.now_is) tables;
-      committed = subst (λ d. IsTables d first_rows) (sym ended.committed_is) tables;
-    }

@@ -1,6 +1,7 @@
 -- What a statement of the relay leaves of a connection.
-use Rattle.std.specs.Prelude.{◌≡◌, ◌⊎◌, true, false, IsTrue, [], Result, IfOk, IfErr, OnOk}
+use Rattle.std.specs.Prelude.{◌≡◌, true, false, IsTrue, [], Result, IfOk, IfErr, OnOk}
 use Rattle.std.specs.List.{AllByRecursion}
+use Rattle.std.specs.Borrow.{MutBor}
 use Rattle.sqlite.specs.Tree.{Trees}
 use Rattle.sqlite.specs.Effect.{Database}
 use Rattle.sqlite.specs.Schema.{Schema}
@@ -11,7 +12,6 @@ use Rattle.sqlite.specs.Held.{Held, state}
 use Rattle.sqlite_trees.specs.declared.store.Store.{Ghosts}
 use Rattle.sqlite_catalog.specs.Change.{created}
 use Rattle.relay_types.specs.Rows.{Rows}
-use Rattle.spool_sql.specs.Tables.{no_schema}
 use Rattle.spool_sql.specs.Stored.{IsTables, AreTablesOf, first_rows}
 
 -- ---- inside a transaction
@@ -51,28 +51,6 @@ MayLeave s P = (db : Trees) → s.may_leave db → (rows : Rows) × P rows × Ar
 abbrev pub Reopens : State → Type 0
 Reopens s = (rows : Rows) → Opens s → AreTablesOf s.committed.trees rows → Stands s rows
 
--- where the tables had rows, they have these now
-abbrev pub Turns : State → State → (Rows → Rows) → Type 0
-Turns old new change = (rows : Rows) → Stands old rows → Stands new (change rows)
-
--- what a commit of the change writes to the disk
-abbrev pub CommitsAs : State → (Rows → Rows) → Trees → Type 0
-CommitsAs old change db = (rows : Rows) → Stands old rows → AreTablesOf db (change rows)
-
--- ---- how a commit of a change ends
-
--- the change is made, and a stop leaves it
-abbrev pub EndsWith : State → State → (Rows → Rows) → Type 0
-EndsWith old new change = (rows : Rows) → Stands old rows → Stands new (change rows) × MayLeave new (λ r. r ≡ change rows)
-
--- nothing is changed, and a stop leaves the old rows
-abbrev pub EndsWithout : State → State → Type 0
-EndsWithout old new = (rows : Rows) → Stands old rows → Stands new rows × MayLeave new (λ r. r ≡ rows)
-
--- a stop leaves the old rows or the new ones
-abbrev pub EndsInDoubt : State → State → (Rows → Rows) → Type 0
-EndsInDoubt old new change = (rows : Rows) → Stands old rows → MayLeave new (λ r. (r ≡ rows) ⊎ (r ≡ change rows))
-
 -- ---- the tables as they are made
 
 -- the database has the tables of the schema, and they are empty
@@ -94,16 +72,37 @@ pub record Founds (schema : Schema) (old new : State) : Type 0 where
   pub on : GoesOn old new
   pub founds : IsBegun schema old.now → IsTables new.now first_rows
 
--- what a commit of the tables as they are made writes to the disk
-abbrev pub FoundsAs : State → Trees → Type 0
-FoundsAs old db = IsBegun no_schema old.now → AreTablesOf db first_rows
+-- ---- the clauses that the functions share
 
--- ---- the clauses that the statements share
+-- a transaction is still one of the same connection
+abbrev pub IsOfSame : {X : Type 0} → MutBor X → MutBor X → Type 0
+IsOfSame old new = new.ghost_name ≡ old.ghost_name
+
+module _ {S : Type 0} (g : Ghosts S) (old new : Held S) where
+  -- while the disk has returned what was written, so much is known of the two states
+  abbrev pub IfClean : (State → State → Type 0) → Type 0
+  IfClean P = HasCleanDisk (state g new) → P (state g old) (state g new)
+
+  -- and inside a transaction so much
+  abbrev pub IfInside : (State → State → Type 0) → Type 0
+  IfInside P = HasCleanDisk (state g new) → IsTrue (state g old).in_transaction → P (state g old) (state g new)
+
+  -- whatever came of it, the last commit stands
+  abbrev pub SparesCommit : Type 0
+  SparesCommit = Spares (state g old) (state g new)
+
+  -- a crash leaves what it left before, or what is committed
+  abbrev pub SurvivesAs : (State → Trees → Type 0) → Type 0
+  SurvivesAs commits = Survives (state g old) (state g new) (commits (state g old))
 
 module _ {S X : Type 0} (g : Ghosts S) (old new : Held S) (result : Result X Error) where
   -- inside a transaction, and while the disk has returned what was written, an Ok says so much of the two states
   abbrev pub Achieves : (State → State → Type 0) → Type 0
-  Achieves P = HasCleanDisk (state g new) → IsTrue (state g old).in_transaction → OnOk result (P (state g old) (state g new))
+  Achieves P = IfInside g old new (λ a b. OnOk result (P a b))
+
+  -- inside a transaction an answer says so much of the two states
+  abbrev pub Answers : (State → State → X → Type 0) → Type 0
+  Answers P = IfInside g old new (λ a b. IfOk result (P a b))
 
   -- an Ok says that the rows were changed so
   abbrev pub Changes : (Rows → Rows) → Type 0
@@ -111,7 +110,7 @@ module _ {S X : Type 0} (g : Ghosts S) (old new : Held S) (result : Result X Err
 
   -- an Ok changed nothing
   abbrev pub LeavesAll : Type 0
-  LeavesAll = HasCleanDisk (state g new) → OnOk result (IsUnchanged (state g old) (state g new))
+  LeavesAll = IfClean g old new (λ a b. OnOk result (IsUnchanged a b))
 
   -- an answer says so much of the rows
   abbrev pub LooksUp : (X → Rows → Type 0) → Type 0
@@ -119,4 +118,4 @@ module _ {S X : Type 0} (g : Ghosts S) (old new : Held S) (result : Result X Err
 
   -- an error is a failure of the store, under its name
   abbrev pub FailsAsStore : Type 0
-  FailsAsStore = HasCleanDisk (state g new) → IfErr result (Fails (state g old) (state g new) ⊥)
+  FailsAsStore = IfClean g old new (λ a b. IfErr result (Fails a b ⊥))

@@ -75,9 +75,6 @@ with_delivery d rows = record rows { deliveries = rows.deliveries ++ d ∷ [] }
 abbrev pub with_attempt : AttemptRow → Rows → Rows
 with_attempt a rows = record rows { attempts = rows.attempts ++ a ∷ [] }
 
-abbrev pub the_same : Rows → Rows
-the_same rows = rows
-
 -- the rows of the history with no record
 abbrev pub first_rows : Rows
 first_rows = record { records = 0; endpoints = []; secrets = []; deliveries = []; attempts = [] }

@@ -1,9 +1,8 @@
 //! The five tables, as they are made.
 ghost use Rattle.std.specs.Prelude.{◌≡◌};
-ghost use Rattle.sqlite.specs.Held.{state};
 ghost use Rattle.spool_sql.specs.Tables.{relay_schema, no_schema, schema_1, schema_2, schema_3, schema_4};
 ghost use Rattle.spool_sql.specs.Tables.{meta, endpoints, secrets, deliveries, attempts};
-ghost use Rattle.spool_sql.specs.Steps.{Achieves, Adds, Grows, Founds, Spares};
+ghost use Rattle.spool_sql.specs.Steps.{Achieves, Adds, Grows, Founds, IsOfSame, SparesCommit};
 
 use crate::opened::prepare_probe;
 use sqlite::{Alter, Error, Transaction};
@@ -13,9 +12,9 @@ use sqlite::{Alter, Error, Transaction};
 ///
 /// A table that is there already is refused as `NameTaken`.
 pub fn create_tables<S: Alter>(tx: &mut Transaction<'_, S>) -> Result<(), Error>
-    ensures same_reference { tx.new.conn.ghost_name ≡ tx.old.conn.ghost_name }
+    ensures same_reference { IsOfSame tx.old.conn tx.new.conn }
     ensures done { Achieves S.Store tx.old.conn.now tx.new.conn.now result (Founds no_schema) }
-    ensures spares { Spares (state S.Store tx.old.conn.now) (state S.Store tx.new.conn.now) }
+    ensures spares { SparesCommit S.Store tx.old.conn.now tx.new.conn.now }
 {
     create_schema(tx)?;
     insert_first_meta(tx)?;
@@ -23,9 +22,9 @@ pub fn create_tables<S: Alter>(tx: &mut Transaction<'_, S>) -> Result<(), Error>
 }
 
 fn create_schema<S: Alter>(tx: &mut Transaction<'_, S>) -> Result<(), Error>
-    ensures same_reference { tx.new.conn.ghost_name ≡ tx.old.conn.ghost_name }
+    ensures same_reference { IsOfSame tx.old.conn tx.new.conn }
     ensures done { Achieves S.Store tx.old.conn.now tx.new.conn.now result (Grows no_schema relay_schema) }
-    ensures spares { Spares (state S.Store tx.old.conn.now) (state S.Store tx.new.conn.now) }
+    ensures spares { SparesCommit S.Store tx.old.conn.now tx.new.conn.now }
 {
     create_meta(tx)?;
     create_endpoints(tx)?;
@@ -35,9 +34,9 @@ fn create_schema<S: Alter>(tx: &mut Transaction<'_, S>) -> Result<(), Error>
 }
 
 fn create_meta<S: Alter>(tx: &mut Transaction<'_, S>) -> Result<(), Error>
-    ensures same_reference { tx.new.conn.ghost_name ≡ tx.old.conn.ghost_name }
+    ensures same_reference { IsOfSame tx.old.conn tx.new.conn }
     ensures done { Achieves S.Store tx.old.conn.now tx.new.conn.now result (Adds no_schema meta) }
-    ensures spares { Spares (state S.Store tx.old.conn.now) (state S.Store tx.new.conn.now) }
+    ensures spares { SparesCommit S.Store tx.old.conn.now tx.new.conn.now }
 {
     tx.execute(
         "CREATE TABLE meta(k INTEGER PRIMARY KEY CHECK(k = 1), app TEXT NOT NULL, \
@@ -48,9 +47,9 @@ fn create_meta<S: Alter>(tx: &mut Transaction<'_, S>) -> Result<(), Error>
 }
 
 fn create_endpoints<S: Alter>(tx: &mut Transaction<'_, S>) -> Result<(), Error>
-    ensures same_reference { tx.new.conn.ghost_name ≡ tx.old.conn.ghost_name }
+    ensures same_reference { IsOfSame tx.old.conn tx.new.conn }
     ensures done { Achieves S.Store tx.old.conn.now tx.new.conn.now result (Adds schema_1 endpoints) }
-    ensures spares { Spares (state S.Store tx.old.conn.now) (state S.Store tx.new.conn.now) }
+    ensures spares { SparesCommit S.Store tx.old.conn.now tx.new.conn.now }
 {
     tx.execute(
         "CREATE TABLE endpoints(put INTEGER PRIMARY KEY, name TEXT NOT NULL UNIQUE, \
@@ -62,9 +61,9 @@ fn create_endpoints<S: Alter>(tx: &mut Transaction<'_, S>) -> Result<(), Error>
 }
 
 fn create_secrets<S: Alter>(tx: &mut Transaction<'_, S>) -> Result<(), Error>
-    ensures same_reference { tx.new.conn.ghost_name ≡ tx.old.conn.ghost_name }
+    ensures same_reference { IsOfSame tx.old.conn tx.new.conn }
     ensures done { Achieves S.Store tx.old.conn.now tx.new.conn.now result (Adds schema_2 secrets) }
-    ensures spares { Spares (state S.Store tx.old.conn.now) (state S.Store tx.new.conn.now) }
+    ensures spares { SparesCommit S.Store tx.old.conn.now tx.new.conn.now }
 {
     tx.execute(
         "CREATE TABLE secrets(endpoint INTEGER NOT NULL REFERENCES endpoints(put), \
@@ -76,9 +75,9 @@ fn create_secrets<S: Alter>(tx: &mut Transaction<'_, S>) -> Result<(), Error>
 }
 
 fn create_deliveries<S: Alter>(tx: &mut Transaction<'_, S>) -> Result<(), Error>
-    ensures same_reference { tx.new.conn.ghost_name ≡ tx.old.conn.ghost_name }
+    ensures same_reference { IsOfSame tx.old.conn tx.new.conn }
     ensures done { Achieves S.Store tx.old.conn.now tx.new.conn.now result (Adds schema_3 deliveries) }
-    ensures spares { Spares (state S.Store tx.old.conn.now) (state S.Store tx.new.conn.now) }
+    ensures spares { SparesCommit S.Store tx.old.conn.now tx.new.conn.now }
 {
     tx.execute(
         "CREATE TABLE deliveries(seq INTEGER PRIMARY KEY, \
@@ -90,9 +89,9 @@ fn create_deliveries<S: Alter>(tx: &mut Transaction<'_, S>) -> Result<(), Error>
 }
 
 fn create_attempts<S: Alter>(tx: &mut Transaction<'_, S>) -> Result<(), Error>
-    ensures same_reference { tx.new.conn.ghost_name ≡ tx.old.conn.ghost_name }
+    ensures same_reference { IsOfSame tx.old.conn tx.new.conn }
     ensures done { Achieves S.Store tx.old.conn.now tx.new.conn.now result (Adds schema_4 attempts) }
-    ensures spares { Spares (state S.Store tx.old.conn.now) (state S.Store tx.new.conn.now) }
+    ensures spares { SparesCommit S.Store tx.old.conn.now tx.new.conn.now }
 {
     tx.execute(
         "CREATE TABLE attempts(seq INTEGER PRIMARY KEY, \
@@ -105,9 +104,9 @@ fn create_attempts<S: Alter>(tx: &mut Transaction<'_, S>) -> Result<(), Error>
 }
 
 fn insert_first_meta<S: Alter>(tx: &mut Transaction<'_, S>) -> Result<(), Error>
-    ensures same_reference { tx.new.conn.ghost_name ≡ tx.old.conn.ghost_name }
+    ensures same_reference { IsOfSame tx.old.conn tx.new.conn }
     ensures done { Achieves S.Store tx.old.conn.now tx.new.conn.now result (Founds relay_schema) }
-    ensures spares { Spares (state S.Store tx.old.conn.now) (state S.Store tx.new.conn.now) }
+    ensures spares { SparesCommit S.Store tx.old.conn.now tx.new.conn.now }
 {
     tx.execute("INSERT INTO meta VALUES(1, 'webhook-relay', 1, 0)", &[])?;
     Ok(())

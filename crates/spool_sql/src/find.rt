@@ -1,65 +1,73 @@
 //! What is looked up in the tables.
-ghost use Rattle.std.specs.Prelude.{◌≡◌, ◌<◌, ◌^◌, length, option_map, slice_get, IfOk};
-ghost use Rattle.sqlite.specs.Held.{state};
+ghost use Rattle.std.specs.Prelude.{◌≡◌, length, option_map, slice_get, IsTrue, IfOk};
+ghost use Rattle.relay_types.specs.Values.{is_name};
 ghost use Rattle.spool_sql.specs.Stored.{IsPutOf, has_id, number_of};
-ghost use Rattle.spool_sql.specs.Steps.{LeavesAll, LooksUp, Spares};
+ghost use Rattle.spool_sql.specs.Steps.{LeavesAll, LooksUp, IsOfSame, SparesCommit};
 
-use crate::value::int;
+use crate::seq::Seq;
+use relay_types::{MsgId, Name};
 use sqlite::{Alter, Error, Row, Transaction};
 use sqlite_value::value::ValueRef;
 
-/// The number of the record that made the endpoint of this name, if the table has one. The name is ASCII.
-pub fn select_put<S: Alter>(tx: &mut Transaction<'_, S>, name: &[u8]) -> Result<Option<u64>, Error>
-    ensures same_reference { tx.new.conn.ghost_name ≡ tx.old.conn.ghost_name }
+// No number of a record is so large.
+const MOST_NUMBER: u64 = 1 << 62;
+
+/// The number of the record that made the endpoint of this name, if the table has one.
+pub fn select_put<S: Alter>(tx: &mut Transaction<'_, S>, name: &Name) -> Result<Option<Seq>, Error>
+    ensures same_reference { IsOfSame tx.old.conn tx.new.conn }
     ensures unchanged { LeavesAll S.Store tx.old.conn.now tx.new.conn.now result }
     ensures found { LooksUp S.Store tx.old.conn.now tx.new.conn.now result (λ found rows. IsPutOf name.now rows found) }
-    ensures spares { Spares (state S.Store tx.old.conn.now) (state S.Store tx.new.conn.now) }
+    ensures named { IsTrue (is_name name.now) }
+    ensures spares { SparesCommit S.Store tx.old.conn.now tx.new.conn.now }
 {
     let rows = tx.query_all(
         "SELECT put FROM endpoints WHERE name = ?1",
-        &[ValueRef::Text(name)],
+        &[ValueRef::Text(name.as_bytes())],
     )?;
-    first_number(&rows)
+    first_seq(&rows)
 }
 
-/// The number that the first row shows.
-fn first_number(rows: &[Row]) -> Result<Option<u64>, Error>
+// The number that the first row shows.
+fn first_seq(rows: &[Row]) -> Result<Option<Seq>, Error>
     ensures { IfOk result (λ found. found ≡ option_map number_of (slice_get rows.now 0)) }
 {
-    match rows.first() {
-        Some(row) => Ok(Some(row.get(0)?)),
-        None => Ok(None),
+    let Some(row) = rows.first() else {
+        return Ok(None);
+    };
+    let number: u64 = row.get(0)?;
+    if number >= MOST_NUMBER {
+        return Err(Error::IntegralValueOutOfRange(0));
     }
+    Ok(Some(Seq::of(number)))
 }
 
 /// How many endpoints there are.
 pub fn count_endpoints<S: Alter>(tx: &mut Transaction<'_, S>) -> Result<usize, Error>
-    ensures same_reference { tx.new.conn.ghost_name ≡ tx.old.conn.ghost_name }
+    ensures same_reference { IsOfSame tx.old.conn tx.new.conn }
     ensures unchanged { LeavesAll S.Store tx.old.conn.now tx.new.conn.now result }
     ensures counted { LooksUp S.Store tx.old.conn.now tx.new.conn.now result
         (λ count rows. count ≡ length rows.endpoints) }
-    ensures spares { Spares (state S.Store tx.old.conn.now) (state S.Store tx.new.conn.now) }
+    ensures spares { SparesCommit S.Store tx.old.conn.now tx.new.conn.now }
 {
     let rows = tx.query_all("SELECT put FROM endpoints", &[])?;
     Ok(rows.len())
 }
 
-/// Whether the endpoint that the record with number `endpoint` made has an event of this id. The id is ASCII.
+/// Whether the endpoint that the record with number `endpoint` made has an event of this id.
 pub fn has_delivery<S: Alter>(
     tx: &mut Transaction<'_, S>,
-    endpoint: u64,
-    id: &[u8],
+    endpoint: Seq,
+    id: &MsgId,
 ) -> Result<bool, Error>
-    requires endpoint { endpoint < 2 ^ 63 }
-    ensures same_reference { tx.new.conn.ghost_name ≡ tx.old.conn.ghost_name }
+    ensures same_reference { IsOfSame tx.old.conn tx.new.conn }
     ensures unchanged { LeavesAll S.Store tx.old.conn.now tx.new.conn.now result }
     ensures found { LooksUp S.Store tx.old.conn.now tx.new.conn.now result
         (λ found rows. found ≡ has_id rows endpoint id.now) }
-    ensures spares { Spares (state S.Store tx.old.conn.now) (state S.Store tx.new.conn.now) }
+    ensures spares { SparesCommit S.Store tx.old.conn.now tx.new.conn.now }
 {
     let rows = tx.query_all(
         "SELECT seq FROM deliveries WHERE endpoint = ?1 AND id = ?2",
-        &[int(endpoint), ValueRef::Text(id)],
+        &[endpoint.value(), ValueRef::Text(id.as_bytes())],
     )?;
     Ok(!rows.is_empty())
 }

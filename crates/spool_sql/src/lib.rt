@@ -6,6 +6,7 @@ mod cause;
 mod create;
 mod find;
 mod opened;
+mod seq;
 mod value;
 mod write;
 
@@ -13,6 +14,7 @@ pub use crate::cause::{Cause, cause_of};
 pub use crate::create::create_tables;
 pub use crate::find::{count_endpoints, has_delivery, select_put};
 pub use crate::opened::{is_empty, prepare_probe, probe};
+pub use crate::seq::Seq;
 pub use crate::write::{
     insert_attempt, insert_delivery, insert_endpoint, insert_secret, update_records,
 };

@@ -1,8 +1,7 @@
 //! What a connection tells of its store.
 ghost use Rattle.std.specs.Prelude.{◌≡◌, ◌↔◌, false, IsTrue};
-ghost use Rattle.sqlite.specs.State.{Survives};
 ghost use Rattle.sqlite.specs.Held.{state};
-ghost use Rattle.spool_sql.specs.Steps.{FailsAsStore, LeavesAll, Reopens, Spares};
+ghost use Rattle.spool_sql.specs.Steps.{FailsAsStore, LeavesAll, Reopens, IsOfSame, SparesCommit, SurvivesAs};
 ghost use Rattle.spool_sql.specs.Tables.{no_schema};
 
 use sqlite::{Alter, Connection, Error, Transaction};
@@ -26,7 +25,7 @@ pub fn probe<S: Alter>(conn: &mut Connection<S>) -> Result<(), Error>
     ensures same { LeavesAll S.Store conn.old conn.new result }
     ensures failed { FailsAsStore S.Store conn.old conn.new result }
     ensures mode { conn.new.in_transaction ≡ false }
-    ensures survives { Survives (state S.Store conn.old) (state S.Store conn.new) (λ _. ⊥) }
+    ensures survives { SurvivesAs S.Store conn.old conn.new (λ _ _. ⊥) }
 {
     // It has no rows, and an open store refuses it for that before it does anything.
     let Err(error) = conn.query_all("ROLLBACK", &[]) else {
@@ -40,9 +39,9 @@ pub fn probe<S: Alter>(conn: &mut Connection<S>) -> Result<(), Error>
 
 /// Has the connection compile the statement of `probe`, which it keeps until the schema changes.
 pub fn prepare_probe<S: Alter>(tx: &mut Transaction<'_, S>) -> Result<(), Error>
-    ensures same_reference { tx.new.conn.ghost_name ≡ tx.old.conn.ghost_name }
+    ensures same_reference { IsOfSame tx.old.conn tx.new.conn }
     ensures same { LeavesAll S.Store tx.old.conn.now tx.new.conn.now result }
-    ensures spares { Spares (state S.Store tx.old.conn.now) (state S.Store tx.new.conn.now) }
+    ensures spares { SparesCommit S.Store tx.old.conn.now tx.new.conn.now }
 {
     tx.prepare("ROLLBACK")?;
     Ok(())

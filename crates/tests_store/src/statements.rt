@@ -1,32 +1,47 @@
+use relay_types::{Body, MaxLimit, Moment, MsgId, Name, Secret, Target};
 use spool_sql::{
-    Cause, cause_of, count_endpoints, create_tables, has_delivery, insert_attempt, insert_delivery,
-    insert_endpoint, insert_secret, is_empty, probe, select_put, update_records,
+    Cause, Seq, cause_of, count_endpoints, create_tables, has_delivery, insert_attempt,
+    insert_delivery, insert_endpoint, insert_secret, is_empty, probe, select_put, update_records,
 };
 use sqlite::{Connection, Error, ErrorCode, MemStore, Transaction};
-use std::alloc::Global;
+use std::alloc::{AllocError, Global};
+use std::sync::Arc;
 use std::test::Fail;
 
 /// A store with one endpoint, two secrets of it, one event and one attempt at it.
-fn filled(alloc: Global) -> Result<Connection<MemStore>, Error> {
+fn filled(alloc: Global) -> Result<Connection<MemStore>, Fail> {
     let mut conn = Connection::open_in_memory(alloc)?;
     let mut tx = conn.transaction();
     create_tables(&mut tx)?;
-    add_endpoint(&mut tx)?;
-    add_event(&mut tx)?;
+    add_endpoint(&mut tx, 3, &Target::read(alloc, b"http://h/")?)?;
+    add_secret(&mut tx, 0, b"0123456789abcdef01234567")?;
+    add_secret(&mut tx, 1, b"89abcdef0123456789abcdef")?;
+    add_event(&mut tx, &hello(alloc)?)?;
     tx.commit()?;
     Ok(conn)
 }
 
-fn add_endpoint(tx: &mut Transaction<'_, MemStore>) -> Result<(), Error> {
-    insert_endpoint(tx, 3, b"alpha", b"http://h/", 10)?;
-    insert_secret(tx, 3, 0, b"new")?;
-    insert_secret(tx, 3, 1, b"old")
+fn hello(alloc: Global) -> Result<Body, Fail> {
+    let bytes = Vec::from_slice(alloc, b"hello")?;
+    let shared = Arc::new(alloc, bytes).map_err(AllocError::from)?;
+    Ok(Body::of(shared)?)
 }
 
-fn add_event(tx: &mut Transaction<'_, MemStore>) -> Result<(), Error> {
-    insert_delivery(tx, 4, 3, b"msg_1", 1000, b"hello")?;
-    insert_attempt(tx, 5, 4, 1, 503, 1002)?;
-    update_records(tx, 6)
+fn add_endpoint(tx: &mut Transaction<'_, MemStore>, put: u32, target: &Target) -> Result<(), Fail> {
+    let name = Name::read(b"alpha")?;
+    let max = MaxLimit::of(10)?;
+    Ok(insert_endpoint(tx, Seq::of(u64::from(put)), &name, target, max)?)
+}
+
+fn add_secret(tx: &mut Transaction<'_, MemStore>, place: u32, bytes: &[u8]) -> Result<(), Fail> {
+    Ok(insert_secret(tx, Seq::of(3), u64::from(place), &Secret::of(bytes)?)?)
+}
+
+fn add_event(tx: &mut Transaction<'_, MemStore>, body: &Body) -> Result<(), Fail> {
+    let id = MsgId::read(b"msg_1")?;
+    insert_delivery(tx, Seq::of(4), Seq::of(3), &id, Moment::of(1000)?, body)?;
+    insert_attempt(tx, Seq::of(5), Seq::of(4), 1, 503, Moment::of(1002)?)?;
+    Ok(update_records(tx, 6)?)
 }
 
 fn number(conn: &mut Connection<MemStore>, sql: &str) -> Result<i64, Fail> {
@@ -53,11 +68,11 @@ fn rows_are_written(rt: HostRuntime) -> Result<(), Fail> {
         ),
         ("SELECT count(*) FROM secrets", 2),
         (
-            "SELECT count(*) FROM secrets WHERE endpoint = 3 AND place = 0 AND secret = x'6e6577'",
+            "SELECT count(*) FROM secrets WHERE endpoint = 3 AND place = 0 AND secret = CAST('0123456789abcdef01234567' AS BLOB)",
             1,
         ),
         (
-            "SELECT count(*) FROM secrets WHERE endpoint = 3 AND place = 1 AND secret = x'6f6c64'",
+            "SELECT count(*) FROM secrets WHERE endpoint = 3 AND place = 1 AND secret = CAST('89abcdef0123456789abcdef' AS BLOB)",
             1,
         ),
         ("SELECT count(*) FROM deliveries", 1),
@@ -84,8 +99,8 @@ fn endpoints_are_found(rt: HostRuntime) -> Result<(), Fail> {
         return Err(Fail::from("a transaction is open"));
     }
     let mut tx = conn.transaction();
-    for (name, put) in [("alpha", Some(3)), ("alph", None)] {
-        assert_eq!(rt; select_put(&mut tx, name.as_bytes())?, put);
+    for (name, put) in [("alpha", Some(Seq::of(3))), ("alph", None)] {
+        assert_eq!(rt; select_put(&mut tx, &Name::read(name.as_bytes())?)?, put);
     }
     assert_eq!(rt; count_endpoints(&mut tx)?, 1);
     Ok(())
@@ -98,9 +113,15 @@ fn events_are_found(rt: HostRuntime) -> Result<(), Fail> {
         return Err(Fail::from("a transaction is open"));
     }
     let mut tx = conn.transaction();
-    let asked = [(3, "msg_1", true), (3, "msg_2", false), (4, "msg_1", false)];
+    let (three, four) = (Seq::of(3), Seq::of(4));
+    let asked = [
+        (three, "msg_1", true),
+        (three, "msg_2", false),
+        (four, "msg_1", false),
+    ];
     for (endpoint, id, is_there) in asked {
-        assert_eq!(rt; has_delivery(&mut tx, endpoint, id.as_bytes())?, is_there);
+        let id = MsgId::read(id.as_bytes())?;
+        assert_eq!(rt; has_delivery(&mut tx, endpoint, &id)?, is_there);
     }
     Ok(())
 }
@@ -117,8 +138,13 @@ fn endpoints_that_repeat_are_refused(rt: HostRuntime) -> Result<(), Fail> {
     }
     let mut tx = conn.transaction();
     assert!(rt; is_refused(create_tables(&mut tx)));
-    assert!(rt; is_refused(insert_endpoint(&mut tx, 6, b"alpha", b"http://h/", 10)));
-    assert!(rt; is_refused(insert_secret(&mut tx, 3, 1, b"other")));
+    let target = Target::read(rt.alloc(), b"http://h/")?;
+    let name = Name::read(b"alpha")?;
+    assert!(rt;
+        is_refused(insert_endpoint(&mut tx, Seq::of(6), &name, &target, MaxLimit::of(10)?))
+    );
+    let secret = Secret::of(b"fedcba98fedcba98fedcba98")?;
+    assert!(rt; is_refused(insert_secret(&mut tx, Seq::of(3), 1, &secret)));
     Ok(())
 }
 
@@ -129,12 +155,12 @@ fn events_that_repeat_are_refused(rt: HostRuntime) -> Result<(), Fail> {
         return Err(Fail::from("a transaction is open"));
     }
     let mut tx = conn.transaction();
-    for (endpoint, id) in [(3, "msg_1"), (7, "msg_2")] {
-        assert!(rt;
-            is_refused(insert_delivery(&mut tx, 6, endpoint, id.as_bytes(), 1000, b"hello"))
-        );
+    let (body, at, six) = (hello(rt.alloc())?, Moment::of(1000)?, Seq::of(6));
+    for (endpoint, id) in [(Seq::of(3), "msg_1"), (Seq::of(7), "msg_2")] {
+        let id = MsgId::read(id.as_bytes())?;
+        assert!(rt; is_refused(insert_delivery(&mut tx, six, endpoint, &id, at, &body)));
     }
-    assert!(rt; is_refused(insert_attempt(&mut tx, 6, 4, 1, 200, 1003)));
+    assert!(rt; is_refused(insert_attempt(&mut tx, six, Seq::of(4), 1, 200, at)));
     Ok(())
 }
 

@@ -11,7 +11,7 @@ returns-clause-unchanged g c clean =
 
 pub returns-clause-found : goal.returns-clause-found
 returns-clause-found g c clean rows t =
-    let shown = rw c.int.ensures at (c.in_ok-rows.ensures.ok clean) in
+    let shown = rw (c.value.ensures.value, c.as_bytes.ensures.text) at (c.in_ok-rows.ensures.ok clean) in
     let many : vec_len c.in_ok-rows.rows ≡ length c.in_ok-rows.rows.items = omega (arith, c.in_ok-rows.rows.ok.0) in
     ap not c.is_empty.ensures ∙ ap (λ n. not (n == 0)) many ∙ tells_delivery relay_schema 1 (state g.S.Store c.args.tx.now.conn.now) (state g.S.Store c.query_all.new.self.conn.now) c.in_ok-rows.rows.items rows t delivery_select_asks c.args.endpoint c.args.id.now shown
 

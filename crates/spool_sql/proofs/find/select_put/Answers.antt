@@ -7,12 +7,12 @@ use Rattle.spool_sql.proofs.find.select_put.Goals as goal
 
 pub returns-clause-unchanged : goal.returns-clause-unchanged
 returns-clause-unchanged g c clean =
-    ok_always c.first_number.result (unchanged_by named_select named_select_bare _ (state g.S.Store c.args.tx.now.conn.now) (state g.S.Store c.query_all.new.self.conn.now) _ (c.in_ok-rows.ensures.ok clean))
+    ok_always c.first_seq.result (unchanged_by named_select named_select_bare _ (state g.S.Store c.args.tx.now.conn.now) (state g.S.Store c.query_all.new.self.conn.now) _ (c.in_ok-rows.ensures.ok clean))
 
 pub returns-clause-found : goal.returns-clause-found
 returns-clause-found g c clean =
-    ok_then c.first_number.result _ _ c.first_number.ensures (λ put is rows t.
-    tells_put relay_schema 1 (state g.S.Store c.args.tx.now.conn.now) (state g.S.Store c.query_all.new.self.conn.now) c.in_ok-rows.rows.items rows t named_select_asks c.args.name.now (c.in_ok-rows.ensures.ok clean) put (rw c.deref.ensures.value at is))
+    ok_then c.first_seq.result _ _ c.first_seq.ensures (λ put is rows t.
+    tells_put relay_schema 1 (state g.S.Store c.args.tx.now.conn.now) (state g.S.Store c.query_all.new.self.conn.now) c.in_ok-rows.rows.items rows t named_select_asks c.args.name.now (rw c.as_bytes.ensures.text at (c.in_ok-rows.ensures.ok clean)) put (rw c.deref.ensures.value at is))
 
 pub returns-clause-spares : goal.returns-clause-spares
 returns-clause-spares g c =

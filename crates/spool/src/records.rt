@@ -1,0 +1,61 @@
+//! The records of steps, one after another inside a transaction, and then how many there are.
+ghost use Rattle.std.specs.Prelude.{◌<◌, ◌≤◌, ◌+◌, ◌^◌, [], ◌∷◌, length, IsTrue};
+ghost use Rattle.relay_types.specs.Records.{records_of};
+ghost use Rattle.spool_sql.specs.Steps.{Answers, IsOfSame, SparesCommit};
+ghost use Rattle.spool.specs.Runs.{is_put_or_accept, ArePutsAndAccepts};
+ghost use Rattle.spool.specs.Entering.{Enters, EntersWhole};
+
+use crate::accept::write_accept;
+use crate::put::write_put;
+use relay_types::{Record, Step};
+use spool_sql::{Seq, update_records};
+use sqlite::{Alter, Error, Transaction};
+
+// Writes the record with this number, if it may follow the rows.
+fn write_record<S: Alter>(
+    tx: &mut Transaction<'_, S>,
+    seq: Seq,
+    entry: &Record,
+) -> Result<bool, Error>
+    requires taken { IsTrue (is_put_or_accept entry.now) }
+    ensures same_reference { IsOfSame tx.old.conn tx.new.conn }
+    ensures done { Answers S.Store tx.old.conn.now tx.new.conn.now result
+        (λ a b. Enters a b seq (entry.now ∷ [])) }
+    ensures spares { SparesCommit S.Store tx.old.conn.now tx.new.conn.now }
+{
+    match entry {
+        Record::Put {
+            name,
+            target,
+            max,
+            secrets,
+        } => write_put(tx, seq, name, target, *max, secrets),
+        Record::Accept { name, id, body, at } => write_accept(tx, seq, name, id, body, *at),
+        Record::Secrets { .. } | Record::Enabled { .. } | Record::Outcome { .. } => Ok(false),
+    }
+}
+
+// Writes the records of the steps from this number on, if each may follow those before it, and how many there are then.
+pub(crate) fn write_records<S: Alter>(
+    tx: &mut Transaction<'_, S>,
+    next: u64,
+    steps: &[Step],
+) -> Result<bool, Error>
+    requires room { next + length (records_of steps.now) ≤ 2 ^ 62 }
+    requires taken { ArePutsAndAccepts steps.now }
+    ensures same_reference { IsOfSame tx.old.conn tx.new.conn }
+    ensures done { Answers S.Store tx.old.conn.now tx.new.conn.now result
+        (λ a b. EntersWhole a b next (records_of steps.now)) }
+    ensures spares { SparesCommit S.Store tx.old.conn.now tx.new.conn.now }
+{
+    let mut place = next;
+    for step in steps {
+        let entry = step.record();
+        if !write_record(tx, Seq::of(place), entry)? {
+            return Ok(false);
+        }
+        place += 1;
+    }
+    update_records(tx, place)?;
+    Ok(true)
+}
