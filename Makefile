@@ -21,6 +21,7 @@ fmt:
 # Prints one table of measurements, each beside what stands for comparison.
 bench:
 	cd crates/bench && rt run
-	./scripts/bench crates/bench/out/bench
+	cd crates/relayd && rt run -- --version
+	./scripts/bench crates/bench/out/bench crates/relayd/out/relayd
 
 .PHONY: run test check edits fmt bench

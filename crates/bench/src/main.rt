@@ -7,13 +7,11 @@ use relay_types::MaxLimit;
 use sqlite::Connection;
 use std::io;
 use std::process::ExitCode;
-use text_lines::{ReplayFault, read_number};
+use text_lines::read_number;
 use vegas::Estimator;
 
-const LIST: &str = "inputs COUNT    the inputs of samples alone, summed up
-limit COUNT     as many samples of the adaptive limit
-replay          the script on standard input, over a store in memory
-replay PATH     the same, over a store in a new file
+const LIST: &str = "limit COUNT     the adaptive limit after as many samples
+replay PATH     the script on standard input, over a store in a new file
 ";
 
 /// What an estimator is given.
@@ -42,19 +40,6 @@ fn sample_of(number: u64) -> Sample
     }
 }
 
-/// The sum of what the samples hold.
-fn sum_inputs(count: u64) -> u64 {
-    let mut number = 0;
-    let mut sum = 0u64;
-    for _ in 0..count {
-        number = next(number);
-        let sample = sample_of(number);
-        let rest = u64::from(sample.inflight) + u64::from(sample.dropped);
-        sum = sum.wrapping_add(sample.rtt).wrapping_add(rest);
-    }
-    sum
-}
-
 /// An estimator after as many samples.
 fn feed(mut estimator: Estimator, count: u64) -> Estimator {
     let mut number = 0;
@@ -66,66 +51,42 @@ fn feed(mut estimator: Estimator, count: u64) -> Estimator {
     estimator
 }
 
-/// The limit and the no-load time after as many samples.
-fn print_limit(rt: &HostRuntime, count: u64) -> io::Result<()> {
-    let Ok(max) = MaxLimit::of(1000) else {
-        return Ok(());
+/// Prints the limit and the no-load time after as many samples. Whether the word is a number.
+fn print_limit(rt: &HostRuntime, count: &str) -> io::Result<bool> {
+    let (Some(count), Ok(max)) = (read_number(count.as_bytes()), MaxLimit::of(1000)) else {
+        return Ok(false);
     };
     let estimator = feed(Estimator::new(max)?, count);
-    println!(rt; "{} {}", estimator.limit(), estimator.noload())
+    println!(rt; "{} {}", estimator.limit(), estimator.noload())?;
+    Ok(true)
 }
 
-/// Replays the script on standard input over a store in memory.
-fn replay_in_memory(rt: &HostRuntime) -> Result<(), ReplayFault> {
-    let conn = Connection::open_in_memory(rt.alloc())?;
-    let (_, end) = drill::replay(rt.alloc(), &mut rt.stdin(), &mut rt.stdout(), conn, 0);
-    end
-}
-
-/// Replays the script on standard input over the file, which is to have no table.
-fn replay_in_file(rt: &HostRuntime, path: &str) -> Result<(), ReplayFault> {
+/// Replays the script on standard input over the file, which is to have no table. Whether it ended well.
+fn replay(rt: &HostRuntime, path: &str) -> bool {
     let Ok(conn) = Connection::open(rt, path) else {
-        return Err(ReplayFault::Lost);
+        return false;
     };
     let (_, end) = drill::replay(rt.alloc(), &mut rt.stdin(), &mut rt.stdout(), conn, 0);
-    end
+    end.is_ok()
 }
 
 /// Runs what the words name. Whether they name a run that ended well.
 fn run(rt: &HostRuntime, words: &[&str]) -> io::Result<bool> {
-    let done = match words {
+    match words {
         [_] => {
             print!(rt; "{LIST}")?;
-            true
+            Ok(true)
         }
-        [_, "inputs", count] => match read_number(count.as_bytes()) {
-            Some(count) => {
-                println!(rt; "{}", sum_inputs(count))?;
-                true
-            }
-            None => false,
-        },
-        [_, "limit", count] => match read_number(count.as_bytes()) {
-            Some(count) => {
-                print_limit(rt, count)?;
-                true
-            }
-            None => false,
-        },
-        [_, "replay"] => replay_in_memory(rt).is_ok(),
-        [_, "replay", path] => replay_in_file(rt, path).is_ok(),
-        _ => false,
-    };
-    Ok(done)
+        [_, "limit", count] => print_limit(rt, count),
+        [_, "replay", path] => Ok(replay(rt, path)),
+        _ => Ok(false),
+    }
 }
 
 fn main(rt: HostRuntime) -> io::Result<ExitCode> {
     let alloc = rt.alloc();
     let words: Vec<String> = std::env::args(&rt)?.collect(alloc)?;
-    let mut shown = Vec::with_capacity(alloc, words.len())?;
-    for word in &words {
-        shown.push(word.as_str())?;
-    }
+    let shown: Vec<&str> = words.iter().map(|word| word.as_str()).collect(alloc)?;
     let is_done = run(&rt, shown.as_slice())?;
     Ok(ExitCode::from(u8::from(!is_done)))
 }

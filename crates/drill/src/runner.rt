@@ -17,7 +17,7 @@ use sqlite::{Alter, Connection};
 use std::alloc::{AllocError, Global};
 use std::io::{Read, Write};
 use std::mem;
-use text_lines::{Lines, ReplayFault, WordFault, write_line};
+use text_lines::{Lines, StreamFault, WordFault, write_line};
 
 /// What the runner holds between two lines.
 #[derive(Drop)]
@@ -214,7 +214,7 @@ pub fn replay<S: Alter, I: Read, O: Write>(
     output: &mut O,
     conn: Connection<S>,
     mark: u64,
-) -> (Connection<S>, Result<(), ReplayFault>)
+) -> (Connection<S>, Result<(), StreamFault>)
     ensures replays { IsCleanAt S.Store result.0 → HasNoTable S.Store conn
         → Replays (I.remaining input.old) (O.contents output.old) (O.contents output.new) result.1 }
     ensures clean { IsCleanAt S.Store result.0 → IsCleanAt S.Store conn }
@@ -234,21 +234,21 @@ fn start<S: Alter>(
     alloc: Global,
     conn: Connection<S>,
     mark: u64,
-) -> Result<Runner<S>, (Connection<S>, ReplayFault)>
+) -> Result<Runner<S>, (Connection<S>, StreamFault)>
     ensures stands { IfOk result
         (λ runner. IsClean S.Store runner → HasNoTable S.Store conn → RunnerStandsFor S.Store runner (opened [] 0)) }
     ensures clean { MatchResult result
         (λ runner. IsClean S.Store runner → IsCleanAt S.Store conn)
         (λ back. IsCleanAt S.Store back.0 → IsCleanAt S.Store conn) }
-    ensures faults { IfErr result (λ back. (back.1 ≡ ReplayFault.Lost) ⊎ (back.1 ≡ ReplayFault.OutOfMemory)) }
+    ensures faults { IfErr result (λ back. (back.1 ≡ StreamFault.Lost) ⊎ (back.1 ≡ StreamFault.OutOfMemory)) }
 {
     if !conn.is_autocommit() {
-        return Err((conn, ReplayFault::Lost));
+        return Err((conn, StreamFault::Lost));
     }
     let vault = match Vault::create(conn, mark) {
         Ok(vault) => vault,
-        Err((conn, fault)) if fault.is_memory() => return Err((conn, ReplayFault::OutOfMemory)),
-        Err((conn, _)) => return Err((conn, ReplayFault::Lost)),
+        Err((conn, fault)) if fault.is_memory() => return Err((conn, StreamFault::OutOfMemory)),
+        Err((conn, _)) => return Err((conn, StreamFault::Lost)),
     };
     match Desk::new(alloc, mark) {
         Ok(desk) => Ok(Runner {
@@ -256,7 +256,7 @@ fn start<S: Alter>(
             vault,
             held: Held::Nothing,
         }),
-        Err(AllocError) => Err((vault.release(), ReplayFault::OutOfMemory)),
+        Err(AllocError) => Err((vault.release(), StreamFault::OutOfMemory)),
     }
 }
 
@@ -266,7 +266,7 @@ fn run_lines<S: Alter, I: Read, O: Write>(
     runner: &mut Runner<S>,
     input: &mut I,
     output: &mut O,
-) -> Result<(), ReplayFault>
+) -> Result<(), StreamFault>
     ensures replays { IsClean S.Store runner.new → RunnerStandsFor S.Store runner.old (opened [] 0)
         → Replays (I.remaining input.old) (O.contents output.old) (O.contents output.new) result }
     ensures clean { IsClean S.Store runner.new → IsClean S.Store runner.old }
@@ -284,15 +284,15 @@ fn run_line<S: Alter, O: Write>(
     lines: &Lines,
     runner: &mut Runner<S>,
     output: &mut O,
-) -> Result<(), ReplayFault>
+) -> Result<(), StreamFault>
     ensures ends { IsClean S.Store runner.new
         → AnswersLine S.Store lines.now runner.old runner.new (O.contents output.old) (O.contents output.new) result }
     ensures clean { IsClean S.Store runner.new → IsClean S.Store runner.old }
 {
     let event = match read_event(alloc, lines.line()) {
         Ok(event) => event,
-        Err(WordFault::Bad) => return Err(ReplayFault::BadLine(lines.number())),
-        Err(WordFault::OutOfMemory) => return Err(ReplayFault::OutOfMemory),
+        Err(WordFault::Bad) => return Err(StreamFault::BadLine(lines.number())),
+        Err(WordFault::OutOfMemory) => return Err(StreamFault::OutOfMemory),
     };
     let reply = runner.answer(event);
     write_line(alloc, output, &reply)

@@ -1,23 +1,23 @@
 -- How the signing of a body ends.
 use Rattle.std.proofs.Common.{◌≡◌, ◌≢◌, ℕ, ◌⊎◌, inl, inr, List, Option, Err, sym, subst, ◌∙◌}
 use Rattle.std.specs.Io.KnownBytes.{Keeps}
-use Rattle.text_lines.specs.declared.fault.ReplayFault.{ReplayFault}
-use Rattle.text_lines.specs.declared.fault.ReplayFault.TheVariants.{TooLong, Read, Write, OutOfMemory}
-use Rattle.relay_commands.specs.declared.signing.Asked.{Asked}
+use Rattle.text_lines.specs.declared.fault.StreamFault.{StreamFault}
+use Rattle.text_lines.specs.declared.fault.StreamFault.TheVariants.{TooLong, Read, Write, OutOfMemory}
+use Rattle.relay_commands.specs.declared.sign_command.Asked.{Asked}
 use Rattle.relay_commands.specs.declared.ends.CommandFault.TheVariants.{Ended}
 use Rattle.relay_commands.specs.Signs.{AreAsked, SignsFront, IsNoBody, SignsSo}
 
 -- a fault after the arguments were read
-pub failed : (id at : List ℕ) (texts : List (List ℕ)) (asked : Asked) (input old new : Option (List ℕ)) (fault : ReplayFault) → AreAsked id at texts asked
+pub failed : (id at : List ℕ) (texts : List (List ℕ)) (asked : Asked) (input old new : Option (List ℕ)) (fault : StreamFault) → AreAsked id at texts asked
     → (fault ≡ TooLong → IsNoBody input) → (fault ≡ Write → SignsFront input old new asked) → (fault ≡ Write) ⊎ Keeps old new
     → (fault ≡ TooLong) ⊎ ((fault ≡ Read) ⊎ ((fault ≡ Write) ⊎ (fault ≡ OutOfMemory)))
     → SignsSo id at texts input old new (Err (Ended fault))
 failed id at texts asked input old new fault h long cut unwritten why = by why
   where
-    at_fault : (named : ReplayFault) → fault ≡ named → SignsSo id at texts input old new (Err (Ended named)) → SignsSo id at texts input old new (Err (Ended fault))
+    at_fault : (named : StreamFault) → fault ≡ named → SignsSo id at texts input old new (Err (Ended named)) → SignsSo id at texts input old new (Err (Ended fault))
     at_fault named e = subst (λ f. SignsSo id at texts input old new (Err (Ended f))) (sym e)
 
-    kept : (named : ReplayFault) → fault ≡ named → named ≢ Write → Keeps old new
+    kept : (named : StreamFault) → fault ≡ named → named ≢ Write → Keeps old new
     kept named e other = elim unwritten [ inl w ↦ absurd (other (sym e ∙ w)) | inr same ↦ same ]
 
     by : (fault ≡ TooLong) ⊎ ((fault ≡ Read) ⊎ ((fault ≡ Write) ⊎ (fault ≡ OutOfMemory))) → SignsSo id at texts input old new (Err (Ended fault))

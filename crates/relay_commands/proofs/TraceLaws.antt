@@ -1,15 +1,12 @@
 -- The lines of samples, taken one after another.
-use Rattle.std.proofs.Common.{◌≡◌, ℕ, zero, suc, ◌≤◌, List, [], ◌∷◌, ◌++◌, length, take, refl, sym, ap, ◌∙◌, arith, length-append}
+use Rattle.std.proofs.Common.{◌≡◌, ℕ, zero, suc, ◌≤◌, List, [], ◌∷◌, ◌++◌, length, take, refl, sym, ap, ◌∙◌, arith, length-append, append_assoc, append-nil}
 use Rattle.vegas.specs.declared.sample.Sample.{Sample}
 use Rattle.vegas.specs.Vegas.{limit_of, noload_of}
 use Rattle.vegas.specs.Estimates.{Estimate, StandsFor}
-use Rattle.relay_commands.specs.Traces.{ReadsSample, ReadSamples, numbers_text, sampled_text, trace_text, Traced, TakesSample}
-
-read_more : (lines : List (List ℕ)) (xs : List Sample) (line : List ℕ) (x : Sample) → ReadSamples lines xs → ReadsSample line x → ReadSamples (lines ++ line ∷ []) (xs ++ x ∷ [])
-read_more [] [] line x h reads = (reads, tt)
-read_more (l ∷ lines) (y ∷ xs) line x h reads = (h.0, read_more lines xs line x h.1 reads)
-read_more [] (y ∷ xs) line x h reads = absurd h
-read_more (l ∷ lines) [] line x h reads = absurd h
+use Rattle.text_lines.specs.Answers.{AnswersEach, AnswersFrom}
+use Rattle.text_lines.specs.Streams.{with_feed}
+use Rattle.relay_commands.specs.declared.vegas_command.Follower.{Follower}
+use Rattle.relay_commands.specs.Traces.{ReadSamples, numbers_text, sampled_text, trace_text, Traced, AnswersSample}
 
 -- the first samples are those of a longer list
 take_front : (k : ℕ) (xs : List Sample) (x : Sample) → k ≤ length xs → take k (xs ++ x ∷ []) ≡ take k xs
@@ -30,39 +27,32 @@ text_more maximum xs x =
     let len : length (xs ++ x ∷ []) ≡ suc (length xs) = omega (arith, length-append xs (x ∷ [])) in
     ap (trace_text maximum (xs ++ x ∷ [])) len ∙ (λ i. text_front maximum xs x (length xs) (omega arith) i ++ sampled_text maximum (take_all xs x i))
 
--- the estimator stands for the samples of these lines, and this is the numbers after each of them
-pub record Sampled (maximum : ℕ) (e : Estimate) (lines : List (List ℕ)) (written : List ℕ) : Type 0 where
-  pub xs : List Sample
-  pub reads : ReadSamples lines xs
-  pub is_maximum : e.maximum ≡ maximum
-  pub stands : StandsFor e xs
-  pub is_written : written ≡ trace_text maximum xs (length xs)
+numbers : (maximum : ℕ) (e : Estimate) (xs : List Sample) → e.maximum ≡ maximum → StandsFor e xs → with_feed (numbers_text e.state.limit e.state.noload) ≡ sampled_text maximum xs
+numbers maximum e xs is stands = λ i. with_feed (numbers_text ((stands.limit ∙ ap (λ m. limit_of m xs) is) i) ((stands.noload ∙ ap (λ m. noload_of m xs) is) i))
+
+-- the samples of further lines, and the numbers after each of them
+traced_after : (maximum : ℕ) (old new : Follower) (before : List Sample) (lines : List (List ℕ)) (written : List ℕ) → old.estimator.maximum ≡ maximum → StandsFor old.estimator before
+    → AnswersEach AnswersSample old lines written new
+    → (xs : List Sample) × ReadSamples lines xs × (trace_text maximum before (length before) ++ written ≡ trace_text maximum (before ++ xs) (length (before ++ xs)))
+traced_after maximum old new before [] written is stands (none, same) =
+    let so_far = trace_text maximum before (length before) in
+    ([], tt, ap (λ ys. so_far ++ ys) none ∙ append-nil so_far ∙ ap (λ ys. trace_text maximum ys (length ys)) (sym (append-nil before)))
+traced_after maximum old new before (line ∷ lines) written is stands (next, text, rest, (x, reads, same, follows, answer), grows, each) =
+    let so_far = trace_text maximum before (length before) in
+    let longer = before ++ x ∷ [] in
+    let (xs, more, e) = traced_after maximum next new longer lines rest (same ∙ is) (follows before stands) each in
+    let one : so_far ++ with_feed text ≡ trace_text maximum longer (length longer) =
+    ap (λ ys. so_far ++ ys) (ap with_feed answer ∙ numbers maximum next.estimator longer (same ∙ is) (follows before stands)) ∙ sym (text_more maximum before x) in (
+      x ∷ xs,
+      (reads, more),
+      ap (λ ys. so_far ++ ys) (grows ∙ sym (append_assoc text (10 ∷ []) rest)) ∙ sym (append_assoc so_far (with_feed text) rest) ∙ ap (λ ys. ys ++ rest) one ∙ e
+          ∙ ap (λ ys. trace_text maximum ys (length ys)) (append_assoc before (x ∷ []) xs),
+    )
 
 pub Traced-none : (maximum : ℕ) → Traced maximum [] []
 Traced-none maximum = ([], tt, refl)
 
-pub Sampled-none : (maximum : ℕ) (e : Estimate) → e.maximum ≡ maximum → StandsFor e [] → Sampled maximum e [] []
-Sampled-none maximum e is stands = record { xs = []; reads = tt; is_maximum = is; stands = stands; is_written = refl }
-
-pub Traced-from_sampled : (maximum : ℕ) (e : Estimate) (lines : List (List ℕ)) (written : List ℕ) → Sampled maximum e lines written → Traced maximum lines written
-Traced-from_sampled maximum e lines written s = (s.xs, s.reads, s.is_written)
-
-numbers : (maximum : ℕ) (e : Estimate) (xs : List Sample) → e.maximum ≡ maximum → StandsFor e xs → numbers_text e.state.limit e.state.noload ≡ sampled_text maximum xs
-numbers maximum e xs is stands = λ i. numbers_text ((stands.limit ∙ ap (λ m. limit_of m xs) is) i) ((stands.noload ∙ ap (λ m. noload_of m xs) is) i)
-
-pub Sampled-more : (maximum : ℕ) (old new : Estimate) (lines : List (List ℕ)) (written line answer : List ℕ) → Sampled maximum old lines written → TakesSample line old new answer
-    → Sampled maximum new (lines ++ line ∷ []) (written ++ answer)
-Sampled-more maximum old new lines written line answer s (x, reads, same, follows, is) =
-    let stands = follows s.xs s.stands in
-    let maximum_is = same ∙ s.is_maximum in
-    record {
-      xs = s.xs ++ x ∷ [];
-      reads = read_more lines s.xs line x s.reads reads;
-      is_maximum = maximum_is;
-      stands = stands;
-      is_written = (λ i. s.is_written i ++ (is ∙ numbers maximum new (s.xs ++ x ∷ []) maximum_is stands) i) ∙ sym (text_more maximum s.xs x);
-    }
-
-pub Traced-more : (maximum : ℕ) (old new : Estimate) (lines : List (List ℕ)) (written line answer : List ℕ) → Sampled maximum old lines written → TakesSample line old new answer
-    → Traced maximum (lines ++ line ∷ []) (written ++ answer)
-Traced-more maximum old new lines written line answer s taken = Traced-from_sampled maximum new (lines ++ line ∷ []) (written ++ answer) (Sampled-more maximum old new lines written line answer s taken)
+-- what is written for lines that are answered from no sample on
+pub Traced-from_answers : (maximum : ℕ) (first : Follower) → first.estimator.maximum ≡ maximum → StandsFor first.estimator [] → (lines : List (List ℕ)) (written : List ℕ) → AnswersFrom AnswersSample first lines written
+    → Traced maximum lines written
+Traced-from_answers maximum first is stands lines written (last, each) = traced_after maximum first last [] lines written is stands each

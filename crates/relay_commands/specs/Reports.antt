@@ -4,7 +4,7 @@ use Rattle.std.specs.Io.KnownBytes.{Keeps}
 use Rattle.relay_types.specs.Faults.{fault_name}
 use Rattle.relay_types.specs.declared.fault.ReadFault.{ReadFault}
 use Rattle.relay_types.specs.declared.fault.ReadFault.TheVariants as reader
-use Rattle.text_lines.specs.declared.fault.ReplayFault.TheVariants as command
+use Rattle.text_lines.specs.declared.fault.StreamFault.TheVariants as command
 use Rattle.text_lines.specs.Ends.{status_of, fault_text}
 use Rattle.text_lines.specs.Streams.{AppendsFront, with_feed}
 use Rattle.relay_commands.specs.declared.ends.CommandFault.{CommandFault}

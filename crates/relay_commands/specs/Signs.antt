@@ -5,12 +5,12 @@ use Rattle.hmac_signer.specs.Signature.{signature_header}
 use Rattle.relay_types.specs.Values.{is_msg_id, is_moment}
 use Rattle.relay_types.specs.declared.fault.ReadFault.{ReadFault}
 use Rattle.relay_types.specs.declared.fault.ReadFault.TheVariants.{BadId, BadMoment, BadSecret}
-use Rattle.text_lines.specs.declared.fault.ReplayFault.TheVariants.{BadLine, TooLong, Read, Write, Lost, OutOfMemory}
+use Rattle.text_lines.specs.declared.fault.StreamFault.TheVariants.{BadLine, TooLong, Read, Write, Lost, OutOfMemory}
 use Rattle.text_lines.specs.Words.{AreSecretTexts}
 use Rattle.text_lines.specs.Streams.{AppendsFront, with_feed}
 use Rattle.relay_commands.specs.declared.ends.CommandFault.{CommandFault}
 use Rattle.relay_commands.specs.declared.ends.CommandFault.TheVariants.{Argument, Ended}
-use Rattle.relay_commands.specs.declared.signing.Asked.{Asked}
+use Rattle.relay_commands.specs.declared.sign_command.Asked.{Asked}
 use Rattle.relay_commands.specs.Reports.{Reports}
 
 -- the text of a moment, in whole seconds

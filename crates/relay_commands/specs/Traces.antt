@@ -1,17 +1,19 @@
 -- What `relayd vegas` writes: for each line of its reader, the limit and the no-load time after the samples so far.
-use Rattle.std.specs.Prelude.{◌≡◌, ℕ, zero, suc, ◌^◌, ◌≤◌, ◌<◌, Bool, IsTrue, List, [], ◌∷◌, ◌++◌, length, take, Option, Result, Ok, Err, codes, decimal, if◌then◌else◌}
+use Rattle.std.specs.Prelude.{◌≡◌, ℕ, zero, suc, ◌≤◌, Bool, IsTrue, List, [], ◌∷◌, ◌++◌, length, take, Option, Result, Ok, Err, codes, decimal, if◌then◌else◌}
 use Rattle.std.specs.Io.KnownBytes.{Keeps}
 use Rattle.relay_types.specs.Values.{is_max_limit}
 use Rattle.relay_types.specs.declared.fault.ReadFault.TheVariants.{BadMax}
 use Rattle.vegas.specs.declared.sample.Sample.{Sample}
 use Rattle.vegas.specs.Vegas.{limit_of, noload_of}
-use Rattle.vegas.specs.Estimates.{Estimate, StandsFor}
-use Rattle.text_lines.specs.declared.fault.ReplayFault.{ReplayFault}
+use Rattle.vegas.specs.Estimates.{StandsFor}
+use Rattle.text_lines.specs.declared.fault.StreamFault.{StreamFault}
 use Rattle.text_lines.specs.Ends.{Ends}
 use Rattle.text_lines.specs.Parts.{line}
 use Rattle.text_lines.specs.Streams.{with_feed}
 use Rattle.relay_commands.specs.declared.ends.CommandFault.{CommandFault}
 use Rattle.relay_commands.specs.declared.ends.CommandFault.TheVariants.{Argument, Ended}
+use Rattle.relay_commands.specs.declared.vegas_command.Follower.{Follower}
+use Rattle.relay_commands.specs.declared.vegas_command.TheConstants.{MAX_IN_FLIGHT, MAX_ROUND_TRIP}
 use Rattle.relay_commands.specs.Reports.{Reports}
 
 -- the words `RTT INFLIGHT ok` or `RTT INFLIGHT drop` of a sample
@@ -21,9 +23,9 @@ end_word dropped = if dropped then codes "drop" else codes "ok"
 abbrev pub sample_words : Sample → List (List ℕ)
 sample_words x = decimal x.rtt ∷ decimal x.inflight ∷ end_word x.dropped ∷ []
 
--- the words of a sample of less than 2^63 microseconds and 1 to 1000 posts in flight
+-- the words of a sample within its bounds, of at least one post in flight
 abbrev pub IsSample : List (List ℕ) → Sample → Type 0
-IsSample words x = (words ≡ sample_words x) × (x.rtt < 2 ^ 63) × (1 ≤ x.inflight) × (x.inflight ≤ 1000)
+IsSample words x = (words ≡ sample_words x) × (x.rtt ≤ MAX_ROUND_TRIP) × (1 ≤ x.inflight) × (x.inflight ≤ MAX_IN_FLIGHT)
 
 abbrev pub ReadsSample : List ℕ → Sample → Type 0
 ReadsSample text x = (words : List (List ℕ)) × (text ≡ line words) × IsSample words x
@@ -41,11 +43,11 @@ IsNoSample text = (x : Sample) → ReadsSample text x → ⊥
 
 -- a limit and a no-load time
 abbrev pub numbers_text : ℕ → ℕ → List ℕ
-numbers_text limit noload = with_feed (line (decimal limit ∷ decimal noload ∷ []))
+numbers_text limit noload = line (decimal limit ∷ decimal noload ∷ [])
 
 -- the line after these samples
 abbrev pub sampled_text : ℕ → List Sample → List ℕ
-sampled_text maximum xs = numbers_text (limit_of maximum xs) (noload_of maximum xs)
+sampled_text maximum xs = with_feed (numbers_text (limit_of maximum xs) (noload_of maximum xs))
 
 -- the lines after the first sample, the first two, and so on to the first k
 abbrev pub trace_text : ℕ → List Sample → ℕ → List ℕ
@@ -57,7 +59,7 @@ abbrev pub Traced : ℕ → List (List ℕ) → List ℕ → Type 0
 Traced maximum lines written = (xs : List Sample) × ReadSamples lines xs × (written ≡ trace_text maximum xs (length xs))
 
 -- The limits after the samples of the reader's text are written, as far as this end says.
-abbrev pub Traces : ℕ → Option (List ℕ) → Option (List ℕ) → Option (List ℕ) → Result (Unit {0}) ReplayFault → Type 0
+abbrev pub Traces : ℕ → Option (List ℕ) → Option (List ℕ) → Option (List ℕ) → Result (Unit {0}) StreamFault → Type 0
 Traces maximum input old new end = Ends (Traced maximum) IsNoSample input old new end
 
 -- a maximum is read from the word, of which this holds
@@ -79,6 +81,7 @@ abbrev pub TracesTo : List ℕ → Option (List ℕ) → Option (List ℕ) → O
 TracesTo word input old new untold told status = Reports (TracesSo word input old new) untold told status
 
 -- the line's sample is taken, and answered by the numbers after it
-abbrev pub TakesSample : List ℕ → Estimate → Estimate → List ℕ → Type 0
-TakesSample text old new answer = (x : Sample) × ReadsSample text x × (new.maximum ≡ old.maximum)
-    × ((xs : List Sample) → StandsFor old xs → StandsFor new (xs ++ x ∷ [])) × (answer ≡ numbers_text new.state.limit new.state.noload)
+abbrev pub AnswersSample : Follower → List ℕ → List ℕ → Follower → Type 0
+AnswersSample old text answer new = (x : Sample) × ReadsSample text x × (new.estimator.maximum ≡ old.estimator.maximum)
+    × ((xs : List Sample) → StandsFor old.estimator xs → StandsFor new.estimator (xs ++ x ∷ []))
+    × (answer ≡ numbers_text new.estimator.state.limit new.estimator.state.noload)

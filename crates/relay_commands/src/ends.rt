@@ -2,7 +2,7 @@
 ghost use Rattle.std.specs.Prelude.{◌≡◌, ◌≤◌, Err, Some, OnOk};
 ghost use Rattle.std.specs.Io.KnownBytes.{Appends};
 ghost use Rattle.text_lines.specs.Streams.{AppendsFront};
-ghost use Rattle.text_lines.specs.declared.fault.ReplayFault.TheVariants as command;
+ghost use Rattle.text_lines.specs.declared.fault.StreamFault.TheVariants as command;
 ghost use Rattle.relay_commands.specs.declared.ends.CommandFault.TheVariants.{Ended};
 ghost use Rattle.relay_commands.specs.Reports.{argument_fault, exit_status, told_text, told_line, Tells};
 
@@ -12,7 +12,7 @@ use std::alloc::AllocError;
 use std::fmt;
 use std::fmt::Write as _;
 use std::io::Write;
-use text_lines::{ReplayFault, write_bytes};
+use text_lines::{StreamFault, write_bytes};
 
 /// Done.
 pub const DONE: u8 = 0;
@@ -26,7 +26,7 @@ pub enum CommandFault {
     /// An argument isn't what its reader takes.
     Argument(ReadFault),
     /// The command ended early.
-    Ended(ReplayFault),
+    Ended(StreamFault),
 }
 
 impl CommandFault {
@@ -58,16 +58,16 @@ impl From<ReadFault> for CommandFault {
 
     fn from(fault: ReadFault) -> CommandFault {
         match fault {
-            ReadFault::OutOfMemory => CommandFault::Ended(ReplayFault::OutOfMemory),
+            ReadFault::OutOfMemory => CommandFault::Ended(StreamFault::OutOfMemory),
             _ => CommandFault::Argument(fault),
         }
     }
 }
 
-impl From<ReplayFault> for CommandFault {
+impl From<StreamFault> for CommandFault {
     ghost from_gives = { λ early fault. fault ≡ Ended early };
 
-    fn from(fault: ReplayFault) -> CommandFault {
+    fn from(fault: StreamFault) -> CommandFault {
         CommandFault::Ended(fault)
     }
 }
@@ -76,7 +76,7 @@ impl From<AllocError> for CommandFault {
     ghost from_gives = { λ _ fault. fault ≡ Ended command.OutOfMemory };
 
     fn from(_: AllocError) -> CommandFault {
-        CommandFault::Ended(ReplayFault::OutOfMemory)
+        CommandFault::Ended(StreamFault::OutOfMemory)
     }
 }
 
@@ -96,7 +96,7 @@ pub fn end<E: Write>(errors: &mut E, end: Result<(), CommandFault>) -> u8
 }
 
 // Tells the fault. No memory is taken, since there may be none.
-fn tell<E: Write>(errors: &mut E, fault: CommandFault) -> Result<(), ReplayFault>
+fn tell<E: Write>(errors: &mut E, fault: CommandFault) -> Result<(), StreamFault>
     ensures told { OnOk result (Appends (E.contents errors.old) (E.contents errors.new) (told_line fault)) }
     ensures front { AppendsFront (E.contents errors.old) (E.contents errors.new) (told_line fault) }
 {
@@ -104,6 +104,6 @@ fn tell<E: Write>(errors: &mut E, fault: CommandFault) -> Result<(), ReplayFault
     let mut line = ArrayString::<64>::new();
     match writeln!(line, "relayd: {fault}") {
         Ok(()) => write_bytes(errors, line.as_str().as_bytes()),
-        Err(fmt::Error) => Err(ReplayFault::Write),
+        Err(fmt::Error) => Err(StreamFault::Write),
     }
 }

@@ -1,10 +1,14 @@
 //! The commands of the relay's program: its command line, and each command over a reader and two writers.
 #![tactic(auto)]
 
-mod commands;
+mod command_line;
 mod ends;
-mod limits;
-mod signing;
+mod replay_command;
+mod sign_command;
+mod vegas_command;
 
-pub use crate::commands::{replay, run, sign, vegas};
+pub use crate::command_line::run;
 pub use crate::ends::{CommandFault, DONE, USAGE, end};
+pub use crate::replay_command::replay;
+pub use crate::sign_command::sign;
+pub use crate::vegas_command::vegas;

@@ -6,7 +6,7 @@ use relay_types::ReadFault;
 use std::alloc::{AllocError, Global};
 use std::io::{self, ErrorKind, Read, Write};
 use std::test::Fail;
-use text_lines::ReplayFault;
+use text_lines::StreamFault;
 
 // A reader of one byte at a time, which is interrupted once.
 #[derive(Drop)]
@@ -182,22 +182,22 @@ fn tells_each_fault(rt: HostRuntime) {
             3,
         ),
         (
-            CommandFault::Ended(ReplayFault::BadLine(u64::MAX)),
+            CommandFault::Ended(StreamFault::BadLine(u64::MAX)),
             "relayd: line 18446744073709551615: bad line\n",
             2,
         ),
         (
-            CommandFault::Ended(ReplayFault::TooLong),
+            CommandFault::Ended(StreamFault::TooLong),
             "relayd: TooLong\n",
             2,
         ),
-        (CommandFault::Ended(ReplayFault::Read), "relayd: Read\n", 3),
+        (CommandFault::Ended(StreamFault::Read), "relayd: Read\n", 3),
         (
-            CommandFault::Ended(ReplayFault::Write),
+            CommandFault::Ended(StreamFault::Write),
             "relayd: Write\n",
             3,
         ),
-        (CommandFault::Ended(ReplayFault::Lost), "relayd: Lost\n", 3),
+        (CommandFault::Ended(StreamFault::Lost), "relayd: Lost\n", 3),
         (CommandFault::from(AllocError), "relayd: OutOfMemory\n", 3),
     ] {
         let mut errors = SlowWriter::new(rt.alloc(), 3);

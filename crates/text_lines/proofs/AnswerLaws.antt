@@ -1,9 +1,9 @@
 -- Lines that are answered one after another.
 use Rattle.std.proofs.Common.{ℕ, List, [], ◌∷◌, ◌++◌, Option, Result, Ok, Err, refl, sym, ap, subst, ◌∙◌, append_assoc}
-use Rattle.text_lines.specs.declared.fault.ReplayFault.{ReplayFault}
-use Rattle.text_lines.specs.declared.fault.ReplayFault.TheVariants.{BadLine, TooLong, Read, Write, Lost, OutOfMemory}
+use Rattle.text_lines.specs.declared.fault.StreamFault.{StreamFault}
+use Rattle.text_lines.specs.declared.fault.StreamFault.TheVariants.{BadLine, TooLong, Read, Write, Lost, OutOfMemory}
 use Rattle.text_lines.specs.Answers.{AnswersEach, Gives}
-use Rattle.text_lines.specs.Ends.{EndsSo, Ends}
+use Rattle.text_lines.specs.Ends.{IsWrittenAtEnd, Ends}
 
 -- one line more is answered
 pub AnswersEach-more : {A : Type 0} (Answers : A → List ℕ → List ℕ → A → Type 0) (old mid new : A) (lines : List (List ℕ)) (written line answer : List ℕ) → AnswersEach Answers old lines written mid
@@ -15,7 +15,7 @@ AnswersEach-more Answers old mid new (first ∷ lines) written line answer (next
 
 -- What follows of what is written for some lines follows at every end.
 module _ (Says More : List (List ℕ) → List ℕ → Type 0) (IsBad : List ℕ → Type 0) (more : (lines : List (List ℕ)) (written : List ℕ) → Says lines written → More lines written) where
-  at_end : (end : Result (Unit {0}) ReplayFault) (text written : List ℕ) → EndsSo Says IsBad end text written → EndsSo More IsBad end text written
+  at_end : (end : Result (Unit {0}) StreamFault) (text written : List ℕ) → IsWrittenAtEnd Says IsBad end text written → IsWrittenAtEnd More IsBad end text written
   at_end (Ok done) text written (lines, is, within, says) = (lines, is, within, more lines written says)
   at_end (Err (BadLine number)) text written (before, bad, rest, is, within, place, refused, says) = (before, bad, rest, is, within, place, refused, more before written says)
   at_end (Err TooLong) text written (before, rest, is, clean, within, long, says) = (before, rest, is, clean, within, long, more before written says)
@@ -24,7 +24,7 @@ module _ (Says More : List (List ℕ) → List ℕ → Type 0) (IsBad : List ℕ
   at_end (Err Lost) text written (before, rest, left, is, within, says) = (before, rest, left, is, within, more before (written ++ left) says)
   at_end (Err OutOfMemory) text written (before, rest, left, is, within, says) = (before, rest, left, is, within, more before (written ++ left) says)
 
-  pub Ends-more : (input old new : Option (List ℕ)) (end : Result (Unit {0}) ReplayFault) → Ends Says IsBad input old new end → Ends More IsBad input old new end
+  pub Ends-more : (input old new : Option (List ℕ)) (end : Result (Unit {0}) StreamFault) → Ends Says IsBad input old new end → Ends More IsBad input old new end
   Ends-more input old new end ends text had known had_is =
       let (written, is, so) = ends text had known had_is in
       (written, is, at_end end text written so)

@@ -5,10 +5,10 @@ use Rattle.std.specs.List.{list_all}
 use Rattle.std.specs.Io.KnownBytes.{Appends, Keeps, IsAtEnd}
 use Rattle.std.proofs.lemmas.List.Folds.{list_all-append}
 use Rattle.std.proofs.lemmas.Bool.{eqb-true, and_parts}
-use Rattle.text_lines.specs.declared.fault.ReplayFault.{ReplayFault}
-use Rattle.text_lines.specs.declared.fault.ReplayFault.TheVariants.{BadLine, TooLong, Read, Write, Lost, OutOfMemory}
-use Rattle.text_lines.specs.Streams.{Reading, left, has_no_feed, TakesLine, IsTooLong, AppendsFront}
-use Rattle.text_lines.specs.Ends.{fed, HasLines, AreWithinBounds, IsWhole, IsUpToBad, IsUpToTooLong, IsCut, EndsSo, CutsLine, EndsLine}
+use Rattle.text_lines.specs.declared.fault.StreamFault.{StreamFault}
+use Rattle.text_lines.specs.declared.fault.StreamFault.TheVariants.{BadLine, TooLong, Read, Write, Lost, OutOfMemory}
+use Rattle.text_lines.specs.Streams.{LinesValue, left, has_no_feed, TakesLine, IsTooLong, AppendsFront}
+use Rattle.text_lines.specs.Ends.{fed, HasLines, AreWithinBounds, IsWhole, IsUpToBad, IsUpToTooLong, IsCut, IsWrittenAtEnd, CutsLine, EndsLine}
 use Rattle.text_lines.proofs.FeedLaws.{IsTooLong-none}
 use Rattle.text_lines.proofs.StreamLaws.{Appends-known}
 use Rattle.text_lines.specs.declared.limits.TheConstants.{MAX_LINE_BYTES, MAX_LINES}
@@ -111,7 +111,7 @@ keeps_same (Some xs) = refl
 -- ---- how far a text is answered
 
 -- These lines are read and this is written for them. `Holds lines written` is what lasts from line to line.
-pub record Progress (Holds : List (List ℕ) → List ℕ → Type 0) (text had : List ℕ) (reading : Reading) (remaining contents : Option (List ℕ)) : Type 0 where
+pub record Progress (Holds : List (List ℕ) → List ℕ → Type 0) (text had : List ℕ) (reading : LinesValue) (remaining contents : Option (List ℕ)) : Type 0 where
   pub lines : List (List ℕ)
   pub rest : List ℕ
   pub written : List ℕ
@@ -123,7 +123,7 @@ pub record Progress (Holds : List (List ℕ) → List ℕ → Type 0) (text had 
   pub is_written : contents ≡ Some (had ++ written)
 
 -- and the next line is read, but not answered yet
-pub record Taken (Holds : List (List ℕ) → List ℕ → Type 0) (text had : List ℕ) (reading : Reading) (remaining contents : Option (List ℕ)) : Type 0 where
+pub record Taken (Holds : List (List ℕ) → List ℕ → Type 0) (text had : List ℕ) (reading : LinesValue) (remaining contents : Option (List ℕ)) : Type 0 where
   pub lines : List (List ℕ)
   pub rest : List ℕ
   pub written : List ℕ
@@ -138,7 +138,7 @@ pub record Taken (Holds : List (List ℕ) → List ℕ → Type 0) (text had : L
 abbrev pub Written : (List ℕ → Type 0) → List ℕ → Option (List ℕ) → Type 0
 Written Is had contents = (written : List ℕ) × (contents ≡ Some (had ++ written)) × Is written
 
-pub begins : (Holds : List (List ℕ) → List ℕ → Type 0) (text had : List ℕ) (reading : Reading) (remaining contents : Option (List ℕ)) → Holds [] [] → remaining ≡ Some text → contents ≡ Some had
+pub begins : (Holds : List (List ℕ) → List ℕ → Type 0) (text had : List ℕ) (reading : LinesValue) (remaining contents : Option (List ℕ)) → Holds [] [] → remaining ≡ Some text → contents ≡ Some had
     → reading ≡ record { pending = []; line = []; count = 0; failed = false } → Progress Holds text had reading remaining contents
 begins Holds text had reading remaining contents holds input output new = record {
   lines = [];
@@ -164,7 +164,7 @@ within_front lines line within = (
   (and_parts (list_all (λ l. nat_le (length l) MAX_LINE_BYTES) lines) _ (rw list_all-append at within.1)).0,
 )
 
-pub takes : {Holds : List (List ℕ) → List ℕ → Type 0} (text had : List ℕ) (old new : Reading) (before after contents : Option (List ℕ)) → Progress Holds text had old before contents
+pub takes : {Holds : List (List ℕ) → List ℕ → Type 0} (text had : List ℕ) (old new : LinesValue) (before after contents : Option (List ℕ)) → Progress Holds text had old before contents
     → TakesLine (left old before) (left new after) new.line → IsTrue (has_no_feed new.line) → new.count ≡ old.count + 1 → length new.line ≤ MAX_LINE_BYTES → new.count ≤ MAX_LINES
     → Taken Holds text had new after contents
 takes {Holds} text had old new before after contents p line clean number short few = at (left new after) refl
@@ -176,7 +176,7 @@ takes {Holds} text had old new before after contents p line clean number short f
         record { lines = p.lines; rest = rest; written = p.written; is_left = e; taken = HasLinesBefore-more text p.lines p.rest rest new.line p.taken h clean; within = within_more p.lines new.line p.within (omega (arith, number, p.count, few)) short; count = number ∙ ap (λ n. n + 1) p.count; holds = p.holds; is_written = p.is_written }
 
 -- the line is answered
-pub answered : {Before After : List (List ℕ) → List ℕ → Type 0} (text had : List ℕ) (reading : Reading) (remaining old new : Option (List ℕ)) (answer : List ℕ) (t : Taken Before text had reading remaining old)
+pub answered : {Before After : List (List ℕ) → List ℕ → Type 0} (text had : List ℕ) (reading : LinesValue) (remaining old new : Option (List ℕ)) (answer : List ℕ) (t : Taken Before text had reading remaining old)
     → After (t.lines ++ reading.line ∷ []) (t.written ++ answer) → Appends old new answer → Progress After text had reading remaining new
 answered text had reading remaining old new answer t holds grows = record {
   lines = t.lines ++ reading.line ∷ [];
@@ -193,7 +193,7 @@ answered text had reading remaining old new answer t holds grows = record {
 -- ---- the ends
 
 -- the reader's end
-pub whole : {Holds : List (List ℕ) → List ℕ → Type 0} (Says : List (List ℕ) → List ℕ → Type 0) (text had : List ℕ) (reading : Reading) (remaining contents : Option (List ℕ)) (p : Progress Holds text had reading remaining contents)
+pub whole : {Holds : List (List ℕ) → List ℕ → Type 0} (Says : List (List ℕ) → List ℕ → Type 0) (text had : List ℕ) (reading : LinesValue) (remaining contents : Option (List ℕ)) (p : Progress Holds text had reading remaining contents)
     → Says p.lines p.written → IsAtEnd (left reading remaining) → Written (IsWhole Says text) had contents
 whole Says text had reading remaining contents p says end =
     let none : p.rest ≡ [] = subst IsAtEnd p.is_left end in
@@ -210,28 +210,28 @@ too_long_at Says text lines rest written (inl (is, clean)) within long says = (l
 too_long_at Says text lines rest written (inr (none, all)) within long says = absurd (IsTooLong-none (length lines) (subst (λ bytes. IsTooLong (length lines) (Some bytes)) none long))
 
 -- a fault before the next line is read
-pub ends_between : {Holds : List (List ℕ) → List ℕ → Type 0} (Says : List (List ℕ) → List ℕ → Type 0) (IsBad : List ℕ → Type 0) (text had : List ℕ) (reading : Reading) (remaining contents : Option (List ℕ)) (fault : ReplayFault)
+pub ends_between : {Holds : List (List ℕ) → List ℕ → Type 0} (Says : List (List ℕ) → List ℕ → Type 0) (IsBad : List ℕ → Type 0) (text had : List ℕ) (reading : LinesValue) (remaining contents : Option (List ℕ)) (fault : StreamFault)
     (p : Progress Holds text had reading remaining contents) → Says p.lines p.written → (fault ≡ TooLong) ⊎ ((fault ≡ Read) ⊎ (fault ≡ OutOfMemory)) → (fault ≡ TooLong → IsTooLong reading.count (left reading remaining))
-    → Written (EndsSo Says IsBad (Err fault) text) had contents
+    → Written (IsWrittenAtEnd Says IsBad (Err fault) text) had contents
 ends_between Says IsBad text had reading remaining contents fault p says why long = (p.written, p.is_written, at why)
   where
-    at : (fault ≡ TooLong) ⊎ ((fault ≡ Read) ⊎ (fault ≡ OutOfMemory)) → EndsSo Says IsBad (Err fault) text p.written
+    at : (fault ≡ TooLong) ⊎ ((fault ≡ Read) ⊎ (fault ≡ OutOfMemory)) → IsWrittenAtEnd Says IsBad (Err fault) text p.written
     at (inl e) =
         let behind : IsTooLong (length p.lines) (Some p.rest) = subst (λ n. IsTooLong n (Some p.rest)) p.count (subst (IsTooLong reading.count) p.is_left (long e)) in
-        subst (λ f. EndsSo Says IsBad (Err f) text p.written) (sym e) (too_long_at Says text p.lines p.rest p.written p.taken p.within behind says)
-    at (inr (inl e)) = subst (λ f. EndsSo Says IsBad (Err f) text p.written) (sym e) (cut_at Says text p.lines p.rest p.written p.taken p.within says)
-    at (inr (inr e)) = subst (λ f. EndsSo Says IsBad (Err f) text p.written) (sym e) (cut_at Says text p.lines p.rest p.written p.taken p.within says)
+        subst (λ f. IsWrittenAtEnd Says IsBad (Err f) text p.written) (sym e) (too_long_at Says text p.lines p.rest p.written p.taken p.within behind says)
+    at (inr (inl e)) = subst (λ f. IsWrittenAtEnd Says IsBad (Err f) text p.written) (sym e) (cut_at Says text p.lines p.rest p.written p.taken p.within says)
+    at (inr (inr e)) = subst (λ f. IsWrittenAtEnd Says IsBad (Err f) text p.written) (sym e) (cut_at Says text p.lines p.rest p.written p.taken p.within says)
 
 -- a fault before the first line is read
-pub ends_at_once : (Says : List (List ℕ) → List ℕ → Type 0) (IsBad : List ℕ → Type 0) (text had : List ℕ) (contents : Option (List ℕ)) (fault : ReplayFault) → Says [] [] → contents ≡ Some had
-    → (fault ≡ Lost) ⊎ (fault ≡ OutOfMemory) → Written (EndsSo Says IsBad (Err fault) text) had contents
+pub ends_at_once : (Says : List (List ℕ) → List ℕ → Type 0) (IsBad : List ℕ → Type 0) (text had : List ℕ) (contents : Option (List ℕ)) (fault : StreamFault) → Says [] [] → contents ≡ Some had
+    → (fault ≡ Lost) ⊎ (fault ≡ OutOfMemory) → Written (IsWrittenAtEnd Says IsBad (Err fault) text) had contents
 ends_at_once Says IsBad text had contents fault says output why = ([], output ∙ ap Some (sym (append-nil had)), at why)
   where
-    at : (fault ≡ Lost) ⊎ (fault ≡ OutOfMemory) → EndsSo Says IsBad (Err fault) text []
-    at (inl e) = subst (λ f. EndsSo Says IsBad (Err f) text []) (sym e) (cut_at Says text [] text [] (inl (refl, refl)) none_within says)
-    at (inr e) = subst (λ f. EndsSo Says IsBad (Err f) text []) (sym e) (cut_at Says text [] text [] (inl (refl, refl)) none_within says)
+    at : (fault ≡ Lost) ⊎ (fault ≡ OutOfMemory) → IsWrittenAtEnd Says IsBad (Err fault) text []
+    at (inl e) = subst (λ f. IsWrittenAtEnd Says IsBad (Err f) text []) (sym e) (cut_at Says text [] text [] (inl (refl, refl)) none_within says)
+    at (inr e) = subst (λ f. IsWrittenAtEnd Says IsBad (Err f) text []) (sym e) (cut_at Says text [] text [] (inl (refl, refl)) none_within says)
 
-cut_line : {Holds : List (List ℕ) → List ℕ → Type 0} (Says : List (List ℕ) → List ℕ → Type 0) (Gives : List ℕ → Type 0) (text had : List ℕ) (reading : Reading) (remaining old new : Option (List ℕ))
+cut_line : {Holds : List (List ℕ) → List ℕ → Type 0} (Says : List (List ℕ) → List ℕ → Type 0) (Gives : List ℕ → Type 0) (text had : List ℕ) (reading : LinesValue) (remaining old new : Option (List ℕ))
     (t : Taken Holds text had reading remaining old) → Says t.lines t.written → ((answer : List ℕ) → Gives answer → Says (t.lines ++ reading.line ∷ []) (t.written ++ answer)) → CutsLine Gives old new
     → Written (IsCut Says text) had new
 cut_line Says Gives text had reading remaining old new t says more (inl same) =
@@ -244,16 +244,16 @@ cut_line Says Gives text had reading remaining old new t says more (inr (answer,
       (t.lines ++ reading.line ∷ [], all.0, rest, all.1, t.within, subst (Says (t.lines ++ reading.line ∷ [])) (ap (λ xs. t.written ++ xs) is ∙ sym (append_assoc t.written front rest)) (more answer gives)),
     )
 
-bad_line : {Holds : List (List ℕ) → List ℕ → Type 0} (Says : List (List ℕ) → List ℕ → Type 0) (IsBad : List ℕ → Type 0) (text had : List ℕ) (reading : Reading) (remaining old new : Option (List ℕ)) (number : ℕ)
+bad_line : {Holds : List (List ℕ) → List ℕ → Type 0} (Says : List (List ℕ) → List ℕ → Type 0) (IsBad : List ℕ → Type 0) (text had : List ℕ) (reading : LinesValue) (remaining old new : Option (List ℕ)) (number : ℕ)
     (t : Taken Holds text had reading remaining old) → Says t.lines t.written → (number ≡ reading.count) × IsBad reading.line × Keeps old new → Written (IsUpToBad Says IsBad number text) had new
 bad_line Says IsBad text had reading remaining old new number t says (is, bad, same) =
     let all = goes_on text (t.lines ++ reading.line ∷ []) t.rest t.taken in
     (t.written, kept old new (had ++ t.written) t.is_written same, (t.lines, reading.line, all.0, subst (HasLines text) (append_assoc t.lines (reading.line ∷ []) all.0) all.1, t.within, is ∙ t.count, bad, says))
 
 -- a fault of the line
-pub ends_at_line : {Holds : List (List ℕ) → List ℕ → Type 0} (Says : List (List ℕ) → List ℕ → Type 0) (IsBad Gives : List ℕ → Type 0) (text had : List ℕ) (reading : Reading) (remaining old new : Option (List ℕ)) (fault : ReplayFault)
+pub ends_at_line : {Holds : List (List ℕ) → List ℕ → Type 0} (Says : List (List ℕ) → List ℕ → Type 0) (IsBad Gives : List ℕ → Type 0) (text had : List ℕ) (reading : LinesValue) (remaining old new : Option (List ℕ)) (fault : StreamFault)
     (t : Taken Holds text had reading remaining old) → Says t.lines t.written → ((answer : List ℕ) → Gives answer → Says (t.lines ++ reading.line ∷ []) (t.written ++ answer)) → EndsLine Gives IsBad reading old new (Err fault)
-    → Written (EndsSo Says IsBad (Err fault) text) had new
+    → Written (IsWrittenAtEnd Says IsBad (Err fault) text) had new
 ends_at_line Says IsBad Gives text had reading remaining old new (BadLine number) t says more h = bad_line Says IsBad text had reading remaining old new number t says h
 ends_at_line Says IsBad Gives text had reading remaining old new TooLong t says more h = absurd h
 ends_at_line Says IsBad Gives text had reading remaining old new Read t says more h = absurd h
@@ -262,13 +262,13 @@ ends_at_line Says IsBad Gives text had reading remaining old new Lost t says mor
 ends_at_line Says IsBad Gives text had reading remaining old new OutOfMemory t says more h = cut_line Says Gives text had reading remaining old new t says more h
 
 -- what a written answer comes to
-pub written_line : (Gives IsBad : List ℕ → Type 0) (lines : Reading) (old new : Option (List ℕ)) (answer : List ℕ) (end : Result (Unit {0}) ReplayFault) → Gives answer → OnOk end (Appends old new answer)
+pub written_line : (Gives IsBad : List ℕ → Type 0) (lines : LinesValue) (old new : Option (List ℕ)) (answer : List ℕ) (end : Result (Unit {0}) StreamFault) → Gives answer → OnOk end (Appends old new answer)
     → OnErr end (AppendsFront old new answer) → IfErr end (λ fault. (fault ≡ Write) ⊎ (fault ≡ OutOfMemory)) → EndsLine Gives IsBad lines old new end
 written_line Gives IsBad lines old new answer (Ok done) gives all front why = (answer, gives, all)
 written_line Gives IsBad lines old new answer (Err fault) gives all front (inl e) = subst (λ f. EndsLine Gives IsBad lines old new (Err f)) (sym e) (inr (answer, gives, front))
 written_line Gives IsBad lines old new answer (Err fault) gives all front (inr e) = subst (λ f. EndsLine Gives IsBad lines old new (Err f)) (sym e) (inr (answer, gives, front))
 
 -- a fault that is handed on
-pub exits : (Says : List (List ℕ) → List ℕ → Type 0) (IsBad : List ℕ → Type 0) (end : Result (Unit {0}) ReplayFault) (text had : List ℕ) (contents : Option (List ℕ)) (fault : ReplayFault) → end ≡ Err fault
-    → Written (EndsSo Says IsBad (Err fault) text) had contents → Written (EndsSo Says IsBad end text) had contents
-exits Says IsBad end text had contents fault is h = (h.0, h.1, subst (λ e. EndsSo Says IsBad e text h.0) (sym is) h.2)
+pub exits : (Says : List (List ℕ) → List ℕ → Type 0) (IsBad : List ℕ → Type 0) (end : Result (Unit {0}) StreamFault) (text had : List ℕ) (contents : Option (List ℕ)) (fault : StreamFault) → end ≡ Err fault
+    → Written (IsWrittenAtEnd Says IsBad (Err fault) text) had contents → Written (IsWrittenAtEnd Says IsBad end text) had contents
+exits Says IsBad end text had contents fault is h = (h.0, h.1, subst (λ e. IsWrittenAtEnd Says IsBad e text h.0) (sym is) h.2)

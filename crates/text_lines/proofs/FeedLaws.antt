@@ -11,7 +11,7 @@ use Rattle.std.proofs.lemmas.List.Folds.{list_all-append}
 use Rattle.std.proofs.lemmas.List.Sums.{list_all-from_AllPass, prefix_len_passes}
 use Rattle.std.proofs.lemmas.List.Quantifiers.{position-Some}
 use Rattle.std.proofs.lemmas.Slice.{between_is}
-use Rattle.text_lines.specs.Streams.{Reading, left, has_no_feed, BeginsTooLong, IsTooLong, IsFeedAt, TakesPiece, PassesBound}
+use Rattle.text_lines.specs.Streams.{LinesValue, left, has_no_feed, BeginsTooLong, IsTooLong, IsFeedAt, TakesPiece, PassesBound}
 use Rattle.text_lines.specs.declared.limits.TheConstants.{MAX_LINES}
 
 abbrev is_feed : ℕ → Bool
@@ -50,7 +50,7 @@ IsFeedAt-from_position bytes None e = no_feed bytes e
 IsFeedAt-from_position bytes (Some place) e = feed_at bytes place e
 
 -- a piece up to the first line feed of a range
-pub TakesPiece-from_range : (old new : Reading) (bytes : List ℕ) (from to place : ℕ) → old.pending ≡ slice_range bytes from to → IsFeedAt (slice_range bytes from to) place
+pub TakesPiece-from_range : (old new : LinesValue) (bytes : List ℕ) (from to place : ℕ) → old.pending ≡ slice_range bytes from to → IsFeedAt (slice_range bytes from to) place
     → new.pending ≡ slice_range bytes (from + (place + 1)) to → new.line ≡ old.line ++ take place (slice_range bytes from to) → TakesPiece old new
 TakesPiece-from_range old new bytes from to place is at behind grown =
     let range = slice_range bytes from to in (
@@ -61,7 +61,7 @@ TakesPiece-from_range old new bytes from to place is at behind grown =
     )
 
 -- The bytes that were taken into the line, and the piece with which it would be too long, stand before the first line feed.
-pub BeginsTooLong-from_piece : (old : Option (List ℕ)) (reading : Reading) (remaining : Option (List ℕ)) → Consumes old (left reading remaining) reading.line
+pub BeginsTooLong-from_piece : (old : Option (List ℕ)) (reading : LinesValue) (remaining : Option (List ℕ)) → Consumes old (left reading remaining) reading.line
     → IsTrue (has_no_feed reading.line) → PassesBound reading → BeginsTooLong old
 BeginsTooLong-from_piece None reading remaining taken clean long = tt
 BeginsTooLong-from_piece (Some bytes) reading None taken clean long = absurd taken
@@ -83,7 +83,7 @@ IsTooLong-from_line count (Some bytes) (Some xs) [] many taken some = absurd (so
 IsTooLong-from_line count (Some bytes) (Some xs) (c ∷ line) many taken some = inl (many, λ none. not_empty [] c (line ++ xs) (sym taken ∙ none))
 
 -- the same where it ends with the piece
-pub IsTooLong-from_piece : (count : ℕ) (old : Option (List ℕ)) (reading next : Reading) (remaining : Option (List ℕ)) → MAX_LINES ≤ count → Consumes old (left reading remaining) reading.line → TakesPiece reading next
+pub IsTooLong-from_piece : (count : ℕ) (old : Option (List ℕ)) (reading next : LinesValue) (remaining : Option (List ℕ)) → MAX_LINES ≤ count → Consumes old (left reading remaining) reading.line → TakesPiece reading next
     → IsTooLong count old
 IsTooLong-from_piece count None reading next remaining many taken piece = inl (many, tt)
 IsTooLong-from_piece count (Some bytes) reading next None many taken piece = absurd taken

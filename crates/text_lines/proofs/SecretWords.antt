@@ -1,6 +1,5 @@
 -- The texts of secrets, one after another.
 use Rattle.std.proofs.Common.{◌≡◌, ◌≢◌, IsTrue, ℕ, zero, suc, ◌+◌, ◌<◌, List, [], ◌∷◌, ◌++◌, length, take, get_or, map, refl, sym, ap, ◌∙◌, subst, arith, ◌⊎◌, inl, inr, Result, Ok, Err}
-use Rattle.std.specs.Borrow.{Bor}
 use Rattle.std.proofs.lemmas.List.{take_more, map-append, get_or-map, length-map}
 use Rattle.relay_types.specs.SecretText.{ReadsSecret}
 use Rattle.relay_types.specs.Values.{is_between, is_secret, are_secrets}
@@ -11,7 +10,7 @@ use Rattle.std.specs.Prelude.{IsErrAnd}
 use Rattle.text_lines.specs.declared.words.WordFault.{WordFault}
 use Rattle.text_lines.specs.declared.words.WordFault.TheVariants.{Bad, OutOfMemory}
 use Rattle.text_lines.specs.WordFaults.{word_fault}
-use Rattle.text_lines.specs.Parts.{texts, HasParts}
+use Rattle.text_lines.specs.Parts.{HasParts}
 use Rattle.text_lines.specs.Words.{ReadSecrets, AreSecretTexts, IsSecretsWord}
 use Rattle.text_lines.proofs.MarkLaws.{clean-secrets}
 use Rattle.text_lines.proofs.PartLaws.{parts_equal}
@@ -23,12 +22,12 @@ ReadSecrets-at (word ∷ words) (secret ∷ secrets) zero h lt = (secret, h.0)
 ReadSecrets-at (word ∷ words) (secret ∷ secrets) (suc i) h lt = ReadSecrets-at words secrets i h.1 (omega arith)
 
 -- the secret of the word at a place
-pub secret_at : (words : List (Bor (List ℕ))) (d : Bor (List ℕ)) (i : ℕ) (secrets : List (List ℕ)) → ReadSecrets (texts words) secrets → i < length words
-    → (secret : List ℕ) × ReadsSecret (get_or words i d).now secret
-secret_at words d i secrets h lt =
-    let long : i < length (texts words) = simp length-map lt in
-    let at = ReadSecrets-at (texts words) secrets i h long in
-    (at.0, rw (get_or-map (λ (word : Bor (List ℕ)). word.now) words i d [] lt) at at.1)
+pub secret_at : {A : Type 0} (text : A → List ℕ) (words : List A) (d : A) (i : ℕ) (secrets : List (List ℕ)) → ReadSecrets (map text words) secrets → i < length words
+    → (secret : List ℕ) × ReadsSecret (text (get_or words i d)) secret
+secret_at text words d i secrets h lt =
+    let long : i < length (map text words) = simp length-map lt in
+    let at = ReadSecrets-at (map text words) secrets i h long in
+    (at.0, rw (get_or-map text words i d [] lt) at at.1)
 
 ReadSecrets-push : (words secrets : List (List ℕ)) (word secret : List ℕ) → ReadSecrets words secrets → ReadsSecret word secret → ReadSecrets (words ++ word ∷ []) (secrets ++ secret ∷ [])
 ReadSecrets-push [] [] word secret h one = (one, tt)
@@ -37,14 +36,13 @@ ReadSecrets-push (w ∷ words) [] word secret h one = absurd h
 ReadSecrets-push (w ∷ words) (s ∷ secrets) word secret h one = (h.0, ReadSecrets-push words secrets word secret h.1 one)
 
 -- one word more
-pub ReadSecrets-more : (words : List (Bor (List ℕ))) (d : Bor (List ℕ)) (i : ℕ) (secrets new : List (List ℕ)) (secret : List ℕ) → i < length words
-    → ReadSecrets (texts (take i words)) secrets → ReadsSecret (get_or words i d).now secret → new ≡ secrets ++ secret ∷ []
-    → ReadSecrets (texts (take (i + 1) words)) new
-ReadSecrets-more words d i secrets new secret lt h one e =
-    let now = λ (word : Bor (List ℕ)). word.now in
-    let longer : texts (take (i + 1) words) ≡ texts (take i words) ++ (get_or words i d).now ∷ [] =
-    ap (map now) (take_more words i d lt) ∙ map-append now (take i words) (get_or words i d ∷ []) in
-    rw (longer, e) (ReadSecrets-push (texts (take i words)) secrets (get_or words i d).now secret h one)
+pub ReadSecrets-more : {A : Type 0} (text : A → List ℕ) (words : List A) (d : A) (i : ℕ) (secrets new : List (List ℕ)) (secret : List ℕ) → i < length words
+    → ReadSecrets (map text (take i words)) secrets → ReadsSecret (text (get_or words i d)) secret → new ≡ secrets ++ secret ∷ []
+    → ReadSecrets (map text (take (i + 1) words)) new
+ReadSecrets-more text words d i secrets new secret lt h one e =
+    let longer : map text (take (i + 1) words) ≡ map text (take i words) ++ text (get_or words i d) ∷ [] =
+    ap (map text) (take_more words i d lt) ∙ map-append text (take i words) (get_or words i d ∷ []) in
+    rw (longer, e) (ReadSecrets-push (map text (take i words)) secrets (text (get_or words i d)) secret h one)
 
 pub length-ReadSecrets : (words secrets : List (List ℕ)) → ReadSecrets words secrets → length words ≡ length secrets
 length-ReadSecrets [] [] h = refl

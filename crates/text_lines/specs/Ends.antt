@@ -2,9 +2,9 @@
 use Rattle.std.specs.Prelude.{◌≡◌, ◌≢◌, ℕ, ◌+◌, ◌≤◌, ◌⊎◌, nat_le, List, [], ◌∷◌, ◌++◌, length, Option, Some, Result, Ok, Err, IsTrue, codes, decimal}
 use Rattle.std.specs.List.{list_all}
 use Rattle.std.specs.Io.KnownBytes.{Appends, Keeps}
-use Rattle.text_lines.specs.declared.fault.ReplayFault.{ReplayFault}
-use Rattle.text_lines.specs.declared.fault.ReplayFault.TheVariants.{BadLine, TooLong, Read, Write, Lost, OutOfMemory}
-use Rattle.text_lines.specs.Streams.{Reading, AppendsFront, IsTooLong, has_no_feed}
+use Rattle.text_lines.specs.declared.fault.StreamFault.{StreamFault}
+use Rattle.text_lines.specs.declared.fault.StreamFault.TheVariants.{BadLine, TooLong, Read, Write, Lost, OutOfMemory}
+use Rattle.text_lines.specs.Streams.{LinesValue, AppendsFront, IsTooLong, has_no_feed}
 use Rattle.text_lines.specs.declared.limits.TheConstants.{MAX_LINE_BYTES, MAX_LINES}
 
 -- the lines, each with its line feed
@@ -45,22 +45,22 @@ IsCut Says text written =
     (before rest : List (List ℕ)) × (more : List ℕ) × HasLines text (before ++ rest) × AreWithinBounds before × Says before (written ++ more)
 
 -- what was written at this end
-abbrev pub EndsSo : (List (List ℕ) → List ℕ → Type 0) → (List ℕ → Type 0) → Result (Unit {0}) ReplayFault → List ℕ → List ℕ → Type 0
-EndsSo Says IsBad (Ok done) text written = IsWhole Says text written
-EndsSo Says IsBad (Err (BadLine number)) text written = IsUpToBad Says IsBad number text written
-EndsSo Says IsBad (Err TooLong) text written = IsUpToTooLong Says text written
-EndsSo Says IsBad (Err Read) text written = IsCut Says text written
-EndsSo Says IsBad (Err Write) text written = IsCut Says text written
-EndsSo Says IsBad (Err Lost) text written = IsCut Says text written
-EndsSo Says IsBad (Err OutOfMemory) text written = IsCut Says text written
+abbrev pub IsWrittenAtEnd : (List (List ℕ) → List ℕ → Type 0) → (List ℕ → Type 0) → Result (Unit {0}) StreamFault → List ℕ → List ℕ → Type 0
+IsWrittenAtEnd Says IsBad (Ok done) text written = IsWhole Says text written
+IsWrittenAtEnd Says IsBad (Err (BadLine number)) text written = IsUpToBad Says IsBad number text written
+IsWrittenAtEnd Says IsBad (Err TooLong) text written = IsUpToTooLong Says text written
+IsWrittenAtEnd Says IsBad (Err Read) text written = IsCut Says text written
+IsWrittenAtEnd Says IsBad (Err Write) text written = IsCut Says text written
+IsWrittenAtEnd Says IsBad (Err Lost) text written = IsCut Says text written
+IsWrittenAtEnd Says IsBad (Err OutOfMemory) text written = IsCut Says text written
 
 -- Known bytes of a reader are the text, and those of a writer grew by what this end says.
-abbrev pub Ends : (List (List ℕ) → List ℕ → Type 0) → (List ℕ → Type 0) → Option (List ℕ) → Option (List ℕ) → Option (List ℕ) → Result (Unit {0}) ReplayFault → Type 0
+abbrev pub Ends : (List (List ℕ) → List ℕ → Type 0) → (List ℕ → Type 0) → Option (List ℕ) → Option (List ℕ) → Option (List ℕ) → Result (Unit {0}) StreamFault → Type 0
 Ends Says IsBad input old new end =
-    (text had : List ℕ) → input ≡ Some text → old ≡ Some had → (written : List ℕ) × (new ≡ Some (had ++ written)) × EndsSo Says IsBad end text written
+    (text had : List ℕ) → input ≡ Some text → old ≡ Some had → (written : List ℕ) × (new ≡ Some (had ++ written)) × IsWrittenAtEnd Says IsBad end text written
 
 -- the exit status of an end: 2 for what was read, 3 for the rest
-abbrev pub status_of : Result (Unit {0}) ReplayFault → ℕ
+abbrev pub status_of : Result (Unit {0}) StreamFault → ℕ
 status_of (Ok done) = 0
 status_of (Err (BadLine number)) = 2
 status_of (Err TooLong) = 2
@@ -70,7 +70,7 @@ status_of (Err Lost) = 3
 status_of (Err OutOfMemory) = 3
 
 -- how a fault is told
-abbrev pub fault_text : ReplayFault → List ℕ
+abbrev pub fault_text : StreamFault → List ℕ
 fault_text (BadLine number) = codes "line " ++ decimal number ++ codes ": bad line"
 fault_text TooLong = codes "TooLong"
 fault_text Read = codes "Read"
@@ -85,7 +85,7 @@ abbrev pub CutsLine : (List ℕ → Type 0) → Option (List ℕ) → Option (Li
 CutsLine Gives old new = Keeps old new ⊎ ((answer : List ℕ) × Gives answer × AppendsFront old new answer)
 
 -- how the answering of one line ends
-abbrev pub EndsLine : (List ℕ → Type 0) → (List ℕ → Type 0) → Reading → Option (List ℕ) → Option (List ℕ) → Result (Unit {0}) ReplayFault → Type 0
+abbrev pub EndsLine : (List ℕ → Type 0) → (List ℕ → Type 0) → LinesValue → Option (List ℕ) → Option (List ℕ) → Result (Unit {0}) StreamFault → Type 0
 EndsLine Gives IsBad lines old new (Ok done) = (answer : List ℕ) × Gives answer × Appends old new answer
 EndsLine Gives IsBad lines old new (Err (BadLine number)) = (number ≡ lines.count) × IsBad lines.line × Keeps old new
 EndsLine Gives IsBad lines old new (Err TooLong) = ⊥

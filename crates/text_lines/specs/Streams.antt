@@ -21,14 +21,14 @@ AppendsFront old new bytes = (rest : List ℕ) × AppendsBefore rest old new byt
 
 -- Where the reading of lines stands: the bytes that are read but in no line yet, the line, its number, and whether it ended in a
 -- fault.
-pub record Reading : Type 0 where
+pub record LinesValue : Type 0 where
   pub pending : List ℕ
   pub line : List ℕ
   pub count : ℕ
   pub failed : Bool
 
 -- what is left: the pending bytes, and then those of the reader
-abbrev pub left : Reading → Option (List ℕ) → Option (List ℕ)
+abbrev pub left : LinesValue → Option (List ℕ) → Option (List ℕ)
 left reading remaining = prepend_known reading.pending remaining
 
 -- Known bytes begin with the line and its feed, and lose them. The last line may lack the feed, unless it is empty.
@@ -50,9 +50,9 @@ abbrev pub IsFeedAt : List ℕ → ℕ → Type 0
 IsFeedAt bytes place = (place < length bytes) × (bytes ≡ take place bytes ++ 10 ∷ drop (place + 1) bytes) × IsTrue (has_no_feed (take place bytes))
 
 -- the line grew by the pending bytes before the first line feed, and those behind it are pending
-abbrev pub TakesPiece : Reading → Reading → Type 0
+abbrev pub TakesPiece : LinesValue → LinesValue → Type 0
 TakesPiece old new = (piece : List ℕ) × (old.pending ≡ piece ++ 10 ∷ new.pending) × (new.line ≡ old.line ++ piece) × IsTrue (has_no_feed piece)
 
 -- with the pending bytes before the first line feed, the line is too long
-abbrev pub PassesBound : Reading → Type 0
+abbrev pub PassesBound : LinesValue → Type 0
 PassesBound old = (piece : List ℕ) × (rest : List ℕ) × (old.pending ≡ piece ++ rest) × IsTrue (has_no_feed piece) × (MAX_LINE_BYTES < length old.line + length piece)

@@ -3,7 +3,7 @@ ghost use Rattle.std.specs.Prelude.{◌≡◌, List, ℕ, Some, IfOk};
 ghost use Rattle.text_lines.specs.Answers.{AnswersFrom, Gives};
 ghost use Rattle.text_lines.specs.Ends.{Ends, EndsLine};
 
-use crate::fault::ReplayFault;
+use crate::fault::StreamFault;
 use crate::lines::Lines;
 use crate::output::write_line;
 use crate::words::WordFault;
@@ -38,7 +38,7 @@ pub fn answer_lines<A: Answerer, R: Read, O: Write>(
     answerer: &mut A,
     input: &mut R,
     output: &mut O,
-) -> Result<(), ReplayFault>
+) -> Result<(), StreamFault>
     ensures ends { A.IsClean answerer.new → Ends (AnswersFrom A.Answers answerer.old) A.IsNoLine (R.remaining input.old) (O.contents output.old) (O.contents output.new) result }
     ensures clean { A.IsClean answerer.new → A.IsClean answerer.old }
 {
@@ -55,14 +55,14 @@ fn answer_line<A: Answerer, O: Write>(
     answerer: &mut A,
     lines: &Lines,
     output: &mut O,
-) -> Result<(), ReplayFault>
+) -> Result<(), StreamFault>
     ensures ends { A.IsClean answerer.new → EndsLine (Gives A.Answers answerer.old lines.now.line answerer.new) A.IsNoLine lines.now (O.contents output.old) (O.contents output.new) result }
     ensures clean { A.IsClean answerer.new → A.IsClean answerer.old }
 {
     let reply = match answerer.answer(alloc, lines.line()) {
         Ok(reply) => reply,
-        Err(WordFault::Bad) => return Err(ReplayFault::BadLine(lines.number())),
-        Err(WordFault::OutOfMemory) => return Err(ReplayFault::OutOfMemory),
+        Err(WordFault::Bad) => return Err(StreamFault::BadLine(lines.number())),
+        Err(WordFault::OutOfMemory) => return Err(StreamFault::OutOfMemory),
     };
     write_line(alloc, output, &reply)
 }

@@ -10,9 +10,9 @@ mod output;
 mod words;
 
 pub use crate::answering::{Answerer, answer_lines};
-pub use crate::fault::ReplayFault;
+pub use crate::fault::StreamFault;
 pub use crate::limits::{MAX_LINE_BYTES, MAX_LINES, MAX_READS, MAX_WRITES};
-pub use crate::lines::{Lines, read_into};
+pub use crate::lines::{Lines, extend_within, read_into};
 pub use crate::output::{write_bytes, write_line};
 pub use crate::words::{
     WordFault, is_word, read_body, read_max, read_moment, read_number, read_secrets, secrets_of,

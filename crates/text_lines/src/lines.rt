@@ -3,9 +3,9 @@ ghost use Rattle.std.specs.Prelude.{◌≡◌, ◌≢◌, ◌==◌, ◌⊎◌, t
 ghost use Rattle.std.specs.List.{position};
 ghost use Rattle.std.specs.Option.{unwrap_or};
 ghost use Rattle.std.specs.Io.KnownBytes.{Consumes, Keeps, IsAtEnd};
-ghost use Rattle.text_lines.specs.Streams.{Reading, left, has_no_feed, IsFeedAt, TakesPiece, PassesBound, TakesLine, IsTooLong};
+ghost use Rattle.text_lines.specs.Streams.{LinesValue, left, has_no_feed, IsFeedAt, TakesPiece, PassesBound, TakesLine, IsTooLong};
 
-use crate::fault::ReplayFault;
+use crate::fault::StreamFault;
 use crate::limits::{MAX_LINE_BYTES, MAX_LINES, MAX_READS};
 use std::alloc::{AllocError, Global};
 use std::io::{ErrorKind, Read};
@@ -29,10 +29,10 @@ pub struct Lines {
 
 impl Model for Lines {
     ghost use Rattle.std.specs.Prelude.{◌≤◌, ◌<◌, slice_range, vec_len};
-    ghost use Rattle.text_lines.specs.Streams.{Reading};
+    ghost use Rattle.text_lines.specs.Streams.{LinesValue};
     ghost use Rattle.text_lines.specs.declared.limits.TheConstants.{MAX_LINE_BYTES, MAX_LINES};
 
-    ghost Value = { Reading };
+    ghost Value = { LinesValue };
 
     ghost view = { λ a. record { pending = slice_range a.chunk.items a.at a.end; line = a.line.items; count = a.count; failed = a.failed } };
 
@@ -70,20 +70,20 @@ impl Lines {
     }
 
     /// Goes to the next line: `false` where there is none. After a fault each further call answers Read.
-    pub fn advance<R: Read>(&mut self, reader: &mut R) -> Result<bool, ReplayFault>
+    pub fn advance<R: Read>(&mut self, reader: &mut R) -> Result<bool, StreamFault>
         ensures line { result ≡ Ok true → TakesLine (left self.old (R.remaining reader.old)) (left self.new (R.remaining reader.new)) self.new.line }
         ensures no_feed { result ≡ Ok true → IsTrue (has_no_feed self.new.line) }
         ensures number { result ≡ Ok true → self.new.count ≡ self.old.count + 1 }
         ensures most_bytes { result ≡ Ok true → length self.new.line ≤ MAX_LINE_BYTES }
         ensures most_lines { result ≡ Ok true → self.new.count ≤ MAX_LINES }
         ensures end { result ≡ Ok false → IsAtEnd (left self.old (R.remaining reader.old)) }
-        ensures too_long { result ≡ Err ReplayFault.TooLong → IsTooLong self.old.count (left self.old (R.remaining reader.old)) }
-        ensures faults { IfErr result (λ fault. (fault ≡ ReplayFault.TooLong) ⊎ ((fault ≡ ReplayFault.Read) ⊎ (fault ≡ ReplayFault.OutOfMemory))) }
+        ensures too_long { result ≡ Err StreamFault.TooLong → IsTooLong self.old.count (left self.old (R.remaining reader.old)) }
+        ensures faults { IfErr result (λ fault. (fault ≡ StreamFault.TooLong) ⊎ ((fault ≡ StreamFault.Read) ⊎ (fault ≡ StreamFault.OutOfMemory))) }
         ensures fails { OnErr result (self.new.failed ≡ true) }
-        ensures failed { self.old.failed ≡ true → result ≡ Err ReplayFault.Read }
+        ensures failed { self.old.failed ≡ true → result ≡ Err StreamFault.Read }
     {
         if self.failed {
-            return Err(ReplayFault::Read);
+            return Err(StreamFault::Read);
         }
         let is_line = self.take_line(reader);
         self.failed = is_line.is_err();
@@ -91,15 +91,15 @@ impl Lines {
     }
 
     // Takes the next line: `false` where there is none.
-    fn take_line<R: Read>(&mut self, reader: &mut R) -> Result<bool, ReplayFault>
+    fn take_line<R: Read>(&mut self, reader: &mut R) -> Result<bool, StreamFault>
         ensures line { result ≡ Ok true → TakesLine (left self.old (R.remaining reader.old)) (left self.new (R.remaining reader.new)) self.new.line }
         ensures no_feed { result ≡ Ok true → IsTrue (has_no_feed self.new.line) }
         ensures number { result ≡ Ok true → self.new.count ≡ self.old.count + 1 }
         ensures most_bytes { result ≡ Ok true → length self.new.line ≤ MAX_LINE_BYTES }
         ensures most_lines { result ≡ Ok true → self.new.count ≤ MAX_LINES }
         ensures end { result ≡ Ok false → IsAtEnd (left self.old (R.remaining reader.old)) }
-        ensures too_long { result ≡ Err ReplayFault.TooLong → IsTooLong self.old.count (left self.old (R.remaining reader.old)) }
-        ensures faults { IfErr result (λ fault. (fault ≡ ReplayFault.TooLong) ⊎ ((fault ≡ ReplayFault.Read) ⊎ (fault ≡ ReplayFault.OutOfMemory))) }
+        ensures too_long { result ≡ Err StreamFault.TooLong → IsTooLong self.old.count (left self.old (R.remaining reader.old)) }
+        ensures faults { IfErr result (λ fault. (fault ≡ StreamFault.TooLong) ⊎ ((fault ≡ StreamFault.Read) ⊎ (fault ≡ StreamFault.OutOfMemory))) }
     {
         self.line.clear();
         for _ in self.reads..MAX_READS {
@@ -110,16 +110,16 @@ impl Lines {
                 return self.count_line();
             }
         }
-        Err(ReplayFault::Read)
+        Err(StreamFault::Read)
     }
 
     // Reads the next bytes if none are pending: `false` at the reader's end.
-    fn supply<R: Read>(&mut self, reader: &mut R) -> Result<bool, ReplayFault>
+    fn supply<R: Read>(&mut self, reader: &mut R) -> Result<bool, StreamFault>
         ensures line { self.new.line ≡ self.old.line }
         ensures number { self.new.count ≡ self.old.count }
         ensures left { OnOk result (Keeps (left self.old (R.remaining reader.old)) (left self.new (R.remaining reader.new))) }
         ensures end { result ≡ Ok false → IsAtEnd (left self.new (R.remaining reader.new)) }
-        ensures fault { IfErr result (λ fault. fault ≡ ReplayFault.Read) }
+        ensures fault { IfErr result (λ fault. fault ≡ StreamFault.Read) }
     {
         if self.at < self.end {
             return Ok(true);
@@ -132,22 +132,22 @@ impl Lines {
     }
 
     // Takes the pending bytes into the line, up to a line feed: whether there was one.
-    fn take_piece(&mut self) -> Result<bool, ReplayFault>
+    fn take_piece(&mut self) -> Result<bool, StreamFault>
         ensures number { self.new.count ≡ self.old.count }
         ensures whole { result ≡ Ok true → TakesPiece self.old self.new }
         ensures part { result ≡ Ok false → (self.new.pending ≡ []) × (self.new.line ≡ self.old.line ++ self.old.pending) × IsTrue (has_no_feed self.old.pending) }
-        ensures too_long { result ≡ Err ReplayFault.TooLong → PassesBound self.old }
-        ensures faults { IfErr result (λ fault. (fault ≡ ReplayFault.TooLong) ⊎ (fault ≡ ReplayFault.OutOfMemory)) }
+        ensures too_long { result ≡ Err StreamFault.TooLong → PassesBound self.old }
+        ensures faults { IfErr result (λ fault. (fault ≡ StreamFault.TooLong) ⊎ (fault ≡ StreamFault.OutOfMemory)) }
     {
         let rest = &self.chunk[self.at..self.end];
         match next_feed(rest) {
             Some(place) => {
-                lengthen(&mut self.line, &rest[..place])?;
+                extend_within(&mut self.line, &rest[..place], MAX_LINE_BYTES)?;
                 self.at += place + 1;
                 Ok(true)
             }
             None => {
-                lengthen(&mut self.line, rest)?;
+                extend_within(&mut self.line, rest, MAX_LINE_BYTES)?;
                 self.at = self.end;
                 Ok(false)
             }
@@ -155,14 +155,14 @@ impl Lines {
     }
 
     // At the reader's end a line is one more only if it has bytes: whether it has.
-    fn take_open_line(&mut self) -> Result<bool, ReplayFault>
+    fn take_open_line(&mut self) -> Result<bool, StreamFault>
         ensures line { self.new.line ≡ self.old.line }
         ensures pending { self.new.pending ≡ self.old.pending }
         ensures none { result ≡ Ok false → self.old.line ≡ [] }
         ensures some { result ≡ Ok true → self.old.line ≢ [] }
         ensures number { result ≡ Ok true → self.new.count ≡ self.old.count + 1 }
         ensures bounds { result ≡ Ok true → (length self.new.line ≤ MAX_LINE_BYTES) × (self.new.count ≤ MAX_LINES) }
-        ensures too_long { IfErr result (λ fault. (fault ≡ ReplayFault.TooLong) × (MAX_LINES ≤ self.old.count) × (self.old.line ≢ [])) }
+        ensures too_long { IfErr result (λ fault. (fault ≡ StreamFault.TooLong) × (MAX_LINES ≤ self.old.count) × (self.old.line ≢ [])) }
     {
         if self.line.is_empty() {
             return Ok(false);
@@ -171,15 +171,15 @@ impl Lines {
     }
 
     // Counts one line more.
-    fn count_line(&mut self) -> Result<bool, ReplayFault>
+    fn count_line(&mut self) -> Result<bool, StreamFault>
         ensures line { self.new.line ≡ self.old.line }
         ensures pending { self.new.pending ≡ self.old.pending }
         ensures number { IfOk result (λ is_line. (is_line ≡ true) × (self.new.count ≡ self.old.count + 1)) }
         ensures bounds { OnOk result ((length self.new.line ≤ MAX_LINE_BYTES) × (self.new.count ≤ MAX_LINES)) }
-        ensures too_long { IfErr result (λ fault. (fault ≡ ReplayFault.TooLong) × (MAX_LINES ≤ self.old.count)) }
+        ensures too_long { IfErr result (λ fault. (fault ≡ StreamFault.TooLong) × (MAX_LINES ≤ self.old.count)) }
     {
         if self.count >= MAX_LINES {
-            return Err(ReplayFault::TooLong);
+            return Err(StreamFault::TooLong);
         }
         self.count += 1;
         Ok(true)
@@ -194,18 +194,18 @@ fn new_chunk(alloc: Global) -> Result<Vec<u8>, AllocError>
 }
 
 /// Reads into the chunk: how many bytes, none of them where the reader was interrupted, and `None` at its end.
-pub fn read_into<R: Read>(reader: &mut R, chunk: &mut [u8]) -> Result<Option<usize>, ReplayFault>
+pub fn read_into<R: Read>(reader: &mut R, chunk: &mut [u8]) -> Result<Option<usize>, StreamFault>
     requires { 0 < length chunk.old }
     ensures fits { IfOk result (λ got. unwrap_or got 0 ≤ length chunk.new) }
     ensures bytes { IfOk result (λ got. Consumes (R.remaining reader.old) (R.remaining reader.new) (take (unwrap_or got 0) chunk.new)) }
     ensures end { IfOk result (λ got. MatchOption got (IsAtEnd (R.remaining reader.new)) (λ _. Unit {0})) }
-    ensures fault { IfErr result (λ fault. fault ≡ ReplayFault.Read) }
+    ensures fault { IfErr result (λ fault. fault ≡ StreamFault.Read) }
 {
     match reader.read(chunk) {
         Ok(0) => Ok(None),
         Ok(count) => Ok(Some(count)),
         Err(error) if error.kind() == ErrorKind::Interrupted => Ok(Some(0)),
-        Err(_) => Err(ReplayFault::Read),
+        Err(_) => Err(StreamFault::Read),
     }
 }
 
@@ -222,17 +222,17 @@ fn place_of_feed(bytes: &[u8]) -> Option<usize>
     bytes.iter().position(|byte| *byte == b'\n')
 }
 
-// Puts the piece behind the line, unless it is too long with it.
-fn lengthen(line: &mut Vec<u8>, piece: &[u8]) -> Result<(), ReplayFault>
-    requires { vec_len line.old ≤ MAX_LINE_BYTES }
-    ensures line { OnOk result (line.new.items ≡ line.old.items ++ piece.now) }
-    ensures most { vec_len line.new ≤ MAX_LINE_BYTES }
-    ensures too_long { result ≡ Err ReplayFault.TooLong → MAX_LINE_BYTES < vec_len line.old + length piece.now }
-    ensures faults { IfErr result (λ fault. (fault ≡ ReplayFault.TooLong) ⊎ (fault ≡ ReplayFault.OutOfMemory)) }
+/// Puts the piece behind the bytes, unless they are more than this with it.
+pub fn extend_within(bytes: &mut Vec<u8>, piece: &[u8], max: usize) -> Result<(), StreamFault>
+    requires { vec_len bytes.old ≤ max }
+    ensures bytes { OnOk result (bytes.new.items ≡ bytes.old.items ++ piece.now) }
+    ensures most { vec_len bytes.new ≤ max }
+    ensures too_long { result ≡ Err StreamFault.TooLong → max < vec_len bytes.old + length piece.now }
+    ensures faults { IfErr result (λ fault. (fault ≡ StreamFault.TooLong) ⊎ (fault ≡ StreamFault.OutOfMemory)) }
 {
-    if piece.len() > MAX_LINE_BYTES - line.len() {
-        return Err(ReplayFault::TooLong);
+    if piece.len() > max - bytes.len() {
+        return Err(StreamFault::TooLong);
     }
-    line.extend_from_slice(piece)?;
+    bytes.extend_from_slice(piece)?;
     Ok(())
 }

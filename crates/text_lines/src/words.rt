@@ -1,5 +1,5 @@
 //! The words of a line.
-ghost use Rattle.std.specs.Prelude.{◌≡◌, ◌↔◌, ◌⊎◌, ℕ, ◌<◌, ◌^◌, List, false, IsTrue, IfOk, IfErr, IfSome, decimal};
+ghost use Rattle.std.specs.Prelude.{◌≡◌, ◌↔◌, ◌⊎◌, ℕ, ◌<◌, ◌^◌, List, false, IsTrue, IfOk, IfErr, IfSome, decimal, map};
 ghost use Rattle.relay_types.specs.Values.{is_moment, is_max_limit, is_body};
 ghost use Rattle.text_lines.specs.Parts.{HasParts, texts};
 ghost use Rattle.text_lines.specs.Words.{ReadSecrets, AreSecretTexts, IsSecretsWord, IsBodyWord};
@@ -10,6 +10,7 @@ use hex::FromHexError;
 use itoa::Buffer;
 use relay_types::{Body, MaxLimit, Moment, MsgId, Name, ReadFault, Secret, Secrets, Target};
 use std::alloc::{AllocError, Global};
+use std::convert::AsSlice;
 use std::sync::Arc;
 
 /// Why a line stands for nothing.
@@ -108,24 +109,26 @@ pub fn read_secrets(alloc: Global, word: &[u8]) -> Result<Secrets, WordFault>
 }
 
 /// The secrets of one to four texts, the newest first.
-pub fn secrets_of(alloc: Global, words: &[&[u8]]) -> Result<Secrets, ReadFault>
-    ensures value { IfOk result (λ secrets. AreSecretTexts (texts words.now) secrets) }
-    ensures bad { result ≡ Err ReadFault.BadSecret → (secrets : List (List ℕ)) → AreSecretTexts (texts words.now) secrets → ⊥ }
+pub fn secrets_of<T: AsSlice<u8>>(alloc: Global, texts: &[T]) -> Result<Secrets, ReadFault>
+    ensures value { IfOk result (λ secrets. AreSecretTexts (map T.items texts.now) secrets) }
+    ensures bad { result ≡ Err ReadFault.BadSecret
+        → (secrets : List (List ℕ)) → AreSecretTexts (map T.items texts.now) secrets → ⊥ }
     ensures refusal { IfErr result (λ fault. (fault ≡ ReadFault.BadSecret) ⊎ (fault ≡ ReadFault.OutOfMemory)) }
 {
-    let secrets = read_each(alloc, words)?;
+    let secrets = read_each(alloc, texts)?;
     Secrets::of(secrets.as_slice())
 }
 
 // The secrets of the texts.
-fn read_each(alloc: Global, words: &[&[u8]]) -> Result<Vec<Secret>, ReadFault>
-    ensures value { IfOk result (λ secrets. ReadSecrets (texts words.now) secrets.items) }
-    ensures bad { result ≡ Err ReadFault.BadSecret → (secrets : List (List ℕ)) → ReadSecrets (texts words.now) secrets → ⊥ }
+fn read_each<T: AsSlice<u8>>(alloc: Global, texts: &[T]) -> Result<Vec<Secret>, ReadFault>
+    ensures value { IfOk result (λ secrets. ReadSecrets (map T.items texts.now) secrets.items) }
+    ensures bad { result ≡ Err ReadFault.BadSecret
+        → (secrets : List (List ℕ)) → ReadSecrets (map T.items texts.now) secrets → ⊥ }
     ensures refusal { IfErr result (λ fault. (fault ≡ ReadFault.BadSecret) ⊎ (fault ≡ ReadFault.OutOfMemory)) }
 {
     let mut secrets = Vec::new(alloc);
-    for word in words {
-        let secret = Secret::read(word)?;
+    for text in texts {
+        let secret = Secret::read(text.as_slice())?;
         if secrets.push(secret).is_err() {
             return Err(ReadFault::OutOfMemory);
         }

@@ -3,8 +3,8 @@ use borrow.Author.Tests.{ltb-true, ltb-false}
 use Rattle.text_lines.specs.Parts.{texts}
 use Rattle.relay_commands.specs.Traces.{IsSample}
 use Rattle.relay_commands.proofs.SampleWords.{the_sample, three_texts, length-IsSample}
-use Rattle.relay_commands.proofs.limits.read_sample.Goals as goal
-use Rattle.relay_commands.proofs.limits.read_sample.Goals.{in_default, in_default-2}
+use Rattle.relay_commands.proofs.vegas_command.read_sample.Goals as goal
+use Rattle.relay_commands.proofs.vegas_command.read_sample.Goals.{in_default, in_default-2}
 
 pub returns-in-len3-clause-bad : goal.returns-in-len3-clause-bad
 returns-in-len3-clause-bad c = λ e x reads.

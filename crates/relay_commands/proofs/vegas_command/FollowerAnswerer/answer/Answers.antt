@@ -1,0 +1,27 @@
+use Rattle.std.proofs.Common.{◌≡◌, Result, Err, ap, sym, refl, ◌∙◌}
+use Rattle.std.proofs.lemmas.Result.{err_from_is_err_and}
+use Rattle.vegas.specs.Estimates.{sample_of}
+use Rattle.relay_commands.specs.Traces.{numbers_text}
+use Rattle.relay_commands.proofs.vegas_command.FollowerAnswerer.answer.Goals as goal
+
+one_fault : {T E : Type 0} (a b : E) → ◌≡◌ {A = Result T E} (Err a) (Err b) → a ≡ b
+one_fault a b e = cc
+
+pub returns-in_err-sample-clause-bad : goal.returns-in_err-sample-clause-bad
+returns-in_err-sample-clause-bad c = λ e.
+    let p = err_from_is_err_and c.from_residual.result c.from_residual.ensures.1 in
+    c.in_err-sample.ensures.bad (ap Err (sym p.2 ∙ one_fault p.0 _ (sym p.1 ∙ e)))
+
+pub returns-clause-answers : goal.returns-clause-answers
+returns-clause-answers c = λ clean.
+    let s = c.in_ok-sample.sample in (
+      numbers_text c.limit.result c.noload.result,
+      refl,
+      (
+        sample_of s.rtt s.inflight s.dropped,
+        c.in_ok-sample.ensures.stands,
+        c.sample.ensures.maximum,
+        c.sample.ensures.follows,
+        λ i. numbers_text (c.limit.ensures.number i) (c.noload.ensures.number i),
+      ),
+    )
