@@ -4,4 +4,5 @@ pub mod LegalLemmas
 pub mod EntryLemmas
 pub mod CommitLemmas
 pub mod VaultLemmas
+pub mod AnswerLemmas
 pub mod CreateLemmas

@@ -35,6 +35,6 @@ history_made old new count next entries is ends records on =
     let made = ends records on in
     (record { legal = made.0; stands = made.1.0; next = omega (arith, is, on.next, length-append records entries) }, made.1.1)
 
-pub history_unwritten : (old new : State) (count : ℕ) → ((rows : Rows) → Stands old rows → Rests new rows)
-    → (records : List Record) → HoldsAt old count records → HoldsAt new count records × MayLeave new (λ r. r ≡ rows_of records)
-history_unwritten old new count ends records on = let made = ends (rows_of records) on.stands in (record { legal = on.legal; stands = made.0; next = on.next }, made.1)
+pub history_unwritten : (old new : State) (count next : ℕ) → next ≡ count → ((rows : Rows) → Stands old rows → Rests new rows)
+    → (records : List Record) → HoldsAt old count records → HoldsAt new next records × MayLeave new (λ r. r ≡ rows_of records)
+history_unwritten old new count next is ends records on = let made = ends (rows_of records) on.stands in (record { legal = on.legal; stands = made.0; next = is ∙ on.next }, made.1)

@@ -11,6 +11,8 @@ use Rattle.spool_sql.specs.Tables.{no_schema}
 use Rattle.spool.specs.declared.ends.CommitEnd.{CommitEnd}
 use Rattle.spool.specs.declared.ends.CommitEnd.TheVariants as ends
 use Rattle.spool.specs.declared.ends.Unchanged.TheVariants as why
+use Rattle.spool.specs.declared.transaction.WriteEnd.{WriteEnd}
+use Rattle.spool.specs.declared.transaction.WriteEnd.TheVariants.{Committed, Illegal, OutOfMemory, Doubtful}
 use Rattle.spool.specs.Runs.{Run, span_of}
 use Rattle.spool.specs.Entering.{Rests, RestsInDoubt}
 use Rattle.spool.specs.Vaults.{Kept, Holds}
@@ -42,6 +44,13 @@ IsRefused (ends.Unchanged batch why.OutOfTurn) = Unit {0}
 IsRefused (ends.Unchanged batch why.Illegal) = ⊥
 IsRefused (ends.Unchanged batch why.OutOfMemory) = ⊥
 IsRefused (ends.Doubtful doubt cause) = ⊥
+
+-- what is answered of a batch whose write ended so
+abbrev pub answer_of : Run → WriteEnd → Result Run CommitEnd
+answer_of batch Committed = Ok batch
+answer_of batch Illegal = Err (ends.Unchanged batch why.Illegal)
+answer_of batch OutOfMemory = Err (ends.Unchanged batch why.OutOfMemory)
+answer_of batch (Doubtful cause) = Err (ends.Doubtful (span_of batch) cause)
 
 -- nobody knows whether the batch was written
 abbrev pub IsDoubt : Result Run CommitEnd → Type 0

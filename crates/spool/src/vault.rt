@@ -5,7 +5,7 @@ ghost use Rattle.sqlite.specs.Held.{state};
 ghost use Rattle.relay_types.specs.Records.{records_of};
 ghost use Rattle.spool_sql.specs.Steps.{IfClean};
 ghost use Rattle.spool.specs.Opening.{has_ours, IsRefusedFor, LeavesAt};
-ghost use Rattle.spool.specs.Commits.{IsOpened, IsNext, HandsBack, IsDoubt, IsRefused, AnswersSo, AnswersOver, IsIllegal};
+ghost use Rattle.spool.specs.Commits.{IsOpened, IsNext, HandsBack, IsDoubt, IsRefused, answer_of, AnswersSo, AnswersOver, IsIllegal};
 
 use crate::batch::{Batch, Receipt};
 use crate::create::create_store;
@@ -92,7 +92,21 @@ impl<S: Alter> Vault<S> {
         if batch.mark() != self.mark || batch.from() != self.next {
             return Err(CommitEnd::Unchanged(batch, Unchanged::OutOfTurn));
         }
-        match write_steps(&mut self.conn, self.next, batch.steps()) {
+        let end = write_steps(&mut self.conn, self.next, batch.steps());
+        self.end_commit(batch, end)
+    }
+
+    // What is answered of the next batch, whose write ended so, and the vault after it.
+    fn end_commit(&mut self, batch: Batch, end: WriteEnd) -> Result<Receipt, CommitEnd>
+        requires { batch.from ≡ self.old.next }
+        ensures answer { result ≡ answer_of batch end }
+        ensures conn { self.new.conn ≡ self.old.conn }
+        ensures mark { self.new.mark ≡ self.old.mark }
+        ensures next { self.new.next
+            ≡ cond (is_ok result) (self.old.next + length (records_of batch.steps)) self.old.next }
+        ensures doubt { IsTrue self.new.closed ↔ (IsTrue self.old.closed ⊎ IsDoubt result) }
+    {
+        match end {
             WriteEnd::Committed => {
                 self.next = batch.upto();
                 Ok(batch.into_receipt())

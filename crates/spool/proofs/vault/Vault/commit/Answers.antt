@@ -1,20 +1,14 @@
-use Rattle.std.proofs.Common.{arith}
-use Rattle.sqlite.specs.Held.{state}
-use Rattle.spool.proofs.VaultLemmas.{rows_made, rows_doubted, history_made, history_unwritten}
+use Rattle.spool.specs.Vaults.{Kept}
+use Rattle.spool.proofs.AnswerLemmas.{answers_over, answers_so}
 use Rattle.spool.proofs.vault.Vault.commit.Goals as goal
 
-pub returns-in-Committed-clause-history : goal.returns-in-Committed-clause-history
-returns-in-Committed-clause-history g c clean = rw (← c.self.view_is)
-    (history_made _ _ _ _ _ (omega (arith, c.upto-self-inside.ensures.number, c.from.ensures.number, c.if-from-self.false)) (rw c.steps.ensures.steps at (c.in-Committed.ensures.ends clean)))
+pub returns-clause-history : goal.returns-clause-history
+returns-clause-history g c clean =
+    let old : Kept g.row.S.Denot = record { conn = c.self.inside.conn; mark = c.self.inside.mark; next = c.self.inside.next; closed = c.self.inside.closed } in
+    let late = rw c.end_commit.ensures.conn at clean in
+    let ended = rw (← c.end_commit.ensures.conn, c.steps.ensures.steps) at (c.write_steps-end.ensures.ends late) in
+    rw (← c.self.view_is, c.end_commit.ensures.answer) (answers_over g.S.Store old c.end_commit.new.self c.args.batch c.write_steps-end.result (rw c.end_commit.ensures.answer at c.end_commit.ensures.next) ended)
 
-pub returns-in-Committed-clause-rows : goal.returns-in-Committed-clause-rows
-returns-in-Committed-clause-rows g c clean = rows_made _ _ _ _ _ (returns-in-Committed-clause-history g c clean)
-
-pub returns-in-OutOfMemory-clause-history : goal.returns-in-OutOfMemory-clause-history
-returns-in-OutOfMemory-clause-history g c clean = rw (← c.self.view_is) (history_unwritten _ _ _ (c.in-OutOfMemory.ensures.ends clean))
-
-pub returns-in-OutOfMemory-clause-rows : goal.returns-in-OutOfMemory-clause-rows
-returns-in-OutOfMemory-clause-rows g c clean records on = let kept = returns-in-OutOfMemory-clause-history g c clean records on in (kept.0.stands, kept.1)
-
-pub returns-in-Doubtful-clause-rows : goal.returns-in-Doubtful-clause-rows
-returns-in-Doubtful-clause-rows g c clean = rw (← c.self.view_is) (rows_doubted _ (state g.S.Store c.write_steps.new.conn) _ _ (rw c.steps.ensures.steps at (c.in-Doubtful.ensures.ends clean)))
+pub returns-clause-rows : goal.returns-clause-rows
+returns-clause-rows g c clean =
+    rw c.end_commit.ensures.answer (answers_so g.S.Store c.args.self.now c.end_commit.new.self c.args.batch c.write_steps-end.result (rw c.end_commit.ensures.answer at (returns-clause-history g c clean)))
