@@ -1,5 +1,6 @@
--- When there is no permit, and the numbers of the refusals, in the order in which their faults are looked for.
-use Rattle.std.specs.Prelude.{◌≡◌, ℕ, ◌<◌, ◌≤◌, List, length, IsTrue}
+-- When there is no permit, and the numbers and names of the refusals, in the order in which their faults are looked for.
+use Rattle.std.specs.Prelude.{◌≡◌, ℕ, ◌<◌, ◌≤◌, List, length, codes, IsTrue}
+use Rattle.permits.specs.declared.pool.TheConstants.{MAX_PERMITS}
 use Rattle.permits.specs.declared.refusal.Refused.{Refused}
 use Rattle.permits.specs.declared.refusal.Refused.TheVariants.{AtLimit, TooManyOut, AlreadyOut}
 use Rattle.permits.specs.declared.row.Row.{Row}
@@ -11,13 +12,19 @@ IsAtLimit endpoint limit rows = limit ≤ in_flight_of endpoint rows
 
 -- it has fewer, but all places of the pool are taken
 abbrev pub IsFull : List ℕ → ℕ → List Row → Type 0
-IsFull endpoint limit rows = (in_flight_of endpoint rows < limit) × (length rows ≡ 256)
+IsFull endpoint limit rows = (in_flight_of endpoint rows < limit) × (length rows ≡ MAX_PERMITS)
 
 -- it has fewer, and there is a place, but a row is of the delivery
 abbrev pub IsAlreadyOut : List ℕ → ℕ → ℕ → List Row → Type 0
-IsAlreadyOut endpoint delivery limit rows = (in_flight_of endpoint rows < limit) × (length rows < 256) × IsTrue (is_out delivery rows)
+IsAlreadyOut endpoint delivery limit rows =
+    (in_flight_of endpoint rows < limit) × (length rows < MAX_PERMITS) × IsTrue (is_out delivery rows)
 
 abbrev pub refusal_number : Refused → ℕ
 refusal_number AtLimit = 1
 refusal_number TooManyOut = 2
 refusal_number AlreadyOut = 3
+
+abbrev pub refusal_name : Refused → List ℕ
+refusal_name AtLimit = codes "AtLimit"
+refusal_name TooManyOut = codes "TooManyOut"
+refusal_name AlreadyOut = codes "AlreadyOut"

@@ -17,4 +17,8 @@ is_out delivery rows = list_any (λ row. nat_eq row.delivery delivery) rows
 
 -- the row of a permit that is acquired while these are out; its in-flight number counts it too
 abbrev pub next_row : List ℕ → ℕ → List Row → Row
-next_row endpoint delivery rows = record { endpoint = endpoint; delivery = delivery; inflight = in_flight_of endpoint rows + 1 }
+next_row endpoint delivery rows = record {
+  endpoint = endpoint;
+  delivery = delivery;
+  inflight = in_flight_of endpoint rows + 1;
+}

@@ -8,6 +8,6 @@ mod refusal;
 mod row;
 
 pub use crate::permit::Permit;
-pub use crate::pool::{MOST, PARTS, Pool};
+pub use crate::pool::{MAX_PERMITS, PARTS, Pool};
 pub use crate::refusal::{Foreign, Refused};
 pub use crate::row::Row;

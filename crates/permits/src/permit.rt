@@ -1,7 +1,7 @@
 //! A permit. It has no `Drop`, so whoever holds one hands it on or gives it back.
 ghost use Rattle.std.specs.Prelude.{◌≡◌, ◌≤◌, ◌+◌, length};
 
-use crate::pool::MOST;
+use crate::pool::MAX_PERMITS;
 use crate::row::Row;
 use relay_types::Name;
 use std::marker::Model;
@@ -16,13 +16,19 @@ pub struct Permit<L: Ledger> {
 
 impl<L: Ledger> Model for Permit<L> {
     ghost use Rattle.std.specs.Prelude.{◌≡◌, ◌≤◌};
+    ghost use Rattle.permits.specs.declared.pool.TheConstants.{MAX_PERMITS};
     ghost use Rattle.permits.specs.declared.row.Row.{Row};
 
     ghost Value = { Row };
 
     ghost view = { λ p. p.held };
 
-    ghost invariant = { λ p. (p.unit.parts ≡ 1) × (p.unit.amount ≡ 1) × (1 ≤ p.held.inflight) × (p.held.inflight ≤ 256) };
+    ghost invariant = { λ p. record {
+      parts : p.unit.parts ≡ 1;
+      amount : p.unit.amount ≡ 1;
+      itself : 1 ≤ p.held.inflight;
+      most : p.held.inflight ≤ MAX_PERMITS;
+    } };
 }
 
 impl<L: Ledger> Permit<L> {
@@ -30,7 +36,7 @@ impl<L: Ledger> Permit<L> {
         requires parts { unit.parts ≡ 1 }
         requires amount { unit.amount ≡ 1 }
         requires itself { 1 ≤ row.inflight }
-        requires most { row.inflight ≤ MOST }
+        requires most { row.inflight ≤ MAX_PERMITS }
         ensures { result ≡ row }
     {
         Permit { held: row, unit }
@@ -56,7 +62,7 @@ impl<L: Ledger> Permit<L> {
     pub fn row(&self) -> Row
         ensures row { result ≡ self.now }
         ensures itself { 1 ≤ self.now.inflight }
-        ensures most { self.now.inflight ≤ MOST }
+        ensures most { self.now.inflight ≤ MAX_PERMITS }
     {
         self.held
     }
@@ -79,7 +85,7 @@ impl<L: Ledger> Permit<L> {
     pub fn inflight(&self) -> u32
         ensures number { result ≡ self.now.inflight }
         ensures itself { 1 ≤ result }
-        ensures most { result ≤ MOST }
+        ensures most { result ≤ MAX_PERMITS }
     {
         self.row().inflight
     }

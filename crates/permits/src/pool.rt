@@ -12,7 +12,7 @@ use std::marker::Model;
 use std::sync::ledger::{Blank, Book, Ledger, Share, Total};
 
 /// The most permits that are out at one time.
-pub const MOST: usize = 256;
+pub const MAX_PERMITS: usize = 256;
 
 /// The parts of a pool's ledger: one for each permit that may be out.
 pub const PARTS: u64 = 256;
@@ -27,6 +27,7 @@ pub struct Pool<L: Ledger> {
 
 impl<L: Ledger> Model for Pool<L> {
     ghost use Rattle.std.specs.Prelude.{◌≡◌, ◌≤◌, ◌+◌, List, vec_len, vec_capacity};
+    ghost use Rattle.permits.specs.declared.pool.TheConstants.{MAX_PERMITS, PARTS};
     ghost use Rattle.permits.specs.declared.row.Row.{Row};
 
     ghost Value = { List Row };
@@ -34,7 +35,13 @@ impl<L: Ledger> Model for Pool<L> {
     ghost view = { λ p. p.rows.items };
 
     // The book's total is the number of rows. For each row one part has left the rest, which has no unit. There is room for all.
-    ghost invariant = { λ p. (p.book.total ≡ vec_len p.rows) × (p.rest.parts + vec_len p.rows ≡ 256) × (p.rest.amount ≡ 0) × (vec_len p.rows ≤ 256) × (256 ≤ vec_capacity p.rows) };
+    ghost invariant = { λ p. record {
+      total : p.book.total ≡ vec_len p.rows;
+      parts : p.rest.parts + vec_len p.rows ≡ PARTS;
+      units : p.rest.amount ≡ 0;
+      most : vec_len p.rows ≤ MAX_PERMITS;
+      room : MAX_PERMITS ≤ vec_capacity p.rows;
+    } };
 }
 
 impl<L: Ledger> Pool<L> {
@@ -45,7 +52,7 @@ impl<L: Ledger> Pool<L> {
         requires enough { blank.parts ≡ PARTS }
         ensures { IfOk result (λ pool. pool ≡ []) }
     {
-        let rows = Vec::with_capacity(alloc, MOST)?;
+        let rows = Vec::with_capacity(alloc, MAX_PERMITS)?;
         let (book, rest) = blank.open::<L>();
         Ok(Pool { rows, book, rest })
     }
@@ -54,7 +61,7 @@ impl<L: Ledger> Pool<L> {
     pub fn in_flight(&self, endpoint: Name) -> u32
         ensures count { result ≡ in_flight_of endpoint self.now }
         ensures within { result ≤ length self.now }
-        ensures most { result ≤ MOST }
+        ensures most { result ≤ MAX_PERMITS }
     {
         self.rows
             .iter()
@@ -65,7 +72,7 @@ impl<L: Ledger> Pool<L> {
     /// How many permits are out.
     pub fn live(&self) -> usize
         ensures count { result ≡ length self.now }
-        ensures most { length self.now ≤ MOST }
+        ensures most { length self.now ≤ MAX_PERMITS }
     {
         self.rows.len()
     }
@@ -89,13 +96,13 @@ impl<L: Ledger> Pool<L> {
         ensures already { (result ≡ Err Refused.AlreadyOut) ↔ IsAlreadyOut endpoint delivery limit self.now }
         ensures count { IfOk result (λ before. before ≡ in_flight_of endpoint self.now) }
         ensures fewer { IfOk result (λ before. before ≤ length self.now) }
-        ensures place { OnOk result (length self.now < MOST) }
+        ensures place { OnOk result (length self.now < MAX_PERMITS) }
     {
         let before = self.in_flight(endpoint);
         if before >= limit {
             return Err(Refused::AtLimit);
         }
-        if self.live() >= MOST {
+        if self.live() >= MAX_PERMITS {
             return Err(Refused::TooManyOut);
         }
         if self.is_out(delivery) {
@@ -128,9 +135,9 @@ impl<L: Ledger> Pool<L> {
 
     // Adds a row, for which there is a place.
     fn add(&mut self, row: Row) -> Permit<L>
-        requires place { length self.old < MOST }
+        requires place { length self.old < MAX_PERMITS }
         requires itself { 1 ≤ row.inflight }
-        requires most { row.inflight ≤ MOST }
+        requires most { row.inflight ≤ MAX_PERMITS }
         ensures permit { result ≡ row }
         ensures rows { self.new ≡ self.old ++ row ∷ [] }
     {
@@ -147,7 +154,7 @@ impl<L: Ledger> Pool<L> {
         ensures handed_back { IfErr result (λ e. e.0 ≡ permit) }
         ensures returned { IfOk result (λ row. row ≡ permit) }
         ensures itself { IfOk result (λ row. 1 ≤ row.inflight) }
-        ensures most { IfOk result (λ row. row.inflight ≤ MOST) }
+        ensures most { IfOk result (λ row. row.inflight ≤ MAX_PERMITS) }
         ensures ok { (i : ℕ) → position (same_row permit) self.old ≡ Some i → self.new ≡ remove self.old i }
         ensures one_less { OnOk result (length self.new + 1 ≡ length self.old) }
         ensures err { OnErr result (self.new ≡ self.old) }
@@ -164,7 +171,7 @@ impl<L: Ledger> Pool<L> {
         ensures row { result ≡ permit }
         ensures rows { self.new ≡ remove self.old at }
         ensures itself { 1 ≤ result.inflight }
-        ensures most { result.inflight ≤ MOST }
+        ensures most { result.inflight ≤ MAX_PERMITS }
     {
         let row = permit.row();
         let mut unit = permit.into_unit();

@@ -1,6 +1,6 @@
 //! Why there was no permit, or why one did not come back.
-ghost use Rattle.std.specs.Prelude.{◌≡◌};
-ghost use Rattle.permits.specs.Refusals.{refusal_number};
+ghost use Rattle.std.specs.Prelude.{◌≡◌, Some};
+ghost use Rattle.permits.specs.Refusals.{refusal_number, refusal_name};
 
 use std::fmt;
 
@@ -29,12 +29,20 @@ impl Refused {
 }
 
 impl fmt::Display for Refused {
+    ghost output = { λ refused. Some (refusal_name refused) };
+
     fn fmt<W: fmt::Write>(&self, f: &mut fmt::Formatter<W>) -> fmt::Result {
-        f.write_str(match self {
-            Refused::AtLimit => "AtLimit",
-            Refused::TooManyOut => "TooManyOut",
-            Refused::AlreadyOut => "AlreadyOut",
-        })
+        f.write_str(refusal_name(*self))
+    }
+}
+
+fn refusal_name(refused: Refused) -> &'static str
+    ensures { result.now ≡ refusal_name refused }
+{
+    match refused {
+        Refused::AtLimit => "AtLimit",
+        Refused::TooManyOut => "TooManyOut",
+        Refused::AlreadyOut => "AlreadyOut",
     }
 }
 

@@ -8,6 +8,6 @@ mod status;
 mod verdict;
 
 pub use crate::delay::delay_after;
-pub use crate::post::{Measured, PostResult, Spend, judge, measure, round_trip};
+pub use crate::post::{Measured, PostResult, Spend, judge, measure};
 pub use crate::status::Status;
 pub use crate::verdict::{Verdict, verdict_of};

@@ -57,7 +57,7 @@ pub fn judge(post: &PostResult) -> (Spend, Option<u16>)
     }
 }
 
-/// What the permit of a post is spent as where this status came.
+// What the permit of a post is spent as where this status came.
 fn spend_of_status(status: u16) -> Spend
     ensures { result ≡ spend_of_status status }
 {
@@ -67,8 +67,8 @@ fn spend_of_status(status: u16) -> Spend
     }
 }
 
-/// The round trip of a post in microseconds, 0 where nothing was measured.
-pub fn round_trip(post: &PostResult) -> u64
+// The round trip of a post in microseconds, 0 where nothing was measured.
+fn round_trip(post: &PostResult) -> u64
     ensures { result ≡ round_trip_of post.now }
 {
     match post {

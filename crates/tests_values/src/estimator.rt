@@ -133,6 +133,14 @@ fn each_threshold_has_its_border(rt: HostRuntime) -> Result<(), Fail> {
     Ok(())
 }
 
+fn grown_estimator(maximum: u64) -> Result<Estimator, Fail> {
+    let mut full = estimator(maximum)?;
+    for _ in 0..100 {
+        full.sample(100000, 1000, OK);
+    }
+    Ok(full)
+}
+
 #[test]
 fn a_drop_at_the_maximum_lowers_by_its_step(rt: HostRuntime) -> Result<(), Fail> {
     for (maximum, lower) in [
@@ -144,10 +152,7 @@ fn a_drop_at_the_maximum_lowers_by_its_step(rt: HostRuntime) -> Result<(), Fail>
         (999, 997),
         (1000, 997),
     ] {
-        let mut full = estimator(maximum)?;
-        for _ in 0..100 {
-            full.sample(100000, 1000, OK);
-        }
+        let mut full = grown_estimator(maximum)?;
         assert_eq!(rt; u64::from(full.limit()), maximum);
         full.sample(100000, 1, DROP);
         assert_eq!(rt; full.limit(), lower, "from {maximum}");

@@ -1,7 +1,7 @@
 // The pool at a ledger of its own.
 ghost use Rattle.std.specs.Prelude.{◌≡◌};
 
-use permits::{Foreign, MOST, PARTS, Permit, Pool, Refused, Row};
+use permits::{Foreign, MAX_PERMITS, PARTS, Permit, Pool, Refused, Row};
 use relay_types::Name;
 use std::alloc::Global;
 use std::marker::Brand;
@@ -32,16 +32,13 @@ fn take<L: Ledger>(
     }
 }
 
-fn refusal<L: Ledger>(
-    rt: &impl Abort,
-    pool: &mut Pool<L>,
-    endpoint: Name,
-    delivery: u64,
-    limit: u32,
-) -> Refused {
-    match pool.acquire(endpoint, delivery, limit) {
-        Ok(permit) => panic!(rt; "a permit for {}", permit.delivery()),
-        Err(refused) => refused,
+// For each endpoint, delivery and limit, why there is no permit.
+fn refuse<L: Ledger>(rt: &impl Abort, pool: &mut Pool<L>, rows: &[(Name, u64, u32, Refused)]) {
+    for (endpoint, delivery, limit, want) in rows {
+        match pool.acquire(*endpoint, *delivery, *limit) {
+            Ok(permit) => panic!(rt; "a permit for {}", permit.delivery()),
+            Err(refused) => assert_eq!(rt; refused, *want),
+        }
     }
 }
 
@@ -60,6 +57,23 @@ fn shut<L: Ledger>(rt: &impl Abort, pool: Pool<L>) {
     let _closed = pool.close();
 }
 
+// Whether the permit shows this endpoint, delivery and in-flight number, one by one and as its row.
+fn shows<L: Ledger>(permit: &Permit<L>, row: Row) -> bool {
+    let Row {
+        endpoint,
+        delivery,
+        inflight,
+    } = row;
+    permit.row().is(row)
+        && permit.endpoint().is(endpoint)
+        && permit.delivery() == delivery
+        && permit.inflight() == inflight
+}
+
+fn counts<L: Ledger>(pool: &Pool<L>, a: Name, b: Name) -> (u32, u32, usize) {
+    (pool.in_flight(a), pool.in_flight(b), pool.live())
+}
+
 fn turns<L: Ledger>(rt: &impl Abort, alloc: Global, blank: Blank) -> Result<(), Fail>
     requires name { blank.name ≡ L.name }
     requires parts { blank.parts ≡ L.parts }
@@ -69,31 +83,25 @@ fn turns<L: Ledger>(rt: &impl Abort, alloc: Global, blank: Blank) -> Result<(), 
     let a = name(rt, b"a");
     let b = name(rt, b"b");
     let mut one = take(rt, &mut pool, a, 1, 2);
-    assert_eq!(rt; one.inflight(), 1);
-    assert_eq!(rt; refusal(rt, &mut pool, a, 1, 2), Refused::AlreadyOut);
+    refuse(rt, &mut pool, &[(a, 1, 2, Refused::AlreadyOut)]);
     let two = take(rt, &mut pool, a, 2, 2);
-    assert_eq!(rt; (two.delivery(), two.inflight()), (2, 2));
-    assert!(rt; two.endpoint().is(a));
-    assert!(rt;
-        two.row().is(Row {
-            endpoint: a,
-            delivery: 2,
-            inflight: 2
-        })
-    );
-    assert_eq!(rt; refusal(rt, &mut pool, a, 3, 2), Refused::AtLimit);
-    assert_eq!(rt; refusal(rt, &mut pool, b, 2, 2), Refused::AlreadyOut);
-    assert_eq!(rt; refusal(rt, &mut pool, b, 2, 0), Refused::AtLimit);
-    assert_eq!(rt;
-        (pool.in_flight(a), pool.in_flight(b), pool.live()),
-        (2, 0, 2)
-    );
+    let refused = [
+        (a, 3, 2, Refused::AtLimit),
+        (b, 2, 2, Refused::AlreadyOut),
+        (b, 2, 0, Refused::AtLimit),
+    ];
+    refuse(rt, &mut pool, &refused);
+    let [first, second] = [(1, 1), (2, 2)].map(|(delivery, inflight)| Row {
+        endpoint: a,
+        delivery,
+        inflight,
+    });
+    assert!(rt; shows(&one, first) && shows(&two, second));
+    assert_eq!(rt; counts(&pool, a, b), (2, 0, 2));
     assert_eq!(rt; pool.audit(slice::from_mut(&mut one)), 1);
-    assert_eq!(rt; put(rt, &mut pool, one).delivery, 1);
-    assert_eq!(rt; pool.in_flight(a), 1);
-    let back = put(rt, &mut pool, two);
-    assert!(rt; back.endpoint.is(a));
-    assert_eq!(rt; back.inflight, 2);
+    assert!(rt; put(rt, &mut pool, one).is(first));
+    assert_eq!(rt; counts(&pool, a, b), (1, 0, 1));
+    assert!(rt; put(rt, &mut pool, two).is(second));
     shut(rt, pool);
     Ok(())
 }
@@ -103,7 +111,25 @@ fn permits_take_turns(rt: HostRuntime) -> Result<(), Fail> {
     turns::<Brand>(&rt, rt.alloc(), Blank::new(PARTS))
 }
 
-// Every place is taken, and all come back.
+// Every place is taken.
+fn fill<L: Ledger>(rt: &impl Abort, pool: &mut Pool<L>, endpoint: Name, out: &mut Vec<Permit<L>>) {
+    for delivery in 0..256u64 {
+        let permit = take(rt, pool, endpoint, delivery, 1000);
+        match out.push(permit) {
+            Ok(()) => {}
+            Err(refused) => panic!(rt; "no room for {}", refused.value.delivery()),
+        }
+    }
+}
+
+// All come back.
+fn empty<L: Ledger>(rt: &impl Abort, pool: &mut Pool<L>, mut out: Vec<Permit<L>>) {
+    while let Some(permit) = out.pop() {
+        put(rt, pool, permit);
+    }
+    out.destroy_empty();
+}
+
 fn full<L: Ledger>(rt: &impl Abort, alloc: Global, blank: Blank) -> Result<(), Fail>
     requires name { blank.name ≡ L.name }
     requires parts { blank.parts ≡ L.parts }
@@ -111,22 +137,16 @@ fn full<L: Ledger>(rt: &impl Abort, alloc: Global, blank: Blank) -> Result<(), F
 {
     let mut pool = Pool::<L>::new(alloc, blank)?;
     let a = name(rt, b"a");
-    let mut out = Vec::with_capacity(alloc, MOST)?;
-    for delivery in 0..256u64 {
-        let permit = take(rt, &mut pool, a, delivery, 1000);
-        match out.push(permit) {
-            Ok(()) => {}
-            Err(refused) => panic!(rt; "no room for {}", refused.value.delivery()),
-        }
-    }
-    assert_eq!(rt; refusal(rt, &mut pool, a, 256, 1000), Refused::TooManyOut);
-    assert_eq!(rt; refusal(rt, &mut pool, a, 0, 1000), Refused::TooManyOut);
-    assert_eq!(rt; refusal(rt, &mut pool, a, 256, 256), Refused::AtLimit);
+    let mut out = Vec::with_capacity(alloc, MAX_PERMITS)?;
+    fill(rt, &mut pool, a, &mut out);
+    let refused = [
+        (a, 256, 1000, Refused::TooManyOut),
+        (a, 0, 1000, Refused::TooManyOut),
+        (a, 256, 256, Refused::AtLimit),
+    ];
+    refuse(rt, &mut pool, &refused);
     assert_eq!(rt; pool.audit(out.as_mut_slice()), 0);
-    while let Some(permit) = out.pop() {
-        put(rt, &mut pool, permit);
-    }
-    out.destroy_empty();
+    empty(rt, &mut pool, out);
     shut(rt, pool);
     Ok(())
 }

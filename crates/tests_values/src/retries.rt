@@ -1,4 +1,6 @@
-use retry_table::{PostResult, Spend, Status, Verdict, delay_after, judge, round_trip, verdict_of};
+use retry_table::{
+    Measured, PostResult, Spend, Status, Verdict, delay_after, judge, measure, verdict_of,
+};
 
 fn answered(number: u16) -> Option<PostResult> {
     let status = Status::of(number)?;
@@ -33,17 +35,32 @@ fn every_status(rt: HostRuntime) {
 #[test]
 fn results_without_a_status(rt: HostRuntime) {
     let rows = [
-        (PostResult::TimedOut { rtt: 9 }, Spend::Dropped, Some(0), 9),
-        (PostResult::Unreached, Spend::Ignored, Some(0), 0),
-        (PostResult::Unsent, Spend::Ignored, None, 0),
+        (PostResult::TimedOut { rtt: 9 }, Spend::Dropped, Some(0)),
+        (PostResult::Unreached, Spend::Ignored, Some(0)),
+        (PostResult::Unsent, Spend::Ignored, None),
     ];
-    for (post, spend, recorded, measured) in rows {
+    for (post, spend, recorded) in rows {
         assert_eq!(rt; judge(&post), (spend, recorded), "of {post:?}");
-        assert_eq!(rt; round_trip(&post), measured, "of {post:?}");
     }
-    let post = answered(200).expect(&rt, "a status");
-    assert_eq!(rt; round_trip(&post), 7);
     assert_eq!(rt; verdict_of(0), Verdict::Failed);
+}
+
+fn measured(rtt: u64, dropped: bool) -> Option<Measured> {
+    Some(Measured { rtt, dropped })
+}
+
+#[test]
+fn what_an_estimator_is_told(rt: HostRuntime) {
+    for (number, dropped) in [(200, false), (410, false), (500, false), (503, true)] {
+        let post = answered(number).expect(&rt, "a status");
+        assert_eq!(rt; measure(&post), measured(7, dropped), "at {number}");
+    }
+    assert_eq!(rt;
+        measure(&PostResult::TimedOut { rtt: 9 }),
+        measured(9, true)
+    );
+    assert_eq!(rt; measure(&PostResult::Unreached), None);
+    assert_eq!(rt; measure(&PostResult::Unsent), None);
 }
 
 #[test]

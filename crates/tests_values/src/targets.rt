@@ -1,5 +1,6 @@
 use relay_types::{ReadFault, Target};
 use std::alloc::Global;
+use std::test::Fail;
 
 fn is_read(alloc: Global, text: &[u8]) -> bool {
     Target::read(alloc, text).is_ok()
@@ -9,9 +10,25 @@ fn is_refused(alloc: Global, text: &[u8]) -> bool {
     matches!(Target::read(alloc, text), Err(ReadFault::BadUrl))
 }
 
+/// The text of a target, its host, port and authority, and its path.
+type Row<'a> = (&'a [u8], &'a [u8], u16, &'a [u8], &'a [u8]);
+
+// Whether a second holder of the target sees these parts of it.
+fn has_parts(alloc: Global, row: Row<'_>) -> Result<bool, Fail> {
+    let (text, host, port, authority, path) = row;
+    let target = Target::read(alloc, text)?.share()?;
+    Ok(
+        target.as_bytes() == text
+            && target.host() == host
+            && target.port() == port
+            && target.authority() == authority
+            && target.path() == path,
+    )
+}
+
 #[test]
-fn parts_of_targets(rt: HostRuntime) {
-    let rows: [(&[u8], &[u8], u16, &[u8], &[u8]); 5] = [
+fn parts_of_targets(rt: HostRuntime) -> Result<(), Fail> {
+    let rows: [Row<'_>; 6] = [
         (b"HTTP://h", b"h", 80, b"h", b"/"),
         (b"hTtP://a-B_c.d/", b"a-B_c.d", 80, b"a-B_c.d", b"/"),
         (b"http://h:1", b"h", 1, b"h:1", b"/"),
@@ -23,23 +40,27 @@ fn parts_of_targets(rt: HostRuntime) {
             b"127.0.0.1:9000",
             b"/hook",
         ),
+        // every mark of a path
+        (
+            b"http://h/Az09-._~!$&'()*+,;=:@/%?",
+            b"h",
+            80,
+            b"h",
+            b"/Az09-._~!$&'()*+,;=:@/%?",
+        ),
     ];
-    for (text, host, port, authority, path) in rows.iter() {
-        let target = Target::read(rt.alloc(), text).expect(&rt, "a target");
-        let target = target.share().expect(&rt, "a second holder");
-        assert_eq!(rt; target.as_bytes(), *text);
-        assert_eq!(rt; target.host(), *host);
-        assert_eq!(rt; target.port(), *port);
-        assert_eq!(rt; target.authority(), *authority);
-        assert_eq!(rt; target.path(), *path);
+    for row in rows {
+        assert!(rt; has_parts(rt.alloc(), row)?, "of {:?}", row.0);
     }
+    Ok(())
 }
 
 #[test]
-fn every_mark_of_a_path(rt: HostRuntime) {
-    let text: &[u8] = b"http://h/Az09-._~!$&'()*+,;=:@/%?";
-    let target = Target::read(rt.alloc(), text).expect(&rt, "a target");
-    assert_eq!(rt; target.path(), &text[8..]);
+fn targets_are_compared(rt: HostRuntime) -> Result<(), Fail> {
+    let target = Target::read(rt.alloc(), b"http://h/")?;
+    assert!(rt; target.is(&target.share()?));
+    assert!(rt; !target.is(&Target::read(rt.alloc(), b"http://h")?));
+    Ok(())
 }
 
 #[test]

@@ -1,5 +1,7 @@
 // Worked values of the readers, at and beside each limit.
-use relay_types::{Body, MaxLimit, Moment, MsgId, Name, ReadFault, Record, Secret, Secrets, Step};
+use relay_types::{
+    Body, MaxLimit, Moment, MsgId, Name, ReadFault, Record, Secret, Secrets, Step, Target,
+};
 use std::alloc::Global;
 use std::sync::Arc;
 use std::test::Fail;
@@ -73,6 +75,21 @@ fn limits_and_moments(rt: HostRuntime) -> Result<(), Fail> {
 }
 
 #[test]
+fn bytes_of_a_secret(rt: HostRuntime) -> Result<(), Fail> {
+    let bytes = [7; 65];
+    for (count, good) in [(23, false), (24, true), (64, true), (65, false)] {
+        let fault = if good {
+            None
+        } else {
+            Some(ReadFault::BadSecret)
+        };
+        assert_eq!(rt; Secret::of(&bytes[..count]).err(), fault, "at {count}");
+    }
+    assert_eq!(rt; Secret::of(&bytes[..24])?.as_bytes(), &bytes[..24]);
+    Ok(())
+}
+
+#[test]
 fn four_forms_of_a_secret(rt: HostRuntime) -> Result<(), Fail> {
     let forms: [&[u8]; 4] = [
         b"whsec_MDEyMzQ1Njc4OTAxMjM0NTY3ODkwMTIzNA==",
@@ -83,8 +100,7 @@ fn four_forms_of_a_secret(rt: HostRuntime) -> Result<(), Fail> {
     for form in forms {
         let secret = Secret::read(form)?;
         assert_eq!(rt; secret.as_bytes(), b"0123456789012345678901234".as_slice());
-        let text = secret.write(rt.alloc())?;
-        assert_eq!(rt; text.as_bytes(), forms[0]);
+        assert_eq!(rt; secret.write(rt.alloc())?.as_bytes(), forms[0]);
     }
     Ok(())
 }
@@ -215,6 +231,65 @@ fn records_and_steps_are_shared(rt: HostRuntime) -> Result<(), Fail> {
         assert_eq!(rt; shown(&record), want);
         assert_eq!(rt; shown(step.record()), want);
         assert_eq!(rt; shown(step.share()?.record()), want);
+    }
+    Ok(())
+}
+
+#[test]
+fn secrets_are_compared(rt: HostRuntime) -> Result<(), Fail> {
+    let [a, b, _, _] = KEYS;
+    let (a, b) = (Secret::read(a)?, Secret::read(b)?);
+    assert!(rt; a.is(a) && !a.is(b));
+    let both = Secrets::of(&[a, b])?;
+    assert!(rt; both.is(&Secrets::of(&[a, b])?));
+    assert!(rt; !both.is(&Secrets::of(&[b, a])?));
+    assert!(rt; !both.is(&Secrets::of(&[a])?));
+    Ok(())
+}
+
+// Records of each kind, no two of which are the same.
+fn unlike_records(alloc: Global) -> Result<[Record; 6], Fail> {
+    let name = Name::read(b"a")?;
+    let at = Moment::of(1000)?;
+    let secrets = Secrets::of(&[Secret::read(KEYS[0])?])?;
+    Ok([
+        Record::Put {
+            name,
+            target: Target::read(alloc, b"http://h/")?,
+            max: MaxLimit::of(20)?,
+            secrets,
+        },
+        Record::Secrets { name, secrets },
+        Record::Enabled { name, flag: true },
+        Record::Enabled { name, flag: false },
+        Record::Accept {
+            name,
+            id: MsgId::read(b"msg_1")?,
+            body: body(alloc, 2)??,
+            at,
+        },
+        Record::Outcome {
+            delivery: 8,
+            attempt: 1,
+            status: 204,
+            at,
+        },
+    ])
+}
+
+fn are_same(one: &Record, other: &Record) -> Result<(bool, bool), Fail> {
+    let step = Step::of(other.share()?);
+    Ok((one.is(other), Step::of(one.share()?).is(&step)))
+}
+
+#[test]
+fn records_and_steps_are_compared(rt: HostRuntime) -> Result<(), Fail> {
+    let records = unlike_records(rt.alloc())?;
+    for (place, one) in records.iter().enumerate() {
+        for (at, other) in records.iter().enumerate() {
+            let same = place == at;
+            assert_eq!(rt; are_same(one, other)?, (same, same), "{place} and {at}");
+        }
     }
     Ok(())
 }
