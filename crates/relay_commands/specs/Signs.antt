@@ -3,6 +3,7 @@ use Rattle.std.specs.Prelude.{◌≡◌, ℕ, ◌<◌, ◌≤◌, false, List, l
 use Rattle.std.specs.Io.KnownBytes.{Appends, Keeps}
 use Rattle.hmac_signer.specs.Signature.{signature_header}
 use Rattle.relay_types.specs.Values.{is_msg_id, is_moment}
+use Rattle.relay_types.specs.declared.limits.TheConstants.{MAX_BODY_BYTES}
 use Rattle.relay_types.specs.declared.fault.ReadFault.{ReadFault}
 use Rattle.relay_types.specs.declared.fault.ReadFault.TheVariants.{BadId, BadMoment, BadSecret}
 use Rattle.text_lines.specs.declared.fault.StreamFault.TheVariants.{BadLine, TooLong, Read, Write, Lost, OutOfMemory}
@@ -40,17 +41,17 @@ Refuses id at texts BadMoment = IsTrue (is_msg_id id) × ((moment : ℕ) → IsM
 Refuses id at texts BadSecret = HasIdAndMoment id at × ((secrets : List (List ℕ)) → AreSecretTexts texts secrets → ⊥)
 Refuses id at texts fault = ⊥
 
--- Known bytes of a reader are a body of at most 65,536 bytes, and those of a writer grew by its line.
+-- Known bytes of a reader are a body within its bound, and those of a writer grew by its line.
 abbrev pub Signs : Option (List ℕ) → Option (List ℕ) → Option (List ℕ) → Asked → Type 0
-Signs input old new asked = IfSome input (λ body. (length body ≤ 65536) × Appends old new (signed_line asked body))
+Signs input old new asked = IfSome input (λ body. (length body ≤ MAX_BODY_BYTES) × Appends old new (signed_line asked body))
 
 -- the same with a front of the line
 abbrev pub SignsFront : Option (List ℕ) → Option (List ℕ) → Option (List ℕ) → Asked → Type 0
-SignsFront input old new asked = IfSome input (λ body. (length body ≤ 65536) × AppendsFront old new (signed_line asked body))
+SignsFront input old new asked = IfSome input (λ body. (length body ≤ MAX_BODY_BYTES) × AppendsFront old new (signed_line asked body))
 
 -- known bytes of a reader are more than a body has room for
 abbrev pub IsNoBody : Option (List ℕ) → Type 0
-IsNoBody input = IfSome input (λ body. 65536 < length body)
+IsNoBody input = IfSome input (λ body. MAX_BODY_BYTES < length body)
 
 -- What is written at an end. Memory may be refused only once an id and a moment were read.
 abbrev pub SignsSo : List ℕ → List ℕ → List (List ℕ) → Option (List ℕ) → Option (List ℕ) → Option (List ℕ)

@@ -9,16 +9,13 @@ ghost use Rattle.text_lines.specs.Streams.{AppendsFront};
 
 use crate::ends::{CommandFault, end};
 use hmac_signer::signature_header;
-use relay_types::{Body, Moment, MsgId, ReadFault, Secrets};
+use relay_types::{Body, MAX_BODY_BYTES, Moment, MsgId, ReadFault, Secrets};
 use std::alloc::{AllocError, Global};
 use std::io::{Read, Write};
 use std::sync::Arc;
 use text_lines::{
     MAX_READS, StreamFault, extend_within, read_into, read_moment, secrets_of, write_line,
 };
-
-// The most bytes of a body.
-const MAX_BODY_BYTES: usize = 65_536;
 
 const CHUNK: usize = 4096;
 
