@@ -11,6 +11,34 @@ use std::alloc::{AllocError, Global};
 use std::convert::AsStr;
 use std::io::{Read, Write};
 
+/// What `--version` prints behind the program's name.
+pub const VERSION: &str = "0.1.0";
+
+const EXIT_HELP: &str = "Exit status:
+  0  done
+  1  words that are no command, or an argument that its reader refuses
+  2  a bad line, or too much input
+  3  every other fault
+A fault is told on standard error.";
+
+const REPLAY_HELP: &str = "Lines, words with one space between:
+  put NAME URL MAX SECRETS  a new endpoint; 1 to 4 secrets with commas between, the newest first
+  submit NOW NAME ID BODY   a new event; NOW in seconds since the Unix epoch, BODY in hexadecimal or -
+  seal                      makes a batch of what waits
+  commit                    writes the batch into the store
+  settle                    acknowledges what was written
+  show NAME ID              what became of an event
+A bad line ends the script with status 2; the replies before it stand.";
+
+const SIGN_HELP: &str =
+    "Whoever may list the processes of this machine sees the secrets. A body has at most 65536 bytes;
+status 2 tells of a longer one, status 1 and a name of an argument that is refused.";
+
+const VEGAS_HELP: &str = "Lines: RTT INFLIGHT ok, or RTT INFLIGHT drop
+  RTT       the round trip of a post in microseconds
+  INFLIGHT  how many posts were in flight, 1 to 1000
+A bad line ends the samples with status 2; the limits before it stand.";
+
 /// Runs the command that the words name, the first of which is the program's own: 0 done, 1 usage, 2 what was read,
 /// 3 every other fault.
 pub fn run<S: AsStr, R: Read, O: Write, E: Write>(
@@ -79,28 +107,42 @@ fn sign_words<R: Read, O: Write, E: Write>(
 // The commands and their arguments.
 fn relayd<'a>(alloc: Global) -> Result<Command<'a>, AllocError> {
     Command::new(alloc, "relayd")
-        .about("Keeps webhook events and delivers each to its subscriber")
-        .subcommand_required(true)
-        .subcommand(Command::new(alloc, "replay").about(
-            "Runs the script on standard input over a store in memory",
-        ))?
-        .subcommand(
-            Command::new(alloc, "sign")
-                .about("Prints the webhook-signature header of the body on standard input")
-                .arg(text(alloc, "id").help("The event's id"))?
-                .arg(text(alloc, "at").help("The moment, in seconds since the Unix epoch"))?
-                .arg(
-                    text(alloc, "secret")
-                        .action(ArgAction::Append)
-                        .num_args(1..)
-                        .help("The endpoint's secrets, the newest first"),
-                )?,
-        )?
-        .subcommand(
-            Command::new(alloc, "vegas")
-                .about("Prints the limit after each sample on standard input")
-                .arg(text(alloc, "max").help("The greatest limit, 1 to 1000"))?,
+        .version(VERSION)
+        .about(
+            "Shows the layers of a webhook relay: a script of its calls, signatures, the adaptive limit",
         )
+        .after_help(EXIT_HELP)
+        .subcommand_required(true)
+        .subcommand(replay_syntax(alloc))?
+        .subcommand(sign_syntax(alloc)?)?
+        .subcommand(vegas_syntax(alloc)?)
+}
+
+fn replay_syntax<'a>(alloc: Global) -> Command<'a> {
+    Command::new(alloc, "replay")
+        .about("Answers each line of the script on standard input, over a store in memory")
+        .after_help(REPLAY_HELP)
+}
+
+fn sign_syntax<'a>(alloc: Global) -> Result<Command<'a>, AllocError> {
+    Command::new(alloc, "sign")
+        .about("Prints the webhook-signature header of the body on standard input")
+        .after_help(SIGN_HELP)
+        .arg(text(alloc, "id").help("The event's id"))?
+        .arg(text(alloc, "at").help("The moment, in seconds since the Unix epoch"))?
+        .arg(
+            text(alloc, "secret")
+                .action(ArgAction::Append)
+                .num_args(1..)
+                .help("The endpoint's secrets, 1 to 4, the newest first"),
+        )
+}
+
+fn vegas_syntax<'a>(alloc: Global) -> Result<Command<'a>, AllocError> {
+    Command::new(alloc, "vegas")
+        .about("Prints the limit and the no-load time after each sample on standard input")
+        .after_help(VEGAS_HELP)
+        .arg(text(alloc, "max").help("The greatest limit, 1 to 1000"))
 }
 
 // A required argument of one word.

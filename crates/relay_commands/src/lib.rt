@@ -7,7 +7,7 @@ mod replay_command;
 mod sign_command;
 mod vegas_command;
 
-pub use crate::command_line::run;
+pub use crate::command_line::{VERSION, run};
 pub use crate::ends::{CommandFault, DONE, USAGE, end};
 pub use crate::replay_command::replay;
 pub use crate::sign_command::sign;
