@@ -1,19 +1,17 @@
 -- What the first records of a history say of its events, and which of its deliveries are pending.
-use Rattle.std.proofs.Common.{◌≡◌, ℕ, zero, suc, ◌+◌, ◌≤◌, Bool, true, false, List, [], ◌∷◌, ◌++◌, Option, Some, None, length, refl, sym, ◌∙◌, ap, arith, cond, ◌&&◌, map, add-zero, inl, inr}
-use Rattle.std.specs.Prelude.{slice_get, filter, find, count_by, option_map, option_and_then, is_some, bytes_eq, not, nat_le}
+use Rattle.std.proofs.Common.{◌≡◌, ℕ, zero, suc, ◌+◌, ◌≤◌, Bool, true, false, List, [], ◌∷◌, ◌++◌, Option, Some, None, refl, sym, ◌∙◌, ap, arith, cond, ◌&&◌, map, add-zero, IsTrue, ◌↔◌}
+use Rattle.std.specs.Prelude.{slice_get, filter, find, count_by, option_map, option_and_then, is_some, bytes_eq}
 use Rattle.std.specs.List.{enumerate_from}
 use Rattle.std.specs.Option.{option_map_or}
 use Rattle.std.proofs.lemmas.List.Sums.{sum_by-cons}
-use Rattle.std.proofs.lemmas.Bool.{cases_Bool, false≢true}
+use Rattle.std.specs.Bool.{one_answer}
 use Rattle.std.proofs.lemmas.Slice.Eq.{bytes_eq-Decides}
 use Rattle.relay_types.specs.declared.record.Record.{Record}
 use Rattle.relay_types.specs.declared.state.State.TheVariants.{Pending}
 use Rattle.relay_types.specs.Records.{Accepted, accepted_by}
 use Rattle.relay_types.specs.Deliveries.{accepted, is_accept, is_accept_of, is_accept_as, deliveries, deliveries_of, known_as, is_in_state, state_of}
 use Rattle.delivery_book.specs.Book.{row_of, counts_of, counts_of_all}
-use Rattle.script_lines.specs.declared.reply.Fault.TheVariants as fault
 use Rattle.desk.specs.Moves.{has_body, pending_among}
-use Rattle.desk.specs.Desks.{first_fault, same_faults, backlog_faults}
 
 -- An event's number among the first records
 
@@ -128,21 +126,11 @@ starts records k = ap (accepted records) moved
     moved : 0 + k ≡ k
     moved = omega arith
 
-pending_is : (records : List Record) (name : List ℕ) → (counts_of records name).pending ≡ pending_among records (deliveries_of records name)
+pub pending_is : (records : List Record) (name : List ℕ) → (counts_of records name).pending ≡ pending_among records (deliveries_of records name)
 pending_is records name = pending_from records (λ d. is_in_state Pending (state_of records d)) (is_accept_of name) (λ r t. passes (accepted_by r) _ t) 0 records (starts records)
 
-pending_all_is : (records : List Record) → (counts_of_all records).pending ≡ pending_among records (deliveries records)
+pub pending_all_is : (records : List Record) → (counts_of_all records).pending ≡ pending_among records (deliveries records)
 pending_all_is records = pending_from records (λ d. is_in_state Pending (state_of records d)) is_accept (λ r t. t) 0 records (starts records)
-
--- the backlog that the book's counts tell
-pub backlog_is : (records : List Record) (name : List ℕ) (some all : Bool) → nat_le 10000 (counts_of records name).pending ≡ some → nat_le 50000 (counts_of_all records).pending ≡ all
-    → first_fault ((some, 4, fault.EndpointBacklog) ∷ (all, 5, fault.Backlog) ∷ []) ≡ first_fault (backlog_faults records name)
-backlog_is records name some all e f i =
-    first_fault (
-    (((sym e) ∙ ap (nat_le 10000) (pending_is records name)) i, 4, fault.EndpointBacklog)
-    ∷ ((sym f ∙ ap (nat_le 50000) (pending_all_is records)) i, 5, fault.Backlog)
-    ∷ []
-    )
 
 -- Bodies
 
@@ -154,12 +142,5 @@ pub has_body-none : (body : List ℕ) (o : Option Accepted) → None ≡ option_
 has_body-none body None e = refl
 has_body-none body (Some a) e = cc
 
-pub bodies_differ : (a b : List ℕ) (r : Bool) → (a ≡ b → r ≡ true) → r ≡ false → bytes_eq a b ≡ false
-bodies_differ a b r h e = elim (cases_Bool (bytes_eq a b)) [
-  | inl same ↦ absurd (false≢true (sym e ∙ h ((bytes_eq-Decides a b).0 same)))
-  | inr other ↦ other
-]
-
-pub same_body : (records : List Record) (d : ℕ) (body : List ℕ) (b : Bool) → has_body body (accepted records d) ≡ b
-    → first_fault ((not b, 3, fault.Conflict) ∷ []) ≡ first_fault (same_faults records d body)
-same_body records d body b e = ap (λ x. first_fault ((not x, 3, fault.Conflict) ∷ [])) (sym e)
+pub same_bytes : (a b : List ℕ) (r : Bool) → IsTrue r ↔ (a ≡ b) → r ≡ bytes_eq a b
+same_bytes a b r h = one_answer r (bytes_eq a b) h (bytes_eq-Decides a b)

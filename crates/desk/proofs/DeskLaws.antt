@@ -1,18 +1,17 @@
 -- The worlds for which a desk stands after a step, and the moves of its calls.
-use Rattle.std.proofs.Common.{◌≡◌, ℕ, ◌+◌, ◌<◌, ◌≤◌, Bool, true, false, List, [], ◌∷◌, ◌++◌, Option, Some, None, length, take, drop, refl, sym, ◌∙◌, ap, arith, ◌&&◌, map, append-nil, length-append, subst, inl, inr, max}
-use Rattle.std.specs.Prelude.{Result, Ok, Err, nat_le, is_some, not, bytes_eq, IsTrue, IsSomeAnd, ◌^◌, if◌then◌else◌}
+use Rattle.std.proofs.Common.{◌≡◌, ℕ, ◌+◌, ◌<◌, ◌≤◌, Bool, true, false, List, [], ◌∷◌, ◌++◌, Option, Some, None, length, take, drop, refl, sym, ◌∙◌, ap, arith, ◌&&◌, map, append-nil, length-append, subst, max}
+use Rattle.std.specs.Prelude.{Result, Ok, Err, IfOk, OnOk, OnErr, nat_le, is_some, not, bytes_eq, IsTrue, ◌^◌, if◌then◌else◌}
 use Rattle.std.specs.List.{list_any, list_all}
 use Rattle.std.specs.Option.{option_map_or}
-use Rattle.std.specs.Result.{IsErrAnd}
-use Rattle.std.proofs.lemmas.Result.{err_from_is_err_and}
+use Rattle.std.specs.declared.alloc.AllocError.{AllocError}
 use Rattle.std.proofs.Math.Seq.{take-append_seam}
 use Rattle.std.proofs.lemmas.List.{take-append-le, drop-append-le, length-drop, length-map, map-append}
 use Rattle.std.proofs.lemmas.List.Folds.{list_all-append}
-use Rattle.std.proofs.lemmas.Bool.{le-leb, lt-leb, lt-ltb, leb-false}
+use Rattle.std.proofs.lemmas.Bool.{leb-false, lt-ltb}
 use Rattle.relay_types.specs.declared.record.Record.{Record}
 use Rattle.relay_types.specs.declared.record.Record.TheVariants.{Put, Accept}
 use Rattle.relay_types.specs.Records.{records_of}
-use Rattle.relay_types.specs.Deliveries.{accepted, known_as}
+use Rattle.relay_types.specs.Deliveries.{deliveries, deliveries_of, known_as}
 use Rattle.relay_types.specs.Endpoints.{Endpoint, endpoints, has_endpoint}
 use Rattle.relay_types.specs.Legal.{IsLegal, may_follow, is_within_limits}
 use Rattle.relay_types.proofs.GrowthLaws.{endpoints-snoc}
@@ -22,18 +21,16 @@ use Rattle.delivery_book.specs.Book.{row_of}
 use Rattle.delivery_book.specs.declared.row.Row.{Row}
 use Rattle.delivery_book.proofs.Laws.{stands_accept, stands_other}
 use Rattle.spool.specs.Runs.{is_put_or_accept}
-use Rattle.desk.specs.declared.desk.Refusal.{Refusal}
-use Rattle.script_lines.specs.declared.event.Command.TheVariants.{PutEndpoint}
-use Rattle.script_lines.specs.declared.event.Event.{Event}
-use Rattle.script_lines.specs.declared.event.Event.TheVariants as on
-use Rattle.script_lines.specs.declared.reply.Fault.{Fault}
-use Rattle.script_lines.specs.declared.reply.Fault.TheVariants as fault
-use Rattle.script_lines.specs.declared.reply.Reply.{Reply}
-use Rattle.script_lines.specs.declared.reply.Reply.TheVariants as says
+use Rattle.desk.specs.declared.command.Command.TheVariants.{PutEndpoint}
+use Rattle.desk.specs.declared.refusal.Fault.TheVariants as fault
+use Rattle.desk.specs.declared.refusal.Fault.{Fault}
+use Rattle.desk.specs.declared.refusal.Refusal.{Refusal}
+use Rattle.desk.specs.Faults.{refusal, first_fault, out_of_memory_at}
 use Rattle.desk.specs.World.{World, all_records, settled_records, waiting_records}
-use Rattle.desk.specs.Moves.{Answer, Move, served, refused, unless, moment, at_moment, with_record, staged, repeated, has_body, is_waiting_full, submit, submit_new, change, has_new_record, event_row}
-use Rattle.desk.specs.Desks.{DeskValue, StandsFor, IsMove, steps_of, first_fault, same_faults, backlog_faults, waiting_faults, with_step, with_put, with_accept, staged_reply}
+use Rattle.desk.specs.Moves.{Answer, or_out_of_memory, stages, moment, at_moment, with_record, pending_among, is_waiting_full, are_seqs_spent, is_conflict, event_row, submit, submit_known, submit_new, submit_faults, put_faults, new_submit_faults, repeats, change}
+use Rattle.desk.specs.Desks.{DeskValue, StandsFor, IsMove, Checks, steps_of, with_step, with_put, with_accept}
 use Rattle.desk.proofs.DeskLists.{records_of-snoc, records_of-split, named_any, legal-snoc}
+use Rattle.desk.proofs.MoveLaws.{refuses, passes, makes, lacks, becomes, leaves}
 use Rattle.desk.proofs.DeskEvents.{event_unknown, event_known}
 
 -- What a desk tells of its worlds
@@ -106,7 +103,7 @@ stands_with_put d w name target max secrets h none room follows limits =
 
 pub stands_with_accept : (d : DeskValue) (w : World) (name id body : List ℕ) (at : ℕ) → StandsFor d w → d.waiting ≡ None → d.records < 2 ^ 62
     → IsTrue (may_follow (all_records w) (Accept name id body at)) → IsTrue (is_within_limits (Accept name id body at))
-    → StandsFor (with_accept d name id body at) (with_record w (Accept name id body at))
+    → StandsFor (record (with_accept d name id body at) { clock = d.clock }) (with_record w (Accept name id body at))
 stands_with_accept d w name id body at h none room follows limits =
     let entry : Record = Accept name id body at in
     stands_staged d w entry d.endpoints _ h none room follows limits refl
@@ -132,227 +129,161 @@ stands_later d w at h = record {
 
 -- Faults
 
-abbrev refusing : Refusal → Result (Unit {0}) Refusal
-refusing r = Err r
-
-one_refusal : (a b : Refusal) → refusing a ≡ refusing b → a ≡ b
-one_refusal a b e = cc
-
-pub fault_refuses : (faults : List (Bool × ℕ × Fault)) (w : World) (answer : Answer) (r : Refusal) → first_fault faults ≡ Err r → unless faults w answer ≡ refused w r.number r.fault
-fault_refuses [] w answer r e = cc
-fault_refuses ((there, number, fault) ∷ rest) w answer r e = step there e (fault_refuses rest w answer r)
-  where
-    step : (b : Bool) → (if b then Err (record { number = number; fault = fault }) else first_fault rest) ≡ Err r → (first_fault rest ≡ Err r → unless rest w answer ≡ refused w r.number r.fault)
-        → (if b then refused w number fault else unless rest w answer) ≡ refused w r.number r.fault
-    step true e next = ap (λ (x : Refusal). refused w x.number x.fault) (one_refusal _ _ e)
-    step false e next = next e
-
-pub fault_passes : (faults : List (Bool × ℕ × Fault)) (w : World) (answer : Answer) (u : Unit {0}) → first_fault faults ≡ Ok u → unless faults w answer ≡ answer
-fault_passes [] w answer u e = refl
-fault_passes ((there, number, fault) ∷ rest) w answer u e = step there e (fault_passes rest w answer u)
-  where
-    step : (b : Bool) → (if b then Err (record { number = number; fault = fault }) else first_fault rest) ≡ Ok u → (first_fault rest ≡ Ok u → unless rest w answer ≡ answer)
-        → (if b then refused w number fault else unless rest w answer) ≡ answer
-    step true e next = cc
-    step false e next = next e
-
--- what passes finds nothing waiting, and a number that is left
-waiting_none : (d : DeskValue) (full exhausted : ℕ) (u : Unit {0}) → first_fault (waiting_faults d full exhausted) ≡ Ok u → d.waiting ≡ None
-waiting_none d full exhausted u e = step d.waiting e
-  where
-    step : (o : Option (List Record)) → first_fault ((is_some o, full, fault.WaitingFull) ∷ (nat_le (2 ^ 62) d.records, exhausted, fault.SeqExhausted) ∷ []) ≡ Ok u → o ≡ None
-    step None e = refl
-    step (Some s) e = cc
-
-waiting_room : (d : DeskValue) (full exhausted : ℕ) (u : Unit {0}) → first_fault (waiting_faults d full exhausted) ≡ Ok u → d.records < 2 ^ 62
-waiting_room d full exhausted u e = leb-false (2 ^ 62) d.records (step (is_some d.waiting) (nat_le (2 ^ 62) d.records) e)
-  where
-    step : (a b : Bool) → first_fault ((a, full, fault.WaitingFull) ∷ (b, exhausted, fault.SeqExhausted) ∷ []) ≡ Ok u → b ≡ false
-    step a false e = refl
-    step false true e = cc
-    step true true e = cc
-
--- Moves
-
--- the call is answered as the model says
-pub moved : (d : DeskValue) (w : World) (event : Event) (answer : Answer) → served w event ≡ answer → StandsFor d answer.next → (next : World) × Move w event answer.reply next × StandsFor d next
-moved d w event answer e h = (answer.next, inl (sym (ap (λ a. a.reply) e), sym (ap (λ a. a.next) e)), h)
-
-pub replies : {old new : DeskValue} {event : Event} {a b : Reply} → IsMove old event b new → a ≡ b → IsMove old event a new
-replies {old} {new} {event} m e = subst (λ reply. IsMove old event reply new) (sym e) m
-
-pub leaves : {old a b : DeskValue} {event : Event} {reply : Reply} → IsMove old event reply b → a ≡ b → IsMove old event reply a
-leaves {old} {a} {b} {event} {reply} m e = subst (λ new. IsMove old event reply new) (sym e) m
-
--- the reply that a refusal gives
-pub refuses_so : (r : Result ℕ Refusal) {of : Refusal} → IsErrAnd r (λ y. y ≡ of) → staged_reply r ≡ says.Refused of.number of.fault
-refuses_so r {of} h = let p = err_from_is_err_and r h in ap staged_reply p.1 ∙ ap (λ (x : Refusal). says.Refused x.number x.fault) p.2
-
--- the call is refused for the first fault that is there
-refuses : (d : DeskValue) (w : World) (event : Event) (r : Refusal) → served w event ≡ refused w r.number r.fault → StandsFor d w → (next : World) × Move w event (says.Refused r.number r.fault) next × StandsFor d next
-refuses d w event r e h = moved d w event (refused w r.number r.fault) e h
-
--- Commands
-
-change_is : (d : DeskValue) (w : World) (name target : List ℕ) (max : ℕ) (secrets : List (List ℕ)) → StandsFor d w
-    → change w (PutEndpoint name target max secrets)
-    ≡ unless ((list_any (λ known. bytes_eq known name) d.endpoints, 3, fault.Exists) ∷ (nat_le 256 (length d.endpoints), 4, fault.TooManyEndpoints) ∷ []) w
-    (unless (waiting_faults d 5 6) w (staged w (Put name target max secrets)))
-change_is d w name target max secrets h i =
-    unless (
-    (sym (knows h name) i, 3, fault.Exists)
-    ∷ (nat_le 256 (sym (ap length h.endpoints ∙ length-map (endpoints (all_records w)) (λ (e : Endpoint). e.name)) i), 4, fault.TooManyEndpoints)
-    ∷ (sym (waits h) i, 5, fault.WaitingFull)
-    ∷ (nat_le (2 ^ 62) (sym h.records i), 6, fault.SeqExhausted)
+-- what the desk looks for is what the model does
+pub put_faults_are : {d : DeskValue} {w : World} (name : List ℕ) (known many some spent : Bool) → StandsFor d w
+    → known ≡ list_any (λ each. bytes_eq each name) d.endpoints → many ≡ nat_le 256 (length d.endpoints) → some ≡ is_some d.waiting → spent ≡ nat_le (2 ^ 62) d.records
+    → first_fault ((known, 3, fault.Exists) ∷ (many, 4, fault.TooManyEndpoints) ∷ (some, 5, fault.WaitingFull) ∷ (spent, 6, fault.SeqExhausted) ∷ []) ≡ first_fault (put_faults w name)
+put_faults_are {d} {w} name known many some spent h a b e f i =
+    first_fault (
+    ((a ∙ knows h name) i, 3, fault.Exists)
+    ∷ ((b ∙ ap (nat_le 256) (ap length h.endpoints ∙ length-map (endpoints (all_records w)) (λ (e : Endpoint). e.name))) i, 4, fault.TooManyEndpoints)
+    ∷ ((e ∙ waits h) i, 5, fault.WaitingFull)
+    ∷ ((f ∙ ap (nat_le (2 ^ 62)) h.records) i, 6, fault.SeqExhausted)
     ∷ []
-    ) w (staged w (Put name target max secrets))
+    )
 
-change_known : (d : DeskValue) (w : World) (name target : List ℕ) (max : ℕ) (secrets : List (List ℕ)) → StandsFor d w → (b : Bool) → list_any (λ known. bytes_eq known name) d.endpoints ≡ b
-    → change w (PutEndpoint name target max secrets)
-    ≡ unless ((b, 3, fault.Exists) ∷ (nat_le 256 (length d.endpoints), 4, fault.TooManyEndpoints) ∷ []) w (unless (waiting_faults d 5 6) w (staged w (Put name target max secrets)))
-change_known d w name target max secrets h b e =
-    change_is d w name target max secrets h
-    ∙ ap (λ k. unless ((k, 3, fault.Exists) ∷ (nat_le 256 (length d.endpoints), 4, fault.TooManyEndpoints) ∷ []) w (unless (waiting_faults d 5 6) w (staged w (Put name target max secrets)))) e
+pub new_faults_are : {d : DeskValue} {w : World} (name : List ℕ) (own all some spent : Bool) → StandsFor d w
+    → own ≡ nat_le 10000 (pending_among (all_records w) (deliveries_of (all_records w) name)) → all ≡ nat_le 50000 (pending_among (all_records w) (deliveries (all_records w)))
+    → some ≡ is_some d.waiting → spent ≡ nat_le (2 ^ 62) d.records
+    → first_fault ((own, 4, fault.EndpointBacklog) ∷ (all, 5, fault.Backlog) ∷ (some, 6, fault.WaitingFull) ∷ (spent, 7, fault.SeqExhausted) ∷ []) ≡ first_fault (new_submit_faults w name)
+new_faults_are {d} {w} name own all some spent h a b e f i =
+    first_fault ((a i, 4, fault.EndpointBacklog) ∷ (b i, 5, fault.Backlog) ∷ ((e ∙ waits h) i, 6, fault.WaitingFull) ∷ ((f ∙ ap (nat_le (2 ^ 62)) h.records) i, 7, fault.SeqExhausted) ∷ [])
 
-change_fits : (d : DeskValue) (w : World) (name target : List ℕ) (max : ℕ) (secrets : List (List ℕ)) → StandsFor d w → list_any (λ known. bytes_eq known name) d.endpoints ≡ false → (b : Bool) → nat_le 256 (length d.endpoints) ≡ b
-    → change w (PutEndpoint name target max secrets) ≡ unless ((b, 4, fault.TooManyEndpoints) ∷ []) w (unless (waiting_faults d 5 6) w (staged w (Put name target max secrets)))
-change_fits d w name target max secrets h e b f =
-    change_known d w name target max secrets h false e
-    ∙ ap (λ k. unless ((k, 4, fault.TooManyEndpoints) ∷ []) w (unless (waiting_faults d 5 6) w (staged w (Put name target max secrets)))) f
+pub submit_faults_are : {d : DeskValue} {w : World} (name : List ℕ) (known : Option ℕ) (body : List ℕ) (there conflict : Bool) → StandsFor d w
+    → there ≡ list_any (λ each. bytes_eq each name) d.endpoints → conflict ≡ is_conflict (all_records w) known body
+    → first_fault ((not there, 2, fault.UnknownEndpoint) ∷ (conflict, 3, fault.Conflict) ∷ []) ≡ first_fault (submit_faults w name known body)
+submit_faults_are name known body there conflict h a b i =
+    first_fault ((not ((a ∙ knows h name) i), 2, fault.UnknownEndpoint) ∷ (b i, 3, fault.Conflict) ∷ [])
 
-pub change-exists : (d : DeskValue) (name target : List ℕ) (max : ℕ) (secrets : List (List ℕ)) → list_any (λ known. bytes_eq known name) d.endpoints ≡ true
-    → IsMove d (on.Change (PutEndpoint name target max secrets)) (says.Refused 3 fault.Exists) d
-change-exists d name target max secrets e = λ w h. moved d w (on.Change (PutEndpoint name target max secrets)) (refused w 3 fault.Exists) (change_known d w name target max secrets h true e) h
+-- what a call without faults tells: four faults in a row, none of which is there
+pub none_of_four : (a b e f : Bool) (k l m n : ℕ) (one two three four : Fault) (u : Unit {0})
+    → first_fault ((a, k, one) ∷ (b, l, two) ∷ (e, m, three) ∷ (f, n, four) ∷ []) ≡ Ok u → (a ≡ false) × (b ≡ false) × (e ≡ false) × (f ≡ false)
+none_of_four false false false false k l m n one two three four u h = (refl, refl, refl, refl)
+none_of_four false false false true k l m n one two three four u h = cc
+none_of_four false false true f k l m n one two three four u h = cc
+none_of_four false true e f k l m n one two three four u h = cc
+none_of_four true b e f k l m n one two three four u h = cc
 
-pub change-many : (d : DeskValue) (name target : List ℕ) (max : ℕ) (secrets : List (List ℕ)) → list_any (λ known. bytes_eq known name) d.endpoints ≡ false → 256 ≤ length d.endpoints
-    → IsMove d (on.Change (PutEndpoint name target max secrets)) (says.Refused 4 fault.TooManyEndpoints) d
-change-many d name target max secrets e many = λ w h.
-    moved d w (on.Change (PutEndpoint name target max secrets)) (refused w 4 fault.TooManyEndpoints) (change_fits d w name target max secrets h e true (le-leb 256 (length d.endpoints) many)) h
+pub none_of_two : (a b : Bool) (k l : ℕ) (one two : Fault) (u : Unit {0}) → first_fault ((a, k, one) ∷ (b, l, two) ∷ []) ≡ Ok u → (a ≡ false) × (b ≡ false)
+none_of_two false false k l one two u h = (refl, refl)
+none_of_two false true k l one two u h = cc
+none_of_two true b k l one two u h = cc
 
-pub change-waiting : (d : DeskValue) (name target : List ℕ) (max : ℕ) (secrets : List (List ℕ)) (r : Refusal) → list_any (λ known. bytes_eq known name) d.endpoints ≡ false → length d.endpoints < 256
-    → first_fault (waiting_faults d 5 6) ≡ Err r → IsMove d (on.Change (PutEndpoint name target max secrets)) (says.Refused r.number r.fault) d
-change-waiting d name target max secrets r e few f = λ w h.
-    refuses d w (on.Change (PutEndpoint name target max secrets)) r
-    (change_fits d w name target max secrets h e false (lt-leb 256 (length d.endpoints) few) ∙ fault_refuses (waiting_faults d 5 6) w (staged w (Put name target max secrets)) r f)
-    h
+-- what a check that found nothing tells of the second and the last of four faults
+pub free_of : (result : Result (Unit {0}) Refusal) (a b e f : Bool) (k l m n : ℕ) (one two three four : Fault) (P : Type 0)
+    → result ≡ first_fault ((a, k, one) ∷ (b, l, two) ∷ (e, m, three) ∷ (f, n, four) ∷ []) → (b ≡ false → f ≡ false → P) → OnOk result P
+free_of (Ok u) a b e f k l m n one two three four P h give = let none = none_of_four a b e f k l m n one two three four u (sym h) in give none.1 none.3
+free_of (Err r) a b e f k l m n one two three four P h give = tt
 
-pub change-staged : (d : DeskValue) (name target : List ℕ) (max : ℕ) (secrets : List (List ℕ)) (u : Unit {0}) → list_any (λ known. bytes_eq known name) d.endpoints ≡ false → length d.endpoints < 256
-    → first_fault (waiting_faults d 5 6) ≡ Ok u → IsTrue (is_within_limits (Put name target max secrets))
-    → IsMove d (on.Change (PutEndpoint name target max secrets)) (says.Staged d.records) (with_put d name target max secrets)
-change-staged d name target max secrets u e few f limits = λ w h.
-    let entry : Record = Put name target max secrets in
-    let fits : length (endpoints (all_records w)) < 256 = omega (arith, few, ap length h.endpoints, length-map (endpoints (all_records w)) (λ (x : Endpoint). x.name)) in
-    subst (λ n. (next : World) × Move w (on.Change (PutEndpoint name target max secrets)) (says.Staged n) next × StandsFor (with_put d name target max secrets) next) (sym h.records)
-    (moved (with_put d name target max secrets) w (on.Change (PutEndpoint name target max secrets)) (staged w entry)
-    (change_fits d w name target max secrets h e false (lt-leb 256 (length d.endpoints) few) ∙ fault_passes (waiting_faults d 5 6) w (staged w entry) u f)
-    (stands_with_put d w name target max secrets h (waiting_none d 5 6 u f) (waiting_room d 5 6 u f)
-    (λ i. not ((sym (knows h name) ∙ e) i) && lt-ltb (length (endpoints (all_records w))) 256 fits i)
-    limits))
+-- a number below a limit
+pub fits : (limit n m : ℕ) → n ≡ m → nat_le limit n ≡ false → m < limit
+fits limit n m e h = leb-false limit m (ap (nat_le limit) (sym e) ∙ h)
 
--- Submissions
+nothing_waits : (o : Option (List Record)) → is_some o ≡ false → o ≡ None
+nothing_waits None e = refl
+nothing_waits (Some step) e = cc
 
-submit_is : (d : DeskValue) (w : World) (now : ℕ) (name id body : List ℕ) → StandsFor d w → (b : Bool) → list_any (λ known. bytes_eq known name) d.endpoints ≡ b → (o : Option ℕ) → known_as (all_records w) name id ≡ o
-    → submit w now name id body
-    ≡ unless ((not b, 2, fault.UnknownEndpoint) ∷ (option_map_or (λ d. not (has_body body (accepted (all_records w) d))) o false, 3, fault.Conflict) ∷ []) w
-    (option_map_or (repeated w now) o (submit_new w now name id body))
-submit_is d w now name id body h b e o f i =
-    unless ((not ((sym (knows h name) ∙ e) i), 2, fault.UnknownEndpoint) ∷ (option_map_or (λ d. not (has_body body (accepted (all_records w) d))) (f i) false, 3, fault.Conflict) ∷ []) w
-    (option_map_or (repeated w now) (f i) (submit_new w now name id body))
+-- where no fault of a new record is there, nothing waits and a number is left
+pub free_place : {d : DeskValue} {w : World} → StandsFor d w → is_waiting_full w ≡ false → d.waiting ≡ None
+free_place {d} h e = nothing_waits d.waiting (waits h ∙ e)
 
--- the record of a new submission
-abbrev pub taken : World → ℕ → List ℕ → List ℕ → List ℕ → Answer
-taken w now name id body = staged (at_moment w now) (Accept name id body (moment w now))
+pub free_seq : {d : DeskValue} {w : World} → StandsFor d w → are_seqs_spent w ≡ false → d.records < 2 ^ 62
+free_seq {d} h e = leb-false (2 ^ 62) d.records (ap (nat_le (2 ^ 62)) h.records ∙ e)
 
-new_is : (d : DeskValue) (w : World) (now : ℕ) (name id body : List ℕ) → StandsFor d w
-    → submit_new w now name id body ≡ unless (backlog_faults (all_records w) name) w (unless (waiting_faults d 6 7) w (taken w now name id body))
-new_is d w now name id body h i =
-    unless (backlog_faults (all_records w) name) w (unless ((sym (waits h) i, 6, fault.WaitingFull) ∷ (nat_le (2 ^ 62) (sym h.records i), 7, fault.SeqExhausted) ∷ []) w (taken w now name id body))
+-- Records
 
-new_submit : (d : DeskValue) (w : World) (now : ℕ) (name id body : List ℕ) → StandsFor d w → list_any (λ known. bytes_eq known name) d.endpoints ≡ true → known_as (all_records w) name id ≡ None
-    → submit w now name id body ≡ unless (backlog_faults (all_records w) name) w (unless (waiting_faults d 6 7) w (taken w now name id body))
-new_submit d w now name id body h e f = submit_is d w now name id body h true e None f ∙ new_is d w now name id body h
+pub put_moves : (d new : DeskValue) (name target : List ℕ) (max : ℕ) (secrets : List (List ℕ)) (u : Unit {0}) (seq : ℕ) → Checks d (λ w. put_faults w name) (Ok u)
+    → IsTrue (is_within_limits (Put name target max secrets)) → seq ≡ d.records → new ≡ with_put d name target max secrets
+    → IsMove d (λ w. change w (PutEndpoint name target max secrets)) (Ok seq) new
+put_moves d new name target max secrets u seq checks limits same is =
+    passes d new (λ w. put_faults w name) (λ w. stages w (Put name target max secrets)) u (Ok seq) checks
+    (makes d new (λ w. stages w (Put name target max secrets)) seq (λ w h.
+    let free = none_of_four (has_endpoint (all_records w) name) (nat_le 256 (length (endpoints (all_records w)))) (is_waiting_full w) (are_seqs_spent w) 3 4 5 6 _ _ _ _ u (sym (checks w h)) in (
+      ap Ok (sym h.records ∙ sym same),
+      subst (λ (v : DeskValue). StandsFor v (with_record w (Put name target max secrets))) (sym is)
+          (stands_with_put d w name target max secrets h (free_place h free.2) (free_seq h free.3)
+          (λ i. not (free.0 i) && lt-ltb (length (endpoints (all_records w))) 256 (leb-false 256 (length (endpoints (all_records w))) free.1) i)
+          limits),
+    )))
 
-accepted_submit : (d : DeskValue) (w : World) (now : ℕ) (name id body : List ℕ) (u v : Unit {0}) → StandsFor d w → list_any (λ known. bytes_eq known name) d.endpoints ≡ true → known_as (all_records w) name id ≡ None
-    → first_fault (backlog_faults (all_records w) name) ≡ Ok u → first_fault (waiting_faults d 6 7) ≡ Ok v → submit w now name id body ≡ taken w now name id body
-accepted_submit d w now name id body u v h e f g k =
-    new_submit d w now name id body h e f
-    ∙ fault_passes (backlog_faults (all_records w) name) w (unless (waiting_faults d 6 7) w (taken w now name id body)) u g
-    ∙ fault_passes (waiting_faults d 6 7) w (taken w now name id body) v k
+not_not : (b : Bool) → not b ≡ false → b ≡ true
+not_not true e = refl
+not_not false e = sym e
 
--- one more record is a new one
-record_grows : (w : World) (entry : Record) → has_new_record w (with_record w entry) ≡ true
-record_grows w entry = lt-ltb (length w.history) (length (w.history ++ (entry ∷ []) ∷ [])) (omega (arith, length-append w.history ((entry ∷ []) ∷ [])))
-
--- a call that takes memory may be refused for want of it
-pub lacks_memory : (w : World) (number : ℕ) (grows : Bool) → grows ≡ true
-    → IsSomeAnd (if grows then Some number else None) (λ (n : ℕ). (says.Refused number fault.OutOfMemory ≡ says.Refused n fault.OutOfMemory) × (w ≡ w))
-lacks_memory w number true e = (refl, refl)
-lacks_memory w number false e = cc
-
--- what the book says of an event, and what the desk looked for, in each world for which the desk stands
+-- what the desk finds of an event, in each world for which it stands
 abbrev pub Finds : DeskValue → List ℕ → List ℕ → Option ℕ → Type 0
 Finds d name id found = (w : World) → StandsFor d w → found ≡ known_as (all_records w) name id
 
-abbrev pub Checks : DeskValue → (World → List (Bool × ℕ × Fault)) → Result (Unit {0}) Refusal → Type 0
-Checks d faults result = (w : World) → StandsFor d w → result ≡ first_fault (faults w)
+-- the record of a new submission
+abbrev pub accepts : World → ℕ → List ℕ → List ℕ → List ℕ → Answer ℕ
+accepts w now name id body = or_out_of_memory 8 (stages (at_moment w now) (Accept name id body (moment w now)))
 
-pub submit-unknown : (d : DeskValue) (now : ℕ) (name id body : List ℕ) → list_any (λ known. bytes_eq known name) d.endpoints ≡ false → IsMove d (on.Submit now name id body) (says.Refused 2 fault.UnknownEndpoint) d
-submit-unknown d now name id body e = λ w h.
-    moved d w (on.Submit now name id body) (refused w 2 fault.UnknownEndpoint) (submit_is d w now name id body h false e (known_as (all_records w) name id) refl) h
+pub accept_makes : (d new : DeskValue) (now : ℕ) (name id body : List ℕ) (at : ℕ) (u v : Unit {0}) (seq : ℕ) → Checks d (λ w. new_submit_faults w name) (Ok u)
+    → Checks d (λ w. submit_faults w name None body) (Ok v) → Finds d name id None → IsTrue (is_within_limits (Accept name id body at)) → at ≡ max now d.clock → seq ≡ d.records → new ≡ with_accept d name id body at
+    → IsMove d (λ w. accepts w now name id body) (Ok seq) new
+accept_makes d new now name id body at u v seq checks there unknown limits later same is =
+    makes d new (λ w. accepts w now name id body) seq (λ w h.
+    let free = none_of_four _ _ (is_waiting_full w) (are_seqs_spent w) 4 5 6 7 _ _ _ _ u (sym (checks w h)) in
+    let moment_is : at ≡ moment w now = later ∙ ap (max now) h.clock in (
+      ap Ok (sym h.records ∙ sym same),
+      subst (λ (v : DeskValue). StandsFor v (with_record (at_moment w now) (Accept name id body (moment w now)))) (sym is)
+          (subst (λ t. StandsFor (with_accept d name id body at) (with_record (record w { clock = t }) (Accept name id body t))) moment_is
+          (stands_later (record (with_accept d name id body at) { clock = d.clock }) (with_record w (Accept name id body at)) at
+          (stands_with_accept d w name id body at h (free_place h free.2) (free_seq h free.3)
+          (λ i. not_not (has_endpoint (all_records w) name) (none_of_two (not (has_endpoint (all_records w) name)) false 2 3 fault.UnknownEndpoint fault.Conflict v (sym (there w h))).0 i && not (is_some (sym (unknown w h) i)))
+          limits))),
+    ))
 
-pub submit-conflict : (d : DeskValue) (now : ℕ) (name id body : List ℕ) (delivery : ℕ) (r : Refusal) → list_any (λ known. bytes_eq known name) d.endpoints ≡ true → Finds d name id (Some delivery)
-    → Checks d (λ w. same_faults (all_records w) delivery body) (Err r) → IsMove d (on.Submit now name id body) (says.Refused r.number r.fault) d
-submit-conflict d now name id body delivery r e f g = λ w h.
-    refuses d w (on.Submit now name id body) r
-    (submit_is d w now name id body h true e (Some delivery) (sym (f w h)) ∙ fault_refuses (same_faults (all_records w) delivery body) w (repeated w now delivery) r (sym (g w h)))
-    h
+-- a repeated submission sets the clock alone
+pub repeats_makes : (d new : DeskValue) (now delivery at : ℕ) → at ≡ max now d.clock → new ≡ record d { clock = at } → IsMove d (λ w. repeats w now delivery) (Ok delivery) new
+repeats_makes d new now delivery at later is =
+    makes d new (λ w. repeats w now delivery) delivery (λ w h. (
+      refl,
+      subst (λ (v : DeskValue). StandsFor v (at_moment w now)) (sym is)
+          (subst (λ t. StandsFor (record d { clock = at }) (record w { clock = t })) (later ∙ ap (max now) h.clock) (stands_later d w at h)),
+    ))
 
-pub submit-repeated : (d : DeskValue) (now : ℕ) (name id body : List ℕ) (delivery : ℕ) (u : Unit {0}) → list_any (λ known. bytes_eq known name) d.endpoints ≡ true → Finds d name id (Some delivery)
-    → Checks d (λ w. same_faults (all_records w) delivery body) (Ok u) → IsMove d (on.Submit now name id body) (says.Staged delivery) (record d { clock = max now d.clock })
-submit-repeated d now name id body delivery u e f g = λ w h.
-    moved (record d { clock = max now d.clock }) w (on.Submit now name id body) (repeated w now delivery)
-    (submit_is d w now name id body h true e (Some delivery) (sym (f w h)) ∙ fault_passes (same_faults (all_records w) delivery body) w (repeated w now delivery) u (sym (g w h)))
-    (subst (λ at. StandsFor (record d { clock = max now d.clock }) (record w { clock = max now at })) h.clock (stands_later d w (max now d.clock) h))
+-- a submission, by what the desk finds of its id
+submit_by : (d new : DeskValue) (now : ℕ) (name id body : List ℕ) (known : Option ℕ) (reply : Result ℕ Refusal) → Finds d name id known
+    → IsMove d (λ w. submit_known known w now name id body) reply new → IsMove d (λ w. submit w now name id body) reply new
+submit_by d new now name id body known reply finds move =
+    becomes d new (λ w. submit_known known w now name id body) (λ w. submit w now name id body) reply (λ w h. ap (λ o. submit_known o w now name id body) (finds w h)) move
 
-pub submit-backlog : (d : DeskValue) (now : ℕ) (name id body : List ℕ) (r : Refusal) → list_any (λ known. bytes_eq known name) d.endpoints ≡ true → Finds d name id None
-    → Checks d (λ w. backlog_faults (all_records w) name) (Err r) → IsMove d (on.Submit now name id body) (says.Refused r.number r.fault) d
-submit-backlog d now name id body r e f g = λ w h.
-    refuses d w (on.Submit now name id body) r
-    (new_submit d w now name id body h e (sym (f w h)) ∙ fault_refuses (backlog_faults (all_records w) name) w (unless (waiting_faults d 6 7) w (taken w now name id body)) r (sym (g w h)))
-    h
+pub submit_refused : (d : DeskValue) (now : ℕ) (name id body : List ℕ) (known : Option ℕ) (r : Refusal) → Finds d name id known → Checks d (λ w. submit_faults w name known body) (Err r)
+    → IsMove d (λ w. submit w now name id body) (Err r) d
+submit_refused d now name id body known r finds checks =
+    submit_by d d now name id body known (Err r) finds
+    (refuses d (λ w. submit_faults w name known body) (λ w. option_map_or (repeats w now) known (submit_new w now name id body)) r checks)
 
-pub submit-waiting : (d : DeskValue) (now : ℕ) (name id body : List ℕ) (u : Unit {0}) (r : Refusal) → list_any (λ known. bytes_eq known name) d.endpoints ≡ true → Finds d name id None
-    → Checks d (λ w. backlog_faults (all_records w) name) (Ok u) → first_fault (waiting_faults d 6 7) ≡ Err r → IsMove d (on.Submit now name id body) (says.Refused r.number r.fault) d
-submit-waiting d now name id body u r e f g k = λ w h.
-    refuses d w (on.Submit now name id body) r
-    (new_submit d w now name id body h e (sym (f w h))
-    ∙ fault_passes (backlog_faults (all_records w) name) w (unless (waiting_faults d 6 7) w (taken w now name id body)) u (sym (g w h))
-    ∙ fault_refuses (waiting_faults d 6 7) w (taken w now name id body) r k)
-    h
+pub submit_repeated : (d new : DeskValue) (now : ℕ) (name id body : List ℕ) (delivery at : ℕ) (u : Unit {0}) → Finds d name id (Some delivery) → Checks d (λ w. submit_faults w name (Some delivery) body) (Ok u)
+    → at ≡ max now d.clock → new ≡ record d { clock = at } → IsMove d (λ w. submit w now name id body) (Ok delivery) new
+submit_repeated d new now name id body delivery at u finds checks later is =
+    submit_by d new now name id body (Some delivery) (Ok delivery) finds
+    (passes d new (λ w. submit_faults w name (Some delivery) body) (λ w. repeats w now delivery) u (Ok delivery) checks (repeats_makes d new now delivery at later is))
 
-pub submit-memory : (d : DeskValue) (now : ℕ) (name id body : List ℕ) (u v : Unit {0}) → list_any (λ known. bytes_eq known name) d.endpoints ≡ true → Finds d name id None
-    → Checks d (λ w. backlog_faults (all_records w) name) (Ok u) → first_fault (waiting_faults d 6 7) ≡ Ok v → IsMove d (on.Submit now name id body) (says.Refused 8 fault.OutOfMemory) d
-submit-memory d now name id body u v e f g k = λ w h.
-    let grows : has_new_record w (submit w now name id body).next ≡ true =
-    ap (λ (answer : Answer). has_new_record w answer.next) (accepted_submit d w now name id body u v h e (sym (f w h)) (sym (g w h)) k)
-    ∙ record_grows w (Accept name id body (moment w now)) in
-    (w, inr (inl (lacks_memory w 8 (has_new_record w (submit w now name id body).next) grows)), h)
+pub submit_taken : (d new : DeskValue) (now : ℕ) (name id body : List ℕ) (u : Unit {0}) (reply : Result ℕ Refusal) → Finds d name id None → Checks d (λ w. submit_faults w name None body) (Ok u)
+    → IsMove d (λ w. submit_new w now name id body) reply new → IsMove d (λ w. submit w now name id body) reply new
+submit_taken d new now name id body u reply finds checks move =
+    submit_by d new now name id body None reply finds (passes d new (λ w. submit_faults w name None body) (λ w. submit_new w now name id body) u reply checks move)
 
-pub submit-staged : (d : DeskValue) (now : ℕ) (name id body : List ℕ) (u v : Unit {0}) → list_any (λ known. bytes_eq known name) d.endpoints ≡ true → Finds d name id None
-    → Checks d (λ w. backlog_faults (all_records w) name) (Ok u) → first_fault (waiting_faults d 6 7) ≡ Ok v → IsTrue (is_within_limits (Accept name id body (max now d.clock)))
-    → IsMove d (on.Submit now name id body) (says.Staged d.records) (record (with_accept d name id body (max now d.clock)) { clock = max now d.clock })
-submit-staged d now name id body u v e f g k limits = λ w h.
-    let at : ℕ = max now d.clock in
-    let next : DeskValue = record (with_accept d name id body at) { clock = at } in
-    let same : max now w.clock ≡ at = ap (max now) (sym h.clock) in
-    subst (λ n. (after : World) × Move w (on.Submit now name id body) (says.Staged n) after × StandsFor next after) (sym h.records)
-    (moved next w (on.Submit now name id body) (taken w now name id body)
-    (accepted_submit d w now name id body u v h e (sym (f w h)) (sym (g w h)) k)
-    (subst (λ t. StandsFor next (record (with_record w (Accept name id body t)) { clock = t })) (sym same)
-    (stands_later (with_accept d name id body at) (with_record w (Accept name id body at)) at
-    (stands_with_accept d w name id body at h (waiting_none d 6 7 v k) (waiting_room d 6 7 v k)
-    (λ i. (sym (knows h name) ∙ e) i && not (is_some (sym (f w h) i)))
-    limits))))
+pub new_refused : (d : DeskValue) (now : ℕ) (name id body : List ℕ) (u : Unit {0}) (r : Refusal) → Finds d name id None → Checks d (λ w. submit_faults w name None body) (Ok u)
+    → Checks d (λ w. new_submit_faults w name) (Err r) → IsMove d (λ w. submit w now name id body) (Err r) d
+new_refused d now name id body u r finds checks new =
+    submit_taken d d now name id body u (Err r) finds checks (refuses d (λ w. new_submit_faults w name) (λ w. accepts w now name id body) r new)
+
+-- a new submission is staged, or refused for memory
+pub accept_moves : (d new : DeskValue) (now : ℕ) (name id body : List ℕ) (at : ℕ) (u v : Unit {0}) (made : Result ℕ AllocError) → Checks d (λ w. new_submit_faults w name) (Ok u)
+    → Checks d (λ w. submit_faults w name None body) (Ok v) → Finds d name id None → at ≡ max now d.clock
+    → IfOk made (λ seq. seq ≡ d.records) → OnOk made (new ≡ with_accept d name id body at) → OnOk made (IsTrue (is_within_limits (Accept name id body at))) → OnErr made (new ≡ d)
+    → IsMove d (λ w. submit w now name id body) (out_of_memory_at 8 made) new
+accept_moves d new now name id body at u v (Ok seq) checks there unknown later same is limits err =
+    submit_taken d new now name id body v (Ok seq) unknown there
+    (passes d new (λ w. new_submit_faults w name) (λ w. accepts w now name id body) u (Ok seq) checks (accept_makes d new now name id body at u v seq checks there unknown limits later same is))
+accept_moves d new now name id body at u v (Err e) checks there unknown later same is limits err =
+    leaves d new d (λ w. submit w now name id body) (Err (refusal 8 fault.OutOfMemory))
+    (submit_taken d d now name id body v (Err (refusal 8 fault.OutOfMemory)) unknown there
+    (passes d d (λ w. new_submit_faults w name) (λ w. accepts w now name id body) u (Err (refusal 8 fault.OutOfMemory)) checks (lacks d (λ w. accepts w now name id body) 8 (λ w h. refl))))
+    err
 
 -- Looks
 

@@ -1,4 +1,5 @@
 mod DeskLists
+mod MoveLaws
 mod DeskEvents
 mod DeskLaws
 mod DeskBatches

@@ -1,25 +1,19 @@
 -- What a desk keeps, the worlds for which it stands, and what its calls answer.
-use Rattle.std.specs.Prelude.{◌≡◌, ℕ, ◌≤◌, ◌+◌, ◌^◌, Bool, false, not, nat_le, List, [], ◌∷◌, ◌++◌, length, take, drop, map, Option, Some, None, is_some, Result, Ok, Err, IsTrue, if◌then◌else◌}
+use Rattle.std.specs.Prelude.{◌≡◌, ℕ, ◌≤◌, ◌+◌, ◌^◌, Bool, false, not, List, [], ◌∷◌, ◌++◌, length, drop, map, Option, Some, None, Result, Ok, Err, IsTrue, if◌then◌else◌}
 use Rattle.std.specs.List.{list_all}
 use Rattle.relay_types.specs.declared.record.Record.{Record}
 use Rattle.relay_types.specs.declared.record.Record.TheVariants.{Put, Accept}
-use Rattle.relay_types.specs.Records.{History, records_of}
-use Rattle.relay_types.specs.Deliveries.{accepted, deliveries, deliveries_of}
+use Rattle.relay_types.specs.Records.{History}
 use Rattle.relay_types.specs.Endpoints.{endpoints}
 use Rattle.relay_types.specs.Legal.{IsLegal}
 use Rattle.delivery_book.specs.Entries.{BookValue, with_entry}
 use Rattle.delivery_book.specs.Book as book
 use Rattle.spool.specs.Runs.{Run, is_put_or_accept, ArePutsAndAccepts}
-use Rattle.desk.specs.declared.desk.Refusal.{Refusal}
-use Rattle.desk.specs.declared.desk.WrongTurn.{WrongTurn}
-use Rattle.script_lines.specs.declared.event.Event.{Event}
-use Rattle.script_lines.specs.declared.event.Event.TheVariants as on
-use Rattle.script_lines.specs.declared.reply.Fault.{Fault}
-use Rattle.script_lines.specs.declared.reply.Fault.TheVariants as fault
-use Rattle.script_lines.specs.declared.reply.Reply.{Reply}
-use Rattle.script_lines.specs.declared.reply.Reply.TheVariants as says
+use Rattle.desk.specs.declared.refusal.Refusal.{Refusal}
+use Rattle.desk.specs.declared.refusal.WrongTurn.{WrongTurn}
+use Rattle.desk.specs.Faults.{Faults, first_fault}
 use Rattle.desk.specs.World.{World, all_records, settled_records, sealed_records, waiting_records}
-use Rattle.desk.specs.Moves.{Move, with_sealed_settled, is_nothing_out, has_body, pending_among}
+use Rattle.desk.specs.Moves.{Answer, MayGive, with_sealed_settled, is_nothing_out, sealed_run}
 
 -- The names stand in the order of their Puts; `waiting` is the step that isn't settled, and `is_out` whether it was sealed.
 pub record DeskValue : Type 0 where
@@ -61,36 +55,13 @@ pub record StandsFor (desk : DeskValue) (w : World) : Type 0 where
   pub legal : IsLegal (all_records w)
   pub kinds : IsTrue (list_all is_put_or_accept (all_records w))
 
--- the replies that tell of the desk's answers
-abbrev pub staged_reply : Result ℕ Refusal → Reply
-staged_reply (Ok seq) = says.Staged seq
-staged_reply (Err refusal) = says.Refused refusal.number refusal.fault
+-- From each world for which the desk stood, the call gave what this move answers, and the desk stands for the world after it.
+abbrev pub IsMove : {A : Type 0} → DeskValue → (World → Answer A) → Result A Refusal → DeskValue → Type 0
+IsMove old move reply new = (w : World) → StandsFor old w → (next : World) × MayGive w (move w) reply next × StandsFor new next
 
-abbrev pub seal_reply : Result (Option Run) Refusal → Reply
-seal_reply (Ok None) = says.NothingWaits
-seal_reply (Ok (Some batch)) = says.Sealed batch.from (batch.from + length (records_of batch.steps))
-seal_reply (Err refusal) = says.Refused refusal.number refusal.fault
-
--- From each world for which the desk stood, the call made this move of the model, and the desk stands for what came of it.
-abbrev pub IsMove : DeskValue → Event → Reply → DeskValue → Type 0
-IsMove old event reply new = (w : World) → StandsFor old w → (next : World) × Move w event reply next × StandsFor new next
-
--- the sealed steps that aren't settled, as a batch of this opening and its receipt hold them
-abbrev pub sealed_run : ℕ → World → Run
-sealed_run mark w = record { mark = mark; from = length (settled_records w); steps = drop w.settled (take w.sealed w.history) }
-
-abbrev pub HasBatch : ℕ → World → Result (Option Run) Refusal → Type 0
-HasBatch mark w (Ok (Some batch)) = batch ≡ sealed_run mark w
-HasBatch mark w (Ok None) = Unit {0}
-HasBatch mark w (Err refusal) = Unit {0}
-
--- The seal is a move too, and a batch holds what is sealed after it.
-abbrev pub Seals : DeskValue → Result (Option Run) Refusal → DeskValue → Type 0
-Seals old result new = (w : World) → StandsFor old w → (next : World) × Move w on.Seal (seal_reply result) next × StandsFor new next × HasBatch new.mark next result
-
--- the receipt is of this opening and begins where what is out begins
+-- the receipt is that of what is out: it is of this opening, and has the sealed steps
 abbrev pub IsReceiptOf : ℕ → World → Run → Type 0
-IsReceiptOf mark w receipt = (is_nothing_out w.out ≡ false) × (receipt.mark ≡ mark) × (receipt.from ≡ length (settled_records w))
+IsReceiptOf mark w receipt = (is_nothing_out w.out ≡ false) × (receipt ≡ sealed_run mark w)
 
 -- From each world for which the desk stood: the receipt of what is out settles it, and every other comes back.
 abbrev pub Settles : DeskValue → Run → Result ℕ (Run × WrongTurn) → DeskValue → Type 0
@@ -98,28 +69,15 @@ Settles old receipt (Ok to) new =
     (w : World) → StandsFor old w → IsReceiptOf old.mark w receipt × (to ≡ length (sealed_records w)) × StandsFor new (with_sealed_settled w)
 Settles old receipt (Err back) new = (w : World) → StandsFor old w → ¬ IsReceiptOf old.mark w receipt × StandsFor new w
 
--- what the desk puts into a batch
+-- what the desk puts into a batch, and what its receipt says
 abbrev pub run_of : DeskValue → Run
 run_of desk = record { mark = desk.mark; from = desk.settled; steps = steps_of desk.waiting }
 
 -- What the desk's own steps look for and make.
 
--- the first of these faults that is there
-abbrev pub first_fault : List (Bool × ℕ × Fault) → Result (Unit {0}) Refusal
-first_fault [] = Ok tt
-first_fault ((there, number, fault) ∷ rest) = if there then Err (record { number = number; fault = fault }) else first_fault rest
-
-abbrev pub same_faults : List Record → ℕ → List ℕ → List (Bool × ℕ × Fault)
-same_faults records d body = (not (has_body body (accepted records d)), 3, fault.Conflict) ∷ []
-
-abbrev pub backlog_faults : List Record → List ℕ → List (Bool × ℕ × Fault)
-backlog_faults records name =
-    (nat_le 10000 (pending_among records (deliveries_of records name)), 4, fault.EndpointBacklog)
-    ∷ (nat_le 50000 (pending_among records (deliveries records)), 5, fault.Backlog)
-    ∷ []
-
-abbrev pub waiting_faults : DeskValue → ℕ → ℕ → List (Bool × ℕ × Fault)
-waiting_faults desk full exhausted = (is_some desk.waiting, full, fault.WaitingFull) ∷ (nat_le (2 ^ 62) desk.records, exhausted, fault.SeqExhausted) ∷ []
+-- the answer to a look for faults, in each world for which the desk stands
+abbrev pub Checks : DeskValue → (World → Faults) → Result (Unit {0}) Refusal → Type 0
+Checks desk faults result = (w : World) → StandsFor desk w → result ≡ first_fault (faults w)
 
 -- the desk with a record that waits
 abbrev pub with_step : DeskValue → Record → DeskValue
@@ -130,5 +88,6 @@ with_put desk name target max secrets = record (with_step desk (Put name target 
 
 abbrev pub with_accept : DeskValue → List ℕ → List ℕ → List ℕ → ℕ → DeskValue
 with_accept desk name id body at = record (with_step desk (Accept name id body at)) {
+  clock = at;
   deliveries = with_entry desk.deliveries (record { place = desk.records; name = name; id = id; body = body; at = at });
 }

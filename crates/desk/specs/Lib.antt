@@ -1,3 +1,4 @@
+pub mod Faults
 pub mod World
 pub mod Moves
 pub mod Desks

@@ -3,12 +3,12 @@ use Rattle.std.specs.Prelude.{ℕ, List, take, drop}
 use Rattle.relay_types.specs.declared.record.Record.{Record}
 use Rattle.relay_types.specs.Records.{History, records_of}
 
--- How many records may wait, and how many steps a batch may have. They grow when batches are widened.
-abbrev pub most_waiting : ℕ
-most_waiting = 1
+-- the most records that wait, and the most steps of a batch
+abbrev pub max_waiting : ℕ
+max_waiting = 1
 
-abbrev pub most_sealed : ℕ
-most_sealed = 1
+abbrev pub max_sealed : ℕ
+max_sealed = 1
 
 -- what the core has handed to the committer
 pub data Out : Type 0 where

@@ -2,50 +2,28 @@
 ghost use Rattle.std.specs.Prelude.{◌≡◌, ◌≤◌, ◌<◌, ◌+◌, ◌^◌, [], length, max, bytes_eq, ◌↔◌, OnOk, OnErr, IfOk, IfErr, IfSome, IsOk, IsTrue, None};
 ghost use Rattle.std.specs.List.{list_any};
 ghost use Rattle.relay_types.specs.declared.record.Record.TheVariants.{Put, Accept};
+ghost use Rattle.relay_types.specs.Deliveries.{accepted};
 ghost use Rattle.relay_types.specs.Legal.{is_within_limits};
 ghost use Rattle.delivery_book.specs.Entries.{known_in};
 ghost use Rattle.spool.specs.Runs.{ArePutsAndAccepts};
-ghost use Rattle.script_lines.specs.declared.event.Event.TheVariants as on;
 ghost use Rattle.desk.specs.World.{World, all_records};
-ghost use Rattle.desk.specs.Moves.{opened, event_row};
-ghost use Rattle.desk.specs.Desks.{StandsFor, IsMove, Seals, Settles, run_of, staged_reply, first_fault, same_faults, backlog_faults, waiting_faults, with_put, with_accept};
+ghost use Rattle.desk.specs.Moves.{opened, submit, submit_faults, new_submit_faults, is_conflict, has_body, change, change_faults, put_faults, seal, event_row};
+ghost use Rattle.desk.specs.Desks.{StandsFor, IsMove, Checks, Settles, steps_of, run_of, with_put, with_accept};
 
+use crate::command::Command;
+use crate::limits::{MAX_PENDING, MAX_PENDING_ALL};
+use crate::refusal::{Fault, Refusal, WrongTurn, check, or_out_of_memory};
 use delivery_book::{DeliveryBook, Row};
 use relay_types::{Body, MaxLimit, Moment, MsgId, Name, Record, Secrets, Step, Target};
-use script_lines::{Command, Fault};
 use spool::{Batch, Receipt};
 use std::alloc::{AllocError, Global};
 use std::marker::Model;
 
 /// The most endpoints.
-const MOST_ENDPOINTS: usize = 256;
+const MAX_ENDPOINTS: usize = 256;
 
 /// The most records and live permits.
-const MOST_RECORDS: u64 = 1 << 62;
-
-/// The most pending events of an endpoint, and of all.
-const MOST_PENDING: u64 = 10_000;
-
-const MOST_PENDING_ALL: u64 = 50_000;
-
-/// Why a call changed nothing: its number in the call's list of refusals, and its name.
-#[derive(Clone, Copy, PartialEq, Eq, Debug)]
-pub struct Refusal {
-    pub number: u8,
-    pub fault: Fault,
-}
-
-impl Refusal {
-    fn of(number: u8, fault: Fault) -> Refusal
-        ensures { result ≡ record { number = number; fault = fault } }
-    {
-        Refusal { number, fault }
-    }
-}
-
-/// The receipt isn't that of the batch that is out.
-#[derive(Clone, Copy, PartialEq, Eq, Debug)]
-pub struct WrongTurn;
+const MAX_RECORDS: u64 = 1 << 62;
 
 /// The desk of one opening.
 #[derive(Drop)]
@@ -92,7 +70,7 @@ impl Desk {
         Ok(Desk {
             mark,
             clock,
-            endpoints: Vec::with_capacity(alloc, MOST_ENDPOINTS)?,
+            endpoints: Vec::with_capacity(alloc, MAX_ENDPOINTS)?,
             deliveries: DeliveryBook::new(alloc),
             waiting: None,
             is_out: false,
@@ -103,29 +81,24 @@ impl Desk {
 
     /// Takes an event: the number of its record. The same id with the same bytes gives the number of the first.
     pub fn submit(&mut self, now: Moment, name: Name, id: MsgId, body: Body) -> Result<u64, Refusal>
-        ensures moves { IsMove self.old (on.Submit now name id body) (staged_reply result) self.new }
+        ensures moves { IsMove self.old (λ w. submit w now name id body) result self.new }
         ensures mark { self.new.mark ≡ self.old.mark }
         ensures err { OnErr result (self.new ≡ self.old) }
     {
-        if !self.has_endpoint(name) {
-            return Err(Refusal::of(2, Fault::UnknownEndpoint));
-        }
-        let at = later(self.clock, now);
-        if let Some(delivery) = self.deliveries.find(name, &id) {
-            self.check_same(delivery, &body)?;
+        let known = self.deliveries.find(name, &id);
+        self.check_submit(name, known, &body)?;
+        let at = self.moment(now);
+        if let Some(delivery) = known {
             self.clock = at;
             return Ok(delivery);
         }
-        self.check_backlog(name)?;
-        self.check_waiting(6, 7)?;
-        let seq = self.stage_accept(at, name, id, body)?;
-        self.clock = at;
-        Ok(seq)
+        self.check_new_submit(name)?;
+        or_out_of_memory(8, self.stage_accept(at, name, id, body))
     }
 
     /// Changes an endpoint: the number of its record.
     pub fn command(&mut self, command: Command) -> Result<u64, Refusal>
-        ensures moves { IsMove self.old (on.Change command) (staged_reply result) self.new }
+        ensures moves { IsMove self.old (λ w. change w command) result self.new }
         ensures mark { self.new.mark ≡ self.old.mark }
         ensures err { OnErr result (self.new ≡ self.old) }
     {
@@ -141,34 +114,30 @@ impl Desk {
 
     /// Puts what waits into a batch: `None` where nothing waits.
     pub fn seal(&mut self) -> Result<Option<Batch>, Refusal>
-        ensures moves { Seals self.old result self.new }
+        ensures moves { IsMove self.old (seal self.old.mark) result self.new }
         ensures batch { IfOk result (λ sealed. IfSome sealed (λ batch. batch ≡ run_of self.old)) }
         ensures kinds { IfOk result (λ sealed. IfSome sealed (λ batch. ArePutsAndAccepts batch.steps)) }
         ensures mark { self.new.mark ≡ self.old.mark }
         ensures err { OnErr result (self.new ≡ self.old) }
     {
-        if self.is_out {
-            return Err(Refusal::of(2, Fault::BatchOut));
-        }
+        check(&[(self.is_out, 2, Fault::BatchOut)])?;
         let Some(step) = &self.waiting else {
             return Ok(None);
         };
-        let Ok(step) = step.share() else {
-            return Err(Refusal::of(3, Fault::OutOfMemory));
-        };
+        let step = or_out_of_memory(3, step.share())?;
         self.is_out = true;
         Ok(Some(Batch::of(self.mark, self.settled, step)))
     }
 
-    /// Settles the batch that is out, by its receipt: how many records are settled.
+    /// Settles the batch that is out, by its receipt: how many records are settled. It takes no memory.
     pub fn settle(&mut self, receipt: Receipt) -> Result<u64, (Receipt, WrongTurn)>
         ensures moves { Settles self.old receipt result self.new }
-        ensures turn { IsOk result ↔ (IsTrue self.old.is_out × (receipt.mark ≡ self.old.mark) × (receipt.from ≡ self.old.settled)) }
+        ensures turn { IsOk result ↔ (IsTrue self.old.is_out × (receipt ≡ run_of self.old)) }
         ensures back { IfErr result (λ back. back.0 ≡ receipt) }
         ensures mark { self.new.mark ≡ self.old.mark }
         ensures err { OnErr result (self.new ≡ self.old) }
     {
-        if !self.is_out || receipt.mark() != self.mark || receipt.from() != self.settled {
+        if !self.is_receipt(&receipt) {
             return Err((receipt, WrongTurn));
         }
         self.settled = self.records;
@@ -186,10 +155,104 @@ impl Desk {
         self.deliveries.settled(delivery)
     }
 
+    // Whether the receipt is that of the batch that is out.
+    fn is_receipt(&self, receipt: &Receipt) -> bool
+        ensures { IsTrue result ↔ (IsTrue self.now.is_out × (receipt.now ≡ run_of self.now)) }
+    {
+        self.is_out
+            && receipt.mark() == self.mark
+            && receipt.from() == self.settled
+            && self.has_steps(receipt.steps())
+    }
+
+    // Whether these are the steps that wait.
+    fn has_steps(&self, steps: &[Step]) -> bool
+        ensures { IsTrue result ↔ (steps.now ≡ steps_of self.now.waiting) }
+    {
+        match (&self.waiting, steps) {
+            (Some(waiting), [step]) => waiting.is(step),
+            (None, []) => true,
+            _ => false,
+        }
+    }
+
+    // The moment of a call: the clock never goes back.
+    fn moment(&self, now: Moment) -> Moment
+        ensures { result ≡ max now self.now.clock }
+    {
+        if now > self.clock { now } else { self.clock }
+    }
+
     fn has_endpoint(&self, name: Name) -> bool
         ensures { result ≡ list_any (λ known. bytes_eq known name) self.now.endpoints }
     {
         self.endpoints.iter().any(|known| known.is(name))
+    }
+
+    // Whether the delivery has these bytes.
+    fn has_body(&self, delivery: u64, body: &Body) -> bool
+        ensures { (w : World) → StandsFor self.now w → result ≡ has_body body.now (accepted (all_records w) delivery) }
+    {
+        match self.deliveries.body(delivery) {
+            Some(known) => known.is(body),
+            None => false,
+        }
+    }
+
+    // Whether the delivery that is known has other bytes.
+    fn is_conflict(&self, known: Option<u64>, body: &Body) -> bool
+        ensures { (w : World) → StandsFor self.now w → result ≡ is_conflict (all_records w) known body.now }
+    {
+        match known {
+            Some(delivery) => !self.has_body(delivery, body),
+            None => false,
+        }
+    }
+
+    fn check_submit(&self, name: Name, known: Option<u64>, body: &Body) -> Result<(), Refusal>
+        ensures { Checks self.now (λ w. submit_faults w name known body.now) result }
+    {
+        check(&[
+            (!self.has_endpoint(name), 2, Fault::UnknownEndpoint),
+            (self.is_conflict(known, body), 3, Fault::Conflict),
+        ])
+    }
+
+    fn check_new_submit(&self, name: Name) -> Result<(), Refusal>
+        ensures faults { Checks self.now (λ w. new_submit_faults w name) result }
+        ensures room { OnOk result (self.now.records < 2 ^ 62) }
+    {
+        check(&[
+            (
+                self.deliveries.pending(name) >= MAX_PENDING,
+                4,
+                Fault::EndpointBacklog,
+            ),
+            (
+                self.deliveries.pending_all() >= MAX_PENDING_ALL,
+                5,
+                Fault::Backlog,
+            ),
+            (self.waiting.is_some(), 6, Fault::WaitingFull),
+            (self.records >= MAX_RECORDS, 7, Fault::SeqExhausted),
+        ])
+    }
+
+    fn check_put(&self, name: Name) -> Result<(), Refusal>
+        ensures faults { Checks self.now (λ w. put_faults w name) result }
+        ensures room { OnOk result (self.now.records < 2 ^ 62) }
+        ensures place { OnOk result (length self.now.endpoints < 256) }
+    {
+        check(&[
+            (self.has_endpoint(name), 3, Fault::Exists),
+            (
+                self.endpoints.len() >= MAX_ENDPOINTS,
+                4,
+                Fault::TooManyEndpoints,
+            ),
+            (self.waiting.is_some(), 5, Fault::WaitingFull),
+            (self.records >= MAX_RECORDS, 6, Fault::SeqExhausted),
+        ])
     }
 
     fn put_endpoint(
@@ -199,53 +262,12 @@ impl Desk {
         max: MaxLimit,
         secrets: Secrets,
     ) -> Result<u64, Refusal>
-        ensures moves { IsMove self.old (on.Change (Command.PutEndpoint name target max secrets))
-            (staged_reply result) self.new }
+        ensures moves { IsMove self.old (λ w. change w (Command.PutEndpoint name target max secrets)) result self.new }
         ensures mark { self.new.mark ≡ self.old.mark }
         ensures err { OnErr result (self.new ≡ self.old) }
     {
-        if self.has_endpoint(name) {
-            return Err(Refusal::of(3, Fault::Exists));
-        }
-        if self.endpoints.len() >= MOST_ENDPOINTS {
-            return Err(Refusal::of(4, Fault::TooManyEndpoints));
-        }
-        self.check_waiting(5, 6)?;
+        self.check_put(name)?;
         Ok(self.stage_put(name, target, max, secrets))
-    }
-
-    fn check_same(&self, delivery: u64, body: &Body) -> Result<(), Refusal>
-        ensures { (w : World) → StandsFor self.now w
-            → result ≡ first_fault (same_faults (all_records w) delivery body.now) }
-    {
-        match self.deliveries.body(delivery) {
-            Some(known) if known.is(body) => Ok(()),
-            _ => Err(Refusal::of(3, Fault::Conflict)),
-        }
-    }
-
-    fn check_backlog(&self, name: Name) -> Result<(), Refusal>
-        ensures { (w : World) → StandsFor self.now w → result ≡ first_fault (backlog_faults (all_records w) name) }
-    {
-        if self.deliveries.pending(name) >= MOST_PENDING {
-            return Err(Refusal::of(4, Fault::EndpointBacklog));
-        }
-        if self.deliveries.pending_all() >= MOST_PENDING_ALL {
-            return Err(Refusal::of(5, Fault::Backlog));
-        }
-        Ok(())
-    }
-
-    fn check_waiting(&self, full: u8, exhausted: u8) -> Result<(), Refusal>
-        ensures { result ≡ first_fault (waiting_faults self.now full exhausted) }
-    {
-        if self.waiting.is_some() {
-            return Err(Refusal::of(full, Fault::WaitingFull));
-        }
-        if self.records >= MOST_RECORDS {
-            return Err(Refusal::of(exhausted, Fault::SeqExhausted));
-        }
-        Ok(())
     }
 
     fn stage_put(&mut self, name: Name, target: Target, max: MaxLimit, secrets: Secrets) -> u64
@@ -269,44 +291,31 @@ impl Desk {
         seq
     }
 
+    // The step that can fail for memory comes first.
     fn stage_accept(
         &mut self,
         at: Moment,
         name: Name,
         id: MsgId,
         body: Body,
-    ) -> Result<u64, Refusal>
+    ) -> Result<u64, AllocError>
         requires room { self.old.records < 2 ^ 62 }
         requires unknown { known_in self.old.deliveries name id ≡ None }
         ensures seq { IfOk result (λ seq. seq ≡ self.old.records) }
         ensures staged { OnOk result (self.new ≡ with_accept self.old name id body at) }
-        ensures limits { IsTrue (is_within_limits (Accept name id body at)) }
-        ensures refusal { IfErr result (λ refusal. refusal ≡ record { number = 8; fault = Fault.OutOfMemory }) }
+        ensures limits { OnOk result (IsTrue (is_within_limits (Accept name id body at))) }
         ensures err { OnErr result (self.new ≡ self.old) }
     {
         let seq = self.records;
-        let kept = body.share();
+        let kept = body.share()?;
+        self.deliveries.stage_accept(seq, name, id, kept, at)?;
         let entry = Record::Accept { name, id, body, at };
         known_limits(&entry);
-        let Ok(kept) = kept else {
-            return Err(Refusal::of(8, Fault::OutOfMemory));
-        };
-        match self.deliveries.stage_accept(seq, name, id, kept, at) {
-            Ok(()) => {
-                self.waiting = Some(Step::of(entry));
-                self.records = seq + 1;
-                Ok(seq)
-            }
-            Err(_) => Err(Refusal::of(8, Fault::OutOfMemory)),
-        }
+        self.clock = at;
+        self.waiting = Some(Step::of(entry));
+        self.records = seq + 1;
+        Ok(seq)
     }
-}
-
-// The later of two moments.
-fn later(one: Moment, other: Moment) -> Moment
-    ensures { result ≡ max other one }
-{
-    one.max(other)
 }
 
 // The values of a record keep their limits: this tells the proof what their types keep.

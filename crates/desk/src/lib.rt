@@ -2,6 +2,12 @@
 //! says what the settled records tell of an event.
 #![tactic(auto)]
 
+mod command;
 mod desk;
+mod limits;
+mod refusal;
 
-pub use crate::desk::{Desk, Refusal, WrongTurn};
+pub use crate::command::Command;
+pub use crate::desk::Desk;
+pub use crate::limits::{MAX_PENDING, MAX_PENDING_ALL};
+pub use crate::refusal::{Fault, Refusal, WrongTurn};

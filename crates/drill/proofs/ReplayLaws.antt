@@ -5,7 +5,8 @@ use Rattle.script_lines.specs.declared.event.Event.{Event}
 use Rattle.script_lines.specs.declared.reply.Reply.{Reply}
 use Rattle.drill.specs.declared.runner.Runner.{Runner}
 use Rattle.desk.specs.World.{World}
-use Rattle.desk.specs.Moves.{Move, Run, opened}
+use Rattle.desk.specs.Moves.{opened}
+use Rattle.drill.specs.Moves.{Move, Run}
 use Rattle.script_lines.specs.Replies.{reply_text}
 use Rattle.script_lines.specs.Script.{ReadsLine}
 use Rattle.text_lines.specs.Streams.{with_feed}

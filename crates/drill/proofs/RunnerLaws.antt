@@ -21,8 +21,7 @@ use Rattle.spool.specs.Commits.{IsOpened, IsNext, IsDoubt, IsIllegal, AnswersOve
 use Rattle.spool.specs.Vaults.{Kept}
 use Rattle.script_lines.specs.declared.event.Event.{Event}
 use Rattle.script_lines.specs.declared.event.Event.TheVariants as on
-use Rattle.script_lines.specs.declared.event.Command.{Command}
-use Rattle.script_lines.specs.declared.reply.Fault.{Fault}
+use Rattle.relay_types.specs.declared.record.Record.TheVariants.{Put}
 use Rattle.script_lines.specs.declared.reply.Fault.TheVariants as fault
 use Rattle.script_lines.specs.declared.reply.Reply.{Reply}
 use Rattle.script_lines.specs.declared.reply.Reply.TheVariants as says
@@ -30,8 +29,13 @@ use Rattle.drill.specs.declared.runner.Held.{Held}
 use Rattle.drill.specs.declared.runner.Held.TheVariants as held
 use Rattle.drill.specs.declared.runner.Runner.{Runner}
 use Rattle.desk.specs.World.{World, Out, Nothing, Batch, Receipt, Doubt, all_records, settled_records, sealed_records}
-use Rattle.desk.specs.Moves.{opened, Answer, Move, show_event, refused, unless, submit_faults, new_submit_faults, change_faults, staged, repeated, submit_new, record_of, served, seal, seal_waiting, with_batch, is_nothing_out, is_batch_out, commit_of, in_doubt, memory_refusal}
-use Rattle.desk.specs.Desks.{DeskValue, StandsFor, IsMove, Seals, sealed_run, steps_of}
+use Rattle.desk.specs.declared.command.Command.TheVariants.{PutEndpoint}
+use Rattle.desk.specs.declared.refusal.Fault.TheVariants as desk_fault
+use Rattle.desk.specs.declared.refusal.Refusal.{Refusal}
+use Rattle.desk.specs.Faults.{Faults, refusal}
+use Rattle.desk.specs.Moves.{opened, Answer, MayGive, refused, unless, submit, submit_faults, new_submit_faults, put_faults, change, stages, repeats, submit_new, seal, seal_waiting, sealed_run, with_batch, with_sealed_settled, event_row, is_nothing_out}
+use Rattle.desk.specs.Desks.{DeskValue, StandsFor, IsMove, Settles, steps_of}
+use Rattle.drill.specs.Moves.{Move, Commits, SettlesOut, staged_reply, seal_reply, event_reply, in_doubt}
 use Rattle.drill.specs.Runners.{IsHeld, IsOpenAt, VaultStandsFor, RunnerStandsFor, Answers, EndsAs, CommitsSo, unchanged_reply}
 
 -- Moves after which what is out, settled and sealed is as before
@@ -47,35 +51,34 @@ record Goes (w next : World) : Type 0 where
 stays : (w : World) → Goes w w
 stays w = record { out = refl; settled = refl; sealed = refl; more = []; history = sym (append-nil w.history) }
 
-goes_unless : (faults : List (Bool × ℕ × Fault)) (w : World) (answer : Answer) → Goes w answer.next → Goes w (unless faults w answer).next
+goes_unless : {A : Type 0} (faults : Faults) (w : World) (answer : Answer A) → Goes w answer.next → Goes w (unless faults w answer).next
 goes_unless [] w answer h = h
-goes_unless ((there, number, why) ∷ rest) w answer h = at there (goes_unless rest w answer h)
+goes_unless {A} ((there, number, why) ∷ rest) w answer h = at there (goes_unless rest w answer h)
   where
-    at : (b : Bool) → Goes w (unless rest w answer).next → Goes w (if b then refused w number why else unless rest w answer).next
+    at : (b : Bool) → Goes w (unless rest w answer).next → Goes w (if b then refused {A = A} w number why else unless rest w answer).next
     at true h = stays w
     at false h = h
 
-goes_submit : (w : World) (now : ℕ) (name id body : List ℕ) → Goes w (served w (on.Submit now name id body)).next
-goes_submit w now name id body = goes_unless (submit_faults w name id body) w (option_map_or (repeated w now) (known_as (all_records w) name id) (submit_new w now name id body)) (at (known_as (all_records w) name id))
+goes_submit : (w : World) (now : ℕ) (name id body : List ℕ) → Goes w (submit w now name id body).next
+goes_submit w now name id body = goes_unless (submit_faults w name (known_as (all_records w) name id) body) w (option_map_or (repeats w now) (known_as (all_records w) name id) (submit_new w now name id body)) (at (known_as (all_records w) name id))
   where
     new : Goes w (submit_new w now name id body).next
     new = goes_unless (new_submit_faults w name) w _ (record { out = refl; settled = refl; sealed = refl; more = _; history = refl })
 
-    at : (o : Option ℕ) → Goes w (option_map_or (repeated w now) o (submit_new w now name id body)).next
+    at : (o : Option ℕ) → Goes w (option_map_or (repeats w now) o (submit_new w now name id body)).next
     at None = new
     at (Some d) = record { out = refl; settled = refl; sealed = refl; more = []; history = sym (append-nil w.history) }
 
-goes_change : (w : World) (command : Command) → Goes w (served w (on.Change command)).next
-goes_change w command = goes_unless (change_faults w command) w (staged w (record_of command)) (record { out = refl; settled = refl; sealed = refl; more = _; history = refl })
+goes_put : (w : World) (name target : List ℕ) (max : ℕ) (secrets : List (List ℕ)) → Goes w (change w (PutEndpoint name target max secrets)).next
+goes_put w name target max secrets = goes_unless (put_faults w name) w (stages w (Put name target max secrets)) (record { out = refl; settled = refl; sealed = refl; more = _; history = refl })
 
-lacks_stays : (o : Option ℕ) (reply : Reply) (w next : World) → IsSomeAnd o (λ number. (reply ≡ says.Refused number fault.OutOfMemory) × (next ≡ w)) → next ≡ w
-lacks_stays None reply w next h = absurd h
-lacks_stays (Some number) reply w next h = h.1
+lacks_stays : {A : Type 0} (o : Option ℕ) (result : Result A Refusal) (w next : World) → IsSomeAnd o (λ number. (result ≡ Err (refusal number desk_fault.OutOfMemory)) × (next ≡ w)) → next ≡ w
+lacks_stays None result w next h = absurd h
+lacks_stays (Some number) result w next h = h.1
 
-goes_move : (w : World) (event : Event) (reply : Reply) (next : World) → Goes w (served w event).next → ((event ≡ on.Commit) → ⊥) → Move w event reply next → Goes w next
-goes_move w event reply next plain other (inl answered) = subst (Goes w) (sym answered.1) plain
-goes_move w event reply next plain other (inr (inl lacks)) = subst (Goes w) (sym (lacks_stays (memory_refusal w event) reply w next lacks)) (stays w)
-goes_move w event reply next plain other (inr (inr stopped)) = absurd (other stopped.0)
+goes_given : {A : Type 0} (w : World) (answer : Answer A) (result : Result A Refusal) (next : World) → Goes w answer.next → MayGive w answer result next → Goes w next
+goes_given w answer result next plain (inl given) = subst (Goes w) (sym given.1) plain
+goes_given w answer result next plain (inr lacks) = subst (Goes w) (sym (lacks_stays answer.memory result w next lacks)) (stays w)
 
 settled_within : (desk : DeskValue) (w : World) → StandsFor desk w → w.settled ≤ w.sealed
 settled_within desk w s = at desk.is_out s.sealed
@@ -114,15 +117,16 @@ vault_goes g vault w next goes below within h = subst (VaultStandsFor g vault ne
     at Receipt h = subst (IsOpenAt g vault) sealed h
     at Doubt h = h
 
-answers_plain : {S : Type 0} (g : Ghosts S) (old new : Runner S) (event : Event) (reply : Reply) → ((w : World) → Goes w (served w event).next) → ((event ≡ on.Commit) → ⊥) → IsMove old.desk event reply new.desk
+answers_plain : {S : Type 0} {A : Type 0} (g : Ghosts S) (old new : Runner S) (move : World → Answer A) (result : Result A Refusal) (event : Event) (reply : Reply) → ((w : World) → Goes w (move w).next)
+    → ((w next : World) → MayGive w (move w) result next → Move w event reply next) → IsMove old.desk move result new.desk
     → new.desk.mark ≡ old.desk.mark → new.vault ≡ old.vault → new.held ≡ old.held → Answers g old event reply new
-answers_plain g old new event reply plain other moves mark vault same w on =
+answers_plain g old new moving result event reply plain tells moves mark vault same w on =
     let move = moves w on.desk in
-    let goes = goes_move w event reply move.0 (plain w) other move.1 in
+    let goes = goes_given w (moving w) result move.0 (plain w) move.1 in
     let below = settled_within old.desk w on.desk in
     let within = on.desk.sealed_within in (
       move.0,
-      move.1,
+      tells w move.0 move.1,
       record {
         desk = move.2;
         held = subst (λ m. IsHeld m move.0 new.held) (sym mark) (subst (IsHeld old.desk.mark move.0) (sym same) (held_goes old.desk.mark w move.0 old.held goes below within on.held));
@@ -132,30 +136,21 @@ answers_plain g old new event reply plain other moves mark vault same w on =
     )
 
 -- A look leaves the world as it is
-pub answers_look : {S : Type 0} (g : Ghosts S) (runner : Runner S) (name id : List ℕ) (reply : Reply) → ((w : World) → StandsFor runner.desk w → reply ≡ show_event w name id) → Answers g runner (on.ShowEvent name id) reply runner
-answers_look g runner name id reply says w on = (w, inl (says w on.desk, refl), on)
+pub answers_look : {S : Type 0} (g : Ghosts S) (runner : Runner S) (name id : List ℕ) (reply : Reply) → ((w : World) → StandsFor runner.desk w → reply ≡ event_reply (event_row w name id)) → Answers g runner (on.Show name id) reply runner
+answers_look g runner name id reply says w on = (w, (says w on.desk, refl), on)
 
-pub answers_submit : {S : Type 0} (g : Ghosts S) (old new : Runner S) (now : ℕ) (name id body : List ℕ) (reply : Reply) → IsMove old.desk (on.Submit now name id body) reply new.desk
-    → new.desk.mark ≡ old.desk.mark → new.vault ≡ old.vault → new.held ≡ old.held → Answers g old (on.Submit now name id body) reply new
-answers_submit g old new now name id body reply = answers_plain g old new (on.Submit now name id body) reply (λ w. goes_submit w now name id body) (λ e. cc)
+pub answers_submit : {S : Type 0} (g : Ghosts S) (old new : Runner S) (now : ℕ) (name id body : List ℕ) (result : Result ℕ Refusal) → IsMove old.desk (λ w. submit w now name id body) result new.desk
+    → new.desk.mark ≡ old.desk.mark → new.vault ≡ old.vault → new.held ≡ old.held → Answers g old (on.Submit now name id body) (staged_reply result) new
+answers_submit g old new now name id body result =
+    answers_plain g old new (λ w. submit w now name id body) result (on.Submit now name id body) (staged_reply result) (λ w. goes_submit w now name id body) (λ w next given. (result, given, refl))
 
-pub answers_change : {S : Type 0} (g : Ghosts S) (old new : Runner S) (command : Command) (reply : Reply) → IsMove old.desk (on.Change command) reply new.desk
-    → new.desk.mark ≡ old.desk.mark → new.vault ≡ old.vault → new.held ≡ old.held → Answers g old (on.Change command) reply new
-answers_change g old new command reply = answers_plain g old new (on.Change command) reply (λ w. goes_change w command) (λ e. cc)
+pub answers_put : {S : Type 0} (g : Ghosts S) (old new : Runner S) (name target : List ℕ) (max : ℕ) (secrets : List (List ℕ)) (result : Result ℕ Refusal)
+    → IsMove old.desk (λ w. change w (PutEndpoint name target max secrets)) result new.desk
+    → new.desk.mark ≡ old.desk.mark → new.vault ≡ old.vault → new.held ≡ old.held → Answers g old (on.Put name target max secrets) (staged_reply result) new
+answers_put g old new name target max secrets result =
+    answers_plain g old new (λ w. change w (PutEndpoint name target max secrets)) result (on.Put name target max secrets) (staged_reply result) (λ w. goes_put w name target max secrets) (λ w next given. (result, given, refl))
 
 -- Sealing
-
-abbrev pub is_sealed : Reply → Bool
-is_sealed (says.Sealed from to) = true
-is_sealed (says.Staged seq) = false
-is_sealed says.NothingWaits = false
-is_sealed (says.Committed to) = false
-is_sealed (says.SettledTo to) = false
-is_sealed (says.Event state due attempts) = false
-is_sealed says.Absent = false
-is_sealed says.NoBatch = false
-is_sealed says.NoReceipt = false
-is_sealed (says.Refused number why) = false
 
 is_nothing : (o : Out) → is_nothing_out o ≡ true → o ≡ Nothing
 is_nothing Nothing h = refl
@@ -163,65 +158,67 @@ is_nothing Batch h = absurd (let e = h in cc)
 is_nothing Receipt h = absurd (let e = h in cc)
 is_nothing Doubt h = absurd (let e = h in cc)
 
--- sealing changes the world exactly where it answers a batch
-abbrev SealsSo : World → Answer → Type 0
-SealsSo w answer = ((answer.next ≡ w) × (is_sealed answer.reply ≡ false)) ⊎ (((answer.next ≡ with_batch w) × (w.out ≡ Nothing)) × (is_sealed answer.reply ≡ true))
+abbrev sealing : batch.Run → Result (Option batch.Run) Refusal
+sealing run = Ok (Some run)
 
-seals_so : (w : World) → SealsSo w (seal w)
-seals_so w = at (is_nothing_out w.out) (length w.history == w.settled) (is_nothing w.out)
+sealed_move : (mark : ℕ) (w : World) (run : batch.Run) (next : World) → MayGive w (seal mark w) (sealing run) next → (w.out ≡ Nothing) × (next ≡ with_batch w) × (run ≡ sealed_run mark (with_batch w))
+sealed_move mark w run next = at (is_nothing_out w.out) (length w.history == w.settled) (is_nothing w.out)
   where
-    at : (nothing none : Bool) → (nothing ≡ true → w.out ≡ Nothing) → SealsSo w (if not nothing then refused w 2 fault.BatchOut else seal_waiting w none)
-    at false none h = inl (refl, refl)
-    at true true h = inl (refl, refl)
-    at true false h = inr ((refl, h refl), refl)
+    same : (a b : batch.Run) → sealing a ≡ sealing b → a ≡ b
+    same a b e = cc
 
-lacks_unsealed : (o : Option ℕ) (reply : Reply) (w next : World) → is_sealed reply ≡ true → IsSomeAnd o (λ number. (reply ≡ says.Refused number fault.OutOfMemory) × (next ≡ w)) → ⊥
-lacks_unsealed None reply w next sealed h = h
-lacks_unsealed (Some number) reply w next sealed h = let no : false ≡ true = ap is_sealed (sym h.0) ∙ sealed in cc
+    at : (nothing none : Bool) → (nothing ≡ true → w.out ≡ Nothing) → MayGive w (if not nothing then refused w 2 desk_fault.BatchOut else seal_waiting mark w none) (sealing run) next
+        → (w.out ≡ Nothing) × (next ≡ with_batch w) × (run ≡ sealed_run mark (with_batch w))
+    at false none h (inl given) = absurd (let e = given.0 in cc)
+    at false none h (inr lacks) = absurd lacks
+    at true true h (inl given) = absurd (let e = given.0 in cc)
+    at true true h (inr lacks) = absurd lacks
+    at true false h (inl given) = (h refl, given.1, same run (sealed_run mark (with_batch w)) given.0)
+    at true false h (inr lacks) = absurd (let e = lacks.0 in cc)
 
-sealed_move : (w : World) (reply : Reply) (next : World) → is_sealed reply ≡ true → Move w on.Seal reply next → (next ≡ with_batch w) × (w.out ≡ Nothing)
-sealed_move w reply next sealed (inl answered) = at (seals_so w)
+-- whether a batch was handed out
+abbrev pub is_sealed : Result (Option batch.Run) Refusal → Bool
+is_sealed (Ok None) = false
+is_sealed (Ok (Some run)) = true
+is_sealed (Err r) = false
+
+unsealed_move : (mark : ℕ) (w : World) (result : Result (Option batch.Run) Refusal) (next : World) → is_sealed result ≡ false → MayGive w (seal mark w) result next → next ≡ w
+unsealed_move mark w result next unsealed = at (is_nothing_out w.out) (length w.history == w.settled)
   where
-    at : SealsSo w (seal w) → (next ≡ with_batch w) × (w.out ≡ Nothing)
-    at (inl stayed) = absurd (let no : true ≡ false = sym sealed ∙ ap is_sealed answered.0 ∙ stayed.1 in cc)
-    at (inr made) = (answered.1 ∙ made.0.0, made.0.1)
-sealed_move w reply next sealed (inr (inl lacks)) = absurd (lacks_unsealed (memory_refusal w on.Seal) reply w next sealed lacks)
-sealed_move w reply next sealed (inr (inr stopped)) = absurd (let e = stopped.0 in cc)
+    at : (nothing none : Bool) → MayGive w (if not nothing then refused w 2 desk_fault.BatchOut else seal_waiting mark w none) result next → next ≡ w
+    at false none (inl given) = given.1
+    at false none (inr lacks) = absurd lacks
+    at true true (inl given) = given.1
+    at true true (inr lacks) = absurd lacks
+    at true false (inl given) = absurd (let no : true ≡ false = ap is_sealed (sym given.0) ∙ unsealed in cc)
+    at true false (inr lacks) = lacks.1
 
-unsealed_move : (w : World) (reply : Reply) (next : World) → is_sealed reply ≡ false → Move w on.Seal reply next → next ≡ w
-unsealed_move w reply next sealed (inl answered) = at (seals_so w)
-  where
-    at : SealsSo w (seal w) → next ≡ w
-    at (inl stayed) = answered.1 ∙ stayed.0
-    at (inr made) = absurd (let no : true ≡ false = sym made.1 ∙ ap is_sealed (sym answered.0) ∙ sealed in cc)
-unsealed_move w reply next sealed (inr (inl lacks)) = lacks_stays (memory_refusal w on.Seal) reply w next lacks
-unsealed_move w reply next sealed (inr (inr stopped)) = absurd (let e = stopped.0 in cc)
-
-pub answers_sealed : {S : Type 0} (g : Ghosts S) (old new : Runner S) (run : batch.Run) → Seals old.desk (Ok (Some run)) new.desk → new.desk.mark ≡ old.desk.mark → new.vault ≡ old.vault → new.held ≡ held.Batch run
-    → Answers g old on.Seal (says.Sealed run.from (run.from + length (records_of run.steps))) new
+pub answers_sealed : {S : Type 0} (g : Ghosts S) (old new : Runner S) (run : batch.Run) → IsMove old.desk (seal old.desk.mark) (Ok (Some run)) new.desk → new.desk.mark ≡ old.desk.mark → new.vault ≡ old.vault
+    → new.held ≡ held.Batch run → Answers g old on.Seal (seal_reply (Ok (Some run))) new
 answers_sealed g old new run moves mark vault same w on =
     let move = moves w on.desk in
-    let made = sealed_move w _ move.0 refl move.1 in
-    let out : move.0.out ≡ Batch = ap (λ v. v.out) made.0 in
-    let was : IsOpenAt g old.vault (settled_records w) = subst (VaultStandsFor g old.vault w) made.1 on.vault in
-    let settled : settled_records w ≡ settled_records move.0 = ap settled_records (sym made.0) in (
+    let made = sealed_move old.desk.mark w run move.0 move.1 in
+    let out : move.0.out ≡ Batch = ap (λ v. v.out) made.1 in
+    let has : run ≡ sealed_run new.desk.mark move.0 = made.2 ∙ ap (λ m. sealed_run m (with_batch w)) (sym mark) ∙ ap (sealed_run new.desk.mark) (sym made.1) in
+    let was : IsOpenAt g old.vault (settled_records w) = subst (VaultStandsFor g old.vault w) made.0 on.vault in
+    let settled : settled_records w ≡ settled_records move.0 = ap settled_records (sym made.1) in (
       move.0,
-      move.1,
+      (old.desk.mark, (sealing run, move.1, refl)),
       record {
         desk = move.2;
-        held = subst (IsHeld new.desk.mark move.0) (sym same) (out, move.3);
+        held = subst (IsHeld new.desk.mark move.0) (sym same) (out, has);
         vault = subst (VaultStandsFor g new.vault move.0) (sym out) (subst (λ v. IsOpenAt g v (settled_records move.0)) (sym vault) (subst (IsOpenAt g old.vault) settled was));
         mark = mark ∙ on.mark ∙ ap (λ v. v.mark) (sym vault);
       },
     )
 
-pub answers_unsealed : {S : Type 0} (g : Ghosts S) (old new : Runner S) (reply : Reply) → is_sealed reply ≡ false → IsMove old.desk on.Seal reply new.desk
-    → new.desk.mark ≡ old.desk.mark → new.vault ≡ old.vault → new.held ≡ old.held → Answers g old on.Seal reply new
-answers_unsealed g old new reply sealed moves mark vault same w on =
+pub answers_unsealed : {S : Type 0} (g : Ghosts S) (old new : Runner S) (result : Result (Option batch.Run) Refusal) → is_sealed result ≡ false → IsMove old.desk (seal old.desk.mark) result new.desk
+    → new.desk.mark ≡ old.desk.mark → new.vault ≡ old.vault → new.held ≡ old.held → Answers g old on.Seal (seal_reply result) new
+answers_unsealed g old new result unsealed moves mark vault same w on =
     let move = moves w on.desk in
-    let stayed = unsealed_move w reply move.0 sealed move.1 in (
+    let stayed = unsealed_move old.desk.mark w result move.0 unsealed move.1 in (
       move.0,
-      move.1,
+      (old.desk.mark, (result, move.1, refl)),
       record {
         desk = move.2;
         held = subst (λ m. IsHeld m move.0 new.held) (sym mark) (subst (IsHeld old.desk.mark move.0) (sym same) (subst (λ v. IsHeld old.desk.mark v old.held) (sym stayed) on.held));
@@ -278,7 +275,7 @@ answers_end g desk vault run (held.Receipt receipt) reply w s out is mark h =
     let stands : IsOpenAt g vault (sealed_records w) = subst (IsOpenAt g vault) whole h.2 in
     let said : reply ≡ says.Committed (length (sealed_records w)) = h.1 ∙ ap says.Committed stands.1.next in (
       record w { out = Receipt; left = w.sealed ∷ [] },
-      inl (subst (λ o. reply ≡ (commit_of o w).reply) (sym out) said, subst (λ o. record w { out = Receipt; left = w.sealed ∷ [] } ≡ (commit_of o w).next) (sym out) refl),
+      subst (λ o. Commits o w reply (record w { out = Receipt; left = w.sealed ∷ [] })) (sym out) (inl (said, refl)),
       record {
         desk = out_again desk w Receipt (w.sealed ∷ []) s (ap is_nothing_out out);
         held = (refl, h.0 ∙ is);
@@ -288,7 +285,7 @@ answers_end g desk vault run (held.Receipt receipt) reply w s out is mark h =
     )
 answers_end g desk vault run (held.Batch back) reply w s out is mark h = (
   w,
-  inr (inl (subst (λ o. IsSomeAnd (if is_batch_out o then Some 4 else None) (λ (number : ℕ). (reply ≡ says.Refused number fault.OutOfMemory) × (w ≡ w))) (sym out) (h.1, refl))),
+  subst (λ o. Commits o w reply w) (sym out) (inr (inl (h.1, refl))),
   record {
     desk = s;
     held = (out, h.0 ∙ is);
@@ -298,7 +295,7 @@ answers_end g desk vault run (held.Batch back) reply w s out is mark h = (
 )
 answers_end g desk vault run (held.Doubt span) reply w s out is mark h = (
   in_doubt w,
-  inr (inr (refl, out, h.0, refl)),
+  subst (λ o. Commits o w reply (in_doubt w)) (sym out) (inr (inr (h.0, refl))),
   record {
     desk = out_again desk w Doubt (w.settled ∷ w.sealed ∷ []) s (ap is_nothing_out out);
     held = refl;

@@ -21,8 +21,9 @@ use Rattle.drill.specs.declared.runner.Held.{Held}
 use Rattle.drill.specs.declared.runner.Held.TheVariants as held
 use Rattle.drill.specs.declared.runner.Runner.{Runner}
 use Rattle.desk.specs.World.{World, Out, Nothing, Batch, Receipt, Doubt, settled_records, sealed_records}
-use Rattle.desk.specs.Moves.{Move}
-use Rattle.desk.specs.Desks.{StandsFor, sealed_run}
+use Rattle.desk.specs.Moves.{sealed_run}
+use Rattle.drill.specs.Moves.{Move}
+use Rattle.desk.specs.Desks.{StandsFor}
 
 -- the runner holds what the core has handed out
 abbrev pub IsHeld : ℕ → World → Held → Type 0

@@ -3,7 +3,8 @@ use Rattle.std.specs.Prelude.{◌≡◌, ℕ, List, [], ◌∷◌, ◌++◌}
 use Rattle.script_lines.specs.declared.event.Event.{Event}
 use Rattle.script_lines.specs.declared.reply.Reply.{Reply}
 use Rattle.desk.specs.World.{World}
-use Rattle.desk.specs.Moves.{Run, opened}
+use Rattle.desk.specs.Moves.{opened}
+use Rattle.drill.specs.Moves.{Run}
 use Rattle.script_lines.specs.Replies.{reply_text}
 use Rattle.script_lines.specs.Script.{ReadsLine}
 

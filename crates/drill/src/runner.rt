@@ -3,15 +3,15 @@ ghost use Rattle.std.specs.Prelude.{◌≡◌, ◌⊎◌, ◌+◌, [], length, I
 ghost use Rattle.relay_types.specs.Records.{records_of};
 ghost use Rattle.script_lines.specs.declared.event.Event.TheVariants as on;
 ghost use Rattle.script_lines.specs.declared.reply.Reply.TheVariants as says;
-ghost use Rattle.desk.specs.Desks.{staged_reply};
-ghost use Rattle.desk.specs.Moves.{opened, event_reply};
+ghost use Rattle.desk.specs.Moves.{opened};
+ghost use Rattle.drill.specs.Moves.{fault_of, refusal_reply, staged_reply, seal_reply, event_reply};
 ghost use Rattle.drill.specs.Runners.{RunnerStandsFor, IsCleanAt, IsClean, HasNoTable, Answers, CommitsSo, unchanged_reply};
 ghost use Rattle.drill.specs.Replays.{Replays, AnswersLine};
 
 use delivery_book::Row;
-use desk::{Desk, Refusal, WrongTurn};
-use relay_types::{Body, Moment, MsgId, Name};
-use script_lines::{Command, Event, Fault, Reply, read_event};
+use desk::{Command, Desk, Refusal, WrongTurn};
+use relay_types::{Body, MaxLimit, Moment, MsgId, Name, Secrets, Target};
+use script_lines::{Event, Fault, Reply, read_event};
 use spool::{Batch, CommitEnd, Doubt, Receipt, Unchanged, Vault};
 use sqlite::{Alter, Connection};
 use std::alloc::{AllocError, Global};
@@ -49,11 +49,16 @@ impl<S: Alter> Runner<S> {
                 id,
                 body,
             } => self.submit(now, name, id, body),
-            Event::Change(command) => self.change(command),
+            Event::Put {
+                name,
+                target,
+                max,
+                secrets,
+            } => self.put(name, target, max, secrets),
             Event::Seal => self.seal(),
             Event::Commit => self.commit(),
             Event::Settle => self.settle(),
-            Event::ShowEvent { name, id } => self.show_event(name, &id),
+            Event::Show { name, id } => self.show(name, &id),
         }
     }
 
@@ -61,20 +66,25 @@ impl<S: Alter> Runner<S> {
         ensures answers { Answers S.Store self.old (on.Submit now name id body) result self.new }
         ensures clean { IsClean S.Store self.new → IsClean S.Store self.old }
     {
-        staged(self.desk.submit(now, name, id, body))
+        staged_reply(self.desk.submit(now, name, id, body))
     }
 
-    fn change(&mut self, command: Command) -> Reply
-        ensures answers { Answers S.Store self.old (on.Change command) result self.new }
+    fn put(&mut self, name: Name, target: Target, max: MaxLimit, secrets: Secrets) -> Reply
+        ensures answers { Answers S.Store self.old (on.Put name target max secrets) result self.new }
         ensures clean { IsClean S.Store self.new → IsClean S.Store self.old }
     {
-        staged(self.desk.command(command))
+        staged_reply(self.desk.command(Command::PutEndpoint {
+            name,
+            target,
+            max,
+            secrets,
+        }))
     }
 
-    fn show_event(&self, name: Name, id: &MsgId) -> Reply
-        ensures { Answers S.Store self.now (on.ShowEvent name id.now) result self.now }
+    fn show(&self, name: Name, id: &MsgId) -> Reply
+        ensures { Answers S.Store self.now (on.Show name id.now) result self.now }
     {
-        shown(self.desk.event(name, id))
+        event_reply(self.desk.event(name, id))
     }
 
     fn seal(&mut self) -> Reply
@@ -83,12 +93,12 @@ impl<S: Alter> Runner<S> {
     {
         match self.desk.seal() {
             Ok(Some(batch)) => {
-                let reply = sealed(&batch);
+                let reply = sealed_reply(&batch);
                 self.held = Held::Batch(batch);
                 reply
             }
             Ok(None) => Reply::NothingWaits,
-            Err(refusal) => refused(refusal),
+            Err(refusal) => refusal_reply(refusal),
         }
     }
 
@@ -132,16 +142,16 @@ impl<S: Alter> Runner<S> {
     }
 }
 
-fn staged(answer: Result<u64, Refusal>) -> Reply
+fn staged_reply(answer: Result<u64, Refusal>) -> Reply
     ensures { result ≡ staged_reply answer }
 {
     match answer {
         Ok(seq) => Reply::Staged { seq },
-        Err(refusal) => refused(refusal),
+        Err(refusal) => refusal_reply(refusal),
     }
 }
 
-fn shown(row: Option<Row>) -> Reply
+fn event_reply(row: Option<Row>) -> Reply
     ensures { result ≡ event_reply row }
 {
     match row {
@@ -154,7 +164,7 @@ fn shown(row: Option<Row>) -> Reply
     }
 }
 
-fn sealed(batch: &Batch) -> Reply
+fn sealed_reply(batch: &Batch) -> Reply
     ensures { result ≡ says.Sealed batch.now.from (batch.now.from + length (records_of batch.now.steps)) }
 {
     Reply::Sealed {
@@ -163,12 +173,29 @@ fn sealed(batch: &Batch) -> Reply
     }
 }
 
-fn refused(refusal: Refusal) -> Reply
-    ensures { result ≡ says.Refused refusal.number refusal.fault }
+fn refusal_reply(refusal: Refusal) -> Reply
+    ensures { result ≡ refusal_reply refusal }
 {
     Reply::Refused {
         number: refusal.number,
-        fault: refusal.fault,
+        fault: fault_of(refusal.fault),
+    }
+}
+
+fn fault_of(fault: desk::Fault) -> Fault
+    ensures { result ≡ fault_of fault }
+{
+    match fault {
+        desk::Fault::UnknownEndpoint => Fault::UnknownEndpoint,
+        desk::Fault::Conflict => Fault::Conflict,
+        desk::Fault::Exists => Fault::Exists,
+        desk::Fault::EndpointBacklog => Fault::EndpointBacklog,
+        desk::Fault::Backlog => Fault::Backlog,
+        desk::Fault::TooManyEndpoints => Fault::TooManyEndpoints,
+        desk::Fault::WaitingFull => Fault::WaitingFull,
+        desk::Fault::SeqExhausted => Fault::SeqExhausted,
+        desk::Fault::BatchOut => Fault::BatchOut,
+        desk::Fault::OutOfMemory => Fault::OutOfMemory,
     }
 }
 
@@ -183,7 +210,7 @@ fn commit_batch<S: Alter>(vault: &mut Vault<S>, batch: Batch) -> (Held, Reply)
             let to = vault.next();
             (Held::Receipt(receipt), Reply::Committed { to })
         }
-        Err(CommitEnd::Unchanged(batch, why)) => (Held::Batch(batch), unchanged(why)),
+        Err(CommitEnd::Unchanged(batch, why)) => (Held::Batch(batch), unchanged_reply(why)),
         Err(CommitEnd::Doubtful(doubt, _)) => (
             Held::Doubt(doubt),
             Reply::Refused {
@@ -194,7 +221,7 @@ fn commit_batch<S: Alter>(vault: &mut Vault<S>, batch: Batch) -> (Held, Reply)
     }
 }
 
-fn unchanged(why: Unchanged) -> Reply
+fn unchanged_reply(why: Unchanged) -> Reply
     ensures { result ≡ unchanged_reply why }
 {
     let (number, fault) = match why {

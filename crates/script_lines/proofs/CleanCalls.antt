@@ -8,7 +8,6 @@ use Rattle.text_lines.specs.Parts.{line, has_no, HasParts}
 use Rattle.text_lines.proofs.CleanWords.{clean-name, clean-id, clean-decimal, clean-body, clean-secrets_word, at_most}
 use Rattle.text_lines.proofs.PartLaws.{parts_equal}
 use Rattle.text_lines.proofs.TargetWords.{clean-target}
-use Rattle.script_lines.specs.declared.event.Command.TheVariants.{PutEndpoint}
 use Rattle.script_lines.specs.declared.event.Event.{Event}
 use Rattle.script_lines.specs.declared.event.Event.TheVariants as on
 use Rattle.script_lines.specs.Script.{call_word, AreArguments, IsCall, ReadsLine}
@@ -20,7 +19,7 @@ two_clean : (a b : List ℕ) → IsTrue (has_no 32 a) → IsTrue (has_no 32 b) �
 two_clean a b ha hb = rw (ha, hb) refl
 
 clean-arguments : (words : List (List ℕ)) (event : Event) → AreArguments words event → IsTrue (list_all (has_no 32) words)
-clean-arguments words (on.Change (PutEndpoint name target max secrets)) (word, reads, e, valid) =
+clean-arguments words (on.Put name target max secrets) (word, reads, e, valid) =
     let one = and_parts (is_name name) (is_target target && is_max_limit max) valid in
     let two = and_parts (is_target target) (is_max_limit max) one.1 in
     let most = (and_parts (nat_le 1 max) (nat_le max 1000) two.1).1 in
@@ -35,17 +34,17 @@ clean-arguments words (on.Submit now name id body) (word, reads, e, valid) =
 clean-arguments words on.Seal e = subst (λ xs. IsTrue (list_all (has_no 32) xs)) (sym e) refl
 clean-arguments words on.Commit e = subst (λ xs. IsTrue (list_all (has_no 32) xs)) (sym e) refl
 clean-arguments words on.Settle e = subst (λ xs. IsTrue (list_all (has_no 32) xs)) (sym e) refl
-clean-arguments words (on.ShowEvent name id) (e, valid) =
+clean-arguments words (on.Show name id) (e, valid) =
     let both = and_parts (is_name name) (is_msg_id id) valid in
     subst (λ xs. IsTrue (list_all (has_no 32) xs)) (sym e) (two_clean name id (clean-name name both.0) (clean-id id both.1))
 
 clean-word : (event : Event) → IsTrue (has_no 32 (call_word event))
-clean-word (on.Change (PutEndpoint name target max secrets)) = refl
+clean-word (on.Put name target max secrets) = refl
 clean-word (on.Submit now name id body) = refl
 clean-word on.Seal = refl
 clean-word on.Commit = refl
 clean-word on.Settle = refl
-clean-word (on.ShowEvent name id) = refl
+clean-word (on.Show name id) = refl
 
 some_word : (words rest : List (List ℕ)) (word : List ℕ) → words ≡ word ∷ rest → words ≢ []
 some_word words rest word e none = cc

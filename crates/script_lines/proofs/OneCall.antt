@@ -8,22 +8,21 @@ use Rattle.text_lines.specs.Words.{IsSecretsWord, IsBodyWord}
 use Rattle.text_lines.proofs.CleanWords.{at_most}
 use Rattle.text_lines.proofs.HexLaws.{one_body}
 use Rattle.text_lines.proofs.WordLaws.{one_secrets}
-use Rattle.script_lines.specs.declared.event.Command.TheVariants.{PutEndpoint}
 use Rattle.script_lines.specs.declared.event.Event.{Event}
 use Rattle.script_lines.specs.declared.event.Event.TheVariants as on
-use Rattle.script_lines.specs.Script.{IsChange, IsSubmit, IsShow, call_word, AreArguments, IsCall, HasOneCallAtMost}
+use Rattle.script_lines.specs.Script.{IsPut, IsSubmit, IsShow, call_word, AreArguments, IsCall, HasOneCallAtMost}
 use Rattle.script_lines.proofs.CallLaws.{only_put, only_submit, only_show, only_seal, only_commit, only_settle}
 use Rattle.script_lines.proofs.CleanCalls.{the_call, parts_of_call}
 
-same_put : (words : List (List ℕ)) (name target : List ℕ) (max : ℕ) (secrets : List (List ℕ)) (name' target' : List ℕ) (max' : ℕ) (secrets' : List (List ℕ)) → IsChange words (PutEndpoint name target max secrets)
-    → IsChange words (PutEndpoint name' target' max' secrets') → on.Change (PutEndpoint name target max secrets) ≡ on.Change (PutEndpoint name' target' max' secrets')
+same_put : (words : List (List ℕ)) (name target : List ℕ) (max : ℕ) (secrets : List (List ℕ)) (name' target' : List ℕ) (max' : ℕ) (secrets' : List (List ℕ)) → IsPut words name target max secrets
+    → IsPut words name' target' max' secrets' → on.Put name target max secrets ≡ on.Put name' target' max' secrets'
 same_put words name target max secrets name' target' max' secrets' (word, reads, e, valid) (word', reads', e', valid') =
     let names : name ≡ name' = cc in
     let targets : target ≡ target' = cc in
     let maxima : max ≡ max' = decimal_injective max max' (small name target max valid) (small name' target' max' valid') (cc) in
     let written : word' ≡ word = cc in
     let all : secrets ≡ secrets' = one_secrets word secrets secrets' reads (subst (λ w. IsSecretsWord w secrets') written reads') in
-    λ i. on.Change (PutEndpoint (names i) (targets i) (maxima i) (all i))
+    λ i. on.Put (names i) (targets i) (maxima i) (all i)
   where
     small : (name target : List ℕ) (max : ℕ) → IsTrue (is_name name && (is_target target && is_max_limit max)) → max < 2 ^ 64
     small name target max valid =
@@ -43,23 +42,23 @@ same_submit words now name id body now' name' id' body' (word, reads, e, valid) 
     small : (now : ℕ) (name id body : List ℕ) → IsTrue (is_moment now && (is_name name && (is_msg_id id && is_body body))) → now < 2 ^ 64
     small now name id body valid = at_most now (2 ^ 40) (and_parts (is_moment now) (is_name name && (is_msg_id id && is_body body)) valid).0 (lit< tt)
 
-same_show : (words : List (List ℕ)) (name id name' id' : List ℕ) → IsShow words name id → IsShow words name' id' → on.ShowEvent name id ≡ on.ShowEvent name' id'
+same_show : (words : List (List ℕ)) (name id name' id' : List ℕ) → IsShow words name id → IsShow words name' id' → on.Show name id ≡ on.Show name' id'
 same_show words name id name' id' (e, valid) (e', valid') =
     let names : name ≡ name' = cc in
     let ids : id ≡ id' = cc in
-    λ i. on.ShowEvent (names i) (ids i)
+    λ i. on.Show (names i) (ids i)
 
 -- one word and the words behind it are those of one call at most
 same_event : (words : List (List ℕ)) (a b : Event) → call_word a ≡ call_word b → AreArguments words a → AreArguments words b → a ≡ b
-same_event words (on.Change (PutEndpoint name target max secrets)) b e h =
-    only_put (λ event. on.Change (PutEndpoint name target max secrets) ≡ event) (codes "put") words refl (λ name' target' max' secrets' k. same_put words name target max secrets name' target' max' secrets' h k) b e
+same_event words (on.Put name target max secrets) b e h =
+    only_put (λ event. on.Put name target max secrets ≡ event) (codes "put") words refl (λ name' target' max' secrets' k. same_put words name target max secrets name' target' max' secrets' h k) b e
 same_event words (on.Submit now name id body) b e h =
     only_submit (λ event. on.Submit now name id body ≡ event) (codes "submit") words refl (λ now' name' id' body' k. same_submit words now name id body now' name' id' body' h k) b e
 same_event words on.Seal b e h = only_seal (λ event. on.Seal ≡ event) (codes "seal") words refl (λ none. refl) b e
 same_event words on.Commit b e h = only_commit (λ event. on.Commit ≡ event) (codes "commit") words refl (λ none. refl) b e
 same_event words on.Settle b e h = only_settle (λ event. on.Settle ≡ event) (codes "settle") words refl (λ none. refl) b e
-same_event words (on.ShowEvent name id) b e h =
-    only_show (λ event. on.ShowEvent name id ≡ event) (codes "show") words refl (λ name' id' k. same_show words name id name' id' h k) b e
+same_event words (on.Show name id) b e h =
+    only_show (λ event. on.Show name id ≡ event) (codes "show") words refl (λ name' id' k. same_show words name id name' id' h k) b e
 
 same_call : (words : List (List ℕ)) (a b : Event) → IsCall words a → IsCall words b → a ≡ b
 same_call words a b (behind, e, h) (behind', e', h') =

@@ -4,14 +4,12 @@ use Rattle.std.specs.Prelude.{◌≡◌, ℕ, ◌&&◌, List, [], ◌∷◌, IsT
 use Rattle.relay_types.specs.Values.{is_name, is_msg_id, is_target, is_max_limit, is_body, is_moment}
 use Rattle.text_lines.specs.Parts.{line}
 use Rattle.text_lines.specs.Words.{IsSecretsWord, IsBodyWord}
-use Rattle.script_lines.specs.declared.event.Command.{Command}
-use Rattle.script_lines.specs.declared.event.Command.TheVariants.{PutEndpoint}
 use Rattle.script_lines.specs.declared.event.Event.{Event}
 use Rattle.script_lines.specs.declared.event.Event.TheVariants as on
 
--- the words behind the first one of a change of an endpoint
-abbrev pub IsChange : List (List ℕ) → Command → Type 0
-IsChange words (PutEndpoint name target max secrets) = (word : List ℕ) × IsSecretsWord word secrets × (words ≡ name ∷ target ∷ decimal max ∷ word ∷ [])
+-- the words behind the first one of a call
+abbrev pub IsPut : List (List ℕ) → List ℕ → List ℕ → ℕ → List (List ℕ) → Type 0
+IsPut words name target max secrets = (word : List ℕ) × IsSecretsWord word secrets × (words ≡ name ∷ target ∷ decimal max ∷ word ∷ [])
     × IsTrue (is_name name && (is_target target && is_max_limit max))
 
 abbrev pub IsSubmit : List (List ℕ) → ℕ → List ℕ → List ℕ → List ℕ → Type 0
@@ -23,7 +21,7 @@ IsShow words name id = (words ≡ name ∷ id ∷ []) × IsTrue (is_name name &&
 
 -- the words are behind the first one of no such call
 abbrev pub AreOfNoPut : List (List ℕ) → Type 0
-AreOfNoPut words = (name target : List ℕ) (max : ℕ) (secrets : List (List ℕ)) → ¬ IsChange words (PutEndpoint name target max secrets)
+AreOfNoPut words = (name target : List ℕ) (max : ℕ) (secrets : List (List ℕ)) → ¬ IsPut words name target max secrets
 
 abbrev pub AreOfNoSubmit : List (List ℕ) → Type 0
 AreOfNoSubmit words = (now : ℕ) (name id body : List ℕ) → ¬ IsSubmit words now name id body
@@ -32,34 +30,34 @@ abbrev pub AreOfNoShow : List (List ℕ) → Type 0
 AreOfNoShow words = (name id : List ℕ) → ¬ IsShow words name id
 
 -- the words behind the first one of these calls
-abbrev pub IsPut : List (List ℕ) → Event → Type 0
-IsPut words (on.Change command) = IsChange words command
-IsPut words event = ⊥
+abbrev pub AreOfPut : List (List ℕ) → Event → Type 0
+AreOfPut words (on.Put name target max secrets) = IsPut words name target max secrets
+AreOfPut words event = ⊥
 
-abbrev pub IsSubmitted : List (List ℕ) → Event → Type 0
-IsSubmitted words (on.Submit now name id body) = IsSubmit words now name id body
-IsSubmitted words event = ⊥
+abbrev pub AreOfSubmit : List (List ℕ) → Event → Type 0
+AreOfSubmit words (on.Submit now name id body) = IsSubmit words now name id body
+AreOfSubmit words event = ⊥
 
-abbrev pub IsShown : List (List ℕ) → Event → Type 0
-IsShown words (on.ShowEvent name id) = IsShow words name id
-IsShown words event = ⊥
+abbrev pub AreOfShow : List (List ℕ) → Event → Type 0
+AreOfShow words (on.Show name id) = IsShow words name id
+AreOfShow words event = ⊥
 
 -- the first word of a call, and what is told by the words behind it
 abbrev pub call_word : Event → List ℕ
-call_word (on.Change (PutEndpoint name target max secrets)) = codes "put"
+call_word (on.Put name target max secrets) = codes "put"
 call_word (on.Submit now name id body) = codes "submit"
 call_word on.Seal = codes "seal"
 call_word on.Commit = codes "commit"
 call_word on.Settle = codes "settle"
-call_word (on.ShowEvent name id) = codes "show"
+call_word (on.Show name id) = codes "show"
 
 abbrev pub AreArguments : List (List ℕ) → Event → Type 0
-AreArguments words (on.Change command) = IsChange words command
+AreArguments words (on.Put name target max secrets) = IsPut words name target max secrets
 AreArguments words (on.Submit now name id body) = IsSubmit words now name id body
 AreArguments words on.Seal = words ≡ []
 AreArguments words on.Commit = words ≡ []
 AreArguments words on.Settle = words ≡ []
-AreArguments words (on.ShowEvent name id) = IsShow words name id
+AreArguments words (on.Show name id) = IsShow words name id
 
 -- the words of a call
 abbrev pub IsCall : List (List ℕ) → Event → Type 0

@@ -1,18 +1,6 @@
 //! The calls of the core.
 use relay_types::{Body, MaxLimit, Moment, MsgId, Name, Secrets, Target};
 
-/// A change of an endpoint.
-#[derive(Drop)]
-pub enum Command {
-    /// A new endpoint.
-    PutEndpoint {
-        name: Name,
-        target: Target,
-        max: MaxLimit,
-        secrets: Secrets,
-    },
-}
-
 /// One call of the core.
 #[derive(Drop)]
 pub enum Event {
@@ -23,8 +11,13 @@ pub enum Event {
         id: MsgId,
         body: Body,
     },
-    /// A change of an endpoint.
-    Change(Command),
+    /// A new endpoint.
+    Put {
+        name: Name,
+        target: Target,
+        max: MaxLimit,
+        secrets: Secrets,
+    },
     /// Puts what waits into a batch.
     Seal,
     /// Commits the batch.
@@ -32,7 +25,7 @@ pub enum Event {
     /// Settles the receipt.
     Settle,
     /// What the settled records say of an event.
-    ShowEvent {
+    Show {
         name: Name,
         id: MsgId,
     },

@@ -1,11 +1,11 @@
 //! The lines of a script: the calls that they stand for.
 ghost use Rattle.std.specs.Prelude.{◌≡◌, [], ◌∷◌, IfOk};
 ghost use Rattle.text_lines.specs.Parts.{texts};
-ghost use Rattle.script_lines.specs.Script.{ReadsLine, HasOneCallAtMost, IsCall, call_word, AreArguments, IsPut, IsSubmitted, IsShown};
+ghost use Rattle.script_lines.specs.Script.{ReadsLine, HasOneCallAtMost, IsCall, call_word, AreArguments, AreOfPut, AreOfSubmit, AreOfShow};
 ghost use Rattle.script_lines.specs.Script.{AreOfNoPut, AreOfNoSubmit, AreOfNoShow};
 ghost use Rattle.script_lines.specs.declared.event.Event.{Event};
 
-use crate::event::{Command, Event};
+use crate::event::Event;
 use relay_types::{MsgId, Name, Target};
 use std::alloc::Global;
 use text_lines::{WordFault, is_word, read_body, read_max, read_moment, read_secrets, split};
@@ -48,18 +48,18 @@ fn read_call(alloc: Global, call: &[u8], arguments: &[&[u8]]) -> Result<Event, W
     } else if is_word(call, "show") {
         read_show(arguments)
     } else if is_word(call, "seal") {
-        alone(arguments, Event::Seal)
+        read_alone(arguments, Event::Seal)
     } else if is_word(call, "commit") {
-        alone(arguments, Event::Commit)
+        read_alone(arguments, Event::Commit)
     } else if is_word(call, "settle") {
-        alone(arguments, Event::Settle)
+        read_alone(arguments, Event::Settle)
     } else {
         Err(WordFault::Bad)
     }
 }
 
 // The event of a call that has no arguments.
-fn alone(arguments: &[&[u8]], event: Event) -> Result<Event, WordFault>
+fn read_alone(arguments: &[&[u8]], event: Event) -> Result<Event, WordFault>
     ensures stands { IfOk result (λ same. (same ≡ event) × (texts arguments.now ≡ [])) }
     ensures bad { result ≡ Err WordFault.Bad → texts arguments.now ≡ [] → ⊥ }
 {
@@ -71,51 +71,51 @@ fn alone(arguments: &[&[u8]], event: Event) -> Result<Event, WordFault>
 }
 
 fn read_put(alloc: Global, arguments: &[&[u8]]) -> Result<Event, WordFault>
-    ensures stands { IfOk result (λ event. IsPut (texts arguments.now) event) }
+    ensures stands { IfOk result (λ event. AreOfPut (texts arguments.now) event) }
     ensures bad { result ≡ Err WordFault.Bad → AreOfNoPut (texts arguments.now) }
 {
     match arguments {
-        [name, url, max, secrets] => put_endpoint(alloc, name, url, max, secrets),
+        [name, url, max, secrets] => read_put_words(alloc, name, url, max, secrets),
         _ => Err(WordFault::Bad),
     }
 }
 
-fn put_endpoint(
+fn read_put_words(
     alloc: Global,
     name: &[u8],
     url: &[u8],
     max: &[u8],
     secrets: &[u8],
 ) -> Result<Event, WordFault>
-    ensures stands { IfOk result (λ event. IsPut (name.now ∷ url.now ∷ max.now ∷ secrets.now ∷ []) event) }
+    ensures stands { IfOk result (λ event. AreOfPut (name.now ∷ url.now ∷ max.now ∷ secrets.now ∷ []) event) }
     ensures bad { result ≡ Err WordFault.Bad → AreOfNoPut (name.now ∷ url.now ∷ max.now ∷ secrets.now ∷ []) }
 {
-    Ok(Event::Change(Command::PutEndpoint {
+    Ok(Event::Put {
         name: Name::read(name)?,
         target: Target::read(alloc, url)?,
         max: read_max(max)?,
         secrets: read_secrets(alloc, secrets)?,
-    }))
+    })
 }
 
 fn read_submit(alloc: Global, arguments: &[&[u8]]) -> Result<Event, WordFault>
-    ensures stands { IfOk result (λ event. IsSubmitted (texts arguments.now) event) }
+    ensures stands { IfOk result (λ event. AreOfSubmit (texts arguments.now) event) }
     ensures bad { result ≡ Err WordFault.Bad → AreOfNoSubmit (texts arguments.now) }
 {
     match arguments {
-        [now, name, id, body] => submit(alloc, now, name, id, body),
+        [now, name, id, body] => read_submit_words(alloc, now, name, id, body),
         _ => Err(WordFault::Bad),
     }
 }
 
-fn submit(
+fn read_submit_words(
     alloc: Global,
     now: &[u8],
     name: &[u8],
     id: &[u8],
     body: &[u8],
 ) -> Result<Event, WordFault>
-    ensures stands { IfOk result (λ event. IsSubmitted (now.now ∷ name.now ∷ id.now ∷ body.now ∷ []) event) }
+    ensures stands { IfOk result (λ event. AreOfSubmit (now.now ∷ name.now ∷ id.now ∷ body.now ∷ []) event) }
     ensures bad { result ≡ Err WordFault.Bad → AreOfNoSubmit (now.now ∷ name.now ∷ id.now ∷ body.now ∷ []) }
 {
     Ok(Event::Submit {
@@ -127,20 +127,20 @@ fn submit(
 }
 
 fn read_show(arguments: &[&[u8]]) -> Result<Event, WordFault>
-    ensures stands { IfOk result (λ event. IsShown (texts arguments.now) event) }
+    ensures stands { IfOk result (λ event. AreOfShow (texts arguments.now) event) }
     ensures bad { result ≡ Err WordFault.Bad → AreOfNoShow (texts arguments.now) }
 {
     match arguments {
-        [name, id] => show(name, id),
+        [name, id] => read_show_words(name, id),
         _ => Err(WordFault::Bad),
     }
 }
 
-fn show(name: &[u8], id: &[u8]) -> Result<Event, WordFault>
-    ensures stands { IfOk result (λ event. IsShown (name.now ∷ id.now ∷ []) event) }
+fn read_show_words(name: &[u8], id: &[u8]) -> Result<Event, WordFault>
+    ensures stands { IfOk result (λ event. AreOfShow (name.now ∷ id.now ∷ []) event) }
     ensures bad { result ≡ Err WordFault.Bad → AreOfNoShow (name.now ∷ id.now ∷ []) }
 {
-    Ok(Event::ShowEvent {
+    Ok(Event::Show {
         name: Name::read(name)?,
         id: MsgId::read(id)?,
     })

@@ -5,4 +5,4 @@ use Rattle.script_lines.proofs.script.read_submit.Goals as goal
 
 pub returns-in-len4-clause-bad : goal.returns-in-len4-clause-bad
 returns-in-len4-clause-bad c = λ e now name id body h.
-    c.submit.ensures.bad e now name id body (subst (λ (words : List (List ℕ)). IsSubmit words now name id body) (four_texts c.args.arguments.now _ (omega arith)) h)
+    c.read_submit_words.ensures.bad e now name id body (subst (λ (words : List (List ℕ)). IsSubmit words now name id body) (four_texts c.args.arguments.now _ (omega arith)) h)

@@ -1,25 +1,27 @@
-use Rattle.std.proofs.Common.{◌≡◌, ◌∙◌, ◌≤◌, ◌<◌, ◌+◌, ◌^◌, ℕ, List, length, true, Option, Some, None, ap, sym, arith, rules}
+use Rattle.std.proofs.Common.{◌≡◌, ◌∙◌, ◌≤◌, ◌<◌, ◌+◌, ◌^◌, ℕ, List, Ok, length, true, Option, Some, None, [], ◌∷◌, ap, sym, arith, rules}
 use Rattle.relay_types.specs.declared.record.Record.{Record}
 use Rattle.desk.specs.Desks.{DeskValue, steps_of, run_of}
-use Rattle.desk.proofs.DeskBatches.{seal-made, seals_so}
+use Rattle.desk.specs.Moves.{seal}
+use Rattle.desk.specs.declared.refusal.Fault.TheVariants as fault
+use Rattle.desk.specs.Faults.{first_fault}
+use Rattle.desk.proofs.MoveLaws.{replies, leaves, taken}
+use Rattle.desk.proofs.DeskBatches.{seal_checks, seal_makes}
 use Rattle.desk.proofs.desk.Desk.seal.Goals as goal
 
 pub returns-clause-moves : goal.returns-clause-moves
 returns-clause-moves c =
     let d : DeskValue = c.args.self.now in
-    let batch : c.of-2.result ≡ run_of d =
-    c.of-2.ensures
-    ∙ ap (λ steps. record { mark = c.self.inside.mark; from = c.self.inside.settled; steps = steps }) (ap (λ step. steps_of (Some step)) c.in-Ok.ensures ∙ ap steps_of (sym c.in-Some.is))
+    let batch : c.of.result ≡ run_of d =
+    c.of.ensures
+    ∙ ap (λ steps. record { mark = c.self.inside.mark; from = c.self.inside.settled; steps = steps }) (ap (λ step. steps_of (Some step)) (taken c.share.result 3 _ _ (sym c.in_ok-step.was ∙ c.or_out_of_memory.ensures) c.share.ensures) ∙ ap steps_of (sym c.in-Some.is))
     ∙ ap run_of c.self.view_is in
-    seals_so
-    (seal-made d c.in-Some.step (ap (λ (v : DeskValue). v.is_out) (sym c.self.view_is) ∙ c.if-self.false) (ap (λ (v : DeskValue). v.waiting) (sym c.self.view_is) ∙ c.in-Some.is))
-    _ _ batch
+    leaves d _ _ (seal d.mark) _
+    (replies d _ (seal d.mark) _ _
+    (seal_makes d _ c.in-Some.step (seal_checks d _ (c.in_ok-check.ensures ∙ ap (λ (v : DeskValue). first_fault ((v.is_out, 2, fault.BatchOut) ∷ [])) c.self.view_is)) (ap (λ (v : DeskValue). v.waiting) (sym c.self.view_is) ∙ c.in-Some.is))
+    (ap (λ run. Ok (Some run)) batch))
     (ap (λ (v : DeskValue). record v { is_out = true }) c.self.view_is)
 
 -- a step that waits has a number below those of the records
 below_records : (waiting : Option (List Record)) (step : List Record) (settled records : ℕ) → waiting ≡ Some step → settled + length (steps_of waiting) ≤ records → records ≤ 2 ^ 62 → settled < 2 ^ 62
 below_records None step settled records e h room = absurd (search (rules, e))
 below_records (Some s) step settled records e h room = omega (arith, h, room)
-
-pub of-requires-2-clause-room : goal.of-requires-2-clause-room
-of-requires-2-clause-room c = below_records _ _ _ _ c.in-Some.is c.self.invariant.prefix c.self.invariant.room

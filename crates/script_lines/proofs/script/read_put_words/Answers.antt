@@ -1,6 +1,6 @@
 use Rattle.std.proofs.Common.{rules}
 use Rattle.script_lines.proofs.CallLaws.{put_secrets}
-use Rattle.script_lines.proofs.script.put_endpoint.Goals as goal
+use Rattle.script_lines.proofs.script.read_put_words.Goals as goal
 
 pub returns-in_err-read_secrets-clause-bad : goal.returns-in_err-read_secrets-clause-bad
 returns-in_err-read_secrets-clause-bad c = λ e of to most by h.

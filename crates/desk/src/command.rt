@@ -1,0 +1,14 @@
+//! The changes of an endpoint.
+use relay_types::{MaxLimit, Name, Secrets, Target};
+
+/// A change of an endpoint.
+#[derive(Drop)]
+pub enum Command {
+    /// A new endpoint.
+    PutEndpoint {
+        name: Name,
+        target: Target,
+        max: MaxLimit,
+        secrets: Secrets,
+    },
+}
