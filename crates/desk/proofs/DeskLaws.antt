@@ -1,6 +1,6 @@
 -- The worlds for which a desk stands after a step, and the moves of its calls.
 use Rattle.std.proofs.Common.{◌≡◌, ℕ, ◌+◌, ◌<◌, ◌≤◌, Bool, true, false, List, [], ◌∷◌, ◌++◌, Option, Some, None, length, take, drop, refl, sym, ◌∙◌, ap, arith, ◌&&◌, map, append-nil, length-append, subst, max}
-use Rattle.std.specs.Prelude.{Result, Ok, Err, IfOk, OnOk, OnErr, nat_le, is_some, not, bytes_eq, IsTrue, ◌^◌, if◌then◌else◌}
+use Rattle.std.specs.Prelude.{Result, Ok, Err, IfOk, OnOk, OnErr, nat_le, is_some, not, bytes_eq, IsTrue, if◌then◌else◌}
 use Rattle.std.specs.List.{list_any, list_all}
 use Rattle.std.specs.Option.{option_map_or}
 use Rattle.std.specs.declared.alloc.AllocError.{AllocError}
@@ -8,6 +8,7 @@ use Rattle.std.proofs.Math.Seq.{take-append_seam}
 use Rattle.std.proofs.lemmas.List.{take-append-le, drop-append-le, length-drop, length-map, map-append}
 use Rattle.std.proofs.lemmas.List.Folds.{list_all-append}
 use Rattle.std.proofs.lemmas.Bool.{leb-false, lt-ltb}
+use Rattle.relay_types.specs.declared.limits.TheConstants.{MAX_ENDPOINTS, MAX_RECORDS}
 use Rattle.relay_types.specs.declared.record.Record.{Record}
 use Rattle.relay_types.specs.declared.record.Record.TheVariants.{Put, Accept}
 use Rattle.relay_types.specs.Records.{records_of}
@@ -22,6 +23,7 @@ use Rattle.delivery_book.specs.declared.row.Row.{Row}
 use Rattle.delivery_book.proofs.Laws.{stands_accept, stands_other}
 use Rattle.spool.specs.Runs.{is_put_or_accept}
 use Rattle.desk.specs.declared.command.Command.TheVariants.{PutEndpoint}
+use Rattle.desk.specs.declared.limits.TheConstants.{MAX_PENDING, MAX_PENDING_ALL}
 use Rattle.desk.specs.declared.refusal.Fault.TheVariants as fault
 use Rattle.desk.specs.declared.refusal.Fault.{Fault}
 use Rattle.desk.specs.declared.refusal.Refusal.{Refusal}
@@ -63,7 +65,7 @@ book_of {d} {e} {w} h same = subst (λ (x : DeskValue). book.StandsFor x.deliver
 -- One more record
 
 -- the desk that stands for the world with one more record
-pub stands_staged : (d : DeskValue) (w : World) (entry : Record) (names : List (List ℕ)) (deliveries : BookValue) → StandsFor d w → d.waiting ≡ None → d.records < 2 ^ 62
+pub stands_staged : (d : DeskValue) (w : World) (entry : Record) (names : List (List ℕ)) (deliveries : BookValue) → StandsFor d w → d.waiting ≡ None → d.records < MAX_RECORDS
     → IsTrue (may_follow (all_records w) entry) → IsTrue (is_within_limits entry) → IsTrue (is_put_or_accept entry)
     → names ≡ map (λ e. e.name) (endpoints (all_records w ++ entry ∷ []))
     → book.StandsFor deliveries (all_records w ++ entry ∷ []) (length (settled_records w))
@@ -90,7 +92,7 @@ stands_staged d w entry names deliveries h none room follows limits kind named s
       kinds = ap (list_all is_put_or_accept) all ∙ list_all-append is_put_or_accept (all_records w) (entry ∷ []) ∙ (λ i. h.kinds i && (kind i && true));
     }
 
-pub stands_with_put : (d : DeskValue) (w : World) (name target : List ℕ) (max : ℕ) (secrets : List (List ℕ)) → StandsFor d w → d.waiting ≡ None → d.records < 2 ^ 62
+pub stands_with_put : (d : DeskValue) (w : World) (name target : List ℕ) (max : ℕ) (secrets : List (List ℕ)) → StandsFor d w → d.waiting ≡ None → d.records < MAX_RECORDS
     → IsTrue (may_follow (all_records w) (Put name target max secrets)) → IsTrue (is_within_limits (Put name target max secrets))
     → StandsFor (with_put d name target max secrets) (with_record w (Put name target max secrets))
 stands_with_put d w name target max secrets h none room follows limits =
@@ -101,7 +103,7 @@ stands_with_put d w name target max secrets h none room follows limits =
     ∙ sym (ap (map (λ e. e.name)) (endpoints-snoc (all_records w) entry) ∙ map-append (λ (e : Endpoint). e.name) (endpoints (all_records w)) (e ∷ [])))
     (stands_other d.deliveries (all_records w) (length (settled_records w)) entry h.deliveries refl)
 
-pub stands_with_accept : (d : DeskValue) (w : World) (name id body : List ℕ) (at : ℕ) → StandsFor d w → d.waiting ≡ None → d.records < 2 ^ 62
+pub stands_with_accept : (d : DeskValue) (w : World) (name id body : List ℕ) (at : ℕ) → StandsFor d w → d.waiting ≡ None → d.records < MAX_RECORDS
     → IsTrue (may_follow (all_records w) (Accept name id body at)) → IsTrue (is_within_limits (Accept name id body at))
     → StandsFor (record (with_accept d name id body at) { clock = d.clock }) (with_record w (Accept name id body at))
 stands_with_accept d w name id body at h none room follows limits =
@@ -131,23 +133,23 @@ stands_later d w at h = record {
 
 -- what the desk looks for is what the model does
 pub put_faults_are : {d : DeskValue} {w : World} (name : List ℕ) (known many some spent : Bool) → StandsFor d w
-    → known ≡ list_any (λ each. bytes_eq each name) d.endpoints → many ≡ nat_le 256 (length d.endpoints) → some ≡ is_some d.waiting → spent ≡ nat_le (2 ^ 62) d.records
+    → known ≡ list_any (λ each. bytes_eq each name) d.endpoints → many ≡ nat_le MAX_ENDPOINTS (length d.endpoints) → some ≡ is_some d.waiting → spent ≡ nat_le MAX_RECORDS d.records
     → first_fault ((known, 3, fault.Exists) ∷ (many, 4, fault.TooManyEndpoints) ∷ (some, 5, fault.WaitingFull) ∷ (spent, 6, fault.SeqExhausted) ∷ []) ≡ first_fault (put_faults w name)
 put_faults_are {d} {w} name known many some spent h a b e f i =
     first_fault (
     ((a ∙ knows h name) i, 3, fault.Exists)
-    ∷ ((b ∙ ap (nat_le 256) (ap length h.endpoints ∙ length-map (endpoints (all_records w)) (λ (e : Endpoint). e.name))) i, 4, fault.TooManyEndpoints)
+    ∷ ((b ∙ ap (nat_le MAX_ENDPOINTS) (ap length h.endpoints ∙ length-map (endpoints (all_records w)) (λ (e : Endpoint). e.name))) i, 4, fault.TooManyEndpoints)
     ∷ ((e ∙ waits h) i, 5, fault.WaitingFull)
-    ∷ ((f ∙ ap (nat_le (2 ^ 62)) h.records) i, 6, fault.SeqExhausted)
+    ∷ ((f ∙ ap (nat_le MAX_RECORDS) h.records) i, 6, fault.SeqExhausted)
     ∷ []
     )
 
 pub new_faults_are : {d : DeskValue} {w : World} (name : List ℕ) (own all some spent : Bool) → StandsFor d w
-    → own ≡ nat_le 10000 (pending_among (all_records w) (deliveries_of (all_records w) name)) → all ≡ nat_le 50000 (pending_among (all_records w) (deliveries (all_records w)))
-    → some ≡ is_some d.waiting → spent ≡ nat_le (2 ^ 62) d.records
+    → own ≡ nat_le MAX_PENDING (pending_among (all_records w) (deliveries_of (all_records w) name)) → all ≡ nat_le MAX_PENDING_ALL (pending_among (all_records w) (deliveries (all_records w)))
+    → some ≡ is_some d.waiting → spent ≡ nat_le MAX_RECORDS d.records
     → first_fault ((own, 4, fault.EndpointBacklog) ∷ (all, 5, fault.Backlog) ∷ (some, 6, fault.WaitingFull) ∷ (spent, 7, fault.SeqExhausted) ∷ []) ≡ first_fault (new_submit_faults w name)
 new_faults_are {d} {w} name own all some spent h a b e f i =
-    first_fault ((a i, 4, fault.EndpointBacklog) ∷ (b i, 5, fault.Backlog) ∷ ((e ∙ waits h) i, 6, fault.WaitingFull) ∷ ((f ∙ ap (nat_le (2 ^ 62)) h.records) i, 7, fault.SeqExhausted) ∷ [])
+    first_fault ((a i, 4, fault.EndpointBacklog) ∷ (b i, 5, fault.Backlog) ∷ ((e ∙ waits h) i, 6, fault.WaitingFull) ∷ ((f ∙ ap (nat_le MAX_RECORDS) h.records) i, 7, fault.SeqExhausted) ∷ [])
 
 pub submit_faults_are : {d : DeskValue} {w : World} (name : List ℕ) (known : Option ℕ) (body : List ℕ) (there conflict : Bool) → StandsFor d w
     → there ≡ list_any (λ each. bytes_eq each name) d.endpoints → conflict ≡ is_conflict (all_records w) known body
@@ -187,8 +189,8 @@ nothing_waits (Some step) e = cc
 pub free_place : {d : DeskValue} {w : World} → StandsFor d w → is_waiting_full w ≡ false → d.waiting ≡ None
 free_place {d} h e = nothing_waits d.waiting (waits h ∙ e)
 
-pub free_seq : {d : DeskValue} {w : World} → StandsFor d w → are_seqs_spent w ≡ false → d.records < 2 ^ 62
-free_seq {d} h e = leb-false (2 ^ 62) d.records (ap (nat_le (2 ^ 62)) h.records ∙ e)
+pub free_seq : {d : DeskValue} {w : World} → StandsFor d w → are_seqs_spent w ≡ false → d.records < MAX_RECORDS
+free_seq {d} h e = leb-false MAX_RECORDS d.records (ap (nat_le MAX_RECORDS) h.records ∙ e)
 
 -- Records
 
@@ -198,11 +200,11 @@ pub put_moves : (d new : DeskValue) (name target : List ℕ) (max : ℕ) (secret
 put_moves d new name target max secrets u seq checks limits same is =
     passes d new (λ w. put_faults w name) (λ w. stages w (Put name target max secrets)) u (Ok seq) checks
     (makes d new (λ w. stages w (Put name target max secrets)) seq (λ w h.
-    let free = none_of_four (has_endpoint (all_records w) name) (nat_le 256 (length (endpoints (all_records w)))) (is_waiting_full w) (are_seqs_spent w) 3 4 5 6 _ _ _ _ u (sym (checks w h)) in (
+    let free = none_of_four (has_endpoint (all_records w) name) (nat_le MAX_ENDPOINTS (length (endpoints (all_records w)))) (is_waiting_full w) (are_seqs_spent w) 3 4 5 6 _ _ _ _ u (sym (checks w h)) in (
       ap Ok (sym h.records ∙ sym same),
       subst (λ (v : DeskValue). StandsFor v (with_record w (Put name target max secrets))) (sym is)
           (stands_with_put d w name target max secrets h (free_place h free.2) (free_seq h free.3)
-          (λ i. not (free.0 i) && lt-ltb (length (endpoints (all_records w))) 256 (leb-false 256 (length (endpoints (all_records w))) free.1) i)
+          (λ i. not (free.0 i) && lt-ltb (length (endpoints (all_records w))) MAX_ENDPOINTS (leb-false MAX_ENDPOINTS (length (endpoints (all_records w))) free.1) i)
           limits),
     )))
 

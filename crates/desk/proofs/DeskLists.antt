@@ -1,10 +1,11 @@
 -- Facts about lists of records and of steps.
 use Rattle.std.proofs.Common.{◌≡◌, ℕ, ◌<◌, Bool, true, false, List, [], ◌∷◌, ◌++◌, Some, length, take, drop, refl, sym, ◌∙◌, ap, arith, cond, ◌&&◌, ◌||◌, map, append_assoc, append-nil, length-append}
-use Rattle.std.specs.Prelude.{find, is_some, bytes_eq, nat_le, IsTrue, ◌^◌}
+use Rattle.std.specs.Prelude.{find, is_some, bytes_eq, nat_le, IsTrue}
 use Rattle.std.specs.List.{list_any, list_all}
 use Rattle.std.proofs.lemmas.List.{take-append-drop}
 use Rattle.std.proofs.lemmas.List.Folds.{list_all-append}
 use Rattle.std.proofs.lemmas.Bool.{le-leb}
+use Rattle.relay_types.specs.declared.limits.TheConstants.{MAX_RECORDS}
 use Rattle.relay_types.specs.declared.record.Record.{Record}
 use Rattle.relay_types.specs.Records.{History, records_of}
 use Rattle.relay_types.specs.Endpoints.{Endpoint}
@@ -52,9 +53,9 @@ three true true false h = cc
 three true false c h = cc
 three false b c h = cc
 
-pub legal-snoc : (records : List Record) (entry : Record) → IsLegal records → IsTrue (may_follow records entry) → IsTrue (is_within_limits entry) → length records < 2 ^ 62 → IsLegal (records ++ entry ∷ [])
+pub legal-snoc : (records : List Record) (entry : Record) → IsLegal records → IsTrue (may_follow records entry) → IsTrue (is_within_limits entry) → length records < MAX_RECORDS → IsLegal (records ++ entry ∷ [])
 legal-snoc records entry legal follows limits room =
-    let parts = three (may_all_follow [] records) (list_all is_within_limits records) (nat_le (length records) (2 ^ 62)) legal in
+    let parts = three (may_all_follow [] records) (list_all is_within_limits records) (nat_le (length records) MAX_RECORDS) legal in
     (λ i. (may_all_follow-snoc [] records entry ∙ (λ j. parts.0 j && follows j)) i
     && ((list_all-append is_within_limits records (entry ∷ []) ∙ (λ j. parts.1 j && (limits j && true))) i
-    && le-leb (length (records ++ entry ∷ [])) (2 ^ 62) (omega (arith, length-append records (entry ∷ []))) i))
+    && le-leb (length (records ++ entry ∷ [])) MAX_RECORDS (omega (arith, length-append records (entry ∷ []))) i))

@@ -1,6 +1,7 @@
 -- What a desk keeps, the worlds for which it stands, and what its calls answer.
-use Rattle.std.specs.Prelude.{◌≡◌, ℕ, ◌≤◌, ◌+◌, ◌^◌, Bool, false, not, List, [], ◌∷◌, ◌++◌, length, drop, map, Option, Some, None, Result, Ok, Err, IsTrue, if◌then◌else◌}
+use Rattle.std.specs.Prelude.{◌≡◌, ℕ, ◌≤◌, ◌+◌, Bool, false, not, List, [], ◌∷◌, ◌++◌, length, drop, map, Option, Some, None, Result, Ok, Err, IsTrue, if◌then◌else◌}
 use Rattle.std.specs.List.{list_all}
+use Rattle.relay_types.specs.declared.limits.TheConstants.{MAX_ENDPOINTS, MAX_RECORDS}
 use Rattle.relay_types.specs.declared.record.Record.{Record}
 use Rattle.relay_types.specs.declared.record.Record.TheVariants.{Put, Accept}
 use Rattle.relay_types.specs.Records.{History}
@@ -31,8 +32,8 @@ pub record IsDesk (next_place settled_place records settled capacity : ℕ) (ste
   pub staged : next_place ≤ records
   pub settled_book : settled_place ≤ settled
   pub prefix : settled + length steps ≤ records
-  pub room : records ≤ 2 ^ 62
-  pub places : 256 ≤ capacity
+  pub room : records ≤ MAX_RECORDS
+  pub places : MAX_ENDPOINTS ≤ capacity
   pub kinds : ArePutsAndAccepts steps
 
 -- the step as the steps of a history

@@ -1,6 +1,7 @@
 -- The moves of the desk: what each call answers, and the world after it.
-use Rattle.std.specs.Prelude.{◌≡◌, ℕ, ◌+◌, ◌^◌, min, max, Bool, true, false, ◌==◌, not, nat_le, List, [], ◌∷◌, ◌++◌, length, take, drop, Option, Some, None, option_and_then, Result, Ok, Err, bytes_eq, count_by, if◌then◌else◌, ◌⊎◌, IsSomeAnd}
+use Rattle.std.specs.Prelude.{◌≡◌, ℕ, ◌+◌, min, max, Bool, true, false, ◌==◌, not, nat_le, List, [], ◌∷◌, ◌++◌, length, take, drop, Option, Some, None, option_and_then, Result, Ok, Err, bytes_eq, count_by, if◌then◌else◌, ◌⊎◌, IsSomeAnd}
 use Rattle.std.specs.Option.{option_map_or}
+use Rattle.relay_types.specs.declared.limits.TheConstants.{MAX_ENDPOINTS, MAX_RECORDS}
 use Rattle.relay_types.specs.declared.record.Record.{Record}
 use Rattle.relay_types.specs.declared.record.Record.TheVariants.{Put, Accept}
 use Rattle.relay_types.specs.Records.{History, Accepted}
@@ -75,7 +76,7 @@ abbrev pub is_waiting_full : World → Bool
 is_waiting_full w = nat_le max_waiting (length (waiting_records w))
 
 abbrev pub are_seqs_spent : World → Bool
-are_seqs_spent w = nat_le (2 ^ 62) (next_seq w)
+are_seqs_spent w = nat_le MAX_RECORDS (next_seq w)
 
 abbrev pub has_body : List ℕ → Option Accepted → Bool
 has_body body accept = option_map_or (λ a. bytes_eq a.body body) accept false
@@ -124,7 +125,7 @@ record_of (PutEndpoint name target max secrets) = Put name target max secrets
 abbrev pub put_faults : World → List ℕ → Faults
 put_faults w name =
     (has_endpoint (all_records w) name, 3, fault.Exists)
-    ∷ (nat_le 256 (length (endpoints (all_records w))), 4, fault.TooManyEndpoints)
+    ∷ (nat_le MAX_ENDPOINTS (length (endpoints (all_records w))), 4, fault.TooManyEndpoints)
     ∷ (is_waiting_full w, 5, fault.WaitingFull)
     ∷ (are_seqs_spent w, 6, fault.SeqExhausted)
     ∷ []

@@ -1,5 +1,5 @@
 //! The desk: the order of all changes. It takes submissions and commands, seals what waits, and settles what was committed.
-ghost use Rattle.std.specs.Prelude.{◌≡◌, ◌≤◌, ◌<◌, ◌+◌, ◌^◌, [], length, max, bytes_eq, ◌↔◌, OnOk, OnErr, IfOk, IfErr, IfSome, IsOk, IsTrue, None};
+ghost use Rattle.std.specs.Prelude.{◌≡◌, ◌≤◌, ◌<◌, ◌+◌, [], length, max, bytes_eq, ◌↔◌, OnOk, OnErr, IfOk, IfErr, IfSome, IsOk, IsTrue, None};
 ghost use Rattle.std.specs.List.{list_any};
 ghost use Rattle.relay_types.specs.declared.record.Record.TheVariants.{Put, Accept};
 ghost use Rattle.relay_types.specs.Deliveries.{accepted};
@@ -14,16 +14,12 @@ use crate::command::Command;
 use crate::limits::{MAX_PENDING, MAX_PENDING_ALL};
 use crate::refusal::{Fault, Refusal, WrongTurn, check, or_out_of_memory};
 use delivery_book::{DeliveryBook, Row};
-use relay_types::{Body, MaxLimit, Moment, MsgId, Name, Record, Secrets, Step, Target};
+use relay_types::{
+    Body, MAX_ENDPOINTS, MAX_RECORDS, MaxLimit, Moment, MsgId, Name, Record, Secrets, Step, Target,
+};
 use spool::{Batch, Receipt};
 use std::alloc::{AllocError, Global};
 use std::marker::Model;
-
-/// The most endpoints.
-const MAX_ENDPOINTS: usize = 256;
-
-/// The most records and live permits.
-const MAX_RECORDS: u64 = 1 << 62;
 
 /// The desk of one opening.
 #[derive(Drop)]
@@ -220,7 +216,7 @@ impl Desk {
 
     fn check_new_submit(&self, name: Name) -> Result<(), Refusal>
         ensures faults { Checks self.now (λ w. new_submit_faults w name) result }
-        ensures room { OnOk result (self.now.records < 2 ^ 62) }
+        ensures room { OnOk result (self.now.records < MAX_RECORDS) }
     {
         check(&[
             (
@@ -240,8 +236,8 @@ impl Desk {
 
     fn check_put(&self, name: Name) -> Result<(), Refusal>
         ensures faults { Checks self.now (λ w. put_faults w name) result }
-        ensures room { OnOk result (self.now.records < 2 ^ 62) }
-        ensures place { OnOk result (length self.now.endpoints < 256) }
+        ensures room { OnOk result (self.now.records < MAX_RECORDS) }
+        ensures place { OnOk result (length self.now.endpoints < MAX_ENDPOINTS) }
     {
         check(&[
             (self.has_endpoint(name), 3, Fault::Exists),
@@ -271,8 +267,8 @@ impl Desk {
     }
 
     fn stage_put(&mut self, name: Name, target: Target, max: MaxLimit, secrets: Secrets) -> u64
-        requires room { self.old.records < 2 ^ 62 }
-        requires place { length self.old.endpoints < 256 }
+        requires room { self.old.records < MAX_RECORDS }
+        requires place { length self.old.endpoints < MAX_ENDPOINTS }
         ensures seq { result ≡ self.old.records }
         ensures staged { self.new ≡ with_put self.old name target max secrets }
         ensures limits { IsTrue (is_within_limits (Put name target max secrets)) }
@@ -299,7 +295,7 @@ impl Desk {
         id: MsgId,
         body: Body,
     ) -> Result<u64, AllocError>
-        requires room { self.old.records < 2 ^ 62 }
+        requires room { self.old.records < MAX_RECORDS }
         requires unknown { known_in self.old.deliveries name id ≡ None }
         ensures seq { IfOk result (λ seq. seq ≡ self.old.records) }
         ensures staged { OnOk result (self.new ≡ with_accept self.old name id body at) }

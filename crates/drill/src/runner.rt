@@ -6,7 +6,8 @@ ghost use Rattle.script_lines.specs.declared.reply.Reply.TheVariants as says;
 ghost use Rattle.desk.specs.Moves.{opened};
 ghost use Rattle.drill.specs.Moves.{fault_of, refusal_reply, staged_reply, seal_reply, event_reply};
 ghost use Rattle.drill.specs.Runners.{RunnerStandsFor, IsCleanAt, IsClean, HasNoTable, Answers, CommitsSo, unchanged_reply};
-ghost use Rattle.drill.specs.Replays.{Replays, AnswersLine};
+ghost use Rattle.drill.specs.Replays.{Replays, RunsLine};
+ghost use Rattle.drill.specs.Runs.{IsNoCall};
 
 use delivery_book::Row;
 use desk::{Command, Desk, Refusal, WrongTurn};
@@ -17,7 +18,7 @@ use sqlite::{Alter, Connection};
 use std::alloc::{AllocError, Global};
 use std::io::{Read, Write};
 use std::mem;
-use text_lines::{Lines, StreamFault, WordFault, write_line};
+use text_lines::{Answerer, StreamFault, WordFault, answer_lines};
 
 /// What the runner holds between two lines.
 #[derive(Drop)]
@@ -38,7 +39,7 @@ struct Runner<S: Alter> {
 
 impl<S: Alter> Runner<S> {
     // Gives the call to the desk or the store.
-    fn answer(&mut self, event: Event) -> Reply
+    fn carry_out(&mut self, event: Event) -> Reply
         ensures answers { IsClean S.Store self.new → Answers S.Store self.old event result self.new }
         ensures clean { IsClean S.Store self.new → IsClean S.Store self.old }
     {
@@ -73,12 +74,14 @@ impl<S: Alter> Runner<S> {
         ensures answers { Answers S.Store self.old (on.Put name target max secrets) result self.new }
         ensures clean { IsClean S.Store self.new → IsClean S.Store self.old }
     {
-        staged_reply(self.desk.command(Command::PutEndpoint {
-            name,
-            target,
-            max,
-            secrets,
-        }))
+        staged_reply(
+            self.desk.command(Command::PutEndpoint {
+                name,
+                target,
+                max,
+                secrets,
+            }),
+        )
     }
 
     fn show(&self, name: Name, id: &MsgId) -> Reply
@@ -139,6 +142,21 @@ impl<S: Alter> Runner<S> {
                 Reply::NoReceipt
             }
         }
+    }
+}
+
+impl<S: Alter> Answerer for Runner<S> {
+    type Reply = Reply;
+
+    ghost Answers = { RunsLine S.Store };
+
+    ghost IsNoLine = { IsNoCall };
+
+    ghost IsClean = { IsClean S.Store };
+
+    fn answer(&mut self, alloc: Global, line: &[u8]) -> Result<Reply, WordFault> {
+        let event = read_event(alloc, line)?;
+        Ok(self.carry_out(event))
     }
 }
 
@@ -249,7 +267,7 @@ pub fn replay<S: Alter, I: Read, O: Write>(
     match start(alloc, conn, mark) {
         Ok(runner) => {
             let mut runner = runner;
-            let end = run_lines(alloc, &mut runner, input, output);
+            let end = answer_lines(alloc, &mut runner, input, output);
             (runner.vault.release(), end)
         }
         Err((conn, fault)) => (conn, Err(fault)),
@@ -285,42 +303,4 @@ fn start<S: Alter>(
         }),
         Err(AllocError) => Err((vault.release(), StreamFault::OutOfMemory)),
     }
-}
-
-// Answers the lines.
-fn run_lines<S: Alter, I: Read, O: Write>(
-    alloc: Global,
-    runner: &mut Runner<S>,
-    input: &mut I,
-    output: &mut O,
-) -> Result<(), StreamFault>
-    ensures replays { IsClean S.Store runner.new → RunnerStandsFor S.Store runner.old (opened [] 0)
-        → Replays (I.remaining input.old) (O.contents output.old) (O.contents output.new) result }
-    ensures clean { IsClean S.Store runner.new → IsClean S.Store runner.old }
-{
-    let mut lines = Lines::new(alloc)?;
-    while lines.advance(input)? {
-        run_line(alloc, &lines, runner, output)?;
-    }
-    Ok(())
-}
-
-// Answers one line.
-fn run_line<S: Alter, O: Write>(
-    alloc: Global,
-    lines: &Lines,
-    runner: &mut Runner<S>,
-    output: &mut O,
-) -> Result<(), StreamFault>
-    ensures ends { IsClean S.Store runner.new
-        → AnswersLine S.Store lines.now runner.old runner.new (O.contents output.old) (O.contents output.new) result }
-    ensures clean { IsClean S.Store runner.new → IsClean S.Store runner.old }
-{
-    let event = match read_event(alloc, lines.line()) {
-        Ok(event) => event,
-        Err(WordFault::Bad) => return Err(StreamFault::BadLine(lines.number())),
-        Err(WordFault::OutOfMemory) => return Err(StreamFault::OutOfMemory),
-    };
-    let reply = runner.answer(event);
-    write_line(alloc, output, &reply)
 }

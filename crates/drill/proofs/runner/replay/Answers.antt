@@ -1,7 +1,14 @@
+use Rattle.std.proofs.Common.{subst}
 use Rattle.drill.specs.Runs.{IsNoCall, Replies}
+use Rattle.drill.specs.Runners.{IsCleanAt}
 use Rattle.text_lines.proofs.EndLaws.{ends_at_once}
-use Rattle.drill.proofs.ReplayLaws.{Replies-none}
+use Rattle.drill.proofs.ReplayLaws.{Replies-none, replays}
 use Rattle.drill.proofs.runner.replay.Goals as goal
 
 pub returns-in-Err-clause-replays : goal.returns-in-Err-clause-replays
 returns-in-Err-clause-replays g c clean begun text had input output = ends_at_once Replies IsNoCall text had _ _ Replies-none output c.in-Err.ensures.faults
+
+pub returns-in-Ok-clause-replays : goal.returns-in-Ok-clause-replays
+returns-in-Ok-clause-replays g c clean begun =
+    let still = subst (IsCleanAt g.S.Store) c.release.ensures.same clean in
+    replays g.S.Store c.in-Ok.runner _ _ _ _ (c.in-Ok.ensures.stands (c.answer_lines-end.ensures.clean still) begun) (c.answer_lines-end.ensures.ends still)

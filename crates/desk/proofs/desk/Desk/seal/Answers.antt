@@ -1,4 +1,5 @@
-use Rattle.std.proofs.Common.{◌≡◌, ◌∙◌, ◌≤◌, ◌<◌, ◌+◌, ◌^◌, ℕ, List, Ok, length, true, Option, Some, None, [], ◌∷◌, ap, sym, arith, rules}
+use Rattle.std.proofs.Common.{◌≡◌, ◌∙◌, ◌≤◌, ◌<◌, ◌+◌, ℕ, List, Ok, length, true, Option, Some, None, [], ◌∷◌, ap, sym, arith, rules}
+use Rattle.relay_types.specs.declared.limits.TheConstants.{MAX_RECORDS}
 use Rattle.relay_types.specs.declared.record.Record.{Record}
 use Rattle.desk.specs.Desks.{DeskValue, steps_of, run_of}
 use Rattle.desk.specs.Moves.{seal}
@@ -22,6 +23,6 @@ returns-clause-moves c =
     (ap (λ (v : DeskValue). record v { is_out = true }) c.self.view_is)
 
 -- a step that waits has a number below those of the records
-below_records : (waiting : Option (List Record)) (step : List Record) (settled records : ℕ) → waiting ≡ Some step → settled + length (steps_of waiting) ≤ records → records ≤ 2 ^ 62 → settled < 2 ^ 62
+below_records : (waiting : Option (List Record)) (step : List Record) (settled records : ℕ) → waiting ≡ Some step → settled + length (steps_of waiting) ≤ records → records ≤ MAX_RECORDS → settled < MAX_RECORDS
 below_records None step settled records e h room = absurd (search (rules, e))
 below_records (Some s) step settled records e h room = omega (arith, h, room)
