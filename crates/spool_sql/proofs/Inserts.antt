@@ -15,6 +15,7 @@ use Rattle.sqlite.specs.Rowids.TheVariants.{Chosen}
 use Rattle.sqlite.specs.Rows.{stamped}
 use Rattle.sqlite.specs.Effect.{value_rows}
 use Rattle.sqlite.specs.Tree.{Trees, put_row}
+use Rattle.sqlite_trees.proofs.TreeLemmas.{IsShaped-put_row}
 use Rattle.sqlite.specs.Schema.{Schema}
 use Rattle.sqlite.specs.Listing.{understood}
 use Rattle.sqlite_tied.specs.Compute.{everything}
@@ -23,7 +24,7 @@ use Rattle.std.specs.List.Sorted.{IsPermutation}
 use Rattle.std.proofs.lemmas.List.Sorted.{IsPermutation-refl}
 use Rattle.sqlite.specs.State.{State, Executes}
 use Rattle.relay_types.specs.Rows.{Rows, SecretRow, DeliveryRow, AttemptRow}
-use Rattle.spool_sql.specs.Stored.{IsTables, IsTablesOf, meta_stored, endpoint_stored, delivery_stored, attempt_stored, secret_stored, new_endpoint, with_endpoint, with_secret, with_delivery, with_attempt, first_rows}
+use Rattle.spool_sql.specs.Stored.{IsTables, HasRowids, IsTablesOf, meta_stored, endpoint_stored, delivery_stored, attempt_stored, secret_stored, new_endpoint, with_endpoint, with_secret, with_delivery, with_attempt, first_rows}
 use Rattle.spool_sql.specs.Steps.{Makes, IsBegun}
 use Rattle.spool_sql.proofs.InsertLemmas.{Means, inserts}
 use Rattle.spool_sql.proofs.RelayLemmas.{HasTables, relay_has_tables, listed, others_of, other_endpoints, other_secrets, other_deliveries, other_attempts}
@@ -146,7 +147,8 @@ module _ (schema : Schema) (version : ℕ) (has : HasTables schema) (old new : S
         schema_is = w.schema_is;
         tables = other_secrets schema version old.now.trees new.now.trees rows t.tables w.sound (others_of schema has old new 3 _ w) (rows.secrets ++ s ∷ [])
             (subst (λ x. IsPermutation (map (drop 1) x) (map secret_stored (rows.secrets ++ s ∷ []))) (sym w.rows_are)
-            (put_hidden secret_stored s (Int (next_rowid (old.now.trees 3))) (old.now.trees 3) rows.secrets u.1 t.tables.secrets));
+            (put_hidden secret_stored s (Int (next_rowid (old.now.trees 3))) (old.now.trees 3) rows.secrets u.1 t.tables.secrets))
+            (subst (HasRowids) (sym w.rows_are) (IsShaped-put_row (hidden s old.now.trees) (old.now.trees 3) refl t.tables.secret_rowids));
       }
 
 -- ---- the relay's
@@ -202,5 +204,6 @@ makes_first_rows old new count h b =
         secrets = subst (λ x. IsPermutation (map (drop 1) x) []) (sym (o.secrets (λ e. absurd (omega (arith, e))) ∙ b.empty.1.1.0)) none;
         deliveries = subst (λ x. IsPermutation x []) (sym (o.deliveries (λ e. absurd (omega (arith, e))) ∙ b.empty.1.1.1.0)) none;
         attempts = subst (λ x. IsPermutation x []) (sym (o.attempts (λ e. absurd (omega (arith, e))) ∙ b.empty.1.1.1.1.0)) none;
+        secret_rowids = subst (HasRowids) (sym (o.secrets (λ e. absurd (omega (arith, e))) ∙ b.empty.1.1.0)) (tt, tt);
       };
     }

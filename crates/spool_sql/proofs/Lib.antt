@@ -9,3 +9,6 @@ pub mod StepLemmas
 pub mod BareLemmas
 pub mod SelectLemmas
 pub mod ProbeLemmas
+pub mod ChangeLemmas
+pub mod Changes
+pub mod DeliverySelects

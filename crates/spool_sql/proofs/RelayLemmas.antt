@@ -13,7 +13,7 @@ use Rattle.sqlite_rules.specs.Action.{works, work_by, pairs, deed_for}
 use Rattle.sqlite_catalog.specs.Listing.{IsSound}
 use Rattle.relay_types.specs.Rows.{Rows, EndpointRow, SecretRow, DeliveryRow, AttemptRow}
 use Rattle.spool_sql.specs.Tables.{relay_schema}
-use Rattle.spool_sql.specs.Stored.{AreTables, meta_stored, endpoint_stored, delivery_stored, attempt_stored, secret_stored, with_records}
+use Rattle.spool_sql.specs.Stored.{AreTables, HasRowids, meta_stored, endpoint_stored, delivery_stored, attempt_stored, secret_stored, with_records}
 use Rattle.spool_sql.proofs.InsertLemmas.{Wrote}
 
 -- the relay's tables come first, and no foreign key acts on a row
@@ -56,6 +56,9 @@ module _ (schema : Schema) (version : ℕ) (old new : Trees) (rows : Rows) (t : 
   same_secrets : new 3 ≡ old 3 → IsPermutation (map (drop 1) (new 3)) (map secret_stored rows.secrets)
   same_secrets is = subst (λ x. IsPermutation (map (drop 1) x) (map secret_stored rows.secrets)) (sym is) t.secrets
 
+  same_rowids : new 3 ≡ old 3 → HasRowids (new 3)
+  same_rowids is = subst (HasRowids) (sym is) t.secret_rowids
+
   same_deliveries : new 5 ≡ old 5 → IsPermutation (new 5) (map delivery_stored rows.deliveries)
   same_deliveries is = subst (λ x. IsPermutation x (map delivery_stored rows.deliveries)) (sym is) t.deliveries
 
@@ -70,6 +73,7 @@ module _ (schema : Schema) (version : ℕ) (old new : Trees) (rows : Rows) (t : 
     secrets = same_secrets (o.secrets (λ e. absurd (omega (arith, e))));
     deliveries = same_deliveries (o.deliveries (λ e. absurd (omega (arith, e))));
     attempts = same_attempts (o.attempts (λ e. absurd (omega (arith, e))));
+    secret_rowids = same_rowids (o.secrets (λ e. absurd (omega (arith, e))));
   }
 
   pub other_endpoints : Others old new 1 → (all : List EndpointRow) → IsPermutation (new 1) (map endpoint_stored all) → AreTables schema version new (record rows { endpoints = all })
@@ -80,16 +84,18 @@ module _ (schema : Schema) (version : ℕ) (old new : Trees) (rows : Rows) (t : 
     secrets = same_secrets (o.secrets (λ e. absurd (omega (arith, e))));
     deliveries = same_deliveries (o.deliveries (λ e. absurd (omega (arith, e))));
     attempts = same_attempts (o.attempts (λ e. absurd (omega (arith, e))));
+    secret_rowids = same_rowids (o.secrets (λ e. absurd (omega (arith, e))));
   }
 
-  pub other_secrets : Others old new 3 → (all : List SecretRow) → IsPermutation (map (drop 1) (new 3)) (map secret_stored all) → AreTables schema version new (record rows { secrets = all })
-  other_secrets o all are = record {
+  pub other_secrets : Others old new 3 → (all : List SecretRow) → IsPermutation (map (drop 1) (new 3)) (map secret_stored all) → HasRowids (new 3) → AreTables schema version new (record rows { secrets = all })
+  other_secrets o all are rowids = record {
     sound = sound;
     meta = o.meta (λ e. absurd (omega (arith, e))) ∙ t.meta;
     endpoints = same_endpoints (o.endpoints (λ e. absurd (omega (arith, e))));
     secrets = are;
     deliveries = same_deliveries (o.deliveries (λ e. absurd (omega (arith, e))));
     attempts = same_attempts (o.attempts (λ e. absurd (omega (arith, e))));
+    secret_rowids = rowids;
   }
 
   pub other_deliveries : Others old new 5 → (all : List DeliveryRow) → IsPermutation (new 5) (map delivery_stored all) → AreTables schema version new (record rows { deliveries = all })
@@ -100,6 +106,7 @@ module _ (schema : Schema) (version : ℕ) (old new : Trees) (rows : Rows) (t : 
     secrets = same_secrets (o.secrets (λ e. absurd (omega (arith, e))));
     deliveries = are;
     attempts = same_attempts (o.attempts (λ e. absurd (omega (arith, e))));
+    secret_rowids = same_rowids (o.secrets (λ e. absurd (omega (arith, e))));
   }
 
   pub other_attempts : Others old new 7 → (all : List AttemptRow) → IsPermutation (new 7) (map attempt_stored all) → AreTables schema version new (record rows { attempts = all })
@@ -110,4 +117,5 @@ module _ (schema : Schema) (version : ℕ) (old new : Trees) (rows : Rows) (t : 
     secrets = same_secrets (o.secrets (λ e. absurd (omega (arith, e))));
     deliveries = same_deliveries (o.deliveries (λ e. absurd (omega (arith, e))));
     attempts = are;
+    secret_rowids = same_rowids (o.secrets (λ e. absurd (omega (arith, e))));
   }

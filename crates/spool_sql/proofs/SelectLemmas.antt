@@ -84,20 +84,20 @@ equal_texts : (s t : List ℕ) → is_true (binary (Compare Eq Binary) (Text s) 
 unfolding binary
 equal_texts s t = told _ ∙ ap is_eq (value_cmp-Text s t) ∙ is_eq-slice_cmp s t
 
-equal_ints : (m n : ℕ) → is_eq (int_cmp (pos m) (pos n)) ≡ (m == n)
+pub equal_ints : (m n : ℕ) → is_eq (int_cmp (pos m) (pos n)) ≡ (m == n)
 equal_ints m n = grind (arith, nat_tests)
 
-equal_numbers : (m n : ℕ) → is_true (binary (Compare Eq Binary) (Int (pos m)) (Int (pos n))) ≡ (m == n)
+pub equal_numbers : (m n : ℕ) → is_true (binary (Compare Eq Binary) (Int (pos m)) (Int (pos n))) ≡ (m == n)
 unfolding binary
 equal_numbers m n = told _ ∙ ap is_eq (value_cmp-Int (pos m) (pos n)) ∙ equal_ints m n
 
-and_true : (b : Bool) → b && true ≡ b
+pub and_true : (b : Bool) → b && true ≡ b
 and_true true = refl
 and_true false = refl
 
 -- ---- the typed rows that a query over one table finds
 
-filtered : {X : Type 0} (row : X → Row) (p : Row → Bool) (q : X → Bool) → ((x : X) → p (row x) ≡ q x) → (xs : List X) → filter p (map row xs) ≡ map row (filter q xs)
+pub filtered : {X : Type 0} (row : X → Row) (p : Row → Bool) (q : X → Bool) → ((x : X) → p (row x) ≡ q x) → (xs : List X) → filter p (map row xs) ≡ map row (filter q xs)
 filtered row p q same [] = refl
 filtered row p q same (x ∷ xs) = tested (p (row x)) (q x) (same x) (filtered row p q same xs)
   where
@@ -107,11 +107,11 @@ filtered row p q same (x ∷ xs) = tested (p (row x)) (q x) (same x) (filtered r
     tested true false e rest = absurd (let f = e in cc)
     tested false true e rest = absurd (let f = e in cc)
 
-map_map : {X Y Z : Type 0} (f : X → Y) (g : Y → Z) (xs : List X) → map g (map f xs) ≡ map (λ x. g (f x)) xs
+pub map_map : {X Y Z : Type 0} (f : X → Y) (g : Y → Z) (xs : List X) → map g (map f xs) ≡ map (λ x. g (f x)) xs
 map_map f g [] = refl
 map_map f g (x ∷ xs) = ap (λ zs. g (f x) ∷ zs) (map_map f g xs)
 
-finds : {X : Type 0} (row : X → Row) (params : Row) (tests shown : List Term) (q : X → Bool) → ((x : X) → passes params tests (row x) ≡ q x) → (tree : List Row) (xs : List X) (found : List Row)
+pub finds : {X : Type 0} (row : X → Row) (params : Row) (tests shown : List Term) (q : X → Bool) → ((x : X) → passes params tests (row x) ≡ q x) → (tree : List Row) (xs : List X) (found : List Row)
     → IsPermutation tree (map row xs) → IsPermutation (map (shows params shown) (filter (passes params tests) tree)) found → IsPermutation (map (λ x. shows params shown (row x)) (filter q xs)) found
 finds row params tests shown q same tree xs found are all =
     let typed = IsPermutation-map (shows params shown) _ _ (IsPermutation-filter (passes params tests) _ _ (IsPermutation-sym _ _ are)) in
@@ -143,7 +143,7 @@ any_kept q (x ∷ xs) = tested (q x) (any_kept q xs)
     tested true e = grind (arith, nat_tests)
     tested false e = e
 
-first_number : (found : List Row) → slice_get (map number_of found) 0 ≡ option_map number_of (slice_get found 0)
+pub first_number : (found : List Row) → slice_get (map number_of found) 0 ≡ option_map number_of (slice_get found 0)
 first_number [] = refl
 first_number (r ∷ rest) = refl
 
@@ -177,7 +177,7 @@ module _ (schema : Schema) (version : ℕ) (old new : State) (found : List Row) 
 
 -- ---- for callers, where a name is that of at most one endpoint
 
-first_found : {X : Type 0} (q : X → Bool) (xs : List X) → find q xs ≡ slice_get (filter q xs) 0
+pub first_found : {X : Type 0} (q : X → Bool) (xs : List X) → find q xs ≡ slice_get (filter q xs) 0
 first_found q [] = refl
 first_found q (x ∷ xs) = tested (q x) (first_found q xs)
   where
@@ -185,7 +185,7 @@ first_found q (x ∷ xs) = tested (q x) (first_found q xs)
     tested true e = refl
     tested false e = e
 
-one_at_most : (es : List EndpointRow) (puts : List ℕ) → length es ≤ 1 → IsPermutation (map (λ (e : EndpointRow). e.put) es) puts → slice_get puts 0 ≡ option_map (λ (e : EndpointRow). e.put) (slice_get es 0)
+pub one_at_most : (es : List EndpointRow) (puts : List ℕ) → length es ≤ 1 → IsPermutation (map (λ (e : EndpointRow). e.put) es) puts → slice_get puts 0 ≡ option_map (λ (e : EndpointRow). e.put) (slice_get es 0)
 one_at_most [] [] few same = refl
 one_at_most [] (p ∷ puts) few same = absurd (let e = length_permutation _ (p ∷ puts) same in omega (arith, e))
 one_at_most (e ∷ []) puts few same = ap (λ l. slice_get l 0) (one_permutation e.put puts same)

@@ -13,7 +13,7 @@ use Rattle.sqlite_value.specs.declared.keys.Key.{Key}
 use Rattle.sqlite.specs.Table.{Table}
 use Rattle.sqlite.specs.Schema.{Schema}
 use Rattle.sqlite.specs.Command.TheVariants.{Update}
-use Rattle.sqlite_rules.specs.Edit.{Edit, Applies, edit_of, edited, taken_by}
+use Rattle.sqlite_rules.specs.Edit.{Edit, Applies, edit_of, left_by, edited, taken_by, are_fresh}
 use Rattle.sqlite_rules.specs.Action.{works, Writes as Goes}
 use Rattle.sqlite_rules.specs.Calls.{ids_of}
 use Rattle.sqlite.specs.Rowids.TheVariants.{Given}
@@ -99,7 +99,7 @@ updated_by task q db w h =
     let made = went found.2 in
     (found.0, found.1, subst (λ t. Goes task.schema task.keys db (edit_of db task.table (ids_of found.0) Given 1 found.0) (Ok t)) (sym (ap (λ (it : Written). it.trees) (same_value made.2))) made.1)
 
-wrote_by : (schema : Schema) (old new : State) (edit : Edit) (next : Trees) → IsDatabase new.now → new.now ≡ record { schema = schema; trees = next }
+pub wrote_by : (schema : Schema) (old new : State) (edit : Edit) (next : Trees) → IsDatabase new.now → new.now ≡ record { schema = schema; trees = next }
     → Applies schema Enforced old.now.trees edit next → Wrote schema old new edit.table.tree (edited old.now.trees edit)
 wrote_by schema old new edit next sound same it =
     let trees : new.now.trees ≡ next = ap (λ (d : Database). d.trees) same in
@@ -111,12 +111,17 @@ wrote_by schema old new edit next sound same it =
       others = subst (λ (t : Trees). AllByRecursion (λ (x : Table). x.tree ≢ edit.table.tree → t x.tree ≡ old.now.trees x.tree) schema.tables) (sym trees) it.tables;
     }
 
+-- no new row has the rowid of one that stays
+abbrev pub IsPutIn : Trees → Edit → Type 0
+IsPutIn db edit = are_fresh (left_by db edit) edit.news ≡ true
+
 module _ (schema : Schema) (sql : List ℕ) (params : Row) (at : ℕ) (q : Program) (table : Table)
     (means : Means schema sql (Update at q)) (listed : slice_get schema.tables at ≡ Some table)
     (idle : (tree : ℕ) (olds news : List Row) → works schema Enforced 0 tree olds news ≡ []) where
   pub updates : (old new : State) (count : ℕ) → old.now.schema ≡ schema → Executes sql params old new (Ok count)
       → (rows : List Row) × Answers (record { schema = schema; trees = old.now.trees }) q params rows
       × Wrote schema old new table.tree (edited old.now.trees (edit_of old.now.trees table (ids_of rows) Given 1 rows))
+      × IsPutIn old.now.trees (edit_of old.now.trees table (ids_of rows) Given 1 rows)
   updates old new count has h =
       let db = old.now.trees in
       let w = runs_as sql params old new schema has (Update at q) means.is means.plain count h in
@@ -127,4 +132,4 @@ module _ (schema : Schema) (sql : List ℕ) (params : Row) (at : ℕ) (q : Progr
       let edit = updated_by task q db made.0 made.1 in
       let the = edit_of db table (ids_of edit.0) Given 1 edit.0 in
       let it = one_step schema Enforced db made.0.trees the (idle table.tree (taken_by db the) the.news) edit.2 in
-      (edit.0, edit.1, wrote_by schema old new the made.0.trees w.sound made.2 it)
+      (edit.0, edit.1, wrote_by schema old new the made.0.trees w.sound made.2 it, it.fresh)

@@ -1,14 +1,17 @@
 -- How the rows of a history are stored in the five tables.
 use Rattle.std.specs.List.{list_any}
-use Rattle.std.specs.Prelude.{◌≡◌, ℕ, ◌==◌, ◌&&◌, pos, Bool, true, cond, List, [], ◌∷◌, ◌++◌, map, drop, filter, codes, bytes_eq, Option, slice_get}
+use Rattle.std.specs.Prelude.{◌≡◌, ℕ, ◌==◌, ◌&&◌, not, pos, Bool, true, cond, List, [], ◌∷◌, ◌++◌, map, drop, filter, codes, bytes_eq, Option, slice_get}
 use Rattle.sqlite.specs.declared.types.Value.TheVariants.{Null, Int, Text as Words, Blob as Bytes}
 use Rattle.sqlite.specs.Order.{Row}
 use Rattle.sqlite.specs.Effect.{Database}
 use Rattle.sqlite.specs.Tree.{Trees}
 use Rattle.sqlite.specs.Schema.{Schema}
+use Rattle.sqlite_trees.specs.declared.store.Shape.TheVariants.{Table}
+use Rattle.sqlite_trees.specs.View.{IsShaped}
 use Rattle.sqlite_catalog.specs.Listing.{IsSound}
 use Rattle.std.specs.List.Sorted.{IsPermutation}
-use Rattle.relay_types.specs.Rows.{Rows, EndpointRow, SecretRow, DeliveryRow, AttemptRow}
+use Rattle.relay_types.specs.Values.{Seq}
+use Rattle.relay_types.specs.Rows.{Rows, EndpointRow, SecretRow, DeliveryRow, AttemptRow, change_where}
 use Rattle.spool_sql.specs.Tables.{relay_schema}
 
 -- ---- a row as it is stored: its rowid, and then its columns, with NULL where the rowid stands for one
@@ -33,6 +36,10 @@ attempt_stored a = Int (pos a.seq) ∷ Null ∷ Int (pos a.delivery) ∷ Int (po
 abbrev pub secret_stored : SecretRow → Row
 secret_stored s = Int (pos s.endpoint) ∷ Int (pos s.place) ∷ Bytes s.secret ∷ []
 
+-- each row of a tree has a rowid of its own
+abbrev pub HasRowids : List Row → Type 0
+HasRowids = IsShaped Table
+
 -- the trees list the tables of a schema and obey it, meta tells their version, and they have these rows in any order
 pub record AreTables (schema : Schema) (version : ℕ) (db : Trees) (rows : Rows) : Type 0 where
   pub sound : IsSound schema db
@@ -41,6 +48,7 @@ pub record AreTables (schema : Schema) (version : ℕ) (db : Trees) (rows : Rows
   pub secrets : IsPermutation (map (drop 1) (db 3)) (map secret_stored rows.secrets)
   pub deliveries : IsPermutation (db 5) (map delivery_stored rows.deliveries)
   pub attempts : IsPermutation (db 7) (map attempt_stored rows.attempts)
+  pub secret_rowids : HasRowids (db 3)
 
 -- a connection sees these tables
 pub record IsTablesOf (schema : Schema) (version : ℕ) (db : Database) (rows : Rows) : Type 0 where
@@ -99,3 +107,31 @@ has_id rows endpoint id = list_any (is_delivery endpoint id) rows.deliveries
 abbrev pub number_of : Row → ℕ
 number_of (Int (pos n) ∷ rest) = n
 number_of _ = 0
+
+-- ---- what is changed and taken out
+
+abbrev pub with_enabled : Seq → Bool → Seq → Rows → Rows
+with_enabled put flag by rows = record rows {
+  endpoints = change_where (λ e. e.put == put) (λ e. record e { enabled = flag; enabled_by = by }) rows.endpoints;
+}
+
+abbrev pub with_secrets_by : Seq → Seq → Rows → Rows
+with_secrets_by put by rows = record rows {
+  endpoints = change_where (λ e. e.put == put) (λ e. record e { secrets_by = by }) rows.endpoints;
+}
+
+abbrev pub without_secrets : Seq → Rows → Rows
+without_secrets endpoint rows = record rows { secrets = filter (λ (s : SecretRow). not (s.endpoint == endpoint)) rows.secrets }
+
+-- ---- what is asked of one event
+
+-- the number of the endpoint of this event, none where no record took it in
+abbrev pub IsEndpointOf : Seq → Rows → Option Seq → Type 0
+IsEndpointOf delivery rows found =
+    (puts : List Seq) × IsPermutation (map (λ (d : DeliveryRow). d.endpoint) (filter (λ (d : DeliveryRow). d.seq == delivery) rows.deliveries)) puts
+    × (found ≡ slice_get puts 0)
+
+-- the status of each attempt at this event, in any order
+abbrev pub AreStatusesOf : Seq → Rows → List ℕ → Type 0
+AreStatusesOf delivery rows found =
+    IsPermutation (map (λ (a : AttemptRow). a.status) (filter (λ (a : AttemptRow). a.delivery == delivery) rows.attempts)) found

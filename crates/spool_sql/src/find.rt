@@ -28,7 +28,7 @@ pub fn select_put<S: Alter>(tx: &mut Transaction<'_, S>, name: &Name) -> Result<
 }
 
 // The number that the first row shows.
-fn first_seq(rows: &[Row]) -> Result<Option<Seq>, Error>
+pub(crate) fn first_seq(rows: &[Row]) -> Result<Option<Seq>, Error>
     ensures { IfOk result (λ found. found ≡ option_map number_of (slice_get rows.now 0)) }
 {
     let Some(row) = rows.first() else {

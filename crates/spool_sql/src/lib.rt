@@ -3,7 +3,9 @@
 #![tactic(auto)]
 
 mod cause;
+mod change;
 mod create;
+mod delivery;
 mod find;
 mod opened;
 mod seq;
@@ -11,7 +13,9 @@ mod value;
 mod write;
 
 pub use crate::cause::{Cause, cause_of};
+pub use crate::change::{delete_secrets, update_enabled, update_secrets_by};
 pub use crate::create::create_tables;
+pub use crate::delivery::{select_endpoint, select_statuses};
 pub use crate::find::{count_endpoints, has_delivery, select_put};
 pub use crate::opened::{is_empty, prepare_probe, probe};
 pub use crate::seq::Seq;

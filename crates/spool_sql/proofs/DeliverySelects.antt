@@ -1,0 +1,67 @@
+-- The SELECT statements of one event.
+use Rattle.std.proofs.Common.{◌≡◌, ◌==◌, ℕ, pos, List, [], ◌∷◌, map, codes, Option, slice_get, option_map, refl, sym, subst, ◌∙◌}
+use Rattle.std.specs.List.Sorted.{IsPermutation}
+use Rattle.std.proofs.lemmas.List.Sorted.{IsPermutation-map}
+use Rattle.sqlite.specs.Collation.TheVariants.{Binary}
+use Rattle.sqlite_sql.specs.declared.ops.BinaryOp.TheVariants.{Compare}
+use Rattle.sqlite_sql.specs.declared.ops.CompareOp.TheVariants.{Eq}
+use Rattle.sqlite.specs.declared.types.Value.TheVariants.{Int}
+use Rattle.sqlite.specs.Order.{Row}
+use Rattle.sqlite.specs.Term.{Term, col, op2}
+use Rattle.sqlite.specs.Schema.{Schema}
+use Rattle.sqlite.specs.Listing.{understood}
+use Rattle.sqlite.specs.State.{State, Shown}
+use Rattle.sqlite_tied.specs.Compute.{everything}
+use Rattle.relay_types.specs.Rows.{Rows, DeliveryRow, AttemptRow}
+use Rattle.spool_sql.specs.Tables.{relay_schema}
+use Rattle.spool_sql.specs.Stored.{IsTablesOf, IsEndpointOf, AreStatusesOf, number_of, delivery_stored, attempt_stored}
+use Rattle.spool_sql.proofs.BareLemmas.{IsBare}
+use Rattle.spool_sql.proofs.SelectLemmas.{Asks, finds, found_in, map_map, equal_numbers, and_true, first_number}
+use Rattle.spool_sql.proofs.UpdateLemmas.{scan}
+
+abbrev pub endpoint_select : List ℕ
+endpoint_select = codes "SELECT endpoint FROM deliveries WHERE seq = ?1"
+
+abbrev by_seq : List Term
+by_seq = op2 (Compare Eq Binary) (col 1 0) (col 0 0) ∷ []
+
+pub endpoint_select_asks : Asks relay_schema endpoint_select (scan 5 by_seq (col 1 2 ∷ [])) (codes "endpoint" ∷ [])
+unfolding understood everything
+endpoint_select_asks = record { means = record { is = refl; plain = (refl, refl) }; unlisted = refl }
+
+pub endpoint_select_bare : IsBare endpoint_select
+unfolding understood everything
+endpoint_select_bare schema base = refl
+
+abbrev pub statuses_select : List ℕ
+statuses_select = codes "SELECT status FROM attempts WHERE delivery = ?1"
+
+abbrev by_delivery : List Term
+by_delivery = op2 (Compare Eq Binary) (col 1 2) (col 0 0) ∷ []
+
+pub statuses_select_asks : Asks relay_schema statuses_select (scan 7 by_delivery (col 1 4 ∷ [])) (codes "status" ∷ [])
+unfolding understood everything
+statuses_select_asks = record { means = record { is = refl; plain = (refl, refl) }; unlisted = refl }
+
+pub statuses_select_bare : IsBare statuses_select
+unfolding understood everything
+statuses_select_bare schema base = refl
+
+-- what a row that shows one number says
+numbers_of : {X : Type 0} (n : X → ℕ) (xs : List X) (found : List Row) → IsPermutation (map (λ x. Int (pos (n x)) ∷ []) xs) found → IsPermutation (map n xs) (map number_of found)
+numbers_of n xs found same = subst (λ l. IsPermutation l (map number_of found)) (map_map (λ x. Int (pos (n x)) ∷ []) number_of xs) (IsPermutation-map number_of _ _ same)
+
+module _ (schema : Schema) (version : ℕ) (old new : State) (found : List Row) (rows : Rows) (t : IsTablesOf schema version old.now rows) (delivery : ℕ) where
+  pub tells_endpoint : Asks schema endpoint_select (scan 5 by_seq (col 1 2 ∷ [])) (codes "endpoint" ∷ []) → Shown endpoint_select (Int (pos delivery) ∷ []) old new found
+      → (put : Option ℕ) → put ≡ option_map number_of (slice_get found 0) → IsEndpointOf delivery rows put
+  tells_endpoint asks h put is =
+      let same = finds delivery_stored (Int (pos delivery) ∷ []) by_seq (col 1 2 ∷ []) (λ (d : DeliveryRow). d.seq == delivery) (λ d. and_true _ ∙ equal_numbers d.seq delivery) (old.now.trees 5) rows.deliveries found t.tables.deliveries
+      (found_in schema endpoint_select 5 by_seq (col 1 2 ∷ []) _ asks (Int (pos delivery) ∷ []) old new found t.schema_is h) in
+      (map number_of found, numbers_of (λ (d : DeliveryRow). d.endpoint) _ found same, is ∙ sym (first_number found))
+
+  pub tells_statuses : Asks schema statuses_select (scan 7 by_delivery (col 1 4 ∷ [])) (codes "status" ∷ []) → Shown statuses_select (Int (pos delivery) ∷ []) old new found
+      → AreStatusesOf delivery rows (map number_of found)
+  tells_statuses asks h =
+      let same = finds attempt_stored (Int (pos delivery) ∷ []) by_delivery (col 1 4 ∷ []) (λ (a : AttemptRow). a.delivery == delivery) (λ a. and_true _ ∙ equal_numbers a.delivery delivery) (old.now.trees 7) rows.attempts found t.tables.attempts
+      (found_in schema statuses_select 7 by_delivery (col 1 4 ∷ []) _ asks (Int (pos delivery) ∷ []) old new found t.schema_is h) in
+      numbers_of (λ (a : AttemptRow). a.status) _ found same

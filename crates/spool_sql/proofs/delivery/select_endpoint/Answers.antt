@@ -1,0 +1,23 @@
+use Rattle.sqlite.specs.Held.{state}
+use Rattle.spool_sql.specs.Tables.{relay_schema}
+use Rattle.spool_sql.proofs.BareLemmas.{unchanged_by, spares_found, spares_failed}
+use Rattle.spool_sql.proofs.DeliverySelects.{endpoint_select, endpoint_select_asks, endpoint_select_bare, tells_endpoint}
+use Rattle.spool_sql.proofs.StepLemmas.{ok_then, ok_always}
+use Rattle.spool_sql.proofs.delivery.select_endpoint.Goals as goal
+
+pub returns-clause-unchanged : goal.returns-clause-unchanged
+returns-clause-unchanged g c clean =
+    ok_always c.first_seq.result (unchanged_by endpoint_select endpoint_select_bare _ (state g.S.Store c.args.tx.now.conn.now) (state g.S.Store c.query_all.new.self.conn.now) _ (c.in_ok-rows.ensures.ok clean))
+
+pub returns-clause-found : goal.returns-clause-found
+returns-clause-found g c clean =
+    ok_then c.first_seq.result _ _ c.first_seq.ensures (λ put is rows t.
+    tells_endpoint relay_schema 1 (state g.S.Store c.args.tx.now.conn.now) (state g.S.Store c.query_all.new.self.conn.now) c.in_ok-rows.rows.items rows t c.args.delivery endpoint_select_asks (rw c.value.ensures.value at (c.in_ok-rows.ensures.ok clean)) put (rw c.deref.ensures.value at is))
+
+pub returns-clause-spares : goal.returns-clause-spares
+returns-clause-spares g c =
+    spares_found endpoint_select endpoint_select_bare _ (state g.S.Store c.args.tx.now.conn.now) (state g.S.Store c.query_all.new.self.conn.now) _ (λ clean. c.in_ok-rows.ensures.ok clean) c.query_all.ensures.survives
+
+pub returns-in_err-rows-clause-spares : goal.returns-in_err-rows-clause-spares
+returns-in_err-rows-clause-spares g c =
+    spares_failed endpoint_select endpoint_select_bare _ (state g.S.Store c.args.tx.now.conn.now) (state g.S.Store c.query_all.new.self.conn.now) _ (λ clean. c.in_err-rows.ensures.err clean) c.query_all.ensures.survives

@@ -1,0 +1,25 @@
+use Rattle.std.proofs.Common.{sym, ap, subst, ◌∙◌, map}
+use Rattle.sqlite.specs.Held.{state}
+use Rattle.spool_sql.specs.Tables.{relay_schema}
+use Rattle.spool_sql.specs.Stored.{AreStatusesOf, number_of}
+use Rattle.spool_sql.proofs.BareLemmas.{unchanged_by, spares_found, spares_failed}
+use Rattle.spool_sql.proofs.DeliverySelects.{statuses_select, statuses_select_asks, statuses_select_bare, tells_statuses}
+use Rattle.spool_sql.proofs.StepLemmas.{ok_then, ok_always}
+use Rattle.spool_sql.proofs.delivery.select_statuses.Goals as goal
+
+pub returns-clause-unchanged : goal.returns-clause-unchanged
+returns-clause-unchanged g c clean =
+    ok_always c.read_statuses.result (unchanged_by statuses_select statuses_select_bare _ (state g.S.Store c.args.tx.now.conn.now) (state g.S.Store c.query_all.new.self.conn.now) _ (c.in_ok-rows.ensures.ok clean))
+
+pub returns-clause-found : goal.returns-clause-found
+returns-clause-found g c clean =
+    ok_then c.read_statuses.result _ _ c.read_statuses.ensures (λ found is rows t.
+    subst (AreStatusesOf c.args.delivery rows) (sym (is ∙ ap (map number_of) c.deref.ensures.value)) (tells_statuses relay_schema 1 (state g.S.Store c.args.tx.now.conn.now) (state g.S.Store c.query_all.new.self.conn.now) c.in_ok-rows.rows.items rows t c.args.delivery statuses_select_asks (rw c.value.ensures.value at (c.in_ok-rows.ensures.ok clean))))
+
+pub returns-clause-spares : goal.returns-clause-spares
+returns-clause-spares g c =
+    spares_found statuses_select statuses_select_bare _ (state g.S.Store c.args.tx.now.conn.now) (state g.S.Store c.query_all.new.self.conn.now) _ (λ clean. c.in_ok-rows.ensures.ok clean) c.query_all.ensures.survives
+
+pub returns-in_err-rows-clause-spares : goal.returns-in_err-rows-clause-spares
+returns-in_err-rows-clause-spares g c =
+    spares_failed statuses_select statuses_select_bare _ (state g.S.Store c.args.tx.now.conn.now) (state g.S.Store c.query_all.new.self.conn.now) _ (λ clean. c.in_err-rows.ensures.err clean) c.query_all.ensures.survives

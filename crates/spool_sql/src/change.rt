@@ -1,0 +1,58 @@
+//! The rows that are changed or taken out.
+ghost use Rattle.std.specs.Prelude.{◌<◌, ◌^◌};
+ghost use Rattle.spool_sql.specs.Stored.{with_enabled, with_secrets_by, without_secrets};
+ghost use Rattle.spool_sql.specs.Steps.{Changes, IsOfSame, SparesCommit};
+
+use crate::seq::Seq;
+use crate::value::int;
+use sqlite::{Alter, Error, Transaction};
+
+/// Sets whether the endpoint that the record with number `put` made is enabled, which the record with number `by` decides.
+pub fn update_enabled<S: Alter>(
+    tx: &mut Transaction<'_, S>,
+    put: Seq,
+    flag: bool,
+    by: Seq,
+) -> Result<(), Error>
+    ensures same_reference { IsOfSame tx.old.conn tx.new.conn }
+    ensures done { Changes S.Store tx.old.conn.now tx.new.conn.now result (with_enabled put flag by) }
+    ensures room { by < 2 ^ 62 }
+    ensures spares { SparesCommit S.Store tx.old.conn.now tx.new.conn.now }
+{
+    tx.execute(
+        "UPDATE endpoints SET enabled = ?1, enabled_by = ?2 WHERE put = ?3",
+        &[int(u64::from(flag)), by.value(), put.value()],
+    )?;
+    Ok(())
+}
+
+/// Sets which record gave the secrets of the endpoint that the record with number `put` made.
+pub fn update_secrets_by<S: Alter>(
+    tx: &mut Transaction<'_, S>,
+    put: Seq,
+    by: Seq,
+) -> Result<(), Error>
+    ensures same_reference { IsOfSame tx.old.conn tx.new.conn }
+    ensures done { Changes S.Store tx.old.conn.now tx.new.conn.now result (with_secrets_by put by) }
+    ensures room { by < 2 ^ 62 }
+    ensures spares { SparesCommit S.Store tx.old.conn.now tx.new.conn.now }
+{
+    tx.execute(
+        "UPDATE endpoints SET secrets_by = ?1 WHERE put = ?2",
+        &[by.value(), put.value()],
+    )?;
+    Ok(())
+}
+
+/// Takes out the secrets of the endpoint that the record with number `endpoint` made.
+pub fn delete_secrets<S: Alter>(tx: &mut Transaction<'_, S>, endpoint: Seq) -> Result<(), Error>
+    ensures same_reference { IsOfSame tx.old.conn tx.new.conn }
+    ensures done { Changes S.Store tx.old.conn.now tx.new.conn.now result (without_secrets endpoint) }
+    ensures spares { SparesCommit S.Store tx.old.conn.now tx.new.conn.now }
+{
+    tx.execute(
+        "DELETE FROM secrets WHERE endpoint = ?1",
+        &[endpoint.value()],
+    )?;
+    Ok(())
+}

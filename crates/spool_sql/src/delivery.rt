@@ -1,0 +1,61 @@
+//! What is looked up of one event.
+ghost use Rattle.std.specs.Prelude.{◌≡◌, map, IfOk};
+ghost use Rattle.spool_sql.specs.Stored.{IsEndpointOf, AreStatusesOf, number_of};
+ghost use Rattle.spool_sql.specs.Steps.{LeavesAll, LooksUp, IsOfSame, SparesCommit};
+
+use crate::find::first_seq;
+use crate::seq::Seq;
+use sqlite::{Alter, Error, Row, Transaction};
+use std::alloc::Global;
+
+/// The number of the record that made the endpoint of this event, if the record with number `delivery` took one in.
+pub fn select_endpoint<S: Alter>(
+    tx: &mut Transaction<'_, S>,
+    delivery: Seq,
+) -> Result<Option<Seq>, Error>
+    ensures same_reference { IsOfSame tx.old.conn tx.new.conn }
+    ensures unchanged { LeavesAll S.Store tx.old.conn.now tx.new.conn.now result }
+    ensures found { LooksUp S.Store tx.old.conn.now tx.new.conn.now result
+        (λ found rows. IsEndpointOf delivery rows found) }
+    ensures spares { SparesCommit S.Store tx.old.conn.now tx.new.conn.now }
+{
+    let rows = tx.query_all(
+        "SELECT endpoint FROM deliveries WHERE seq = ?1",
+        &[delivery.value()],
+    )?;
+    first_seq(&rows)
+}
+
+/// The status of each attempt at this event, in any order: 0 where none came.
+pub fn select_statuses<S: Alter>(
+    tx: &mut Transaction<'_, S>,
+    delivery: Seq,
+    alloc: Global,
+) -> Result<Vec<u16>, Error>
+    ensures same_reference { IsOfSame tx.old.conn tx.new.conn }
+    ensures unchanged { LeavesAll S.Store tx.old.conn.now tx.new.conn.now result }
+    ensures found { LooksUp S.Store tx.old.conn.now tx.new.conn.now result
+        (λ found rows. AreStatusesOf delivery rows found.items) }
+    ensures spares { SparesCommit S.Store tx.old.conn.now tx.new.conn.now }
+{
+    let rows = tx.query_all(
+        "SELECT status FROM attempts WHERE delivery = ?1",
+        &[delivery.value()],
+    )?;
+    read_statuses(&rows, alloc)
+}
+
+// The status that each row shows.
+fn read_statuses(rows: &[Row], alloc: Global) -> Result<Vec<u16>, Error>
+    ensures { IfOk result (λ found. found.items ≡ map number_of rows.now) }
+{
+    let mut found = Vec::with_capacity(alloc, rows.len())?;
+    for row in rows {
+        let number: u32 = row.get(0)?;
+        let Ok(status) = u16::try_from(number) else {
+            return Err(Error::IntegralValueOutOfRange(0));
+        };
+        found.push(status)?;
+    }
+    Ok(found)
+}
