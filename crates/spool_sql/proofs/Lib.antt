@@ -12,3 +12,7 @@ pub mod ProbeLemmas
 pub mod ChangeLemmas
 pub mod Changes
 pub mod DeliverySelects
+pub mod PageLemmas
+pub mod Pages
+pub mod SecretSelects
+pub mod MetaSelects

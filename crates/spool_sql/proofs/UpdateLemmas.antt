@@ -54,7 +54,7 @@ passes params tests r = list_all (holds (params ∷ r ∷ [])) tests
 abbrev pub shows : Row → List Term → Row → Row
 shows params shown r = eval_all shown (params ∷ r ∷ [])
 
-matched : (params : Row) (tests : List Term) (rows : List Row)
+pub matched : (params : Row) (tests : List Term) (rows : List Row)
     → flat_map (λ r. cond (passes params tests r) ((params ∷ r ∷ []) ∷ []) []) rows ≡ map (λ r. params ∷ r ∷ []) (filter (passes params tests) rows)
 matched params tests [] = refl
 matched params tests (r ∷ rows) = by_test (passes params tests r) (matched params tests rows)
@@ -70,7 +70,7 @@ shown_of : (order : List (Term × Key)) (t : ℕ) (tests shown : List Term) (par
 shown_of order t tests shown params [] = refl
 shown_of order t tests shown params (r ∷ rows) = ap (λ xs. shows params shown r ∷ xs) (shown_of order t tests shown params rows)
 
-no_tables : (b : Bool) (rows : List Row) (n : ℕ) → unwrap_or (cond b (slice_get [] n) None) rows ≡ rows
+pub no_tables : (b : Bool) (rows : List Row) (n : ℕ) → unwrap_or (cond b (slice_get [] n) None) rows ≡ rows
 no_tables true rows n = refl
 no_tables false rows n = refl
 

@@ -95,7 +95,7 @@ module _ {S : Type 0} (g : Ghosts S) (old new : Held S) where
   abbrev pub SurvivesAs : (State → Trees → Type 0) → Type 0
   SurvivesAs commits = Survives (state g old) (state g new) (commits (state g old))
 
-module _ {S X : Type 0} (g : Ghosts S) (old new : Held S) (result : Result X Error) where
+module _ {S X E : Type 0} (g : Ghosts S) (old new : Held S) (result : Result X E) where
   -- inside a transaction, and while the disk has returned what was written, an Ok says so much of the two states
   abbrev pub Achieves : (State → State → Type 0) → Type 0
   Achieves P = IfInside g old new (λ a b. OnOk result (P a b))
@@ -116,6 +116,6 @@ module _ {S X : Type 0} (g : Ghosts S) (old new : Held S) (result : Result X Err
   abbrev pub LooksUp : (X → Rows → Type 0) → Type 0
   LooksUp P = HasCleanDisk (state g new) → IfOk result (λ found. (rows : Rows) → IsTables (state g old).now rows → P found rows)
 
-  -- an error is a failure of the store, under its name
-  abbrev pub FailsAsStore : Type 0
-  FailsAsStore = IfClean g old new (λ a b. IfErr result (Fails a b ⊥))
+-- an error is a failure of the store, under its name
+abbrev pub FailsAsStore : {S X : Type 0} → Ghosts S → Held S → Held S → Result X Error → Type 0
+FailsAsStore g old new result = IfClean g old new (λ a b. IfErr result (Fails a b ⊥))

@@ -1,6 +1,6 @@
 -- How the rows of a history are stored in the five tables.
 use Rattle.std.specs.List.{list_any}
-use Rattle.std.specs.Prelude.{◌≡◌, ℕ, ◌==◌, ◌&&◌, not, pos, Bool, true, cond, List, [], ◌∷◌, ◌++◌, map, drop, filter, codes, bytes_eq, Option, slice_get}
+use Rattle.std.specs.Prelude.{◌≡◌, ℕ, ◌==◌, ◌&&◌, not, pos, Bool, true, cond, List, [], ◌∷◌, ◌++◌, map, drop, filter, codes, bytes_eq, Option, slice_get, nat_le, take}
 use Rattle.sqlite.specs.declared.types.Value.TheVariants.{Null, Int, Text as Words, Blob as Bytes}
 use Rattle.sqlite.specs.Order.{Row}
 use Rattle.sqlite.specs.Effect.{Database}
@@ -9,9 +9,12 @@ use Rattle.sqlite.specs.Schema.{Schema}
 use Rattle.sqlite_trees.specs.declared.store.Shape.TheVariants.{Table}
 use Rattle.sqlite_trees.specs.View.{IsShaped}
 use Rattle.sqlite_catalog.specs.Listing.{IsSound}
-use Rattle.std.specs.List.Sorted.{IsPermutation}
-use Rattle.relay_types.specs.Values.{Seq}
+use Rattle.std.specs.List.Sorted.{IsPermutation, IsNonDecreasingBy}
+use Rattle.relay_types.specs.Values.{Seq, Text}
 use Rattle.relay_types.specs.Rows.{Rows, EndpointRow, SecretRow, DeliveryRow, AttemptRow, change_where}
+use Rattle.sqlite_value.specs.Order.{column, bytes}
+use Rattle.sqlite_trees.specs.Objects.{number_in}
+use Rattle.spool_sql.specs.declared.row as row
 use Rattle.spool_sql.specs.Tables.{relay_schema}
 
 -- ---- a row as it is stored: its rowid, and then its columns, with NULL where the rowid stands for one
@@ -135,3 +138,67 @@ IsEndpointOf delivery rows found =
 abbrev pub AreStatusesOf : Seq → Rows → List ℕ → Type 0
 AreStatusesOf delivery rows found =
     IsPermutation (map (λ (a : AttemptRow). a.status) (filter (λ (a : AttemptRow). a.delivery == delivery) rows.attempts)) found
+
+-- ---- a table, page by page
+
+abbrev pub page_rows : ℕ
+page_rows = 256
+
+-- the first rows of a table from a number on, in the order of their numbers
+abbrev pub IsPage : {X : Type 0} → (number : X → Seq) → (from : Seq) → (xs page : List X) → Type 0
+IsPage number from xs page =
+    (all : List _) × IsPermutation (filter (λ x. nat_le from (number x)) xs) all × IsNonDecreasingBy number all × (page ≡ take page_rows all)
+
+-- the row that shows these columns in turn
+abbrev pub delivery_in : Row → DeliveryRow
+delivery_in r = record {
+  seq = number_in (column r 0);
+  endpoint = number_in (column r 1);
+  id = bytes (column r 2);
+  at = number_in (column r 3);
+  body = bytes (column r 4);
+}
+
+abbrev pub endpoint_in : Row → EndpointRow
+endpoint_in r = record {
+  put = number_in (column r 0);
+  name = bytes (column r 1);
+  url = bytes (column r 2);
+  max = number_in (column r 3);
+  enabled = not (number_in (column r 4) == 0);
+  enabled_by = number_in (column r 5);
+  secrets_by = number_in (column r 6);
+}
+
+abbrev pub attempt_in : Row → AttemptRow
+attempt_in r = record {
+  seq = number_in (column r 0);
+  delivery = number_in (column r 1);
+  number = number_in (column r 2);
+  status = number_in (column r 3);
+  at = number_in (column r 4);
+}
+
+-- a row as it is read
+abbrev pub endpoint_of : row.EndpointRow.EndpointRow → EndpointRow
+endpoint_of e = record {
+  put = e.put;
+  name = e.name;
+  url = e.target;
+  max = e.max;
+  enabled = e.enabled;
+  enabled_by = e.enabled_by;
+  secrets_by = e.secrets_by;
+}
+
+abbrev pub delivery_of : row.DeliveryRow.DeliveryRow → DeliveryRow
+delivery_of d = record { seq = d.seq; endpoint = d.endpoint; id = d.id; at = d.at; body = d.body }
+
+abbrev pub attempt_of : row.AttemptRow.AttemptRow → AttemptRow
+attempt_of a = record { seq = a.seq; delivery = a.delivery; number = a.number; status = a.status; at = a.at }
+
+-- the secrets of this endpoint, in the order of their places
+abbrev pub AreSecretsOf : Seq → Rows → List Text → Type 0
+AreSecretsOf endpoint rows found =
+    (all : List SecretRow) × IsPermutation (filter (λ (s : SecretRow). s.endpoint == endpoint) rows.secrets) all × IsNonDecreasingBy (λ (s : SecretRow). s.place) all
+    × (found ≡ map (λ (s : SecretRow). s.secret) all)

@@ -8,6 +8,8 @@ mod create;
 mod delivery;
 mod find;
 mod opened;
+mod read;
+mod row;
 mod seq;
 mod value;
 mod write;
@@ -18,6 +20,10 @@ pub use crate::create::create_tables;
 pub use crate::delivery::{select_endpoint, select_statuses};
 pub use crate::find::{count_endpoints, has_delivery, select_put};
 pub use crate::opened::{is_empty, prepare_probe, probe};
+pub use crate::read::{
+    select_attempts, select_deliveries, select_endpoints, select_records, select_secrets,
+};
+pub use crate::row::{AttemptRow, DeliveryRow, EndpointRow, RowFault};
 pub use crate::seq::Seq;
 pub use crate::write::{
     insert_attempt, insert_delivery, insert_endpoint, insert_secret, update_records,

@@ -1,0 +1,27 @@
+use Rattle.std.proofs.Common.{sym, ap, subst, ◌∙◌, map}
+use Rattle.sqlite.specs.Held.{state}
+use Rattle.sqlite.specs.Order.{Row}
+use Rattle.sqlite_value.specs.Order.{column, bytes}
+use Rattle.spool_sql.specs.Stored.{AreSecretsOf}
+use Rattle.spool_sql.proofs.BareLemmas.{unchanged_by, spares_found, spares_failed}
+use Rattle.spool_sql.proofs.SecretSelects.{secrets_select, secrets_select_bare, tells_secrets}
+use Rattle.spool_sql.proofs.StepLemmas.{ok_then, ok_always}
+use Rattle.spool_sql.proofs.read.select_secrets.Goals as goal
+
+pub returns-clause-unchanged : goal.returns-clause-unchanged
+returns-clause-unchanged g c clean =
+    ok_always c.read_secrets.result (unchanged_by secrets_select secrets_select_bare _ (state g.S.Store c.args.tx.now.conn.now) (state g.S.Store c.query_all.new.self.conn.now) _ (c.in_ok-rows.ensures.ok clean))
+
+pub returns-clause-found : goal.returns-clause-found
+returns-clause-found g c clean =
+    ok_then c.read_secrets.result _ _ c.read_secrets.ensures (λ found is rows t.
+    subst (AreSecretsOf c.args.endpoint rows) (sym (is ∙ ap (map (λ (row : Row). bytes (column row 0))) c.deref.ensures.value))
+    (tells_secrets (state g.S.Store c.args.tx.now.conn.now) (state g.S.Store c.query_all.new.self.conn.now) c.in_ok-rows.rows.items rows t c.args.endpoint (rw c.value.ensures.value at (c.in_ok-rows.ensures.ok clean))))
+
+pub returns-clause-spares : goal.returns-clause-spares
+returns-clause-spares g c =
+    spares_found secrets_select secrets_select_bare _ (state g.S.Store c.args.tx.now.conn.now) (state g.S.Store c.query_all.new.self.conn.now) _ (λ clean. c.in_ok-rows.ensures.ok clean) c.query_all.ensures.survives
+
+pub returns-in_err-rows-clause-spares : goal.returns-in_err-rows-clause-spares
+returns-in_err-rows-clause-spares g c =
+    spares_failed secrets_select secrets_select_bare _ (state g.S.Store c.args.tx.now.conn.now) (state g.S.Store c.query_all.new.self.conn.now) _ (λ clean. c.in_err-rows.ensures.err clean) c.query_all.ensures.survives

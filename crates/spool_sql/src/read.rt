@@ -1,0 +1,156 @@
+//! The rows of a table, page by page.
+ghost use Rattle.std.specs.Prelude.{◌≡◌, map, option_map, slice_get, Some, IfOk};
+ghost use Rattle.sqlite_value.specs.Order.{column, bytes};
+ghost use Rattle.spool_sql.specs.Stored.{IsPage, AreSecretsOf, number_of, endpoint_in, endpoint_of, delivery_in, delivery_of, attempt_in, attempt_of};
+ghost use Rattle.spool_sql.specs.Steps.{LeavesAll, LooksUp, IsOfSame, SparesCommit};
+
+use crate::row::{
+    AttemptRow, DeliveryRow, EndpointRow, RowFault, read_attempt, read_delivery, read_endpoint,
+    read_secret,
+};
+use crate::seq::Seq;
+use relay_types::Secret;
+use sqlite::{Alter, Error, Row, Transaction};
+use std::alloc::Global;
+
+/// How many records the tables hold.
+pub fn select_records<S: Alter>(tx: &mut Transaction<'_, S>) -> Result<u64, Error>
+    ensures same_reference { IsOfSame tx.old.conn tx.new.conn }
+    ensures unchanged { LeavesAll S.Store tx.old.conn.now tx.new.conn.now result }
+    ensures found { LooksUp S.Store tx.old.conn.now tx.new.conn.now result (λ count rows. count ≡ rows.records) }
+    ensures spares { SparesCommit S.Store tx.old.conn.now tx.new.conn.now }
+{
+    let rows = tx.query_all("SELECT records FROM meta", &[])?;
+    first_number(&rows)
+}
+
+// The number that the first row shows.
+fn first_number(rows: &[Row]) -> Result<u64, Error>
+    ensures { IfOk result (λ number. option_map number_of (slice_get rows.now 0) ≡ Some number) }
+{
+    match rows.first() {
+        Some(row) => row.get(0),
+        None => Err(Error::QueryReturnedNoRows),
+    }
+}
+
+/// The first 256 endpoints with numbers from `from` on, in the order of their numbers.
+pub fn select_endpoints<S: Alter>(
+    tx: &mut Transaction<'_, S>,
+    from: Seq,
+    alloc: Global,
+) -> Result<Vec<EndpointRow>, RowFault>
+    ensures same_reference { IsOfSame tx.old.conn tx.new.conn }
+    ensures unchanged { LeavesAll S.Store tx.old.conn.now tx.new.conn.now result }
+    ensures found { LooksUp S.Store tx.old.conn.now tx.new.conn.now result
+        (λ page rows. IsPage (λ e. e.put) from rows.endpoints (map endpoint_of page.items)) }
+    ensures spares { SparesCommit S.Store tx.old.conn.now tx.new.conn.now }
+{
+    let rows = tx.query_all(
+        "SELECT put, name, url, max, enabled, enabled_by, secrets_by FROM endpoints \
+         WHERE put >= ?1 ORDER BY put LIMIT 256",
+        &[from.value()],
+    )?;
+    read_endpoints(&rows, alloc)
+}
+
+// The endpoints that the rows show.
+fn read_endpoints(rows: &[Row], alloc: Global) -> Result<Vec<EndpointRow>, RowFault>
+    ensures { IfOk result (λ found. map endpoint_of found.items ≡ map endpoint_in rows.now) }
+{
+    let mut found = Vec::with_capacity(alloc, rows.len()).map_err(Error::from)?;
+    for row in rows {
+        found.push(read_endpoint(row, alloc)?).map_err(Error::from)?;
+    }
+    Ok(found)
+}
+
+/// The secrets of the endpoint that the record with number `endpoint` made, the newest first.
+pub fn select_secrets<S: Alter>(
+    tx: &mut Transaction<'_, S>,
+    endpoint: Seq,
+    alloc: Global,
+) -> Result<Vec<Secret>, RowFault>
+    ensures same_reference { IsOfSame tx.old.conn tx.new.conn }
+    ensures unchanged { LeavesAll S.Store tx.old.conn.now tx.new.conn.now result }
+    ensures found { LooksUp S.Store tx.old.conn.now tx.new.conn.now result
+        (λ found rows. AreSecretsOf endpoint rows found.items) }
+    ensures spares { SparesCommit S.Store tx.old.conn.now tx.new.conn.now }
+{
+    let rows = tx.query_all(
+        "SELECT secret FROM secrets WHERE endpoint = ?1 ORDER BY place",
+        &[endpoint.value()],
+    )?;
+    read_secrets(&rows, alloc)
+}
+
+// The secrets that the rows show.
+fn read_secrets(rows: &[Row], alloc: Global) -> Result<Vec<Secret>, RowFault>
+    ensures { IfOk result (λ found. found.items ≡ map (λ row. bytes (column row 0)) rows.now) }
+{
+    let mut found = Vec::with_capacity(alloc, rows.len()).map_err(Error::from)?;
+    for row in rows {
+        found.push(read_secret(row)?).map_err(Error::from)?;
+    }
+    Ok(found)
+}
+
+/// The first 256 events with numbers from `from` on, in the order of their numbers.
+pub fn select_deliveries<S: Alter>(
+    tx: &mut Transaction<'_, S>,
+    from: Seq,
+    alloc: Global,
+) -> Result<Vec<DeliveryRow>, RowFault>
+    ensures same_reference { IsOfSame tx.old.conn tx.new.conn }
+    ensures unchanged { LeavesAll S.Store tx.old.conn.now tx.new.conn.now result }
+    ensures found { LooksUp S.Store tx.old.conn.now tx.new.conn.now result
+        (λ page rows. IsPage (λ d. d.seq) from rows.deliveries (map delivery_of page.items)) }
+    ensures spares { SparesCommit S.Store tx.old.conn.now tx.new.conn.now }
+{
+    let rows = tx.query_all(
+        "SELECT seq, endpoint, id, at, body FROM deliveries WHERE seq >= ?1 ORDER BY seq LIMIT 256",
+        &[from.value()],
+    )?;
+    read_deliveries(&rows, alloc)
+}
+
+// The events that the rows show.
+fn read_deliveries(rows: &[Row], alloc: Global) -> Result<Vec<DeliveryRow>, RowFault>
+    ensures { IfOk result (λ found. map delivery_of found.items ≡ map delivery_in rows.now) }
+{
+    let mut found = Vec::with_capacity(alloc, rows.len()).map_err(Error::from)?;
+    for row in rows {
+        found.push(read_delivery(row, alloc)?).map_err(Error::from)?;
+    }
+    Ok(found)
+}
+
+/// The first 256 attempts with numbers from `from` on, in the order of their numbers.
+pub fn select_attempts<S: Alter>(
+    tx: &mut Transaction<'_, S>,
+    from: Seq,
+    alloc: Global,
+) -> Result<Vec<AttemptRow>, RowFault>
+    ensures same_reference { IsOfSame tx.old.conn tx.new.conn }
+    ensures unchanged { LeavesAll S.Store tx.old.conn.now tx.new.conn.now result }
+    ensures found { LooksUp S.Store tx.old.conn.now tx.new.conn.now result
+        (λ page rows. IsPage (λ a. a.seq) from rows.attempts (map attempt_of page.items)) }
+    ensures spares { SparesCommit S.Store tx.old.conn.now tx.new.conn.now }
+{
+    let rows = tx.query_all(
+        "SELECT seq, delivery, number, status, at FROM attempts WHERE seq >= ?1 ORDER BY seq LIMIT 256",
+        &[from.value()],
+    )?;
+    read_attempts(&rows, alloc)
+}
+
+// The attempts that the rows show.
+fn read_attempts(rows: &[Row], alloc: Global) -> Result<Vec<AttemptRow>, RowFault>
+    ensures { IfOk result (λ found. map attempt_of found.items ≡ map attempt_in rows.now) }
+{
+    let mut found = Vec::with_capacity(alloc, rows.len()).map_err(Error::from)?;
+    for row in rows {
+        found.push(read_attempt(row)?).map_err(Error::from)?;
+    }
+    Ok(found)
+}

@@ -1,0 +1,216 @@
+//! The rows of the tables, as they are read.
+ghost use Rattle.std.specs.Prelude.{◌≡◌, ◌==◌, not, IfOk};
+ghost use Rattle.sqlite_value.specs.Order.{column, bytes};
+ghost use Rattle.sqlite_trees.specs.Objects.{number_in};
+ghost use Rattle.spool_sql.specs.Stored.{endpoint_in, endpoint_of, delivery_in, delivery_of, attempt_in, attempt_of};
+
+use crate::seq::Seq;
+use relay_types::{Body, MaxLimit, Moment, MsgId, Name, ReadFault, Secret, Target};
+use sqlite::{Error, ErrorCode, Row};
+use sqlite_value::value::ValueRef;
+use std::alloc::Global;
+use std::sync::Arc;
+
+// No number of a record is so large.
+const MOST_NUMBER: u64 = 1 << 62;
+
+/// Why the rows of a table were not read.
+#[derive(Debug, Drop)]
+pub enum RowFault {
+    /// The statement failed, or a column has a value of another kind.
+    Failed(Error),
+    /// A column has a value that no record gives it.
+    Unreadable,
+}
+
+impl From<Error> for RowFault {
+    ghost use Rattle.std.specs.Prelude.{◌≡◌};
+    ghost use Rattle.spool_sql.specs.declared.row.RowFault.TheVariants.{Failed};
+
+    ghost from_gives = { λ error fault. fault ≡ Failed error };
+
+    fn from(error: Error) -> RowFault {
+        RowFault::Failed(error)
+    }
+}
+
+/// An endpoint, which the record with number `put` made. The record with number `enabled_by` decides whether it is enabled,
+/// and that with number `secrets_by` gave its secrets.
+#[derive(Drop)]
+pub struct EndpointRow {
+    pub put: Seq,
+    pub name: Name,
+    pub target: Target,
+    pub max: MaxLimit,
+    pub enabled: bool,
+    pub enabled_by: Seq,
+    pub secrets_by: Seq,
+}
+
+/// An event: the record with number `seq` took it in, for the endpoint that the record with number `endpoint` made.
+#[derive(Drop)]
+pub struct DeliveryRow {
+    pub seq: Seq,
+    pub endpoint: Seq,
+    pub id: MsgId,
+    pub at: Moment,
+    pub body: Body,
+}
+
+/// An attempt at an event, which the record with number `seq` tells of. `status` is that of the answer, or 0 where none
+/// came.
+#[derive(Drop)]
+pub struct AttemptRow {
+    pub seq: Seq,
+    pub delivery: Seq,
+    pub number: u64,
+    pub status: u16,
+    pub at: Moment,
+}
+
+fn read_seq(row: &Row, at: usize) -> Result<Seq, RowFault>
+    ensures { IfOk result (λ seq. seq ≡ number_in (column row.now at)) }
+{
+    let number: u64 = row.get(at)?;
+    if number >= MOST_NUMBER {
+        return Err(RowFault::Unreadable);
+    }
+    Ok(Seq::of(number))
+}
+
+fn read_moment(row: &Row, at: usize) -> Result<Moment, RowFault>
+    ensures { IfOk result (λ moment. moment ≡ number_in (column row.now at)) }
+{
+    let seconds: u64 = row.get(at)?;
+    match Moment::of(seconds) {
+        Ok(moment) => Ok(moment),
+        Err(_) => Err(RowFault::Unreadable),
+    }
+}
+
+// The bytes of a text or a blob.
+fn read_bytes(row: &Row, at: usize) -> Result<&[u8], RowFault>
+    ensures { IfOk result (λ text. text.now ≡ bytes (column row.now at)) }
+{
+    match row.get_ref(at)? {
+        ValueRef::Text(text) | ValueRef::Blob(text) => Ok(text),
+        _ => Err(RowFault::Unreadable),
+    }
+}
+
+fn read_id(row: &Row, at: usize) -> Result<MsgId, RowFault>
+    ensures { IfOk result (λ id. id ≡ bytes (column row.now at)) }
+{
+    match MsgId::read(read_bytes(row, at)?) {
+        Ok(id) => Ok(id),
+        Err(_) => Err(RowFault::Unreadable),
+    }
+}
+
+fn read_body(row: &Row, at: usize, alloc: Global) -> Result<Body, RowFault>
+    ensures { IfOk result (λ body. body ≡ bytes (column row.now at)) }
+{
+    let bytes = Vec::from_slice(alloc, read_bytes(row, at)?).map_err(Error::from)?;
+    let shared = Arc::new(alloc, bytes).map_err(Error::from)?;
+    match Body::of(shared) {
+        Ok(body) => Ok(body),
+        Err(_) => Err(RowFault::Unreadable),
+    }
+}
+
+fn read_name(row: &Row, at: usize) -> Result<Name, RowFault>
+    ensures { IfOk result (λ name. name ≡ bytes (column row.now at)) }
+{
+    match Name::read(read_bytes(row, at)?) {
+        Ok(name) => Ok(name),
+        Err(_) => Err(RowFault::Unreadable),
+    }
+}
+
+fn read_target(row: &Row, at: usize, alloc: Global) -> Result<Target, RowFault>
+    ensures { IfOk result (λ target. target ≡ bytes (column row.now at)) }
+{
+    match Target::read(alloc, read_bytes(row, at)?) {
+        Ok(target) => Ok(target),
+        Err(ReadFault::OutOfMemory) => Err(RowFault::Failed(Error::SqliteFailure(
+            ErrorCode::OutOfMemory,
+        ))),
+        Err(_) => Err(RowFault::Unreadable),
+    }
+}
+
+fn read_max(row: &Row, at: usize) -> Result<MaxLimit, RowFault>
+    ensures { IfOk result (λ max. max ≡ number_in (column row.now at)) }
+{
+    let limit: u64 = row.get(at)?;
+    match MaxLimit::of(limit) {
+        Ok(max) => Ok(max),
+        Err(_) => Err(RowFault::Unreadable),
+    }
+}
+
+fn read_flag(row: &Row, at: usize) -> Result<bool, RowFault>
+    ensures { IfOk result (λ flag. flag ≡ not (number_in (column row.now at) == 0)) }
+{
+    let number: u64 = row.get(at)?;
+    match number {
+        0 => Ok(false),
+        1 => Ok(true),
+        _ => Err(RowFault::Unreadable),
+    }
+}
+
+// The secret that the row shows first.
+pub(crate) fn read_secret(row: &Row) -> Result<Secret, RowFault>
+    ensures { IfOk result (λ secret. secret ≡ bytes (column row.now 0)) }
+{
+    match Secret::of(read_bytes(row, 0)?) {
+        Ok(secret) => Ok(secret),
+        Err(_) => Err(RowFault::Unreadable),
+    }
+}
+
+// The endpoint that the row shows.
+pub(crate) fn read_endpoint(row: &Row, alloc: Global) -> Result<EndpointRow, RowFault>
+    ensures { IfOk result (λ endpoint. endpoint_of endpoint ≡ endpoint_in row.now) }
+{
+    Ok(EndpointRow {
+        put: read_seq(row, 0)?,
+        name: read_name(row, 1)?,
+        target: read_target(row, 2, alloc)?,
+        max: read_max(row, 3)?,
+        enabled: read_flag(row, 4)?,
+        enabled_by: read_seq(row, 5)?,
+        secrets_by: read_seq(row, 6)?,
+    })
+}
+
+// The event that the row shows.
+pub(crate) fn read_delivery(row: &Row, alloc: Global) -> Result<DeliveryRow, RowFault>
+    ensures { IfOk result (λ delivery. delivery_of delivery ≡ delivery_in row.now) }
+{
+    Ok(DeliveryRow {
+        seq: read_seq(row, 0)?,
+        endpoint: read_seq(row, 1)?,
+        id: read_id(row, 2)?,
+        at: read_moment(row, 3)?,
+        body: read_body(row, 4, alloc)?,
+    })
+}
+
+// The attempt that the row shows.
+pub(crate) fn read_attempt(row: &Row) -> Result<AttemptRow, RowFault>
+    ensures { IfOk result (λ attempt. attempt_of attempt ≡ attempt_in row.now) }
+{
+    let status: u32 = row.get(3)?;
+    let Ok(status) = u16::try_from(status) else {
+        return Err(RowFault::Unreadable);
+    };
+    Ok(AttemptRow {
+        seq: read_seq(row, 0)?,
+        delivery: read_seq(row, 1)?,
+        number: row.get(2)?,
+        status,
+        at: read_moment(row, 4)?,
+    })
+}
