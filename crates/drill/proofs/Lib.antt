@@ -1,2 +1,3 @@
 mod RunnerLaws
 pub mod ReplayLaws
+mod WorkedRun
