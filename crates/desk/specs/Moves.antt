@@ -4,6 +4,7 @@ use Rattle.std.specs.Option.{option_map_or}
 use Rattle.relay_types.specs.declared.limits.TheConstants.{MAX_ENDPOINTS, MAX_RECORDS}
 use Rattle.relay_types.specs.declared.record.Record.{Record}
 use Rattle.relay_types.specs.declared.record.Record.TheVariants.{Put, Accept}
+use Rattle.relay_types.specs.Values.{Text, Seq, Seconds}
 use Rattle.relay_types.specs.Records.{History, Accepted}
 use Rattle.relay_types.specs.Deliveries.{accepted, deliveries, deliveries_of, known_as, is_pending}
 use Rattle.relay_types.specs.Endpoints.{endpoints, has_endpoint}
@@ -31,11 +32,11 @@ abbrev pub gives : {A : Type 0} → A → World → Answer A
 gives reply next = record { reply = Ok reply; next = next; memory = None }
 
 -- this answer takes memory
-abbrev pub or_out_of_memory : {A : Type 0} → ℕ → Answer A → Answer A
+abbrev pub or_out_of_memory : {A : Type 0} → (number : ℕ) → Answer A → Answer A
 or_out_of_memory number answer = record { reply = answer.reply; next = answer.next; memory = Some number }
 
 -- the world stays, and the call is refused
-abbrev pub refused : {A : Type 0} → World → ℕ → Fault → Answer A
+abbrev pub refused : {A : Type 0} → (w : World) (number : ℕ) (fault : Fault) → Answer A
 refused w number fault = record { reply = Err (refusal number fault); next = w; memory = None }
 
 -- the first of these faults that is there refuses the call; otherwise the answer
@@ -52,24 +53,24 @@ abbrev pub MayGive : {A : Type 0} → World → Answer A → Result A Refusal �
 MayGive w answer reply next = ((reply ≡ answer.reply) × (next ≡ answer.next)) ⊎ LacksMemory w answer reply next
 
 -- the moment of a call: the clock never goes back
-abbrev pub moment : World → ℕ → ℕ
+abbrev pub moment : (w : World) (now : Seconds) → Seconds
 moment w now = max now w.clock
 
-abbrev pub at_moment : World → ℕ → World
+abbrev pub at_moment : (w : World) (now : Seconds) → World
 at_moment w now = record w { clock = moment w now }
 
 -- the world with one more record, and the number that this record gets
 abbrev pub with_record : World → Record → World
 with_record w entry = record w { history = w.history ++ (entry ∷ []) ∷ [] }
 
-abbrev pub next_seq : World → ℕ
+abbrev pub next_seq : World → Seq
 next_seq w = length (all_records w)
 
-abbrev pub stages : World → Record → Answer ℕ
+abbrev pub stages : (w : World) (entry : Record) → Answer Seq
 stages w entry = gives (next_seq w) (with_record w entry)
 
 -- how many events of some deliveries are pending
-abbrev pub pending_among : List Record → List ℕ → ℕ
+abbrev pub pending_among : (records : List Record) (deliveries : List Seq) → ℕ
 pending_among records ds = count_by (is_pending records) ds
 
 abbrev pub is_waiting_full : World → Bool
@@ -78,21 +79,21 @@ is_waiting_full w = nat_le max_waiting (length (waiting_records w))
 abbrev pub are_seqs_spent : World → Bool
 are_seqs_spent w = nat_le MAX_RECORDS (next_seq w)
 
-abbrev pub has_body : List ℕ → Option Accepted → Bool
+abbrev pub has_body : (body : Text) → Option Accepted → Bool
 has_body body accept = option_map_or (λ a. bytes_eq a.body body) accept false
 
 -- whether the delivery that is known has other bytes
-abbrev pub is_conflict : List Record → Option ℕ → List ℕ → Bool
+abbrev pub is_conflict : (records : List Record) (known : Option Seq) (body : Text) → Bool
 is_conflict records known body = option_map_or (λ d. not (has_body body (accepted records d))) known false
 
 -- the refusals of a submission, in order: those before a repeated one is answered, and those of a new one
-abbrev pub submit_faults : World → List ℕ → Option ℕ → List ℕ → Faults
+abbrev pub submit_faults : (w : World) (name : Text) (known : Option Seq) (body : Text) → Faults
 submit_faults w name known body =
     (not (has_endpoint (all_records w) name), 2, fault.UnknownEndpoint)
     ∷ (is_conflict (all_records w) known body, 3, fault.Conflict)
     ∷ []
 
-abbrev pub new_submit_faults : World → List ℕ → Faults
+abbrev pub new_submit_faults : (w : World) (name : Text) → Faults
 new_submit_faults w name =
     (nat_le MAX_PENDING (pending_among (all_records w) (deliveries_of (all_records w) name)), 4, fault.EndpointBacklog)
     ∷ (nat_le MAX_PENDING_ALL (pending_among (all_records w) (deliveries (all_records w))), 5, fault.Backlog)
@@ -100,21 +101,21 @@ new_submit_faults w name =
     ∷ (are_seqs_spent w, 7, fault.SeqExhausted)
     ∷ []
 
-abbrev pub submit_new : World → ℕ → List ℕ → List ℕ → List ℕ → Answer ℕ
+abbrev pub submit_new : (w : World) (now : Seconds) (name id body : Text) → Answer Seq
 submit_new w now name id body =
     unless (new_submit_faults w name) w (or_out_of_memory 8 (stages (at_moment w now) (Accept name id body (moment w now))))
 
 -- the same id with the same bytes gives the number of the first
-abbrev pub repeats : World → ℕ → ℕ → Answer ℕ
+abbrev pub repeats : (w : World) (now : Seconds) (delivery : Seq) → Answer Seq
 repeats w now d = gives d (at_moment w now)
 
 -- A submission, where its id is known as this delivery or isn't known.
-abbrev pub submit_known : Option ℕ → World → ℕ → List ℕ → List ℕ → List ℕ → Answer ℕ
+abbrev pub submit_known : (known : Option Seq) (w : World) (now : Seconds) (name id body : Text) → Answer Seq
 submit_known known w now name id body =
     unless (submit_faults w name known body) w (option_map_or (repeats w now) known (submit_new w now name id body))
 
 -- A submission.
-abbrev pub submit : World → ℕ → List ℕ → List ℕ → List ℕ → Answer ℕ
+abbrev pub submit : (w : World) (now : Seconds) (name id body : Text) → Answer Seq
 submit w now name id body = submit_known (known_as (all_records w) name id) w now name id body
 
 -- what a command adds
@@ -122,7 +123,7 @@ abbrev pub record_of : Command → Record
 record_of (PutEndpoint name target max secrets) = Put name target max secrets
 
 -- the refusals of a command, in order
-abbrev pub put_faults : World → List ℕ → Faults
+abbrev pub put_faults : (w : World) (name : Text) → Faults
 put_faults w name =
     (has_endpoint (all_records w) name, 3, fault.Exists)
     ∷ (nat_le MAX_ENDPOINTS (length (endpoints (all_records w))), 4, fault.TooManyEndpoints)
@@ -134,7 +135,7 @@ abbrev pub change_faults : World → Command → Faults
 change_faults w (PutEndpoint name target max secrets) = put_faults w name
 
 -- A command. It takes no memory.
-abbrev pub change : World → Command → Answer ℕ
+abbrev pub change : World → Command → Answer Seq
 change w command = unless (change_faults w command) w (stages w (record_of command))
 
 -- what is out
@@ -145,21 +146,21 @@ is_nothing_out Receipt = false
 is_nothing_out Doubt = false
 
 -- the sealed steps that aren't settled, as a batch of this opening and its receipt hold them
-abbrev pub sealed_run : ℕ → World → Run
+abbrev pub sealed_run : (mark : ℕ) → World → Run
 sealed_run mark w = record { mark = mark; from = length (settled_records w); steps = drop w.settled (take w.sealed w.history) }
 
 -- Sealing puts the first steps that wait into a batch.
 abbrev pub with_batch : World → World
 with_batch w = record w { sealed = min (length w.history) (w.settled + max_sealed); out = Batch }
 
-abbrev pub seal_waiting : ℕ → World → Bool → Answer (Option Run)
+abbrev pub seal_waiting : (mark : ℕ) (w : World) (is_idle : Bool) → Answer (Option Run)
 seal_waiting mark w true = gives None w
 seal_waiting mark w false = or_out_of_memory 3 (gives (Some (sealed_run mark (with_batch w))) (with_batch w))
 
 abbrev pub seal_faults : World → Faults
 seal_faults w = (not (is_nothing_out w.out), 2, fault.BatchOut) ∷ []
 
-abbrev pub seal : ℕ → World → Answer (Option Run)
+abbrev pub seal : (mark : ℕ) → World → Answer (Option Run)
 seal mark w = unless (seal_faults w) w (seal_waiting mark w (length w.history == w.settled))
 
 -- Settling takes back what is out: what is sealed is settled.
@@ -167,11 +168,11 @@ abbrev pub with_sealed_settled : World → World
 with_sealed_settled w = record w { settled = w.sealed; out = Nothing }
 
 -- what the settled records say of the event that the endpoint knows by this id
-abbrev pub event_row : World → List ℕ → List ℕ → Option Row
+abbrev pub event_row : (w : World) (name id : Text) → Option Row
 event_row w name id = option_and_then (row_of (settled_records w)) (known_as (settled_records w) name id)
 
 -- a world in which everything is settled, and nothing is out
-abbrev pub opened : History → ℕ → World
+abbrev pub opened : (history : History) (clock : Seconds) → World
 opened history clock = record {
   history = history;
   settled = length history;

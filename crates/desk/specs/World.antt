@@ -1,6 +1,7 @@
 -- The state of the core: a history, how far it is settled and sealed, what is out, and what a stop may leave.
 use Rattle.std.specs.Prelude.{ℕ, List, take, drop}
 use Rattle.relay_types.specs.declared.record.Record.{Record}
+use Rattle.relay_types.specs.Values.{Seconds}
 use Rattle.relay_types.specs.Records.{History, records_of}
 
 -- the most records that wait, and the most steps of a batch
@@ -24,7 +25,7 @@ pub record World : Type 0 where
   pub sealed : ℕ
   pub out : Out
   pub left : List ℕ
-  pub clock : ℕ
+  pub clock : Seconds
 
 -- the records of all steps, of the settled ones, of the sealed ones, and of those that wait
 abbrev pub all_records : World → List Record

@@ -1,22 +1,22 @@
 -- The lines of a script: which text stands for which call. A text that stands for none is a bad line. The grammar is told by
 -- printing: a line has these words, and one space between.
 use Rattle.std.specs.Prelude.{◌≡◌, ℕ, ◌&&◌, List, [], ◌∷◌, IsTrue, codes, decimal}
-use Rattle.relay_types.specs.Values.{is_name, is_msg_id, is_target, is_max_limit, is_body, is_moment}
+use Rattle.relay_types.specs.Values.{Text, Seconds, is_name, is_msg_id, is_target, is_max_limit, is_body, is_moment}
 use Rattle.text_lines.specs.Parts.{line}
 use Rattle.text_lines.specs.Words.{IsSecretsWord, IsBodyWord}
 use Rattle.script_lines.specs.declared.event.Event.{Event}
 use Rattle.script_lines.specs.declared.event.Event.TheVariants as on
 
 -- the words behind the first one of a call
-abbrev pub IsPut : List (List ℕ) → List ℕ → List ℕ → ℕ → List (List ℕ) → Type 0
+abbrev pub IsPut : (words : List Text) (name target : Text) (max : ℕ) (secrets : List Text) → Type 0
 IsPut words name target max secrets = (word : List ℕ) × IsSecretsWord word secrets × (words ≡ name ∷ target ∷ decimal max ∷ word ∷ [])
     × IsTrue (is_name name && (is_target target && is_max_limit max))
 
-abbrev pub IsSubmit : List (List ℕ) → ℕ → List ℕ → List ℕ → List ℕ → Type 0
+abbrev pub IsSubmit : (words : List Text) (now : Seconds) (name id body : Text) → Type 0
 IsSubmit words now name id body = (word : List ℕ) × IsBodyWord word body × (words ≡ decimal now ∷ name ∷ id ∷ word ∷ [])
     × IsTrue (is_moment now && (is_name name && (is_msg_id id && is_body body)))
 
-abbrev pub IsShow : List (List ℕ) → List ℕ → List ℕ → Type 0
+abbrev pub IsShow : (words : List Text) (name id : Text) → Type 0
 IsShow words name id = (words ≡ name ∷ id ∷ []) × IsTrue (is_name name && is_msg_id id)
 
 -- the words are behind the first one of no such call

@@ -68,11 +68,11 @@ fn rows_are_written(rt: HostRuntime) -> Result<(), Fail> {
         ),
         ("SELECT count(*) FROM secrets", 2),
         (
-            "SELECT count(*) FROM secrets WHERE endpoint = 3 AND place = 0 AND secret = CAST('0123456789abcdef01234567' AS BLOB)",
+            "SELECT count(*) FROM secrets WHERE endpoint = 3 AND place = 0 AND secret = x'303132333435363738396162636465663031323334353637'",
             1,
         ),
         (
-            "SELECT count(*) FROM secrets WHERE endpoint = 3 AND place = 1 AND secret = CAST('89abcdef0123456789abcdef' AS BLOB)",
+            "SELECT count(*) FROM secrets WHERE endpoint = 3 AND place = 1 AND secret = x'383961626364656630313233343536373839616263646566'",
             1,
         ),
         ("SELECT count(*) FROM deliveries", 1),
