@@ -1,0 +1,112 @@
+-- What holds of a book's fields stays so, and what a call makes of the book.
+use Rattle.std.proofs.Common.{◌≡◌, ℕ, ◌+◌, ◌<◌, ◌≤◌, Bool, true, false, List, [], ◌∷◌, ◌++◌, Option, Some, None, length, refl, sym, ◌∙◌, ap, cond, arith, subst, map, length-append}
+use Rattle.std.specs.Prelude.{filter, filter_map, find, count_by, max, bytes_eq, option_map, if◌then◌else◌}
+use Rattle.endpoint_book.specs.declared.entries.Entries.{Entries}
+use Rattle.endpoint_book.specs.declared.entry.Change.{Change}
+use Rattle.endpoint_book.specs.declared.entry.Entry.{Entry}
+use Rattle.endpoint_book.specs.declared.entry.Kind.TheVariants.{Put}
+use Rattle.endpoint_book.specs.declared.limits.TheConstants.{MAX_FLAGS}
+use Rattle.endpoint_book.specs.Entries.{BookValue, now_of, is_flag, is_put, is_from, settled_at, shown_with, change_at, entry_of, with_put, with_change, with_settled}
+use Rattle.endpoint_book.specs.Kept.{AreNames, IsBook, Changes, Puts, IsSame, SettlesBelow, entry_in, listed}
+use Rattle.endpoint_book.proofs.Filters.{some_told}
+use Rattle.endpoint_book.proofs.Names.{found, changed-names, changed-listed, put-names, put-listed, change_at-name}
+use Rattle.endpoint_book.proofs.Queues.{changes-push, changes-keep, puts_kept}
+
+-- the entry of the change's name is changed
+pub book-change : (entries later : Entries) (names : List (List ℕ)) (cs : List Change) (c : Change) (flags puts capacity next settled more_flags room : ℕ) (change : Entry → Entry)
+    → IsBook entries names cs flags puts capacity next settled → ((e : Entry) → (change e).name ≡ e.name)
+    → Changes entries later c.name change
+    → next ≤ c.seq → puts ≡ puts + cond (is_put c) 1 0 → more_flags ≡ flags + cond (is_flag c) 1 0 → more_flags ≤ MAX_FLAGS → length cs + 1 + MAX_FLAGS ≤ room + more_flags
+    → IsBook later names (cs ++ c ∷ []) more_flags puts room (c.seq + 1) settled
+book-change entries later names cs c flags puts capacity next settled more_flags room change h keeps changed above p f few fits = record {
+  are_names = subst (λ g. AreNames g names) (λ i asked. sym (changed asked) i) (changed-names (entry_in entries) names (change_at c.name change) (change_at-name c.name change keeps) h.are_names);
+  are_changes = changes-push cs c flags puts capacity next settled more_flags puts room h.are_changes above f p few fits;
+  puts_within = h.puts_within;
+}
+
+pub change-value : (book : BookValue) (entries later : Entries) (names : List (List ℕ)) (cs : List Change) (c : Change) (next settled : ℕ) (change : Entry → Entry)
+    → AreNames (entry_in entries) names → record { entries = listed entries names; changes = cs; next_place = next; settled_place = settled } ≡ book
+    → Changes entries later c.name change
+    → Some c.shown ≡ option_map (λ e. now_of (change e)) (entry_in entries c.name)
+    → record { entries = listed later names; changes = cs ++ c ∷ []; next_place = c.seq + 1; settled_place = settled } ≡ with_change book c.seq c.name c.kind change
+change-value book entries later names cs c next settled change h is changed shown =
+    (λ i. record {
+      entries = (ap (λ g. filter_map g names) (λ j asked. changed asked j) ∙ changed-listed (entry_in entries) names (change_at c.name change) h) i;
+      changes = cs ++ record c { shown = sym (ap (shown_with change) (found (entry_in entries) names c.name h) ∙ some_told (λ e. now_of (change e)) (entry_in entries c.name) c.shown (record { enabled = true; secrets = 0 }) shown) i } ∷ [];
+      next_place = c.seq + 1;
+      settled_place = settled;
+    })
+    ∙ ap (λ b. with_change b c.seq c.name c.kind change) is
+
+-- one more entry, with the change of its Put
+pub book-put : (entries later : Entries) (names : List (List ℕ)) (cs : List Change) (e : Entry) (flags puts capacity next settled room : ℕ)
+    → IsBook entries names cs flags puts capacity next settled → entry_in entries e.name ≡ None
+    → Puts entries later e → next ≤ e.put → length cs + 1 + MAX_FLAGS ≤ room + flags
+    → IsBook later (names ++ e.name ∷ []) (cs ++ record { seq = e.put; name = e.name; kind = Put; shown = now_of e } ∷ []) flags (puts + 1) room (e.put + 1) settled
+book-put entries later names cs e flags puts capacity next settled room h unknown put above fits = record {
+  are_names = subst (λ g. AreNames g (names ++ e.name ∷ [])) (λ i asked. sym (put asked) i) (put-names (entry_in entries) names e unknown h.are_names);
+  are_changes =
+      changes-push cs (record { seq = e.put; name = e.name; kind = Put; shown = now_of e }) flags puts capacity next settled flags (puts + 1) room h.are_changes above
+      (omega arith) refl h.are_changes.few fits;
+  puts_within = omega (arith, h.puts_within, length-append names (e.name ∷ []));
+}
+
+pub put-value : (book : BookValue) (entries later : Entries) (names : List (List ℕ)) (cs : List Change) (e : Entry) (next settled : ℕ)
+    → AreNames (entry_in entries) names → record { entries = listed entries names; changes = cs; next_place = next; settled_place = settled } ≡ book
+    → entry_in entries e.name ≡ None → Puts entries later e
+    → record { entries = listed later (names ++ e.name ∷ []); changes = cs ++ record { seq = e.put; name = e.name; kind = Put; shown = now_of e } ∷ []; next_place = e.put + 1; settled_place = settled } ≡ with_put book e
+put-value book entries later names cs e next settled h is unknown put =
+    (λ i. record {
+      entries = (ap (λ g. filter_map g (names ++ e.name ∷ [])) (λ j asked. put asked j) ∙ put-listed (entry_in entries) names e unknown h) i;
+      changes = cs ++ record { seq = e.put; name = e.name; kind = Put; shown = now_of e } ∷ [];
+      next_place = e.put + 1;
+      settled_place = settled;
+    })
+    ∙ ap (λ b. with_put b e) is
+
+-- the same entries, with more room
+pub book-same : (entries later : Entries) (names : List (List ℕ)) (cs : List Change) (flags puts capacity next settled room : ℕ)
+    → IsBook entries names cs flags puts capacity next settled → IsSame entries later → capacity ≤ room
+    → IsBook later names cs flags puts room next settled
+book-same entries later names cs flags puts capacity next settled room h same more = record {
+  are_names = subst (λ g. AreNames g names) (λ i asked. sym (same asked) i) h.are_names;
+  are_changes = record {
+    parted = h.are_changes.parted;
+    below_next = h.are_changes.below_next;
+    waiting = h.are_changes.waiting;
+    settled_next = h.are_changes.settled_next;
+    flags_are = h.are_changes.flags_are;
+    puts_are = h.are_changes.puts_are;
+    few = h.are_changes.few;
+    room = omega (arith, h.are_changes.room, more);
+  };
+  puts_within = h.puts_within;
+}
+
+-- more records are settled
+pub book-settled : (entries later : Entries) (names : List (List ℕ)) (cs : List Change) (flags puts capacity next settled place : ℕ) → IsBook entries names cs flags puts capacity next settled → settled ≤ place
+    → SettlesBelow place cs entries later
+    → IsBook later names (filter (is_from place) cs) (count_by is_flag (filter (is_from place) cs)) (count_by is_put (filter (is_from place) cs)) capacity (max next place) place
+book-settled entries later names cs flags puts capacity next settled place h later_place changed = record {
+  are_names = subst (λ g. AreNames g names) (λ i asked. sym (changed asked) i) (changed-names (entry_in entries) names (settled_at place cs) (λ name e. refl) h.are_names);
+  are_changes = changes-keep cs flags puts capacity next settled place h.are_changes later_place;
+  puts_within = omega (arith, h.puts_within, h.are_changes.puts_are, puts_kept cs place);
+}
+
+pub settled-value : (book : BookValue) (entries later : Entries) (names : List (List ℕ)) (cs : List Change) (next settled place : ℕ)
+    → AreNames (entry_in entries) names → record { entries = listed entries names; changes = cs; next_place = next; settled_place = settled } ≡ book
+    → SettlesBelow place cs entries later
+    → record { entries = listed later names; changes = filter (is_from place) cs; next_place = max next place; settled_place = place } ≡ with_settled book place
+settled-value book entries later names cs next settled place h is changed =
+    (λ i. record {
+      entries = (ap (λ g. filter_map g names) (λ j asked. changed asked j) ∙ changed-listed (entry_in entries) names (settled_at place cs) h) i;
+      changes = filter (is_from place) cs;
+      next_place = max next place;
+      settled_place = place;
+    })
+    ∙ ap (λ b. with_settled b place) is
+
+-- what the book's value has of a name is what a look-up finds
+pub entry-value : (book : BookValue) (entries : Entries) (names : List (List ℕ)) (cs : List Change) (next settled : ℕ) (name : List ℕ)
+    → AreNames (entry_in entries) names → record { entries = listed entries names; changes = cs; next_place = next; settled_place = settled } ≡ book → entry_in entries name ≡ entry_of book name
+entry-value book entries names cs next settled name h is = sym (found (entry_in entries) names name h) ∙ ap (λ b. entry_of b name) is

@@ -1,0 +1,9 @@
+pub mod Filters
+pub mod Trees
+pub mod Names
+pub mod Queues
+pub mod Books
+pub mod Shown
+pub mod Histories
+pub mod Staged
+pub mod Laws

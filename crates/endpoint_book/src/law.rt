@@ -1,0 +1,13 @@
+//! Laws that contracts rest on.
+ghost use Rattle.endpoint_book.specs.Laws.{OthersLeave, IdleLeave};
+
+/// Accepts, and Outcomes that don't say that the endpoint is gone, need no call of the book: it stands for the history
+/// with one behind as it stood before.
+pub fn other_records_leave()
+    ensures { OthersLeave }
+{}
+
+/// Nor does any record need one that leaves each endpoint as it was, as one that enables what is enabled.
+pub fn idle_records_leave()
+    ensures { IdleLeave }
+{}

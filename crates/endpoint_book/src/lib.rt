@@ -1,0 +1,17 @@
+//! The book of endpoints: what the relay keeps in memory of every endpoint, as the whole history has it and as the
+//! settled records have it.
+#![tactic(auto)]
+
+mod book;
+mod changes;
+mod entries;
+mod entry;
+mod key;
+mod law;
+mod limits;
+mod view;
+
+pub use crate::book::EndpointBook;
+pub use crate::law::{idle_records_leave, other_records_leave};
+pub use crate::limits::MAX_FLAGS;
+pub use crate::view::EndpointView;
