@@ -279,7 +279,6 @@ impl Desk {
             max,
             secrets,
         };
-        known_limits(&entry);
         let seq = self.records;
         self.endpoints.push_reserved(name);
         self.waiting = Some(Step::of(entry));
@@ -306,45 +305,9 @@ impl Desk {
         let kept = body.share()?;
         self.deliveries.stage_accept(seq, name, id, kept, at)?;
         let entry = Record::Accept { name, id, body, at };
-        known_limits(&entry);
         self.clock = at;
         self.waiting = Some(Step::of(entry));
         self.records = seq + 1;
         Ok(seq)
-    }
-}
-
-// The values of a record keep their limits: this tells the proof what their types keep.
-fn known_limits(entry: &Record)
-    ensures { IsTrue (is_within_limits entry.now) }
-{
-    match entry {
-        Record::Put {
-            name,
-            target,
-            max,
-            secrets,
-        } => {
-            name.as_bytes();
-            target.as_bytes();
-            max.get();
-            secrets.count();
-        }
-        Record::Secrets { name, secrets } => {
-            name.as_bytes();
-            secrets.count();
-        }
-        Record::Enabled { name, .. } => {
-            name.as_bytes();
-        }
-        Record::Accept { name, id, body, at } => {
-            name.as_bytes();
-            id.as_bytes();
-            body.as_bytes();
-            at.seconds();
-        }
-        Record::Outcome { at, .. } => {
-            at.seconds();
-        }
     }
 }

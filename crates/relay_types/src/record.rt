@@ -1,6 +1,7 @@
 //! The records of a history, and the steps in which they are written.
 ghost use Rattle.std.specs.Prelude.{◌≡◌, ◌↔◌, [], ◌∷◌, IfOk, IsTrue};
 ghost use Rattle.relay_types.specs.declared.record.Record.TheVariants as on;
+ghost use Rattle.relay_types.specs.Legal.{is_within_limits};
 
 use crate::body::Body;
 use crate::names::{MsgId, Name};
@@ -209,7 +210,8 @@ impl Model for Step {
 impl Step {
     /// The step of this record.
     pub fn of(entry: Record) -> Step
-        ensures { result ≡ entry ∷ [] }
+        ensures record { result ≡ entry ∷ [] }
+        ensures limits { IsTrue (is_within_limits entry) }
     {
         Step { entry }
     }
