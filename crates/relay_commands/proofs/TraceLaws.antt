@@ -2,7 +2,7 @@
 use Rattle.std.proofs.Common.{◌≡◌, ℕ, zero, suc, ◌≤◌, List, [], ◌∷◌, ◌++◌, length, take, refl, sym, ap, ◌∙◌, arith, length-append, append_assoc, append-nil}
 use Rattle.vegas.specs.declared.sample.Sample.{Sample}
 use Rattle.vegas.specs.Vegas.{limit_of, noload_of}
-use Rattle.vegas.specs.Estimates.{Estimate, StandsFor}
+use Rattle.vegas.specs.Estimators.{EstimatorValue, StandsFor}
 use Rattle.text_lines.specs.Answers.{AnswersEach, AnswersFrom}
 use Rattle.text_lines.specs.Streams.{with_feed}
 use Rattle.relay_commands.specs.declared.vegas_command.Follower.{Follower}
@@ -27,7 +27,7 @@ text_more maximum xs x =
     let len : length (xs ++ x ∷ []) ≡ suc (length xs) = omega (arith, length-append xs (x ∷ [])) in
     ap (trace_text maximum (xs ++ x ∷ [])) len ∙ (λ i. text_front maximum xs x (length xs) (omega arith) i ++ sampled_text maximum (take_all xs x i))
 
-numbers : (maximum : ℕ) (e : Estimate) (xs : List Sample) → e.maximum ≡ maximum → StandsFor e xs → with_feed (numbers_text e.state.limit e.state.noload) ≡ sampled_text maximum xs
+numbers : (maximum : ℕ) (e : EstimatorValue) (xs : List Sample) → e.maximum ≡ maximum → StandsFor e xs → with_feed (numbers_text e.state.limit e.state.noload) ≡ sampled_text maximum xs
 numbers maximum e xs is stands = λ i. with_feed (numbers_text ((stands.limit ∙ ap (λ m. limit_of m xs) is) i) ((stands.noload ∙ ap (λ m. noload_of m xs) is) i))
 
 -- the samples of further lines, and the numbers after each of them

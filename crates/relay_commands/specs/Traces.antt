@@ -5,7 +5,7 @@ use Rattle.relay_types.specs.Values.{is_max_limit}
 use Rattle.relay_types.specs.declared.fault.ReadFault.TheVariants.{BadMax}
 use Rattle.vegas.specs.declared.sample.Sample.{Sample}
 use Rattle.vegas.specs.Vegas.{limit_of, noload_of}
-use Rattle.vegas.specs.Estimates.{StandsFor}
+use Rattle.vegas.specs.Estimators.{StandsFor}
 use Rattle.text_lines.specs.declared.fault.StreamFault.{StreamFault}
 use Rattle.text_lines.specs.Ends.{Ends}
 use Rattle.text_lines.specs.Parts.{line}

@@ -1,7 +1,7 @@
 //! `relayd vegas`: the limit after each of some samples.
 ghost use Rattle.std.specs.Prelude.{◌≡◌, ◌<◌, ◌≤◌, Bool, [], ◌∷◌, decimal, Some, IfSome, IfOk};
 ghost use Rattle.vegas.specs.declared.sample.Sample.{Sample as Taken};
-ghost use Rattle.vegas.specs.Estimates.{sample_of};
+ghost use Rattle.vegas.specs.Estimators.{sample_of};
 ghost use Rattle.relay_commands.specs.Traces.{Traces, TracesSo, TracesTo, AnswersSample, ReadsSample, IsNoSample, IsSample, end_word, numbers_text};
 
 use crate::ends::{CommandFault, end};

@@ -8,7 +8,7 @@ use Rattle.std.proofs.lemmas.Bool.Decides.{nat_tests}
 use Rattle.std.proofs.lemmas.List.{take-append-le, drop-append-le, length-drop}
 use Rattle.vegas.specs.declared.sample.Sample.{Sample}
 use Rattle.vegas.specs.Vegas.{Place, round_trip, least_round_trip, noload_after, limit_at, next_place, place_after, limit_of, noload_of, probes_of}
-use Rattle.vegas.specs.Estimates.{Estimate, StandsFor}
+use Rattle.vegas.specs.Estimators.{EstimatorValue, StandsFor}
 
 -- a sample more leaves the elements before it
 slice_get-before : (xs ys : List Sample) (k : ℕ) → k < length xs → slice_get (xs ++ ys) k ≡ slice_get xs k
@@ -208,14 +208,14 @@ unfolding probes_of
 counted-snoc most xs = omega (arith, last_probe most xs)
 
 -- the estimate of a list
-abbrev estimate_of : ℕ → List Sample → Estimate
+abbrev estimate_of : ℕ → List Sample → EstimatorValue
 estimate_of most xs = record { maximum = most; state = record { limit = limit_of most xs; noload = noload_of most xs; probes = probes_of most xs } }
 
-estimate_of-is : (e : Estimate) (xs : List Sample) → StandsFor e xs → estimate_of e.maximum xs ≡ e
+estimate_of-is : (e : EstimatorValue) (xs : List Sample) → StandsFor e xs → estimate_of e.maximum xs ≡ e
 estimate_of-is e xs s i = record { maximum = e.maximum; state = record { limit = sym s.limit i; noload = sym s.noload i; probes = sym s.probes i } }
 
 -- A probe makes the round trip the no-load time, and leaves the limit.
-abbrev Probe : List Sample → Sample → Estimate → Type 0
+abbrev Probe : List Sample → Sample → EstimatorValue → Type 0
 Probe xs x e = 30 * e.state.limit ≤ e.state.probes + 1 → StandsFor (record e { state = record e.state { noload = round_trip x; probes = 0 } }) (xs ++ x ∷ [])
 
 probe-at : (most : ℕ) (xs : List Sample) (x : Sample) → Probe xs x (estimate_of most xs)
@@ -225,11 +225,11 @@ probe-at most xs x h = place-follows most xs x _ _ _ (place-probe most xs x h) o
     one : least_round_trip (drop (suc (length xs) - 1) (xs ++ x ∷ [])) ≡ round_trip x
     one = let n : suc (length xs) - 1 ≡ length xs = omega arith in rw (n, drop-append_seam xs (x ∷ [])) refl
 
-pub probe-follows : (e : Estimate) (xs : List Sample) (x : Sample) → StandsFor e xs → Probe xs x e
+pub probe-follows : (e : EstimatorValue) (xs : List Sample) (x : Sample) → StandsFor e xs → Probe xs x e
 probe-follows e xs x s = subst (Probe xs x) (estimate_of-is e xs s) (probe-at e.maximum xs x)
 
 -- The first round trip of all, or a lower one, becomes the no-load time, and the limit stays.
-abbrev Low : List Sample → Sample → Estimate → Type 0
+abbrev Low : List Sample → Sample → EstimatorValue → Type 0
 Low xs x e = e.state.probes + 1 < 30 * e.state.limit → (e.state.noload ≡ 0) ⊎ (round_trip x < e.state.noload)
     → StandsFor (record e { state = record e.state { noload = round_trip x; probes = e.state.probes + 1 } }) (xs ++ x ∷ [])
 
@@ -241,11 +241,11 @@ low-at most xs x h lower = place-follows most xs x _ _ _ (place-low most xs x h 
     least = ap least_round_trip (segment-snoc most xs x)
         ∙ least-low _ x (subst (λ n. (n ≡ 0) ⊎ (round_trip x < n)) (noload_of-segment most xs) lower)
 
-pub low-follows : (e : Estimate) (xs : List Sample) (x : Sample) → StandsFor e xs → Low xs x e
+pub low-follows : (e : EstimatorValue) (xs : List Sample) (x : Sample) → StandsFor e xs → Low xs x e
 low-follows e xs x s = subst (Low xs x) (estimate_of-is e xs s) (low-at e.maximum xs x)
 
 -- Any other sample moves the limit, and leaves the no-load time.
-abbrev Other : List Sample → Sample → Estimate → Type 0
+abbrev Other : List Sample → Sample → EstimatorValue → Type 0
 Other xs x e = e.state.probes + 1 < 30 * e.state.limit → e.state.noload ≢ 0 → e.state.noload ≤ round_trip x
     → StandsFor (record e { state = record e.state { limit = limit_at e.maximum e.state.limit e.state.noload x; probes = e.state.probes + 1 } }) (xs ++ x ∷ [])
 
@@ -261,5 +261,5 @@ other-at most xs x h known high = place-follows most xs x _ _ _ (place-moved mos
         ∙ least-high _ x (λ e. known (segment ∙ e)) (omega (arith, high, segment))
         ∙ sym segment
 
-pub other-follows : (e : Estimate) (xs : List Sample) (x : Sample) → StandsFor e xs → Other xs x e
+pub other-follows : (e : EstimatorValue) (xs : List Sample) (x : Sample) → StandsFor e xs → Other xs x e
 other-follows e xs x s = subst (Other xs x) (estimate_of-is e xs s) (other-at e.maximum xs x)

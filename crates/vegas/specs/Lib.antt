@@ -1,2 +1,2 @@
 pub mod Vegas
-pub mod Estimates
+pub mod Estimators

@@ -1,22 +1,14 @@
 //! The estimator of one endpoint.
 ghost use Rattle.std.specs.Prelude.{◌≡◌, ◌≤◌, List, [], ◌∷◌, ◌++◌, IsOk, IfOk};
 ghost use Rattle.vegas.specs.declared.sample.Sample.{Sample};
-ghost use Rattle.vegas.specs.Estimates.{StandsFor, sample_of};
+ghost use Rattle.vegas.specs.Estimators.{StandsFor, sample_of};
 
+use crate::limits::{FIRST_LIMIT, MAX_ROUND_TRIP, SAMPLES_BY_LIMIT};
 use crate::rules::{moved, queue};
 use crate::state::State;
-use relay_types::MaxLimit;
+use relay_types::{MAX_LIMIT, MaxLimit};
 use std::alloc::AllocError;
 use std::marker::Model;
-
-/// The limit that a new estimator starts from, if its maximum allows it.
-const FIRST_LIMIT: u32 = 20;
-
-/// An hour in microseconds: a longer round trip counts as this one.
-const LONGEST_ROUND_TRIP: u64 = 3_600_000_000;
-
-/// A probe comes after this many samples for each of the limit.
-const SAMPLES_BY_LIMIT: u32 = 30;
 
 /// The limit of one endpoint. It holds its maximum and three running numbers; contracts say that these are those of the list
 /// of samples that it was given.
@@ -27,9 +19,9 @@ pub struct Estimator {
 }
 
 impl Model for Estimator {
-    ghost use Rattle.vegas.specs.Estimates.{Estimate, AreBounded};
+    ghost use Rattle.vegas.specs.Estimators.{EstimatorValue, AreBounded};
 
-    ghost Value = { Estimate };
+    ghost Value = { EstimatorValue };
 
     ghost view = { λ a. record { maximum = a.maximum; state = a.state } };
 
@@ -59,15 +51,15 @@ impl Estimator {
         ensures low { 1 ≤ result }
         ensures high { result ≤ self.now.maximum }
     {
-        self.state.limit // posts
+        self.state.limit
     }
 
     /// The round trip of an endpoint without load, in microseconds, or 0 before the first sample.
     pub fn noload(&self) -> u64
         ensures number { result ≡ self.now.state.noload }
-        ensures hour { result ≤ 3600000000 }
+        ensures hour { result ≤ MAX_ROUND_TRIP }
     {
-        self.state.noload // microseconds
+        self.state.noload
     }
 
     /// Takes one more sample: a round trip in microseconds, how many posts were in flight as it began (its own counted), and
@@ -78,14 +70,14 @@ impl Estimator {
     /// drop lowers it by a step; with less than half of the limit in flight it stays; a queue of at most one step raises it by
     /// six steps, one below three steps by one, and one above six steps lowers it by one.
     pub fn sample(&mut self, rtt: u64, inflight: u32, dropped: bool)
-        requires { inflight ≤ 1000 }
+        requires { inflight ≤ MAX_LIMIT }
         ensures maximum { self.new.maximum ≡ self.old.maximum }
 
         // for every list that it stood for, it now stands for that list and this sample
         ensures follows { (xs : List Sample) → StandsFor self.old xs
             → StandsFor self.new (xs ++ sample_of rtt inflight dropped ∷ []) }
     {
-        let round_trip = rtt.clamp(1, LONGEST_ROUND_TRIP);
+        let round_trip = rtt.clamp(1, MAX_ROUND_TRIP);
         let count = self.state.probes + 1;
         if SAMPLES_BY_LIMIT * self.state.limit <= count {
             self.state.probes = 0;

@@ -7,10 +7,12 @@
 #![tactic(auto)]
 
 mod estimator;
+mod limits;
 mod rules;
 mod sample;
 mod state;
 
 pub use crate::estimator::Estimator;
+pub use crate::limits::{FIRST_LIMIT, MAX_ROUND_TRIP, SAMPLES_BY_LIMIT};
 pub use crate::sample::Sample;
 pub use crate::state::State;

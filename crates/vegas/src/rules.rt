@@ -2,10 +2,13 @@
 ghost use Rattle.std.specs.Prelude.{◌≡◌, ◌≤◌};
 ghost use Rattle.vegas.specs.Vegas.{queue, step_size, moved};
 
+use crate::limits::MAX_ROUND_TRIP;
+use relay_types::MAX_LIMIT;
+
 /// By how much a limit moves: the whole part of its decimal logarithm, at least 1.
 pub(crate) fn step_size(limit: u32) -> u32
     requires low { 1 ≤ limit }
-    requires high { limit ≤ 1000 }
+    requires high { limit ≤ MAX_LIMIT }
     ensures value { result ≡ step_size limit }
     ensures low { 1 ≤ result }
     ensures high { result ≤ limit }
@@ -17,9 +20,9 @@ pub(crate) fn step_size(limit: u32) -> u32
 /// How many of as many posts as the limit wait in the endpoint's queue, rounded up: the share of the round trip that is not
 /// the no-load time, both in microseconds.
 pub(crate) fn queue(limit: u32, round_trip: u64, noload: u64) -> u32
-    requires limit { limit ≤ 1000 }
+    requires limit { limit ≤ MAX_LIMIT }
     requires some { 1 ≤ round_trip }
-    requires hour { round_trip ≤ 3600000000 }
+    requires hour { round_trip ≤ MAX_ROUND_TRIP }
     requires above { noload ≤ round_trip }
     ensures value { result ≡ queue limit round_trip noload }
 {
@@ -30,8 +33,8 @@ pub(crate) fn queue(limit: u32, round_trip: u64, noload: u64) -> u32
 /// The limit that a queue asks for, not yet brought into its bounds.
 pub(crate) fn moved(limit: u32, queue: u32, inflight: u32, dropped: bool) -> u32
     requires low { 1 ≤ limit }
-    requires high { limit ≤ 1000 }
-    requires inflight { inflight ≤ 1000 }
+    requires high { limit ≤ MAX_LIMIT }
+    requires inflight { inflight ≤ MAX_LIMIT }
     ensures value { result ≡ moved limit queue inflight dropped }
 {
     let step = step_size(limit);

@@ -1,6 +1,6 @@
 use Rattle.std.proofs.Common.{◌≡◌, Result, Err, ap, sym, refl, ◌∙◌}
 use Rattle.std.proofs.lemmas.Result.{err_from_is_err_and}
-use Rattle.vegas.specs.Estimates.{sample_of}
+use Rattle.vegas.specs.Estimators.{sample_of}
 use Rattle.relay_commands.specs.Traces.{numbers_text}
 use Rattle.relay_commands.proofs.vegas_command.FollowerAnswerer.answer.Goals as goal
 

@@ -1,6 +1,6 @@
 use Rattle.std.proofs.Common.{◌≡◌, ◌≤◌, ◌<◌, inl, inr, sym, subst}
 use Rattle.std.specs.Prelude.{◌⊎◌}
-use Rattle.vegas.specs.Estimates.{StandsFor, sample_of}
+use Rattle.vegas.specs.Estimators.{StandsFor, sample_of}
 use Rattle.vegas.proofs.VegasLaws.{probe-follows, low-follows, other-follows}
 use Rattle.vegas.proofs.estimator.Estimator.sample.Goals as goal
 use Rattle.vegas.proofs.estimator.Estimator.sample.Goals.{then-self-eq0-via-then-self-eq0, then-self-eq0-via-else-self-eq0+then-round_trip-self}
