@@ -1,10 +1,11 @@
 -- Records inside a transaction: one by one, and then their number.
-use Rattle.std.proofs.Common.{◌≡◌, ◌<◌, ◌≤◌, ◌^◌, ℕ, zero, suc, ◌+◌, Bool, true, false, List, [], ◌∷◌, ◌++◌, length, take, Some, None, IsTrue, refl, sym, ap, subst, ◌∙◌, arith, append-nil, append_assoc, length-append, add-one}
+use Rattle.std.proofs.Common.{◌≡◌, ◌<◌, ◌≤◌, ℕ, zero, suc, ◌+◌, Bool, true, false, List, [], ◌∷◌, ◌++◌, length, take, Some, None, IsTrue, refl, sym, ap, subst, ◌∙◌, arith, append-nil, append_assoc, length-append, add-one}
 use Rattle.std.specs.Prelude.{slice_get, get_or}
 use Rattle.std.specs.List.{list_all}
 use Rattle.std.proofs.lemmas.List.Folds.{list_all-append}
 use Rattle.sqlite.specs.State.{State, IsUnchanged}
 use Rattle.sqlite.specs.Effect.{Database}
+use Rattle.relay_types.specs.declared.limits.TheConstants.{MAX_RECORDS}
 use Rattle.relay_types.specs.declared.record.Record.{Record}
 use Rattle.relay_types.specs.declared.record.Record.TheVariants.{Put, Accept}
 use Rattle.relay_types.specs.Records.{History, records_of}
@@ -41,7 +42,7 @@ IsChangeOf a next entry change = (count : ℕ) (records : List Record) → next 
 
 enters_made : (a b c : State) (next : ℕ) (entry : Record) (change : Rows → Rows) → IsTrue a.in_transaction → IsUnchanged a b
     → ((count : ℕ) (records : List Record) → HasRows a.now count records → true ≡ may_follow records entry)
-    → IsTrue (is_within_limits entry) → next < 2 ^ 62 → Alters b c change → IsChangeOf a next entry change → Enters a c next (entry ∷ []) true
+    → IsTrue (is_within_limits entry) → next < MAX_RECORDS → Alters b c change → IsChangeOf a next entry change → Enters a c next (entry ∷ []) true
 enters_made a b c next entry change inside same follows within room made is = record {
   on = goes_then a b c (goes_if_same a b inside same) made.on;
   judges = λ count records at has. sym (legal count records at has);
@@ -60,7 +61,7 @@ put_refused a b next name target max secrets inside same may = enters_refused a 
 
 pub put_made : (a b c : State) (next : ℕ) (name target : List ℕ) (max : ℕ) (secrets : List (List ℕ)) → IsTrue a.in_transaction → IsUnchanged a b
     → ((count : ℕ) (records : List Record) → HasRows a.now count records → true ≡ may_put records name)
-    → IsTrue (is_within_limits (Put name target max secrets)) → next < 2 ^ 62
+    → IsTrue (is_within_limits (Put name target max secrets)) → next < MAX_RECORDS
     → Alters b c (with_put next name target max secrets)
     → Enters a c next (Put name target max secrets ∷ []) true
 put_made a b c next name target max secrets inside same may within room made = enters_made a b c next (Put name target max secrets) _ inside same may within room made
@@ -72,7 +73,7 @@ accept_refused a b next name id body at inside same found = enters_refused a b n
 
 pub accept_made : (a b c : State) (next : ℕ) (name id body : List ℕ) (at put : ℕ) → IsTrue a.in_transaction → IsUnchanged a b
     → ((count : ℕ) (records : List Record) → HasRows a.now count records → Some put ≡ accepting records name id)
-    → IsTrue (is_within_limits (Accept name id body at)) → next < 2 ^ 62 → Alters b c (with_delivery (record { seq = next; endpoint = put; id = id; at = at; body = body }))
+    → IsTrue (is_within_limits (Accept name id body at)) → next < MAX_RECORDS → Alters b c (with_delivery (record { seq = next; endpoint = put; id = id; at = at; body = body }))
     → Enters a c next (Accept name id body at ∷ []) true
 accept_made a b c next name id body at put inside same found within room made =
     enters_made a b c next (Accept name id body at) _ inside same (λ count records has. (accepting-some records name id put (found count records has)).0) within room made
@@ -150,7 +151,7 @@ step_taken k steps entry is all =
     let parts = sym (list_all-append is_put_or_accept (records_of (take k steps)) ((entry ∷ []) ++ split.0)) ∙ ap (list_all is_put_or_accept) (sym split.1) ∙ all in
     and_first (is_put_or_accept entry) _ (and_second (list_all is_put_or_accept (records_of (take k steps))) (list_all is_put_or_accept ((entry ∷ []) ++ split.0)) parts)
 
-pub step_room : (k next : ℕ) (steps : History) (entry : Record) → slice_get steps k ≡ Some (entry ∷ []) → next + length (records_of steps) ≤ 2 ^ 62 → next + length (records_of (take k steps)) < 2 ^ 62
+pub step_room : (k next : ℕ) (steps : History) (entry : Record) → slice_get steps k ≡ Some (entry ∷ []) → next + length (records_of steps) ≤ MAX_RECORDS → next + length (records_of (take k steps)) < MAX_RECORDS
 step_room k next steps entry is room =
     let split = records_split k steps (entry ∷ []) is in
     omega (arith, room, ap length split.1, length-append (records_of (take k steps)) (entry ∷ split.0))

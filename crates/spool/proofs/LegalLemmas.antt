@@ -7,6 +7,7 @@ use Rattle.std.proofs.lemmas.Bool.{ne_eqb, eq-eqb}
 use Rattle.std.proofs.lemmas.List.{length-map}
 use Rattle.std.proofs.lemmas.List.Elements.{filter-append}
 use Rattle.std.proofs.lemmas.Slice.Eq.{bytes_eq-Decides}
+use Rattle.relay_types.specs.declared.limits.TheConstants.{MAX_ENDPOINTS}
 use Rattle.relay_types.specs.declared.record.Record.{Record}
 use Rattle.relay_types.specs.declared.record.Record.TheVariants.{Put, Secrets, Enabled, Accept, Outcome}
 use Rattle.relay_types.specs.Records.{numbered}
@@ -120,7 +121,7 @@ has_event-is records name id known has =
 -- the look-ups allow what may follow
 
 pub allows_put-is : (records : List Record) (name : List ℕ) → allows_put (rows_of records) name ≡ may_put records name
-allows_put-is records name = λ i. not (has_name-is records name i) && nat_lt (length-map (endpoints records) (endpoint_row records) i) 256
+allows_put-is records name = λ i. not (has_name-is records name i) && nat_lt (length-map (endpoints records) (endpoint_row records) i) MAX_ENDPOINTS
 
 allows_accept-is : (records : List Record) (name id : List ℕ) → IsLegal records → allows_accept (rows_of records) name id ≡ may_accept records name id
 allows_accept-is records name id legal = by (has_endpoint records name) refl

@@ -6,6 +6,7 @@ use Rattle.std.specs.List.{list_any}
 use Rattle.std.specs.List.Sorted.{IsPermutation}
 use Rattle.std.proofs.lemmas.List.Sorted.{length_permutation, sum_by-IsPermutation}
 use Rattle.std.proofs.lemmas.List.{length-map}
+use Rattle.relay_types.specs.declared.limits.TheConstants.{MAX_ENDPOINTS}
 use Rattle.relay_types.specs.Rows.{Rows, EndpointRow, DeliveryRow, put_by_name}
 use Rattle.spool_sql.specs.Stored.{endpoints_named, IsPutOf}
 
@@ -23,7 +24,7 @@ HasEachNameOnce rows = (name : List ℕ) → length (endpoints_named name rows) 
 
 -- what the look-ups say of a Put, and of an Accept
 abbrev pub allows_put : Rows → List ℕ → Bool
-allows_put rows name = not (has_name rows name) && nat_lt (length rows.endpoints) 256
+allows_put rows name = not (has_name rows name) && nat_lt (length rows.endpoints) MAX_ENDPOINTS
 
 abbrev pub allows_accept : Rows → List ℕ → List ℕ → Bool
 allows_accept rows name id = has_name rows name && not (has_event rows (put_by_name rows name) id)
@@ -56,10 +57,10 @@ has_name-found rows name found h =
     ∙ ap is_some (sym (find_is_first (λ (e : EndpointRow). bytes_eq e.name name) rows.endpoints))
 
 pub may_put-taken : (rows : Rows) (name : List ℕ) (found : Option ℕ) → IsPutOf name rows found → is_some found ≡ true → false ≡ allows_put rows name
-may_put-taken rows name found h is = ap (λ b. not b && nat_lt (length rows.endpoints) 256) (sym is ∙ has_name-found rows name found h)
+may_put-taken rows name found h is = ap (λ b. not b && nat_lt (length rows.endpoints) MAX_ENDPOINTS) (sym is ∙ has_name-found rows name found h)
 
-pub may_put-free : (rows : Rows) (name : List ℕ) (found : Option ℕ) (count : ℕ) → IsPutOf name rows found → is_some found ≡ false → count ≡ length rows.endpoints → nat_lt count 256 ≡ allows_put rows name
-may_put-free rows name found count h is counted = ap (λ n. nat_lt n 256) counted ∙ ap (λ b. not b && nat_lt (length rows.endpoints) 256) (sym is ∙ has_name-found rows name found h)
+pub may_put-free : (rows : Rows) (name : List ℕ) (found : Option ℕ) (count : ℕ) → IsPutOf name rows found → is_some found ≡ false → count ≡ length rows.endpoints → nat_lt count MAX_ENDPOINTS ≡ allows_put rows name
+may_put-free rows name found count h is counted = ap (λ n. nat_lt n MAX_ENDPOINTS) counted ∙ ap (λ b. not b && nat_lt (length rows.endpoints) MAX_ENDPOINTS) (sym is ∙ has_name-found rows name found h)
 
 -- of one name at most, the number that was found is that of the name
 only_put : (named : List EndpointRow) (puts : List ℕ) (put : ℕ) → length named ≤ 1 → IsPermutation (map put_in named) puts → Some put ≡ slice_get puts 0 → Some put ≡ slice_get (map put_in named) 0

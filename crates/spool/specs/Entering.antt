@@ -6,6 +6,7 @@ use Rattle.sqlite.specs.Held.{Held}
 use Rattle.sqlite.specs.Effect.{Database}
 use Rattle.sqlite_trees.specs.declared.store.Store.{Ghosts}
 use Rattle.sqlite.specs.Tree.{Trees}
+use Rattle.relay_types.specs.declared.limits.TheConstants.{MAX_ENDPOINTS}
 use Rattle.relay_types.specs.declared.record.Record.{Record}
 use Rattle.relay_types.specs.Deliveries.{known_as}
 use Rattle.relay_types.specs.Endpoints.{endpoints, has_endpoint}
@@ -23,7 +24,7 @@ use Rattle.spool.specs.declared.transaction.WriteEnd.TheVariants.{Committed, Ill
 
 -- whether an endpoint of this name may be put behind the records
 abbrev pub may_put : List Record → List ℕ → Bool
-may_put records name = not (has_endpoint records name) && nat_lt (length (endpoints records)) 256
+may_put records name = not (has_endpoint records name) && nat_lt (length (endpoints records)) MAX_ENDPOINTS
 
 -- whether an event of this id may be taken in behind the records for the endpoint of this name
 abbrev pub may_accept : List Record → List ℕ → List ℕ → Bool

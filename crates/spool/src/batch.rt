@@ -1,5 +1,6 @@
 //! What goes into a commit, and what stands after it.
-ghost use Rattle.std.specs.Prelude.{◌≡◌, ◌≤◌, ◌<◌, ◌+◌, ◌^◌, [], ◌∷◌, length};
+ghost use Rattle.std.specs.Prelude.{◌≡◌, ◌≤◌, ◌<◌, ◌+◌, [], ◌∷◌, length};
+ghost use Rattle.relay_types.specs.declared.limits.TheConstants.{MAX_RECORDS};
 ghost use Rattle.relay_types.specs.Records.{records_of};
 ghost use Rattle.spool.specs.Runs.{ArePutsAndAccepts, span_of};
 
@@ -17,20 +18,21 @@ pub struct Batch {
 }
 
 impl Model for Batch {
-    ghost use Rattle.std.specs.Prelude.{◌<◌, ◌^◌, [], ◌∷◌};
+    ghost use Rattle.std.specs.Prelude.{◌<◌, [], ◌∷◌};
+    ghost use Rattle.relay_types.specs.declared.limits.TheConstants.{MAX_RECORDS};
     ghost use Rattle.spool.specs.Runs.{Run, ArePutsAndAccepts};
 
     ghost Value = { Run };
 
     ghost view = { λ b. record { mark = b.mark; from = b.from; steps = b.step ∷ [] } };
 
-    ghost invariant = { λ b. (b.from < 2 ^ 62) × ArePutsAndAccepts (b.step ∷ []) };
+    ghost invariant = { λ b. (b.from < MAX_RECORDS) × ArePutsAndAccepts (b.step ∷ []) };
 }
 
 impl Batch {
     /// A batch of this step, which is a Put or an Accept.
     pub fn of(mark: u64, from: u64, step: Step) -> Batch
-        requires room { from < 2 ^ 62 }
+        requires room { from < MAX_RECORDS }
         requires kind { ArePutsAndAccepts (step ∷ []) }
         ensures { result ≡ record { mark = mark; from = from; steps = step ∷ [] } }
     {
@@ -47,7 +49,7 @@ impl Batch {
     /// The number of the first record.
     pub fn from(&self) -> u64
         ensures number { result ≡ self.now.from }
-        ensures room { result < 2 ^ 62 }
+        ensures room { result < MAX_RECORDS }
     {
         self.from
     }
@@ -55,7 +57,7 @@ impl Batch {
     /// The number after the last record. A step has one record.
     pub fn upto(&self) -> u64
         ensures number { result ≡ (span_of self.now).upto }
-        ensures room { result ≤ 2 ^ 62 }
+        ensures room { result ≤ MAX_RECORDS }
     {
         self.step.record();
         self.from + 1
@@ -102,7 +104,7 @@ impl Receipt {
     /// The number of the first record.
     pub fn from(&self) -> u64
         ensures number { result ≡ self.now.from }
-        ensures room { result < 2 ^ 62 }
+        ensures room { result < MAX_RECORDS }
     {
         self.batch.from()
     }

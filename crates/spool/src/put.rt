@@ -1,16 +1,14 @@
 //! A Put inside the transaction that writes it: whether it may follow the rows, and its rows.
-ghost use Rattle.std.specs.Prelude.{◌≡◌, ◌<◌, ◌^◌, ◌&&◌, [], ◌∷◌, IsTrue, OnOk};
+ghost use Rattle.std.specs.Prelude.{◌≡◌, ◌<◌, ◌&&◌, [], ◌∷◌, IsTrue, OnOk};
+ghost use Rattle.relay_types.specs.declared.limits.TheConstants.{MAX_RECORDS};
 ghost use Rattle.relay_types.specs.declared.record.Record.TheVariants as on;
 ghost use Rattle.relay_types.specs.Values.{are_secrets, is_name, is_target, is_max_limit};
 ghost use Rattle.spool_sql.specs.Steps.{Alters, Answers, Achieves, Changes, IsOfSame, LeavesAll, SparesCommit};
 ghost use Rattle.spool.specs.Entering.{Enters, LooksAt, may_put, with_put, with_secrets};
 
-use relay_types::{MaxLimit, Name, Secrets, Target};
+use relay_types::{MAX_ENDPOINTS, MaxLimit, Name, Secrets, Target};
 use spool_sql::{Seq, count_endpoints, insert_endpoint, insert_secret, select_put};
 use sqlite::{Alter, Error, Transaction};
-
-// The most endpoints of a history.
-const MOST_ENDPOINTS: usize = 256;
 
 // Writes the Put with this number, if it may follow the rows.
 pub(crate) fn write_put<S: Alter>(
@@ -45,7 +43,7 @@ fn may_put<S: Alter>(tx: &mut Transaction<'_, S>, name: &Name) -> Result<bool, E
         return Ok(false);
     }
     let count = count_endpoints(tx)?;
-    Ok(count < MOST_ENDPOINTS)
+    Ok(count < MAX_ENDPOINTS)
 }
 
 // The rows of a Put.
@@ -60,7 +58,7 @@ fn insert_put<S: Alter>(
     ensures same_reference { IsOfSame tx.old.conn tx.new.conn }
     ensures done { Changes S.Store tx.old.conn.now tx.new.conn.now result
         (with_put seq name.now target.now max secrets.now) }
-    ensures room { OnOk result (seq < 2 ^ 62) }
+    ensures room { OnOk result (seq < MAX_RECORDS) }
     ensures limits { OnOk result
         (IsTrue (is_name name.now && (is_target target.now && (is_max_limit max && are_secrets secrets.now)))) }
     ensures spares { SparesCommit S.Store tx.old.conn.now tx.new.conn.now }

@@ -1,5 +1,6 @@
 //! The records of steps, one after another inside a transaction, and then how many there are.
-ghost use Rattle.std.specs.Prelude.{◌<◌, ◌≤◌, ◌+◌, ◌^◌, [], ◌∷◌, length, IsTrue};
+ghost use Rattle.std.specs.Prelude.{◌<◌, ◌≤◌, ◌+◌, [], ◌∷◌, length, IsTrue};
+ghost use Rattle.relay_types.specs.declared.limits.TheConstants.{MAX_RECORDS};
 ghost use Rattle.relay_types.specs.Records.{records_of};
 ghost use Rattle.spool_sql.specs.Steps.{Answers, IsOfSame, SparesCommit};
 ghost use Rattle.spool.specs.Runs.{is_put_or_accept, ArePutsAndAccepts};
@@ -41,7 +42,7 @@ pub(crate) fn write_records<S: Alter>(
     next: u64,
     steps: &[Step],
 ) -> Result<bool, Error>
-    requires room { next + length (records_of steps.now) ≤ 2 ^ 62 }
+    requires room { next + length (records_of steps.now) ≤ MAX_RECORDS }
     requires taken { ArePutsAndAccepts steps.now }
     ensures same_reference { IsOfSame tx.old.conn tx.new.conn }
     ensures done { Answers S.Store tx.old.conn.now tx.new.conn.now result

@@ -1,7 +1,8 @@
 //! Some steps as one transaction, and what is told of it.
-ghost use Rattle.std.specs.Prelude.{◌≡◌, ◌≢◌, ◌≤◌, ◌+◌, ◌^◌, length, true, false, IsTrue, IfOk, Ok};
+ghost use Rattle.std.specs.Prelude.{◌≡◌, ◌≢◌, ◌≤◌, ◌+◌, length, true, false, IsTrue, IfOk, Ok};
 ghost use Rattle.sqlite.specs.State.{HasCleanDisk, IsUnchanged};
 ghost use Rattle.sqlite.specs.Held.{state};
+ghost use Rattle.relay_types.specs.declared.limits.TheConstants.{MAX_RECORDS};
 ghost use Rattle.relay_types.specs.Records.{records_of};
 ghost use Rattle.spool_sql.specs.Steps.{IfClean, SurvivesAs};
 ghost use Rattle.spool.specs.Runs.{ArePutsAndAccepts};
@@ -29,7 +30,7 @@ pub(crate) enum WriteEnd {
 /// nothing was written.
 pub(crate) fn write_steps<S: Alter>(conn: &mut Connection<S>, next: u64, steps: &[Step]) -> WriteEnd
     requires settled { conn.old.in_transaction ≡ false }
-    requires room { next + length (records_of steps.now) ≤ 2 ^ 62 }
+    requires room { next + length (records_of steps.now) ≤ MAX_RECORDS }
     requires taken { ArePutsAndAccepts steps.now }
     ensures ends { IfClean S.Store conn.old conn.new (λ a b. EndsAs a b next (records_of steps.now) result) }
     ensures clean { IfClean S.Store conn.old conn.new (λ a _. HasCleanDisk a) }
@@ -46,7 +47,7 @@ fn commit_steps<S: Alter>(
     steps: &[Step],
 ) -> Result<bool, Error>
     requires settled { conn.old.in_transaction ≡ false }
-    requires room { next + length (records_of steps.now) ≤ 2 ^ 62 }
+    requires room { next + length (records_of steps.now) ≤ MAX_RECORDS }
     requires taken { ArePutsAndAccepts steps.now }
     ensures done { IfClean S.Store conn.old conn.new (λ a b. IfOk result (Commits a b next (records_of steps.now))) }
     ensures undone { IfClean S.Store conn.old conn.new

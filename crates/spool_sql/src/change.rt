@@ -1,5 +1,6 @@
 //! The rows that are changed or taken out.
-ghost use Rattle.std.specs.Prelude.{◌<◌, ◌^◌};
+ghost use Rattle.std.specs.Prelude.{◌<◌};
+ghost use Rattle.relay_types.specs.declared.limits.TheConstants.{MAX_RECORDS};
 ghost use Rattle.spool_sql.specs.Stored.{with_enabled, with_secrets_by, without_secrets};
 ghost use Rattle.spool_sql.specs.Steps.{Changes, IsOfSame, SparesCommit};
 
@@ -16,7 +17,7 @@ pub fn update_enabled<S: Alter>(
 ) -> Result<(), Error>
     ensures same_reference { IsOfSame tx.old.conn tx.new.conn }
     ensures done { Changes S.Store tx.old.conn.now tx.new.conn.now result (with_enabled put flag by) }
-    ensures room { by < 2 ^ 62 }
+    ensures room { by < MAX_RECORDS }
     ensures spares { SparesCommit S.Store tx.old.conn.now tx.new.conn.now }
 {
     tx.execute(
@@ -34,7 +35,7 @@ pub fn update_secrets_by<S: Alter>(
 ) -> Result<(), Error>
     ensures same_reference { IsOfSame tx.old.conn tx.new.conn }
     ensures done { Changes S.Store tx.old.conn.now tx.new.conn.now result (with_secrets_by put by) }
-    ensures room { by < 2 ^ 62 }
+    ensures room { by < MAX_RECORDS }
     ensures spares { SparesCommit S.Store tx.old.conn.now tx.new.conn.now }
 {
     tx.execute(

@@ -5,12 +5,9 @@ ghost use Rattle.spool_sql.specs.Stored.{IsPutOf, has_id, number_of};
 ghost use Rattle.spool_sql.specs.Steps.{LeavesAll, LooksUp, IsOfSame, SparesCommit};
 
 use crate::seq::Seq;
-use relay_types::{MsgId, Name};
+use relay_types::{MAX_RECORDS, MsgId, Name};
 use sqlite::{Alter, Error, Row, Transaction};
 use sqlite_value::value::ValueRef;
-
-// No number of a record is so large.
-const MOST_NUMBER: u64 = 1 << 62;
 
 /// The number of the record that made the endpoint of this name, if the table has one.
 pub fn select_put<S: Alter>(tx: &mut Transaction<'_, S>, name: &Name) -> Result<Option<Seq>, Error>
@@ -35,7 +32,7 @@ pub(crate) fn first_seq(rows: &[Row]) -> Result<Option<Seq>, Error>
         return Ok(None);
     };
     let number: u64 = row.get(0)?;
-    if number >= MOST_NUMBER {
+    if number >= MAX_RECORDS {
         return Err(Error::IntegralValueOutOfRange(0));
     }
     Ok(Some(Seq::of(number)))

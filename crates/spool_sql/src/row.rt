@@ -5,14 +5,11 @@ ghost use Rattle.sqlite_trees.specs.Objects.{number_in};
 ghost use Rattle.spool_sql.specs.Stored.{endpoint_in, endpoint_of, delivery_in, delivery_of, attempt_in, attempt_of};
 
 use crate::seq::Seq;
-use relay_types::{Body, MaxLimit, Moment, MsgId, Name, ReadFault, Secret, Target};
+use relay_types::{Body, MAX_RECORDS, MaxLimit, Moment, MsgId, Name, ReadFault, Secret, Target};
 use sqlite::{Error, ErrorCode, Row};
 use sqlite_value::value::ValueRef;
 use std::alloc::Global;
 use std::sync::Arc;
-
-// No number of a record is so large.
-const MOST_NUMBER: u64 = 1 << 62;
 
 /// Why the rows of a table were not read.
 #[derive(Debug, Drop)]
@@ -72,7 +69,7 @@ fn read_seq(row: &Row, at: usize) -> Result<Seq, RowFault>
     ensures { IfOk result (λ seq. seq ≡ number_in (column row.now at)) }
 {
     let number: u64 = row.get(at)?;
-    if number >= MOST_NUMBER {
+    if number >= MAX_RECORDS {
         return Err(RowFault::Unreadable);
     }
     Ok(Seq::of(number))

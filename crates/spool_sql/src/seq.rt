@@ -1,26 +1,28 @@
 //! The numbers of records.
-ghost use Rattle.std.specs.Prelude.{◌≡◌, ◌<◌, ◌^◌, pos};
+ghost use Rattle.std.specs.Prelude.{◌≡◌, ◌<◌, pos};
 ghost use Rattle.sqlite.specs.declared.types.Value.TheVariants.{Int};
 ghost use Rattle.sqlite_value.specs.Value.{owned};
+ghost use Rattle.relay_types.specs.declared.limits.TheConstants.{MAX_RECORDS};
 
 use crate::value::int;
 use sqlite_value::value::ValueRef;
 use std::marker::Model;
 
-/// The sequence number of a record, which is its place among all records: below 2^62.
+/// The sequence number of a record, which is its place among all records: below `MAX_RECORDS`.
 #[derive(Clone, Copy, PartialEq, Eq, Debug)]
 pub struct Seq {
     number: u64,
 }
 
 impl Model for Seq {
-    ghost use Rattle.std.specs.Prelude.{ℕ, ◌<◌, ◌^◌};
+    ghost use Rattle.std.specs.Prelude.{ℕ, ◌<◌};
+    ghost use Rattle.relay_types.specs.declared.limits.TheConstants.{MAX_RECORDS};
 
     ghost Value = { ℕ };
 
     ghost view = { λ s. s.number };
 
-    ghost invariant = { λ s. s.number < 2 ^ 62 };
+    ghost invariant = { λ s. s.number < MAX_RECORDS };
 
     ghost inverse = { λ n. record { number = n } };
 }
@@ -28,7 +30,7 @@ impl Model for Seq {
 impl Seq {
     /// The sequence number that is this number.
     pub fn of(number: u64) -> Seq
-        requires { number < 2 ^ 62 }
+        requires { number < MAX_RECORDS }
         ensures { result ≡ number }
     {
         Seq { number }
@@ -37,7 +39,7 @@ impl Seq {
     /// The number.
     pub fn get(self) -> u64
         ensures number { result ≡ self }
-        ensures bound { self < 2 ^ 62 }
+        ensures bound { self < MAX_RECORDS }
     {
         self.number
     }
@@ -45,7 +47,7 @@ impl Seq {
     // As SQL reads it.
     pub(crate) fn value<'a>(self) -> ValueRef<'a>
         ensures value { owned result ≡ Int (pos self) }
-        ensures bound { self < 2 ^ 62 }
+        ensures bound { self < MAX_RECORDS }
     {
         int(self.number)
     }

@@ -1,5 +1,6 @@
 //! The rows that are added or changed.
 ghost use Rattle.std.specs.Prelude.{◌≡◌, ◌<◌, ◌≤◌, ◌^◌, ◌&&◌, IsTrue};
+ghost use Rattle.relay_types.specs.declared.limits.TheConstants.{MAX_RECORDS};
 ghost use Rattle.relay_types.specs.Values.{is_name, is_target, is_max_limit, is_secret, is_msg_id, is_body, is_moment};
 ghost use Rattle.spool_sql.specs.Stored.{new_endpoint, with_endpoint, with_secret, with_delivery, with_attempt, with_records};
 ghost use Rattle.spool_sql.specs.Steps.{Changes, IsOfSame, SparesCommit};
@@ -21,7 +22,7 @@ pub fn insert_endpoint<S: Alter>(
     ensures same_reference { IsOfSame tx.old.conn tx.new.conn }
     ensures done { Changes S.Store tx.old.conn.now tx.new.conn.now result
         (with_endpoint (new_endpoint put name.now target.now max)) }
-    ensures room { put < 2 ^ 62 }
+    ensures room { put < MAX_RECORDS }
     ensures limits { IsTrue (is_name name.now && (is_target target.now && is_max_limit max)) }
     ensures spares { SparesCommit S.Store tx.old.conn.now tx.new.conn.now }
 {
@@ -75,7 +76,7 @@ pub fn insert_delivery<S: Alter>(
     ensures same_reference { IsOfSame tx.old.conn tx.new.conn }
     ensures done { Changes S.Store tx.old.conn.now tx.new.conn.now result
         (with_delivery (record { seq = seq; endpoint = endpoint; id = id.now; at = at; body = body.now })) }
-    ensures room { seq < 2 ^ 62 }
+    ensures room { seq < MAX_RECORDS }
     ensures limits { IsTrue (is_msg_id id.now && (is_body body.now && is_moment at)) }
     ensures spares { SparesCommit S.Store tx.old.conn.now tx.new.conn.now }
 {
@@ -106,7 +107,7 @@ pub fn insert_attempt<S: Alter>(
     ensures same_reference { IsOfSame tx.old.conn tx.new.conn }
     ensures done { Changes S.Store tx.old.conn.now tx.new.conn.now result
         (with_attempt (record { seq = seq; delivery = delivery; number = number; status = status; at = at })) }
-    ensures room { seq < 2 ^ 62 }
+    ensures room { seq < MAX_RECORDS }
     ensures limits { IsTrue (is_moment at) }
     ensures spares { SparesCommit S.Store tx.old.conn.now tx.new.conn.now }
 {
@@ -125,7 +126,7 @@ pub fn insert_attempt<S: Alter>(
 
 /// Sets how many records the tables hold.
 pub fn update_records<S: Alter>(tx: &mut Transaction<'_, S>, records: u64) -> Result<(), Error>
-    requires records { records ≤ 2 ^ 62 }
+    requires records { records ≤ MAX_RECORDS }
     ensures same_reference { IsOfSame tx.old.conn tx.new.conn }
     ensures done { Changes S.Store tx.old.conn.now tx.new.conn.now result (with_records records) }
     ensures spares { SparesCommit S.Store tx.old.conn.now tx.new.conn.now }
