@@ -8,14 +8,14 @@ use Rattle.relay_types.specs.Records.{records_of}
 use Rattle.delivery_book.specs.Book as book
 use Rattle.delivery_book.specs.Entries.{with_settled}
 use Rattle.delivery_book.proofs.Laws.{stands_settled}
-use Rattle.spool.specs.Runs.{Run}
+use Rattle.spool.specs.Batches.{BatchValue}
 use Rattle.desk.specs.declared.refusal.Fault.TheVariants as fault
 use Rattle.desk.specs.declared.refusal.Refusal.{Refusal}
 use Rattle.desk.specs.declared.refusal.WrongTurn.{WrongTurn}
 use Rattle.desk.specs.Faults.{refusal, first_fault}
 use Rattle.desk.specs.World.{World, all_records, settled_records, sealed_records}
-use Rattle.desk.specs.Moves.{is_nothing_out, with_batch, seal, seal_faults, seal_waiting, sealed_run}
-use Rattle.desk.specs.Desks.{DeskValue, StandsFor, IsMove, Checks, Settles, steps_of, run_of}
+use Rattle.desk.specs.Moves.{is_nothing_out, with_batch, seal, seal_faults, seal_waiting, sealed_batch}
+use Rattle.desk.specs.Desks.{DeskValue, StandsFor, IsMove, Checks, Settles, steps_of, batch_of}
 use Rattle.desk.proofs.MoveLaws.{refuses, passes, makes, lacks, becomes}
 use Rattle.desk.proofs.DeskLaws.{settled_within, all_settled}
 
@@ -45,7 +45,7 @@ pub seal_refused : (d : DeskValue) (r : Refusal) → Checks d seal_faults (Err r
 seal_refused d r checks = refuses d seal_faults (λ w. seal_waiting d.mark w (eqb (length w.history) w.settled)) r checks
 
 -- what is behind the faults of a seal is its move
-pub seal_passes : (d new : DeskValue) (u : Unit {0}) (some : Option (List Record)) (reply : Result (Option Run) Refusal) → Checks d seal_faults (Ok u) → d.waiting ≡ some
+pub seal_passes : (d new : DeskValue) (u : Unit {0}) (some : Option (List Record)) (reply : Result (Option BatchValue) Refusal) → Checks d seal_faults (Ok u) → d.waiting ≡ some
     → IsMove d (λ w. seal_waiting d.mark w (is_none some)) reply new → IsMove d (seal d.mark) reply new
 seal_passes d new u some reply checks waiting move =
     passes d new seal_faults (λ w. seal_waiting d.mark w (eqb (length w.history) w.settled)) u reply checks
@@ -63,16 +63,16 @@ seal_lacks d u step checks some =
 all_sealed : {d : DeskValue} {w : World} (step : List Record) → StandsFor d w → d.waiting ≡ Some step → (with_batch w).sealed ≡ length w.history
 all_sealed {d} {w} step h some = omega (arith, one_waits step h some)
 
-sealed_is : {d : DeskValue} {w : World} (step : List Record) → StandsFor d w → d.waiting ≡ Some step → sealed_run d.mark (with_batch w) ≡ run_of d
+sealed_is : {d : DeskValue} {w : World} (step : List Record) → StandsFor d w → d.waiting ≡ Some step → sealed_batch d.mark (with_batch w) ≡ batch_of d
 sealed_is {d} {w} step h some =
     let all : take (with_batch w).sealed w.history ≡ w.history = take_all (with_batch w).sealed w.history (omega (arith, all_sealed step h some)) in
     λ i. record { mark = d.mark; from = sym h.settled i; steps = (ap (drop w.settled) all ∙ h.waiting) i }
 
-pub seal_makes : (d : DeskValue) (u : Unit {0}) (step : List Record) → Checks d seal_faults (Ok u) → d.waiting ≡ Some step → IsMove d (seal d.mark) (Ok (Some (run_of d))) (record d { is_out = true })
+pub seal_makes : (d : DeskValue) (u : Unit {0}) (step : List Record) → Checks d seal_faults (Ok u) → d.waiting ≡ Some step → IsMove d (seal d.mark) (Ok (Some (batch_of d))) (record d { is_out = true })
 seal_makes d u step checks some =
-    seal_passes d (record d { is_out = true }) u (Some step) (Ok (Some (run_of d))) checks some
-    (makes d (record d { is_out = true }) (λ w. seal_waiting d.mark w false) (Some (run_of d)) (λ w h. (
-      ap (λ run. Ok (Some run)) (sealed_is step h some),
+    seal_passes d (record d { is_out = true }) u (Some step) (Ok (Some (batch_of d))) checks some
+    (makes d (record d { is_out = true }) (λ w. seal_waiting d.mark w false) (Some (batch_of d)) (λ w h. (
+      ap (λ b. Ok (Some b)) (sealed_is step h some),
       record {
         clock = h.clock;
         endpoints = h.endpoints;
@@ -104,13 +104,13 @@ out_waits {d} {w} h out =
     at_most None = omega arith
     at_most (Some step) = omega arith
 
--- what is out is the run of what waits
-out_is : {d : DeskValue} {w : World} → StandsFor d w → d.is_out ≡ true → sealed_run d.mark w ≡ run_of d
+-- what is out is the batch of what waits
+out_is : {d : DeskValue} {w : World} → StandsFor d w → d.is_out ≡ true → sealed_batch d.mark w ≡ batch_of d
 out_is {d} {w} h out =
     let all : take w.sealed w.history ≡ w.history = take_all w.sealed w.history (omega (arith, out_waits h out)) in
     λ i. record { mark = d.mark; from = sym h.settled i; steps = (ap (drop w.settled) all ∙ h.waiting) i }
 
-pub settle-made : (d : DeskValue) (receipt : Run) → d.is_out ≡ true → receipt ≡ run_of d → Settles d receipt (Ok d.records) (with_all_settled d)
+pub settle-made : (d : DeskValue) (receipt : BatchValue) → d.is_out ≡ true → receipt ≡ batch_of d → Settles d receipt (Ok d.records) (with_all_settled d)
 settle-made d receipt is_out is = λ w h.
     let sealed : w.sealed ≡ length w.history = out_waits h is_out in
     let all : sealed_records w ≡ all_records w = ap records_of (take_all w.sealed w.history (omega (arith, sealed))) in
@@ -140,7 +140,7 @@ settle-made d receipt is_out is = λ w h.
     is_taken true e = sym e
 
 -- a receipt that the desk doesn't take isn't that of what is out
-pub settle-turned : (d : DeskValue) (receipt : Run) (back : Run × WrongTurn) → (d.is_out ≡ true → receipt ≡ run_of d → ⊥) → Settles d receipt (Err back) d
+pub settle-turned : (d : DeskValue) (receipt : BatchValue) (back : BatchValue × WrongTurn) → (d.is_out ≡ true → receipt ≡ batch_of d → ⊥) → Settles d receipt (Err back) d
 settle-turned d receipt back wrong = λ w h. (
   (λ is. let out : d.is_out ≡ true = h.is_out ∙ ap not is.0 in wrong out (is.1 ∙ out_is h out)),
   h,
@@ -148,5 +148,5 @@ settle-turned d receipt back wrong = λ w h. (
 
 -- the same answer and desk, in other words
 
-pub settles_so : (old new : DeskValue) (receipt : Run) (n : ℕ) → Settles old receipt (Ok n) new → (a : ℕ) (b : DeskValue) → a ≡ n → b ≡ new → Settles old receipt (Ok a) b
+pub settles_so : (old new : DeskValue) (receipt : BatchValue) (n : ℕ) → Settles old receipt (Ok n) new → (a : ℕ) (b : DeskValue) → a ≡ n → b ≡ new → Settles old receipt (Ok a) b
 settles_so old new receipt n s a b e f = subst (λ (x : ℕ). Settles old receipt (Ok x) b) (sym e) (subst (λ (y : DeskValue). Settles old receipt (Ok n) y) (sym f) s)

@@ -21,7 +21,7 @@ use Rattle.delivery_book.specs.Book as book
 use Rattle.delivery_book.specs.Book.{row_of}
 use Rattle.delivery_book.specs.declared.row.Row.{Row}
 use Rattle.delivery_book.proofs.Laws.{stands_accept, stands_other}
-use Rattle.spool.specs.Runs.{is_put_or_accept}
+use Rattle.spool.specs.Batches.{is_put_or_accept}
 use Rattle.desk.specs.declared.command.Command.TheVariants.{PutEndpoint}
 use Rattle.desk.specs.declared.limits.TheConstants.{MAX_PENDING, MAX_PENDING_ALL}
 use Rattle.desk.specs.declared.refusal.Fault.TheVariants as fault

@@ -9,12 +9,12 @@ use Rattle.relay_types.specs.Endpoints.{endpoints}
 use Rattle.relay_types.specs.Legal.{IsLegal}
 use Rattle.delivery_book.specs.Entries.{BookValue, with_entry}
 use Rattle.delivery_book.specs.Book as book
-use Rattle.spool.specs.Runs.{Run, is_put_or_accept, ArePutsAndAccepts}
+use Rattle.spool.specs.Batches.{BatchValue, is_put_or_accept, ArePutsAndAccepts}
 use Rattle.desk.specs.declared.refusal.Refusal.{Refusal}
 use Rattle.desk.specs.declared.refusal.WrongTurn.{WrongTurn}
 use Rattle.desk.specs.Faults.{Faults, first_fault}
 use Rattle.desk.specs.World.{World, all_records, settled_records, sealed_records, waiting_records}
-use Rattle.desk.specs.Moves.{Answer, MayGive, with_sealed_settled, is_nothing_out, sealed_run}
+use Rattle.desk.specs.Moves.{Answer, MayGive, with_sealed_settled, is_nothing_out, sealed_batch}
 
 -- The names stand in the order of their Puts; `waiting` is the step that isn't settled, and `is_out` whether it was sealed.
 pub record DeskValue : Type 0 where
@@ -61,18 +61,18 @@ abbrev pub IsMove : {A : Type 0} → DeskValue → (World → Answer A) → Resu
 IsMove old move reply new = (w : World) → StandsFor old w → (next : World) × MayGive w (move w) reply next × StandsFor new next
 
 -- the receipt is that of what is out: it is of this opening, and has the sealed steps
-abbrev pub IsReceiptOf : ℕ → World → Run → Type 0
-IsReceiptOf mark w receipt = (is_nothing_out w.out ≡ false) × (receipt ≡ sealed_run mark w)
+abbrev pub IsReceiptOf : ℕ → World → BatchValue → Type 0
+IsReceiptOf mark w receipt = (is_nothing_out w.out ≡ false) × (receipt ≡ sealed_batch mark w)
 
 -- From each world for which the desk stood: the receipt of what is out settles it, and every other comes back.
-abbrev pub Settles : DeskValue → Run → Result ℕ (Run × WrongTurn) → DeskValue → Type 0
+abbrev pub Settles : DeskValue → BatchValue → Result ℕ (BatchValue × WrongTurn) → DeskValue → Type 0
 Settles old receipt (Ok to) new =
     (w : World) → StandsFor old w → IsReceiptOf old.mark w receipt × (to ≡ length (sealed_records w)) × StandsFor new (with_sealed_settled w)
 Settles old receipt (Err back) new = (w : World) → StandsFor old w → ¬ IsReceiptOf old.mark w receipt × StandsFor new w
 
 -- what the desk puts into a batch, and what its receipt says
-abbrev pub run_of : DeskValue → Run
-run_of desk = record { mark = desk.mark; from = desk.settled; steps = steps_of desk.waiting }
+abbrev pub batch_of : DeskValue → BatchValue
+batch_of desk = record { mark = desk.mark; from = desk.settled; steps = steps_of desk.waiting }
 
 -- What the desk's own steps look for and make.
 

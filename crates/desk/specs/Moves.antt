@@ -10,7 +10,7 @@ use Rattle.relay_types.specs.Deliveries.{accepted, deliveries, deliveries_of, kn
 use Rattle.relay_types.specs.Endpoints.{endpoints, has_endpoint}
 use Rattle.delivery_book.specs.declared.row.Row.{Row}
 use Rattle.delivery_book.specs.Book.{row_of}
-use Rattle.spool.specs.Runs.{Run}
+use Rattle.spool.specs.Batches.{BatchValue}
 use Rattle.desk.specs.declared.command.Command.{Command}
 use Rattle.desk.specs.declared.command.Command.TheVariants.{PutEndpoint}
 use Rattle.desk.specs.declared.limits.TheConstants.{MAX_PENDING, MAX_PENDING_ALL}
@@ -146,21 +146,21 @@ is_nothing_out Receipt = false
 is_nothing_out Doubt = false
 
 -- the sealed steps that aren't settled, as a batch of this opening and its receipt hold them
-abbrev pub sealed_run : (mark : ℕ) → World → Run
-sealed_run mark w = record { mark = mark; from = length (settled_records w); steps = drop w.settled (take w.sealed w.history) }
+abbrev pub sealed_batch : (mark : ℕ) → World → BatchValue
+sealed_batch mark w = record { mark = mark; from = length (settled_records w); steps = drop w.settled (take w.sealed w.history) }
 
 -- Sealing puts the first steps that wait into a batch.
 abbrev pub with_batch : World → World
 with_batch w = record w { sealed = min (length w.history) (w.settled + max_sealed); out = Batch }
 
-abbrev pub seal_waiting : (mark : ℕ) (w : World) (is_idle : Bool) → Answer (Option Run)
+abbrev pub seal_waiting : (mark : ℕ) (w : World) (is_idle : Bool) → Answer (Option BatchValue)
 seal_waiting mark w true = gives None w
-seal_waiting mark w false = or_out_of_memory 3 (gives (Some (sealed_run mark (with_batch w))) (with_batch w))
+seal_waiting mark w false = or_out_of_memory 3 (gives (Some (sealed_batch mark (with_batch w))) (with_batch w))
 
 abbrev pub seal_faults : World → Faults
 seal_faults w = (not (is_nothing_out w.out), 2, fault.BatchOut) ∷ []
 
-abbrev pub seal : (mark : ℕ) → World → Answer (Option Run)
+abbrev pub seal : (mark : ℕ) → World → Answer (Option BatchValue)
 seal mark w = unless (seal_faults w) w (seal_waiting mark w (length w.history == w.settled))
 
 -- Settling takes back what is out: what is sealed is settled.

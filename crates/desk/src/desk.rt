@@ -5,10 +5,10 @@ ghost use Rattle.relay_types.specs.declared.record.Record.TheVariants.{Put, Acce
 ghost use Rattle.relay_types.specs.Deliveries.{accepted};
 ghost use Rattle.relay_types.specs.Legal.{is_within_limits};
 ghost use Rattle.delivery_book.specs.Entries.{known_in};
-ghost use Rattle.spool.specs.Runs.{ArePutsAndAccepts};
+ghost use Rattle.spool.specs.Batches.{ArePutsAndAccepts};
 ghost use Rattle.desk.specs.World.{World, all_records};
 ghost use Rattle.desk.specs.Moves.{opened, submit, submit_faults, new_submit_faults, is_conflict, has_body, change, change_faults, put_faults, seal, event_row};
-ghost use Rattle.desk.specs.Desks.{StandsFor, IsMove, Checks, Settles, steps_of, run_of, with_put, with_accept};
+ghost use Rattle.desk.specs.Desks.{StandsFor, IsMove, Checks, Settles, steps_of, batch_of, with_put, with_accept};
 
 use crate::command::Command;
 use crate::limits::{MAX_PENDING, MAX_PENDING_ALL};
@@ -111,7 +111,7 @@ impl Desk {
     /// Puts what waits into a batch: `None` where nothing waits.
     pub fn seal(&mut self) -> Result<Option<Batch>, Refusal>
         ensures moves { IsMove self.old (seal self.old.mark) result self.new }
-        ensures batch { IfOk result (λ sealed. IfSome sealed (λ batch. batch ≡ run_of self.old)) }
+        ensures batch { IfOk result (λ sealed. IfSome sealed (λ batch. batch ≡ batch_of self.old)) }
         ensures kinds { IfOk result (λ sealed. IfSome sealed (λ batch. ArePutsAndAccepts batch.steps)) }
         ensures mark { self.new.mark ≡ self.old.mark }
         ensures err { OnErr result (self.new ≡ self.old) }
@@ -128,7 +128,7 @@ impl Desk {
     /// Settles the batch that is out, by its receipt: how many records are settled. It takes no memory.
     pub fn settle(&mut self, receipt: Receipt) -> Result<u64, (Receipt, WrongTurn)>
         ensures moves { Settles self.old receipt result self.new }
-        ensures turn { IsOk result ↔ (IsTrue self.old.is_out × (receipt ≡ run_of self.old)) }
+        ensures turn { IsOk result ↔ (IsTrue self.old.is_out × (receipt ≡ batch_of self.old)) }
         ensures back { IfErr result (λ back. back.0 ≡ receipt) }
         ensures mark { self.new.mark ≡ self.old.mark }
         ensures err { OnErr result (self.new ≡ self.old) }
@@ -153,7 +153,7 @@ impl Desk {
 
     // Whether the receipt is that of the batch that is out.
     fn is_receipt(&self, receipt: &Receipt) -> bool
-        ensures { IsTrue result ↔ (IsTrue self.now.is_out × (receipt.now ≡ run_of self.now)) }
+        ensures { IsTrue result ↔ (IsTrue self.now.is_out × (receipt.now ≡ batch_of self.now)) }
     {
         self.is_out
             && receipt.mark() == self.mark

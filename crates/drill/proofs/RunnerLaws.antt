@@ -9,7 +9,7 @@ use Rattle.relay_types.specs.declared.record.Record.{Record}
 use Rattle.relay_types.specs.Records.{History, records_of}
 use Rattle.relay_types.specs.Deliveries.{known_as}
 use Rattle.relay_types.specs.Legal.{IsLegal}
-use Rattle.spool.specs.Runs as batch
+use Rattle.spool.specs.Batches.{BatchValue}
 use Rattle.spool.specs.declared.ends.CommitEnd.{CommitEnd}
 use Rattle.spool.specs.declared.ends.CommitEnd.TheVariants as ends
 use Rattle.spool.specs.declared.ends.Unchanged.{Unchanged}
@@ -17,8 +17,8 @@ use Rattle.spool.specs.declared.ends.Unchanged.TheVariants as why
 use Rattle.sqlite.specs.Held as store
 use Rattle.spool_sql.specs.Tables.{no_schema}
 use Rattle.spool_sql.specs.Steps.{IsBegun}
-use Rattle.spool.specs.Commits.{IsOpened, IsNext, IsDoubt, IsIllegal, AnswersOver}
-use Rattle.spool.specs.Vaults.{Kept}
+use Rattle.spool.specs.Commits.{IsOpened, IsNext, IsDoubt, IsIllegal, LeavesHistory}
+use Rattle.spool.specs.Vaults.{VaultValue}
 use Rattle.script_lines.specs.declared.event.Event.{Event}
 use Rattle.script_lines.specs.declared.event.Event.TheVariants as on
 use Rattle.relay_types.specs.declared.record.Record.TheVariants.{Put}
@@ -33,7 +33,7 @@ use Rattle.desk.specs.declared.command.Command.TheVariants.{PutEndpoint}
 use Rattle.desk.specs.declared.refusal.Fault.TheVariants as desk_fault
 use Rattle.desk.specs.declared.refusal.Refusal.{Refusal}
 use Rattle.desk.specs.Faults.{Faults, refusal}
-use Rattle.desk.specs.Moves.{opened, Answer, MayGive, refused, unless, submit, submit_faults, new_submit_faults, put_faults, change, stages, repeats, submit_new, seal, seal_waiting, sealed_run, with_batch, with_sealed_settled, event_row, is_nothing_out}
+use Rattle.desk.specs.Moves.{opened, Answer, MayGive, refused, unless, submit, submit_faults, new_submit_faults, put_faults, change, stages, repeats, submit_new, seal, seal_waiting, sealed_batch, with_batch, with_sealed_settled, event_row, is_nothing_out}
 use Rattle.desk.specs.Desks.{DeskValue, StandsFor, IsMove, Settles, steps_of}
 use Rattle.drill.specs.Moves.{Move, Commits, SettlesOut, staged_reply, seal_reply, event_reply, in_doubt}
 use Rattle.drill.specs.Runners.{IsHeld, IsOpenAt, VaultStandsFor, RunnerStandsFor, Answers, EndsAs, CommitsSo, unchanged_reply}
@@ -90,7 +90,7 @@ settled_within desk w s = at desk.is_out s.sealed
 take_more : (n m : ℕ) (xs ys more : History) → n ≡ m → m ≤ length xs → ys ≡ xs ++ more → take n ys ≡ take m xs
 take_more n m xs ys more same within is = (λ i. take (same i) (is i)) ∙ take-append-le m xs more within
 
-batch_goes : (mark : ℕ) (w next : World) → Goes w next → w.settled ≤ w.sealed → w.sealed ≤ length w.history → sealed_run mark w ≡ sealed_run mark next
+batch_goes : (mark : ℕ) (w next : World) → Goes w next → w.settled ≤ w.sealed → w.sealed ≤ length w.history → sealed_batch mark w ≡ sealed_batch mark next
 batch_goes mark w next g below within =
     let settled : settled_records w ≡ settled_records next = ap records_of (sym (take_more next.settled w.settled w.history next.history g.more g.settled (omega arith) g.history)) in
     let sealed : take w.sealed w.history ≡ take next.sealed next.history = sym (take_more next.sealed w.sealed w.history next.history g.more g.sealed within g.history) in
@@ -98,11 +98,11 @@ batch_goes mark w next g below within =
 
 held_goes : (mark : ℕ) (w next : World) (now : Held) → Goes w next → w.settled ≤ w.sealed → w.sealed ≤ length w.history → IsHeld mark w now → IsHeld mark next now
 held_goes mark w next held.Nothing g below within h = g.out ∙ h
-held_goes mark w next (held.Batch run) g below within h = (g.out ∙ h.0, h.1 ∙ batch_goes mark w next g below within)
-held_goes mark w next (held.Receipt run) g below within h = (g.out ∙ h.0, h.1 ∙ batch_goes mark w next g below within)
-held_goes mark w next (held.Doubt span) g below within h = g.out ∙ h
+held_goes mark w next (held.Batch batch) g below within h = (g.out ∙ h.0, h.1 ∙ batch_goes mark w next g below within)
+held_goes mark w next (held.Receipt batch) g below within h = (g.out ∙ h.0, h.1 ∙ batch_goes mark w next g below within)
+held_goes mark w next (held.Doubt doubt) g below within h = g.out ∙ h
 
-vault_goes : {S : Type 0} (g : Ghosts S) (vault : Kept S) (w next : World) → Goes w next → w.settled ≤ w.sealed → w.sealed ≤ length w.history → VaultStandsFor g vault w w.out → VaultStandsFor g vault next next.out
+vault_goes : {S : Type 0} (g : Ghosts S) (vault : VaultValue S) (w next : World) → Goes w next → w.settled ≤ w.sealed → w.sealed ≤ length w.history → VaultStandsFor g vault w w.out → VaultStandsFor g vault next next.out
 vault_goes g vault w next goes below within h = subst (VaultStandsFor g vault next) (sym goes.out) (at w.out h)
   where
     settled : settled_records w ≡ settled_records next
@@ -158,31 +158,31 @@ is_nothing Batch h = absurd (let e = h in cc)
 is_nothing Receipt h = absurd (let e = h in cc)
 is_nothing Doubt h = absurd (let e = h in cc)
 
-abbrev sealing : batch.Run → Result (Option batch.Run) Refusal
-sealing run = Ok (Some run)
+abbrev sealing : BatchValue → Result (Option BatchValue) Refusal
+sealing batch = Ok (Some batch)
 
-sealed_move : (mark : ℕ) (w : World) (run : batch.Run) (next : World) → MayGive w (seal mark w) (sealing run) next → (w.out ≡ Nothing) × (next ≡ with_batch w) × (run ≡ sealed_run mark (with_batch w))
-sealed_move mark w run next = at (is_nothing_out w.out) (length w.history == w.settled) (is_nothing w.out)
+sealed_move : (mark : ℕ) (w : World) (batch : BatchValue) (next : World) → MayGive w (seal mark w) (sealing batch) next → (w.out ≡ Nothing) × (next ≡ with_batch w) × (batch ≡ sealed_batch mark (with_batch w))
+sealed_move mark w batch next = at (is_nothing_out w.out) (length w.history == w.settled) (is_nothing w.out)
   where
-    same : (a b : batch.Run) → sealing a ≡ sealing b → a ≡ b
+    same : (a b : BatchValue) → sealing a ≡ sealing b → a ≡ b
     same a b e = cc
 
-    at : (nothing none : Bool) → (nothing ≡ true → w.out ≡ Nothing) → MayGive w (if not nothing then refused w 2 desk_fault.BatchOut else seal_waiting mark w none) (sealing run) next
-        → (w.out ≡ Nothing) × (next ≡ with_batch w) × (run ≡ sealed_run mark (with_batch w))
+    at : (nothing none : Bool) → (nothing ≡ true → w.out ≡ Nothing) → MayGive w (if not nothing then refused w 2 desk_fault.BatchOut else seal_waiting mark w none) (sealing batch) next
+        → (w.out ≡ Nothing) × (next ≡ with_batch w) × (batch ≡ sealed_batch mark (with_batch w))
     at false none h (inl given) = absurd (let e = given.0 in cc)
     at false none h (inr lacks) = absurd lacks
     at true true h (inl given) = absurd (let e = given.0 in cc)
     at true true h (inr lacks) = absurd lacks
-    at true false h (inl given) = (h refl, given.1, same run (sealed_run mark (with_batch w)) given.0)
+    at true false h (inl given) = (h refl, given.1, same batch (sealed_batch mark (with_batch w)) given.0)
     at true false h (inr lacks) = absurd (let e = lacks.0 in cc)
 
 -- whether a batch was handed out
-abbrev pub is_sealed : Result (Option batch.Run) Refusal → Bool
+abbrev pub is_sealed : Result (Option BatchValue) Refusal → Bool
 is_sealed (Ok None) = false
-is_sealed (Ok (Some run)) = true
+is_sealed (Ok (Some batch)) = true
 is_sealed (Err r) = false
 
-unsealed_move : (mark : ℕ) (w : World) (result : Result (Option batch.Run) Refusal) (next : World) → is_sealed result ≡ false → MayGive w (seal mark w) result next → next ≡ w
+unsealed_move : (mark : ℕ) (w : World) (result : Result (Option BatchValue) Refusal) (next : World) → is_sealed result ≡ false → MayGive w (seal mark w) result next → next ≡ w
 unsealed_move mark w result next unsealed = at (is_nothing_out w.out) (length w.history == w.settled)
   where
     at : (nothing none : Bool) → MayGive w (if not nothing then refused w 2 desk_fault.BatchOut else seal_waiting mark w none) result next → next ≡ w
@@ -193,17 +193,17 @@ unsealed_move mark w result next unsealed = at (is_nothing_out w.out) (length w.
     at true false (inl given) = absurd (let no : true ≡ false = ap is_sealed (sym given.0) ∙ unsealed in cc)
     at true false (inr lacks) = lacks.1
 
-pub answers_sealed : {S : Type 0} (g : Ghosts S) (old new : Runner S) (run : batch.Run) → IsMove old.desk (seal old.desk.mark) (Ok (Some run)) new.desk → new.desk.mark ≡ old.desk.mark → new.vault ≡ old.vault
-    → new.held ≡ held.Batch run → Answers g old on.Seal (seal_reply (Ok (Some run))) new
-answers_sealed g old new run moves mark vault same w on =
+pub answers_sealed : {S : Type 0} (g : Ghosts S) (old new : Runner S) (batch : BatchValue) → IsMove old.desk (seal old.desk.mark) (Ok (Some batch)) new.desk → new.desk.mark ≡ old.desk.mark → new.vault ≡ old.vault
+    → new.held ≡ held.Batch batch → Answers g old on.Seal (seal_reply (Ok (Some batch))) new
+answers_sealed g old new batch moves mark vault same w on =
     let move = moves w on.desk in
-    let made = sealed_move old.desk.mark w run move.0 move.1 in
+    let made = sealed_move old.desk.mark w batch move.0 move.1 in
     let out : move.0.out ≡ Batch = ap (λ v. v.out) made.1 in
-    let has : run ≡ sealed_run new.desk.mark move.0 = made.2 ∙ ap (λ m. sealed_run m (with_batch w)) (sym mark) ∙ ap (sealed_run new.desk.mark) (sym made.1) in
+    let has : batch ≡ sealed_batch new.desk.mark move.0 = made.2 ∙ ap (λ m. sealed_batch m (with_batch w)) (sym mark) ∙ ap (sealed_batch new.desk.mark) (sym made.1) in
     let was : IsOpenAt g old.vault (settled_records w) = subst (VaultStandsFor g old.vault w) made.0 on.vault in
     let settled : settled_records w ≡ settled_records move.0 = ap settled_records (sym made.1) in (
       move.0,
-      (old.desk.mark, (sealing run, move.1, refl)),
+      (old.desk.mark, (sealing batch, move.1, refl)),
       record {
         desk = move.2;
         held = subst (IsHeld new.desk.mark move.0) (sym same) (out, has);
@@ -212,7 +212,7 @@ answers_sealed g old new run moves mark vault same w on =
       },
     )
 
-pub answers_unsealed : {S : Type 0} (g : Ghosts S) (old new : Runner S) (result : Result (Option batch.Run) Refusal) → is_sealed result ≡ false → IsMove old.desk (seal old.desk.mark) result new.desk
+pub answers_unsealed : {S : Type 0} (g : Ghosts S) (old new : Runner S) (result : Result (Option BatchValue) Refusal) → is_sealed result ≡ false → IsMove old.desk (seal old.desk.mark) result new.desk
     → new.desk.mark ≡ old.desk.mark → new.vault ≡ old.vault → new.held ≡ old.held → Answers g old on.Seal (seal_reply result) new
 answers_unsealed g old new result unsealed moves mark vault same w on =
     let move = moves w on.desk in
@@ -234,7 +234,7 @@ flatten_both [] ys = refl
 flatten_both (x ∷ xs) ys = ap (λ r. x ++ r) (flatten_both xs ys) ∙ sym (append_assoc x (records_of xs) (records_of ys))
 
 -- the settled records and those of the batch are the sealed ones
-sealed_is : (mark : ℕ) (w : World) → w.settled ≤ w.sealed → settled_records w ++ records_of (sealed_run mark w).steps ≡ sealed_records w
+sealed_is : (mark : ℕ) (w : World) → w.settled ≤ w.sealed → settled_records w ++ records_of (sealed_batch mark w).steps ≡ sealed_records w
 sealed_is mark w below =
     sym (flatten_both (take w.settled w.history) (drop w.settled (take w.sealed w.history)))
     ∙ ap records_of (ap (λ front. front ++ drop w.settled (take w.sealed w.history)) (sym (take-take w.settled w.sealed w.history below)) ∙ take-append-drop w.settled (take w.sealed w.history))
@@ -268,10 +268,10 @@ out_again desk w o left s same = record {
   kinds = s.kinds;
 }
 
-answers_end : {S : Type 0} (g : Ghosts S) (desk : DeskValue) (vault : Kept S) (run : batch.Run) (now : Held) (reply : Reply) (w : World) → StandsFor desk w → w.out ≡ Batch → run ≡ sealed_run desk.mark w → desk.mark ≡ vault.mark
-    → EndsAs g vault (settled_records w) run now reply → (next : World) × Move w on.Commit reply next × RunnerStandsFor g (record { desk = desk; vault = vault; held = now }) next
-answers_end g desk vault run (held.Receipt receipt) reply w s out is mark h =
-    let whole : settled_records w ++ records_of run.steps ≡ sealed_records w = ap (λ (r : batch.Run). settled_records w ++ records_of r.steps) is ∙ sealed_is desk.mark w (settled_within desk w s) in
+answers_end : {S : Type 0} (g : Ghosts S) (desk : DeskValue) (vault : VaultValue S) (batch : BatchValue) (now : Held) (reply : Reply) (w : World) → StandsFor desk w → w.out ≡ Batch → batch ≡ sealed_batch desk.mark w → desk.mark ≡ vault.mark
+    → EndsAs g vault (settled_records w) batch now reply → (next : World) × Move w on.Commit reply next × RunnerStandsFor g (record { desk = desk; vault = vault; held = now }) next
+answers_end g desk vault batch (held.Receipt receipt) reply w s out is mark h =
+    let whole : settled_records w ++ records_of batch.steps ≡ sealed_records w = ap (λ (r : BatchValue). settled_records w ++ records_of r.steps) is ∙ sealed_is desk.mark w (settled_within desk w s) in
     let stands : IsOpenAt g vault (sealed_records w) = subst (IsOpenAt g vault) whole h.2 in
     let said : reply ≡ says.Committed (length (sealed_records w)) = h.1 ∙ ap says.Committed stands.1.next in (
       record w { out = Receipt; left = w.sealed ∷ [] },
@@ -283,7 +283,7 @@ answers_end g desk vault run (held.Receipt receipt) reply w s out is mark h =
         mark = mark;
       },
     )
-answers_end g desk vault run (held.Batch back) reply w s out is mark h = (
+answers_end g desk vault batch (held.Batch back) reply w s out is mark h = (
   w,
   subst (λ o. Commits o w reply w) (sym out) (inr (inl (h.1, refl))),
   record {
@@ -293,7 +293,7 @@ answers_end g desk vault run (held.Batch back) reply w s out is mark h = (
     mark = mark;
   },
 )
-answers_end g desk vault run (held.Doubt span) reply w s out is mark h = (
+answers_end g desk vault batch (held.Doubt doubt) reply w s out is mark h = (
   in_doubt w,
   subst (λ o. Commits o w reply (in_doubt w)) (sym out) (inr (inr (h.0, refl))),
   record {
@@ -303,41 +303,41 @@ answers_end g desk vault run (held.Doubt span) reply w s out is mark h = (
     mark = mark;
   },
 )
-answers_end g desk vault run held.Nothing reply w s out is mark h = absurd h
+answers_end g desk vault batch held.Nothing reply w s out is mark h = absurd h
 
 -- the store takes the next batch, unless it has no memory
-pub unchanged_ends : {S : Type 0} (g : Ghosts S) (old new : Kept S) (run back : batch.Run) (reason : Unchanged) (result : Result batch.Run CommitEnd) → result ≡ Err (ends.Unchanged back reason) → back ≡ run
-    → (result ≡ Err (ends.Unchanged run why.Closed) → IsTrue old.closed) → (result ≡ Err (ends.Unchanged run why.OutOfTurn) → IsNext old run → ⊥) → (result ≡ Err (ends.Unchanged run why.Illegal) → IsIllegal g old run)
-    → (IsTrue new.closed → IsTrue old.closed ⊎ IsDoubt result) → AnswersOver g old new run result
-    → (records : List Record) → IsOpenAt g old records → IsNext old run → IsLegal (records ++ records_of run.steps) → EndsAs g new records run (held.Batch back) (unchanged_reply reason)
-unchanged_ends g old new run back why.Closed result is same closed turn illegal doubt over records open_at next legal =
+pub unchanged_ends : {S : Type 0} (g : Ghosts S) (old new : VaultValue S) (batch back : BatchValue) (reason : Unchanged) (result : Result BatchValue CommitEnd) → result ≡ Err (ends.Unchanged back reason) → back ≡ batch
+    → (result ≡ Err (ends.Unchanged batch why.Closed) → IsTrue old.closed) → (result ≡ Err (ends.Unchanged batch why.OutOfTurn) → IsNext old batch → ⊥) → (result ≡ Err (ends.Unchanged batch why.Illegal) → IsIllegal g old batch)
+    → (IsTrue new.closed → IsTrue old.closed ⊎ IsDoubt result) → LeavesHistory g old new batch result
+    → (records : List Record) → IsOpenAt g old records → IsNext old batch → IsLegal (records ++ records_of batch.steps) → EndsAs g new records batch (held.Batch back) (unchanged_reply reason)
+unchanged_ends g old new batch back why.Closed result is same closed turn illegal doubt over records open_at next legal =
     absurd (let shut : old.closed ≡ true = closed (is ∙ ap (λ b. Err (ends.Unchanged b why.Closed)) same) in let free : old.closed ≡ false = open_at.0 in cc)
-unchanged_ends g old new run back why.OutOfTurn result is same closed turn illegal doubt over records open_at next legal =
+unchanged_ends g old new batch back why.OutOfTurn result is same closed turn illegal doubt over records open_at next legal =
     absurd (turn (is ∙ ap (λ b. Err (ends.Unchanged b why.OutOfTurn)) same) next)
-unchanged_ends g old new run back why.Illegal result is same closed turn illegal doubt over records open_at next legal =
+unchanged_ends g old new batch back why.Illegal result is same closed turn illegal doubt over records open_at next legal =
     absurd (illegal (is ∙ ap (λ b. Err (ends.Unchanged b why.Illegal)) same) records open_at.1 legal)
-unchanged_ends g old new run back why.OutOfMemory result is same closed turn illegal doubt over records open_at next legal =
-    (same, refl, (at new.closed refl, (subst (AnswersOver g old new run) is over records open_at.1).0))
+unchanged_ends g old new batch back why.OutOfMemory result is same closed turn illegal doubt over records open_at next legal =
+    (same, refl, (at new.closed refl, (subst (LeavesHistory g old new batch) is over records open_at.1).0))
   where
     at : (b : Bool) → new.closed ≡ b → b ≡ false
     at false e = refl
     at true e = elim (doubt e) [ inl h ↦ absurd (let shut : old.closed ≡ true = h in let free : old.closed ≡ false = open_at.0 in cc) | inr h ↦ absurd (subst IsDoubt is h) ]
 
-pub answers_commit : {S : Type 0} (g : Ghosts S) (old new : Runner S) (run : batch.Run) (reply : Reply) → old.held ≡ held.Batch run → new.desk ≡ old.desk → new.vault.mark ≡ old.vault.mark
-    → CommitsSo g old.vault new.vault run new.held reply → Answers g old on.Commit reply new
-answers_commit g old new run reply held_is desk mark commits w stands =
-    let had : (w.out ≡ Batch) × (run ≡ sealed_run old.desk.mark w) = subst (IsHeld old.desk.mark w) held_is stands.held in
+pub answers_commit : {S : Type 0} (g : Ghosts S) (old new : Runner S) (batch : BatchValue) (reply : Reply) → old.held ≡ held.Batch batch → new.desk ≡ old.desk → new.vault.mark ≡ old.vault.mark
+    → CommitsSo g old.vault new.vault batch new.held reply → Answers g old on.Commit reply new
+answers_commit g old new batch reply held_is desk mark commits w stands =
+    let had : (w.out ≡ Batch) × (batch ≡ sealed_batch old.desk.mark w) = subst (IsHeld old.desk.mark w) held_is stands.held in
     let open_at : IsOpenAt g old.vault (settled_records w) = subst (VaultStandsFor g old.vault w) had.0 stands.vault in
-    let next : IsNext old.vault run = (ap (λ (r : batch.Run). r.mark) had.1 ∙ stands.mark, ap (λ (r : batch.Run). r.from) had.1 ∙ sym open_at.1.next) in
-    let whole : settled_records w ++ records_of run.steps ≡ all_records w =
-    ap (λ (r : batch.Run). settled_records w ++ records_of r.steps) had.1 ∙ sealed_is old.desk.mark w (settled_within old.desk w stands.desk)
+    let next : IsNext old.vault batch = (ap (λ (r : BatchValue). r.mark) had.1 ∙ stands.mark, ap (λ (r : BatchValue). r.from) had.1 ∙ sym open_at.1.next) in
+    let whole : settled_records w ++ records_of batch.steps ≡ all_records w =
+    ap (λ (r : BatchValue). settled_records w ++ records_of r.steps) had.1 ∙ sealed_is old.desk.mark w (settled_within old.desk w stands.desk)
     ∙ all_sealed old.desk w stands.desk (stands.desk.is_out ∙ ap (λ o. not (is_nothing_out o)) had.0) in
     let ends = commits (settled_records w) open_at next (subst IsLegal (sym whole) stands.desk.legal) in
     subst (λ d. (after : World) × Move w on.Commit reply after × RunnerStandsFor g (record { desk = d; vault = new.vault; held = new.held }) after) (sym desk)
-    (answers_end g old.desk new.vault run new.held reply w stands.desk had.0 had.1 (stands.mark ∙ sym mark) ends)
+    (answers_end g old.desk new.vault batch new.held reply w stands.desk had.0 had.1 (stands.mark ∙ sym mark) ends)
 
 -- The first world
 
-pub started_stands : {S : Type 0} (g : Ghosts S) (conn : store.Held S) (mark : ℕ) (vault : Kept S) (desk : DeskValue) → IsOpened g conn mark vault → IsBegun no_schema (store.state g conn).now → desk.mark ≡ mark
+pub started_stands : {S : Type 0} (g : Ghosts S) (conn : store.Held S) (mark : ℕ) (vault : VaultValue S) (desk : DeskValue) → IsOpened g conn mark vault → IsBegun no_schema (store.state g conn).now → desk.mark ≡ mark
     → StandsFor desk (opened [] 0) → RunnerStandsFor g (record { desk = desk; vault = vault; held = held.Nothing }) (opened [] 0)
 started_stands g conn mark vault desk made begun marked stands = record { desk = stands; held = refl; vault = (made.closed, (made.history begun).0); mark = marked ∙ sym made.marked }

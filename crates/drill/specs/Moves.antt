@@ -2,7 +2,7 @@
 use Rattle.std.specs.Prelude.{◌≡◌, ℕ, ◌+◌, List, [], ◌∷◌, length, Option, Some, None, Result, Ok, Err, ◌⊎◌}
 use Rattle.relay_types.specs.Records.{records_of}
 use Rattle.delivery_book.specs.declared.row.Row.{Row}
-use Rattle.spool.specs.Runs as batch
+use Rattle.spool.specs.Batches.{BatchValue}
 use Rattle.script_lines.specs.declared.event.Event.{Event}
 use Rattle.script_lines.specs.declared.event.Event.TheVariants as on
 use Rattle.script_lines.specs.declared.reply.Fault.{Fault}
@@ -36,9 +36,9 @@ abbrev pub staged_reply : Result ℕ Refusal → Reply
 staged_reply (Ok seq) = says.Staged seq
 staged_reply (Err refusal) = refusal_reply refusal
 
-abbrev pub seal_reply : Result (Option batch.Run) Refusal → Reply
+abbrev pub seal_reply : Result (Option BatchValue) Refusal → Reply
 seal_reply (Ok None) = says.NothingWaits
-seal_reply (Ok (Some run)) = says.Sealed run.from (run.from + length (records_of run.steps))
+seal_reply (Ok (Some batch)) = says.Sealed batch.from (batch.from + length (records_of batch.steps))
 seal_reply (Err refusal) = refusal_reply refusal
 
 abbrev pub event_reply : Option Row → Reply

@@ -8,11 +8,11 @@ use Rattle.relay_types.specs.Records.{records_of}
 use Rattle.relay_types.specs.Legal.{IsLegal}
 use Rattle.spool_sql.specs.Tables.{no_schema}
 use Rattle.spool_sql.specs.Steps.{IsBegun}
-use Rattle.spool.specs.Runs as batch
+use Rattle.spool.specs.Batches.{BatchValue}
 use Rattle.spool.specs.declared.ends.Unchanged.{Unchanged}
 use Rattle.spool.specs.declared.ends.Unchanged.TheVariants as why
 use Rattle.spool.specs.Commits.{IsNext}
-use Rattle.spool.specs.Vaults.{Kept, Holds}
+use Rattle.spool.specs.Vaults.{VaultValue, Holds}
 use Rattle.script_lines.specs.declared.event.Event.{Event}
 use Rattle.script_lines.specs.declared.reply.Fault.TheVariants as fault
 use Rattle.script_lines.specs.declared.reply.Reply.{Reply}
@@ -21,23 +21,23 @@ use Rattle.drill.specs.declared.runner.Held.{Held}
 use Rattle.drill.specs.declared.runner.Held.TheVariants as held
 use Rattle.drill.specs.declared.runner.Runner.{Runner}
 use Rattle.desk.specs.World.{World, Out, Nothing, Batch, Receipt, Doubt, settled_records, sealed_records}
-use Rattle.desk.specs.Moves.{sealed_run}
+use Rattle.desk.specs.Moves.{sealed_batch}
 use Rattle.drill.specs.Moves.{Move}
 use Rattle.desk.specs.Desks.{StandsFor}
 
 -- the runner holds what the core has handed out
 abbrev pub IsHeld : ℕ → World → Held → Type 0
 IsHeld mark w held.Nothing = w.out ≡ Nothing
-IsHeld mark w (held.Batch run) = (w.out ≡ Batch) × (run ≡ sealed_run mark w)
-IsHeld mark w (held.Receipt run) = (w.out ≡ Receipt) × (run ≡ sealed_run mark w)
-IsHeld mark w (held.Doubt span) = w.out ≡ Doubt
+IsHeld mark w (held.Batch batch) = (w.out ≡ Batch) × (batch ≡ sealed_batch mark w)
+IsHeld mark w (held.Receipt batch) = (w.out ≡ Receipt) × (batch ≡ sealed_batch mark w)
+IsHeld mark w (held.Doubt doubt) = w.out ≡ Doubt
 
 -- the store takes commits, and holds these records
-abbrev pub IsOpenAt : {S : Type 0} → Ghosts S → Kept S → List Record → Type 0
+abbrev pub IsOpenAt : {S : Type 0} → Ghosts S → VaultValue S → List Record → Type 0
 IsOpenAt g vault records = (vault.closed ≡ false) × Holds g vault records
 
 -- The store holds the settled records, or the sealed ones once they are committed. After a doubt it takes no commit.
-abbrev pub VaultStandsFor : {S : Type 0} → Ghosts S → Kept S → World → Out → Type 0
+abbrev pub VaultStandsFor : {S : Type 0} → Ghosts S → VaultValue S → World → Out → Type 0
 VaultStandsFor g vault w Nothing = IsOpenAt g vault (settled_records w)
 VaultStandsFor g vault w Batch = IsOpenAt g vault (settled_records w)
 VaultStandsFor g vault w Receipt = IsOpenAt g vault (sealed_records w)
@@ -73,12 +73,12 @@ unchanged_reply why.Illegal = says.Refused 3 fault.Illegal
 unchanged_reply why.OutOfMemory = says.Refused 4 fault.OutOfMemory
 
 -- where the batch goes on with a legal history that the store holds, the store takes it as this says, by what is held then
-abbrev pub EndsAs : {S : Type 0} → Ghosts S → Kept S → List Record → batch.Run → Held → Reply → Type 0
-EndsAs g vault records run (held.Receipt receipt) reply = (receipt ≡ run) × (reply ≡ says.Committed vault.next) × IsOpenAt g vault (records ++ records_of run.steps)
-EndsAs g vault records run (held.Batch back) reply = (back ≡ run) × (reply ≡ says.Refused 4 fault.OutOfMemory) × IsOpenAt g vault records
-EndsAs g vault records run (held.Doubt span) reply = (reply ≡ says.Refused 5 fault.Store) × IsTrue vault.closed
-EndsAs g vault records run held.Nothing reply = ⊥
+abbrev pub EndsAs : {S : Type 0} → Ghosts S → VaultValue S → List Record → BatchValue → Held → Reply → Type 0
+EndsAs g vault records batch (held.Receipt receipt) reply = (receipt ≡ batch) × (reply ≡ says.Committed vault.next) × IsOpenAt g vault (records ++ records_of batch.steps)
+EndsAs g vault records batch (held.Batch back) reply = (back ≡ batch) × (reply ≡ says.Refused 4 fault.OutOfMemory) × IsOpenAt g vault records
+EndsAs g vault records batch (held.Doubt doubt) reply = (reply ≡ says.Refused 5 fault.Store) × IsTrue vault.closed
+EndsAs g vault records batch held.Nothing reply = ⊥
 
 -- what a commit of the vault's next batch answers
-abbrev pub CommitsSo : {S : Type 0} → Ghosts S → Kept S → Kept S → batch.Run → Held → Reply → Type 0
-CommitsSo g old new run now reply = (records : List Record) → IsOpenAt g old records → IsNext old run → IsLegal (records ++ records_of run.steps) → EndsAs g new records run now reply
+abbrev pub CommitsSo : {S : Type 0} → Ghosts S → VaultValue S → VaultValue S → BatchValue → Held → Reply → Type 0
+CommitsSo g old new batch now reply = (records : List Record) → IsOpenAt g old records → IsNext old batch → IsLegal (records ++ records_of batch.steps) → EndsAs g new records batch now reply

@@ -14,7 +14,7 @@ use Rattle.spool_sql.specs.Stored.{IsTables}
 use Rattle.spool_sql.specs.Steps.{Spares, Stands}
 use Rattle.spool_sql.proofs.StepLemmas.{leaves_commit, leaves_along, stands_along}
 use Rattle.spool.specs.Vaults.{HoldsAt}
-use Rattle.spool.specs.Entering.{EntersWhole, Commits, CommitsAll, StaysAs, Rests, RestsInDoubt, EndsAs, IsUnwritten, Tells}
+use Rattle.spool.specs.Entering.{EntersWhole, Commits, CommitsAll, StaysAs, Rests, RestsInDoubt, WriteEndsAs, IsUnwritten, Tells}
 use Rattle.spool.specs.declared.transaction.WriteEnd.{WriteEnd}
 use Rattle.spool.specs.declared.transaction.WriteEnd.TheVariants.{Committed, Illegal, OutOfMemory, Doubtful}
 
@@ -54,7 +54,7 @@ rests_along old mid new rows stays same settled stands =
     (now, leaves_commit new rows now settled)
 
 ends_illegal : (old mid new : State) (next : ℕ) (entries : List Record) (legal : Bool) → Commits old mid next entries legal → legal ≡ false → StaysAs old mid → IsUnchanged mid new → IsSettled new
-    → EndsAs old new next entries Illegal
+    → WriteEndsAs old new next entries Illegal
 ends_illegal old mid new next entries legal turns is stays same settled records at =
     (λ yes. absurd (let no = sym (turns.judges records at) ∙ is in let h = yes in cc), rests_along old mid new (rows_of records) stays same settled at.stands)
 
@@ -73,7 +73,7 @@ doubts_all a b c next entries s probed clean settled records at =
 -- how the write ends, by what is told of the transaction
 pub ends_told : (old mid new : State) (next : ℕ) (entries : List Record) (tried : Result Bool Error) (told : WriteEnd) → IfOk tried (Commits old mid next entries)
     → ((tried ≡ Ok true → ⊥) → IsTrue mid.is_open → StaysAs old mid) → Survives old mid (CommitsAll old next entries) → Survives mid new (λ _. ⊥) → HasCleanDisk new
-    → Tells mid new tried told → (told ≡ Committed → StaysAs mid new) → (IsUnwritten told → IsUnchanged mid new) → IsSettled old → IsSettled new → EndsAs old new next entries told
+    → Tells mid new tried told → (told ≡ Committed → StaysAs mid new) → (IsUnwritten told → IsUnchanged mid new) → IsSettled old → IsSettled new → WriteEndsAs old new next entries told
 ends_told old mid new next entries tried Committed turns undone first later clean told made same was_settled settled = λ records at.
     let turned : Commits old mid next entries true = subst (λ t. IfOk t (Commits old mid next entries)) told turns in
     let now = made refl (rows_of (records ++ entries)) (turned.makes refl records at) in

@@ -13,7 +13,7 @@ use Rattle.relay_types.specs.Legal.{may_follow, is_legal, is_within_limits}
 use Rattle.relay_types.specs.Rows.{Rows, rows_of, put_record}
 use Rattle.spool_sql.specs.Stored.{IsTables, with_records, with_delivery}
 use Rattle.spool_sql.specs.Steps.{GoesOn, Alters}
-use Rattle.spool.specs.Runs.{is_put_or_accept}
+use Rattle.spool.specs.Batches.{is_put_or_accept}
 use Rattle.spool.specs.Entering.{HasRows, Enters, EntersWhole, with_put, may_put, accepting}
 use Rattle.relay_types.proofs.KnownLaws.{and_first, and_second, legal_more, illegal_if, illegal_front}
 use Rattle.spool.proofs.LegalLemmas.{accepting-none, accepting-some}

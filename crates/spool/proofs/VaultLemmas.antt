@@ -4,7 +4,7 @@ use Rattle.sqlite.specs.State.{State}
 use Rattle.relay_types.specs.declared.record.Record.{Record}
 use Rattle.relay_types.specs.Rows.{Rows, rows_of, put_rows}
 use Rattle.spool_sql.specs.Steps.{Stands, MayLeave}
-use Rattle.spool.specs.Entering.{Rests, RestsInDoubt, EndsAs}
+use Rattle.spool.specs.Entering.{Rests, RestsInDoubt, WriteEndsAs}
 use Rattle.spool.specs.Vaults.{HoldsAt}
 use Rattle.spool.specs.declared.transaction.WriteEnd.TheVariants.{Committed}
 use Rattle.relay_types.proofs.RowLaws.{rows_of-all}
@@ -29,7 +29,7 @@ rows_doubted old new count entries over records on db may =
 
 -- what is said of the write tells of the history
 
-pub history_made : (old new : State) (count next : ℕ) (entries : List Record) → next ≡ count + length entries → EndsAs old new count entries Committed
+pub history_made : (old new : State) (count next : ℕ) (entries : List Record) → next ≡ count + length entries → WriteEndsAs old new count entries Committed
     → (records : List Record) → HoldsAt old count records → HoldsAt new next (records ++ entries) × MayLeave new (λ r. r ≡ rows_of (records ++ entries))
 history_made old new count next entries is ends records on =
     let made = ends records on in

@@ -13,29 +13,29 @@ use Rattle.spool.specs.declared.ends.CommitEnd.TheVariants as ends
 use Rattle.spool.specs.declared.ends.Unchanged.TheVariants as why
 use Rattle.spool.specs.declared.transaction.WriteEnd.{WriteEnd}
 use Rattle.spool.specs.declared.transaction.WriteEnd.TheVariants.{Committed, Illegal, OutOfMemory, Doubtful}
-use Rattle.spool.specs.Runs.{Run, span_of}
+use Rattle.spool.specs.Batches.{BatchValue, doubt_of}
 use Rattle.spool.specs.Entering.{Rests, RestsInDoubt}
-use Rattle.spool.specs.Vaults.{Kept, Holds}
+use Rattle.spool.specs.Vaults.{VaultValue, Holds}
 
 -- the vault holds this history, and a stop leaves its rows
-abbrev pub Keeps : {S : Type 0} → Ghosts S → Kept S → List Record → Type 0
-Keeps g v records = Holds g v records × MayLeave (state g v.conn) (λ r. r ≡ rows_of records)
+abbrev pub HoldsOnDisk : {S : Type 0} → Ghosts S → VaultValue S → List Record → Type 0
+HoldsOnDisk g v records = Holds g v records × MayLeave (state g v.conn) (λ r. r ≡ rows_of records)
 
 -- a vault of this mark without a record; if the store had no table, it holds the empty history
-pub record IsOpened {S : Type 0} (g : Ghosts S) (conn : Held S) (mark : ℕ) (v : Kept S) : Type 0 where
+pub record IsOpened {S : Type 0} (g : Ghosts S) (conn : Held S) (mark : ℕ) (v : VaultValue S) : Type 0 where
   pub marked : v.mark ≡ mark
   pub next : v.next ≡ 0
   pub closed : v.closed ≡ false
-  pub history : IsBegun no_schema (state g conn).now → Keeps g v []
+  pub history : IsBegun no_schema (state g conn).now → HoldsOnDisk g v []
 
 -- the batch is of the vault's opening, and begins with its next record
-abbrev pub IsNext : {S : Type 0} → Kept S → Run → Type 0
+abbrev pub IsNext : {S : Type 0} → VaultValue S → BatchValue → Type 0
 IsNext v batch = (batch.mark ≡ v.mark) × (batch.from ≡ v.next)
 
 -- the batch comes back, or of a doubtful one the places
-abbrev pub HandsBack : Run → CommitEnd → Type 0
+abbrev pub HandsBack : BatchValue → CommitEnd → Type 0
 HandsBack batch (ends.Unchanged back reason) = back ≡ batch
-HandsBack batch (ends.Doubtful doubt cause) = doubt ≡ span_of batch
+HandsBack batch (ends.Doubtful doubt cause) = doubt ≡ doubt_of batch
 
 -- the vault didn't look at the store
 abbrev pub IsRefused : CommitEnd → Type 0
@@ -46,31 +46,31 @@ IsRefused (ends.Unchanged batch why.OutOfMemory) = ⊥
 IsRefused (ends.Doubtful doubt cause) = ⊥
 
 -- what is answered of a batch whose write ended so
-abbrev pub answer_of : Run → WriteEnd → Result Run CommitEnd
+abbrev pub answer_of : BatchValue → WriteEnd → Result BatchValue CommitEnd
 answer_of batch Committed = Ok batch
 answer_of batch Illegal = Err (ends.Unchanged batch why.Illegal)
 answer_of batch OutOfMemory = Err (ends.Unchanged batch why.OutOfMemory)
-answer_of batch (Doubtful cause) = Err (ends.Doubtful (span_of batch) cause)
+answer_of batch (Doubtful cause) = Err (ends.Doubtful (doubt_of batch) cause)
 
 -- nobody knows whether the batch was written
-abbrev pub IsDoubt : Result Run CommitEnd → Type 0
+abbrev pub IsDoubt : Result BatchValue CommitEnd → Type 0
 IsDoubt (Ok receipt) = ⊥
 IsDoubt (Err (ends.Unchanged batch reason)) = ⊥
 IsDoubt (Err (ends.Doubtful doubt cause)) = Unit {0}
 
 -- what the answer says of the rows of a history that the vault held
-abbrev pub AnswersSo : {S : Type 0} → Ghosts S → Kept S → Kept S → Run → Result Run CommitEnd → Type 0
-AnswersSo g old new batch (Ok receipt) = (records : List Record) → Holds g old records → Rests (state g new.conn) (put_rows (rows_of records) (records_of batch.steps))
-AnswersSo g old new batch (Err (ends.Unchanged back reason)) = (records : List Record) → Holds g old records → Rests (state g new.conn) (rows_of records)
-AnswersSo g old new batch (Err (ends.Doubtful doubt cause)) =
+abbrev pub LeavesRows : {S : Type 0} → Ghosts S → VaultValue S → VaultValue S → BatchValue → Result BatchValue CommitEnd → Type 0
+LeavesRows g old new batch (Ok receipt) = (records : List Record) → Holds g old records → Rests (state g new.conn) (put_rows (rows_of records) (records_of batch.steps))
+LeavesRows g old new batch (Err (ends.Unchanged back reason)) = (records : List Record) → Holds g old records → Rests (state g new.conn) (rows_of records)
+LeavesRows g old new batch (Err (ends.Doubtful doubt cause)) =
     (records : List Record) → Holds g old records → MayLeave (state g new.conn) (λ r. (r ≡ rows_of records) ⊎ (r ≡ put_rows (rows_of records) (records_of batch.steps)))
 
 -- what the answer says of the history itself
-abbrev pub AnswersOver : {S : Type 0} → Ghosts S → Kept S → Kept S → Run → Result Run CommitEnd → Type 0
-AnswersOver g old new batch (Ok receipt) = (records : List Record) → Holds g old records → Keeps g new (records ++ records_of batch.steps)
-AnswersOver g old new batch (Err (ends.Unchanged back reason)) = (records : List Record) → Holds g old records → Keeps g new records
-AnswersOver g old new batch (Err (ends.Doubtful doubt cause)) = (records : List Record) → Holds g old records → RestsInDoubt (state g new.conn) records (records_of batch.steps)
+abbrev pub LeavesHistory : {S : Type 0} → Ghosts S → VaultValue S → VaultValue S → BatchValue → Result BatchValue CommitEnd → Type 0
+LeavesHistory g old new batch (Ok receipt) = (records : List Record) → Holds g old records → HoldsOnDisk g new (records ++ records_of batch.steps)
+LeavesHistory g old new batch (Err (ends.Unchanged back reason)) = (records : List Record) → Holds g old records → HoldsOnDisk g new records
+LeavesHistory g old new batch (Err (ends.Doubtful doubt cause)) = (records : List Record) → Holds g old records → RestsInDoubt (state g new.conn) records (records_of batch.steps)
 
 -- the batch isn't legal after a history that the vault holds
-abbrev pub IsIllegal : {S : Type 0} → Ghosts S → Kept S → Run → Type 0
+abbrev pub IsIllegal : {S : Type 0} → Ghosts S → VaultValue S → BatchValue → Type 0
 IsIllegal g old batch = (records : List Record) → Holds g old records → ¬ IsLegal (records ++ records_of batch.steps)

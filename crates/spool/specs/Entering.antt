@@ -90,11 +90,11 @@ abbrev pub RestsInDoubt : State → List Record → List Record → Type 0
 RestsInDoubt s records entries = MayLeave s (λ r. (r ≡ rows_of records) ⊎ (IsLegal (records ++ entries) × (r ≡ rows_of (records ++ entries))))
 
 -- how the write of records ends
-abbrev pub EndsAs : State → State → ℕ → List Record → WriteEnd → Type 0
-EndsAs old new next entries Committed = (records : List Record) → HoldsAt old next records → IsLegal (records ++ entries) × Rests new (rows_of (records ++ entries))
-EndsAs old new next entries Illegal = (records : List Record) → HoldsAt old next records → (¬ IsLegal (records ++ entries)) × Rests new (rows_of records)
-EndsAs old new next entries OutOfMemory = (rows : Rows) → Stands old rows → Rests new rows
-EndsAs old new next entries (Doubtful cause) = (records : List Record) → HoldsAt old next records → RestsInDoubt new records entries
+abbrev pub WriteEndsAs : State → State → ℕ → List Record → WriteEnd → Type 0
+WriteEndsAs old new next entries Committed = (records : List Record) → HoldsAt old next records → IsLegal (records ++ entries) × Rests new (rows_of (records ++ entries))
+WriteEndsAs old new next entries Illegal = (records : List Record) → HoldsAt old next records → (¬ IsLegal (records ++ entries)) × Rests new (rows_of records)
+WriteEndsAs old new next entries OutOfMemory = (rows : Rows) → Stands old rows → Rests new rows
+WriteEndsAs old new next entries (Doubtful cause) = (records : List Record) → HoldsAt old next records → RestsInDoubt new records entries
 
 -- ---- which error was met where
 

@@ -1,4 +1,4 @@
-pub mod Runs
+pub mod Batches
 pub mod Vaults
 pub mod Entering
 pub mod Opening

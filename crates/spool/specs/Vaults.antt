@@ -10,14 +10,14 @@ use Rattle.relay_types.specs.Rows.{rows_of}
 use Rattle.spool_sql.specs.Steps.{Stands}
 
 -- the connection, the mark of the opening, the number of the next record, and whether a commit was doubtful
-pub record Kept (S : Type 0) : Type 0 where
+pub record VaultValue (S : Type 0) : Type 0 where
   pub conn : Held S
   pub mark : ℕ
   pub next : ℕ
   pub closed : Bool
 
-abbrev pub kept_code : {S : Type 0} → Coded S → Coded (Kept S)
-kept_code {S} store =
+abbrev pub vault_code : {S : Type 0} → Coded S → Coded (VaultValue S)
+vault_code {S} store =
     code_by (Held S × (ℕ × (ℕ × Bool))) (coded× (held_code store) (coded× coded_ℕ (coded× coded_ℕ coded_bool)))
     (λ v. (v.conn, (v.mark, (v.next, v.closed)))) (λ p. record { conn = p.0; mark = p.1.0; next = p.1.1.0; closed = p.1.1.1 }) (λ _. refl)
 
@@ -28,5 +28,5 @@ pub record HoldsAt (s : State) (count : ℕ) (records : List Record) : Type 0 wh
   pub next : count ≡ length records
 
 -- the vault's store has the rows of this legal history, and its next record is the one behind it
-abbrev pub Holds : {S : Type 0} → Ghosts S → Kept S → List Record → Type 0
+abbrev pub Holds : {S : Type 0} → Ghosts S → VaultValue S → List Record → Type 0
 Holds g v records = HoldsAt (state g v.conn) v.next records

@@ -2,7 +2,7 @@
 ghost use Rattle.std.specs.Prelude.{◌≡◌, ◌≤◌, ◌<◌, ◌+◌, [], ◌∷◌, length};
 ghost use Rattle.relay_types.specs.declared.limits.TheConstants.{MAX_RECORDS};
 ghost use Rattle.relay_types.specs.Records.{records_of};
-ghost use Rattle.spool.specs.Runs.{ArePutsAndAccepts, span_of};
+ghost use Rattle.spool.specs.Batches.{ArePutsAndAccepts, doubt_of};
 
 use relay_types::Step;
 use std::marker::Model;
@@ -20,9 +20,9 @@ pub struct Batch {
 impl Model for Batch {
     ghost use Rattle.std.specs.Prelude.{◌<◌, [], ◌∷◌};
     ghost use Rattle.relay_types.specs.declared.limits.TheConstants.{MAX_RECORDS};
-    ghost use Rattle.spool.specs.Runs.{Run, ArePutsAndAccepts};
+    ghost use Rattle.spool.specs.Batches.{BatchValue, ArePutsAndAccepts};
 
-    ghost Value = { Run };
+    ghost Value = { BatchValue };
 
     ghost view = { λ b. record { mark = b.mark; from = b.from; steps = b.step ∷ [] } };
 
@@ -56,7 +56,7 @@ impl Batch {
 
     /// The number after the last record. A step has one record.
     pub fn upto(&self) -> u64
-        ensures number { result ≡ (span_of self.now).upto }
+        ensures number { result ≡ (doubt_of self.now).upto }
         ensures room { result ≤ MAX_RECORDS }
     {
         self.step.record();
@@ -86,9 +86,9 @@ pub struct Receipt {
 }
 
 impl Model for Receipt {
-    ghost use Rattle.spool.specs.Runs.{Run};
+    ghost use Rattle.spool.specs.Batches.{BatchValue};
 
-    ghost Value = { Run };
+    ghost Value = { BatchValue };
 
     ghost view = { λ r. r.batch };
 }

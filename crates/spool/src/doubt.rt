@@ -1,6 +1,6 @@
 //! What is left of a commit of which nobody knows how it ended.
 ghost use Rattle.std.specs.Prelude.{◌≡◌};
-ghost use Rattle.spool.specs.Runs.{span_of};
+ghost use Rattle.spool.specs.Batches.{doubt_of};
 
 use crate::batch::Batch;
 use std::marker::Model;
@@ -14,9 +14,9 @@ pub struct Doubt {
 }
 
 impl Model for Doubt {
-    ghost use Rattle.spool.specs.Runs.{Span};
+    ghost use Rattle.spool.specs.Batches.{DoubtValue};
 
-    ghost Value = { Span };
+    ghost Value = { DoubtValue };
 
     ghost view = { λ d. record { mark = d.mark; from = d.from; upto = d.upto } };
 }
@@ -24,7 +24,7 @@ impl Model for Doubt {
 impl Doubt {
     // The places of this batch.
     pub(crate) fn over(batch: Batch) -> Doubt
-        ensures { result ≡ span_of batch }
+        ensures { result ≡ doubt_of batch }
     {
         Doubt {
             mark: batch.mark(),

@@ -3,7 +3,7 @@ ghost use Rattle.std.specs.Prelude.{◌<◌, ◌≤◌, ◌+◌, [], ◌∷◌, 
 ghost use Rattle.relay_types.specs.declared.limits.TheConstants.{MAX_RECORDS};
 ghost use Rattle.relay_types.specs.Records.{records_of};
 ghost use Rattle.spool_sql.specs.Steps.{Answers, IsOfSame, SparesCommit};
-ghost use Rattle.spool.specs.Runs.{is_put_or_accept, ArePutsAndAccepts};
+ghost use Rattle.spool.specs.Batches.{is_put_or_accept, ArePutsAndAccepts};
 ghost use Rattle.spool.specs.Entering.{Enters, EntersWhole};
 
 use crate::accept::write_accept;

@@ -5,8 +5,8 @@ ghost use Rattle.sqlite.specs.Held.{state};
 ghost use Rattle.relay_types.specs.declared.limits.TheConstants.{MAX_RECORDS};
 ghost use Rattle.relay_types.specs.Records.{records_of};
 ghost use Rattle.spool_sql.specs.Steps.{IfClean, SurvivesAs};
-ghost use Rattle.spool.specs.Runs.{ArePutsAndAccepts};
-ghost use Rattle.spool.specs.Entering.{Commits, CommitsAll, StaysAs, EndsAs, IsUnwritten, Tells};
+ghost use Rattle.spool.specs.Batches.{ArePutsAndAccepts};
+ghost use Rattle.spool.specs.Entering.{Commits, CommitsAll, StaysAs, WriteEndsAs, IsUnwritten, Tells};
 
 use crate::records::write_records;
 use relay_types::Step;
@@ -32,7 +32,7 @@ pub(crate) fn write_steps<S: Alter>(conn: &mut Connection<S>, next: u64, steps: 
     requires settled { conn.old.in_transaction ≡ false }
     requires room { next + length (records_of steps.now) ≤ MAX_RECORDS }
     requires taken { ArePutsAndAccepts steps.now }
-    ensures ends { IfClean S.Store conn.old conn.new (λ a b. EndsAs a b next (records_of steps.now) result) }
+    ensures ends { IfClean S.Store conn.old conn.new (λ a b. WriteEndsAs a b next (records_of steps.now) result) }
     ensures clean { IfClean S.Store conn.old conn.new (λ a _. HasCleanDisk a) }
     ensures mode { conn.new.in_transaction ≡ false }
 {

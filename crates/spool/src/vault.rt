@@ -5,7 +5,7 @@ ghost use Rattle.sqlite.specs.Held.{state};
 ghost use Rattle.relay_types.specs.Records.{records_of};
 ghost use Rattle.spool_sql.specs.Steps.{IfClean};
 ghost use Rattle.spool.specs.Opening.{has_ours, IsRefusedFor, LeavesAt};
-ghost use Rattle.spool.specs.Commits.{IsOpened, IsNext, HandsBack, IsDoubt, IsRefused, answer_of, AnswersSo, AnswersOver, IsIllegal};
+ghost use Rattle.spool.specs.Commits.{IsOpened, IsNext, HandsBack, IsDoubt, IsRefused, answer_of, LeavesRows, LeavesHistory, IsIllegal};
 
 use crate::batch::{Batch, Receipt};
 use crate::create::create_store;
@@ -26,11 +26,11 @@ pub struct Vault<S: Alter> {
 
 impl<S: Alter> Model for Vault<S> {
     ghost use Rattle.std.specs.Prelude.{◌≡◌, false};
-    ghost use Rattle.spool.specs.Vaults.{Kept, kept_code};
+    ghost use Rattle.spool.specs.Vaults.{VaultValue, vault_code};
 
-    ghost Value = { Kept S };
+    ghost Value = { VaultValue S };
 
-    ghost coded = { kept_code S.code };
+    ghost coded = { vault_code S.code };
 
     ghost view = { λ v. record { conn = v.conn; mark = v.mark; next = v.next; closed = v.closed } };
 
@@ -79,9 +79,9 @@ impl<S: Alter> Vault<S> {
             ≡ cond (is_ok result) (self.old.next + length (records_of batch.steps)) self.old.next }
         ensures doubt { IsTrue self.new.closed ↔ (IsTrue self.old.closed ⊎ IsDoubt result) }
         ensures rows { IfClean S.Store self.old.conn self.new.conn
-            (λ _ _. AnswersSo S.Store self.old self.new batch result) }
+            (λ _ _. LeavesRows S.Store self.old self.new batch result) }
         ensures history { IfClean S.Store self.old.conn self.new.conn
-            (λ _ _. AnswersOver S.Store self.old self.new batch result) }
+            (λ _ _. LeavesHistory S.Store self.old self.new batch result) }
         ensures illegal { IfClean S.Store self.old.conn self.new.conn (λ _ _.
             result ≡ Err (CommitEnd.Unchanged batch Unchanged.Illegal) → IsIllegal S.Store self.old batch) }
         ensures clean { IfClean S.Store self.old.conn self.new.conn (λ a _. HasCleanDisk a) }

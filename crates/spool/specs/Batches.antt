@@ -5,20 +5,20 @@ use Rattle.relay_types.specs.declared.record.Record.{Record}
 use Rattle.relay_types.specs.declared.record.Record.TheVariants.{Put, Secrets, Enabled, Accept, Outcome}
 use Rattle.relay_types.specs.Records.{History, records_of}
 
--- the steps of one opening from a place on
-pub record Run : Type 0 where
+-- the steps of a batch or a receipt, with the mark of its opening and the number of its first record
+pub record BatchValue : Type 0 where
   pub mark : ℕ
   pub from : ℕ
   pub steps : History
 
--- a mark and the places of a run
-pub record Span : Type 0 where
+-- the mark of a batch and the places of its records
+pub record DoubtValue : Type 0 where
   pub mark : ℕ
   pub from : ℕ
   pub upto : ℕ
 
-abbrev pub span_of : Run → Span
-span_of run = record { mark = run.mark; from = run.from; upto = run.from + length (records_of run.steps) }
+abbrev pub doubt_of : BatchValue → DoubtValue
+doubt_of batch = record { mark = batch.mark; from = batch.from; upto = batch.from + length (records_of batch.steps) }
 
 -- the records that this stage writes
 abbrev pub is_put_or_accept : Record → Bool
