@@ -74,6 +74,7 @@ fn replays_scripts(rt: HostRuntime) -> Result<(), Fail> {
         ("seal \n", "", "relayd: line 10: bad line\n", 2),
         ("submit 01 a m2 -\n", "", "relayd: line 10: bad line\n", 2),
         ("submit 1 a m2 \n", "", "relayd: line 10: bad line\n", 2),
+        ("submit 1 a m2 7g\n", "", "relayd: line 10: bad line\n", 2),
     ] {
         let text = after_first(rt.alloc(), tail)?;
         let told = tell(rt.alloc(), &["relayd", "replay"], text.as_bytes());
@@ -92,6 +93,12 @@ fn replays_an_empty_script(rt: HostRuntime) {
         "",
         0,
     );
+}
+
+#[test]
+fn tells_its_version(rt: HostRuntime) {
+    let told = tell(rt.alloc(), &["relayd", "--version"], b"");
+    check(&rt, &told, "relayd 0.1.0\n", "", 0);
 }
 
 #[test]

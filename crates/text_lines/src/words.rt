@@ -164,7 +164,8 @@ fn read_bytes(alloc: Global, word: &[u8]) -> Result<Vec<u8>, WordFault>
 }
 
 fn hex_fault(error: FromHexError) -> WordFault
-    ensures { error ≡ FromHexError.OutOfMemory → result ≡ WordFault.OutOfMemory }
+    ensures lacked { error ≡ FromHexError.OutOfMemory → result ≡ WordFault.OutOfMemory }
+    ensures alone { result ≡ WordFault.OutOfMemory → error ≡ FromHexError.OutOfMemory }
 {
     match error {
         FromHexError::OutOfMemory => WordFault::OutOfMemory,

@@ -9,6 +9,6 @@ returns-in-Ok-clause-value c = IsBodyWord-decoded c.args.word.now c.in-Ok.bytes.
 pub returns-in-Err-clause-bad : goal.returns-in-Err-clause-bad
 returns-in-Err-clause-bad c = λ e bytes h.
     elim c.in-Err.ensures.err [
-      | inl lacked ↦ let other = c.hex_fault.ensures lacked in cc
+      | inl lacked ↦ let other = c.hex_fault.ensures.lacked lacked in cc
       | inr refused ↦ no_body c.args.word.now bytes c.in-Err.error (λ dash. bytes_not_equal _ _ c.eq.result c.eq.ensures c.if-eq.false (dash ∙ sym c.as_slice.ensures)) refused h
     ]
