@@ -19,10 +19,10 @@ module _ (Says More : List (List ℕ) → List ℕ → Type 0) (IsBad : List ℕ
   at_end (Ok done) text written (lines, is, within, says) = (lines, is, within, more lines written says)
   at_end (Err (BadLine number)) text written (before, bad, rest, is, within, place, refused, says) = (before, bad, rest, is, within, place, refused, more before written says)
   at_end (Err TooLong) text written (before, rest, is, clean, within, long, says) = (before, rest, is, clean, within, long, more before written says)
-  at_end (Err Read) text written (before, rest, left, is, within, says) = (before, rest, left, is, within, more before (written ++ left) says)
-  at_end (Err Write) text written (before, rest, left, is, within, says) = (before, rest, left, is, within, more before (written ++ left) says)
-  at_end (Err Lost) text written (before, rest, left, is, within, says) = (before, rest, left, is, within, more before (written ++ left) says)
-  at_end (Err OutOfMemory) text written (before, rest, left, is, within, says) = (before, rest, left, is, within, more before (written ++ left) says)
+  at_end (Err Read) text written (before, rest, is, within, says) = (before, rest, is, within, more before written says)
+  at_end (Err Write) text written (left, (before, rest, is, within, says)) = (left, (before, rest, is, within, more before (written ++ left) says))
+  at_end (Err Lost) text written none = none
+  at_end (Err OutOfMemory) text written (before, rest, is, within, says) = (before, rest, is, within, more before written says)
 
   pub Ends-more : (input old new : Option (List ℕ)) (end : Result (Unit {0}) StreamFault) → Ends Says IsBad input old new end → Ends More IsBad input old new end
   Ends-more input old new end ends text had known had_is =

@@ -8,7 +8,7 @@ use Rattle.std.proofs.lemmas.Bool.{eqb-true, and_parts}
 use Rattle.text_lines.specs.declared.fault.StreamFault.{StreamFault}
 use Rattle.text_lines.specs.declared.fault.StreamFault.TheVariants.{BadLine, TooLong, Read, Write, Lost, OutOfMemory}
 use Rattle.text_lines.specs.Streams.{LinesValue, left, has_no_feed, TakesLine, IsTooLong, AppendsFront}
-use Rattle.text_lines.specs.Ends.{fed, HasLines, AreWithinBounds, IsWhole, IsUpToBad, IsUpToTooLong, IsCut, IsWrittenAtEnd, CutsLine, EndsLine}
+use Rattle.text_lines.specs.Ends.{fed, HasLines, AreWithinBounds, IsWhole, IsUpToBad, IsUpToTooLong, IsUpToLine, IsCut, IsWrittenAtEnd, CutsLine, EndsLine}
 use Rattle.text_lines.proofs.FeedLaws.{IsTooLong-none}
 use Rattle.text_lines.proofs.StreamLaws.{Appends-known}
 use Rattle.text_lines.specs.declared.limits.TheConstants.{MAX_LINE_BYTES, MAX_LINES}
@@ -199,10 +199,10 @@ whole Says text had reading remaining contents p says end =
     let none : p.rest ≡ [] = subst IsAtEnd p.is_left end in
     (p.written, p.is_written, (p.lines, HasLines-from_all text p.lines (subst (HasLinesBefore text p.lines) none p.taken), p.within, says))
 
-cut_at : (Says : List (List ℕ) → List ℕ → Type 0) (text : List ℕ) (lines : List (List ℕ)) (rest written : List ℕ) → HasLinesBefore text lines rest → AreWithinBounds lines → Says lines written → IsCut Says text written
-cut_at Says text lines rest written taken within says =
+up_to_line : (Says : List (List ℕ) → List ℕ → Type 0) (text : List ℕ) (lines : List (List ℕ)) (rest written : List ℕ) → HasLinesBefore text lines rest → AreWithinBounds lines → Says lines written → IsUpToLine Says text written
+up_to_line Says text lines rest written taken within says =
     let all = goes_on text lines rest taken in
-    (lines, all.0, [], all.1, within, subst (Says lines) (sym (append-nil written)) says)
+    (lines, all.0, all.1, within, says)
 
 too_long_at : (Says : List (List ℕ) → List ℕ → Type 0) (text : List ℕ) (lines : List (List ℕ)) (rest written : List ℕ) → HasLinesBefore text lines rest → AreWithinBounds lines → IsTooLong (length lines) (Some rest) → Says lines written
     → IsUpToTooLong Says text written
@@ -219,8 +219,8 @@ ends_between Says IsBad text had reading remaining contents fault p says why lon
     at (inl e) =
         let behind : IsTooLong (length p.lines) (Some p.rest) = subst (λ n. IsTooLong n (Some p.rest)) p.count (subst (IsTooLong reading.count) p.is_left (long e)) in
         subst (λ f. IsWrittenAtEnd Says IsBad (Err f) text p.written) (sym e) (too_long_at Says text p.lines p.rest p.written p.taken p.within behind says)
-    at (inr (inl e)) = subst (λ f. IsWrittenAtEnd Says IsBad (Err f) text p.written) (sym e) (cut_at Says text p.lines p.rest p.written p.taken p.within says)
-    at (inr (inr e)) = subst (λ f. IsWrittenAtEnd Says IsBad (Err f) text p.written) (sym e) (cut_at Says text p.lines p.rest p.written p.taken p.within says)
+    at (inr (inl e)) = subst (λ f. IsWrittenAtEnd Says IsBad (Err f) text p.written) (sym e) (up_to_line Says text p.lines p.rest p.written p.taken p.within says)
+    at (inr (inr e)) = subst (λ f. IsWrittenAtEnd Says IsBad (Err f) text p.written) (sym e) (up_to_line Says text p.lines p.rest p.written p.taken p.within says)
 
 -- a fault before the first line is read
 pub ends_at_once : (Says : List (List ℕ) → List ℕ → Type 0) (IsBad : List ℕ → Type 0) (text had : List ℕ) (contents : Option (List ℕ)) (fault : StreamFault) → Says [] [] → contents ≡ Some had
@@ -228,20 +228,27 @@ pub ends_at_once : (Says : List (List ℕ) → List ℕ → Type 0) (IsBad : Lis
 ends_at_once Says IsBad text had contents fault says output why = ([], output ∙ ap Some (sym (append-nil had)), at why)
   where
     at : (fault ≡ Lost) ⊎ (fault ≡ OutOfMemory) → IsWrittenAtEnd Says IsBad (Err fault) text []
-    at (inl e) = subst (λ f. IsWrittenAtEnd Says IsBad (Err f) text []) (sym e) (cut_at Says text [] text [] (inl (refl, refl)) none_within says)
-    at (inr e) = subst (λ f. IsWrittenAtEnd Says IsBad (Err f) text []) (sym e) (cut_at Says text [] text [] (inl (refl, refl)) none_within says)
+    at (inl e) = subst (λ f. IsWrittenAtEnd Says IsBad (Err f) text []) (sym e) refl
+    at (inr e) = subst (λ f. IsWrittenAtEnd Says IsBad (Err f) text []) (sym e) (up_to_line Says text [] text [] (inl (refl, refl)) none_within says)
+
+-- the line that was read stays unanswered
+before_line : {Holds : List (List ℕ) → List ℕ → Type 0} (Says : List (List ℕ) → List ℕ → Type 0) (text had : List ℕ) (reading : LinesValue) (remaining old new : Option (List ℕ))
+    (t : Taken Holds text had reading remaining old) → Says t.lines t.written → Keeps old new → Written (IsUpToLine Says text) had new
+before_line Says text had reading remaining old new t says same =
+    let all = goes_on text (t.lines ++ reading.line ∷ []) t.rest t.taken in
+    (t.written, kept old new (had ++ t.written) t.is_written same, (t.lines, reading.line ∷ all.0, subst (HasLines text) (append_assoc t.lines (reading.line ∷ []) all.0) all.1, within_front t.lines reading.line t.within, says))
 
 cut_line : {Holds : List (List ℕ) → List ℕ → Type 0} (Says : List (List ℕ) → List ℕ → Type 0) (Gives : List ℕ → Type 0) (text had : List ℕ) (reading : LinesValue) (remaining old new : Option (List ℕ))
     (t : Taken Holds text had reading remaining old) → Says t.lines t.written → ((answer : List ℕ) → Gives answer → Says (t.lines ++ reading.line ∷ []) (t.written ++ answer)) → CutsLine Gives old new
     → Written (IsCut Says text) had new
 cut_line Says Gives text had reading remaining old new t says more (inl same) =
-    let all = goes_on text (t.lines ++ reading.line ∷ []) t.rest t.taken in
-    (t.written, kept old new (had ++ t.written) t.is_written same, (t.lines, reading.line ∷ all.0, [], subst (HasLines text) (append_assoc t.lines (reading.line ∷ []) all.0) all.1, within_front t.lines reading.line t.within, subst (Says t.lines) (sym (append-nil t.written)) says))
+    let stays = before_line Says text had reading remaining old new t says same in
+    (stays.0, stays.1, ([], subst (IsUpToLine Says text) (sym (append-nil stays.0)) stays.2))
 cut_line Says Gives text had reading remaining old new t says more (inr (answer, gives, (rest, (front, is, grows)))) =
     let all = goes_on text (t.lines ++ reading.line ∷ []) t.rest t.taken in (
       t.written ++ front,
       Appends-known old new (had ++ t.written) front t.is_written grows ∙ ap Some (append_assoc had t.written front),
-      (t.lines ++ reading.line ∷ [], all.0, rest, all.1, t.within, subst (Says (t.lines ++ reading.line ∷ [])) (ap (λ xs. t.written ++ xs) is ∙ sym (append_assoc t.written front rest)) (more answer gives)),
+      (rest, (t.lines ++ reading.line ∷ [], all.0, all.1, t.within, subst (Says (t.lines ++ reading.line ∷ [])) (ap (λ xs. t.written ++ xs) is ∙ sym (append_assoc t.written front rest)) (more answer gives))),
     )
 
 bad_line : {Holds : List (List ℕ) → List ℕ → Type 0} (Says : List (List ℕ) → List ℕ → Type 0) (IsBad : List ℕ → Type 0) (text had : List ℕ) (reading : LinesValue) (remaining old new : Option (List ℕ)) (number : ℕ)
@@ -259,14 +266,14 @@ ends_at_line Says IsBad Gives text had reading remaining old new TooLong t says 
 ends_at_line Says IsBad Gives text had reading remaining old new Read t says more h = absurd h
 ends_at_line Says IsBad Gives text had reading remaining old new Write t says more h = cut_line Says Gives text had reading remaining old new t says more h
 ends_at_line Says IsBad Gives text had reading remaining old new Lost t says more h = absurd h
-ends_at_line Says IsBad Gives text had reading remaining old new OutOfMemory t says more h = cut_line Says Gives text had reading remaining old new t says more h
+ends_at_line Says IsBad Gives text had reading remaining old new OutOfMemory t says more h = before_line Says text had reading remaining old new t says h
 
 -- what a written answer comes to
 pub written_line : (Gives IsBad : List ℕ → Type 0) (lines : LinesValue) (old new : Option (List ℕ)) (answer : List ℕ) (end : Result (Unit {0}) StreamFault) → Gives answer → OnOk end (Appends old new answer)
-    → OnErr end (AppendsFront old new answer) → IfErr end (λ fault. (fault ≡ Write) ⊎ (fault ≡ OutOfMemory)) → EndsLine Gives IsBad lines old new end
-written_line Gives IsBad lines old new answer (Ok done) gives all front why = (answer, gives, all)
-written_line Gives IsBad lines old new answer (Err fault) gives all front (inl e) = subst (λ f. EndsLine Gives IsBad lines old new (Err f)) (sym e) (inr (answer, gives, front))
-written_line Gives IsBad lines old new answer (Err fault) gives all front (inr e) = subst (λ f. EndsLine Gives IsBad lines old new (Err f)) (sym e) (inr (answer, gives, front))
+    → OnErr end (AppendsFront old new answer) → (end ≡ Err OutOfMemory → Keeps old new) → IfErr end (λ fault. (fault ≡ Write) ⊎ (fault ≡ OutOfMemory)) → EndsLine Gives IsBad lines old new end
+written_line Gives IsBad lines old new answer (Ok done) gives all front lacked why = (answer, gives, all)
+written_line Gives IsBad lines old new answer (Err fault) gives all front lacked (inl e) = subst (λ f. EndsLine Gives IsBad lines old new (Err f)) (sym e) (inr (answer, gives, front))
+written_line Gives IsBad lines old new answer (Err fault) gives all front lacked (inr e) = subst (λ f. EndsLine Gives IsBad lines old new (Err f)) (sym e) (lacked (ap Err e))
 
 -- a fault that is handed on
 pub exits : (Says : List (List ℕ) → List ℕ → Type 0) (IsBad : List ℕ → Type 0) (end : Result (Unit {0}) StreamFault) (text had : List ℕ) (contents : Option (List ℕ)) (fault : StreamFault) → end ≡ Err fault

@@ -39,20 +39,23 @@ IsUpToTooLong Says text written =
     (before : List (List ℕ)) × (rest : List ℕ) × (text ≡ fed before ++ rest) × IsTrue (list_all has_no_feed before)
     × AreWithinBounds before × IsTooLong (length before) (Some rest) × Says before written
 
+-- the answers to the first lines
+abbrev pub IsUpToLine : (List (List ℕ) → List ℕ → Type 0) → List ℕ → List ℕ → Type 0
+IsUpToLine Says text written = (before rest : List (List ℕ)) × HasLines text (before ++ rest) × AreWithinBounds before × Says before written
+
 -- a front of the answers to the first lines
 abbrev pub IsCut : (List (List ℕ) → List ℕ → Type 0) → List ℕ → List ℕ → Type 0
-IsCut Says text written =
-    (before rest : List (List ℕ)) × (more : List ℕ) × HasLines text (before ++ rest) × AreWithinBounds before × Says before (written ++ more)
+IsCut Says text written = (more : List ℕ) × IsUpToLine Says text (written ++ more)
 
--- what was written at this end
+-- What was written at this end: only a writer's fault cuts an answer.
 abbrev pub IsWrittenAtEnd : (List (List ℕ) → List ℕ → Type 0) → (List ℕ → Type 0) → Result (Unit {0}) StreamFault → List ℕ → List ℕ → Type 0
 IsWrittenAtEnd Says IsBad (Ok done) text written = IsWhole Says text written
 IsWrittenAtEnd Says IsBad (Err (BadLine number)) text written = IsUpToBad Says IsBad number text written
 IsWrittenAtEnd Says IsBad (Err TooLong) text written = IsUpToTooLong Says text written
-IsWrittenAtEnd Says IsBad (Err Read) text written = IsCut Says text written
+IsWrittenAtEnd Says IsBad (Err Read) text written = IsUpToLine Says text written
 IsWrittenAtEnd Says IsBad (Err Write) text written = IsCut Says text written
-IsWrittenAtEnd Says IsBad (Err Lost) text written = IsCut Says text written
-IsWrittenAtEnd Says IsBad (Err OutOfMemory) text written = IsCut Says text written
+IsWrittenAtEnd Says IsBad (Err Lost) text written = written ≡ []
+IsWrittenAtEnd Says IsBad (Err OutOfMemory) text written = IsUpToLine Says text written
 
 -- Known bytes of a reader are the text, and those of a writer grew by what this end says.
 abbrev pub Ends : (List (List ℕ) → List ℕ → Type 0) → (List ℕ → Type 0) → Option (List ℕ) → Option (List ℕ) → Option (List ℕ) → Result (Unit {0}) StreamFault → Type 0
@@ -92,4 +95,4 @@ EndsLine Gives IsBad lines old new (Err TooLong) = ⊥
 EndsLine Gives IsBad lines old new (Err Read) = ⊥
 EndsLine Gives IsBad lines old new (Err Write) = CutsLine Gives old new
 EndsLine Gives IsBad lines old new (Err Lost) = ⊥
-EndsLine Gives IsBad lines old new (Err OutOfMemory) = CutsLine Gives old new
+EndsLine Gives IsBad lines old new (Err OutOfMemory) = Keeps old new
