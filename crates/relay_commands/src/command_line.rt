@@ -1,7 +1,10 @@
 //! The command line: which words name which command, and what help says.
-ghost use Rattle.std.specs.Prelude.{◌≤◌};
+ghost use Rattle.std.specs.Prelude.{◌≡◌, ◌≤◌, IfErr};
+ghost use Rattle.std.specs.Io.KnownBytes.{Keeps};
+ghost use Rattle.text_lines.specs.declared.fault.StreamFault.TheVariants as command;
+ghost use Rattle.relay_commands.specs.declared.ends.CommandFault.TheVariants.{Ended};
 
-use crate::ends::{CommandFault, DONE, USAGE, end};
+use crate::ends::{CommandFault, USAGE, end};
 use crate::replay_command::replay;
 use crate::sign_command::sign;
 use crate::vegas_command::vegas;
@@ -10,6 +13,7 @@ use clap::{Arg, ArgAction, ArgMatches, Command};
 use std::alloc::{AllocError, Global};
 use std::convert::AsStr;
 use std::io::{Read, Write};
+use text_lines::StreamFault;
 
 /// What `--version` prints behind the program's name.
 pub const VERSION: &str = "0.1.0";
@@ -40,7 +44,7 @@ const VEGAS_HELP: &str = "Lines: RTT INFLIGHT ok, or RTT INFLIGHT drop
 A bad line ends the samples with status 2; the limits before it stand.";
 
 /// Runs the command that the words name, the first of which is the program's own: 0 done, 1 usage, 2 what was read,
-/// 3 every other fault.
+/// 3 every other fault. Help and the version go to the output.
 pub fn run<S: AsStr, R: Read, O: Write, E: Write>(
     alloc: Global,
     words: &[S],
@@ -48,7 +52,9 @@ pub fn run<S: AsStr, R: Read, O: Write, E: Write>(
     output: &mut O,
     errors: &mut E,
 ) -> u8
-    ensures { result ≤ 3 }
+    ensures done { result ≡ 0 → Keeps (E.contents errors.old) (E.contents errors.new) }
+    ensures usage { result ≡ 1 → Keeps (O.contents output.old) (O.contents output.new) }
+    ensures most { result ≤ 3 }
 {
     let matches = match parse(alloc, words) {
         Ok(matches) => matches,
@@ -72,14 +78,13 @@ fn parse<'a, S: AsStr>(alloc: Global, words: &'a [S]) -> Result<ArgMatches<'a>, 
 
 // Shows what the parser answers in place of a command: help, or what is wrong with the words.
 fn show<O: Write, E: Write>(error: &Error, output: &mut O, errors: &mut E) -> u8
-    ensures { result ≤ 3 }
+    ensures done { result ≡ 0 → Keeps (E.contents errors.old) (E.contents errors.new) }
+    ensures usage { result ≡ 1 → Keeps (O.contents output.old) (O.contents output.new) }
+    ensures most { result ≤ 3 }
 {
     match error.kind() {
         ErrorKind::OutOfMemory => end(errors, Err(CommandFault::from(AllocError))),
-        ErrorKind::DisplayHelp | ErrorKind::DisplayVersion => {
-            let _ = write!(output, "{error}");
-            DONE
-        }
+        ErrorKind::DisplayHelp | ErrorKind::DisplayVersion => end(errors, print(error, output)),
         _ => {
             let _ = write!(errors, "{error}");
             USAGE
@@ -87,7 +92,17 @@ fn show<O: Write, E: Write>(error: &Error, output: &mut O, errors: &mut E) -> u8
     }
 }
 
-/// Signs the body on the reader as the words ask.
+// Prints help or the version.
+fn print<O: Write>(shown: &Error, output: &mut O) -> Result<(), CommandFault>
+    ensures fault { IfErr result (λ fault. fault ≡ Ended command.Write) }
+{
+    match write!(output, "{shown}") {
+        Ok(()) => Ok(()),
+        Err(_) => Err(CommandFault::Ended(StreamFault::Write)),
+    }
+}
+
+// Signs the body on the reader as the words ask.
 fn sign_words<R: Read, O: Write, E: Write>(
     alloc: Global,
     words: &ArgMatches<'_>,
@@ -95,7 +110,9 @@ fn sign_words<R: Read, O: Write, E: Write>(
     output: &mut O,
     errors: &mut E,
 ) -> u8
-    ensures { result ≤ 3 }
+    ensures done { result ≡ 0 → Keeps (E.contents errors.old) (E.contents errors.new) }
+    ensures usage { result ≡ 1 → Keeps (O.contents output.old) (O.contents output.new) }
+    ensures most { result ≤ 3 }
 {
     let (id, at) = (words.get_str("id"), words.get_str("at"));
     let (Some(id), Some(at), Some(secrets)) = (id, at, words.get_strs("secret")) else {
