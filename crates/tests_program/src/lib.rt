@@ -6,3 +6,5 @@
 mod ends;
 #[cfg(test)]
 mod program;
+#[cfg(test)]
+mod streams;

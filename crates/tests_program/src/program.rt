@@ -1,279 +1,132 @@
 // The commands over readers and writers in memory. Expected texts are those of the rules, worked by hand.
 
-use relay_commands::{run, sign};
-use std::alloc::{AllocError, Global};
-use std::io::{self, ErrorKind, Read, Write};
-use std::process::Abort;
+use crate::streams::{check, tell};
 use std::test::Fail;
 
-const PUT: &str = "put a http://127.0.0.1:9000/hook 100 whsec_MDEyMzQ1Njc4OTAxMjM0NTY3ODkwMTIz\n";
+// The first path, and then each reply and refusal that a short script can have.
+pub(crate) const SCRIPT: &str =
+    "put a http://127.0.0.1:9000/hook 100 whsec_MDEyMzQ1Njc4OTAxMjM0NTY3ODkwMTIz
+seal
+commit
+settle
+submit 1000 a msg_1 7b7d
+seal
+commit
+settle
+show a msg_1
+put a http://127.0.0.1:9000/hook 100 whsec_MDEyMzQ1Njc4OTAxMjM0NTY3ODkwMTIz
+submit 1005 a msg_1 7b7d
+submit 1005 a msg_1 7b7c
+submit 1005 b msg_1 7b7d
+seal
+commit
+settle
+show b msg_1
+show a msg_2
+submit 1 a m2 -
+submit 1 a m3 -
+seal
+seal
+show a m2";
 
-const REST: &str =
-    "seal\ncommit\nsettle\nsubmit 1000 a msg_1 7b7d\nseal\ncommit\nsettle\nshow a msg_1\n";
+const REPLIES: &str = "staged 0
+sealed 0..1
+committed 1
+settled 1
+staged 1
+sealed 1..2
+committed 2
+settled 2
+pending due 1000 attempts 0
+refused 3 Exists
+staged 1
+refused 3 Conflict
+refused 2 UnknownEndpoint
+nothing
+no-batch
+no-receipt
+absent
+absent
+staged 2
+refused 6 WaitingFull
+sealed 2..3
+refused 2 BatchOut
+absent
+";
 
-pub(crate) const REPLIES: &str =
-    "staged 0\nsealed 0..1\ncommitted 1\nsettled 1\nstaged 1\nsealed 1..2\ncommitted 2\nsettled 2\npending due 1000 attempts 0\n";
-
-// What a command wrote, and its status.
-#[derive(Drop)]
-pub(crate) struct Told {
-    pub(crate) output: Vec<u8>,
-    pub(crate) errors: Vec<u8>,
-    pub(crate) status: u8,
-}
-
-pub(crate) fn tell(alloc: Global, words: &[&str], text: &[u8]) -> Told {
-    let mut input = text;
-    let mut output = Vec::new(alloc);
-    let mut errors = Vec::new(alloc);
-    let status = run(alloc, words, &mut input, &mut output, &mut errors);
-    Told {
-        output,
-        errors,
-        status,
+#[test]
+fn replays_scripts(rt: HostRuntime) {
+    for (script, replies) in [("", ""), (SCRIPT, REPLIES)] {
+        let told = tell(rt.alloc(), &["relayd", "replay"], script.as_bytes());
+        check(&rt, &told, replies, "", 0);
     }
 }
 
-pub(crate) fn check(rt: &impl Abort, told: &Told, output: &str, errors: &str, status: u8) {
-    assert_eq!(rt; told.output.as_slice(), output.as_bytes());
-    assert_eq!(rt; told.errors.as_slice(), errors.as_bytes());
-    assert_eq!(rt; told.status, status);
-}
-
-// The script of the first path and these lines.
-pub(crate) fn after_first(alloc: Global, tail: &str) -> Result<String, AllocError> {
-    format!(in alloc; "{PUT}{REST}{tail}")
-}
-
 #[test]
-fn replays_scripts(rt: HostRuntime) -> Result<(), Fail> {
-    let again = "submit 1005 a msg_1 7b7d\nsubmit 1005 a msg_1 7b7c\nsubmit 1005 b msg_1 7b7d\n";
-    for (tail, replies, errors, status) in [
-        ("", "", "", 0),
-        (PUT, "refused 3 Exists\n", "", 0),
-        (
-            again,
-            "staged 1\nrefused 3 Conflict\nrefused 2 UnknownEndpoint\n",
-            "",
-            0,
-        ),
-        (
-            "seal\nseal\ncommit\nsettle",
-            "nothing\nnothing\nno-batch\nno-receipt\n",
-            "",
-            0,
-        ),
-        ("show b msg_1\nshow a msg_2", "absent\nabsent\n", "", 0),
-        (
-            "submit 1 a m2 -\nsubmit 1 a m3 -\nseal\nseal\nshow a m2\n",
-            "staged 2\nrefused 6 WaitingFull\nsealed 2..3\nrefused 2 BatchOut\nabsent\n",
-            "",
-            0,
-        ),
-        ("fly\n", "", "relayd: line 10: bad line\n", 2),
-        ("seal \n", "", "relayd: line 10: bad line\n", 2),
-        ("submit 01 a m2 -\n", "", "relayd: line 10: bad line\n", 2),
-        ("submit 1 a m2 \n", "", "relayd: line 10: bad line\n", 2),
-        ("submit 1 a m2 7g\n", "", "relayd: line 10: bad line\n", 2),
+fn refuses_bad_lines(rt: HostRuntime) {
+    for line in [
+        "\n",
+        "fly\n",
+        "seal \n",
+        "seal\r\n",
+        "submit 01 a m2 -\n",
+        "submit 1 a m2 \n",
+        "submit 1 a m2 7g\n",
     ] {
-        let text = after_first(rt.alloc(), tail)?;
-        let told = tell(rt.alloc(), &["relayd", "replay"], text.as_bytes());
-        let output = format!(in rt.alloc(); "{REPLIES}{replies}")?;
-        check(&rt, &told, output.as_str(), errors, status);
+        let told = tell(rt.alloc(), &["relayd", "replay"], line.as_bytes());
+        check(&rt, &told, "", "relayd: line 1: bad line\n", 2);
     }
-    Ok(())
 }
 
-#[test]
-fn replays_an_empty_script(rt: HostRuntime) {
-    check(
-        &rt,
-        &tell(rt.alloc(), &["relayd", "replay"], b""),
-        "",
-        "",
-        0,
-    );
-}
-
-#[test]
-fn tells_its_version(rt: HostRuntime) {
-    let told = tell(rt.alloc(), &["relayd", "--version"], b"");
-    check(&rt, &told, "relayd 0.1.0\n", "", 0);
-}
-
+// 140,001 bytes and a line feed, and one byte less.
 #[test]
 fn bounds_a_line(rt: HostRuntime) -> Result<(), Fail> {
-    let mut text = PUT.to_string(rt.alloc())?;
-    for _ in 0..140_001u32 {
-        text.push('a')?;
-    }
-    let told = tell(rt.alloc(), &["relayd", "replay"], text.as_bytes());
-    check(&rt, &told, "staged 0\n", "relayd: TooLong\n", 2);
-    Ok(())
-}
-
-// A reader that gives some bytes at a time, and fails after some reads.
-#[derive(Drop)]
-struct Pieces<'a> {
-    rest: &'a [u8],
-    size: usize,
-    reads: u32,
-}
-
-impl Read for Pieces<'_> {
-    fn read(&mut self, buf: &mut [u8]) -> io::Result<usize> {
-        if self.reads == 0 {
-            return Err(io::Error::from(ErrorKind::ConnectionReset));
-        }
-        self.reads -= 1;
-        let count = self.size.min(buf.len()).min(self.rest.len());
-        buf[..count].copy_from_slice(&self.rest[..count]);
-        self.rest = &self.rest[count..];
-        Ok(count)
-    }
-}
-
-// A writer that fails after some writes.
-#[derive(Drop)]
-struct Limited {
-    bytes: Vec<u8>,
-    writes: u32,
-}
-
-impl Write for Limited {
-    fn write(&mut self, buf: &[u8]) -> io::Result<usize> {
-        if self.writes == 0 {
-            return Err(io::Error::from(ErrorKind::BrokenPipe));
-        }
-        self.writes -= 1;
-        self.bytes.extend_from_slice(buf)?;
-        Ok(buf.len())
-    }
-
-    fn flush(&mut self) -> io::Result<()> {
-        Ok(())
-    }
-}
-
-// The first path through a reader and a writer that may fail.
-fn fails(alloc: Global, reads: u32, writes: u32) -> Result<Told, AllocError> {
-    let text = after_first(alloc, "")?;
-    let mut input = Pieces {
-        rest: text.as_bytes(),
-        size: 7,
-        reads,
-    };
-    let mut output = Limited {
-        bytes: Vec::new(alloc),
-        writes,
-    };
-    let mut errors = Vec::new(alloc);
-    let words = ["relayd", "replay"];
-    let status = run(alloc, &words, &mut input, &mut output, &mut errors);
-    Ok(Told {
-        output: output.bytes,
-        errors,
-        status,
-    })
-}
-
-#[test]
-fn ends_where_a_reader_or_a_writer_fails(rt: HostRuntime) -> Result<(), Fail> {
-    for (reads, writes, output, errors, status) in [
-        (1000, 1000, REPLIES, "", 0),
-        (12, 1000, "staged 0\nsealed 0..1\n", "relayd: Read\n", 3),
-        (
-            1000,
-            3,
-            "staged 0\nsealed 0..1\ncommitted 1\n",
-            "relayd: Write\n",
-            3,
-        ),
-    ] {
-        let told = fails(rt.alloc(), reads, writes)?;
-        check(&rt, &told, output, errors, status);
-    }
+    let mut line = vec![in rt.alloc(); b'a'; 140_001]?;
+    line.push(b'\n')?;
+    let told = tell(rt.alloc(), &["relayd", "replay"], line.as_slice());
+    check(&rt, &told, "", "relayd: TooLong\n", 2);
+    let told = tell(rt.alloc(), &["relayd", "replay"], &line.as_slice()[1..]);
+    check(&rt, &told, "", "relayd: line 1: bad line\n", 2);
     Ok(())
 }
 
 pub(crate) const SECRET: &str = "whsec_MDEyMzQ1Njc4OTAxMjM0NTY3ODkwMTIz";
 
 // The example of Standard Webhooks 1.0.0.
-const EXAMPLE_ID: &str = "msg_p5jXN8AQM9LWM0D4loKWxJek";
+pub(crate) const EXAMPLE: &[&str] = &[
+    "relayd",
+    "sign",
+    "msg_p5jXN8AQM9LWM0D4loKWxJek",
+    "1614265330",
+    "whsec_MfKQ9r8GKYqrTwjUPD8ILPZIo2LaLaSw",
+];
 
-const EXAMPLE_AT: &str = "1614265330";
-
-const EXAMPLE_SECRET: &str = "whsec_MfKQ9r8GKYqrTwjUPD8ILPZIo2LaLaSw";
-
-const EXAMPLE_BODY: &[u8] = b"{\"test\": 2432232314}";
-
-const EXAMPLE_HEADER: &str = "v1,g0hM9SsE+OTPJTGt/tmIKtSyZlE3uFJELVlNIOLJ1OE=\n";
+pub(crate) const EXAMPLE_BODY: &[u8] = b"{\"test\": 2432232314}";
 
 #[test]
-fn signs(rt: HostRuntime) -> Result<(), Fail> {
-    let words = ["relayd", "sign", EXAMPLE_ID, EXAMPLE_AT, EXAMPLE_SECRET];
-    let told = tell(rt.alloc(), &words, EXAMPLE_BODY);
-    check(&rt, &told, EXAMPLE_HEADER, "", 0);
-    let two = [
-        "relayd",
-        "sign",
-        "msg_1",
-        "1000",
-        SECRET,
-        "whsec_AAAAAAAAAAAAAAAAAAAAAAAAAAAAAAAA",
+fn signs_the_example(rt: HostRuntime) {
+    let told = tell(rt.alloc(), EXAMPLE, EXAMPLE_BODY);
+    let header = "v1,g0hM9SsE+OTPJTGt/tmIKtSyZlE3uFJELVlNIOLJ1OE=\n";
+    check(&rt, &told, header, "", 0);
+}
+
+// A signature for each of one to four secrets, and no more.
+#[test]
+fn signs_by_four_secrets(rt: HostRuntime) {
+    let words = [
+        "relayd", "sign", "msg_1", "1000", SECRET, SECRET, SECRET, SECRET, SECRET,
     ];
-    let told = tell(rt.alloc(), &two, b"");
-    assert_eq!(rt; told.output.len(), 96);
-    assert_eq!(rt; told.output.get(47), Some(&b' '));
-    Ok(())
-}
-
-// The example with these secrets, through a reader and a writer that may fail.
-fn sign_example(alloc: Global, secrets: &[&str], reads: u32, writes: u32) -> Told {
-    let mut input = Pieces {
-        rest: EXAMPLE_BODY,
-        size: 7,
-        reads,
-    };
-    let mut output = Limited {
-        bytes: Vec::new(alloc),
-        writes,
-    };
-    let mut errors = Vec::new(alloc);
-    let status = sign(
-        alloc,
-        EXAMPLE_ID,
-        EXAMPLE_AT,
-        secrets,
-        &mut input,
-        &mut output,
-        &mut errors,
-    );
-    Told {
-        output: output.bytes,
-        errors,
-        status,
+    for count in 1..5 {
+        let told = tell(rt.alloc(), &words[..count + 4], b"");
+        assert_eq!(rt; told.status, 0);
+        assert_eq!(rt; told.output.len(), 48 * count);
     }
+    let told = tell(rt.alloc(), &words, b"");
+    check(&rt, &told, "", "relayd: BadSecret\n", 1);
 }
 
 #[test]
-fn signs_by_its_arguments(rt: HostRuntime) {
-    let one: &[&str] = &[EXAMPLE_SECRET];
-    let five: &[&str] = &[EXAMPLE_SECRET; 5];
-    for (secrets, reads, writes, output, errors, status) in [
-        (one, 4, 1, EXAMPLE_HEADER, "", 0),
-        (one, 3, 1, "", "relayd: Read\n", 3),
-        (one, 4, 0, "", "relayd: Write\n", 3),
-        (&[], 4, 1, "", "relayd: BadSecret\n", 1),
-        (five, 4, 1, "", "relayd: BadSecret\n", 1),
-    ] {
-        let told = sign_example(rt.alloc(), secrets, reads, writes);
-        check(&rt, &told, output, errors, status);
-    }
-}
-
-#[test]
-fn refuses_arguments(rt: HostRuntime) -> Result<(), Fail> {
+fn refuses_arguments(rt: HostRuntime) {
     for (id, at, secret, errors) in [
         ("a.b", "x", "y", "relayd: BadId\n"),
         ("msg_1", "01", "y", "relayd: BadMoment\n"),
@@ -285,12 +138,9 @@ fn refuses_arguments(rt: HostRuntime) -> Result<(), Fail> {
     }
     let told = tell(rt.alloc(), &["relayd", "vegas", "1001"], b"");
     check(&rt, &told, "", "relayd: BadMax\n", 1);
-    for words in [["relayd", "fly"], ["relayd", "vegas"], ["relayd", "sign"]] {
-        assert_eq!(rt; tell(rt.alloc(), &words, b"").status, 1);
-    }
-    Ok(())
 }
 
+// 65,537 bytes, and one less.
 #[test]
 fn bounds_a_body(rt: HostRuntime) -> Result<(), Fail> {
     let words = ["relayd", "sign", "msg_1", "1000", SECRET];
@@ -302,27 +152,87 @@ fn bounds_a_body(rt: HostRuntime) -> Result<(), Fail> {
     Ok(())
 }
 
+// The same of an event, whose body is written in hexadecimal.
+#[test]
+fn bounds_the_body_of_an_event(rt: HostRuntime) -> Result<(), Fail> {
+    for (count, output, errors, status) in [
+        (65_537, "", "relayd: line 1: bad line\n", 2),
+        (65_536, "refused 2 UnknownEndpoint\n", "", 0),
+    ] {
+        let body = "7b".repeat(rt.alloc(), count)?;
+        let line = format!(in rt.alloc(); "submit 1 a m {body}")?;
+        let told = tell(rt.alloc(), &["relayd", "replay"], line.as_bytes());
+        check(&rt, &told, output, errors, status);
+    }
+    Ok(())
+}
+
 #[test]
 fn follows_samples(rt: HostRuntime) {
+    let words = ["relayd", "vegas", "1000"];
     let samples =
         b"100000 1 ok\n100000 10 ok\n100000 12 ok\n100000 13 ok\n110000 16 ok\n105000 16 ok\n200000 17 ok\n200000 17 drop\n";
     let limits =
         "20 100000\n26 100000\n26 100000\n32 100000\n32 100000\n33 100000\n32 100000\n31 100000\n";
-    check(
-        &rt,
-        &tell(rt.alloc(), &["relayd", "vegas", "1000"], samples),
-        limits,
-        "",
-        0,
-    );
-    for (text, line) in [
-        ("100000 1 ok\n100000 0 ok\n", 2),
-        ("100000 1 ok\n100000 1001 drop\n", 2),
-        ("100000 1 ok\n9223372036854775808 1 ok\n", 2),
-        ("100000 1 ok\n1 1 okay\n", 2),
+    check(&rt, &tell(rt.alloc(), &words, samples), limits, "", 0);
+    for text in [
+        "100000 1 ok\n100000 0 ok\n",
+        "100000 1 ok\n100000 1001 drop\n",
+        "100000 1 ok\n9223372036854775808 1 ok\n",
+        "100000 1 ok\n1 1 okay\n",
     ] {
-        let told = tell(rt.alloc(), &["relayd", "vegas", "1000"], text.as_bytes());
-        assert_eq!(rt; told.status, line);
-        assert_eq!(rt; told.output.as_slice(), b"20 100000\n".as_slice());
+        let told = tell(rt.alloc(), &words, text.as_bytes());
+        check(&rt, &told, "20 100000\n", "relayd: line 2: bad line\n", 2);
+    }
+}
+
+// Help and the version stand on standard output.
+#[test]
+fn shows_help(rt: HostRuntime) {
+    let told = tell(rt.alloc(), &["relayd", "--version"], b"");
+    check(&rt, &told, "relayd 0.1.0\n", "", 0);
+    let all: &[(&[&str], &str)] = &[
+        (
+            &["relayd", "--help"],
+            "\nA fault is told on standard error.\n",
+        ),
+        (
+            &["relayd", "replay", "--help"],
+            "\nA bad line ends the script with status 2; the replies before it stand.\n",
+        ),
+        (
+            &["relayd", "sign", "--help"],
+            "\nstatus 2 tells of a longer one, status 1 and a name of an argument that is refused.\n",
+        ),
+        (
+            &["relayd", "vegas", "--help"],
+            "\nA bad line ends the samples with status 2; the limits before it stand.\n",
+        ),
+    ];
+    for (words, help) in all {
+        let told = tell(rt.alloc(), words, b"");
+        assert!(rt; told.output.ends_with(help.as_bytes()));
+        assert_eq!(rt; told.errors.len(), 0);
+        assert_eq!(rt; told.status, 0);
+    }
+}
+
+// What is wrong with the words stands on standard error.
+#[test]
+fn refuses_words(rt: HostRuntime) {
+    let all: &[&[&str]] = &[
+        &[],
+        &["relayd", "fly"],
+        &["relayd", "--fly"],
+        &["relayd", "replay", "more"],
+        &["relayd", "sign", "msg_1", "1000"],
+        &["relayd", "vegas"],
+        &["relayd", "vegas", "1", "2"],
+    ];
+    for words in all {
+        let told = tell(rt.alloc(), words, b"seal\n");
+        assert!(rt; told.errors.starts_with(b"error: "));
+        assert_eq!(rt; told.output.len(), 0);
+        assert_eq!(rt; told.status, 1);
     }
 }
