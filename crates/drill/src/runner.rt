@@ -1,5 +1,5 @@
 //! The runner of scripts: it holds what the desk and the store hand out, and gives it to the line that asks for it.
-ghost use Rattle.std.specs.Prelude.{◌≡◌, ◌⊎◌, ◌+◌, [], length, IfOk, IfErr, MatchResult};
+ghost use Rattle.std.specs.Prelude.{◌≡◌, ◌⊎◌, ◌+◌, false, [], length, IfOk, IfErr, MatchResult};
 ghost use Rattle.relay_types.specs.Records.{records_of};
 ghost use Rattle.script_lines.specs.declared.event.Event.TheVariants as on;
 ghost use Rattle.script_lines.specs.declared.reply.Reply.TheVariants as says;
@@ -252,7 +252,7 @@ fn unchanged_reply(why: Unchanged) -> Reply
 }
 
 /// Runs the script that the reader gives over a store without tables, and writes a reply for each line. The connection
-/// comes back.
+/// comes back, outside a transaction if it came so.
 pub fn replay<S: Alter, I: Read, O: Write>(
     alloc: Global,
     input: &mut I,
@@ -263,6 +263,7 @@ pub fn replay<S: Alter, I: Read, O: Write>(
     ensures replays { IsCleanAt S.Store result.0 → HasNoTable S.Store conn
         → Replays (I.remaining input.old) (O.contents output.old) (O.contents output.new) result.1 }
     ensures clean { IsCleanAt S.Store result.0 → IsCleanAt S.Store conn }
+    ensures mode { conn.in_transaction ≡ false → result.0.in_transaction ≡ false }
 {
     match start(alloc, conn, mark) {
         Ok(runner) => {
@@ -286,6 +287,7 @@ fn start<S: Alter>(
         (λ runner. IsClean S.Store runner → IsCleanAt S.Store conn)
         (λ back. IsCleanAt S.Store back.0 → IsCleanAt S.Store conn) }
     ensures faults { IfErr result (λ back. (back.1 ≡ StreamFault.Lost) ⊎ (back.1 ≡ StreamFault.OutOfMemory)) }
+    ensures mode { conn.in_transaction ≡ false → IfErr result (λ back. back.0.in_transaction ≡ false) }
 {
     if !conn.is_autocommit() {
         return Err((conn, StreamFault::Lost));

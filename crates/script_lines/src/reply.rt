@@ -6,7 +6,7 @@ use relay_types::State;
 use std::fmt;
 
 /// The name of a refusal.
-#[derive(Clone, Copy, PartialEq, Eq, Debug)]
+#[derive(Clone, Copy, PartialEq, Eq)]
 pub enum Fault {
     UnknownEndpoint,
     Conflict,
@@ -26,7 +26,7 @@ pub enum Fault {
 }
 
 /// What a call answered.
-#[derive(Clone, Copy, PartialEq, Eq, Debug)]
+#[derive(Clone, Copy, PartialEq, Eq)]
 pub enum Reply {
     Staged {
         seq: u64,
