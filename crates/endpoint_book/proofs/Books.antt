@@ -25,16 +25,16 @@ book-change entries later names cs c flags puts capacity next settled more_flags
 }
 
 pub change-value : (book : BookValue) (entries later : Entries) (names : List (List ℕ)) (cs : List Change) (c : Change) (next settled : ℕ) (change : Entry → Entry)
-    → AreNames (entry_in entries) names → record { entries = listed entries names; changes = cs; next_place = next; settled_place = settled } ≡ book
+    → AreNames (entry_in entries) names → record { entries = listed entries names; changes = cs; next_seq = next; settled_seq = settled } ≡ book
     → Changes entries later c.name change
     → Some c.shown ≡ option_map (λ e. now_of (change e)) (entry_in entries c.name)
-    → record { entries = listed later names; changes = cs ++ c ∷ []; next_place = c.seq + 1; settled_place = settled } ≡ with_change book c.seq c.name c.kind change
+    → record { entries = listed later names; changes = cs ++ c ∷ []; next_seq = c.seq + 1; settled_seq = settled } ≡ with_change book c.seq c.name c.kind change
 change-value book entries later names cs c next settled change h is changed shown =
     (λ i. record {
       entries = (ap (λ g. filter_map g names) (λ j asked. changed asked j) ∙ changed-listed (entry_in entries) names (change_at c.name change) h) i;
       changes = cs ++ record c { shown = sym (ap (shown_with change) (found (entry_in entries) names c.name h) ∙ some_told (λ e. now_of (change e)) (entry_in entries c.name) c.shown (record { enabled = true; secrets = 0 }) shown) i } ∷ [];
-      next_place = c.seq + 1;
-      settled_place = settled;
+      next_seq = c.seq + 1;
+      settled_seq = settled;
     })
     ∙ ap (λ b. with_change b c.seq c.name c.kind change) is
 
@@ -52,15 +52,15 @@ book-put entries later names cs e flags puts capacity next settled room h unknow
 }
 
 pub put-value : (book : BookValue) (entries later : Entries) (names : List (List ℕ)) (cs : List Change) (e : Entry) (next settled : ℕ)
-    → AreNames (entry_in entries) names → record { entries = listed entries names; changes = cs; next_place = next; settled_place = settled } ≡ book
+    → AreNames (entry_in entries) names → record { entries = listed entries names; changes = cs; next_seq = next; settled_seq = settled } ≡ book
     → entry_in entries e.name ≡ None → Puts entries later e
-    → record { entries = listed later (names ++ e.name ∷ []); changes = cs ++ record { seq = e.put; name = e.name; kind = Put; shown = now_of e } ∷ []; next_place = e.put + 1; settled_place = settled } ≡ with_put book e
+    → record { entries = listed later (names ++ e.name ∷ []); changes = cs ++ record { seq = e.put; name = e.name; kind = Put; shown = now_of e } ∷ []; next_seq = e.put + 1; settled_seq = settled } ≡ with_put book e
 put-value book entries later names cs e next settled h is unknown put =
     (λ i. record {
       entries = (ap (λ g. filter_map g (names ++ e.name ∷ [])) (λ j asked. put asked j) ∙ put-listed (entry_in entries) names e unknown h) i;
       changes = cs ++ record { seq = e.put; name = e.name; kind = Put; shown = now_of e } ∷ [];
-      next_place = e.put + 1;
-      settled_place = settled;
+      next_seq = e.put + 1;
+      settled_seq = settled;
     })
     ∙ ap (λ b. with_put b e) is
 
@@ -94,19 +94,19 @@ book-settled entries later names cs flags puts capacity next settled place h lat
 }
 
 pub settled-value : (book : BookValue) (entries later : Entries) (names : List (List ℕ)) (cs : List Change) (next settled place : ℕ)
-    → AreNames (entry_in entries) names → record { entries = listed entries names; changes = cs; next_place = next; settled_place = settled } ≡ book
+    → AreNames (entry_in entries) names → record { entries = listed entries names; changes = cs; next_seq = next; settled_seq = settled } ≡ book
     → SettlesBelow place cs entries later
-    → record { entries = listed later names; changes = filter (is_from place) cs; next_place = max next place; settled_place = place } ≡ with_settled book place
+    → record { entries = listed later names; changes = filter (is_from place) cs; next_seq = max next place; settled_seq = place } ≡ with_settled book place
 settled-value book entries later names cs next settled place h is changed =
     (λ i. record {
       entries = (ap (λ g. filter_map g names) (λ j asked. changed asked j) ∙ changed-listed (entry_in entries) names (settled_at place cs) h) i;
       changes = filter (is_from place) cs;
-      next_place = max next place;
-      settled_place = place;
+      next_seq = max next place;
+      settled_seq = place;
     })
     ∙ ap (λ b. with_settled b place) is
 
 -- what the book's value has of a name is what a look-up finds
 pub entry-value : (book : BookValue) (entries : Entries) (names : List (List ℕ)) (cs : List Change) (next settled : ℕ) (name : List ℕ)
-    → AreNames (entry_in entries) names → record { entries = listed entries names; changes = cs; next_place = next; settled_place = settled } ≡ book → entry_in entries name ≡ entry_of book name
+    → AreNames (entry_in entries) names → record { entries = listed entries names; changes = cs; next_seq = next; settled_seq = settled } ≡ book → entry_in entries name ≡ entry_of book name
 entry-value book entries names cs next settled name h is = sym (found (entry_in entries) names name h) ∙ ap (λ b. entry_of b name) is

@@ -34,8 +34,8 @@ stands-idle book records settled r h legal idle = record {
       (λ lt. omega (arith, h.flags place later, ap (count_by sets_flag) (drop_all place records (omega (arith, lt)))))
       (λ ge. omega (arith, h.flags place later, ap (count_by sets_flag) (drop-append-le place records (r ∷ []) ge), sum_by_push (λ x. cond (sets_flag x) 1 0) (drop place records) r))
       (cases_lt (length records) place);
-  next_place = omega (arith, h.next_place, length-append records (r ∷ []));
-  settled_place = h.settled_place;
+  next_seq = omega (arith, h.next_seq, length-append records (r ∷ []));
+  settled_seq = h.settled_seq;
 }
   where
     tells : Tells book (records ++ r ∷ [])
@@ -120,8 +120,8 @@ stands-settled book records settled place h later within parted = record {
     puts = omega (arith, (h.shows p (omega (arith, later, le))).puts, ap (count_by is_put) (from_later place p book.changes le), length-map book.entries (λ e. settled_at place book.changes e.name e));
   };
   flags = λ p le. omega (arith, h.flags p (omega (arith, later, le)), ap (count_by is_flag) (from_later place p book.changes le));
-  next_place = omega (arith, h.next_place, within);
-  settled_place = refl;
+  next_seq = omega (arith, h.next_seq, within);
+  settled_seq = refl;
 }
   where
     entry_settled : (asked : List ℕ) → entry_of (with_settled book place) asked ≡ option_map (settled_at place book.changes asked) (entry_of book asked)
@@ -152,28 +152,28 @@ stands-settled book records settled place h later within parted = record {
 
 -- Answers about what isn't settled
 
-pub settled-told : (book : BookValue) (records : List Record) (settled : ℕ) (name : List ℕ) → StandsFor book records settled → filter (is_below book.settled_place) book.changes ≡ []
+pub settled-told : (book : BookValue) (records : List Record) (settled : ℕ) (name : List ℕ) → StandsFor book records settled → filter (is_below book.settled_seq) book.changes ≡ []
     → settled_view book name ≡ view_of (take settled records) name
 settled-told book records settled name h waiting =
     at (entry_of book name)
     ∙ view-front book records settled name (settled_in book name) h.tells
-    (sym (shown_still settled book.changes name (settled_in book name) (ap (λ s. filter (is_below s) book.changes) (sym h.settled_place) ∙ waiting)) ∙ (h.shows settled (omega arith)).shown name)
+    (sym (shown_still settled book.changes name (settled_in book name) (ap (λ s. filter (is_below s) book.changes) (sym h.settled_seq) ∙ waiting)) ∙ (h.shows settled (omega arith)).shown name)
   where
     at : (o : Option Entry) → option_and_then (λ e. option_map (view_by e) e.settled) o ≡ option_and_then (λ e. option_map (view_by e) (option_map_or (λ (x : Entry). x.settled) o None)) o
     at None = refl
     at (Some e) = refl
 
 -- what isn't settled counts from the settled place on
-all_count : (test : Change → Bool) (book : BookValue) (records : List Record) (settled : ℕ) → StandsFor book records settled → filter (is_below book.settled_place) book.changes ≡ []
-    → book.changes ≡ filter (is_below book.settled_place) book.changes ++ filter (is_from book.settled_place) book.changes → count_from test settled book.changes ≡ count_by test book.changes
-all_count test book records settled h waiting parted = ap (λ s. count_from test s book.changes) (sym h.settled_place) ∙ ap (count_by test) (from_all book.settled_place book.changes waiting parted)
+all_count : (test : Change → Bool) (book : BookValue) (records : List Record) (settled : ℕ) → StandsFor book records settled → filter (is_below book.settled_seq) book.changes ≡ []
+    → book.changes ≡ filter (is_below book.settled_seq) book.changes ++ filter (is_from book.settled_seq) book.changes → count_from test settled book.changes ≡ count_by test book.changes
+all_count test book records settled h waiting parted = ap (λ s. count_from test s book.changes) (sym h.settled_seq) ∙ ap (count_by test) (from_all book.settled_seq book.changes waiting parted)
 
-pub settled-count : (book : BookValue) (records : List Record) (settled : ℕ) → StandsFor book records settled → filter (is_below book.settled_place) book.changes ≡ []
-    → book.changes ≡ filter (is_below book.settled_place) book.changes ++ filter (is_from book.settled_place) book.changes
+pub settled-count : (book : BookValue) (records : List Record) (settled : ℕ) → StandsFor book records settled → filter (is_below book.settled_seq) book.changes ≡ []
+    → book.changes ≡ filter (is_below book.settled_seq) book.changes ++ filter (is_from book.settled_seq) book.changes
     → length (endpoints (take settled records)) + count_by is_put book.changes ≡ length book.entries
 settled-count book records settled h waiting parted = omega (arith, (h.shows settled (omega arith)).puts, all_count is_put book records settled h waiting parted)
 
-pub settled-flags : (book : BookValue) (records : List Record) (settled : ℕ) → StandsFor book records settled → filter (is_below book.settled_place) book.changes ≡ []
-    → book.changes ≡ filter (is_below book.settled_place) book.changes ++ filter (is_from book.settled_place) book.changes
+pub settled-flags : (book : BookValue) (records : List Record) (settled : ℕ) → StandsFor book records settled → filter (is_below book.settled_seq) book.changes ≡ []
+    → book.changes ≡ filter (is_below book.settled_seq) book.changes ++ filter (is_from book.settled_seq) book.changes
     → count_by is_flag book.changes ≤ count_by sets_flag (drop settled records)
 settled-flags book records settled h waiting parted = omega (arith, h.flags settled (omega arith), all_count is_flag book records settled h waiting parted)

@@ -43,7 +43,7 @@ found-map F keeps (e ∷ es) name = ap (λ b. cond b (Some (F e.name e)) (find (
 
 -- the book with other entries and one more change
 abbrev pub more : BookValue → List Entry → Change → BookValue
-more book es c = record book { entries = es; changes = book.changes ++ c ∷ []; next_place = c.seq + 1 }
+more book es c = record book { entries = es; changes = book.changes ++ c ∷ []; next_seq = c.seq + 1 }
 
 shows-more : (book : BookValue) (records : List Record) (settled : ℕ) (r : Record) (c : Change) (es : List Entry) (place : ℕ) → StandsFor book records settled → c.seq ≡ length records → settled ≤ place
     → Tells (more book es c) (records ++ r ∷ [])
@@ -128,8 +128,8 @@ stands-more book records settled r c es h legal at_end tells same here elsewhere
   tells = tells;
   shows = λ place later. shows-more book records settled r c es place h at_end later tells same here elsewhere counted;
   flags = λ place later. flags-more book records settled r c place h at_end later flag;
-  next_place = omega (arith, at_end, length-append records (r ∷ []));
-  settled_place = h.settled_place;
+  next_seq = omega (arith, at_end, length-append records (r ∷ []));
+  settled_seq = h.settled_seq;
 }
 
 -- A record that changes the endpoint of one name

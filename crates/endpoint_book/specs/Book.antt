@@ -64,8 +64,8 @@ pub record StandsFor (book : BookValue) (records : List Record) (settled : ℕ) 
   pub shows : (place : Seq) → settled ≤ place → Shows book place (take place records)
   pub flags : (place : Seq) → settled ≤ place
       → count_from is_flag place book.changes ≤ count_by sets_flag (drop place records)
-  pub next_place : book.next_place ≤ length records
-  pub settled_place : book.settled_place ≡ settled
+  pub next_seq : book.next_seq ≤ length records
+  pub settled_seq : book.settled_seq ≡ settled
 
 -- What is so of all records, of the settled ones, and of those that wait, whatever history the book stands for.
 

@@ -12,11 +12,11 @@ use Rattle.endpoint_book.specs.declared.entry.Shown.{Shown}
 pub record BookValue : Type 0 where
   pub entries : List Entry
   pub changes : List Change
-  pub next_place : Seq
-  pub settled_place : Seq
+  pub next_seq : Seq
+  pub settled_seq : Seq
 
 abbrev pub empty_book : BookValue
-empty_book = record { entries = []; changes = []; next_place = 0; settled_place = 0 }
+empty_book = record { entries = []; changes = []; next_seq = 0; settled_seq = 0 }
 
 abbrev pub is_named : (name : Text) (entry : Entry) → Bool
 is_named name e = bytes_eq e.name name
@@ -85,7 +85,7 @@ abbrev pub with_put : BookValue → Entry → BookValue
 with_put book e = record book {
   entries = book.entries ++ e ∷ [];
   changes = book.changes ++ record { seq = e.put; name = e.name; kind = Put; shown = now_of e } ∷ [];
-  next_place = e.put + 1;
+  next_seq = e.put + 1;
 }
 
 -- the change, where the name that is asked for is this one
@@ -102,7 +102,7 @@ with_change book seq name kind change = record book {
   entries = map (λ e. change_at name change e.name e) book.entries;
   changes = book.changes
       ++ record { seq = seq; name = name; kind = kind; shown = shown_with change (entry_of book name) } ∷ [];
-  next_place = seq + 1;
+  next_seq = seq + 1;
 }
 
 abbrev pub with_flag : (book : BookValue) (seq : Seq) (name : Text) (flag : Bool) → BookValue
@@ -116,6 +116,6 @@ abbrev pub with_settled : (book : BookValue) (place : Seq) → BookValue
 with_settled book place = record book {
   entries = map (λ e. settled_at place book.changes e.name e) book.entries;
   changes = filter (is_from place) book.changes;
-  next_place = max book.next_place place;
-  settled_place = place;
+  next_seq = max book.next_seq place;
+  settled_seq = place;
 }

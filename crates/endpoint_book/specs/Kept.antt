@@ -55,11 +55,11 @@ pub record AreNames (find_entry : Text → Option Entry) (names : List Text) : T
   pub each : list_all (λ n. is_some (find_entry n)) names ≡ true
 
 -- The changes stand in the order of their places, between these two, and there is room for all flags.
-pub record AreChanges (changes : List Change) (flags puts capacity : ℕ) (next_place settled_place : Seq) : Type 0 where
+pub record AreChanges (changes : List Change) (flags puts capacity : ℕ) (next_seq settled_seq : Seq) : Type 0 where
   pub parted : (place : Seq) → changes ≡ filter (is_below place) changes ++ filter (is_from place) changes
-  pub below_next : (place : Seq) → next_place ≤ place → filter (is_from place) changes ≡ []
-  pub waiting : filter (is_below settled_place) changes ≡ []
-  pub settled_next : settled_place ≤ next_place
+  pub below_next : (place : Seq) → next_seq ≤ place → filter (is_from place) changes ≡ []
+  pub waiting : filter (is_below settled_seq) changes ≡ []
+  pub settled_next : settled_seq ≤ next_seq
   pub flags_are : flags ≡ count_by is_flag changes
   pub puts_are : puts ≡ count_by is_put changes
   pub few : flags ≤ MAX_FLAGS
@@ -67,7 +67,7 @@ pub record AreChanges (changes : List Change) (flags puts capacity : ℕ) (next_
 
 -- what holds of the fields of a book
 pub record IsBook (entries : Entries) (names : List Text) (changes : List Change) (flags puts capacity : ℕ)
-    (next_place settled_place : Seq) : Type 0 where
+    (next_seq settled_seq : Seq) : Type 0 where
   pub are_names : AreNames (entry_in entries) names
-  pub are_changes : AreChanges changes flags puts capacity next_place settled_place
+  pub are_changes : AreChanges changes flags puts capacity next_seq settled_seq
   pub puts_within : puts ≤ length names

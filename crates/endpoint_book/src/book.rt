@@ -24,8 +24,8 @@ pub struct EndpointBook {
     changes: Vec<Change>,
     flags: usize,
     puts: usize,
-    next_place: u64,
-    settled_place: u64,
+    next_seq: u64,
+    settled_seq: u64,
 }
 
 impl Model for EndpointBook {
@@ -38,12 +38,12 @@ impl Model for EndpointBook {
     ghost view = { λ b. record {
       entries = listed b.entries b.names.items;
       changes = b.changes.items;
-      next_place = b.next_place;
-      settled_place = b.settled_place;
+      next_seq = b.next_seq;
+      settled_seq = b.settled_seq;
     } };
 
     ghost invariant = { λ b. IsBook b.entries b.names.items b.changes.items b.flags b.puts (vec_capacity b.changes)
-        b.next_place b.settled_place };
+        b.next_seq b.settled_seq };
 }
 
 impl EndpointBook {
@@ -59,12 +59,12 @@ impl EndpointBook {
             changes,
             flags: 0,
             puts: 0,
-            next_place: 0,
-            settled_place: 0,
+            next_seq: 0,
+            settled_seq: 0,
         })
     }
 
-    /// Takes in the endpoint of the Put with this sequence number. `next_place` and `contains` test the conditions. An
+    /// Takes in the endpoint of the Put with this sequence number. `next_seq` and `contains` test the conditions. An
     /// error is want of memory.
     pub fn stage_put(
         &mut self,
@@ -75,7 +75,7 @@ impl EndpointBook {
         secrets: Secrets,
     ) -> Result<(), AllocError>
         requires room { seq < MAX_RECORDS }
-        requires above { self.old.next_place ≤ seq }
+        requires above { self.old.next_seq ≤ seq }
         requires unknown { is_known self.old name ≡ false }
         ensures put { OnOk result (self.new ≡ with_put self.old (new_entry seq name target max secrets)) }
         ensures stands { OnOk result (Stages self.old self.new seq (on.Put name target max secrets)) }
@@ -104,11 +104,11 @@ impl EndpointBook {
             shown,
         });
         self.puts += 1;
-        self.next_place = seq + 1;
+        self.next_seq = seq + 1;
         Ok(())
     }
 
-    /// Replaces the secrets of an endpoint, by the record with this sequence number. `next_place` and `contains` test
+    /// Replaces the secrets of an endpoint, by the record with this sequence number. `next_seq` and `contains` test
     /// the conditions. An error is want of memory.
     pub fn stage_secrets(
         &mut self,
@@ -117,7 +117,7 @@ impl EndpointBook {
         secrets: Secrets,
     ) -> Result<(), AllocError>
         requires room { seq < MAX_RECORDS }
-        requires above { self.old.next_place ≤ seq }
+        requires above { self.old.next_seq ≤ seq }
         requires known { IsTrue (is_known self.old name) }
         ensures given { OnOk result (self.new ≡ with_secrets self.old seq name secrets) }
         ensures stands { OnOk result (Stages self.old self.new seq (on.Secrets name secrets)) }
@@ -131,16 +131,16 @@ impl EndpointBook {
                 kind: Kind::Secrets,
                 shown,
             });
-            self.next_place = seq + 1;
+            self.next_seq = seq + 1;
         }
         Ok(())
     }
 
-    /// Enables or disables an endpoint, by the record with this sequence number. It takes no memory. `next_place`,
+    /// Enables or disables an endpoint, by the record with this sequence number. It takes no memory. `next_seq`,
     /// `contains` and `free_flags` test the conditions.
     pub fn stage_enabled(&mut self, seq: u64, name: Name, flag: bool)
         requires room { seq < MAX_RECORDS }
-        requires above { self.old.next_place ≤ seq }
+        requires above { self.old.next_seq ≤ seq }
         requires known { IsTrue (is_known self.old name) }
         requires free { flags_in self.old < MAX_FLAGS }
         ensures flag { self.new ≡ with_flag self.old seq name flag }
@@ -150,10 +150,10 @@ impl EndpointBook {
     }
 
     /// Disables an endpoint, by the Outcome with this sequence number, which says that a delivery met an endpoint that
-    /// is gone. It takes no memory. `next_place`, `contains` and `free_flags` test the conditions.
+    /// is gone. It takes no memory. `next_seq`, `contains` and `free_flags` test the conditions.
     pub fn stage_gone(&mut self, seq: u64, name: Name)
         requires room { seq < MAX_RECORDS }
-        requires above { self.old.next_place ≤ seq }
+        requires above { self.old.next_seq ≤ seq }
         requires known { IsTrue (is_known self.old name) }
         requires free { flags_in self.old < MAX_FLAGS }
         ensures flag { self.new ≡ with_flag self.old seq name false }
@@ -164,7 +164,7 @@ impl EndpointBook {
 
     fn set_flag(&mut self, seq: u64, name: Name, flag: bool)
         requires room { seq < MAX_RECORDS }
-        requires above { self.old.next_place ≤ seq }
+        requires above { self.old.next_seq ≤ seq }
         requires known { IsTrue (is_known self.old name) }
         requires free { flags_in self.old < MAX_FLAGS }
         ensures { self.new ≡ with_flag self.old seq name flag }
@@ -177,36 +177,36 @@ impl EndpointBook {
                 shown,
             });
             self.flags += 1;
-            self.next_place = seq + 1;
+            self.next_seq = seq + 1;
         }
     }
 
-    /// The records below this place are settled from now on. It takes no memory.
-    pub fn settle_to(&mut self, place: u64)
-        requires { self.old.settled_place ≤ place }
-        ensures value { self.new ≡ with_settled self.old place }
-        ensures stands { Settles self.old self.new place }
+    /// The records below this number are settled from now on. It takes no memory.
+    pub fn settle_to(&mut self, seq: u64)
+        requires { self.old.settled_seq ≤ seq }
+        ensures value { self.new ≡ with_settled self.old seq }
+        ensures stands { Settles self.old self.new seq }
     {
-        settle_below(&mut self.entries, &self.changes, place);
-        keep_from(&mut self.changes, place);
+        settle_below(&mut self.entries, &self.changes, seq);
+        keep_from(&mut self.changes, seq);
         self.flags = count_flags(&self.changes);
         self.puts = count_puts(&self.changes);
-        self.next_place = self.next_place.max(place);
-        self.settled_place = place;
+        self.next_seq = self.next_seq.max(seq);
+        self.settled_seq = seq;
     }
 
     /// The least sequence number that the next record may have: it is above all that the book was handed.
-    pub fn next_place(&self) -> u64
-        ensures { result ≡ self.now.next_place }
+    pub fn next_seq(&self) -> u64
+        ensures { result ≡ self.now.next_seq }
     {
-        self.next_place
+        self.next_seq
     }
 
-    /// The place below which the records are settled.
-    pub fn settled_place(&self) -> u64
-        ensures { result ≡ self.now.settled_place }
+    /// The number below which the records are settled.
+    pub fn settled_seq(&self) -> u64
+        ensures { result ≡ self.now.settled_seq }
     {
-        self.settled_place
+        self.settled_seq
     }
 
     /// How many more records may enable or disable endpoints before some are settled.

@@ -20,21 +20,21 @@ pub(crate) fn count_puts(changes: &[Change]) -> usize
     changes.iter().filter(|change| change.is_put()).count()
 }
 
-/// Settles the changes below the place.
-pub(crate) fn settle_below(entries: &mut Entries, changes: &[Change], place: u64)
-    ensures { SettlesBelow place changes.now entries.old entries.new }
+/// Settles the changes below this number.
+pub(crate) fn settle_below(entries: &mut Entries, changes: &[Change], seq: u64)
+    ensures { SettlesBelow seq changes.now entries.old entries.new }
 {
     for change in changes {
-        if change.seq < place {
+        if change.seq < seq {
             entries.settle(*change);
         }
     }
 }
 
-/// Keeps the changes from the place on.
-pub(crate) fn keep_from(changes: &mut Vec<Change>, place: u64)
-    ensures changes { changes.new.items ≡ filter (is_from place) changes.old.items }
+/// Keeps the changes from this number on.
+pub(crate) fn keep_from(changes: &mut Vec<Change>, seq: u64)
+    ensures changes { changes.new.items ≡ filter (is_from seq) changes.old.items }
     ensures capacity { vec_capacity changes.new ≡ vec_capacity changes.old }
 {
-    changes.retain(|change| place <= change.seq);
+    changes.retain(|change| seq <= change.seq);
 }

@@ -34,7 +34,7 @@ pub(crate) fn put(
     let target = Target::read(alloc, url)?;
     let max = MaxLimit::of(max)?;
     assert!(rt; seq < 1_000_000);
-    assert!(rt; book.next_place() <= seq);
+    assert!(rt; book.next_seq() <= seq);
     assert!(rt; !book.contains(name));
     book.stage_put(seq, name, target, max, secrets)?;
     Ok(())
@@ -48,7 +48,7 @@ pub(crate) fn give(
     secrets: Secrets,
 ) -> Result<(), Fail> {
     assert!(rt; seq < 1_000_000);
-    assert!(rt; book.next_place() <= seq);
+    assert!(rt; book.next_seq() <= seq);
     assert!(rt; book.contains(name));
     book.stage_secrets(seq, name, secrets)?;
     Ok(())
@@ -56,7 +56,7 @@ pub(crate) fn give(
 
 pub(crate) fn enable(rt: &impl Abort, book: &mut EndpointBook, seq: u64, name: Name, flag: bool) {
     assert!(rt; seq < 1_000_000);
-    assert!(rt; book.next_place() <= seq);
+    assert!(rt; book.next_seq() <= seq);
     assert!(rt; book.contains(name));
     assert!(rt; book.free_flags() > 0);
     book.stage_enabled(seq, name, flag);
@@ -64,14 +64,14 @@ pub(crate) fn enable(rt: &impl Abort, book: &mut EndpointBook, seq: u64, name: N
 
 pub(crate) fn gone(rt: &impl Abort, book: &mut EndpointBook, seq: u64, name: Name) {
     assert!(rt; seq < 1_000_000);
-    assert!(rt; book.next_place() <= seq);
+    assert!(rt; book.next_seq() <= seq);
     assert!(rt; book.contains(name));
     assert!(rt; book.free_flags() > 0);
     book.stage_gone(seq, name);
 }
 
 pub(crate) fn settle(rt: &impl Abort, book: &mut EndpointBook, place: u64) {
-    assert!(rt; book.settled_place() <= place);
+    assert!(rt; book.settled_seq() <= place);
     book.settle_to(place);
 }
 
@@ -90,8 +90,8 @@ fn an_empty_book_has_no_endpoint(rt: HostRuntime) -> Result<(), Fail> {
     assert!(rt; book.len() == 0);
     assert!(rt; book.settled_len() == 0);
     assert!(rt; book.names().is_empty());
-    assert!(rt; book.next_place() == 0);
-    assert!(rt; book.settled_place() == 0);
+    assert!(rt; book.next_seq() == 0);
+    assert!(rt; book.settled_seq() == 0);
     assert!(rt; book.free_flags() == MAX_FLAGS);
     assert!(rt; !book.contains(a));
     assert!(rt; book.secrets(a).is_none());
@@ -117,7 +117,7 @@ fn a_put_waits_until_it_is_settled(rt: HostRuntime) -> Result<(), Fail> {
         100,
         one(1)?,
     )?;
-    assert!(rt; book.next_place() == 4);
+    assert!(rt; book.next_seq() == 4);
     assert!(rt; book.contains(a));
     assert!(rt; book.len() == 1);
     assert!(rt; book.settled_len() == 0);

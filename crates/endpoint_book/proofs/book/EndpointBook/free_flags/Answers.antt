@@ -13,5 +13,5 @@ returns-clause-stands c = λ records settled h.
       arith,
       c.self.invariant.are_changes.flags_are,
       c.self.invariant.are_changes.few,
-      settled-flags _ records settled (subst (λ v. StandsFor v records settled) (sym c.self.view_is) h) c.self.invariant.are_changes.waiting (c.self.invariant.are_changes.parted c.self.inside.settled_place),
+      settled-flags _ records settled (subst (λ v. StandsFor v records settled) (sym c.self.view_is) h) c.self.invariant.are_changes.waiting (c.self.invariant.are_changes.parted c.self.inside.settled_seq),
     )

@@ -10,7 +10,7 @@ use Rattle.endpoint_book.proofs.book.EndpointBook.settle_to.Goals as goal
 pub invariant_of-self : goal.invariant_of-self
 invariant_of-self c =
     let b = c.self.inside in
-    let p = c.args.place in
+    let p = c.args.seq in
     let kept = c.deref-2.ensures.value ∙ c.keep_from.ensures.changes in
     let kept_too = c.deref-3.ensures.value ∙ c.keep_from.ensures.changes in
     subst (λ cs. IsBook c.settle_below.new.entries b.names.items cs c.count_flags-self-inside.result c.count_puts-self-inside.result (vec_capacity c.keep_from.new.changes) c.max-self-inside.result p) (sym c.keep_from.ensures.changes)
@@ -22,21 +22,21 @@ invariant_of-self c =
     (sym c.keep_from.ensures.capacity)
     (subst (λ n. IsBook c.settle_below.new.entries b.names.items (filter (is_from p) b.changes.items) (count_by is_flag (filter (is_from p) b.changes.items)) (count_by is_put (filter (is_from p) b.changes.items)) (vec_capacity b.changes) n p)
     (sym c.max-self-inside.ensures)
-    (book-settled b.entries c.settle_below.new.entries b.names.items b.changes.items b.flags b.puts (vec_capacity b.changes) b.next_place b.settled_place p c.self.invariant
-    (omega (arith, c.requires, ap (λ v. v.settled_place) c.self.view_is))
+    (book-settled b.entries c.settle_below.new.entries b.names.items b.changes.items b.flags b.puts (vec_capacity b.changes) b.next_seq b.settled_seq p c.self.invariant
+    (omega (arith, c.requires, ap (λ v. v.settled_seq) c.self.view_is))
     (λ asked. c.settle_below.ensures asked ∙ ap (λ cs. option_map (settled_at p cs asked) (entry_in b.entries asked)) c.deref.ensures.value))))))
 
 pub returns-clause-value : goal.returns-clause-value
 returns-clause-value c =
     let b = c.self.inside in
-    let p = c.args.place in
-    (λ i. record { entries = listed c.settle_below.new.entries b.names.items; changes = c.keep_from.ensures.changes i; next_place = c.max-self-inside.ensures i; settled_place = p })
-    ∙ settled-value c.args.self.now b.entries c.settle_below.new.entries b.names.items b.changes.items b.next_place b.settled_place p c.self.invariant.are_names c.self.view_is
+    let p = c.args.seq in
+    (λ i. record { entries = listed c.settle_below.new.entries b.names.items; changes = c.keep_from.ensures.changes i; next_seq = c.max-self-inside.ensures i; settled_seq = p })
+    ∙ settled-value c.args.self.now b.entries c.settle_below.new.entries b.names.items b.changes.items b.next_seq b.settled_seq p c.self.invariant.are_names c.self.view_is
     (λ asked. c.settle_below.ensures asked ∙ ap (λ cs. option_map (settled_at p cs asked) (entry_in b.entries asked)) c.deref.ensures.value)
 
 pub returns-clause-stands : goal.returns-clause-stands
 returns-clause-stands c = λ records settled h within.
     let b = c.self.inside in
-    subst (λ v. StandsFor v records c.args.place) (sym (returns-clause-value c))
-    (stands-settled c.args.self.now records settled c.args.place h (omega (arith, c.requires, h.settled_place)) within
-    (subst (λ v. v.changes ≡ filter (is_below c.args.place) v.changes ++ filter (is_from c.args.place) v.changes) c.self.view_is (c.self.invariant.are_changes.parted c.args.place)))
+    subst (λ v. StandsFor v records c.args.seq) (sym (returns-clause-value c))
+    (stands-settled c.args.self.now records settled c.args.seq h (omega (arith, c.requires, h.settled_seq)) within
+    (subst (λ v. v.changes ≡ filter (is_below c.args.seq) v.changes ++ filter (is_from c.args.seq) v.changes) c.self.view_is (c.self.invariant.are_changes.parted c.args.seq)))
