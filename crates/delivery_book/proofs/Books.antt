@@ -1,27 +1,32 @@
--- What ties the index and the counts to the entries stays so.
-use Rattle.std.proofs.Common.{◌≡◌, ◌&&◌, ℕ, ◌+◌, ◌-◌, ◌<◌, ◌≤◌, Bool, true, false, List, [], ◌∷◌, ◌++◌, Option, Some, None, length, take, drop, get_or, refl, sym, ◌∙◌, ap, arith, cond, ⊎_elim, length-append, append-nil}
-use Rattle.std.specs.Prelude.{filter, find, count_by, option_map, max, bytes_eq}
+-- What ties the index, the counts and the room to the entries stays so with one more event.
+use Rattle.std.proofs.Common.{◌≡◌, ◌&&◌, ℕ, ◌+◌, ◌<◌, ◌≤◌, Bool, true, false, List, [], ◌∷◌, ◌++◌, Option, Some, None, length, get_or, refl, sym, ◌∙◌, ap, eqb, ltb, not, arith, cond, ⊎_elim, length-append}
+use Rattle.std.specs.Prelude.{find, count_by, is_some, option_map, bytes_eq}
+use Rattle.std.specs.Option.{option_or}
 use Rattle.std.specs.Cmp.{first_so, second_so}
-use Rattle.std.specs.Cmp.Lexicographic.{bytes_decides}
+use Rattle.std.specs.Cmp.Lexicographic.{bytes_decides, slice_cmp}
 use Rattle.std.specs.BTreeMap.{BTreeMap, get, is_at}
 use Rattle.std.specs.declared.cmp.Ordering.{Ordering}
-use Rattle.std.specs.Ordering.{is_eq, nat_cmp, ordering_then}
 use Rattle.std.specs.declared.cmp.Ordering.TheVariants.{Less, Equal, Greater}
-use Rattle.std.specs.Cmp.Lexicographic.{slice_cmp}
+use Rattle.std.specs.Ordering.{is_eq, nat_cmp, ordering_then}
+use Rattle.std.proofs.lemmas.Bool.{cases_lt, lt-ltb, ltb-true, le-ltb, ltb-false}
 use Rattle.std.proofs.lemmas.Map.Text.{is_eq-slice_cmp}
-use Rattle.std.specs.Option.{option_or}
-use Rattle.std.proofs.lemmas.Bool.{cases_lt, le-ltb}
 use Rattle.std.proofs.Math.Seq.{get_or-append_seam}
 use Rattle.std.proofs.lemmas.List.{take-append-le, get_or_append_left}
-use Rattle.std.proofs.lemmas.List.Elements.{filter-append}
-use Rattle.std.proofs.lemmas.List.Folds.{find-append}
-use Rattle.std.proofs.lemmas.List.Sums.{sum_by_push, sum_by-take-le}
+use Rattle.std.proofs.lemmas.List.Folds.{find-append, list_all-append}
+use Rattle.std.proofs.lemmas.List.Sums.{sum_by_push}
+use Rattle.relay_types.specs.declared.state.State.{State}
+use Rattle.relay_types.specs.declared.state.State.TheVariants.{Pending}
+use Rattle.relay_types.proofs.KnownLaws.{and_first, and_second, and_both}
 use Rattle.delivery_book.specs.declared.entry.Entry.{Entry}
+use Rattle.delivery_book.specs.declared.entry.Unsettled.{Unsettled}
 use Rattle.delivery_book.specs.declared.keys.EventKey.{EventKey}
+use Rattle.delivery_book.specs.declared.progress.Progress.{Progress}
 use Rattle.delivery_book.specs.declared.tally.Tally.{Tally}
-use Rattle.delivery_book.specs.Entries.{is_entry_of, is_entry_as}
-use Rattle.delivery_book.specs.Kept.{IsBook, IsIndex, IsTally, is_below, event_cmp, accepted_in, settled_in, one_of}
-use Rattle.delivery_book.proofs.Entries.{count-slice}
+use Rattle.delivery_book.specs.Entries.{new_entry, is_entry_as, entry_at, state_in}
+use Rattle.delivery_book.specs.Kept.{IsBook, IsKeyed, IsIndex, IsTally, is_numbered, is_waiting, is_later, event_cmp, in_state, counts_for, has_room, one_of, is_counted}
+use Rattle.delivery_book.proofs.Updates.{all_at, all_weaker}
+
+-- Keys
 
 ties : (a b : Ordering) → is_eq (ordering_then a b) ≡ is_eq a && is_eq b
 ties Less b = refl
@@ -34,93 +39,127 @@ same_at k q = ties (slice_cmp nat_cmp k.name q.name) (slice_cmp nat_cmp k.id q.i
 
 -- the index with the key of one more entry
 indexed-push : (index later : BTreeMap EventKey ℕ) (entries : List Entry) (e : Entry) → IsIndex index entries → find (is_entry_as e.name e.id) entries ≡ None
-    → ((q : EventKey) → get event_cmp later q ≡ cond (is_at (event_cmp (record { name = e.name; id = e.id })) q) (Some e.place) (get event_cmp index q)) → IsIndex later (entries ++ e ∷ [])
+    → ((q : EventKey) → get event_cmp later q ≡ cond (is_at (event_cmp (record { name = e.name; id = e.id })) q) (Some e.seq) (get event_cmp index q)) → IsIndex later (entries ++ e ∷ [])
 indexed-push index later entries e h unknown updated q =
     updated q
-    ∙ ap (λ b. cond b (Some e.place) (get event_cmp index q)) (same_at (record { name = e.name; id = e.id }) q)
+    ∙ ap (λ b. cond b (Some e.seq) (get event_cmp index q)) (same_at (record { name = e.name; id = e.id }) q)
     ∙ pick (bytes_eq e.name q.name && bytes_eq e.id q.id) refl
-    ∙ ap (option_map (λ x. x.place)) (sym (find-append (is_entry_as q.name q.id) entries (e ∷ [])))
+    ∙ ap (option_map (λ x. x.seq)) (sym (find-append (is_entry_as q.name q.id) entries (e ∷ [])))
   where
     pick : (b : Bool) → bytes_eq e.name q.name && bytes_eq e.id q.id ≡ b
-        → cond b (Some e.place) (get event_cmp index q) ≡ option_map (λ x. x.place) (option_or (find (is_entry_as q.name q.id) entries) (cond b (Some e) None))
-    pick true same = ap (λ o. option_map (λ (x : Entry). x.place) (option_or o (Some e))) (sym (sym (ap (λ p. find p entries) alike) ∙ unknown))
+        → cond b (Some e.seq) (get event_cmp index q) ≡ option_map (λ x. x.seq) (option_or (find (is_entry_as q.name q.id) entries) (cond b (Some e) None))
+    pick true same = ap (λ o. option_map (λ (x : Entry). x.seq) (option_or o (Some e))) (sym (sym (ap (λ p. find p entries) alike) ∙ unknown))
       where
         alike : is_entry_as e.name e.id ≡ is_entry_as q.name q.id
         alike i = is_entry_as ((bytes_decides e.name q.name).0 (first_so (bytes_eq e.name q.name) (bytes_eq e.id q.id) same) i) ((bytes_decides e.id q.id).0 (second_so (bytes_eq e.name q.name) (bytes_eq e.id q.id) same) i)
-    pick false other = h q ∙ ap (option_map (λ x. x.place)) (none_more (find (is_entry_as q.name q.id) entries))
+    pick false other = h q ∙ ap (option_map (λ x. x.seq)) (none_more (find (is_entry_as q.name q.id) entries))
       where
         none_more : (o : Option Entry) → o ≡ option_or o None
         none_more None = refl
         none_more (Some x) = refl
 
--- the counts with one more entry
-tallied-push : (tally later : Tally) (entries : List Entry) (n : ℕ) (e : Entry) → IsTally tally entries n → n ≤ length entries
-    → ((name : List ℕ) → accepted_in later name ≡ accepted_in tally name + one_of e.name name) → ((name : List ℕ) → settled_in later name ≡ settled_in tally name) → IsTally later (entries ++ e ∷ []) n
-tallied-push tally later entries n e h l accepted settled name = (
-  accepted name ∙ ap (λ m. m + one_of e.name name) (h name).0 ∙ sym (sum_by_push (λ x. cond (is_entry_of name x) 1 0) entries e),
-  settled name ∙ (h name).1 ∙ ap (count_by (is_entry_of name)) (sym (take-append-le n entries (e ∷ []) l)),
-)
-
-read-front : (entries : List Entry) (e : Entry) (k : ℕ) (d : Entry) → k < length entries → get_or (entries ++ e ∷ []) k d ≡ get_or entries k d
-read-front entries e k d h = get_or_append_left entries (e ∷ []) d k h
-
-read-last : (entries : List Entry) (e : Entry) (k : ℕ) (d : Entry) → k ≡ length entries → get_or (entries ++ e ∷ []) k d ≡ e
-read-last entries e k d h = ap (λ i. get_or (entries ++ e ∷ []) i d) h ∙ get_or-append_seam entries e [] d
-
--- the book with one more entry
-pub book-push : (index later : BTreeMap EventKey ℕ) (tally counted : Tally) (entries : List Entry) (next settled n : ℕ) (e : Entry)
-    → IsBook entries index tally next settled n → next ≤ e.place → find (is_entry_as e.name e.id) entries ≡ None
-    → ((q : EventKey) → get event_cmp later q ≡ cond (is_at (event_cmp (record { name = e.name; id = e.id })) q) (Some e.place) (get event_cmp index q))
-    → ((name : List ℕ) → accepted_in counted name ≡ accepted_in tally name + one_of e.name name) → ((name : List ℕ) → settled_in counted name ≡ settled_in tally name)
-    → IsBook (entries ++ e ∷ []) later counted (e.place + 1) settled n
-book-push index later tally counted entries next settled n e h l unknown updated accepted same = record {
-  ascending = λ i j d lt m. ⊎_elim
-      (λ inside. omega (arith, ap (λ x. x.place) (read-front entries e i d (omega (arith, lt, inside))), ap (λ x. x.place) (read-front entries e j d inside), h.ascending i j d lt inside))
-      (λ past. omega (
-        arith,
-        ap (λ x. x.place) (read-front entries e i d (omega (arith, lt, length-append entries (e ∷ []), m))),
-        ap (λ x. x.place) (read-last entries e j d (omega (arith, past, length-append entries (e ∷ []), m))),
-        h.below_next i d (omega (arith, lt, length-append entries (e ∷ []), m)),
-      ))
-      (cases_lt j (length entries));
-  below_next = λ k d m. ⊎_elim
-      (λ inside. omega (arith, ap (λ x. x.place) (read-front entries e k d inside), h.below_next k d inside))
-      (λ past. omega (arith, ap (λ x. x.place) (read-last entries e k d (omega (arith, past, length-append entries (e ∷ []), m)))))
-      (cases_lt k (length entries));
-  settled_next = omega (arith, h.settled_next, l);
-  indexed = indexed-push index later entries e h.indexed unknown updated;
-  tallied = tallied-push tally counted entries n e h.tallied h.settled_within accepted same;
-  settled_within = omega (arith, h.settled_within, length-append entries (e ∷ []));
-  settled_first =
-      take-append-le n entries (e ∷ []) h.settled_within
-      ∙ h.settled_first
-      ∙ sym (filter-append (is_below settled) entries (e ∷ []) ∙ ap (λ b. filter (is_below settled) entries ++ cond b (e ∷ []) []) (le-ltb e.place settled (omega (arith, h.settled_next, l))) ∙ append-nil (filter (is_below settled) entries));
-}
-
--- the book with more records settled
-pub book-settled : (index : BTreeMap EventKey ℕ) (tally counted : Tally) (entries : List Entry) (next settled n place m : ℕ)
-    → IsBook entries index tally next settled n → n ≤ m → m ≤ length entries → take m entries ≡ filter (is_below place) entries
-    → ((name : List ℕ) → accepted_in counted name ≡ accepted_in tally name)
-    → ((name : List ℕ) → settled_in counted name ≡ settled_in tally name + count_by (is_entry_of name) (take (m - n) (drop n entries)))
-    → IsBook entries index counted (max next place) place m
-book-settled index tally counted entries next settled n place m h l within first same more = record {
-  ascending = h.ascending;
-  below_next = λ k d lt. omega (arith, h.below_next k d lt);
-  settled_next = omega arith;
-  indexed = h.indexed;
-  tallied = λ name. (
-    same name ∙ (h.tallied name).0,
-    more name ∙ ap (λ i. i + count_by (is_entry_of name) (take (m - n) (drop n entries))) (h.tallied name).1 ∙ count-slice (is_entry_of name) entries n m l,
-  );
-  settled_within = within;
-  settled_first = first;
-}
-
--- what is between two places of the list is no more than what is counted
-pub slice-known : (tally : Tally) (entries : List Entry) (n m : ℕ) (name : List ℕ) → IsTally tally entries n → n ≤ m → count_by (is_entry_of name) (take (m - n) (drop n entries)) ≤ accepted_in tally name
-slice-known tally entries n m name h l = omega (arith, (h name).0, count-slice (is_entry_of name) entries n m l, sum_by-take-le (λ x. cond (is_entry_of name x) 1 0) entries m)
-
--- no entry has a place that is mapped away
-pub unmapped : (o : Option Entry) → option_map (λ e. e.place) o ≡ None → o ≡ None
+-- no entry has a number that is mapped away
+pub unmapped : (o : Option Entry) → option_map (λ e. e.seq) o ≡ None → o ≡ None
 unmapped None e = refl
 unmapped (Some x) e = cc
+
+-- One more event
+
+read-front : (entries : List Entry) (e : Entry) (k : ℕ) (d : Entry) → k < length entries → (get_or (entries ++ e ∷ []) k d).seq ≡ (get_or entries k d).seq
+read-front entries e k d h = ap (λ (x : Entry). x.seq) (get_or_append_left entries (e ∷ []) d k h)
+
+read-last : (entries : List Entry) (e : Entry) (k : ℕ) (d : Entry) → k ≡ length entries → (get_or (entries ++ e ∷ []) k d).seq ≡ e.seq
+read-last entries e k d h = ap (λ (x : Entry). x.seq) (ap (λ i. get_or (entries ++ e ∷ []) i d) h ∙ get_or-append_seam entries e [] d)
+
+-- what an entry's number and attempts are below
+pub below : (next : ℕ) (e : Entry) → is_numbered next e ≡ true → (e.seq < next) × (e.latest.attempts ≤ next)
+below next e h = (ltb-true e.seq next (and_first (ltb e.seq next) _ h), ltb-false next e.latest.attempts (no (ltb next e.latest.attempts) (and_second (ltb e.seq next) _ h)))
+  where
+    no : (b : Bool) → not b ≡ true → b ≡ false
+    no true n = absurd (let m = n in cc)
+    no false n = refl
+
+pub numbered_if : (next : ℕ) (e : Entry) → e.seq < next → e.latest.attempts ≤ next → is_numbered next e ≡ true
+numbered_if next e h l = and_both (ltb e.seq next) _ (lt-ltb e.seq next h) (ap not (le-ltb next e.latest.attempts l))
+
+keyed-push : (index later : BTreeMap EventKey ℕ) (entries : List Entry) (next settled n : ℕ) (e : Entry) → IsKeyed entries index next settled n → next ≤ e.seq → e.latest.attempts ≡ 0 → IsIndex later (entries ++ e ∷ [])
+    → IsKeyed (entries ++ e ∷ []) later (e.seq + 1) settled n
+keyed-push index later entries next settled n e h l none indexed = record {
+  ascending = λ i j d lt m. ⊎_elim
+      (λ inside. omega (arith, read-front entries e i d (omega (arith, lt, inside)), read-front entries e j d inside, h.ascending i j d lt inside))
+      (λ past. omega (arith, read-front entries e i d (omega (arith, lt, count, m)), read-last entries e j d (omega (arith, past, count, m)), under i d (omega (arith, lt, count, m))))
+      (cases_lt j (length entries));
+  numbered = list_all-append (is_numbered (e.seq + 1)) entries (e ∷ [])
+      ∙ and_both _ _ (all_weaker (is_numbered next) (is_numbered (e.seq + 1)) entries (λ x is. numbered_if (e.seq + 1) x (omega (arith, (below next x is).0, l)) (omega (arith, (below next x is).1, l))) h.numbered)
+      (and_both (is_numbered (e.seq + 1) e) true (numbered_if (e.seq + 1) e (omega arith) (omega (arith, none))) refl);
+  settled_next = omega (arith, h.settled_next, l);
+  indexed = indexed;
+  settled_within = omega (arith, h.settled_within, count);
+  settled_below = λ k d lt. omega (arith, read-front entries e k d (omega (arith, lt, h.settled_within)), h.settled_below k d lt);
+  settled_above = λ k d m lt. ⊎_elim
+      (λ inside. omega (arith, read-front entries e k d inside, h.settled_above k d m inside))
+      (λ past. omega (arith, read-last entries e k d (omega (arith, past, count, lt)), h.settled_next, l))
+      (cases_lt k (length entries));
+}
+  where
+    count : length (entries ++ e ∷ []) ≡ length entries + 1
+    count = length-append entries (e ∷ [])
+
+    under : (k : ℕ) (d : Entry) → k < length entries → (get_or entries k d).seq < next
+    under k d lt = (below next (get_or entries k d) (all_at (is_numbered next) entries k d lt h.numbered)).0
+
+tally-push : (tally more : Tally) (picked : Entry → Progress) (entries : List Entry) (e : Entry) → IsTally tally picked entries
+    → ((those : Option (List ℕ)) (asked : State) → in_state asked (counts_for more those) ≡ in_state asked (counts_for tally those) + one_of e.name (state_in (picked e)) those asked) → IsTally more picked (entries ++ e ∷ [])
+tally-push tally more picked entries e counts again those asked =
+    again those asked ∙ ap (λ m. m + one_of e.name (state_in (picked e)) those asked) (counts those asked) ∙ sym (sum_by_push (λ x. cond (is_counted picked those asked x) 1 0) entries e)
+
+found_still : (entries : List Entry) (e : Entry) (o : Unsettled) → is_later entries o ≡ true → is_later (entries ++ e ∷ []) o ≡ true
+found_still entries e o h = and_both _ _
+    (ap is_some (find-append (λ x. eqb x.seq o.delivery) entries (e ∷ [])) ∙ still (entry_at entries o.delivery) (and_first (is_some (entry_at entries o.delivery)) _ h))
+    (and_second (is_some (entry_at entries o.delivery)) (ltb o.delivery o.seq) h)
+  where
+    still : (p : Option Entry) → is_some p ≡ true → is_some (option_or p (entry_at (e ∷ []) o.delivery)) ≡ true
+    still None n = absurd (let m = n in cc)
+    still (Some x) n = refl
+
+pub book-push : (index later : BTreeMap EventKey ℕ) (tally counted settled_tally opened_tally : Tally) (entries : List Entry) (unsettled : List Unsettled) (room more_room next settled n : ℕ) (seq : ℕ) (name id body : List ℕ) (at : ℕ)
+    → IsBook entries index tally settled_tally unsettled room next settled n → next ≤ seq → find (is_entry_as name id) entries ≡ None
+    → ((q : EventKey) → get event_cmp later q ≡ cond (is_at (event_cmp (record { name = name; id = id })) q) (Some seq) (get event_cmp index q))
+    → ((those : Option (List ℕ)) (asked : State) → in_state asked (counts_for counted those) ≡ in_state asked (counts_for tally those) + one_of name Pending those asked)
+    → ((those : Option (List ℕ)) → counts_for opened_tally those ≡ counts_for settled_tally those) → has_room opened_tally name ≡ true
+    → ((asked : List ℕ) → has_room settled_tally asked ≡ true → has_room opened_tally asked ≡ true) → length entries + 1 ≤ more_room
+    → IsBook (entries ++ new_entry seq name id body at ∷ []) later counted opened_tally unsettled more_room (seq + 1) settled n
+book-push index later tally counted settled_tally opened_tally entries unsettled room more_room next settled n seq name id body at h l unknown updated again same opened stays enough = record {
+  keyed = keyed-push index later entries next settled n (new_entry seq name id body at) h.keyed l refl (indexed-push index later entries (new_entry seq name id body at) h.keyed.indexed unknown updated);
+  latest = tally-push tally counted (λ e. e.latest) entries (new_entry seq name id body at) h.latest again;
+  settled = λ those asked. ap (in_state asked) (same those) ∙ h.settled those asked
+      ∙ ap (count_by (is_counted (λ e. e.settled) those asked)) (sym (take-append-le n entries (new_entry seq name id body at ∷ []) h.keyed.settled_within));
+  opened = list_all-append (λ e. has_room opened_tally e.name) entries (new_entry seq name id body at ∷ [])
+      ∙ and_both _ _ (all_weaker (λ e. has_room settled_tally e.name) (λ e. has_room opened_tally e.name) entries (λ e is. stays e.name is) h.opened) (and_both (has_room opened_tally name) true opened refl);
+  queue = record {
+    later = all_weaker (is_later entries) (is_later (entries ++ new_entry seq name id body at ∷ [])) unsettled (λ o is. found_still entries (new_entry seq name id body at) o is) h.queue.later;
+    counted = omega (arith, h.queue.counted, sum_by_push (λ e. cond (is_waiting e) 1 0) entries (new_entry seq name id body at));
+    room = omega (arith, enough, length-append entries (new_entry seq name id body at ∷ []));
+  };
+}
+
+-- the same keys and counts, with as much room or more
+pub book-same : (index kept : BTreeMap EventKey ℕ) (tally counted settled_tally opened_tally : Tally) (entries : List Entry) (unsettled : List Unsettled) (room more_room next settled n : ℕ)
+    → IsBook entries index tally settled_tally unsettled room next settled n → ((k : EventKey) → get event_cmp kept k ≡ get event_cmp index k) → ((those : Option (List ℕ)) → counts_for counted those ≡ counts_for tally those)
+    → ((those : Option (List ℕ)) → counts_for opened_tally those ≡ counts_for settled_tally those) → ((asked : List ℕ) → has_room settled_tally asked ≡ true → has_room opened_tally asked ≡ true)
+    → room ≤ more_room → IsBook entries kept counted opened_tally unsettled more_room next settled n
+book-same index kept tally counted settled_tally opened_tally entries unsettled room more_room next settled n h keys alike same stays enough = record {
+  keyed = record {
+    ascending = h.keyed.ascending;
+    numbered = h.keyed.numbered;
+    settled_next = h.keyed.settled_next;
+    indexed = λ k. keys k ∙ h.keyed.indexed k;
+    settled_within = h.keyed.settled_within;
+    settled_below = h.keyed.settled_below;
+    settled_above = h.keyed.settled_above;
+  };
+  latest = λ those asked. ap (in_state asked) (alike those) ∙ h.latest those asked;
+  settled = λ those asked. ap (in_state asked) (same those) ∙ h.settled those asked;
+  opened = all_weaker (λ e. has_room settled_tally e.name) (λ e. has_room opened_tally e.name) entries (λ e is. stays e.name is) h.opened;
+  queue = record { later = h.queue.later; counted = h.queue.counted; room = omega (arith, h.queue.room, enough) };
+}

@@ -1,121 +1,247 @@
 -- The histories for which a book stands after a step, and what it then tells of them.
-use Rattle.std.proofs.Common.{◌≡◌, ℕ, ◌<◌, ◌≤◌, true, List, [], ◌∷◌, ◌++◌, None, length, take, refl, sym, ◌∙◌, ap, arith, ◌&&◌, length-append, append-nil}
-use Rattle.std.specs.Prelude.{filter, count_by, option_map, IsTrue}
-use Rattle.std.specs.List.{cons_option, list_all}
-use Rattle.std.proofs.lemmas.List.Folds.{list_all-append}
+use Rattle.std.proofs.Common.{◌≡◌, ℕ, zero, suc, ◌+◌, ◌-◌, ◌<◌, ◌≤◌, Bool, true, false, List, [], ◌∷◌, ◌++◌, Option, Some, None, length, take, drop, map, refl, sym, ◌∙◌, ap, subst, arith, cond, ⊎_elim, ◌&&◌, eqb, ltb, length-append, append-nil}
+use Rattle.std.specs.Prelude.{filter_map, option_map, is_some, IsTrue, max}
+use Rattle.std.specs.List.{cons_option, list_any}
+use Rattle.std.specs.Option.{option_map_or}
+use Rattle.std.proofs.Math.Seq.{take-add}
+use Rattle.std.proofs.lemmas.Bool.{eq-eqb, ne_eqb, eqb-true, ltb-true, ltb-false, cases_eq}
+use Rattle.std.proofs.lemmas.List.{take-append-le, drop-append-le, length-drop}
+use Rattle.std.proofs.lemmas.List.Elements.{filter_map-append}
 use Rattle.relay_types.specs.declared.record.Record.{Record}
 use Rattle.relay_types.specs.declared.record.Record.TheVariants.{Put, Secrets, Enabled, Accept, Outcome}
-use Rattle.relay_types.specs.Records.{accepted_by}
-use Rattle.relay_types.specs.Deliveries.{known_as, deliveries, deliveries_of}
-use Rattle.delivery_book.specs.declared.entry.Entry.{Entry}
-use Rattle.delivery_book.specs.Entries.{BookValue, empty_book, with_entry, with_settled, entry_at, known_in, is_entry_of}
-use Rattle.delivery_book.specs.Kept.{is_below}
-use Rattle.delivery_book.specs.Book.{StandsFor, entry_for, entries_of, is_no_outcome, is_other, row_of, body_of, counts_of, counts_of_all}
-use Rattle.delivery_book.proofs.Histories.{taken_by, fresh_row, entries_of-snoc, known_as-entries, accepted-take, accepted-past, no_outcomes-take, entries_of-take, row_of-fresh, row_of-entries, body_of-entries, counts_none, deliveries_of-count, deliveries-count}
+use Rattle.relay_types.specs.declared.state.State.TheVariants.{Pending}
+use Rattle.relay_types.specs.Records.{Accepted, Attempt, accepted_by, attempt_by, numbered}
+use Rattle.relay_types.specs.Deliveries.{accepted, attempts_of, is_in_state, is_pending, state_of}
+use Rattle.relay_types.proofs.GrowthLaws.{numbered-snoc}
+use Rattle.relay_types.proofs.KnownLaws.{and_first, and_second, below_if_accepted}
+use Rattle.delivery_book.specs.declared.entry.Unsettled.{Unsettled}
+use Rattle.delivery_book.specs.Entries.{BookValue, empty_book, with_event, with_outcome, with_attempt, at_delivery, at_outcomes, with_latest_settled, with_settled, front_below, rest_from, is_open, entry_at, takes_outcome, progress_of}
+use Rattle.delivery_book.specs.Book.{StandsFor, entry_for, entry_by, entries_of, delivery_by, outcome_by, outcomes_from, is_other, is_free}
+use Rattle.delivery_book.proofs.Progresses.{progress_of-append, attempts_of-append, attempts_of-split, empty_if, none_earlier, all_earlier}
+use Rattle.delivery_book.proofs.Histories.{entries-map, entry_at-entries}
+use Rattle.delivery_book.proofs.Waits.{outcomes_from-snoc, front-outcomes, rest-outcomes, named-attempts}
 
--- Steps
+-- One more record
 
-pub stands_empty : StandsFor empty_book [] 0
-stands_empty = record { entries = refl; no_outcomes = refl; next_place = omega arith; settled_place = refl }
+attempts_of-more : (records : List Record) (r : Record) (d : ℕ) → attempts_of (records ++ r ∷ []) d ≡ attempts_of records d ++ cons_option (attempt_by d r) []
+attempts_of-more records r d = attempts_of-append records (r ∷ []) d
 
-no_outcomes-snoc : (records : List Record) (entry : Record) → IsTrue (list_all is_no_outcome records) → IsTrue (is_no_outcome entry) → IsTrue (list_all is_no_outcome (records ++ entry ∷ []))
-no_outcomes-snoc records entry h e = list_all-append is_no_outcome records (entry ∷ []) ∙ ap (λ b. b && (is_no_outcome entry && true)) h ∙ ap (λ b. b && true) e
+take-more : (records : List Record) (r : Record) (s : ℕ) → s ≤ length records → take s (records ++ r ∷ []) ≡ take s records
+take-more records r s h = take-append-le s records (r ∷ []) h
 
-pub stands_accept : (book : BookValue) (records : List Record) (settled place : ℕ) (name id body : List ℕ) (at : ℕ) → StandsFor book records settled → place ≡ length records
-    → StandsFor (with_entry book (record { place = place; name = name; id = id; body = body; at = at })) (records ++ Accept name id body at ∷ []) settled
-stands_accept book records settled place name id body at h e = record {
+drop-more : (records : List Record) (r : Record) (s : ℕ) → s ≤ length records → drop s (records ++ r ∷ []) ≡ drop s records ++ r ∷ []
+drop-more records r s h = drop-append-le s records (r ∷ []) h
+
+entries_of-more : (records : List Record) (r : Record) (s : ℕ) → s ≤ length records → entries_of (records ++ r ∷ []) s
+    ≡ filter_map (entry_by (attempts_of (records ++ r ∷ [])) (attempts_of (take s records))) (numbered records) ++ cons_option (entry_by (attempts_of (records ++ r ∷ [])) (attempts_of (take s records)) (length records, r)) []
+entries_of-more records r s h =
+    (λ i. filter_map (entry_by (attempts_of (records ++ r ∷ [])) (attempts_of (take-more records r s h i))) (numbered-snoc records r i))
+    ∙ filter_map-append (entry_by (attempts_of (records ++ r ∷ [])) (attempts_of (take s records))) (numbered records) ((length records, r) ∷ [])
+
+unsettled-more : (records : List Record) (r : Record) (s : ℕ) → s ≤ length records
+    → outcomes_from s (drop s (records ++ r ∷ [])) ≡ outcomes_from s (drop s records) ++ cons_option (outcome_by (length records, r)) []
+unsettled-more records r s h =
+    ap (outcomes_from s) (drop-more records r s h)
+    ∙ outcomes_from-snoc s (drop s records) r
+    ∙ ap (λ n. outcomes_from s (drop s records) ++ cons_option (outcome_by (n, r)) []) counted
+  where
+    counted : s + length (drop s records) ≡ length records
+    counted = omega (arith, length-drop s records, h)
+
+-- a record that is no Outcome adds no attempt
+no_attempt : (r : Record) → delivery_by r ≡ None → (d : ℕ) → attempt_by d r ≡ None
+no_attempt (Put name target max secrets) h d = refl
+no_attempt (Secrets name secrets) h d = refl
+no_attempt (Enabled name flag) h d = refl
+no_attempt (Accept name id body at) h d = refl
+no_attempt (Outcome delivery attempt status at) h d = absurd (let e = h in cc)
+
+same_attempts : (records : List Record) (r : Record) → delivery_by r ≡ None → (d : ℕ) → attempts_of (records ++ r ∷ []) d ≡ attempts_of records d
+same_attempts records r quiet d = attempts_of-more records r d ∙ ap (λ o. attempts_of records d ++ cons_option o []) (no_attempt r quiet d) ∙ append-nil (attempts_of records d)
+
+pub stands_quiet : (book later : BookValue) (records : List Record) (settled : ℕ) (r : Record) → delivery_by r ≡ None → StandsFor book records settled
+    → later.entries ≡ book.entries ++ cons_option (entry_by (attempts_of records) (attempts_of (take settled records)) (length records, r)) []
+    → later.unsettled ≡ book.unsettled → later.next_seq ≤ length records + 1 → later.settled_seq ≡ book.settled_seq → StandsFor later (records ++ r ∷ []) settled
+stands_quiet book later records settled r quiet h entries unsettled next settled_seq = record {
   entries =
-      (λ i. h.entries i ++ record { place = e i; name = name; id = id; body = body; at = at } ∷ [])
-      ∙ sym (entries_of-snoc records (Accept name id body at));
-  no_outcomes = no_outcomes-snoc records (Accept name id body at) h.no_outcomes refl;
-  next_place = omega (arith, e, length-append records (Accept name id body at ∷ []));
-  settled_place = h.settled_place;
+      entries
+      ∙ (λ i. h.entries i ++ cons_option (entry_by (attempts_of records) (attempts_of (take settled records)) (length records, r)) [])
+      ∙ sym (entries_of-more records r settled h.within ∙ (λ i. filter_map (entry_by (λ d. same_attempts records r quiet d i) (attempts_of (take settled records))) (numbered records)
+      ++ cons_option (entry_by (λ d. same_attempts records r quiet d i) (attempts_of (take settled records)) (length records, r)) []));
+  unsettled =
+      unsettled ∙ h.unsettled
+      ∙ sym (unsettled-more records r settled h.within ∙ ap (λ o. outcomes_from settled (drop settled records) ++ cons_option (option_map (λ d. record { seq = length records; delivery = d }) o) []) quiet ∙ append-nil (outcomes_from settled (drop settled records)));
+  next_seq = omega (arith, next, length-append records (r ∷ []));
+  settled_seq = settled_seq ∙ h.settled_seq;
+  within = omega (arith, h.within, length-append records (r ∷ []));
+  once = λ d. subst (λ some. length (attempts_of some d) ≤ 1) (sym (drop-more records r settled h.within))
+      (subst (λ attempts. length attempts ≤ 1) (sym (same_attempts (drop settled records) r quiet d)) (h.once d));
+  in_order = λ d l. same_attempts records r quiet d ∙ h.in_order d (omega (arith, l, length-append records (r ∷ [])));
 }
 
-others_accept : (entry : Record) → IsTrue (is_other entry) → accepted_by entry ≡ None
+pub stands_empty : StandsFor empty_book [] 0
+stands_empty = record { entries = refl; unsettled = refl; next_seq = omega arith; settled_seq = refl; within = omega arith; once = λ d. omega arith; in_order = λ d l. refl }
+
+pub stands_accept : (book : BookValue) (records : List Record) (settled seq : ℕ) (name id body : List ℕ) (at : ℕ) → StandsFor book records settled → seq ≡ length records
+    → StandsFor (with_event book seq name id body at) (records ++ Accept name id body at ∷ []) settled
+stands_accept book records settled seq name id body at h e =
+    stands_quiet book (with_event book seq name id body at) records settled (Accept name id body at) refl h
+    (λ i. book.entries ++ record {
+      seq = e i;
+      name = name;
+      id = id;
+      body = body;
+      at = at;
+      latest = progress_of at (sym none i);
+      settled = progress_of at (sym (none_earlier records settled (length records) none) i);
+    } ∷ [])
+    refl (omega (arith, e)) refl
+  where
+    none : attempts_of records (length records) ≡ []
+    none = h.in_order (length records) (omega arith)
+
+others_accept : (r : Record) → IsTrue (is_other r) → accepted_by r ≡ None
 others_accept (Put name target max secrets) h = refl
 others_accept (Secrets name secrets) h = refl
 others_accept (Enabled name flag) h = refl
 others_accept (Accept name id body at) h = cc
 others_accept (Outcome delivery attempt status at) h = cc
 
-others_end : (entry : Record) → IsTrue (is_other entry) → IsTrue (is_no_outcome entry)
+others_end : (r : Record) → IsTrue (is_other r) → delivery_by r ≡ None
 others_end (Put name target max secrets) h = refl
 others_end (Secrets name secrets) h = refl
 others_end (Enabled name flag) h = refl
 others_end (Accept name id body at) h = refl
-others_end (Outcome delivery attempt status at) h = h
+others_end (Outcome delivery attempt status at) h = cc
 
 -- a record that concerns no delivery leaves the book standing
-pub stands_other : (book : BookValue) (records : List Record) (settled : ℕ) (entry : Record) → StandsFor book records settled → IsTrue (is_other entry) → StandsFor book (records ++ entry ∷ []) settled
-stands_other book records settled entry h other = record {
+pub stands_other : (book : BookValue) (records : List Record) (settled : ℕ) (r : Record) → StandsFor book records settled → IsTrue (is_other r) → StandsFor book (records ++ r ∷ []) settled
+stands_other book records settled r h other =
+    stands_quiet book book records settled r (others_end r other) h
+    (sym (ap (λ o. book.entries ++ cons_option (option_map (entry_for (attempts_of records) (attempts_of (take settled records)) (length records)) o) []) (others_accept r other) ∙ append-nil book.entries))
+    refl (omega (arith, h.next_seq)) refl
+
+-- One more outcome
+
+pub free_means : (book : BookValue) (records : List Record) (settled d : ℕ) → StandsFor book records settled → takes_outcome book d ≡ is_free records settled d
+free_means book records settled d h =
+    ap (λ es. option_map_or is_open (entry_at es d) false) h.entries
+    ∙ ap (λ o. option_map_or is_open o false) (entry_at-entries records settled d)
+    ∙ pick (accepted records d)
+  where
+    fewer : (n m all : ℕ) → all ≡ n + m → eqb all n ≡ eqb m 0
+    fewer n m all e = ⊎_elim (λ z. eq-eqb all n (omega (arith, e, z)) ∙ sym (eq-eqb m 0 z)) (λ nz. ne_eqb all n (λ same. nz (omega (arith, e, same))) ∙ sym (ne_eqb m 0 nz)) (cases_eq m 0)
+
+    pick : (o : Option Accepted) → option_map_or is_open (option_map (entry_for (attempts_of records) (attempts_of (take settled records)) d) o) false
+        ≡ (is_some o && is_in_state Pending (state_of records d)) && eqb (length (attempts_of (drop settled records) d)) 0
+    pick None = refl
+    pick (Some a) = ap (λ b. is_in_state Pending (state_of records d) && b)
+        (fewer (length (attempts_of (take settled records) d)) (length (attempts_of (drop settled records) d)) (length (attempts_of records d))
+        (ap length (attempts_of-split records settled d) ∙ length-append (attempts_of (take settled records) d) (attempts_of (drop settled records) d)))
+
+pub stands_outcome : (book : BookValue) (records : List Record) (settled seq delivery attempt status at : ℕ) → StandsFor book records settled → seq ≡ length records → takes_outcome book delivery ≡ true
+    → StandsFor (with_outcome book seq delivery status at) (records ++ Outcome delivery attempt status at ∷ []) settled
+stands_outcome book records settled seq delivery attempt status at h e takes = record {
   entries =
-      h.entries
-      ∙ sym (entries_of-snoc records entry ∙ ap (λ o. entries_of records ++ cons_option (option_map (entry_for (length records)) o) []) (others_accept entry other) ∙ append-nil (entries_of records));
-  no_outcomes = no_outcomes-snoc records entry h.no_outcomes (others_end entry other);
-  next_place = omega (arith, h.next_place, length-append records (entry ∷ []));
-  settled_place = h.settled_place;
+      ap (map (at_delivery delivery (with_attempt status at))) h.entries
+      ∙ sym (entries_of-more records r settled h.within ∙ append-nil _ ∙ entries-map (attempts_of records) (attempts_of (take settled records)) (attempts_of (records ++ r ∷ [])) (attempts_of (take settled records)) (at_delivery delivery (with_attempt status at)) each (numbered records));
+  unsettled = (λ i. h.unsettled i ++ record { seq = e i; delivery = delivery } ∷ []) ∙ sym (unsettled-more records r settled h.within);
+  next_seq = omega (arith, e, length-append records (r ∷ []));
+  settled_seq = h.settled_seq;
+  within = omega (arith, h.within, length-append records (r ∷ []));
+  once = λ d. subst (λ some. length (attempts_of some d) ≤ 1) (sym (drop-more records r settled h.within))
+      (subst (λ attempts. length attempts ≤ 1) (sym (attempts_of-more (drop settled records) r d)) (one d (eqb delivery d) refl));
+  in_order = λ d l. attempts_of-more records r d ∙ ap (λ b. attempts_of records d ++ cons_option (cond b (Some a) None) []) (ne_eqb delivery d (λ same. absurd (omega (arith, same, l, length-append records (r ∷ []), there))))
+      ∙ append-nil (attempts_of records d) ∙ h.in_order d (omega (arith, l, length-append records (r ∷ [])));
 }
+  where
+    r : Record
+    r = Outcome delivery attempt status at
 
-pub stands_settled : (book : BookValue) (records : List Record) (settled place : ℕ) → StandsFor book records settled → place ≤ length records → StandsFor (with_settled book place) records place
-stands_settled book records settled place h l = record {
-  entries = h.entries;
-  no_outcomes = h.no_outcomes;
-  next_place = omega (arith, h.next_place, l);
-  settled_place = refl;
+    a : Attempt
+    a = record { number = attempt; status = status; at = at }
+
+    free : is_free records settled delivery ≡ true
+    free = sym (free_means book records settled delivery h) ∙ takes
+
+    there : delivery < length records
+    there = below_if_accepted records delivery (and_first (is_some (accepted records delivery)) (is_in_state Pending (state_of records delivery)) (and_first (is_pending records delivery) (eqb (length (attempts_of (drop settled records) delivery)) 0) free))
+
+    none : attempts_of (drop settled records) delivery ≡ []
+    none = empty_if (attempts_of (drop settled records) delivery) (eqb-true (length (attempts_of (drop settled records) delivery)) 0 (and_second (is_pending records delivery) (eqb (length (attempts_of (drop settled records) delivery)) 0) free))
+
+    one : (d : ℕ) (b : Bool) → eqb delivery d ≡ b → length (attempts_of (drop settled records) d ++ cons_option (cond b (Some a) None) []) ≤ 1
+    one d false h2 = omega (arith, h.once d, length-append (attempts_of (drop settled records) d) (cons_option None []))
+    one d true h2 = omega (arith, ap length (ap (attempts_of (drop settled records)) (sym (eqb-true delivery d h2)) ∙ none), length-append (attempts_of (drop settled records) d) (a ∷ []))
+
+    each : (n : ℕ) (t : Accepted) → entry_for (attempts_of (records ++ r ∷ [])) (attempts_of (take settled records)) n t ≡ at_delivery delivery (with_attempt status at) (entry_for (attempts_of records) (attempts_of (take settled records)) n t)
+    each n t = (λ i. record (entry_for (attempts_of records) (attempts_of (take settled records)) n t) { latest = progress_of t.at (attempts_of-more records r n i) }) ∙ pick (eqb delivery n)
+      where
+        pick : (b : Bool) → record (entry_for (attempts_of records) (attempts_of (take settled records)) n t) { latest = progress_of t.at (attempts_of records n ++ cons_option (cond b (Some a) None) []) }
+            ≡ cond b (with_attempt status at (entry_for (attempts_of records) (attempts_of (take settled records)) n t)) (entry_for (attempts_of records) (attempts_of (take settled records)) n t)
+        pick true = λ i. record (entry_for (attempts_of records) (attempts_of (take settled records)) n t) { latest = progress_of-append t.at (attempts_of records n) a i }
+        pick false = λ i. record (entry_for (attempts_of records) (attempts_of (take settled records)) n t) { latest = progress_of t.at (append-nil (attempts_of records n) i) }
+
+-- More records settled
+
+drop-none : (X : Type 0) (k : ℕ) → drop {A = X} k [] ≡ []
+drop-none X zero = refl
+drop-none X (suc k) = refl
+
+drop-after : {X : Type 0} (n k m : ℕ) (xs : List X) → n + k ≡ m → drop k (drop n xs) ≡ drop m xs
+drop-after {X} zero k m xs e = ap (λ j. drop j xs) same
+  where
+    same : k ≡ m
+    same = omega (arith, e)
+drop-after {X} (suc n) k zero xs e = absurd (omega (arith, e))
+drop-after {X} (suc n) k (suc m) [] e = drop-none X k
+drop-after {X} (suc n) k (suc m) (x ∷ xs) e = drop-after n k m xs (omega (arith, e))
+
+pub stands_settled : (book : BookValue) (records : List Record) (settled seq : ℕ) → StandsFor book records settled → book.settled_seq ≤ seq → seq ≤ length records → StandsFor (with_settled book seq) records seq
+stands_settled book records settled seq h up l = record {
+  entries =
+      (λ i. map (at_outcomes (waiting i) with_latest_settled) (h.entries i))
+      ∙ sym (entries-map (attempts_of records) (attempts_of (take settled records)) (attempts_of records) (attempts_of (take seq records)) (at_outcomes middle with_latest_settled) each (numbered records));
+  unsettled = ap (rest_from seq) h.unsettled ∙ rest-outcomes settled k seq (drop settled records) total ∙ ap (outcomes_from seq) behind;
+  next_seq = omega (arith, h.next_seq, l);
+  settled_seq = refl;
+  within = l;
+  once = λ d. subst (λ some. length (attempts_of some d) ≤ 1) behind
+      (omega (arith, h.once d, ap length (attempts_of-split (drop settled records) k d), length-append (attempts_of (take k (drop settled records)) d) (attempts_of (drop k (drop settled records)) d)));
+  in_order = h.in_order;
 }
+  where
+    k : ℕ
+    k = seq - settled
 
--- Answers
+    total : settled + k ≡ seq
+    total = omega (arith, up, h.settled_seq)
 
-pub stands_known : (book : BookValue) (records : List Record) (settled : ℕ) (name id : List ℕ) → StandsFor book records settled → known_in book name id ≡ known_as records name id
-stands_known book records settled name id h = ap (λ es. known_in (record book { entries = es }) name id) h.entries ∙ sym (known_as-entries records name id)
+    middle : List Unsettled
+    middle = outcomes_from settled (take k (drop settled records))
 
-pub stands_row : (book : BookValue) (records : List Record) (settled d : ℕ) → StandsFor book records settled → option_map (λ e. fresh_row (taken_by e)) (entry_at book.entries d) ≡ row_of records d
-stands_row book records settled d h = ap (λ es. option_map (λ e. fresh_row (taken_by e)) (entry_at es d)) h.entries ∙ sym (row_of-entries records d h.no_outcomes)
+    waiting : front_below seq book.unsettled ≡ middle
+    waiting = ap (front_below seq) h.unsettled ∙ front-outcomes settled k seq (drop settled records) total
 
-pub stands_body : (book : BookValue) (records : List Record) (settled d : ℕ) → StandsFor book records settled → option_map (λ e. e.body) (entry_at book.entries d) ≡ body_of records d
-stands_body book records settled d h = ap (λ es. option_map (λ (e : Entry). e.body) (entry_at es d)) h.entries ∙ sym (body_of-entries records d)
+    behind : drop k (drop settled records) ≡ drop seq records
+    behind = drop-after settled k seq records total
 
-pub stands_settled_row : (book : BookValue) (records : List Record) (settled d : ℕ) → StandsFor book records settled → d < book.settled_place → row_of records d ≡ row_of (take settled records) d
-stands_settled_row book records settled d h l =
-    row_of-fresh records d h.no_outcomes
-    ∙ ap (option_map fresh_row) (sym (accepted-take records settled d (omega (arith, h.settled_place, l))))
-    ∙ sym (row_of-fresh (take settled records) d (no_outcomes-take records settled h.no_outcomes))
+    first : (n : ℕ) → attempts_of (take seq records) n ≡ attempts_of (take settled records) n ++ attempts_of (take k (drop settled records)) n
+    first n = ap (λ m. attempts_of (take m records) n) (sym total) ∙ ap (λ some. attempts_of some n) (take-add settled k records) ∙ attempts_of-append (take settled records) (take k (drop settled records)) n
 
-pub stands_waiting_row : (book : BookValue) (records : List Record) (settled d : ℕ) → StandsFor book records settled → book.settled_place ≤ d → None ≡ row_of (take settled records) d
-stands_waiting_row book records settled d h l =
-    ap (option_map fresh_row) (sym (accepted-past records settled d (omega (arith, h.settled_place, l))))
-    ∙ sym (row_of-fresh (take settled records) d (no_outcomes-take records settled h.no_outcomes))
+    each : (n : ℕ) (t : Accepted) → entry_for (attempts_of records) (attempts_of (take seq records)) n t ≡ at_outcomes middle with_latest_settled (entry_for (attempts_of records) (attempts_of (take settled records)) n t)
+    each n t = pick (list_any (λ o. eqb o.delivery n) middle) (named-attempts settled (take k (drop settled records)) n)
+      where
+        pick : (b : Bool) → b ≡ ltb 0 (length (attempts_of (take k (drop settled records)) n)) → entry_for (attempts_of records) (attempts_of (take seq records)) n t
+            ≡ cond b (with_latest_settled (entry_for (attempts_of records) (attempts_of (take settled records)) n t)) (entry_for (attempts_of records) (attempts_of (take settled records)) n t)
+        pick false e = λ i. record (entry_for (attempts_of records) (attempts_of (take settled records)) n t) { settled = progress_of t.at (same i) }
+          where
+            same : attempts_of (take seq records) n ≡ attempts_of (take settled records) n
+            same = first n ∙ ap (λ more. attempts_of (take settled records) n ++ more) (empty_if (attempts_of (take k (drop settled records)) n) (omega (arith, ltb-false 0 (length (attempts_of (take k (drop settled records)) n)) (sym e)))) ∙ append-nil (attempts_of (take settled records) n)
+        pick true e = λ i. record (entry_for (attempts_of records) (attempts_of (take settled records)) n t) { settled = progress_of t.at (same i) }
+          where
+            rest : attempts_of (drop k (drop settled records)) n ≡ []
+            rest = empty_if (attempts_of (drop k (drop settled records)) n) (omega (arith, h.once n, ltb-true 0 (length (attempts_of (take k (drop settled records)) n)) (sym e), ap length (attempts_of-split (drop settled records) k n), length-append (attempts_of (take k (drop settled records)) n) (attempts_of (drop k (drop settled records)) n)))
 
-pub stands_pending : (book : BookValue) (records : List Record) (settled : ℕ) (name : List ℕ) → StandsFor book records settled → count_by (is_entry_of name) book.entries ≡ (counts_of records name).pending
-stands_pending book records settled name h =
-    ap (count_by (is_entry_of name)) h.entries
-    ∙ sym (ap (λ c. c.pending) (counts_none records (deliveries_of records name) h.no_outcomes) ∙ deliveries_of-count records name)
-
-pub stands_pending_all : (book : BookValue) (records : List Record) (settled : ℕ) → StandsFor book records settled → length book.entries ≡ (counts_of_all records).pending
-stands_pending_all book records settled h =
-    ap length h.entries
-    ∙ sym (ap (λ c. c.pending) (counts_none records (deliveries records) h.no_outcomes) ∙ deliveries-count records)
-
-settled_entries : (book : BookValue) (records : List Record) (settled n : ℕ) → StandsFor book records settled → take n book.entries ≡ filter (is_below book.settled_place) book.entries → take n book.entries ≡ entries_of (take settled records)
-settled_entries book records settled n h e = e ∙ (λ i. filter (is_below (h.settled_place i)) (h.entries i)) ∙ sym (entries_of-take records settled)
-
-pub stands_counts : (book : BookValue) (records : List Record) (settled n : ℕ) (name : List ℕ) → StandsFor book records settled → take n book.entries ≡ filter (is_below book.settled_place) book.entries
-    → record { pending = count_by (is_entry_of name) (take n book.entries); delivered = 0; exhausted = 0 } ≡ counts_of (take settled records) name
-stands_counts book records settled n name h e =
-    (λ i. record {
-      pending = (ap (count_by (is_entry_of name)) (settled_entries book records settled n h e) ∙ sym (deliveries_of-count (take settled records) name)) i;
-      delivered = 0;
-      exhausted = 0;
-    })
-    ∙ sym (counts_none (take settled records) (deliveries_of (take settled records) name) (no_outcomes-take records settled h.no_outcomes))
-
-pub stands_counts_all : (book : BookValue) (records : List Record) (settled n : ℕ) → StandsFor book records settled → take n book.entries ≡ filter (is_below book.settled_place) book.entries
-    → record { pending = length (take n book.entries); delivered = 0; exhausted = 0 } ≡ counts_of_all (take settled records)
-stands_counts_all book records settled n h e =
-    (λ i. record {
-      pending = (ap length (settled_entries book records settled n h e) ∙ sym (deliveries-count (take settled records))) i;
-      delivered = 0;
-      exhausted = 0;
-    })
-    ∙ sym (counts_none (take settled records) (deliveries (take settled records)) (no_outcomes-take records settled h.no_outcomes))
+            same : attempts_of (take seq records) n ≡ attempts_of records n
+            same = sym (all_earlier records seq n (subst (λ some. attempts_of some n ≡ []) behind rest))

@@ -1,4 +1,10 @@
 pub mod Entries
+pub mod Progresses
 pub mod Histories
+pub mod Waits
+pub mod Settling
 pub mod Laws
+pub mod Tellings
+pub mod Updates
 pub mod Books
+pub mod Outcomes

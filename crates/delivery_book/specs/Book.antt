@@ -1,41 +1,78 @@
 -- The histories for which a book stands, and what it tells of them.
-use Rattle.std.specs.Prelude.{◌≡◌, ℕ, ◌≤◌, Bool, true, false, List, length, Option, option_map, filter_map, count_by, IsTrue}
-use Rattle.std.specs.List.{list_all}
+use Rattle.std.specs.Prelude.{◌≡◌, ℕ, ◌≤◌, ◌&&◌, ◌==◌, Bool, true, false, List, [], ◌∷◌, ◌++◌, length, take, drop, Option, Some, None, option_map, filter_map, count_by}
+use Rattle.std.specs.List.{enumerate_from}
 use Rattle.relay_types.specs.declared.record.Record.{Record}
 use Rattle.relay_types.specs.declared.record.Record.TheVariants.{Put, Secrets, Enabled, Accept, Outcome}
 use Rattle.relay_types.specs.declared.state.State.{State}
 use Rattle.relay_types.specs.declared.state.State.TheVariants.{Pending, Delivered, Exhausted}
+use Rattle.relay_types.specs.Values.{Text, Seq}
 use Rattle.relay_types.specs.Lists.{last_of}
-use Rattle.relay_types.specs.Records.{Accepted, accepted_by, numbered}
-use Rattle.relay_types.specs.Deliveries.{accepted, deliveries, deliveries_of, attempts_of, state_of, is_in_state, due_if_pending}
+use Rattle.relay_types.specs.Records.{Accepted, Attempt, accepted_by, numbered}
+use Rattle.relay_types.specs.Deliveries.{accepted, deliveries, deliveries_of, attempts_of, state_of, is_in_state, is_pending, due_if_pending}
 use Rattle.delivery_book.specs.declared.entry.Entry.{Entry}
+use Rattle.delivery_book.specs.declared.entry.Unsettled.{Unsettled}
 use Rattle.delivery_book.specs.declared.row.Counts.{Counts}
 use Rattle.delivery_book.specs.declared.row.Row.{Row}
-use Rattle.delivery_book.specs.Entries.{BookValue}
+use Rattle.delivery_book.specs.Entries.{BookValue, progress_of}
 
--- the entry that a numbered record makes, if it is an Accept
-abbrev pub entry_for : ℕ → Accepted → Entry
-entry_for place a = record { place = place; name = a.endpoint; id = a.id; body = a.body; at = a.at }
+-- the entry of an Accept with this number, where these are the latest attempts at each delivery, and the settled ones
+abbrev pub entry_for : (latest settled : Seq → List Attempt) → Seq → Accepted → Entry
+entry_for latest settled seq a = record {
+  seq = seq;
+  name = a.endpoint;
+  id = a.id;
+  body = a.body;
+  at = a.at;
+  latest = progress_of a.at (latest seq);
+  settled = progress_of a.at (settled seq);
+}
 
-abbrev pub entry_by : (ℕ × Record) → Option Entry
-entry_by e = option_map (entry_for e.0) (accepted_by e.1)
+abbrev pub entry_by : (latest settled : Seq → List Attempt) → (Seq × Record) → Option Entry
+entry_by latest settled e = option_map (entry_for latest settled e.0) (accepted_by e.1)
 
-abbrev pub entries_of : List Record → List Entry
-entries_of records = filter_map entry_by (numbered records)
+-- the entries of a history of which so many records are settled
+abbrev pub entries_of : List Record → (settled : ℕ) → List Entry
+entries_of records settled =
+    filter_map (entry_by (attempts_of records) (attempts_of (take settled records))) (numbered records)
 
-abbrev pub is_no_outcome : Record → Bool
-is_no_outcome (Outcome delivery attempt status at) = false
-is_no_outcome (Put name target max secrets) = true
-is_no_outcome (Secrets name secrets) = true
-is_no_outcome (Enabled name flag) = true
-is_no_outcome (Accept name id body at) = true
+-- the delivery that the record speaks of, if it is an Outcome
+abbrev pub delivery_by : Record → Option Seq
+delivery_by (Outcome delivery attempt status at) = Some delivery
+delivery_by (Put name target max secrets) = None
+delivery_by (Secrets name secrets) = None
+delivery_by (Enabled name flag) = None
+delivery_by (Accept name id body at) = None
 
--- the book stands for these records, of which so many are settled; records of outcomes it does not know yet
+abbrev pub outcome_by : (Seq × Record) → Option Unsettled
+outcome_by e = option_map (λ d. record { seq = e.0; delivery = d }) (delivery_by e.1)
+
+-- the outcomes among records of which the first has this number
+abbrev pub outcomes_from : Seq → List Record → List Unsettled
+outcomes_from seq records = filter_map outcome_by (enumerate_from seq records)
+
+-- The book stands for these records, of which so many are settled. No delivery has two outcomes that aren't settled, and
+-- none has an attempt before it is there.
 pub record StandsFor (book : BookValue) (records : List Record) (settled : ℕ) : Type 0 where
-  pub entries : book.entries ≡ entries_of records
-  pub no_outcomes : IsTrue (list_all is_no_outcome records)
-  pub next_place : book.next_place ≤ length records
-  pub settled_place : book.settled_place ≡ settled
+  pub entries : book.entries ≡ entries_of records settled
+  pub unsettled : book.unsettled ≡ outcomes_from settled (drop settled records)
+  pub next_seq : book.next_seq ≤ length records
+  pub settled_seq : book.settled_seq ≡ settled
+  pub within : settled ≤ length records
+  pub once : (d : Seq) → length (attempts_of (drop settled records) d) ≤ 1
+  pub in_order : (d : Seq) → length records ≤ d → attempts_of records d ≡ []
+
+-- what holds of every history for which the book stands
+abbrev pub OverHistories : BookValue → (List Record → (settled : ℕ) → Type 0) → Type 0
+OverHistories book P = (records : List Record) (settled : ℕ) → StandsFor book records settled → P records settled
+
+-- with the record behind, which has this number, the later book stands for them
+abbrev pub Takes : (old : BookValue) → Seq → Record → (new : BookValue) → Type 0
+Takes old seq entry new =
+    OverHistories old (λ records settled. seq ≡ length records → StandsFor new (records ++ entry ∷ []) settled)
+
+-- with the records below this number settled, the later book stands for them
+abbrev pub Settles : (old : BookValue) → Seq → (new : BookValue) → Type 0
+Settles old seq new = OverHistories old (λ records settled. seq ≤ length records → StandsFor new records seq)
 
 -- a record that concerns no delivery
 abbrev pub is_other : Record → Bool
@@ -45,8 +82,12 @@ is_other (Put name target max secrets) = true
 is_other (Secrets name secrets) = true
 is_other (Enabled name flag) = true
 
--- the delivery at this place
-abbrev pub row_of : List Record → ℕ → Option Row
+-- whether the delivery is pending, and no outcome of it waits behind the settled records
+abbrev pub is_free : List Record → (settled : ℕ) → Seq → Bool
+is_free records settled d = is_pending records d && length (attempts_of (drop settled records) d) == 0
+
+-- the delivery of this number
+abbrev pub row_of : List Record → Seq → Option Row
 row_of records d = option_map (λ a. record {
   endpoint = a.endpoint;
   id = a.id;
@@ -58,14 +99,14 @@ row_of records d = option_map (λ a. record {
 }) (accepted records d)
 
 -- the body of its event
-abbrev pub body_of : List Record → ℕ → Option (List ℕ)
+abbrev pub body_of : List Record → Seq → Option Text
 body_of records d = option_map (λ a. a.body) (accepted records d)
 
 -- how many of these deliveries are in this state, and how many in each
-abbrev pub count_in : State → List Record → List ℕ → ℕ
+abbrev pub count_in : State → List Record → List Seq → ℕ
 count_in state records those = count_by (λ d. is_in_state state (state_of records d)) those
 
-abbrev pub counts_in : List Record → List ℕ → Counts
+abbrev pub counts_in : List Record → List Seq → Counts
 counts_in records those = record {
   pending = count_in Pending records those;
   delivered = count_in Delivered records those;
@@ -73,7 +114,7 @@ counts_in records those = record {
 }
 
 -- how many deliveries of the endpoint are in each state, and how many of all endpoints
-abbrev pub counts_of : List Record → List ℕ → Counts
+abbrev pub counts_of : List Record → (name : Text) → Counts
 counts_of records name = counts_in records (deliveries_of records name)
 
 abbrev pub counts_of_all : List Record → Counts

@@ -1,35 +1,186 @@
--- What the book keeps: an entry for each event, in the order in which they were taken in.
-use Rattle.std.specs.Prelude.{ℕ, ◌+◌, ◌&&◌, ◌==◌, Bool, List, [], ◌∷◌, ◌++◌, Option, option_map, bytes_eq, find, max}
+-- What the book keeps: an entry for each event, in the order in which they were taken in, and the outcomes that wait.
+use Rattle.std.specs.Prelude.{ℕ, ◌+◌, ◌&&◌, ◌||◌, ◌==◌, Bool, false, nat_le, nat_lt, List, [], ◌∷◌, ◌++◌, length, map, Option, Some, None, option_map, bytes_eq, find, count_by, max, if◌then◌else◌}
+use Rattle.std.specs.List.{list_any}
+use Rattle.std.specs.Option.{option_map_or}
+use Rattle.relay_types.specs.declared.limits.TheConstants.{MAX_FAILURES}
+use Rattle.relay_types.specs.declared.state.State.{State}
+use Rattle.relay_types.specs.declared.state.State.TheVariants.{Pending, Delivered, Exhausted}
+use Rattle.relay_types.specs.Values.{Text, Seq, Seconds}
+use Rattle.relay_types.specs.Lists.{last_of}
+use Rattle.relay_types.specs.Records.{Attempt}
+use Rattle.relay_types.specs.Judging.{is_delivered_status, is_failed_status}
+use Rattle.relay_types.specs.Deliveries.{is_in_state, due_after}
 use Rattle.delivery_book.specs.declared.entry.Entry.{Entry}
+use Rattle.delivery_book.specs.declared.entry.Unsettled.{Unsettled}
+use Rattle.delivery_book.specs.declared.progress.Progress.{Progress}
+use Rattle.delivery_book.specs.declared.row.Row.{Row}
 
--- the entries, the least place that the next record may have, and the place below which the records are settled
-pub record BookValue : Type 0 where
-  pub entries : List Entry
-  pub next_place : ℕ
-  pub settled_place : ℕ
+-- How far a delivery has come
 
-abbrev pub empty_book : BookValue
-empty_book = record { entries = []; next_place = 0; settled_place = 0 }
+abbrev pub state_by : (is_delivered : Bool) (failures : ℕ) → State
+state_by is_delivered failures =
+    if is_delivered then Delivered else (
+    if nat_le MAX_FAILURES failures then Exhausted else Pending)
 
--- the book with one more entry, by the record at this place
-abbrev pub with_entry : BookValue → Entry → BookValue
-with_entry book entry = record book { entries = book.entries ++ entry ∷ []; next_place = entry.place + 1 }
+abbrev pub state_in : Progress → State
+state_in p = state_by p.is_delivered p.failures
 
--- the book whose records below this place are settled
-abbrev pub with_settled : BookValue → ℕ → BookValue
-with_settled book place = record book { next_place = max book.next_place place; settled_place = place }
+-- the moment of the next attempt, while one is to come
+abbrev pub due_by : (is_delivered : Bool) (failures : ℕ) (due : Seconds) → Option Seconds
+due_by is_delivered failures due = if is_in_state Pending (state_by is_delivered failures) then Some due else None
 
--- whether the entry is of this endpoint, or of this endpoint and id
-abbrev pub is_entry_of : List ℕ → Entry → Bool
-is_entry_of name entry = bytes_eq entry.name name
+abbrev pub failed_among : List Attempt → ℕ
+failed_among attempts = count_by (λ a. is_failed_status a.status) attempts
 
-abbrev pub is_entry_as : List ℕ → List ℕ → Entry → Bool
+abbrev pub is_delivered_among : List Attempt → Bool
+is_delivered_among attempts = list_any (λ a. is_delivered_status a.status) attempts
+
+-- after these attempts at an event of this moment
+abbrev pub progress_of : (at : Seconds) → List Attempt → Progress
+progress_of at attempts = record {
+  attempts = length attempts;
+  failures = failed_among attempts;
+  is_delivered = is_delivered_among attempts;
+  due = due_by (is_delivered_among attempts) (failed_among attempts)
+      (option_map_or (λ last. due_after last (failed_among attempts)) (last_of attempts) at);
+  last_status = option_map (λ a. a.status) (last_of attempts);
+}
+
+-- after so many attempts, of which this was the last
+abbrev pub progress_with : (last : Attempt) (is_delivered : Bool) (failures attempts : ℕ) → Progress
+progress_with last is_delivered failures attempts = record {
+  attempts = attempts;
+  failures = failures;
+  is_delivered = is_delivered;
+  due = due_by is_delivered failures (due_after last failures);
+  last_status = Some last.status;
+}
+
+-- after one more attempt, whatever its number
+abbrev pub progress_after : (status : ℕ) (at : Seconds) → Progress → Progress
+progress_after status at p =
+    progress_with (record { number = 0; status = status; at = at })
+    (p.is_delivered || is_delivered_status status)
+    (p.failures + (if is_failed_status status then 1 else 0))
+    (p.attempts + 1)
+
+-- Entries
+
+-- whether the delivery is pending, and none of its outcomes waits to be settled
+abbrev pub is_open : Entry → Bool
+is_open entry = is_in_state Pending (state_in entry.latest) && entry.latest.attempts == entry.settled.attempts
+
+-- the delivery as told where it has come this far
+abbrev pub row_in : Progress → Entry → Row
+row_in progress entry = record {
+  endpoint = entry.name;
+  id = entry.id;
+  at = entry.at;
+  attempts = progress.attempts;
+  state = state_in progress;
+  due = progress.due;
+  last_status = progress.last_status;
+}
+
+-- the entry of an event that the record with this number takes in
+abbrev pub new_entry : (seq : Seq) (name id body : Text) (at : Seconds) → Entry
+new_entry seq name id body at = record {
+  seq = seq;
+  name = name;
+  id = id;
+  body = body;
+  at = at;
+  latest = progress_of at [];
+  settled = progress_of at [];
+}
+
+abbrev pub with_attempt : (status : ℕ) (at : Seconds) → Entry → Entry
+with_attempt status at entry = record entry { latest = progress_after status at entry.latest }
+
+abbrev pub with_latest_settled : Entry → Entry
+with_latest_settled entry = record entry { settled = entry.latest }
+
+-- the entry, changed where it is that of this delivery, or of one of these outcomes
+abbrev pub at_delivery : (d : Seq) (change : Entry → Entry) → Entry → Entry
+at_delivery d change entry = if d == entry.seq then change entry else entry
+
+abbrev pub at_outcomes : List Unsettled → (change : Entry → Entry) → Entry → Entry
+at_outcomes outcomes change entry =
+    if list_any (λ o. o.delivery == entry.seq) outcomes then change entry else entry
+
+-- whether the entry is of this endpoint and id
+abbrev pub is_entry_as : (name id : Text) → Entry → Bool
 is_entry_as name id entry = bytes_eq entry.name name && bytes_eq entry.id id
 
--- the entry at this place
-abbrev pub entry_at : List Entry → ℕ → Option Entry
-entry_at entries place = find (λ entry. entry.place == place) entries
+-- the entry of this number
+abbrev pub entry_at : List Entry → Seq → Option Entry
+entry_at entries seq = find (λ entry. entry.seq == seq) entries
 
--- the place of the event that the endpoint knows by this id
-abbrev pub known_in : BookValue → List ℕ → List ℕ → Option ℕ
-known_in book name id = option_map (λ entry. entry.place) (find (is_entry_as name id) book.entries)
+-- The book
+
+-- the entries, the outcomes that wait, the least number that the next record may have, and the number below which the
+-- records are settled
+pub record BookValue : Type 0 where
+  pub entries : List Entry
+  pub unsettled : List Unsettled
+  pub next_seq : Seq
+  pub settled_seq : Seq
+
+abbrev pub empty_book : BookValue
+empty_book = record { entries = []; unsettled = []; next_seq = 0; settled_seq = 0 }
+
+-- the number of the event that the endpoint knows by this id
+abbrev pub known_in : BookValue → (name id : Text) → Option Seq
+known_in book name id = option_map (λ entry. entry.seq) (find (is_entry_as name id) book.entries)
+
+-- whether the delivery is pending, and none of its outcomes waits to be settled
+abbrev pub takes_outcome : BookValue → (delivery : Seq) → Bool
+takes_outcome book delivery = option_map_or is_open (entry_at book.entries delivery) false
+
+-- the book with one more event, by the record with this number
+abbrev pub with_event : BookValue → (seq : Seq) (name id body : Text) (at : Seconds) → BookValue
+with_event book seq name id body at = record book {
+  entries = book.entries ++ new_entry seq name id body at ∷ [];
+  next_seq = seq + 1;
+}
+
+-- the book with one more outcome of this delivery
+abbrev pub with_outcome : BookValue → (seq delivery : Seq) (status : ℕ) (at : Seconds) → BookValue
+with_outcome book seq delivery status at = record book {
+  entries = map (at_delivery delivery (with_attempt status at)) book.entries;
+  unsettled = book.unsettled ++ record { seq = seq; delivery = delivery } ∷ [];
+  next_seq = seq + 1;
+}
+
+-- the outcomes in front that are below this number, and those behind them
+abbrev pub front_below : Seq → List Unsettled → List Unsettled
+front_below seq [] = []
+front_below seq (o ∷ rest) = if nat_lt o.seq seq then o ∷ front_below seq rest else []
+
+abbrev pub rest_from : Seq → List Unsettled → List Unsettled
+rest_from seq [] = []
+rest_from seq (o ∷ rest) = if nat_lt o.seq seq then rest_from seq rest else o ∷ rest
+
+-- the book in which the events below this number are settled, but none of the outcomes that wait
+abbrev pub with_events_settled : BookValue → Seq → BookValue
+with_events_settled book seq = record book { next_seq = max book.next_seq seq; settled_seq = seq }
+
+-- the book in which the first of these outcomes is settled, if its number is below the settled one
+abbrev pub settle_first : BookValue → List Unsettled → Option BookValue
+settle_first book [] = None
+settle_first book (o ∷ rest) =
+    if nat_lt o.seq book.settled_seq then Some (record book {
+      entries = map (at_delivery o.delivery with_latest_settled) book.entries;
+      unsettled = rest;
+    }) else None
+
+-- the book in which these outcomes are settled, as far as their numbers are below the settled one
+abbrev pub settle_all : BookValue → List Unsettled → BookValue
+settle_all book outcomes = record book {
+  entries = map (at_outcomes (front_below book.settled_seq outcomes) with_latest_settled) book.entries;
+  unsettled = rest_from book.settled_seq outcomes;
+}
+
+-- the book whose records below this number are settled
+abbrev pub with_settled : BookValue → Seq → BookValue
+with_settled book seq = settle_all (with_events_settled book seq) book.unsettled

@@ -1,17 +1,26 @@
--- What ties the index and the counts of a book to its entries.
-use Rattle.std.specs.Prelude.{◌≡◌, ℕ, ◌<◌, ◌≤◌, ◌&&◌, Bool, nat_lt, nat_eq, List, length, take, option_map, unwrap_or, is_some, slice_index_or, filter, find, count_by, if◌then◌else◌}
+-- What ties the index, the counts and the room of a book to its entries.
+use Rattle.std.specs.Prelude.{◌≡◌, ℕ, ◌+◌, ◌^◌, ◌<◌, ◌≤◌, ◌&&◌, ◌==◌, not, Bool, true, nat_lt, nat_eq, List, length, take, Option, Some, None, option_map, unwrap_or, is_some, slice_index_or, find, count_by, bytes_eq, IsTrue, if◌then◌else◌}
+use Rattle.std.specs.List.{list_all}
 use Rattle.std.specs.BTreeMap.{BTreeMap}
 use Rattle.std.specs.BTreeMap as tree
 use Rattle.std.specs.Cmp.Lexicographic.{pointwise, slice_cmp}
 use Rattle.std.specs.HashMap.{get}
 use Rattle.std.specs.declared.cmp.Ordering.{Ordering}
 use Rattle.std.specs.Ordering.{nat_cmp, on, then_cmp}
+use Rattle.relay_types.specs.declared.state.State.{State}
+use Rattle.relay_types.specs.declared.state.State.TheVariants.{Pending, Delivered, Exhausted}
+use Rattle.relay_types.specs.Values.{Text, Seq}
+use Rattle.relay_types.specs.Deliveries.{is_in_state}
 use Rattle.delivery_book.specs.declared.entry.Entry.{Entry}
+use Rattle.delivery_book.specs.declared.entry.Unsettled.{Unsettled}
 use Rattle.delivery_book.specs.declared.keys.EndpointKey.{EndpointKey}
 use Rattle.delivery_book.specs.declared.keys.EventKey.{EventKey}
-use Rattle.delivery_book.specs.declared.tally.Counter.{Counter}
+use Rattle.delivery_book.specs.declared.progress.Progress.{Progress}
+use Rattle.delivery_book.specs.declared.row.Counts.{Counts}
 use Rattle.delivery_book.specs.declared.tally.Tally.{Tally}
-use Rattle.delivery_book.specs.Entries.{is_entry_of, is_entry_as}
+use Rattle.delivery_book.specs.Entries.{is_entry_as, entry_at, state_in}
+
+-- Keys
 
 -- keys are the same where their characters are
 abbrev pub same_endpoint : EndpointKey → EndpointKey → Bool
@@ -24,46 +33,135 @@ same_event a b = pointwise nat_eq a.name b.name && pointwise nat_eq a.id b.id
 abbrev pub event_cmp : EventKey → EventKey → Ordering
 event_cmp = then_cmp (on (λ k. k.name) (slice_cmp nat_cmp)) (on (λ k. k.id) (slice_cmp nat_cmp))
 
--- what the tally has of an endpoint
-abbrev pub counter_in : Tally → List ℕ → Counter
-counter_in tally name = unwrap_or (get same_endpoint tally.counters (record { name = name })) (record { accepted = 0; settled = 0 })
+-- Counts by state
 
--- the tally has a counter for the endpoint
-abbrev pub is_open : Tally → List ℕ → Bool
-is_open tally name = is_some (get same_endpoint tally.counters (record { name = name }))
+abbrev pub no_counts : Counts
+no_counts = record { pending = 0; delivered = 0; exhausted = 0 }
 
-abbrev pub accepted_in : Tally → List ℕ → ℕ
-accepted_in tally name = (counter_in tally name).accepted
+abbrev pub in_state : State → Counts → ℕ
+in_state Pending counts = counts.pending
+in_state Delivered counts = counts.delivered
+in_state Exhausted counts = counts.exhausted
 
-abbrev pub settled_in : Tally → List ℕ → ℕ
-settled_in tally name = (counter_in tally name).settled
+abbrev pub one_if : (state asked : State) → ℕ
+one_if state asked = if is_in_state asked state then 1 else 0
 
--- one for an event of this endpoint
-abbrev pub one_of : List ℕ → List ℕ → ℕ
-one_of name asked = if pointwise nat_eq name asked then 1 else 0
+-- whether an endpoint is the one asked for, or any where all are
+abbrev pub is_among : (those : Option Text) (name : Text) → Bool
+is_among None name = true
+is_among (Some asked) name = bytes_eq name asked
 
--- the entries stand in the order of their places
+-- what the tally has of an endpoint, or of all
+abbrev pub counts_for : Tally → (those : Option Text) → Counts
+counts_for tally None = tally.all
+counts_for tally (Some name) = unwrap_or (get same_endpoint tally.each (record { name = name })) no_counts
+
+-- what holds of the counts in this state that have the endpoint: its own, and those of all
+abbrev pub AtCounts : Tally → (name : Text) → State → (ℕ → Type 0) → Type 0
+AtCounts tally name state P =
+    (those : Option Text) → is_among those name ≡ true → P (in_state state (counts_for tally those))
+
+-- one for a delivery of this endpoint in this state
+abbrev pub one_of : (name : Text) (state : State) (those : Option Text) (asked : State) → ℕ
+one_of name state those asked = if is_among those name && is_in_state asked state then 1 else 0
+
+-- so many more are counted
+abbrev pub HasMore : (old : Tally) → (more : Option Text → State → ℕ) → (new : Tally) → Type 0
+HasMore old more new =
+    (those : Option Text) (asked : State)
+    → in_state asked (counts_for new those) ≡ in_state asked (counts_for old those) + more those asked
+
+abbrev pub HasSame : (old new : Tally) → Type 0
+HasSame old new = (those : Option Text) → counts_for new those ≡ counts_for old those
+
+-- the tally has room for counts of the endpoint
+abbrev pub has_room : Tally → (name : Text) → Bool
+has_room tally name = is_some (get same_endpoint tally.each (record { name = name }))
+
+abbrev pub KeepsRoom : (old new : Tally) → Type 0
+KeepsRoom old new = (asked : Text) → has_room old asked ≡ true → has_room new asked ≡ true
+
+abbrev pub HasRoomForAll : Tally → List Entry → Type 0
+HasRoomForAll tally entries = IsTrue (list_all (λ e. has_room tally e.name) entries)
+
+-- the entry is of these endpoints, and in this state by what is picked of it
+abbrev pub is_counted : (picked : Entry → Progress) (those : Option Text) (asked : State) → Entry → Bool
+is_counted picked those asked entry = is_among those entry.name && is_in_state asked (state_in (picked entry))
+
+abbrev pub settled_among : List Entry → (those : Option Text) (asked : State) → ℕ
+settled_among entries those asked = count_by (is_counted (λ e. e.settled) those asked) entries
+
+-- these entries can be counted too
+abbrev pub CanCount : Tally → List Entry → Type 0
+CanCount tally entries =
+    (those : Option Text) (asked : State)
+    → in_state asked (counts_for tally those) + settled_among entries those asked < 2 ^ 64
+
+abbrev pub IsTally : Tally → (picked : Entry → Progress) → List Entry → Type 0
+IsTally tally picked entries =
+    (those : Option Text) (asked : State)
+    → in_state asked (counts_for tally those) ≡ count_by (is_counted picked those asked) entries
+
+-- Order
+
+-- the entries stand in the order of their numbers
 abbrev pub IsAscending : List Entry → Type 0
-IsAscending entries = (i j : ℕ) (d : Entry) → i < j → j < length entries → (slice_index_or entries i d).place < (slice_index_or entries j d).place
+IsAscending entries =
+    (i j : ℕ) (d : Entry)
+    → i < j → j < length entries → (slice_index_or entries i d).seq < (slice_index_or entries j d).seq
 
--- the entry stands below this place
-abbrev pub is_below : ℕ → Entry → Bool
-is_below place entry = nat_lt entry.place place
+-- the first n entries stand below this number, and those behind them don't
+abbrev pub FirstBelow : (n : ℕ) → Seq → List Entry → Type 0
+FirstBelow n seq entries = (k : ℕ) (d : Entry) → k < n → (slice_index_or entries k d).seq < seq
 
--- the index has the place of each event, and of no other
+abbrev pub RestFrom : (n : ℕ) → Seq → List Entry → Type 0
+RestFrom n seq entries =
+    (k : ℕ) (d : Entry) → n ≤ k → k < length entries → seq ≤ (slice_index_or entries k d).seq
+
+-- the entry stands below the next number, and has no more attempts than numbers were handed out
+abbrev pub is_numbered : (next : Seq) → Entry → Bool
+is_numbered next entry = nat_lt entry.seq next && not (nat_lt next entry.latest.attempts)
+
+-- the index has the number of each event, and of no other
 abbrev pub IsIndex : BTreeMap EventKey ℕ → List Entry → Type 0
-IsIndex index entries = (k : EventKey) → tree.get event_cmp index k ≡ option_map (λ e. e.place) (find (is_entry_as k.name k.id) entries)
+IsIndex index entries =
+    (k : EventKey)
+    → tree.get event_cmp index k ≡ option_map (λ e. e.seq) (find (is_entry_as k.name k.id) entries)
 
--- the tally counts these entries, and the first n of them as settled
-abbrev pub IsTally : Tally → List Entry → ℕ → Type 0
-IsTally tally entries n = (name : List ℕ) → (accepted_in tally name ≡ count_by (is_entry_of name) entries) × (settled_in tally name ≡ count_by (is_entry_of name) (take n entries))
+-- Outcomes that wait
+
+-- an outcome of the entry waits
+abbrev pub is_waiting : Entry → Bool
+is_waiting entry = not (entry.latest.attempts == entry.settled.attempts)
+
+-- the outcome is one of an entry that stands before it
+abbrev pub is_later : List Entry → Unsettled → Bool
+is_later entries o = is_some (entry_at entries o.delivery) && nat_lt o.delivery o.seq
+
+-- The book
+
+-- what holds of the entries and their numbers
+pub record IsKeyed (entries : List Entry) (index : BTreeMap EventKey ℕ) (next_seq settled_seq : Seq)
+    (settled_entries : ℕ) : Type 0 where
+  pub ascending : IsAscending entries
+  pub numbered : IsTrue (list_all (is_numbered next_seq) entries)
+  pub settled_next : settled_seq ≤ next_seq
+  pub indexed : IsIndex index entries
+  pub settled_within : settled_entries ≤ length entries
+  pub settled_below : FirstBelow settled_entries settled_seq entries
+  pub settled_above : RestFrom settled_entries settled_seq entries
+
+-- what holds of the outcomes that wait, for which there is this room
+pub record IsQueue (entries : List Entry) (unsettled : List Unsettled) (capacity : ℕ) : Type 0 where
+  pub later : IsTrue (list_all (is_later entries) unsettled)
+  pub counted : length unsettled ≤ count_by is_waiting entries
+  pub room : length entries ≤ capacity
 
 -- what holds of the fields of a book
-pub record IsBook (entries : List Entry) (index : BTreeMap EventKey ℕ) (tally : Tally) (next_place settled_place settled_entries : ℕ) : Type 0 where
-  pub ascending : IsAscending entries
-  pub below_next : (k : ℕ) (d : Entry) → k < length entries → (slice_index_or entries k d).place < next_place
-  pub settled_next : settled_place ≤ next_place
-  pub indexed : IsIndex index entries
-  pub tallied : IsTally tally entries settled_entries
-  pub settled_within : settled_entries ≤ length entries
-  pub settled_first : take settled_entries entries ≡ filter (is_below settled_place) entries
+pub record IsBook (entries : List Entry) (index : BTreeMap EventKey ℕ) (tally settled_tally : Tally)
+    (unsettled : List Unsettled) (capacity : ℕ) (next_seq settled_seq : Seq) (settled_entries : ℕ) : Type 0 where
+  pub keyed : IsKeyed entries index next_seq settled_seq settled_entries
+  pub latest : IsTally tally (λ e. e.latest) entries
+  pub settled : IsTally settled_tally (λ e. e.settled) (take settled_entries entries)
+  pub opened : HasRoomForAll settled_tally entries
+  pub queue : IsQueue entries unsettled capacity

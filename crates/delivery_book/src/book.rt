@@ -1,44 +1,47 @@
 //! The book itself.
-ghost use Rattle.std.specs.Prelude.{◌≡◌, ◌≤◌, ◌<◌, ◌^◌, ℕ, List, [], ◌∷◌, ◌++◌, length, take, None, option_copied, OnOk, OnErr};
-ghost use Rattle.relay_types.specs.declared.record.Record.{Record};
-ghost use Rattle.relay_types.specs.declared.record.Record.TheVariants.{Accept};
+ghost use Rattle.std.specs.Prelude.{◌≡◌, ◌≤◌, ◌<◌, ℕ, [], take, true, None, is_some, unwrap_or, option_copied, OnOk, OnErr};
+ghost use Rattle.relay_types.specs.declared.record.Record.TheVariants.{Accept, Outcome};
 ghost use Rattle.relay_types.specs.Deliveries.{known_as};
-ghost use Rattle.delivery_book.specs.Entries.{empty_book, with_entry, with_settled, known_in};
-ghost use Rattle.delivery_book.specs.Book.{StandsFor, row_of, body_of, counts_of, counts_of_all};
+ghost use Rattle.delivery_book.specs.Entries.{empty_book, with_event, with_outcome, with_events_settled, settle_first, with_settled, known_in, takes_outcome};
+ghost use Rattle.delivery_book.specs.Book.{StandsFor, OverHistories, Takes, Settles, is_free, row_of, body_of, counts_of, counts_of_all};
 
-use crate::entry::Entry;
+use crate::entry::{Entry, Unsettled};
 use crate::keys::EventKey;
+use crate::progress::Progress;
 use crate::row::{Counts, Row};
-use crate::search::{count_below, entry_at, settle_between};
-use crate::tally::Tally;
-use relay_types::{Body, Moment, MsgId, Name, State};
+use crate::search::{count_below, entry_at, index_of};
+use crate::tally::{Tally, add_settled_between};
+use relay_types::{Body, MAX_RECORDS, Moment, MsgId, Name, State};
 use std::alloc::{AllocError, Global};
-use std::collections::BTreeMap;
+use std::collections::{BTreeMap, VecDeque};
 use std::marker::Model;
 
-/// The deliveries of a history: each event that was taken in stays in memory with its body, and its id is known for good.
-/// A delivery is named by the place of its record among all records of the history, from 0. Records of endpoints concern
-/// no delivery and need no call; outcomes are not taken yet, so every delivery is pending and due when it was taken in.
+/// The deliveries of a history, and what came of each. Every event that was taken in stays in memory with its body, and its id
+/// is known for good. A delivery is named by the sequence number of its record. The book is handed numbers that rise and may
+/// skip some: records of endpoints concern no delivery and need no call.
 #[derive(Drop)]
 pub struct DeliveryBook {
     entries: Vec<Entry>,
     index: BTreeMap<EventKey, u64>,
+    unsettled: VecDeque<Unsettled>,
     tally: Tally,
-    next_place: u64,
-    settled_place: u64,
+    settled_tally: Tally,
+    next_seq: u64,
+    settled_seq: u64,
     settled_entries: usize,
 }
 
 impl Model for DeliveryBook {
+    ghost use Rattle.std.specs.VecDeque.{deque_capacity};
     ghost use Rattle.delivery_book.specs.Entries.{BookValue};
 
     ghost Value = { BookValue };
 
-    ghost view = { λ b. record { entries = b.entries.items; next_place = b.next_place; settled_place = b.settled_place } };
+    ghost view = { λ b. record { entries = b.entries.items; unsettled = b.unsettled.items; next_seq = b.next_seq; settled_seq = b.settled_seq } };
 
     ghost use Rattle.delivery_book.specs.Kept.{IsBook};
 
-    ghost invariant = { λ b. IsBook b.entries.items b.index b.tally b.next_place b.settled_place b.settled_entries };
+    ghost invariant = { λ b. IsBook b.entries.items b.index b.tally b.settled_tally b.unsettled.items (deque_capacity b.unsettled) b.next_seq b.settled_seq b.settled_entries };
 }
 
 impl DeliveryBook {
@@ -50,104 +53,173 @@ impl DeliveryBook {
         DeliveryBook {
             entries: Vec::new(alloc),
             index: BTreeMap::new(alloc),
+            unsettled: VecDeque::new(alloc),
             tally: Tally::new(alloc),
-            next_place: 0,
-            settled_place: 0,
+            settled_tally: Tally::new(alloc),
+            next_seq: 0,
+            settled_seq: 0,
             settled_entries: 0,
         }
     }
 
-    /// Takes in the event of the record at this place. `next_place` and `find` test the conditions; that the endpoint is
-    /// there is the caller's to know. An error is want of memory.
+    /// Takes in the event of the record with this number, and makes the room that its outcomes need. `next_seq` and `find`
+    /// test the conditions; that the endpoint is there is the caller's to know. An error is want of memory.
     pub fn stage_accept(
         &mut self,
-        place: u64,
+        seq: u64,
         name: Name,
         id: MsgId,
         body: Body,
         at: Moment,
     ) -> Result<(), AllocError>
-        requires room { place < 2 ^ 62 }
-        requires above { self.old.next_place ≤ place }
+        requires room { seq < MAX_RECORDS }
+        requires above { self.old.next_seq ≤ seq }
         requires unknown { known_in self.old name id ≡ None }
-        ensures accepted { OnOk result (self.new ≡ with_entry self.old (record { place = place; name = name; id = id; body = body; at = at })) }
-        ensures stands { OnOk result ((records : List Record) → (settled : ℕ) → StandsFor self.old records settled → place ≡ length records → StandsFor self.new (records ++ Accept name id body at ∷ []) settled) }
+        ensures accepted { OnOk result (self.new ≡ with_event self.old seq name id body at) }
+        ensures stands { OnOk result (Takes self.old seq (Accept name id body at) self.new) }
         ensures unchanged { OnErr result (self.new ≡ self.old) }
     {
         self.entries.reserve(1)?;
+        let spare = self.entries.len() + 1 - self.unsettled.len();
+        self.unsettled.reserve(spare)?;
         self.tally.open(name)?;
-        self.index.insert(EventKey { name, id }, place)?;
-        self.tally.accept(name);
+        self.settled_tally.open(name)?;
+        self.index.insert(EventKey { name, id }, seq)?;
+        self.tally.add(name, State::Pending);
+        let fresh = Progress::fresh(at);
         self.entries.push_reserved(Entry {
-            place,
+            seq,
             name,
             id,
             body,
             at,
+            latest: fresh,
+            settled: fresh,
         });
-        self.next_place = place + 1;
+        self.next_seq = seq + 1;
         Ok(())
     }
 
-    /// The records below this place are settled from now on. It takes no memory.
-    pub fn settle_to(&mut self, place: u64)
-        requires { self.old.settled_place ≤ place }
-        ensures value { self.new ≡ with_settled self.old place }
-        ensures stands { (records : List Record) → (settled : ℕ) → StandsFor self.old records settled → place ≤ length records → StandsFor self.new records place }
+    /// Takes in the outcome of the record with this number: an attempt at the delivery ended with this status, or 0 where none
+    /// came. `next_seq` and `takes_outcome` test the conditions. It takes no memory.
+    pub fn stage_outcome(&mut self, seq: u64, delivery: u64, status: u16, at: Moment)
+        requires room { seq < MAX_RECORDS }
+        requires above { self.old.next_seq ≤ seq }
+        requires free { takes_outcome self.old delivery ≡ true }
+        ensures value { self.new ≡ with_outcome self.old seq delivery status at }
+        ensures stands { (attempt : ℕ) → Takes self.old seq (Outcome delivery attempt status at) self.new }
     {
-        let upto = count_below(&self.entries, place);
-        settle_between(&mut self.tally, &self.entries, self.settled_entries, upto);
+        let index = index_of(&self.entries, delivery);
+        let name = self.entries[index].name;
+        let before = self.entries[index].latest;
+        let after = before.after(status, at);
+        self.entries[index].latest = after;
+        self.tally.remove(name, before.state());
+        self.tally.add(name, after.state());
+        self.unsettled
+            .push_back_reserved(Unsettled { seq, delivery });
+        self.next_seq = seq + 1;
+    }
+
+    /// The records below this number are settled from now on. It takes no memory.
+    pub fn settle_to(&mut self, seq: u64)
+        requires { self.old.settled_seq ≤ seq }
+        ensures value { self.new ≡ with_settled self.old seq }
+        ensures stands { Settles self.old seq self.new }
+    {
+        self.settle_events(seq);
+        while self.settle_outcome() {}
+    }
+
+    /// Counts the events below this number as settled, as far as their settled outcomes have brought them.
+    fn settle_events(&mut self, seq: u64)
+        requires { self.old.settled_seq ≤ seq }
+        ensures { self.new ≡ with_events_settled self.old seq }
+    {
+        let upto = count_below(&self.entries, seq);
+        add_settled_between(
+            &mut self.settled_tally,
+            &self.entries,
+            self.settled_entries,
+            upto,
+        );
         self.settled_entries = upto;
-        self.next_place = self.next_place.max(place);
-        self.settled_place = place;
+        self.next_seq = self.next_seq.max(seq);
+        self.settled_seq = seq;
     }
 
-    /// The least place that the next record may have: it is above all places that the book was handed.
-    pub fn next_place(&self) -> u64
-        ensures { result ≡ self.now.next_place }
+    /// Settles the first outcome that waits, if it is below the settled number; whether there was one.
+    fn settle_outcome(&mut self) -> bool
+        ensures told { result ≡ is_some (settle_first self.old self.old.unsettled) }
+        ensures value { self.new ≡ unwrap_or (settle_first self.old self.old.unsettled) self.old }
     {
-        self.next_place
+        let delivery = match self.unsettled.front() {
+            Some(outcome) if outcome.seq < self.settled_seq => outcome.delivery,
+            _ => return false,
+        };
+        let _ = self.unsettled.pop_front();
+        let index = index_of(&self.entries, delivery);
+        let name = self.entries[index].name;
+        let before = self.entries[index].settled;
+        let after = self.entries[index].latest;
+        self.entries[index].settled = after;
+        self.settled_tally.remove(name, before.state());
+        self.settled_tally.add(name, after.state());
+        true
     }
 
-    /// The place below which the records are settled.
-    pub fn settled_place(&self) -> u64
-        ensures { result ≡ self.now.settled_place }
+    /// The least number that the next record may have: it is above all that the book was handed.
+    pub fn next_seq(&self) -> u64
+        ensures { result ≡ self.now.next_seq }
     {
-        self.settled_place
+        self.next_seq
+    }
+
+    /// The number below which the records are settled.
+    pub fn settled_seq(&self) -> u64
+        ensures { result ≡ self.now.settled_seq }
+    {
+        self.settled_seq
+    }
+
+    /// Whether the delivery takes an outcome: it is pending, and none of its outcomes waits to be settled.
+    pub fn takes_outcome(&self, delivery: u64) -> bool
+        ensures value { result ≡ takes_outcome self.now delivery }
+        ensures stands { OverHistories self.now (λ records settled. result ≡ is_free records settled delivery) }
+    {
+        match entry_at(&self.entries, delivery) {
+            Some(entry) => entry.is_open(),
+            None => false,
+        }
     }
 
     /// The delivery of the event that the endpoint knows by this id, whether it is settled or waits.
     pub fn find(&self, name: Name, id: &MsgId) -> Option<u64>
         ensures known { result ≡ known_in self.now name id.now }
-        ensures stands { (records : List Record) → (settled : ℕ) → StandsFor self.now records settled → result ≡ known_as records name id.now }
+        ensures stands { OverHistories self.now (λ records settled. result ≡ known_as records name id.now) }
     {
         self.index.get(&EventKey { name, id: *id }).copied()
     }
 
     /// The delivery as all records have it.
     pub fn row(&self, delivery: u64) -> Option<Row>
-        ensures { (records : List Record) → (settled : ℕ) → StandsFor self.now records settled → result ≡ row_of records delivery }
+        ensures { OverHistories self.now (λ records settled. result ≡ row_of records delivery) }
     {
         match entry_at(&self.entries, delivery) {
-            Some(entry) => Some(Row {
-                endpoint: entry.name,
-                id: entry.id,
-                at: entry.at,
-                attempts: 0,
-                state: State::Pending,
-                due: Some(entry.at.seconds()),
-                last_status: None,
-            }),
+            Some(entry) => Some(entry.row(entry.latest)),
             None => None,
         }
     }
 
     /// The delivery as the settled records have it.
     pub fn settled(&self, delivery: u64) -> Option<Row>
-        ensures { (records : List Record) → (settled : ℕ) → StandsFor self.now records settled → result ≡ row_of (take settled records) delivery }
+        ensures { OverHistories self.now (λ records settled. result ≡ row_of (take settled records) delivery) }
     {
-        if delivery < self.settled_place {
-            self.row(delivery)
+        if delivery < self.settled_seq {
+            match entry_at(&self.entries, delivery) {
+                Some(entry) => Some(entry.row(entry.settled)),
+                None => None,
+            }
         } else {
             None
         }
@@ -155,7 +227,7 @@ impl DeliveryBook {
 
     /// The body of the delivery's event.
     pub fn body(&self, delivery: u64) -> Option<&Body>
-        ensures { (records : List Record) → (settled : ℕ) → StandsFor self.now records settled → option_copied result ≡ body_of records delivery }
+        ensures { OverHistories self.now (λ records settled. option_copied result ≡ body_of records delivery) }
     {
         match entry_at(self.entries.as_slice(), delivery) {
             Some(entry) => Some(&entry.body),
@@ -163,39 +235,31 @@ impl DeliveryBook {
         }
     }
 
-    /// How many deliveries of the endpoint are pending, those that wait included.
+    /// How many deliveries of the endpoint are pending, as all records have it.
     pub fn pending(&self, name: Name) -> u64
-        ensures { (records : List Record) → (settled : ℕ) → StandsFor self.now records settled → result ≡ (counts_of records name).pending }
+        ensures { OverHistories self.now (λ records settled. result ≡ (counts_of records name).pending) }
     {
-        self.tally.of(name).accepted
+        self.tally.of(name).pending
     }
 
-    /// How many deliveries of all endpoints are pending, those that wait included.
+    /// How many deliveries of all endpoints are pending, as all records have it.
     pub fn pending_all(&self) -> u64
-        ensures { (records : List Record) → (settled : ℕ) → StandsFor self.now records settled → result ≡ (counts_of_all records).pending }
+        ensures { OverHistories self.now (λ records settled. result ≡ (counts_of_all records).pending) }
     {
-        self.entries.as_slice().len() as u64
+        self.tally.all().pending
     }
 
-    /// How many deliveries of the endpoint are in each state, as the settled records have them.
+    /// How many deliveries of the endpoint are in each state, as the settled records have it.
     pub fn settled_counts(&self, name: Name) -> Counts
-        ensures { (records : List Record) → (settled : ℕ) → StandsFor self.now records settled → result ≡ counts_of (take settled records) name }
+        ensures { OverHistories self.now (λ records settled. result ≡ counts_of (take settled records) name) }
     {
-        Counts {
-            pending: self.tally.of(name).settled,
-            delivered: 0,
-            exhausted: 0,
-        }
+        self.settled_tally.of(name)
     }
 
-    /// How many deliveries of all endpoints are in each state, as the settled records have them.
+    /// How many deliveries of all endpoints are in each state, as the settled records have it.
     pub fn settled_counts_all(&self) -> Counts
-        ensures { (records : List Record) → (settled : ℕ) → StandsFor self.now records settled → result ≡ counts_of_all (take settled records) }
+        ensures { OverHistories self.now (λ records settled. result ≡ counts_of_all (take settled records)) }
     {
-        Counts {
-            pending: self.settled_entries as u64,
-            delivered: 0,
-            exhausted: 0,
-        }
+        self.settled_tally.all()
     }
 }

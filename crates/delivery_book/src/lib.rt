@@ -1,10 +1,11 @@
-//! The book of deliveries: what the relay keeps in memory of every event that it took in.
+//! The book of deliveries: what the relay keeps in memory of every event that it took in, and of what came of it.
 #![tactic(auto)]
 
 mod book;
 mod entry;
 mod keys;
 mod law;
+mod progress;
 mod row;
 mod search;
 mod tally;

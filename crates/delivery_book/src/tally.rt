@@ -1,81 +1,150 @@
-//! How many events each endpoint has.
-ghost use Rattle.std.specs.Prelude.{◌≡◌, ◌+◌, ◌<◌, ◌^◌, ℕ, List, true, OnOk};
-ghost use Rattle.delivery_book.specs.Kept.{counter_in, accepted_in, settled_in, one_of, is_open};
+//! How many deliveries there are of each endpoint and of all, by state.
+ghost use Rattle.std.specs.Prelude.{◌≡◌, ◌+◌, ◌≤◌, ◌<◌, ◌^◌, Option, Some, None, true, length, slice_range, OnOk};
+ghost use Rattle.relay_types.specs.declared.state.State.{State};
+ghost use Rattle.relay_types.specs.Values.{Text};
+ghost use Rattle.delivery_book.specs.Kept.{in_state, one_if, counts_for, no_counts, AtCounts, one_of, HasMore, HasSame, has_room, KeepsRoom, HasRoomForAll, settled_among, CanCount};
 
+use crate::entry::Entry;
 use crate::keys::EndpointKey;
-use relay_types::Name;
+use crate::row::Counts;
+use relay_types::{Name, State};
 use std::alloc::{AllocError, Global};
 use std::collections::HashMap;
 
-/// The events of an endpoint.
-#[derive(Clone, Copy)]
-pub struct Counter {
-    pub(crate) accepted: u64,
-    pub(crate) settled: u64,
+const NONE: Counts = Counts {
+    pending: 0,
+    delivered: 0,
+    exhausted: 0,
+};
+
+fn with_one_more(counts: Counts, state: State) -> Counts
+    requires { in_state state counts + 1 < 2 ^ 64 }
+    ensures { (asked : State) → in_state asked result ≡ in_state asked counts + one_if state asked }
+{
+    match state {
+        State::Pending => Counts {
+            pending: counts.pending + 1,
+            ..counts
+        },
+        State::Delivered => Counts {
+            delivered: counts.delivered + 1,
+            ..counts
+        },
+        State::Exhausted => Counts {
+            exhausted: counts.exhausted + 1,
+            ..counts
+        },
+    }
 }
 
-/// The events of each endpoint.
+fn with_one_less(counts: Counts, state: State) -> Counts
+    requires { 0 < in_state state counts }
+    ensures { (asked : State) → in_state asked result + one_if state asked ≡ in_state asked counts }
+{
+    match state {
+        State::Pending => Counts {
+            pending: counts.pending - 1,
+            ..counts
+        },
+        State::Delivered => Counts {
+            delivered: counts.delivered - 1,
+            ..counts
+        },
+        State::Exhausted => Counts {
+            exhausted: counts.exhausted - 1,
+            ..counts
+        },
+    }
+}
+
+/// The deliveries of each endpoint and of all, by state.
 #[derive(Drop)]
 pub struct Tally {
-    counters: HashMap<EndpointKey, Counter>,
+    each: HashMap<EndpointKey, Counts>,
+    all: Counts,
 }
 
 impl Tally {
     pub(crate) fn new(alloc: Global) -> Tally
-        ensures { (asked : List ℕ) → counter_in result asked ≡ record { accepted = 0; settled = 0 } }
+        ensures { (those : Option Text) → counts_for result those ≡ no_counts }
     {
         Tally {
-            counters: HashMap::new(alloc),
+            each: HashMap::new(alloc),
+            all: NONE,
         }
     }
 
-    pub(crate) fn of(&self, name: Name) -> Counter
-        ensures { result ≡ counter_in self.now name }
+    pub(crate) fn of(&self, name: Name) -> Counts
+        ensures { result ≡ counts_for self.now (Some name) }
     {
-        match self.counters.get(&EndpointKey { name }) {
-            Some(counter) => *counter,
-            None => Counter {
-                accepted: 0,
-                settled: 0,
-            },
+        match self.each.get(&EndpointKey { name }) {
+            Some(counts) => *counts,
+            None => NONE,
         }
     }
 
-    /// Makes room for the endpoint, so that its events are then counted with no more memory.
+    pub(crate) fn all(&self) -> Counts
+        ensures { result ≡ counts_for self.now None }
+    {
+        self.all
+    }
+
+    /// Makes room for the endpoint, so that its deliveries are then counted with no more memory.
     pub(crate) fn open(&mut self, name: Name) -> Result<(), AllocError>
-        ensures same { (asked : List ℕ) → counter_in self.new asked ≡ counter_in self.old asked }
-        ensures opened { OnOk result (is_open self.new name ≡ true) }
+        ensures same { HasSame self.old self.new }
+        ensures opened { OnOk result (has_room self.new name ≡ true) }
+        ensures stays { KeepsRoom self.old self.new }
     {
-        let counter = self.of(name);
-        self.counters.insert(EndpointKey { name }, counter)?;
+        let counts = self.of(name);
+        self.each.insert(EndpointKey { name }, counts)?;
         Ok(())
     }
 
-    pub(crate) fn accept(&mut self, name: Name)
-        requires opened { is_open self.old name ≡ true }
-        requires room { accepted_in self.old name + 1 < 2 ^ 64 }
-        ensures accepted { (asked : List ℕ) → accepted_in self.new asked ≡ accepted_in self.old asked + one_of name asked }
-        ensures settled { (asked : List ℕ) → settled_in self.new asked ≡ settled_in self.old asked }
+    /// Counts one more delivery of the endpoint, in this state.
+    pub(crate) fn add(&mut self, name: Name, state: State)
+        requires opened { has_room self.old name ≡ true }
+        requires room { AtCounts self.old name state (λ n. n + 1 < 2 ^ 64) }
+        ensures more { HasMore self.old (one_of name state) self.new }
+        ensures stays { KeepsRoom self.old self.new }
     {
-        let counter = self.of(name);
-        let more = Counter {
-            accepted: counter.accepted + 1,
-            settled: counter.settled,
-        };
-        let _ = self.counters.insert(EndpointKey { name }, more);
+        let counts = with_one_more(self.of(name), state);
+        let _ = self.each.insert(EndpointKey { name }, counts);
+        self.all = with_one_more(self.all, state);
     }
 
-    pub(crate) fn settle(&mut self, name: Name)
-        requires known { 0 < accepted_in self.old name }
-        requires room { settled_in self.old name + 1 < 2 ^ 64 }
-        ensures accepted { (asked : List ℕ) → accepted_in self.new asked ≡ accepted_in self.old asked }
-        ensures settled { (asked : List ℕ) → settled_in self.new asked ≡ settled_in self.old asked + one_of name asked }
+    /// Counts one delivery less of the endpoint, in this state.
+    pub(crate) fn remove(&mut self, name: Name, state: State)
+        requires known { AtCounts self.old name state (λ n. 0 < n) }
+        ensures less { HasMore self.new (one_of name state) self.old }
+        ensures opened { has_room self.new name ≡ true }
+        ensures stays { KeepsRoom self.old self.new }
     {
-        let counter = self.of(name);
-        let more = Counter {
-            accepted: counter.accepted,
-            settled: counter.settled + 1,
-        };
-        let _ = self.counters.insert(EndpointKey { name }, more);
+        let counts = with_one_less(self.of(name), state);
+        let _ = self.each.insert(EndpointKey { name }, counts);
+        self.all = with_one_less(self.all, state);
     }
+}
+
+/// Counts these deliveries by where the settled records have them.
+fn add_settled(tally: &mut Tally, entries: &[Entry])
+    requires opened { HasRoomForAll tally.old entries.now }
+    requires room { CanCount tally.old entries.now }
+    ensures more { HasMore tally.old (settled_among entries.now) tally.new }
+    ensures stays { KeepsRoom tally.old tally.new }
+{
+    for entry in entries {
+        tally.add(entry.name, entry.settled.state());
+    }
+}
+
+/// Counts the deliveries between two places of the list by where the settled records have them.
+pub(crate) fn add_settled_between(tally: &mut Tally, entries: &[Entry], from: usize, to: usize)
+    requires order { from ≤ to }
+    requires within { to ≤ length entries.now }
+    requires opened { HasRoomForAll tally.old (slice_range entries.now from to) }
+    requires room { CanCount tally.old (slice_range entries.now from to) }
+    ensures more { HasMore tally.old (settled_among (slice_range entries.now from to)) tally.new }
+    ensures stays { KeepsRoom tally.old tally.new }
+{
+    add_settled(tally, &entries[from..to]);
 }

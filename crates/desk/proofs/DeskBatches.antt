@@ -122,7 +122,7 @@ settle-made d receipt is_out is = λ w h.
         clock = h.clock;
         endpoints = h.endpoints;
         deliveries = subst (λ n. book.StandsFor (with_all_settled d).deliveries (all_records w) n) counted
-            (stands_settled d.deliveries (all_records w) (length (settled_records w)) d.records h.deliveries (omega (arith, h.records)));
+            (stands_settled d.deliveries (all_records w) (length (settled_records w)) d.records h.deliveries (omega (arith, h.deliveries.settled_seq, h.deliveries.within, h.records)) (omega (arith, h.records)));
         waiting = none;
         one_each = ap (λ steps. length (records_of steps)) none;
         is_out = refl;

@@ -7,7 +7,7 @@ use Rattle.relay_types.specs.declared.record.Record.TheVariants.{Put, Accept}
 use Rattle.relay_types.specs.Records.{History}
 use Rattle.relay_types.specs.Endpoints.{endpoints}
 use Rattle.relay_types.specs.Legal.{IsLegal}
-use Rattle.delivery_book.specs.Entries.{BookValue, with_entry}
+use Rattle.delivery_book.specs.Entries.{BookValue, with_event}
 use Rattle.delivery_book.specs.Book as book
 use Rattle.spool.specs.Batches.{BatchValue, is_put_or_accept, ArePutsAndAccepts}
 use Rattle.desk.specs.declared.refusal.Refusal.{Refusal}
@@ -28,9 +28,9 @@ pub record DeskValue : Type 0 where
   pub settled : ℕ
 
 -- what holds of a desk's fields in every world
-pub record IsDesk (next_place settled_place records settled capacity : ℕ) (steps : History) : Type 0 where
-  pub staged : next_place ≤ records
-  pub settled_book : settled_place ≤ settled
+pub record IsDesk (next_seq settled_seq records settled capacity : ℕ) (steps : History) : Type 0 where
+  pub staged : next_seq ≤ records
+  pub settled_book : settled_seq ≤ settled
   pub prefix : settled + length steps ≤ records
   pub room : records ≤ MAX_RECORDS
   pub places : MAX_ENDPOINTS ≤ capacity
@@ -90,5 +90,5 @@ with_put desk name target max secrets = record (with_step desk (Put name target 
 abbrev pub with_accept : DeskValue → List ℕ → List ℕ → List ℕ → ℕ → DeskValue
 with_accept desk name id body at = record (with_step desk (Accept name id body at)) {
   clock = at;
-  deliveries = with_entry desk.deliveries (record { place = desk.records; name = name; id = id; body = body; at = at });
+  deliveries = with_event desk.deliveries desk.records name id body at;
 }

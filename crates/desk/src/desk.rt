@@ -51,7 +51,7 @@ impl Model for Desk {
       settled = d.settled;
     } };
 
-    ghost invariant = { λ d. IsDesk d.deliveries.next_place d.deliveries.settled_place d.records d.settled (vec_capacity d.endpoints) (steps_of d.waiting) };
+    ghost invariant = { λ d. IsDesk d.deliveries.next_seq d.deliveries.settled_seq d.records d.settled (vec_capacity d.endpoints) (steps_of d.waiting) };
 }
 
 impl Desk {

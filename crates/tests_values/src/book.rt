@@ -15,21 +15,21 @@ fn body(alloc: Global, text: &[u8]) -> Result<Body, Fail> {
 fn stage(
     rt: &impl Abort,
     book: &mut DeliveryBook,
-    place: u64,
+    seq: u64,
     event: (Name, MsgId),
     body: Body,
     at: u64,
 ) -> Result<(), Fail> {
-    assert!(rt; place < 1_000_000);
-    assert!(rt; book.next_place() <= place);
+    assert!(rt; seq < 1_000_000);
+    assert!(rt; book.next_seq() <= seq);
     assert!(rt; book.find(event.0, &event.1).is_none());
-    book.stage_accept(place, event.0, event.1, body, Moment::of(at)?)?;
+    book.stage_accept(seq, event.0, event.1, body, Moment::of(at)?)?;
     Ok(())
 }
 
-fn settle(rt: &impl Abort, book: &mut DeliveryBook, place: u64) {
-    assert!(rt; book.settled_place() <= place);
-    book.settle_to(place);
+fn settle(rt: &impl Abort, book: &mut DeliveryBook, seq: u64) {
+    assert!(rt; book.settled_seq() <= seq);
+    book.settle_to(seq);
 }
 
 /// Records 0 and 1 put the endpoints, 2, 3 and 5 take in events, and 4 gives new secrets.
@@ -101,7 +101,7 @@ fn rows_and_bodies_are_those_of_the_events(rt: HostRuntime) -> Result<(), Fail> 
         book.body(3)
             .is_some_and(|body| body.as_bytes() == b"[]".as_slice())
     );
-    assert_eq!(rt; book.next_place(), 6);
+    assert_eq!(rt; book.next_seq(), 6);
     Ok(())
 }
 
@@ -133,16 +133,16 @@ fn records_settle_in_two_steps(rt: HostRuntime) -> Result<(), Fail> {
     let mut book = small_book(&rt, rt.alloc())?;
     let a = Name::read(b"a")?;
     let b = Name::read(b"b")?;
-    for (place, counts, settled) in [
+    for (seq, counts, settled) in [
         (0, (0, 0, 0), [false; 3]),
         (3, (1, 0, 1), [true, false, false]),
         (3, (1, 0, 1), [true, false, false]),
         (6, (2, 1, 3), [true; 3]),
     ] {
-        settle(&rt, &mut book, place);
-        assert_eq!(rt; settled_of(&book, a, b), counts, "at {place}");
-        assert_eq!(rt; pending_of(&book, a, b), (2, 1, 3), "at {place}");
-        assert_eq!(rt; are_settled(&book), settled, "at {place}");
+        settle(&rt, &mut book, seq);
+        assert_eq!(rt; settled_of(&book, a, b), counts, "at {seq}");
+        assert_eq!(rt; pending_of(&book, a, b), (2, 1, 3), "at {seq}");
+        assert_eq!(rt; are_settled(&book), settled, "at {seq}");
     }
     Ok(())
 }
@@ -176,12 +176,12 @@ fn ids_that_are_alike_are_found_fast(rt: HostRuntime) -> Result<(), Fail> {
     let mut book = DeliveryBook::new(alloc);
     let a = Name::read(b"a")?;
     let shared = body(alloc, b"{}")?;
-    for place in 0..50_000u64 {
-        let event = (a, long_id(alloc, place)?);
-        stage(&rt, &mut book, place, event, shared.share()?, 1000)?;
+    for seq in 0..50_000u64 {
+        let event = (a, long_id(alloc, seq)?);
+        stage(&rt, &mut book, seq, event, shared.share()?, 1000)?;
     }
-    for place in 0..50_000u64 {
-        assert_eq!(rt; book.find(a, &long_id(alloc, place)?), Some(place));
+    for seq in 0..50_000u64 {
+        assert_eq!(rt; book.find(a, &long_id(alloc, seq)?), Some(seq));
     }
     Ok(())
 }

@@ -9,6 +9,8 @@ mod estimator;
 #[cfg(test)]
 mod laws;
 #[cfg(test)]
+mod outcomes;
+#[cfg(test)]
 mod pool;
 #[cfg(test)]
 mod retries;

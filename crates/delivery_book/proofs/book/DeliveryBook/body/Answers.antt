@@ -2,7 +2,7 @@ use Rattle.std.proofs.Common.{◌∙◌, ap}
 use Rattle.std.specs.Prelude.{option_map}
 use Rattle.delivery_book.specs.declared.entry.Entry.{Entry}
 use Rattle.delivery_book.specs.Entries.{entry_at}
-use Rattle.delivery_book.proofs.Laws.{stands_body}
+use Rattle.delivery_book.proofs.Tellings.{stands_body}
 use Rattle.delivery_book.proofs.book.DeliveryBook.body.Goals as goal
 
 pub returns-in-Some : goal.returns-in-Some

@@ -1,12 +1,13 @@
-use Rattle.std.proofs.Common.{◌∙◌, ap}
+use Rattle.std.proofs.Common.{Some, ◌∙◌, ap}
 use Rattle.std.specs.Prelude.{count_by}
-use Rattle.delivery_book.specs.Entries.{is_entry_of}
-use Rattle.delivery_book.proofs.Laws.{stands_pending}
+use Rattle.relay_types.specs.declared.state.State.TheVariants.{Pending}
+use Rattle.delivery_book.specs.Kept.{is_counted}
+use Rattle.delivery_book.proofs.Tellings.{stands_latest_counts}
 use Rattle.delivery_book.proofs.book.DeliveryBook.pending.Goals as goal
 
 pub returns : goal.returns
 returns c = λ records settled h.
-    ap (λ k. k.accepted) c.of.ensures
-    ∙ (c.self.invariant.tallied c.args.name).0
-    ∙ ap (λ b. count_by (is_entry_of c.args.name) b.entries) c.self.view_is
-    ∙ stands_pending c.args.self.now records settled c.args.name h
+    ap (λ k. k.pending) c.of.ensures
+    ∙ c.self.invariant.latest (Some c.args.name) Pending
+    ∙ ap (λ b. count_by (is_counted (λ e. e.latest) (Some c.args.name) Pending) b.entries) c.self.view_is
+    ∙ stands_latest_counts c.args.self.now records settled (Some c.args.name) Pending h

@@ -1,6 +1,13 @@
-use Rattle.std.proofs.Common.{◌∙◌, ap, length}
-use Rattle.delivery_book.proofs.Laws.{stands_pending_all}
+use Rattle.std.proofs.Common.{None, ◌∙◌, ap}
+use Rattle.std.specs.Prelude.{count_by}
+use Rattle.relay_types.specs.declared.state.State.TheVariants.{Pending}
+use Rattle.delivery_book.specs.Kept.{is_counted}
+use Rattle.delivery_book.proofs.Tellings.{stands_latest_counts}
 use Rattle.delivery_book.proofs.book.DeliveryBook.pending_all.Goals as goal
 
 pub returns : goal.returns
-returns c = λ records settled h. ap length c.as_slice.ensures.value ∙ ap (λ b. length b.entries) c.self.view_is ∙ stands_pending_all c.args.self.now records settled h
+returns c = λ records settled h.
+    ap (λ k. k.pending) c.all.ensures
+    ∙ c.self.invariant.latest None Pending
+    ∙ ap (λ b. count_by (is_counted (λ e. e.latest) None Pending) b.entries) c.self.view_is
+    ∙ stands_latest_counts c.args.self.now records settled None Pending h

@@ -1,9 +1,15 @@
-use Rattle.std.proofs.Common.{◌∙◌, ap, sym, subst}
-use Rattle.delivery_book.specs.Book.{StandsFor}
-use Rattle.delivery_book.proofs.Laws.{stands_counts}
+use Rattle.std.proofs.Common.{◌≡◌, Some, ◌∙◌, subst, sym, take}
+use Rattle.relay_types.specs.declared.state.State.{State}
+use Rattle.relay_types.specs.declared.state.State.TheVariants.{Pending, Delivered, Exhausted}
+use Rattle.delivery_book.specs.Kept.{in_state, counts_for}
+use Rattle.delivery_book.specs.Book.{StandsFor, count_in}
+use Rattle.delivery_book.proofs.Entries.{first_below}
+use Rattle.delivery_book.proofs.Tellings.{stands_settled_counts, deliveries_for}
 use Rattle.delivery_book.proofs.book.DeliveryBook.settled_counts.Goals as goal
 
 pub returns : goal.returns
 returns c = λ records settled h.
-    (λ i. record { pending = (ap (λ k. k.settled) c.of.ensures ∙ (c.self.invariant.tallied c.args.name).1) i; delivered = 0; exhausted = 0 })
-    ∙ stands_counts _ records settled c.self.inside.settled_entries c.args.name (subst (λ b. StandsFor b records settled) (sym c.self.view_is) h) c.self.invariant.settled_first
+    let each : (asked : State) → in_state asked (counts_for c.self.inside.settled_tally (Some c.args.name)) ≡ count_in asked (take settled records) (deliveries_for (take settled records) (Some c.args.name)) =
+    λ asked. c.self.invariant.settled (Some c.args.name) asked
+    ∙ stands_settled_counts _ records settled c.self.inside.settled_entries (Some c.args.name) asked (subst (λ b. StandsFor b records settled) (sym c.self.view_is) h) (first_below _ _ _ c.self.invariant.keyed.settled_within c.self.invariant.keyed.settled_below c.self.invariant.keyed.settled_above) in
+    c.of.ensures ∙ (λ i. record { pending = each Pending i; delivered = each Delivered i; exhausted = each Exhausted i })

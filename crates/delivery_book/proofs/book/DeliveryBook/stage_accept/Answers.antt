@@ -1,38 +1,75 @@
-use Rattle.std.proofs.Common.{◌++◌, ◌∷◌, [], ◌+◌, ◌∙◌, ap, arith, sym, subst}
+use Rattle.std.proofs.Common.{◌++◌, ◌∷◌, [], ◌+◌, ◌∙◌, ap, arith, refl, sym, subst, deque_capacity}
 use Rattle.relay_types.specs.declared.record.Record.TheVariants.{Accept}
-use Rattle.delivery_book.specs.declared.entry.Entry.{Entry}
-use Rattle.delivery_book.specs.Entries.{known_in}
-use Rattle.delivery_book.specs.Kept.{IsBook, one_of}
+use Rattle.relay_types.specs.declared.state.State.TheVariants.{Pending}
+use Rattle.delivery_book.specs.Entries.{known_in, new_entry}
+use Rattle.std.specs.BTreeMap.{is_at}
+use Rattle.std.specs.Map.{lookup}
+use Rattle.delivery_book.specs.Kept.{IsBook, event_cmp, in_state, one_of}
 use Rattle.delivery_book.specs.Book.{StandsFor}
-use Rattle.delivery_book.proofs.Books.{book-push, unmapped}
+use Rattle.delivery_book.proofs.Books.{book-push, book-same, unmapped}
+use Rattle.delivery_book.proofs.Updates.{counted_most}
 use Rattle.delivery_book.proofs.Laws.{stands_accept}
 use Rattle.delivery_book.proofs.book.DeliveryBook.stage_accept.Goals as goal
+
+pub invariant_of-self-in_err-open-2 : goal.invariant_of-self-in_err-open-2
+invariant_of-self-in_err-open-2 c =
+    let b = c.self.inside in
+    subst
+    (λ es. IsBook es b.index c.open.new.self c.open-2.new.self c.reserve-2.new.self.items (deque_capacity c.reserve-2.new.self) b.next_seq b.settled_seq b.settled_entries)
+    (sym c.in_ok-reserve.ensures.items)
+    (subst
+    (λ us. IsBook b.entries.items b.index c.open.new.self c.open-2.new.self us (deque_capacity c.reserve-2.new.self) b.next_seq b.settled_seq b.settled_entries)
+    (sym c.in_ok-reserve-2.ensures.items)
+    (book-same b.index b.index b.tally c.open.new.self b.settled_tally c.open-2.new.self b.entries.items b.unsettled.items (deque_capacity b.unsettled) (deque_capacity c.reserve-2.new.self) b.next_seq b.settled_seq b.settled_entries c.self.invariant (λ k. refl)
+    (λ those. c.in_ok-open.ensures.same those) (λ those. c.in_err-open-2.ensures.same those) (λ asked is. c.in_err-open-2.ensures.stays asked is) c.in_ok-reserve-2.ensures.capacity))
+
+pub invariant_of-self-in_err-insert : goal.invariant_of-self-in_err-insert
+invariant_of-self-in_err-insert c =
+    let b = c.self.inside in
+    subst
+    (λ es. IsBook es c.insert.new.self c.open.new.self c.open-2.new.self c.reserve-2.new.self.items (deque_capacity c.reserve-2.new.self) b.next_seq b.settled_seq b.settled_entries)
+    (sym c.in_ok-reserve.ensures.items)
+    (subst
+    (λ us. IsBook b.entries.items c.insert.new.self c.open.new.self c.open-2.new.self us (deque_capacity c.reserve-2.new.self) b.next_seq b.settled_seq b.settled_entries)
+    (sym c.in_ok-reserve-2.ensures.items)
+    (book-same b.index c.insert.new.self b.tally c.open.new.self b.settled_tally c.open-2.new.self b.entries.items b.unsettled.items (deque_capacity b.unsettled) (deque_capacity c.reserve-2.new.self) b.next_seq b.settled_seq b.settled_entries c.self.invariant
+    (λ k. ap (lookup (is_at (event_cmp k))) c.in_err-insert.ensures.err)
+    (λ those. c.in_ok-open.ensures.same those) (λ those. c.in_ok-open-2.ensures.same those) (λ asked is. c.in_ok-open-2.ensures.stays asked is) c.in_ok-reserve-2.ensures.capacity))
+
+pub add-requires-clause-room : goal.add-requires-clause-room
+add-requires-clause-room c = λ those among.
+    omega (arith, counted_most c.self.inside.tally (λ e. e.latest) c.self.inside.entries.items those Pending c.self.invariant.latest, ap (in_state Pending) (c.in_ok-open.ensures.same those), c.in_ok-reserve.ensures.ok, c.in_ok-reserve.ensures.len)
 
 pub invariant_of-self-2 : goal.invariant_of-self-2
 invariant_of-self-2 c =
     let a = c.args in
-    let e : Entry = record { place = a.place; name = a.name; id = a.id; body = a.body; at = a.at } in
     let b = c.self.inside in
     subst
-    (λ entries. IsBook entries c.insert.new.self c.accept.new.self (a.place + 1) b.settled_place b.settled_entries)
-    (sym (c.push_reserved.ensures.items ∙ ap (λ entries. entries ++ e ∷ []) c.in_ok-reserve.ensures.items))
-    (book-push b.index c.insert.new.self b.tally c.accept.new.self b.entries.items b.next_place b.settled_place b.settled_entries e c.self.invariant
-    (omega (arith, c.requires.above, ap (λ v. v.next_place) c.self.view_is))
+    (λ es. IsBook es c.insert.new.self c.add.new.self c.open-2.new.self c.reserve-2.new.self.items (deque_capacity c.reserve-2.new.self) (a.seq + 1) b.settled_seq b.settled_entries)
+    (sym (c.push_reserved.ensures.items
+    ∙ (λ i. c.in_ok-reserve.ensures.items i ++ record { seq = a.seq; name = a.name; id = a.id; body = a.body; at = a.at; latest = c.fresh-fresh.ensures i; settled = c.fresh-fresh.ensures i } ∷ [])))
+    (subst
+    (λ us. IsBook (b.entries.items ++ new_entry a.seq a.name a.id a.body a.at ∷ []) c.insert.new.self c.add.new.self c.open-2.new.self us (deque_capacity c.reserve-2.new.self) (a.seq + 1) b.settled_seq b.settled_entries)
+    (sym c.in_ok-reserve-2.ensures.items)
+    (book-push b.index c.insert.new.self b.tally c.add.new.self b.settled_tally c.open-2.new.self b.entries.items b.unsettled.items (deque_capacity b.unsettled) (deque_capacity c.reserve-2.new.self) b.next_seq b.settled_seq b.settled_entries a.seq a.name a.id a.body a.at c.self.invariant
+    (omega (arith, c.requires.above, ap (λ v. v.next_seq) c.self.view_is))
     (unmapped _ (ap (λ v. known_in v a.name a.id) c.self.view_is ∙ c.requires.unknown))
     (λ q. c.in_ok-insert.ensures.updates.0 q)
-    (λ name. c.accept.ensures.accepted name ∙ ap (λ k. k.accepted + one_of a.name name) (c.in_ok-open.ensures.same name))
-    (λ name. c.accept.ensures.settled name ∙ ap (λ k. k.settled) (c.in_ok-open.ensures.same name)))
+    (λ those asked. c.add.ensures.more those asked ∙ ap (λ k. in_state asked k + one_of a.name Pending those asked) (c.in_ok-open.ensures.same those))
+    (λ those. c.in_ok-open-2.ensures.same those) c.in_ok-open-2.ensures.opened (λ asked is. c.in_ok-open-2.ensures.stays asked is)
+    (omega (arith, c.in_ok-reserve-2.ensures.ok, c.in_ok-reserve-2.ensures.len, c.len.ensures, c.len-2.ensures, c.in_ok-reserve.ensures.len))))
 
 pub returns-clause-stands : goal.returns-clause-stands
 returns-clause-stands c =
     let a = c.args in
-    let e : Entry = record { place = a.place; name = a.name; id = a.id; body = a.body; at = a.at } in
-    λ records settled h place.
+    λ records settled h number.
     subst
     (λ b. StandsFor b (records ++ Accept a.name a.id a.body a.at ∷ []) settled)
     (sym (λ i. record {
-      entries = (c.push_reserved.ensures.items ∙ ap (λ entries. entries ++ e ∷ []) (c.in_ok-reserve.ensures.items ∙ ap (λ v. v.entries) c.self.view_is)) i;
-      next_place = a.place + 1;
-      settled_place = ap (λ v. v.settled_place) c.self.view_is i;
+      entries = (c.push_reserved.ensures.items
+          ∙ (λ j. (c.in_ok-reserve.ensures.items ∙ ap (λ v. v.entries) c.self.view_is) j ++ record { seq = a.seq; name = a.name; id = a.id; body = a.body; at = a.at; latest = c.fresh-fresh.ensures j; settled = c.fresh-fresh.ensures j } ∷ [])) i;
+      unsettled = (c.in_ok-reserve-2.ensures.items ∙ ap (λ v. v.unsettled) c.self.view_is) i;
+      next_seq = a.seq + 1;
+      settled_seq = ap (λ v. v.settled_seq) c.self.view_is i;
     }))
-    (stands_accept a.self.now records settled a.place a.name a.id a.body a.at h place)
+    (stands_accept a.self.now records settled a.seq a.name a.id a.body a.at h number)

@@ -1,4 +1,4 @@
-use Rattle.std.proofs.Common.{Ok, Err, refl, subst}
+use Rattle.std.proofs.Common.{Ok, Err, None, refl, subst}
 use Rattle.desk.specs.Moves.{seal}
 use Rattle.desk.specs.Desks.{IsMove}
 use Rattle.drill.proofs.RunnerLaws.{answers_sealed, answers_unsealed}
@@ -7,6 +7,10 @@ use Rattle.drill.proofs.runner.Runner.seal.Goals as goal
 pub returns-in-Ok-Some-clause-answers : goal.returns-in-Ok-Some-clause-answers
 returns-in-Ok-Some-clause-answers g c = rw c.sealed_reply-reply.ensures
     (answers_sealed g.S.Store _ _ c.in-Ok-Some.batch (subst (λ o. IsMove c.args.self.now.desk (seal c.args.self.now.desk.mark) (Ok o) c.seal.new.self) c.in-Ok-Some.field-0-is c.in-Ok-Some.ensures.moves) c.in-Ok-Some.ensures.mark refl refl)
+
+pub returns-in-Ok-None-clause-answers : goal.returns-in-Ok-None-clause-answers
+returns-in-Ok-None-clause-answers g c =
+    answers_unsealed g.S.Store _ _ (Ok None) refl (subst (λ o. IsMove c.args.self.now.desk (seal c.args.self.now.desk.mark) (Ok o) c.seal.new.self) c.in-Ok-None.field-0-is c.in-Ok-None.ensures.moves) c.in-Ok-None.ensures.mark refl refl
 
 pub returns-in-Err-clause-answers : goal.returns-in-Err-clause-answers
 returns-in-Err-clause-answers g c = rw c.refusal_reply.ensures

@@ -1,0 +1,213 @@
+-- What stays where one entry is changed in place.
+use Rattle.std.proofs.Common.{◌≡◌, ◌≢◌, ℕ, zero, suc, ◌+◌, ◌<◌, ◌≤◌, Bool, true, false, List, [], ◌∷◌, Option, Some, None, length, take, drop, map, set, get_or, refl, sym, ◌∙◌, ap, eqb, arith, cond, ⊎_elim}
+use Rattle.std.specs.Prelude.{count_by, find, is_some, option_map}
+use Rattle.std.specs.List.{list_all}
+use Rattle.std.specs.BTreeMap.{BTreeMap}
+use Rattle.std.proofs.lemmas.Bool.{eq-eqb, ne_eqb, cases_lt}
+use Rattle.std.proofs.lemmas.List.{get_or-map, length-map, length-set, take-append-drop}
+use Rattle.std.proofs.lemmas.List.Folds.{list_all_at, list_all-append, list_all-map}
+use Rattle.std.proofs.lemmas.List.Sums.{sum_by-set, sum_by-cons, get_or-le-sum_by, count_by-le-length}
+use Rattle.relay_types.specs.declared.state.State.{State}
+use Rattle.relay_types.specs.declared.state.State.TheVariants.{Pending, Delivered, Exhausted}
+use Rattle.relay_types.specs.Deliveries.{is_in_state}
+use Rattle.relay_types.proofs.KnownLaws.{and_first, and_second, and_both}
+use Rattle.relay_types.proofs.RowLaws.{find_map}
+use Rattle.delivery_book.specs.declared.entry.Entry.{Entry}
+use Rattle.delivery_book.specs.declared.keys.EventKey.{EventKey}
+use Rattle.delivery_book.specs.declared.progress.Progress.{Progress}
+use Rattle.delivery_book.specs.declared.tally.Tally.{Tally}
+use Rattle.delivery_book.specs.Entries.{at_delivery, entry_at, is_entry_as, state_in}
+use Rattle.delivery_book.specs.Kept.{IsAscending, IsIndex, IsKeyed, IsTally, is_numbered, in_state, counts_for, has_room, is_among, one_of, is_counted}
+use Rattle.delivery_book.proofs.Entries.{get_or-any}
+
+-- Lists
+
+pub all_at : {X : Type 0} (p : X → Bool) (xs : List X) (i : ℕ) (d : X) → i < length xs → list_all p xs ≡ true → p (get_or xs i d) ≡ true
+all_at p xs i d h all = pick (p (get_or xs i d)) refl
+  where
+    pick : (b : Bool) → p (get_or xs i d) ≡ b → b ≡ true
+    pick true e = refl
+    pick false e = let none = list_all_at p xs i d h e in cc
+
+pub all_weaker : {X : Type 0} (p q : X → Bool) (xs : List X) → ((x : X) → p x ≡ true → q x ≡ true) → list_all p xs ≡ true → list_all q xs ≡ true
+all_weaker p q [] weaker h = refl
+all_weaker p q (x ∷ xs) weaker h = and_both (q x) (list_all q xs) (weaker x (and_first (p x) (list_all p xs) h)) (all_weaker p q xs weaker (and_second (p x) (list_all p xs) h))
+
+-- the same of a part of the list
+pub all_take : {X : Type 0} (p : X → Bool) (n : ℕ) (xs : List X) → list_all p xs ≡ true → list_all p (take n xs) ≡ true
+all_take p n xs h = and_first (list_all p (take n xs)) (list_all p (drop n xs)) (sym (list_all-append p (take n xs) (drop n xs)) ∙ ap (list_all p) (take-append-drop n xs) ∙ h)
+
+pub all_drop : {X : Type 0} (p : X → Bool) (n : ℕ) (xs : List X) → list_all p xs ≡ true → list_all p (drop n xs) ≡ true
+all_drop p n xs h = and_second (list_all p (take n xs)) (list_all p (drop n xs)) (sym (list_all-append p (take n xs) (drop n xs)) ∙ ap (list_all p) (take-append-drop n xs) ∙ h)
+
+pub count-map : {X : Type 0} (p : X → Bool) (g : X → X) (xs : List X) → ((x : X) → p (g x) ≡ p x) → count_by p (map g xs) ≡ count_by p xs
+count-map p g [] same = refl
+count-map p g (x ∷ xs) same =
+    sum_by-cons (λ y. cond (p y) 1 0) (g x) (map g xs) ∙ (λ i. cond (same x i) 1 0 + count-map p g xs same i) ∙ sym (sum_by-cons (λ y. cond (p y) 1 0) x xs)
+
+-- One entry
+
+-- what holds of an entry, changed or not, holds of it where it is changed if it is that of the delivery
+pub either_way : (P : Entry → Type 0) (d : ℕ) (change : Entry → Entry) (e : Entry) → P (change e) → P e → P (at_delivery d change e)
+either_way P d change e changed same = pick (eqb d e.seq)
+  where
+    pick : (b : Bool) → P (cond b (change e) e)
+    pick true = changed
+    pick false = same
+
+none_changed : (d : ℕ) (change : Entry → Entry) (entries : List Entry) → ((k : ℕ) (x : Entry) → k < length entries → (get_or entries k x).seq ≢ d) → entries ≡ map (at_delivery d change) entries
+none_changed d change [] other = refl
+none_changed d change (e ∷ es) other = λ i. ap (λ b. cond b (change e) e) (sym (ne_eqb d e.seq (λ same. other 0 e (omega arith) (sym same)))) i ∷ none_changed d change es (λ k x h. other (suc k) x (omega (arith, h))) i
+
+set_changed : (d i : ℕ) (change : Entry → Entry) (entries : List Entry) (x : Entry) → i < length entries → get_or entries i x ≡ x → x.seq ≡ d
+    → ((k : ℕ) (y : Entry) → k < length entries → k ≢ i → (get_or entries k y).seq ≢ d) → set entries i (change x) ≡ map (at_delivery d change) entries
+set_changed d i change [] x h is same other = absurd (omega (arith, h))
+set_changed d zero change (e ∷ es) x h is same other =
+    (λ j. change (sym is j) ∷ es)
+    ∙ (λ j. ap (λ b. cond b (change e) e) (sym (eq-eqb d e.seq (sym (ap (λ (y : Entry). y.seq) is ∙ same)))) j ∷ none_changed d change es (λ k y l. other (suc k) y (omega (arith, l)) (λ z. absurd (omega (arith, z)))) j)
+set_changed d (suc i) change (e ∷ es) x h is same other = λ j.
+    ap (λ b. cond b (change e) e) (sym (ne_eqb d e.seq (λ z. other 0 e (omega arith) (λ n. absurd (omega (arith, n))) (sym z)))) j
+    ∷ set_changed d i change es x (omega (arith, h)) is same (λ k y l ne. other (suc k) y (omega (arith, l)) (λ z. ne (omega (arith, z)))) j
+
+-- a write at the entry of a delivery changes that of the delivery, and no other
+pub set_is : (d i : ℕ) (change : Entry → Entry) (entries : List Entry) (x : Entry) → IsAscending entries → i < length entries → x ≡ get_or entries i x → x.seq ≡ d
+    → set entries i (change x) ≡ map (at_delivery d change) entries
+set_is d i change entries x up h is same =
+    set_changed d i change entries x h (sym is) same
+    (λ k y l ne z. ⊎_elim
+    (λ lt. absurd (omega (arith, up k i y lt h, z, here y)))
+    (λ ge. absurd (omega (arith, up i k y (omega (arith, ge, ne)) l, z, here y)))
+    (cases_lt k i))
+  where
+    here : (y : Entry) → (get_or entries i y).seq ≡ d
+    here y = ap (λ (e : Entry). e.seq) (get_or-any entries i y x h ∙ sym is) ∙ same
+
+-- Entries that keep their keys
+
+abbrev pub KeepsKeys : (Entry → Entry) → Type 0
+KeepsKeys g = (e : Entry) → ((g e).seq ≡ e.seq) × ((g e).name ≡ e.name) × ((g e).id ≡ e.id)
+
+pub keeps_where : (d : ℕ) (change : Entry → Entry) → KeepsKeys change → KeepsKeys (at_delivery d change)
+keeps_where d change keeps e = either_way (λ x. (x.seq ≡ e.seq) × (x.name ≡ e.name) × (x.id ≡ e.id)) d change e (keeps e) (refl, refl, refl)
+
+read : (g : Entry → Entry) (entries : List Entry) (k : ℕ) (d : Entry) → KeepsKeys g → k < length (map g entries) → (get_or (map g entries) k d).seq ≡ (get_or entries k d).seq
+read g entries k d keeps h = ap (λ (e : Entry). e.seq) (get_or-map g entries k d d (omega (arith, h, length-map entries g))) ∙ (keeps (get_or entries k d)).0
+
+pub entry_at-map : (g : Entry → Entry) (entries : List Entry) (seq : ℕ) → KeepsKeys g → is_some (entry_at (map g entries) seq) ≡ is_some (entry_at entries seq)
+entry_at-map g entries seq keeps =
+    ap is_some (find_map g (λ e. eqb e.seq seq) entries)
+    ∙ some (find (λ e. eqb (g e).seq seq) entries)
+    ∙ ap (λ p. is_some (find p entries)) (λ i e. eqb ((keeps e).0 i) seq)
+  where
+    some : (o : Option Entry) → is_some (option_map g o) ≡ is_some o
+    some None = refl
+    some (Some e) = refl
+
+indexed-map : (g : Entry → Entry) (index : BTreeMap EventKey ℕ) (entries : List Entry) → KeepsKeys g → IsIndex index entries → IsIndex index (map g entries)
+indexed-map g index entries keeps h k =
+    h k
+    ∙ sym (ap (option_map (λ (e : Entry). e.seq)) (find_map g (is_entry_as k.name k.id) entries ∙ ap (λ p. option_map g (find p entries)) alike)
+    ∙ numbers (find (is_entry_as k.name k.id) entries))
+  where
+    alike : (λ e. is_entry_as k.name k.id (g e)) ≡ is_entry_as k.name k.id
+    alike i e = is_entry_as k.name k.id (record e { name = (keeps e).1 i; id = (keeps e).2 i })
+
+    numbers : (o : Option Entry) → option_map (λ (e : Entry). e.seq) (option_map g o) ≡ option_map (λ (e : Entry). e.seq) o
+    numbers None = refl
+    numbers (Some e) = ap Some (keeps e).0
+
+pub keyed-map : (g : Entry → Entry) (entries : List Entry) (index : BTreeMap EventKey ℕ) (next later settled n : ℕ) → KeepsKeys g → settled ≤ later
+    → ((e : Entry) → is_numbered next e ≡ true → is_numbered later (g e) ≡ true) → IsKeyed entries index next settled n → IsKeyed (map g entries) index later settled n
+keyed-map g entries index next later settled n keeps l numbered h = record {
+  ascending = λ i j d lt m. omega (arith, read g entries i d keeps (omega (arith, lt, m)), read g entries j d keeps m, h.ascending i j d lt (omega (arith, m, length-map entries g)));
+  numbered = list_all-map (is_numbered later) g entries ∙ all_weaker (is_numbered next) (λ e. is_numbered later (g e)) entries numbered h.numbered;
+  settled_next = l;
+  indexed = indexed-map g index entries keeps h.indexed;
+  settled_within = omega (arith, h.settled_within, length-map entries g);
+  settled_below = λ k d lt. omega (arith, read g entries k d keeps (omega (arith, lt, h.settled_within, length-map entries g)), h.settled_below k d lt);
+  settled_above = λ k d m lt. omega (arith, read g entries k d keeps lt, h.settled_above k d m (omega (arith, lt, length-map entries g)));
+}
+
+-- The counts after one entry of an endpoint was changed, of which it then has one less and one more
+pub tally-set : (tally less more : Tally) (picked : Entry → Progress) (entries : List Entry) (i : ℕ) (x y : Entry) → i < length entries → x ≡ get_or entries i x → y.name ≡ x.name → IsTally tally picked entries
+    → ((those : Option (List ℕ)) (asked : State) → in_state asked (counts_for less those) + one_of x.name (state_in (picked x)) those asked ≡ in_state asked (counts_for tally those))
+    → ((those : Option (List ℕ)) (asked : State) → in_state asked (counts_for more those) ≡ in_state asked (counts_for less those) + one_of x.name (state_in (picked y)) those asked)
+    → IsTally more picked (set entries i y)
+tally-set tally less more picked entries i x y h is named counts fewer again those asked =
+    omega (
+      arith,
+      fewer those asked,
+      again those asked,
+      counts those asked,
+      sum_by-set (λ e. cond (is_counted picked those asked e) 1 0) entries i y x h,
+      ap {B = ℕ} (λ (e : Entry). cond (is_counted picked those asked e) 1 0) is,
+      ap {B = ℕ} (λ name. one_of name (state_in (picked y)) those asked) named,
+    )
+
+-- each entry is counted where it is
+counted_once : (picked : Entry → Progress) (those : Option (List ℕ)) (x : Entry) → is_among those x.name ≡ true → ◌≡◌ {A = ℕ} (cond (is_counted picked those (state_in (picked x)) x) 1 0) 1
+counted_once picked those x among = ap {B = ℕ} (λ b. cond b 1 0) (and_both (is_among those x.name) (is_in_state (state_in (picked x)) (state_in (picked x))) among (itself (state_in (picked x))))
+  where
+    itself : (state : State) → is_in_state state state ≡ true
+    itself Pending = refl
+    itself Delivered = refl
+    itself Exhausted = refl
+
+pub counted_there : (tally : Tally) (picked : Entry → Progress) (entries : List Entry) (i : ℕ) (x : Entry) (those : Option (List ℕ)) → i < length entries → x ≡ get_or entries i x → IsTally tally picked entries
+    → is_among those x.name ≡ true → 0 < in_state (state_in (picked x)) (counts_for tally those)
+counted_there tally picked entries i x those h is counts among =
+    omega (
+      arith,
+      counts those (state_in (picked x)),
+      get_or-le-sum_by (λ e. cond (is_counted picked those (state_in (picked x)) e) 1 0) entries i x h,
+      ap {B = ℕ} (λ (e : Entry). cond (is_counted picked those (state_in (picked x)) e) 1 0) is,
+      counted_once picked those x among,
+    )
+
+-- so there is room to count it where it comes to stand
+pub room_after : (tally less : Tally) (picked : Entry → Progress) (entries : List Entry) (i : ℕ) (x y : Entry) (those : Option (List ℕ)) → i < length entries → x ≡ get_or entries i x → is_among those y.name ≡ true → IsTally tally picked entries
+    → in_state (state_in (picked y)) (counts_for less those) + one_of x.name (state_in (picked x)) those (state_in (picked y)) ≡ in_state (state_in (picked y)) (counts_for tally those)
+    → in_state (state_in (picked y)) (counts_for less those) + 1 ≤ length entries
+room_after tally less picked entries i x y those h is among counts fewer =
+    omega (
+      arith,
+      fewer,
+      counts those (state_in (picked y)),
+      sum_by-set (λ e. cond (is_counted picked those (state_in (picked y)) e) 1 0) entries i y x h,
+      ap {B = ℕ} (λ (e : Entry). cond (is_counted picked those (state_in (picked y)) e) 1 0) is,
+      counted_once picked those y among,
+      count_by-le-length (is_counted picked those (state_in (picked y))) (set entries i y),
+      length-set entries i y,
+    )
+
+-- there are no more of them than entries
+pub counted_most : (tally : Tally) (picked : Entry → Progress) (entries : List Entry) (those : Option (List ℕ)) (asked : State) → IsTally tally picked entries → in_state asked (counts_for tally those) ≤ length entries
+counted_most tally picked entries those asked counts = omega (arith, counts those asked, count_by-le-length (is_counted picked those asked) entries)
+
+-- the room for counts of their endpoints is still there
+pub opened_still : (tally : Tally) (g : Entry → Entry) (entries : List Entry) → KeepsKeys g → list_all (λ e. has_room tally e.name) entries ≡ true → list_all (λ e. has_room tally e.name) (map g entries) ≡ true
+opened_still tally g entries keeps h =
+    list_all-map (λ e. has_room tally e.name) g entries ∙ all_weaker (λ e. has_room tally e.name) (λ e. has_room tally (g e).name) entries (λ e is. ap (has_room tally) (keeps e).1 ∙ is) h
+
+-- an entry that stands somewhere is found
+pub some_at : (entries : List Entry) (i : ℕ) (x : Entry) (seq : ℕ) → i < length entries → x ≡ get_or entries i x → x.seq ≡ seq → is_some (entry_at entries seq) ≡ true
+some_at [] i x seq h is same = absurd (omega (arith, h))
+some_at (e ∷ es) zero x seq h is same = ap (λ b. is_some (cond b (Some e) (entry_at es seq))) (eq-eqb e.seq seq (sym (ap (λ (y : Entry). y.seq) is) ∙ same))
+some_at (e ∷ es) (suc i) x seq h is same = pick (eqb e.seq seq) (some_at es i x seq (omega (arith, h)) is same)
+  where
+    pick : (b : Bool) → is_some (entry_at es seq) ≡ true → is_some (cond b (Some e) (entry_at es seq)) ≡ true
+    pick true later = refl
+    pick false later = later
+
+-- what a search found in the list that was read, said of the entries
+pub found_in : (looked entries : List Entry) (i seq : ℕ) (x : Entry) → looked ≡ entries → i < length looked → ((d : Entry) → entry_at looked seq ≡ Some (get_or looked i d)) → ((d : Entry) → (get_or looked i d).seq ≡ seq)
+    → x ≡ get_or entries i x → (i < length entries) × (x.seq ≡ seq) × (entry_at entries seq ≡ Some x)
+found_in looked entries i seq x e h found number is = (
+  omega (arith, h, ap length e),
+  ap (λ (y : Entry). y.seq) (is ∙ ap (λ es. get_or es i x) (sym e)) ∙ number x,
+  ap (λ es. entry_at es seq) (sym e) ∙ found x ∙ ap (λ es. Some (get_or es i x)) e ∙ ap Some (sym is),
+)
+
+-- two reads of one entry are the same
+pub read_same : (entries : List Entry) (i : ℕ) (x y : Entry) → i < length entries → x ≡ get_or entries i x → y ≡ get_or entries i y → x ≡ y
+read_same entries i x y h is also = is ∙ get_or-any entries i x y h ∙ sym also
