@@ -1,13 +1,13 @@
 -- What holds of a book's fields stays so, and what a call makes of the book.
-use Rattle.std.proofs.Common.{◌≡◌, ℕ, ◌+◌, ◌<◌, ◌≤◌, Bool, true, false, List, [], ◌∷◌, ◌++◌, Option, Some, None, length, refl, sym, ◌∙◌, ap, cond, arith, subst, map, length-append}
-use Rattle.std.specs.Prelude.{filter, filter_map, find, count_by, max, bytes_eq, option_map, if◌then◌else◌}
+use Rattle.std.proofs.Common.{◌≡◌, ℕ, ◌+◌, ◌≤◌, true, List, [], ◌∷◌, ◌++◌, Some, None, length, refl, sym, ◌∙◌, ap, cond, arith, subst, length-append}
+use Rattle.std.specs.Prelude.{filter, filter_map, count_by, max, option_map}
 use Rattle.endpoint_book.specs.declared.entries.Entries.{Entries}
 use Rattle.endpoint_book.specs.declared.entry.Change.{Change}
 use Rattle.endpoint_book.specs.declared.entry.Entry.{Entry}
 use Rattle.endpoint_book.specs.declared.entry.Kind.TheVariants.{Put}
 use Rattle.endpoint_book.specs.declared.limits.TheConstants.{MAX_FLAGS}
-use Rattle.endpoint_book.specs.Entries.{BookValue, now_of, is_flag, is_put, is_from, settled_at, shown_with, change_at, entry_of, with_put, with_change, with_settled}
-use Rattle.endpoint_book.specs.Kept.{AreNames, IsBook, Changes, Puts, IsSame, SettlesBelow, entry_in, listed}
+use Rattle.endpoint_book.specs.Entries.{BookValue, now_of, is_flag, is_put, is_from, settled_at, shown_with, change_at, entry_of, with_put, with_restored, with_change, with_settled}
+use Rattle.endpoint_book.specs.Kept.{AreNames, AreChanges, IsBook, Changes, Puts, IsSame, SettlesBelow, entry_in, listed}
 use Rattle.endpoint_book.proofs.Filters.{some_told}
 use Rattle.endpoint_book.proofs.Names.{found, changed-names, changed-listed, put-names, put-listed, change_at-name}
 use Rattle.endpoint_book.proofs.Queues.{changes-push, changes-keep, puts_kept}
@@ -110,3 +110,40 @@ settled-value book entries later names cs next settled place h is changed =
 pub entry-value : (book : BookValue) (entries : Entries) (names : List (List ℕ)) (cs : List Change) (next settled : ℕ) (name : List ℕ)
     → AreNames (entry_in entries) names → record { entries = listed entries names; changes = cs; next_seq = next; settled_seq = settled } ≡ book → entry_in entries name ≡ entry_of book name
 entry-value book entries names cs next settled name h is = sym (found (entry_in entries) names name h) ∙ ap (λ b. entry_of b name) is
+
+-- one more entry, all of whose changes are settled
+
+changes-none : (flags puts capacity next settled place : ℕ) → AreChanges [] flags puts capacity next settled → AreChanges [] flags puts capacity place place
+changes-none flags puts capacity next settled place h = record {
+  parted = λ p. refl;
+  below_next = λ p le. refl;
+  waiting = refl;
+  settled_next = omega arith;
+  flags_are = h.flags_are;
+  puts_are = h.puts_are;
+  few = h.few;
+  room = h.room;
+}
+
+pub book-restored : (entries later : Entries) (names : List (List ℕ)) (cs : List Change) (e : Entry) (flags puts capacity next settled : ℕ)
+    → IsBook entries names cs flags puts capacity next settled → cs ≡ [] → entry_in entries e.name ≡ None → Puts entries later e
+    → IsBook later (names ++ e.name ∷ []) cs flags puts capacity (e.put + 1) (e.put + 1)
+book-restored entries later names cs e flags puts capacity next settled h none unknown put = record {
+  are_names = subst (λ g. AreNames g (names ++ e.name ∷ [])) (λ i asked. sym (put asked) i) (put-names (entry_in entries) names e unknown h.are_names);
+  are_changes = subst (λ ds. AreChanges ds flags puts capacity (e.put + 1) (e.put + 1)) (sym none)
+      (changes-none flags puts capacity next settled (e.put + 1) (subst (λ ds. AreChanges ds flags puts capacity next settled) none h.are_changes));
+  puts_within = omega (arith, h.puts_within, length-append names (e.name ∷ []));
+}
+
+pub restored-value : (book : BookValue) (entries later : Entries) (names : List (List ℕ)) (cs : List Change) (e : Entry) (next settled : ℕ)
+    → AreNames (entry_in entries) names → record { entries = listed entries names; changes = cs; next_seq = next; settled_seq = settled } ≡ book
+    → entry_in entries e.name ≡ None → Puts entries later e
+    → record { entries = listed later (names ++ e.name ∷ []); changes = cs; next_seq = e.put + 1; settled_seq = e.put + 1 } ≡ with_restored book e
+restored-value book entries later names cs e next settled h is unknown put =
+    (λ i. record {
+      entries = (ap (λ g. filter_map g (names ++ e.name ∷ [])) (λ j asked. put asked j) ∙ put-listed (entry_in entries) names e unknown h) i;
+      changes = cs;
+      next_seq = e.put + 1;
+      settled_seq = e.put + 1;
+    })
+    ∙ ap (λ b. with_restored b e) is

@@ -7,3 +7,4 @@ pub mod Shown
 pub mod Histories
 pub mod Staged
 pub mod Laws
+pub mod Restored

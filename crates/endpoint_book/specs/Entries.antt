@@ -80,6 +80,26 @@ new_entry seq name target max secrets = record {
   settled = None;
 }
 
+-- an endpoint as its records left it, where all of them are settled
+abbrev pub restored_entry : (seq : Seq) (name target : Text) (max : ℕ) (secrets : List Text) (enabled : Bool) → Entry
+restored_entry seq name target max secrets enabled = record {
+  put = seq;
+  name = name;
+  target = target;
+  max = max;
+  enabled = enabled;
+  secrets = secrets;
+  settled = Some (record { enabled = enabled; secrets = length secrets });
+}
+
+-- the book with one more endpoint, all of whose records are settled
+abbrev pub with_restored : BookValue → Entry → BookValue
+with_restored book e = record book {
+  entries = book.entries ++ e ∷ [];
+  next_seq = e.put + 1;
+  settled_seq = e.put + 1;
+}
+
 -- the book with one more endpoint, by its Put
 abbrev pub with_put : BookValue → Entry → BookValue
 with_put book e = record book {

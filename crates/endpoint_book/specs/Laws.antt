@@ -1,10 +1,11 @@
 -- Laws that contracts rest on.
-use Rattle.std.specs.Prelude.{◌≡◌, ℕ, List, [], ◌∷◌, ◌++◌, IsTrue}
+use Rattle.std.specs.Prelude.{◌≡◌, ◌≤◌, ℕ, List, [], ◌∷◌, ◌++◌, map, length, IsTrue}
 use Rattle.relay_types.specs.declared.record.Record.{Record}
 use Rattle.relay_types.specs.Values.{Text}
-use Rattle.relay_types.specs.Endpoints.{endpoints, is_enabled, secrets_of}
+use Rattle.relay_types.specs.Endpoints.{Endpoint, endpoints, is_enabled, secrets_of}
 use Rattle.relay_types.specs.Legal.{IsLegal}
-use Rattle.endpoint_book.specs.Entries.{BookValue}
+use Rattle.endpoint_book.specs.declared.entry.Entry.{Entry}
+use Rattle.endpoint_book.specs.Entries.{BookValue, restored_entry}
 use Rattle.endpoint_book.specs.Book.{StandsFor, is_other}
 
 -- a book stands for the longer history too where the record changes no endpoint
@@ -23,3 +24,20 @@ abbrev pub IdleLeave : Type 0
 IdleLeave =
     (book : BookValue) (records : List Record) (settled : ℕ) (entry : Record) → StandsFor book records settled
     → IsLegal (records ++ entry ∷ []) → IsIdle records entry → StandsFor book (records ++ entry ∷ []) settled
+
+-- an endpoint as these records left it, where all of them are settled
+abbrev pub entry_for : List Record → Endpoint → Entry
+entry_for records e =
+    restored_entry e.put e.name e.target e.max (secrets_of records e.name) (is_enabled records e.name)
+
+-- the book has just the endpoints of these records, and all of them are settled
+pub record IsRestored (book : BookValue) (records : List Record) : Type 0 where
+  pub entries : book.entries ≡ map (entry_for records) (endpoints records)
+  pub changes : book.changes ≡ []
+  pub next_seq : book.next_seq ≤ length records
+  pub settled_seq : book.settled_seq ≡ length records
+
+abbrev pub RestoredStand : Type 0
+RestoredStand =
+    (book : BookValue) (records : List Record) → IsLegal records → IsRestored book records
+    → StandsFor book records (length records)

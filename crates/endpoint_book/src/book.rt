@@ -2,7 +2,7 @@
 ghost use Rattle.std.specs.Prelude.{◌≡◌, ◌≤◌, ◌<◌, ◌+◌, ℕ, List, [], ◌∷◌, ◌++◌, Option, Some, None, true, false, length, map, take, drop, count_by, option_copied, option_map, IsTrue, IfOk, OnOk, OnErr};
 ghost use Rattle.relay_types.specs.declared.record.Record.TheVariants as on;
 ghost use Rattle.relay_types.specs.Endpoints.{endpoints, endpoint_of, has_endpoint, is_enabled};
-ghost use Rattle.endpoint_book.specs.Entries.{empty_book, new_entry, with_put, with_flag, with_secrets, with_settled, entry_of, is_known, is_put, flags_in};
+ghost use Rattle.endpoint_book.specs.Entries.{empty_book, new_entry, restored_entry, with_put, with_restored, with_flag, with_secrets, with_settled, entry_of, is_known, is_put, flags_in};
 ghost use Rattle.endpoint_book.specs.Book.{StandsFor, Stages, StagesGone, Settles, OfAll, OfSettled, OfWaiting, secrets_if_known, view_of, settled_view, told, enabled_in, sets_flag};
 
 use crate::changes::{count_flags, count_puts, keep_from, settle_below};
@@ -105,6 +105,46 @@ impl EndpointBook {
         });
         self.puts += 1;
         self.next_seq = seq + 1;
+        Ok(())
+    }
+
+    /// Puts an endpoint as its records left it: those behind its Put too are settled from now on. So a book is made of what
+    /// a store holds, and nothing may be staged before. `next_seq` and `contains` test the other conditions. An error is
+    /// want of memory.
+    pub fn restore(
+        &mut self,
+        seq: u64,
+        name: Name,
+        target: Target,
+        max: MaxLimit,
+        secrets: Secrets,
+        enabled: bool,
+    ) -> Result<(), AllocError>
+        requires room { seq < MAX_RECORDS }
+        requires above { self.old.next_seq ≤ seq }
+        requires unknown { is_known self.old name ≡ false }
+        requires settled { self.old.changes ≡ [] }
+        ensures put { OnOk result (self.new
+            ≡ with_restored self.old (restored_entry seq name target max secrets enabled)) }
+        ensures unchanged { OnErr result (self.new ≡ self.old) }
+    {
+        self.names.reserve(1)?;
+        let shown = Shown {
+            enabled,
+            secrets: secrets.count(),
+        };
+        self.entries.put(Entry {
+            put: seq,
+            name,
+            target,
+            max,
+            enabled,
+            secrets,
+            settled: Some(shown),
+        })?;
+        self.names.push_reserved(name);
+        self.next_seq = seq + 1;
+        self.settled_seq = seq + 1;
         Ok(())
     }
 

@@ -12,6 +12,6 @@ mod limits;
 mod view;
 
 pub use crate::book::EndpointBook;
-pub use crate::law::{idle_records_leave, other_records_leave};
+pub use crate::law::{idle_records_leave, other_records_leave, restored_books_stand};
 pub use crate::limits::MAX_FLAGS;
 pub use crate::view::EndpointView;

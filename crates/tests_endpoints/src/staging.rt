@@ -175,3 +175,29 @@ fn secrets_are_replaced(rt: HostRuntime) -> Result<(), Fail> {
     assert!(rt; shows(&book, a, true, 3));
     Ok(())
 }
+
+#[test]
+fn a_restored_endpoint_is_settled_as_it_was_left(rt: HostRuntime) -> Result<(), Fail> {
+    let alloc = rt.alloc();
+    let mut book = EndpointBook::new(alloc)?;
+    let a = name(b"a")?;
+    let two = Secrets::of(&[secret(2)?, secret(3)?])?;
+    let url = b"http://127.0.0.1:9000/hook";
+    assert!(rt; book.next_seq() <= 3);
+    assert!(rt; !book.contains(a));
+    book.restore(
+        3,
+        a,
+        Target::read(alloc, url)?,
+        MaxLimit::of(100)?,
+        two,
+        false,
+    )?;
+    assert!(rt; book.settled_len() == 1);
+    assert!(rt; !book.is_enabled(a));
+    assert!(rt; matches!(book.secrets(a), Some(secrets) if secrets.is(&two)));
+    assert!(rt; shows(&book, a, false, 2));
+    assert!(rt; is_put_as(&book, a, url, 100));
+    assert!(rt; book.next_seq() == 4);
+    Ok(())
+}
