@@ -16,8 +16,10 @@ use Rattle.spool.specs.declared.ends.Unchanged.{Unchanged}
 use Rattle.spool.specs.declared.ends.Unchanged.TheVariants as why
 use Rattle.sqlite.specs.Held as store
 use Rattle.spool_sql.specs.Tables.{no_schema}
+use Rattle.relay_types.specs.Rows.{rows_of}
 use Rattle.spool_sql.specs.Steps.{IsBegun}
 use Rattle.spool.specs.Commits.{IsOpened, IsNext, IsDoubt, IsIllegal, LeavesHistory}
+use Rattle.spool.specs.Entering.{RestsInDoubt}
 use Rattle.spool.specs.Vaults.{VaultValue}
 use Rattle.script_lines.specs.declared.event.Event.{Event}
 use Rattle.script_lines.specs.declared.event.Event.TheVariants as on
@@ -36,7 +38,7 @@ use Rattle.desk.specs.Faults.{Faults, refusal}
 use Rattle.desk.specs.Moves.{opened, Answer, MayGive, refused, unless, submit, submit_faults, new_submit_faults, put_faults, change, stages, repeats, submit_new, seal, seal_waiting, sealed_batch, with_batch, with_sealed_settled, event_row, is_nothing_out}
 use Rattle.desk.specs.Desks.{DeskValue, StandsFor, IsMove, Settles, steps_of}
 use Rattle.drill.specs.Moves.{Move, Commits, SettlesOut, staged_reply, seal_reply, event_reply, in_doubt}
-use Rattle.drill.specs.Runners.{IsHeld, IsOpenAt, VaultStandsFor, RunnerStandsFor, Answers, EndsAs, CommitsSo, unchanged_reply}
+use Rattle.drill.specs.Runners.{IsHeld, IsOpenAt, LeavesEither, VaultStandsFor, KeepsRows, RunnerStandsFor, Answers, EndsAs, CommitsSo, unchanged_reply}
 
 -- Moves after which what is out, settled and sealed is as before
 
@@ -115,7 +117,7 @@ vault_goes g vault w next goes below within h = subst (VaultStandsFor g vault ne
     at Nothing h = subst (IsOpenAt g vault) settled h
     at Batch h = subst (IsOpenAt g vault) settled h
     at Receipt h = subst (IsOpenAt g vault) sealed h
-    at Doubt h = h
+    at Doubt (shut, may) = (shut, λ db left. let (rows, either, is) = may db left in (rows, elim either [ inl old ↦ inl (old ∙ ap rows_of settled) | inr new ↦ inr (new ∙ ap rows_of sealed) ], is))
 
 answers_plain : {S : Type 0} {A : Type 0} (g : Ghosts S) (old new : Runner S) (move : World → Answer A) (result : Result A Refusal) (event : Event) (reply : Reply) → ((w : World) → Goes w (move w).next)
     → ((w next : World) → MayGive w (move w) result next → Move w event reply next) → IsMove old.desk move result new.desk
@@ -268,12 +270,18 @@ out_again desk w o left s same = record {
   kinds = s.kinds;
 }
 
+doubt_leaves : {S : Type 0} (g : Ghosts S) (vault : VaultValue S) (batch : BatchValue) (w : World) → settled_records w ++ records_of batch.steps ≡ sealed_records w
+    → IsTrue vault.closed × RestsInDoubt (store.state g vault.conn) (settled_records w) (records_of batch.steps) → IsTrue vault.closed × LeavesEither g vault.conn w
+doubt_leaves g vault batch w whole (shut, may) =
+    (shut, λ db left. let (rows, either, is) = may db left in (rows, elim either [ inl old ↦ inl old | inr (legal, new) ↦ inr (new ∙ ap rows_of whole) ], is))
+
 answers_end : {S : Type 0} (g : Ghosts S) (desk : DeskValue) (vault : VaultValue S) (batch : BatchValue) (now : Held) (reply : Reply) (w : World) → StandsFor desk w → w.out ≡ Batch → batch ≡ sealed_batch desk.mark w → desk.mark ≡ vault.mark
     → EndsAs g vault (settled_records w) batch now reply → (next : World) × Move w on.Commit reply next × RunnerStandsFor g (record { desk = desk; vault = vault; held = now }) next
 answers_end g desk vault batch (held.Receipt receipt) reply w s out is mark h =
     let whole : settled_records w ++ records_of batch.steps ≡ sealed_records w = ap (λ (r : BatchValue). settled_records w ++ records_of r.steps) is ∙ sealed_is desk.mark w (settled_within desk w s) in
     let stands : IsOpenAt g vault (sealed_records w) = subst (IsOpenAt g vault) whole h.2 in
-    let said : reply ≡ says.Committed (length (sealed_records w)) = h.1 ∙ ap says.Committed stands.1.next in (
+    let (free, (holds, leaves)) = stands in
+    let said : reply ≡ says.Committed (length (sealed_records w)) = h.1 ∙ ap says.Committed holds.next in (
       record w { out = Receipt; left = w.sealed ∷ [] },
       subst (λ o. Commits o w reply (record w { out = Receipt; left = w.sealed ∷ [] })) (sym out) (inl (said, refl)),
       record {
@@ -293,13 +301,13 @@ answers_end g desk vault batch (held.Batch back) reply w s out is mark h = (
     mark = mark;
   },
 )
-answers_end g desk vault batch (held.Doubt doubt) reply w s out is mark h = (
+answers_end g desk vault batch (held.Doubt doubt) reply w s out is mark (said, shut, may) = (
   in_doubt w,
-  subst (λ o. Commits o w reply (in_doubt w)) (sym out) (inr (inr (h.0, refl))),
+  subst (λ o. Commits o w reply (in_doubt w)) (sym out) (inr (inr (said, refl))),
   record {
     desk = out_again desk w Doubt (w.settled ∷ w.sealed ∷ []) s (ap is_nothing_out out);
     held = refl;
-    vault = h.1;
+    vault = doubt_leaves g vault batch w (ap (λ (r : BatchValue). settled_records w ++ records_of r.steps) is ∙ sealed_is desk.mark w (settled_within desk w s)) (shut, may);
     mark = mark;
   },
 )
@@ -315,9 +323,9 @@ unchanged_ends g old new batch back why.Closed result is same closed turn illega
 unchanged_ends g old new batch back why.OutOfTurn result is same closed turn illegal doubt over records open_at next legal =
     absurd (turn (is ∙ ap (λ b. Err (ends.Unchanged b why.OutOfTurn)) same) next)
 unchanged_ends g old new batch back why.Illegal result is same closed turn illegal doubt over records open_at next legal =
-    absurd (illegal (is ∙ ap (λ b. Err (ends.Unchanged b why.Illegal)) same) records open_at.1 legal)
+    let (free, (holds, leaves)) = open_at in absurd (illegal (is ∙ ap (λ b. Err (ends.Unchanged b why.Illegal)) same) records holds legal)
 unchanged_ends g old new batch back why.OutOfMemory result is same closed turn illegal doubt over records open_at next legal =
-    (same, refl, (at new.closed refl, (subst (LeavesHistory g old new batch) is over records open_at.1).0))
+    let (free, (holds, leaves)) = open_at in (same, refl, (at new.closed refl, subst (LeavesHistory g old new batch) is over records holds))
   where
     at : (b : Bool) → new.closed ≡ b → b ≡ false
     at false e = refl
@@ -328,7 +336,8 @@ pub answers_commit : {S : Type 0} (g : Ghosts S) (old new : Runner S) (batch : B
 answers_commit g old new batch reply held_is desk mark commits w stands =
     let had : (w.out ≡ Batch) × (batch ≡ sealed_batch old.desk.mark w) = subst (IsHeld old.desk.mark w) held_is stands.held in
     let open_at : IsOpenAt g old.vault (settled_records w) = subst (VaultStandsFor g old.vault w) had.0 stands.vault in
-    let next : IsNext old.vault batch = (ap (λ (r : BatchValue). r.mark) had.1 ∙ stands.mark, ap (λ (r : BatchValue). r.from) had.1 ∙ sym open_at.1.next) in
+    let (free, (holds, leaves)) = open_at in
+    let next : IsNext old.vault batch = (ap (λ (r : BatchValue). r.mark) had.1 ∙ stands.mark, ap (λ (r : BatchValue). r.from) had.1 ∙ sym holds.next) in
     let whole : settled_records w ++ records_of batch.steps ≡ all_records w =
     ap (λ (r : BatchValue). settled_records w ++ records_of r.steps) had.1 ∙ sealed_is old.desk.mark w (settled_within old.desk w stands.desk)
     ∙ all_sealed old.desk w stands.desk (stands.desk.is_out ∙ ap (λ o. not (is_nothing_out o)) had.0) in
@@ -340,4 +349,12 @@ answers_commit g old new batch reply held_is desk mark commits w stands =
 
 pub started_stands : {S : Type 0} (g : Ghosts S) (conn : store.Held S) (mark : ℕ) (vault : VaultValue S) (desk : DeskValue) → IsOpened g conn mark vault → IsBegun no_schema (store.state g conn).now → desk.mark ≡ mark
     → StandsFor desk (opened [] 0) → RunnerStandsFor g (record { desk = desk; vault = vault; held = held.Nothing }) (opened [] 0)
-started_stands g conn mark vault desk made begun marked stands = record { desk = stands; held = refl; vault = (made.closed, (made.history begun).0); mark = marked ∙ sym made.marked }
+started_stands g conn mark vault desk made begun marked stands = record { desk = stands; held = refl; vault = (made.closed, made.history begun); mark = marked ∙ sym made.marked }
+
+-- The rows that the vault's connection keeps
+
+pub rows_kept : {S : Type 0} (g : Ghosts S) (vault : VaultValue S) (w : World) (o : Out) → VaultStandsFor g vault w o → KeepsRows g vault.conn w o
+rows_kept g vault w Nothing (free, (holds, leaves)) = (holds.stands, leaves)
+rows_kept g vault w Batch (free, (holds, leaves)) = (holds.stands, leaves)
+rows_kept g vault w Receipt (free, (holds, leaves)) = (holds.stands, leaves)
+rows_kept g vault w Doubt (shut, either) = either

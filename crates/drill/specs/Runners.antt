@@ -1,18 +1,20 @@
 -- What the runner keeps between two lines, and the worlds for which it stands.
-use Rattle.std.specs.Prelude.{◌≡◌, ℕ, ◌++◌, false, List, IsTrue}
+use Rattle.std.specs.Prelude.{◌≡◌, ℕ, ◌++◌, ◌⊎◌, false, List, IsTrue}
 use Rattle.sqlite.specs.Store.{Ghosts}
 use Rattle.sqlite.specs.State.{HasCleanDisk}
 use Rattle.sqlite.specs.Held as store
 use Rattle.relay_types.specs.declared.record.Record.{Record}
 use Rattle.relay_types.specs.Records.{records_of}
 use Rattle.relay_types.specs.Legal.{IsLegal}
+use Rattle.relay_types.specs.Rows.{rows_of}
 use Rattle.spool_sql.specs.Tables.{no_schema}
-use Rattle.spool_sql.specs.Steps.{IsBegun}
+use Rattle.spool_sql.specs.Steps.{IsBegun, MayLeave}
 use Rattle.spool.specs.Batches.{BatchValue}
 use Rattle.spool.specs.declared.ends.Unchanged.{Unchanged}
 use Rattle.spool.specs.declared.ends.Unchanged.TheVariants as why
-use Rattle.spool.specs.Commits.{IsNext}
-use Rattle.spool.specs.Vaults.{VaultValue, Holds}
+use Rattle.spool.specs.Commits.{IsNext, HoldsOnDisk}
+use Rattle.spool.specs.Entering.{Rests, RestsInDoubt}
+use Rattle.spool.specs.Vaults.{VaultValue}
 use Rattle.script_lines.specs.declared.event.Event.{Event}
 use Rattle.script_lines.specs.declared.reply.Fault.TheVariants as fault
 use Rattle.script_lines.specs.declared.reply.Reply.{Reply}
@@ -32,16 +34,28 @@ IsHeld mark w (held.Batch batch) = (w.out ≡ Batch) × (batch ≡ sealed_batch 
 IsHeld mark w (held.Receipt batch) = (w.out ≡ Receipt) × (batch ≡ sealed_batch mark w)
 IsHeld mark w (held.Doubt doubt) = w.out ≡ Doubt
 
--- the store takes commits, and holds these records
+-- the store takes commits, holds these records, and a stop leaves them
 abbrev pub IsOpenAt : {S : Type 0} → Ghosts S → VaultValue S → List Record → Type 0
-IsOpenAt g vault records = (vault.closed ≡ false) × Holds g vault records
+IsOpenAt g vault records = (vault.closed ≡ false) × HoldsOnDisk g vault records
 
--- The store holds the settled records, or the sealed ones once they are committed. After a doubt it takes no commit.
+-- a stop leaves the rows of the settled records or of the sealed ones
+abbrev pub LeavesEither : {S : Type 0} → Ghosts S → store.Held S → World → Type 0
+LeavesEither g conn w = MayLeave (store.state g conn) (λ rows. (rows ≡ rows_of (settled_records w)) ⊎ (rows ≡ rows_of (sealed_records w)))
+
+-- The store holds the settled records, or the sealed ones once they are committed. After a doubt it takes no commit, and holds either.
 abbrev pub VaultStandsFor : {S : Type 0} → Ghosts S → VaultValue S → World → Out → Type 0
 VaultStandsFor g vault w Nothing = IsOpenAt g vault (settled_records w)
 VaultStandsFor g vault w Batch = IsOpenAt g vault (settled_records w)
 VaultStandsFor g vault w Receipt = IsOpenAt g vault (sealed_records w)
-VaultStandsFor g vault w Doubt = IsTrue vault.closed
+VaultStandsFor g vault w Doubt = IsTrue vault.closed × LeavesEither g vault.conn w
+
+-- The rows that stand in the store, by what is out: those of the settled records, or of the sealed ones once they are committed. A stop
+-- leaves them. After a doubt it leaves those of either.
+abbrev pub KeepsRows : {S : Type 0} → Ghosts S → store.Held S → World → Out → Type 0
+KeepsRows g conn w Nothing = Rests (store.state g conn) (rows_of (settled_records w))
+KeepsRows g conn w Batch = Rests (store.state g conn) (rows_of (settled_records w))
+KeepsRows g conn w Receipt = Rests (store.state g conn) (rows_of (sealed_records w))
+KeepsRows g conn w Doubt = LeavesEither g conn w
 
 -- the desk, the store and what is held stand for one world
 pub record RunnerStandsFor {S : Type 0} (g : Ghosts S) (runner : Runner S) (w : World) : Type 0 where
@@ -76,7 +90,7 @@ unchanged_reply why.OutOfMemory = says.Refused 4 fault.OutOfMemory
 abbrev pub EndsAs : {S : Type 0} → Ghosts S → VaultValue S → List Record → BatchValue → Held → Reply → Type 0
 EndsAs g vault records batch (held.Receipt receipt) reply = (receipt ≡ batch) × (reply ≡ says.Committed vault.next) × IsOpenAt g vault (records ++ records_of batch.steps)
 EndsAs g vault records batch (held.Batch back) reply = (back ≡ batch) × (reply ≡ says.Refused 4 fault.OutOfMemory) × IsOpenAt g vault records
-EndsAs g vault records batch (held.Doubt doubt) reply = (reply ≡ says.Refused 5 fault.Store) × IsTrue vault.closed
+EndsAs g vault records batch (held.Doubt doubt) reply = (reply ≡ says.Refused 5 fault.Store) × IsTrue vault.closed × RestsInDoubt (store.state g vault.conn) records (records_of batch.steps)
 EndsAs g vault records batch held.Nothing reply = ⊥
 
 -- what a commit of the vault's next batch answers

@@ -28,3 +28,8 @@ replies_text (reply ∷ replies) = reply_text reply ++ 10 ∷ replies_text repli
 abbrev pub Replies : List (List ℕ) → List ℕ → Type 0
 Replies lines written = (events : List Event) × (replies : List Reply) × (last : World)
     × ReadLines lines events × Run (opened [] 0) events replies last × (written ≡ replies_text replies)
+
+-- the same, where this holds of the world in which the run ends
+abbrev pub RepliesTo : (World → Type 0) → List (List ℕ) → List ℕ → Type 0
+RepliesTo Holds lines written = (events : List Event) × (replies : List Reply) × (last : World)
+    × ReadLines lines events × Run (opened [] 0) events replies last × (written ≡ replies_text replies) × Holds last

@@ -1,12 +1,15 @@
 //! The runner of scripts: it holds what the desk and the store hand out, and gives it to the line that asks for it.
-ghost use Rattle.std.specs.Prelude.{◌≡◌, ◌⊎◌, ◌+◌, false, [], length, IfOk, IfErr, MatchResult};
+ghost use Rattle.std.specs.Prelude.{◌≡◌, ◌⊎◌, ◌+◌, false, [], length, Err, IsTrue, IfOk, IfErr, MatchResult};
+ghost use Rattle.sqlite.specs.Held.{state};
+ghost use Rattle.spool.specs.Opening.{has_ours};
 ghost use Rattle.relay_types.specs.Records.{records_of};
 ghost use Rattle.script_lines.specs.declared.event.Event.TheVariants as on;
 ghost use Rattle.script_lines.specs.declared.reply.Reply.TheVariants as says;
 ghost use Rattle.desk.specs.Moves.{opened};
+ghost use Rattle.text_lines.specs.Ends.{IsBetweenLines};
 ghost use Rattle.drill.specs.Moves.{fault_of, refusal_reply, staged_reply, seal_reply, event_reply};
 ghost use Rattle.drill.specs.Runners.{RunnerStandsFor, IsCleanAt, IsClean, HasNoTable, Answers, CommitsSo, unchanged_reply};
-ghost use Rattle.drill.specs.Replays.{Replays, RunsLine};
+ghost use Rattle.drill.specs.Replays.{Replays, KeepsRun, RunsLine};
 ghost use Rattle.drill.specs.Runs.{IsNoCall};
 
 use delivery_book::Row;
@@ -220,7 +223,8 @@ fn fault_of(fault: desk::Fault) -> Fault
 // Commits the batch: what is held then, and the reply.
 fn commit_batch<S: Alter>(vault: &mut Vault<S>, batch: Batch) -> (Held, Reply)
     ensures mark { vault.new.mark ≡ vault.old.mark }
-    ensures commits { IsCleanAt S.Store vault.new.conn → CommitsSo S.Store vault.old vault.new batch result.0 result.1 }
+    ensures commits { IsCleanAt S.Store vault.new.conn
+        → CommitsSo S.Store vault.old vault.new batch result.0 result.1 }
     ensures clean { IsCleanAt S.Store vault.new.conn → IsCleanAt S.Store vault.old.conn }
 {
     match vault.commit(batch) {
@@ -251,8 +255,9 @@ fn unchanged_reply(why: Unchanged) -> Reply
     Reply::Refused { number, fault }
 }
 
-/// Runs the script that the reader gives over a store without tables, and writes a reply for each line. The connection
-/// comes back, outside a transaction if it came so.
+/// Runs the script that the reader gives over a store without tables, and writes a reply for each line. A store that has one of the
+/// relay's tables, or whose connection is in a transaction, is `Lost`, and nothing is written. The connection
+/// comes back, outside a transaction if it came so; where the script ended between two lines, with the rows that its commits wrote.
 pub fn replay<S: Alter, I: Read, O: Write>(
     alloc: Global,
     input: &mut I,
@@ -262,8 +267,14 @@ pub fn replay<S: Alter, I: Read, O: Write>(
 ) -> (Connection<S>, Result<(), StreamFault>)
     ensures replays { IsCleanAt S.Store result.0 → HasNoTable S.Store conn
         → Replays (I.remaining input.old) (O.contents output.old) (O.contents output.new) result.1 }
+    ensures rows { IsCleanAt S.Store result.0 → HasNoTable S.Store conn → IsBetweenLines result.1
+        → KeepsRun S.Store result.0 (I.remaining input.old) (O.contents output.old) (O.contents output.new) result.1 }
     ensures clean { IsCleanAt S.Store result.0 → IsCleanAt S.Store conn }
     ensures mode { conn.in_transaction ≡ false → result.0.in_transaction ≡ false }
+    ensures busy { IsTrue conn.in_transaction
+        → (result ≡ (conn, Err StreamFault.Lost)) × (output.new ≡ output.old) }
+    ensures taken { IsTrue (has_ours (state S.Store conn).now.schema)
+        → (result.1 ≡ Err StreamFault.Lost) × (output.new ≡ output.old) }
 {
     match start(alloc, conn, mark) {
         Ok(runner) => {
@@ -282,12 +293,16 @@ fn start<S: Alter>(
     mark: u64,
 ) -> Result<Runner<S>, (Connection<S>, StreamFault)>
     ensures stands { IfOk result
-        (λ runner. IsClean S.Store runner → HasNoTable S.Store conn → RunnerStandsFor S.Store runner (opened [] 0)) }
+        (λ runner. IsClean S.Store runner → HasNoTable S.Store conn
+        → RunnerStandsFor S.Store runner (opened [] 0)) }
     ensures clean { MatchResult result
         (λ runner. IsClean S.Store runner → IsCleanAt S.Store conn)
         (λ back. IsCleanAt S.Store back.0 → IsCleanAt S.Store conn) }
     ensures faults { IfErr result (λ back. (back.1 ≡ StreamFault.Lost) ⊎ (back.1 ≡ StreamFault.OutOfMemory)) }
     ensures mode { conn.in_transaction ≡ false → IfErr result (λ back. back.0.in_transaction ≡ false) }
+    ensures busy { IsTrue conn.in_transaction → result ≡ Err (conn, StreamFault.Lost) }
+    ensures taken { IsTrue (has_ours (state S.Store conn).now.schema)
+        → MatchResult result (λ _. ⊥) (λ back. back.1 ≡ StreamFault.Lost) }
 {
     if !conn.is_autocommit() {
         return Err((conn, StreamFault::Lost));

@@ -8,7 +8,7 @@ use Rattle.std.proofs.lemmas.Bool.{eqb-true, and_parts}
 use Rattle.text_lines.specs.declared.fault.StreamFault.{StreamFault}
 use Rattle.text_lines.specs.declared.fault.StreamFault.TheVariants.{BadLine, TooLong, Read, Write, Lost, OutOfMemory}
 use Rattle.text_lines.specs.Streams.{LinesValue, left, has_no_feed, TakesLine, IsTooLong, AppendsFront}
-use Rattle.text_lines.specs.Ends.{fed, HasLines, AreWithinBounds, IsWhole, IsUpToBad, IsUpToTooLong, IsUpToLine, IsCut, IsWrittenAtEnd, CutsLine, EndsLine}
+use Rattle.text_lines.specs.Ends.{fed, HasLines, AreWithinBounds, IsWhole, IsUpToBad, IsUpToTooLong, IsUpToLine, IsCut, IsWrittenAtEnd, IsBetweenLines, CutsLine, EndsLine}
 use Rattle.text_lines.proofs.FeedLaws.{IsTooLong-none}
 use Rattle.text_lines.proofs.StreamLaws.{Appends-known}
 use Rattle.text_lines.specs.declared.limits.TheConstants.{MAX_LINE_BYTES, MAX_LINES}
@@ -267,6 +267,17 @@ ends_at_line Says IsBad Gives text had reading remaining old new Read t says mor
 ends_at_line Says IsBad Gives text had reading remaining old new Write t says more h = cut_line Says Gives text had reading remaining old new t says more h
 ends_at_line Says IsBad Gives text had reading remaining old new Lost t says more h = absurd h
 ends_at_line Says IsBad Gives text had reading remaining old new OutOfMemory t says more h = before_line Says text had reading remaining old new t says h
+
+-- a bad line is the one fault of a line that comes between two lines
+pub ends_between_lines : {Holds : List (List ℕ) → List ℕ → Type 0} (Says : List (List ℕ) → List ℕ → Type 0) (IsBad Gives : List ℕ → Type 0) (text had : List ℕ) (reading : LinesValue) (remaining old new : Option (List ℕ)) (fault : StreamFault)
+    (t : Taken Holds text had reading remaining old) → ((number : ℕ) → fault ≡ BadLine number → Says t.lines t.written) → IsBetweenLines (Err fault) → EndsLine Gives IsBad reading old new (Err fault)
+    → Written (IsWrittenAtEnd Says IsBad (Err fault) text) had new
+ends_between_lines Says IsBad Gives text had reading remaining old new (BadLine number) t says between h = bad_line Says IsBad text had reading remaining old new number t (says number refl) h
+ends_between_lines Says IsBad Gives text had reading remaining old new TooLong t says between h = absurd h
+ends_between_lines Says IsBad Gives text had reading remaining old new Read t says between h = absurd h
+ends_between_lines Says IsBad Gives text had reading remaining old new Write t says between h = absurd between
+ends_between_lines Says IsBad Gives text had reading remaining old new Lost t says between h = absurd between
+ends_between_lines Says IsBad Gives text had reading remaining old new OutOfMemory t says between h = absurd between
 
 -- what a written answer comes to
 pub written_line : (Gives IsBad : List ℕ → Type 0) (lines : LinesValue) (old new : Option (List ℕ)) (answer : List ℕ) (end : Result (Unit {0}) StreamFault) → Gives answer → OnOk end (Appends old new answer)

@@ -62,6 +62,16 @@ abbrev pub Ends : (List (List ℕ) → List ℕ → Type 0) → (List ℕ → Ty
 Ends Says IsBad input old new end =
     (text had : List ℕ) → input ≡ Some text → old ≡ Some had → (written : List ℕ) × (new ≡ Some (had ++ written)) × IsWrittenAtEnd Says IsBad end text written
 
+-- The end came between two lines: each line that was taken in is answered.
+abbrev pub IsBetweenLines : Result (Unit {0}) StreamFault → Type 0
+IsBetweenLines (Ok done) = Unit {0}
+IsBetweenLines (Err (BadLine number)) = Unit {0}
+IsBetweenLines (Err TooLong) = Unit {0}
+IsBetweenLines (Err Read) = Unit {0}
+IsBetweenLines (Err Write) = ⊥
+IsBetweenLines (Err Lost) = ⊥
+IsBetweenLines (Err OutOfMemory) = ⊥
+
 -- the exit status of an end: 2 for what was read, 3 for the rest
 abbrev pub status_of : Result (Unit {0}) StreamFault → ℕ
 status_of (Ok done) = 0

@@ -1,7 +1,7 @@
 //! Lines that are answered one after another.
-ghost use Rattle.std.specs.Prelude.{◌≡◌, List, ℕ, Some, IfOk};
-ghost use Rattle.text_lines.specs.Answers.{AnswersFrom, Gives};
-ghost use Rattle.text_lines.specs.Ends.{Ends, EndsLine};
+ghost use Rattle.std.specs.Prelude.{◌≡◌, List, ℕ, Some, Err, IfOk};
+ghost use Rattle.text_lines.specs.Answers.{AnswersFrom, AnswersTo, Gives};
+ghost use Rattle.text_lines.specs.Ends.{Ends, EndsLine, IsBetweenLines};
 
 use crate::fault::StreamFault;
 use crate::lines::Lines;
@@ -27,8 +27,10 @@ pub trait Answerer {
 
     /// Answers the line.
     fn answer(&mut self, alloc: Global, line: &[u8]) -> Result<Self::Reply, WordFault>
-        ensures answers { IsClean self.new → IfOk result (λ reply. (text : List ℕ) × (Self.Reply.output reply ≡ Some text) × Answers self.old line.now text self.new) }
+        ensures answers { IsClean self.new → IfOk result (λ reply.
+            (text : List ℕ) × (Self.Reply.output reply ≡ Some text) × Answers self.old line.now text self.new) }
         ensures bad { result ≡ Err WordFault.Bad → IsNoLine line.now }
+        ensures unchanged { result ≡ Err WordFault.Bad → self.new ≡ self.old }
         ensures clean { IsClean self.new → IsClean self.old };
 }
 
@@ -39,7 +41,13 @@ pub fn answer_lines<A: Answerer, R: Read, O: Write>(
     input: &mut R,
     output: &mut O,
 ) -> Result<(), StreamFault>
-    ensures ends { A.IsClean answerer.new → Ends (AnswersFrom A.Answers answerer.old) A.IsNoLine (R.remaining input.old) (O.contents output.old) (O.contents output.new) result }
+    ensures ends { A.IsClean answerer.new → Ends (AnswersFrom A.Answers answerer.old) A.IsNoLine
+        (R.remaining input.old) (O.contents output.old) (O.contents output.new) result }
+
+    // between two lines, the answerer is where the lines that are answered led
+    ensures leads { A.IsClean answerer.new → IsBetweenLines result
+        → Ends (AnswersTo A.Answers answerer.old answerer.new) A.IsNoLine
+        (R.remaining input.old) (O.contents output.old) (O.contents output.new) result }
     ensures clean { A.IsClean answerer.new → A.IsClean answerer.old }
 {
     let mut lines = Lines::new(alloc)?;
@@ -56,7 +64,10 @@ fn answer_line<A: Answerer, O: Write>(
     lines: &Lines,
     output: &mut O,
 ) -> Result<(), StreamFault>
-    ensures ends { A.IsClean answerer.new → EndsLine (Gives A.Answers answerer.old lines.now.line answerer.new) A.IsNoLine lines.now (O.contents output.old) (O.contents output.new) result }
+    ensures ends { A.IsClean answerer.new
+        → EndsLine (Gives A.Answers answerer.old lines.now.line answerer.new) A.IsNoLine
+        lines.now (O.contents output.old) (O.contents output.new) result }
+    ensures bad { (number : ℕ) → result ≡ Err (StreamFault.BadLine number) → answerer.new ≡ answerer.old }
     ensures clean { A.IsClean answerer.new → A.IsClean answerer.old }
 {
     let reply = match answerer.answer(alloc, lines.line()) {
