@@ -64,11 +64,13 @@ fn sign_body<R: Read, O: Write>(
 fn read_asked(alloc: Global, id: &str, at: &str, secrets: &[&str]) -> Result<Asked, ReadFault>
     ensures asked { IfOk result (λ asked. AreAsked id.now at.now (texts secrets.now) asked) }
     ensures bad_id { (result ≡ Err ReadFault.BadId) ↔ (is_msg_id id.now ≡ false) }
-    ensures bad_moment { (result ≡ Err ReadFault.BadMoment) ↔ (IsTrue (is_msg_id id.now) × ((moment : ℕ) → IsMomentText at.now moment → ⊥)) }
-    ensures bad_secret { result ≡ Err ReadFault.BadSecret
-        → HasIdAndMoment id.now at.now × ((list : List (List ℕ)) → AreSecretTexts (texts secrets.now) list → ⊥) }
+    ensures bad_moment { (result ≡ Err ReadFault.BadMoment)
+        ↔ (IsTrue (is_msg_id id.now) × ((moment : ℕ) → IsMomentText at.now moment → ⊥)) }
+    ensures bad_secret { result ≡ Err ReadFault.BadSecret → HasIdAndMoment id.now at.now
+        × ((list : List (List ℕ)) → AreSecretTexts (texts secrets.now) list → ⊥) }
     ensures lacked { result ≡ Err ReadFault.OutOfMemory → HasIdAndMoment id.now at.now }
-    ensures refusal { IfErr result (λ fault. (fault ≡ ReadFault.BadId) ⊎ ((fault ≡ ReadFault.BadMoment) ⊎ ((fault ≡ ReadFault.BadSecret) ⊎ (fault ≡ ReadFault.OutOfMemory)))) }
+    ensures refusal { IfErr result (λ fault. (fault ≡ ReadFault.BadId) ⊎ ((fault ≡ ReadFault.BadMoment)
+        ⊎ ((fault ≡ ReadFault.BadSecret) ⊎ (fault ≡ ReadFault.OutOfMemory)))) }
 {
     Ok(Asked {
         id: MsgId::read(id.as_bytes())?,
@@ -91,7 +93,8 @@ fn sign_asked<R: Read, O: Write>(
         → SignsFront (R.remaining input.old) (O.contents output.old) (O.contents output.new) asked.now }
     ensures unwritten { IfErr result
         (λ fault. (fault ≡ StreamFault.Write) ⊎ Keeps (O.contents output.old) (O.contents output.new)) }
-    ensures faults { IfErr result (λ fault. (fault ≡ StreamFault.TooLong) ⊎ ((fault ≡ StreamFault.Read) ⊎ ((fault ≡ StreamFault.Write) ⊎ (fault ≡ StreamFault.OutOfMemory)))) }
+    ensures faults { IfErr result (λ fault. (fault ≡ StreamFault.TooLong) ⊎ ((fault ≡ StreamFault.Read)
+        ⊎ ((fault ≡ StreamFault.Write) ⊎ (fault ≡ StreamFault.OutOfMemory)))) }
 {
     let body = read_body(alloc, input)?;
     write_header(alloc, asked, &body, output)
@@ -104,10 +107,12 @@ fn write_header<O: Write>(
     body: &Body,
     output: &mut O,
 ) -> Result<(), StreamFault>
-    ensures written { OnOk result (Appends (O.contents output.old) (O.contents output.new) (signed_line asked.now body.now)) }
-    ensures failed { OnErr result (AppendsFront (O.contents output.old) (O.contents output.new) (signed_line asked.now body.now)) }
-    ensures unwritten { IfErr result
-        (λ fault. (fault ≡ StreamFault.Write) ⊎ ((fault ≡ StreamFault.OutOfMemory) × Keeps (O.contents output.old) (O.contents output.new))) }
+    ensures written { OnOk result
+        (Appends (O.contents output.old) (O.contents output.new) (signed_line asked.now body.now)) }
+    ensures failed { OnErr result
+        (AppendsFront (O.contents output.old) (O.contents output.new) (signed_line asked.now body.now)) }
+    ensures unwritten { IfErr result (λ fault. (fault ≡ StreamFault.Write)
+        ⊎ ((fault ≡ StreamFault.OutOfMemory) × Keeps (O.contents output.old) (O.contents output.new))) }
 {
     let header = signature_header(alloc, &asked.secrets, &asked.id, asked.at, body)?;
     write_line(alloc, output, &header)
@@ -117,8 +122,10 @@ fn write_header<O: Write>(
 fn read_body<R: Read>(alloc: Global, input: &mut R) -> Result<Body, StreamFault>
     ensures whole { IfOk result (λ body. IfSome (R.remaining input.old) (λ bytes. body ≡ bytes)) }
     ensures most { IfOk result (λ body. length body ≤ MAX_BODY_BYTES) }
-    ensures too_long { result ≡ Err StreamFault.TooLong → IfSome (R.remaining input.old) (λ bytes. MAX_BODY_BYTES < length bytes) }
-    ensures faults { IfErr result (λ fault. (fault ≡ StreamFault.TooLong) ⊎ ((fault ≡ StreamFault.Read) ⊎ (fault ≡ StreamFault.OutOfMemory))) }
+    ensures too_long { result ≡ Err StreamFault.TooLong
+        → IfSome (R.remaining input.old) (λ bytes. MAX_BODY_BYTES < length bytes) }
+    ensures faults { IfErr result (λ fault. (fault ≡ StreamFault.TooLong)
+        ⊎ ((fault ≡ StreamFault.Read) ⊎ (fault ≡ StreamFault.OutOfMemory))) }
 {
     let bytes = read_all(alloc, input)?;
     let bytes = Arc::new(alloc, bytes).map_err(|_| AllocError)?;
@@ -129,8 +136,10 @@ fn read_body<R: Read>(alloc: Global, input: &mut R) -> Result<Body, StreamFault>
 fn read_all<R: Read>(alloc: Global, input: &mut R) -> Result<Vec<u8>, StreamFault>
     ensures whole { IfOk result (λ bytes. IfSome (R.remaining input.old) (λ body. bytes.items ≡ body)) }
     ensures most { IfOk result (λ bytes. vec_len bytes ≤ MAX_BODY_BYTES) }
-    ensures too_long { result ≡ Err StreamFault.TooLong → IfSome (R.remaining input.old) (λ body. MAX_BODY_BYTES < length body) }
-    ensures faults { IfErr result (λ fault. (fault ≡ StreamFault.TooLong) ⊎ ((fault ≡ StreamFault.Read) ⊎ (fault ≡ StreamFault.OutOfMemory))) }
+    ensures too_long { result ≡ Err StreamFault.TooLong
+        → IfSome (R.remaining input.old) (λ body. MAX_BODY_BYTES < length body) }
+    ensures faults { IfErr result (λ fault. (fault ≡ StreamFault.TooLong)
+        ⊎ ((fault ≡ StreamFault.Read) ⊎ (fault ≡ StreamFault.OutOfMemory))) }
 {
     let mut chunk = [0; CHUNK];
     let mut bytes = Vec::new(alloc);

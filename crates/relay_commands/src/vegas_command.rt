@@ -128,8 +128,10 @@ fn read_sample(alloc: Global, text: &[u8]) -> Result<Sample, WordFault>
 
 // The sample that has these words.
 fn read_words(rtt: &[u8], inflight: &[u8], end: &[u8]) -> Option<Sample>
-    ensures some { IfSome result (λ x. IsSample (rtt.now ∷ inflight.now ∷ end.now ∷ []) (sample_of x.rtt x.inflight x.dropped)) }
-    ensures none { result ≡ None → (x : Taken) → IsSample (rtt.now ∷ inflight.now ∷ end.now ∷ []) x → ⊥ }
+    ensures some { IfSome result
+        (λ x. IsSample (rtt.now ∷ inflight.now ∷ end.now ∷ []) (sample_of x.rtt x.inflight x.dropped)) }
+    ensures none { result ≡ None
+        → (x : Taken) → IsSample (rtt.now ∷ inflight.now ∷ end.now ∷ []) x → ⊥ }
 {
     let rtt = read_number(rtt)?;
     let inflight = read_number(inflight)?;

@@ -34,9 +34,15 @@ impl Model for Lines {
 
     ghost Value = { LinesValue };
 
-    ghost view = { λ a. record { pending = slice_range a.chunk.items a.at a.end; line = a.line.items; count = a.count; failed = a.failed } };
+    ghost view = { λ a. record {
+      pending = slice_range a.chunk.items a.at a.end;
+      line = a.line.items;
+      count = a.count;
+      failed = a.failed;
+    } };
 
-    ghost invariant = { λ a. (a.at ≤ a.end) × (a.end ≤ vec_len a.chunk) × (0 < vec_len a.chunk) × (vec_len a.line ≤ MAX_LINE_BYTES) × (a.count ≤ MAX_LINES) };
+    ghost invariant = { λ a. (a.at ≤ a.end) × (a.end ≤ vec_len a.chunk) × (0 < vec_len a.chunk)
+        × (vec_len a.line ≤ MAX_LINE_BYTES) × (a.count ≤ MAX_LINES) };
 }
 
 impl Lines {
@@ -71,14 +77,17 @@ impl Lines {
 
     /// Goes to the next line: `false` where there is none. After a fault each further call answers Read.
     pub fn advance<R: Read>(&mut self, reader: &mut R) -> Result<bool, StreamFault>
-        ensures line { result ≡ Ok true → TakesLine (left self.old (R.remaining reader.old)) (left self.new (R.remaining reader.new)) self.new.line }
+        ensures line { result ≡ Ok true → TakesLine
+            (left self.old (R.remaining reader.old)) (left self.new (R.remaining reader.new)) self.new.line }
         ensures no_feed { result ≡ Ok true → IsTrue (has_no_feed self.new.line) }
         ensures number { result ≡ Ok true → self.new.count ≡ self.old.count + 1 }
         ensures most_bytes { result ≡ Ok true → length self.new.line ≤ MAX_LINE_BYTES }
         ensures most_lines { result ≡ Ok true → self.new.count ≤ MAX_LINES }
         ensures end { result ≡ Ok false → IsAtEnd (left self.old (R.remaining reader.old)) }
-        ensures too_long { result ≡ Err StreamFault.TooLong → IsTooLong self.old.count (left self.old (R.remaining reader.old)) }
-        ensures faults { IfErr result (λ fault. (fault ≡ StreamFault.TooLong) ⊎ ((fault ≡ StreamFault.Read) ⊎ (fault ≡ StreamFault.OutOfMemory))) }
+        ensures too_long { result ≡ Err StreamFault.TooLong
+            → IsTooLong self.old.count (left self.old (R.remaining reader.old)) }
+        ensures faults { IfErr result (λ fault. (fault ≡ StreamFault.TooLong)
+            ⊎ ((fault ≡ StreamFault.Read) ⊎ (fault ≡ StreamFault.OutOfMemory))) }
         ensures fails { OnErr result (self.new.failed ≡ true) }
         ensures failed { self.old.failed ≡ true → result ≡ Err StreamFault.Read }
     {
@@ -92,14 +101,17 @@ impl Lines {
 
     // Takes the next line: `false` where there is none.
     fn take_line<R: Read>(&mut self, reader: &mut R) -> Result<bool, StreamFault>
-        ensures line { result ≡ Ok true → TakesLine (left self.old (R.remaining reader.old)) (left self.new (R.remaining reader.new)) self.new.line }
+        ensures line { result ≡ Ok true → TakesLine
+            (left self.old (R.remaining reader.old)) (left self.new (R.remaining reader.new)) self.new.line }
         ensures no_feed { result ≡ Ok true → IsTrue (has_no_feed self.new.line) }
         ensures number { result ≡ Ok true → self.new.count ≡ self.old.count + 1 }
         ensures most_bytes { result ≡ Ok true → length self.new.line ≤ MAX_LINE_BYTES }
         ensures most_lines { result ≡ Ok true → self.new.count ≤ MAX_LINES }
         ensures end { result ≡ Ok false → IsAtEnd (left self.old (R.remaining reader.old)) }
-        ensures too_long { result ≡ Err StreamFault.TooLong → IsTooLong self.old.count (left self.old (R.remaining reader.old)) }
-        ensures faults { IfErr result (λ fault. (fault ≡ StreamFault.TooLong) ⊎ ((fault ≡ StreamFault.Read) ⊎ (fault ≡ StreamFault.OutOfMemory))) }
+        ensures too_long { result ≡ Err StreamFault.TooLong
+            → IsTooLong self.old.count (left self.old (R.remaining reader.old)) }
+        ensures faults { IfErr result (λ fault. (fault ≡ StreamFault.TooLong)
+            ⊎ ((fault ≡ StreamFault.Read) ⊎ (fault ≡ StreamFault.OutOfMemory))) }
     {
         self.line.clear();
         for _ in self.reads..MAX_READS {
@@ -117,7 +129,8 @@ impl Lines {
     fn supply<R: Read>(&mut self, reader: &mut R) -> Result<bool, StreamFault>
         ensures line { self.new.line ≡ self.old.line }
         ensures number { self.new.count ≡ self.old.count }
-        ensures left { OnOk result (Keeps (left self.old (R.remaining reader.old)) (left self.new (R.remaining reader.new))) }
+        ensures left { OnOk result
+            (Keeps (left self.old (R.remaining reader.old)) (left self.new (R.remaining reader.new))) }
         ensures end { result ≡ Ok false → IsAtEnd (left self.new (R.remaining reader.new)) }
         ensures fault { IfErr result (λ fault. fault ≡ StreamFault.Read) }
     {
@@ -135,9 +148,11 @@ impl Lines {
     fn take_piece(&mut self) -> Result<bool, StreamFault>
         ensures number { self.new.count ≡ self.old.count }
         ensures whole { result ≡ Ok true → TakesPiece self.old self.new }
-        ensures part { result ≡ Ok false → (self.new.pending ≡ []) × (self.new.line ≡ self.old.line ++ self.old.pending) × IsTrue (has_no_feed self.old.pending) }
+        ensures part { result ≡ Ok false → (self.new.pending ≡ [])
+            × (self.new.line ≡ self.old.line ++ self.old.pending) × IsTrue (has_no_feed self.old.pending) }
         ensures too_long { result ≡ Err StreamFault.TooLong → PassesBound self.old }
-        ensures faults { IfErr result (λ fault. (fault ≡ StreamFault.TooLong) ⊎ (fault ≡ StreamFault.OutOfMemory)) }
+        ensures faults { IfErr result
+            (λ fault. (fault ≡ StreamFault.TooLong) ⊎ (fault ≡ StreamFault.OutOfMemory)) }
     {
         let rest = &self.chunk[self.at..self.end];
         match next_feed(rest) {
@@ -161,8 +176,10 @@ impl Lines {
         ensures none { result ≡ Ok false → self.old.line ≡ [] }
         ensures some { result ≡ Ok true → self.old.line ≢ [] }
         ensures number { result ≡ Ok true → self.new.count ≡ self.old.count + 1 }
-        ensures bounds { result ≡ Ok true → (length self.new.line ≤ MAX_LINE_BYTES) × (self.new.count ≤ MAX_LINES) }
-        ensures too_long { IfErr result (λ fault. (fault ≡ StreamFault.TooLong) × (MAX_LINES ≤ self.old.count) × (self.old.line ≢ [])) }
+        ensures bounds { result ≡ Ok true
+            → (length self.new.line ≤ MAX_LINE_BYTES) × (self.new.count ≤ MAX_LINES) }
+        ensures too_long { IfErr result
+            (λ fault. (fault ≡ StreamFault.TooLong) × (MAX_LINES ≤ self.old.count) × (self.old.line ≢ [])) }
     {
         if self.line.is_empty() {
             return Ok(false);
@@ -197,7 +214,8 @@ fn new_chunk(alloc: Global) -> Result<Vec<u8>, AllocError>
 pub fn read_into<R: Read>(reader: &mut R, chunk: &mut [u8]) -> Result<Option<usize>, StreamFault>
     requires { 0 < length chunk.old }
     ensures fits { IfOk result (λ got. unwrap_or got 0 ≤ length chunk.new) }
-    ensures bytes { IfOk result (λ got. Consumes (R.remaining reader.old) (R.remaining reader.new) (take (unwrap_or got 0) chunk.new)) }
+    ensures bytes { IfOk result
+        (λ got. Consumes (R.remaining reader.old) (R.remaining reader.new) (take (unwrap_or got 0) chunk.new)) }
     ensures end { IfOk result (λ got. MatchOption got (IsAtEnd (R.remaining reader.new)) (λ _. Unit {0})) }
     ensures fault { IfErr result (λ fault. fault ≡ StreamFault.Read) }
 {

@@ -15,8 +15,10 @@ pub fn write_line<T: Display, O: Write>(
     output: &mut O,
     text: &T,
 ) -> Result<(), StreamFault>
-    ensures written { OnOk result (IfSome (T.output text.now) (λ bytes. Appends (O.contents output.old) (O.contents output.new) (with_feed bytes))) }
-    ensures failed { OnErr result (IfSome (T.output text.now) (λ bytes. AppendsFront (O.contents output.old) (O.contents output.new) (with_feed bytes))) }
+    ensures written { OnOk result (IfSome (T.output text.now)
+        (λ bytes. Appends (O.contents output.old) (O.contents output.new) (with_feed bytes))) }
+    ensures failed { OnErr result (IfSome (T.output text.now)
+        (λ bytes. AppendsFront (O.contents output.old) (O.contents output.new) (with_feed bytes))) }
     ensures lacked { result ≡ Err StreamFault.OutOfMemory → Keeps (O.contents output.old) (O.contents output.new) }
     ensures faults { IfErr result (λ fault. (fault ≡ StreamFault.Write) ⊎ (fault ≡ StreamFault.OutOfMemory)) }
 {

@@ -77,7 +77,8 @@ pub fn read_number(word: &[u8]) -> Option<u64>
 pub fn read_moment(word: &[u8]) -> Result<Moment, ReadFault>
     ensures value { IfOk result (λ moment. word.now ≡ decimal moment) }
     ensures valid { IfOk result (λ moment. IsTrue (is_moment moment)) }
-    ensures each { (moment : ℕ) → IsTrue (is_moment moment) → word.now ≡ decimal moment → result ≡ Ok moment }
+    ensures each { (moment : ℕ)
+        → IsTrue (is_moment moment) → word.now ≡ decimal moment → result ≡ Ok moment }
     ensures refusal { IfErr result (λ fault. fault ≡ ReadFault.BadMoment) }
 {
     match read_number(word) {
@@ -102,7 +103,8 @@ pub fn read_max(word: &[u8]) -> Result<MaxLimit, ReadFault>
 /// One to four secrets, with commas between, the newest first.
 pub fn read_secrets(alloc: Global, word: &[u8]) -> Result<Secrets, WordFault>
     ensures value { IfOk result (λ secrets. IsSecretsWord word.now secrets) }
-    ensures bad { result ≡ Err WordFault.Bad → (secrets : List (List ℕ)) → IsSecretsWord word.now secrets → ⊥ }
+    ensures bad { result ≡ Err WordFault.Bad
+        → (secrets : List (List ℕ)) → IsSecretsWord word.now secrets → ⊥ }
 {
     let texts = split_at(alloc, word, b',')?;
     Ok(secrets_of(alloc, texts.as_slice())?)
@@ -140,7 +142,8 @@ fn read_each<T: AsSlice<u8>>(alloc: Global, texts: &[T]) -> Result<Vec<Secret>, 
 pub fn read_body(alloc: Global, word: &[u8]) -> Result<Body, WordFault>
     ensures value { IfOk result (λ body. IsBodyWord word.now body) }
     ensures valid { IfOk result (λ body. IsTrue (is_body body)) }
-    ensures bad { result ≡ Err WordFault.Bad → (body : List ℕ) → IsTrue (is_body body) → IsBodyWord word.now body → ⊥ }
+    ensures bad { result ≡ Err WordFault.Bad
+        → (body : List ℕ) → IsTrue (is_body body) → IsBodyWord word.now body → ⊥ }
 {
     let bytes = read_bytes(alloc, word)?;
     body_of(alloc, bytes)
