@@ -30,7 +30,6 @@ pub fn select_endpoint<S: Alter>(
 pub fn select_statuses<S: Alter>(
     tx: &mut Transaction<'_, S>,
     delivery: Seq,
-    alloc: Global,
 ) -> Result<Vec<u16>, Error>
     ensures same_reference { IsOfSame tx.old.conn tx.new.conn }
     ensures unchanged { LeavesAll S.Store tx.old.conn.now tx.new.conn.now result }
@@ -42,7 +41,7 @@ pub fn select_statuses<S: Alter>(
         "SELECT status FROM attempts WHERE delivery = ?1",
         &[delivery.value()],
     )?;
-    read_statuses(&rows, alloc)
+    read_statuses(&rows, *rows.allocator())
 }
 
 // The status that each row shows.
