@@ -1,23 +1,26 @@
 -- Records inside a transaction: one by one, and then their number.
 use Rattle.std.proofs.Common.{◌≡◌, ◌<◌, ◌≤◌, ℕ, zero, suc, ◌+◌, Bool, true, false, List, [], ◌∷◌, ◌++◌, length, take, Some, None, IsTrue, refl, sym, ap, subst, ◌∙◌, arith, append-nil, append_assoc, length-append, add-one}
-use Rattle.std.specs.Prelude.{slice_get, get_or}
-use Rattle.std.specs.List.{list_all}
-use Rattle.std.proofs.lemmas.List.Folds.{list_all-append}
+use Rattle.std.specs.Prelude.{◌==◌, ◌&&◌, min, slice_get, get_or, if◌then◌else◌}
 use Rattle.sqlite.specs.State.{State, IsUnchanged}
 use Rattle.sqlite.specs.Effect.{Database}
 use Rattle.relay_types.specs.declared.limits.TheConstants.{MAX_RECORDS}
 use Rattle.relay_types.specs.declared.record.Record.{Record}
-use Rattle.relay_types.specs.declared.record.Record.TheVariants.{Put, Accept}
+use Rattle.relay_types.specs.declared.record.Record.TheVariants.{Put, Secrets, Enabled, Accept, Outcome}
+use Rattle.relay_types.specs.Values.{is_moment}
+use Rattle.relay_types.specs.Judging.{is_gone_status}
+use Rattle.relay_types.specs.Endpoints.{has_endpoint}
 use Rattle.relay_types.specs.Records.{History, records_of}
 use Rattle.relay_types.specs.Legal.{may_follow, is_legal, is_within_limits}
-use Rattle.relay_types.specs.Rows.{Rows, rows_of, put_record}
-use Rattle.spool_sql.specs.Stored.{IsTables, with_records, with_delivery}
+use Rattle.relay_types.specs.Rows.{Rows, EndpointRow, change_where, put_of, put_by_delivery, replace_secrets, rows_of, put_record}
+use Rattle.spool_sql.specs.Stored.{IsTables, IsPutOf, with_records, with_delivery, with_attempt, with_enabled}
 use Rattle.spool_sql.specs.Steps.{GoesOn, Alters}
-use Rattle.spool.specs.Batches.{is_put_or_accept}
-use Rattle.spool.specs.Entering.{HasRows, Enters, EntersWhole, with_put, may_put, accepting}
-use Rattle.relay_types.proofs.KnownLaws.{and_first, and_second, legal_more, illegal_if, illegal_front}
+use Rattle.spool.specs.Entering.{HasRows, Enters, EntersWhole, with_put, with_secrets_replaced, disabled_if_gone, may_put, accepting, may_attempt, attempting}
+use Rattle.relay_types.proofs.KnownLaws.{legal_more, illegal_if, illegal_front}
 use Rattle.spool.proofs.LegalLemmas.{accepting-none, accepting-some}
+use Rattle.relay_types.proofs.GrowthLaws.{map-none}
 use Rattle.relay_types.proofs.RowLaws.{rows_of-more, put_by_name-is}
+use Rattle.spool.proofs.ChangeLemmas.{unknown_endpoint, known_endpoint, changed_by_number, tables_permuted, replaced_in_place}
+use Rattle.spool.proofs.OutcomeLemmas.{attempted-none, attempted-some}
 
 goes_then : (a b c : State) → GoesOn a b → GoesOn b c → GoesOn a c
 goes_then a b c p q = record { was_open = p.was_open; is_open = q.is_open; now_is = refl; committed_is = q.committed_is ∙ p.committed_is; mode = q.mode }
@@ -27,59 +30,131 @@ goes_if_same a b inside same = record { was_open = same.0.was_open; is_open = sa
 
 -- ---- one record
 
+-- what the rows tell of each history that ends before this number
+abbrev OfEach : State → ℕ → (List Record → Type 0) → Type 0
+OfEach a next P = (count : ℕ) (records : List Record) → next ≡ length records → HasRows a.now count records → P records
+
 -- it may not follow, and nothing is changed
-enters_refused : (a b : State) (next : ℕ) (entry : Record) → IsTrue a.in_transaction → IsUnchanged a b
-    → ((count : ℕ) (records : List Record) → HasRows a.now count records → false ≡ may_follow records entry) → Enters a b next (entry ∷ []) false
+enters_refused : (a b : State) (next : ℕ) (entry : Record) → IsTrue a.in_transaction → IsUnchanged a b → OfEach a next (λ records. false ≡ may_follow records entry) → Enters a b next (entry ∷ []) false
 enters_refused a b next entry inside same follows = record {
   on = goes_if_same a b inside same;
-  judges = λ count records at has. sym (illegal_if records entry (sym (follows count records has)));
+  judges = λ count records at has. sym (illegal_if records entry (sym (follows count records at has)));
   makes = λ is. absurd (let no = is in cc);
 }
 
--- the rows are changed by what the record changes, beside the number of records
-abbrev IsChangeOf : State → ℕ → Record → (Rows → Rows) → Type 0
-IsChangeOf a next entry change = (count : ℕ) (records : List Record) → next ≡ length records → HasRows a.now count records → change (with_records count (rows_of records)) ≡ with_records count (put_record (rows_of records) entry)
+-- tables of the changed rows are tables of the rows that the record leaves, beside the number of records
+abbrev IsChangeOf : State → State → ℕ → Record → (Rows → Rows) → Type 0
+IsChangeOf a c next entry change =
+    (count : ℕ) (records : List Record) → next ≡ length records → HasRows a.now count records → IsTables c.now (change (with_records count (rows_of records))) → IsTables c.now (with_records count (put_record (rows_of records) entry))
 
-enters_made : (a b c : State) (next : ℕ) (entry : Record) (change : Rows → Rows) → IsTrue a.in_transaction → IsUnchanged a b
-    → ((count : ℕ) (records : List Record) → HasRows a.now count records → true ≡ may_follow records entry)
-    → IsTrue (is_within_limits entry) → next < MAX_RECORDS → Alters b c change → IsChangeOf a next entry change → Enters a c next (entry ∷ []) true
+enters_made : (a b c : State) (next : ℕ) (entry : Record) (change : Rows → Rows) → IsTrue a.in_transaction → IsUnchanged a b → OfEach a next (λ records. true ≡ may_follow records entry)
+    → IsTrue (is_within_limits entry) → next < MAX_RECORDS → Alters b c change → IsChangeOf a c next entry change → Enters a c next (entry ∷ []) true
 enters_made a b c next entry change inside same follows within room made is = record {
   on = goes_then a b c (goes_if_same a b inside same) made.on;
   judges = λ count records at has. sym (legal count records at has);
   makes = λ _ count records at has.
-      let law = rows_of-more records entry has.legal (sym (follows count records has)) in
+      let law = rows_of-more records entry has.legal (sym (follows count records at has)) in
       let now = made.makes (with_records count (rows_of records)) (subst (λ d. IsTables d (with_records count (rows_of records))) (sym same.0.now_is) has.tables) in
-      record { legal = legal count records at has; tables = subst (IsTables c.now) (is count records at has ∙ ap (with_records count) (sym law)) now };
+      record { legal = legal count records at has; tables = subst (IsTables c.now) (ap (with_records count) (sym law)) (is count records at has now) };
 }
   where
     legal : (count : ℕ) (records : List Record) → next ≡ length records → HasRows a.now count records → is_legal (records ++ entry ∷ []) ≡ true
-    legal count records at has = legal_more records entry has.legal (sym (follows count records has)) within (omega (arith, at, room))
+    legal count records at has = legal_more records entry has.legal (sym (follows count records at has)) within (omega (arith, at, room))
 
 pub put_refused : (a b : State) (next : ℕ) (name target : List ℕ) (max : ℕ) (secrets : List (List ℕ)) → IsTrue a.in_transaction → IsUnchanged a b
     → ((count : ℕ) (records : List Record) → HasRows a.now count records → false ≡ may_put records name) → Enters a b next (Put name target max secrets ∷ []) false
-put_refused a b next name target max secrets inside same may = enters_refused a b next (Put name target max secrets) inside same may
+put_refused a b next name target max secrets inside same may = enters_refused a b next (Put name target max secrets) inside same (λ count records at has. may count records has)
 
 pub put_made : (a b c : State) (next : ℕ) (name target : List ℕ) (max : ℕ) (secrets : List (List ℕ)) → IsTrue a.in_transaction → IsUnchanged a b
     → ((count : ℕ) (records : List Record) → HasRows a.now count records → true ≡ may_put records name)
     → IsTrue (is_within_limits (Put name target max secrets)) → next < MAX_RECORDS
     → Alters b c (with_put next name target max secrets)
     → Enters a c next (Put name target max secrets ∷ []) true
-put_made a b c next name target max secrets inside same may within room made = enters_made a b c next (Put name target max secrets) _ inside same may within room made
-    (λ count records at has. ap (λ n. with_put n name target max secrets (with_records count (rows_of records))) at)
+put_made a b c next name target max secrets inside same may within room made = enters_made a b c next (Put name target max secrets) _ inside same (λ count records at has. may count records has) within room made
+    (λ count records at has. subst (λ n. IsTables c.now (with_put n name target max secrets (with_records count (rows_of records)))) at)
 
 pub accept_refused : (a b : State) (next : ℕ) (name id body : List ℕ) (at : ℕ) → IsTrue a.in_transaction → IsUnchanged a b
     → ((count : ℕ) (records : List Record) → HasRows a.now count records → None ≡ accepting records name id) → Enters a b next (Accept name id body at ∷ []) false
-accept_refused a b next name id body at inside same found = enters_refused a b next (Accept name id body at) inside same (λ count records has. accepting-none records name id (found count records has))
+accept_refused a b next name id body at inside same found = enters_refused a b next (Accept name id body at) inside same (λ count records place has. accepting-none records name id (found count records has))
 
 pub accept_made : (a b c : State) (next : ℕ) (name id body : List ℕ) (at put : ℕ) → IsTrue a.in_transaction → IsUnchanged a b
     → ((count : ℕ) (records : List Record) → HasRows a.now count records → Some put ≡ accepting records name id)
     → IsTrue (is_within_limits (Accept name id body at)) → next < MAX_RECORDS → Alters b c (with_delivery (record { seq = next; endpoint = put; id = id; at = at; body = body }))
     → Enters a c next (Accept name id body at ∷ []) true
 accept_made a b c next name id body at put inside same found within room made =
-    enters_made a b c next (Accept name id body at) _ inside same (λ count records has. (accepting-some records name id put (found count records has)).0) within room made
+    enters_made a b c next (Accept name id body at) _ inside same (λ count records place has. (accepting-some records name id put (found count records has)).0) within room made
     (λ count records place has.
     let known = (accepting-some records name id put (found count records has)).1 ∙ sym (put_by_name-is records name) in
-    λ i. with_delivery (record { seq = place i; endpoint = known i; id = id; at = at; body = body }) (with_records count (rows_of records)))
+    subst (IsTables c.now) (λ i. with_delivery (record { seq = place i; endpoint = known i; id = id; at = at; body = body }) (with_records count (rows_of records))))
+
+pub secrets_refused : (a b : State) (next : ℕ) (name : List ℕ) (secrets : List (List ℕ)) → IsTrue a.in_transaction → IsUnchanged a b → ((rows : Rows) → IsTables a.now rows → IsPutOf name rows None)
+    → Enters a b next (Secrets name secrets ∷ []) false
+secrets_refused a b next name secrets inside same none =
+    enters_refused a b next (Secrets name secrets) inside same (λ count records at has. unknown_endpoint records name (none (with_records count (rows_of records)) has.tables))
+
+pub secrets_made : (a b c : State) (next : ℕ) (name : List ℕ) (secrets : List (List ℕ)) (put : ℕ) → IsTrue a.in_transaction → IsUnchanged a b → ((rows : Rows) → IsTables a.now rows → IsPutOf name rows (Some put))
+    → IsTrue (is_within_limits (Secrets name secrets)) → next < MAX_RECORDS → Alters b c (with_secrets_replaced put next secrets) → Enters a c next (Secrets name secrets ∷ []) true
+secrets_made a b c next name secrets put inside same found within room made =
+    enters_made a b c next (Secrets name secrets) _ inside same (λ count records at has. (known count records has).0) within room made
+    (λ count records at has t.
+    let told = known count records has in
+    let changed = ap (λ n. change_where (λ (e : EndpointRow). e.put == put) (λ (e : EndpointRow). record e { secrets_by = n }) (rows_of records).endpoints) at
+    ∙ changed_by_number records name put (λ (e : EndpointRow). record e { secrets_by = length records }) has.legal told.0 told.1 in
+    let moved = tables_permuted c.now _ _ (replaced_in_place put secrets (rows_of records).secrets) t in
+    subst (λ rows. IsTables c.now rows) (λ i. record (with_records count (rows_of records)) {
+      endpoints = changed i;
+      secrets = replace_secrets ((told.1 ∙ sym (put_by_name-is records name)) i) secrets (rows_of records).secrets;
+    }) moved)
+  where
+    known : (count : ℕ) (records : List Record) → HasRows a.now count records → (true ≡ has_endpoint records name) × (put ≡ put_of records name)
+    known count records has = known_endpoint records name put has.legal (found (with_records count (rows_of records)) has.tables)
+
+pub enabled_refused : (a b : State) (next : ℕ) (name : List ℕ) (flag : Bool) → IsTrue a.in_transaction → IsUnchanged a b → ((rows : Rows) → IsTables a.now rows → IsPutOf name rows None)
+    → Enters a b next (Enabled name flag ∷ []) false
+enabled_refused a b next name flag inside same none =
+    enters_refused a b next (Enabled name flag) inside same (λ count records at has. unknown_endpoint records name (none (with_records count (rows_of records)) has.tables))
+
+pub enabled_made : (a b c : State) (next : ℕ) (name : List ℕ) (flag : Bool) (put : ℕ) → IsTrue a.in_transaction → IsUnchanged a b → ((rows : Rows) → IsTables a.now rows → IsPutOf name rows (Some put))
+    → IsTrue (is_within_limits (Enabled name flag)) → next < MAX_RECORDS → Alters b c (with_enabled put flag next) → Enters a c next (Enabled name flag ∷ []) true
+enabled_made a b c next name flag put inside same found within room made =
+    enters_made a b c next (Enabled name flag) _ inside same (λ count records at has. (known count records has).0) within room made
+    (λ count records at has.
+    let told = known count records has in
+    subst (λ es. IsTables c.now (record (with_records count (rows_of records)) { endpoints = es }))
+    (ap (λ n. change_where (λ (e : EndpointRow). e.put == put) (λ (e : EndpointRow). record e { enabled = flag; enabled_by = n }) (rows_of records).endpoints) at
+    ∙ changed_by_number records name put (λ (e : EndpointRow). record e { enabled = flag; enabled_by = length records }) has.legal told.0 told.1))
+  where
+    known : (count : ℕ) (records : List Record) → HasRows a.now count records → (true ≡ has_endpoint records name) × (put ≡ put_of records name)
+    known count records has = known_endpoint records name put has.legal (found (with_records count (rows_of records)) has.tables)
+
+pub outcome_refused : (a b : State) (next delivery attempt status at : ℕ) → IsTrue a.in_transaction → IsUnchanged a b
+    → ((count : ℕ) (records : List Record) → HasRows a.now count records → None ≡ attempting records (min delivery next) attempt status) → Enters a b next (Outcome delivery attempt status at ∷ []) false
+outcome_refused a b next delivery attempt status at inside same found =
+    enters_refused a b next (Outcome delivery attempt status at) inside same (λ count records place has. attempted-none records next delivery attempt status place (found count records has))
+
+pub outcome_made : (a b c : State) (next delivery attempt status at put : ℕ) → IsTrue a.in_transaction → IsUnchanged a b
+    → ((count : ℕ) (records : List Record) → HasRows a.now count records → Some put ≡ attempting records (min delivery next) attempt status)
+    → IsTrue (is_moment at) → next < MAX_RECORDS
+    → Alters b c (λ rows. disabled_if_gone put status next (with_attempt (record { seq = next; delivery = min delivery next; number = attempt; status = status; at = at }) rows))
+    → Enters a c next (Outcome delivery attempt status at ∷ []) true
+outcome_made a b c next delivery attempt status at put inside same found within room made =
+    enters_made a b c next (Outcome delivery attempt status at) _ inside same (λ count records place has. (told count records place has).1.0) within room made
+    (λ count records place has t.
+    let known = told count records place has in
+    subst (IsTables c.now) ((λ i. disabled_if_gone (known.1.1 i) status (place i) (with_attempt (record { seq = place i; delivery = known.0 i; number = attempt; status = status; at = at }) (with_records count (rows_of records))))
+    ∙ by count (rows_of records) (put_by_delivery (rows_of records) delivery) (length records) (is_gone_status status)) t)
+  where
+    told : (count : ℕ) (records : List Record) → next ≡ length records → HasRows a.now count records
+        → (min delivery next ≡ delivery) × ((true ≡ may_attempt records delivery attempt status) × (put ≡ put_by_delivery (rows_of records) delivery))
+    told count records place has = attempted-some records next delivery attempt status put place (found count records has)
+
+    attempted : Rows → ℕ → Rows
+    attempted rows n = with_attempt (record { seq = n; delivery = delivery; number = attempt; status = status; at = at }) rows
+
+    by : (count : ℕ) (rows : Rows) (p n : ℕ) (gone : Bool) → (if gone then with_enabled p false n (attempted (with_records count rows) n) else attempted (with_records count rows) n)
+        ≡ record (attempted (with_records count rows) n) { endpoints = change_where (λ (e : EndpointRow). gone && (e.put == p)) (λ (e : EndpointRow). record e { enabled = false; enabled_by = n }) rows.endpoints }
+    by count rows p n true = refl
+    by count rows p n false = λ i. record (attempted (with_records count rows) n) { endpoints = sym (map-none rows.endpoints) i }
 
 -- ---- one record after another
 
@@ -144,12 +219,6 @@ records_split zero (s ∷ rest) step is = (records_of rest, ap (λ x. x ++ recor
 records_split (suc k) (s ∷ rest) step is =
     let more = records_split k rest step is in
     (more.0, ap (λ r. s ++ r) more.1 ∙ sym (append_assoc s (records_of (take k rest)) (step ++ more.0)))
-
-pub step_taken : (k : ℕ) (steps : History) (entry : Record) → slice_get steps k ≡ Some (entry ∷ []) → IsTrue (list_all is_put_or_accept (records_of steps)) → IsTrue (is_put_or_accept entry)
-step_taken k steps entry is all =
-    let split = records_split k steps (entry ∷ []) is in
-    let parts = sym (list_all-append is_put_or_accept (records_of (take k steps)) ((entry ∷ []) ++ split.0)) ∙ ap (list_all is_put_or_accept) (sym split.1) ∙ all in
-    and_first (is_put_or_accept entry) _ (and_second (list_all is_put_or_accept (records_of (take k steps))) (list_all is_put_or_accept ((entry ∷ []) ++ split.0)) parts)
 
 pub step_room : (k next : ℕ) (steps : History) (entry : Record) → slice_get steps k ≡ Some (entry ∷ []) → next + length (records_of steps) ≤ MAX_RECORDS → next + length (records_of (take k steps)) < MAX_RECORDS
 step_room k next steps entry is room =

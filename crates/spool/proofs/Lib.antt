@@ -1,6 +1,8 @@
 pub mod SecretLemmas
 pub mod RowLemmas
 pub mod LegalLemmas
+pub mod ChangeLemmas
+pub mod OutcomeLemmas
 pub mod EntryLemmas
 pub mod CommitLemmas
 pub mod VaultLemmas

@@ -62,20 +62,24 @@ may_put-taken rows name found h is = ap (λ b. not b && nat_lt (length rows.endp
 pub may_put-free : (rows : Rows) (name : List ℕ) (found : Option ℕ) (count : ℕ) → IsPutOf name rows found → is_some found ≡ false → count ≡ length rows.endpoints → nat_lt count MAX_ENDPOINTS ≡ allows_put rows name
 may_put-free rows name found count h is counted = ap (λ n. nat_lt n MAX_ENDPOINTS) counted ∙ ap (λ b. not b && nat_lt (length rows.endpoints) MAX_ENDPOINTS) (sym is ∙ has_name-found rows name found h)
 
+-- a list of one number at most has one order
+pub same_if_short : (xs ys : List ℕ) → length xs ≤ 1 → IsPermutation xs ys → ys ≡ xs
+same_if_short [] ys short same = none ys (length_permutation [] ys same)
+  where
+    none : (ys : List ℕ) → length ys ≡ 0 → ys ≡ []
+    none [] e = refl
+    none (y ∷ rest) e = absurd (omega (arith, e))
+same_if_short (x ∷ []) ys short same = one ys (length_permutation (x ∷ []) ys same) (sum_by-IsPermutation (λ n. n) (x ∷ []) ys same)
+  where
+    one : (ys : List ℕ) → length ys ≡ 1 → sum_by (λ n. n) ys ≡ sum_by (λ n. n) (x ∷ []) → ys ≡ x ∷ []
+    one [] len sums = absurd (omega (arith, len))
+    one (y ∷ []) len sums = ap (λ n. n ∷ []) (omega (arith, sums))
+    one (y ∷ z ∷ rest) len sums = absurd (omega (arith, len))
+same_if_short (x ∷ z ∷ rest) ys short same = absurd (omega (arith, short))
+
 -- of one name at most, the number that was found is that of the name
 only_put : (named : List EndpointRow) (puts : List ℕ) (put : ℕ) → length named ≤ 1 → IsPermutation (map put_in named) puts → Some put ≡ slice_get puts 0 → Some put ≡ slice_get (map put_in named) 0
-only_put [] puts put once same is = absurd (nothing puts (length_permutation [] puts same) is)
-  where
-    nothing : (puts : List ℕ) → length puts ≡ 0 → Some put ≡ slice_get puts 0 → ⊥
-    nothing [] e is = cc
-    nothing (p ∷ ps) e is = absurd (omega (arith, e))
-only_put (e ∷ []) puts put once same is = one puts (length_permutation (put_in e ∷ []) puts same) (sum_by-IsPermutation (λ n. n) (put_in e ∷ []) puts same) is
-  where
-    one : (puts : List ℕ) → length puts ≡ 1 → sum_by (λ n. n) puts ≡ sum_by (λ n. n) (put_in e ∷ []) → Some put ≡ slice_get puts 0 → Some put ≡ Some (put_in e)
-    one [] len sums is = absurd (omega (arith, len))
-    one (p ∷ []) len sums is = is ∙ ap Some (omega (arith, sums))
-    one (p ∷ q ∷ rest) len sums is = absurd (omega (arith, len))
-only_put (e ∷ f ∷ rest) puts put once same is = absurd (omega (arith, once))
+only_put named puts put once same is = is ∙ ap (λ ps. slice_get ps 0) (same_if_short (map put_in named) puts (omega (arith, once, length-map named put_in)) same)
 
 put_of_first : (named : List EndpointRow) (put : ℕ) → Some put ≡ slice_get (map put_in named) 0 → put ≡ option_map_or put_in (slice_get named 0) 0
 put_of_first [] put is = absurd (let e = is in cc)

@@ -1,18 +1,20 @@
 -- What a transaction makes of the rows of a legal history: the statements, the commit, and what a stop leaves of it.
-use Rattle.std.specs.Prelude.{◌≡◌, ◌⊎◌, ℕ, Bool, true, false, ◌&&◌, not, nat_lt, List, ◌++◌, length, is_some, IsTrue, Option, Some, None, Result, Ok, Err, IfOk, if◌then◌else◌}
+use Rattle.std.specs.Prelude.{◌≡◌, ◌⊎◌, ℕ, ◌+◌, ◌==◌, Bool, true, false, ◌&&◌, not, nat_lt, List, ◌++◌, length, count_by, is_some, IsTrue, Option, Some, None, Result, Ok, Err, IfOk, if◌then◌else◌}
+use Rattle.std.specs.List.{list_any}
 use Rattle.sqlite.specs.declared.error.Error.{Error}
 use Rattle.sqlite.specs.State.{State, HasCleanDisk, Fails}
 use Rattle.sqlite.specs.Held.{Held}
 use Rattle.sqlite.specs.Effect.{Database}
 use Rattle.sqlite_trees.specs.declared.store.Store.{Ghosts}
 use Rattle.sqlite.specs.Tree.{Trees}
-use Rattle.relay_types.specs.declared.limits.TheConstants.{MAX_ENDPOINTS}
+use Rattle.relay_types.specs.declared.limits.TheConstants.{MAX_ENDPOINTS, MAX_FAILURES}
 use Rattle.relay_types.specs.declared.record.Record.{Record}
-use Rattle.relay_types.specs.Deliveries.{known_as}
+use Rattle.relay_types.specs.Judging.{is_delivered_status, is_gone_status, is_failed_status}
+use Rattle.relay_types.specs.Deliveries.{known_as, is_pending, attempts_of}
 use Rattle.relay_types.specs.Endpoints.{endpoints, has_endpoint}
-use Rattle.relay_types.specs.Legal.{is_legal, IsLegal}
-use Rattle.relay_types.specs.Rows.{Rows, put_of, rows_of, secret_rows}
-use Rattle.spool_sql.specs.Stored.{IsTables, AreTablesOf, with_records, with_endpoint, new_endpoint}
+use Rattle.relay_types.specs.Legal.{is_status, is_legal, IsLegal}
+use Rattle.relay_types.specs.Rows.{Rows, put_of, put_by_delivery, rows_of, secret_rows}
+use Rattle.spool_sql.specs.Stored.{IsTables, AreTablesOf, with_records, with_endpoint, new_endpoint, with_enabled, with_secrets_by, without_secrets}
 use Rattle.spool_sql.specs.Steps.{GoesOn, IfClean, Stands, MayLeave}
 use Rattle.spool_sql.specs.Causes.{cause}
 use Rattle.spool_sql.specs.declared.cause.Cause.TheVariants.{Memory}
@@ -34,6 +36,22 @@ may_accept records name id = has_endpoint records name && not (is_some (known_as
 abbrev pub accepting : List Record → List ℕ → List ℕ → Option ℕ
 accepting records name id = if may_accept records name id then Some (put_of records name) else None
 
+-- whether an attempt of this number and status may be recorded behind the records for the event
+abbrev pub may_attempt : (records : List Record) (delivery attempt status : ℕ) → Bool
+may_attempt records delivery attempt status = is_pending records delivery && (attempt == length (attempts_of records delivery) + 1 && is_status status)
+
+-- the number of the Put of the event's endpoint, if the attempt may be recorded
+abbrev pub attempting : (records : List Record) (delivery attempt status : ℕ) → Option ℕ
+attempting records delivery attempt status = if may_attempt records delivery attempt status then Some (put_by_delivery (rows_of records) delivery) else None
+
+-- whether an event is pending whose attempts had these statuses: none delivered it, and fewer failed than may fail
+abbrev pub are_pending : List ℕ → Bool
+are_pending statuses = not (list_any is_delivered_status statuses) && nat_lt (count_by is_failed_status statuses) MAX_FAILURES
+
+-- whether an attempt of this number and status may be the next one behind those of these statuses
+abbrev pub may_be_next : (statuses : List ℕ) (attempt status : ℕ) → Bool
+may_be_next statuses attempt status = are_pending statuses && (attempt == length statuses + 1 && is_status status)
+
 -- ---- what the statements of a record change, beside the number of records
 
 abbrev pub with_secrets : ℕ → List (List ℕ) → Rows → Rows
@@ -42,6 +60,14 @@ with_secrets put secrets rows = record rows { secrets = rows.secrets ++ secret_r
 -- the rows of a Put with this number
 abbrev pub with_put : ℕ → List ℕ → List ℕ → ℕ → List (List ℕ) → Rows → Rows
 with_put put name url max secrets rows = with_secrets put secrets (with_endpoint (new_endpoint put name url max) rows)
+
+-- these are the secrets of the endpoint that the record with number `put` made, as the record with number `by` says
+abbrev pub with_secrets_replaced : (put by : ℕ) → List (List ℕ) → Rows → Rows
+with_secrets_replaced put by secrets rows = with_secrets_by put by (with_secrets put secrets (without_secrets put rows))
+
+-- where the status is that of a gone endpoint, the endpoint that the record with number `put` made is disabled
+abbrev pub disabled_if_gone : (put status by : ℕ) → Rows → Rows
+disabled_if_gone put status by rows = if is_gone_status status then with_enabled put false by rows else rows
 
 -- ---- inside a transaction
 

@@ -2,7 +2,7 @@
 ghost use Rattle.std.specs.Prelude.{◌≡◌, ◌≤◌, ◌<◌, ◌+◌, [], ◌∷◌, length};
 ghost use Rattle.relay_types.specs.declared.limits.TheConstants.{MAX_RECORDS};
 ghost use Rattle.relay_types.specs.Records.{records_of};
-ghost use Rattle.spool.specs.Batches.{ArePutsAndAccepts, doubt_of};
+ghost use Rattle.spool.specs.Batches.{doubt_of};
 
 use relay_types::Step;
 use std::marker::Model;
@@ -20,20 +20,19 @@ pub struct Batch {
 impl Model for Batch {
     ghost use Rattle.std.specs.Prelude.{◌<◌, [], ◌∷◌};
     ghost use Rattle.relay_types.specs.declared.limits.TheConstants.{MAX_RECORDS};
-    ghost use Rattle.spool.specs.Batches.{BatchValue, ArePutsAndAccepts};
+    ghost use Rattle.spool.specs.Batches.{BatchValue};
 
     ghost Value = { BatchValue };
 
     ghost view = { λ b. record { mark = b.mark; from = b.from; steps = b.step ∷ [] } };
 
-    ghost invariant = { λ b. (b.from < MAX_RECORDS) × ArePutsAndAccepts (b.step ∷ []) };
+    ghost invariant = { λ b. b.from < MAX_RECORDS };
 }
 
 impl Batch {
-    /// A batch of this step, which is a Put or an Accept.
+    /// A batch of this step.
     pub fn of(mark: u64, from: u64, step: Step) -> Batch
         requires room { from < MAX_RECORDS }
-        requires kind { ArePutsAndAccepts (step ∷ []) }
         ensures { result ≡ record { mark = mark; from = from; steps = step ∷ [] } }
     {
         Batch { mark, from, step }
@@ -66,7 +65,6 @@ impl Batch {
     /// The steps.
     pub fn steps(&self) -> &[Step]
         ensures steps { result.now ≡ self.now.steps }
-        ensures kind { ArePutsAndAccepts self.now.steps }
     {
         slice::from_ref(&self.step)
     }
@@ -112,7 +110,6 @@ impl Receipt {
     /// The steps that were written.
     pub fn steps(&self) -> &[Step]
         ensures steps { result.now ≡ self.now.steps }
-        ensures kind { ArePutsAndAccepts self.now.steps }
     {
         self.batch.steps()
     }

@@ -5,9 +5,12 @@ mod accept;
 mod batch;
 mod create;
 mod doubt;
+mod enabled;
 mod ends;
+mod outcome;
 mod put;
 mod records;
+mod secrets;
 mod transaction;
 mod vault;
 

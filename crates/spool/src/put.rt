@@ -3,11 +3,12 @@ ghost use Rattle.std.specs.Prelude.{◌≡◌, ◌<◌, ◌&&◌, [], ◌∷◌,
 ghost use Rattle.relay_types.specs.declared.limits.TheConstants.{MAX_RECORDS};
 ghost use Rattle.relay_types.specs.declared.record.Record.TheVariants as on;
 ghost use Rattle.relay_types.specs.Values.{are_secrets, is_name, is_target, is_max_limit};
-ghost use Rattle.spool_sql.specs.Steps.{Alters, Answers, Achieves, Changes, IsOfSame, LeavesAll, SparesCommit};
-ghost use Rattle.spool.specs.Entering.{Enters, LooksAt, may_put, with_put, with_secrets};
+ghost use Rattle.spool_sql.specs.Steps.{Answers, Changes, IsOfSame, LeavesAll, SparesCommit};
+ghost use Rattle.spool.specs.Entering.{Enters, LooksAt, may_put, with_put};
 
+use crate::secrets::insert_secrets;
 use relay_types::{MAX_ENDPOINTS, MaxLimit, Name, Secrets, Target};
-use spool_sql::{Seq, count_endpoints, insert_endpoint, insert_secret, select_put};
+use spool_sql::{Seq, count_endpoints, insert_endpoint, select_put};
 use sqlite::{Alter, Error, Transaction};
 
 // Writes the Put with this number, if it may follow the rows.
@@ -65,25 +66,4 @@ fn insert_put<S: Alter>(
 {
     insert_endpoint(tx, seq, name, target, max)?;
     insert_secrets(tx, seq, secrets)
-}
-
-// The secrets of the endpoint that the record with number `put` made.
-fn insert_secrets<S: Alter>(
-    tx: &mut Transaction<'_, S>,
-    put: Seq,
-    secrets: &Secrets,
-) -> Result<(), Error>
-    ensures same_reference { IsOfSame tx.old.conn tx.new.conn }
-    ensures done { Achieves S.Store tx.old.conn.now tx.new.conn.now result
-        (λ a b. IsTrue a.is_open → Alters a b (with_secrets put secrets.now)) }
-    ensures limits { OnOk result (IsTrue (are_secrets secrets.now)) }
-    ensures spares { SparesCommit S.Store tx.old.conn.now tx.new.conn.now }
-{
-    for place in 0..secrets.count() {
-        match secrets.get(place) {
-            Some(secret) => insert_secret(tx, put, place as u64, &secret)?,
-            None => {}
-        }
-    }
-    Ok(())
 }

@@ -1,13 +1,15 @@
 //! The records of steps, one after another inside a transaction, and then how many there are.
-ghost use Rattle.std.specs.Prelude.{◌<◌, ◌≤◌, ◌+◌, [], ◌∷◌, length, IsTrue};
+ghost use Rattle.std.specs.Prelude.{◌≤◌, ◌+◌, [], ◌∷◌, length};
 ghost use Rattle.relay_types.specs.declared.limits.TheConstants.{MAX_RECORDS};
 ghost use Rattle.relay_types.specs.Records.{records_of};
 ghost use Rattle.spool_sql.specs.Steps.{Answers, IsOfSame, SparesCommit};
-ghost use Rattle.spool.specs.Batches.{is_put_or_accept, ArePutsAndAccepts};
 ghost use Rattle.spool.specs.Entering.{Enters, EntersWhole};
 
 use crate::accept::write_accept;
+use crate::enabled::write_enabled;
+use crate::outcome::write_outcome;
 use crate::put::write_put;
+use crate::secrets::write_secrets;
 use relay_types::{Record, Step};
 use spool_sql::{Seq, update_records};
 use sqlite::{Alter, Error, Transaction};
@@ -18,7 +20,6 @@ fn write_record<S: Alter>(
     seq: Seq,
     entry: &Record,
 ) -> Result<bool, Error>
-    requires taken { IsTrue (is_put_or_accept entry.now) }
     ensures same_reference { IsOfSame tx.old.conn tx.new.conn }
     ensures done { Answers S.Store tx.old.conn.now tx.new.conn.now result
         (λ a b. Enters a b seq (entry.now ∷ [])) }
@@ -31,8 +32,15 @@ fn write_record<S: Alter>(
             max,
             secrets,
         } => write_put(tx, seq, name, target, *max, secrets),
+        Record::Secrets { name, secrets } => write_secrets(tx, seq, name, secrets),
+        Record::Enabled { name, flag } => write_enabled(tx, seq, name, *flag),
         Record::Accept { name, id, body, at } => write_accept(tx, seq, name, id, body, *at),
-        Record::Secrets { .. } | Record::Enabled { .. } | Record::Outcome { .. } => Ok(false),
+        Record::Outcome {
+            delivery,
+            attempt,
+            status,
+            at,
+        } => write_outcome(tx, seq, *delivery, *attempt, *status, *at),
     }
 }
 
@@ -43,7 +51,6 @@ pub(crate) fn write_records<S: Alter>(
     steps: &[Step],
 ) -> Result<bool, Error>
     requires room { next + length (records_of steps.now) ≤ MAX_RECORDS }
-    requires taken { ArePutsAndAccepts steps.now }
     ensures same_reference { IsOfSame tx.old.conn tx.new.conn }
     ensures done { Answers S.Store tx.old.conn.now tx.new.conn.now result
         (λ a b. EntersWhole a b next (records_of steps.now)) }

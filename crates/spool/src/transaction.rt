@@ -5,7 +5,6 @@ ghost use Rattle.sqlite.specs.Held.{state};
 ghost use Rattle.relay_types.specs.declared.limits.TheConstants.{MAX_RECORDS};
 ghost use Rattle.relay_types.specs.Records.{records_of};
 ghost use Rattle.spool_sql.specs.Steps.{IfClean, SurvivesAs};
-ghost use Rattle.spool.specs.Batches.{ArePutsAndAccepts};
 ghost use Rattle.spool.specs.Entering.{Commits, CommitsAll, StaysAs, WriteEndsAs, IsUnwritten, Tells};
 
 use crate::records::write_records;
@@ -31,7 +30,6 @@ pub(crate) enum WriteEnd {
 pub(crate) fn write_steps<S: Alter>(conn: &mut Connection<S>, next: u64, steps: &[Step]) -> WriteEnd
     requires settled { conn.old.in_transaction ≡ false }
     requires room { next + length (records_of steps.now) ≤ MAX_RECORDS }
-    requires taken { ArePutsAndAccepts steps.now }
     ensures ends { IfClean S.Store conn.old conn.new (λ a b. WriteEndsAs a b next (records_of steps.now) result) }
     ensures clean { IfClean S.Store conn.old conn.new (λ a _. HasCleanDisk a) }
     ensures mode { conn.new.in_transaction ≡ false }
@@ -48,7 +46,6 @@ fn commit_steps<S: Alter>(
 ) -> Result<bool, Error>
     requires settled { conn.old.in_transaction ≡ false }
     requires room { next + length (records_of steps.now) ≤ MAX_RECORDS }
-    requires taken { ArePutsAndAccepts steps.now }
     ensures done { IfClean S.Store conn.old conn.new (λ a b. IfOk result (Commits a b next (records_of steps.now))) }
     ensures undone { IfClean S.Store conn.old conn.new
         (λ a b. result ≢ Ok true → IsTrue b.is_open → StaysAs a b) }

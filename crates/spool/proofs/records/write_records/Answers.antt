@@ -4,19 +4,13 @@ use Rattle.sqlite.specs.Held.{state}
 use Rattle.relay_types.specs.Records.{records_of}
 use Rattle.spool.specs.Entering.{Enters, EntersWhole}
 use Rattle.spool_sql.proofs.StepLemmas.{spares_then}
-use Rattle.spool.proofs.EntryLemmas.{enters_then, enters_stopped, enters_whole, records_more, records_split, step_taken, step_room, got_step}
+use Rattle.spool.proofs.EntryLemmas.{enters_then, enters_stopped, enters_whole, records_more, records_split, step_room, got_step}
 use Rattle.spool.proofs.records.write_records.Goals as goal
 
 pub of-requires : goal.of-requires
 of-requires g c =
     let at = got_step c.loop-step.step-index c.args.steps.now c.step-item.result c.record-entry.result.now c.loop-step-test.true c.step-item.is c.record-entry.ensures in
     omega (arith, c.loop-step.invariant.place, step_room c.loop-step.step-index c.args.next c.args.steps.now c.record-entry.result.now at c.requires.room)
-
-pub write_record-requires : goal.write_record-requires
-write_record-requires g c = record {
-  taken = step_taken c.loop-step.step-index c.args.steps.now c.record-entry.result.now
-      (got_step c.loop-step.step-index c.args.steps.now c.step-item.result c.record-entry.result.now c.loop-step-test.true c.step-item.is c.record-entry.ensures) c.requires.taken;
-}
 
 pub overflow_add-place : goal.overflow_add-place
 overflow_add-place g c =

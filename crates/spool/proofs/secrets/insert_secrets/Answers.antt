@@ -3,8 +3,8 @@ use Rattle.sqlite.specs.State.{HasCleanDisk}
 use Rattle.sqlite.specs.Held.{state}
 use Rattle.spool_sql.proofs.StepLemmas.{spares_then}
 use Rattle.spool.proofs.SecretLemmas.{alters_more, get_is_there, all_more}
-use Rattle.spool.proofs.put.insert_secrets.Goals as goal
-use Rattle.spool.proofs.put.insert_secrets.Goals.{in-Some+in_ok-insert_secret-in-Some, in-None}
+use Rattle.spool.proofs.secrets.insert_secrets.Goals as goal
+use Rattle.spool.proofs.secrets.insert_secrets.Goals.{in-Some+in_ok-insert_secret-in-Some, in-None}
 
 pub loop-place-preserved : goal.loop-place-preserved
 loop-place-preserved g c = elim c.match-get.branch [

@@ -5,7 +5,7 @@ use Rattle.sqlite.specs.Held.{state}
 use Rattle.relay_types.specs.Values.{is_secret}
 use Rattle.spool_sql.specs.Steps.{Alters, Spares}
 use Rattle.spool.specs.Entering.{with_secrets}
-use Rattle.spool.proofs.put.insert_secrets.Given as goal
+use Rattle.spool.proofs.secrets.insert_secrets.Given as goal
 
 abbrev pub invariant-loop-place : goal.invariant-loop-place
 invariant-loop-place g l = record {
