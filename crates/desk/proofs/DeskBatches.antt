@@ -85,7 +85,6 @@ seal_makes d u step checks some =
         records = h.records;
         settled = h.settled;
         legal = h.legal;
-        kinds = h.kinds;
       },
     )))
 
@@ -131,7 +130,6 @@ settle-made d receipt is_out is = λ w h.
         records = h.records;
         settled = counted;
         legal = h.legal;
-        kinds = h.kinds;
       },
     )
   where

@@ -1,12 +1,11 @@
 -- The worlds for which a desk stands after a step, and the moves of its calls.
 use Rattle.std.proofs.Common.{◌≡◌, ℕ, ◌+◌, ◌<◌, ◌≤◌, Bool, true, false, List, [], ◌∷◌, ◌++◌, Option, Some, None, length, take, drop, refl, sym, ◌∙◌, ap, arith, ◌&&◌, map, append-nil, length-append, subst, max}
 use Rattle.std.specs.Prelude.{Result, Ok, Err, IfOk, OnOk, OnErr, nat_le, is_some, not, bytes_eq, IsTrue, if◌then◌else◌}
-use Rattle.std.specs.List.{list_any, list_all}
+use Rattle.std.specs.List.{list_any}
 use Rattle.std.specs.Option.{option_map_or}
 use Rattle.std.specs.declared.alloc.AllocError.{AllocError}
 use Rattle.std.proofs.Math.Seq.{take-append_seam}
 use Rattle.std.proofs.lemmas.List.{take-append-le, drop-append-le, length-drop, length-map, map-append}
-use Rattle.std.proofs.lemmas.List.Folds.{list_all-append}
 use Rattle.std.proofs.lemmas.Bool.{leb-false, lt-ltb}
 use Rattle.relay_types.specs.declared.limits.TheConstants.{MAX_ENDPOINTS, MAX_RECORDS}
 use Rattle.relay_types.specs.declared.record.Record.{Record}
@@ -21,7 +20,6 @@ use Rattle.delivery_book.specs.Book as book
 use Rattle.delivery_book.specs.Book.{row_of}
 use Rattle.delivery_book.specs.declared.row.Row.{Row}
 use Rattle.delivery_book.proofs.Laws.{stands_accept, stands_other}
-use Rattle.spool.specs.Batches.{is_put_or_accept}
 use Rattle.desk.specs.declared.command.Command.TheVariants.{PutEndpoint}
 use Rattle.desk.specs.declared.limits.TheConstants.{MAX_PENDING, MAX_PENDING_ALL}
 use Rattle.desk.specs.declared.refusal.Fault.TheVariants as fault
@@ -66,11 +64,11 @@ book_of {d} {e} {w} h same = subst (λ (x : DeskValue). book.StandsFor x.deliver
 
 -- the desk that stands for the world with one more record
 pub stands_staged : (d : DeskValue) (w : World) (entry : Record) (names : List (List ℕ)) (deliveries : BookValue) → StandsFor d w → d.waiting ≡ None → d.records < MAX_RECORDS
-    → IsTrue (may_follow (all_records w) entry) → IsTrue (is_within_limits entry) → IsTrue (is_put_or_accept entry)
+    → IsTrue (may_follow (all_records w) entry) → IsTrue (is_within_limits entry)
     → names ≡ map (λ e. e.name) (endpoints (all_records w ++ entry ∷ []))
     → book.StandsFor deliveries (all_records w ++ entry ∷ []) (length (settled_records w))
     → StandsFor (record (with_step d entry) { endpoints = names; deliveries = deliveries }) (with_record w entry)
-stands_staged d w entry names deliveries h none room follows limits kind named stands =
+stands_staged d w entry names deliveries h none room follows limits named stands =
     let all : all_records (with_record w entry) ≡ all_records w ++ entry ∷ [] = records_of-snoc w.history entry in
     let within : w.settled ≤ length w.history = settled_within h in
     let settled : settled_records (with_record w entry) ≡ settled_records w = ap records_of (take-append-le w.settled w.history ((entry ∷ []) ∷ []) within) in
@@ -89,7 +87,6 @@ stands_staged d w entry names deliveries h none room follows limits kind named s
       records = ap (λ n. n + 1) h.records ∙ sym (length-append (all_records w) (entry ∷ [])) ∙ ap length (sym all);
       settled = h.settled ∙ ap length (sym settled);
       legal = subst IsLegal (sym all) (legal-snoc (all_records w) entry h.legal follows limits (omega (arith, h.records, room)));
-      kinds = ap (list_all is_put_or_accept) all ∙ list_all-append is_put_or_accept (all_records w) (entry ∷ []) ∙ (λ i. h.kinds i && (kind i && true));
     }
 
 pub stands_with_put : (d : DeskValue) (w : World) (name target : List ℕ) (max : ℕ) (secrets : List (List ℕ)) → StandsFor d w → d.waiting ≡ None → d.records < MAX_RECORDS
@@ -98,7 +95,7 @@ pub stands_with_put : (d : DeskValue) (w : World) (name target : List ℕ) (max 
 stands_with_put d w name target max secrets h none room follows limits =
     let entry : Record = Put name target max secrets in
     let e : Endpoint = record { put = length (all_records w); name = name; target = target; max = max } in
-    stands_staged d w entry (d.endpoints ++ name ∷ []) d.deliveries h none room follows limits refl
+    stands_staged d w entry (d.endpoints ++ name ∷ []) d.deliveries h none room follows limits
     (ap (λ names. names ++ name ∷ []) h.endpoints
     ∙ sym (ap (map (λ e. e.name)) (endpoints-snoc (all_records w) entry) ∙ map-append (λ (e : Endpoint). e.name) (endpoints (all_records w)) (e ∷ [])))
     (stands_other d.deliveries (all_records w) (length (settled_records w)) entry h.deliveries refl)
@@ -108,7 +105,7 @@ pub stands_with_accept : (d : DeskValue) (w : World) (name id body : List ℕ) (
     → StandsFor (record (with_accept d name id body at) { clock = d.clock }) (with_record w (Accept name id body at))
 stands_with_accept d w name id body at h none room follows limits =
     let entry : Record = Accept name id body at in
-    stands_staged d w entry d.endpoints _ h none room follows limits refl
+    stands_staged d w entry d.endpoints _ h none room follows limits
     (h.endpoints ∙ sym (ap (map (λ e. e.name)) (endpoints-snoc (all_records w) entry ∙ append-nil (endpoints (all_records w)))))
     (stands_accept d.deliveries (all_records w) (length (settled_records w)) d.records name id body at h.deliveries h.records)
 
@@ -126,7 +123,6 @@ stands_later d w at h = record {
   records = h.records;
   settled = h.settled;
   legal = h.legal;
-  kinds = h.kinds;
 }
 
 -- Faults

@@ -1,6 +1,5 @@
 -- What a desk keeps, the worlds for which it stands, and what its calls answer.
 use Rattle.std.specs.Prelude.{◌≡◌, ℕ, ◌≤◌, ◌+◌, Bool, false, not, List, [], ◌∷◌, ◌++◌, length, drop, map, Option, Some, None, Result, Ok, Err, IsTrue, if◌then◌else◌}
-use Rattle.std.specs.List.{list_all}
 use Rattle.relay_types.specs.declared.limits.TheConstants.{MAX_ENDPOINTS, MAX_RECORDS}
 use Rattle.relay_types.specs.declared.record.Record.{Record}
 use Rattle.relay_types.specs.declared.record.Record.TheVariants.{Put, Accept}
@@ -9,7 +8,7 @@ use Rattle.relay_types.specs.Endpoints.{endpoints}
 use Rattle.relay_types.specs.Legal.{IsLegal}
 use Rattle.delivery_book.specs.Entries.{BookValue, with_event}
 use Rattle.delivery_book.specs.Book as book
-use Rattle.spool.specs.Batches.{BatchValue, is_put_or_accept, ArePutsAndAccepts}
+use Rattle.spool.specs.Batches.{BatchValue}
 use Rattle.desk.specs.declared.refusal.Refusal.{Refusal}
 use Rattle.desk.specs.declared.refusal.WrongTurn.{WrongTurn}
 use Rattle.desk.specs.Faults.{Faults, first_fault}
@@ -34,7 +33,6 @@ pub record IsDesk (next_seq settled_seq records settled capacity : ℕ) (steps :
   pub prefix : settled + length steps ≤ records
   pub room : records ≤ MAX_RECORDS
   pub places : MAX_ENDPOINTS ≤ capacity
-  pub kinds : ArePutsAndAccepts steps
 
 -- the step as the steps of a history
 abbrev pub steps_of : Option (List Record) → History
@@ -54,7 +52,6 @@ pub record StandsFor (desk : DeskValue) (w : World) : Type 0 where
   pub records : desk.records ≡ length (all_records w)
   pub settled : desk.settled ≡ length (settled_records w)
   pub legal : IsLegal (all_records w)
-  pub kinds : IsTrue (list_all is_put_or_accept (all_records w))
 
 -- From each world for which the desk stood, the call gave what this move answers, and the desk stands for the world after it.
 abbrev pub IsMove : {A : Type 0} → DeskValue → (World → Answer A) → Result A Refusal → DeskValue → Type 0

@@ -5,7 +5,6 @@ ghost use Rattle.relay_types.specs.declared.record.Record.TheVariants.{Put, Acce
 ghost use Rattle.relay_types.specs.Deliveries.{accepted};
 ghost use Rattle.relay_types.specs.Legal.{is_within_limits};
 ghost use Rattle.delivery_book.specs.Entries.{known_in};
-ghost use Rattle.spool.specs.Batches.{ArePutsAndAccepts};
 ghost use Rattle.desk.specs.World.{World, all_records};
 ghost use Rattle.desk.specs.Moves.{opened, submit, submit_faults, new_submit_faults, is_conflict, has_body, change, change_faults, put_faults, seal, event_row};
 ghost use Rattle.desk.specs.Desks.{StandsFor, IsMove, Checks, Settles, steps_of, batch_of, with_put, with_accept};
@@ -112,7 +111,6 @@ impl Desk {
     pub fn seal(&mut self) -> Result<Option<Batch>, Refusal>
         ensures moves { IsMove self.old (seal self.old.mark) result self.new }
         ensures batch { IfOk result (λ sealed. IfSome sealed (λ batch. batch ≡ batch_of self.old)) }
-        ensures kinds { IfOk result (λ sealed. IfSome sealed (λ batch. ArePutsAndAccepts batch.steps)) }
         ensures mark { self.new.mark ≡ self.old.mark }
         ensures err { OnErr result (self.new ≡ self.old) }
     {

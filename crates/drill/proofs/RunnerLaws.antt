@@ -267,7 +267,6 @@ out_again desk w o left s same = record {
   records = s.records;
   settled = s.settled;
   legal = s.legal;
-  kinds = s.kinds;
 }
 
 doubt_leaves : {S : Type 0} (g : Ghosts S) (vault : VaultValue S) (batch : BatchValue) (w : World) → settled_records w ++ records_of batch.steps ≡ sealed_records w
