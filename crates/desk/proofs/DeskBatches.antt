@@ -5,8 +5,10 @@ use Rattle.std.proofs.lemmas.Bool.{eq-eqb, ne_eqb}
 use Rattle.std.proofs.lemmas.List.{length-drop, take_all}
 use Rattle.relay_types.specs.declared.record.Record.{Record}
 use Rattle.relay_types.specs.Records.{records_of}
-use Rattle.delivery_book.specs.Book as book
-use Rattle.delivery_book.specs.Entries.{with_settled}
+use Rattle.endpoint_book.specs.Book as endpoint_book
+use Rattle.endpoint_book.specs.Entries as endpoint_entries
+use Rattle.delivery_book.specs.Book as delivery_book
+use Rattle.delivery_book.specs.Entries as delivery_entries
 use Rattle.delivery_book.proofs.Laws.{stands_settled}
 use Rattle.spool.specs.Batches.{BatchValue}
 use Rattle.desk.specs.declared.refusal.Fault.TheVariants as fault
@@ -92,7 +94,13 @@ seal_makes d u step checks some =
 
 -- the desk whose records are all settled
 abbrev pub with_all_settled : DeskValue → DeskValue
-with_all_settled desk = record desk { deliveries = with_settled desk.deliveries desk.records; settled = desk.records; waiting = None; is_out = false }
+with_all_settled desk = record desk {
+  endpoints = endpoint_entries.with_settled desk.endpoints desk.records;
+  deliveries = delivery_entries.with_settled desk.deliveries desk.records;
+  settled = desk.records;
+  waiting = None;
+  is_out = false;
+}
 
 -- what is out is sealed, and is all that isn't settled
 out_waits : {d : DeskValue} {w : World} → StandsFor d w → d.is_out ≡ true → w.sealed ≡ length w.history
@@ -109,8 +117,9 @@ out_is {d} {w} h out =
     let all : take w.sealed w.history ≡ w.history = take_all w.sealed w.history (omega (arith, out_waits h out)) in
     λ i. record { mark = d.mark; from = sym h.settled i; steps = (ap (drop w.settled) all ∙ h.waiting) i }
 
-pub settle-made : (d : DeskValue) (receipt : BatchValue) → d.is_out ≡ true → receipt ≡ batch_of d → Settles d receipt (Ok d.records) (with_all_settled d)
-settle-made d receipt is_out is = λ w h.
+pub settle-made : (d : DeskValue) (receipt : BatchValue) → d.is_out ≡ true → receipt ≡ batch_of d
+    → endpoint_book.Settles d.endpoints (endpoint_entries.with_settled d.endpoints d.records) d.records → Settles d receipt (Ok d.records) (with_all_settled d)
+settle-made d receipt is_out is settles = λ w h.
     let sealed : w.sealed ≡ length w.history = out_waits h is_out in
     let all : sealed_records w ≡ all_records w = ap records_of (take_all w.sealed w.history (omega (arith, sealed))) in
     let none : drop w.sealed w.history ≡ [] = empty (drop w.sealed w.history) (omega (arith, length-drop w.sealed w.history, sealed)) in
@@ -119,8 +128,9 @@ settle-made d receipt is_out is = λ w h.
       counted,
       record {
         clock = h.clock;
-        endpoints = h.endpoints;
-        deliveries = subst (λ n. book.StandsFor (with_all_settled d).deliveries (all_records w) n) counted
+        endpoints = subst (λ n. endpoint_book.StandsFor (with_all_settled d).endpoints (all_records w) n) counted
+            (settles (all_records w) (length (settled_records w)) h.endpoints (omega (arith, h.records)));
+        deliveries = subst (λ n. delivery_book.StandsFor (with_all_settled d).deliveries (all_records w) n) counted
             (stands_settled d.deliveries (all_records w) (length (settled_records w)) d.records h.deliveries (omega (arith, h.deliveries.settled_seq, h.deliveries.within, h.records)) (omega (arith, h.records)));
         waiting = none;
         one_each = ap (λ steps. length (records_of steps)) none;

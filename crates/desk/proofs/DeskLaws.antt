@@ -1,22 +1,28 @@
 -- The worlds for which a desk stands after a step, and the moves of its calls.
-use Rattle.std.proofs.Common.{◌≡◌, ℕ, ◌+◌, ◌<◌, ◌≤◌, Bool, true, false, List, [], ◌∷◌, ◌++◌, Option, Some, None, length, take, drop, refl, sym, ◌∙◌, ap, arith, ◌&&◌, map, append-nil, length-append, subst, max}
-use Rattle.std.specs.Prelude.{Result, Ok, Err, IfOk, OnOk, OnErr, nat_le, is_some, not, bytes_eq, IsTrue, if◌then◌else◌}
-use Rattle.std.specs.List.{list_any}
+use Rattle.std.proofs.Common.{◌≡◌, ℕ, ◌+◌, ◌<◌, ◌≤◌, Bool, true, false, List, [], ◌∷◌, ◌++◌, Option, Some, None, length, take, drop, refl, sym, ◌∙◌, ap, arith, ◌&&◌, length-append, subst, max}
+use Rattle.std.specs.Prelude.{Result, Ok, Err, IfOk, OnOk, OnErr, nat_le, is_some, not, IsTrue, if◌then◌else◌}
 use Rattle.std.specs.Option.{option_map_or}
 use Rattle.std.specs.declared.alloc.AllocError.{AllocError}
 use Rattle.std.proofs.Math.Seq.{take-append_seam}
-use Rattle.std.proofs.lemmas.List.{take-append-le, drop-append-le, length-drop, length-map, map-append}
+use Rattle.std.proofs.lemmas.List.{take-append-le, drop-append-le, length-drop}
 use Rattle.std.proofs.lemmas.Bool.{leb-false, lt-ltb}
 use Rattle.relay_types.specs.declared.limits.TheConstants.{MAX_ENDPOINTS, MAX_RECORDS}
 use Rattle.relay_types.specs.declared.record.Record.{Record}
 use Rattle.relay_types.specs.declared.record.Record.TheVariants.{Put, Accept}
 use Rattle.relay_types.specs.Records.{records_of}
 use Rattle.relay_types.specs.Deliveries.{deliveries, deliveries_of, known_as}
-use Rattle.relay_types.specs.Endpoints.{Endpoint, endpoints, has_endpoint}
+use Rattle.relay_types.specs.Endpoints.{endpoints, has_endpoint}
 use Rattle.relay_types.specs.Legal.{IsLegal, may_follow, is_within_limits}
-use Rattle.relay_types.proofs.GrowthLaws.{endpoints-snoc}
-use Rattle.delivery_book.specs.Entries.{BookValue}
-use Rattle.delivery_book.specs.Book as book
+use Rattle.relay_types.proofs.KnownLaws.{legal_more}
+use Rattle.endpoint_book.specs.Book as endpoint_book
+use Rattle.endpoint_book.specs.Entries as endpoint_entries
+use Rattle.endpoint_book.specs.Entries.{entry_of}
+use Rattle.endpoint_book.proofs.Filters.{none_if}
+use Rattle.endpoint_book.proofs.Histories.{known-entry}
+use Rattle.endpoint_book.proofs.Laws.{stands-other}
+use Rattle.endpoint_book.proofs.Staged.{stands-put}
+use Rattle.delivery_book.specs.Book as delivery_book
+use Rattle.delivery_book.specs.Entries as delivery_entries
 use Rattle.delivery_book.specs.Book.{row_of}
 use Rattle.delivery_book.specs.declared.row.Row.{Row}
 use Rattle.delivery_book.proofs.Laws.{stands_accept, stands_other}
@@ -25,12 +31,12 @@ use Rattle.desk.specs.declared.limits.TheConstants.{MAX_PENDING, MAX_PENDING_ALL
 use Rattle.desk.specs.declared.refusal.Fault.TheVariants as fault
 use Rattle.desk.specs.declared.refusal.Fault.{Fault}
 use Rattle.desk.specs.declared.refusal.Refusal.{Refusal}
-use Rattle.desk.specs.Faults.{refusal, first_fault, out_of_memory_at}
+use Rattle.desk.specs.Faults.{first_fault, out_of_memory_at}
 use Rattle.desk.specs.World.{World, all_records, settled_records, waiting_records}
-use Rattle.desk.specs.Moves.{Answer, or_out_of_memory, stages, moment, at_moment, with_record, pending_among, is_waiting_full, are_seqs_spent, is_conflict, event_row, submit, submit_known, submit_new, submit_faults, put_faults, new_submit_faults, repeats, change}
+use Rattle.desk.specs.Moves.{Answer, or_out_of_memory, stages, moment, at_moment, with_record, pending_among, is_waiting_full, are_seqs_spent, is_conflict, event_row, submit, submit_known, submit_new, submit_faults, put_faults, new_submit_faults, repeats, changes, change}
 use Rattle.desk.specs.Desks.{DeskValue, StandsFor, IsMove, Checks, steps_of, with_step, with_put, with_accept}
-use Rattle.desk.proofs.DeskLists.{records_of-snoc, records_of-split, named_any, legal-snoc}
-use Rattle.desk.proofs.MoveLaws.{refuses, passes, makes, lacks, becomes, leaves}
+use Rattle.desk.proofs.DeskLists.{records_of-snoc, records_of-split}
+use Rattle.desk.proofs.MoveLaws.{refuses, passes, makes, makes_or_lacks, becomes}
 use Rattle.desk.proofs.DeskEvents.{event_unknown, event_known}
 
 -- What a desk tells of its worlds
@@ -54,21 +60,26 @@ waits {d} {w} h = one d.waiting ∙ ap (nat_le 1) (sym h.one_each)
     one None = refl
     one (Some step) = refl
 
-pub knows : {d : DeskValue} {w : World} → StandsFor d w → (name : List ℕ) → list_any (λ known. bytes_eq known name) d.endpoints ≡ has_endpoint (all_records w) name
-knows {d} {w} h name = ap (list_any (λ known. bytes_eq known name)) h.endpoints ∙ named_any (endpoints (all_records w)) name
+pub endpoints_of : {d e : DeskValue} {w : World} → StandsFor e w → d ≡ e → endpoint_book.StandsFor d.endpoints (all_records w) (length (settled_records w))
+endpoints_of {d} {e} {w} h same = subst (λ (x : DeskValue). endpoint_book.StandsFor x.endpoints (all_records w) (length (settled_records w))) (sym same) h.endpoints
 
-pub book_of : {d e : DeskValue} {w : World} → StandsFor e w → d ≡ e → book.StandsFor d.deliveries (all_records w) (length (settled_records w))
-book_of {d} {e} {w} h same = subst (λ (x : DeskValue). book.StandsFor x.deliveries (all_records w) (length (settled_records w))) (sym same) h.deliveries
+pub book_of : {d e : DeskValue} {w : World} → StandsFor e w → d ≡ e → delivery_book.StandsFor d.deliveries (all_records w) (length (settled_records w))
+book_of {d} {e} {w} h same = subst (λ (x : DeskValue). delivery_book.StandsFor x.deliveries (all_records w) (length (settled_records w))) (sym same) h.deliveries
 
 -- One more record
 
+-- the longer history is legal
+legal_with : {d : DeskValue} {w : World} (entry : Record) → StandsFor d w → d.records < MAX_RECORDS → IsTrue (may_follow (all_records w) entry) → IsTrue (is_within_limits entry)
+    → IsLegal (all_records w ++ entry ∷ [])
+legal_with {d} {w} entry h room follows limits = legal_more (all_records w) entry h.legal follows limits (omega (arith, h.records, room))
+
 -- the desk that stands for the world with one more record
-pub stands_staged : (d : DeskValue) (w : World) (entry : Record) (names : List (List ℕ)) (deliveries : BookValue) → StandsFor d w → d.waiting ≡ None → d.records < MAX_RECORDS
-    → IsTrue (may_follow (all_records w) entry) → IsTrue (is_within_limits entry)
-    → names ≡ map (λ e. e.name) (endpoints (all_records w ++ entry ∷ []))
-    → book.StandsFor deliveries (all_records w ++ entry ∷ []) (length (settled_records w))
-    → StandsFor (record (with_step d entry) { endpoints = names; deliveries = deliveries }) (with_record w entry)
-stands_staged d w entry names deliveries h none room follows limits named stands =
+pub stands_staged : (d : DeskValue) (w : World) (entry : Record) (endpoints : endpoint_entries.BookValue) (deliveries : delivery_entries.BookValue) → StandsFor d w → d.waiting ≡ None
+    → IsLegal (all_records w ++ entry ∷ [])
+    → endpoint_book.StandsFor endpoints (all_records w ++ entry ∷ []) (length (settled_records w))
+    → delivery_book.StandsFor deliveries (all_records w ++ entry ∷ []) (length (settled_records w))
+    → StandsFor (record (with_step d entry) { endpoints = endpoints; deliveries = deliveries }) (with_record w entry)
+stands_staged d w entry endpoints deliveries h none legal of_endpoints of_deliveries =
     let all : all_records (with_record w entry) ≡ all_records w ++ entry ∷ [] = records_of-snoc w.history entry in
     let within : w.settled ≤ length w.history = settled_within h in
     let settled : settled_records (with_record w entry) ≡ settled_records w = ap records_of (take-append-le w.settled w.history ((entry ∷ []) ∷ []) within) in
@@ -76,9 +87,10 @@ stands_staged d w entry names deliveries h none room follows limits named stands
     drop-append-le w.settled w.history ((entry ∷ []) ∷ []) within ∙ ap (λ steps. steps ++ (entry ∷ []) ∷ []) (h.waiting ∙ ap steps_of none) in
     record {
       clock = h.clock;
-      endpoints = named ∙ ap (λ records. map (λ e. e.name) (endpoints records)) (sym all);
-      deliveries = subst (λ records. book.StandsFor deliveries records (length (settled_records (with_record w entry)))) (sym all)
-          (subst (λ n. book.StandsFor deliveries (all_records w ++ entry ∷ []) n) (ap length (sym settled)) stands);
+      endpoints = subst (λ records. endpoint_book.StandsFor endpoints records (length (settled_records (with_record w entry)))) (sym all)
+          (subst (λ n. endpoint_book.StandsFor endpoints (all_records w ++ entry ∷ []) n) (ap length (sym settled)) of_endpoints);
+      deliveries = subst (λ records. delivery_book.StandsFor deliveries records (length (settled_records (with_record w entry)))) (sym all)
+          (subst (λ n. delivery_book.StandsFor deliveries (all_records w ++ entry ∷ []) n) (ap length (sym settled)) of_deliveries);
       waiting = after;
       one_each = ap (λ steps. length (records_of steps)) after;
       is_out = h.is_out;
@@ -86,27 +98,22 @@ stands_staged d w entry names deliveries h none room follows limits named stands
       sealed_within = omega (arith, h.sealed_within, length-append w.history ((entry ∷ []) ∷ []));
       records = ap (λ n. n + 1) h.records ∙ sym (length-append (all_records w) (entry ∷ [])) ∙ ap length (sym all);
       settled = h.settled ∙ ap length (sym settled);
-      legal = subst IsLegal (sym all) (legal-snoc (all_records w) entry h.legal follows limits (omega (arith, h.records, room)));
+      legal = subst IsLegal (sym all) legal;
     }
 
-pub stands_with_put : (d : DeskValue) (w : World) (name target : List ℕ) (max : ℕ) (secrets : List (List ℕ)) → StandsFor d w → d.waiting ≡ None → d.records < MAX_RECORDS
-    → IsTrue (may_follow (all_records w) (Put name target max secrets)) → IsTrue (is_within_limits (Put name target max secrets))
-    → StandsFor (with_put d name target max secrets) (with_record w (Put name target max secrets))
-stands_with_put d w name target max secrets h none room follows limits =
-    let entry : Record = Put name target max secrets in
-    let e : Endpoint = record { put = length (all_records w); name = name; target = target; max = max } in
-    stands_staged d w entry (d.endpoints ++ name ∷ []) d.deliveries h none room follows limits
-    (ap (λ names. names ++ name ∷ []) h.endpoints
-    ∙ sym (ap (map (λ e. e.name)) (endpoints-snoc (all_records w) entry) ∙ map-append (λ (e : Endpoint). e.name) (endpoints (all_records w)) (e ∷ [])))
-    (stands_other d.deliveries (all_records w) (length (settled_records w)) entry h.deliveries refl)
+pub stands_with_put : (d : DeskValue) (w : World) (name target : List ℕ) (max : ℕ) (secrets : List (List ℕ)) → StandsFor d w → d.waiting ≡ None → has_endpoint (all_records w) name ≡ false
+    → IsLegal (all_records w ++ Put name target max secrets ∷ []) → StandsFor (with_put d name target max secrets) (with_record w (Put name target max secrets))
+stands_with_put d w name target max secrets h none new legal =
+    stands_staged d w (Put name target max secrets) _ d.deliveries h none legal
+    (stands-put d.endpoints (all_records w) (length (settled_records w)) d.records name target max secrets h.endpoints h.records legal
+    (none_if (entry_of d.endpoints name) (known-entry d.endpoints (all_records w) name h.endpoints.tells ∙ new)))
+    (stands_other d.deliveries (all_records w) (length (settled_records w)) (Put name target max secrets) h.deliveries refl)
 
-pub stands_with_accept : (d : DeskValue) (w : World) (name id body : List ℕ) (at : ℕ) → StandsFor d w → d.waiting ≡ None → d.records < MAX_RECORDS
-    → IsTrue (may_follow (all_records w) (Accept name id body at)) → IsTrue (is_within_limits (Accept name id body at))
+pub stands_with_accept : (d : DeskValue) (w : World) (name id body : List ℕ) (at : ℕ) → StandsFor d w → d.waiting ≡ None → IsLegal (all_records w ++ Accept name id body at ∷ [])
     → StandsFor (record (with_accept d name id body at) { clock = d.clock }) (with_record w (Accept name id body at))
-stands_with_accept d w name id body at h none room follows limits =
-    let entry : Record = Accept name id body at in
-    stands_staged d w entry d.endpoints _ h none room follows limits
-    (h.endpoints ∙ sym (ap (map (λ e. e.name)) (endpoints-snoc (all_records w) entry ∙ append-nil (endpoints (all_records w)))))
+stands_with_accept d w name id body at h none legal =
+    stands_staged d w (Accept name id body at) d.endpoints _ h none legal
+    (stands-other d.endpoints (all_records w) (length (settled_records w)) (Accept name id body at) h.endpoints legal refl)
     (stands_accept d.deliveries (all_records w) (length (settled_records w)) d.records name id body at h.deliveries h.records)
 
 -- a later moment
@@ -129,16 +136,11 @@ stands_later d w at h = record {
 
 -- what the desk looks for is what the model does
 pub put_faults_are : {d : DeskValue} {w : World} (name : List ℕ) (known many some spent : Bool) → StandsFor d w
-    → known ≡ list_any (λ each. bytes_eq each name) d.endpoints → many ≡ nat_le MAX_ENDPOINTS (length d.endpoints) → some ≡ is_some d.waiting → spent ≡ nat_le MAX_RECORDS d.records
+    → known ≡ has_endpoint (all_records w) name → many ≡ nat_le MAX_ENDPOINTS (length (endpoints (all_records w))) → some ≡ is_some d.waiting → spent ≡ nat_le MAX_RECORDS d.records
     → first_fault ((known, 3, fault.Exists) ∷ (many, 4, fault.TooManyEndpoints) ∷ (some, 5, fault.WaitingFull) ∷ (spent, 6, fault.SeqExhausted) ∷ []) ≡ first_fault (put_faults w name)
 put_faults_are {d} {w} name known many some spent h a b e f i =
     first_fault (
-    ((a ∙ knows h name) i, 3, fault.Exists)
-    ∷ ((b ∙ ap (nat_le MAX_ENDPOINTS) (ap length h.endpoints ∙ length-map (endpoints (all_records w)) (λ (e : Endpoint). e.name))) i, 4, fault.TooManyEndpoints)
-    ∷ ((e ∙ waits h) i, 5, fault.WaitingFull)
-    ∷ ((f ∙ ap (nat_le MAX_RECORDS) h.records) i, 6, fault.SeqExhausted)
-    ∷ []
-    )
+    (a i, 3, fault.Exists) ∷ (b i, 4, fault.TooManyEndpoints) ∷ ((e ∙ waits h) i, 5, fault.WaitingFull) ∷ ((f ∙ ap (nat_le MAX_RECORDS) h.records) i, 6, fault.SeqExhausted) ∷ [])
 
 pub new_faults_are : {d : DeskValue} {w : World} (name : List ℕ) (own all some spent : Bool) → StandsFor d w
     → own ≡ nat_le MAX_PENDING (pending_among (all_records w) (deliveries_of (all_records w) name)) → all ≡ nat_le MAX_PENDING_ALL (pending_among (all_records w) (deliveries (all_records w)))
@@ -148,10 +150,9 @@ new_faults_are {d} {w} name own all some spent h a b e f i =
     first_fault ((a i, 4, fault.EndpointBacklog) ∷ (b i, 5, fault.Backlog) ∷ ((e ∙ waits h) i, 6, fault.WaitingFull) ∷ ((f ∙ ap (nat_le MAX_RECORDS) h.records) i, 7, fault.SeqExhausted) ∷ [])
 
 pub submit_faults_are : {d : DeskValue} {w : World} (name : List ℕ) (known : Option ℕ) (body : List ℕ) (there conflict : Bool) → StandsFor d w
-    → there ≡ list_any (λ each. bytes_eq each name) d.endpoints → conflict ≡ is_conflict (all_records w) known body
+    → there ≡ has_endpoint (all_records w) name → conflict ≡ is_conflict (all_records w) known body
     → first_fault ((not there, 2, fault.UnknownEndpoint) ∷ (conflict, 3, fault.Conflict) ∷ []) ≡ first_fault (submit_faults w name known body)
-submit_faults_are name known body there conflict h a b i =
-    first_fault ((not ((a ∙ knows h name) i), 2, fault.UnknownEndpoint) ∷ (b i, 3, fault.Conflict) ∷ [])
+submit_faults_are name known body there conflict h a b i = first_fault ((not (a i), 2, fault.UnknownEndpoint) ∷ (b i, 3, fault.Conflict) ∷ [])
 
 -- what a call without faults tells: four faults in a row, none of which is there
 pub none_of_four : (a b e f : Bool) (k l m n : ℕ) (one two three four : Fault) (u : Unit {0})
@@ -167,10 +168,10 @@ none_of_two false false k l one two u h = (refl, refl)
 none_of_two false true k l one two u h = cc
 none_of_two true b k l one two u h = cc
 
--- what a check that found nothing tells of the second and the last of four faults
+-- what a check that found nothing tells of the first and the last of four faults
 pub free_of : (result : Result (Unit {0}) Refusal) (a b e f : Bool) (k l m n : ℕ) (one two three four : Fault) (P : Type 0)
-    → result ≡ first_fault ((a, k, one) ∷ (b, l, two) ∷ (e, m, three) ∷ (f, n, four) ∷ []) → (b ≡ false → f ≡ false → P) → OnOk result P
-free_of (Ok u) a b e f k l m n one two three four P h give = let none = none_of_four a b e f k l m n one two three four u (sym h) in give none.1 none.3
+    → result ≡ first_fault ((a, k, one) ∷ (b, l, two) ∷ (e, m, three) ∷ (f, n, four) ∷ []) → (a ≡ false → f ≡ false → P) → OnOk result P
+free_of (Ok u) a b e f k l m n one two three four P h give = let none = none_of_four a b e f k l m n one two three four u (sym h) in give none.0 none.3
 free_of (Err r) a b e f k l m n one two three four P h give = tt
 
 -- a number below a limit
@@ -190,19 +191,24 @@ free_seq {d} h e = leb-false MAX_RECORDS d.records (ap (nat_le MAX_RECORDS) h.re
 
 -- Records
 
-pub put_moves : (d new : DeskValue) (name target : List ℕ) (max : ℕ) (secrets : List (List ℕ)) (u : Unit {0}) (seq : ℕ) → Checks d (λ w. put_faults w name) (Ok u)
-    → IsTrue (is_within_limits (Put name target max secrets)) → seq ≡ d.records → new ≡ with_put d name target max secrets
-    → IsMove d (λ w. change w (PutEndpoint name target max secrets)) (Ok seq) new
-put_moves d new name target max secrets u seq checks limits same is =
-    passes d new (λ w. put_faults w name) (λ w. stages w (Put name target max secrets)) u (Ok seq) checks
-    (makes d new (λ w. stages w (Put name target max secrets)) seq (λ w h.
-    let free = none_of_four (has_endpoint (all_records w) name) (nat_le MAX_ENDPOINTS (length (endpoints (all_records w)))) (is_waiting_full w) (are_seqs_spent w) 3 4 5 6 _ _ _ _ u (sym (checks w h)) in (
-      ap Ok (sym h.records ∙ sym same),
-      subst (λ (v : DeskValue). StandsFor v (with_record w (Put name target max secrets))) (sym is)
-          (stands_with_put d w name target max secrets h (free_place h free.2) (free_seq h free.3)
-          (λ i. not (free.0 i) && lt-ltb (length (endpoints (all_records w))) MAX_ENDPOINTS (leb-false MAX_ENDPOINTS (length (endpoints (all_records w))) free.1) i)
-          limits),
-    )))
+pub put_moves : (d new : DeskValue) (name target : List ℕ) (max : ℕ) (secrets : List (List ℕ)) (u : Unit {0}) (made : Result ℕ AllocError) → Checks d (λ w. put_faults w name) (Ok u)
+    → IfOk made (λ seq. seq ≡ d.records) → OnOk made (new ≡ with_put d name target max secrets) → OnOk made (IsTrue (is_within_limits (Put name target max secrets))) → OnErr made (new ≡ d)
+    → IsMove d (λ w. change w (PutEndpoint name target max secrets)) (out_of_memory_at 7 made) new
+put_moves d new name target max secrets u made checks same is limits err =
+    passes d new (λ w. put_faults w name) (λ w. changes w (PutEndpoint name target max secrets)) u (out_of_memory_at 7 made) checks
+    (makes_or_lacks d new (λ w. stages w (Put name target max secrets)) 7 made (puts made same is limits) err)
+  where
+    puts : (made : Result ℕ AllocError) → IfOk made (λ seq. seq ≡ d.records) → OnOk made (new ≡ with_put d name target max secrets) → OnOk made (IsTrue (is_within_limits (Put name target max secrets)))
+        → IfOk made (λ seq. (w : World) → StandsFor d w → ((stages w (Put name target max secrets)).reply ≡ Ok seq) × StandsFor new (with_record w (Put name target max secrets)))
+    puts (Err e) same is limits = tt
+    puts (Ok seq) same is limits = λ w h.
+        let free = none_of_four (has_endpoint (all_records w) name) (nat_le MAX_ENDPOINTS (length (endpoints (all_records w)))) (is_waiting_full w) (are_seqs_spent w) 3 4 5 6 _ _ _ _ u (sym (checks w h)) in
+        let few : length (endpoints (all_records w)) < MAX_ENDPOINTS = leb-false MAX_ENDPOINTS (length (endpoints (all_records w))) free.1 in (
+          ap Ok (sym h.records ∙ sym same),
+          subst (λ (v : DeskValue). StandsFor v (with_record w (Put name target max secrets))) (sym is)
+              (stands_with_put d w name target max secrets h (free_place h free.2) free.0
+              (legal_with (Put name target max secrets) h (free_seq h free.3) (λ i. not (free.0 i) && lt-ltb (length (endpoints (all_records w))) MAX_ENDPOINTS few i) limits)),
+        )
 
 not_not : (b : Bool) → not b ≡ false → b ≡ true
 not_not true e = refl
@@ -214,23 +220,23 @@ Finds d name id found = (w : World) → StandsFor d w → found ≡ known_as (al
 
 -- the record of a new submission
 abbrev pub accepts : World → ℕ → List ℕ → List ℕ → List ℕ → Answer ℕ
-accepts w now name id body = or_out_of_memory 8 (stages (at_moment w now) (Accept name id body (moment w now)))
+accepts w now name id body = stages (at_moment w now) (Accept name id body (moment w now))
 
-pub accept_makes : (d new : DeskValue) (now : ℕ) (name id body : List ℕ) (at : ℕ) (u v : Unit {0}) (seq : ℕ) → Checks d (λ w. new_submit_faults w name) (Ok u)
+accept_makes : (d new : DeskValue) (now : ℕ) (name id body : List ℕ) (at : ℕ) (u v : Unit {0}) (seq : ℕ) → Checks d (λ w. new_submit_faults w name) (Ok u)
     → Checks d (λ w. submit_faults w name None body) (Ok v) → Finds d name id None → IsTrue (is_within_limits (Accept name id body at)) → at ≡ max now d.clock → seq ≡ d.records → new ≡ with_accept d name id body at
-    → IsMove d (λ w. accepts w now name id body) (Ok seq) new
-accept_makes d new now name id body at u v seq checks there unknown limits later same is =
-    makes d new (λ w. accepts w now name id body) seq (λ w h.
+    → (w : World) → StandsFor d w → ((accepts w now name id body).reply ≡ Ok seq) × StandsFor new (accepts w now name id body).next
+accept_makes d new now name id body at u v seq checks there unknown limits later same is w h =
     let free = none_of_four _ _ (is_waiting_full w) (are_seqs_spent w) 4 5 6 7 _ _ _ _ u (sym (checks w h)) in
     let moment_is : at ≡ moment w now = later ∙ ap (max now) h.clock in (
       ap Ok (sym h.records ∙ sym same),
       subst (λ (v : DeskValue). StandsFor v (with_record (at_moment w now) (Accept name id body (moment w now)))) (sym is)
           (subst (λ t. StandsFor (with_accept d name id body at) (with_record (record w { clock = t }) (Accept name id body t))) moment_is
           (stands_later (record (with_accept d name id body at) { clock = d.clock }) (with_record w (Accept name id body at)) at
-          (stands_with_accept d w name id body at h (free_place h free.2) (free_seq h free.3)
+          (stands_with_accept d w name id body at h (free_place h free.2)
+          (legal_with (Accept name id body at) h (free_seq h free.3)
           (λ i. not_not (has_endpoint (all_records w) name) (none_of_two (not (has_endpoint (all_records w) name)) false 2 3 fault.UnknownEndpoint fault.Conflict v (sym (there w h))).0 i && not (is_some (sym (unknown w h) i)))
-          limits))),
-    ))
+          limits)))),
+    )
 
 -- a repeated submission sets the clock alone
 pub repeats_makes : (d new : DeskValue) (now delivery at : ℕ) → at ≡ max now d.clock → new ≡ record d { clock = at } → IsMove d (λ w. repeats w now delivery) (Ok delivery) new
@@ -267,21 +273,22 @@ submit_taken d new now name id body u reply finds checks move =
 pub new_refused : (d : DeskValue) (now : ℕ) (name id body : List ℕ) (u : Unit {0}) (r : Refusal) → Finds d name id None → Checks d (λ w. submit_faults w name None body) (Ok u)
     → Checks d (λ w. new_submit_faults w name) (Err r) → IsMove d (λ w. submit w now name id body) (Err r) d
 new_refused d now name id body u r finds checks new =
-    submit_taken d d now name id body u (Err r) finds checks (refuses d (λ w. new_submit_faults w name) (λ w. accepts w now name id body) r new)
+    submit_taken d d now name id body u (Err r) finds checks (refuses d (λ w. new_submit_faults w name) (λ w. or_out_of_memory 8 (accepts w now name id body)) r new)
 
 -- a new submission is staged, or refused for memory
 pub accept_moves : (d new : DeskValue) (now : ℕ) (name id body : List ℕ) (at : ℕ) (u v : Unit {0}) (made : Result ℕ AllocError) → Checks d (λ w. new_submit_faults w name) (Ok u)
     → Checks d (λ w. submit_faults w name None body) (Ok v) → Finds d name id None → at ≡ max now d.clock
     → IfOk made (λ seq. seq ≡ d.records) → OnOk made (new ≡ with_accept d name id body at) → OnOk made (IsTrue (is_within_limits (Accept name id body at))) → OnErr made (new ≡ d)
     → IsMove d (λ w. submit w now name id body) (out_of_memory_at 8 made) new
-accept_moves d new now name id body at u v (Ok seq) checks there unknown later same is limits err =
-    submit_taken d new now name id body v (Ok seq) unknown there
-    (passes d new (λ w. new_submit_faults w name) (λ w. accepts w now name id body) u (Ok seq) checks (accept_makes d new now name id body at u v seq checks there unknown limits later same is))
-accept_moves d new now name id body at u v (Err e) checks there unknown later same is limits err =
-    leaves d new d (λ w. submit w now name id body) (Err (refusal 8 fault.OutOfMemory))
-    (submit_taken d d now name id body v (Err (refusal 8 fault.OutOfMemory)) unknown there
-    (passes d d (λ w. new_submit_faults w name) (λ w. accepts w now name id body) u (Err (refusal 8 fault.OutOfMemory)) checks (lacks d (λ w. accepts w now name id body) 8 (λ w h. refl))))
-    err
+accept_moves d new now name id body at u v made checks there unknown later same is limits err =
+    submit_taken d new now name id body v (out_of_memory_at 8 made) unknown there
+    (passes d new (λ w. new_submit_faults w name) (λ w. or_out_of_memory 8 (accepts w now name id body)) u (out_of_memory_at 8 made) checks
+    (makes_or_lacks d new (λ w. accepts w now name id body) 8 made (takes made same is limits) err))
+  where
+    takes : (made : Result ℕ AllocError) → IfOk made (λ seq. seq ≡ d.records) → OnOk made (new ≡ with_accept d name id body at) → OnOk made (IsTrue (is_within_limits (Accept name id body at)))
+        → IfOk made (λ seq. (w : World) → StandsFor d w → ((accepts w now name id body).reply ≡ Ok seq) × StandsFor new (accepts w now name id body).next)
+    takes (Ok seq) same is limits = accept_makes d new now name id body at u v seq checks there unknown limits later same is
+    takes (Err e) same is limits = tt
 
 -- Looks
 

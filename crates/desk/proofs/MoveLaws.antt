@@ -1,13 +1,13 @@
 -- The answer to a call is its move: one law for its refusals, one for want of memory, one for what it makes.
 use Rattle.std.proofs.Common.{◌≡◌, ℕ, Bool, true, false, [], ◌∷◌, Option, Some, refl, sym, ◌∙◌, ap, subst, inl, inr}
-use Rattle.std.specs.Prelude.{Result, Ok, Err, IfOk, IsSomeAnd, if◌then◌else◌}
+use Rattle.std.specs.Prelude.{Result, Ok, Err, IfOk, OnErr, IsSomeAnd, if◌then◌else◌}
 use Rattle.std.specs.Result.{IsErrAnd}
 use Rattle.std.proofs.lemmas.Result.{err_from_is_err_and}
 use Rattle.desk.specs.declared.refusal.Fault.TheVariants as fault
 use Rattle.desk.specs.declared.refusal.Refusal.{Refusal}
 use Rattle.desk.specs.Faults.{Faults, refusal, first_fault, out_of_memory_at}
 use Rattle.desk.specs.World.{World}
-use Rattle.desk.specs.Moves.{Answer, MayGive, refused, unless}
+use Rattle.desk.specs.Moves.{Answer, MayGive, or_out_of_memory, refused, unless}
 use Rattle.desk.specs.Desks.{DeskValue, StandsFor, IsMove, Checks}
 
 abbrev refusing : Refusal → Result (Unit {0}) Refusal
@@ -74,6 +74,15 @@ replies old new move a b m e = subst (λ reply. IsMove old move reply new) (sym 
 
 pub leaves : {A : Type 0} (old a b : DeskValue) (move : World → Answer A) (reply : Result A Refusal) → IsMove old move reply b → a ≡ b → IsMove old move reply a
 leaves old a b move reply m e = subst (λ new. IsMove old move reply new) (sym e) m
+
+-- what takes memory is made, or the call is refused for want of it
+pub makes_or_lacks : {A E : Type 0} (d new : DeskValue) (answer : World → Answer A) (number : ℕ) (made : Result A E)
+    → IfOk made (λ a. (w : World) → StandsFor d w → ((answer w).reply ≡ Ok a) × StandsFor new (answer w).next) → OnErr made (new ≡ d)
+    → IsMove d (λ w. or_out_of_memory number (answer w)) (out_of_memory_at number made) new
+makes_or_lacks d new answer number (Ok a) stands same = makes d new (λ w. or_out_of_memory number (answer w)) a stands
+makes_or_lacks d new answer number (Err e) stands same =
+    leaves d new d (λ w. or_out_of_memory number (answer w)) (Err (refusal number fault.OutOfMemory))
+    (lacks d (λ w. or_out_of_memory number (answer w)) number (λ w h. refl)) same
 
 pub hands_on : {A : Type 0} (reply : Result A Refusal) (r : Refusal) → IsErrAnd reply (λ y. y ≡ r) → reply ≡ Err r
 hands_on {A} reply r h = let p = err_from_is_err_and reply h in p.1 ∙ ap (λ x. refusing_as {A = A} x) p.2

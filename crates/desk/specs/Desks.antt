@@ -1,13 +1,14 @@
 -- What a desk keeps, the worlds for which it stands, and what its calls answer.
-use Rattle.std.specs.Prelude.{◌≡◌, ℕ, ◌≤◌, ◌+◌, Bool, false, not, List, [], ◌∷◌, ◌++◌, length, drop, map, Option, Some, None, Result, Ok, Err, IsTrue, if◌then◌else◌}
-use Rattle.relay_types.specs.declared.limits.TheConstants.{MAX_ENDPOINTS, MAX_RECORDS}
+use Rattle.std.specs.Prelude.{◌≡◌, ℕ, ◌≤◌, ◌+◌, Bool, false, not, List, [], ◌∷◌, length, drop, Option, Some, None, Result, Ok, Err, if◌then◌else◌}
+use Rattle.relay_types.specs.declared.limits.TheConstants.{MAX_RECORDS}
 use Rattle.relay_types.specs.declared.record.Record.{Record}
 use Rattle.relay_types.specs.declared.record.Record.TheVariants.{Put, Accept}
 use Rattle.relay_types.specs.Records.{History}
-use Rattle.relay_types.specs.Endpoints.{endpoints}
 use Rattle.relay_types.specs.Legal.{IsLegal}
-use Rattle.delivery_book.specs.Entries.{BookValue, with_event}
-use Rattle.delivery_book.specs.Book as book
+use Rattle.endpoint_book.specs.Book as endpoint_book
+use Rattle.endpoint_book.specs.Entries as endpoint_entries
+use Rattle.delivery_book.specs.Book as delivery_book
+use Rattle.delivery_book.specs.Entries as delivery_entries
 use Rattle.spool.specs.Batches.{BatchValue}
 use Rattle.desk.specs.declared.refusal.Refusal.{Refusal}
 use Rattle.desk.specs.declared.refusal.WrongTurn.{WrongTurn}
@@ -15,24 +16,26 @@ use Rattle.desk.specs.Faults.{Faults, first_fault}
 use Rattle.desk.specs.World.{World, all_records, settled_records, sealed_records, waiting_records}
 use Rattle.desk.specs.Moves.{Answer, MayGive, with_sealed_settled, is_nothing_out, sealed_batch}
 
--- The names stand in the order of their Puts; `waiting` is the step that isn't settled, and `is_out` whether it was sealed.
+-- `waiting` is the step that isn't settled, and `is_out` whether it was sealed.
 pub record DeskValue : Type 0 where
   pub mark : ℕ
   pub clock : ℕ
-  pub endpoints : List (List ℕ)
-  pub deliveries : BookValue
+  pub endpoints : endpoint_entries.BookValue
+  pub deliveries : delivery_entries.BookValue
   pub waiting : Option (List Record)
   pub is_out : Bool
   pub records : ℕ
   pub settled : ℕ
 
 -- what holds of a desk's fields in every world
-pub record IsDesk (next_seq settled_seq records settled capacity : ℕ) (steps : History) : Type 0 where
-  pub staged : next_seq ≤ records
-  pub settled_book : settled_seq ≤ settled
+pub record IsDesk (endpoints : endpoint_entries.BookValue) (deliveries : delivery_entries.BookValue) (records settled : ℕ)
+    (steps : History) : Type 0 where
+  pub endpoints_staged : endpoints.next_seq ≤ records
+  pub endpoints_settled : endpoints.settled_seq ≤ settled
+  pub deliveries_staged : deliveries.next_seq ≤ records
+  pub deliveries_settled : deliveries.settled_seq ≤ settled
   pub prefix : settled + length steps ≤ records
   pub room : records ≤ MAX_RECORDS
-  pub places : MAX_ENDPOINTS ≤ capacity
 
 -- the step as the steps of a history
 abbrev pub steps_of : Option (List Record) → History
@@ -42,8 +45,8 @@ steps_of (Some step) = step ∷ []
 -- The desk keeps what these words say of the world. It stores no history.
 pub record StandsFor (desk : DeskValue) (w : World) : Type 0 where
   pub clock : desk.clock ≡ w.clock
-  pub endpoints : desk.endpoints ≡ map (λ e. e.name) (endpoints (all_records w))
-  pub deliveries : book.StandsFor desk.deliveries (all_records w) (length (settled_records w))
+  pub endpoints : endpoint_book.StandsFor desk.endpoints (all_records w) (length (settled_records w))
+  pub deliveries : delivery_book.StandsFor desk.deliveries (all_records w) (length (settled_records w))
   pub waiting : drop w.settled w.history ≡ steps_of desk.waiting
   pub one_each : length (waiting_records w) ≡ length (steps_of desk.waiting)
   pub is_out : desk.is_out ≡ not (is_nothing_out w.out)
@@ -82,10 +85,12 @@ abbrev pub with_step : DeskValue → Record → DeskValue
 with_step desk entry = record desk { waiting = Some (entry ∷ []); records = desk.records + 1 }
 
 abbrev pub with_put : DeskValue → List ℕ → List ℕ → ℕ → List (List ℕ) → DeskValue
-with_put desk name target max secrets = record (with_step desk (Put name target max secrets)) { endpoints = desk.endpoints ++ name ∷ [] }
+with_put desk name target max secrets = record (with_step desk (Put name target max secrets)) {
+  endpoints = endpoint_entries.with_put desk.endpoints (endpoint_entries.new_entry desk.records name target max secrets);
+}
 
 abbrev pub with_accept : DeskValue → List ℕ → List ℕ → List ℕ → ℕ → DeskValue
 with_accept desk name id body at = record (with_step desk (Accept name id body at)) {
   clock = at;
-  deliveries = with_event desk.deliveries desk.records name id body at;
+  deliveries = delivery_entries.with_event desk.deliveries desk.records name id body at;
 }

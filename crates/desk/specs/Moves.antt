@@ -118,10 +118,6 @@ submit_known known w now name id body =
 abbrev pub submit : (w : World) (now : Seconds) (name id body : Text) → Answer Seq
 submit w now name id body = submit_known (known_as (all_records w) name id) w now name id body
 
--- what a command adds
-abbrev pub record_of : Command → Record
-record_of (PutEndpoint name target max secrets) = Put name target max secrets
-
 -- the refusals of a command, in order
 abbrev pub put_faults : (w : World) (name : Text) → Faults
 put_faults w name =
@@ -134,9 +130,13 @@ put_faults w name =
 abbrev pub change_faults : World → Command → Faults
 change_faults w (PutEndpoint name target max secrets) = put_faults w name
 
--- A command. It takes no memory.
+-- what a command makes: a new endpoint takes memory
+abbrev pub changes : World → Command → Answer Seq
+changes w (PutEndpoint name target max secrets) = or_out_of_memory 7 (stages w (Put name target max secrets))
+
+-- A command.
 abbrev pub change : World → Command → Answer Seq
-change w command = unless (change_faults w command) w (stages w (record_of command))
+change w command = unless (change_faults w command) w (changes w command)
 
 -- what is out
 abbrev pub is_nothing_out : Out → Bool

@@ -1,9 +1,9 @@
 //! The desk: the order of all changes. It takes submissions and commands, seals what waits, and settles what was committed.
-ghost use Rattle.std.specs.Prelude.{◌≡◌, ◌≤◌, ◌<◌, ◌+◌, [], length, max, bytes_eq, ◌↔◌, OnOk, OnErr, IfOk, IfErr, IfSome, IsOk, IsTrue, None};
-ghost use Rattle.std.specs.List.{list_any};
+ghost use Rattle.std.specs.Prelude.{◌≡◌, ◌≤◌, ◌<◌, ◌+◌, [], false, max, ◌↔◌, OnOk, OnErr, IfOk, IfErr, IfSome, IsOk, IsTrue, None};
 ghost use Rattle.relay_types.specs.declared.record.Record.TheVariants.{Put, Accept};
 ghost use Rattle.relay_types.specs.Deliveries.{accepted};
 ghost use Rattle.relay_types.specs.Legal.{is_within_limits};
+ghost use Rattle.endpoint_book.specs.Entries.{is_known};
 ghost use Rattle.delivery_book.specs.Entries.{known_in};
 ghost use Rattle.desk.specs.World.{World, all_records};
 ghost use Rattle.desk.specs.Moves.{opened, submit, submit_faults, new_submit_faults, is_conflict, has_body, change, change_faults, put_faults, seal, event_row};
@@ -13,6 +13,7 @@ use crate::command::Command;
 use crate::limits::{MAX_PENDING, MAX_PENDING_ALL};
 use crate::refusal::{Fault, Refusal, WrongTurn, check, or_out_of_memory};
 use delivery_book::{DeliveryBook, Row};
+use endpoint_book::EndpointBook;
 use relay_types::{
     Body, MAX_ENDPOINTS, MAX_RECORDS, MaxLimit, Moment, MsgId, Name, Record, Secrets, Step, Target,
 };
@@ -25,7 +26,7 @@ use std::marker::Model;
 pub struct Desk {
     mark: u64,
     clock: Moment,
-    endpoints: Vec<Name>,
+    endpoints: EndpointBook,
     deliveries: DeliveryBook,
     waiting: Option<Step>,
     is_out: bool,
@@ -34,7 +35,6 @@ pub struct Desk {
 }
 
 impl Model for Desk {
-    ghost use Rattle.std.specs.Prelude.{vec_capacity};
     ghost use Rattle.desk.specs.Desks.{DeskValue, IsDesk, steps_of};
 
     ghost Value = { DeskValue };
@@ -42,7 +42,7 @@ impl Model for Desk {
     ghost view = { λ d. record {
       mark = d.mark;
       clock = d.clock;
-      endpoints = d.endpoints.items;
+      endpoints = d.endpoints;
       deliveries = d.deliveries;
       waiting = d.waiting;
       is_out = d.is_out;
@@ -50,7 +50,7 @@ impl Model for Desk {
       settled = d.settled;
     } };
 
-    ghost invariant = { λ d. IsDesk d.deliveries.next_seq d.deliveries.settled_seq d.records d.settled (vec_capacity d.endpoints) (steps_of d.waiting) };
+    ghost invariant = { λ d. IsDesk d.endpoints d.deliveries d.records d.settled (steps_of d.waiting) };
 }
 
 impl Desk {
@@ -65,7 +65,7 @@ impl Desk {
         Ok(Desk {
             mark,
             clock,
-            endpoints: Vec::with_capacity(alloc, MAX_ENDPOINTS)?,
+            endpoints: EndpointBook::new(alloc)?,
             deliveries: DeliveryBook::new(alloc),
             waiting: None,
             is_out: false,
@@ -135,6 +135,7 @@ impl Desk {
             return Err((receipt, WrongTurn));
         }
         self.settled = self.records;
+        self.endpoints.settle_to(self.settled);
         self.deliveries.settle_to(self.settled);
         self.waiting = None;
         self.is_out = false;
@@ -177,12 +178,6 @@ impl Desk {
         if now > self.clock { now } else { self.clock }
     }
 
-    fn has_endpoint(&self, name: Name) -> bool
-        ensures { result ≡ list_any (λ known. bytes_eq known name) self.now.endpoints }
-    {
-        self.endpoints.iter().any(|known| known.is(name))
-    }
-
     // Whether the delivery has these bytes.
     fn has_body(&self, delivery: u64, body: &Body) -> bool
         ensures { (w : World) → StandsFor self.now w → result ≡ has_body body.now (accepted (all_records w) delivery) }
@@ -207,7 +202,7 @@ impl Desk {
         ensures { Checks self.now (λ w. submit_faults w name known body.now) result }
     {
         check(&[
-            (!self.has_endpoint(name), 2, Fault::UnknownEndpoint),
+            (!self.endpoints.contains(name), 2, Fault::UnknownEndpoint),
             (self.is_conflict(known, body), 3, Fault::Conflict),
         ])
     }
@@ -235,10 +230,10 @@ impl Desk {
     fn check_put(&self, name: Name) -> Result<(), Refusal>
         ensures faults { Checks self.now (λ w. put_faults w name) result }
         ensures room { OnOk result (self.now.records < MAX_RECORDS) }
-        ensures place { OnOk result (length self.now.endpoints < MAX_ENDPOINTS) }
+        ensures unknown { OnOk result (is_known self.now.endpoints name ≡ false) }
     {
         check(&[
-            (self.has_endpoint(name), 3, Fault::Exists),
+            (self.endpoints.contains(name), 3, Fault::Exists),
             (
                 self.endpoints.len() >= MAX_ENDPOINTS,
                 4,
@@ -261,30 +256,39 @@ impl Desk {
         ensures err { OnErr result (self.new ≡ self.old) }
     {
         self.check_put(name)?;
-        Ok(self.stage_put(name, target, max, secrets))
+        or_out_of_memory(7, self.stage_put(name, target, max, secrets))
     }
 
-    fn stage_put(&mut self, name: Name, target: Target, max: MaxLimit, secrets: Secrets) -> u64
+    // The steps that can fail for memory come first.
+    fn stage_put(
+        &mut self,
+        name: Name,
+        target: Target,
+        max: MaxLimit,
+        secrets: Secrets,
+    ) -> Result<u64, AllocError>
         requires room { self.old.records < MAX_RECORDS }
-        requires place { length self.old.endpoints < MAX_ENDPOINTS }
-        ensures seq { result ≡ self.old.records }
-        ensures staged { self.new ≡ with_put self.old name target max secrets }
-        ensures limits { IsTrue (is_within_limits (Put name target max secrets)) }
+        requires unknown { is_known self.old.endpoints name ≡ false }
+        ensures seq { IfOk result (λ seq. seq ≡ self.old.records) }
+        ensures staged { OnOk result (self.new ≡ with_put self.old name target max secrets) }
+        ensures limits { OnOk result (IsTrue (is_within_limits (Put name target max secrets))) }
+        ensures err { OnErr result (self.new ≡ self.old) }
     {
+        let seq = self.records;
+        let kept = target.share()?;
+        self.endpoints.stage_put(seq, name, kept, max, secrets)?;
         let entry = Record::Put {
             name,
             target,
             max,
             secrets,
         };
-        let seq = self.records;
-        self.endpoints.push_reserved(name);
         self.waiting = Some(Step::of(entry));
         self.records = seq + 1;
-        seq
+        Ok(seq)
     }
 
-    // The step that can fail for memory comes first.
+    // The steps that can fail for memory come first.
     fn stage_accept(
         &mut self,
         at: Moment,

@@ -35,7 +35,7 @@ use Rattle.desk.specs.declared.command.Command.TheVariants.{PutEndpoint}
 use Rattle.desk.specs.declared.refusal.Fault.TheVariants as desk_fault
 use Rattle.desk.specs.declared.refusal.Refusal.{Refusal}
 use Rattle.desk.specs.Faults.{Faults, refusal}
-use Rattle.desk.specs.Moves.{opened, Answer, MayGive, refused, unless, submit, submit_faults, new_submit_faults, put_faults, change, stages, repeats, submit_new, seal, seal_waiting, sealed_batch, with_batch, with_sealed_settled, event_row, is_nothing_out}
+use Rattle.desk.specs.Moves.{opened, Answer, MayGive, refused, unless, submit, submit_faults, new_submit_faults, put_faults, changes, change, repeats, submit_new, seal, seal_waiting, sealed_batch, with_batch, with_sealed_settled, event_row, is_nothing_out}
 use Rattle.desk.specs.Desks.{DeskValue, StandsFor, IsMove, Settles, steps_of}
 use Rattle.drill.specs.Moves.{Move, Commits, SettlesOut, staged_reply, seal_reply, event_reply, in_doubt}
 use Rattle.drill.specs.Runners.{IsHeld, IsOpenAt, LeavesEither, VaultStandsFor, KeepsRows, RunnerStandsFor, Answers, EndsAs, CommitsSo, unchanged_reply}
@@ -72,7 +72,7 @@ goes_submit w now name id body = goes_unless (submit_faults w name (known_as (al
     at (Some d) = record { out = refl; settled = refl; sealed = refl; more = []; history = sym (append-nil w.history) }
 
 goes_put : (w : World) (name target : List ℕ) (max : ℕ) (secrets : List (List ℕ)) → Goes w (change w (PutEndpoint name target max secrets)).next
-goes_put w name target max secrets = goes_unless (put_faults w name) w (stages w (Put name target max secrets)) (record { out = refl; settled = refl; sealed = refl; more = _; history = refl })
+goes_put w name target max secrets = goes_unless (put_faults w name) w (changes w (PutEndpoint name target max secrets)) (record { out = refl; settled = refl; sealed = refl; more = _; history = refl })
 
 lacks_stays : {A : Type 0} (o : Option ℕ) (result : Result A Refusal) (w next : World) → IsSomeAnd o (λ number. (result ≡ Err (refusal number desk_fault.OutOfMemory)) × (next ≡ w)) → next ≡ w
 lacks_stays None result w next h = absurd h
