@@ -3,6 +3,9 @@
 
 ghost use Rattle.std.specs.Prelude.{◌≤◌};
 
+mod books;
+
+use crate::books::{stage_events, stage_outcomes};
 use relay_types::MaxLimit;
 use sqlite::Connection;
 use std::io;
@@ -11,6 +14,8 @@ use text_lines::read_number;
 use vegas::Estimator;
 
 const LIST: &str = "limit COUNT     the adaptive limit after as many samples
+events COUNT    a book of as many events
+outcomes COUNT  the same, and then one outcome of each, settled 256 at a time
 replay PATH     the script on standard input, over a store in a new file
 ";
 
@@ -61,6 +66,22 @@ fn print_limit(rt: &HostRuntime, count: &str) -> io::Result<bool> {
     Ok(true)
 }
 
+/// Prints how many events a book of as many has pending, and how many attempts the last one had, where each is to have an
+/// outcome. Whether the word is a number.
+fn print_book(rt: &HostRuntime, count: &str, has_outcomes: bool) -> io::Result<bool> {
+    let Some(count) = read_number(count.as_bytes()) else {
+        return Ok(false);
+    };
+    let mut book = stage_events(rt.alloc(), count)?;
+    if has_outcomes {
+        stage_outcomes(&mut book, count);
+    }
+    let last = book.settled(count.saturating_sub(1));
+    let attempts = last.map_or(0, |row| row.attempts);
+    println!(rt; "pending {} attempts {attempts}", book.pending_all())?;
+    Ok(true)
+}
+
 /// Replays the script on standard input over the file, which is to have no table. Whether it ended well.
 fn replay(rt: &HostRuntime, path: &str) -> bool {
     let Ok(conn) = Connection::open(rt, path) else {
@@ -78,6 +99,8 @@ fn run(rt: &HostRuntime, words: &[&str]) -> io::Result<bool> {
             Ok(true)
         }
         [_, "limit", count] => print_limit(rt, count),
+        [_, "events", count] => print_book(rt, count, false),
+        [_, "outcomes", count] => print_book(rt, count, true),
         [_, "replay", path] => Ok(replay(rt, path)),
         _ => Ok(false),
     }

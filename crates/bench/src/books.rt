@@ -1,0 +1,67 @@
+//! Runs over a book alone.
+use delivery_book::DeliveryBook;
+use relay_types::{Body, MAX_RECORDS, Moment, MsgId, Name};
+use std::alloc::Global;
+use std::io;
+use std::sync::Arc;
+
+const ENDPOINTS: u64 = 100;
+
+const MAX_WAITING: u64 = 256;
+
+/// A book of as many events, all with the body `{}`, over 100 endpoints.
+pub fn stage_events(alloc: Global, count: u64) -> io::Result<DeliveryBook> {
+    let mut book = DeliveryBook::new(alloc);
+    let Ok(body) = Body::of(Arc::new(alloc, Vec::from_slice(alloc, b"{}")?)?) else {
+        return Ok(book);
+    };
+    for number in 0..count {
+        stage_event(alloc, &mut book, number, body.share()?)?;
+    }
+    settle(&mut book);
+    Ok(book)
+}
+
+fn stage_event(alloc: Global, book: &mut DeliveryBook, number: u64, body: Body) -> io::Result<()> {
+    let name = format!(in alloc; "e{}", number % ENDPOINTS)?;
+    let id = format!(in alloc; "msg_{number}")?;
+    let (Ok(name), Ok(id), Ok(at)) = (
+        Name::read(name.as_bytes()),
+        MsgId::read(id.as_bytes()),
+        Moment::of(1000),
+    ) else {
+        return Ok(());
+    };
+    let seq = book.next_seq();
+    if seq < MAX_RECORDS && book.find(name, &id).is_none() {
+        book.stage_accept(seq, name, id, body, at)?;
+    }
+    Ok(())
+}
+
+/// One failed outcome of each event, the first of which has number 0. After every 256 of them all are settled.
+pub fn stage_outcomes(book: &mut DeliveryBook, count: u64) {
+    for delivery in 0..count {
+        stage_outcome(book, delivery);
+        if delivery % MAX_WAITING == MAX_WAITING - 1 {
+            settle(book);
+        }
+    }
+    settle(book);
+}
+
+fn stage_outcome(book: &mut DeliveryBook, delivery: u64) {
+    let seq = book.next_seq();
+    if let Ok(at) = Moment::of(1001) {
+        if seq < MAX_RECORDS && book.takes_outcome(delivery) {
+            book.stage_outcome(seq, delivery, 500, at);
+        }
+    }
+}
+
+fn settle(book: &mut DeliveryBook) {
+    let seq = book.next_seq();
+    if book.settled_seq() <= seq {
+        book.settle_to(seq);
+    }
+}
