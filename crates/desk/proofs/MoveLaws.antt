@@ -90,10 +90,10 @@ hands_on {A} reply r h = let p = err_from_is_err_and reply h in p.1 ∙ ap (λ x
 abbrev giving : {A : Type 0} → A → Result A Refusal
 giving a = Ok a
 
--- what was made, where memory was given
-pub taken : {A E : Type 0} (made : Result A E) (number : ℕ) (x y : A) → Ok x ≡ out_of_memory_at number made → IfOk made (λ z. z ≡ y) → x ≡ y
-taken {A} (Ok z) number x y e h = one_value x z e ∙ h
+-- what was made, as `f` sees it, where memory was given
+pub taken : {A B E : Type 0} (f : A → B) (made : Result A E) (number : ℕ) (x : A) (y : B) → Ok x ≡ out_of_memory_at number made → IfOk made (λ z. f z ≡ y) → f x ≡ y
+taken {A} f (Ok z) number x y e h = ap f (one_value x z e) ∙ h
   where
     one_value : (a b : A) → giving a ≡ giving b → a ≡ b
     one_value a b e = cc
-taken (Err z) number x y e h = cc
+taken f (Err z) number x y e h = cc

@@ -9,7 +9,7 @@ use Rattle.endpoint_book.specs.Book as endpoint_book
 use Rattle.endpoint_book.specs.Entries as endpoint_entries
 use Rattle.delivery_book.specs.Book as delivery_book
 use Rattle.delivery_book.specs.Entries as delivery_entries
-use Rattle.spool.specs.Batches.{BatchValue}
+use Rattle.spool.specs.Batches.{BatchValue, upto_of}
 use Rattle.desk.specs.declared.refusal.Refusal.{Refusal}
 use Rattle.desk.specs.declared.refusal.WrongTurn.{WrongTurn}
 use Rattle.desk.specs.Faults.{Faults, first_fault}
@@ -34,7 +34,7 @@ pub record IsDesk (endpoints : endpoint_entries.BookValue) (deliveries : deliver
   pub endpoints_settled : endpoints.settled_seq ≤ settled
   pub deliveries_staged : deliveries.next_seq ≤ records
   pub deliveries_settled : deliveries.settled_seq ≤ settled
-  pub prefix : settled + length steps ≤ records
+  pub prefix : upto_of settled steps ≤ records
   pub room : records ≤ MAX_RECORDS
 
 -- the step as the steps of a history

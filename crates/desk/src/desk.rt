@@ -1,5 +1,5 @@
 //! The desk: the order of all changes. It takes submissions and commands, seals what waits, and settles what was committed.
-ghost use Rattle.std.specs.Prelude.{◌≡◌, ◌≤◌, ◌<◌, ◌+◌, [], false, max, ◌↔◌, OnOk, OnErr, IfOk, IfErr, IfSome, IsOk, IsTrue, None};
+ghost use Rattle.std.specs.Prelude.{◌≡◌, ◌≤◌, ◌<◌, ◌+◌, [], ◌∷◌, false, max, ◌↔◌, OnOk, OnErr, IfOk, IfErr, IfSome, IsOk, IsTrue, None};
 ghost use Rattle.relay_types.specs.declared.record.Record.TheVariants.{Put, Accept};
 ghost use Rattle.relay_types.specs.Deliveries.{accepted};
 ghost use Rattle.relay_types.specs.Legal.{is_within_limits};
@@ -32,6 +32,7 @@ pub struct Desk {
     is_out: bool,
     records: u64,
     settled: u64,
+    alloc: Global,
 }
 
 impl Model for Desk {
@@ -71,6 +72,7 @@ impl Desk {
             is_out: false,
             records: 0,
             settled: 0,
+            alloc,
         })
     }
 
@@ -118,9 +120,9 @@ impl Desk {
         let Some(step) = &self.waiting else {
             return Ok(None);
         };
-        let step = or_out_of_memory(3, step.share())?;
+        let steps = or_out_of_memory(3, share(self.alloc, step))?;
         self.is_out = true;
-        Ok(Some(Batch::of(self.mark, self.settled, step)))
+        Ok(Some(Batch::of(self.mark, self.settled, steps)))
     }
 
     /// Settles the batch that is out, by its receipt: how many records are settled. It takes no memory.
@@ -134,6 +136,7 @@ impl Desk {
         if !self.is_receipt(&receipt) {
             return Err((receipt, WrongTurn));
         }
+        drop(receipt.into_steps());
         self.settled = self.records;
         self.endpoints.settle_to(self.settled);
         self.deliveries.settle_to(self.settled);
@@ -312,4 +315,13 @@ impl Desk {
         self.records = seq + 1;
         Ok(seq)
     }
+}
+
+// A list of this step alone, for another holder.
+fn share(alloc: Global, step: &Step) -> Result<Vec<Step>, AllocError>
+    ensures { IfOk result (λ steps. steps.items ≡ step.now ∷ []) }
+{
+    let mut steps = Vec::with_capacity(alloc, 1)?;
+    steps.push_reserved(step.share()?);
+    Ok(steps)
 }

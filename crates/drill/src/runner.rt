@@ -24,7 +24,6 @@ use std::mem;
 use text_lines::{Answerer, StreamFault, WordFault, answer_lines};
 
 /// What the runner holds between two lines.
-#[derive(Drop)]
 enum Held {
     Nothing,
     Batch(Batch),
@@ -32,8 +31,19 @@ enum Held {
     Doubt(Doubt),
 }
 
+impl Held {
+    // Ends what is held.
+    fn end(self) {
+        match self {
+            Held::Nothing => {}
+            Held::Batch(batch) => drop(batch.into_steps()),
+            Held::Receipt(receipt) => drop(receipt.into_steps()),
+            Held::Doubt(doubt) => doubt.end(),
+        }
+    }
+}
+
 /// The desk, the store and what is out.
-#[derive(Drop)]
 struct Runner<S: Alter> {
     desk: Desk,
     vault: Vault<S>,
@@ -100,7 +110,7 @@ impl<S: Alter> Runner<S> {
         match self.desk.seal() {
             Ok(Some(batch)) => {
                 let reply = sealed_reply(&batch);
-                self.held = Held::Batch(batch);
+                self.hold(Held::Batch(batch));
                 reply
             }
             Ok(None) => Reply::NothingWaits,
@@ -115,11 +125,11 @@ impl<S: Alter> Runner<S> {
         match mem::replace(&mut self.held, Held::Nothing) {
             Held::Batch(batch) => {
                 let (held, reply) = commit_batch(&mut self.vault, batch);
-                self.held = held;
+                self.hold(held);
                 reply
             }
             other => {
-                self.held = other;
+                self.hold(other);
                 Reply::NoBatch
             }
         }
@@ -133,7 +143,7 @@ impl<S: Alter> Runner<S> {
             Held::Receipt(receipt) => match self.desk.settle(receipt) {
                 Ok(to) => Reply::SettledTo { to },
                 Err((receipt, WrongTurn)) => {
-                    self.held = Held::Receipt(receipt);
+                    self.hold(Held::Receipt(receipt));
                     Reply::Refused {
                         number: 1,
                         fault: Fault::WrongTurn,
@@ -141,10 +151,31 @@ impl<S: Alter> Runner<S> {
                 }
             },
             other => {
-                self.held = other;
+                self.hold(other);
                 Reply::NoReceipt
             }
         }
+    }
+
+    // Holds this in place of what was held, which is ended.
+    fn hold(&mut self, held: Held)
+        ensures { self.new ≡ record self.old { held = held } }
+    {
+        mem::replace(&mut self.held, held).end();
+    }
+
+    // Ends what is held: the store's connection.
+    fn close(self) -> Connection<S>
+        ensures same { result ≡ self.vault.conn }
+        ensures mode { result.in_transaction ≡ false }
+    {
+        let Runner {
+            desk: _,
+            vault,
+            held,
+        } = self;
+        held.end();
+        vault.release()
     }
 }
 
@@ -280,7 +311,7 @@ pub fn replay<S: Alter, I: Read, O: Write>(
         Ok(runner) => {
             let mut runner = runner;
             let end = answer_lines(alloc, &mut runner, input, output);
-            (runner.vault.release(), end)
+            (runner.close(), end)
         }
         Err((conn, fault)) => (conn, Err(fault)),
     }

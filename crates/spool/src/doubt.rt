@@ -5,8 +5,8 @@ ghost use Rattle.spool.specs.Batches.{doubt_of};
 use crate::batch::Batch;
 use std::marker::Model;
 
-/// Places of which nobody knows whether they stand in the store.
-#[derive(Drop)]
+/// Places of which nobody knows whether they stand in the store. `Vault::commit` alone makes one. It can't be dropped or
+/// copied: who has it halts the desk by it, or ends it by `end`.
 pub struct Doubt {
     mark: u64,
     from: u64,
@@ -26,11 +26,13 @@ impl Doubt {
     pub(crate) fn over(batch: Batch) -> Doubt
         ensures { result ≡ doubt_of batch }
     {
-        Doubt {
+        let doubt = Doubt {
             mark: batch.mark(),
             from: batch.from(),
             upto: batch.upto(),
-        }
+        };
+        drop(batch.into_steps());
+        doubt
     }
 
     /// The mark of the opening that the places belong to.
@@ -47,10 +49,19 @@ impl Doubt {
         self.from
     }
 
-    /// The number after the last record.
+    /// The number behind the last record.
     pub fn upto(&self) -> u64
         ensures { result ≡ self.now.upto }
     {
         self.upto
+    }
+
+    /// Ends the doubt.
+    pub fn end(self) {
+        let Doubt {
+            mark: _,
+            from: _,
+            upto: _,
+        } = self;
     }
 }

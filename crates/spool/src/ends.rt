@@ -50,7 +50,6 @@ pub enum Unchanged {
 }
 
 /// How a commit ends that gives no receipt.
-#[derive(Drop)]
 pub enum CommitEnd {
     /// Nothing was written.
     Unchanged(Batch, Unchanged),

@@ -27,8 +27,15 @@ fn refused(conn: Connection<MemStore>) -> Result<(Connection<MemStore>, OpenFaul
     }
 }
 
+/// A batch of this mark and number, of this record alone.
+fn batch(alloc: Global, (mark, from): (u64, u32), record: Record) -> Result<Batch, Fail> {
+    let mut steps = Vec::with_capacity(alloc, 1)?;
+    steps.push_reserved(Step::of(record));
+    Ok(Batch::of(mark, u64::from(from), steps))
+}
+
 /// A batch of this mark and number that puts an endpoint.
-fn endpoint(alloc: Global, (mark, from): (u64, u32), name: &[u8]) -> Result<Batch, Fail> {
+fn endpoint(alloc: Global, turn: (u64, u32), name: &[u8]) -> Result<Batch, Fail> {
     let newest = Secret::read(b"whsec_MDEyMzQ1Njc4OWFiY2RlZjAxMjM0NTY3")?;
     let older = Secret::read(b"whsec_ODlhYmNkZWYwMTIzNDU2Nzg5YWJjZGVm")?;
     let record = Record::Put {
@@ -37,11 +44,11 @@ fn endpoint(alloc: Global, (mark, from): (u64, u32), name: &[u8]) -> Result<Batc
         max: MaxLimit::of(100)?,
         secrets: Secrets::of(&[newest, older])?,
     };
-    Ok(Batch::of(mark, u64::from(from), Step::of(record)))
+    batch(alloc, turn, record)
 }
 
 /// A batch of this mark and number that takes an event in.
-fn event(alloc: Global, (mark, from): (u64, u32), name: &[u8], id: &[u8]) -> Result<Batch, Fail> {
+fn event(alloc: Global, turn: (u64, u32), name: &[u8], id: &[u8]) -> Result<Batch, Fail> {
     let bytes = Vec::from_slice(alloc, b"{}")?;
     let shared = Arc::new(alloc, bytes).map_err(AllocError::from)?;
     let record = Record::Accept {
@@ -50,7 +57,7 @@ fn event(alloc: Global, (mark, from): (u64, u32), name: &[u8], id: &[u8]) -> Res
         body: Body::of(shared)?,
         at: Moment::of(1000)?,
     };
-    Ok(Batch::of(mark, u64::from(from), Step::of(record)))
+    batch(alloc, turn, record)
 }
 
 /// The mark and the number of a receipt, or why nothing was written, which a doubtful end does not tell.
@@ -58,9 +65,19 @@ type Told = Result<(u64, u64), Option<Unchanged>>;
 
 fn commit(vault: &mut Vault<MemStore>, batch: Batch) -> Told {
     match vault.commit(batch) {
-        Ok(receipt) => Ok((receipt.mark(), receipt.from())),
-        Err(CommitEnd::Unchanged(_, why)) => Err(Some(why)),
-        Err(CommitEnd::Doubtful(_, _)) => Err(None),
+        Ok(receipt) => {
+            let told = (receipt.mark(), receipt.from());
+            drop(receipt.into_steps());
+            Ok(told)
+        }
+        Err(CommitEnd::Unchanged(batch, why)) => {
+            drop(batch.into_steps());
+            Err(Some(why))
+        }
+        Err(CommitEnd::Doubtful(doubt, _)) => {
+            doubt.end();
+            Err(None)
+        }
     }
 }
 

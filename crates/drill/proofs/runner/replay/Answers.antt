@@ -11,7 +11,7 @@ returns-in-Err-clause-replays g c clean begun text had input output = ends_at_on
 
 pub returns-in-Ok-clause-replays : goal.returns-in-Ok-clause-replays
 returns-in-Ok-clause-replays g c clean begun =
-    let still = subst (IsCleanAt g.S.Store) c.release.ensures.same clean in
+    let still = subst (IsCleanAt g.S.Store) c.close.ensures.same clean in
     replays g.S.Store c.in-Ok.runner _ _ _ _ (c.in-Ok.ensures.stands (c.answer_lines-end.ensures.clean still) begun) (c.answer_lines-end.ensures.ends still)
 
 pub returns-in-Err-clause-rows : goal.returns-in-Err-clause-rows
@@ -22,5 +22,5 @@ returns-in-Err-clause-rows g c clean begun between = elim c.in-Err.ensures.fault
 
 pub returns-in-Ok-clause-rows : goal.returns-in-Ok-clause-rows
 returns-in-Ok-clause-rows g c clean begun between =
-    let still = subst (IsCleanAt g.S.Store) c.release.ensures.same clean in
-    keeps_run g.S.Store c.in-Ok.runner _ _ _ _ _ _ c.release.ensures.same (c.in-Ok.ensures.stands (c.answer_lines-end.ensures.clean still) begun) (c.answer_lines-end.ensures.leads still between)
+    let still = subst (IsCleanAt g.S.Store) c.close.ensures.same clean in
+    keeps_run g.S.Store c.in-Ok.runner _ _ _ _ _ _ c.close.ensures.same (c.in-Ok.ensures.stands (c.answer_lines-end.ensures.clean still) begun) (c.answer_lines-end.ensures.leads still between)

@@ -5,7 +5,7 @@ use Rattle.drill.proofs.RunnerLaws.{answers_sealed, answers_unsealed}
 use Rattle.drill.proofs.runner.Runner.seal.Goals as goal
 
 pub returns-in-Ok-Some-clause-answers : goal.returns-in-Ok-Some-clause-answers
-returns-in-Ok-Some-clause-answers g c = rw c.sealed_reply-reply.ensures
+returns-in-Ok-Some-clause-answers g c = rw (c.sealed_reply-reply.ensures, c.hold.ensures)
     (answers_sealed g.S.Store _ _ c.in-Ok-Some.batch (subst (λ o. IsMove c.args.self.now.desk (seal c.args.self.now.desk.mark) (Ok o) c.seal.new.self) c.in-Ok-Some.field-0-is c.in-Ok-Some.ensures.moves) c.in-Ok-Some.ensures.mark refl refl)
 
 pub returns-in-Ok-None-clause-answers : goal.returns-in-Ok-None-clause-answers
