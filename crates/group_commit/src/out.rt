@@ -1,0 +1,8 @@
+//! What is kept of a batch that is out.
+
+// How many of the waiting steps it has, and the number behind their records.
+#[derive(Clone, Copy)]
+pub(crate) struct Out {
+    pub steps: usize,
+    pub upto: u64,
+}
