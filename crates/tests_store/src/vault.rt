@@ -8,9 +8,9 @@ use std::process::Abort;
 use std::sync::Arc;
 use std::test::Fail;
 
-pub(crate) const MARK: u64 = 7;
+const MARK: u64 = 7;
 
-pub(crate) fn opened(alloc: Global) -> Result<Vault<MemStore>, Fail> {
+fn opened(alloc: Global) -> Result<Vault<MemStore>, Fail> {
     let conn = Connection::open_in_memory(alloc)?;
     match Vault::create(conn, MARK) {
         Ok(vault) => Ok(vault),
@@ -96,7 +96,7 @@ fn enter(
     Ok(commit(vault, batch))
 }
 
-pub(crate) fn number(conn: &mut Connection<MemStore>, sql: &str) -> Result<i64, Fail> {
+fn number(conn: &mut Connection<MemStore>, sql: &str) -> Result<i64, Fail> {
     Ok(conn.query_row(sql, &[])?.get(0)?)
 }
 
