@@ -8,3 +8,5 @@ pub mod CommitLemmas
 pub mod VaultLemmas
 pub mod AnswerLemmas
 pub mod CreateLemmas
+pub mod PageLaws
+pub mod EndpointLoads

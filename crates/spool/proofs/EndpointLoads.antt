@@ -1,0 +1,194 @@
+-- The endpoints that a load reads, with their secrets.
+use Rattle.std.proofs.Common.{◌≡◌, ◌<◌, ◌≤◌, ℕ, suc, ◌+◌, ◌==◌, Bool, List, [], ◌∷◌, ◌++◌, Some, Result, Ok, Err, OnOk, IfOk, map, length, refl, sym, ap, subst, ◌∙◌, arith, append-nil, append_assoc}
+use Rattle.std.specs.Prelude.{filter, flat_map}
+use Rattle.std.specs.List.{enumerate_from}
+use Rattle.std.specs.List.Sorted.{IsPermutation}
+use Rattle.std.proofs.lemmas.Bool.{eq-eqb, ne_eqb}
+use Rattle.std.proofs.lemmas.List.{map-append}
+use Rattle.std.proofs.lemmas.List.Elements.{filter-append}
+use Rattle.relay_types.specs.declared.record.Record.{Record}
+use Rattle.relay_types.specs.declared.record.Record.TheVariants.{Put, Secrets, Enabled, Accept, Outcome}
+use Rattle.relay_types.specs.Endpoints.{Endpoint, endpoint_by, endpoints, secrets_of}
+use Rattle.relay_types.specs.declared.limits.TheConstants.{MAX_RECORDS}
+use Rattle.relay_types.specs.Legal.{IsLegal}
+use Rattle.relay_types.specs.Rows.{EndpointRow, SecretRow, endpoint_row, secret_rows, rows_of}
+use Rattle.relay_types.proofs.OrderLaws.{Rises, puts_rise}
+use Rattle.endpoint_book.specs.Entries.{BookValue, empty_book, restored_entry, with_restored}
+use Rattle.spool_sql.specs.Stored.{AreSecretsOf}
+use Rattle.spool.specs.Reading.{IsRising, IsLeft}
+use Rattle.spool.specs.Loading.{AreRestored, Restores, entry_of_row, known_of}
+use Rattle.spool.specs.declared.load_endpoints.Endpoints.{Endpoints}
+use Rattle.spool.proofs.PageLaws.{IsBehind, rising_order, rising_map, rising_at, rising_higher, rows_rise, left_all, none_left, legal_length}
+
+-- the endpoints with numbers below this one were read
+abbrev pub IsRead : Endpoints → List Record → ℕ → Type 0
+IsRead loaded records from =
+    (read : List EndpointRow) × (left : List EndpointRow) × IsLeft (λ (e : EndpointRow). e.put) from (rows_of records).endpoints read left × AreRestored loaded records read
+
+-- Secrets of one endpoint
+
+abbrev has_put : ℕ → SecretRow → Bool
+has_put p s = s.endpoint == p
+
+abbrev row_at : ℕ → ℕ × List ℕ → SecretRow
+row_at put s = record { endpoint = put; place = s.0; secret = s.1 }
+
+all_own : (p n : ℕ) (secrets : List (List ℕ)) → filter (has_put p) (map (row_at p) (enumerate_from n secrets)) ≡ map (row_at p) (enumerate_from n secrets)
+all_own p n [] = refl
+all_own p n (s ∷ rest) = rw (eq-eqb p p refl) (ap (λ more. row_at p (n, s) ∷ more) (all_own p (n + 1) rest))
+
+none_own : (p q n : ℕ) (secrets : List (List ℕ)) → (q ≡ p → ⊥) → filter (has_put p) (map (row_at q) (enumerate_from n secrets)) ≡ []
+none_own p q n [] other = refl
+none_own p q n (s ∷ rest) other = rw (ne_eqb q p other) (none_own p q (n + 1) rest other)
+
+places_rise : (p n : ℕ) (secrets : List (List ℕ)) → IsRising (λ (s : SecretRow). s.place) n (n + length secrets) (map (row_at p) (enumerate_from n secrets))
+places_rise p n [] = omega arith
+places_rise p n (s ∷ rest) = (omega arith, subst (λ m. IsRising (λ (t : SecretRow). t.place) (n + 1) m (map (row_at p) (enumerate_from (n + 1) rest))) moved (places_rise p (n + 1) rest))
+  where
+    moved : n + 1 + length rest ≡ n + suc (length rest)
+    moved = omega arith
+
+secrets_back : (p n : ℕ) (secrets : List (List ℕ)) → map (λ (s : SecretRow). s.secret) (map (row_at p) (enumerate_from n secrets)) ≡ secrets
+secrets_back p n [] = refl
+secrets_back p n (s ∷ rest) = ap (λ more. s ∷ more) (secrets_back p (n + 1) rest)
+
+module _ (records : List Record) where
+  abbrev secrets_at : Endpoint → List SecretRow
+  secrets_at e = secret_rows e.put (secrets_of records e.name)
+
+  none_above : (p n : ℕ) (es : List Endpoint) → p < n → Rises n es → filter (has_put p) (flat_map secrets_at es) ≡ []
+  none_above p n [] l h = refl
+  none_above p n (e ∷ es) l h =
+      filter-append (has_put p) (secrets_at e) (flat_map secrets_at es)
+      ∙ λ i. none_own p e.put 0 (secrets_of records e.name) (λ same. omega (arith, same, l, h.0)) i ++ none_above p (e.put + 1) es (omega (arith, l, h.0)) h.1 i
+
+  -- a row among those of rising endpoints stands from there on
+  row_above : (n : ℕ) (es : List Endpoint) (before after : List EndpointRow) (row : EndpointRow) → Rises n es → map (endpoint_row records) es ≡ before ++ (row ∷ after) → n ≤ row.put
+  row_above n [] [] after row h is = absurd (let no = is in cc)
+  row_above n [] (b ∷ before) after row h is = absurd (let no = is in cc)
+  row_above n (e ∷ es) [] after row h is = subst (λ (r : EndpointRow). n ≤ r.put) (head is) h.0
+    where
+      head : endpoint_row records e ∷ map (endpoint_row records) es ≡ row ∷ after → endpoint_row records e ≡ row
+      head same = cc
+  row_above n (e ∷ es) (b ∷ before) after row h is = let more = row_above (e.put + 1) es before after row h.1 (tail is) in omega (arith, more, h.0)
+    where
+      tail : endpoint_row records e ∷ map (endpoint_row records) es ≡ b ∷ (before ++ (row ∷ after)) → map (endpoint_row records) es ≡ before ++ (row ∷ after)
+      tail same = cc
+
+  own_secrets : (n : ℕ) (es : List Endpoint) (before after : List EndpointRow) (row : EndpointRow) → Rises n es → map (endpoint_row records) es ≡ before ++ (row ∷ after)
+      → filter (has_put row.put) (flat_map secrets_at es) ≡ secret_rows row.put (secrets_of records row.name)
+  own_secrets n [] [] after row h is = absurd (let no = is in cc)
+  own_secrets n [] (b ∷ before) after row h is = absurd (let no = is in cc)
+  own_secrets n (e ∷ es) [] after row h is = subst (λ (r : EndpointRow). filter (has_put r.put) (flat_map secrets_at (e ∷ es)) ≡ secret_rows r.put (secrets_of records r.name)) (head is) (
+      filter-append (has_put e.put) (secrets_at e) (flat_map secrets_at es)
+      ∙ (λ i. all_own e.put 0 (secrets_of records e.name) i ++ none_above e.put (e.put + 1) es (omega arith) h.1 i)
+      ∙ append-nil (secrets_at e))
+    where
+      head : endpoint_row records e ∷ map (endpoint_row records) es ≡ row ∷ after → endpoint_row records e ≡ row
+      head same = cc
+  own_secrets n (e ∷ es) (b ∷ before) after row h is =
+      filter-append (has_put row.put) (secrets_at e) (flat_map secrets_at es)
+      ∙ λ i. none_own row.put e.put 0 (secrets_of records e.name) differs i ++ own_secrets (e.put + 1) es before after row h.1 (tail is) i
+    where
+      tail : endpoint_row records e ∷ map (endpoint_row records) es ≡ b ∷ (before ++ (row ∷ after)) → map (endpoint_row records) es ≡ before ++ (row ∷ after)
+      tail same = cc
+
+      above : e.put + 1 ≤ row.put
+      above = row_above (e.put + 1) es before after row h.1 (tail is)
+
+      differs : e.put ≡ row.put → ⊥
+      differs same = omega (arith, same, above)
+
+  -- what is looked up of an endpoint of the table
+  pub secrets_found : (before after : List EndpointRow) (row : EndpointRow) (found : List (List ℕ)) → (rows_of records).endpoints ≡ before ++ (row ∷ after) → AreSecretsOf row.put (rows_of records) found
+      → found ≡ secrets_of records row.name
+  secrets_found before after row found is h =
+      h.3 ∙ ap (map (λ (s : SecretRow). s.secret)) (rising_order (λ (s : SecretRow). s.place) 0 (0 + length own) (secret_rows row.put own) h.0 (places_rise row.put 0 own) (subst (λ s. IsPermutation s h.0) those h.1) h.2)
+      ∙ secrets_back row.put 0 own
+    where
+      own : List (List ℕ)
+      own = secrets_of records row.name
+
+      those : filter (has_put row.put) (rows_of records).secrets ≡ secret_rows row.put own
+      those = own_secrets 0 (endpoints records) before after row (puts_rise records) is
+
+  -- Endpoints in turn
+
+  pub endpoints_rise : IsRising (λ (e : EndpointRow). e.put) 0 (length records) (rows_of records).endpoints
+  endpoints_rise = rising_map (endpoint_row records) (λ (e : EndpointRow). e.put) 0 (length records) (endpoints records)
+      (subst (λ m. IsRising (λ (e : Endpoint). e.put) 0 m (endpoints records)) whole (rows_rise endpoint_by (λ (e : Endpoint). e.put) at_seq 0 records))
+    where
+      whole : 0 + length records ≡ length records
+      whole = omega arith
+
+      some_is : {e f : Endpoint} → Some e ≡ Some f → e ≡ f
+      some_is same = cc
+
+      at_seq : (k : ℕ) (r : Record) (e : Endpoint) → endpoint_by (k, r) ≡ Some e → e.put ≡ k
+      at_seq k (Put name target max secrets) e is = ap (λ (x : Endpoint). x.put) (sym (some_is is))
+      at_seq k (Secrets name secrets) e is = absurd (let no = is in cc)
+      at_seq k (Enabled name flag) e is = absurd (let no = is in cc)
+      at_seq k (Accept name id body at) e is = absurd (let no = is in cc)
+      at_seq k (Outcome delivery attempt status at) e is = absurd (let no = is in cc)
+
+  -- the endpoint of one more row, with its secrets
+  pub restored_more : (row : EndpointRow) (secrets : List (List ℕ)) (old new : Endpoints) → ((before after : List EndpointRow) → (rows_of records).endpoints ≡ before ++ (row ∷ after) → secrets ≡ secrets_of records row.name)
+      → new.book ≡ with_restored old.book (restored_entry row.put row.name row.url row.max secrets row.enabled) → new.names.items ≡ old.names.items ++ known_of row ∷ []
+      → Restores old new (row ∷ []) records
+  restored_more row secrets old new given book names before after is h = record {
+    entries = ap (λ (b : BookValue). b.entries) book
+        ∙ (λ i. h.entries i ++ restored_entry row.put row.name row.url row.max (given before after is i) row.enabled ∷ [])
+        ∙ sym (map-append (entry_of_row records) before (row ∷ []));
+    changes = ap (λ (b : BookValue). b.changes) book ∙ h.changes;
+    next_seq = omega (arith, ap (λ (b : BookValue). b.next_seq) book, within);
+    settled_seq = omega (arith, ap (λ (b : BookValue). b.settled_seq) book, within);
+    names = names ∙ ap (λ ks. ks ++ known_of row ∷ []) h.names ∙ sym (map-append known_of before (row ∷ []));
+  }
+    where
+      within : row.put < length records
+      within = rising_at (λ (e : EndpointRow). e.put) 0 (length records) before after row (subst (IsRising (λ (e : EndpointRow). e.put) 0 (length records)) is endpoints_rise)
+
+-- nothing is read yet
+pub restored_none : (records : List Record) (loaded : Endpoints) → loaded.book ≡ empty_book → loaded.names.items ≡ [] → AreRestored loaded records []
+restored_none records loaded book names = record {
+  entries = ap (λ (b : BookValue). b.entries) book;
+  changes = ap (λ (b : BookValue). b.changes) book;
+  next_seq = omega (arith, ap (λ (b : BookValue). b.next_seq) book);
+  settled_seq = omega (arith, ap (λ (b : BookValue). b.settled_seq) book);
+  names = names;
+}
+
+-- some rows, and then more
+pub restores_then : (records : List Record) (a b c : Endpoints) (some more : List EndpointRow) → Restores a b some records → Restores b c more records → Restores a c (some ++ more) records
+restores_then records a b c some more p q before after is h =
+    subst (AreRestored c records) (append_assoc before some more)
+    (q (before ++ some) after (is ∙ ap (λ rest. before ++ rest) (append_assoc some more after) ∙ sym (append_assoc before some (more ++ after)))
+    (p before (more ++ after) (is ∙ ap (λ rest. before ++ rest) (append_assoc some more after)) h))
+
+pub restores_none : (records : List Record) (a : Endpoints) → Restores a a [] records
+restores_none records a before after is h = subst (AreRestored a records) (sym (append-nil before)) h
+
+-- one page more
+pub page_restored : (records : List Record) (from next : ℕ) (page : List EndpointRow) (old new : Endpoints) → Restores old new page records
+    → ((read left : List EndpointRow) → IsLeft (λ (e : EndpointRow). e.put) from (rows_of records).endpoints read left → IsBehind (λ (e : EndpointRow). e.put) next (rows_of records).endpoints read left page)
+    → IsRead old records from → IsRead new records next
+page_restored records from next page old new restores behind (read, left, h, so_far) =
+    let after = behind read left h in
+    (read ++ page, after.0, after.2, restores read after.0 (h.parted ∙ ap (λ rest. read ++ rest) after.1) so_far)
+
+pub read_none : (records : List Record) (loaded : Endpoints) → IsLegal records → loaded.book ≡ empty_book → loaded.names.items ≡ [] → IsRead loaded records 0
+read_none records loaded legal book names = (
+  [],
+  (rows_of records).endpoints,
+  left_all (λ (e : EndpointRow). e.put) (rows_of records).endpoints (rising_higher (λ (e : EndpointRow). e.put) 0 (length records) MAX_RECORDS (rows_of records).endpoints (legal_length records legal) (endpoints_rise records)),
+  restored_none records loaded book names,
+)
+
+pub read_whole : (records : List Record) (loaded : Endpoints) (from : ℕ) → MAX_RECORDS ≤ from → IsRead loaded records from → AreRestored loaded records (rows_of records).endpoints
+read_whole records loaded from l (read, left, h, so_far) =
+    let none = none_left (λ (e : EndpointRow). e.put) from (rows_of records).endpoints read left l h in
+    subst (AreRestored loaded records) (sym (h.parted ∙ ap (λ rest. read ++ rest) none ∙ append-nil read)) so_far
+
+pub on_ok_both : {X E : Type 0} (r : Result X E) {P Q R : Type 0} → OnOk r P → OnOk r Q → (P → Q → R) → IfOk r (λ _. R)
+on_ok_both (Ok x) p q f = f p q
+on_ok_both (Err e) p q f = tt

@@ -1,0 +1,48 @@
+-- What a load reads of the tables, and the books that it gives.
+use Rattle.std.specs.Prelude.{◌≡◌, ◌≤◌, List, [], ◌++◌, map, length, Result, IfOk, OnOk, IsTrue}
+use Rattle.sqlite.specs.State.{HasCleanDisk, IsUnchanged}
+use Rattle.sqlite.specs.Held.{Held, state}
+use Rattle.sqlite_trees.specs.declared.store.Store.{Ghosts}
+use Rattle.relay_types.specs.declared.record.Record.{Record}
+use Rattle.relay_types.specs.Endpoints.{secrets_of}
+use Rattle.relay_types.specs.Legal.{IsLegal}
+use Rattle.relay_types.specs.Rows.{EndpointRow, rows_of}
+use Rattle.endpoint_book.specs.declared.entry.Entry.{Entry}
+use Rattle.endpoint_book.specs.Entries.{restored_entry}
+use Rattle.spool_sql.specs.Stored.{IsTables}
+use Rattle.spool_sql.specs.Steps.{IfClean}
+use Rattle.spool.specs.declared.load_endpoints.Endpoints.{Endpoints}
+use Rattle.spool.specs.declared.load_endpoints.Known.{Known}
+
+-- ---- the clauses that the functions share
+
+-- an answer of a store that was open changed nothing
+abbrev pub LeavesOpen : {S X E : Type 0} → Ghosts S → Held S → Held S → Result X E → Type 0
+LeavesOpen g old new result = IfClean g old new (λ a b. OnOk result (IsTrue a.is_open → IsUnchanged a b))
+
+-- an answer says so much of each legal history whose rows the tables have
+abbrev pub Reads : {S X E : Type 0} → Ghosts S → Held S → Held S → Result X E → (X → List Record → Type 0) → Type 0
+Reads g old new result P =
+    HasCleanDisk (state g new) → IfOk result (λ x. (records : List Record) → IsLegal records → IsTables (state g old).now (rows_of records) → P x records)
+
+-- ---- endpoints
+
+abbrev pub known_of : EndpointRow → Known
+known_of e = record { put = e.put; name = e.name }
+
+-- the endpoint of a row, as these records left it
+abbrev pub entry_of_row : List Record → EndpointRow → Entry
+entry_of_row records e = restored_entry e.put e.name e.url e.max (secrets_of records e.name) e.enabled
+
+-- the endpoints of these rows were read
+pub record AreRestored (loaded : Endpoints) (records : List Record) (rows : List EndpointRow) : Type 0 where
+  pub entries : loaded.book.entries ≡ map (entry_of_row records) rows
+  pub changes : loaded.book.changes ≡ []
+  pub next_seq : loaded.book.next_seq ≤ length records
+  pub settled_seq : loaded.book.settled_seq ≤ length records
+  pub names : loaded.names.items ≡ map known_of rows
+
+-- these rows of the table were read behind those before
+abbrev pub Restores : (old new : Endpoints) → List EndpointRow → List Record → Type 0
+Restores old new more records =
+    (before after : List EndpointRow) → (rows_of records).endpoints ≡ before ++ (more ++ after) → AreRestored old records before → AreRestored new records (before ++ more)

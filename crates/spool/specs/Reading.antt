@@ -1,0 +1,15 @@
+-- A table that is read page by page, in the order of its numbers.
+use Rattle.std.specs.Prelude.{◌≡◌, ◌+◌, ◌≤◌, List, [], ◌∷◌, ◌++◌}
+use Rattle.relay_types.specs.declared.limits.TheConstants.{MAX_RECORDS}
+use Rattle.relay_types.specs.Values.{Seq}
+
+-- the numbers rise, from this one on and below that one
+abbrev pub IsRising : {X : Type 0} → (number : X → Seq) → (from upto : Seq) → List X → Type 0
+IsRising number from upto [] = from ≤ upto
+IsRising number from upto (x ∷ xs) = (from ≤ number x) × IsRising number (number x + 1) upto xs
+
+-- these rows of a table were read, and those that are left have numbers from this one on
+pub record IsLeft {X : Type 0} (number : X → Seq) (from : Seq) (xs read left : List X) : Type 0 where
+  pub parted : xs ≡ read ++ left
+  pub before : IsRising number 0 from read
+  pub behind : IsRising number from MAX_RECORDS left

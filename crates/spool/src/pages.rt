@@ -1,0 +1,17 @@
+//! The numbers at which the pages of a table begin.
+ghost use Rattle.std.specs.Prelude.{◌≡◌, ◌<◌, ◌≤◌, ◌+◌, IfOk};
+ghost use Rattle.relay_types.specs.declared.limits.TheConstants.{MAX_RECORDS};
+
+use spool_sql::{RowFault, Seq};
+
+// The number behind the last row of a page that was read from this number on.
+pub(crate) fn behind(last: Seq, from: u64) -> Result<u64, RowFault>
+    ensures number { IfOk result (λ next. next ≡ last + 1) }
+    ensures above { IfOk result (λ next. from < next) }
+    ensures room { IfOk result (λ next. next ≤ MAX_RECORDS) }
+{
+    if last.get() < from {
+        return Err(RowFault::Unreadable);
+    }
+    Ok(last.get() + 1)
+}
