@@ -23,7 +23,7 @@ use Rattle.delivery_book.specs.declared.keys.EventKey.{EventKey}
 use Rattle.delivery_book.specs.declared.progress.Progress.{Progress}
 use Rattle.delivery_book.specs.declared.tally.Tally.{Tally}
 use Rattle.delivery_book.specs.Entries.{new_entry, is_entry_as, entry_at, state_in}
-use Rattle.delivery_book.specs.Kept.{IsBook, IsKeyed, IsIndex, IsTally, is_numbered, is_waiting, is_later, event_cmp, in_state, counts_for, has_room, one_of, is_counted}
+use Rattle.delivery_book.specs.Fields.{IsBook, IsKeyed, IsIndex, IsTally, is_numbered, is_waiting, is_later, event_cmp, in_state, counts_for, has_room, one_of, is_counted}
 use Rattle.delivery_book.proofs.Updates.{all_at, all_weaker}
 
 -- Keys

@@ -10,7 +10,7 @@ use Rattle.std.proofs.lemmas.List.Sorted.{IsPartitionedBy-ltb}
 use Rattle.std.proofs.lemmas.Option.{slice_get-get_or}
 use Rattle.delivery_book.specs.declared.entry.Entry.{Entry}
 use Rattle.delivery_book.specs.Entries.{entry_at}
-use Rattle.delivery_book.specs.Kept.{IsAscending}
+use Rattle.delivery_book.specs.Fields.{IsAscending}
 
 -- the entry stands below this number
 abbrev pub is_below : ℕ → Entry → Bool

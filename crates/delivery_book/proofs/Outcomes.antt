@@ -17,7 +17,7 @@ use Rattle.delivery_book.specs.declared.entry.Unsettled.{Unsettled}
 use Rattle.delivery_book.specs.declared.keys.EventKey.{EventKey}
 use Rattle.delivery_book.specs.declared.tally.Tally.{Tally}
 use Rattle.delivery_book.specs.Entries.{with_attempt, with_latest_settled, at_delivery, is_open, entry_at, state_in}
-use Rattle.delivery_book.specs.Kept.{IsBook, IsKeyed, IsQueue, IsTally, is_numbered, is_waiting, is_later, in_state, counts_for, has_room, one_of, is_counted}
+use Rattle.delivery_book.specs.Fields.{IsBook, IsKeyed, IsQueue, IsTally, is_numbered, is_waiting, is_later, in_state, counts_for, has_room, one_of, is_counted}
 use Rattle.delivery_book.proofs.Entries.{count-slice}
 use Rattle.delivery_book.proofs.Updates.{KeepsKeys, all_at, all_weaker, count-map, either_way, set_is, keeps_where, entry_at-map, keyed-map, tally-set, opened_still, some_at}
 use Rattle.delivery_book.proofs.Books.{below, numbered_if}

@@ -8,7 +8,7 @@ use Rattle.relay_types.specs.Records.{Accepted, numbered}
 use Rattle.relay_types.specs.Deliveries.{accepted, known_as, deliveries, deliveries_of, attempts_of, state_of, is_in_state}
 use Rattle.delivery_book.specs.declared.entry.Entry.{Entry}
 use Rattle.delivery_book.specs.Entries.{BookValue, entry_at, known_in, row_in}
-use Rattle.delivery_book.specs.Kept.{is_counted}
+use Rattle.delivery_book.specs.Fields.{is_counted}
 use Rattle.delivery_book.proofs.Entries.{is_below}
 use Rattle.delivery_book.specs.Book.{StandsFor, entry_for, entry_by, row_of, body_of, count_in}
 use Rattle.delivery_book.proofs.Histories.{known_as-entries, entry_at-entries, row_of-made, accepted-take, accepted-past, entries-below, counts_from}

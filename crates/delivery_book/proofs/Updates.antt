@@ -17,7 +17,7 @@ use Rattle.delivery_book.specs.declared.keys.EventKey.{EventKey}
 use Rattle.delivery_book.specs.declared.progress.Progress.{Progress}
 use Rattle.delivery_book.specs.declared.tally.Tally.{Tally}
 use Rattle.delivery_book.specs.Entries.{at_delivery, entry_at, is_entry_as, state_in}
-use Rattle.delivery_book.specs.Kept.{IsAscending, IsIndex, IsKeyed, IsTally, is_numbered, in_state, counts_for, has_room, is_among, one_of, is_counted}
+use Rattle.delivery_book.specs.Fields.{IsAscending, IsIndex, IsKeyed, IsTally, is_numbered, in_state, counts_for, has_room, is_among, one_of, is_counted}
 use Rattle.delivery_book.proofs.Entries.{get_or-any}
 
 -- Lists

@@ -1,4 +1,4 @@
 pub mod Entries
-pub mod Kept
+pub mod Fields
 pub mod Book
 pub mod Laws

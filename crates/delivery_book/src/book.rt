@@ -39,7 +39,7 @@ impl Model for DeliveryBook {
 
     ghost view = { λ b. record { entries = b.entries.items; unsettled = b.unsettled.items; next_seq = b.next_seq; settled_seq = b.settled_seq } };
 
-    ghost use Rattle.delivery_book.specs.Kept.{IsBook};
+    ghost use Rattle.delivery_book.specs.Fields.{IsBook};
 
     ghost invariant = { λ b. IsBook b.entries.items b.index b.tally b.settled_tally b.unsettled.items (deque_capacity b.unsettled) b.next_seq b.settled_seq b.settled_entries };
 }

@@ -4,7 +4,7 @@ ghost use Rattle.std.specs.Cmp.{partial_order_from_own_ties};
 ghost use Rattle.std.specs.Cmp.Rules.{comparing, hashing};
 ghost use Rattle.std.specs.Ordering.{as_partial_cmp};
 ghost use Rattle.std.proofs.Common.{rules};
-ghost use Rattle.delivery_book.specs.Kept.{same_endpoint, same_event, event_cmp};
+ghost use Rattle.delivery_book.specs.Fields.{same_endpoint, same_event, event_cmp};
 
 use relay_types::{MsgId, Name};
 use std::cmp::Ordering;

@@ -2,7 +2,7 @@
 ghost use Rattle.std.specs.Prelude.{◌≡◌, ◌≤◌, ◌<◌, length, true, Some, is_some, option_copied, slice_index_or};
 ghost use Rattle.delivery_book.specs.declared.entry.Entry.{Entry};
 ghost use Rattle.delivery_book.specs.Entries.{entry_at};
-ghost use Rattle.delivery_book.specs.Kept.{IsAscending, FirstBelow, RestFrom};
+ghost use Rattle.delivery_book.specs.Fields.{IsAscending, FirstBelow, RestFrom};
 
 use crate::entry::Entry;
 

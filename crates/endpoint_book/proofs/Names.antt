@@ -8,7 +8,7 @@ use Rattle.std.proofs.lemmas.List.Folds.{list_all-append, list_any-append}
 use Rattle.relay_types.proofs.KnownLaws.{and_first, and_second, and_both}
 use Rattle.endpoint_book.specs.declared.entry.Entry.{Entry}
 use Rattle.endpoint_book.specs.Entries.{is_named, change_at}
-use Rattle.endpoint_book.specs.Kept.{AreNames, with_entry}
+use Rattle.endpoint_book.specs.Fields.{AreNames, with_entry}
 use Rattle.endpoint_book.proofs.Filters.{is_some-map}
 
 found_in : (g : List ℕ → Option Entry) → ((name : List ℕ) (e : Entry) → g name ≡ Some e → e.name ≡ name) → (name : List ℕ) (names : List (List ℕ))

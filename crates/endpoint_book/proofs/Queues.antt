@@ -8,7 +8,7 @@ use Rattle.std.proofs.lemmas.List.Sums.{sum_by_push, count_by-le-length}
 use Rattle.endpoint_book.specs.declared.entry.Change.{Change}
 use Rattle.endpoint_book.specs.declared.limits.TheConstants.{MAX_FLAGS}
 use Rattle.endpoint_book.specs.Entries.{is_flag, is_put, is_below, is_from}
-use Rattle.endpoint_book.specs.Kept.{AreChanges}
+use Rattle.endpoint_book.specs.Fields.{AreChanges}
 use Rattle.endpoint_book.proofs.Filters.{filter-commutes, filter-against}
 
 -- a change that stands below the place, or from it on

@@ -7,7 +7,7 @@ use Rattle.std.proofs.lemmas.Map.Text.{is_eq-slice_cmp}
 use Rattle.endpoint_book.specs.declared.entries.Entries.{Entries}
 use Rattle.endpoint_book.specs.declared.entry.Entry.{Entry}
 use Rattle.endpoint_book.specs.declared.key.NameKey.{NameKey}
-use Rattle.endpoint_book.specs.Kept.{name_cmp, entry_in}
+use Rattle.endpoint_book.specs.Fields.{name_cmp, entry_in}
 
 -- one more entry, or another one of the same name
 pub put_in : (old new : Entries) (e : Entry) (asked : List ℕ)

@@ -31,7 +31,7 @@ pub struct EndpointBook {
 impl Model for EndpointBook {
     ghost use Rattle.std.specs.Prelude.{vec_capacity};
     ghost use Rattle.endpoint_book.specs.Entries.{BookValue};
-    ghost use Rattle.endpoint_book.specs.Kept.{IsBook, listed};
+    ghost use Rattle.endpoint_book.specs.Fields.{IsBook, listed};
 
     ghost Value = { BookValue };
 

@@ -1,7 +1,7 @@
 //! What isn't settled.
 ghost use Rattle.std.specs.Prelude.{◌≡◌, count_by, filter, vec_capacity};
 ghost use Rattle.endpoint_book.specs.Entries.{is_flag, is_put, is_from};
-ghost use Rattle.endpoint_book.specs.Kept.{SettlesBelow};
+ghost use Rattle.endpoint_book.specs.Fields.{SettlesBelow};
 
 use crate::entries::Entries;
 use crate::entry::Change;

@@ -1,7 +1,7 @@
 //! The endpoints by name.
 ghost use Rattle.std.specs.Prelude.{◌≡◌, ℕ, List, None, Some, option_copied, option_map, OnOk, OnErr};
 ghost use Rattle.endpoint_book.specs.Entries.{now_of};
-ghost use Rattle.endpoint_book.specs.Kept.{entry_in, Changes, Puts, IsSame};
+ghost use Rattle.endpoint_book.specs.Fields.{entry_in, Changes, Puts, IsSame};
 
 use crate::entry::{Change, Entry, Shown};
 use crate::key::NameKey;

@@ -3,7 +3,7 @@ ghost use Rattle.std.specs.Cmp.{partial_order_from_own_ties};
 ghost use Rattle.std.specs.Cmp.Rules.{comparing};
 ghost use Rattle.std.specs.Ordering.{as_partial_cmp};
 ghost use Rattle.std.proofs.Common.{rules};
-ghost use Rattle.endpoint_book.specs.Kept.{same_name, name_cmp};
+ghost use Rattle.endpoint_book.specs.Fields.{same_name, name_cmp};
 
 use relay_types::Name;
 use std::cmp::Ordering;

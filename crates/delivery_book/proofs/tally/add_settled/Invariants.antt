@@ -1,7 +1,7 @@
 use Rattle.std.proofs.Common.{◌≡◌, ℕ, ◌+◌, true, List, Option, take}
 use Rattle.std.specs.Prelude.{count_by}
 use Rattle.relay_types.specs.declared.state.State.{State}
-use Rattle.delivery_book.specs.Kept.{in_state, counts_for, has_room, is_counted}
+use Rattle.delivery_book.specs.Fields.{in_state, counts_for, has_room, is_counted}
 use Rattle.delivery_book.proofs.tally.add_settled.Given as goal
 
 abbrev pub invariant-loop-entry : goal.invariant-loop-entry

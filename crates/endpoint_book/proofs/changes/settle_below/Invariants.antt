@@ -1,6 +1,6 @@
 use Rattle.std.proofs.Common.{◌≡◌, ℕ, List, drop, option_map}
 use Rattle.endpoint_book.specs.Entries.{settled_at}
-use Rattle.endpoint_book.specs.Kept.{entry_in}
+use Rattle.endpoint_book.specs.Fields.{entry_in}
 use Rattle.endpoint_book.proofs.changes.settle_below.Given as goal
 
 abbrev pub invariant-loop-change : goal.invariant-loop-change

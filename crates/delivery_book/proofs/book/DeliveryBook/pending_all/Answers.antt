@@ -1,7 +1,7 @@
 use Rattle.std.proofs.Common.{None, ◌∙◌, ap}
 use Rattle.std.specs.Prelude.{count_by}
 use Rattle.relay_types.specs.declared.state.State.TheVariants.{Pending}
-use Rattle.delivery_book.specs.Kept.{is_counted}
+use Rattle.delivery_book.specs.Fields.{is_counted}
 use Rattle.delivery_book.proofs.Tellings.{stands_latest_counts}
 use Rattle.delivery_book.proofs.book.DeliveryBook.pending_all.Goals as goal
 

@@ -2,7 +2,7 @@ use Rattle.std.proofs.Common.{◌+◌, ◌-◌, ◌∙◌, ap, arith, sym, subst
 use Rattle.std.specs.Prelude.{count_by, slice_range}
 use Rattle.std.specs.List.{list_all}
 use Rattle.delivery_book.specs.declared.entry.Entry.{Entry}
-use Rattle.delivery_book.specs.Kept.{IsBook, in_state, counts_for, has_room, is_counted}
+use Rattle.delivery_book.specs.Fields.{IsBook, in_state, counts_for, has_room, is_counted}
 use Rattle.delivery_book.proofs.Updates.{all_take, all_drop}
 use Rattle.delivery_book.proofs.Outcomes.{book-events, below_in, fewer_first}
 use Rattle.delivery_book.proofs.book.DeliveryBook.settle_events.Goals as goal

@@ -4,7 +4,7 @@ use Rattle.std.specs.List.{list_all}
 use Rattle.std.proofs.lemmas.List.{length-take-le, get_or-take}
 use Rattle.delivery_book.specs.declared.entry.Entry.{Entry}
 use Rattle.delivery_book.specs.Entries.{BookValue, with_latest_settled, settle_first, state_in}
-use Rattle.delivery_book.specs.Kept.{IsBook, in_state, counts_for, one_of, is_among, is_later}
+use Rattle.delivery_book.specs.Fields.{IsBook, in_state, counts_for, one_of, is_among, is_later}
 use Rattle.delivery_book.proofs.Updates.{found_in, read_same, set_is, counted_there, room_after}
 use Rattle.delivery_book.proofs.Outcomes.{book-settle, front_is, first_settled}
 use Rattle.delivery_book.proofs.Settling.{settle_first_is}

@@ -1,7 +1,7 @@
 use Rattle.std.proofs.Common.{◌≡◌, None, ◌∙◌, subst, sym, take}
 use Rattle.relay_types.specs.declared.state.State.{State}
 use Rattle.relay_types.specs.declared.state.State.TheVariants.{Pending, Delivered, Exhausted}
-use Rattle.delivery_book.specs.Kept.{in_state, counts_for}
+use Rattle.delivery_book.specs.Fields.{in_state, counts_for}
 use Rattle.delivery_book.specs.Book.{StandsFor, count_in}
 use Rattle.delivery_book.proofs.Entries.{first_below}
 use Rattle.delivery_book.proofs.Tellings.{stands_settled_counts, deliveries_for}

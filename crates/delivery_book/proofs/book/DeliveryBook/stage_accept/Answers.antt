@@ -4,7 +4,7 @@ use Rattle.relay_types.specs.declared.state.State.TheVariants.{Pending}
 use Rattle.delivery_book.specs.Entries.{known_in, new_entry}
 use Rattle.std.specs.BTreeMap.{is_at}
 use Rattle.std.specs.Map.{lookup}
-use Rattle.delivery_book.specs.Kept.{IsBook, event_cmp, in_state, one_of}
+use Rattle.delivery_book.specs.Fields.{IsBook, event_cmp, in_state, one_of}
 use Rattle.delivery_book.specs.Book.{StandsFor}
 use Rattle.delivery_book.proofs.Books.{book-push, book-same, unmapped}
 use Rattle.delivery_book.proofs.Updates.{counted_most}

@@ -3,7 +3,7 @@ use Rattle.std.specs.Option.{option_map_or}
 use Rattle.relay_types.specs.declared.record.Record.TheVariants.{Outcome}
 use Rattle.delivery_book.specs.declared.entry.Entry.{Entry}
 use Rattle.delivery_book.specs.Entries.{with_attempt, at_delivery, takes_outcome, is_open, state_in, progress_after}
-use Rattle.delivery_book.specs.Kept.{IsBook, in_state, counts_for, one_of}
+use Rattle.delivery_book.specs.Fields.{IsBook, in_state, counts_for, one_of}
 use Rattle.delivery_book.specs.Book.{StandsFor}
 use Rattle.delivery_book.proofs.Updates.{found_in, read_same, set_is}
 use Rattle.delivery_book.proofs.Outcomes.{book-outcome, room_for}

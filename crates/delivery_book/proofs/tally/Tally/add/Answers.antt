@@ -1,6 +1,6 @@
 use Rattle.std.proofs.Common.{Some, None, ap, refl, arith}
 use Rattle.std.specs.Cmp.Lexicographic.{bytes_decides}
-use Rattle.delivery_book.specs.Kept.{in_state}
+use Rattle.delivery_book.specs.Fields.{in_state}
 use Rattle.delivery_book.proofs.tally.Tally.add.Goals as goal
 
 pub with_one_more-counts-requires : goal.with_one_more-counts-requires

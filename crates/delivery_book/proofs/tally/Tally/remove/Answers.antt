@@ -4,7 +4,7 @@ use Rattle.std.specs.Cmp.Lexicographic.{bytes_decides}
 use Rattle.relay_types.specs.declared.state.State.{State}
 use Rattle.relay_types.specs.declared.state.State.TheVariants.{Pending, Delivered, Exhausted}
 use Rattle.delivery_book.specs.declared.row.Counts.{Counts}
-use Rattle.delivery_book.specs.Kept.{in_state, has_room, no_counts}
+use Rattle.delivery_book.specs.Fields.{in_state, has_room, no_counts}
 use Rattle.delivery_book.proofs.tally.Tally.remove.Goals as goal
 
 -- what counts something is there

@@ -1,7 +1,7 @@
 use Rattle.std.proofs.Common.{◌∙◌, ap, arith, sym, length}
 use Rattle.std.proofs.lemmas.List.{length-map}
 use Rattle.endpoint_book.specs.Book.{endpoint_by_entry}
-use Rattle.endpoint_book.specs.Kept.{entry_in, listed}
+use Rattle.endpoint_book.specs.Fields.{entry_in, listed}
 use Rattle.endpoint_book.proofs.Names.{named}
 use Rattle.endpoint_book.proofs.book.EndpointBook.len.Goals as goal
 

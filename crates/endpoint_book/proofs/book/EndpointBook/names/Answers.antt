@@ -1,5 +1,5 @@
 use Rattle.std.proofs.Common.{◌∙◌, ap, map, sym}
-use Rattle.endpoint_book.specs.Kept.{entry_in}
+use Rattle.endpoint_book.specs.Fields.{entry_in}
 use Rattle.endpoint_book.proofs.Names.{named}
 use Rattle.endpoint_book.proofs.Histories.{names-told}
 use Rattle.endpoint_book.proofs.book.EndpointBook.names.Goals as goal

@@ -2,7 +2,7 @@ use Rattle.std.proofs.Common.{◌+◌, ◌++◌, ◌∷◌, [], ◌∙◌, ℕ, 
 use Rattle.std.specs.Prelude.{filter_map}
 use Rattle.endpoint_book.specs.declared.entry.Entry.{Entry}
 use Rattle.endpoint_book.specs.Entries.{BookValue, with_restored}
-use Rattle.endpoint_book.specs.Kept.{IsBook, listed}
+use Rattle.endpoint_book.specs.Fields.{IsBook, listed}
 use Rattle.endpoint_book.proofs.Filters.{none_if, on_err}
 use Rattle.endpoint_book.proofs.Books.{book-same, book-restored, restored-value, entry-value}
 use Rattle.endpoint_book.proofs.book.EndpointBook.restore.Goals as goal

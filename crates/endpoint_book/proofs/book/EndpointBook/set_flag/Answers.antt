@@ -3,7 +3,7 @@ use Rattle.endpoint_book.specs.declared.entry.Change.{Change}
 use Rattle.endpoint_book.specs.declared.entry.Entry.{Entry}
 use Rattle.endpoint_book.specs.declared.entry.Kind.TheVariants.{Flag}
 use Rattle.endpoint_book.specs.Entries.{flags_in, now_of}
-use Rattle.endpoint_book.specs.Kept.{IsBook, listed}
+use Rattle.endpoint_book.specs.Fields.{IsBook, listed}
 use Rattle.endpoint_book.proofs.Filters.{not_there}
 use Rattle.endpoint_book.proofs.Books.{book-change, change-value, entry-value}
 use Rattle.endpoint_book.proofs.book.EndpointBook.set_flag.Goals as goal

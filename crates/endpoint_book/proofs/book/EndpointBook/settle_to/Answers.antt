@@ -2,7 +2,7 @@ use Rattle.std.proofs.Common.{◌∙◌, ◌≡◌, ◌++◌, ap, arith, max, re
 use Rattle.std.specs.Prelude.{filter, count_by, option_map}
 use Rattle.endpoint_book.specs.Entries.{is_flag, is_put, is_below, is_from, settled_at}
 use Rattle.endpoint_book.specs.Book.{StandsFor}
-use Rattle.endpoint_book.specs.Kept.{IsBook, entry_in, listed}
+use Rattle.endpoint_book.specs.Fields.{IsBook, entry_in, listed}
 use Rattle.endpoint_book.proofs.Books.{book-settled, settled-value}
 use Rattle.endpoint_book.proofs.Laws.{stands-settled}
 use Rattle.endpoint_book.proofs.book.EndpointBook.settle_to.Goals as goal

@@ -3,7 +3,7 @@ use Rattle.std.specs.Prelude.{count_by}
 use Rattle.std.proofs.lemmas.List.{length-map}
 use Rattle.endpoint_book.specs.Entries.{is_put}
 use Rattle.endpoint_book.specs.Book.{StandsFor}
-use Rattle.endpoint_book.specs.Kept.{entry_in, listed}
+use Rattle.endpoint_book.specs.Fields.{entry_in, listed}
 use Rattle.endpoint_book.proofs.Names.{named}
 use Rattle.endpoint_book.proofs.Laws.{settled-count}
 use Rattle.endpoint_book.proofs.book.EndpointBook.settled_len.Goals as goal

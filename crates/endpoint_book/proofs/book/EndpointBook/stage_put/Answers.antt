@@ -6,7 +6,7 @@ use Rattle.endpoint_book.specs.declared.entry.Entry.{Entry}
 use Rattle.endpoint_book.specs.declared.entry.Kind.TheVariants.{Put}
 use Rattle.endpoint_book.specs.Entries.{now_of}
 use Rattle.endpoint_book.specs.Book.{StandsFor}
-use Rattle.endpoint_book.specs.Kept.{IsBook, listed}
+use Rattle.endpoint_book.specs.Fields.{IsBook, listed}
 use Rattle.endpoint_book.proofs.Filters.{none_if, on_err}
 use Rattle.endpoint_book.proofs.Books.{book-put, book-same, put-value, entry-value}
 use Rattle.endpoint_book.proofs.Staged.{stands-put}

@@ -5,7 +5,7 @@ use Rattle.endpoint_book.specs.declared.entry.Entry.{Entry}
 use Rattle.endpoint_book.specs.declared.entry.Kind.TheVariants.{Secrets}
 use Rattle.endpoint_book.specs.Entries.{now_of}
 use Rattle.endpoint_book.specs.Book.{StandsFor}
-use Rattle.endpoint_book.specs.Kept.{IsBook, listed}
+use Rattle.endpoint_book.specs.Fields.{IsBook, listed}
 use Rattle.endpoint_book.proofs.Filters.{not_there}
 use Rattle.endpoint_book.proofs.Books.{book-change, change-value, entry-value}
 use Rattle.endpoint_book.proofs.Staged.{stands-secrets}
