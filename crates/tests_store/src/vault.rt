@@ -8,9 +8,9 @@ use std::process::Abort;
 use std::sync::Arc;
 use std::test::Fail;
 
-const MARK: u64 = 7;
+pub(crate) const MARK: u64 = 7;
 
-fn opened(alloc: Global) -> Result<Vault<MemStore>, Fail> {
+pub(crate) fn opened(alloc: Global) -> Result<Vault<MemStore>, Fail> {
     let conn = Connection::open_in_memory(alloc)?;
     match Vault::create(conn, MARK) {
         Ok(vault) => Ok(vault),
@@ -28,7 +28,11 @@ fn refused(conn: Connection<MemStore>) -> Result<(Connection<MemStore>, OpenFaul
 }
 
 /// A batch of this mark and number, of this record alone.
-fn batch(alloc: Global, (mark, from): (u64, u32), record: Record) -> Result<Batch, Fail> {
+pub(crate) fn batch(
+    alloc: Global,
+    (mark, from): (u64, u32),
+    record: Record,
+) -> Result<Batch, Fail> {
     let mut steps = Vec::with_capacity(alloc, 1)?;
     steps.push_reserved(Step::of(record));
     Ok(Batch::of(mark, u64::from(from), steps))
@@ -63,7 +67,7 @@ fn event(alloc: Global, turn: (u64, u32), name: &[u8], id: &[u8]) -> Result<Batc
 /// The mark and the number of a receipt, or why nothing was written, which a doubtful end does not tell.
 type Told = Result<(u64, u64), Option<Unchanged>>;
 
-fn commit(vault: &mut Vault<MemStore>, batch: Batch) -> Told {
+pub(crate) fn commit(vault: &mut Vault<MemStore>, batch: Batch) -> Told {
     match vault.commit(batch) {
         Ok(receipt) => {
             let told = (receipt.mark(), receipt.from());
@@ -96,7 +100,7 @@ fn enter(
     Ok(commit(vault, batch))
 }
 
-fn number(conn: &mut Connection<MemStore>, sql: &str) -> Result<i64, Fail> {
+pub(crate) fn number(conn: &mut Connection<MemStore>, sql: &str) -> Result<i64, Fail> {
     Ok(conn.query_row(sql, &[])?.get(0)?)
 }
 
