@@ -14,6 +14,7 @@ use Rattle.std.proofs.Math.Seq.{get_or-append_seam}
 use Rattle.std.proofs.lemmas.List.{take-append-le, get_or_append_left}
 use Rattle.std.proofs.lemmas.List.Folds.{find-append, list_all-append}
 use Rattle.std.proofs.lemmas.List.Sums.{sum_by_push}
+use Rattle.relay_types.specs.declared.limits.TheConstants.{MAX_RECORDS}
 use Rattle.relay_types.specs.declared.state.State.{State}
 use Rattle.relay_types.specs.declared.state.State.TheVariants.{Pending}
 use Rattle.relay_types.proofs.KnownLaws.{and_first, and_second, and_both}
@@ -72,15 +73,15 @@ read-last : (entries : List Entry) (e : Entry) (k : ℕ) (d : Entry) → k ≡ l
 read-last entries e k d h = ap (λ (x : Entry). x.seq) (ap (λ i. get_or (entries ++ e ∷ []) i d) h ∙ get_or-append_seam entries e [] d)
 
 -- what an entry's number and attempts are below
-pub below : (next : ℕ) (e : Entry) → is_numbered next e ≡ true → (e.seq < next) × (e.latest.attempts ≤ next)
-below next e h = (ltb-true e.seq next (and_first (ltb e.seq next) _ h), ltb-false next e.latest.attempts (no (ltb next e.latest.attempts) (and_second (ltb e.seq next) _ h)))
+pub below : (next : ℕ) (e : Entry) → is_numbered next e ≡ true → (e.seq < next) × (e.latest.attempts ≤ next + MAX_RECORDS)
+below next e h = (ltb-true e.seq next (and_first (ltb e.seq next) _ h), ltb-false (next + MAX_RECORDS) e.latest.attempts (no (ltb (next + MAX_RECORDS) e.latest.attempts) (and_second (ltb e.seq next) _ h)))
   where
     no : (b : Bool) → not b ≡ true → b ≡ false
     no true n = absurd (let m = n in cc)
     no false n = refl
 
-pub numbered_if : (next : ℕ) (e : Entry) → e.seq < next → e.latest.attempts ≤ next → is_numbered next e ≡ true
-numbered_if next e h l = and_both (ltb e.seq next) _ (lt-ltb e.seq next h) (ap not (le-ltb next e.latest.attempts l))
+pub numbered_if : (next : ℕ) (e : Entry) → e.seq < next → e.latest.attempts ≤ next + MAX_RECORDS → is_numbered next e ≡ true
+numbered_if next e h l = and_both (ltb e.seq next) _ (lt-ltb e.seq next h) (ap not (le-ltb (next + MAX_RECORDS) e.latest.attempts l))
 
 keyed-push : (index later : BTreeMap EventKey ℕ) (entries : List Entry) (next settled n : ℕ) (e : Entry) → IsKeyed entries index next settled n → next ≤ e.seq → e.latest.attempts ≡ 0 → IsIndex later (entries ++ e ∷ [])
     → IsKeyed (entries ++ e ∷ []) later (e.seq + 1) settled n

@@ -13,10 +13,12 @@ use Rattle.relay_types.specs.declared.state.State.TheVariants.{Pending}
 use Rattle.relay_types.specs.Records.{Accepted, Attempt, accepted_by, attempt_by, numbered}
 use Rattle.relay_types.specs.Deliveries.{accepted, attempts_of, is_in_state, is_pending, state_of}
 use Rattle.relay_types.proofs.GrowthLaws.{numbered-snoc}
-use Rattle.relay_types.proofs.KnownLaws.{and_first, and_second, below_if_accepted}
+use Rattle.relay_types.proofs.KnownLaws.{AllKnown, and_first, and_second, below_if_accepted, legal_known}
+use Rattle.relay_types.specs.Legal.{IsLegal}
 use Rattle.delivery_book.specs.declared.entry.Unsettled.{Unsettled}
 use Rattle.delivery_book.specs.Entries.{BookValue, empty_book, with_event, with_outcome, with_attempt, at_delivery, at_outcomes, with_latest_settled, with_settled, front_below, rest_from, is_open, entry_at, takes_outcome, progress_of}
 use Rattle.delivery_book.specs.Book.{StandsFor, entry_for, entry_by, entries_of, delivery_by, outcome_by, outcomes_from, is_other, is_free}
+use Rattle.delivery_book.specs.Laws.{IsRestored}
 use Rattle.delivery_book.proofs.Progresses.{progress_of-append, attempts_of-append, attempts_of-split, empty_if, none_earlier, all_earlier}
 use Rattle.delivery_book.proofs.Histories.{entries-map, entry_at-entries}
 use Rattle.delivery_book.proofs.Waits.{outcomes_from-snoc, front-outcomes, rest-outcomes, named-attempts}
@@ -245,3 +247,29 @@ stands_settled book records settled seq h up l = record {
 
             same : attempts_of (take seq records) n ≡ attempts_of records n
             same = sym (all_earlier records seq n (subst (λ some. attempts_of some n ≡ []) behind rest))
+
+-- A book that was made of a whole history
+
+-- no outcome is of a delivery behind the records
+none_past : (records some : List Record) (d : ℕ) → AllKnown records some → length records ≤ d → attempts_of some d ≡ []
+none_past records [] d known past = refl
+none_past records (Put name target max secrets ∷ rest) d known past = none_past records rest d known.1 past
+none_past records (Secrets name secrets ∷ rest) d known past = none_past records rest d known.1 past
+none_past records (Enabled name flag ∷ rest) d known past = none_past records rest d known.1 past
+none_past records (Accept name id body at ∷ rest) d known past = none_past records rest d known.1 past
+none_past records (Outcome delivery attempt status at ∷ rest) d known past =
+    rw (ne_eqb delivery d (λ same. absurd (omega (arith, same, past, below_if_accepted records delivery known.0)))) (none_past records rest d known.1 past)
+
+pub stands_restored : (book : BookValue) (records : List Record) → IsLegal records → IsRestored book records → StandsFor book records (length records)
+stands_restored book records legal h = record {
+  entries = h.entries;
+  unsettled = h.unsettled ∙ sym (ap (outcomes_from (length records)) none);
+  next_seq = h.next_seq;
+  settled_seq = h.settled_seq;
+  within = omega arith;
+  once = λ d. omega (arith, ap (λ rs. length (attempts_of rs d)) none);
+  in_order = λ d past. none_past records records d (legal_known records legal) past;
+}
+  where
+    none : drop (length records) records ≡ []
+    none = empty_if (drop (length records) records) (omega (arith, length-drop (length records) records))

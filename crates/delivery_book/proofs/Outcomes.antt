@@ -8,6 +8,7 @@ use Rattle.std.proofs.Math.Seq.{take-set-lt}
 use Rattle.std.proofs.lemmas.List.{get_or-take, length-set, length-take-le, take-map}
 use Rattle.std.proofs.lemmas.List.Folds.{list_all-append}
 use Rattle.std.proofs.lemmas.List.Sums.{sum_by-set, count_by-le-length}
+use Rattle.relay_types.specs.declared.limits.TheConstants.{MAX_RECORDS}
 use Rattle.relay_types.specs.declared.state.State.{State}
 use Rattle.relay_types.specs.declared.state.State.TheVariants.{Pending, Delivered, Exhausted}
 use Rattle.relay_types.specs.Deliveries.{is_in_state}
@@ -16,10 +17,10 @@ use Rattle.delivery_book.specs.declared.entry.Entry.{Entry}
 use Rattle.delivery_book.specs.declared.entry.Unsettled.{Unsettled}
 use Rattle.delivery_book.specs.declared.keys.EventKey.{EventKey}
 use Rattle.delivery_book.specs.declared.tally.Tally.{Tally}
-use Rattle.delivery_book.specs.Entries.{with_attempt, with_latest_settled, at_delivery, is_open, entry_at, state_in}
+use Rattle.delivery_book.specs.Entries.{with_attempt, with_attempt_restored, with_latest_settled, at_delivery, is_open, entry_at, state_in}
 use Rattle.delivery_book.specs.Fields.{IsBook, IsKeyed, IsQueue, IsTally, is_numbered, is_waiting, is_later, in_state, counts_for, has_room, one_of, is_counted}
 use Rattle.delivery_book.proofs.Entries.{count-slice}
-use Rattle.delivery_book.proofs.Updates.{KeepsKeys, all_at, all_weaker, count-map, either_way, set_is, keeps_where, entry_at-map, keyed-map, tally-set, opened_still, some_at}
+use Rattle.delivery_book.proofs.Updates.{KeepsKeys, all_at, all_set, all_weaker, count-map, either_way, set_is, keeps_where, entry_at-map, keyed-map, all_numbered, tally-set, opened_still, some_at}
 use Rattle.delivery_book.proofs.Books.{below, numbered_if}
 
 -- One more outcome
@@ -63,7 +64,7 @@ pub book-outcome : (index : BTreeMap EventKey ℕ) (tally less more settled_tall
     → IsBook (set entries i (with_attempt status at x)) index more settled_tally (unsettled ++ record { seq = seq; delivery = delivery } ∷ []) room (seq + 1) settled n
 book-outcome index tally less more settled_tally entries unsettled room next settled n seq delivery status at i x h l inside is same free fewer again = record {
   keyed = subst (λ es. IsKeyed es index (seq + 1) settled n) (sym changed)
-      (keyed-map g entries index next (seq + 1) settled n keeps (omega (arith, h.keyed.settled_next, l)) numbered h.keyed);
+      (keyed-map g entries index next (seq + 1) settled n keeps (omega (arith, h.keyed.settled_next, l)) (all_numbered g entries next (seq + 1) numbered h.keyed.numbered) h.keyed);
   latest = tally-set tally less more (λ e. e.latest) entries i x (with_attempt status at x) inside is refl h.latest fewer again;
   settled = λ those asked. h.settled those asked
       ∙ sym (ap (λ es. count_by (is_counted (λ e. e.settled) those asked) (take n es)) changed
@@ -98,6 +99,53 @@ book-outcome index tally less more settled_tally entries unsettled room next set
 
     there : is_some (entry_at entries' delivery) ≡ true
     there = ap (λ es. is_some (entry_at es delivery)) changed ∙ entry_at-map g entries delivery keeps ∙ some_at entries i x delivery inside is same
+
+-- One more outcome, settled at once
+
+-- where nothing is settled, no event is
+none_settled : (entries : List Entry) (index : BTreeMap EventKey ℕ) (next settled n : ℕ) → IsKeyed entries index next settled n → settled ≡ 0 → n ≡ 0
+none_settled [] index next settled n h none = omega (arith, h.settled_within)
+none_settled (x ∷ xs) index next settled n h none = ⊎_elim (λ lt. absurd (omega (arith, none, h.settled_below 0 x lt))) (λ ge. omega (arith, ge)) (cases_lt 0 n)
+
+pub book-restored : (index : BTreeMap EventKey ℕ) (tally less more settled_tally : Tally) (entries : List Entry) (unsettled : List Unsettled) (room next settled n : ℕ) (delivery status at i : ℕ) (x : Entry)
+    → IsBook entries index tally settled_tally unsettled room next settled n → unsettled ≡ [] → settled ≡ 0 → i < length entries → x ≡ get_or entries i x → x.seq ≡ delivery → x.latest.attempts < MAX_RECORDS
+    → ((those : Option (List ℕ)) (asked : State) → in_state asked (counts_for less those) + one_of x.name (state_in x.latest) those asked ≡ in_state asked (counts_for tally those))
+    → ((those : Option (List ℕ)) (asked : State) → in_state asked (counts_for more those) ≡ in_state asked (counts_for less those) + one_of x.name (state_in (with_attempt_restored status at x).latest) those asked)
+    → IsBook (set entries i (with_attempt_restored status at x)) index more settled_tally unsettled room next settled n
+book-restored index tally less more settled_tally entries unsettled room next settled n delivery status at i x h waiting first inside is same fits fewer again = record {
+  keyed = subst (λ es. IsKeyed es index next settled n) (sym changed)
+      (keyed-map g entries index next next settled n keeps h.keyed.settled_next (subst (λ es. list_all (is_numbered next) es ≡ true) changed numbered) h.keyed);
+  latest = tally-set tally less more (λ e. e.latest) entries i x y inside is refl h.latest fewer again;
+  settled = λ those asked. h.settled those asked ∙ ap (λ m. count_by (is_counted (λ e. e.settled) those asked) (take m entries)) none
+      ∙ sym (ap (λ m. count_by (is_counted (λ e. e.settled) those asked) (take m (set entries i y))) none);
+  opened = ap (list_all (λ e. has_room settled_tally e.name)) changed ∙ opened_still settled_tally g entries keeps h.opened;
+  queue = record {
+    later = ap (list_all (is_later (set entries i y))) waiting;
+    counted = omega (arith, ap length waiting);
+    room = omega (arith, h.queue.room, length-set entries i y);
+  };
+}
+  where
+    y : Entry
+    y = with_attempt_restored status at x
+
+    g : Entry → Entry
+    g = at_delivery delivery (with_attempt_restored status at)
+
+    keeps : KeepsKeys g
+    keeps = keeps_where delivery (with_attempt_restored status at) (λ e. (refl, refl, refl))
+
+    changed : set entries i y ≡ map g entries
+    changed = set_is delivery i (with_attempt_restored status at) entries x h.keyed.ascending inside is same
+
+    none : n ≡ 0
+    none = none_settled entries index next settled n h.keyed first
+
+    was : is_numbered next x ≡ true
+    was = ap (is_numbered next) is ∙ all_at (is_numbered next) entries i x inside h.keyed.numbered
+
+    numbered : list_all (is_numbered next) (set entries i y) ≡ true
+    numbered = all_set (is_numbered next) entries i y (numbered_if next y (below next x was).0 (omega (arith, fits))) h.keyed.numbered
 
 -- The events below a number, settled
 
@@ -147,7 +195,7 @@ pub book-settle : (index : BTreeMap EventKey ℕ) (tally settled_tally less more
     → ((asked : List ℕ) → has_room settled_tally asked ≡ true → has_room more asked ≡ true) → IsBook (set entries i (with_latest_settled x)) index tally more rest room next settled n
 book-settle index tally settled_tally less more entries o rest room next settled n i x h first is same fewer again stays = record {
   keyed = subst (λ es. IsKeyed es index next settled n) (sym changed)
-      (keyed-map g entries index next next settled n keeps h.keyed.settled_next (λ e was. either_way (λ y. is_numbered next y ≡ true) o.delivery with_latest_settled e was was) h.keyed);
+      (keyed-map g entries index next next settled n keeps h.keyed.settled_next (all_numbered g entries next next (λ e was. either_way (λ y. is_numbered next y ≡ true) o.delivery with_latest_settled e was was) h.keyed.numbered) h.keyed);
   latest = λ those asked. h.latest those asked
       ∙ sym (ap (count_by (is_counted (λ e. e.latest) those asked)) changed
       ∙ count-map (is_counted (λ e. e.latest) those asked) g entries (λ e. either_way (λ y. is_counted (λ z. z.latest) those asked y ≡ is_counted (λ z. z.latest) those asked e) o.delivery with_latest_settled e refl refl));

@@ -33,6 +33,11 @@ pub all_weaker : {X : Type 0} (p q : X → Bool) (xs : List X) → ((x : X) → 
 all_weaker p q [] weaker h = refl
 all_weaker p q (x ∷ xs) weaker h = and_both (q x) (list_all q xs) (weaker x (and_first (p x) (list_all p xs) h)) (all_weaker p q xs weaker (and_second (p x) (list_all p xs) h))
 
+pub all_set : {X : Type 0} (p : X → Bool) (xs : List X) (i : ℕ) (x : X) → p x ≡ true → list_all p xs ≡ true → list_all p (set xs i x) ≡ true
+all_set p [] i x here h = refl
+all_set p (y ∷ xs) zero x here h = and_both (p x) (list_all p xs) here (and_second (p y) (list_all p xs) h)
+all_set p (y ∷ xs) (suc i) x here h = and_both (p y) (list_all p (set xs i x)) (and_first (p y) (list_all p xs) h) (all_set p xs i x here (and_second (p y) (list_all p xs) h))
+
 -- the same of a part of the list
 pub all_take : {X : Type 0} (p : X → Bool) (n : ℕ) (xs : List X) → list_all p xs ≡ true → list_all p (take n xs) ≡ true
 all_take p n xs h = and_first (list_all p (take n xs)) (list_all p (drop n xs)) (sym (list_all-append p (take n xs) (drop n xs)) ∙ ap (list_all p) (take-append-drop n xs) ∙ h)
@@ -117,16 +122,20 @@ indexed-map g index entries keeps h k =
     numbers (Some e) = ap Some (keeps e).0
 
 pub keyed-map : (g : Entry → Entry) (entries : List Entry) (index : BTreeMap EventKey ℕ) (next later settled n : ℕ) → KeepsKeys g → settled ≤ later
-    → ((e : Entry) → is_numbered next e ≡ true → is_numbered later (g e) ≡ true) → IsKeyed entries index next settled n → IsKeyed (map g entries) index later settled n
+    → list_all (is_numbered later) (map g entries) ≡ true → IsKeyed entries index next settled n → IsKeyed (map g entries) index later settled n
 keyed-map g entries index next later settled n keeps l numbered h = record {
   ascending = λ i j d lt m. omega (arith, read g entries i d keeps (omega (arith, lt, m)), read g entries j d keeps m, h.ascending i j d lt (omega (arith, m, length-map entries g)));
-  numbered = list_all-map (is_numbered later) g entries ∙ all_weaker (is_numbered next) (λ e. is_numbered later (g e)) entries numbered h.numbered;
+  numbered = numbered;
   settled_next = l;
   indexed = indexed-map g index entries keeps h.indexed;
   settled_within = omega (arith, h.settled_within, length-map entries g);
   settled_below = λ k d lt. omega (arith, read g entries k d keeps (omega (arith, lt, h.settled_within, length-map entries g)), h.settled_below k d lt);
   settled_above = λ k d m lt. omega (arith, read g entries k d keeps lt, h.settled_above k d m (omega (arith, lt, length-map entries g)));
 }
+
+pub all_numbered : (g : Entry → Entry) (entries : List Entry) (next later : ℕ) → ((e : Entry) → is_numbered next e ≡ true → is_numbered later (g e) ≡ true)
+    → list_all (is_numbered next) entries ≡ true → list_all (is_numbered later) (map g entries) ≡ true
+all_numbered g entries next later each all = list_all-map (is_numbered later) g entries ∙ all_weaker (is_numbered next) (λ e. is_numbered later (g e)) entries each all
 
 -- The counts after one entry of an endpoint was changed, of which it then has one less and one more
 pub tally-set : (tally less more : Tally) (picked : Entry → Progress) (entries : List Entry) (i : ℕ) (x y : Entry) → i < length entries → x ≡ get_or entries i x → y.name ≡ x.name → IsTally tally picked entries

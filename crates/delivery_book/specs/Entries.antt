@@ -2,7 +2,7 @@
 use Rattle.std.specs.Prelude.{ℕ, ◌+◌, ◌&&◌, ◌||◌, ◌==◌, Bool, false, nat_le, nat_lt, List, [], ◌∷◌, ◌++◌, length, map, Option, Some, None, option_map, bytes_eq, find, count_by, max, if◌then◌else◌}
 use Rattle.std.specs.List.{list_any}
 use Rattle.std.specs.Option.{option_map_or}
-use Rattle.relay_types.specs.declared.limits.TheConstants.{MAX_FAILURES}
+use Rattle.relay_types.specs.declared.limits.TheConstants.{MAX_FAILURES, MAX_RECORDS}
 use Rattle.relay_types.specs.declared.state.State.{State}
 use Rattle.relay_types.specs.declared.state.State.TheVariants.{Pending, Delivered, Exhausted}
 use Rattle.relay_types.specs.Values.{Text, Seq, Seconds}
@@ -97,6 +97,12 @@ new_entry seq name id body at = record {
 abbrev pub with_attempt : (status : ℕ) (at : Seconds) → Entry → Entry
 with_attempt status at entry = record entry { latest = progress_after status at entry.latest }
 
+abbrev pub with_attempt_restored : (status : ℕ) (at : Seconds) → Entry → Entry
+with_attempt_restored status at entry = record entry {
+  latest = progress_after status at entry.latest;
+  settled = progress_after status at entry.latest;
+}
+
 abbrev pub with_latest_settled : Entry → Entry
 with_latest_settled entry = record entry { settled = entry.latest }
 
@@ -137,6 +143,11 @@ known_in book name id = option_map (λ entry. entry.seq) (find (is_entry_as name
 abbrev pub takes_outcome : BookValue → (delivery : Seq) → Bool
 takes_outcome book delivery = option_map_or is_open (entry_at book.entries delivery) false
 
+-- whether it takes an outcome that is restored, which its count of attempts has room for
+abbrev pub may_restore : BookValue → (delivery : Seq) → Bool
+may_restore book delivery =
+    option_map_or (λ e. is_open e && nat_lt e.latest.attempts MAX_RECORDS) (entry_at book.entries delivery) false
+
 -- the book with one more event, by the record with this number
 abbrev pub with_event : BookValue → (seq : Seq) (name id body : Text) (at : Seconds) → BookValue
 with_event book seq name id body at = record book {
@@ -150,6 +161,12 @@ with_outcome book seq delivery status at = record book {
   entries = map (at_delivery delivery (with_attempt status at)) book.entries;
   unsettled = book.unsettled ++ record { seq = seq; delivery = delivery } ∷ [];
   next_seq = seq + 1;
+}
+
+-- the book with one more outcome of this delivery, which is settled
+abbrev pub with_outcome_restored : BookValue → (delivery : Seq) (status : ℕ) (at : Seconds) → BookValue
+with_outcome_restored book delivery status at = record book {
+  entries = map (at_delivery delivery (with_attempt_restored status at)) book.entries;
 }
 
 -- the outcomes in front that are below this number, and those behind them

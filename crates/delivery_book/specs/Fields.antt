@@ -7,6 +7,7 @@ use Rattle.std.specs.Cmp.Lexicographic.{pointwise, slice_cmp}
 use Rattle.std.specs.HashMap.{get}
 use Rattle.std.specs.declared.cmp.Ordering.{Ordering}
 use Rattle.std.specs.Ordering.{nat_cmp, on, then_cmp}
+use Rattle.relay_types.specs.declared.limits.TheConstants.{MAX_RECORDS}
 use Rattle.relay_types.specs.declared.state.State.{State}
 use Rattle.relay_types.specs.declared.state.State.TheVariants.{Pending, Delivered, Exhausted}
 use Rattle.relay_types.specs.Values.{Text, Seq}
@@ -118,9 +119,9 @@ abbrev pub RestFrom : (n : ℕ) → Seq → List Entry → Type 0
 RestFrom n seq entries =
     (k : ℕ) (d : Entry) → n ≤ k → k < length entries → seq ≤ (slice_index_or entries k d).seq
 
--- the entry stands below the next number, and has no more attempts than numbers were handed out
+-- the entry stands below the next number, and has no more attempts than can be restored and numbers were handed out
 abbrev pub is_numbered : (next : Seq) → Entry → Bool
-is_numbered next entry = nat_lt entry.seq next && not (nat_lt next entry.latest.attempts)
+is_numbered next entry = nat_lt entry.seq next && not (nat_lt (next + MAX_RECORDS) entry.latest.attempts)
 
 -- the index has the number of each event, and of no other
 abbrev pub IsIndex : BTreeMap EventKey ℕ → List Entry → Type 0

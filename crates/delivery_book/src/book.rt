@@ -2,7 +2,7 @@
 ghost use Rattle.std.specs.Prelude.{◌≡◌, ◌≤◌, ◌<◌, ℕ, [], take, true, None, is_some, unwrap_or, option_copied, OnOk, OnErr};
 ghost use Rattle.relay_types.specs.declared.record.Record.TheVariants.{Accept, Outcome};
 ghost use Rattle.relay_types.specs.Deliveries.{known_as};
-ghost use Rattle.delivery_book.specs.Entries.{empty_book, with_event, with_outcome, with_events_settled, settle_first, with_settled, known_in, takes_outcome};
+ghost use Rattle.delivery_book.specs.Entries.{empty_book, with_event, with_outcome, with_events_settled, settle_first, with_settled, with_outcome_restored, known_in, takes_outcome, may_restore};
 ghost use Rattle.delivery_book.specs.Book.{StandsFor, OverHistories, Takes, Settles, is_free, row_of, body_of, counts_of, counts_of_all};
 
 use crate::entry::{Entry, Unsettled};
@@ -121,6 +121,27 @@ impl DeliveryBook {
         self.next_seq = seq + 1;
     }
 
+    /// Takes in an outcome of this delivery, whatever its number, as settled at once. So a book is made of what a store holds:
+    /// its events are taken in first, then their outcomes in the order of their numbers, and it is settled last.
+    /// `may_restore` tests the condition on the delivery. It takes no memory.
+    pub fn restore_outcome(&mut self, delivery: u64, status: u16, at: Moment)
+        requires waiting { self.old.unsettled ≡ [] }
+        requires settled { self.old.settled_seq ≡ 0 }
+        requires free { may_restore self.old delivery ≡ true }
+        ensures { self.new ≡ with_outcome_restored self.old delivery status at }
+    {
+        let index = index_of(&self.entries, delivery);
+        let entry = &mut self.entries[index];
+        let name = entry.name;
+        let before = entry.latest.state();
+        let after = entry.latest.after(status, at);
+        entry.latest = after;
+        entry.settled = after;
+        let state = after.state();
+        self.tally.remove(name, before);
+        self.tally.add(name, state);
+    }
+
     /// The records below this number are settled from now on. It takes no memory.
     pub fn settle_to(&mut self, seq: u64)
         requires { self.old.settled_seq ≤ seq }
@@ -189,6 +210,16 @@ impl DeliveryBook {
     {
         match entry_at(&self.entries, delivery) {
             Some(entry) => entry.is_open(),
+            None => false,
+        }
+    }
+
+    /// Whether an outcome of the delivery can be restored: the delivery takes one, and there is room to count it.
+    pub fn may_restore(&self, delivery: u64) -> bool
+        ensures { result ≡ may_restore self.now delivery }
+    {
+        match entry_at(&self.entries, delivery) {
+            Some(entry) => entry.is_open() && entry.latest.attempts < MAX_RECORDS,
             None => false,
         }
     }

@@ -1,8 +1,14 @@
 //! Laws that contracts rest on.
-ghost use Rattle.delivery_book.specs.Laws.{OthersLeave};
+ghost use Rattle.delivery_book.specs.Laws.{OthersLeave, RestoredStand};
 
 /// Records of endpoints need no call of the book: it stands for the history with a Put, Secrets or Enabled behind as it
 /// stood before.
 pub fn endpoint_records_leave()
     ensures { OthersLeave }
+{}
+
+/// A book in which the events of a history were taken in and their outcomes restored stands for the history once it is
+/// settled to its end.
+pub fn restored_books_stand()
+    ensures { RestoredStand }
 {}

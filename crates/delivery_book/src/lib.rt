@@ -11,5 +11,5 @@ mod search;
 mod tally;
 
 pub use crate::book::DeliveryBook;
-pub use crate::law::endpoint_records_leave;
+pub use crate::law::{endpoint_records_leave, restored_books_stand};
 pub use crate::row::{Counts, Row};
