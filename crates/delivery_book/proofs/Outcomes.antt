@@ -1,7 +1,8 @@
 -- What ties the index, the counts and the room to the entries stays so with one more outcome, and with more records settled.
-use Rattle.std.proofs.Common.{◌≡◌, ◌&&◌, ℕ, ◌+◌, ◌-◌, ◌<◌, ◌≤◌, Bool, true, false, List, [], ◌∷◌, ◌++◌, Option, Some, length, take, drop, set, map, get_or, refl, sym, ◌∙◌, ap, subst, ltb, not, arith, cond, ⊎_elim, length-append}
+use Rattle.std.proofs.Common.{◌≡◌, ◌&&◌, ℕ, ◌+◌, ◌-◌, ◌<◌, ◌≤◌, Bool, true, false, List, [], ◌∷◌, ◌++◌, Option, Some, length, take, drop, set, map, get_or, refl, sym, ◌∙◌, ap, subst, eqb, ltb, not, arith, cond, ⊎_elim, length-append}
 use Rattle.std.specs.Prelude.{count_by, is_some, max, option_to_list}
 use Rattle.std.specs.List.{list_all}
+use Rattle.std.specs.Option.{option_map_or}
 use Rattle.std.specs.BTreeMap.{BTreeMap}
 use Rattle.std.proofs.lemmas.Bool.{cases_lt, lt-ltb, ltb-true, eqb-true, eq-eqb, ne_eqb}
 use Rattle.std.proofs.Math.Seq.{take-set-lt}
@@ -17,11 +18,12 @@ use Rattle.delivery_book.specs.declared.entry.Entry.{Entry}
 use Rattle.delivery_book.specs.declared.entry.Unsettled.{Unsettled}
 use Rattle.delivery_book.specs.declared.keys.EventKey.{EventKey}
 use Rattle.delivery_book.specs.declared.tally.Tally.{Tally}
-use Rattle.delivery_book.specs.Entries.{with_attempt, with_attempt_restored, with_latest_settled, at_delivery, is_open, entry_at, state_in}
+use Rattle.delivery_book.specs.Entries.{BookValue, with_attempt, with_attempt_restored, with_latest_settled, at_delivery, is_open, entry_at, state_in, has_room_for_attempt, may_restore}
 use Rattle.delivery_book.specs.Fields.{IsBook, IsKeyed, IsQueue, IsTally, is_numbered, is_waiting, is_later, in_state, counts_for, has_room, one_of, is_counted}
 use Rattle.delivery_book.proofs.Entries.{count-slice}
 use Rattle.delivery_book.proofs.Updates.{KeepsKeys, all_at, all_set, all_weaker, count-map, either_way, set_is, keeps_where, entry_at-map, keyed-map, all_numbered, tally-set, opened_still, some_at}
 use Rattle.delivery_book.proofs.Books.{below, numbered_if}
+use Rattle.delivery_book.proofs.Progresses.{empty_if}
 
 -- One more outcome
 
@@ -106,6 +108,16 @@ book-outcome index tally less more settled_tally entries unsettled room next set
 none_settled : (entries : List Entry) (index : BTreeMap EventKey ℕ) (next settled n : ℕ) → IsKeyed entries index next settled n → settled ≡ 0 → n ≡ 0
 none_settled [] index next settled n h none = omega (arith, h.settled_within)
 none_settled (x ∷ xs) index next settled n h none = ⊎_elim (λ lt. absurd (omega (arith, none, h.settled_below 0 x lt))) (λ ge. omega (arith, ge)) (cases_lt 0 n)
+
+-- what the test of the condition tells
+pub restorable_means : (book : BookValue) (delivery : ℕ) (x : Entry) → may_restore book delivery ≡ true → entry_at book.entries delivery ≡ Some x → (book.settled_seq ≡ 0) × (book.unsettled ≡ []) × (x.latest.attempts < MAX_RECORDS)
+restorable_means book delivery x h there =
+    let free = and_second (eqb book.settled_seq 0) _ h in
+    let open_entry : has_room_for_attempt x ≡ true = sym (ap (λ o. option_map_or has_room_for_attempt o false) there) ∙ and_second (eqb (length book.unsettled) 0) _ free in (
+      eqb-true book.settled_seq 0 (and_first (eqb book.settled_seq 0) _ h),
+      empty_if book.unsettled (eqb-true (length book.unsettled) 0 (and_first (eqb (length book.unsettled) 0) _ free)),
+      ltb-true x.latest.attempts MAX_RECORDS (and_second (is_open x) _ open_entry),
+    )
 
 pub book-restored : (index : BTreeMap EventKey ℕ) (tally less more settled_tally : Tally) (entries : List Entry) (unsettled : List Unsettled) (room next settled n : ℕ) (delivery status at i : ℕ) (x : Entry)
     → IsBook entries index tally settled_tally unsettled room next settled n → unsettled ≡ [] → settled ≡ 0 → i < length entries → x ≡ get_or entries i x → x.seq ≡ delivery → x.latest.attempts < MAX_RECORDS

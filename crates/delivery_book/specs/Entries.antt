@@ -143,10 +143,13 @@ known_in book name id = option_map (λ entry. entry.seq) (find (is_entry_as name
 abbrev pub takes_outcome : BookValue → (delivery : Seq) → Bool
 takes_outcome book delivery = option_map_or is_open (entry_at book.entries delivery) false
 
--- whether it takes an outcome that is restored, which its count of attempts has room for
+-- whether an outcome of it can be restored: nothing is settled, nothing waits, and there is room to count one more attempt
+abbrev pub has_room_for_attempt : Entry → Bool
+has_room_for_attempt entry = is_open entry && nat_lt entry.latest.attempts MAX_RECORDS
+
 abbrev pub may_restore : BookValue → (delivery : Seq) → Bool
-may_restore book delivery =
-    option_map_or (λ e. is_open e && nat_lt e.latest.attempts MAX_RECORDS) (entry_at book.entries delivery) false
+may_restore book delivery = book.settled_seq == 0 && (length book.unsettled == 0
+    && option_map_or has_room_for_attempt (entry_at book.entries delivery) false)
 
 -- the book with one more event, by the record with this number
 abbrev pub with_event : BookValue → (seq : Seq) (name id body : Text) (at : Seconds) → BookValue

@@ -123,11 +123,9 @@ impl DeliveryBook {
 
     /// Takes in an outcome of this delivery, whatever its number, as settled at once. So a book is made of what a store holds:
     /// its events are taken in first, then their outcomes in the order of their numbers, and it is settled last.
-    /// `may_restore` tests the condition on the delivery. It takes no memory.
+    /// `may_restore` tests the condition. It takes no memory.
     pub fn restore_outcome(&mut self, delivery: u64, status: u16, at: Moment)
-        requires waiting { self.old.unsettled ≡ [] }
-        requires settled { self.old.settled_seq ≡ 0 }
-        requires free { may_restore self.old delivery ≡ true }
+        requires { may_restore self.old delivery ≡ true }
         ensures { self.new ≡ with_outcome_restored self.old delivery status at }
     {
         let index = index_of(&self.entries, delivery);
@@ -214,12 +212,18 @@ impl DeliveryBook {
         }
     }
 
-    /// Whether an outcome of the delivery can be restored: the delivery takes one, and there is room to count it.
+    /// Whether an outcome of the delivery can be restored: no record is settled, no outcome waits, and the delivery is pending and
+    /// has room to count one more attempt.
     pub fn may_restore(&self, delivery: u64) -> bool
         ensures { result ≡ may_restore self.now delivery }
     {
         match entry_at(&self.entries, delivery) {
-            Some(entry) => entry.is_open() && entry.latest.attempts < MAX_RECORDS,
+            Some(entry) => {
+                self.settled_seq == 0
+                    && self.unsettled.is_empty()
+                    && entry.is_open()
+                    && entry.latest.attempts < MAX_RECORDS
+            }
             None => false,
         }
     }
