@@ -1,5 +1,5 @@
 -- The endpoints that a load reads, with their secrets.
-use Rattle.std.proofs.Common.{◌≡◌, ◌<◌, ◌≤◌, ℕ, suc, ◌+◌, ◌==◌, Bool, List, [], ◌∷◌, ◌++◌, Some, Result, Ok, Err, OnOk, IfOk, map, length, refl, sym, ap, subst, ◌∙◌, arith, append-nil, append_assoc}
+use Rattle.std.proofs.Common.{◌≡◌, ◌<◌, ◌≤◌, ℕ, suc, ◌+◌, ◌==◌, Bool, List, [], ◌∷◌, ◌++◌, Some, Result, Ok, Err, OnOk, IfOk, map, length, refl, sym, ap, subst, ◌∙◌, arith, append-nil}
 use Rattle.std.specs.Prelude.{filter, flat_map}
 use Rattle.std.specs.List.{enumerate_from}
 use Rattle.std.specs.List.Sorted.{IsPermutation}
@@ -15,15 +15,11 @@ use Rattle.relay_types.specs.Rows.{EndpointRow, SecretRow, endpoint_row, secret_
 use Rattle.relay_types.proofs.OrderLaws.{Rises, puts_rise}
 use Rattle.endpoint_book.specs.Entries.{BookValue, empty_book, restored_entry, with_restored}
 use Rattle.spool_sql.specs.Stored.{AreSecretsOf}
-use Rattle.spool.specs.Reading.{IsRising, IsLeft}
+use Rattle.spool.specs.Reading.{IsRising}
 use Rattle.spool.specs.Loading.{AreRestored, Restores, entry_of_row, known_of}
 use Rattle.spool.specs.declared.load_endpoints.Endpoints.{Endpoints}
-use Rattle.spool.proofs.PageLaws.{IsBehind, rising_order, rising_map, rising_at, rising_higher, rows_rise, left_all, none_left, legal_length}
-
--- the endpoints with numbers below this one were read
-abbrev pub IsRead : Endpoints → List Record → ℕ → Type 0
-IsRead loaded records from =
-    (read : List EndpointRow) × (left : List EndpointRow) × IsLeft (λ (e : EndpointRow). e.put) from (rows_of records).endpoints read left × AreRestored loaded records read
+use Rattle.spool.proofs.PageLaws.{rising_order, rising_map, rising_at, rising_higher, rows_rise, legal_length}
+use Rattle.spool.proofs.QuietReads.{IsReadTo, read_none}
 
 -- Secrets of one endpoint
 
@@ -149,45 +145,16 @@ module _ (records : List Record) where
       within = rising_at (λ (e : EndpointRow). e.put) 0 (length records) before after row (subst (IsRising (λ (e : EndpointRow). e.put) 0 (length records)) is endpoints_rise)
 
 -- nothing is read yet
-pub restored_none : (records : List Record) (loaded : Endpoints) → loaded.book ≡ empty_book → loaded.names.items ≡ [] → AreRestored loaded records []
-restored_none records loaded book names = record {
-  entries = ap (λ (b : BookValue). b.entries) book;
-  changes = ap (λ (b : BookValue). b.changes) book;
-  next_seq = omega (arith, ap (λ (b : BookValue). b.next_seq) book);
-  settled_seq = omega (arith, ap (λ (b : BookValue). b.settled_seq) book);
-  names = names;
-}
-
--- some rows, and then more
-pub restores_then : (records : List Record) (a b c : Endpoints) (some more : List EndpointRow) → Restores a b some records → Restores b c more records → Restores a c (some ++ more) records
-restores_then records a b c some more p q before after is h =
-    subst (AreRestored c records) (append_assoc before some more)
-    (q (before ++ some) after (is ∙ ap (λ rest. before ++ rest) (append_assoc some more after) ∙ sym (append_assoc before some (more ++ after)))
-    (p before (more ++ after) (is ∙ ap (λ rest. before ++ rest) (append_assoc some more after)) h))
-
-pub restores_none : (records : List Record) (a : Endpoints) → Restores a a [] records
-restores_none records a before after is h = subst (AreRestored a records) (sym (append-nil before)) h
-
--- one page more
-pub page_restored : (records : List Record) (from next : ℕ) (page : List EndpointRow) (old new : Endpoints) → Restores old new page records
-    → ((read left : List EndpointRow) → IsLeft (λ (e : EndpointRow). e.put) from (rows_of records).endpoints read left → IsBehind (λ (e : EndpointRow). e.put) next (rows_of records).endpoints read left page)
-    → IsRead old records from → IsRead new records next
-page_restored records from next page old new restores behind (read, left, h, so_far) =
-    let after = behind read left h in
-    (read ++ page, after.0, after.2, restores read after.0 (h.parted ∙ ap (λ rest. read ++ rest) after.1) so_far)
-
-pub read_none : (records : List Record) (loaded : Endpoints) → IsLegal records → loaded.book ≡ empty_book → loaded.names.items ≡ [] → IsRead loaded records 0
-read_none records loaded legal book names = (
-  [],
-  (rows_of records).endpoints,
-  left_all (λ (e : EndpointRow). e.put) (rows_of records).endpoints (rising_higher (λ (e : EndpointRow). e.put) 0 (length records) MAX_RECORDS (rows_of records).endpoints (legal_length records legal) (endpoints_rise records)),
-  restored_none records loaded book names,
-)
-
-pub read_whole : (records : List Record) (loaded : Endpoints) (from : ℕ) → MAX_RECORDS ≤ from → IsRead loaded records from → AreRestored loaded records (rows_of records).endpoints
-read_whole records loaded from l (read, left, h, so_far) =
-    let none = none_left (λ (e : EndpointRow). e.put) from (rows_of records).endpoints read left l h in
-    subst (AreRestored loaded records) (sym (h.parted ∙ ap (λ rest. read ++ rest) none ∙ append-nil read)) so_far
+pub restored_none : (records : List Record) (loaded : Endpoints) → IsLegal records → loaded.book ≡ empty_book → loaded.names.items ≡ [] → IsReadTo (λ (e : EndpointRow). e.put) (rows_of records).endpoints (AreRestored loaded records) 0
+restored_none records loaded legal book names =
+    read_none (λ (e : EndpointRow). e.put) (rows_of records).endpoints (AreRestored loaded records)
+    (rising_higher (λ (e : EndpointRow). e.put) 0 (length records) MAX_RECORDS (rows_of records).endpoints (legal_length records legal) (endpoints_rise records)) (record {
+      entries = ap (λ (b : BookValue). b.entries) book;
+      changes = ap (λ (b : BookValue). b.changes) book;
+      next_seq = omega (arith, ap (λ (b : BookValue). b.next_seq) book);
+      settled_seq = omega (arith, ap (λ (b : BookValue). b.settled_seq) book);
+      names = names;
+    })
 
 pub on_ok_both : {X E : Type 0} (r : Result X E) {P Q R : Type 0} → OnOk r P → OnOk r Q → (P → Q → R) → IfOk r (λ _. R)
 on_ok_both (Ok x) p q f = f p q

@@ -9,4 +9,6 @@ pub mod VaultLemmas
 pub mod AnswerLemmas
 pub mod CreateLemmas
 pub mod PageLaws
+pub mod QuietReads
 pub mod EndpointLoads
+pub mod DeliveryLoads

@@ -1,6 +1,6 @@
 -- The pages of a table whose numbers rise, one after another, are the table.
 use Rattle.std.proofs.Common.{◌≡◌, inl, inr, ◌<◌, ◌≤◌, ℕ, zero, suc, ◌+◌, ◌==◌, Bool, true, false, cond, List, [], ◌∷◌, ◌++◌, ◌-◌, Option, Some, None, map, length, take, drop, refl, sym, ap, subst, ◌∙◌, arith, append-nil, append_assoc}
-use Rattle.std.specs.Prelude.{filter, filter_map, nat_le, option_map, slice_get, slice_index_or}
+use Rattle.std.specs.Prelude.{filter, find, filter_map, nat_le, option_map, slice_get, slice_index_or}
 use Rattle.std.specs.List.{cons_option, enumerate_from, list_all}
 use Rattle.std.specs.List.Sorted.{IsPermutation, IsNonDecreasingBy}
 use Rattle.std.proofs.lemmas.Bool.{le-leb, leb-true, lt-leb, eq-eqb, ne_eqb, cases_lt}
@@ -103,6 +103,9 @@ module _ {X : Type 0} (number : X → ℕ) where
 
   filter_head : (x : X) (xs : List X) (n : ℕ) → number x ≡ n → filter (λ z. number z == n) (x ∷ xs) ≡ x ∷ filter (λ z. number z == n) xs
   filter_head x xs n same = rw (eq-eqb (number x) n same) refl
+
+  some_same : (x y : X) → Some x ≡ Some y → x ≡ y
+  some_same x y e = cc
 
   cons_head : (x y : X) (xs ys : List X) → x ∷ xs ≡ y ∷ ys → x ≡ y
   cons_head x y xs ys e = cc
@@ -228,6 +231,19 @@ module _ {X : Type 0} (number : X → ℕ) where
       subst (IsBehind MAX_RECORDS xs read left) (sym none)
       (left, refl, subst (λ ys. IsLeft number MAX_RECORDS xs ys left) (sym (append-nil read)) (read_all from xs read left l h (sym (page_is from xs read left page h p) ∙ none)))
 
+  -- One of a list whose numbers rise is found by its number
+
+  rising_get : (a b k : ℕ) (xs : List X) (x : X) → IsRising number a b xs → slice_get xs k ≡ Some x → a ≤ number x
+  rising_get a b k [] x h is = absurd (let no = is in cc)
+  rising_get a b zero (y ∷ ys) x h is = subst (λ z. a ≤ number z) (some_same y x is) h.0
+  rising_get a b (suc k) (y ∷ ys) x h is = omega (arith, h.0, rising_get (number y + 1) b k ys x h.1 is)
+
+  pub rising_find : (a b k : ℕ) (xs : List X) (x : X) → IsRising number a b xs → slice_get xs k ≡ Some x → find (λ y. number y == number x) xs ≡ Some x
+  rising_find a b k [] x h is = absurd (let no = is in cc)
+  rising_find a b zero (y ∷ ys) x h is = rw (eq-eqb (number y) (number x) (ap number (some_same y x is))) is
+  rising_find a b (suc k) (y ∷ ys) x h is =
+      rw (ne_eqb (number y) (number x) (λ same. absurd (omega (arith, same, rising_get (number y + 1) b k ys x h.1 is)))) (rising_find (number y + 1) b k ys x h.1 is)
+
 -- What is read of another list
 pub rising_map : {X Y : Type 0} (f : X → Y) (number : Y → ℕ) (a b : ℕ) (xs : List X) → IsRising (λ x. number (f x)) a b xs → IsRising number a b (map f xs)
 rising_map f number a b [] h = h
@@ -254,7 +270,7 @@ legal_length records h = leb-true (length records) MAX_RECORDS (and_second (list
 
 -- the last row of a page, as it is read
 
-get_map : {X Y : Type 0} (f : X → Y) (xs : List X) (k : ℕ) → slice_get (map f xs) k ≡ option_map f (slice_get xs k)
+pub get_map : {X Y : Type 0} (f : X → Y) (xs : List X) (k : ℕ) → slice_get (map f xs) k ≡ option_map f (slice_get xs k)
 get_map f [] k = refl
 get_map f (x ∷ xs) zero = refl
 get_map f (x ∷ xs) (suc k) = get_map f xs k

@@ -1,16 +1,22 @@
 -- What a load reads of the tables, and the books that it gives.
-use Rattle.std.specs.Prelude.{◌≡◌, ◌≤◌, List, [], ◌++◌, map, length, Result, IfOk, OnOk, IsTrue}
+use Rattle.std.specs.Prelude.{◌≡◌, ◌≤◌, ◌==◌, ℕ, List, [], ◌∷◌, map, max, find, length, slice_get, Some, Result, IfOk, OnOk, IsTrue}
+use Rattle.std.specs.Option.{option_map_or}
 use Rattle.sqlite.specs.State.{HasCleanDisk, IsUnchanged}
 use Rattle.sqlite.specs.Held.{Held, state}
 use Rattle.sqlite_trees.specs.declared.store.Store.{Ghosts}
 use Rattle.relay_types.specs.declared.record.Record.{Record}
+use Rattle.relay_types.specs.Values.{Text, Seq, Seconds}
 use Rattle.relay_types.specs.Endpoints.{secrets_of}
 use Rattle.relay_types.specs.Legal.{IsLegal}
-use Rattle.relay_types.specs.Rows.{EndpointRow, rows_of}
+use Rattle.relay_types.specs.Rows.{EndpointRow, DeliveryRow, rows_of}
 use Rattle.endpoint_book.specs.declared.entry.Entry.{Entry}
 use Rattle.endpoint_book.specs.Entries.{restored_entry}
+use Rattle.delivery_book.specs.declared.entry.Entry.{Entry as DeliveryEntry}
+use Rattle.delivery_book.specs.Entries.{new_entry}
 use Rattle.spool_sql.specs.Stored.{IsTables}
 use Rattle.spool_sql.specs.Steps.{IfClean}
+use Rattle.spool.specs.Reading.{ReadsOn}
+use Rattle.spool.specs.declared.load_deliveries.Deliveries.{Deliveries}
 use Rattle.spool.specs.declared.load_endpoints.Endpoints.{Endpoints}
 use Rattle.spool.specs.declared.load_endpoints.Known.{Known}
 
@@ -44,5 +50,39 @@ pub record AreRestored (loaded : Endpoints) (records : List Record) (rows : List
 
 -- these rows of the table were read behind those before
 abbrev pub Restores : (old new : Endpoints) → List EndpointRow → List Record → Type 0
-Restores old new more records =
-    (before after : List EndpointRow) → (rows_of records).endpoints ≡ before ++ (more ++ after) → AreRestored old records before → AreRestored new records (before ++ more)
+Restores old new more records = ReadsOn (rows_of records).endpoints (AreRestored old records) (AreRestored new records) more
+
+-- ---- events
+
+-- the greatest of these moments, 0 where there is none
+abbrev pub greatest : List Seconds → Seconds
+greatest [] = 0
+greatest (at ∷ rest) = max at (greatest rest)
+
+-- these are the numbers and names of the endpoints of these records
+abbrev pub AreNames : List Known → List Record → Type 0
+AreNames names records = names ≡ map known_of (rows_of records).endpoints
+
+-- an endpoint of this number has this name
+abbrev pub IsNameOf : List Known → (put : Seq) (name : Text) → Type 0
+IsNameOf names put name = (at : ℕ) × (slice_get names at ≡ Some (record { put = put; name = name }))
+
+-- the name of the endpoint with this number
+abbrev pub name_put : List EndpointRow → (put : Seq) → Text
+name_put rows put = option_map_or (λ e. e.name) (find (λ e. e.put == put) rows) []
+
+-- the event of a row, without an attempt
+abbrev pub fresh_entry : List Record → DeliveryRow → DeliveryEntry
+fresh_entry records d = new_entry d.seq (name_put (rows_of records).endpoints d.endpoint) d.id d.body d.at
+
+-- the events of these rows were read
+pub record AreAccepted (loaded : Deliveries) (records : List Record) (rows : List DeliveryRow) : Type 0 where
+  pub entries : loaded.book.entries ≡ map (fresh_entry records) rows
+  pub unsettled : loaded.book.unsettled ≡ []
+  pub next_seq : loaded.book.next_seq ≤ length records
+  pub settled_seq : loaded.book.settled_seq ≡ 0
+  pub clock : loaded.clock ≡ greatest (map (λ (d : DeliveryRow). d.at) rows)
+
+-- these rows of the table were read behind those before
+abbrev pub Accepts : (old new : Deliveries) → List DeliveryRow → List Record → Type 0
+Accepts old new more records = ReadsOn (rows_of records).deliveries (AreAccepted old records) (AreAccepted new records) more

@@ -13,3 +13,7 @@ pub record IsLeft {X : Type 0} (number : X → Seq) (from : Seq) (xs read left :
   pub parted : xs ≡ read ++ left
   pub before : IsRising number 0 from read
   pub behind : IsRising number from MAX_RECORDS left
+
+-- some rows of a table come next behind those before: what `old` says of those before, `new` says of both
+abbrev pub ReadsOn : {X : Type 0} → (table : List X) → (old new : List X → Type 0) → (more : List X) → Type 0
+ReadsOn table old new more = (before after : List _) → table ≡ before ++ (more ++ after) → old before → new (before ++ more)

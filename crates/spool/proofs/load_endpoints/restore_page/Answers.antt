@@ -1,18 +1,13 @@
-use Rattle.std.proofs.Common.{◌≡◌, [], ◌∷◌, map, refl, sym, subst, ◌∙◌, arith}
+use Rattle.std.proofs.Common.{◌≡◌, [], ◌∷◌, map, refl, sym, subst, ◌∙◌}
 use Rattle.std.proofs.lemmas.List.{map-append}
 use Rattle.std.proofs.lemmas.Iterator.Adapters.{YieldsList-from_vec}
 use Rattle.std.proofs.lemmas.Iterator.Consumers.{YieldsList-end}
-use Rattle.sqlite.specs.State.{HasCleanDisk}
 use Rattle.sqlite.specs.Held.{state}
-use Rattle.sqlite.proofs.Callers.{unchanged_then}
-use Rattle.sqlite.proofs.StateLemmas.{unchanged}
 use Rattle.relay_types.specs.Rows.{rows_of}
-use Rattle.spool_sql.specs.Stored.{IsTables, endpoint_of}
-use Rattle.spool_sql.proofs.StepLemmas.{spares_then}
-use Rattle.spool.specs.Loading.{Restores}
-use Rattle.spool.proofs.SecretLemmas.{spares_none}
+use Rattle.spool_sql.specs.Stored.{endpoint_of}
+use Rattle.spool.specs.Loading.{AreRestored, Restores}
 use Rattle.spool.proofs.PageLaws.{map_itself}
-use Rattle.spool.proofs.EndpointLoads.{restores_none, restores_then}
+use Rattle.spool.proofs.QuietReads.{quiet_none, quiet_look, quiet_then, clean_before, tables_along, reads_none, reads_then}
 use Rattle.spool.proofs.load_endpoints.restore_page.Goals as goal
 
 pub loop-row-preserved : goal.loop-row-preserved
@@ -24,29 +19,23 @@ loop-row-preserved g c =
     let step = c.in_ok-restore_endpoint.ensures in
     record {
       same_reference = step.same_reference ∙ so_far.same_reference;
-      spares = spares_then a b z so_far.spares step.spares;
-      unchanged = λ clean is_open.
-          let before : HasCleanDisk b = omega (arith, clean, step.spares.survives.clean) in
-          unchanged_then a b z (so_far.unchanged before is_open) (step.unchanged clean);
+      quiet = quiet_then a b z so_far.quiet (quiet_look b z step.spares step.unchanged);
       settled = step.settled;
       done = λ clean records legal tables.
-          let before : HasCleanDisk b = omega (arith, clean, step.spares.survives.clean) in
-          let same = so_far.unchanged before ((so_far.spares.kept before).was_open (step.unchanged clean).0.was_open) in
+          let before = clean_before b z step.spares clean in
+          let there = tables_along a b (rows_of records) so_far.quiet before (step.unchanged clean).0.was_open tables in
           subst (λ more. Restores c.args.loaded.now c.restore_endpoint.new.loaded more records) (sym (map-append endpoint_of c.loop-row.yielded (c.in-Some.row ∷ [])))
-          (restores_then records c.args.loaded.now c.loop-row.loaded c.restore_endpoint.new.loaded (map endpoint_of c.loop-row.yielded) (endpoint_of c.in-Some.row ∷ []) (so_far.done before records legal tables)
-          (step.found clean records legal (subst (λ d. IsTables d (rows_of records)) (sym same.0.now_is) tables)));
+          (reads_then (rows_of records).endpoints (AreRestored c.args.loaded.now records) (AreRestored c.loop-row.loaded records) (AreRestored c.restore_endpoint.new.loaded records) (map endpoint_of c.loop-row.yielded) (endpoint_of c.in-Some.row ∷ [])
+          (so_far.done before records legal tables) (step.found clean records legal there));
     }
 
 pub loop-row-init : goal.loop-row-init
-loop-row-init g c =
-    let a = state g.S.Store c.args.tx.now.conn.now in
-    record {
-      same_reference = refl;
-      spares = spares_none a;
-      unchanged = λ clean is_open. unchanged a is_open;
-      settled = c.requires;
-      done = λ clean records legal tables. restores_none records c.args.loaded.now;
-    }
+loop-row-init g c = record {
+  same_reference = refl;
+  quiet = quiet_none (state g.S.Store c.args.tx.now.conn.now);
+  settled = c.requires;
+  done = λ clean records legal tables. reads_none (rows_of records).endpoints (AreRestored c.args.loaded.now records);
+}
 
 pub returns-clause-found : goal.returns-clause-found
 returns-clause-found g c clean records legal tables =
