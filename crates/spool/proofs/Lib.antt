@@ -12,3 +12,4 @@ pub mod PageLaws
 pub mod QuietReads
 pub mod EndpointLoads
 pub mod DeliveryLoads
+pub mod AttemptLoads

@@ -1,18 +1,21 @@
 -- What a load reads of the tables, and the books that it gives.
-use Rattle.std.specs.Prelude.{◌≡◌, ◌≤◌, ◌==◌, ℕ, List, [], ◌∷◌, map, max, find, length, slice_get, Some, Result, IfOk, OnOk, IsTrue}
+use Rattle.std.specs.Prelude.{◌≡◌, ◌≤◌, ◌==◌, ℕ, List, [], ◌∷◌, map, max, find, length, slice_get, filter_map, Option, Some, None, Result, IfOk, OnOk, IsTrue, if◌then◌else◌}
 use Rattle.std.specs.Option.{option_map_or}
 use Rattle.sqlite.specs.State.{HasCleanDisk, IsUnchanged}
 use Rattle.sqlite.specs.Held.{Held, state}
 use Rattle.sqlite_trees.specs.declared.store.Store.{Ghosts}
 use Rattle.relay_types.specs.declared.record.Record.{Record}
 use Rattle.relay_types.specs.Values.{Text, Seq, Seconds}
+use Rattle.relay_types.specs.Records.{Attempt}
 use Rattle.relay_types.specs.Endpoints.{secrets_of}
 use Rattle.relay_types.specs.Legal.{IsLegal}
-use Rattle.relay_types.specs.Rows.{EndpointRow, DeliveryRow, rows_of}
+use Rattle.relay_types.specs.Rows.{EndpointRow, DeliveryRow, AttemptRow, rows_of}
 use Rattle.endpoint_book.specs.declared.entry.Entry.{Entry}
 use Rattle.endpoint_book.specs.Entries.{restored_entry}
 use Rattle.delivery_book.specs.declared.entry.Entry.{Entry as DeliveryEntry}
-use Rattle.delivery_book.specs.Entries.{new_entry}
+use Rattle.delivery_book.specs.declared.progress.Progress.{Progress}
+use Rattle.delivery_book.specs.Entries.{new_entry, progress_of}
+use Rattle.delivery_book.specs.Book.{entries_of}
 use Rattle.spool_sql.specs.Stored.{IsTables}
 use Rattle.spool_sql.specs.Steps.{IfClean}
 use Rattle.spool.specs.Reading.{ReadsOn}
@@ -86,3 +89,46 @@ pub record AreAccepted (loaded : Deliveries) (records : List Record) (rows : Lis
 -- these rows of the table were read behind those before
 abbrev pub Accepts : (old new : Deliveries) → List DeliveryRow → List Record → Type 0
 Accepts old new more records = ReadsOn (rows_of records).deliveries (AreAccepted old records) (AreAccepted new records) more
+
+-- ---- attempts
+
+-- what the row says of an attempt at this delivery, if it is one
+abbrev pub attempt_by_row : (delivery : Seq) → AttemptRow → Option Attempt
+attempt_by_row d row =
+    if row.delivery == d then Some (record { number = row.number; status = row.status; at = row.at }) else None
+
+-- how far the event of a row has come after the attempts of these rows
+abbrev pub progress_by : List AttemptRow → DeliveryRow → Progress
+progress_by attempts d = progress_of d.at (filter_map (attempt_by_row d.seq) attempts)
+
+abbrev pub attempted_entry : List Record → List AttemptRow → DeliveryRow → DeliveryEntry
+attempted_entry records attempts d = record (fresh_entry records d) {
+  latest = progress_by attempts d;
+  settled = progress_by attempts d;
+}
+
+-- the greatest moment of these events and attempts
+abbrev pub greatest_of : List DeliveryRow → List AttemptRow → Seconds
+greatest_of deliveries attempts =
+    max (greatest (map (λ (d : DeliveryRow). d.at) deliveries)) (greatest (map (λ (a : AttemptRow). a.at) attempts))
+
+-- all events were read, and the attempts of these rows
+pub record HaveAttempts (loaded : Deliveries) (records : List Record) (rows : List AttemptRow) : Type 0 where
+  pub entries : loaded.book.entries ≡ map (attempted_entry records rows) (rows_of records).deliveries
+  pub unsettled : loaded.book.unsettled ≡ []
+  pub next_seq : loaded.book.next_seq ≤ length records
+  pub settled_seq : loaded.book.settled_seq ≡ 0
+  pub clock : loaded.clock ≡ greatest_of (rows_of records).deliveries rows
+
+-- these rows of the table were read behind those before
+abbrev pub Attempts : (old new : Deliveries) → List AttemptRow → List Record → Type 0
+Attempts old new more records =
+    ReadsOn (rows_of records).attempts (HaveAttempts old records) (HaveAttempts new records) more
+
+-- all events and attempts of these records were read, and none of the records is settled yet
+pub record AreAttempted (loaded : Deliveries) (records : List Record) : Type 0 where
+  pub entries : loaded.book.entries ≡ entries_of records (length records)
+  pub unsettled : loaded.book.unsettled ≡ []
+  pub next_seq : loaded.book.next_seq ≤ length records
+  pub settled_seq : loaded.book.settled_seq ≡ 0
+  pub clock : loaded.clock ≡ greatest_of (rows_of records).deliveries (rows_of records).attempts

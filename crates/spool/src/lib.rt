@@ -8,6 +8,7 @@ mod doubt;
 mod enabled;
 mod ends;
 mod limits;
+mod load_attempts;
 mod load_deliveries;
 mod load_endpoints;
 mod outcome;

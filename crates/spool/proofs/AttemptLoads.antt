@@ -1,0 +1,174 @@
+-- The attempts that a load reads, and what all rows of a history make of the book.
+use Rattle.std.proofs.Common.{◌≡◌, ℕ, ◌+◌, ◌==◌, Bool, true, false, List, [], ◌∷◌, ◌++◌, Option, Some, None, map, take, length, refl, sym, ap, subst, ◌∙◌, arith, append-nil}
+use Rattle.std.specs.Prelude.{find, filter_map, max, option_map, bytes_eq, is_some, if◌then◌else◌}
+use Rattle.std.specs.List.{cons_option, enumerate_from}
+use Rattle.std.specs.Option.{option_map_or}
+use Rattle.std.proofs.lemmas.Bool.{eq-eqb, ne_eqb}
+use Rattle.std.proofs.lemmas.List.{map-append, take_all}
+use Rattle.std.proofs.lemmas.List.Elements.{filter_map-append}
+use Rattle.std.proofs.lemmas.Slice.Eq.{bytes_eq-Decides}
+use Rattle.relay_types.specs.declared.record.Record.{Record}
+use Rattle.relay_types.specs.declared.record.Record.TheVariants.{Put, Secrets, Enabled, Accept, Outcome}
+use Rattle.relay_types.specs.declared.limits.TheConstants.{MAX_RECORDS}
+use Rattle.relay_types.specs.Values.{Text}
+use Rattle.relay_types.specs.Records.{Attempt, attempt_by}
+use Rattle.relay_types.specs.Deliveries.{attempts_of}
+use Rattle.relay_types.specs.Endpoints.{Endpoint, endpoints, endpoint_of, has_endpoint}
+use Rattle.relay_types.specs.Legal.{IsLegal}
+use Rattle.relay_types.specs.Rows.{EndpointRow, DeliveryRow, AttemptRow, attempt_row, delivery_row, endpoint_row, put_of, rows_of}
+use Rattle.relay_types.proofs.KnownLaws.{AllKnown, legal_known}
+use Rattle.relay_types.proofs.OrderLaws.{Rises, puts_rise, finds, finds_above}
+use Rattle.relay_types.proofs.RowLaws.{find_map}
+use Rattle.delivery_book.specs.declared.entry.Entry.{Entry}
+use Rattle.delivery_book.specs.Entries.{BookValue, progress_of, with_outcome_restored, with_attempt_restored, at_delivery}
+use Rattle.delivery_book.specs.Book.{entry_by}
+use Rattle.delivery_book.proofs.Progresses.{progress_of-append}
+use Rattle.spool.specs.Reading.{IsRising}
+use Rattle.spool.specs.Loading.{AreAccepted, AreAttempted, Attempts, HaveAttempts, attempt_by_row, attempted_entry, fresh_entry, greatest, name_put}
+use Rattle.spool.specs.declared.load_deliveries.Deliveries.{Deliveries}
+use Rattle.spool.proofs.PageLaws.{rising_higher, rows_rise, legal_length}
+use Rattle.spool.proofs.QuietReads.{IsReadTo, read_none}
+use Rattle.spool.proofs.DeliveryLoads.{greatest-append}
+
+-- The rows of a history, and its words on deliveries
+
+-- the attempts at a delivery are those of its rows
+attempts_tied : (d n : ℕ) (some : List Record) → filter_map (attempt_by_row d) (filter_map attempt_row (enumerate_from n some)) ≡ filter_map (attempt_by d) some
+attempts_tied d n [] = refl
+attempts_tied d n (Put name target max secrets ∷ rest) = attempts_tied d (n + 1) rest
+attempts_tied d n (Secrets name secrets ∷ rest) = attempts_tied d (n + 1) rest
+attempts_tied d n (Enabled name flag ∷ rest) = attempts_tied d (n + 1) rest
+attempts_tied d n (Accept name id body at ∷ rest) = attempts_tied d (n + 1) rest
+attempts_tied d n (Outcome delivery attempt status at ∷ rest) =
+    ap (cons_option (if delivery == d then Some (record { number = attempt; status = status; at = at }) else None)) (attempts_tied d (n + 1) rest)
+
+-- an endpoint that has the name is found by its number
+by_number : (n : ℕ) (name : Text) (es : List Endpoint) (found : Endpoint) → Rises n es → finds name es ≡ Some found → (find (λ (e : Endpoint). e.put == found.put) es ≡ Some found) × (found.name ≡ name)
+by_number n name [] found rises is = absurd (let no = is in cc)
+by_number n name (e ∷ es) found rises is = at (λ later. by_number (e.put + 1) name es found rises.1 later) (bytes_eq e.name name) refl is
+  where
+    some_is : Some e ≡ Some found → e ≡ found
+    some_is h = cc
+
+    at : (finds name es ≡ Some found → (find (λ (x : Endpoint). x.put == found.put) es ≡ Some found) × (found.name ≡ name)) → (b : Bool) → bytes_eq e.name name ≡ b → (if b then Some e else finds name es) ≡ Some found → (find (λ (x : Endpoint). x.put == found.put) (e ∷ es) ≡ Some found) × (found.name ≡ name)
+    at more true same h = subst (λ (t : Endpoint). (find (λ (x : Endpoint). x.put == t.put) (e ∷ es) ≡ Some t) × (t.name ≡ name)) (some_is h)
+        (ap (λ b. if b then Some e else find (λ (x : Endpoint). x.put == e.put) es) (eq-eqb e.put e.put refl), (bytes_eq-Decides e.name name).0 same)
+    at more false other h =
+        let rest = more h in
+        let above = finds_above (e.put + 1) name es found rises.1 h in
+        (ap (λ b. if b then Some e else find (λ (x : Endpoint). x.put == found.put) es) (ne_eqb e.put found.put (λ same. omega (arith, same, above))) ∙ rest.0, rest.1)
+
+-- so the name of an endpoint is that of its number
+name_back : (records : List Record) (name : Text) → has_endpoint records name ≡ true → name_put (rows_of records).endpoints (put_of records name) ≡ name
+name_back records name known = at (endpoint_of records name) refl known
+  where
+    at : (o : Option Endpoint) → endpoint_of records name ≡ o → is_some o ≡ true → name_put (rows_of records).endpoints (option_map_or (λ (e : Endpoint). e.put) (endpoint_of records name) 0) ≡ name
+    at None is there = absurd (let no = there in cc)
+    at (Some e) is there =
+        let found = by_number 0 name (endpoints records) e (puts_rise records) is in
+        ap (λ o. name_put (rows_of records).endpoints (option_map_or (λ (x : Endpoint). x.put) o 0)) is
+        ∙ ap (λ o. option_map_or (λ (x : EndpointRow). x.name) o []) (find_map (endpoint_row records) (λ (x : EndpointRow). x.put == e.put) (endpoints records) ∙ ap (option_map (endpoint_row records)) found.0)
+        ∙ found.1
+
+-- Entries
+
+module _ (records : List Record) where
+  tied : (d : ℕ) → filter_map (attempt_by_row d) (rows_of records).attempts ≡ attempts_of records d
+  tied d = attempts_tied d 0 records
+
+  entries_tied : (m n : ℕ) (some : List Record) → take m records ≡ records → AllKnown records some
+      → map (attempted_entry records (rows_of records).attempts) (filter_map (delivery_row records) (enumerate_from n some)) ≡ filter_map (entry_by (attempts_of records) (attempts_of (take m records))) (enumerate_from n some)
+  entries_tied m n [] whole known = refl
+  entries_tied m n (Put name target max secrets ∷ rest) whole known = entries_tied m (n + 1) rest whole known.1
+  entries_tied m n (Secrets name secrets ∷ rest) whole known = entries_tied m (n + 1) rest whole known.1
+  entries_tied m n (Enabled name flag ∷ rest) whole known = entries_tied m (n + 1) rest whole known.1
+  entries_tied m n (Outcome delivery attempt status at ∷ rest) whole known = entries_tied m (n + 1) rest whole known.1
+  entries_tied m n (Accept name id body at ∷ rest) whole known = λ i. record {
+    seq = n;
+    name = name_back records name known.0 i;
+    id = id;
+    body = body;
+    at = at;
+    latest = progress_of at (tied n i);
+    settled = progress_of at ((tied n ∙ ap (λ rs. attempts_of rs n) (sym whole)) i);
+  } ∷ entries_tied m (n + 1) rest whole known.1 i
+
+  -- One more attempt
+
+  attempted_more : (before : List AttemptRow) (row : AttemptRow) (d : DeliveryRow)
+      → at_delivery row.delivery (with_attempt_restored row.status row.at) (attempted_entry records before d) ≡ attempted_entry records (before ++ row ∷ []) d
+  attempted_more before row d = pick (row.delivery == d.seq) ∙ ap entry_after (sym (filter_map-append (attempt_by_row d.seq) before (row ∷ [])))
+    where
+      a : Attempt
+      a = record { number = row.number; status = row.status; at = row.at }
+
+      mine : List Attempt
+      mine = filter_map (attempt_by_row d.seq) before
+
+      entry_after : List Attempt → Entry
+      entry_after attempts = record (fresh_entry records d) { latest = progress_of d.at attempts; settled = progress_of d.at attempts }
+
+      pick : (b : Bool) → (if b then with_attempt_restored row.status row.at (entry_after mine) else entry_after mine) ≡ entry_after (mine ++ cons_option (if b then Some a else None) [])
+      pick true = λ i. record (fresh_entry records d) { latest = sym (progress_of-append d.at mine a) i; settled = sym (progress_of-append d.at mine a) i }
+      pick false = ap entry_after (sym (append-nil mine))
+
+  map_after : (f : Entry → Entry) (before after : DeliveryRow → Entry) → ((d : DeliveryRow) → f (before d) ≡ after d) → (ds : List DeliveryRow) → map f (map before ds) ≡ map after ds
+  map_after f before after same [] = refl
+  map_after f before after same (d ∷ ds) = λ i. same d i ∷ map_after f before after same ds i
+
+  pub attempts_more : (row : AttemptRow) (old new : Deliveries) → new.book ≡ with_outcome_restored old.book row.delivery row.status row.at → new.clock ≡ max old.clock row.at → Attempts old new (row ∷ []) records
+  attempts_more row old new book clock before after parted h = record {
+    entries = ap (λ (b : BookValue). b.entries) book
+        ∙ ap (map (at_delivery row.delivery (with_attempt_restored row.status row.at))) h.entries
+        ∙ map_after (at_delivery row.delivery (with_attempt_restored row.status row.at)) (attempted_entry records before) (attempted_entry records (before ++ row ∷ [])) (attempted_more before row) (rows_of records).deliveries;
+    unsettled = ap (λ (b : BookValue). b.unsettled) book ∙ h.unsettled;
+    next_seq = omega (arith, ap (λ (b : BookValue). b.next_seq) book, h.next_seq);
+    settled_seq = ap (λ (b : BookValue). b.settled_seq) book ∙ h.settled_seq;
+    clock = omega (
+      arith,
+      clock,
+      h.clock,
+      ap greatest (map-append (λ (a : AttemptRow). a.at) before (row ∷ [])),
+      greatest-append (map (λ (a : AttemptRow). a.at) before) (row.at ∷ []),
+    );
+  }
+
+  -- All rows
+
+  attempts_rise : IsRising (λ (a : AttemptRow). a.seq) 0 (length records) (rows_of records).attempts
+  attempts_rise = subst (λ m. IsRising (λ (a : AttemptRow). a.seq) 0 m (rows_of records).attempts) whole (rows_rise attempt_row (λ (a : AttemptRow). a.seq) at_seq 0 records)
+    where
+      whole : 0 + length records ≡ length records
+      whole = omega arith
+
+      some_is : {x y : AttemptRow} → Some x ≡ Some y → x ≡ y
+      some_is e = cc
+
+      at_seq : (k : ℕ) (r : Record) (a : AttemptRow) → attempt_row (k, r) ≡ Some a → a.seq ≡ k
+      at_seq k (Outcome delivery attempt status at) a is = ap (λ (x : AttemptRow). x.seq) (sym (some_is is))
+      at_seq k (Put name target max secrets) a is = absurd (let no = is in cc)
+      at_seq k (Secrets name secrets) a is = absurd (let no = is in cc)
+      at_seq k (Enabled name flag) a is = absurd (let no = is in cc)
+      at_seq k (Accept name id body at) a is = absurd (let no = is in cc)
+
+  -- no attempt is read yet
+  pub attempts_none : (loaded : Deliveries) → IsLegal records → AreAccepted loaded records (rows_of records).deliveries → IsReadTo (λ (a : AttemptRow). a.seq) (rows_of records).attempts (HaveAttempts loaded records) 0
+  attempts_none loaded legal h =
+      read_none (λ (a : AttemptRow). a.seq) (rows_of records).attempts (HaveAttempts loaded records)
+      (rising_higher (λ (a : AttemptRow). a.seq) 0 (length records) MAX_RECORDS (rows_of records).attempts (legal_length records legal) attempts_rise) (record {
+        entries = h.entries;
+        unsettled = h.unsettled;
+        next_seq = h.next_seq;
+        settled_seq = h.settled_seq;
+        clock = omega (arith, h.clock);
+      })
+
+  -- all are read
+  pub attempts_all : (loaded : Deliveries) → IsLegal records → HaveAttempts loaded records (rows_of records).attempts → AreAttempted loaded records
+  attempts_all loaded legal h = record {
+    entries = h.entries ∙ entries_tied (length records) 0 records (take_all (length records) records (omega arith)) (legal_known records legal);
+    unsettled = h.unsettled;
+    next_seq = h.next_seq;
+    settled_seq = h.settled_seq;
+    clock = h.clock;
+  }

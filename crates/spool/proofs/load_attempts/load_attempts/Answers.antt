@@ -1,0 +1,55 @@
+use Rattle.std.proofs.Common.{map, refl, ◌∙◌, arith}
+use Rattle.sqlite.specs.Held.{state}
+use Rattle.relay_types.specs.Rows.{AttemptRow, rows_of}
+use Rattle.spool_sql.specs.Stored.{attempt_of}
+use Rattle.spool.specs.Loading.{HaveAttempts}
+use Rattle.spool.proofs.SecretLemmas.{spares_none}
+use Rattle.spool.proofs.PageLaws.{behind_some, behind_none, last_read, none_read}
+use Rattle.spool.proofs.QuietReads.{quiet_none, quiet_look, quiet_then, page_then, read_whole}
+use Rattle.spool.proofs.AttemptLoads.{attempts_none, attempts_all}
+use Rattle.spool.proofs.load_attempts.load_attempts.Goals as goal
+use Rattle.spool.proofs.load_attempts.load_attempts.Goals.{in-Some+in_ok-from-in-Some, in-None}
+
+pub loop-from-init : goal.loop-from-init
+loop-from-init g c = record {
+  same_reference = refl;
+  quiet = quiet_none (state g.S.Store c.args.tx.now.conn.now);
+  bound = omega arith;
+  done = λ clean records legal tables accepted. attempts_none records c.args.loaded.now legal accepted;
+}
+
+pub loop-from-preserved : goal.loop-from-preserved
+loop-from-preserved g c =
+    let a = state g.S.Store c.args.tx.now.conn.now in
+    let b = state g.S.Store c.loop-from.tx.conn.now in
+    let m = state g.S.Store c.select_attempts.new.tx.conn.now in
+    let so_far = c.loop-from.invariant in
+    let look = c.in_ok-page.ensures in
+    let quiet = quiet_then a b m so_far.quiet (quiet_look b m look.spares look.unchanged) in
+    let items = c.in_ok-page.page.items in
+    elim c.match-last.branch [
+      | in-Some+in_ok-from-in-Some w ↦ rw w.from-is (record {
+        same_reference = look.same_reference ∙ so_far.same_reference;
+        quiet = quiet;
+        bound = w.in_ok-from-in-Some.ensures.room;
+        done = λ clean records legal tables accepted.
+            page_then (λ (a : AttemptRow). a.seq) (rows_of records).attempts a b m m (rows_of records) (HaveAttempts c.loop-from.loaded records) (HaveAttempts c.restore_page.new.loaded records) c.loop-from.from _ (map attempt_of items)
+            so_far.quiet look.spares look.unchanged (spares_none m) (λ early tables. so_far.done early records legal tables accepted) (λ early tables. rw c.of.ensures at (look.found early (rows_of records) tables)) (λ late tables. c.in_ok-restore_page.ensures records)
+            (λ read left h page. behind_some (λ (a : AttemptRow). a.seq) c.loop-from.from _ (rows_of records).attempts read left (map attempt_of items) (attempt_of w.in-Some.last.now) h page
+            (last_read attempt_of items w.in-Some.last.now (rw c.deref.ensures.value at (rw w.in-Some.is at c.last.ensures.value))) w.in_ok-from-in-Some.ensures.number) clean tables;
+      })
+      | in-None w ↦ rw w.from-is (record {
+        same_reference = look.same_reference ∙ so_far.same_reference;
+        quiet = quiet;
+        bound = omega arith;
+        done = λ clean records legal tables accepted.
+            page_then (λ (a : AttemptRow). a.seq) (rows_of records).attempts a b m m (rows_of records) (HaveAttempts c.loop-from.loaded records) (HaveAttempts c.restore_page.new.loaded records) c.loop-from.from _ (map attempt_of items)
+            so_far.quiet look.spares look.unchanged (spares_none m) (λ early tables. so_far.done early records legal tables accepted) (λ early tables. rw c.of.ensures at (look.found early (rows_of records) tables)) (λ late tables. c.in_ok-restore_page.ensures records)
+            (λ read left h page. behind_none (λ (a : AttemptRow). a.seq) c.loop-from.from (rows_of records).attempts read left (map attempt_of items) so_far.bound h page
+            (none_read attempt_of items (rw c.deref.ensures.value at (rw w.in-None.is at c.last.ensures.value)))) clean tables;
+      })
+    ]
+
+pub returns-clause-found : goal.returns-clause-found
+returns-clause-found g c clean records legal tables accepted =
+    attempts_all records c.loop-from.loaded legal (read_whole (λ (a : AttemptRow). a.seq) (rows_of records).attempts (HaveAttempts c.loop-from.loaded records) c.loop-from.from (omega (arith, c.loop-from-test.false)) (c.loop-from.invariant.done clean records legal tables accepted))
