@@ -75,6 +75,7 @@ book-same entries later names cs flags puts capacity next settled room h same mo
     below_next = h.are_changes.below_next;
     waiting = h.are_changes.waiting;
     settled_next = h.are_changes.settled_next;
+    sparse = h.are_changes.sparse;
     flags_are = h.are_changes.flags_are;
     puts_are = h.are_changes.puts_are;
     few = h.are_changes.few;
@@ -119,6 +120,7 @@ changes-none flags puts capacity next settled place h = record {
   below_next = λ p le. refl;
   waiting = refl;
   settled_next = omega arith;
+  sparse = λ p. omega arith;
   flags_are = h.flags_are;
   puts_are = h.puts_are;
   few = h.few;

@@ -1,5 +1,5 @@
 -- The changes that aren't settled, with one more and without those that are settled.
-use Rattle.std.proofs.Common.{◌≡◌, ℕ, ◌+◌, ◌<◌, ◌≤◌, Bool, true, false, not, List, [], ◌∷◌, ◌++◌, length, refl, sym, ◌∙◌, ap, cond, arith, ⊎_elim, length-append, append_assoc, append-nil}
+use Rattle.std.proofs.Common.{◌≡◌, ℕ, ◌+◌, ◌-◌, ◌<◌, ◌≤◌, Bool, true, false, not, List, [], ◌∷◌, ◌++◌, length, refl, sym, ◌∙◌, ap, cond, arith, ⊎_elim, length-append, append_assoc, append-nil}
 use Rattle.std.specs.Prelude.{filter, count_by, max}
 use Rattle.std.proofs.lemmas.Bool.{cases_lt, lt-ltb, le-ltb}
 use Rattle.std.proofs.lemmas.List.Elements.{filter-append}
@@ -24,6 +24,17 @@ from_more place cs c h = (
   filter-append (is_from place) cs (c ∷ []) ∙ ap (λ b. filter (is_from place) cs ++ cond (not b) (c ∷ []) []) (le-ltb c.seq place h),
 )
 
+one_most : (b : Bool) → cond b 1 0 ≤ 1
+one_most true = omega arith
+one_most false = omega arith
+
+-- what is kept has no more flags, and no more Puts
+pub flags_kept : (cs : List Change) (place : ℕ) → count_by is_flag (filter (is_from place) cs) ≤ count_by is_flag cs
+flags_kept cs place = omega (arith, sum_by-filter_both (is_below place) (is_from place) (λ c. refl) (λ c. cond (is_flag c) 1 0) cs)
+
+pub puts_kept : (cs : List Change) (place : ℕ) → count_by is_put (filter (is_from place) cs) ≤ count_by is_put cs
+puts_kept cs place = omega (arith, sum_by-filter_both (is_below place) (is_from place) (λ c. refl) (λ c. cond (is_put c) 1 0) cs)
+
 pub changes-push : (cs : List Change) (c : Change) (flags puts capacity next settled more_flags more_puts room : ℕ) → AreChanges cs flags puts capacity next settled → next ≤ c.seq
     → more_flags ≡ flags + cond (is_flag c) 1 0 → more_puts ≡ puts + cond (is_put c) 1 0 → more_flags ≤ MAX_FLAGS → length cs + 1 + MAX_FLAGS ≤ room + more_flags
     → AreChanges (cs ++ c ∷ []) more_flags more_puts room (c.seq + 1) settled
@@ -32,6 +43,7 @@ changes-push cs c flags puts capacity next settled more_flags more_puts room h a
   below_next = λ place le. (below_more place cs c (omega (arith, le))).1 ∙ h.below_next place (omega (arith, le, above));
   waiting = (from_more settled cs c (omega (arith, above, h.settled_next))).0 ∙ h.waiting;
   settled_next = omega (arith, above, h.settled_next);
+  sparse = λ place. ⊎_elim (sparse_below place) (sparse_from place) (cases_lt c.seq place);
   flags_are = f ∙ ap (λ n. n + cond (is_flag c) 1 0) h.flags_are ∙ sym (sum_by_push (λ x. cond (is_flag x) 1 0) cs c);
   puts_are = p ∙ ap (λ n. n + cond (is_put c) 1 0) h.puts_are ∙ sym (sum_by_push (λ x. cond (is_put x) 1 0) cs c);
   few = few;
@@ -43,6 +55,21 @@ changes-push cs c flags puts capacity next settled more_flags more_puts room h a
         let none = h.below_next place (omega (arith, lt, above)) in
         ap (λ ds. ds ++ c ∷ []) (h.parted place ∙ ap (λ ds. filter (is_below place) cs ++ ds) none ∙ append-nil (filter (is_below place) cs))
         ∙ sym ((λ i. (below_more place cs c lt).0 i ++ ((below_more place cs c lt).1 ∙ none) i) ∙ append-nil (filter (is_below place) cs ++ c ∷ []))
+
+    sparse_below : (place : ℕ) → c.seq < place → count_by is_flag (filter (is_from place) (cs ++ c ∷ [])) ≤ c.seq + 1 - place
+    sparse_below place lt = omega (arith, ap (count_by is_flag) ((below_more place cs c lt).1 ∙ h.below_next place (omega (arith, lt, above))))
+
+    sparse_from : (place : ℕ) → place ≤ c.seq → count_by is_flag (filter (is_from place) (cs ++ c ∷ [])) ≤ c.seq + 1 - place
+    sparse_from place ge =
+        omega (
+          arith,
+          ap (count_by is_flag) (from_more place cs c ge).1,
+          sum_by_push (λ x. cond (is_flag x) 1 0) (filter (is_from place) cs) c,
+          one_most (is_flag c),
+          h.sparse place,
+          above,
+          ge,
+        )
 
     parted_from : (place : ℕ) → place ≤ c.seq → cs ++ c ∷ [] ≡ filter (is_below place) (cs ++ c ∷ []) ++ filter (is_from place) (cs ++ c ∷ [])
     parted_from place ge =
@@ -60,6 +87,7 @@ changes-keep cs flags puts capacity next settled place h later = record {
   below_next = λ p le. filter-commutes (is_from p) (is_from place) cs ∙ ap (filter (is_from place)) (h.below_next p (omega (arith, le)));
   waiting = filter-against (is_below place) cs;
   settled_next = omega arith;
+  sparse = λ p. omega (arith, ap (count_by is_flag) (filter-commutes (is_from p) (is_from place) cs), flags_kept (filter (is_from p) cs) place, h.sparse p);
   flags_are = refl;
   puts_are = refl;
   few = omega (arith, h.few, h.flags_are, flags_split);
@@ -71,7 +99,3 @@ changes-keep cs flags puts capacity next settled place h later = record {
 
     length_split : length (filter (is_below place) cs) + length (filter (is_from place) cs) ≡ length cs
     length_split = length-filter_both (is_below place) (is_from place) (λ c. refl) cs
-
--- what is kept has no more Puts
-pub puts_kept : (cs : List Change) (place : ℕ) → count_by is_put (filter (is_from place) cs) ≤ count_by is_put cs
-puts_kept cs place = omega (arith, sum_by-filter_both (is_below place) (is_from place) (λ c. refl) (λ c. cond (is_put c) 1 0) cs)

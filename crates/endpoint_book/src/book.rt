@@ -225,6 +225,7 @@ impl EndpointBook {
     pub fn settle_to(&mut self, seq: u64)
         requires { self.old.settled_seq ≤ seq }
         ensures value { self.new ≡ with_settled self.old seq }
+        ensures flags { flags_in self.new + self.new.settled_seq ≤ self.new.next_seq }
         ensures stands { Settles self.old self.new seq }
     {
         settle_below(&mut self.entries, &self.changes, seq);

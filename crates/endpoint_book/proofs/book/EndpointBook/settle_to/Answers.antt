@@ -34,6 +34,11 @@ returns-clause-value c =
     ∙ settled-value c.args.self.now b.entries c.settle_below.new.entries b.names.items b.changes.items b.next_seq b.settled_seq p c.self.invariant.are_names c.self.view_is
     (λ asked. c.settle_below.ensures asked ∙ ap (λ cs. option_map (settled_at p cs asked) (entry_in b.entries asked)) c.deref.ensures.value)
 
+pub returns-clause-flags : goal.returns-clause-flags
+returns-clause-flags c =
+    let b = c.self.inside in
+    omega (arith, ap (count_by is_flag) c.keep_from.ensures.changes, c.max-self-inside.ensures, c.self.invariant.are_changes.sparse c.args.seq)
+
 pub returns-clause-stands : goal.returns-clause-stands
 returns-clause-stands c = λ records settled h within.
     let b = c.self.inside in
