@@ -1,9 +1,9 @@
 -- Laws on lists of steps: how many records they have, and how many of each kind they are.
-use Rattle.std.proofs.Common.{◌≡◌, ℕ, zero, suc, ◌+◌, Bool, true, false, List, [], ◌∷◌, ◌++◌, length, take, drop, refl, sym, ◌∙◌, ap, arith, length-append}
+use Rattle.std.proofs.Common.{◌≡◌, ℕ, zero, suc, ◌+◌, Bool, true, false, List, [], ◌∷◌, ◌++◌, length, take, drop, refl, sym, ◌∙◌, ap, arith, ◌⊎◌, inl, inr, ⊎_elim, ◌≤◌, length-append}
 use Rattle.std.specs.Prelude.{count_by, cond, not, IsTrue}
 use Rattle.std.proofs.lemmas.List.{take-append-drop}
 use Rattle.std.proofs.Math.Seq.{drop-nil}
-use Rattle.std.proofs.lemmas.List.Sums.{sum_by-append}
+use Rattle.std.proofs.lemmas.List.Sums.{sum_by-append, sum_by-cons}
 use Rattle.relay_types.specs.declared.record.Record.{Record}
 use Rattle.relay_types.specs.Records.{History, records_of}
 use Rattle.group_commit.specs.Steps.{is_outcome_record, is_request, is_outcome}
@@ -56,3 +56,38 @@ pub drop_drop : {X : Type 0} (n m : ℕ) (xs : List X) → drop m (drop n xs) �
 drop_drop zero m xs = ap (λ k. drop k xs) (zero_more m)
 drop_drop (suc n) m [] = drop-nil m ∙ sym (drop-nil (suc n + m))
 drop_drop (suc n) m (x ∷ xs) = drop_drop n m xs ∙ ap (λ k. drop k (x ∷ xs)) (one_more n m)
+
+-- where each step is of one kind, each has one record
+abbrev kinds : (step : List Record) → ℕ
+kinds step = cond (is_request step) 1 0 + cond (is_outcome step) 1 0
+
+one_or_none : (step : List Record) → (length step ≡ 1) ⊎ (kinds step ≡ 0)
+one_or_none [] = inr refl
+one_or_none (entry ∷ []) = inl refl
+one_or_none (entry ∷ other ∷ rest) = inr refl
+
+kinds_most : (step : List Record) → kinds step ≤ 1
+kinds_most [] = omega arith
+kinds_most (entry ∷ []) = one (is_outcome_record entry)
+  where
+    one : (b : Bool) → cond (not b) 1 0 + cond b 1 0 ≤ 1
+    one true = omega arith
+    one false = omega arith
+kinds_most (entry ∷ other ∷ rest) = omega arith
+
+kinds_first : (x : List Record) (xs : History) → count_by is_request (x ∷ xs) + count_by is_outcome (x ∷ xs) ≡ kinds x + (count_by is_request xs + count_by is_outcome xs)
+kinds_first x xs = omega (arith, sum_by-cons (λ s. cond (is_request s) 1 0) x xs, sum_by-cons (λ s. cond (is_outcome s) 1 0) x xs)
+
+kinds_within : (steps : History) → count_by is_request steps + count_by is_outcome steps ≤ length steps
+kinds_within [] = omega arith
+kinds_within (x ∷ xs) = omega (arith, kinds_within xs, kinds_most x, kinds_first x xs)
+
+pub one_record_each : (steps : History) → length steps ≡ count_by is_request steps + count_by is_outcome steps → length (records_of steps) ≡ length steps
+one_record_each [] all = refl
+one_record_each (x ∷ xs) all = ⊎_elim (here (one_record_each xs)) nowhere (one_or_none x)
+  where
+    here : (length xs ≡ count_by is_request xs + count_by is_outcome xs → length (records_of xs) ≡ length xs) → length x ≡ 1 → length (records_of (x ∷ xs)) ≡ length (x ∷ xs)
+    here rest one = omega (arith, one, length-append x (records_of xs), rest (omega (arith, all, kinds_within xs, kinds_most x, kinds_first x xs)))
+
+    nowhere : kinds x ≡ 0 → length (records_of (x ∷ xs)) ≡ length (x ∷ xs)
+    nowhere none = absurd (omega (arith, all, none, kinds_within xs, kinds_first x xs))

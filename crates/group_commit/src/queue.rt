@@ -1,5 +1,6 @@
 //! Steps in the order in which they came, with places for requests and for outcomes.
 ghost use Rattle.std.specs.Prelude.{◌≡◌, ◌≤◌, ◌<◌, ◌+◌, [], ◌∷◌, ◌++◌, true, false, not, length, take, drop, slice_get, option_map, ◌↔◌, IsTrue, IfOk};
+ghost use Rattle.relay_types.specs.Records.{records_of};
 ghost use Rattle.group_commit.specs.Steps.{is_request, is_outcome, requests_in, outcomes_in};
 
 use crate::limits::{MAX_WAITING_OUTCOMES, MAX_WAITING_REQUESTS};
@@ -48,9 +49,13 @@ impl Queue {
         self.steps.len()
     }
 
+    // Each step has one record.
+    #[tactic(auto, using(crate::proofs::StepLaws::one_record_each))]
     pub(crate) fn requests(&self) -> usize
         ensures count { result ≡ requests_in self.now }
         ensures most { result ≤ MAX_WAITING_REQUESTS }
+        ensures others { length self.now ≤ result + MAX_WAITING_OUTCOMES }
+        ensures single { length (records_of self.now) ≡ length self.now }
     {
         self.requests
     }

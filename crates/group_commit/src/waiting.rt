@@ -203,9 +203,10 @@ impl Waiting {
         self.queue.get(place)
     }
 
-    /// How many more requests can wait.
+    /// How many more requests can wait. Behind the settled records no more wait than there are places.
     pub fn free_requests(&self) -> usize
-        ensures { result + requests_in self.now.waiting ≡ MAX_WAITING_REQUESTS }
+        ensures free { result + requests_in self.now.waiting ≡ MAX_WAITING_REQUESTS }
+        ensures records { record_count self.now + result ≤ self.now.settled + MAX_WAITING_REQUESTS + MAX_WAITING_OUTCOMES }
     {
         MAX_WAITING_REQUESTS - self.queue.requests()
     }
