@@ -1,5 +1,5 @@
 //! The lines of a script: the calls that they stand for.
-ghost use Rattle.std.specs.Prelude.{◌≡◌, [], ◌∷◌, IfOk};
+ghost use Rattle.std.specs.Prelude.{◌≡◌, [], ◌∷◌, IfErr, IfOk, IsErr};
 ghost use Rattle.text_lines.specs.Parts.{texts};
 ghost use Rattle.script_lines.specs.Script.{ReadsLine, HasOneCallAtMost, IsCall, call_word, AreArguments, AreOfPut, AreOfSubmit, AreOfShow};
 ghost use Rattle.script_lines.specs.Script.{AreOfNoPut, AreOfNoSubmit, AreOfNoShow};
@@ -61,7 +61,8 @@ fn read_call(alloc: Global, call: &[u8], arguments: &[&[u8]]) -> Result<Event, W
 // The event of a call that has no arguments.
 fn read_alone(arguments: &[&[u8]], event: Event) -> Result<Event, WordFault>
     ensures stands { IfOk result (λ same. (same ≡ event) × (texts arguments.now ≡ [])) }
-    ensures bad { result ≡ Err WordFault.Bad → texts arguments.now ≡ [] → ⊥ }
+    ensures bad { IsErr result → texts arguments.now ≡ [] → ⊥ }
+    ensures fault { IfErr result (λ fault. fault ≡ WordFault.Bad) }
 {
     if arguments.is_empty() {
         Ok(event)
@@ -128,7 +129,8 @@ fn read_submit_words(
 
 fn read_show(arguments: &[&[u8]]) -> Result<Event, WordFault>
     ensures stands { IfOk result (λ event. AreOfShow (texts arguments.now) event) }
-    ensures bad { result ≡ Err WordFault.Bad → AreOfNoShow (texts arguments.now) }
+    ensures bad { IsErr result → AreOfNoShow (texts arguments.now) }
+    ensures fault { IfErr result (λ fault. fault ≡ WordFault.Bad) }
 {
     match arguments {
         [name, id] => read_show_words(name, id),
@@ -138,7 +140,8 @@ fn read_show(arguments: &[&[u8]]) -> Result<Event, WordFault>
 
 fn read_show_words(name: &[u8], id: &[u8]) -> Result<Event, WordFault>
     ensures stands { IfOk result (λ event. AreOfShow (name.now ∷ id.now ∷ []) event) }
-    ensures bad { result ≡ Err WordFault.Bad → AreOfNoShow (name.now ∷ id.now ∷ []) }
+    ensures bad { IsErr result → AreOfNoShow (name.now ∷ id.now ∷ []) }
+    ensures fault { IfErr result (λ fault. fault ≡ WordFault.Bad) }
 {
     Ok(Event::Show {
         name: Name::read(name)?,
