@@ -1,5 +1,5 @@
 -- What a load reads of the tables, and the books that it gives.
-use Rattle.std.specs.Prelude.{◌≡◌, ◌≤◌, ◌==◌, ℕ, List, [], ◌∷◌, map, max, find, length, slice_get, filter_map, Option, Some, None, Result, IfOk, OnOk, IsTrue, if◌then◌else◌}
+use Rattle.std.specs.Prelude.{◌≡◌, ◌≤◌, ◌==◌, ℕ, false, List, [], ◌∷◌, map, max, find, length, slice_get, filter_map, Option, Some, None, Result, IfOk, OnOk, IsTrue, if◌then◌else◌}
 use Rattle.std.specs.Option.{option_map_or}
 use Rattle.sqlite.specs.State.{HasCleanDisk, IsUnchanged}
 use Rattle.sqlite.specs.Held.{Held, state}
@@ -11,10 +11,10 @@ use Rattle.relay_types.specs.Endpoints.{secrets_of}
 use Rattle.relay_types.specs.Legal.{IsLegal}
 use Rattle.relay_types.specs.Rows.{EndpointRow, DeliveryRow, AttemptRow, rows_of}
 use Rattle.endpoint_book.specs.declared.entry.Entry.{Entry}
-use Rattle.endpoint_book.specs.Entries.{restored_entry}
+use Rattle.endpoint_book.specs.Entries.{BookValue, is_known, restored_entry}
 use Rattle.delivery_book.specs.declared.entry.Entry.{Entry as DeliveryEntry}
 use Rattle.delivery_book.specs.declared.progress.Progress.{Progress}
-use Rattle.delivery_book.specs.Entries.{new_entry, progress_of}
+use Rattle.delivery_book.specs.Entries.{BookValue as DeliveryBookValue, known_in, new_entry, progress_of}
 use Rattle.delivery_book.specs.Book.{entries_of}
 use Rattle.spool_sql.specs.Stored.{IsTables}
 use Rattle.spool_sql.specs.Steps.{IfClean}
@@ -38,6 +38,10 @@ Reads g old new result P =
 
 abbrev pub known_of : EndpointRow → Known
 known_of e = record { put = e.put; name = e.name }
+
+-- the endpoint of this number and name may be the next one of the book
+abbrev pub MayRestore : BookValue → (put : Seq) (name : Text) → Type 0
+MayRestore book put name = (book.next_seq ≤ put) × (is_known book name ≡ false)
 
 -- the endpoint of a row, as these records left it
 abbrev pub entry_of_row : List Record → EndpointRow → Entry
@@ -73,6 +77,10 @@ IsNameOf names put name = (at : ℕ) × (slice_get names at ≡ Some (record { p
 -- the name of the endpoint with this number
 abbrev pub name_put : List EndpointRow → (put : Seq) → Text
 name_put rows put = option_map_or (λ e. e.name) (find (λ e. e.put == put) rows) []
+
+-- the event of this number, endpoint and id may be the next one of the book
+abbrev pub MayAccept : DeliveryBookValue → (seq : Seq) (name id : Text) → Type 0
+MayAccept book seq name id = (book.next_seq ≤ seq) × (known_in book name id ≡ None)
 
 -- the event of a row, without an attempt
 abbrev pub fresh_entry : List Record → DeliveryRow → DeliveryEntry

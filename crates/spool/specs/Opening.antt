@@ -1,5 +1,5 @@
 -- Which store takes the tables, and what is left of one in which they were to be made.
-use Rattle.std.specs.Prelude.{◌≡◌, ◌⊎◌, Bool, ◌||◌, false, [], codes, IsTrue}
+use Rattle.std.specs.Prelude.{◌≡◌, ◌⊎◌, ℕ, Bool, ◌||◌, false, List, [], codes, IsTrue}
 use Rattle.sqlite.specs.declared.error.Error.{Error}
 use Rattle.sqlite.specs.State.{State, HasCleanDisk, Fails}
 use Rattle.sqlite.specs.Schema.{Schema}
@@ -24,6 +24,12 @@ abbrev pub IsRefusedFor : Schema → OpenFault → Type 0
 IsRefusedFor schema NotOurs = IsTrue (has_ours schema)
 IsRefusedFor schema OutOfMemory = has_ours schema ≡ false
 IsRefusedFor schema (Store cause) = Unit {0}
+
+-- how a refusal is printed
+abbrev pub fault_name : OpenFault → List ℕ
+fault_name NotOurs = codes "NotOurs"
+fault_name (Store cause) = codes "Store"
+fault_name OutOfMemory = codes "OutOfMemory"
 
 -- the last commit stands, in no transaction
 pub record IsBack (old new : State) : Type 0 where

@@ -1,5 +1,6 @@
 //! Why an opening or a commit gave no value.
-ghost use Rattle.std.specs.Prelude.{◌≡◌, ◌↔◌, IsTrue};
+ghost use Rattle.std.specs.Prelude.{◌≡◌, ◌↔◌, Some, IsTrue};
+ghost use Rattle.spool.specs.Opening.{fault_name};
 
 use crate::batch::Batch;
 use crate::doubt::Doubt;
@@ -27,12 +28,14 @@ impl OpenFault {
 }
 
 impl fmt::Display for OpenFault {
+    ghost output = { λ fault. Some (fault_name fault) };
+
     fn fmt<W: fmt::Write>(&self, f: &mut fmt::Formatter<W>) -> fmt::Result {
-        f.write_str(match self {
-            OpenFault::NotOurs => "NotOurs",
-            OpenFault::Store(_) => "Store",
-            OpenFault::OutOfMemory => "OutOfMemory",
-        })
+        match self {
+            OpenFault::NotOurs => f.write_str("NotOurs"),
+            OpenFault::Store(_) => f.write_str("Store"),
+            OpenFault::OutOfMemory => f.write_str("OutOfMemory"),
+        }
     }
 }
 

@@ -1,8 +1,8 @@
 //! The attempts that the tables hold, read back into the book of their events.
-ghost use Rattle.std.specs.Prelude.{◌≡◌, List, map, max, OnOk};
+ghost use Rattle.std.specs.Prelude.{◌≡◌, false, List, map, max, IsErr, OnOk};
 ghost use Rattle.relay_types.specs.declared.record.Record.{Record};
 ghost use Rattle.relay_types.specs.Rows.{rows_of};
-ghost use Rattle.delivery_book.specs.Entries.{with_outcome_restored};
+ghost use Rattle.delivery_book.specs.Entries.{may_restore, with_outcome_restored};
 ghost use Rattle.spool_sql.specs.Stored.{attempt_of};
 ghost use Rattle.spool_sql.specs.Steps.{IsOfSame, SparesCommit};
 ghost use Rattle.spool.specs.Loading.{LeavesOpen, Reads, AreAccepted, AreAttempted, Attempts};
@@ -20,6 +20,7 @@ impl Deliveries {
         ensures book { OnOk result (self.new.book
             ≡ with_outcome_restored self.old.book row.delivery row.status row.at) }
         ensures clock { OnOk result (self.new.clock ≡ max self.old.clock row.at) }
+        ensures unreadable { IsErr result → may_restore self.old.book row.delivery ≡ false }
     {
         let delivery = row.delivery.get();
         if !self.book.may_restore(delivery) {

@@ -1,11 +1,11 @@
 //! The events that the tables hold, read back into a book.
-ghost use Rattle.std.specs.Prelude.{◌≡◌, ◌≤◌, ◌↔◌, List, None, map, max, IsTrue, IfSome, OnOk};
+ghost use Rattle.std.specs.Prelude.{◌≡◌, ◌↔◌, List, map, max, Err, IsTrue, IfSome, OnOk};
 ghost use Rattle.relay_types.specs.declared.record.Record.{Record};
 ghost use Rattle.relay_types.specs.Rows.{rows_of};
-ghost use Rattle.delivery_book.specs.Entries.{known_in, with_event};
+ghost use Rattle.delivery_book.specs.Entries.{with_event};
 ghost use Rattle.spool_sql.specs.Stored.{delivery_of};
 ghost use Rattle.spool_sql.specs.Steps.{IsOfSame, SparesCommit};
-ghost use Rattle.spool.specs.Loading.{LeavesOpen, Reads, AreAccepted, Accepts, AreNames, IsNameOf};
+ghost use Rattle.spool.specs.Loading.{LeavesOpen, Reads, AreAccepted, Accepts, MayAccept, AreNames, IsNameOf};
 
 use crate::load_endpoints::Known;
 use crate::pages::behind;
@@ -25,8 +25,7 @@ pub struct Deliveries {
 impl Deliveries {
     // Whether the event of this number, endpoint and id may be the next one.
     fn may_accept(&self, seq: u64, name: Name, id: &MsgId) -> bool
-        ensures { IsTrue result
-            ↔ ((self.now.book.next_seq ≤ seq) × (known_in self.now.book name id.now ≡ None)) }
+        ensures { IsTrue result ↔ MayAccept self.now.book seq name id.now }
     {
         self.book.next_seq() <= seq && self.book.find(name, id).is_none()
     }
@@ -35,6 +34,7 @@ impl Deliveries {
     fn accept(&mut self, row: DeliveryRow, name: Name) -> Result<(), RowFault>
         ensures book { OnOk result (self.new.book ≡ with_event self.old.book row.seq name row.id row.body row.at) }
         ensures clock { OnOk result (self.new.clock ≡ max self.old.clock row.at) }
+        ensures unreadable { result ≡ Err RowFault.Unreadable → ¬ MayAccept self.old.book row.seq name row.id }
     {
         let seq = row.seq.get();
         if !self.may_accept(seq, name, &row.id) {

@@ -1,10 +1,10 @@
 //! The endpoints that the tables hold, read back into a book.
-ghost use Rattle.std.specs.Prelude.{◌≡◌, ◌≤◌, ◌↔◌, ◌++◌, [], ◌∷◌, false, map, IsTrue, OnOk};
+ghost use Rattle.std.specs.Prelude.{◌≡◌, ◌↔◌, ◌++◌, [], ◌∷◌, map, Err, IsTrue, OnOk};
 ghost use Rattle.relay_types.specs.Rows.{rows_of};
-ghost use Rattle.endpoint_book.specs.Entries.{is_known, restored_entry, with_restored};
+ghost use Rattle.endpoint_book.specs.Entries.{restored_entry, with_restored};
 ghost use Rattle.spool_sql.specs.Stored.{endpoint_of};
 ghost use Rattle.spool_sql.specs.Steps.{IsOfSame, LeavesAll, SparesCommit};
-ghost use Rattle.spool.specs.Loading.{LeavesOpen, Reads, AreRestored, Restores, known_of};
+ghost use Rattle.spool.specs.Loading.{LeavesOpen, Reads, AreRestored, Restores, MayRestore, known_of};
 
 use crate::pages::behind;
 use endpoint_book::EndpointBook;
@@ -30,8 +30,7 @@ pub struct Endpoints {
 impl Endpoints {
     // Whether the endpoint of this number and name may be the next one.
     fn may_restore(&self, put: u64, name: Name) -> bool
-        ensures { IsTrue result
-            ↔ ((self.now.book.next_seq ≤ put) × (is_known self.now.book name ≡ false)) }
+        ensures { IsTrue result ↔ MayRestore self.now.book put name }
     {
         self.book.next_seq() <= put && !self.book.contains(name)
     }
@@ -44,6 +43,7 @@ impl Endpoints {
         ensures names { OnOk result (self.new.names.items
             ≡ self.old.names.items ++ known_of (endpoint_of row) ∷ []) }
         ensures settled { OnOk result (self.new.book.changes ≡ []) }
+        ensures unreadable { result ≡ Err RowFault.Unreadable → ¬ MayRestore self.old.book row.put row.name }
     {
         let put = row.put.get();
         if !self.may_restore(put, row.name) {

@@ -1,5 +1,5 @@
 //! The numbers at which the pages of a table begin.
-ghost use Rattle.std.specs.Prelude.{◌≡◌, ◌<◌, ◌≤◌, ◌+◌, IfOk};
+ghost use Rattle.std.specs.Prelude.{◌≡◌, ◌<◌, ◌≤◌, ◌+◌, ◌↔◌, IfOk, IsErr};
 ghost use Rattle.relay_types.specs.declared.limits.TheConstants.{MAX_RECORDS};
 
 use spool_sql::{RowFault, Seq};
@@ -9,6 +9,7 @@ pub(crate) fn behind(last: Seq, from: u64) -> Result<u64, RowFault>
     ensures number { IfOk result (λ next. next ≡ last + 1) }
     ensures above { IfOk result (λ next. from < next) }
     ensures room { IfOk result (λ next. next ≤ MAX_RECORDS) }
+    ensures fallen { IsErr result ↔ (last < from) }
 {
     if last.get() < from {
         return Err(RowFault::Unreadable);
