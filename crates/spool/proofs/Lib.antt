@@ -13,3 +13,4 @@ pub mod QuietReads
 pub mod EndpointLoads
 pub mod DeliveryLoads
 pub mod AttemptLoads
+pub mod BookLoads

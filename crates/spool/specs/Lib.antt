@@ -5,3 +5,4 @@ pub mod Reading
 pub mod Loading
 pub mod Opening
 pub mod Commits
+pub mod Books

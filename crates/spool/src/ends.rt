@@ -1,5 +1,6 @@
-//! Why an opening or a commit gave no value.
+//! Why an opening, a load or a commit gave no value.
 ghost use Rattle.std.specs.Prelude.{◌≡◌, ◌↔◌, Some, IsTrue};
+ghost use Rattle.spool.specs.Books.{load_fault_name};
 ghost use Rattle.spool.specs.Opening.{fault_name};
 
 use crate::batch::Batch;
@@ -35,6 +36,29 @@ impl fmt::Display for OpenFault {
             OpenFault::NotOurs => f.write_str("NotOurs"),
             OpenFault::Store(_) => f.write_str("Store"),
             OpenFault::OutOfMemory => f.write_str("OutOfMemory"),
+        }
+    }
+}
+
+/// Why the books were not loaded. Nothing was written.
+#[derive(Clone, Copy)]
+pub enum LoadFault {
+    /// A commit was doubtful.
+    Closed,
+    /// The store refused a call for a fault of its own, or has a row that no record gives it (`DatabaseCorrupt`).
+    Store(Error),
+    /// Memory was refused.
+    OutOfMemory,
+}
+
+impl fmt::Display for LoadFault {
+    ghost output = { λ fault. Some (load_fault_name fault) };
+
+    fn fmt<W: fmt::Write>(&self, f: &mut fmt::Formatter<W>) -> fmt::Result {
+        match self {
+            LoadFault::Closed => f.write_str("Closed"),
+            LoadFault::Store(_) => f.write_str("Store"),
+            LoadFault::OutOfMemory => f.write_str("OutOfMemory"),
         }
     }
 }

@@ -8,6 +8,7 @@ mod doubt;
 mod enabled;
 mod ends;
 mod limits;
+mod load;
 mod load_attempts;
 mod load_deliveries;
 mod load_endpoints;
@@ -21,6 +22,7 @@ mod vault;
 
 pub use crate::batch::{Batch, Receipt};
 pub use crate::doubt::Doubt;
-pub use crate::ends::{CommitEnd, OpenFault, Unchanged};
+pub use crate::ends::{CommitEnd, LoadFault, OpenFault, Unchanged};
 pub use crate::limits::MAX_BATCH_STEPS;
+pub use crate::load::Books;
 pub use crate::vault::Vault;

@@ -5,14 +5,17 @@ ghost use Rattle.sqlite.specs.Held.{state};
 ghost use Rattle.relay_types.specs.Records.{records_of};
 ghost use Rattle.spool_sql.specs.Steps.{IfClean};
 ghost use Rattle.spool.specs.Opening.{has_ours, IsRefusedFor, LeavesAt};
+ghost use Rattle.spool.specs.Books.{AreBooksOf, LeavesHeld};
 ghost use Rattle.spool.specs.Commits.{IsOpened, IsNext, HandsBack, IsDoubt, IsRefused, answer_of, LeavesRows, LeavesHistory, IsIllegal};
 
 use crate::batch::{Batch, Receipt};
 use crate::create::create_store;
 use crate::doubt::Doubt;
-use crate::ends::{CommitEnd, OpenFault, Unchanged};
+use crate::ends::{CommitEnd, LoadFault, OpenFault, Unchanged};
+use crate::load::{Books, load_books};
 use crate::transaction::{WriteEnd, write_steps};
 use sqlite::{Alter, Connection};
+use std::alloc::Global;
 use std::marker::Model;
 
 /// The store of one opening. It alone writes.
@@ -118,6 +121,27 @@ impl<S: Alter> Vault<S> {
                 Err(CommitEnd::Doubtful(Doubt::over(batch), cause))
             }
         }
+    }
+
+    /// The books of the history that the vault holds, all of it settled, and its clock. A closed vault answers `Closed`
+    /// before anything else: nobody knows what it holds. Nothing is written. Beside the books, memory is taken for one
+    /// page of rows at a time.
+    pub fn load(&mut self, alloc: Global) -> Result<Books, LoadFault>
+        ensures closed { (result ≡ Err LoadFault.Closed) ↔ IsTrue self.old.closed }
+        ensures books { IfClean S.Store self.old.conn self.new.conn
+            (λ _ _. IfOk result (AreBooksOf S.Store self.old)) }
+        ensures untouched { result ≡ Err LoadFault.Closed → self.new ≡ self.old }
+        ensures mark { self.new.mark ≡ self.old.mark }
+        ensures next { self.new.next ≡ self.old.next }
+        ensures doubt { self.new.closed ≡ self.old.closed }
+        ensures history { IfClean S.Store self.old.conn self.new.conn
+            (λ _ _. LeavesHeld S.Store self.old self.new result) }
+        ensures clean { IfClean S.Store self.old.conn self.new.conn (λ a _. HasCleanDisk a) }
+    {
+        if self.closed {
+            return Err(LoadFault::Closed);
+        }
+        load_books(&mut self.conn, alloc)
     }
 
     /// Whether a commit was doubtful. From then on no batch is taken.
