@@ -1,4 +1,4 @@
-//! Runs of the relay's layers that `scripts/bench` measures. Without words it lists them.
+//! Runs of the relay's layers without a store that `scripts/bench` measures. Without words it lists them.
 #![tactic(auto)]
 
 ghost use Rattle.std.specs.Prelude.{◌≤◌};
@@ -7,7 +7,6 @@ mod books;
 
 use crate::books::{stage_events, stage_outcomes};
 use relay_types::MaxLimit;
-use sqlite::Connection;
 use std::io;
 use std::process::ExitCode;
 use text_lines::read_number;
@@ -16,7 +15,6 @@ use vegas::Estimator;
 const LIST: &str = "limit COUNT     the adaptive limit after as many samples
 events COUNT    a book of as many events
 outcomes COUNT  the same, and then one outcome of each, settled 256 at a time
-replay PATH     the script on standard input, over a store in a new file
 ";
 
 /// What an estimator is given.
@@ -82,15 +80,6 @@ fn print_book(rt: &HostRuntime, count: &str, has_outcomes: bool) -> io::Result<b
     Ok(true)
 }
 
-/// Replays the script on standard input over the file, which is to have no table. Whether it ended well.
-fn replay(rt: &HostRuntime, path: &str) -> bool {
-    let Ok(conn) = Connection::open(rt, path) else {
-        return false;
-    };
-    let (_, end) = drill::replay(rt.alloc(), &mut rt.stdin(), &mut rt.stdout(), conn, 0);
-    end.is_ok()
-}
-
 /// Runs what the words name. Whether they name a run that ended well.
 fn run(rt: &HostRuntime, words: &[&str]) -> io::Result<bool> {
     match words {
@@ -101,7 +90,6 @@ fn run(rt: &HostRuntime, words: &[&str]) -> io::Result<bool> {
         [_, "limit", count] => print_limit(rt, count),
         [_, "events", count] => print_book(rt, count, false),
         [_, "outcomes", count] => print_book(rt, count, true),
-        [_, "replay", path] => Ok(replay(rt, path)),
         _ => Ok(false),
     }
 }
