@@ -45,6 +45,10 @@ abbrev pub event_reply : Option Row → Reply
 event_reply None = says.Absent
 event_reply (Some row) = says.Event row.state row.due row.attempts
 
+-- the reply where a receipt isn't that of what is out
+abbrev pub wrong_turn : Reply
+wrong_turn = says.Refused 1 fault.WrongTurn
+
 -- the reply tells of what the desk may give
 abbrev pub Tells : {A : Type 0} → World → Answer A → (Result A Refusal → Reply) → Reply → World → Type 0
 Tells {A} w answer told reply next = (result : Result A Refusal) × MayGive w answer result next × (reply ≡ told result)

@@ -1,13 +1,14 @@
 //! The runner of scripts: it holds what the desk and the store hand out, and gives it to the line that asks for it.
-ghost use Rattle.std.specs.Prelude.{◌≡◌, ◌⊎◌, ◌+◌, false, [], length, Err, IsTrue, IfOk, IfErr, MatchResult};
+ghost use Rattle.std.specs.Prelude.{◌≡◌, ◌⊎◌, ℕ, ◌+◌, false, [], length, Err, IsTrue, IfOk, IfErr, MatchResult};
 ghost use Rattle.sqlite.specs.Held.{state};
 ghost use Rattle.spool.specs.Opening.{has_ours};
 ghost use Rattle.relay_types.specs.Records.{records_of};
 ghost use Rattle.script_lines.specs.declared.event.Event.TheVariants as on;
+ghost use Rattle.script_lines.specs.declared.reply.Fault.{Fault};
 ghost use Rattle.script_lines.specs.declared.reply.Reply.TheVariants as says;
 ghost use Rattle.desk.specs.Moves.{opened};
 ghost use Rattle.text_lines.specs.Ends.{IsBetweenLines};
-ghost use Rattle.drill.specs.Moves.{fault_of, refusal_reply, staged_reply, seal_reply, event_reply};
+ghost use Rattle.drill.specs.Moves.{fault_of, refusal_reply, staged_reply, seal_reply, event_reply, wrong_turn};
 ghost use Rattle.drill.specs.Runners.{RunnerStandsFor, IsCleanAt, IsClean, HasNoTable, Answers, CommitsSo, unchanged_reply};
 ghost use Rattle.drill.specs.Replays.{Replays, KeepsRun, RunsLine};
 ghost use Rattle.drill.specs.Runs.{IsNoCall};
@@ -137,6 +138,7 @@ impl<S: Alter> Runner<S> {
 
     fn settle(&mut self) -> Reply
         ensures answers { Answers S.Store self.old on.Settle result self.new }
+        ensures refused { (number : ℕ) (fault : Fault) → result ≡ says.Refused number fault → result ≡ wrong_turn }
         ensures clean { IsClean S.Store self.new → IsClean S.Store self.old }
     {
         match mem::replace(&mut self.held, Held::Nothing) {
