@@ -1,6 +1,8 @@
 -- How a command ends: its exit status, and what it tells on standard error.
-use Rattle.std.specs.Prelude.{◌≡◌, ℕ, List, ◌++◌, Option, Result, Ok, Err, codes}
+use Rattle.std.specs.Prelude.{◌≡◌, ◌⊎◌, ℕ, List, ◌++◌, Option, Result, Ok, Err, codes}
 use Rattle.std.specs.Io.KnownBytes.{Keeps}
+use Rattle.clap.specs.declared.error.kind.ErrorKind.{ErrorKind}
+use Rattle.clap.specs.declared.error.kind.ErrorKind.TheVariants as kind
 use Rattle.relay_types.specs.Faults.{fault_name}
 use Rattle.relay_types.specs.declared.fault.ReadFault.{ReadFault}
 use Rattle.relay_types.specs.declared.fault.ReadFault.TheVariants as reader
@@ -40,3 +42,10 @@ Tells (Err fault) old new = AppendsFront old new (told_line fault)
 abbrev pub Reports : (Result (Unit {0}) CommandFault → Type 0) → Option (List ℕ) → Option (List ℕ) → ℕ → Type 0
 Reports Holds old new status =
     (end : Result (Unit {0}) CommandFault) × (status ≡ exit_status end) × Tells end old new × Holds end
+
+-- the exit status where the parser answers so in place of a command; help and the version are written, or the writer failed
+abbrev pub IsShownAs : ErrorKind → ℕ → Type 0
+IsShownAs kind.DisplayHelp status = (status ≡ 0) ⊎ (status ≡ 3)
+IsShownAs kind.DisplayVersion status = (status ≡ 0) ⊎ (status ≡ 3)
+IsShownAs kind.OutOfMemory status = status ≡ 3
+IsShownAs other status = status ≡ 1

@@ -2,7 +2,9 @@
 ghost use Rattle.std.specs.Prelude.{◌≡◌, ◌≤◌, IfErr};
 ghost use Rattle.std.specs.Io.KnownBytes.{Keeps};
 ghost use Rattle.text_lines.specs.declared.fault.StreamFault.TheVariants as command;
+ghost use Rattle.clap.specs.Words.{kind_of};
 ghost use Rattle.relay_commands.specs.declared.ends.CommandFault.TheVariants.{Ended};
+ghost use Rattle.relay_commands.specs.Reports.{IsShownAs};
 
 use crate::ends::{CommandFault, USAGE, end};
 use crate::replay_command::replay;
@@ -80,6 +82,7 @@ fn parse<'a, S: AsStr>(alloc: Global, words: &'a [S]) -> Result<ArgMatches<'a>, 
 fn show<O: Write, E: Write>(error: &Error, output: &mut O, errors: &mut E) -> u8
     ensures done { result ≡ 0 → Keeps (E.contents errors.old) (E.contents errors.new) }
     ensures usage { result ≡ 1 → Keeps (O.contents output.old) (O.contents output.new) }
+    ensures shown { IsShownAs (kind_of error.now) result }
     ensures most { result ≤ 3 }
 {
     match error.kind() {
