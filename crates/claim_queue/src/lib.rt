@@ -1,0 +1,9 @@
+//! The deliveries that wait for their next attempt, and which of them is next. Which endpoint has room for one more attempt
+//! the queue is told.
+#![tactic(auto)]
+
+mod marks;
+mod pairs;
+mod queue;
+
+pub use crate::queue::ClaimQueue;
