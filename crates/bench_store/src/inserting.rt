@@ -1,5 +1,5 @@
 //! The rows of a run by bare statements, 256 in one transaction.
-use crate::records::{BODY, ENDPOINTS};
+use crate::records::{BODY, ENDPOINTS, id_text};
 use crate::turns::Failed;
 use sqlite::{Alter, Connection, Error, Transaction};
 use sqlite_value::value::ValueRef;
@@ -91,7 +91,7 @@ fn insert_event<S: Alter>(
     number: u32,
     body: &[u8],
 ) -> Result<(), Failed> {
-    let id = format!(in alloc; "msg_{number}")?;
+    let id = id_text(alloc, number)?;
     Ok(insert_row(tx, number, id.as_bytes(), body)?)
 }
 

@@ -16,6 +16,7 @@ use text_lines::read_number;
 const LIST: &str = "replay PATH        the script on standard input
 tables PATH        each record once
 fill COUNT PATH    as many events, half of them with two attempts
+load COUNT PATH    the same, and then read back into books
 insert COUNT PATH  the rows of as many events, by bare statements
 ";
 
@@ -54,6 +55,27 @@ fn write_events(rt: &HostRuntime, count: &str, path: &str) -> bool {
     fill(rt.alloc(), conn, count).is_ok()
 }
 
+/// Fills the file, reads it back, and prints what the books have. Whether that went well.
+fn load(rt: &HostRuntime, count: &str, path: &str) -> io::Result<bool> {
+    let (Some(count), Ok(conn)) = (count_of(count), Connection::open(rt, path)) else {
+        return Ok(false);
+    };
+    let Ok(mut vault) = fill(rt.alloc(), conn, count) else {
+        return Ok(false);
+    };
+    let Ok(books) = vault.load(rt.alloc()) else {
+        return Ok(false);
+    };
+    let pending = books.deliveries.pending_all();
+    println!(rt;
+        "records {} endpoints {} pending {pending} clock {}",
+        books.records,
+        books.endpoints.len(),
+        books.clock.seconds()
+    )?;
+    Ok(true)
+}
+
 /// Inserts the rows of as many events. Whether they were written.
 fn write_rows(rt: &HostRuntime, count: &str, path: &str) -> bool {
     let (Some(count), Ok(mut conn)) = (count_of(count), Connection::open(rt, path)) else {
@@ -72,6 +94,7 @@ fn run(rt: &HostRuntime, words: &[&str]) -> io::Result<bool> {
         [_, "replay", path] => Ok(replay(rt, path)),
         [_, "tables", path] => Ok(write_tables(rt, path)),
         [_, "fill", count, path] => Ok(write_events(rt, count, path)),
+        [_, "load", count, path] => load(rt, count, path),
         [_, "insert", count, path] => Ok(write_rows(rt, count, path)),
         _ => Ok(false),
     }

@@ -18,9 +18,14 @@ pub fn name_of(alloc: Global, number: u32) -> Result<Name, Failed> {
     Ok(Name::read(text.as_bytes())?)
 }
 
+/// The id of an event: ids come in no order, as made ones do, and none comes twice, as the factor is odd.
 pub fn id_of(alloc: Global, number: u32) -> Result<MsgId, Failed> {
-    let text = format!(in alloc; "msg_{number}")?;
+    let text = id_text(alloc, number)?;
     Ok(MsgId::read(text.as_bytes())?)
+}
+
+pub fn id_text(alloc: Global, number: u32) -> Result<String, Failed> {
+    Ok(format!(in alloc; "msg_{}", number.wrapping_mul(2_654_435_761))?)
 }
 
 pub fn secret() -> Result<Secret, Failed> {
