@@ -236,9 +236,11 @@ impl EndpointBook {
         self.settled_seq = seq;
     }
 
-    /// The least sequence number that the next record may have: it is above all that the book was handed.
+    /// The least sequence number that the next record may have: it is above all that the book was handed, and not
+    /// below the settled number.
     pub fn next_seq(&self) -> u64
-        ensures { result ≡ self.now.next_seq }
+        ensures value { result ≡ self.now.next_seq }
+        ensures settled { self.now.settled_seq ≤ result }
     {
         self.next_seq
     }
