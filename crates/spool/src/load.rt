@@ -1,12 +1,13 @@
 //! The books of what the tables hold.
-ghost use Rattle.std.specs.Prelude.{◌≡◌, ◌≢◌, ◌⊎◌, ◌<◌, false, IsTrue, IfOk, IsErr, Err};
+ghost use Rattle.std.specs.Prelude.{◌≡◌, ◌≢◌, ◌⊎◌, ◌<◌, max, false, IsTrue, IfOk, IsErr, Err};
 ghost use Rattle.sqlite.specs.State.{HasCleanDisk};
 ghost use Rattle.sqlite.specs.Held.{state};
+ghost use Rattle.relay_types.specs.declared.limits.TheConstants.{MAX_RECORDS};
 ghost use Rattle.endpoint_book.specs.Entries.{with_settled as endpoints_settled};
 ghost use Rattle.delivery_book.specs.Entries.{with_settled as deliveries_settled};
 ghost use Rattle.spool_sql.specs.Steps.{IfClean, IsOfSame, SparesCommit, SurvivesAs};
 ghost use Rattle.spool.specs.Loading.{Reads};
-ghost use Rattle.spool.specs.Books.{AreBooks, AreBooksOn, IsSeen, KeepsOpen, TellsLoad, error_of};
+ghost use Rattle.spool.specs.Books.{AreBooks, AreBooksOn, AreSettled, IsSeen, KeepsOpen, TellsLoad, error_of};
 
 use crate::ends::LoadFault;
 use crate::load_attempts::load_attempts;
@@ -14,7 +15,7 @@ use crate::load_deliveries::{Deliveries, load_deliveries};
 use crate::load_endpoints::{Endpoints, load_endpoints};
 use delivery_book::DeliveryBook;
 use endpoint_book::EndpointBook;
-use relay_types::Moment;
+use relay_types::{MAX_RECORDS, Moment};
 use spool_sql::{Cause, RowFault, cause_of, probe, select_records};
 use sqlite::{Alter, Connection, Error, ErrorCode, Transaction};
 use std::alloc::Global;
@@ -39,6 +40,7 @@ pub(crate) fn load_books<S: Alter>(
 ) -> Result<Books, LoadFault>
     requires { conn.old.in_transaction ≡ false }
     ensures books { IfClean S.Store conn.old conn.new (λ a _. IfOk result (AreBooksOn a)) }
+    ensures settled { IfOk result AreSettled }
     ensures tried { result ≢ Err LoadFault.Closed }
     ensures seen { IfClean S.Store conn.old conn.new (λ _ b. IsSeen result → IsTrue b.is_open) }
     ensures stays { IfClean S.Store conn.old conn.new KeepsOpen }
@@ -53,6 +55,7 @@ pub(crate) fn load_books<S: Alter>(
 fn read_books<S: Alter>(conn: &mut Connection<S>, alloc: Global) -> Result<Books, RowFault>
     requires { conn.old.in_transaction ≡ false }
     ensures books { IfClean S.Store conn.old conn.new (λ a _. IfOk result (AreBooksOn a)) }
+    ensures settled { IfOk result AreSettled }
     ensures stays { IfClean S.Store conn.old conn.new KeepsOpen }
     ensures mode { conn.new.in_transaction ≡ false }
     ensures survives { SurvivesAs S.Store conn.old conn.new (λ _ _. ⊥) }
@@ -65,6 +68,7 @@ fn read_books<S: Alter>(conn: &mut Connection<S>, alloc: Global) -> Result<Books
 fn read_tables<S: Alter>(tx: &mut Transaction<'_, S>, alloc: Global) -> Result<Books, RowFault>
     ensures same_reference { IsOfSame tx.old.conn tx.new.conn }
     ensures found { Reads S.Store tx.old.conn.now tx.new.conn.now result (λ books records. AreBooks books records) }
+    ensures settled { IfOk result AreSettled }
     ensures spares { SparesCommit S.Store tx.old.conn.now tx.new.conn.now }
 {
     let endpoints = load_endpoints(tx, alloc)?;
@@ -84,8 +88,9 @@ fn settle_books(
     ensures deliveries { IfOk result (λ books. books.deliveries ≡ deliveries_settled deliveries.book records) }
     ensures records { IfOk result (λ books. books.records ≡ records) }
     ensures clock { IfOk result (λ books. books.clock ≡ deliveries.clock) }
+    ensures settled { IfOk result AreSettled }
     ensures unreadable { IsErr result
-        → (records < endpoints.book.settled_seq) ⊎ (records < deliveries.book.settled_seq) }
+        → (records < max endpoints.book.next_seq deliveries.book.next_seq) ⊎ (MAX_RECORDS < records) }
 {
     let Endpoints {
         book: mut endpoints,
@@ -95,7 +100,8 @@ fn settle_books(
         book: mut deliveries,
         clock,
     } = deliveries;
-    if records < endpoints.settled_seq() || records < deliveries.settled_seq() {
+    let next = endpoints.next_seq().max(deliveries.next_seq());
+    if records < next || MAX_RECORDS < records {
         return Err(RowFault::Unreadable);
     }
     endpoints.settle_to(records);

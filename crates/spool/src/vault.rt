@@ -5,7 +5,7 @@ ghost use Rattle.sqlite.specs.Held.{state};
 ghost use Rattle.relay_types.specs.Records.{records_of};
 ghost use Rattle.spool_sql.specs.Steps.{IfClean};
 ghost use Rattle.spool.specs.Opening.{has_ours, IsRefusedFor, LeavesAt};
-ghost use Rattle.spool.specs.Books.{AreBooksOf, LeavesHeld};
+ghost use Rattle.spool.specs.Books.{AreBooksOf, AreSettled, LeavesHeld};
 ghost use Rattle.spool.specs.Commits.{IsOpened, IsNext, HandsBack, IsDoubt, IsRefused, answer_of, LeavesRows, LeavesHistory, IsIllegal};
 
 use crate::batch::{Batch, Receipt};
@@ -130,6 +130,7 @@ impl<S: Alter> Vault<S> {
         ensures closed { (result ≡ Err LoadFault.Closed) ↔ IsTrue self.old.closed }
         ensures books { IfClean S.Store self.old.conn self.new.conn
             (λ _ _. IfOk result (AreBooksOf S.Store self.old)) }
+        ensures settled { IfOk result AreSettled }
         ensures untouched { result ≡ Err LoadFault.Closed → self.new ≡ self.old }
         ensures mark { self.new.mark ≡ self.old.mark }
         ensures next { self.new.next ≡ self.old.next }
