@@ -19,11 +19,11 @@ use Rattle.spool.specs.declared.ends.OpenFault.TheVariants.{NotOurs, Store, OutO
 abbrev pub has_ours : Schema → Bool
 has_ours schema = is_used schema (codes "meta") || (is_used schema (codes "endpoints") || (is_used schema (codes "secrets") || (is_used schema (codes "deliveries") || is_used schema (codes "attempts"))))
 
--- NotOurs comes only of such a store, and want of memory only of another
+-- NotOurs comes of such a store, and every other refusal of another
 abbrev pub IsRefusedFor : Schema → OpenFault → Type 0
 IsRefusedFor schema NotOurs = IsTrue (has_ours schema)
 IsRefusedFor schema OutOfMemory = has_ours schema ≡ false
-IsRefusedFor schema (Store cause) = Unit {0}
+IsRefusedFor schema (Store cause) = has_ours schema ≡ false
 
 -- how a refusal is printed
 abbrev pub fault_name : OpenFault → List ℕ
