@@ -14,7 +14,7 @@ fn secrets(newest: &[u8], older: Option<&[u8]>) -> Result<Secrets, Fail> {
     }
 }
 
-fn put(alloc: Global, name: &[u8]) -> Result<Record, Fail> {
+pub(crate) fn put(alloc: Global, name: &[u8]) -> Result<Record, Fail> {
     Ok(Record::Put {
         name: Name::read(name)?,
         target: Target::read(alloc, b"http://127.0.0.1:9000/hook")?,
@@ -26,20 +26,21 @@ fn put(alloc: Global, name: &[u8]) -> Result<Record, Fail> {
     })
 }
 
-fn accept(alloc: Global) -> Result<Record, Fail> {
+/// An event of endpoint `a`, of this id and moment.
+pub(crate) fn accept(alloc: Global, id: &[u8], at: u32) -> Result<Record, Fail> {
     let bytes = Vec::from_slice(alloc, b"{}")?;
     let shared = Arc::new(alloc, bytes).map_err(AllocError::from)?;
     Ok(Record::Accept {
         name: Name::read(b"a")?,
-        id: MsgId::read(b"msg_1")?,
+        id: MsgId::read(id)?,
         body: Body::of(shared)?,
-        at: Moment::of(1000)?,
+        at: Moment::of(u64::from(at))?,
     })
 }
 
 /// A record of endpoint `a`, or of the event with this number.
 #[derive(Clone, Copy)]
-enum Change {
+pub(crate) enum Change {
     Enabled(bool),
     /// The event's number, the attempt's, the status and the moment.
     Outcome(u64, u64, u16, u32),
@@ -60,12 +61,16 @@ fn record_of(change: Change) -> Result<Record, Fail> {
     }
 }
 
-type Told = Result<(), Option<Unchanged>>;
+pub(crate) type Told = Result<(), Option<Unchanged>>;
 
 const ILLEGAL: Told = Err(Some(Unchanged::Illegal));
 
 /// Commits the record as the vault's next step.
-fn enter(vault: &mut Vault<MemStore>, alloc: Global, record: Record) -> Result<Told, Fail> {
+pub(crate) fn enter(
+    vault: &mut Vault<MemStore>,
+    alloc: Global,
+    record: Record,
+) -> Result<Told, Fail> {
     let next = u32::try_from(vault.next())?;
     let batch = batch(alloc, (MARK, next), record)?;
     match commit(vault, batch) {
@@ -75,10 +80,10 @@ fn enter(vault: &mut Vault<MemStore>, alloc: Global, record: Record) -> Result<T
 }
 
 /// An endpoint `a` with an event.
-fn begun(alloc: Global) -> Result<Vault<MemStore>, Fail> {
+pub(crate) fn begun(alloc: Global) -> Result<Vault<MemStore>, Fail> {
     let mut vault = opened(alloc)?;
     let endpoint = enter(&mut vault, alloc, put(alloc, b"a")?)?;
-    let event = enter(&mut vault, alloc, accept(alloc)?)?;
+    let event = enter(&mut vault, alloc, accept(alloc, b"msg_1", 1000)?)?;
     if endpoint != Ok(()) || event != Ok(()) {
         return Err(Fail::from("a record was refused"));
     }
@@ -86,7 +91,11 @@ fn begun(alloc: Global) -> Result<Vault<MemStore>, Fail> {
 }
 
 /// Commits the changes up to one that is refused.
-fn enter_all(vault: &mut Vault<MemStore>, alloc: Global, changes: &[Change]) -> Result<Told, Fail> {
+pub(crate) fn enter_all(
+    vault: &mut Vault<MemStore>,
+    alloc: Global,
+    changes: &[Change],
+) -> Result<Told, Fail> {
     for change in changes {
         let told = enter(vault, alloc, record_of(*change)?)?;
         if told != Ok(()) {

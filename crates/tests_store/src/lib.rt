@@ -4,6 +4,8 @@
 #[cfg(test)]
 mod changes;
 #[cfg(test)]
+mod loads;
+#[cfg(test)]
 mod statements;
 #[cfg(test)]
 mod vault;
