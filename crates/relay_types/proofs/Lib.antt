@@ -7,5 +7,8 @@ pub mod GrowthLaws
 pub mod KnownLaws
 pub mod OrderLaws
 pub mod RowLaws
+pub mod LookupLaws
+pub mod FlagLaws
+pub mod AlikeLaws
 mod WorkedValues
 mod WorkedRows

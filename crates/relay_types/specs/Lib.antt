@@ -9,3 +9,5 @@ pub mod Rows
 pub mod SecretText
 pub mod Faults
 pub mod Laws
+pub mod Lookups
+pub mod Alike

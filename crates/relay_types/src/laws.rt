@@ -1,8 +1,15 @@
 //! Laws that contracts rest on.
+ghost use Rattle.relay_types.specs.Alike.{RowsTellAll};
 ghost use Rattle.relay_types.specs.Laws.{RowsFollow};
 
 /// The rows of a legal history that goes on legally are those that the table of changes makes of the rows before, record
 /// by record.
 pub fn rows_follow()
     ensures { RowsFollow }
+{}
+
+/// Two legal histories with the same rows answer the same of every delivery and every endpoint, the same records may follow
+/// them, and what goes on legally behind one does so behind the other.
+pub fn rows_tell_all()
+    ensures { RowsTellAll }
 {}
