@@ -100,6 +100,44 @@ fn ten_failures_exhaust(rt: HostRuntime) -> Result<(), Fail> {
     Ok(())
 }
 
+/// Attempts at the event end with these statuses, 50,000 seconds after each other, and each is settled. How many there are, and the state.
+fn attempted(
+    rt: &impl Abort,
+    book: &mut DeliveryBook,
+    statuses: &[u16],
+) -> Result<Option<(u64, State)>, Fail> {
+    for (place, status) in statuses.iter().enumerate() {
+        let number = place as u64;
+        end(
+            rt,
+            book,
+            number.saturating_add(2),
+            *status,
+            1000 + number % 100 * 50_000,
+        )?;
+        settle(rt, book, number.saturating_add(3));
+    }
+    Ok(book.settled(1).map(|row| (row.attempts, row.state)))
+}
+
+#[test]
+fn gone_attempts_between_ten_failures_add_none(rt: HostRuntime) -> Result<(), Fail> {
+    let statuses = [
+        500, 0, 410, 404, 302, 503, 410, 500, 600, 100, 429, 410, 500,
+    ];
+    for (count, state) in [
+        (11, State::Pending),
+        (12, State::Pending),
+        (13, State::Exhausted),
+    ] {
+        let mut book = one_event(&rt, rt.alloc())?;
+        let told = attempted(&rt, &mut book, &statuses[..count])?;
+        assert!(rt; told == Some((count as u64, state)), "after {count}");
+        assert!(rt; book.takes_outcome(1) == (state == State::Pending));
+    }
+    Ok(())
+}
+
 /// How many deliveries of `a` and of all are pending, and how many are settled as pending and as delivered.
 fn counts(book: &DeliveryBook, a: Name) -> (u64, u64, Counts, Counts) {
     (
@@ -129,6 +167,8 @@ fn an_outcome_that_waits_is_not_settled(rt: HostRuntime) -> Result<(), Fail> {
     settle(&rt, &mut book, 2);
     assert!(rt; counts(&book, a) == (0, 0, before, before));
     assert!(rt; told(book.row(1)) == Some((1, State::Delivered, None, Some(204))));
+    assert!(rt; told(book.settled(1)) == Some((0, State::Pending, Some(1000), None)));
+    assert!(rt; !book.takes_outcome(1));
     settle(&rt, &mut book, 3);
     assert!(rt; counts(&book, a) == (0, 0, after, after));
     assert!(rt; told(book.settled(1)) == told(book.row(1)));
