@@ -1,5 +1,2 @@
 mod DeskLists
-mod MoveLaws
 mod DeskEvents
-mod DeskLaws
-mod DeskBatches

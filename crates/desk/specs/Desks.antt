@@ -1,96 +1,126 @@
 -- What a desk keeps, the worlds for which it stands, and what its calls answer.
-use Rattle.std.specs.Prelude.{◌≡◌, ℕ, ◌≤◌, ◌+◌, Bool, false, not, List, [], ◌∷◌, length, drop, Option, Some, None, Result, Ok, Err, if◌then◌else◌}
-use Rattle.relay_types.specs.declared.limits.TheConstants.{MAX_RECORDS}
+use Rattle.std.specs.Prelude.{◌≡◌, ℕ, ◌-◌, ◌≤◌, Bool, true, false, List, [], ◌∷◌, length, drop, Option, Some, None, Result, Ok, Err, if◌then◌else◌}
 use Rattle.relay_types.specs.declared.record.Record.{Record}
-use Rattle.relay_types.specs.declared.record.Record.TheVariants.{Put, Accept}
+use Rattle.relay_types.specs.declared.record.Record.TheVariants.{Put, Secrets, Enabled, Accept}
+use Rattle.relay_types.specs.Values.{Text, Seq, Seconds}
 use Rattle.relay_types.specs.Records.{History}
 use Rattle.relay_types.specs.Legal.{IsLegal}
 use Rattle.endpoint_book.specs.Book as endpoint_book
 use Rattle.endpoint_book.specs.Entries as endpoint_entries
 use Rattle.delivery_book.specs.Book as delivery_book
 use Rattle.delivery_book.specs.Entries as delivery_entries
-use Rattle.spool.specs.Batches.{BatchValue, upto_of}
+use Rattle.spool.specs.Batches.{BatchValue, DoubtValue, doubt_of}
+use Rattle.group_commit.specs.declared.held.Held.{Held}
+use Rattle.group_commit.specs.declared.held.Held.TheVariants as held
+use Rattle.group_commit.specs.Waits.{WaitingValue, record_count, with_step}
 use Rattle.desk.specs.declared.refusal.Refusal.{Refusal}
-use Rattle.desk.specs.declared.refusal.WrongTurn.{WrongTurn}
 use Rattle.desk.specs.Faults.{Faults, first_fault}
-use Rattle.desk.specs.World.{World, all_records, settled_records, sealed_records, waiting_records}
-use Rattle.desk.specs.Moves.{Answer, MayGive, with_sealed_settled, is_nothing_out, sealed_batch}
+use Rattle.desk.specs.World.{World, Out, all_records, settled_records}
+use Rattle.desk.specs.Moves.{Answer, MayGive, is_nothing_out, sealed_batch}
 
--- `waiting` is the step that isn't settled, and `is_out` whether it was sealed.
+-- The books of all records, the steps that wait, the latest moment, and whether nothing is taken any more.
 pub record DeskValue : Type 0 where
-  pub mark : ℕ
-  pub clock : ℕ
+  pub clock : Seconds
   pub endpoints : endpoint_entries.BookValue
   pub deliveries : delivery_entries.BookValue
-  pub waiting : Option (List Record)
-  pub is_out : Bool
-  pub records : ℕ
-  pub settled : ℕ
+  pub waiting : WaitingValue
+  pub halted : Bool
 
 -- what holds of a desk's fields in every world
-pub record IsDesk (endpoints : endpoint_entries.BookValue) (deliveries : delivery_entries.BookValue) (records settled : ℕ)
-    (steps : History) : Type 0 where
-  pub endpoints_staged : endpoints.next_seq ≤ records
-  pub endpoints_settled : endpoints.settled_seq ≤ settled
-  pub deliveries_staged : deliveries.next_seq ≤ records
-  pub deliveries_settled : deliveries.settled_seq ≤ settled
-  pub prefix : upto_of settled steps ≤ records
-  pub room : records ≤ MAX_RECORDS
+pub record IsDesk (endpoints : endpoint_entries.BookValue) (deliveries : delivery_entries.BookValue) (waiting : WaitingValue) : Type 0 where
+  pub endpoints_staged : endpoints.next_seq ≤ record_count waiting
+  pub endpoints_settled : endpoints.settled_seq ≡ waiting.settled
+  pub deliveries_staged : deliveries.next_seq ≤ record_count waiting
+  pub deliveries_settled : deliveries.settled_seq ≡ waiting.settled
 
--- the step as the steps of a history
-abbrev pub steps_of : Option (List Record) → History
-steps_of None = []
-steps_of (Some step) = step ∷ []
+-- The world for which a desk stands, part by part. It stores no history.
 
--- The desk keeps what these words say of the world. It stores no history.
+-- the books have the endpoints and the deliveries of these records, of which so many are settled
+pub record AreBooks (endpoints : endpoint_entries.BookValue) (deliveries : delivery_entries.BookValue) (records : List Record) (settled : ℕ) : Type 0 where
+  pub of_endpoints : endpoint_book.StandsFor endpoints records settled
+  pub of_deliveries : delivery_book.StandsFor deliveries records settled
+  pub legal : IsLegal records
+
+-- how many steps are out, if any are
+abbrev pub out_count : (out : Out) (settled sealed : ℕ) → Option ℕ
+out_count out settled sealed = if is_nothing_out out then None else Some (sealed - settled)
+
+-- the steps behind the settled ones wait, and the sealed ones among them are out
+pub record Waits (waiting : WaitingValue) (history : History) (settled sealed : ℕ) (out : Out) (seq : Seq) : Type 0 where
+  pub steps : waiting.waiting ≡ drop settled history
+  pub settled_seq : waiting.settled ≡ seq
+  pub is_out : waiting.out ≡ out_count out settled sealed
+  pub settled_first : settled ≤ sealed
+  pub sealed_within : sealed ≤ length history
+
+-- no attempt is under way, and none was
+pub record IsIdle (w : World) : Type 0 where
+  pub live : w.live ≡ []
+  pub measured : w.measured ≡ []
+
 pub record StandsFor (desk : DeskValue) (w : World) : Type 0 where
   pub clock : desk.clock ≡ w.clock
-  pub endpoints : endpoint_book.StandsFor desk.endpoints (all_records w) (length (settled_records w))
-  pub deliveries : delivery_book.StandsFor desk.deliveries (all_records w) (length (settled_records w))
-  pub waiting : drop w.settled w.history ≡ steps_of desk.waiting
-  pub one_each : length (waiting_records w) ≡ length (steps_of desk.waiting)
-  pub is_out : desk.is_out ≡ not (is_nothing_out w.out)
-  pub sealed : w.sealed ≡ (if desk.is_out then w.settled + 1 else w.settled)
-  pub sealed_within : w.sealed ≤ length w.history
-  pub records : desk.records ≡ length (all_records w)
-  pub settled : desk.settled ≡ length (settled_records w)
-  pub legal : IsLegal (all_records w)
+  pub halted : desk.halted ≡ w.halted
+  pub books : AreBooks desk.endpoints desk.deliveries (all_records w) (length (settled_records w))
+  pub waiting : Waits desk.waiting w.history w.settled w.sealed w.out (length (settled_records w))
+  pub idle : IsIdle w
+
+-- what is so of every world for which the desk stands
+abbrev pub OverWorlds : DeskValue → (World → Type 0) → Type 0
+OverWorlds desk P = (w : World) → StandsFor desk w → P w
 
 -- From each world for which the desk stood, the call gave what this move answers, and the desk stands for the world after it.
 abbrev pub IsMove : {A : Type 0} → DeskValue → (World → Answer A) → Result A Refusal → DeskValue → Type 0
-IsMove old move reply new = (w : World) → StandsFor old w → (next : World) × MayGive w (move w) reply next × StandsFor new next
+IsMove old move reply new = OverWorlds old (λ w. (next : World) × MayGive w (move w) reply next × StandsFor new next)
+
+-- Turns
 
 -- the receipt is that of what is out: it is of this opening, and has the sealed steps
 abbrev pub IsReceiptOf : ℕ → World → BatchValue → Type 0
 IsReceiptOf mark w receipt = (is_nothing_out w.out ≡ false) × (receipt ≡ sealed_batch mark w)
 
--- From each world for which the desk stood: the receipt of what is out settles it, and every other comes back.
-abbrev pub Settles : DeskValue → BatchValue → Result ℕ (BatchValue × WrongTurn) → DeskValue → Type 0
-Settles old receipt (Ok to) new =
-    (w : World) → StandsFor old w → IsReceiptOf old.mark w receipt × (to ≡ length (sealed_records w)) × StandsFor new (with_sealed_settled w)
-Settles old receipt (Err back) new = (w : World) → StandsFor old w → ¬ IsReceiptOf old.mark w receipt × StandsFor new w
+-- these are the mark and the places of what is out
+abbrev pub ArePlacesOf : ℕ → World → DoubtValue → Type 0
+ArePlacesOf mark w places = (is_nothing_out w.out ≡ false) × (places ≡ doubt_of (sealed_batch mark w))
 
--- what the desk puts into a batch, and what its receipt says
-abbrev pub batch_of : DeskValue → BatchValue
-batch_of desk = record { mark = desk.mark; from = desk.settled; steps = steps_of desk.waiting }
+abbrev pub IsHeldOf : ℕ → World → Held → Type 0
+IsHeldOf mark w held.Nothing = is_nothing_out w.out ≡ true
+IsHeldOf mark w (held.Batch batch) = ArePlacesOf mark w (doubt_of batch)
+IsHeldOf mark w (held.Doubt doubt) = ArePlacesOf mark w doubt
+
+-- From each world for which the desk stood: what is handed in ends the turn exactly where it is what is out, and comes back
+-- otherwise.
+abbrev pub Turns : {A E : Type 0} → (old : DeskValue) (IsOut : World → Type 0) (ended : World → World) (result : Result A E) (new : DeskValue) → Type 0
+Turns old IsOut ended (Ok a) new = OverWorlds old (λ w. IsOut w × StandsFor new (ended w))
+Turns old IsOut ended (Err e) new = OverWorlds old (λ w. (¬ IsOut w) × StandsFor new w)
 
 -- What the desk's own steps look for and make.
 
 -- the answer to a look for faults, in each world for which the desk stands
 abbrev pub Checks : DeskValue → (World → Faults) → Result (Unit {0}) Refusal → Type 0
-Checks desk faults result = (w : World) → StandsFor desk w → result ≡ first_fault (faults w)
+Checks desk faults result = OverWorlds desk (λ w. result ≡ first_fault (faults w))
 
 -- the desk with a record that waits
-abbrev pub with_step : DeskValue → Record → DeskValue
-with_step desk entry = record desk { waiting = Some (entry ∷ []); records = desk.records + 1 }
+abbrev pub with_entry : DeskValue → Record → DeskValue
+with_entry desk entry = record desk { waiting = with_step desk.waiting (entry ∷ []) }
 
-abbrev pub with_put : DeskValue → List ℕ → List ℕ → ℕ → List (List ℕ) → DeskValue
-with_put desk name target max secrets = record (with_step desk (Put name target max secrets)) {
-  endpoints = endpoint_entries.with_put desk.endpoints (endpoint_entries.new_entry desk.records name target max secrets);
+abbrev pub with_put : DeskValue → (name target : Text) (max : ℕ) (secrets : List Text) → DeskValue
+with_put desk name target max secrets = record (with_entry desk (Put name target max secrets)) {
+  endpoints = endpoint_entries.with_put desk.endpoints (endpoint_entries.new_entry (record_count desk.waiting) name target max secrets);
 }
 
-abbrev pub with_accept : DeskValue → List ℕ → List ℕ → List ℕ → ℕ → DeskValue
-with_accept desk name id body at = record (with_step desk (Accept name id body at)) {
+abbrev pub with_secrets : DeskValue → (name : Text) (secrets : List Text) → DeskValue
+with_secrets desk name secrets = record (with_entry desk (Secrets name secrets)) {
+  endpoints = endpoint_entries.with_secrets desk.endpoints (record_count desk.waiting) name secrets;
+}
+
+abbrev pub with_enabled : DeskValue → (name : Text) (flag : Bool) → DeskValue
+with_enabled desk name flag = record (with_entry desk (Enabled name flag)) {
+  endpoints = endpoint_entries.with_flag desk.endpoints (record_count desk.waiting) name flag;
+}
+
+abbrev pub with_accept : DeskValue → (name id body : Text) (at : Seconds) → DeskValue
+with_accept desk name id body at = record (with_entry desk (Accept name id body at)) {
   clock = at;
-  deliveries = delivery_entries.with_event desk.deliveries desk.records name id body at;
+  deliveries = delivery_entries.with_event desk.deliveries (record_count desk.waiting) name id body at;
 }

@@ -1,24 +1,24 @@
 -- The moves of the desk: what each call answers, and the world after it.
-use Rattle.std.specs.Prelude.{◌≡◌, ℕ, ◌+◌, min, max, Bool, true, false, ◌==◌, not, nat_le, List, [], ◌∷◌, ◌++◌, length, take, drop, Option, Some, None, option_and_then, Result, Ok, Err, bytes_eq, count_by, if◌then◌else◌, ◌⊎◌, IsSomeAnd}
+use Rattle.std.specs.Prelude.{◌≡◌, ℕ, ◌+◌, min, max, Bool, true, false, ◌==◌, not, nat_le, List, [], ◌∷◌, ◌++◌, length, take, drop, Option, Some, None, Result, Ok, Err, bytes_eq, count_by, if◌then◌else◌, ◌⊎◌, IsSomeAnd}
 use Rattle.std.specs.Option.{option_map_or}
 use Rattle.relay_types.specs.declared.limits.TheConstants.{MAX_ENDPOINTS, MAX_RECORDS}
 use Rattle.relay_types.specs.declared.record.Record.{Record}
-use Rattle.relay_types.specs.declared.record.Record.TheVariants.{Put, Accept}
+use Rattle.relay_types.specs.declared.record.Record.TheVariants.{Put, Secrets, Enabled, Accept}
 use Rattle.relay_types.specs.Values.{Text, Seq, Seconds}
 use Rattle.relay_types.specs.Records.{History, Accepted}
 use Rattle.relay_types.specs.Deliveries.{accepted, deliveries, deliveries_of, known_as, is_pending}
 use Rattle.relay_types.specs.Endpoints.{endpoints, has_endpoint}
-use Rattle.delivery_book.specs.declared.row.Row.{Row}
-use Rattle.delivery_book.specs.Book.{row_of}
 use Rattle.spool.specs.Batches.{BatchValue}
 use Rattle.desk.specs.declared.command.Command.{Command}
-use Rattle.desk.specs.declared.command.Command.TheVariants.{PutEndpoint}
+use Rattle.desk.specs.declared.command.Command.TheVariants.{PutEndpoint, SetSecrets, SetEnabled}
 use Rattle.desk.specs.declared.limits.TheConstants.{MAX_PENDING, MAX_PENDING_ALL}
 use Rattle.desk.specs.declared.refusal.Fault.{Fault}
 use Rattle.desk.specs.declared.refusal.Fault.TheVariants as fault
 use Rattle.desk.specs.declared.refusal.Refusal.{Refusal}
+use Rattle.desk.specs.declared.ticket.CommandTicket.{CommandTicket}
+use Rattle.desk.specs.declared.ticket.Ticket.{Ticket}
 use Rattle.desk.specs.Faults.{Faults, refusal}
-use Rattle.desk.specs.World.{World, Out, Nothing, Batch, Receipt, Doubt, max_waiting, max_sealed, all_records, settled_records, waiting_records}
+use Rattle.desk.specs.World.{World, Out, Nothing, Batch, Receipt, Doubt, max_waiting, max_sealed, all_records, settled_records, waiting_requests}
 
 -- What a call answers, and the world after it. Where making this takes memory, `memory` is the number of OutOfMemory in the
 -- call's list: the call may be refused for want of memory instead.
@@ -66,18 +66,16 @@ with_record w entry = record w { history = w.history ++ (entry ∷ []) ∷ [] }
 abbrev pub next_seq : World → Seq
 next_seq w = length (all_records w)
 
-abbrev pub stages : (w : World) (entry : Record) → Answer Seq
-stages w entry = gives (next_seq w) (with_record w entry)
-
 -- how many events of some deliveries are pending
 abbrev pub pending_among : (records : List Record) (deliveries : List Seq) → ℕ
 pending_among records ds = count_by (is_pending records) ds
 
 abbrev pub is_waiting_full : World → Bool
-is_waiting_full w = nat_le max_waiting (length (waiting_records w))
+is_waiting_full w = nat_le max_waiting (waiting_requests w)
 
+-- whether each number that can still be needed is given out: one for each live attempt, and one more
 abbrev pub are_seqs_spent : World → Bool
-are_seqs_spent w = nat_le MAX_RECORDS (next_seq w)
+are_seqs_spent w = nat_le MAX_RECORDS (next_seq w + length w.live)
 
 abbrev pub has_body : (body : Text) → Option Accepted → Bool
 has_body body accept = option_map_or (λ a. bytes_eq a.body body) accept false
@@ -89,7 +87,8 @@ is_conflict records known body = option_map_or (λ d. not (has_body body (accept
 -- the refusals of a submission, in order: those before a repeated one is answered, and those of a new one
 abbrev pub submit_faults : (w : World) (name : Text) (known : Option Seq) (body : Text) → Faults
 submit_faults w name known body =
-    (not (has_endpoint (all_records w) name), 2, fault.UnknownEndpoint)
+    (w.halted, 1, fault.Halted)
+    ∷ (not (has_endpoint (all_records w) name), 2, fault.UnknownEndpoint)
     ∷ (is_conflict (all_records w) known body, 3, fault.Conflict)
     ∷ []
 
@@ -101,41 +100,66 @@ new_submit_faults w name =
     ∷ (are_seqs_spent w, 7, fault.SeqExhausted)
     ∷ []
 
-abbrev pub submit_new : (w : World) (now : Seconds) (name id body : Text) → Answer Seq
-submit_new w now name id body =
-    unless (new_submit_faults w name) w (or_out_of_memory 8 (stages (at_moment w now) (Accept name id body (moment w now))))
+abbrev pub ticket : (seq : Seq) (name id : Text) → Ticket
+ticket seq name id = record { seq = seq; name = name; id = id }
 
--- the same id with the same bytes gives the number of the first
-abbrev pub repeats : (w : World) (now : Seconds) (delivery : Seq) → Answer Seq
-repeats w now d = gives d (at_moment w now)
+-- a new event waits
+abbrev pub accepts : (w : World) (now : Seconds) (name id body : Text) → Answer Ticket
+accepts w now name id body =
+    gives (ticket (next_seq w) name id) (with_record (at_moment w now) (Accept name id body (moment w now)))
+
+abbrev pub submit_new : (w : World) (now : Seconds) (name id body : Text) → Answer Ticket
+submit_new w now name id body = unless (new_submit_faults w name) w (or_out_of_memory 8 (accepts w now name id body))
+
+-- the same id with the same bytes gives the ticket of the first
+abbrev pub repeats : (w : World) (now : Seconds) (name id : Text) (delivery : Seq) → Answer Ticket
+repeats w now name id d = gives (ticket d name id) (at_moment w now)
 
 -- A submission, where its id is known as this delivery or isn't known.
-abbrev pub submit_known : (known : Option Seq) (w : World) (now : Seconds) (name id body : Text) → Answer Seq
+abbrev pub submit_known : (known : Option Seq) (w : World) (now : Seconds) (name id body : Text) → Answer Ticket
 submit_known known w now name id body =
-    unless (submit_faults w name known body) w (option_map_or (repeats w now) known (submit_new w now name id body))
+    unless (submit_faults w name known body) w
+    (option_map_or (repeats w now name id) known (submit_new w now name id body))
 
 -- A submission.
-abbrev pub submit : (w : World) (now : Seconds) (name id body : Text) → Answer Seq
+abbrev pub submit : (w : World) (now : Seconds) (name id body : Text) → Answer Ticket
 submit w now name id body = submit_known (known_as (all_records w) name id) w now name id body
 
--- the refusals of a command, in order
+-- the refusals of a new endpoint, in order, and those of a change of one that is there
 abbrev pub put_faults : (w : World) (name : Text) → Faults
 put_faults w name =
-    (has_endpoint (all_records w) name, 3, fault.Exists)
+    (w.halted, 1, fault.Halted)
+    ∷ (has_endpoint (all_records w) name, 3, fault.Exists)
     ∷ (nat_le MAX_ENDPOINTS (length (endpoints (all_records w))), 4, fault.TooManyEndpoints)
+    ∷ (is_waiting_full w, 5, fault.WaitingFull)
+    ∷ (are_seqs_spent w, 6, fault.SeqExhausted)
+    ∷ []
+
+abbrev pub set_faults : (w : World) (name : Text) → Faults
+set_faults w name =
+    (w.halted, 1, fault.Halted)
+    ∷ (not (has_endpoint (all_records w) name), 2, fault.UnknownEndpoint)
     ∷ (is_waiting_full w, 5, fault.WaitingFull)
     ∷ (are_seqs_spent w, 6, fault.SeqExhausted)
     ∷ []
 
 abbrev pub change_faults : World → Command → Faults
 change_faults w (PutEndpoint name target max secrets) = put_faults w name
+change_faults w (SetSecrets name secrets) = set_faults w name
+change_faults w (SetEnabled name flag) = set_faults w name
 
--- what a command makes: a new endpoint takes memory
-abbrev pub changes : World → Command → Answer Seq
+-- the record waits, and its number is the ticket
+abbrev pub stages : (w : World) (entry : Record) → Answer CommandTicket
+stages w entry = gives (record { seq = next_seq w }) (with_record w entry)
+
+-- what a command makes: a flag takes no memory
+abbrev pub changes : World → Command → Answer CommandTicket
 changes w (PutEndpoint name target max secrets) = or_out_of_memory 7 (stages w (Put name target max secrets))
+changes w (SetSecrets name secrets) = or_out_of_memory 7 (stages w (Secrets name secrets))
+changes w (SetEnabled name flag) = stages w (Enabled name flag)
 
 -- A command.
-abbrev pub change : World → Command → Answer Seq
+abbrev pub change : World → Command → Answer CommandTicket
 change w command = unless (change_faults w command) w (changes w command)
 
 -- what is out
@@ -158,20 +182,24 @@ seal_waiting mark w true = gives None w
 seal_waiting mark w false = or_out_of_memory 3 (gives (Some (sealed_batch mark (with_batch w))) (with_batch w))
 
 abbrev pub seal_faults : World → Faults
-seal_faults w = (not (is_nothing_out w.out), 2, fault.BatchOut) ∷ []
+seal_faults w = (w.halted, 1, fault.Halted) ∷ (not (is_nothing_out w.out), 2, fault.BatchOut) ∷ []
 
 abbrev pub seal : (mark : ℕ) → World → Answer (Option BatchValue)
 seal mark w = unless (seal_faults w) w (seal_waiting mark w (length w.history == w.settled))
 
--- Settling takes back what is out: what is sealed is settled.
+-- Settling ends what is out: what is sealed is settled.
 abbrev pub with_sealed_settled : World → World
 with_sealed_settled w = record w { settled = w.sealed; out = Nothing }
 
--- what the settled records say of the event that the endpoint knows by this id
-abbrev pub event_row : (w : World) (name id : Text) → Option Row
-event_row w name id = option_and_then (row_of (settled_records w)) (known_as (settled_records w) name id)
+-- A batch that comes back waits as before.
+abbrev pub with_batch_back : World → World
+with_batch_back w = record w { sealed = w.settled; out = Nothing }
 
--- a world in which everything is settled, and nothing is out
+-- A halt ends what is out. Nothing is staged or sealed from then on.
+abbrev pub with_halt : World → World
+with_halt w = record w { halted = true; out = Nothing }
+
+-- a world in which everything is settled, and nothing is out or under way
 abbrev pub opened : (history : History) (clock : Seconds) → World
 opened history clock = record {
   history = history;
@@ -179,5 +207,8 @@ opened history clock = record {
   sealed = length history;
   out = Nothing;
   left = length history ∷ [];
+  live = [];
+  measured = [];
   clock = clock;
+  halted = false;
 }

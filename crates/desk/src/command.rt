@@ -11,4 +11,14 @@ pub enum Command {
         max: MaxLimit,
         secrets: Secrets,
     },
+    /// Other secrets in place of those that it has.
+    SetSecrets {
+        name: Name,
+        secrets: Secrets,
+    },
+    /// Whether it is posted to.
+    SetEnabled {
+        name: Name,
+        flag: bool,
+    },
 }

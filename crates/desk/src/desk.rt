@@ -1,177 +1,92 @@
-//! The desk: the order of all changes. It takes submissions and commands, seals what waits, and settles what was committed.
-ghost use Rattle.std.specs.Prelude.{◌≡◌, ◌≤◌, ◌<◌, ◌+◌, [], ◌∷◌, false, max, ◌↔◌, OnOk, OnErr, IfOk, IfErr, IfSome, IsOk, IsTrue, None};
-ghost use Rattle.relay_types.specs.declared.record.Record.TheVariants.{Put, Accept};
+//! The desk, and how it takes events.
+ghost use Rattle.std.specs.Prelude.{◌≡◌, ◌<◌, ◌+◌, [], ◌∷◌, max, IsTrue, None, IfOk, OnOk, OnErr};
+ghost use Rattle.relay_types.specs.declared.limits.TheConstants.{MAX_RECORDS};
+ghost use Rattle.relay_types.specs.declared.record.Record.TheVariants.{Accept};
 ghost use Rattle.relay_types.specs.Deliveries.{accepted};
 ghost use Rattle.relay_types.specs.Legal.{is_within_limits};
-ghost use Rattle.endpoint_book.specs.Entries.{is_known};
 ghost use Rattle.delivery_book.specs.Entries.{known_in};
-ghost use Rattle.desk.specs.World.{World, all_records};
-ghost use Rattle.desk.specs.Moves.{opened, submit, submit_faults, new_submit_faults, is_conflict, has_body, change, change_faults, put_faults, seal, event_row};
-ghost use Rattle.desk.specs.Desks.{StandsFor, IsMove, Checks, Settles, steps_of, batch_of, with_put, with_accept};
+ghost use Rattle.group_commit.specs.declared.limits.TheConstants.{MAX_WAITING_REQUESTS};
+ghost use Rattle.group_commit.specs.Steps.{is_request, requests_in};
+ghost use Rattle.group_commit.specs.Waits.{record_count, with_step};
+ghost use Rattle.desk.specs.World.{all_records};
+ghost use Rattle.desk.specs.Moves.{opened, ticket, submit, submit_faults, new_submit_faults, is_conflict, has_body};
+ghost use Rattle.desk.specs.Desks.{StandsFor, IsMove, Checks, OverWorlds, with_accept};
 
-use crate::command::Command;
 use crate::limits::{MAX_PENDING, MAX_PENDING_ALL};
-use crate::refusal::{Fault, Refusal, WrongTurn, check, or_out_of_memory};
-use delivery_book::{DeliveryBook, Row};
+use crate::refusal::{Fault, Refusal, check, or_out_of_memory};
+use crate::ticket::Ticket;
+use delivery_book::DeliveryBook;
 use endpoint_book::EndpointBook;
-use relay_types::{
-    Body, MAX_ENDPOINTS, MAX_RECORDS, MaxLimit, Moment, MsgId, Name, Record, Secrets, Step, Target,
-};
-use spool::{Batch, Receipt};
+use group_commit::Waiting;
+use relay_types::{Body, MAX_RECORDS, Moment, MsgId, Name, Record, Step};
 use std::alloc::{AllocError, Global};
 use std::marker::Model;
 
 /// The desk of one opening.
 #[derive(Drop)]
 pub struct Desk {
-    mark: u64,
-    clock: Moment,
-    endpoints: EndpointBook,
-    deliveries: DeliveryBook,
-    waiting: Option<Step>,
-    is_out: bool,
-    records: u64,
-    settled: u64,
-    alloc: Global,
+    pub(crate) clock: Moment,
+    pub(crate) endpoints: EndpointBook,
+    pub(crate) deliveries: DeliveryBook,
+    pub(crate) waiting: Waiting,
+    pub(crate) halted: bool,
 }
 
 impl Model for Desk {
-    ghost use Rattle.desk.specs.Desks.{DeskValue, IsDesk, steps_of};
+    ghost use Rattle.desk.specs.Desks.{DeskValue, IsDesk};
 
     ghost Value = { DeskValue };
 
     ghost view = { λ d. record {
-      mark = d.mark;
       clock = d.clock;
       endpoints = d.endpoints;
       deliveries = d.deliveries;
       waiting = d.waiting;
-      is_out = d.is_out;
-      records = d.records;
-      settled = d.settled;
+      halted = d.halted;
     } };
 
-    ghost invariant = { λ d. IsDesk d.endpoints d.deliveries d.records d.settled (steps_of d.waiting) };
+    ghost invariant = { λ d. IsDesk d.endpoints d.deliveries d.waiting };
 }
 
 impl Desk {
     /// The desk of the empty history.
     pub fn new(alloc: Global, mark: u64) -> Result<Desk, AllocError>
-        ensures mark { IfOk result (λ desk. desk.mark ≡ mark) }
+        ensures mark { IfOk result (λ desk. desk.waiting.mark ≡ mark) }
         ensures stands { IfOk result (λ desk. StandsFor desk (opened [] 0)) }
     {
         let Ok(clock) = Moment::of(0) else {
             unreachable!()
         };
         Ok(Desk {
-            mark,
             clock,
             endpoints: EndpointBook::new(alloc)?,
             deliveries: DeliveryBook::new(alloc),
-            waiting: None,
-            is_out: false,
-            records: 0,
-            settled: 0,
-            alloc,
+            waiting: Waiting::new(alloc, 0, mark)?,
+            halted: false,
         })
     }
 
-    /// Takes an event: the number of its record. The same id with the same bytes gives the number of the first.
-    pub fn submit(&mut self, now: Moment, name: Name, id: MsgId, body: Body) -> Result<u64, Refusal>
+    /// Takes an event. The same id with the same bytes gives the ticket of the first.
+    pub fn submit(
+        &mut self,
+        now: Moment,
+        name: Name,
+        id: MsgId,
+        body: Body,
+    ) -> Result<Ticket, Refusal>
         ensures moves { IsMove self.old (λ w. submit w now name id body) result self.new }
-        ensures mark { self.new.mark ≡ self.old.mark }
+        ensures mark { self.new.waiting.mark ≡ self.old.waiting.mark }
         ensures err { OnErr result (self.new ≡ self.old) }
     {
         let known = self.deliveries.find(name, &id);
         self.check_submit(name, known, &body)?;
         let at = self.moment(now);
-        if let Some(delivery) = known {
+        if let Some(seq) = known {
             self.clock = at;
-            return Ok(delivery);
+            return Ok(Ticket { seq, name, id });
         }
         self.check_new_submit(name)?;
         or_out_of_memory(8, self.stage_accept(at, name, id, body))
-    }
-
-    /// Changes an endpoint: the number of its record.
-    pub fn command(&mut self, command: Command) -> Result<u64, Refusal>
-        ensures moves { IsMove self.old (λ w. change w command) result self.new }
-        ensures mark { self.new.mark ≡ self.old.mark }
-        ensures err { OnErr result (self.new ≡ self.old) }
-    {
-        match command {
-            Command::PutEndpoint {
-                name,
-                target,
-                max,
-                secrets,
-            } => self.put_endpoint(name, target, max, secrets),
-        }
-    }
-
-    /// Puts what waits into a batch: `None` where nothing waits.
-    pub fn seal(&mut self) -> Result<Option<Batch>, Refusal>
-        ensures moves { IsMove self.old (seal self.old.mark) result self.new }
-        ensures batch { IfOk result (λ sealed. IfSome sealed (λ batch. batch ≡ batch_of self.old)) }
-        ensures mark { self.new.mark ≡ self.old.mark }
-        ensures err { OnErr result (self.new ≡ self.old) }
-    {
-        check(&[(self.is_out, 2, Fault::BatchOut)])?;
-        let Some(step) = &self.waiting else {
-            return Ok(None);
-        };
-        let steps = or_out_of_memory(3, share(self.alloc, step))?;
-        self.is_out = true;
-        Ok(Some(Batch::of(self.mark, self.settled, steps)))
-    }
-
-    /// Settles the batch that is out, by its receipt: how many records are settled. It takes no memory.
-    pub fn settle(&mut self, receipt: Receipt) -> Result<u64, (Receipt, WrongTurn)>
-        ensures moves { Settles self.old receipt result self.new }
-        ensures turn { IsOk result ↔ (IsTrue self.old.is_out × (receipt ≡ batch_of self.old)) }
-        ensures back { IfErr result (λ back. back.0 ≡ receipt) }
-        ensures mark { self.new.mark ≡ self.old.mark }
-        ensures err { OnErr result (self.new ≡ self.old) }
-    {
-        if !self.is_receipt(&receipt) {
-            return Err((receipt, WrongTurn));
-        }
-        drop(receipt.into_steps());
-        self.settled = self.records;
-        self.endpoints.settle_to(self.settled);
-        self.deliveries.settle_to(self.settled);
-        self.waiting = None;
-        self.is_out = false;
-        Ok(self.settled)
-    }
-
-    /// What the settled records say of an event.
-    pub fn event(&self, name: Name, id: &MsgId) -> Option<Row>
-        ensures { (w : World) → StandsFor self.now w → result ≡ event_row w name id.now }
-    {
-        let delivery = self.deliveries.find(name, id)?;
-        self.deliveries.settled(delivery)
-    }
-
-    // Whether the receipt is that of the batch that is out.
-    fn is_receipt(&self, receipt: &Receipt) -> bool
-        ensures { IsTrue result ↔ (IsTrue self.now.is_out × (receipt.now ≡ batch_of self.now)) }
-    {
-        self.is_out
-            && receipt.mark() == self.mark
-            && receipt.from() == self.settled
-            && self.has_steps(receipt.steps())
-    }
-
-    // Whether these are the steps that wait.
-    fn has_steps(&self, steps: &[Step]) -> bool
-        ensures { IsTrue result ↔ (steps.now ≡ steps_of self.now.waiting) }
-    {
-        match (&self.waiting, steps) {
-            (Some(waiting), [step]) => waiting.is(step),
-            (None, []) => true,
-            _ => false,
-        }
     }
 
     // The moment of a call: the clock never goes back.
@@ -183,7 +98,7 @@ impl Desk {
 
     // Whether the delivery has these bytes.
     fn has_body(&self, delivery: u64, body: &Body) -> bool
-        ensures { (w : World) → StandsFor self.now w → result ≡ has_body body.now (accepted (all_records w) delivery) }
+        ensures { OverWorlds self.now (λ w. result ≡ has_body body.now (accepted (all_records w) delivery)) }
     {
         match self.deliveries.body(delivery) {
             Some(known) => known.is(body),
@@ -193,7 +108,7 @@ impl Desk {
 
     // Whether the delivery that is known has other bytes.
     fn is_conflict(&self, known: Option<u64>, body: &Body) -> bool
-        ensures { (w : World) → StandsFor self.now w → result ≡ is_conflict (all_records w) known body.now }
+        ensures { OverWorlds self.now (λ w. result ≡ is_conflict (all_records w) known body.now) }
     {
         match known {
             Some(delivery) => !self.has_body(delivery, body),
@@ -205,6 +120,7 @@ impl Desk {
         ensures { Checks self.now (λ w. submit_faults w name known body.now) result }
     {
         check(&[
+            (self.halted, 1, Fault::Halted),
             (!self.endpoints.contains(name), 2, Fault::UnknownEndpoint),
             (self.is_conflict(known, body), 3, Fault::Conflict),
         ])
@@ -212,7 +128,8 @@ impl Desk {
 
     fn check_new_submit(&self, name: Name) -> Result<(), Refusal>
         ensures faults { Checks self.now (λ w. new_submit_faults w name) result }
-        ensures room { OnOk result (self.now.records < MAX_RECORDS) }
+        ensures place { OnOk result (requests_in self.now.waiting.waiting < MAX_WAITING_REQUESTS) }
+        ensures room { OnOk result (record_count self.now.waiting < MAX_RECORDS) }
     {
         check(&[
             (
@@ -225,70 +142,13 @@ impl Desk {
                 5,
                 Fault::Backlog,
             ),
-            (self.waiting.is_some(), 6, Fault::WaitingFull),
-            (self.records >= MAX_RECORDS, 7, Fault::SeqExhausted),
-        ])
-    }
-
-    fn check_put(&self, name: Name) -> Result<(), Refusal>
-        ensures faults { Checks self.now (λ w. put_faults w name) result }
-        ensures room { OnOk result (self.now.records < MAX_RECORDS) }
-        ensures unknown { OnOk result (is_known self.now.endpoints name ≡ false) }
-    {
-        check(&[
-            (self.endpoints.contains(name), 3, Fault::Exists),
+            (self.waiting.free_requests() == 0, 6, Fault::WaitingFull),
             (
-                self.endpoints.len() >= MAX_ENDPOINTS,
-                4,
-                Fault::TooManyEndpoints,
+                self.waiting.records() >= MAX_RECORDS,
+                7,
+                Fault::SeqExhausted,
             ),
-            (self.waiting.is_some(), 5, Fault::WaitingFull),
-            (self.records >= MAX_RECORDS, 6, Fault::SeqExhausted),
         ])
-    }
-
-    fn put_endpoint(
-        &mut self,
-        name: Name,
-        target: Target,
-        max: MaxLimit,
-        secrets: Secrets,
-    ) -> Result<u64, Refusal>
-        ensures moves { IsMove self.old (λ w. change w (Command.PutEndpoint name target max secrets)) result self.new }
-        ensures mark { self.new.mark ≡ self.old.mark }
-        ensures err { OnErr result (self.new ≡ self.old) }
-    {
-        self.check_put(name)?;
-        or_out_of_memory(7, self.stage_put(name, target, max, secrets))
-    }
-
-    // The steps that can fail for memory come first.
-    fn stage_put(
-        &mut self,
-        name: Name,
-        target: Target,
-        max: MaxLimit,
-        secrets: Secrets,
-    ) -> Result<u64, AllocError>
-        requires room { self.old.records < MAX_RECORDS }
-        requires unknown { is_known self.old.endpoints name ≡ false }
-        ensures seq { IfOk result (λ seq. seq ≡ self.old.records) }
-        ensures staged { OnOk result (self.new ≡ with_put self.old name target max secrets) }
-        ensures limits { OnOk result (IsTrue (is_within_limits (Put name target max secrets))) }
-        ensures err { OnErr result (self.new ≡ self.old) }
-    {
-        let seq = self.records;
-        let kept = target.share()?;
-        self.endpoints.stage_put(seq, name, kept, max, secrets)?;
-        let entry = Record::Put {
-            name,
-            target,
-            max,
-            secrets,
-        };
-        self.waiting = Some(Step::of(entry));
-        self.records = seq + 1;
-        Ok(seq)
     }
 
     // The steps that can fail for memory come first.
@@ -298,30 +158,32 @@ impl Desk {
         name: Name,
         id: MsgId,
         body: Body,
-    ) -> Result<u64, AllocError>
-        requires room { self.old.records < MAX_RECORDS }
+    ) -> Result<Ticket, AllocError>
+        requires place { requests_in self.old.waiting.waiting < MAX_WAITING_REQUESTS }
+        requires room { record_count self.old.waiting < MAX_RECORDS }
         requires unknown { known_in self.old.deliveries name id ≡ None }
-        ensures seq { IfOk result (λ seq. seq ≡ self.old.records) }
+        ensures ticket { IfOk result (λ given. given ≡ ticket (record_count self.old.waiting) name id) }
         ensures staged { OnOk result (self.new ≡ with_accept self.old name id body at) }
         ensures limits { OnOk result (IsTrue (is_within_limits (Accept name id body at))) }
         ensures err { OnErr result (self.new ≡ self.old) }
     {
-        let seq = self.records;
+        let seq = self.waiting.records();
         let kept = body.share()?;
         self.deliveries.stage_accept(seq, name, id, kept, at)?;
-        let entry = Record::Accept { name, id, body, at };
         self.clock = at;
-        self.waiting = Some(Step::of(entry));
-        self.records = seq + 1;
-        Ok(seq)
+        push_request(&mut self.waiting, Record::Accept { name, id, body, at });
+        Ok(Ticket { seq, name, id })
     }
 }
 
-// A list of this step alone, for another holder.
-fn share(alloc: Global, step: &Step) -> Result<Vec<Step>, AllocError>
-    ensures { IfOk result (λ steps. steps.items ≡ step.now ∷ []) }
+// A request waits, for which there is a place.
+pub(crate) fn push_request(waiting: &mut Waiting, entry: Record)
+    requires kind { IsTrue (is_request (entry ∷ [])) }
+    requires place { requests_in waiting.old.waiting < MAX_WAITING_REQUESTS }
+    requires room { record_count waiting.old < MAX_RECORDS }
+    ensures { waiting.new ≡ with_step waiting.old (entry ∷ []) }
 {
-    let mut steps = Vec::with_capacity(alloc, 1)?;
-    steps.push_reserved(step.share()?);
-    Ok(steps)
+    let Ok(()) = waiting.stage_request(Step::of(entry)) else {
+        unreachable!()
+    };
 }

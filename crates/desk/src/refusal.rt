@@ -7,6 +7,7 @@ use std::alloc::AllocError;
 /// The names of the refusals.
 #[derive(Clone, Copy, PartialEq, Eq, Debug)]
 pub enum Fault {
+    Halted,
     UnknownEndpoint,
     Conflict,
     Exists,
@@ -25,10 +26,6 @@ pub struct Refusal {
     pub number: u8,
     pub fault: Fault,
 }
-
-/// The receipt isn't that of the batch that is out.
-#[derive(Clone, Copy, PartialEq, Eq, Debug)]
-pub struct WrongTurn;
 
 // Refuses for the first of these faults that is there.
 pub(crate) fn check(faults: &[(bool, u8, Fault)]) -> Result<(), Refusal>

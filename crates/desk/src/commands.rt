@@ -1,0 +1,172 @@
+//! How the desk changes endpoints.
+ghost use Rattle.std.specs.Prelude.{◌≡◌, ◌<◌, ◌+◌, false, IsTrue, IfOk, OnOk, OnErr};
+ghost use Rattle.relay_types.specs.declared.limits.TheConstants.{MAX_RECORDS};
+ghost use Rattle.relay_types.specs.declared.record.Record.TheVariants as on;
+ghost use Rattle.relay_types.specs.Legal.{is_within_limits};
+ghost use Rattle.endpoint_book.specs.Entries.{is_known};
+ghost use Rattle.group_commit.specs.declared.limits.TheConstants.{MAX_WAITING_REQUESTS};
+ghost use Rattle.group_commit.specs.Steps.{requests_in};
+ghost use Rattle.group_commit.specs.Waits.{record_count};
+ghost use Rattle.desk.specs.Moves.{change, put_faults, set_faults};
+ghost use Rattle.desk.specs.Desks.{IsMove, Checks, with_put, with_secrets, with_enabled};
+
+use crate::command::Command;
+use crate::desk::{Desk, push_request};
+use crate::refusal::{Fault, Refusal, check, or_out_of_memory};
+use crate::ticket::CommandTicket;
+use relay_types::{MAX_ENDPOINTS, MAX_RECORDS, MaxLimit, Name, Record, Secrets, Target};
+use std::alloc::AllocError;
+
+impl Desk {
+    /// Changes an endpoint.
+    pub fn command(&mut self, command: Command) -> Result<CommandTicket, Refusal>
+        ensures moves { IsMove self.old (λ w. change w command) result self.new }
+        ensures mark { self.new.waiting.mark ≡ self.old.waiting.mark }
+        ensures err { OnErr result (self.new ≡ self.old) }
+    {
+        match command {
+            Command::PutEndpoint {
+                name,
+                target,
+                max,
+                secrets,
+            } => self.put_endpoint(name, target, max, secrets),
+            Command::SetSecrets { name, secrets } => self.set_secrets(name, secrets),
+            Command::SetEnabled { name, flag } => self.set_enabled(name, flag),
+        }
+    }
+
+    fn put_endpoint(
+        &mut self,
+        name: Name,
+        target: Target,
+        max: MaxLimit,
+        secrets: Secrets,
+    ) -> Result<CommandTicket, Refusal>
+        ensures moves { IsMove self.old (λ w. change w (Command.PutEndpoint name target max secrets)) result self.new }
+        ensures mark { self.new.waiting.mark ≡ self.old.waiting.mark }
+        ensures err { OnErr result (self.new ≡ self.old) }
+    {
+        self.check_put(name)?;
+        or_out_of_memory(7, self.stage_put(name, target, max, secrets))
+    }
+
+    fn set_secrets(&mut self, name: Name, secrets: Secrets) -> Result<CommandTicket, Refusal>
+        ensures moves { IsMove self.old (λ w. change w (Command.SetSecrets name secrets)) result self.new }
+        ensures mark { self.new.waiting.mark ≡ self.old.waiting.mark }
+        ensures err { OnErr result (self.new ≡ self.old) }
+    {
+        self.check_set(name)?;
+        or_out_of_memory(7, self.stage_secrets(name, secrets))
+    }
+
+    fn set_enabled(&mut self, name: Name, flag: bool) -> Result<CommandTicket, Refusal>
+        ensures moves { IsMove self.old (λ w. change w (Command.SetEnabled name flag)) result self.new }
+        ensures mark { self.new.waiting.mark ≡ self.old.waiting.mark }
+        ensures err { OnErr result (self.new ≡ self.old) }
+    {
+        self.check_set(name)?;
+        Ok(self.stage_enabled(name, flag))
+    }
+
+    fn check_put(&self, name: Name) -> Result<(), Refusal>
+        ensures faults { Checks self.now (λ w. put_faults w name) result }
+        ensures place { OnOk result (requests_in self.now.waiting.waiting < MAX_WAITING_REQUESTS) }
+        ensures room { OnOk result (record_count self.now.waiting < MAX_RECORDS) }
+        ensures unknown { OnOk result (is_known self.now.endpoints name ≡ false) }
+    {
+        check(&[
+            (self.halted, 1, Fault::Halted),
+            (self.endpoints.contains(name), 3, Fault::Exists),
+            (
+                self.endpoints.len() >= MAX_ENDPOINTS,
+                4,
+                Fault::TooManyEndpoints,
+            ),
+            (self.waiting.free_requests() == 0, 5, Fault::WaitingFull),
+            (
+                self.waiting.records() >= MAX_RECORDS,
+                6,
+                Fault::SeqExhausted,
+            ),
+        ])
+    }
+
+    fn check_set(&self, name: Name) -> Result<(), Refusal>
+        ensures faults { Checks self.now (λ w. set_faults w name) result }
+        ensures place { OnOk result (requests_in self.now.waiting.waiting < MAX_WAITING_REQUESTS) }
+        ensures room { OnOk result (record_count self.now.waiting < MAX_RECORDS) }
+        ensures known { OnOk result (IsTrue (is_known self.now.endpoints name)) }
+    {
+        check(&[
+            (self.halted, 1, Fault::Halted),
+            (!self.endpoints.contains(name), 2, Fault::UnknownEndpoint),
+            (self.waiting.free_requests() == 0, 5, Fault::WaitingFull),
+            (
+                self.waiting.records() >= MAX_RECORDS,
+                6,
+                Fault::SeqExhausted,
+            ),
+        ])
+    }
+
+    // The steps that can fail for memory come first.
+    fn stage_put(
+        &mut self,
+        name: Name,
+        target: Target,
+        max: MaxLimit,
+        secrets: Secrets,
+    ) -> Result<CommandTicket, AllocError>
+        requires place { requests_in self.old.waiting.waiting < MAX_WAITING_REQUESTS }
+        requires room { record_count self.old.waiting < MAX_RECORDS }
+        requires unknown { is_known self.old.endpoints name ≡ false }
+        ensures ticket { IfOk result (λ ticket. ticket.seq ≡ record_count self.old.waiting) }
+        ensures staged { OnOk result (self.new ≡ with_put self.old name target max secrets) }
+        ensures limits { OnOk result (IsTrue (is_within_limits (on.Put name target max secrets))) }
+        ensures err { OnErr result (self.new ≡ self.old) }
+    {
+        let seq = self.waiting.records();
+        let kept = target.share()?;
+        self.endpoints.stage_put(seq, name, kept, max, secrets)?;
+        push_request(
+            &mut self.waiting,
+            Record::Put {
+                name,
+                target,
+                max,
+                secrets,
+            },
+        );
+        Ok(CommandTicket { seq })
+    }
+
+    fn stage_secrets(&mut self, name: Name, secrets: Secrets) -> Result<CommandTicket, AllocError>
+        requires place { requests_in self.old.waiting.waiting < MAX_WAITING_REQUESTS }
+        requires room { record_count self.old.waiting < MAX_RECORDS }
+        requires known { IsTrue (is_known self.old.endpoints name) }
+        ensures ticket { IfOk result (λ ticket. ticket.seq ≡ record_count self.old.waiting) }
+        ensures staged { OnOk result (self.new ≡ with_secrets self.old name secrets) }
+        ensures limits { OnOk result (IsTrue (is_within_limits (on.Secrets name secrets))) }
+        ensures err { OnErr result (self.new ≡ self.old) }
+    {
+        let seq = self.waiting.records();
+        self.endpoints.stage_secrets(seq, name, secrets)?;
+        push_request(&mut self.waiting, Record::Secrets { name, secrets });
+        Ok(CommandTicket { seq })
+    }
+
+    fn stage_enabled(&mut self, name: Name, flag: bool) -> CommandTicket
+        requires place { requests_in self.old.waiting.waiting < MAX_WAITING_REQUESTS }
+        requires room { record_count self.old.waiting < MAX_RECORDS }
+        requires known { IsTrue (is_known self.old.endpoints name) }
+        ensures ticket { result.seq ≡ record_count self.old.waiting }
+        ensures staged { self.new ≡ with_enabled self.old name flag }
+        ensures limits { IsTrue (is_within_limits (on.Enabled name flag)) }
+    {
+        let seq = self.waiting.records();
+        self.endpoints.stage_enabled(seq, name, flag);
+        push_request(&mut self.waiting, Record::Enabled { name, flag });
+        CommandTicket { seq }
+    }
+}

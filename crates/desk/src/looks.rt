@@ -1,0 +1,128 @@
+//! What the desk tells.
+ghost use Rattle.std.specs.Prelude.{◌≡◌, length, option_map, option_copied};
+ghost use Rattle.desk.specs.World.{all_records, settled_records};
+ghost use Rattle.desk.specs.Looks.{is_row_of, has_event, told, told_command, settled_body, event_page, endpoint_page, shown, totals};
+ghost use Rattle.desk.specs.Desks.{OverWorlds};
+
+use crate::desk::Desk;
+use crate::pages::{EndpointPage, Totals};
+use crate::ticket::{CommandTicket, Ticket, Told};
+use delivery_book::Row;
+use relay_types::{Body, MsgId, Name};
+
+impl Desk {
+    /// What is known of a submission.
+    pub fn told(&self, ticket: &Ticket) -> Told
+        ensures { OverWorlds self.now (λ w. result ≡ told w ticket.now) }
+    {
+        if self.has_settled(ticket) {
+            Told::Settled
+        } else if !self.halted && is_of(self.deliveries.row(ticket.seq), ticket) {
+            Told::Waiting
+        } else {
+            Told::Unknown
+        }
+    }
+
+    /// What is known of a command.
+    pub fn told_command(&self, ticket: &CommandTicket) -> Told
+        ensures { OverWorlds self.now (λ w. result ≡ told_command w ticket.now) }
+    {
+        if ticket.seq < self.settled_records() {
+            Told::Settled
+        } else if !self.halted && ticket.seq < self.records() {
+            Told::Waiting
+        } else {
+            Told::Unknown
+        }
+    }
+
+    /// The body of a submission that is settled.
+    pub fn settled_body(&self, ticket: &Ticket) -> Option<&Body>
+        ensures { OverWorlds self.now (λ w. option_copied result ≡ settled_body w ticket.now) }
+    {
+        if self.has_settled(ticket) {
+            self.deliveries.body(ticket.seq)
+        } else {
+            None
+        }
+    }
+
+    /// What the settled records say of an event.
+    pub fn event_page(&self, name: Name, id: &MsgId) -> Option<Row>
+        ensures { OverWorlds self.now (λ w. result ≡ event_page (settled_records w) name id.now) }
+    {
+        let delivery = self.deliveries.find(name, id)?;
+        self.deliveries.settled(delivery)
+    }
+
+    /// What the settled records say of an endpoint.
+    pub fn endpoint_page(&self, name: Name) -> Option<EndpointPage<'_>>
+        ensures { OverWorlds self.now (λ w. option_map shown result ≡ endpoint_page (settled_records w) name) }
+    {
+        let view = self.endpoints.settled(name)?;
+        let counts = self.deliveries.settled_counts(name);
+        Some(EndpointPage {
+            delivered: counts.delivered,
+            enabled: view.enabled,
+            exhausted: counts.exhausted,
+            max: view.max,
+            name: view.name,
+            pending: counts.pending,
+            secrets: view.secrets,
+            url: view.target,
+        })
+    }
+
+    /// What the settled records say of all endpoints and events.
+    pub fn totals(&self) -> Totals
+        ensures { OverWorlds self.now (λ w. result ≡ totals (settled_records w)) }
+    {
+        let counts = self.deliveries.settled_counts_all();
+        Totals {
+            delivered: counts.delivered,
+            endpoints: self.endpoints.settled_len(),
+            exhausted: counts.exhausted,
+            pending: counts.pending,
+            records: self.settled_records(),
+        }
+    }
+
+    /// How many records there are.
+    pub fn records(&self) -> u64
+        ensures { OverWorlds self.now (λ w. result ≡ length (all_records w)) }
+    {
+        self.waiting.records()
+    }
+
+    /// How many records are settled.
+    pub fn settled_records(&self) -> u64
+        ensures { OverWorlds self.now (λ w. result ≡ length (settled_records w)) }
+    {
+        self.waiting.settled_records()
+    }
+
+    /// Whether nothing is taken or sealed any more.
+    pub fn is_halted(&self) -> bool
+        ensures { result ≡ self.now.halted }
+    {
+        self.halted
+    }
+
+    // Whether the ticket's event is settled.
+    fn has_settled(&self, ticket: &Ticket) -> bool
+        ensures { OverWorlds self.now (λ w. result ≡ has_event (settled_records w) ticket.now) }
+    {
+        is_of(self.deliveries.settled(ticket.seq), ticket)
+    }
+}
+
+// Whether the delivery is that of the ticket.
+fn is_of(row: Option<Row>, ticket: &Ticket) -> bool
+    ensures { result ≡ is_row_of ticket.now row }
+{
+    match row {
+        Some(row) => row.endpoint.is(ticket.name) && row.id.is(ticket.id),
+        None => false,
+    }
+}

@@ -1,0 +1,77 @@
+//! How the desk hands out what waits, and takes back what became of it.
+ghost use Rattle.std.specs.Prelude.{◌≡◌, length, ◌↔◌, IsTrue, IfOk, IfErr, IfSome, IsOk, OnErr};
+ghost use Rattle.spool.specs.Batches.{doubt_of};
+ghost use Rattle.group_commit.specs.Waits.{batch_of, sealed_count};
+ghost use Rattle.group_commit.specs.Turns as waiting;
+ghost use Rattle.desk.specs.World.{sealed_records};
+ghost use Rattle.desk.specs.Moves.{seal, with_sealed_settled, with_batch_back, with_halt};
+ghost use Rattle.desk.specs.Desks.{IsMove, Turns, IsReceiptOf, ArePlacesOf, IsHeldOf, OverWorlds};
+
+use crate::desk::Desk;
+use crate::refusal::{Fault, Refusal, check};
+use group_commit::{Held, SealFault, Settled, WrongTurn};
+use spool::{Batch, Receipt};
+
+impl Desk {
+    /// Puts the first steps that wait into a batch, 256 at most: `None` where nothing waits.
+    pub fn seal(&mut self) -> Result<Option<Batch>, Refusal>
+        ensures moves { IsMove self.old (seal self.old.waiting.mark) result self.new }
+        ensures batch { IfOk result (λ sealed. IfSome sealed (λ batch.
+            batch ≡ batch_of self.old.waiting (sealed_count self.old.waiting))) }
+        ensures mark { self.new.waiting.mark ≡ self.old.waiting.mark }
+        ensures err { OnErr result (self.new ≡ self.old) }
+    {
+        check(&[(self.halted, 1, Fault::Halted)])?;
+        match self.waiting.seal() {
+            Ok(sealed) => Ok(sealed),
+            Err(SealFault::BatchOut) => Err(Refusal {
+                number: 2,
+                fault: Fault::BatchOut,
+            }),
+            Err(SealFault::OutOfMemory) => Err(Refusal {
+                number: 3,
+                fault: Fault::OutOfMemory,
+            }),
+        }
+    }
+
+    /// Settles the batch that is out, by its receipt: how many records are settled. It takes no memory.
+    pub fn settle(&mut self, receipt: Receipt) -> Result<Settled, (Receipt, WrongTurn)>
+        ensures moves { Turns self.old (λ w. IsReceiptOf self.old.waiting.mark w receipt) with_sealed_settled result self.new }
+        ensures records { IfOk result (λ settled. OverWorlds self.old (λ w. settled.records ≡ length (sealed_records w))) }
+        ensures turn { IsOk result ↔ waiting.IsReceiptOf self.old.waiting receipt }
+        ensures back { IfErr result (λ back. back.0 ≡ receipt) }
+        ensures mark { self.new.waiting.mark ≡ self.old.waiting.mark }
+        ensures err { OnErr result (self.new ≡ self.old) }
+    {
+        let settled = self.waiting.settle(receipt)?;
+        self.endpoints.settle_to(settled.records);
+        self.deliveries.settle_to(settled.records);
+        Ok(settled)
+    }
+
+    /// Takes the batch that is out back: its steps wait as before. It takes no memory.
+    pub fn unseal(&mut self, batch: Batch) -> Result<(), (Batch, WrongTurn)>
+        ensures moves { Turns self.old (λ w. ArePlacesOf self.old.waiting.mark w (doubt_of batch)) with_batch_back result self.new }
+        ensures turn { IsOk result ↔ waiting.ArePlacesOf self.old.waiting (doubt_of batch) }
+        ensures back { IfErr result (λ back. back.0 ≡ batch) }
+        ensures mark { self.new.waiting.mark ≡ self.old.waiting.mark }
+        ensures err { OnErr result (self.new ≡ self.old) }
+    {
+        self.waiting.unseal(batch)
+    }
+
+    /// Takes what is out from a committer that gives up. From then on nothing is taken or sealed, and nothing that waits
+    /// will be settled. It takes no memory.
+    pub fn halt(&mut self, held: Held) -> Result<(), (Held, WrongTurn)>
+        ensures moves { Turns self.old (λ w. IsHeldOf self.old.waiting.mark w held) with_halt result self.new }
+        ensures turn { IsOk result ↔ waiting.IsHeldOf self.old.waiting held }
+        ensures back { IfErr result (λ back. back.0 ≡ held) }
+        ensures mark { self.new.waiting.mark ≡ self.old.waiting.mark }
+        ensures err { OnErr result (self.new ≡ self.old) }
+    {
+        self.waiting.abandon(held)?;
+        self.halted = true;
+        Ok(())
+    }
+}
