@@ -1,2 +1,3 @@
 mod DeskLists
 mod DeskEvents
+mod MoveLaws
