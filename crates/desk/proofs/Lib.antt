@@ -1,3 +1,4 @@
 mod DeskLists
 mod DeskEvents
 mod MoveLaws
+mod LookLaws

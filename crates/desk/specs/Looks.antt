@@ -1,8 +1,8 @@
 -- What the desk tells of a ticket, and of the settled records.
-use Rattle.std.specs.Prelude.{ℕ, Bool, true, false, ◌&&◌, not, nat_lt, List, length, Option, Some, None, option_map, option_and_then, bytes_eq, if◌then◌else◌}
+use Rattle.std.specs.Prelude.{Bool, false, ◌&&◌, not, nat_lt, List, length, Option, None, option_map, option_and_then, bytes_eq, if◌then◌else◌}
 use Rattle.std.specs.Option.{option_map_or}
 use Rattle.relay_types.specs.declared.record.Record.{Record}
-use Rattle.relay_types.specs.Values.{Text, Seq}
+use Rattle.relay_types.specs.Values.{Text}
 use Rattle.relay_types.specs.Records.{Accepted}
 use Rattle.relay_types.specs.Deliveries.{accepted, known_as}
 use Rattle.relay_types.specs.Endpoints.{endpoints}

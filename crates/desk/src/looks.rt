@@ -60,18 +60,20 @@ impl Desk {
     pub fn endpoint_page(&self, name: Name) -> Option<EndpointPage<'_>>
         ensures { OverWorlds self.now (λ w. option_map shown result ≡ endpoint_page (settled_records w) name) }
     {
-        let view = self.endpoints.settled(name)?;
         let counts = self.deliveries.settled_counts(name);
-        Some(EndpointPage {
-            delivered: counts.delivered,
-            enabled: view.enabled,
-            exhausted: counts.exhausted,
-            max: view.max,
-            name: view.name,
-            pending: counts.pending,
-            secrets: view.secrets,
-            url: view.target,
-        })
+        match self.endpoints.settled(name) {
+            Some(view) => Some(EndpointPage {
+                delivered: counts.delivered,
+                enabled: view.enabled,
+                exhausted: counts.exhausted,
+                max: view.max,
+                name: view.name,
+                pending: counts.pending,
+                secrets: view.secrets,
+                url: view.target,
+            }),
+            None => None,
+        }
     }
 
     /// What the settled records say of all endpoints and events.

@@ -1,0 +1,14 @@
+use Rattle.std.proofs.Common.{◌∙◌, ap, length}
+use Rattle.delivery_book.specs.Book.{row_of}
+use Rattle.desk.specs.World.{all_records, settled_records}
+use Rattle.desk.specs.Looks.{is_row_of}
+use Rattle.desk.proofs.LookLaws.{stands_as, settled_front, row_is_event}
+use Rattle.desk.proofs.desk.Desk.has_settled.Goals as goal
+
+pub returns : goal.returns
+returns c = λ w h.
+    let ticket = c.args.ticket.now in
+    c.is_of.ensures
+    ∙ ap (is_row_of ticket) (c.settled.ensures (all_records w) (length (settled_records w)) (stands_as c.self.view_is h).books.of_deliveries)
+    ∙ ap (λ records. is_row_of ticket (row_of records ticket.seq)) (settled_front w)
+    ∙ row_is_event (settled_records w) ticket
