@@ -1,5 +1,5 @@
 -- No space stands in a word of a call, so the words of a line tell its call.
-use Rattle.std.proofs.Common.{◌≡◌, ◌≢◌, ℕ, ◌^◌, List, [], ◌∷◌, decimal, IsTrue, refl, sym, subst, lit<}
+use Rattle.std.proofs.Common.{◌≡◌, ◌≢◌, ℕ, ◌^◌, true, false, List, [], ◌∷◌, decimal, IsTrue, refl, sym, subst, lit<}
 use Rattle.std.specs.Prelude.{◌&&◌, nat_le}
 use Rattle.std.specs.List.{list_all}
 use Rattle.std.proofs.lemmas.Bool.{and_parts}
@@ -10,13 +10,22 @@ use Rattle.text_lines.proofs.PartLaws.{parts_equal}
 use Rattle.text_lines.proofs.TargetWords.{clean-target}
 use Rattle.script_lines.specs.declared.event.Event.{Event}
 use Rattle.script_lines.specs.declared.event.Event.TheVariants as on
-use Rattle.script_lines.specs.Script.{call_word, AreArguments, IsCall, ReadsLine}
+use Rattle.script_lines.specs.Script.{IsNamed, call_word, AreArguments, IsCall, ReadsLine}
 
 four_clean : (a b c d : List ℕ) → IsTrue (has_no 32 a) → IsTrue (has_no 32 b) → IsTrue (has_no 32 c) → IsTrue (has_no 32 d) → IsTrue (list_all (has_no 32) (a ∷ b ∷ c ∷ d ∷ []))
 four_clean a b c d ha hb hc hd = rw (ha, hb, hc, hd) refl
 
 two_clean : (a b : List ℕ) → IsTrue (has_no 32 a) → IsTrue (has_no 32 b) → IsTrue (list_all (has_no 32) (a ∷ b ∷ []))
 two_clean a b ha hb = rw (ha, hb) refl
+
+one_clean : (a : List ℕ) → IsTrue (has_no 32 a) → IsTrue (list_all (has_no 32) (a ∷ []))
+one_clean a ha = rw ha refl
+
+none_clean : (words : List (List ℕ)) → words ≡ [] → IsTrue (list_all (has_no 32) words)
+none_clean words e = subst (λ xs. IsTrue (list_all (has_no 32) xs)) (sym e) refl
+
+name_alone : (words : List (List ℕ)) (name : List ℕ) → IsNamed words name → IsTrue (list_all (has_no 32) words)
+name_alone words name (e, valid) = subst (λ xs. IsTrue (list_all (has_no 32) xs)) (sym e) (one_clean name (clean-name name valid))
 
 clean-arguments : (words : List (List ℕ)) (event : Event) → AreArguments words event → IsTrue (list_all (has_no 32) words)
 clean-arguments words (on.Put name target max secrets) (word, reads, e, valid) =
@@ -25,26 +34,30 @@ clean-arguments words (on.Put name target max secrets) (word, reads, e, valid) =
     let most = (and_parts (nat_le 1 max) (nat_le max 1000) two.1).1 in
     subst (λ xs. IsTrue (list_all (has_no 32) xs)) (sym e)
     (four_clean name target (decimal max) word (clean-name name one.0) (clean-target target two.0) (clean-decimal max (at_most max 1000 most (lit< tt))) (clean-secrets_word word secrets reads))
+clean-arguments words (on.Secrets name secrets) (word, reads, e, valid) =
+    subst (λ xs. IsTrue (list_all (has_no 32) xs)) (sym e) (two_clean name word (clean-name name valid) (clean-secrets_word word secrets reads))
+clean-arguments words (on.Enabled name flag) named = name_alone words name named
 clean-arguments words (on.Submit now name id body) (word, reads, e, valid) =
     let one = and_parts (is_moment now) (is_name name && (is_msg_id id && is_body body)) valid in
     let two = and_parts (is_name name) (is_msg_id id && is_body body) one.1 in
     let three = and_parts (is_msg_id id) (is_body body) two.1 in
     subst (λ xs. IsTrue (list_all (has_no 32) xs)) (sym e)
     (four_clean (decimal now) name id word (clean-decimal now (at_most now (2 ^ 40) one.0 (lit< tt))) (clean-name name two.0) (clean-id id three.0) (clean-body word body reads))
-clean-arguments words on.Seal e = subst (λ xs. IsTrue (list_all (has_no 32) xs)) (sym e) refl
-clean-arguments words on.Commit e = subst (λ xs. IsTrue (list_all (has_no 32) xs)) (sym e) refl
-clean-arguments words on.Settle e = subst (λ xs. IsTrue (list_all (has_no 32) xs)) (sym e) refl
+clean-arguments words (on.Told seq) (e, small) = subst (λ xs. IsTrue (list_all (has_no 32) xs)) (sym e) (one_clean (decimal seq) (clean-decimal seq small))
+clean-arguments words on.Seal e = none_clean words e
+clean-arguments words on.Commit e = none_clean words e
+clean-arguments words on.Settle e = none_clean words e
+clean-arguments words on.Unseal e = none_clean words e
+clean-arguments words on.Halt e = none_clean words e
+clean-arguments words (on.ShowEndpoint name) named = name_alone words name named
 clean-arguments words (on.Show name id) (e, valid) =
     let both = and_parts (is_name name) (is_msg_id id) valid in
     subst (λ xs. IsTrue (list_all (has_no 32) xs)) (sym e) (two_clean name id (clean-name name both.0) (clean-id id both.1))
 
 clean-word : (event : Event) → IsTrue (has_no 32 (call_word event))
-clean-word (on.Put name target max secrets) = refl
-clean-word (on.Submit now name id body) = refl
-clean-word on.Seal = refl
-clean-word on.Commit = refl
-clean-word on.Settle = refl
-clean-word (on.Show name id) = refl
+clean-word (on.Enabled name true) = refl
+clean-word (on.Enabled name false) = refl
+clean-word event = refl
 
 some_word : (words rest : List (List ℕ)) (word : List ℕ) → words ≡ word ∷ rest → words ≢ []
 some_word words rest word e none = cc

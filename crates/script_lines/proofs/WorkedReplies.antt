@@ -1,8 +1,9 @@
 -- Worked rows of the replies' texts.
-use Rattle.std.proofs.Common.{◌≡◌, Some, None, codes, refl}
+use Rattle.std.proofs.Common.{◌≡◌, Some, None, true, codes, refl}
 use Rattle.std.specs.Fmt.{digits}
 use Rattle.relay_types.specs.declared.state.State.TheVariants.{Pending, Delivered}
 use Rattle.script_lines.specs.declared.reply.Fault.TheVariants as fault
+use Rattle.script_lines.specs.declared.reply.Told.TheVariants.{Settled}
 use Rattle.script_lines.specs.declared.reply.Reply.TheVariants as says
 use Rattle.script_lines.specs.Replies.{reply_text}
 
@@ -21,3 +22,14 @@ pending_row = refl
 delivered_row : reply_text (says.Event Delivered None 2) ≡ codes "delivered attempts 2"
 unfolding digits
 delivered_row = refl
+
+told_row : reply_text (says.ToldAs Settled) ≡ codes "settled"
+told_row = refl
+
+unsealed_row : reply_text (says.Unsealed 0 1) ≡ codes "unsealed 0..1"
+unfolding digits
+unsealed_row = refl
+
+endpoint_row : reply_text (says.Endpoint true 1 0 12) ≡ codes "enabled pending 1 delivered 0 exhausted 12"
+unfolding digits
+endpoint_row = refl

@@ -1,11 +1,21 @@
 -- Worked rows of a script's lines.
-use Rattle.std.proofs.Common.{[], ◌∷◌, codes, refl}
+use Rattle.std.proofs.Common.{[], ◌∷◌, false, codes, refl, lit<}
 use Rattle.std.specs.Fmt.{digits}
 use Rattle.script_lines.specs.declared.event.Event.TheVariants as on
 use Rattle.script_lines.specs.Script.{ReadsLine}
 
 show_row : ReadsLine (codes "show a msg_1") (on.Show (codes "a") (codes "msg_1"))
 show_row = (codes "show" ∷ codes "a" ∷ codes "msg_1" ∷ [], refl, (codes "a" ∷ codes "msg_1" ∷ [], refl, (refl, refl)))
+
+endpoint_row : ReadsLine (codes "show a") (on.ShowEndpoint (codes "a"))
+endpoint_row = (codes "show" ∷ codes "a" ∷ [], refl, (codes "a" ∷ [], refl, (refl, refl)))
+
+disable_row : ReadsLine (codes "disable a") (on.Enabled (codes "a") false)
+disable_row = (codes "disable" ∷ codes "a" ∷ [], refl, (codes "a" ∷ [], refl, (refl, refl)))
+
+told_row : ReadsLine (codes "told 12") (on.Told 12)
+unfolding digits
+told_row = (codes "told" ∷ codes "12" ∷ [], refl, (codes "12" ∷ [], refl, (refl, lit< tt)))
 
 submit_row : ReadsLine (codes "submit 1000 a msg_1 7B7d") (on.Submit 1000 (codes "a") (codes "msg_1") (123 ∷ 125 ∷ []))
 unfolding digits

@@ -1,14 +1,17 @@
 -- The reply lines of a script, without their line feed.
-use Rattle.std.specs.Prelude.{ℕ, List, [], ◌∷◌, ◌++◌, Option, Some, None, codes, decimal}
+use Rattle.std.specs.Prelude.{ℕ, Bool, List, [], ◌∷◌, ◌++◌, Option, Some, None, codes, decimal, if◌then◌else◌}
 use Rattle.std.specs.List.{join_with_byte}
 use Rattle.relay_types.specs.declared.state.State.{State}
 use Rattle.relay_types.specs.declared.state.State.TheVariants.{Pending, Delivered, Exhausted}
 use Rattle.script_lines.specs.declared.reply.Fault.{Fault}
 use Rattle.script_lines.specs.declared.reply.Fault.TheVariants as fault
+use Rattle.script_lines.specs.declared.reply.Told.{Told}
+use Rattle.script_lines.specs.declared.reply.Told.TheVariants.{Settled, Waiting, Unknown}
 use Rattle.script_lines.specs.declared.reply.Reply.{Reply}
 use Rattle.script_lines.specs.declared.reply.Reply.TheVariants as says
 
 abbrev pub fault_text : Fault → List ℕ
+fault_text fault.Halted = codes "Halted"
 fault_text fault.UnknownEndpoint = codes "UnknownEndpoint"
 fault_text fault.Conflict = codes "Conflict"
 fault_text fault.Exists = codes "Exists"
@@ -30,6 +33,14 @@ state_text Pending = codes "pending"
 state_text Delivered = codes "delivered"
 state_text Exhausted = codes "exhausted"
 
+abbrev pub told_text : Told → List ℕ
+told_text Settled = codes "settled"
+told_text Waiting = codes "waiting"
+told_text Unknown = codes "unknown"
+
+abbrev pub flag_text : (enabled : Bool) → List ℕ
+flag_text enabled = if enabled then codes "enabled" else codes "disabled"
+
 abbrev pub range_text : ℕ → ℕ → List ℕ
 range_text from to = decimal from ++ codes ".." ++ decimal to
 
@@ -37,17 +48,27 @@ abbrev pub event_words : State → Option ℕ → ℕ → List (List ℕ)
 event_words state None attempts = state_text state ∷ codes "attempts" ∷ decimal attempts ∷ []
 event_words state (Some due) attempts = state_text state ∷ codes "due" ∷ decimal due ∷ codes "attempts" ∷ decimal attempts ∷ []
 
+abbrev pub endpoint_words : (enabled : Bool) (pending delivered exhausted : ℕ) → List (List ℕ)
+endpoint_words enabled pending delivered exhausted =
+    flag_text enabled
+    ∷ codes "pending" ∷ decimal pending ∷ codes "delivered" ∷ decimal delivered ∷ codes "exhausted" ∷ decimal exhausted ∷ []
+
 -- The words of a reply.
 abbrev pub reply_words : Reply → List (List ℕ)
 reply_words (says.Staged seq) = codes "staged" ∷ decimal seq ∷ []
+reply_words (says.ToldAs told) = told_text told ∷ []
 reply_words says.NothingWaits = codes "nothing" ∷ []
 reply_words (says.Sealed from to) = codes "sealed" ∷ range_text from to ∷ []
 reply_words (says.Committed to) = codes "committed" ∷ decimal to ∷ []
 reply_words (says.SettledTo to) = codes "settled" ∷ decimal to ∷ []
+reply_words (says.Unsealed from to) = codes "unsealed" ∷ range_text from to ∷ []
+reply_words says.Halted = codes "halted" ∷ []
+reply_words (says.Endpoint enabled pending delivered exhausted) = endpoint_words enabled pending delivered exhausted
 reply_words (says.Event state due attempts) = event_words state due attempts
 reply_words says.Absent = codes "absent" ∷ []
 reply_words says.NoBatch = codes "no-batch" ∷ []
 reply_words says.NoReceipt = codes "no-receipt" ∷ []
+reply_words says.NoTicket = codes "no-ticket" ∷ []
 reply_words (says.Refused number fault) = codes "refused" ∷ decimal number ∷ fault_text fault ∷ []
 
 -- its text: the words, with one space between

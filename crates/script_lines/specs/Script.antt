@@ -1,7 +1,7 @@
 -- The lines of a script: which text stands for which call. A text that stands for none is a bad line. The grammar is told by
 -- printing: a line has these words, and one space between.
-use Rattle.std.specs.Prelude.{◌≡◌, ℕ, ◌&&◌, List, [], ◌∷◌, IsTrue, codes, decimal}
-use Rattle.relay_types.specs.Values.{Text, Seconds, is_name, is_msg_id, is_target, is_max_limit, is_body, is_moment}
+use Rattle.std.specs.Prelude.{◌≡◌, ℕ, ◌<◌, ◌^◌, true, false, ◌&&◌, List, [], ◌∷◌, IsTrue, codes, decimal}
+use Rattle.relay_types.specs.Values.{Text, Seq, Seconds, is_name, is_msg_id, is_target, is_max_limit, is_body, is_moment}
 use Rattle.text_lines.specs.Parts.{line}
 use Rattle.text_lines.specs.Words.{IsSecretsWord, IsBodyWord}
 use Rattle.script_lines.specs.declared.event.Event.{Event}
@@ -11,6 +11,16 @@ use Rattle.script_lines.specs.declared.event.Event.TheVariants as on
 abbrev pub IsPut : (words : List Text) (name target : Text) (max : ℕ) (secrets : List Text) → Type 0
 IsPut words name target max secrets = (word : List ℕ) × IsSecretsWord word secrets × (words ≡ name ∷ target ∷ decimal max ∷ word ∷ [])
     × IsTrue (is_name name && (is_target target && is_max_limit max))
+
+abbrev pub IsSecrets : (words : List Text) (name : Text) (secrets : List Text) → Type 0
+IsSecrets words name secrets = (word : List ℕ) × IsSecretsWord word secrets × (words ≡ name ∷ word ∷ []) × IsTrue (is_name name)
+
+-- of a call that names an endpoint, and nothing else
+abbrev pub IsNamed : (words : List Text) (name : Text) → Type 0
+IsNamed words name = (words ≡ name ∷ []) × IsTrue (is_name name)
+
+abbrev pub IsTold : (words : List Text) (seq : Seq) → Type 0
+IsTold words seq = (words ≡ decimal seq ∷ []) × (seq < 2 ^ 64)
 
 abbrev pub IsSubmit : (words : List Text) (now : Seconds) (name id body : Text) → Type 0
 IsSubmit words now name id body = (word : List ℕ) × IsBodyWord word body × (words ≡ decimal now ∷ name ∷ id ∷ word ∷ [])
@@ -23,40 +33,64 @@ IsShow words name id = (words ≡ name ∷ id ∷ []) × IsTrue (is_name name &&
 abbrev pub AreOfNoPut : List (List ℕ) → Type 0
 AreOfNoPut words = (name target : List ℕ) (max : ℕ) (secrets : List (List ℕ)) → ¬ IsPut words name target max secrets
 
+abbrev pub AreOfNoSecrets : List (List ℕ) → Type 0
+AreOfNoSecrets words = (name : List ℕ) (secrets : List (List ℕ)) → ¬ IsSecrets words name secrets
+
 abbrev pub AreOfNoSubmit : List (List ℕ) → Type 0
 AreOfNoSubmit words = (now : ℕ) (name id body : List ℕ) → ¬ IsSubmit words now name id body
 
-abbrev pub AreOfNoShow : List (List ℕ) → Type 0
-AreOfNoShow words = (name id : List ℕ) → ¬ IsShow words name id
+abbrev pub AreOfNoName : List (List ℕ) → Type 0
+AreOfNoName words = (name : List ℕ) → ¬ IsNamed words name
+
+abbrev pub AreOfNoEvent : List (List ℕ) → Type 0
+AreOfNoEvent words = (name id : List ℕ) → ¬ IsShow words name id
 
 -- the words behind the first one of these calls
 abbrev pub AreOfPut : List (List ℕ) → Event → Type 0
 AreOfPut words (on.Put name target max secrets) = IsPut words name target max secrets
 AreOfPut words event = ⊥
 
+abbrev pub AreOfSecrets : List (List ℕ) → Event → Type 0
+AreOfSecrets words (on.Secrets name secrets) = IsSecrets words name secrets
+AreOfSecrets words event = ⊥
+
 abbrev pub AreOfSubmit : List (List ℕ) → Event → Type 0
 AreOfSubmit words (on.Submit now name id body) = IsSubmit words now name id body
 AreOfSubmit words event = ⊥
 
 abbrev pub AreOfShow : List (List ℕ) → Event → Type 0
+AreOfShow words (on.ShowEndpoint name) = IsNamed words name
 AreOfShow words (on.Show name id) = IsShow words name id
 AreOfShow words event = ⊥
 
 -- the first word of a call, and what is told by the words behind it
 abbrev pub call_word : Event → List ℕ
 call_word (on.Put name target max secrets) = codes "put"
+call_word (on.Secrets name secrets) = codes "secrets"
+call_word (on.Enabled name true) = codes "enable"
+call_word (on.Enabled name false) = codes "disable"
 call_word (on.Submit now name id body) = codes "submit"
+call_word (on.Told seq) = codes "told"
 call_word on.Seal = codes "seal"
 call_word on.Commit = codes "commit"
 call_word on.Settle = codes "settle"
+call_word on.Unseal = codes "unseal"
+call_word on.Halt = codes "halt"
+call_word (on.ShowEndpoint name) = codes "show"
 call_word (on.Show name id) = codes "show"
 
 abbrev pub AreArguments : List (List ℕ) → Event → Type 0
 AreArguments words (on.Put name target max secrets) = IsPut words name target max secrets
+AreArguments words (on.Secrets name secrets) = IsSecrets words name secrets
+AreArguments words (on.Enabled name flag) = IsNamed words name
 AreArguments words (on.Submit now name id body) = IsSubmit words now name id body
+AreArguments words (on.Told seq) = IsTold words seq
 AreArguments words on.Seal = words ≡ []
 AreArguments words on.Commit = words ≡ []
 AreArguments words on.Settle = words ≡ []
+AreArguments words on.Unseal = words ≡ []
+AreArguments words on.Halt = words ≡ []
+AreArguments words (on.ShowEndpoint name) = IsNamed words name
 AreArguments words (on.Show name id) = IsShow words name id
 
 -- the words of a call

@@ -6,5 +6,5 @@ mod reply;
 mod script;
 
 pub use crate::event::Event;
-pub use crate::reply::{Fault, Reply};
+pub use crate::reply::{Fault, Reply, Told};
 pub use crate::script::{one_call_at_most, read_event};

@@ -1,6 +1,6 @@
 //! What a call answers, and how a script prints it.
 ghost use Rattle.std.specs.Prelude.{◌≡◌, Some};
-ghost use Rattle.script_lines.specs.Replies.{fault_text, state_text, reply_text};
+ghost use Rattle.script_lines.specs.Replies.{fault_text, state_text, told_text, flag_text, reply_text};
 
 use relay_types::State;
 use std::fmt;
@@ -8,6 +8,7 @@ use std::fmt;
 /// The name of a refusal.
 #[derive(Clone, Copy, PartialEq, Eq)]
 pub enum Fault {
+    Halted,
     UnknownEndpoint,
     Conflict,
     Exists,
@@ -25,12 +26,21 @@ pub enum Fault {
     OutOfMemory,
 }
 
+/// What is known of a ticket.
+#[derive(Clone, Copy, PartialEq, Eq)]
+pub enum Told {
+    Settled,
+    Waiting,
+    Unknown,
+}
+
 /// What a call answered.
 #[derive(Clone, Copy, PartialEq, Eq)]
 pub enum Reply {
     Staged {
         seq: u64,
     },
+    ToldAs(Told),
     NothingWaits,
     Sealed {
         from: u64,
@@ -42,6 +52,17 @@ pub enum Reply {
     SettledTo {
         to: u64,
     },
+    Unsealed {
+        from: u64,
+        to: u64,
+    },
+    Halted,
+    Endpoint {
+        enabled: bool,
+        pending: u64,
+        delivered: u64,
+        exhausted: u64,
+    },
     Event {
         state: State,
         due: Option<u64>,
@@ -50,6 +71,7 @@ pub enum Reply {
     Absent,
     NoBatch,
     NoReceipt,
+    NoTicket,
     Refused {
         number: u8,
         fault: Fault,
@@ -68,6 +90,7 @@ fn fault_word(fault: Fault) -> &'static str
     ensures { result.now ≡ fault_text fault }
 {
     match fault {
+        Fault::Halted => "Halted",
         Fault::UnknownEndpoint => "UnknownEndpoint",
         Fault::Conflict => "Conflict",
         Fault::Exists => "Exists",
@@ -92,10 +115,25 @@ impl fmt::Display for Reply {
     fn fmt<W: fmt::Write>(&self, f: &mut fmt::Formatter<W>) -> fmt::Result {
         match self {
             Reply::Staged { seq } => write!(f, "staged {seq}"),
+            Reply::ToldAs(told) => f.write_str(told_word(*told)),
             Reply::NothingWaits => f.write_str("nothing"),
             Reply::Sealed { from, to } => write!(f, "sealed {from}..{to}"),
             Reply::Committed { to } => write!(f, "committed {to}"),
             Reply::SettledTo { to } => write!(f, "settled {to}"),
+            Reply::Unsealed { from, to } => write!(f, "unsealed {from}..{to}"),
+            Reply::Halted => f.write_str("halted"),
+            Reply::Endpoint {
+                enabled,
+                pending,
+                delivered,
+                exhausted,
+            } => {
+                let flag = flag_word(*enabled);
+                write!(
+                    f,
+                    "{flag} pending {pending} delivered {delivered} exhausted {exhausted}"
+                )
+            }
             Reply::Event {
                 state,
                 due,
@@ -110,6 +148,7 @@ impl fmt::Display for Reply {
             Reply::Absent => f.write_str("absent"),
             Reply::NoBatch => f.write_str("no-batch"),
             Reply::NoReceipt => f.write_str("no-receipt"),
+            Reply::NoTicket => f.write_str("no-ticket"),
             Reply::Refused { number, fault } => write!(f, "refused {number} {fault}"),
         }
     }
@@ -123,4 +162,20 @@ fn state_word(state: State) -> &'static str
         State::Delivered => "delivered",
         State::Exhausted => "exhausted",
     }
+}
+
+fn told_word(told: Told) -> &'static str
+    ensures { result.now ≡ told_text told }
+{
+    match told {
+        Told::Settled => "settled",
+        Told::Waiting => "waiting",
+        Told::Unknown => "unknown",
+    }
+}
+
+fn flag_word(enabled: bool) -> &'static str
+    ensures { result.now ≡ flag_text enabled }
+{
+    if enabled { "enabled" } else { "disabled" }
 }

@@ -1,10 +1,13 @@
 use Rattle.std.proofs.Common.{refl}
 use Rattle.text_lines.specs.Parts.{texts}
-use Rattle.script_lines.proofs.CallLaws.{only_put, only_submit}
+use Rattle.script_lines.proofs.CallLaws.{only_put, only_secrets, only_submit}
 use Rattle.script_lines.proofs.script.read_call.Goals as goal
 
 pub returns-then-is_word-clause-bad : goal.returns-then-is_word-clause-bad
 returns-then-is_word-clause-bad c = λ e. only_put (λ event. ⊥) c.args.call.now (texts c.args.arguments.now) (c.if-is_word.ensures.0 refl) (c.read_put.ensures.bad e)
 
 pub returns-then-is_word-2-clause-bad : goal.returns-then-is_word-2-clause-bad
-returns-then-is_word-2-clause-bad c = λ e. only_submit (λ event. ⊥) c.args.call.now (texts c.args.arguments.now) (c.if-is_word-2.ensures.0 refl) (c.read_submit.ensures.bad e)
+returns-then-is_word-2-clause-bad c = λ e. only_secrets (λ event. ⊥) c.args.call.now (texts c.args.arguments.now) (c.if-is_word-2.ensures.0 refl) (c.read_new_secrets.ensures.bad e)
+
+pub returns-then-is_word-5-clause-bad : goal.returns-then-is_word-5-clause-bad
+returns-then-is_word-5-clause-bad c = λ e. only_submit (λ event. ⊥) c.args.call.now (texts c.args.arguments.now) (c.if-is_word-5.ensures.0 refl) (c.read_submit.ensures.bad e)
