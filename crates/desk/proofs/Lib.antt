@@ -2,3 +2,4 @@ mod DeskLists
 mod DeskEvents
 mod MoveLaws
 mod LookLaws
+mod TurnLaws
