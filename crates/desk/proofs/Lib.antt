@@ -3,3 +3,5 @@ mod DeskEvents
 mod MoveLaws
 mod LookLaws
 mod TurnLaws
+mod DeskLaws
+mod Checks

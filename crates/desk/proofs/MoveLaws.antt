@@ -97,3 +97,16 @@ taken {A} f (Ok z) number x y e h = ap f (one_value x z e) ∙ h
     one_value : (a b : A) → giving a ≡ giving b → a ≡ b
     one_value a b e = cc
 taken f (Err z) number x y e h = cc
+
+-- none of the faults is there
+abbrev pub AreAbsent : Faults → Type 0
+AreAbsent [] = Unit {0}
+AreAbsent ((there, number, fault) ∷ rest) = (there ≡ false) × AreAbsent rest
+
+pub absent : (faults : Faults) (u : Unit {0}) → first_fault faults ≡ Ok u → AreAbsent faults
+absent [] u e = tt
+absent ((there, number, fault) ∷ rest) u e = step there e (absent rest u)
+  where
+    step : (b : Bool) → (if b then Err (refusal number fault) else first_fault rest) ≡ Ok u → (first_fault rest ≡ Ok u → AreAbsent rest) → (b ≡ false) × AreAbsent rest
+    step true e next = cc
+    step false e next = (refl, next e)

@@ -1,5 +1,5 @@
 -- What a desk keeps, the worlds for which it stands, and what its calls answer.
-use Rattle.std.specs.Prelude.{◌≡◌, ℕ, ◌-◌, ◌≤◌, Bool, true, false, List, [], ◌∷◌, length, drop, Option, Some, None, Result, Ok, Err, if◌then◌else◌}
+use Rattle.std.specs.Prelude.{◌≡◌, ℕ, ◌+◌, ◌-◌, ◌≤◌, Bool, true, false, List, [], ◌∷◌, length, drop, Option, Some, None, Result, Ok, Err, if◌then◌else◌}
 use Rattle.relay_types.specs.declared.record.Record.{Record}
 use Rattle.relay_types.specs.declared.record.Record.TheVariants.{Put, Secrets, Enabled, Accept}
 use Rattle.relay_types.specs.Values.{Text, Seq, Seconds}
@@ -30,6 +30,7 @@ pub record DeskValue : Type 0 where
 pub record IsDesk (endpoints : endpoint_entries.BookValue) (deliveries : delivery_entries.BookValue) (waiting : WaitingValue) : Type 0 where
   pub endpoints_staged : endpoints.next_seq ≤ record_count waiting
   pub endpoints_settled : endpoints.settled_seq ≡ waiting.settled
+  pub flags_few : endpoint_entries.flags_in endpoints + endpoints.settled_seq ≤ endpoints.next_seq
   pub deliveries_staged : deliveries.next_seq ≤ record_count waiting
   pub deliveries_settled : deliveries.settled_seq ≡ waiting.settled
 

@@ -3,6 +3,7 @@ ghost use Rattle.std.specs.Prelude.{◌≡◌, ◌<◌, ◌+◌, false, IsTrue, 
 ghost use Rattle.relay_types.specs.declared.limits.TheConstants.{MAX_RECORDS};
 ghost use Rattle.relay_types.specs.declared.record.Record.TheVariants as on;
 ghost use Rattle.relay_types.specs.Legal.{is_within_limits};
+ghost use Rattle.endpoint_book.specs.declared.limits.TheConstants.{MAX_FLAGS};
 ghost use Rattle.endpoint_book.specs.Entries.{is_known};
 ghost use Rattle.group_commit.specs.declared.limits.TheConstants.{MAX_WAITING_REQUESTS};
 ghost use Rattle.group_commit.specs.Steps.{requests_in};
@@ -96,6 +97,7 @@ impl Desk {
         ensures faults { Checks self.now (λ w. set_faults w name) result }
         ensures place { OnOk result (requests_in self.now.waiting.waiting < MAX_WAITING_REQUESTS) }
         ensures room { OnOk result (record_count self.now.waiting < MAX_RECORDS) }
+        ensures free { OnOk result (record_count self.now.waiting < self.now.waiting.settled + MAX_FLAGS) }
         ensures known { OnOk result (IsTrue (is_known self.now.endpoints name)) }
     {
         check(&[
@@ -160,6 +162,7 @@ impl Desk {
         requires place { requests_in self.old.waiting.waiting < MAX_WAITING_REQUESTS }
         requires room { record_count self.old.waiting < MAX_RECORDS }
         requires known { IsTrue (is_known self.old.endpoints name) }
+        requires free { record_count self.old.waiting < self.old.waiting.settled + MAX_FLAGS }
         ensures ticket { result.seq ≡ record_count self.old.waiting }
         ensures staged { self.new ≡ with_enabled self.old name flag }
         ensures limits { IsTrue (is_within_limits (on.Enabled name flag)) }

@@ -1,0 +1,49 @@
+-- What the desk looks for before a call is what the model does.
+use Rattle.std.proofs.Common.{◌≡◌, ℕ, zero, suc, ◌+◌, ◌<◌, Bool, true, false, List, [], ◌∷◌, Option, length, refl, sym, ◌∙◌, ap, arith}
+use Rattle.std.specs.Prelude.{Result, Ok, Err, OnOk, nat_le, nat_eq, not}
+use Rattle.std.proofs.Math.Dec.{eqb-suc-zero}
+use Rattle.std.proofs.lemmas.Bool.{le-leb, lt-leb}
+use Rattle.relay_types.specs.declared.limits.TheConstants.{MAX_ENDPOINTS, MAX_RECORDS}
+use Rattle.relay_types.specs.Deliveries.{deliveries, deliveries_of}
+use Rattle.relay_types.specs.Endpoints.{endpoints, has_endpoint}
+use Rattle.group_commit.specs.declared.limits.TheConstants.{MAX_WAITING_REQUESTS}
+use Rattle.group_commit.specs.Steps.{requests_in}
+use Rattle.group_commit.specs.Waits.{record_count}
+use Rattle.desk.specs.declared.limits.TheConstants.{MAX_PENDING, MAX_PENDING_ALL}
+use Rattle.desk.specs.declared.refusal.Fault.{Fault}
+use Rattle.desk.specs.declared.refusal.Fault.TheVariants as fault
+use Rattle.desk.specs.declared.refusal.Refusal.{Refusal}
+use Rattle.desk.specs.Faults.{Faults, first_fault}
+use Rattle.desk.specs.World.{World, all_records}
+use Rattle.desk.specs.Moves.{pending_among, is_waiting_full, are_seqs_spent, is_conflict, submit_faults, put_faults, set_faults, new_submit_faults}
+use Rattle.desk.specs.Desks.{DeskValue, StandsFor}
+use Rattle.desk.proofs.DeskLaws.{count_is}
+
+-- What is looked for
+
+full_where : (free n : ℕ) → free + n ≡ MAX_WAITING_REQUESTS → nat_eq free 0 ≡ nat_le MAX_WAITING_REQUESTS n
+full_where zero n e = sym (le-leb MAX_WAITING_REQUESTS n (omega (arith, e)))
+full_where (suc free) n e = eqb-suc-zero free ∙ sym (lt-leb MAX_WAITING_REQUESTS n (omega (arith, e)))
+
+pub is_full : {d : DeskValue} {w : World} (free : ℕ) → StandsFor d w → free + requests_in d.waiting.waiting ≡ MAX_WAITING_REQUESTS → nat_eq free 0 ≡ is_waiting_full w
+is_full {d} free h e = full_where free (requests_in d.waiting.waiting) e ∙ ap (λ steps. nat_le MAX_WAITING_REQUESTS (requests_in steps)) h.waiting.steps
+
+pub is_spent : {d : DeskValue} {w : World} (records : ℕ) → StandsFor d w → records ≡ record_count d.waiting → nat_le MAX_RECORDS records ≡ are_seqs_spent w
+is_spent {d} {w} records h e = ap (nat_le MAX_RECORDS) all
+  where
+    all : records ≡ length (all_records w) + length w.live
+    all = omega (arith, e, count_is h, ap length h.idle.live)
+
+-- the faults of each call, by what is there
+abbrev pub submit_looks : (halted unknown conflict : Bool) → Faults
+submit_looks halted unknown conflict = (halted, 1, fault.Halted) ∷ (unknown, 2, fault.UnknownEndpoint) ∷ (conflict, 3, fault.Conflict) ∷ []
+
+abbrev pub new_looks : (own all full spent : Bool) → Faults
+new_looks own all full spent = (own, 4, fault.EndpointBacklog) ∷ (all, 5, fault.Backlog) ∷ (full, 6, fault.WaitingFull) ∷ (spent, 7, fault.SeqExhausted) ∷ []
+
+abbrev pub put_looks : (halted known many full spent : Bool) → Faults
+put_looks halted known many full spent =
+    (halted, 1, fault.Halted) ∷ (known, 3, fault.Exists) ∷ (many, 4, fault.TooManyEndpoints) ∷ (full, 5, fault.WaitingFull) ∷ (spent, 6, fault.SeqExhausted) ∷ []
+
+abbrev pub set_looks : (halted unknown full spent : Bool) → Faults
+set_looks halted unknown full spent = (halted, 1, fault.Halted) ∷ (unknown, 2, fault.UnknownEndpoint) ∷ (full, 5, fault.WaitingFull) ∷ (spent, 6, fault.SeqExhausted) ∷ []
