@@ -171,13 +171,14 @@ stands_settled {d} {w} endpoints deliveries count place h same upto by_endpoints
 
 -- the books of a desk that settles
 pub is_desk_settled : {endpoints later : endpoint_entries.BookValue} {deliveries moved : delivery_entries.BookValue} {steps rest : WaitingValue} (count place : ℕ) → IsDesk endpoints deliveries steps
-    → later ≡ endpoint_entries.with_settled endpoints place → moved ≡ delivery_entries.with_settled deliveries place → rest ≡ with_settled steps count → place ≡ rest.settled → IsDesk later moved rest
-is_desk_settled {endpoints} {later} {deliveries} {moved} {steps} {rest} count place h e f g is =
+    → later ≡ endpoint_entries.with_settled endpoints place → moved ≡ delivery_entries.with_settled deliveries place → rest ≡ with_settled steps count → place ≡ rest.settled → endpoint_entries.flags_in later + later.settled_seq ≤ later.next_seq → IsDesk later moved rest
+is_desk_settled {endpoints} {later} {deliveries} {moved} {steps} {rest} count place h e f g is few =
     let same : record_count rest ≡ record_count steps = ap record_count g ∙ omega (arith, length-records_of-split count steps.waiting) in
     let within : place ≤ record_count rest = omega (arith, is) in
     record {
       endpoints_staged = omega (arith, ap (λ (b : endpoint_entries.BookValue). b.next_seq) e, h.endpoints_staged, same, within);
       endpoints_settled = ap (λ (b : endpoint_entries.BookValue). b.settled_seq) e ∙ is;
+      flags_few = few;
       deliveries_staged = omega (arith, ap (λ (b : delivery_entries.BookValue). b.next_seq) f, h.deliveries_staged, same, within);
       deliveries_settled = ap (λ (b : delivery_entries.BookValue). b.settled_seq) f ∙ is;
     }

@@ -12,7 +12,7 @@ returns-in_err-settled-clause-moves c =
 
 pub invariant_of-self-2 : goal.invariant_of-self-2
 invariant_of-self-2 c =
-    is_desk_settled (length c.args.receipt.steps) c.in_ok-settled.settled.records c.self.invariant c.settle_to.ensures.value c.settle_to-2.ensures.value c.in_ok-settled.ensures.settled c.in_ok-settled.ensures.records
+    is_desk_settled (length c.args.receipt.steps) c.in_ok-settled.settled.records c.self.invariant c.settle_to.ensures.value c.settle_to-2.ensures.value c.in_ok-settled.ensures.settled c.in_ok-settled.ensures.records c.settle_to.ensures.flags
 
 pub returns-clause-moves : goal.returns-clause-moves
 returns-clause-moves c =
