@@ -12,6 +12,7 @@ use Rattle.delivery_book.specs.Entries as delivery_entries
 use Rattle.spool.specs.Batches.{BatchValue, DoubtValue, doubt_of}
 use Rattle.group_commit.specs.declared.held.Held.{Held}
 use Rattle.group_commit.specs.declared.held.Held.TheVariants as held
+use Rattle.group_commit.specs.Turns as turns
 use Rattle.group_commit.specs.Waits.{WaitingValue, record_count, with_step}
 use Rattle.desk.specs.declared.refusal.Refusal.{Refusal}
 use Rattle.desk.specs.Faults.{Faults, first_fault}
@@ -88,6 +89,13 @@ abbrev pub IsHeldOf : ℕ → World → Held → Type 0
 IsHeldOf mark w held.Nothing = is_nothing_out w.out ≡ true
 IsHeldOf mark w (held.Batch batch) = ArePlacesOf mark w (doubt_of batch)
 IsHeldOf mark w (held.Doubt doubt) = ArePlacesOf mark w doubt
+
+-- what is held is all that is out, a receipt of it included
+abbrev pub IsAllOut : WaitingValue → (receipt : Option BatchValue) → Held → Type 0
+IsAllOut waiting None held = turns.IsHeldOf waiting held
+IsAllOut waiting (Some receipt) held.Nothing = turns.IsReceiptOf waiting receipt
+IsAllOut waiting (Some receipt) (held.Batch batch) = ⊥
+IsAllOut waiting (Some receipt) (held.Doubt doubt) = ⊥
 
 -- From each world for which the desk stood: what is handed in ends the turn exactly where it is what is out, and comes back
 -- otherwise.

@@ -5,7 +5,7 @@ ghost use Rattle.group_commit.specs.Waits.{batch_of, sealed_count};
 ghost use Rattle.group_commit.specs.Turns as waiting;
 ghost use Rattle.desk.specs.World.{sealed_records};
 ghost use Rattle.desk.specs.Moves.{seal, with_sealed_settled, with_batch_back, with_halt};
-ghost use Rattle.desk.specs.Desks.{IsMove, Turns, IsReceiptOf, ArePlacesOf, IsHeldOf, OverWorlds};
+ghost use Rattle.desk.specs.Desks.{IsMove, Turns, IsReceiptOf, ArePlacesOf, IsHeldOf, IsAllOut, OverWorlds};
 
 use crate::desk::Desk;
 use crate::refusal::{Fault, Refusal, check};
@@ -73,5 +73,19 @@ impl Desk {
         self.waiting.abandon(held)?;
         self.halted = true;
         Ok(())
+    }
+
+    /// Ends the desk, with what is out. Nothing that waits will be settled.
+    pub fn close(self, receipt: Option<Receipt>, held: Held)
+        requires { IsAllOut self.waiting receipt held }
+    {
+        if let Some(receipt) = receipt {
+            drop(receipt.into_steps());
+        }
+        match held {
+            Held::Nothing => {}
+            Held::Batch(batch) => drop(batch.into_steps()),
+            Held::Doubt(doubt) => doubt.end(),
+        }
     }
 }
