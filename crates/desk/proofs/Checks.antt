@@ -1,21 +1,16 @@
 -- What the desk looks for before a call is what the model does.
-use Rattle.std.proofs.Common.{◌≡◌, ℕ, zero, suc, ◌+◌, ◌<◌, Bool, true, false, List, [], ◌∷◌, Option, length, refl, sym, ◌∙◌, ap, arith}
-use Rattle.std.specs.Prelude.{Result, Ok, Err, OnOk, nat_le, nat_eq, not}
+use Rattle.std.proofs.Common.{◌≡◌, ℕ, zero, suc, ◌+◌, Bool, [], ◌∷◌, length, sym, ◌∙◌, ap, arith}
+use Rattle.std.specs.Prelude.{nat_le, nat_eq}
 use Rattle.std.proofs.Math.Dec.{eqb-suc-zero}
 use Rattle.std.proofs.lemmas.Bool.{le-leb, lt-leb}
-use Rattle.relay_types.specs.declared.limits.TheConstants.{MAX_ENDPOINTS, MAX_RECORDS}
-use Rattle.relay_types.specs.Deliveries.{deliveries, deliveries_of}
-use Rattle.relay_types.specs.Endpoints.{endpoints, has_endpoint}
+use Rattle.relay_types.specs.declared.limits.TheConstants.{MAX_RECORDS}
 use Rattle.group_commit.specs.declared.limits.TheConstants.{MAX_WAITING_REQUESTS}
 use Rattle.group_commit.specs.Steps.{requests_in}
 use Rattle.group_commit.specs.Waits.{record_count}
-use Rattle.desk.specs.declared.limits.TheConstants.{MAX_PENDING, MAX_PENDING_ALL}
-use Rattle.desk.specs.declared.refusal.Fault.{Fault}
 use Rattle.desk.specs.declared.refusal.Fault.TheVariants as fault
-use Rattle.desk.specs.declared.refusal.Refusal.{Refusal}
-use Rattle.desk.specs.Faults.{Faults, first_fault}
+use Rattle.desk.specs.Faults.{Faults}
 use Rattle.desk.specs.World.{World, all_records}
-use Rattle.desk.specs.Moves.{pending_among, is_waiting_full, are_seqs_spent, is_conflict, submit_faults, put_faults, set_faults, new_submit_faults}
+use Rattle.desk.specs.Moves.{is_waiting_full, are_seqs_spent}
 use Rattle.desk.specs.Desks.{DeskValue, StandsFor}
 use Rattle.desk.proofs.DeskLaws.{count_is}
 

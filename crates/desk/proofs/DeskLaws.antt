@@ -1,6 +1,6 @@
 -- The worlds for which a desk stands once one more record waits, and the moves that make it wait.
-use Rattle.std.proofs.Common.{◌≡◌, ℕ, ◌+◌, ◌<◌, ◌≤◌, Bool, true, false, List, [], ◌∷◌, ◌++◌, Option, Some, None, length, take, drop, refl, sym, ◌∙◌, ap, arith, ◌&&◌, length-append, subst, max}
-use Rattle.std.specs.Prelude.{cond, count_by, Result, Ok, Err, IfOk, OnOk, OnErr, nat_le, is_some, not, IsTrue}
+use Rattle.std.proofs.Common.{◌≡◌, ℕ, ◌+◌, ◌<◌, ◌≤◌, Bool, true, false, List, [], ◌∷◌, ◌++◌, Option, Some, None, length, refl, sym, ◌∙◌, ap, arith, ◌&&◌, length-append, subst, max}
+use Rattle.std.specs.Prelude.{cond, count_by, Result, Ok, Err, IfOk, OnOk, OnErr, is_some, not, IsTrue}
 use Rattle.std.specs.Option.{option_map_or}
 use Rattle.std.specs.declared.alloc.AllocError.{AllocError}
 use Rattle.std.proofs.lemmas.List.{take-append-le, drop-append-le}
@@ -13,7 +13,6 @@ use Rattle.relay_types.specs.Deliveries.{known_as}
 use Rattle.relay_types.specs.Endpoints.{endpoints, has_endpoint}
 use Rattle.relay_types.specs.Legal.{IsLegal, may_follow, is_within_limits}
 use Rattle.relay_types.proofs.KnownLaws.{legal_more}
-use Rattle.endpoint_book.specs.Book as endpoint_book
 use Rattle.endpoint_book.specs.Entries as endpoint_entries
 use Rattle.endpoint_book.specs.declared.entry.Change.{Change}
 use Rattle.endpoint_book.specs.Entries.{entry_of, is_flag, is_known}
@@ -21,19 +20,17 @@ use Rattle.endpoint_book.proofs.Filters.{none_if}
 use Rattle.endpoint_book.proofs.Histories.{known-entry}
 use Rattle.endpoint_book.proofs.Laws.{stands-other}
 use Rattle.endpoint_book.proofs.Staged.{stands-put, stands-secrets, stands-enabled}
-use Rattle.delivery_book.specs.Book as delivery_book
 use Rattle.delivery_book.specs.Entries as delivery_entries
 use Rattle.delivery_book.proofs.Laws.{stands_accept, stands_other}
 use Rattle.group_commit.specs.Waits.{WaitingValue, record_count, with_step}
 use Rattle.group_commit.proofs.StepLaws.{length-records_of, count_by_snoc}
-use Rattle.desk.specs.declared.command.Command.{Command}
 use Rattle.desk.specs.declared.command.Command.TheVariants.{PutEndpoint, SetSecrets, SetEnabled}
 use Rattle.desk.specs.declared.refusal.Refusal.{Refusal}
 use Rattle.desk.specs.declared.ticket.CommandTicket.{CommandTicket}
 use Rattle.desk.specs.declared.ticket.Ticket.{Ticket}
 use Rattle.desk.specs.Faults.{out_of_memory_at}
 use Rattle.desk.specs.World.{World, all_records, settled_records, waiting_records}
-use Rattle.desk.specs.Moves.{Answer, or_out_of_memory, stages, moment, at_moment, with_record, next_seq, ticket, accepts, submit, submit_known, submit_new, submit_faults, new_submit_faults, put_faults, set_faults, repeats, changes, change}
+use Rattle.desk.specs.Moves.{or_out_of_memory, stages, moment, at_moment, with_record, next_seq, ticket, accepts, submit, submit_known, submit_new, submit_faults, new_submit_faults, put_faults, set_faults, repeats, changes, change}
 use Rattle.desk.specs.Desks.{DeskValue, IsDesk, AreBooks, StandsFor, IsMove, Checks, OverWorlds, with_entry, with_put, with_secrets, with_enabled, with_accept}
 use Rattle.desk.proofs.DeskLists.{records_of-snoc, records_of-split}
 use Rattle.desk.proofs.MoveLaws.{refuses, passes, makes, makes_or_lacks, becomes, absent}

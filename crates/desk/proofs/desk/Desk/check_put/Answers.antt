@@ -1,5 +1,4 @@
 use Rattle.std.proofs.Common.{◌∙◌, length, nat_le, ap}
-use Rattle.std.specs.Prelude.{nat_eq}
 use Rattle.relay_types.specs.declared.limits.TheConstants.{MAX_ENDPOINTS}
 use Rattle.desk.specs.Faults.{first_fault}
 use Rattle.desk.specs.World.{all_records, settled_records}
