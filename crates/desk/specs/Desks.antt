@@ -3,12 +3,14 @@ use Rattle.std.specs.Prelude.{◌≡◌, ℕ, ◌+◌, ◌-◌, ◌≤◌, Bool,
 use Rattle.relay_types.specs.declared.record.Record.{Record}
 use Rattle.relay_types.specs.declared.record.Record.TheVariants.{Put, Secrets, Enabled, Accept}
 use Rattle.relay_types.specs.Values.{Text, Seq, Seconds}
-use Rattle.relay_types.specs.Records.{History}
+use Rattle.relay_types.specs.Records.{History, records_of}
 use Rattle.relay_types.specs.Legal.{IsLegal}
 use Rattle.endpoint_book.specs.Book as endpoint_book
 use Rattle.endpoint_book.specs.Entries as endpoint_entries
 use Rattle.delivery_book.specs.Book as delivery_book
 use Rattle.delivery_book.specs.Entries as delivery_entries
+use Rattle.spool.specs.declared.load.Books.{Books}
+use Rattle.spool.specs.Books as loaded
 use Rattle.spool.specs.Batches.{BatchValue, DoubtValue, doubt_of}
 use Rattle.group_commit.specs.declared.held.Held.{Held}
 use Rattle.group_commit.specs.declared.held.Held.TheVariants as held
@@ -17,7 +19,7 @@ use Rattle.group_commit.specs.Waits.{WaitingValue, record_count, with_step}
 use Rattle.desk.specs.declared.refusal.Refusal.{Refusal}
 use Rattle.desk.specs.Faults.{Faults, first_fault}
 use Rattle.desk.specs.World.{World, Out, all_records, settled_records}
-use Rattle.desk.specs.Moves.{Answer, MayGive, is_nothing_out, sealed_batch}
+use Rattle.desk.specs.Moves.{Answer, MayGive, is_nothing_out, sealed_batch, opened}
 
 -- The books of all records, the steps that wait, the latest moment, and whether nothing is taken any more.
 pub record DeskValue : Type 0 where
@@ -70,6 +72,10 @@ pub record StandsFor (desk : DeskValue) (w : World) : Type 0 where
 -- what is so of every world for which the desk stands
 abbrev pub OverWorlds : DeskValue → (World → Type 0) → Type 0
 OverWorlds desk P = (w : World) → StandsFor desk w → P w
+
+-- the desk stands for the opening of every history of which these are the books, however its records are cut into steps
+abbrev pub Opens : Books → DeskValue → Type 0
+Opens books desk = (history : History) → loaded.AreBooks books (records_of history) → StandsFor desk (opened history books.clock)
 
 -- From each world for which the desk stood, the call gave what this move answers, and the desk stands for the world after it.
 abbrev pub IsMove : {A : Type 0} → DeskValue → (World → Answer A) → Result A Refusal → DeskValue → Type 0

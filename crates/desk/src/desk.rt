@@ -5,12 +5,13 @@ ghost use Rattle.relay_types.specs.declared.record.Record.TheVariants.{Accept};
 ghost use Rattle.relay_types.specs.Deliveries.{accepted};
 ghost use Rattle.relay_types.specs.Legal.{is_within_limits};
 ghost use Rattle.delivery_book.specs.Entries.{known_in};
+ghost use Rattle.spool.specs.Books.{AreSettled};
 ghost use Rattle.group_commit.specs.declared.limits.TheConstants.{MAX_WAITING_REQUESTS};
 ghost use Rattle.group_commit.specs.Steps.{is_request, requests_in};
 ghost use Rattle.group_commit.specs.Waits.{record_count, with_step};
 ghost use Rattle.desk.specs.World.{all_records};
 ghost use Rattle.desk.specs.Moves.{opened, ticket, submit, submit_faults, new_submit_faults, is_conflict, has_body};
-ghost use Rattle.desk.specs.Desks.{StandsFor, IsMove, Checks, OverWorlds, with_accept};
+ghost use Rattle.desk.specs.Desks.{StandsFor, Opens, IsMove, Checks, OverWorlds, with_accept};
 
 use crate::limits::{MAX_PENDING, MAX_PENDING_ALL};
 use crate::refusal::{Fault, Refusal, check, or_out_of_memory};
@@ -19,6 +20,7 @@ use delivery_book::DeliveryBook;
 use endpoint_book::EndpointBook;
 use group_commit::Waiting;
 use relay_types::{Body, MAX_RECORDS, Moment, MsgId, Name, Record, Step};
+use spool::Books;
 use std::alloc::{AllocError, Global};
 use std::marker::Model;
 
@@ -62,6 +64,27 @@ impl Desk {
             endpoints: EndpointBook::new(alloc)?,
             deliveries: DeliveryBook::new(alloc),
             waiting: Waiting::new(alloc, 0, mark)?,
+            halted: false,
+        })
+    }
+
+    /// The desk of a history of which a vault gave these books: all of it is settled.
+    pub fn of(alloc: Global, books: Books, mark: u64) -> Result<Desk, AllocError>
+        requires { AreSettled books }
+        ensures mark { IfOk result (λ desk. desk.waiting.mark ≡ mark) }
+        ensures stands { IfOk result (Opens books) }
+    {
+        let Books {
+            endpoints,
+            deliveries,
+            records,
+            clock,
+        } = books;
+        Ok(Desk {
+            clock,
+            endpoints,
+            deliveries,
+            waiting: Waiting::new(alloc, records, mark)?,
             halted: false,
         })
     }
