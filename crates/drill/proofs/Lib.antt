@@ -1,3 +1,6 @@
-mod RunnerLaws
+mod SessionLaws
+mod TurnLaws
+mod CommitLaws
+mod RunLaws
 pub mod ReplayLaws
 mod WorkedRun

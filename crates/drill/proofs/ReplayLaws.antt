@@ -5,50 +5,48 @@ use Rattle.sqlite.specs.Held as store
 use Rattle.script_lines.specs.declared.event.Event.{Event}
 use Rattle.script_lines.specs.declared.reply.Reply.{Reply}
 use Rattle.drill.specs.declared.runner.Runner.{Runner}
-use Rattle.desk.specs.World.{World}
-use Rattle.desk.specs.Moves.{opened}
 use Rattle.text_lines.specs.Answers.{AnswersEach, AnswersFrom, AnswersTo}
 use Rattle.text_lines.specs.Ends.{Ends}
 use Rattle.text_lines.specs.declared.fault.StreamFault.{StreamFault}
 use Rattle.text_lines.proofs.AnswerLaws.{Ends-more}
 use Rattle.script_lines.specs.Replies.{reply_text}
-use Rattle.drill.specs.Moves.{Run}
-use Rattle.drill.specs.Runs.{ReadLines, IsNoCall, replies_text, Replies, RepliesTo}
+use Rattle.drill.specs.Moves.{Session, begun}
+use Rattle.drill.specs.Runs.{Run, ReadLines, IsNoCall, replies_text, Replies, RepliesTo}
 use Rattle.drill.specs.Runners.{RunnerStandsFor, KeepsRows}
 use Rattle.drill.specs.Replays.{RunsLine, Replays, KeepsRun}
-use Rattle.drill.proofs.RunnerLaws.{rows_kept}
+use Rattle.drill.proofs.CommitLaws.{rows_kept}
 
--- what is written for the lines, from any world on, where this holds of the last one
-abbrev RepliesFrom : (World → Type 0) → World → List (List ℕ) → List ℕ → Type 0
-RepliesFrom Holds w lines written = (events : List Event) × (replies : List Reply) × (last : World) × ReadLines lines events × Run w events replies last × (written ≡ replies_text replies) × Holds last
+-- what is written for the lines, from any session on, where this holds of the last one
+abbrev RepliesFrom : (Session → Type 0) → Session → List (List ℕ) → List ℕ → Type 0
+RepliesFrom Holds s lines written = (events : List Event) × (replies : List Reply) × (last : Session) × ReadLines lines events × Run s events replies last × (written ≡ replies_text replies) × Holds last
 
-replies_from : {S : Type 0} (g : Ghosts S) (old new : Runner S) (w : World) (lines : List (List ℕ)) (written : List ℕ) → RunnerStandsFor g old w → AnswersEach (RunsLine g) old lines written new
-    → RepliesFrom (RunnerStandsFor g new) w lines written
-replies_from g old new w [] written stands (none, same) = ([], [], w, tt, refl, none, subst (λ r. RunnerStandsFor g r w) same stands)
-replies_from g old new w (line ∷ lines) written stands (next, text, rest, (event, reply, reads, answers, is), whole, each) =
-    let (after, move, on) = answers w stands in
+replies_from : {S : Type 0} (g : Ghosts S) (old new : Runner S) (s : Session) (lines : List (List ℕ)) (written : List ℕ) → RunnerStandsFor g old s → AnswersEach (RunsLine g) old lines written new
+    → RepliesFrom (RunnerStandsFor g new) s lines written
+replies_from g old new s [] written stands (none, same) = ([], [], s, tt, refl, none, subst (λ r. RunnerStandsFor g r s) same stands)
+replies_from g old new s (line ∷ lines) written stands (next, text, rest, (event, reply, reads, answers, is), whole, each) =
+    let (after, move, on) = answers s stands in
     let (events, replies, last, calls, run, said, holds) = replies_from g next new after lines rest on each in
     (event ∷ events, reply ∷ replies, last, (reads, calls), (after, move, run), whole ∙ ap (λ xs. xs ++ 10 ∷ rest) is ∙ ap (λ xs. reply_text reply ++ 10 ∷ xs) said, holds)
 
 pub Replies-none : Replies [] []
-Replies-none = ([], [], opened [] 0, tt, refl, refl)
+Replies-none = ([], [], begun, tt, refl, refl)
 
 -- a runner of the empty history replays the lines that it answers
-pub replays : {S : Type 0} (g : Ghosts S) (runner : Runner S) (input old new : Option (List ℕ)) (end : Result (Unit {0}) StreamFault) → RunnerStandsFor g runner (opened [] 0)
+pub replays : {S : Type 0} (g : Ghosts S) (runner : Runner S) (input old new : Option (List ℕ)) (end : Result (Unit {0}) StreamFault) → RunnerStandsFor g runner begun
     → Ends (AnswersFrom (RunsLine g) runner) IsNoCall input old new end → Replays input old new end
 replays g runner input old new end stands ends = Ends-more (AnswersFrom (RunsLine g) runner) Replies IsNoCall says input old new end ends
   where
     says : (lines : List (List ℕ)) (written : List ℕ) → AnswersFrom (RunsLine g) runner lines written → Replies lines written
     says lines written (now, each) =
-        let (events, replies, last, calls, run, said, holds) = replies_from g runner now (opened [] 0) lines written stands each in
+        let (events, replies, last, calls, run, said, holds) = replies_from g runner now begun lines written stands each in
         (events, replies, last, calls, run, said)
 
 -- and its connection keeps the rows of the run that led to it
-pub keeps_run : {S : Type 0} (g : Ghosts S) (runner now : Runner S) (conn : store.Held S) (input old new : Option (List ℕ)) (end : Result (Unit {0}) StreamFault) → conn ≡ now.vault.conn → RunnerStandsFor g runner (opened [] 0)
+pub keeps_run : {S : Type 0} (g : Ghosts S) (runner now : Runner S) (conn : store.Held S) (input old new : Option (List ℕ)) (end : Result (Unit {0}) StreamFault) → conn ≡ now.vault.conn → RunnerStandsFor g runner begun
     → Ends (AnswersTo (RunsLine g) runner now) IsNoCall input old new end → KeepsRun g conn input old new end
-keeps_run g runner now conn input old new end same stands ends = Ends-more (AnswersTo (RunsLine g) runner now) (RepliesTo (λ last. KeepsRows g conn last last.out)) IsNoCall says input old new end ends
+keeps_run g runner now conn input old new end same stands ends = Ends-more (AnswersTo (RunsLine g) runner now) (RepliesTo (λ last. KeepsRows g conn last.world)) IsNoCall says input old new end ends
   where
-    says : (lines : List (List ℕ)) (written : List ℕ) → AnswersTo (RunsLine g) runner now lines written → RepliesTo (λ last. KeepsRows g conn last last.out) lines written
+    says : (lines : List (List ℕ)) (written : List ℕ) → AnswersTo (RunsLine g) runner now lines written → RepliesTo (λ last. KeepsRows g conn last.world) lines written
     says lines written each =
-        let (events, replies, last, calls, run, said, holds) = replies_from g runner now (opened [] 0) lines written stands each in
-        (events, replies, last, calls, run, said, subst (λ at. KeepsRows g at last last.out) (sym same) (rows_kept g now.vault last last.out holds.vault))
+        let (events, replies, last, calls, run, said, holds) = replies_from g runner now begun lines written stands each in
+        (events, replies, last, calls, run, said, subst (λ at. KeepsRows g at last.world) (sym same) (rows_kept g now.vault last.world holds.vault))

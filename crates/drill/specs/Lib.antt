@@ -1,3 +1,4 @@
+pub mod Tickets
 pub mod Moves
 pub mod Runs
 pub mod Runners

@@ -1,4 +1,4 @@
--- The moves of a script's calls: what each is told, and the world after it. What the desk answers is told by a reply.
+-- The moves of a script's calls: what each is told, and the session after it. What the desk answers is told by a reply.
 use Rattle.std.specs.Prelude.{◌≡◌, ℕ, ◌+◌, List, [], ◌∷◌, length, Option, Some, None, Result, Ok, Err, ◌⊎◌}
 use Rattle.relay_types.specs.Records.{records_of}
 use Rattle.delivery_book.specs.declared.row.Row.{Row}
@@ -7,17 +7,53 @@ use Rattle.script_lines.specs.declared.event.Event.{Event}
 use Rattle.script_lines.specs.declared.event.Event.TheVariants as on
 use Rattle.script_lines.specs.declared.reply.Fault.{Fault}
 use Rattle.script_lines.specs.declared.reply.Fault.TheVariants as fault
+use Rattle.script_lines.specs.declared.reply.Told.{Told}
+use Rattle.script_lines.specs.declared.reply.Told.TheVariants as as_told
 use Rattle.script_lines.specs.declared.reply.Reply.{Reply}
 use Rattle.script_lines.specs.declared.reply.Reply.TheVariants as says
-use Rattle.desk.specs.declared.command.Command.TheVariants.{PutEndpoint}
-use Rattle.desk.specs.declared.refusal.Fault as desk
+use Rattle.desk.specs.declared.command.Command as desk_command
+use Rattle.desk.specs.declared.command.Command.TheVariants.{PutEndpoint, SetSecrets, SetEnabled}
+use Rattle.desk.specs.declared.refusal.Fault as desk_refusal
 use Rattle.desk.specs.declared.refusal.Fault.TheVariants as desk_fault
 use Rattle.desk.specs.declared.refusal.Refusal.{Refusal}
+use Rattle.desk.specs.declared.ticket.Told as desk_ticket
+use Rattle.desk.specs.declared.ticket.Told.TheVariants as desk_told
+use Rattle.desk.specs.Looks.{EndpointShown, told, told_command, event_page, endpoint_page}
+use Rattle.desk.specs.Moves as desk
 use Rattle.desk.specs.World.{World, Out, Nothing, Batch, Receipt, Doubt, settled_records, sealed_records}
-use Rattle.desk.specs.Moves.{Answer, MayGive, submit, change, seal, with_sealed_settled, event_row}
+use Rattle.drill.specs.declared.tickets.Given.{Given}
+use Rattle.drill.specs.declared.tickets.Given.TheVariants.{Submission, Command}
+use Rattle.drill.specs.Tickets.{seq_of, find_ticket}
+
+-- What a script has come to: the world, and the tickets that were given since the opening, the newest first.
+pub record Session : Type 0 where
+  pub world : World
+  pub tickets : List Given
+
+-- the session in which a script over a store without tables begins
+abbrev pub begun : Session
+begun = record { world = desk.opened [] 0; tickets = [] }
+
+-- What a call is told where memory and the store serve it, and the session after it; and each of what it may be told, with the session
+-- after that, where they don't.
+pub record Answer : Type 0 where
+  pub reply : Reply
+  pub next : Session
+  pub unserved : List (Reply × Session)
+
+-- From a session, a call whose answer this is may be told this reply, and go on to next.
+abbrev pub IsOneOf : List (Reply × Session) → Reply → Session → Type 0
+IsOneOf [] reply next = ⊥
+IsOneOf (one ∷ others) reply next = ((reply ≡ one.0) × (next ≡ one.1)) ⊎ IsOneOf others reply next
+
+abbrev pub MayTell : Answer → Reply → Session → Type 0
+MayTell answer reply next = ((reply ≡ answer.reply) × (next ≡ answer.next)) ⊎ IsOneOf answer.unserved reply next
+
+-- Replies
 
 -- the name of the desk's refusal
-abbrev pub fault_of : desk.Fault → Fault
+abbrev pub fault_of : desk_refusal.Fault → Fault
+fault_of desk_fault.Halted = fault.Halted
 fault_of desk_fault.UnknownEndpoint = fault.UnknownEndpoint
 fault_of desk_fault.Conflict = fault.Conflict
 fault_of desk_fault.Exists = fault.Exists
@@ -32,75 +68,138 @@ fault_of desk_fault.OutOfMemory = fault.OutOfMemory
 abbrev pub refusal_reply : Refusal → Reply
 refusal_reply refusal = says.Refused refusal.number (fault_of refusal.fault)
 
-abbrev pub staged_reply : Result ℕ Refusal → Reply
-staged_reply (Ok seq) = says.Staged seq
-staged_reply (Err refusal) = refusal_reply refusal
+abbrev pub staged_reply : {A : Type 0} → (of : A → Given) → Result A Refusal → Reply
+staged_reply of (Ok ticket) = says.Staged (seq_of (of ticket))
+staged_reply of (Err refusal) = refusal_reply refusal
 
 abbrev pub seal_reply : Result (Option BatchValue) Refusal → Reply
 seal_reply (Ok None) = says.NothingWaits
 seal_reply (Ok (Some batch)) = says.Sealed batch.from (batch.from + length (records_of batch.steps))
 seal_reply (Err refusal) = refusal_reply refusal
 
+abbrev pub told_as : desk_ticket.Told → Told
+told_as desk_told.Settled = as_told.Settled
+told_as desk_told.Waiting = as_told.Waiting
+told_as desk_told.Unknown = as_told.Unknown
+
+abbrev pub told_reply : World → Option Given → Reply
+told_reply w None = says.NoTicket
+told_reply w (Some (Submission ticket)) = says.ToldAs (told_as (told w ticket))
+told_reply w (Some (Command ticket)) = says.ToldAs (told_as (told_command w ticket))
+
+abbrev pub endpoint_reply : Option EndpointShown → Reply
+endpoint_reply None = says.Absent
+endpoint_reply (Some shown) = says.Endpoint shown.view.enabled shown.counts.pending shown.counts.delivered shown.counts.exhausted
+
 abbrev pub event_reply : Option Row → Reply
 event_reply None = says.Absent
 event_reply (Some row) = says.Event row.state row.due row.attempts
 
--- the reply where a receipt isn't that of what is out
+-- the reply where what is handed in isn't what is out
 abbrev pub wrong_turn : Reply
 wrong_turn = says.Refused 1 fault.WrongTurn
 
--- the reply tells of what the desk may give
-abbrev pub Tells : {A : Type 0} → World → Answer A → (Result A Refusal → Reply) → Reply → World → Type 0
-Tells {A} w answer told reply next = (result : Result A Refusal) × MayGive w answer result next × (reply ≡ told result)
+-- Answers
 
--- A batch has the mark of its opening, of which no reply tells.
-abbrev pub TellsSeal : World → Reply → World → Type 0
-TellsSeal w reply next = (mark : ℕ) × Tells w (seal mark w) seal_reply reply next
+-- the call is told this, and only the world may change
+abbrev pub moves : Session → Reply → World → Answer
+moves s reply next = record { reply = reply; next = record s { world = next }; unserved = [] }
 
--- a commit of the batch that is out, where the store serves
-abbrev pub IsCommitted : World → Reply → World → Type 0
-IsCommitted w reply next = (reply ≡ says.Committed (length (sealed_records w))) × (next ≡ record w { out = Receipt; left = w.sealed ∷ [] })
+-- the call is told this, and changes nothing
+abbrev pub stays : Session → Reply → Answer
+stays s reply = moves s reply s.world
 
--- a commit without memory leaves all as it was
-abbrev pub LacksMemory : World → Reply → World → Type 0
-LacksMemory w reply next = (reply ≡ says.Refused 4 fault.OutOfMemory) × (next ≡ w)
+-- what the desk refuses for want of memory, by this number, if it takes any
+abbrev pub lacks : Session → Option ℕ → List (Reply × Session)
+lacks s None = []
+lacks s (Some number) = (says.Refused number fault.OutOfMemory, s) ∷ []
 
--- a commit that the store doesn't finish: a stop leaves the rows of before or those with the whole batch
+-- the ticket is kept, if one was given
+abbrev pub with_ticket : {A : Type 0} → (of : A → Given) → Result A Refusal → List Given → List Given
+with_ticket of (Ok ticket) tickets = of ticket ∷ tickets
+with_ticket of (Err refusal) tickets = tickets
+
+abbrev pub stages : {A : Type 0} → (of : A → Given) → Session → desk.Answer A → Answer
+stages of s answer = record {
+  reply = staged_reply of answer.reply;
+  next = record { world = answer.next; tickets = with_ticket of answer.reply s.tickets };
+  unserved = lacks s answer.memory;
+}
+
+abbrev pub commands : Session → desk_command.Command → Answer
+commands s command = stages Command s (desk.change s.world command)
+
+abbrev pub tells_seal : Session → desk.Answer (Option BatchValue) → Answer
+tells_seal s answer = record {
+  reply = seal_reply answer.reply;
+  next = record s { world = answer.next };
+  unserved = lacks s answer.memory;
+}
+
+-- A batch has the mark of its opening, of which no reply tells: any mark will do.
+abbrev pub seals : Session → Answer
+seals s = tells_seal s (desk.seal 0 s.world)
+
+-- the store has the whole batch, and a stop leaves it
+abbrev pub with_receipt : World → World
+with_receipt w = record w { out = Receipt; left = w.sealed ∷ [] }
+
+-- a commit that the store doesn't finish: a stop leaves what was there before, or the whole batch too
 abbrev pub in_doubt : World → World
 in_doubt w = record w { out = Doubt; left = w.settled ∷ w.sealed ∷ [] }
 
-abbrev pub IsStoreFault : World → Reply → World → Type 0
-IsStoreFault w reply next = (reply ≡ says.Refused 5 fault.Store) × (next ≡ in_doubt w)
+-- A commit without memory leaves all as it was.
+abbrev pub commits_batch : Session → Answer
+commits_batch s = record {
+  reply = says.Committed (length (sealed_records s.world));
+  next = record s { world = with_receipt s.world };
+  unserved =
+      (says.Refused 4 fault.OutOfMemory, s)
+      ∷ (says.Refused 5 fault.Store, record s { world = in_doubt s.world })
+      ∷ [];
+}
 
-abbrev pub Stays : Reply → World → Reply → World → Type 0
-Stays told w reply next = (reply ≡ told) × (next ≡ w)
+-- what a turn is told by what is out
 
--- a commit, by what is out
-abbrev pub Commits : Out → World → Reply → World → Type 0
-Commits Nothing w = Stays says.NoBatch w
-Commits Batch w = λ reply next. IsCommitted w reply next ⊎ LacksMemory w reply next ⊎ IsStoreFault w reply next
-Commits Receipt w = Stays says.NoBatch w
-Commits Doubt w = Stays says.NoBatch w
+abbrev pub commits : Session → Out → Answer
+commits s Nothing = stays s says.NoBatch
+commits s Batch = commits_batch s
+commits s Receipt = stays s says.NoBatch
+commits s Doubt = stays s says.NoBatch
 
--- a settling, by what is out
-abbrev pub SettlesOut : Out → World → Reply → World → Type 0
-SettlesOut Nothing w = Stays says.NoReceipt w
-SettlesOut Batch w = Stays says.NoReceipt w
-SettlesOut Receipt w = λ reply next. (reply ≡ says.SettledTo (length (sealed_records w))) × (next ≡ with_sealed_settled w)
-SettlesOut Doubt w = Stays says.NoReceipt w
+abbrev pub settles : Session → Out → Answer
+settles s Nothing = stays s says.NoReceipt
+settles s Batch = stays s says.NoReceipt
+settles s Receipt = moves s (says.SettledTo (length (sealed_records s.world))) (desk.with_sealed_settled s.world)
+settles s Doubt = stays s says.NoReceipt
 
--- From w, the core may give this reply to the call and go on to next.
-abbrev pub Move : World → Event → Reply → World → Type 0
-Move w (on.Submit now name id body) = Tells w (submit w now name id body) staged_reply
-Move w (on.Put name target max secrets) = Tells w (change w (PutEndpoint name target max secrets)) staged_reply
-Move w on.Seal = TellsSeal w
-Move w on.Commit = Commits w.out w
-Move w on.Settle = SettlesOut w.out w
-Move w (on.Show name id) = Stays (event_reply (event_row w name id)) w
+-- the places of the records that were sealed
+abbrev pub unsealed_reply : World → Reply
+unsealed_reply w = says.Unsealed (length (settled_records w)) (length (sealed_records w))
 
--- the core may give these replies to these calls, one move after another
-abbrev pub Run : World → List Event → List Reply → World → Type 0
-Run w [] [] last = last ≡ w
-Run w (event ∷ events) (reply ∷ replies) last = (next : World) × Move w event reply next × Run next events replies last
-Run w [] (reply ∷ replies) last = ⊥
-Run w (event ∷ events) [] last = ⊥
+abbrev pub unseals : Session → Out → Answer
+unseals s Nothing = stays s says.NoBatch
+unseals s Batch = moves s (unsealed_reply s.world) (desk.with_batch_back s.world)
+unseals s Receipt = stays s says.NoBatch
+unseals s Doubt = stays s says.NoBatch
+
+abbrev pub halts : Session → Out → Answer
+halts s Nothing = moves s says.Halted (desk.with_halt s.world)
+halts s Batch = moves s says.Halted (desk.with_halt s.world)
+halts s Receipt = stays s wrong_turn
+halts s Doubt = moves s says.Halted (desk.with_halt s.world)
+
+-- What a call is told in a session.
+abbrev pub answer_to : Session → Event → Answer
+answer_to s (on.Put name target max secrets) = commands s (PutEndpoint name target max secrets)
+answer_to s (on.Secrets name secrets) = commands s (SetSecrets name secrets)
+answer_to s (on.Enabled name flag) = commands s (SetEnabled name flag)
+answer_to s (on.Submit now name id body) = stages Submission s (desk.submit s.world now name id body)
+answer_to s (on.Told seq) = stays s (told_reply s.world (find_ticket s.tickets seq))
+answer_to s on.Seal = seals s
+answer_to s on.Commit = commits s s.world.out
+answer_to s on.Settle = settles s s.world.out
+answer_to s on.Unseal = unseals s s.world.out
+answer_to s on.Halt = halts s s.world.out
+answer_to s (on.ShowEndpoint name) = stays s (endpoint_reply (endpoint_page (settled_records s.world) name))
+answer_to s (on.Show name id) = stays s (event_reply (event_page (settled_records s.world) name id))

@@ -8,6 +8,7 @@ use Rattle.script_lines.specs.declared.reply.Reply.{Reply}
 use Rattle.drill.specs.declared.runner.Runner.{Runner}
 use Rattle.text_lines.specs.Ends.{Ends}
 use Rattle.script_lines.specs.Replies.{reply_text}
+use Rattle.drill.specs.Moves.{answer_to}
 use Rattle.drill.specs.Runners.{Answers, KeepsRows}
 use Rattle.drill.specs.Runs.{IsNoCall, Replies, RepliesTo}
 use Rattle.script_lines.specs.Script.{ReadsLine}
@@ -18,8 +19,8 @@ Replays input old new end = Ends Replies IsNoCall input old new end
 
 -- They are those of a run whose rows the connection has.
 abbrev pub KeepsRun : {S : Type 0} → Ghosts S → Held S → Option (List ℕ) → Option (List ℕ) → Option (List ℕ) → Result (Unit {0}) StreamFault → Type 0
-KeepsRun g conn input old new end = Ends (RepliesTo (λ last. KeepsRows g conn last last.out)) IsNoCall input old new end
+KeepsRun g conn input old new end = Ends (RepliesTo (λ last. KeepsRows g conn last.world)) IsNoCall input old new end
 
 -- from one state to the other, the line's call is answered by this text
 abbrev pub RunsLine : {S : Type 0} → Ghosts S → Runner S → List ℕ → List ℕ → Runner S → Type 0
-RunsLine g old line text new = (event : Event) × (reply : Reply) × ReadsLine line event × Answers g old event reply new × (text ≡ reply_text reply)
+RunsLine g old line text new = (event : Event) × (reply : Reply) × ReadsLine line event × Answers g old (λ s. answer_to s event) reply new × (text ≡ reply_text reply)

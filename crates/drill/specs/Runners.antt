@@ -1,72 +1,104 @@
--- What the runner keeps between two lines, and the worlds for which it stands.
-use Rattle.std.specs.Prelude.{◌≡◌, ℕ, ◌++◌, ◌⊎◌, false, List, IsTrue}
+-- What the runner keeps between two lines, and the sessions for which it stands.
+use Rattle.std.specs.Prelude.{◌≡◌, ℕ, ◌++◌, ◌⊎◌, false, List, [], ◌∷◌, take, IsTrue}
 use Rattle.sqlite.specs.Store.{Ghosts}
 use Rattle.sqlite.specs.State.{HasCleanDisk}
 use Rattle.sqlite.specs.Held as store
 use Rattle.relay_types.specs.declared.record.Record.{Record}
 use Rattle.relay_types.specs.Records.{records_of}
 use Rattle.relay_types.specs.Legal.{IsLegal}
-use Rattle.relay_types.specs.Rows.{rows_of}
+use Rattle.relay_types.specs.Rows.{Rows, rows_of}
 use Rattle.spool_sql.specs.Tables.{no_schema}
-use Rattle.spool_sql.specs.Steps.{IsBegun, MayLeave}
-use Rattle.spool.specs.Batches.{BatchValue}
+use Rattle.spool_sql.specs.Steps.{IsBegun, MayLeave, Stands}
+use Rattle.spool.specs.Batches.{BatchValue, doubt_of}
 use Rattle.spool.specs.declared.ends.Unchanged.{Unchanged}
 use Rattle.spool.specs.declared.ends.Unchanged.TheVariants as why
 use Rattle.spool.specs.Commits.{IsNext, HoldsOnDisk}
-use Rattle.spool.specs.Entering.{Rests, RestsInDoubt}
+use Rattle.spool.specs.Entering.{RestsInDoubt}
 use Rattle.spool.specs.Vaults.{VaultValue}
-use Rattle.script_lines.specs.declared.event.Event.{Event}
+use Rattle.group_commit.specs.declared.held.Held as waiting
 use Rattle.script_lines.specs.declared.reply.Fault.TheVariants as fault
 use Rattle.script_lines.specs.declared.reply.Reply.{Reply}
 use Rattle.script_lines.specs.declared.reply.Reply.TheVariants as says
-use Rattle.drill.specs.declared.runner.Held.{Held}
-use Rattle.drill.specs.declared.runner.Held.TheVariants as held
+use Rattle.drill.specs.declared.held.Held.{Held}
+use Rattle.drill.specs.declared.held.Held.TheVariants as held
 use Rattle.drill.specs.declared.runner.Runner.{Runner}
-use Rattle.desk.specs.World.{World, Out, Nothing, Batch, Receipt, Doubt, settled_records, sealed_records}
-use Rattle.desk.specs.Moves.{sealed_batch}
-use Rattle.drill.specs.Moves.{Move}
-use Rattle.desk.specs.Desks.{StandsFor}
+use Rattle.desk.specs.World.{World, Out, Nothing, Batch, Receipt, Doubt}
+use Rattle.desk.specs.Moves.{sealed_batch, with_halt}
+use Rattle.desk.specs.Desks.{StandsFor, IsHeldOf}
+use Rattle.drill.specs.Moves.{Session, Answer, MayTell, wrong_turn}
+use Rattle.drill.specs.Tickets.{Keeps}
 
 -- the runner holds what the core has handed out
-abbrev pub IsHeld : ℕ → World → Held → Type 0
+abbrev pub IsHeld : (mark : ℕ) → World → Held → Type 0
 IsHeld mark w held.Nothing = w.out ≡ Nothing
 IsHeld mark w (held.Batch batch) = (w.out ≡ Batch) × (batch ≡ sealed_batch mark w)
-IsHeld mark w (held.Receipt batch) = (w.out ≡ Receipt) × (batch ≡ sealed_batch mark w)
-IsHeld mark w (held.Doubt doubt) = w.out ≡ Doubt
+IsHeld mark w (held.Receipt receipt) = (w.out ≡ Receipt) × (receipt ≡ sealed_batch mark w)
+IsHeld mark w (held.Doubt doubt) = (w.out ≡ Doubt) × (doubt ≡ doubt_of (sealed_batch mark w))
 
 -- the store takes commits, holds these records, and a stop leaves them
 abbrev pub IsOpenAt : {S : Type 0} → Ghosts S → VaultValue S → List Record → Type 0
 IsOpenAt g vault records = (vault.closed ≡ false) × HoldsOnDisk g vault records
 
--- a stop leaves the rows of the settled records or of the sealed ones
-abbrev pub LeavesEither : {S : Type 0} → Ghosts S → store.Held S → World → Type 0
-LeavesEither g conn w = MayLeave (store.state g conn) (λ rows. (rows ≡ rows_of (settled_records w)) ⊎ (rows ≡ rows_of (sealed_records w)))
+-- the records of the first so many steps, and their rows
+abbrev pub records_of_first : World → (steps : ℕ) → List Record
+records_of_first w steps = records_of (take steps w.history)
 
--- The store holds the settled records, or the sealed ones once they are committed. After a doubt it takes no commit, and holds either.
-abbrev pub VaultStandsFor : {S : Type 0} → Ghosts S → VaultValue S → World → Out → Type 0
-VaultStandsFor g vault w Nothing = IsOpenAt g vault (settled_records w)
-VaultStandsFor g vault w Batch = IsOpenAt g vault (settled_records w)
-VaultStandsFor g vault w Receipt = IsOpenAt g vault (sealed_records w)
-VaultStandsFor g vault w Doubt = IsTrue vault.closed × LeavesEither g vault.conn w
+abbrev pub rows_of_first : World → (steps : ℕ) → Rows
+rows_of_first w steps = rows_of (records_of_first w steps)
 
--- The rows that stand in the store, by what is out: those of the settled records, or of the sealed ones once they are committed. A stop
--- leaves them. After a doubt it leaves those of either.
-abbrev pub KeepsRows : {S : Type 0} → Ghosts S → store.Held S → World → Out → Type 0
-KeepsRows g conn w Nothing = Rests (store.state g conn) (rows_of (settled_records w))
-KeepsRows g conn w Batch = Rests (store.state g conn) (rows_of (settled_records w))
-KeepsRows g conn w Receipt = Rests (store.state g conn) (rows_of (sealed_records w))
-KeepsRows g conn w Doubt = LeavesEither g conn w
+-- these are the rows of the first steps, for one of these numbers of steps
+abbrev pub AreOfSteps : World → (numbers : List ℕ) → Rows → Type 0
+AreOfSteps w [] rows = ⊥
+AreOfSteps w (steps ∷ others) rows = (rows ≡ rows_of_first w steps) ⊎ AreOfSteps w others rows
 
--- the desk, the store and what is held stand for one world
-pub record RunnerStandsFor {S : Type 0} (g : Ghosts S) (runner : Runner S) (w : World) : Type 0 where
-  pub desk : StandsFor runner.desk w
-  pub held : IsHeld runner.desk.mark w runner.held
-  pub vault : VaultStandsFor g runner.vault w w.out
-  pub mark : runner.desk.mark ≡ runner.vault.mark
+-- How many steps a stop may leave, by what is out: the settled ones, or the sealed ones once they are committed. A doubt leaves either,
+-- also once a committer has given up.
+abbrev pub LeavesBy : Out → World → Type 0
+LeavesBy Nothing w = (w.left ≡ w.settled ∷ []) ⊎ (IsTrue w.halted × (w.left ≡ w.settled ∷ w.sealed ∷ []))
+LeavesBy Batch w = w.left ≡ w.settled ∷ []
+LeavesBy Receipt w = w.left ≡ w.sealed ∷ []
+LeavesBy Doubt w = w.left ≡ w.settled ∷ w.sealed ∷ []
 
--- From each world for which the runner stood, the call made this move of the model, and the runner stands for what came of it.
-abbrev pub Answers : {S : Type 0} → Ghosts S → Runner S → Event → Reply → Runner S → Type 0
-Answers g old event reply new = (w : World) → RunnerStandsFor g old w → (next : World) × Move w event reply next × RunnerStandsFor g new next
+-- Where a stop may leave one number of steps, the store takes commits and holds these steps. Otherwise it takes none.
+abbrev pub HoldsLeft : {S : Type 0} → Ghosts S → VaultValue S → World → (left : List ℕ) → Type 0
+HoldsLeft g vault w [] = ⊥
+HoldsLeft g vault w (steps ∷ []) = IsOpenAt g vault (records_of_first w steps)
+HoldsLeft g vault w (steps ∷ other ∷ more) =
+    IsTrue vault.closed × MayLeave (store.state g vault.conn) (AreOfSteps w (steps ∷ other ∷ more))
+
+-- the store holds what a stop may leave
+pub record VaultStandsFor {S : Type 0} (g : Ghosts S) (vault : VaultValue S) (w : World) : Type 0 where
+  pub leaves : LeavesBy w.out w
+  pub holds : HoldsLeft g vault w w.left
+
+-- A stop leaves the rows of the first steps, for one of the numbers that the world says. Where there is but one, these rows stand in
+-- the store.
+pub record KeepsRows {S : Type 0} (g : Ghosts S) (conn : store.Held S) (w : World) : Type 0 where
+  pub leaves : MayLeave (store.state g conn) (AreOfSteps w w.left)
+  pub stand : (steps : ℕ) → w.left ≡ steps ∷ [] → Stands (store.state g conn) (rows_of_first w steps)
+
+-- the desk, the store, what is held and the tickets stand for one session
+pub record RunnerStandsFor {S : Type 0} (g : Ghosts S) (runner : Runner S) (s : Session) : Type 0 where
+  pub desk : StandsFor runner.desk s.world
+  pub held : IsHeld runner.desk.waiting.mark s.world runner.held
+  pub vault : VaultStandsFor g runner.vault s.world
+  pub tickets : Keeps runner.tickets s.tickets
+  pub mark : runner.desk.waiting.mark ≡ runner.vault.mark
+
+-- From each session for which the runner stood, a call was told what this answer may tell, and the runner stands for what came of it.
+abbrev pub Answers : {S : Type 0} → Ghosts S → Runner S → (Session → Answer) → Reply → Runner S → Type 0
+Answers g old answer reply new = (s : Session) → RunnerStandsFor g old s → (next : Session) × MayTell (answer s) reply next × RunnerStandsFor g new next
+
+-- Where what is handed over is what is out, the desk takes it and is halted; otherwise it goes on as before.
+abbrev pub HandsOver : {S : Type 0} → Runner S → waiting.Held → Reply → Runner S → Type 0
+HandsOver old given reply new =
+    (w : World) → StandsFor old.desk w → IsHeldOf old.desk.waiting.mark w given
+    → (reply ≡ says.Halted) × (new.held ≡ old.held) × StandsFor new.desk (with_halt w)
+
+abbrev pub KeepsOn : {S : Type 0} → Runner S → waiting.Held → Reply → Runner S → Type 0
+KeepsOn old given reply new =
+    (w : World) → StandsFor old.desk w → ¬ IsHeldOf old.desk.waiting.mark w given
+    → (reply ≡ wrong_turn) × StandsFor new.desk w
 
 -- the connection's disk has returned what was written
 abbrev pub IsCleanAt : {S : Type 0} → Ghosts S → store.Held S → Type 0
@@ -90,7 +122,8 @@ unchanged_reply why.OutOfMemory = says.Refused 4 fault.OutOfMemory
 abbrev pub EndsAs : {S : Type 0} → Ghosts S → VaultValue S → List Record → BatchValue → Held → Reply → Type 0
 EndsAs g vault records batch (held.Receipt receipt) reply = (receipt ≡ batch) × (reply ≡ says.Committed vault.next) × IsOpenAt g vault (records ++ records_of batch.steps)
 EndsAs g vault records batch (held.Batch back) reply = (back ≡ batch) × (reply ≡ says.Refused 4 fault.OutOfMemory) × IsOpenAt g vault records
-EndsAs g vault records batch (held.Doubt doubt) reply = (reply ≡ says.Refused 5 fault.Store) × IsTrue vault.closed × RestsInDoubt (store.state g vault.conn) records (records_of batch.steps)
+EndsAs g vault records batch (held.Doubt doubt) reply = (doubt ≡ doubt_of batch) × (reply ≡ says.Refused 5 fault.Store) × IsTrue vault.closed
+    × RestsInDoubt (store.state g vault.conn) records (records_of batch.steps)
 EndsAs g vault records batch held.Nothing reply = ⊥
 
 -- what a commit of the vault's next batch answers

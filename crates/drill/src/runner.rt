@@ -1,111 +1,147 @@
 //! The runner of scripts: it holds what the desk and the store hand out, and gives it to the line that asks for it.
-ghost use Rattle.std.specs.Prelude.{◌≡◌, ◌⊎◌, ℕ, ◌+◌, false, [], length, Err, IsTrue, IfOk, IfErr, MatchResult};
+ghost use Rattle.std.specs.Prelude.{◌≡◌, ◌⊎◌, ℕ, false, List, ◌∷◌, Err, IsTrue, IfOk, IfErr, MatchResult};
 ghost use Rattle.sqlite.specs.Held.{state};
 ghost use Rattle.spool.specs.Opening.{has_ours};
-ghost use Rattle.relay_types.specs.Records.{records_of};
-ghost use Rattle.script_lines.specs.declared.event.Event.TheVariants as on;
 ghost use Rattle.script_lines.specs.declared.reply.Fault.{Fault};
 ghost use Rattle.script_lines.specs.declared.reply.Reply.TheVariants as says;
-ghost use Rattle.desk.specs.Moves.{opened};
 ghost use Rattle.text_lines.specs.Ends.{IsBetweenLines};
-ghost use Rattle.drill.specs.Moves.{fault_of, refusal_reply, staged_reply, seal_reply, event_reply, wrong_turn};
-ghost use Rattle.drill.specs.Runners.{RunnerStandsFor, IsCleanAt, IsClean, HasNoTable, Answers, CommitsSo, unchanged_reply};
+ghost use Rattle.script_lines.specs.declared.event.Event.TheVariants as on;
+ghost use Rattle.drill.specs.declared.tickets.Given as given;
+ghost use Rattle.drill.specs.Moves.{begun, answer_to, commands, wrong_turn};
+ghost use Rattle.drill.specs.Tickets.{seq_of, Keeps, HasRoom};
+ghost use Rattle.drill.specs.Runners.{RunnerStandsFor, IsCleanAt, IsClean, HasNoTable, Answers, HandsOver, KeepsOn};
 ghost use Rattle.drill.specs.Replays.{Replays, KeepsRun, RunsLine};
 ghost use Rattle.drill.specs.Runs.{IsNoCall};
 
-use delivery_book::Row;
-use desk::{Command, Desk, Refusal, WrongTurn};
-use relay_types::{Body, MaxLimit, Moment, MsgId, Name, Secrets, Target};
-use script_lines::{Event, Fault, Reply, read_event};
-use spool::{Batch, CommitEnd, Doubt, Receipt, Unchanged, Vault};
+use crate::commit::commit_batch;
+use crate::held::Held;
+use crate::replies::{event_reply, refusal_reply, sealed_reply, told_reply, wrong_turn};
+use crate::tickets::{Given, Tickets};
+use desk::{Command, Desk};
+use group_commit::WrongTurn;
+use relay_types::{Body, Moment, MsgId, Name};
+use script_lines::{Event, Reply, read_event};
+use spool::Vault;
 use sqlite::{Alter, Connection};
 use std::alloc::{AllocError, Global};
 use std::io::{Read, Write};
 use std::mem;
 use text_lines::{Answerer, StreamFault, WordFault, answer_lines};
 
-/// What the runner holds between two lines.
-enum Held {
-    Nothing,
-    Batch(Batch),
-    Receipt(Receipt),
-    Doubt(Doubt),
-}
-
-impl Held {
-    // Ends what is held.
-    fn end(self) {
-        match self {
-            Held::Nothing => {}
-            Held::Batch(batch) => drop(batch.into_steps()),
-            Held::Receipt(receipt) => drop(receipt.into_steps()),
-            Held::Doubt(doubt) => doubt.end(),
-        }
-    }
-}
-
-/// The desk, the store and what is out.
+/// The desk, the store, what is out, and the tickets that were given.
 struct Runner<S: Alter> {
     desk: Desk,
     vault: Vault<S>,
     held: Held,
+    tickets: Tickets,
 }
 
 impl<S: Alter> Runner<S> {
-    // Gives the call to the desk or the store.
+    // Gives the call to the desk or the store. There is room for a ticket.
     fn carry_out(&mut self, event: Event) -> Reply
-        ensures answers { IsClean S.Store self.new → Answers S.Store self.old event result self.new }
+        requires { HasRoom self.old.tickets }
+        ensures answers { IsClean S.Store self.new
+            → Answers S.Store self.old (λ s. answer_to s event) result self.new }
         ensures clean { IsClean S.Store self.new → IsClean S.Store self.old }
     {
         match event {
+            Event::Put {
+                name,
+                target,
+                max,
+                secrets,
+            } => self.command(Command::PutEndpoint {
+                name,
+                target,
+                max,
+                secrets,
+            }),
+            Event::Secrets { name, secrets } => self.command(Command::SetSecrets { name, secrets }),
+            Event::Enabled { name, flag } => self.command(Command::SetEnabled { name, flag }),
             Event::Submit {
                 now,
                 name,
                 id,
                 body,
             } => self.submit(now, name, id, body),
-            Event::Put {
-                name,
-                target,
-                max,
-                secrets,
-            } => self.put(name, target, max, secrets),
+            Event::Told { seq } => self.told(seq),
             Event::Seal => self.seal(),
             Event::Commit => self.commit(),
             Event::Settle => self.settle(),
+            Event::Unseal => self.unseal(),
+            Event::Halt => self.halt(),
+            Event::ShowEndpoint { name } => self.show_endpoint(name),
             Event::Show { name, id } => self.show(name, &id),
         }
     }
 
-    fn submit(&mut self, now: Moment, name: Name, id: MsgId, body: Body) -> Reply
-        ensures answers { Answers S.Store self.old (on.Submit now name id body) result self.new }
+    fn command(&mut self, command: Command) -> Reply
+        requires { HasRoom self.old.tickets }
+        ensures answers { Answers S.Store self.old (λ s. commands s command) result self.new }
         ensures clean { IsClean S.Store self.new → IsClean S.Store self.old }
     {
-        staged_reply(self.desk.submit(now, name, id, body))
+        match self.desk.command(command) {
+            Ok(ticket) => self.keep(Given::Command(ticket)),
+            Err(refusal) => refusal_reply(refusal),
+        }
     }
 
-    fn put(&mut self, name: Name, target: Target, max: MaxLimit, secrets: Secrets) -> Reply
-        ensures answers { Answers S.Store self.old (on.Put name target max secrets) result self.new }
+    fn submit(&mut self, now: Moment, name: Name, id: MsgId, body: Body) -> Reply
+        requires { HasRoom self.old.tickets }
+        ensures answers { Answers S.Store self.old (λ s. answer_to s (on.Submit now name id body)) result self.new }
         ensures clean { IsClean S.Store self.new → IsClean S.Store self.old }
     {
-        staged_reply(
-            self.desk.command(Command::PutEndpoint {
-                name,
-                target,
-                max,
-                secrets,
-            }),
-        )
+        match self.desk.submit(now, name, id, body) {
+            Ok(ticket) => self.keep(Given::Submission(ticket)),
+            Err(refusal) => refusal_reply(refusal),
+        }
+    }
+
+    // Keeps the ticket, and tells its number.
+    fn keep(&mut self, ticket: Given) -> Reply
+        requires { HasRoom self.old.tickets }
+        ensures reply { result ≡ says.Staged (seq_of ticket) }
+        ensures kept { (tickets : List given.Given)
+            → Keeps self.old.tickets tickets → Keeps self.new.tickets (ticket ∷ tickets) }
+        ensures same { self.new ≡ record self.old { tickets = self.new.tickets } }
+    {
+        let seq = ticket.seq();
+        self.tickets.keep(ticket);
+        Reply::Staged { seq }
+    }
+
+    fn told(&self, seq: u64) -> Reply
+        ensures { Answers S.Store self.now (λ s. answer_to s (on.Told seq)) result self.now }
+    {
+        match self.tickets.find(seq) {
+            Some(Given::Submission(ticket)) => told_reply(self.desk.told(&ticket)),
+            Some(Given::Command(ticket)) => told_reply(self.desk.told_command(&ticket)),
+            None => Reply::NoTicket,
+        }
+    }
+
+    fn show_endpoint(&self, name: Name) -> Reply
+        ensures { Answers S.Store self.now (λ s. answer_to s (on.ShowEndpoint name)) result self.now }
+    {
+        match self.desk.endpoint_page(name) {
+            Some(page) => Reply::Endpoint {
+                enabled: page.enabled,
+                pending: page.pending,
+                delivered: page.delivered,
+                exhausted: page.exhausted,
+            },
+            None => Reply::Absent,
+        }
     }
 
     fn show(&self, name: Name, id: &MsgId) -> Reply
-        ensures { Answers S.Store self.now (on.Show name id.now) result self.now }
+        ensures { Answers S.Store self.now (λ s. answer_to s (on.Show name id.now)) result self.now }
     {
-        event_reply(self.desk.event(name, id))
+        event_reply(self.desk.event_page(name, id))
     }
 
     fn seal(&mut self) -> Reply
-        ensures answers { Answers S.Store self.old on.Seal result self.new }
+        ensures answers { Answers S.Store self.old (λ s. answer_to s on.Seal) result self.new }
         ensures clean { IsClean S.Store self.new → IsClean S.Store self.old }
     {
         match self.desk.seal() {
@@ -120,7 +156,8 @@ impl<S: Alter> Runner<S> {
     }
 
     fn commit(&mut self) -> Reply
-        ensures answers { IsClean S.Store self.new → Answers S.Store self.old on.Commit result self.new }
+        ensures answers { IsClean S.Store self.new
+            → Answers S.Store self.old (λ s. answer_to s on.Commit) result self.new }
         ensures clean { IsClean S.Store self.new → IsClean S.Store self.old }
     {
         match mem::replace(&mut self.held, Held::Nothing) {
@@ -137,24 +174,78 @@ impl<S: Alter> Runner<S> {
     }
 
     fn settle(&mut self) -> Reply
-        ensures answers { Answers S.Store self.old on.Settle result self.new }
+        ensures answers { Answers S.Store self.old (λ s. answer_to s on.Settle) result self.new }
         ensures refused { (number : ℕ) (fault : Fault) → result ≡ says.Refused number fault → result ≡ wrong_turn }
         ensures clean { IsClean S.Store self.new → IsClean S.Store self.old }
     {
         match mem::replace(&mut self.held, Held::Nothing) {
             Held::Receipt(receipt) => match self.desk.settle(receipt) {
-                Ok(to) => Reply::SettledTo { to },
+                Ok(settled) => Reply::SettledTo {
+                    to: settled.records,
+                },
                 Err((receipt, WrongTurn)) => {
                     self.hold(Held::Receipt(receipt));
-                    Reply::Refused {
-                        number: 1,
-                        fault: Fault::WrongTurn,
-                    }
+                    wrong_turn()
                 }
             },
             other => {
                 self.hold(other);
                 Reply::NoReceipt
+            }
+        }
+    }
+
+    fn unseal(&mut self) -> Reply
+        ensures answers { Answers S.Store self.old (λ s. answer_to s on.Unseal) result self.new }
+        ensures refused { (number : ℕ) (fault : Fault) → result ≡ says.Refused number fault → result ≡ wrong_turn }
+        ensures clean { IsClean S.Store self.new → IsClean S.Store self.old }
+    {
+        match mem::replace(&mut self.held, Held::Nothing) {
+            Held::Batch(batch) => {
+                let (from, to) = (batch.from(), batch.upto());
+                match self.desk.unseal(batch) {
+                    Ok(()) => Reply::Unsealed { from, to },
+                    Err((batch, WrongTurn)) => {
+                        self.hold(Held::Batch(batch));
+                        wrong_turn()
+                    }
+                }
+            }
+            other => {
+                self.hold(other);
+                Reply::NoBatch
+            }
+        }
+    }
+
+    fn halt(&mut self) -> Reply
+        ensures answers { Answers S.Store self.old (λ s. answer_to s on.Halt) result self.new }
+        ensures clean { IsClean S.Store self.new → IsClean S.Store self.old }
+    {
+        match mem::replace(&mut self.held, Held::Nothing) {
+            Held::Nothing => self.hand_over(group_commit::Held::Nothing),
+            Held::Batch(batch) => self.hand_over(group_commit::Held::Batch(batch)),
+            Held::Doubt(doubt) => self.hand_over(group_commit::Held::Doubt(doubt)),
+            Held::Receipt(receipt) => {
+                let reply = self.hand_over(group_commit::Held::Nothing);
+                self.hold(Held::Receipt(receipt));
+                reply
+            }
+        }
+    }
+
+    // Hands over what a committer that gives up held.
+    fn hand_over(&mut self, held: group_commit::Held) -> Reply
+        ensures halts { HandsOver self.old held result self.new }
+        ensures refused { KeepsOn self.old held result self.new }
+        ensures mark { self.new.desk.waiting.mark ≡ self.old.desk.waiting.mark }
+        ensures same { self.new ≡ record self.old { desk = self.new.desk; held = self.new.held } }
+    {
+        match self.desk.halt(held) {
+            Ok(()) => Reply::Halted,
+            Err((held, WrongTurn)) => {
+                self.hold(Held::again(held));
+                wrong_turn()
             }
         }
     }
@@ -175,6 +266,7 @@ impl<S: Alter> Runner<S> {
             desk: _,
             vault,
             held,
+            tickets: _,
         } = self;
         held.end();
         vault.release()
@@ -192,100 +284,9 @@ impl<S: Alter> Answerer for Runner<S> {
 
     fn answer(&mut self, alloc: Global, line: &[u8]) -> Result<Reply, WordFault> {
         let event = read_event(alloc, line)?;
+        self.tickets.reserve()?;
         Ok(self.carry_out(event))
     }
-}
-
-fn staged_reply(answer: Result<u64, Refusal>) -> Reply
-    ensures { result ≡ staged_reply answer }
-{
-    match answer {
-        Ok(seq) => Reply::Staged { seq },
-        Err(refusal) => refusal_reply(refusal),
-    }
-}
-
-fn event_reply(row: Option<Row>) -> Reply
-    ensures { result ≡ event_reply row }
-{
-    match row {
-        Some(row) => Reply::Event {
-            state: row.state,
-            due: row.due,
-            attempts: row.attempts,
-        },
-        None => Reply::Absent,
-    }
-}
-
-fn sealed_reply(batch: &Batch) -> Reply
-    ensures { result ≡ says.Sealed batch.now.from (batch.now.from + length (records_of batch.now.steps)) }
-{
-    Reply::Sealed {
-        from: batch.from(),
-        to: batch.upto(),
-    }
-}
-
-fn refusal_reply(refusal: Refusal) -> Reply
-    ensures { result ≡ refusal_reply refusal }
-{
-    Reply::Refused {
-        number: refusal.number,
-        fault: fault_of(refusal.fault),
-    }
-}
-
-fn fault_of(fault: desk::Fault) -> Fault
-    ensures { result ≡ fault_of fault }
-{
-    match fault {
-        desk::Fault::UnknownEndpoint => Fault::UnknownEndpoint,
-        desk::Fault::Conflict => Fault::Conflict,
-        desk::Fault::Exists => Fault::Exists,
-        desk::Fault::EndpointBacklog => Fault::EndpointBacklog,
-        desk::Fault::Backlog => Fault::Backlog,
-        desk::Fault::TooManyEndpoints => Fault::TooManyEndpoints,
-        desk::Fault::WaitingFull => Fault::WaitingFull,
-        desk::Fault::SeqExhausted => Fault::SeqExhausted,
-        desk::Fault::BatchOut => Fault::BatchOut,
-        desk::Fault::OutOfMemory => Fault::OutOfMemory,
-    }
-}
-
-// Commits the batch: what is held then, and the reply.
-fn commit_batch<S: Alter>(vault: &mut Vault<S>, batch: Batch) -> (Held, Reply)
-    ensures mark { vault.new.mark ≡ vault.old.mark }
-    ensures commits { IsCleanAt S.Store vault.new.conn
-        → CommitsSo S.Store vault.old vault.new batch result.0 result.1 }
-    ensures clean { IsCleanAt S.Store vault.new.conn → IsCleanAt S.Store vault.old.conn }
-{
-    match vault.commit(batch) {
-        Ok(receipt) => {
-            let to = vault.next();
-            (Held::Receipt(receipt), Reply::Committed { to })
-        }
-        Err(CommitEnd::Unchanged(batch, why)) => (Held::Batch(batch), unchanged_reply(why)),
-        Err(CommitEnd::Doubtful(doubt, _)) => (
-            Held::Doubt(doubt),
-            Reply::Refused {
-                number: 5,
-                fault: Fault::Store,
-            },
-        ),
-    }
-}
-
-fn unchanged_reply(why: Unchanged) -> Reply
-    ensures { result ≡ unchanged_reply why }
-{
-    let (number, fault) = match why {
-        Unchanged::Closed => (1, Fault::Closed),
-        Unchanged::OutOfTurn => (2, Fault::OutOfTurn),
-        Unchanged::Illegal => (3, Fault::Illegal),
-        Unchanged::OutOfMemory => (4, Fault::OutOfMemory),
-    };
-    Reply::Refused { number, fault }
 }
 
 /// Runs the script that the reader gives over a store without tables, and writes a reply for each line. A store that has one of the
@@ -327,7 +328,7 @@ fn start<S: Alter>(
 ) -> Result<Runner<S>, (Connection<S>, StreamFault)>
     ensures stands { IfOk result
         (λ runner. IsClean S.Store runner → HasNoTable S.Store conn
-        → RunnerStandsFor S.Store runner (opened [] 0)) }
+        → RunnerStandsFor S.Store runner begun) }
     ensures clean { MatchResult result
         (λ runner. IsClean S.Store runner → IsCleanAt S.Store conn)
         (λ back. IsCleanAt S.Store back.0 → IsCleanAt S.Store conn) }
@@ -350,6 +351,7 @@ fn start<S: Alter>(
             desk,
             vault,
             held: Held::Nothing,
+            tickets: Tickets::new(alloc),
         }),
         Err(AllocError) => Err((vault.release(), StreamFault::OutOfMemory)),
     }

@@ -48,15 +48,120 @@ no-receipt
 absent
 absent
 staged 2
-refused 6 WaitingFull
-sealed 2..3
+staged 3
+sealed 2..4
 refused 2 BatchOut
 absent
 ";
 
+// A batch is taken back, and sealed again with what came since.
+const TAKEN_BACK: &str =
+    "put a http://127.0.0.1:9000/hook 100 whsec_MDEyMzQ1Njc4OTAxMjM0NTY3ODkwMTIz
+seal
+unseal
+submit 1000 a msg_1 7b7d
+seal
+commit
+settle
+told 0
+told 1
+told 2
+unseal";
+
+const TAKEN_BACK_REPLIES: &str = "staged 0
+sealed 0..1
+unsealed 0..1
+staged 1
+sealed 0..2
+committed 2
+settled 2
+settled
+settled
+no-ticket
+no-batch
+";
+
+// A committer gives up what isn't committed.
+const HALTED: &str = "put a http://127.0.0.1:9000/hook 100 whsec_MDEyMzQ1Njc4OTAxMjM0NTY3ODkwMTIz
+seal
+seal
+commit
+halt
+settle
+disable a
+seal
+halt
+told 0
+told 1
+seal
+commit
+submit 1000 a msg_1 7b7d
+enable a
+halt
+show a";
+
+const HALTED_REPLIES: &str = "staged 0
+sealed 0..1
+refused 2 BatchOut
+committed 1
+refused 1 WrongTurn
+settled 1
+staged 1
+sealed 1..2
+halted
+settled
+unknown
+refused 1 Halted
+no-batch
+refused 1 Halted
+refused 1 Halted
+halted
+enabled pending 0 delivered 0 exhausted 0
+";
+
+// An endpoint is changed, and shown as it was settled last.
+const CHANGED: &str = "show a
+enable a
+secrets a whsec_AAAAAAAAAAAAAAAAAAAAAAAAAAAAAAAA
+put a http://127.0.0.1:9000/hook 100 whsec_MDEyMzQ1Njc4OTAxMjM0NTY3ODkwMTIz
+secrets a whsec_AAAAAAAAAAAAAAAAAAAAAAAAAAAAAAAA,MDEyMzQ1Njc4OTAxMjM0NTY3ODkwMTIz
+disable a
+submit 1000 a msg_1 -
+told 3
+show a
+seal
+commit
+settle
+enable a
+show a
+told 4";
+
+const CHANGED_REPLIES: &str = "absent
+refused 2 UnknownEndpoint
+refused 2 UnknownEndpoint
+staged 0
+staged 1
+staged 2
+staged 3
+waiting
+absent
+sealed 0..4
+committed 4
+settled 4
+staged 4
+disabled pending 1 delivered 0 exhausted 0
+waiting
+";
+
 #[test]
 fn replays_scripts(rt: HostRuntime) {
-    for (script, replies) in [("", ""), (SCRIPT, REPLIES)] {
+    for (script, replies) in [
+        ("", ""),
+        (SCRIPT, REPLIES),
+        (TAKEN_BACK, TAKEN_BACK_REPLIES),
+        (HALTED, HALTED_REPLIES),
+        (CHANGED, CHANGED_REPLIES),
+    ] {
         let told = tell(rt.alloc(), &["relayd", "replay"], script.as_bytes());
         check(&rt, &told, replies, "", 0);
     }
@@ -72,6 +177,17 @@ fn refuses_bad_lines(rt: HostRuntime) {
         "submit 01 a m2 -\n",
         "submit 1 a m2 \n",
         "submit 1 a m2 7g\n",
+        "secrets a\n",
+        "secrets a whsec_AAAA\n",
+        "enable\n",
+        "disable a b\n",
+        "told 01\n",
+        "told 18446744073709551616\n",
+        "unseal 1\n",
+        "halt now\n",
+        "show\n",
+        "show A\n",
+        "show a b c\n",
     ] {
         let told = tell(rt.alloc(), &["relayd", "replay"], line.as_bytes());
         check(&rt, &told, "", "relayd: line 1: bad line\n", 2);

@@ -1,6 +1,15 @@
-use Rattle.std.proofs.Common.{refl}
-use Rattle.drill.proofs.RunnerLaws.{answers_submit}
+use Rattle.std.proofs.Common.{Ok, Err, refl}
+use Rattle.desk.specs.Moves.{submit}
+use Rattle.drill.specs.declared.tickets.Given.TheVariants.{Submission}
+use Rattle.drill.proofs.SessionLaws.{answers_staged, goes_submit}
 use Rattle.drill.proofs.runner.Runner.submit.Goals as goal
 
-pub returns-clause-answers : goal.returns-clause-answers
-returns-clause-answers g c = rw c.staged_reply.ensures (answers_submit g.S.Store _ _ c.args.now c.args.name c.args.id c.args.body _ c.submit.ensures.moves c.submit.ensures.mark refl refl)
+pub returns-in-Ok-clause-answers : goal.returns-in-Ok-clause-answers
+returns-in-Ok-clause-answers g c = rw (c.keep.ensures.reply, c.keep.ensures.same)
+    (answers_staged g.S.Store c.args.self.now _ Submission (λ w. submit w c.args.now c.args.name c.args.id c.args.body) (Ok c.in-Ok.ticket) (λ w. goes_submit w c.args.now c.args.name c.args.id c.args.body)
+    c.in-Ok.ensures.moves c.in-Ok.ensures.mark refl refl c.keep.ensures.kept)
+
+pub returns-in-Err-clause-answers : goal.returns-in-Err-clause-answers
+returns-in-Err-clause-answers g c = rw c.refusal_reply.ensures
+    (answers_staged g.S.Store c.args.self.now _ Submission (λ w. submit w c.args.now c.args.name c.args.id c.args.body) (Err c.in-Err.refusal) (λ w. goes_submit w c.args.now c.args.name c.args.id c.args.body)
+    c.in-Err.ensures.moves c.in-Err.ensures.mark refl refl (λ tickets keeps. keeps))

@@ -1,6 +1,7 @@
 use Rattle.std.proofs.Common.{◌≡◌, Result, Err, ap, sym, refl, ◌∙◌}
 use Rattle.std.proofs.lemmas.Result.{err_from_is_err_and}
 use Rattle.script_lines.specs.Replies.{reply_text}
+use Rattle.drill.proofs.SessionLaws.{stands_with_room}
 use Rattle.drill.proofs.runner.RunnerAnswerer.answer.Goals as goal
 
 one_fault : {T E : Type 0} (a b : E) → ◌≡◌ {A = Result T E} (Err a) (Err b) → a ≡ b
@@ -12,5 +13,14 @@ returns-in_err-event-clause-bad g c = λ e.
     c.in_err-event.ensures.bad (ap Err (sym p.2 ∙ one_fault p.0 _ (sym p.1 ∙ e)))
 
 pub returns-clause-answers : goal.returns-clause-answers
-returns-clause-answers g c = λ clean.
-    (reply_text c.carry_out.result, refl, (c.in_ok-event.event, c.carry_out.result, c.in_ok-event.ensures.stands, c.carry_out.ensures.answers clean, refl))
+returns-clause-answers g c = λ clean. (
+  reply_text c.carry_out.result,
+  refl,
+  (
+    c.in_ok-event.event,
+    c.carry_out.result,
+    c.in_ok-event.ensures.stands,
+    λ s on. c.carry_out.ensures.answers clean s (stands_with_room g.S.Store c.args.self.now _ s refl refl refl c.in_ok-reserve.ensures.same on),
+    refl,
+  ),
+)

@@ -1,7 +1,7 @@
 use Rattle.std.proofs.Common.{Err, ap, subst, ◌∙◌}
 use Rattle.spool.specs.Commits.{HandsBack}
-use Rattle.drill.proofs.RunnerLaws.{unchanged_ends}
-use Rattle.drill.proofs.runner.commit_batch.Goals as goal
+use Rattle.drill.proofs.CommitLaws.{unchanged_ends}
+use Rattle.drill.proofs.commit.commit_batch.Goals as goal
 
 pub returns-in-Err-Unchanged-clause-commits : goal.returns-in-Err-Unchanged-clause-commits
 returns-in-Err-Unchanged-clause-commits g c clean = rw c.unchanged_reply.ensures
