@@ -11,7 +11,8 @@ use std::alloc::Global;
 
 const MARK: u64 = 0;
 
-fn opened<S: Alter + Drop>(conn: Connection<S>) -> Result<Vault<S>, Failed> {
+/// A vault over a store without tables.
+pub fn opened<S: Alter + Drop>(conn: Connection<S>) -> Result<Vault<S>, Failed> {
     if !conn.is_autocommit() {
         return Err(Failed);
     }

@@ -74,7 +74,8 @@ pub fn commit<S: Alter>(waiting: &mut Waiting, vault: &mut Vault<S>) -> Result<(
     }
 }
 
-fn written<S: Alter>(vault: &mut Vault<S>, batch: Batch) -> Result<Receipt, Failed> {
+/// The receipt of the batch, once it is committed.
+pub fn written<S: Alter>(vault: &mut Vault<S>, batch: Batch) -> Result<Receipt, Failed> {
     match vault.commit(batch) {
         Ok(receipt) => Ok(receipt),
         Err(CommitEnd::Unchanged(batch, _)) => {
