@@ -1,5 +1,5 @@
-// A library to be loaded before the C library. It refuses the allocation whose number, from 1, stands in REFUSE, and keeps how many
-// were asked for in the file that ASKED names.
+// A library to be loaded before the C library. It refuses the allocation whose number, from 1, stands in REFUSE, or as many from there
+// on as stands in MANY, and keeps how many were asked for in the file that ASKED names.
 #define _GNU_SOURCE
 #include <dlfcn.h>
 #include <errno.h>
@@ -10,6 +10,7 @@
 
 static unsigned long number;
 static unsigned long refuse;
+static unsigned long many = 1;
 static unsigned long *asked;
 
 __attribute__((constructor)) static void start(void) {
@@ -26,14 +27,17 @@ __attribute__((constructor)) static void start(void) {
     if (asked == MAP_FAILED)
         asked = NULL;
     refuse = strtoul(text, NULL, 10);
+    text = getenv("MANY");
+    if (text != NULL)
+        many = strtoul(text, NULL, 10);
 }
 
-// Counts an allocation: whether it is the one to be refused. Those before `start` aren't the program's.
+// Counts an allocation: whether it is to be refused. Those before `start` aren't the program's.
 static int is_refused(void) {
     if (asked == NULL)
         return 0;
     *asked = ++number;
-    if (number != refuse)
+    if (refuse == 0 || number < refuse || number - refuse >= many)
         return 0;
     errno = ENOMEM;
     return 1;
