@@ -3,12 +3,14 @@
 
 mod filling;
 mod inserting;
+mod loading;
 mod records;
 mod submitting;
 mod turns;
 
 use crate::filling::{fill, fill_tables};
 use crate::inserting::insert;
+use crate::loading::print_loads;
 use crate::submitting::submit;
 use sqlite::Connection;
 use std::io;
@@ -17,6 +19,7 @@ use text_lines::read_number;
 
 const LIST: &str = "replay PATH        the script on standard input
 tables PATH        each record once
+loads PATH         the same, and then two loads
 fill COUNT PATH    as many events, half of them with two attempts
 load COUNT PATH    the same, and then read back into books
 submit COUNT PATH  as many submissions, committed 256 at a time
@@ -48,6 +51,18 @@ fn write_tables(rt: &HostRuntime, path: &str) -> bool {
         Ok(conn) => fill_tables(rt.alloc(), conn).is_ok(),
         Err(_) => false,
     }
+}
+
+/// Writes each record once into the file, which is to have no table, and prints what two loads tell. Whether it was written.
+fn load_tables(rt: &HostRuntime, path: &str) -> io::Result<bool> {
+    let Ok(conn) = Connection::open(rt, path) else {
+        return Ok(false);
+    };
+    let Ok(mut vault) = fill_tables(rt.alloc(), conn) else {
+        return Ok(false);
+    };
+    print_loads(rt, &mut vault)?;
+    Ok(true)
 }
 
 /// Fills the file, which is to have no table. Whether it was written.
@@ -108,6 +123,7 @@ fn run(rt: &HostRuntime, words: &[&str]) -> io::Result<bool> {
         }
         [_, "replay", path] => Ok(replay(rt, path)),
         [_, "tables", path] => Ok(write_tables(rt, path)),
+        [_, "loads", path] => load_tables(rt, path),
         [_, "fill", count, path] => Ok(write_events(rt, count, path)),
         [_, "load", count, path] => load(rt, count, path),
         [_, "submit", count, path] => take_in(rt, count, path),
