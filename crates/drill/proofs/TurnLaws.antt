@@ -188,19 +188,20 @@ answers_settled g old new receipt records was moved counts mark vault tickets sa
       ended g old new s next on (moved s.world on.desk).1 refl keeps mark vault tickets same,
     )
 
-pub answers_taken_back : {S : Type 0} (g : Ghosts S) (old new : Runner S) (batch : BatchValue) → held.Batch batch ≡ old.held
+pub answers_taken_back : {S : Type 0} (g : Ghosts S) (old new : Runner S) (batch : BatchValue) (from to : ℕ) → held.Batch batch ≡ old.held → from ≡ batch.from → to ≡ (doubt_of batch).upto
     → OverWorlds old.desk (λ w. ArePlacesOf old.desk.waiting.mark w (doubt_of batch) × StandsFor new.desk (with_batch_back w))
-    → new.desk.waiting.mark ≡ old.desk.waiting.mark → new.vault ≡ old.vault → new.tickets ≡ old.tickets → new.held ≡ held.Nothing → Answers g old (λ s. unseals s s.world.out) (says.Unsealed batch.from (doubt_of batch).upto) new
-answers_taken_back g old new batch was moved mark vault tickets same s on =
+    → new.desk.waiting.mark ≡ old.desk.waiting.mark → new.vault ≡ old.vault → new.tickets ≡ old.tickets → new.held ≡ held.Nothing → Answers g old (λ s. unseals s s.world.out) (says.Unsealed from to) new
+answers_taken_back g old new batch from to was first last moved mark vault tickets same s on =
     let had = subst (IsHeld old.desk.waiting.mark s.world) (sym was) on.held in
     let next = with_batch_back s.world in
     let keeps : VaultStandsFor g old.vault next = record { leaves = inl (subst (λ o. LeavesBy o s.world) had.0 on.vault.leaves); holds = on.vault.holds } in
     let steps = records_of (sealed_batch old.desk.waiting.mark s.world).steps in
     let upto : length (settled_records s.world) + length steps ≡ length (sealed_records s.world) =
     sym (length-append (settled_records s.world) steps) ∙ ap length (sealed_is old.desk.waiting.mark s.world on.desk.waiting.settled_first) in
-    let told : says.Unsealed batch.from (doubt_of batch).upto ≡ unsealed_reply s.world = ap (λ (b : BatchValue). says.Unsealed b.from (doubt_of b).upto) had.1 ∙ ap (says.Unsealed (length (settled_records s.world))) upto in (
+    let told : says.Unsealed from to ≡ unsealed_reply s.world =
+    (λ i. says.Unsealed (first i) (last i)) ∙ ap (λ (b : BatchValue). says.Unsealed b.from (doubt_of b).upto) had.1 ∙ ap (says.Unsealed (length (settled_records s.world))) upto in (
       record s { world = next },
-      subst (λ o. MayTell (unseals s o) (says.Unsealed batch.from (doubt_of batch).upto) (record s { world = next })) (sym had.0) (inl (told, refl)),
+      subst (λ o. MayTell (unseals s o) (says.Unsealed from to) (record s { world = next })) (sym had.0) (inl (told, refl)),
       ended g old new s next on (moved s.world on.desk).1 refl keeps mark vault tickets same,
     )
 
