@@ -10,5 +10,13 @@ pub mod RowLaws
 pub mod LookupLaws
 pub mod FlagLaws
 pub mod AlikeLaws
+pub mod TableLaws
+pub mod LastLaws
+pub mod StandLaws
+pub mod SoundLaws
+pub mod FlagPlaceLaws
+pub mod FilterLaws
+pub mod KeyLaws
 mod WorkedValues
 mod WorkedRows
+mod WorkedFiles

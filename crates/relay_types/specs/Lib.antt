@@ -11,3 +11,4 @@ pub mod Faults
 pub mod Laws
 pub mod Lookups
 pub mod Alike
+pub mod Sound

@@ -1,6 +1,7 @@
 //! Laws that contracts rest on.
 ghost use Rattle.relay_types.specs.Alike.{RowsTellAll};
 ghost use Rattle.relay_types.specs.Laws.{RowsFollow};
+ghost use Rattle.relay_types.specs.Sound.{LegalRowsAreSound};
 
 /// The rows of a legal history that goes on legally are those that the table of changes makes of the rows before, record
 /// by record.
@@ -12,4 +13,9 @@ pub fn rows_follow()
 /// them, and what goes on legally behind one does so behind the other.
 pub fn rows_tell_all()
     ensures { RowsTellAll }
+{}
+
+/// The rows of a legal history are sound, stand in the order of their keys, and keep the schema's unique values and references.
+pub fn legal_rows_are_sound()
+    ensures { LegalRowsAreSound }
 {}
