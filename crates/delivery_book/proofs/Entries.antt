@@ -1,13 +1,15 @@
 -- Facts about lists of entries in the order of their numbers.
 use Rattle.std.proofs.Common.{◌≡◌, ◌≢◌, ℕ, zero, suc, ◌+◌, ◌-◌, ◌<◌, ◌≤◌, Bool, true, false, List, [], ◌∷◌, Option, Some, None, length, take, drop, get_or, refl, sym, ◌∙◌, ap, ltb, eqb, arith, cond, ⊎_elim}
 use Rattle.std.specs.Prelude.{slice_get, filter, count_by, is_some}
+use Rattle.std.specs.List.{list_all}
 use Rattle.std.specs.List.Sorted.{IsPartitionedBy}
 use Rattle.std.proofs.Math.Seq.{take-add}
 use Rattle.std.proofs.lemmas.Bool.{cond-true, cond-false, lt-ltb, le-ltb, ne_eqb, eq-eqb, cases_eq, cases_lt}
 use Rattle.std.proofs.lemmas.List.Folds.{find_at}
-use Rattle.std.proofs.lemmas.List.Sums.{position_or_len_is, sum_by-append}
+use Rattle.std.proofs.lemmas.List.Sums.{position_or_len_is, sum_by-append, sum_by-cons}
 use Rattle.std.proofs.lemmas.List.Sorted.{IsPartitionedBy-ltb}
 use Rattle.std.proofs.lemmas.Option.{slice_get-get_or}
+use Rattle.relay_types.proofs.KnownLaws.{and_first, and_second}
 use Rattle.delivery_book.specs.declared.entry.Entry.{Entry}
 use Rattle.delivery_book.specs.Entries.{entry_at}
 use Rattle.delivery_book.specs.Fields.{IsAscending}
@@ -99,3 +101,45 @@ found_at entries seq n up there within below above = (inside, λ d. (entry_at-fo
 
     same : (d : Entry) → (get_or entries n d).seq ≡ seq
     same d = ⊎_elim (λ e. e) (λ ne. absurd (missed (λ x lt is. ne (ap (λ (y : Entry). y.seq) (get_or-any entries n d x lt) ∙ is)))) (cases_eq (get_or entries n d).seq seq)
+
+-- No two entries have one number.
+
+none_later : (entries : List Entry) (n : ℕ) → ((k : ℕ) (d : Entry) → k < length entries → n < (get_or entries k d).seq) → count_by (λ e. eqb e.seq n) entries ≡ 0
+none_later [] n later = refl
+none_later (x ∷ xs) n later =
+    omega (
+      arith,
+      sum_by-cons (λ (e : Entry). cond (eqb e.seq n) 1 0) x xs,
+      ap {B = ℕ} (λ b. cond b 1 0) (ne_eqb x.seq n (λ same. absurd (omega (arith, same, later 0 x (omega arith))))),
+      none_later xs n (λ k d h. later (suc k) d (omega (arith, h))),
+    )
+
+pub one_each : (entries : List Entry) → IsAscending entries → (n : ℕ) → count_by (λ e. eqb e.seq n) entries ≤ 1
+one_each [] up n = omega arith
+one_each (x ∷ xs) up n =
+    ⊎_elim
+    (λ same. omega (
+      arith,
+      sum_by-cons (λ (e : Entry). cond (eqb e.seq n) 1 0) x xs,
+      ap {B = ℕ} (λ b. cond b 1 0) (eq-eqb x.seq n same),
+      none_later xs n (λ k d h. omega (arith, same, up 0 (suc k) d (omega arith) (omega (arith, h)))),
+    ))
+    (λ differs. omega (
+      arith,
+      sum_by-cons (λ (e : Entry). cond (eqb e.seq n) 1 0) x xs,
+      ap {B = ℕ} (λ b. cond b 1 0) (ne_eqb x.seq n differs),
+      one_each xs (λ i j d lt l. up (suc i) (suc j) d (omega (arith, lt)) (omega (arith, l))) n,
+    ))
+    (cases_eq x.seq n)
+
+-- an entry that is found passes what all pass
+pub found_passes : (p : Entry → Bool) (entries : List Entry) (seq : ℕ) (e : Entry) → list_all p entries ≡ true → entry_at entries seq ≡ Some e → p e ≡ true
+found_passes p [] seq e all h = cc
+found_passes p (x ∷ xs) seq e all h = step (eqb x.seq seq) h (found_passes p xs seq e (and_second (p x) _ all))
+  where
+    one : (a b : Entry) → Some a ≡ Some b → a ≡ b
+    one a b q = cc
+
+    step : (b : Bool) → cond b (Some x) (entry_at xs seq) ≡ Some e → (entry_at xs seq ≡ Some e → p e ≡ true) → p e ≡ true
+    step true q later = ap p (sym (one x e q)) ∙ and_first (p x) _ all
+    step false q later = later q

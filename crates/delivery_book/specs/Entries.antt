@@ -1,5 +1,5 @@
 -- What the book keeps: an entry for each event, in the order in which they were taken in, and the outcomes that wait.
-use Rattle.std.specs.Prelude.{ℕ, ◌+◌, ◌&&◌, ◌||◌, ◌==◌, Bool, false, nat_le, nat_lt, List, [], ◌∷◌, ◌++◌, length, map, Option, Some, None, option_map, bytes_eq, find, count_by, max, if◌then◌else◌}
+use Rattle.std.specs.Prelude.{ℕ, ◌+◌, ◌≤◌, ◌&&◌, ◌||◌, ◌==◌, Bool, false, nat_le, nat_lt, List, [], ◌∷◌, ◌++◌, length, map, Option, Some, None, is_some, option_map, bytes_eq, find, count_by, max, if◌then◌else◌}
 use Rattle.std.specs.List.{list_any}
 use Rattle.std.specs.Option.{option_map_or}
 use Rattle.relay_types.specs.declared.limits.TheConstants.{MAX_FAILURES, MAX_RECORDS}
@@ -142,6 +142,36 @@ known_in book name id = option_map (λ entry. entry.seq) (find (is_entry_as name
 -- whether the delivery is pending, and none of its outcomes waits to be settled
 abbrev pub takes_outcome : BookValue → (delivery : Seq) → Bool
 takes_outcome book delivery = option_map_or is_open (entry_at book.entries delivery) false
+
+-- no two entries are of one delivery
+abbrev pub HasOneEach : BookValue → Type 0
+HasOneEach book = (delivery : Seq) → count_by (λ entry. entry.seq == delivery) book.entries ≤ 1
+
+-- the delivery as all records have it, and as the settled ones have it
+abbrev pub latest_row : BookValue → (delivery : Seq) → Option Row
+latest_row book delivery = option_map (λ e. row_in e.latest e) (entry_at book.entries delivery)
+
+abbrev pub settled_row : BookValue → (delivery : Seq) → Option Row
+settled_row book delivery =
+    if nat_lt delivery book.settled_seq then option_map (λ e. row_in e.settled e) (entry_at book.entries delivery) else None
+
+-- how many deliveries of the endpoint are pending, as all records have it
+abbrev pub is_pending_of : (name : Text) → Entry → Bool
+is_pending_of name entry = bytes_eq entry.name name && is_in_state Pending (state_in entry.latest)
+
+abbrev pub pending_in : BookValue → (name : Text) → ℕ
+pending_in book name = count_by (is_pending_of name) book.entries
+
+-- the delivery of an outcome with this number, where it is the first that waits
+abbrev pub first_outcome : Seq → List Unsettled → Option Seq
+first_outcome seq [] = None
+first_outcome seq (o ∷ rest) = if o.seq == seq then Some o.delivery else None
+
+-- the delivery that is concerned where the next record is settled
+abbrev pub next_settled : BookValue → Option Seq
+next_settled book =
+    if is_some (entry_at book.entries book.settled_seq) then Some book.settled_seq
+    else first_outcome book.settled_seq book.unsettled
 
 -- whether an outcome of it can be restored: nothing is settled, nothing waits, and there is room to count one more attempt
 abbrev pub has_room_for_attempt : Entry → Bool

@@ -1,8 +1,9 @@
 //! The book itself.
-ghost use Rattle.std.specs.Prelude.{◌≡◌, ◌≤◌, ◌<◌, ℕ, [], take, true, None, is_some, unwrap_or, option_copied, OnOk, OnErr};
+ghost use Rattle.std.specs.Prelude.{◌≡◌, ◌≤◌, ◌<◌, ◌+◌, ℕ, [], length, take, true, None, is_some, unwrap_or, slice_get, option_copied, option_map, IfSome, OnOk, OnErr};
+ghost use Rattle.relay_types.specs.declared.limits.TheConstants.{MAX_RECORDS};
 ghost use Rattle.relay_types.specs.declared.record.Record.TheVariants.{Accept, Outcome};
 ghost use Rattle.relay_types.specs.Deliveries.{known_as};
-ghost use Rattle.delivery_book.specs.Entries.{empty_book, with_event, with_outcome, with_events_settled, settle_first, with_settled, with_outcome_restored, known_in, takes_outcome, may_restore};
+ghost use Rattle.delivery_book.specs.Entries.{empty_book, with_event, with_outcome, with_events_settled, settle_first, with_settled, with_outcome_restored, known_in, takes_outcome, may_restore, HasOneEach, entry_at, latest_row, settled_row, pending_in, next_settled};
 ghost use Rattle.delivery_book.specs.Book.{StandsFor, OverHistories, Takes, Settles, is_free, row_of, body_of, counts_of, counts_of_all};
 
 use crate::entry::{Entry, Unsettled};
@@ -238,9 +239,41 @@ impl DeliveryBook {
         self.index.get(&EventKey { name, id: *id }).copied()
     }
 
+    /// How many deliveries there are.
+    pub fn len(&self) -> usize
+        ensures { result ≡ length self.now.entries }
+    {
+        self.entries.len()
+    }
+
+    /// The number of the delivery at this place, in the order in which they were taken in.
+    pub fn delivery(&self, place: usize) -> Option<u64>
+        ensures { result ≡ option_map (λ e. e.seq) (slice_get self.now.entries place) }
+    {
+        match self.entries.get(place) {
+            Some(entry) => Some(entry.seq),
+            None => None,
+        }
+    }
+
+    /// The delivery that is concerned where the next record is settled: the record takes it in, or tells of an attempt at it.
+    pub fn next_settled(&self) -> Option<u64>
+        ensures { result ≡ next_settled self.now }
+    {
+        if entry_at(&self.entries, self.settled_seq).is_some() {
+            return Some(self.settled_seq);
+        }
+        match self.unsettled.front() {
+            Some(outcome) if outcome.seq == self.settled_seq => Some(outcome.delivery),
+            _ => None,
+        }
+    }
+
     /// The delivery as all records have it.
     pub fn row(&self, delivery: u64) -> Option<Row>
-        ensures { OverHistories self.now (λ records settled. result ≡ row_of records delivery) }
+        ensures value { result ≡ latest_row self.now delivery }
+        ensures few { IfSome result (λ row. row.attempts ≤ self.now.next_seq + MAX_RECORDS) }
+        ensures stands { OverHistories self.now (λ records settled. result ≡ row_of records delivery) }
     {
         match entry_at(&self.entries, delivery) {
             Some(entry) => Some(entry.row(entry.latest)),
@@ -250,7 +283,9 @@ impl DeliveryBook {
 
     /// The delivery as the settled records have it.
     pub fn settled(&self, delivery: u64) -> Option<Row>
-        ensures { OverHistories self.now (λ records settled. result ≡ row_of (take settled records) delivery) }
+        ensures value { result ≡ settled_row self.now delivery }
+        ensures once { HasOneEach self.now }
+        ensures stands { OverHistories self.now (λ records settled. result ≡ row_of (take settled records) delivery) }
     {
         if delivery < self.settled_seq {
             match entry_at(&self.entries, delivery) {
@@ -264,7 +299,8 @@ impl DeliveryBook {
 
     /// The body of the delivery's event.
     pub fn body(&self, delivery: u64) -> Option<&Body>
-        ensures { OverHistories self.now (λ records settled. option_copied result ≡ body_of records delivery) }
+        ensures value { option_copied result ≡ option_map (λ e. e.body) (entry_at self.now.entries delivery) }
+        ensures stands { OverHistories self.now (λ records settled. option_copied result ≡ body_of records delivery) }
     {
         match entry_at(self.entries.as_slice(), delivery) {
             Some(entry) => Some(&entry.body),
@@ -274,7 +310,8 @@ impl DeliveryBook {
 
     /// How many deliveries of the endpoint are pending, as all records have it.
     pub fn pending(&self, name: Name) -> u64
-        ensures { OverHistories self.now (λ records settled. result ≡ (counts_of records name).pending) }
+        ensures value { result ≡ pending_in self.now name }
+        ensures stands { OverHistories self.now (λ records settled. result ≡ (counts_of records name).pending) }
     {
         self.tally.of(name).pending
     }

@@ -60,9 +60,13 @@ impl Queue {
         self.requests
     }
 
+    // Each step has one record.
+    #[tactic(auto, using(crate::proofs::StepLaws::one_record_each))]
     pub(crate) fn outcomes(&self) -> usize
         ensures count { result ≡ outcomes_in self.now }
         ensures most { result ≤ MAX_WAITING_OUTCOMES }
+        ensures others { length self.now ≤ result + MAX_WAITING_REQUESTS }
+        ensures single { length (records_of self.now) ≡ length self.now }
     {
         self.outcomes
     }

@@ -211,9 +211,10 @@ impl Waiting {
         MAX_WAITING_REQUESTS - self.queue.requests()
     }
 
-    /// How many more outcomes can wait.
+    /// How many more outcomes can wait. Behind the settled records no more wait than there are places.
     pub fn free_outcomes(&self) -> usize
-        ensures { result + outcomes_in self.now.waiting ≡ MAX_WAITING_OUTCOMES }
+        ensures free { result + outcomes_in self.now.waiting ≡ MAX_WAITING_OUTCOMES }
+        ensures records { record_count self.now + result ≤ self.now.settled + MAX_WAITING_REQUESTS + MAX_WAITING_OUTCOMES }
     {
         MAX_WAITING_OUTCOMES - self.queue.outcomes()
     }

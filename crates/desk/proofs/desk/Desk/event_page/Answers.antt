@@ -14,4 +14,4 @@ returns c = λ w h.
     let stands = (stands_as c.self.view_is h).books.of_deliveries in
     page_found w c.args.name c.args.id.now c.in_ok-delivery.delivery
     (c.in_ok-delivery.ensures.stands (all_records w) (length (settled_records w)) stands)
-    (c.settled.ensures (all_records w) (length (settled_records w)) stands)
+    (c.settled.ensures.stands (all_records w) (length (settled_records w)) stands)

@@ -10,7 +10,7 @@ pub returns-then-has_settled : goal.returns-then-has_settled
 returns-then-has_settled c = λ w h.
     let ticket = c.args.ticket.now in
     let settled : has_event (settled_records w) ticket ≡ true = sym (c.has_settled.ensures w h) ∙ c.if-has_settled.true in
-    c.body.ensures (all_records w) (length (settled_records w)) (stands_as c.self.view_is h).books.of_deliveries
+    c.body.ensures.stands (all_records w) (length (settled_records w)) (stands_as c.self.view_is h).books.of_deliveries
     ∙ ap (λ records. body_of records ticket.seq) (settled_first w)
     ∙ body_first (settled_records w) (waiting_records w) ticket settled
     ∙ ap (λ b. if b then body_of (settled_records w) ticket.seq else None) (sym settled)
