@@ -1,9 +1,12 @@
 //! The book itself.
-ghost use Rattle.std.specs.Prelude.{◌≡◌, ◌≤◌, ◌<◌, ◌+◌, ℕ, List, [], ◌∷◌, ◌++◌, Option, Some, None, true, false, length, map, take, drop, count_by, option_copied, option_map, IsTrue, IfOk, OnOk, OnErr};
+ghost use Rattle.std.specs.Prelude.{◌≡◌, ◌≤◌, ◌<◌, ◌+◌, [], false, length, map, count_by, option_copied, option_map};
+ghost use Rattle.std.specs.Prelude.{IsTrue, IfOk, OnOk, OnErr};
 ghost use Rattle.relay_types.specs.declared.record.Record.TheVariants as on;
 ghost use Rattle.relay_types.specs.Endpoints.{endpoints, endpoint_of, has_endpoint, is_enabled};
-ghost use Rattle.endpoint_book.specs.Entries.{empty_book, new_entry, restored_entry, with_put, with_restored, with_flag, with_secrets, with_settled, entry_of, is_known, is_put, flags_in};
-ghost use Rattle.endpoint_book.specs.Book.{StandsFor, Stages, StagesGone, Settles, OfAll, OfSettled, OfWaiting, secrets_if_known, view_of, settled_view, told, enabled_in, sets_flag};
+ghost use Rattle.endpoint_book.specs.Entries.{empty_book, new_entry, restored_entry, entry_of, is_known, is_put, flags_in};
+ghost use Rattle.endpoint_book.specs.Entries.{with_put, with_restored, with_flag, with_secrets, with_settled};
+ghost use Rattle.endpoint_book.specs.Book.{StandsFor, Stages, StagesGone, Settles, OfAll, OfSettled, OfWaiting};
+ghost use Rattle.endpoint_book.specs.Book.{secrets_if_known, view_of, settled_view, told, enabled_in, sets_flag};
 
 use crate::changes::{count_flags, count_puts, keep_from, settle_below};
 use crate::entries::Entries;
