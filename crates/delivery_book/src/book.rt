@@ -1,9 +1,12 @@
 //! The book itself.
-ghost use Rattle.std.specs.Prelude.{◌≡◌, ◌≤◌, ◌<◌, ◌+◌, ℕ, [], length, take, true, None, is_some, unwrap_or, slice_get, option_copied, option_map, IfSome, OnOk, OnErr};
+ghost use Rattle.std.specs.Prelude.{◌≡◌, ◌≤◌, ◌<◌, ◌+◌, ℕ, [], length, take, true, None, is_some, unwrap_or, slice_get};
+ghost use Rattle.std.specs.Prelude.{option_copied, option_map, IfSome, OnOk, OnErr};
 ghost use Rattle.relay_types.specs.declared.limits.TheConstants.{MAX_RECORDS};
 ghost use Rattle.relay_types.specs.declared.record.Record.TheVariants.{Accept, Outcome};
 ghost use Rattle.relay_types.specs.Deliveries.{known_as};
-ghost use Rattle.delivery_book.specs.Entries.{empty_book, with_event, with_outcome, with_events_settled, settle_first, with_settled, with_outcome_restored, known_in, takes_outcome, may_restore, HasOneEach, entry_at, latest_row, settled_row, pending_in, next_settled};
+ghost use Rattle.delivery_book.specs.Entries.{empty_book, with_event, with_outcome, with_outcome_restored, with_events_settled};
+ghost use Rattle.delivery_book.specs.Entries.{settle_first, with_settled, known_in, takes_outcome, may_restore, HasOneEach};
+ghost use Rattle.delivery_book.specs.Entries.{entry_at, latest_row, settled_row, pending_in, next_settled};
 ghost use Rattle.delivery_book.specs.Book.{StandsFor, OverHistories, Takes, Settles, is_free, row_of, body_of, counts_of, counts_of_all};
 
 use crate::entry::{Entry, Unsettled};
@@ -38,11 +41,17 @@ impl Model for DeliveryBook {
 
     ghost Value = { BookValue };
 
-    ghost view = { λ b. record { entries = b.entries.items; unsettled = b.unsettled.items; next_seq = b.next_seq; settled_seq = b.settled_seq } };
+    ghost view = { λ b. record {
+      entries = b.entries.items;
+      unsettled = b.unsettled.items;
+      next_seq = b.next_seq;
+      settled_seq = b.settled_seq;
+    } };
 
     ghost use Rattle.delivery_book.specs.Fields.{IsBook};
 
-    ghost invariant = { λ b. IsBook b.entries.items b.index b.tally b.settled_tally b.unsettled.items (deque_capacity b.unsettled) b.next_seq b.settled_seq b.settled_entries };
+    ghost invariant = { λ b. IsBook b.entries.items b.index b.tally b.settled_tally b.unsettled.items
+        (deque_capacity b.unsettled) b.next_seq b.settled_seq b.settled_entries };
 }
 
 impl DeliveryBook {

@@ -2,7 +2,8 @@
 ghost use Rattle.std.specs.Prelude.{◌≡◌, ◌+◌, ◌≤◌, ◌<◌, ◌^◌, Option, Some, None, true, length, slice_range, OnOk};
 ghost use Rattle.relay_types.specs.declared.state.State.{State};
 ghost use Rattle.relay_types.specs.Values.{Text};
-ghost use Rattle.delivery_book.specs.Fields.{in_state, one_if, counts_for, no_counts, AtCounts, one_of, HasMore, HasSame, has_room, KeepsRoom, HasRoomForAll, settled_among, CanCount};
+ghost use Rattle.delivery_book.specs.Fields.{in_state, one_if, one_of, counts_for, no_counts, settled_among, has_room};
+ghost use Rattle.delivery_book.specs.Fields.{AtCounts, HasMore, HasSame, KeepsRoom, HasRoomForAll, CanCount};
 
 use crate::entry::Entry;
 use crate::keys::EndpointKey;
