@@ -1,0 +1,2 @@
+pub mod MemberLaws
+pub mod PathLaws

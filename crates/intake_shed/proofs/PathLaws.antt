@@ -1,0 +1,106 @@
+-- A path has one name of an endpoint, and one rest behind it.
+use Rattle.std.proofs.Common.{◌≡◌, ℕ, suc, ◌+◌, ◌==◌, Bool, true, false, not, cond, List, [], ◌∷◌, ◌++◌, take, drop, IsTrue, codes, refl, sym, ap, ◌∙◌, subst, arith}
+use Rattle.std.specs.List.{list_all, position_or_len}
+use Rattle.std.proofs.lemmas.Bool.{and_parts, and_from, eqb-true, eq-eqb}
+use Rattle.text_lines.specs.Parts.{has_no}
+use Rattle.text_lines.proofs.NumberLaws.{bytes_not_equal, true_not_false}
+use Rattle.intake_shed.specs.Lines.{Line, Put, SetSecrets, SetEnabled, Submit, Totals, Endpoint, Event, IsLine, endpoint_path}
+use Rattle.intake_shed.specs.Routes.{IsBehindName, StartsAt}
+
+-- ---- what stands before the first mark, and from it on
+
+before-more : (mark c : ℕ) (text : List ℕ) (b : Bool) → (c == mark) ≡ b → IsTrue (has_no mark (take (position_or_len (λ x. x == mark) text) text))
+    → IsTrue (has_no mark (take (cond (not b) (1 + position_or_len (λ x. x == mark) text) 0) (c ∷ text)))
+before-more mark c text true e clean = refl
+before-more mark c text false e clean =
+    let next : suc (position_or_len (λ x. x == mark) text) ≡ 1 + position_or_len (λ x. x == mark) text = omega arith in
+    subst (λ n. IsTrue (has_no mark (take n (c ∷ text)))) next (and_from (not (c == mark)) (has_no mark (take (position_or_len (λ x. x == mark) text) text)) (ap not e) clean)
+
+pub before-clean : (mark : ℕ) (text : List ℕ) → IsTrue (has_no mark (take (position_or_len (λ x. x == mark) text) text))
+before-clean mark [] = refl
+before-clean mark (c ∷ text) = before-more mark c text (c == mark) refl (before-clean mark text)
+
+from-more : (mark c : ℕ) (text : List ℕ) (b : Bool) → (c == mark) ≡ b → StartsAt mark (drop (position_or_len (λ x. x == mark) text) text)
+    → StartsAt mark (drop (cond (not b) (1 + position_or_len (λ x. x == mark) text) 0) (c ∷ text))
+from-more mark c text true e starts = eqb-true c mark e
+from-more mark c text false e starts =
+    let next : suc (position_or_len (λ x. x == mark) text) ≡ 1 + position_or_len (λ x. x == mark) text = omega arith in
+    subst (λ n. StartsAt mark (drop n (c ∷ text))) next starts
+
+pub from-starts : (mark : ℕ) (text : List ℕ) → StartsAt mark (drop (position_or_len (λ x. x == mark) text) text)
+from-starts mark [] = tt
+from-starts mark (c ∷ text) = from-more mark c text (c == mark) refl (from-starts mark text)
+
+-- ---- a text is cut at its first mark in one way
+
+marked : (mark c : ℕ) → c ≡ mark → IsTrue (not (c == mark)) → ⊥
+marked mark c e h = true_not_false (sym h ∙ ap (λ x. not (x == mark)) e ∙ ap not (eq-eqb mark mark refl))
+
+pub same_cut : (mark : ℕ) (a b x y : List ℕ) → IsTrue (has_no mark a) → IsTrue (has_no mark b) → StartsAt mark x → StartsAt mark y → a ++ x ≡ b ++ y
+    → (a ≡ b) × (x ≡ y)
+same_cut mark [] [] x y clean cleaner starts begins e = (refl, e)
+same_cut mark [] (d ∷ b) [] y clean cleaner starts begins e = cc
+same_cut mark [] (d ∷ b) (c ∷ x) y clean cleaner starts begins e =
+    let same : d ≡ c = cc in
+    absurd (marked mark d (same ∙ starts) (and_parts _ _ cleaner).0)
+same_cut mark (c ∷ a) [] x [] clean cleaner starts begins e = cc
+same_cut mark (c ∷ a) [] x (d ∷ y) clean cleaner starts begins e =
+    let same : c ≡ d = cc in
+    absurd (marked mark c (same ∙ begins) (and_parts _ _ clean).0)
+same_cut mark (c ∷ a) (d ∷ b) x y clean cleaner starts begins e =
+    let tail : a ++ x ≡ b ++ y = cc in
+    let one = and_parts (not (c == mark)) (has_no mark a) clean in
+    let other = and_parts (not (d == mark)) (has_no mark b) cleaner in
+    let rest : (a ≡ b) × (x ≡ y) = same_cut mark a b x y one.1 other.1 starts begins tail in
+    let head : c ≡ d = cc in
+    let names : a ≡ b = rest.0 in
+    let same : c ∷ a ≡ d ∷ b = cc in
+    (same, rest.1)
+
+-- ---- the line of a path
+
+one_name : (path name its rest end : List ℕ) → path ≡ endpoint_path name rest → IsTrue (has_no 47 name) → StartsAt 47 rest
+    → path ≡ endpoint_path its end → IsTrue (has_no 47 its) → StartsAt 47 end → (name ≡ its) × (rest ≡ end)
+one_name path name its rest end e clean starts h cleaner begins =
+    let tail : name ++ rest ≡ its ++ end = cc in
+    same_cut 47 name its rest end clean cleaner starts begins tail
+
+pub behind_name : (line : Line) (method path name rest : List ℕ) → path ≡ endpoint_path name rest → IsTrue (has_no 47 name) → StartsAt 47 rest
+    → IsLine line method path → IsBehindName line method name rest
+behind_name (Put its) method path name rest e clean starts h =
+    let one = one_name path name its rest [] e clean starts h.of_path (and_parts _ _ h.no_slash).0 tt in
+    (h.of_method, one.0, one.1)
+behind_name (SetSecrets its) method path name rest e clean starts h =
+    let one = one_name path name its rest (codes "/secrets") e clean starts h.of_path (and_parts _ _ h.no_slash).0 refl in
+    (h.of_method, one.0, one.1)
+behind_name (SetEnabled its) method path name rest e clean starts h =
+    let one = one_name path name its rest (codes "/enabled") e clean starts h.of_path (and_parts _ _ h.no_slash).0 refl in
+    (h.of_method, one.0, one.1)
+behind_name (Submit its) method path name rest e clean starts h =
+    let one = one_name path name its rest (codes "/events") e clean starts h.of_path (and_parts _ _ h.no_slash).0 refl in
+    (h.of_method, one.0, one.1)
+behind_name Totals method path name rest e clean starts h =
+    bytes_not_equal (codes "/v1/status") (endpoint_path name rest) false refl refl (sym h.of_path ∙ e)
+behind_name (Endpoint its) method path name rest e clean starts h =
+    let one = one_name path name its rest [] e clean starts h.of_path (and_parts _ _ h.no_slash).0 tt in
+    (h.of_method, one.0, one.1)
+behind_name (Event its id) method path name rest e clean starts h =
+    let one = one_name path name its rest (codes "/events/" ++ id) e clean starts h.of_path (and_parts _ _ h.no_slash).0 refl in
+    (h.of_method, one.0, one.1, (and_parts _ _ (and_parts _ _ h.no_slash).1).0)
+
+one_part : (name its : List ℕ) → name ≡ its → IsTrue (has_no 47 name) → IsTrue (list_all (has_no 47) (its ∷ []))
+one_part name its e clean = and_from _ _ (subst (λ x. IsTrue (has_no 47 x)) e clean) refl
+
+pub is_line : (line : Line) (method path name rest : List ℕ) → path ≡ endpoint_path name rest → IsTrue (has_no 47 name) → IsBehindName line method name rest
+    → IsLine line method path
+is_line (Put its) method path name rest e clean (m, n, r) = record { of_method = m; of_path = cc; no_slash = one_part name its n clean }
+is_line (SetSecrets its) method path name rest e clean (m, n, r) = record { of_method = m; of_path = cc; no_slash = one_part name its n clean }
+is_line (SetEnabled its) method path name rest e clean (m, n, r) = record { of_method = m; of_path = cc; no_slash = one_part name its n clean }
+is_line (Submit its) method path name rest e clean (m, n, r) = record { of_method = m; of_path = cc; no_slash = one_part name its n clean }
+is_line Totals method path name rest e clean h = absurd h
+is_line (Endpoint its) method path name rest e clean (m, n, r) = record { of_method = m; of_path = cc; no_slash = one_part name its n clean }
+is_line (Event its id) method path name rest e clean (m, n, r, clear) = record {
+  of_method = m;
+  of_path = cc;
+  no_slash = and_from _ _ (subst (λ x. IsTrue (has_no 47 x)) n clean) (and_from _ _ clear refl);
+}

@@ -1,0 +1,82 @@
+-- What the bodies of requests say. Which value a body has is the word of `serde_json`.
+use Rattle.std.specs.Prelude.{◌≡◌, Bool, false, List, [], ◌∷◌, ◌&&◌, Some, IsTrue, codes}
+use Rattle.std.specs.Str.{IsUtf8}
+use Rattle.serde_json.specs.Data.{Num, unsigned, negative, float, Data, boolean, number, string, array, Items, no_items, item}
+use Rattle.serde_json.specs.Find.{get}
+use Rattle.serde_json.specs.Read.{read}
+use Rattle.relay_types.specs.Values.{Text, is_target, is_max_limit}
+use Rattle.text_lines.specs.Words.{AreSecretTexts}
+use Rattle.desk.specs.declared.command.Command.{Command}
+use Rattle.desk.specs.declared.command.Command.TheVariants.{PutEndpoint, SetSecrets, SetEnabled}
+use Rattle.intake_shed.specs.declared.fault.AskFault.{AskFault}
+use Rattle.intake_shed.specs.declared.fault.AskFault.TheVariants.{BadBody, BadUrl, BadMax, BadSecret, OutOfMemory}
+
+-- the text has this value
+abbrev pub IsJson : (body : Text) → Data → Type 0
+IsJson body value = IsUtf8 body × (read body ≡ Some value)
+
+-- a list of texts
+abbrev pub strings : List Text → Items
+strings [] = no_items
+strings (text ∷ texts) = item (string text) (strings texts)
+
+-- The members of a value, which has them as an object has; it may have others.
+pub record HasPutMembers (value : Data) (url : Text) (max : Num) (secrets : List Text) : Type 0 where
+  pub of_url : get (codes "url") value ≡ Some (string url)
+  pub of_max : get (codes "max") value ≡ Some (number max)
+  pub of_secrets : get (codes "secrets") value ≡ Some (array (strings secrets))
+
+abbrev pub HasSecrets : (value : Data) (secrets : List Text) → Type 0
+HasSecrets value secrets = get (codes "secrets") value ≡ Some (array (strings secrets))
+
+abbrev pub HasFlag : (value : Data) (flag : Bool) → Type 0
+HasFlag value flag = get (codes "enabled") value ≡ Some (boolean flag)
+
+-- whether the number is a whole one from 1 to 1000. One that is written with a point or an exponent is a float.
+abbrev pub is_max : Num → Bool
+is_max (unsigned n) = is_max_limit n
+is_max (negative z) = false
+is_max (float x) = false
+
+-- no list of secrets is written by these texts
+abbrev pub AreNoSecrets : List Text → Type 0
+AreNoSecrets texts = (secrets : List Text) → ¬ AreSecretTexts texts secrets
+
+-- What the value says: the new endpoint, the secrets, or the flag of this command.
+abbrev pub Says : (value : Data) → Command → Type 0
+Says value (PutEndpoint name target max secrets) = (texts : List Text) × HasPutMembers value target (unsigned max) texts
+    × IsTrue (is_target target && is_max_limit max) × AreSecretTexts texts secrets
+Says value (SetSecrets name secrets) = (texts : List Text) × HasSecrets value texts × AreSecretTexts texts secrets
+Says value (SetEnabled name flag) = HasFlag value flag
+
+-- the first of these members that is bad: the url, the max, the secrets
+abbrev pub IsBadMember : (url : Text) (max : Num) (secrets : List Text) → AskFault → Type 0
+IsBadMember url max secrets BadUrl = is_target url ≡ false
+IsBadMember url max secrets BadMax = IsTrue (is_target url) × (is_max max ≡ false)
+IsBadMember url max secrets BadSecret = IsTrue (is_target url && is_max max) × AreNoSecrets secrets
+IsBadMember url max secrets OutOfMemory = Unit {0}
+IsBadMember url max secrets why = ⊥
+
+-- What a value is refused for: it hasn't the members, each of its kind, or one of them is bad.
+abbrev pub IsBadPut : (value : Data) → AskFault → Type 0
+IsBadPut value BadBody = (url : Text) (max : Num) (secrets : List Text) → ¬ HasPutMembers value url max secrets
+IsBadPut value OutOfMemory = Unit {0}
+IsBadPut value why = (url : Text) × (max : Num) × (secrets : List Text)
+    × HasPutMembers value url max secrets × IsBadMember url max secrets why
+
+abbrev pub IsBadSecrets : (value : Data) → AskFault → Type 0
+IsBadSecrets value BadBody = (secrets : List Text) → ¬ HasSecrets value secrets
+IsBadSecrets value BadSecret = (secrets : List Text) × HasSecrets value secrets × AreNoSecrets secrets
+IsBadSecrets value OutOfMemory = Unit {0}
+IsBadSecrets value why = ⊥
+
+abbrev pub IsBadFlag : (value : Data) → AskFault → Type 0
+IsBadFlag value BadBody = (flag : Bool) → ¬ HasFlag value flag
+IsBadFlag value OutOfMemory = Unit {0}
+IsBadFlag value why = ⊥
+
+-- what a body is refused for, whose value is refused so; a body that has no value is BadBody
+abbrev pub OfBody : (IsBad : Data → AskFault → Type 0) → (body : Text) → AskFault → Type 0
+OfBody IsBad body BadBody = (value : Data) → IsJson body value → IsBad value BadBody
+OfBody IsBad body OutOfMemory = Unit {0}
+OfBody IsBad body why = (value : Data) × IsJson body value × IsBad value why

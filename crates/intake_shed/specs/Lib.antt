@@ -1,0 +1,6 @@
+pub mod Bodies
+pub mod Lines
+pub mod Members
+pub mod Replies
+pub mod Requests
+pub mod Routes

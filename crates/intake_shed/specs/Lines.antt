@@ -1,0 +1,68 @@
+-- The lines of the table of requests. A path is told by printing: a request stands on a line where its method is the line's, and
+-- its path, with the query cut off, is the line's with these parts in it. Nothing is decoded.
+use Rattle.std.specs.Prelude.{◌≡◌, ◌==◌, true, Bool, List, [], ◌∷◌, ◌++◌, IsTrue, codes}
+use Rattle.std.specs.List.{list_all, before_first}
+use Rattle.relay_types.specs.Values.{Text, is_name}
+use Rattle.text_lines.specs.Parts.{has_no}
+
+-- a line, with the parts of its path that each request fills in
+pub data Line : Type 0 where
+  Put : (name : Text) → Line
+  SetSecrets : (name : Text) → Line
+  SetEnabled : (name : Text) → Line
+  Submit : (name : Text) → Line
+  Totals : Line
+  Endpoint : (name : Text) → Line
+  Event : (name id : Text) → Line
+
+abbrev pub method_of : Line → Text
+method_of (Put name) = codes "PUT"
+method_of (SetSecrets name) = codes "PUT"
+method_of (SetEnabled name) = codes "PUT"
+method_of (Submit name) = codes "POST"
+method_of Totals = codes "GET"
+method_of (Endpoint name) = codes "GET"
+method_of (Event name id) = codes "GET"
+
+-- the path of an endpoint, and what stands behind its name
+abbrev pub endpoint_path : (name rest : Text) → Text
+endpoint_path name rest = codes "/v1/endpoints/" ++ (name ++ rest)
+
+abbrev pub path_of : Line → Text
+path_of (Put name) = endpoint_path name []
+path_of (SetSecrets name) = endpoint_path name (codes "/secrets")
+path_of (SetEnabled name) = endpoint_path name (codes "/enabled")
+path_of (Submit name) = endpoint_path name (codes "/events")
+path_of Totals = codes "/v1/status"
+path_of (Endpoint name) = endpoint_path name []
+path_of (Event name id) = endpoint_path name (codes "/events/" ++ id)
+
+-- the parts that a request fills in: any bytes but `/`, also none
+abbrev pub parts_of : Line → List Text
+parts_of (Put name) = name ∷ []
+parts_of (SetSecrets name) = name ∷ []
+parts_of (SetEnabled name) = name ∷ []
+parts_of (Submit name) = name ∷ []
+parts_of Totals = []
+parts_of (Endpoint name) = name ∷ []
+parts_of (Event name id) = name ∷ id ∷ []
+
+-- a path up to its first `?`
+abbrev pub before_query : (path : Text) → Text
+before_query path = before_first (λ c. c == 63) path
+
+-- these are a line's method and path
+pub record IsLine (line : Line) (method path : Text) : Type 0 where
+  pub of_method : method ≡ method_of line
+  pub of_path : path ≡ path_of line
+  pub no_slash : IsTrue (list_all (has_no 47) (parts_of line))
+
+-- whether the name of the endpoint, if the line has one, is a name
+abbrev pub has_name : Line → Bool
+has_name (Put name) = is_name name
+has_name (SetSecrets name) = is_name name
+has_name (SetEnabled name) = is_name name
+has_name (Submit name) = is_name name
+has_name Totals = true
+has_name (Endpoint name) = is_name name
+has_name (Event name id) = is_name name

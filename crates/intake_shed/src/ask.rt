@@ -1,0 +1,31 @@
+//! Requests, and what they ask for.
+use desk::Command;
+use relay_types::{Body, MsgId, Name};
+
+/// A request over HTTP.
+#[derive(Clone, Copy)]
+pub struct Ask<'a> {
+    /// The method as it was sent, in its own letter case (RFC 9110, section 9.1).
+    pub method: &'a [u8],
+    /// The path with its query, as it was sent.
+    pub path: &'a [u8],
+    /// The values of all headers `webhook-id`.
+    pub ids: &'a [&'a [u8]],
+    /// The body. Of one that is longer than 65,536 bytes the first 65,537 are enough.
+    pub body: &'a [u8],
+}
+
+/// What a request asks for.
+#[derive(Drop)]
+pub enum Asked {
+    /// A change of an endpoint.
+    Change(Command),
+    /// An event for an endpoint.
+    Post { name: Name, id: MsgId, body: Body },
+    /// The page of all endpoints and events.
+    Totals,
+    /// The page of an endpoint.
+    Endpoint(Name),
+    /// The page of an endpoint's event.
+    Event(Name, MsgId),
+}

@@ -1,0 +1,126 @@
+//! Which change of an endpoint a body asks for.
+ghost use Rattle.std.specs.Prelude.{◌≡◌, ◌⊎◌, false, Err, IsTrue, IfOk, IfErr};
+ghost use Rattle.serde_json.specs.Data.{Data, unsigned};
+ghost use Rattle.serde_json.specs.View.{view, number_view};
+ghost use Rattle.relay_types.specs.Values.{is_target, is_max_limit};
+ghost use Rattle.text_lines.specs.Parts.{texts};
+ghost use Rattle.text_lines.specs.Words.{AreSecretTexts};
+ghost use Rattle.intake_shed.specs.Lines.{Put, SetSecrets, SetEnabled};
+ghost use Rattle.intake_shed.specs.Bodies.{IsJson, Says, IsBadMember, IsBadPut, IsBadSecrets, IsBadFlag, OfBody, AreNoSecrets, is_max};
+ghost use Rattle.intake_shed.specs.Members.{IsPutOf};
+ghost use Rattle.intake_shed.specs.Requests.{line_changed};
+
+use crate::fault::AskFault;
+use crate::members::{flag_of, number_of, read_json, secret_texts, text_of};
+use desk::Command;
+use relay_types::{MaxLimit, Name, ReadFault, Secrets, Target};
+use serde_json::{Number, Value};
+use std::alloc::Global;
+use text_lines::secrets_of;
+
+/// A new endpoint.
+pub(crate) fn read_put(alloc: Global, name: Name, body: &[u8]) -> Result<Command, AskFault>
+    ensures line { IfOk result (λ command. line_changed command ≡ Put name) }
+    ensures says { IfOk result (λ command. (value : Data) × IsJson body.now value × Says value command) }
+    ensures refused { IfErr result (λ why. OfBody IsBadPut body.now why) }
+{
+    let value = read_json(alloc, body)?;
+    put_of(alloc, name, &value)
+}
+
+/// Other secrets of an endpoint.
+pub(crate) fn read_secrets(alloc: Global, name: Name, body: &[u8]) -> Result<Command, AskFault>
+    ensures line { IfOk result (λ command. line_changed command ≡ SetSecrets name) }
+    ensures says { IfOk result (λ command. (value : Data) × IsJson body.now value × Says value command) }
+    ensures refused { IfErr result (λ why. OfBody IsBadSecrets body.now why) }
+{
+    let value = read_json(alloc, body)?;
+    secrets_of_value(alloc, name, &value)
+}
+
+/// Whether an endpoint is posted to.
+pub(crate) fn read_flag(alloc: Global, name: Name, body: &[u8]) -> Result<Command, AskFault>
+    ensures line { IfOk result (λ command. line_changed command ≡ SetEnabled name) }
+    ensures says { IfOk result (λ command. (value : Data) × IsJson body.now value × Says value command) }
+    ensures refused { IfErr result (λ why. OfBody IsBadFlag body.now why) }
+{
+    let value = read_json(alloc, body)?;
+    let flag = flag_of(&value)?;
+    Ok(Command::SetEnabled { name, flag })
+}
+
+fn put_of(alloc: Global, name: Name, value: &Value) -> Result<Command, AskFault>
+    ensures line { IfOk result (λ command. line_changed command ≡ Put name) }
+    ensures says { IfOk result (λ command. Says (view value.now) command) }
+    ensures refused { IfErr result (λ why. IsBadPut (view value.now) why) }
+{
+    let url = text_of(value, "url")?;
+    let max = number_of(value, "max")?;
+    let secrets = secret_texts(alloc, value)?;
+    put_of_members(alloc, name, url, max, secrets.as_slice())
+}
+
+fn put_of_members(
+    alloc: Global,
+    name: Name,
+    url: &str,
+    max: &Number,
+    secrets: &[&[u8]],
+) -> Result<Command, AskFault>
+    ensures command { IfOk result (λ command. IsPutOf name url.now (number_view max.now) (texts secrets.now) command) }
+    ensures refused { IfErr result (λ why. IsBadMember url.now (number_view max.now) (texts secrets.now) why) }
+{
+    Ok(Command::PutEndpoint {
+        name,
+        target: read_url(alloc, url)?,
+        max: read_max(max)?,
+        secrets: read_each(alloc, secrets)?,
+    })
+}
+
+fn secrets_of_value(alloc: Global, name: Name, value: &Value) -> Result<Command, AskFault>
+    ensures line { IfOk result (λ command. line_changed command ≡ SetSecrets name) }
+    ensures says { IfOk result (λ command. Says (view value.now) command) }
+    ensures refused { IfErr result (λ why. IsBadSecrets (view value.now) why) }
+{
+    let texts = secret_texts(alloc, value)?;
+    let secrets = read_each(alloc, texts.as_slice())?;
+    Ok(Command::SetSecrets { name, secrets })
+}
+
+fn read_url(alloc: Global, url: &str) -> Result<Target, AskFault>
+    ensures value { IfOk result (λ target. (target ≡ url.now) × IsTrue (is_target url.now)) }
+    ensures bad { result ≡ Err AskFault.BadUrl → is_target url.now ≡ false }
+    ensures faults { IfErr result (λ why. (why ≡ AskFault.BadUrl) ⊎ (why ≡ AskFault.OutOfMemory)) }
+{
+    match Target::read(alloc, url.as_bytes()) {
+        Ok(target) => Ok(target),
+        Err(ReadFault::OutOfMemory) => Err(AskFault::OutOfMemory),
+        Err(_) => Err(AskFault::BadUrl),
+    }
+}
+
+fn read_max(max: &Number) -> Result<MaxLimit, AskFault>
+    ensures value { IfOk result (λ limit. (number_view max.now ≡ unsigned limit) × IsTrue (is_max_limit limit)) }
+    ensures refused { IfErr result (λ why. (why ≡ AskFault.BadMax) × (is_max (number_view max.now) ≡ false)) }
+{
+    let Some(limit) = max.as_u64() else {
+        return Err(AskFault::BadMax);
+    };
+    match MaxLimit::of(limit) {
+        Ok(limit) => Ok(limit),
+        Err(_) => Err(AskFault::BadMax),
+    }
+}
+
+fn read_each(alloc: Global, secrets: &[&[u8]]) -> Result<Secrets, AskFault>
+    ensures value { IfOk result (λ read. AreSecretTexts (texts secrets.now) read) }
+    ensures bad { result ≡ Err AskFault.BadSecret → AreNoSecrets (texts secrets.now) }
+    ensures faults { IfErr result (λ why. (why ≡ AskFault.BadSecret) ⊎ (why ≡ AskFault.OutOfMemory)) }
+{
+    match secrets_of(alloc, secrets) {
+        Ok(secrets) => Ok(secrets),
+        Err(ReadFault::OutOfMemory) => Err(AskFault::OutOfMemory),
+        Err(_) => Err(AskFault::BadSecret),
+    }
+}

@@ -1,0 +1,57 @@
+//! Why a request isn't read.
+ghost use Rattle.std.specs.Prelude.{◌≡◌};
+ghost use Rattle.intake_shed.specs.Replies.{ask_reply};
+ghost use Rattle.intake_shed.specs.declared.fault.AskFault.TheVariants.{OutOfMemory};
+
+use crate::reply::Reply;
+use std::alloc::AllocError;
+
+/// Why a request isn't read, in the order of the checks.
+#[derive(Clone, Copy, PartialEq, Eq, Debug)]
+pub enum AskFault {
+    /// The table of requests has no such method and path.
+    NotFound,
+    /// The path has no name of an endpoint.
+    BadName,
+    /// The body has more than 65,536 bytes.
+    TooLong,
+    /// More than one id of an event, or one that is no id.
+    BadId,
+    /// No JSON object with the members of the line, each of its kind.
+    BadBody,
+    /// The url is no target.
+    BadUrl,
+    /// The max is no whole number from 1 to 1000.
+    BadMax,
+    /// The secrets aren't 1 to 4 secrets.
+    BadSecret,
+    /// Memory was refused.
+    OutOfMemory,
+}
+
+impl AskFault {
+    /// The reply to the request.
+    pub fn reply(self) -> Reply
+        ensures { result ≡ ask_reply self }
+    {
+        match self {
+            AskFault::NotFound => Reply::refused(404, "{\"error\":\"NotFound\"}"),
+            AskFault::BadName => Reply::refused(400, "{\"error\":\"BadName\"}"),
+            AskFault::TooLong => Reply::refused(413, "{\"error\":\"TooLong\"}"),
+            AskFault::BadId => Reply::refused(400, "{\"error\":\"BadId\"}"),
+            AskFault::BadBody => Reply::refused(400, "{\"error\":\"BadBody\"}"),
+            AskFault::BadUrl => Reply::refused(400, "{\"error\":\"BadUrl\"}"),
+            AskFault::BadMax => Reply::refused(400, "{\"error\":\"BadMax\"}"),
+            AskFault::BadSecret => Reply::refused(400, "{\"error\":\"BadSecret\"}"),
+            AskFault::OutOfMemory => Reply::refused_now("{\"error\":\"OutOfMemory\"}"),
+        }
+    }
+}
+
+impl From<AllocError> for AskFault {
+    ghost from_gives = { λ _ fault. fault ≡ OutOfMemory };
+
+    fn from(_: AllocError) -> AskFault {
+        AskFault::OutOfMemory
+    }
+}

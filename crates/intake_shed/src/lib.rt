@@ -1,0 +1,17 @@
+//! What a request over HTTP asks for, what it is refused with, and the replies, without a socket. No call here waits.
+#![tactic(auto)]
+
+mod ask;
+mod changes;
+mod fault;
+mod members;
+mod reading;
+mod refusals;
+mod reply;
+mod routes;
+
+pub use crate::ask::{Ask, Asked};
+pub use crate::fault::AskFault;
+pub use crate::reading::read_ask;
+pub use crate::refusals::refusal_reply;
+pub use crate::reply::{Reply, ReplyText};

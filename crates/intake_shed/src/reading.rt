@@ -1,0 +1,137 @@
+//! Which request asks for what.
+ghost use Rattle.std.specs.Prelude.{◌≡◌, ◌&&◌, false, IsTrue, IfOk, IfErr, OnOk};
+ghost use Rattle.std.specs.Arc.{arc_value};
+ghost use Rattle.relay_types.specs.Values.{is_name};
+ghost use Rattle.text_lines.specs.Parts.{texts};
+ghost use Rattle.intake_shed.specs.Requests.{AsksFor, IsRefusal, IsRefusedFor, IsBadOn, IsOfBody, line_asked};
+ghost use Rattle.intake_shed.specs.Requests.{has_parts, has_room, has_one_id, id_of, IsBadNameOrSize};
+ghost use Rattle.intake_shed.specs.Routes.{line_of};
+
+use crate::ask::{Ask, Asked};
+use crate::changes::{read_flag, read_put, read_secrets};
+use crate::fault::AskFault;
+use crate::reply::Reply;
+use crate::routes::{Route, read_route};
+use relay_types::{Body, MAX_BODY_BYTES, MsgId, Name};
+use std::alloc::{AllocError, Global};
+use std::sync::Arc;
+
+/// What a request asks for, or the reply that refuses it: the first check that fails decides. An event that isn't given an
+/// id gets the fresh one.
+pub fn read_ask(alloc: Global, ask: &Ask<'_>, fresh: MsgId) -> Result<Asked, Reply>
+    ensures asked { IfOk result (λ asked. AsksFor ask.now fresh asked) }
+    ensures refused { IfErr result (λ reply. IsRefusal ask.now reply) }
+{
+    match read(alloc, ask, fresh) {
+        Ok(asked) => Ok(asked),
+        Err(fault) => Err(fault.reply()),
+    }
+}
+
+fn read(alloc: Global, ask: &Ask<'_>, fresh: MsgId) -> Result<Asked, AskFault>
+    ensures asked { IfOk result (λ asked. AsksFor ask.now fresh asked) }
+    ensures refused { IfErr result (λ why. IsRefusedFor ask.now why) }
+{
+    match read_route(ask.method, ask.path) {
+        Some(route) => read_on(alloc, route, ask, fresh),
+        None => Err(AskFault::NotFound),
+    }
+}
+
+// What a request on this line asks for.
+fn read_on(alloc: Global, route: Route<'_>, ask: &Ask<'_>, fresh: MsgId) -> Result<Asked, AskFault>
+    ensures line { IfOk result (λ asked. line_asked asked ≡ line_of route.entry) }
+    ensures passes { OnOk result (IsTrue (has_parts (line_of route.entry) ask.now)) }
+    ensures says { IfOk result (λ asked. IsOfBody ask.now fresh asked) }
+    ensures refused { IfErr result (λ why. IsBadOn (line_of route.entry) ask.now why) }
+{
+    match route {
+        Route::Put(name) => {
+            let name = read_name(name, ask.body)?;
+            Ok(Asked::Change(read_put(alloc, name, ask.body)?))
+        }
+        Route::SetSecrets(name) => {
+            let name = read_name(name, ask.body)?;
+            Ok(Asked::Change(read_secrets(alloc, name, ask.body)?))
+        }
+        Route::SetEnabled(name) => {
+            let name = read_name(name, ask.body)?;
+            Ok(Asked::Change(read_flag(alloc, name, ask.body)?))
+        }
+        Route::Submit(name) => {
+            let name = read_name(name, ask.body)?;
+            let id = read_id(ask.ids, fresh)?;
+            let body = copy_body(alloc, ask.body)?;
+            Ok(Asked::Post { name, id, body })
+        }
+        Route::Totals => {
+            check_size(ask.body)?;
+            Ok(Asked::Totals)
+        }
+        Route::Endpoint(name) => Ok(Asked::Endpoint(read_name(name, ask.body)?)),
+        Route::Event(name, id) => {
+            let name = read_name(name, ask.body)?;
+            Ok(Asked::Event(name, MsgId::read(id).map_err(|_| AskFault::BadId)?))
+        }
+    }
+}
+
+// The name of the endpoint, of a request with this body.
+fn read_name(name: &[u8], body: &[u8]) -> Result<Name, AskFault>
+    ensures value { IfOk result (λ read. read ≡ name.now) }
+    ensures passes { OnOk result (IsTrue (is_name name.now && has_room body.now)) }
+    ensures refused { IfErr result (λ why. IsBadNameOrSize (is_name name.now) (has_room body.now) why) }
+{
+    let Ok(name) = Name::read(name) else {
+        return Err(AskFault::BadName);
+    };
+    check_size(body)?;
+    Ok(name)
+}
+
+fn check_size(body: &[u8]) -> Result<(), AskFault>
+    ensures passes { OnOk result (IsTrue (has_room body.now)) }
+    ensures refused { IfErr result (λ why. (why ≡ AskFault.TooLong) × (has_room body.now ≡ false)) }
+{
+    if body.len() <= MAX_BODY_BYTES {
+        Ok(())
+    } else {
+        Err(AskFault::TooLong)
+    }
+}
+
+// The id of an event: at most one is given.
+fn read_id(ids: &[&[u8]], fresh: MsgId) -> Result<MsgId, AskFault>
+    ensures value { IfOk result (λ id. id ≡ id_of (texts ids.now) fresh) }
+    ensures passes { OnOk result (IsTrue (has_one_id (texts ids.now))) }
+    ensures refused { IfErr result (λ why. (why ≡ AskFault.BadId) × (has_one_id (texts ids.now) ≡ false)) }
+{
+    match ids {
+        [] => Ok(fresh),
+        [id] => match MsgId::read(id) {
+            Ok(id) => Ok(id),
+            Err(_) => Err(AskFault::BadId),
+        },
+        _ => Err(AskFault::BadId),
+    }
+}
+
+// The body of an event, which has room.
+fn copy_body(alloc: Global, bytes: &[u8]) -> Result<Body, AskFault>
+    requires { IsTrue (has_room bytes.now) }
+    ensures value { IfOk result (λ body. body ≡ bytes.now) }
+    ensures refused { IfErr result (λ why. why ≡ AskFault.OutOfMemory) }
+{
+    let Ok(body) = Body::of(share_copy(alloc, bytes)?) else {
+        unreachable!()
+    };
+    Ok(body)
+}
+
+fn share_copy(alloc: Global, bytes: &[u8]) -> Result<Arc<Vec<u8>>, AllocError>
+    ensures { IfOk result (λ shared. (arc_value shared).items ≡ bytes.now) }
+{
+    let copy = bytes.to_vec(alloc)?;
+    let shared = Arc::new(alloc, copy)?;
+    Ok(shared)
+}
