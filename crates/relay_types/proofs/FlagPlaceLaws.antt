@@ -1,26 +1,25 @@
 -- The rows of a legal history are sound: flags, deliveries, attempts, and the records that no row names.
-use Rattle.std.proofs.Common.{◌≡◌, ◌≤◌, ◌<◌, ◌⊎◌, inl, inr, ℕ, zero, suc, ◌+◌, ◌==◌, Bool, true, false, ◌&&◌, ◌||◌, not, nat_le, nat_lt, List, [], ◌∷◌, Option, Some, None, length, map, take, refl, sym, ap, subst, ◌∙◌, arith}
-use Rattle.std.specs.Prelude.{cond, fold, is_some, filter, bytes_eq, slice_get, option_and_then, count_by, if◌then◌else◌}
+use Rattle.std.proofs.Common.{◌≡◌, ◌≤◌, ◌<◌, ◌⊎◌, inl, inr, ℕ, zero, suc, ◌+◌, ◌==◌, Bool, true, false, ◌&&◌, ◌||◌, not, nat_le, nat_lt, List, [], ◌∷◌, Option, Some, None, length, take, refl, sym, ap, subst, ◌∙◌, arith}
+use Rattle.std.specs.Prelude.{is_some, bytes_eq, slice_get, option_and_then, count_by, if◌then◌else◌}
 use Rattle.std.specs.List.{list_any, list_all, range_with_len}
 use Rattle.std.specs.Option.{option_map_or}
 use Rattle.std.proofs.lemmas.Bool.{ne_eqb, eq-eqb, eqb-true, lt-ltb, ltb-true, ltb-false, leb-false, and_left, and_right, or_left, or_right}
-use Rattle.std.proofs.lemmas.List.{length-map}
 use Rattle.relay_types.specs.declared.record.Record.{Record}
 use Rattle.relay_types.specs.declared.record.Record.TheVariants.{Put, Secrets, Enabled, Accept, Outcome}
 use Rattle.relay_types.specs.declared.state.State.TheVariants.{Pending, Delivered, Exhausted}
-use Rattle.relay_types.specs.Records.{Accepted, Attempt, accepted_by}
+use Rattle.relay_types.specs.Records.{Accepted, accepted_by}
 use Rattle.relay_types.specs.Judging.{is_delivered_status, is_gone_status, is_failed_status}
 use Rattle.relay_types.specs.Values.{is_name, is_msg_id, is_body, is_moment}
 use Rattle.relay_types.specs.Deliveries.{accepted, attempts_of, is_in_state, is_delivered, failures_of, state_of, is_pending, known_as}
 use Rattle.relay_types.specs.Endpoints.{Endpoint, endpoints, has_endpoint, is_delivery_of, enabled_by, is_enabled, secrets_by, secrets_of}
 use Rattle.relay_types.specs.Legal.{is_status, IsLegal}
-use Rattle.relay_types.specs.Rows.{Rows, EndpointRow, DeliveryRow, AttemptRow, endpoint_row, attempt_row, put_of, last_seq, rows_of}
+use Rattle.relay_types.specs.Rows.{Rows, EndpointRow, DeliveryRow, AttemptRow, endpoint_row, put_of, last_seq, rows_of}
 use Rattle.relay_types.specs.Sound.{is_put_at, is_delivery_at, is_taken, is_gone_attempt_of, is_flag_place, is_delivery_row, attempts_before, is_attempt_row, is_named, is_overtaken_at, are_others_overtaken, outcome_entry}
 use Rattle.relay_types.proofs.KnownLaws.{and_first, and_second, and_both, below_if_accepted}
-use Rattle.relay_types.proofs.LookupLaws.{attempt_back, attempts-told}
-use Rattle.relay_types.proofs.TableLaws.{some_same, In, all_if, none_if, any_in, in_any, map_in, below_place, table_front}
+use Rattle.relay_types.proofs.AttemptLaws.{delivered_before, failed_before, number_before}
+use Rattle.relay_types.proofs.TableLaws.{some_same, In, all_if, none_if, any_in, in_any, map_in, below_place}
 use Rattle.relay_types.proofs.LastLaws.{Last, unsaid, said, NoneBehind}
-use Rattle.relay_types.proofs.StandLaws.{code, follows, known_before, put_stands, put_in, delivery_stands, delivery_in, attempt_stands, attempt_in, outcome_made, row_endpoint, not_taken, same_name, put_named, same_text, text_same}
+use Rattle.relay_types.proofs.StandLaws.{code, follows, known_before, put_stands, put_in, delivery_stands, delivery_in, attempt_stands, attempt_in, row_endpoint, not_taken, same_name, put_named, same_text, text_same}
 use Rattle.relay_types.proofs.SoundLaws.{Flags, by_command, by_attempt, flagged_by, accept_stands, within, flag_last, secrets_last, flag_record, secrets_record}
 
 module _ (records : List Record) (legal : IsLegal records) where
@@ -168,23 +167,6 @@ module _ (records : List Record) (legal : IsLegal records) where
           and_both (nat_lt d.endpoint d.seq) _ (lt-ltb d.endpoint d.seq (omega (arith, put, known.2)))
           (and_second (is_name stands.0) (is_msg_id d.id && (is_body d.body && is_moment d.at)) (within records legal d.seq (Accept stands.0 d.id d.body d.at) stands.1))
 
-  before_is : (t : AttemptRow) → attempts_of (take t.seq records) t.delivery ≡ map attempt_back (attempts_before rows t)
-  before_is t =
-      attempts-told (take t.seq records) t.delivery
-      ∙ ap (λ ts. map attempt_back (filter (λ (s : AttemptRow). s.delivery == t.delivery) ts))
-      (table_front attempt_row (λ (e : AttemptRow). e.seq) (λ k r y made. (outcome_made k r y made).1) 0 t.seq t.seq records (omega arith))
-
-  any_map : (test : Attempt → Bool) (ts : List AttemptRow) → list_any test (map attempt_back ts) ≡ list_any (λ t. test (attempt_back t)) ts
-  any_map test [] = refl
-  any_map test (t ∷ ts) = ap (λ b. test (attempt_back t) || b) (any_map test ts)
-
-  count_from : (test : Attempt → Bool) (n : ℕ) (ts : List AttemptRow) → fold (λ (n : ℕ) (a : Attempt). n + cond (test a) 1 0) n (map attempt_back ts) ≡ fold (λ (n : ℕ) (t : AttemptRow). n + cond (test (attempt_back t)) 1 0) n ts
-  count_from test n [] = refl
-  count_from test n (t ∷ ts) = count_from test (n + cond (test (attempt_back t)) 1 0) ts
-
-  count_map : (test : Attempt → Bool) (ts : List AttemptRow) → count_by test (map attempt_back ts) ≡ count_by (λ t. test (attempt_back t)) ts
-  count_map test ts = count_from test 0 ts
-
   pending_if : (b c : Bool) → is_in_state Pending (if b then Delivered else (if c then Exhausted else Pending)) ≡ true → (b ≡ false) × (c ≡ false)
   pending_if true c h = absurd (let no = h in cc)
   pending_if false true h = absurd (let no = h in cc)
@@ -201,10 +183,9 @@ module _ (records : List Record) (legal : IsLegal records) where
           let rest = and_second (is_pending (take t.seq records) t.delivery) (t.number == length (attempts_of (take t.seq records) t.delivery) + 1 && is_status t.status) follow in
           let there = below_if_accepted (take t.seq records) t.delivery (and_first (is_some (accepted (take t.seq records) t.delivery)) (is_in_state Pending (state_of (take t.seq records) t.delivery)) pending) in
           let waits = pending_if (is_delivered (take t.seq records) t.delivery) (nat_le 10 (failures_of (take t.seq records) t.delivery)) (and_second (is_some (accepted (take t.seq records) t.delivery)) (is_in_state Pending (state_of (take t.seq records) t.delivery)) pending) in
-          let is = before_is t in
-          let delivered = ap (list_any (λ (a : Attempt). is_delivered_status a.status)) is ∙ any_map (λ (a : Attempt). is_delivered_status a.status) (attempts_before rows t) in
-          let failed = ap (count_by (λ (a : Attempt). is_failed_status a.status)) is ∙ count_map (λ (a : Attempt). is_failed_status a.status) (attempts_before rows t) in
-          let count : length (attempts_of (take t.seq records) t.delivery) ≡ length (attempts_before rows t) = ap length is ∙ length-map (attempts_before rows t) attempt_back in
+          let delivered = delivered_before records t in
+          let failed = failed_before records t in
+          let count = number_before records t in
           and_both (nat_lt t.delivery t.seq) _ (lt-ltb t.delivery t.seq (omega (arith, there, shorter t.seq records)))
           (and_both (t.number == length (attempts_before rows t) + 1) _ (subst (λ n. t.number == n + 1 ≡ true) count (and_first (t.number == length (attempts_of (take t.seq records) t.delivery) + 1) (is_status t.status) rest))
           (and_both (is_status t.status) _ (and_second (t.number == length (attempts_of (take t.seq records) t.delivery) + 1) (is_status t.status) rest)

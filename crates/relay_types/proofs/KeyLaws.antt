@@ -102,7 +102,7 @@ numbered_in n (suc m) (s ∷ rs) r is = inr (subst (λ k. In (k, r) (enumerate_f
     moved : n + 1 + m ≡ n + suc m
     moved = omega arith
 
-front_place : (n m : ℕ) (rs : List Record) → m < n → slice_get (take n rs) m ≡ slice_get rs m
+pub front_place : (n m : ℕ) (rs : List Record) → m < n → slice_get (take n rs) m ≡ slice_get rs m
 front_place zero m rs h = absurd (omega (arith, h))
 front_place (suc n) m [] h = refl
 front_place (suc n) zero (r ∷ rs) h = refl

@@ -14,9 +14,16 @@ pub mod TableLaws
 pub mod LastLaws
 pub mod StandLaws
 pub mod SoundLaws
+pub mod AttemptLaws
 pub mod FlagPlaceLaws
 pub mod FilterLaws
 pub mod KeyLaws
+pub mod ConditionLaws
+pub mod PlaceLaws
+pub mod BackLaws
+pub mod FlagBackLaws
+pub mod FollowLaws
+pub mod HistoryLaws
 mod WorkedValues
 mod WorkedRows
 mod WorkedFiles

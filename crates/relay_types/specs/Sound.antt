@@ -168,9 +168,17 @@ command_entry rows n =
     option_or (option_map (λ e. Enabled e.name e.enabled) (find (λ e. e.enabled_by == n) rows.endpoints))
     (option_or (option_map (secrets_entry rows) (find (λ e. e.secrets_by == n) rows.endpoints)) (option_map (overtaken_entry rows n) (find (is_overtaken_at n) rows.endpoints)))
 
+-- the record at this number
+abbrev pub entry_at : Rows → Seq → Option Record
+entry_at rows n = option_or (taken_entry rows n) (command_entry rows n)
+
 abbrev pub history_from : Rows → List Record
-history_from rows = filter_map (λ n. option_or (taken_entry rows n) (command_entry rows n)) (range_with_len 0 rows.records)
+history_from rows = filter_map (entry_at rows) (range_with_len 0 rows.records)
 
 -- the rows of a legal history are sound
 abbrev pub LegalRowsAreSound : Type 0
 LegalRowsAreSound = (records : List Record) → IsLegal records → IsTrue (are_sound (rows_of records)) × AreKeyed (rows_of records)
+
+-- sound rows are those of a legal history, the one that stands for them
+abbrev pub SoundRowsAreOfAHistory : Type 0
+SoundRowsAreOfAHistory = (rows : Rows) → AreKeyed rows → IsTrue (are_sound rows) → IsLegal (history_from rows) × (rows_of (history_from rows) ≡ rows)

@@ -1,7 +1,7 @@
 //! Laws that contracts rest on.
 ghost use Rattle.relay_types.specs.Alike.{RowsTellAll};
 ghost use Rattle.relay_types.specs.Laws.{RowsFollow};
-ghost use Rattle.relay_types.specs.Sound.{LegalRowsAreSound};
+ghost use Rattle.relay_types.specs.Sound.{LegalRowsAreSound, SoundRowsAreOfAHistory};
 
 /// The rows of a legal history that goes on legally are those that the table of changes makes of the rows before, record
 /// by record.
@@ -18,4 +18,10 @@ pub fn rows_tell_all()
 /// The rows of a legal history are sound, stand in the order of their keys, and keep the schema's unique values and references.
 pub fn legal_rows_are_sound()
     ensures { LegalRowsAreSound }
+{}
+
+/// Sound rows that stand in the order of their keys, and keep the schema's unique values and references, are those of a legal
+/// history: the one that stands for them.
+pub fn sound_rows_are_of_a_history()
+    ensures { SoundRowsAreOfAHistory }
 {}

@@ -17,7 +17,9 @@ mod target;
 
 pub use crate::body::Body;
 pub use crate::fault::ReadFault;
-pub use crate::laws::{legal_rows_are_sound, rows_follow, rows_tell_all};
+pub use crate::laws::{
+    legal_rows_are_sound, rows_follow, rows_tell_all, sound_rows_are_of_a_history,
+};
 pub use crate::limits::{
     MAX_BODY_BYTES, MAX_ENDPOINTS, MAX_FAILURES, MAX_HOST_LEN, MAX_ID_LEN, MAX_LIMIT, MAX_MOMENT,
     MAX_NAME_LEN, MAX_RECORDS, MAX_SECRET_BYTES, MAX_SECRETS, MAX_TARGET_BYTES, MIN_SECRET_BYTES,
