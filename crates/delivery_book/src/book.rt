@@ -116,6 +116,7 @@ impl DeliveryBook {
         requires room { seq < MAX_RECORDS }
         requires above { self.old.next_seq ≤ seq }
         requires free { takes_outcome self.old delivery ≡ true }
+        ensures unused { entry_at self.old.entries seq ≡ None }
         ensures value { self.new ≡ with_outcome self.old seq delivery status at }
         ensures stands { (attempt : ℕ) → Takes self.old seq (Outcome delivery attempt status at) self.new }
     {
@@ -257,7 +258,8 @@ impl DeliveryBook {
 
     /// The number of the delivery at this place, in the order in which they were taken in.
     pub fn delivery(&self, place: usize) -> Option<u64>
-        ensures { result ≡ option_map (λ e. e.seq) (slice_get self.now.entries place) }
+        ensures value { result ≡ option_map (λ e. e.seq) (slice_get self.now.entries place) }
+        ensures once { HasOneEach self.now }
     {
         match self.entries.get(place) {
             Some(entry) => Some(entry.seq),

@@ -23,11 +23,11 @@ full_where (suc free) n e = eqb-suc-zero free ∙ sym (lt-leb MAX_WAITING_REQUES
 pub is_full : {d : DeskValue} {w : World} (free : ℕ) → StandsFor d w → free + requests_in d.waiting.waiting ≡ MAX_WAITING_REQUESTS → nat_eq free 0 ≡ is_waiting_full w
 is_full {d} free h e = full_where free (requests_in d.waiting.waiting) e ∙ ap (λ steps. nat_le MAX_WAITING_REQUESTS (requests_in steps)) h.waiting.steps
 
-pub is_spent : {d : DeskValue} {w : World} (records : ℕ) → StandsFor d w → records ≡ record_count d.waiting → nat_le MAX_RECORDS records ≡ are_seqs_spent w
-is_spent {d} {w} records h e = ap (nat_le MAX_RECORDS) all
+pub is_spent : {d : DeskValue} {w : World} (numbers : ℕ) → StandsFor d w → numbers ≡ record_count d.waiting + length d.live → nat_le MAX_RECORDS numbers ≡ are_seqs_spent w
+is_spent {d} {w} numbers h e = ap (nat_le MAX_RECORDS) all
   where
-    all : records ≡ length (all_records w) + length w.live
-    all = omega (arith, e, count_is h, ap length h.idle.live)
+    all : numbers ≡ length (all_records w) + length w.live
+    all = omega (arith, e, count_is h, ap length h.live)
 
 -- the faults of each call, by what is there
 abbrev pub submit_looks : (halted unknown conflict : Bool) → Faults

@@ -1,6 +1,6 @@
 -- The worlds for which a desk stands once one more record waits, and the moves that make it wait.
 use Rattle.std.proofs.Common.{◌≡◌, ℕ, ◌+◌, ◌<◌, ◌≤◌, Bool, true, false, List, [], ◌∷◌, ◌++◌, Option, Some, None, length, refl, sym, ◌∙◌, ap, arith, ◌&&◌, length-append, subst, max}
-use Rattle.std.specs.Prelude.{cond, count_by, Result, Ok, Err, IfOk, OnOk, OnErr, is_some, not, IsTrue}
+use Rattle.std.specs.Prelude.{bytes_eq, cond, count_by, Result, Ok, Err, IfOk, OnOk, OnErr, is_some, not, IsTrue}
 use Rattle.std.specs.Option.{option_map_or}
 use Rattle.std.specs.declared.alloc.AllocError.{AllocError}
 use Rattle.std.proofs.lemmas.List.{take-append-le, drop-append-le}
@@ -31,7 +31,14 @@ use Rattle.desk.specs.declared.ticket.Ticket.{Ticket}
 use Rattle.desk.specs.Faults.{out_of_memory_at}
 use Rattle.desk.specs.World.{World, all_records, settled_records, waiting_records}
 use Rattle.desk.specs.Moves.{or_out_of_memory, stages, moment, at_moment, with_record, next_seq, ticket, accepts, submit, submit_known, submit_new, submit_faults, new_submit_faults, put_faults, set_faults, repeats, changes, change}
-use Rattle.desk.specs.Desks.{DeskValue, IsDesk, AreBooks, StandsFor, IsMove, Checks, OverWorlds, with_entry, with_put, with_secrets, with_enabled, with_accept}
+use Rattle.vegas.specs.declared.sample.Sample.{Sample}
+use Rattle.vegas.specs.Estimators.{StandsFor as StandsForSamples}
+use Rattle.permits.specs.declared.row.Row.{Row}
+use Rattle.claim_queue.specs.Queues.{QueueValue}
+use Rattle.desk.specs.declared.limiter.Limiter.{Limiter}
+use Rattle.desk.specs.Claims.{samples_of}
+use Rattle.desk.specs.Ties.{AreTied, StandsAt, StandsBy, is_limiter_of, limiter_of, new_limiter}
+use Rattle.desk.specs.Desks.{AreLimits, DeskValue, IsDesk, AreBooks, StandsFor, IsMove, Checks, OverWorlds, with_entry, with_put, with_secrets, with_enabled, with_accept}
 use Rattle.desk.proofs.DeskLists.{records_of-snoc, records_of-split}
 use Rattle.desk.proofs.MoveLaws.{refuses, passes, makes, makes_or_lacks, becomes, absent}
 
@@ -62,7 +69,8 @@ stands_later d w at h = record {
   halted = h.halted;
   books = h.books;
   waiting = h.waiting;
-  idle = record { live = h.idle.live; measured = h.idle.measured };
+  live = h.live;
+  limits = h.limits;
 }
 
 -- One more record
@@ -71,14 +79,16 @@ pub one_more : (waiting : WaitingValue) (entry : Record) → record_count (with_
 one_more waiting entry = omega (arith, length-records_of waiting.waiting ((entry ∷ []) ∷ []))
 
 -- the endpoints and the steps with one more record
-pub endpoints_wait : {e f : endpoint_entries.BookValue} {d : delivery_entries.BookValue} {waiting : WaitingValue} (change : Change) (entry : Record) → IsDesk e d waiting
-    → f.changes ≡ e.changes ++ change ∷ [] → f.next_seq ≡ record_count waiting + 1 → f.settled_seq ≡ e.settled_seq → IsDesk f d (with_step waiting (entry ∷ []))
-endpoints_wait {e} {f} {d} {waiting} change entry h changes next settled = record {
+pub endpoints_wait : {e f : endpoint_entries.BookValue} {d : delivery_entries.BookValue} {waiting : WaitingValue} {live : List Row} {limiters more : List Limiter} {queue later : QueueValue} (change : Change) (entry : Record) → IsDesk e d waiting live limiters queue
+    → f.changes ≡ e.changes ++ change ∷ [] → f.next_seq ≡ record_count waiting + 1 → f.settled_seq ≡ e.settled_seq
+    → AreTied f d (with_step waiting (entry ∷ [])) live more later → IsDesk f d (with_step waiting (entry ∷ [])) live more later
+endpoints_wait {e} {f} {d} {waiting} change entry h changes next settled tied = record {
   endpoints_staged = omega (arith, next, one_more waiting entry);
   endpoints_settled = settled ∙ h.endpoints_settled;
   flags_few = omega (arith, ap (count_by is_flag) changes, count_by_snoc is_flag e.changes change, one_most (is_flag change), next, settled, h.flags_few, h.endpoints_staged);
   deliveries_staged = omega (arith, h.deliveries_staged, one_more waiting entry);
   deliveries_settled = h.deliveries_settled;
+  tied = tied;
 }
   where
     one_most : (b : Bool) → cond b 1 0 ≤ 1
@@ -86,23 +96,24 @@ endpoints_wait {e} {f} {d} {waiting} change entry h changes next settled = recor
     one_most false = omega arith
 
 -- the deliveries and the steps with one more record
-pub deliveries_wait : {e : endpoint_entries.BookValue} {d f : delivery_entries.BookValue} {waiting : WaitingValue} (entry : Record) → IsDesk e d waiting
-    → f.next_seq ≡ record_count waiting + 1 → f.settled_seq ≡ d.settled_seq → IsDesk e f (with_step waiting (entry ∷ []))
-deliveries_wait {e} {d} {f} {waiting} entry h next settled = record {
+pub deliveries_wait : {e : endpoint_entries.BookValue} {d f : delivery_entries.BookValue} {waiting : WaitingValue} {live : List Row} {limiters : List Limiter} {queue later : QueueValue} (entry : Record) → IsDesk e d waiting live limiters queue
+    → f.next_seq ≡ record_count waiting + 1 → f.settled_seq ≡ d.settled_seq → AreTied e f (with_step waiting (entry ∷ [])) live limiters later → IsDesk e f (with_step waiting (entry ∷ [])) live limiters later
+deliveries_wait {e} {d} {f} {waiting} entry h next settled tied = record {
   endpoints_staged = omega (arith, h.endpoints_staged, one_more waiting entry);
   endpoints_settled = h.endpoints_settled;
   flags_few = h.flags_few;
   deliveries_staged = omega (arith, next, one_more waiting entry);
   deliveries_settled = settled ∙ h.deliveries_settled;
+  tied = tied;
 }
 
 -- the longer history is legal
-legal_with : {d : DeskValue} {w : World} (entry : Record) → StandsFor d w → record_count d.waiting < MAX_RECORDS → IsTrue (may_follow (all_records w) entry) → IsTrue (is_within_limits entry)
+pub legal_with : {d : DeskValue} {w : World} (entry : Record) → StandsFor d w → record_count d.waiting < MAX_RECORDS → IsTrue (may_follow (all_records w) entry) → IsTrue (is_within_limits entry)
     → IsLegal (all_records w ++ entry ∷ [])
 legal_with {d} {w} entry h room follows limits = legal_more (all_records w) entry h.books.legal follows limits (omega (arith, count_is h, room))
 
 -- the desk that stands for the world with one more record
-stands_staged : (d : DeskValue) (w : World) (entry : Record) (endpoints : endpoint_entries.BookValue) (deliveries : delivery_entries.BookValue) → StandsFor d w
+pub stands_staged : (d : DeskValue) (w : World) (entry : Record) (endpoints : endpoint_entries.BookValue) (deliveries : delivery_entries.BookValue) → StandsFor d w
     → AreBooks endpoints deliveries (all_records w ++ entry ∷ []) (length (settled_records w))
     → StandsFor (record (with_entry d entry) { endpoints = endpoints; deliveries = deliveries }) (with_record w entry)
 stands_staged d w entry endpoints deliveries h books = record {
@@ -117,16 +128,41 @@ stands_staged d w entry endpoints deliveries h books = record {
     settled_first = h.waiting.settled_first;
     sealed_within = omega (arith, h.waiting.sealed_within, length-append w.history ((entry ∷ []) ∷ []));
   };
-  idle = record { live = h.idle.live; measured = h.idle.measured };
+  live = h.live;
+  limits = h.limits;
 }
   where
     settled : settled_records (with_record w entry) ≡ settled_records w
     settled = ap records_of (take-append-le w.settled w.history ((entry ∷ []) ∷ []) (settled_within h))
 
-known_is : {d : DeskValue} {w : World} (name : List ℕ) → StandsFor d w → is_known d.endpoints name ≡ has_endpoint (all_records w) name
+pub known_is : {d : DeskValue} {w : World} (name : List ℕ) → StandsFor d w → is_known d.endpoints name ≡ has_endpoint (all_records w) name
 known_is {d} {w} name h = known-entry d.endpoints (all_records w) name h.books.of_endpoints.tells
 
 -- Each record, where the desk has room and it may follow
+
+-- the limiters with one more
+limiters_more : (ls : List Limiter) (x : Limiter) (name : List ℕ) (samples : List Sample) → StandsAt ls name samples → (samples ≡ [] → StandsAt (x ∷ []) name samples) → StandsAt (ls ++ x ∷ []) name samples
+limiters_more [] x name samples h new = new h
+limiters_more (l ∷ ls) x name samples h new = step (is_limiter_of name l) h (λ later. limiters_more ls x name samples later new)
+  where
+    step : (b : Bool) → StandsBy (cond b (Some l) (limiter_of ls name)) samples → (StandsBy (limiter_of ls name) samples → StandsBy (limiter_of (ls ++ x ∷ []) name) samples)
+        → StandsBy (cond b (Some l) (limiter_of (ls ++ x ∷ []) name)) samples
+    step true h later = h
+    step false h later = later h
+
+-- a limiter stands for no samples at first
+limiter_new : (name other : List ℕ) (max : ℕ) (samples : List Sample) → samples ≡ [] → StandsAt (new_limiter name max ∷ []) other samples
+limiter_new name other max samples e = step (bytes_eq name other)
+  where
+    none : StandsForSamples (new_limiter name max).estimator []
+    none = record { limit = refl; noload = refl; probes = refl }
+
+    step : (b : Bool) → StandsBy (cond b (Some (new_limiter name max)) None) samples
+    step true = subst (λ xs. StandsForSamples (new_limiter name max).estimator xs) (sym e) none
+    step false = e
+
+stands_limited : (d : DeskValue) (w : World) (limiters : List Limiter) → StandsFor d w → AreLimits limiters w → StandsFor (record d { limiters = limiters }) w
+stands_limited d w limiters h limits = record { clock = h.clock; halted = h.halted; books = h.books; waiting = h.waiting; live = h.live; limits = limits }
 
 pub stands_with_put : (d : DeskValue) (w : World) (name target : List ℕ) (max : ℕ) (secrets : List (List ℕ)) → StandsFor d w → record_count d.waiting < MAX_RECORDS → is_known d.endpoints name ≡ false
     → length (endpoints (all_records w)) < MAX_ENDPOINTS → IsTrue (is_within_limits (Put name target max secrets)) → StandsFor (with_put d name target max secrets) (with_record w (Put name target max secrets))
@@ -134,12 +170,14 @@ stands_with_put d w name target max secrets h room unknown few limits =
     let entry = Put name target max secrets in
     let new : has_endpoint (all_records w) name ≡ false = sym (known_is name h) ∙ unknown in
     let legal = legal_with entry h room (λ i. not (new i) && lt-ltb (length (endpoints (all_records w))) MAX_ENDPOINTS few i) limits in
-    stands_staged d w entry _ d.deliveries h (record {
+    stands_limited _ (with_record w entry) (d.limiters ++ new_limiter name max ∷ [])
+    (stands_staged d w entry (endpoint_entries.with_put d.endpoints (endpoint_entries.new_entry (record_count d.waiting) name target max secrets)) d.deliveries h (record {
       of_endpoints = stands-put d.endpoints (all_records w) (length (settled_records w)) (record_count d.waiting) name target max secrets h.books.of_endpoints (count_is h) legal
           (none_if (entry_of d.endpoints name) unknown);
       of_deliveries = stands_other d.deliveries (all_records w) (length (settled_records w)) entry h.books.of_deliveries refl;
       legal = legal;
-    })
+    }))
+    (λ other. limiters_more d.limiters (new_limiter name max) other (samples_of w other) (h.limits other) (limiter_new name other max (samples_of w other)))
 
 pub stands_with_secrets : (d : DeskValue) (w : World) (name : List ℕ) (secrets : List (List ℕ)) → StandsFor d w → record_count d.waiting < MAX_RECORDS → IsTrue (is_known d.endpoints name)
     → IsTrue (is_within_limits (Secrets name secrets)) → StandsFor (with_secrets d name secrets) (with_record w (Secrets name secrets))

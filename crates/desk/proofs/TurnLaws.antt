@@ -1,10 +1,17 @@
 -- What a desk hands out, and what becomes of it when it comes back.
-use Rattle.std.proofs.Common.{◌≡◌, ℕ, ◌+◌, ◌-◌, ◌≤◌, Bool, true, false, [], ◌∷◌, Option, Some, None, length, take, drop, refl, sym, ◌∙◌, ap, arith, subst, eqb, ◌↔◌}
-use Rattle.std.specs.Prelude.{Result, Ok, Err, OnOk, OnErr, IsOk, IsErr, IfOk, IfSome, IsSome, IsSomeAnd, not, is_some, if◌then◌else◌}
+use Rattle.std.proofs.Common.{◌≡◌, ℕ, ◌+◌, ◌-◌, ◌≤◌, Bool, true, false, [], ◌∷◌, Option, Some, None, length, take, drop, map, refl, sym, ◌∙◌, ap, arith, cond, subst, eqb, max, List, ◌↔◌}
+use Rattle.std.specs.Prelude.{count_by, nat_lt, option_map, ◌&&◌, Result, Ok, Err, OnOk, OnErr, IsOk, IsErr, IfOk, IfSome, IsSome, IsSomeAnd, not, is_some, if◌then◌else◌}
+use Rattle.std.specs.List.{list_all}
+use Rattle.std.specs.Option.{option_map_or}
 use Rattle.std.proofs.Math.Seq.{take-add}
 use Rattle.std.proofs.lemmas.Bool.{eq-eqb, ne_eqb}
-use Rattle.std.proofs.lemmas.List.{drop-take, length-drop, length-take}
+use Rattle.std.proofs.lemmas.List.{drop-take, length-drop, length-take, take-append-drop}
+use Rattle.std.proofs.lemmas.List.Sums.{sum_by-append}
+use Rattle.std.proofs.lemmas.Simd.{map-map}
+use Rattle.relay_types.specs.declared.limits.TheConstants.{MAX_RECORDS}
 use Rattle.relay_types.specs.Records.{History, records_of}
+use Rattle.relay_types.proofs.RowLaws.{find_map}
+use Rattle.endpoint_book.specs.declared.entry.Entry.{Entry as EndpointEntry}
 use Rattle.endpoint_book.specs.Book as endpoint_book
 use Rattle.endpoint_book.specs.Entries as endpoint_entries
 use Rattle.delivery_book.specs.Book as delivery_book
@@ -14,6 +21,7 @@ use Rattle.group_commit.specs.declared.fault.SealFault.{SealFault}
 use Rattle.group_commit.specs.declared.fault.SealFault.TheVariants as sealing
 use Rattle.group_commit.specs.declared.held.Held.{Held}
 use Rattle.group_commit.specs.declared.held.Held.TheVariants as held
+use Rattle.group_commit.specs.Steps.{is_outcome, outcomes_in}
 use Rattle.group_commit.specs.Waits.{WaitingValue, batch_of, record_count, sealed_count, with_batch_out, with_settled, with_nothing_out}
 use Rattle.group_commit.specs.Turns as waiting
 use Rattle.group_commit.proofs.StepLaws.{length-records_of, length-records_of-split, drop_drop}
@@ -22,6 +30,11 @@ use Rattle.desk.specs.declared.refusal.Refusal.{Refusal}
 use Rattle.desk.specs.Faults.{refusal, first_fault}
 use Rattle.desk.specs.World.{World, all_records, settled_records, sealed_records}
 use Rattle.desk.specs.Moves.{Answer, is_nothing_out, sealed_batch, seal, seal_faults, seal_waiting, with_batch, with_sealed_settled, with_batch_back, with_halt}
+use Rattle.permits.specs.declared.row.Row.{Row}
+use Rattle.permits.specs.Rows.{in_flight_of}
+use Rattle.claim_queue.specs.Queues.{QueueValue}
+use Rattle.desk.specs.declared.limiter.Limiter.{Limiter}
+use Rattle.desk.specs.Ties.{AreMarked, AreQueued, KeepsRooms, bound_of, limit_by, room_by}
 use Rattle.desk.specs.Desks.{DeskValue, IsDesk, StandsFor, IsReceiptOf, ArePlacesOf, IsHeldOf, OverWorlds, Turns, IsMove}
 use Rattle.desk.proofs.MoveLaws.{refuses, passes, makes, lacks, becomes, leaves}
 use Rattle.desk.proofs.LookLaws.{stands_as}
@@ -113,7 +126,8 @@ stands_back {d} {w} h = record {
     settled_first = omega arith;
     sealed_within = omega (arith, h.waiting.settled_first, h.waiting.sealed_within);
   };
-  idle = record { live = h.idle.live; measured = h.idle.measured };
+  live = h.live;
+  limits = h.limits;
 }
 
 -- nothing is taken any more
@@ -129,7 +143,8 @@ stands_halted {d} {w} h = record {
     settled_first = h.waiting.settled_first;
     sealed_within = h.waiting.sealed_within;
   };
-  idle = record { live = h.idle.live; measured = h.idle.measured };
+  live = h.live;
+  limits = h.limits;
 }
 
 -- Settling
@@ -166,22 +181,83 @@ stands_settled {d} {w} endpoints deliveries count place h same upto by_endpoints
         settled_first = omega arith;
         sealed_within = h.waiting.sealed_within;
       };
-      idle = record { live = h.idle.live; measured = h.idle.measured };
+      live = h.live;
+      limits = h.limits;
     }
 
--- the books of a desk that settles
-pub is_desk_settled : {endpoints later : endpoint_entries.BookValue} {deliveries moved : delivery_entries.BookValue} {steps rest : WaitingValue} (count place : ℕ) → IsDesk endpoints deliveries steps
-    → later ≡ endpoint_entries.with_settled endpoints place → moved ≡ delivery_entries.with_settled deliveries place → rest ≡ with_settled steps count → place ≡ rest.settled → endpoint_entries.flags_in later + later.settled_seq ≤ later.next_seq → IsDesk later moved rest
-is_desk_settled {endpoints} {later} {deliveries} {moved} {steps} {rest} count place h e f g is few =
-    let same : record_count rest ≡ record_count steps = ap record_count g ∙ omega (arith, length-records_of-split count steps.waiting) in
+-- Settling changes no name, maximum or flag of an endpoint, and lets no endpoint go.
+endpoint_settled : (book : endpoint_entries.BookValue) (place : ℕ) (name : List ℕ)
+    → endpoint_entries.entry_of (endpoint_entries.with_settled book place) name ≡ option_map (λ e. endpoint_entries.settled_at place book.changes e.name e) (endpoint_entries.entry_of book name)
+endpoint_settled book place name = find_map (λ e. endpoint_entries.settled_at place book.changes e.name e) (endpoint_entries.is_named name) book.entries
+
+known_settled : (book : endpoint_entries.BookValue) (place : ℕ) (name : List ℕ) → endpoint_entries.is_known (endpoint_entries.with_settled book place) name ≡ endpoint_entries.is_known book name
+known_settled book place name = ap is_some (endpoint_settled book place name) ∙ by (endpoint_entries.entry_of book name)
+  where
+    by : (o : Option EndpointEntry) → is_some (option_map (λ e. endpoint_entries.settled_at place book.changes e.name e) o) ≡ is_some o
+    by None = refl
+    by (Some e) = refl
+
+room_settled : (book : endpoint_entries.BookValue) (place : ℕ) (limiters : List Limiter) (live : List Row) (name : List ℕ) → room_by (endpoint_entries.with_settled book place) limiters live name ≡ room_by book limiters live name
+room_settled book place limiters live name =
+    ap (λ b. b && nat_lt (in_flight_of name live) (limit_by limiters name))
+    (ap (λ o. option_map_or (λ (e : EndpointEntry). e.enabled) o true) (endpoint_settled book place name) ∙ by (endpoint_entries.entry_of book name))
+  where
+    by : (o : Option EndpointEntry)
+        → option_map_or (λ (e : EndpointEntry). e.enabled) (option_map (λ e. endpoint_entries.settled_at place book.changes e.name e) o) true ≡ option_map_or (λ (e : EndpointEntry). e.enabled) o true
+    by None = refl
+    by (Some e) = refl
+
+marked_settled : {queue told : QueueValue} {book : endpoint_entries.BookValue} {limiters : List Limiter} {live : List Row} (place : ℕ) → KeepsRooms queue told → AreMarked queue book limiters live
+    → AreMarked told (endpoint_entries.with_settled book place) limiters live
+marked_settled {queue} {told} {book} {limiters} {live} place rooms marked = record {
+  listed = ap (λ test. list_all test live) (λ i row. known_settled book place row.endpoint i) ∙ marked.listed;
+  known = λ name known. rooms.reserved name ∙ marked.known name (sym (known_settled book place name) ∙ known);
+  rooms = λ name there. rooms.rooms name ∙ marked.rooms name (sym (rooms.reserved name) ∙ there) ∙ sym (room_settled book place limiters live name);
+}
+
+outcomes_left : (count : ℕ) (steps : History) → outcomes_in (drop count steps) ≤ outcomes_in steps
+outcomes_left count steps =
+    omega (arith, ap outcomes_in (take-append-drop count steps), sum_by-append (λ step. cond (is_outcome step) 1 0) (take count steps) (drop count steps))
+
+records_settled : (steps : WaitingValue) (count : ℕ) → record_count (with_settled steps count) ≡ record_count steps
+records_settled steps count = omega (arith, length-records_of-split count steps.waiting)
+
+-- the books of a desk that settles, and what ties them
+pub is_desk_settled : {endpoints later : endpoint_entries.BookValue} {deliveries moved : delivery_entries.BookValue} {steps rest : WaitingValue} {live : List Row} {limiters : List Limiter} {queue told : QueueValue} (count place : ℕ)
+    → IsDesk endpoints deliveries steps live limiters queue
+    → later ≡ endpoint_entries.with_settled endpoints place → moved.settled_seq ≡ place → moved.next_seq ≡ max deliveries.next_seq place → rest ≡ with_settled steps count → place ≡ rest.settled
+    → endpoint_entries.flags_in later + later.settled_seq ≤ later.next_seq → KeepsRooms queue told → ((live : List Row) → AreQueued queue deliveries live → AreQueued told moved live)
+    → IsDesk later moved rest live limiters told
+is_desk_settled {endpoints} {later} {deliveries} {moved} {steps} {rest} {live} {limiters} {queue} {told} count place h e settled next g is few rooms queued =
+    let same : record_count rest ≡ record_count steps = ap record_count g ∙ records_settled steps count in
     let within : place ≤ record_count rest = omega (arith, is) in
     record {
       endpoints_staged = omega (arith, ap (λ (b : endpoint_entries.BookValue). b.next_seq) e, h.endpoints_staged, same, within);
       endpoints_settled = ap (λ (b : endpoint_entries.BookValue). b.settled_seq) e ∙ is;
       flags_few = few;
-      deliveries_staged = omega (arith, ap (λ (b : delivery_entries.BookValue). b.next_seq) f, h.deliveries_staged, same, within);
-      deliveries_settled = ap (λ (b : delivery_entries.BookValue). b.settled_seq) f ∙ is;
+      deliveries_staged = omega (arith, next, h.deliveries_staged, same, within);
+      deliveries_settled = settled ∙ is;
+      tied = record {
+        limited = h.tied.limited
+            ∙ sym (map-map bound_of (λ e. endpoint_entries.settled_at place endpoints.changes e.name e) endpoints.entries)
+            ∙ sym (ap (λ (b : endpoint_entries.BookValue). map bound_of b.entries) e);
+        room = record {
+          places = omega (arith, ap (λ (w : WaitingValue). outcomes_in w.waiting) g, outcomes_left count steps.waiting, h.tied.room.places);
+          numbers = omega (arith, same, h.tied.room.numbers);
+        };
+        marked = subst (λ (b : endpoint_entries.BookValue). AreMarked told b limiters live) (sym e) (marked_settled place rooms h.tied.marked);
+        queued = queued live h.tied.queued;
+      };
     }
+
+-- what the walk over the records that are settled needs
+pub settles_above : {endpoints : endpoint_entries.BookValue} {deliveries : delivery_entries.BookValue} {steps rest : WaitingValue} {live : List Row} {limiters : List Limiter} {queue : QueueValue} (count place : ℕ)
+    → IsDesk endpoints deliveries steps live limiters queue → rest ≡ with_settled steps count → place ≡ rest.settled → deliveries.settled_seq ≤ place
+settles_above {endpoints} {deliveries} {steps} {rest} count place h g is = omega (arith, is, ap (λ (w : WaitingValue). w.settled) g, h.deliveries_settled)
+
+pub settles_within : {endpoints : endpoint_entries.BookValue} {deliveries : delivery_entries.BookValue} {steps rest : WaitingValue} {live : List Row} {limiters : List Limiter} {queue : QueueValue} (count place : ℕ)
+    → IsDesk endpoints deliveries steps live limiters queue → rest ≡ with_settled steps count → place ≡ rest.settled → place ≤ MAX_RECORDS
+settles_within {endpoints} {deliveries} {steps} {rest} count place h g is = omega (arith, is, ap record_count g ∙ records_settled steps count, h.tied.room.numbers)
 
 -- Seals
 
@@ -231,7 +307,8 @@ stands_sealed {d} {w} h = record {
     settled_first = omega (arith, waiting_length h);
     sealed_within = omega arith;
   };
-  idle = record { live = h.idle.live; measured = h.idle.measured };
+  live = h.live;
+  limits = h.limits;
 }
 
 sealed_is : {d : DeskValue} {w : World} → StandsFor d w → sealed_batch d.waiting.mark (with_batch w) ≡ batch_of d.waiting (sealed_count d.waiting)

@@ -1,9 +1,14 @@
 -- What a desk keeps, the worlds for which it stands, and what its calls answer.
-use Rattle.std.specs.Prelude.{◌≡◌, ℕ, ◌+◌, ◌-◌, ◌≤◌, Bool, true, false, List, [], ◌∷◌, length, drop, Option, Some, None, Result, Ok, Err, if◌then◌else◌}
+use Rattle.std.specs.Prelude.{◌≡◌, ℕ, ◌+◌, ◌-◌, ◌≤◌, ◌<◌, Bool, true, false, ◌&&◌, nat_lt, List, [], ◌∷◌, ◌++◌, length, drop, bytes_eq, Option, Some, None, is_some, IsTrue, Result, Ok, Err, if◌then◌else◌}
+use Rattle.std.specs.Option.{option_map_or}
+use Rattle.relay_types.specs.declared.limits.TheConstants.{MAX_RECORDS}
 use Rattle.relay_types.specs.declared.record.Record.{Record}
-use Rattle.relay_types.specs.declared.record.Record.TheVariants.{Put, Secrets, Enabled, Accept}
+use Rattle.relay_types.specs.declared.record.Record.TheVariants.{Put, Secrets, Enabled, Accept, Outcome}
 use Rattle.relay_types.specs.Values.{Text, Seq, Seconds}
-use Rattle.relay_types.specs.Records.{History, records_of}
+use Rattle.relay_types.specs.Records.{History, Accepted, records_of}
+use Rattle.relay_types.specs.Deliveries.{accepted}
+use Rattle.relay_types.specs.Endpoints.{secrets_of}
+use Rattle.relay_types.specs.Judging.{is_gone_status}
 use Rattle.relay_types.specs.Legal.{IsLegal}
 use Rattle.endpoint_book.specs.Book as endpoint_book
 use Rattle.endpoint_book.specs.Entries as endpoint_entries
@@ -15,27 +20,42 @@ use Rattle.spool.specs.Batches.{BatchValue, DoubtValue, doubt_of}
 use Rattle.group_commit.specs.declared.held.Held.{Held}
 use Rattle.group_commit.specs.declared.held.Held.TheVariants as held
 use Rattle.group_commit.specs.Turns as turns
+use Rattle.group_commit.specs.declared.limits.TheConstants.{MAX_WAITING_OUTCOMES}
+use Rattle.group_commit.specs.Steps.{outcomes_in}
 use Rattle.group_commit.specs.Waits.{WaitingValue, record_count, with_step}
+use Rattle.permits.specs.declared.row.Row.{Row}
+use Rattle.retry_table.specs.declared.post.PostResult.{PostResult}
+use Rattle.claim_queue.specs.Queues.{QueueValue}
+use Rattle.delivery_book.specs.declared.entry.Entry.{Entry}
 use Rattle.desk.specs.declared.refusal.Refusal.{Refusal}
 use Rattle.desk.specs.Faults.{Faults, first_fault}
 use Rattle.desk.specs.World.{World, Out, all_records, settled_records}
+use Rattle.desk.specs.declared.job.Post.{Post}
+use Rattle.desk.specs.declared.limiter.Limiter.{Limiter}
+use Rattle.desk.specs.declared.spent.Spent.{Spent}
 use Rattle.desk.specs.Moves.{Answer, MayGive, is_nothing_out, sealed_batch, opened}
+use Rattle.desk.specs.Claims.{JobValue, samples_of, next_attempt, target_in, job_of, with_attempt, has_row, with_attempt_over, spent_by}
+use Rattle.desk.specs.Ties.{AreTied, StandsAt, is_idle, new_limiter, room_by}
 
--- The books of all records, the steps that wait, the latest moment, and whether nothing is taken any more.
+-- The books of all records, the steps that wait, the latest moment, whether nothing is taken any more, the permits that are out
+-- and the limits. What the queue holds follows from these.
 pub record DeskValue : Type 0 where
   pub clock : Seconds
   pub endpoints : endpoint_entries.BookValue
   pub deliveries : delivery_entries.BookValue
   pub waiting : WaitingValue
   pub halted : Bool
+  pub live : List Row
+  pub limiters : List Limiter
 
 -- what holds of a desk's fields in every world
-pub record IsDesk (endpoints : endpoint_entries.BookValue) (deliveries : delivery_entries.BookValue) (waiting : WaitingValue) : Type 0 where
+pub record IsDesk (endpoints : endpoint_entries.BookValue) (deliveries : delivery_entries.BookValue) (waiting : WaitingValue) (live : List Row) (limiters : List Limiter) (queue : QueueValue) : Type 0 where
   pub endpoints_staged : endpoints.next_seq ≤ record_count waiting
   pub endpoints_settled : endpoints.settled_seq ≡ waiting.settled
   pub flags_few : endpoint_entries.flags_in endpoints + endpoints.settled_seq ≤ endpoints.next_seq
   pub deliveries_staged : deliveries.next_seq ≤ record_count waiting
   pub deliveries_settled : deliveries.settled_seq ≡ waiting.settled
+  pub tied : AreTied endpoints deliveries waiting live limiters queue
 
 -- The world for which a desk stands, part by part. It stores no history.
 
@@ -57,17 +77,17 @@ pub record Waits (waiting : WaitingValue) (history : History) (settled sealed : 
   pub settled_first : settled ≤ sealed
   pub sealed_within : sealed ≤ length history
 
--- no attempt is under way, and none was
-pub record IsIdle (w : World) : Type 0 where
-  pub live : w.live ≡ []
-  pub measured : w.measured ≡ []
+-- the limits are those of the samples
+abbrev pub AreLimits : List Limiter → World → Type 0
+AreLimits limiters w = (name : Text) → StandsAt limiters name (samples_of w name)
 
 pub record StandsFor (desk : DeskValue) (w : World) : Type 0 where
   pub clock : desk.clock ≡ w.clock
   pub halted : desk.halted ≡ w.halted
   pub books : AreBooks desk.endpoints desk.deliveries (all_records w) (length (settled_records w))
   pub waiting : Waits desk.waiting w.history w.settled w.sealed w.out (length (settled_records w))
-  pub idle : IsIdle w
+  pub live : desk.live ≡ w.live
+  pub limits : AreLimits desk.limiters w
 
 -- what is so of every world for which the desk stands
 abbrev pub OverWorlds : DeskValue → (World → Type 0) → Type 0
@@ -109,7 +129,81 @@ abbrev pub Turns : {A E : Type 0} → (old : DeskValue) (IsOut : World → Type 
 Turns old IsOut ended (Ok a) new = OverWorlds old (λ w. IsOut w × StandsFor new (ended w))
 Turns old IsOut ended (Err e) new = OverWorlds old (λ w. (¬ IsOut w) × StandsFor new w)
 
+-- Attempts
+
+-- From each world for which the desk stood: the job is that of an attempt at the delivery, and the attempt is under way.
+abbrev pub Starts : (old : DeskValue) (at : Seconds) (delivery : Seq) (job : JobValue) (new : DeskValue) → Type 0
+Starts old at d job new = OverWorlds old (λ w. (a : Accepted)
+    × (accepted (all_records w) d ≡ Some a) × (job ≡ job_of w at d a) × StandsFor new (with_attempt w at job.row))
+
+-- From each world for which the desk stood: the permit of an attempt that is under way is taken, and any other comes back.
+abbrev pub Spends : {E : Type 0} → (old : DeskValue) (row : Row) (post : PostResult) (now : Seconds) (result : Result Spent E) (new : DeskValue) → Type 0
+Spends old row post now (Ok spent) new = OverWorlds old (λ w.
+    (has_row w row ≡ true) × (spent ≡ spent_by w row post now) × StandsFor new (with_attempt_over w row post now))
+Spends old row post now (Err e) new = OverWorlds old (λ w. (has_row w row ≡ false) × StandsFor new w)
+
 -- What the desk's own steps look for and make.
+
+-- whether an attempt at the delivery of the entry may begin, where it is due
+abbrev pub is_ready : DeskValue → Entry → Bool
+is_ready desk e = is_idle desk.deliveries.settled_seq desk.live e
+    && (is_some e.settled.due && room_by desk.endpoints desk.limiters desk.live e.name)
+
+abbrev pub has_place : DeskValue → Bool
+has_place desk = nat_lt (outcomes_in desk.waiting.waiting + length desk.live) MAX_WAITING_OUTCOMES
+
+abbrev pub may_start : DeskValue → (delivery : Seq) → Bool
+may_start desk d = has_place desk && option_map_or (is_ready desk) (delivery_entries.entry_at desk.deliveries.entries d) false
+
+-- the same, where the delivery is one of the endpoint
+abbrev pub may_start_at : DeskValue → (name : Text) (delivery : Seq) → Bool
+may_start_at desk name d = has_place desk
+    && option_map_or (λ e. is_ready desk e && bytes_eq e.name name) (delivery_entries.entry_at desk.deliveries.entries d) false
+
+-- what is posted at the delivery's next attempt
+abbrev pub post_of : (w : World) (at : Seconds) (delivery : Seq) → Accepted → Post
+post_of w at d a = record {
+  endpoint = a.endpoint;
+  id = a.id;
+  attempt = next_attempt w d;
+  at = at;
+  target = target_in w a.endpoint;
+  secrets = secrets_of (all_records w) a.endpoint;
+  body = a.body;
+}
+
+abbrev pub IsPostOf : (w : World) (at : Seconds) (delivery : Seq) → Post → Type 0
+IsPostOf w at d post = (a : Accepted) × (accepted (all_records w) d ≡ Some a) × (post ≡ post_of w at d a)
+
+-- the number of the delivery's next attempt, by the book
+abbrev pub attempt_in : delivery_entries.BookValue → (delivery : Seq) → ℕ
+attempt_in book d = option_map_or (λ e. e.latest.attempts) (delivery_entries.entry_at book.entries d) 0 + 1
+
+-- the book once the outcome with this number has this status: a gone endpoint is disabled
+abbrev pub with_gone : endpoint_entries.BookValue → (seq : Seq) (name : Text) (status : ℕ) → endpoint_entries.BookValue
+with_gone book seq name status = if is_gone_status status then endpoint_entries.with_flag book seq name false else book
+
+-- the outcome of the row's attempt can wait
+pub record TakesOutcome (waiting : WaitingValue) (endpoints : endpoint_entries.BookValue) (deliveries : delivery_entries.BookValue) (row : Row) : Type 0 where
+  pub place : outcomes_in waiting.waiting < MAX_WAITING_OUTCOMES
+  pub room : record_count waiting < MAX_RECORDS
+  pub endpoints_staged : endpoints.next_seq ≤ record_count waiting
+  pub deliveries_staged : deliveries.next_seq ≤ record_count waiting
+  pub known : IsTrue (endpoint_entries.is_known endpoints row.endpoint)
+  pub free_delivery : delivery_entries.takes_outcome deliveries row.delivery ≡ true
+  pub flags : endpoint_entries.flags_in endpoints + waiting.settled ≤ endpoints.next_seq
+
+-- the outcome of the row's attempt, with this status, waits
+pub record HasOutcome (waiting : WaitingValue) (endpoints : endpoint_entries.BookValue) (deliveries : delivery_entries.BookValue) (row : Row) (at : Seconds)
+    (more : WaitingValue) (gone : endpoint_entries.BookValue) (tried : delivery_entries.BookValue) (status : ℕ) : Type 0 where
+  pub steps : more ≡ with_step waiting (Outcome row.delivery (attempt_in deliveries row.delivery) status at ∷ [])
+  pub of_endpoints : gone ≡ with_gone endpoints (record_count waiting) row.endpoint status
+  pub of_deliveries : tried ≡ delivery_entries.with_outcome deliveries (record_count waiting) row.delivery status at
+  pub unused : delivery_entries.entry_at deliveries.entries (record_count waiting) ≡ None
+
+-- the desk with one more attempt under way
+abbrev pub with_live : DeskValue → Row → DeskValue
+with_live desk row = record desk { live = desk.live ++ row ∷ [] }
 
 -- the answer to a look for faults, in each world for which the desk stands
 abbrev pub Checks : DeskValue → (World → Faults) → Result (Unit {0}) Refusal → Type 0
@@ -122,6 +216,7 @@ with_entry desk entry = record desk { waiting = with_step desk.waiting (entry �
 abbrev pub with_put : DeskValue → (name target : Text) (max : ℕ) (secrets : List Text) → DeskValue
 with_put desk name target max secrets = record (with_entry desk (Put name target max secrets)) {
   endpoints = endpoint_entries.with_put desk.endpoints (endpoint_entries.new_entry (record_count desk.waiting) name target max secrets);
+  limiters = desk.limiters ++ new_limiter name max ∷ [];
 }
 
 abbrev pub with_secrets : DeskValue → (name : Text) (secrets : List Text) → DeskValue

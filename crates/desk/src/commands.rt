@@ -1,5 +1,5 @@
 //! How the desk changes endpoints.
-ghost use Rattle.std.specs.Prelude.{◌≡◌, ◌<◌, ◌+◌, false, IsTrue, IfOk, OnOk, OnErr};
+ghost use Rattle.std.specs.Prelude.{◌≡◌, ◌<◌, ◌+◌, length, false, IsTrue, IfOk, OnOk, OnErr};
 ghost use Rattle.relay_types.specs.declared.limits.TheConstants.{MAX_RECORDS};
 ghost use Rattle.relay_types.specs.declared.record.Record.TheVariants as on;
 ghost use Rattle.relay_types.specs.Legal.{is_within_limits};
@@ -13,12 +13,16 @@ ghost use Rattle.desk.specs.Desks.{IsMove, Checks, with_put, with_secrets, with_
 
 use crate::command::Command;
 use crate::desk::{Desk, push_request};
+use crate::holding::tell_room;
+use crate::limiter::Limiter;
 use crate::refusal::{Fault, Refusal, check, or_out_of_memory};
 use crate::ticket::CommandTicket;
-use relay_types::{MAX_ENDPOINTS, MAX_RECORDS, MaxLimit, Name, Record, Secrets, Target};
+use relay_types::{MAX_ENDPOINTS, MaxLimit, Name, Record, Secrets, Target};
 use std::alloc::AllocError;
+use std::sync::ledger::Ledger;
+use vegas::Estimator;
 
-impl Desk {
+impl<L: Ledger> Desk<L> {
     /// Changes an endpoint.
     pub fn command(&mut self, command: Command) -> Result<CommandTicket, Refusal>
         ensures moves { IsMove self.old (λ w. change w command) result self.new }
@@ -73,7 +77,7 @@ impl Desk {
     fn check_put(&self, name: Name) -> Result<(), Refusal>
         ensures faults { Checks self.now (λ w. put_faults w name) result }
         ensures place { OnOk result (requests_in self.now.waiting.waiting < MAX_WAITING_REQUESTS) }
-        ensures room { OnOk result (record_count self.now.waiting < MAX_RECORDS) }
+        ensures room { OnOk result (record_count self.now.waiting + length self.now.live < MAX_RECORDS) }
         ensures unknown { OnOk result (is_known self.now.endpoints name ≡ false) }
     {
         check(&[
@@ -85,18 +89,14 @@ impl Desk {
                 Fault::TooManyEndpoints,
             ),
             (self.waiting.free_requests() == 0, 5, Fault::WaitingFull),
-            (
-                self.waiting.records() >= MAX_RECORDS,
-                6,
-                Fault::SeqExhausted,
-            ),
+            (self.are_seqs_spent(), 6, Fault::SeqExhausted),
         ])
     }
 
     fn check_set(&self, name: Name) -> Result<(), Refusal>
         ensures faults { Checks self.now (λ w. set_faults w name) result }
         ensures place { OnOk result (requests_in self.now.waiting.waiting < MAX_WAITING_REQUESTS) }
-        ensures room { OnOk result (record_count self.now.waiting < MAX_RECORDS) }
+        ensures room { OnOk result (record_count self.now.waiting + length self.now.live < MAX_RECORDS) }
         ensures free { OnOk result (record_count self.now.waiting < self.now.waiting.settled + MAX_FLAGS) }
         ensures known { OnOk result (IsTrue (is_known self.now.endpoints name)) }
     {
@@ -104,11 +104,7 @@ impl Desk {
             (self.halted, 1, Fault::Halted),
             (!self.endpoints.contains(name), 2, Fault::UnknownEndpoint),
             (self.waiting.free_requests() == 0, 5, Fault::WaitingFull),
-            (
-                self.waiting.records() >= MAX_RECORDS,
-                6,
-                Fault::SeqExhausted,
-            ),
+            (self.are_seqs_spent(), 6, Fault::SeqExhausted),
         ])
     }
 
@@ -121,7 +117,7 @@ impl Desk {
         secrets: Secrets,
     ) -> Result<CommandTicket, AllocError>
         requires place { requests_in self.old.waiting.waiting < MAX_WAITING_REQUESTS }
-        requires room { record_count self.old.waiting < MAX_RECORDS }
+        requires room { record_count self.old.waiting + length self.old.live < MAX_RECORDS }
         requires unknown { is_known self.old.endpoints name ≡ false }
         ensures ticket { IfOk result (λ ticket. ticket.seq ≡ record_count self.old.waiting) }
         ensures staged { OnOk result (self.new ≡ with_put self.old name target max secrets) }
@@ -130,7 +126,21 @@ impl Desk {
     {
         let seq = self.waiting.records();
         let kept = target.share()?;
+        self.limiters.reserve(1)?;
+        let estimator = Estimator::new(max)?;
+        self.queue.reserve(name, 0)?;
         self.endpoints.stage_put(seq, name, kept, max, secrets)?;
+        self.limiters.push_reserved(Limiter {
+            endpoint: name,
+            estimator,
+        });
+        tell_room(
+            &mut self.queue,
+            &self.endpoints,
+            &self.limiters,
+            &self.pool,
+            name,
+        );
         push_request(
             &mut self.waiting,
             Record::Put {
@@ -145,7 +155,7 @@ impl Desk {
 
     fn stage_secrets(&mut self, name: Name, secrets: Secrets) -> Result<CommandTicket, AllocError>
         requires place { requests_in self.old.waiting.waiting < MAX_WAITING_REQUESTS }
-        requires room { record_count self.old.waiting < MAX_RECORDS }
+        requires room { record_count self.old.waiting + length self.old.live < MAX_RECORDS }
         requires known { IsTrue (is_known self.old.endpoints name) }
         ensures ticket { IfOk result (λ ticket. ticket.seq ≡ record_count self.old.waiting) }
         ensures staged { OnOk result (self.new ≡ with_secrets self.old name secrets) }
@@ -160,7 +170,7 @@ impl Desk {
 
     fn stage_enabled(&mut self, name: Name, flag: bool) -> CommandTicket
         requires place { requests_in self.old.waiting.waiting < MAX_WAITING_REQUESTS }
-        requires room { record_count self.old.waiting < MAX_RECORDS }
+        requires room { record_count self.old.waiting + length self.old.live < MAX_RECORDS }
         requires known { IsTrue (is_known self.old.endpoints name) }
         requires free { record_count self.old.waiting < self.old.waiting.settled + MAX_FLAGS }
         ensures ticket { result.seq ≡ record_count self.old.waiting }
@@ -169,6 +179,13 @@ impl Desk {
     {
         let seq = self.waiting.records();
         self.endpoints.stage_enabled(seq, name, flag);
+        tell_room(
+            &mut self.queue,
+            &self.endpoints,
+            &self.limiters,
+            &self.pool,
+            name,
+        );
         push_request(&mut self.waiting, Record::Enabled { name, flag });
         CommandTicket { seq }
     }

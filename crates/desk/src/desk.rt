@@ -1,40 +1,50 @@
 //! The desk, and how it takes events.
-ghost use Rattle.std.specs.Prelude.{◌≡◌, ◌<◌, ◌+◌, [], ◌∷◌, max, IsTrue, None, IfOk, OnOk, OnErr};
+ghost use Rattle.std.specs.Prelude.{◌≡◌, ◌<◌, ◌+◌, [], ◌∷◌, length, max, nat_le, IsTrue, None, IfOk, OnOk, OnErr};
 ghost use Rattle.relay_types.specs.declared.limits.TheConstants.{MAX_RECORDS};
 ghost use Rattle.relay_types.specs.declared.record.Record.TheVariants.{Accept};
 ghost use Rattle.relay_types.specs.Deliveries.{accepted};
 ghost use Rattle.relay_types.specs.Legal.{is_within_limits};
-ghost use Rattle.delivery_book.specs.Entries.{known_in};
+ghost use Rattle.delivery_book.specs.Entries.{known_in, pending_in};
 ghost use Rattle.spool.specs.Books.{AreSettled};
 ghost use Rattle.group_commit.specs.declared.limits.TheConstants.{MAX_WAITING_REQUESTS};
 ghost use Rattle.group_commit.specs.Steps.{is_request, requests_in};
 ghost use Rattle.group_commit.specs.Waits.{record_count, with_step};
 ghost use Rattle.desk.specs.World.{all_records};
-ghost use Rattle.desk.specs.Moves.{opened, ticket, submit, submit_faults, new_submit_faults, is_conflict, has_body};
+ghost use Rattle.desk.specs.Moves.{are_seqs_spent, opened, ticket, submit, submit_faults, new_submit_faults, is_conflict, has_body};
+ghost use Rattle.desk.specs.declared.limits.TheConstants.{MAX_PENDING};
+ghost use Rattle.permits.specs.declared.pool.TheConstants.{PARTS};
 ghost use Rattle.desk.specs.Desks.{StandsFor, Opens, IsMove, Checks, OverWorlds, with_accept};
 
+use crate::limiter::Limiter;
 use crate::limits::{MAX_PENDING, MAX_PENDING_ALL};
+use crate::opening::{limiters_of, queue_of};
 use crate::refusal::{Fault, Refusal, check, or_out_of_memory};
 use crate::ticket::Ticket;
+use claim_queue::ClaimQueue;
 use delivery_book::DeliveryBook;
 use endpoint_book::EndpointBook;
 use group_commit::Waiting;
+use permits::{PARTS, Pool};
 use relay_types::{Body, MAX_RECORDS, Moment, MsgId, Name, Record, Step};
 use spool::Books;
 use std::alloc::{AllocError, Global};
 use std::marker::Model;
+use std::sync::ledger::{Blank, Ledger};
 
 /// The desk of one opening.
 #[derive(Drop)]
-pub struct Desk {
+pub struct Desk<L: Ledger> {
     pub(crate) clock: Moment,
     pub(crate) endpoints: EndpointBook,
     pub(crate) deliveries: DeliveryBook,
     pub(crate) waiting: Waiting,
     pub(crate) halted: bool,
+    pub(crate) pool: Pool<L>,
+    pub(crate) limiters: Vec<Limiter>,
+    pub(crate) queue: ClaimQueue,
 }
 
-impl Model for Desk {
+impl<L: Ledger> Model for Desk<L> {
     ghost use Rattle.desk.specs.Desks.{DeskValue, IsDesk};
 
     ghost Value = { DeskValue };
@@ -45,14 +55,19 @@ impl Model for Desk {
       deliveries = d.deliveries;
       waiting = d.waiting;
       halted = d.halted;
+      live = d.pool;
+      limiters = d.limiters.items;
     } };
 
-    ghost invariant = { λ d. IsDesk d.endpoints d.deliveries d.waiting };
+    ghost invariant = { λ d. IsDesk d.endpoints d.deliveries d.waiting d.pool d.limiters.items d.queue };
 }
 
-impl Desk {
+impl<L: Ledger> Desk<L> {
     /// The desk of the empty history.
-    pub fn new(alloc: Global, mark: u64) -> Result<Desk, AllocError>
+    pub fn new(alloc: Global, blank: Blank, mark: u64) -> Result<Desk<L>, AllocError>
+        requires name { blank.name ≡ L.name }
+        requires parts { blank.parts ≡ L.parts }
+        requires enough { blank.parts ≡ PARTS }
         ensures mark { IfOk result (λ desk. desk.waiting.mark ≡ mark) }
         ensures stands { IfOk result (λ desk. StandsFor desk (opened [] 0)) }
     {
@@ -65,12 +80,18 @@ impl Desk {
             deliveries: DeliveryBook::new(alloc),
             waiting: Waiting::new(alloc, 0, mark)?,
             halted: false,
+            pool: Pool::new(alloc, blank)?,
+            limiters: Vec::new(alloc),
+            queue: ClaimQueue::new(alloc),
         })
     }
 
     /// The desk of a history of which a vault gave these books: all of it is settled.
-    pub fn of(alloc: Global, books: Books, mark: u64) -> Result<Desk, AllocError>
-        requires { AreSettled books }
+    pub fn of(alloc: Global, blank: Blank, books: Books, mark: u64) -> Result<Desk<L>, AllocError>
+        requires name { blank.name ≡ L.name }
+        requires parts { blank.parts ≡ L.parts }
+        requires enough { blank.parts ≡ PARTS }
+        requires settled { AreSettled books }
         ensures mark { IfOk result (λ desk. desk.waiting.mark ≡ mark) }
         ensures stands { IfOk result (Opens books) }
     {
@@ -80,12 +101,18 @@ impl Desk {
             records,
             clock,
         } = books;
+        let pool = Pool::new(alloc, blank)?;
+        let limiters = limiters_of(alloc, &endpoints)?;
+        let queue = queue_of(alloc, &endpoints, &deliveries, &limiters, &pool)?;
         Ok(Desk {
             clock,
             endpoints,
             deliveries,
             waiting: Waiting::new(alloc, records, mark)?,
             halted: false,
+            pool,
+            limiters,
+            queue,
         })
     }
 
@@ -113,10 +140,18 @@ impl Desk {
     }
 
     // The moment of a call: the clock never goes back.
-    fn moment(&self, now: Moment) -> Moment
+    pub(crate) fn moment(&self, now: Moment) -> Moment
         ensures { result ≡ max now self.now.clock }
     {
         if now > self.clock { now } else { self.clock }
+    }
+
+    // Whether each number that can still be needed is given out: one for each permit that is out, and one more.
+    pub(crate) fn are_seqs_spent(&self) -> bool
+        ensures spent { result ≡ nat_le MAX_RECORDS (record_count self.now.waiting + length self.now.live) }
+        ensures stands { OverWorlds self.now (λ w. result ≡ are_seqs_spent w) }
+    {
+        self.waiting.records() + self.pool.live() as u64 >= MAX_RECORDS
     }
 
     // Whether the delivery has these bytes.
@@ -151,8 +186,9 @@ impl Desk {
 
     fn check_new_submit(&self, name: Name) -> Result<(), Refusal>
         ensures faults { Checks self.now (λ w. new_submit_faults w name) result }
+        ensures few { OnOk result (pending_in self.now.deliveries name < MAX_PENDING) }
         ensures place { OnOk result (requests_in self.now.waiting.waiting < MAX_WAITING_REQUESTS) }
-        ensures room { OnOk result (record_count self.now.waiting < MAX_RECORDS) }
+        ensures room { OnOk result (record_count self.now.waiting + length self.now.live < MAX_RECORDS) }
     {
         check(&[
             (
@@ -166,11 +202,7 @@ impl Desk {
                 Fault::Backlog,
             ),
             (self.waiting.free_requests() == 0, 6, Fault::WaitingFull),
-            (
-                self.waiting.records() >= MAX_RECORDS,
-                7,
-                Fault::SeqExhausted,
-            ),
+            (self.are_seqs_spent(), 7, Fault::SeqExhausted),
         ])
     }
 
@@ -183,7 +215,8 @@ impl Desk {
         body: Body,
     ) -> Result<Ticket, AllocError>
         requires place { requests_in self.old.waiting.waiting < MAX_WAITING_REQUESTS }
-        requires room { record_count self.old.waiting < MAX_RECORDS }
+        requires room { record_count self.old.waiting + length self.old.live < MAX_RECORDS }
+        requires few { pending_in self.old.deliveries name < MAX_PENDING }
         requires unknown { known_in self.old.deliveries name id ≡ None }
         ensures ticket { IfOk result (λ given. given ≡ ticket (record_count self.old.waiting) name id) }
         ensures staged { OnOk result (self.new ≡ with_accept self.old name id body at) }
@@ -192,6 +225,8 @@ impl Desk {
     {
         let seq = self.waiting.records();
         let kept = body.share()?;
+        let pending = self.deliveries.pending(name) as usize;
+        self.queue.reserve(name, pending + 1)?;
         self.deliveries.stage_accept(seq, name, id, kept, at)?;
         self.clock = at;
         push_request(&mut self.waiting, Record::Accept { name, id, body, at });

@@ -1,20 +1,28 @@
-//! The desk: the order of all changes. It takes submissions and commands, seals what waits, settles what was committed, and
-//! tells what is settled.
+//! The desk: the order of all changes. It takes submissions and commands, seals what waits, settles what was committed, chooses
+//! what is posted next, learns how it went, and tells what is settled.
 #![tactic(auto)]
 
+mod claims;
 mod command;
 mod commands;
 mod desk;
+mod holding;
+mod job;
+mod limiter;
 mod limits;
 mod looks;
+mod opening;
 mod pages;
 mod refusal;
+mod spent;
 mod ticket;
 mod turns;
 
 pub use crate::command::Command;
 pub use crate::desk::Desk;
+pub use crate::job::Job;
 pub use crate::limits::{MAX_PENDING, MAX_PENDING_ALL};
 pub use crate::pages::{EndpointPage, Totals};
 pub use crate::refusal::{Fault, Refusal};
+pub use crate::spent::{Limits, Spent};
 pub use crate::ticket::{CommandTicket, Ticket, Told};

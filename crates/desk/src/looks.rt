@@ -1,16 +1,20 @@
 //! What the desk tells.
 ghost use Rattle.std.specs.Prelude.{◌≡◌, length, option_map, option_copied};
 ghost use Rattle.desk.specs.World.{all_records, settled_records};
+ghost use Rattle.desk.specs.Claims.{limits};
 ghost use Rattle.desk.specs.Looks.{is_row_of, has_event, told, told_command, settled_body, event_page, endpoint_page, shown, totals};
 ghost use Rattle.desk.specs.Desks.{OverWorlds};
 
 use crate::desk::Desk;
+use crate::limiter::limiter_of;
 use crate::pages::{EndpointPage, Totals};
+use crate::spent::Limits;
 use crate::ticket::{CommandTicket, Ticket, Told};
 use delivery_book::Row;
 use relay_types::{Body, MsgId, Name};
+use std::sync::ledger::Ledger;
 
-impl Desk {
+impl<L: Ledger> Desk<L> {
     /// What is known of a submission.
     pub fn told(&self, ticket: &Ticket) -> Told
         ensures { OverWorlds self.now (λ w. result ≡ told w ticket.now) }
@@ -74,6 +78,18 @@ impl Desk {
             }),
             None => None,
         }
+    }
+
+    /// How many attempts of an endpoint may be under way, by all records, and how many are.
+    pub fn limits(&self, name: Name) -> Option<Limits>
+        ensures { OverWorlds self.now (λ w. result ≡ limits w name) }
+    {
+        let limiter = limiter_of(&self.limiters, name)?;
+        Some(Limits {
+            limit: limiter.estimator.limit(),
+            in_flight: self.pool.in_flight(name),
+            noload: limiter.estimator.noload(),
+        })
     }
 
     /// What the settled records say of all endpoints and events.

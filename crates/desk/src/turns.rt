@@ -1,5 +1,5 @@
 //! How the desk hands out what waits, and takes back what became of it.
-ghost use Rattle.std.specs.Prelude.{◌≡◌, length, ◌↔◌, IsTrue, IfOk, IfErr, IfSome, IsOk, OnErr};
+ghost use Rattle.std.specs.Prelude.{◌≡◌, length, ◌↔◌, IsTrue, IfOk, IfErr, IfSome, IsOk, IsPermutation, OnErr};
 ghost use Rattle.spool.specs.Batches.{doubt_of};
 ghost use Rattle.group_commit.specs.Waits.{batch_of, sealed_count};
 ghost use Rattle.group_commit.specs.Turns as waiting;
@@ -8,11 +8,14 @@ ghost use Rattle.desk.specs.Moves.{seal, with_sealed_settled, with_batch_back, w
 ghost use Rattle.desk.specs.Desks.{IsMove, Turns, IsReceiptOf, ArePlacesOf, IsHeldOf, IsAllOut, OverWorlds};
 
 use crate::desk::Desk;
+use crate::holding::settle_to;
 use crate::refusal::{Fault, Refusal, check};
 use group_commit::{Held, SealFault, Settled, WrongTurn};
+use permits::{Foreign, Permit, Pool};
 use spool::{Batch, Receipt};
+use std::sync::ledger::Ledger;
 
-impl Desk {
+impl<L: Ledger> Desk<L> {
     /// Puts the first steps that wait into a batch, 256 at most: `None` where nothing waits.
     pub fn seal(&mut self) -> Result<Option<Batch>, Refusal>
         ensures moves { IsMove self.old (seal self.old.waiting.mark) result self.new }
@@ -46,7 +49,7 @@ impl Desk {
     {
         let settled = self.waiting.settle(receipt)?;
         self.endpoints.settle_to(settled.records);
-        self.deliveries.settle_to(settled.records);
+        settle_to(&mut self.queue, &mut self.deliveries, settled.records);
         Ok(settled)
     }
 
@@ -75,10 +78,13 @@ impl Desk {
         Ok(())
     }
 
-    /// Ends the desk, with what is out. Nothing that waits will be settled.
-    pub fn close(self, receipt: Option<Receipt>, held: Held)
-        requires { IsAllOut self.waiting receipt held }
+    /// Ends the desk, with the permits that are out and what else is. Nothing that waits will be settled.
+    pub fn close(self, permits: Vec<Permit<L>>, receipt: Option<Receipt>, held: Held)
+        requires permits { IsPermutation permits.items self.live }
+        requires out { IsAllOut self.waiting receipt held }
     {
+        let Desk { pool, .. } = self;
+        close_pool(pool, permits);
         if let Some(receipt) = receipt {
             drop(receipt.into_steps());
         }
@@ -88,4 +94,18 @@ impl Desk {
             Held::Doubt(doubt) => doubt.end(),
         }
     }
+}
+
+// Takes back all permits that are out, and closes their ledger.
+fn close_pool<L: Ledger>(mut pool: Pool<L>, mut permits: Vec<Permit<L>>)
+    requires { IsPermutation permits.items pool }
+{
+    while let Some(permit) = permits.pop() {
+        match pool.give_back(permit) {
+            Ok(_) => {}
+            Err((_permit, Foreign)) => unreachable!(),
+        }
+    }
+    permits.destroy_empty();
+    let _ = pool.close();
 }

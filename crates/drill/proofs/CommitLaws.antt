@@ -45,7 +45,8 @@ out_again desk w o left s same = record {
     settled_first = s.waiting.settled_first;
     sealed_within = s.waiting.sealed_within;
   };
-  idle = record { live = s.idle.live; measured = s.idle.measured };
+  live = s.live;
+  limits = s.limits;
 }
 
 -- the rows of the old history or of the longer one are those of the settled steps or of the sealed ones
@@ -55,13 +56,13 @@ doubt_leaves g vault batch w whole may =
     λ db left. let (rows, either, is) = may db left in (rows, elim either [ inl old ↦ inl old | inr (legal, new) ↦ inr (inl (new ∙ ap rows_of whole)) ], is)
 
 -- the runner with what is held then
-abbrev runner_of : {S : Type 0} → DeskValue → VaultValue S → Held → Tickets → Runner S
-runner_of desk vault now tickets = record { desk = desk; vault = vault; held = now; tickets = tickets }
+abbrev runner_of : (L : Type 0) {S : Type 0} → DeskValue → VaultValue S → Held → Tickets → Runner L S
+runner_of L desk vault now tickets = record { desk = desk; vault = vault; held = now; tickets = tickets }
 
-ends_commit : {S : Type 0} (g : Ghosts S) (desk : DeskValue) (vault : VaultValue S) (tickets : Tickets) (batch : BatchValue) (now : Held) (reply : Reply) (s : Session) → StandsFor desk s.world
+ends_commit : {S : Type 0} (L : Type 0) (g : Ghosts S) (desk : DeskValue) (vault : VaultValue S) (tickets : Tickets) (batch : BatchValue) (now : Held) (reply : Reply) (s : Session) → StandsFor desk s.world
     → (s.world.out ≡ Batch) × (batch ≡ sealed_batch desk.waiting.mark s.world) → LeavesBy s.world.out s.world → Keeps tickets s.tickets → desk.waiting.mark ≡ vault.mark
-    → EndsAs g vault (settled_records s.world) batch now reply → (next : Session) × MayTell (commits s s.world.out) reply next × RunnerStandsFor g (runner_of desk vault now tickets) next
-ends_commit g desk vault tickets batch (held.Receipt receipt) reply s stands had leaves keeps mark h =
+    → EndsAs g vault (settled_records s.world) batch now reply → (next : Session) × MayTell (commits s s.world.out) reply next × RunnerStandsFor g (runner_of L desk vault now tickets) next
+ends_commit L g desk vault tickets batch (held.Receipt receipt) reply s stands had leaves keeps mark h =
     let whole : settled_records s.world ++ records_of batch.steps ≡ sealed_records s.world =
     ap (λ (r : BatchValue). settled_records s.world ++ records_of r.steps) had.1 ∙ sealed_is desk.waiting.mark s.world stands.waiting.settled_first in
     let open_at : IsOpenAt g vault (sealed_records s.world) = subst (IsOpenAt g vault) whole h.2 in
@@ -78,7 +79,7 @@ ends_commit g desk vault tickets batch (held.Receipt receipt) reply s stands had
         mark = mark;
       },
     )
-ends_commit g desk vault tickets batch (held.Batch back) reply s stands had leaves keeps mark h = (
+ends_commit L g desk vault tickets batch (held.Batch back) reply s stands had leaves keeps mark h = (
   s,
   subst (λ o. MayTell (commits s o) reply s) (sym had.0) (inr (inl (h.1, refl))),
   record {
@@ -89,7 +90,7 @@ ends_commit g desk vault tickets batch (held.Batch back) reply s stands had leav
     mark = mark;
   },
 )
-ends_commit g desk vault tickets batch (held.Doubt doubt) reply s stands had leaves keeps mark (is, said, shut, may) =
+ends_commit L g desk vault tickets batch (held.Doubt doubt) reply s stands had leaves keeps mark (is, said, shut, may) =
     let whole : settled_records s.world ++ records_of batch.steps ≡ sealed_records s.world =
     ap (λ (r : BatchValue). settled_records s.world ++ records_of r.steps) had.1 ∙ sealed_is desk.waiting.mark s.world stands.waiting.settled_first in
     let next : Session = record s { world = in_doubt s.world } in (
@@ -103,7 +104,7 @@ ends_commit g desk vault tickets batch (held.Doubt doubt) reply s stands had lea
         mark = mark;
       },
     )
-ends_commit g desk vault tickets batch held.Nothing reply s stands had leaves keeps mark h = absurd h
+ends_commit L g desk vault tickets batch held.Nothing reply s stands had leaves keeps mark h = absurd h
 
 -- the store takes the next batch, unless it has no memory
 pub unchanged_ends : {S : Type 0} (g : Ghosts S) (old new : VaultValue S) (batch back : BatchValue) (reason : Unchanged) (result : Result BatchValue CommitEnd) → result ≡ Err (ends.Unchanged back reason) → back ≡ batch
@@ -123,9 +124,9 @@ unchanged_ends g old new batch back why.OutOfMemory result is same closed turn i
     at false e = refl
     at true e = elim (doubt e) [ inl h ↦ absurd (let shut : old.closed ≡ true = h in let free : old.closed ≡ false = open_at.0 in cc) | inr h ↦ absurd (subst IsDoubt is h) ]
 
-pub answers_commit : {S : Type 0} (g : Ghosts S) (old new : Runner S) (batch : BatchValue) (reply : Reply) → held.Batch batch ≡ old.held → new.desk ≡ old.desk → new.tickets ≡ old.tickets
+pub answers_commit : {L S : Type 0} (g : Ghosts S) (old new : Runner L S) (batch : BatchValue) (reply : Reply) → held.Batch batch ≡ old.held → new.desk ≡ old.desk → new.tickets ≡ old.tickets
     → new.vault.mark ≡ old.vault.mark → CommitsSo g old.vault new.vault batch new.held reply → Answers g old (λ s. commits s s.world.out) reply new
-answers_commit g old new batch reply was desk tickets mark commit s on =
+answers_commit {L} {S} g old new batch reply was desk tickets mark commit s on =
     let w = s.world in
     let had : (w.out ≡ Batch) × (batch ≡ sealed_batch old.desk.waiting.mark w) = subst (IsHeld old.desk.waiting.mark w) (sym was) on.held in
     let left : w.left ≡ w.settled ∷ [] = subst (λ o. LeavesBy o w) had.0 on.vault.leaves in
@@ -136,14 +137,14 @@ answers_commit g old new batch reply was desk tickets mark commit s on =
     ap (λ (r : BatchValue). settled_records w ++ records_of r.steps) had.1 ∙ sealed_is old.desk.waiting.mark w on.desk.waiting.settled_first in
     let legal : IsLegal (sealed_records w) = legal_front (sealed_records w) _ (subst IsLegal (sym (sealed_front w)) on.desk.books.legal) in
     let ends = commit (settled_records w) open_at next (subst IsLegal (sym whole) legal) in
-    subst (λ (r : Runner _). (after : Session) × MayTell (commits s s.world.out) reply after × RunnerStandsFor g r after) (λ i. runner_of (sym desk i) new.vault new.held (sym tickets i))
-    (ends_commit g old.desk new.vault old.tickets batch new.held reply s on.desk had on.vault.leaves on.tickets (on.mark ∙ sym mark) ends)
+    subst (λ (r : Runner L S). (after : Session) × MayTell (commits s s.world.out) reply after × RunnerStandsFor g r after) (λ i. runner_of L (sym desk i) new.vault new.held (sym tickets i))
+    (ends_commit L g old.desk new.vault old.tickets batch new.held reply s on.desk had on.vault.leaves on.tickets (on.mark ∙ sym mark) ends)
 
 -- The first session
 
-pub started_stands : {S : Type 0} (g : Ghosts S) (conn : store.Held S) (mark : ℕ) (vault : VaultValue S) (desk : DeskValue) (tickets : Tickets) → IsOpened g conn mark vault → IsBegun no_schema (store.state g conn).now
-    → desk.waiting.mark ≡ mark → StandsFor desk (opened [] 0) → Keeps tickets [] → RunnerStandsFor g (runner_of desk vault held.Nothing tickets) begun
-started_stands g conn mark vault desk tickets made none marked stands keeps =
+pub started_stands : {S : Type 0} (L : Type 0) (g : Ghosts S) (conn : store.Held S) (mark : ℕ) (vault : VaultValue S) (desk : DeskValue) (tickets : Tickets) → IsOpened g conn mark vault → IsBegun no_schema (store.state g conn).now
+    → desk.waiting.mark ≡ mark → StandsFor desk (opened [] 0) → Keeps tickets [] → RunnerStandsFor g (runner_of L desk vault held.Nothing tickets) begun
+started_stands L g conn mark vault desk tickets made none marked stands keeps =
     record { desk = stands; held = refl; vault = record { leaves = inl refl; holds = (made.closed, made.history none) }; tickets = keeps; mark = marked ∙ sym made.marked }
 
 -- The rows that the vault's connection keeps

@@ -140,7 +140,7 @@ may_stage of s answer result next (inr without) = inr (at answer.memory without)
     at None h = h
     at (Some number) (e, f) = inl (ap (staged_reply of) e, λ i. record { world = f i; tickets = with_ticket of (e i) s.tickets })
 
-pub answers_staged : {S : Type 0} {A : Type 0} (g : Ghosts S) (old new : Runner S) (of : A → Given) (move : World → desk.Answer A) (result : Result A Refusal) → ((w : World) → Goes w (move w).next)
+pub answers_staged : {L S : Type 0} {A : Type 0} (g : Ghosts S) (old new : Runner L S) (of : A → Given) (move : World → desk.Answer A) (result : Result A Refusal) → ((w : World) → Goes w (move w).next)
     → IsMove old.desk move result new.desk → new.desk.waiting.mark ≡ old.desk.waiting.mark → new.vault ≡ old.vault → new.held ≡ old.held
     → ((tickets : List Given) → Keeps old.tickets tickets → Keeps new.tickets (with_ticket of result tickets)) → Answers g old (λ s. stages of s (move s.world)) (staged_reply of result) new
 answers_staged g old new of move result plain moves mark vault same keeps s on =
@@ -160,11 +160,11 @@ answers_staged g old new of move result plain moves mark vault same keeps s on =
     )
 
 -- A look leaves the session as it is.
-pub answers_look : {S : Type 0} (g : Ghosts S) (runner : Runner S) (told : Session → Reply) (reply : Reply) → ((s : Session) → RunnerStandsFor g runner s → reply ≡ told s) → Answers g runner (λ s. stays s (told s)) reply runner
+pub answers_look : {L S : Type 0} (g : Ghosts S) (runner : Runner L S) (told : Session → Reply) (reply : Reply) → ((s : Session) → RunnerStandsFor g runner s → reply ≡ told s) → Answers g runner (λ s. stays s (told s)) reply runner
 answers_look g runner told reply says s on = (s, inl (says s on, refl), on)
 
 -- Room for a ticket is made.
-pub stands_with_room : {S : Type 0} (g : Ghosts S) (old new : Runner S) (s : Session) → new.desk ≡ old.desk → new.vault ≡ old.vault → new.held ≡ old.held → ((tickets : List Given) → Keeps old.tickets tickets → Keeps new.tickets tickets)
+pub stands_with_room : {L S : Type 0} (g : Ghosts S) (old new : Runner L S) (s : Session) → new.desk ≡ old.desk → new.vault ≡ old.vault → new.held ≡ old.held → ((tickets : List Given) → Keeps old.tickets tickets → Keeps new.tickets tickets)
     → RunnerStandsFor g old s → RunnerStandsFor g new s
-stands_with_room g old new s desk vault held keeps on = subst (λ (r : Runner _). RunnerStandsFor g r s) (λ i. record { desk = sym desk i; vault = sym vault i; held = sym held i; tickets = new.tickets })
+stands_with_room g old new s desk vault held keeps on = subst (λ (r : Runner _ _). RunnerStandsFor g r s) (λ i. record { desk = sym desk i; vault = sym vault i; held = sym held i; tickets = new.tickets })
     (record { desk = on.desk; held = on.held; vault = on.vault; tickets = keeps s.tickets on.tickets; mark = on.mark })

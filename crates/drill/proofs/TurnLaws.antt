@@ -109,7 +109,7 @@ leaves_settled : (w : World) → w.halted ≡ false → LeavesBy Nothing w → w
 leaves_settled w going (inl e) = e
 leaves_settled w going (inr (halted, e)) = absurd (let no = halted in cc)
 
-pub answers_sealed : {S : Type 0} (g : Ghosts S) (old new : Runner S) (batch : BatchValue) → IsMove old.desk (seal old.desk.waiting.mark) (Ok (Some batch)) new.desk → new.desk.waiting.mark ≡ old.desk.waiting.mark
+pub answers_sealed : {L S : Type 0} (g : Ghosts S) (old new : Runner L S) (batch : BatchValue) → IsMove old.desk (seal old.desk.waiting.mark) (Ok (Some batch)) new.desk → new.desk.waiting.mark ≡ old.desk.waiting.mark
     → new.vault ≡ old.vault → new.tickets ≡ old.tickets → new.held ≡ held.Batch batch → Answers g old (λ s. tells_seal s (seal 0 s.world)) (seal_reply (Ok (Some batch))) new
 answers_sealed g old new batch moved mark vault tickets same s on =
     let move = moved s.world on.desk in
@@ -127,7 +127,7 @@ answers_sealed g old new batch moved mark vault tickets same s on =
       },
     )
 
-pub answers_unsealed : {S : Type 0} (g : Ghosts S) (old new : Runner S) (result : Result (Option BatchValue) Refusal) → is_sealed result ≡ false → IsMove old.desk (seal old.desk.waiting.mark) result new.desk
+pub answers_unsealed : {L S : Type 0} (g : Ghosts S) (old new : Runner L S) (result : Result (Option BatchValue) Refusal) → is_sealed result ≡ false → IsMove old.desk (seal old.desk.waiting.mark) result new.desk
     → new.desk.waiting.mark ≡ old.desk.waiting.mark → new.vault ≡ old.vault → new.tickets ≡ old.tickets → new.held ≡ old.held → Answers g old (λ s. tells_seal s (seal 0 s.world)) (seal_reply result) new
 answers_unsealed g old new result unsealed moved mark vault tickets same s on =
     let move = moved s.world on.desk in
@@ -162,7 +162,7 @@ sealed_front w = sym (flatten_both (take w.sealed w.history) (drop w.sealed w.hi
 -- Turns that end
 
 -- the runner holds nothing then, and the desk stands for the world after the turn
-ended : {S : Type 0} (g : Ghosts S) (old new : Runner S) (s : Session) (next : World) → RunnerStandsFor g old s → StandsFor new.desk next → next.out ≡ Nothing → VaultStandsFor g old.vault next
+ended : {L S : Type 0} (g : Ghosts S) (old new : Runner L S) (s : Session) (next : World) → RunnerStandsFor g old s → StandsFor new.desk next → next.out ≡ Nothing → VaultStandsFor g old.vault next
     → new.desk.waiting.mark ≡ old.desk.waiting.mark → new.vault ≡ old.vault → new.tickets ≡ old.tickets → new.held ≡ held.Nothing → RunnerStandsFor g new (record s { world = next })
 ended g old new s next on desk out keeps mark vault tickets same = record {
   desk = desk;
@@ -176,7 +176,7 @@ ended g old new s next on desk out keeps mark vault tickets same = record {
 are_places : (mark : ℕ) (w : World) (batch : BatchValue) → IsHeld mark w (held.Batch batch) → ArePlacesOf mark w (doubt_of batch)
 are_places mark w batch h = (ap is_nothing_out h.0, ap doubt_of h.1)
 
-pub answers_settled : {S : Type 0} (g : Ghosts S) (old new : Runner S) (receipt : BatchValue) (records : ℕ) → held.Receipt receipt ≡ old.held
+pub answers_settled : {L S : Type 0} (g : Ghosts S) (old new : Runner L S) (receipt : BatchValue) (records : ℕ) → held.Receipt receipt ≡ old.held
     → OverWorlds old.desk (λ w. IsReceiptOf old.desk.waiting.mark w receipt × StandsFor new.desk (with_sealed_settled w)) → OverWorlds old.desk (λ w. records ≡ length (sealed_records w))
     → new.desk.waiting.mark ≡ old.desk.waiting.mark → new.vault ≡ old.vault → new.tickets ≡ old.tickets → new.held ≡ held.Nothing → Answers g old (λ s. settles s s.world.out) (says.SettledTo records) new
 answers_settled g old new receipt records was moved counts mark vault tickets same s on =
@@ -188,7 +188,7 @@ answers_settled g old new receipt records was moved counts mark vault tickets sa
       ended g old new s next on (moved s.world on.desk).1 refl keeps mark vault tickets same,
     )
 
-pub answers_taken_back : {S : Type 0} (g : Ghosts S) (old new : Runner S) (batch : BatchValue) (from to : ℕ) → held.Batch batch ≡ old.held → from ≡ batch.from → to ≡ (doubt_of batch).upto
+pub answers_taken_back : {L S : Type 0} (g : Ghosts S) (old new : Runner L S) (batch : BatchValue) (from to : ℕ) → held.Batch batch ≡ old.held → from ≡ batch.from → to ≡ (doubt_of batch).upto
     → OverWorlds old.desk (λ w. ArePlacesOf old.desk.waiting.mark w (doubt_of batch) × StandsFor new.desk (with_batch_back w))
     → new.desk.waiting.mark ≡ old.desk.waiting.mark → new.vault ≡ old.vault → new.tickets ≡ old.tickets → new.held ≡ held.Nothing → Answers g old (λ s. unseals s s.world.out) (says.Unsealed from to) new
 answers_taken_back g old new batch from to was first last moved mark vault tickets same s on =
@@ -236,7 +236,7 @@ is_haltable mark s (held.Batch batch) e h = record { out = are_places mark s.wor
 is_haltable mark s (held.Receipt receipt) e h = absurd (let no = e in cc)
 is_haltable mark s (held.Doubt doubt) e h = record { out = (ap is_nothing_out h.0, h.1); answer = ap (halts s) h.0; leaves = λ leaves. inr (refl, subst (λ o. LeavesBy o s.world) h.0 leaves) }
 
-pub answers_halted : {S : Type 0} (g : Ghosts S) (old new : Runner S) (now gone : Held) (reply : Reply) → now ≡ old.held → gone ≡ held.Nothing → is_no_receipt now ≡ true → HandsOver (record old { held = gone }) (given_of now) reply new
+pub answers_halted : {L S : Type 0} (g : Ghosts S) (old new : Runner L S) (now gone : Held) (reply : Reply) → now ≡ old.held → gone ≡ held.Nothing → is_no_receipt now ≡ true → HandsOver (record old { held = gone }) (given_of now) reply new
     → new.desk.waiting.mark ≡ old.desk.waiting.mark → new.vault ≡ old.vault → new.tickets ≡ old.tickets → Answers g old (λ s. halts s s.world.out) reply new
 answers_halted g old new now gone reply was nothing none over mark vault tickets s on =
     let may = is_haltable old.desk.waiting.mark s now none (subst (IsHeld old.desk.waiting.mark s.world) (sym was) on.held) in

@@ -22,5 +22,5 @@ abbrev pub KeepsRun : {S : Type 0} → Ghosts S → Held S → Option (List ℕ)
 KeepsRun g conn input old new end = Ends (RepliesTo (λ last. KeepsRows g conn last.world)) IsNoCall input old new end
 
 -- from one state to the other, the line's call is answered by this text
-abbrev pub RunsLine : {S : Type 0} → Ghosts S → Runner S → List ℕ → List ℕ → Runner S → Type 0
+abbrev pub RunsLine : {L S : Type 0} → Ghosts S → Runner L S → List ℕ → List ℕ → Runner L S → Type 0
 RunsLine g old line text new = (event : Event) × (reply : Reply) × ReadsLine line event × Answers g old (λ s. answer_to s event) reply new × (text ≡ reply_text reply)

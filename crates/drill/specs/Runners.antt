@@ -78,7 +78,7 @@ pub record KeepsRows {S : Type 0} (g : Ghosts S) (conn : store.Held S) (w : Worl
   pub stand : (steps : ℕ) → w.left ≡ steps ∷ [] → Stands (store.state g conn) (rows_of_first w steps)
 
 -- the desk, the store, what is held and the tickets stand for one session
-pub record RunnerStandsFor {S : Type 0} (g : Ghosts S) (runner : Runner S) (s : Session) : Type 0 where
+pub record RunnerStandsFor {L S : Type 0} (g : Ghosts S) (runner : Runner L S) (s : Session) : Type 0 where
   pub desk : StandsFor runner.desk s.world
   pub held : IsHeld runner.desk.waiting.mark s.world runner.held
   pub vault : VaultStandsFor g runner.vault s.world
@@ -86,16 +86,16 @@ pub record RunnerStandsFor {S : Type 0} (g : Ghosts S) (runner : Runner S) (s : 
   pub mark : runner.desk.waiting.mark ≡ runner.vault.mark
 
 -- From each session for which the runner stood, a call was told what this answer may tell, and the runner stands for what came of it.
-abbrev pub Answers : {S : Type 0} → Ghosts S → Runner S → (Session → Answer) → Reply → Runner S → Type 0
+abbrev pub Answers : {L S : Type 0} → Ghosts S → Runner L S → (Session → Answer) → Reply → Runner L S → Type 0
 Answers g old answer reply new = (s : Session) → RunnerStandsFor g old s → (next : Session) × MayTell (answer s) reply next × RunnerStandsFor g new next
 
 -- Where what is handed over is what is out, the desk takes it and is halted; otherwise it goes on as before.
-abbrev pub HandsOver : {S : Type 0} → Runner S → waiting.Held → Reply → Runner S → Type 0
+abbrev pub HandsOver : {L S : Type 0} → Runner L S → waiting.Held → Reply → Runner L S → Type 0
 HandsOver old given reply new =
     (w : World) → StandsFor old.desk w → IsHeldOf old.desk.waiting.mark w given
     → (reply ≡ says.Halted) × (new.held ≡ old.held) × StandsFor new.desk (with_halt w)
 
-abbrev pub KeepsOn : {S : Type 0} → Runner S → waiting.Held → Reply → Runner S → Type 0
+abbrev pub KeepsOn : {L S : Type 0} → Runner L S → waiting.Held → Reply → Runner L S → Type 0
 KeepsOn old given reply new =
     (w : World) → StandsFor old.desk w → ¬ IsHeldOf old.desk.waiting.mark w given
     → (reply ≡ wrong_turn) × StandsFor new.desk w
@@ -104,7 +104,7 @@ KeepsOn old given reply new =
 abbrev pub IsCleanAt : {S : Type 0} → Ghosts S → store.Held S → Type 0
 IsCleanAt g conn = HasCleanDisk (store.state g conn)
 
-abbrev pub IsClean : {S : Type 0} → Ghosts S → Runner S → Type 0
+abbrev pub IsClean : {L S : Type 0} → Ghosts S → Runner L S → Type 0
 IsClean g runner = IsCleanAt g runner.vault.conn
 
 -- the store is open and has no table

@@ -1,5 +1,6 @@
 //! The runner of scripts: it holds what the desk and the store hand out, and gives it to the line that asks for it.
 ghost use Rattle.std.specs.Prelude.{◌≡◌, ◌⊎◌, ℕ, false, List, ◌∷◌, Err, IsTrue, IfOk, IfErr, MatchResult};
+ghost use Rattle.permits.specs.declared.pool.TheConstants.{PARTS};
 ghost use Rattle.sqlite.specs.Held.{state};
 ghost use Rattle.spool.specs.Opening.{has_ours};
 ghost use Rattle.script_lines.specs.declared.reply.Fault.{Fault};
@@ -19,24 +20,27 @@ use crate::replies::{event_reply, refusal_reply, sealed_reply, told_reply, wrong
 use crate::tickets::{Given, Tickets};
 use desk::{Command, Desk};
 use group_commit::WrongTurn;
+use permits::PARTS;
 use relay_types::{Body, Moment, MsgId, Name};
 use script_lines::{Event, Reply, read_event};
 use spool::Vault;
 use sqlite::{Alter, Connection};
 use std::alloc::{AllocError, Global};
 use std::io::{Read, Write};
+use std::marker::Brand;
 use std::mem;
+use std::sync::ledger::{Blank, Ledger};
 use text_lines::{Answerer, StreamFault, WordFault, answer_lines};
 
 /// The desk, the store, what is out, and the tickets that were given.
-struct Runner<S: Alter> {
-    desk: Desk,
+struct Runner<L: Ledger, S: Alter> {
+    desk: Desk<L>,
     vault: Vault<S>,
     held: Held,
     tickets: Tickets,
 }
 
-impl<S: Alter> Runner<S> {
+impl<L: Ledger, S: Alter> Runner<L, S> {
     // Gives the call to the desk or the store. There is room for a ticket.
     fn carry_out(&mut self, event: Event) -> Reply
         requires { HasRoom self.old.tickets }
@@ -273,7 +277,7 @@ impl<S: Alter> Runner<S> {
     }
 }
 
-impl<S: Alter> Answerer for Runner<S> {
+impl<L: Ledger, S: Alter> Answerer for Runner<L, S> {
     type Reply = Reply;
 
     ghost Answers = { RunsLine S.Store };
@@ -310,7 +314,33 @@ pub fn replay<S: Alter, I: Read, O: Write>(
     ensures taken { IsTrue (has_ours (state S.Store conn).now.schema)
         → (result.1 ≡ Err StreamFault.Lost) × (output.new ≡ output.old) }
 {
-    match start(alloc, conn, mark) {
+    replay_with::<Brand, S, I, O>(alloc, Blank::new(PARTS), input, output, conn, mark)
+}
+
+// The script over a ledger of its own.
+fn replay_with<L: Ledger, S: Alter, I: Read, O: Write>(
+    alloc: Global,
+    blank: Blank,
+    input: &mut I,
+    output: &mut O,
+    conn: Connection<S>,
+    mark: u64,
+) -> (Connection<S>, Result<(), StreamFault>)
+    requires name { blank.name ≡ L.name }
+    requires parts { blank.parts ≡ L.parts }
+    requires enough { blank.parts ≡ PARTS }
+    ensures replays { IsCleanAt S.Store result.0 → HasNoTable S.Store conn
+        → Replays (I.remaining input.old) (O.contents output.old) (O.contents output.new) result.1 }
+    ensures rows { IsCleanAt S.Store result.0 → HasNoTable S.Store conn → IsBetweenLines result.1
+        → KeepsRun S.Store result.0 (I.remaining input.old) (O.contents output.old) (O.contents output.new) result.1 }
+    ensures clean { IsCleanAt S.Store result.0 → IsCleanAt S.Store conn }
+    ensures mode { conn.in_transaction ≡ false → result.0.in_transaction ≡ false }
+    ensures busy { IsTrue conn.in_transaction
+        → (result ≡ (conn, Err StreamFault.Lost)) × (output.new ≡ output.old) }
+    ensures taken { IsTrue (has_ours (state S.Store conn).now.schema)
+        → (result.1 ≡ Err StreamFault.Lost) × (output.new ≡ output.old) }
+{
+    match start::<L, S>(alloc, blank, conn, mark) {
         Ok(runner) => {
             let mut runner = runner;
             let end = answer_lines(alloc, &mut runner, input, output);
@@ -321,11 +351,15 @@ pub fn replay<S: Alter, I: Read, O: Write>(
 }
 
 // The runner over a store that has no table, or the store's connection.
-fn start<S: Alter>(
+fn start<L: Ledger, S: Alter>(
     alloc: Global,
+    blank: Blank,
     conn: Connection<S>,
     mark: u64,
-) -> Result<Runner<S>, (Connection<S>, StreamFault)>
+) -> Result<Runner<L, S>, (Connection<S>, StreamFault)>
+    requires name { blank.name ≡ L.name }
+    requires parts { blank.parts ≡ L.parts }
+    requires enough { blank.parts ≡ PARTS }
     ensures stands { IfOk result
         (λ runner. IsClean S.Store runner → HasNoTable S.Store conn
         → RunnerStandsFor S.Store runner begun) }
@@ -346,7 +380,7 @@ fn start<S: Alter>(
         Err((conn, fault)) if fault.is_memory() => return Err((conn, StreamFault::OutOfMemory)),
         Err((conn, _)) => return Err((conn, StreamFault::Lost)),
     };
-    match Desk::new(alloc, mark) {
+    match Desk::new(alloc, blank, mark) {
         Ok(desk) => Ok(Runner {
             desk,
             vault,

@@ -55,6 +55,19 @@ named g names h = go names h.each
         at None e there rest = absurd (let no = there in cc)
         at (Some x) e there rest = λ i. h.keyed n x e i ∷ rest i
 
+-- each entry is the one that a look-up of its name finds
+pub found_each : (g : List ℕ → Option Entry) (names : List (List ℕ)) → AreNames g names → map (λ e. find (is_named e.name) (filter_map g names)) (filter_map g names) ≡ map Some (filter_map g names)
+found_each g names h = go names
+  where
+    go : (ns : List (List ℕ)) → map (λ e. find (is_named e.name) (filter_map g names)) (filter_map g ns) ≡ map Some (filter_map g ns)
+    go [] = refl
+    go (n ∷ ns) = at (g n) refl (go ns)
+      where
+        at : (o : Option Entry) → g n ≡ o → map (λ e. find (is_named e.name) (filter_map g names)) (filter_map g ns) ≡ map Some (filter_map g ns)
+            → map (λ e. find (is_named e.name) (filter_map g names)) (cons_option o (filter_map g ns)) ≡ map Some (cons_option o (filter_map g ns))
+        at None e rest = rest
+        at (Some x) e rest = λ i. (found g names x.name h ∙ ap g (h.keyed n x e) ∙ e) i ∷ rest i
+
 -- Entries that are changed, each by its name
 
 pub changed-names : (g : List ℕ → Option Entry) (names : List (List ℕ)) (change : List ℕ → Entry → Entry) → ((name : List ℕ) (e : Entry) → (change name e).name ≡ e.name)

@@ -1,5 +1,5 @@
 -- What the book keeps: an entry for each endpoint, in the order of their Puts, and the changes that aren't settled.
-use Rattle.std.specs.Prelude.{ℕ, ◌+◌, ◌&&◌, Bool, true, false, not, nat_lt, List, [], ◌∷◌, ◌++◌, Option, Some, None, length, map, filter, find, is_some, bytes_eq, count_by, max, if◌then◌else◌}
+use Rattle.std.specs.Prelude.{◌≡◌, ℕ, ◌+◌, ◌&&◌, Bool, true, false, not, nat_lt, List, [], ◌∷◌, ◌++◌, Option, Some, None, length, map, filter, find, is_some, bytes_eq, count_by, max, if◌then◌else◌}
 use Rattle.std.specs.Option.{option_map_or}
 use Rattle.relay_types.specs.Values.{Text, Seq}
 use Rattle.endpoint_book.specs.declared.entry.Change.{Change}
@@ -24,6 +24,10 @@ is_named name e = bytes_eq e.name name
 -- the entry of this name
 abbrev pub entry_of : (book : BookValue) (name : Text) → Option Entry
 entry_of book name = find (is_named name) book.entries
+
+-- each entry is the one of its name
+abbrev pub AreFound : BookValue → Type 0
+AreFound book = map (λ e. entry_of book e.name) book.entries ≡ map Some book.entries
 
 abbrev pub is_known : (book : BookValue) (name : Text) → Bool
 is_known book name = is_some (entry_of book name)

@@ -3,7 +3,7 @@ ghost use Rattle.std.specs.Prelude.{◌≡◌, ◌≤◌, ◌<◌, ◌+◌, [], 
 ghost use Rattle.std.specs.Prelude.{IsTrue, IfOk, OnOk, OnErr};
 ghost use Rattle.relay_types.specs.declared.record.Record.TheVariants as on;
 ghost use Rattle.relay_types.specs.Endpoints.{endpoints, endpoint_of, has_endpoint, is_enabled};
-ghost use Rattle.endpoint_book.specs.Entries.{empty_book, new_entry, restored_entry, entry_of, is_known, is_put, flags_in};
+ghost use Rattle.endpoint_book.specs.Entries.{AreFound, empty_book, new_entry, restored_entry, entry_of, is_known, is_put, flags_in};
 ghost use Rattle.endpoint_book.specs.Entries.{with_put, with_restored, with_flag, with_secrets, with_settled};
 ghost use Rattle.endpoint_book.specs.Book.{StandsFor, Stages, StagesGone, Settles, OfAll, OfSettled, OfWaiting};
 ghost use Rattle.endpoint_book.specs.Book.{secrets_if_known, view_of, settled_view, told, enabled_in, sets_flag};
@@ -290,6 +290,7 @@ impl EndpointBook {
     /// The names of all endpoints, in the order of their Puts.
     pub fn names(&self) -> &[Name]
         ensures value { result.now ≡ map (λ e. e.name) self.now.entries }
+        ensures found { AreFound self.now }
         ensures stands { OfAll self.now (λ records. result.now ≡ map (λ e. e.name) (endpoints records)) }
     {
         self.names.as_slice()

@@ -89,11 +89,12 @@ impl Queue {
     }
 
     // An outcome, at the end.
-    #[tactic(auto, using(crate::proofs::StepLaws::count_by_snoc, crate::proofs::StepLaws::outcome_alone))]
+    #[tactic(auto, using(crate::proofs::StepLaws::count_by_snoc, crate::proofs::StepLaws::outcome_alone, crate::proofs::StepLaws::one_record_each))]
     pub(crate) fn push_outcome(&mut self, step: Step)
         requires kind { IsTrue (is_outcome step) }
         requires place { outcomes_in self.old < MAX_WAITING_OUTCOMES }
-        ensures { self.new ≡ self.old ++ step ∷ [] }
+        ensures staged { self.new ≡ self.old ++ step ∷ [] }
+        ensures few { length (records_of self.old) < MAX_WAITING_REQUESTS + MAX_WAITING_OUTCOMES }
     {
         self.steps.push_back_reserved(step);
         self.outcomes += 1;

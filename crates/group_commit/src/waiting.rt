@@ -72,12 +72,13 @@ impl Waiting {
         Ok(())
     }
 
-    /// An outcome waits. It takes no memory.
+    /// An outcome waits. Behind the settled records no more wait than there are places. It takes no memory.
     pub fn stage_outcome(&mut self, step: Step)
         requires kind { IsTrue (is_outcome step) }
         requires place { outcomes_in self.old.waiting < MAX_WAITING_OUTCOMES }
         requires room { record_count self.old < MAX_RECORDS }
-        ensures { self.new ≡ with_step self.old step }
+        ensures staged { self.new ≡ with_step self.old step }
+        ensures few { record_count self.old < self.old.settled + MAX_WAITING_REQUESTS + MAX_WAITING_OUTCOMES }
     {
         self.records += 1;
         self.queue.push_outcome(step);

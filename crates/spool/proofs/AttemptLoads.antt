@@ -25,7 +25,7 @@ use Rattle.delivery_book.specs.Book.{entry_by}
 use Rattle.delivery_book.proofs.Progresses.{progress_of-append}
 use Rattle.spool.specs.Reading.{IsRising}
 use Rattle.spool.specs.Loading.{AreAccepted, AreAttempted, Attempts, HaveAttempts, attempt_by_row, attempted_entry, fresh_entry, greatest, name_put}
-use Rattle.spool.specs.declared.load_deliveries.Deliveries.{Deliveries}
+use Rattle.spool.specs.declared.deliveries.Deliveries.{Deliveries}
 use Rattle.spool.proofs.PageLaws.{rising_higher, rows_rise, legal_length}
 use Rattle.spool.proofs.QuietReads.{IsReadTo, read_none}
 use Rattle.spool.proofs.DeliveryLoads.{greatest-append}

@@ -31,7 +31,7 @@ use Rattle.spool.specs.Books.{AreBooks, IsSeen, KeepsOpen, LeavesHeld}
 use Rattle.spool.specs.declared.ends.LoadFault.{LoadFault}
 use Rattle.spool.specs.declared.ends.LoadFault.TheVariants.{Closed, Store, OutOfMemory}
 use Rattle.spool.specs.declared.load.Books.{Books}
-use Rattle.spool.specs.declared.load_deliveries.Deliveries.{Deliveries}
+use Rattle.spool.specs.declared.deliveries.Deliveries.{Deliveries}
 use Rattle.spool.specs.declared.load_endpoints.Endpoints.{Endpoints}
 
 none_changed : (place : ℕ) (es : List EndpointEntry) → map (λ (e : EndpointEntry). settled_at place [] e.name e) es ≡ es

@@ -12,7 +12,7 @@ use Rattle.relay_types.specs.Rows.{EndpointRow, DeliveryRow, delivery_row, rows_
 use Rattle.delivery_book.specs.Entries.{BookValue, empty_book, new_entry, with_event}
 use Rattle.spool.specs.Reading.{IsRising}
 use Rattle.spool.specs.Loading.{AreAccepted, Accepts, AreNames, IsNameOf, fresh_entry, greatest, known_of, name_put}
-use Rattle.spool.specs.declared.load_deliveries.Deliveries.{Deliveries}
+use Rattle.spool.specs.declared.deliveries.Deliveries.{Deliveries}
 use Rattle.spool.specs.declared.load_endpoints.Known.{Known}
 use Rattle.spool.proofs.PageLaws.{get_map, rising_at, rising_find, rising_higher, rows_rise, legal_length}
 use Rattle.spool.proofs.QuietReads.{IsReadTo, read_none}

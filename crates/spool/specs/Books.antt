@@ -1,5 +1,5 @@
 -- What a load answers, and what it leaves of a vault.
-use Rattle.std.specs.Prelude.{◌≡◌, ◌≤◌, ◌⊎◌, ℕ, List, codes, length, IsTrue, Result, Ok, Err}
+use Rattle.std.specs.Prelude.{◌≡◌, ◌≤◌, ◌⊎◌, ℕ, List, [], codes, length, IsTrue, Result, Ok, Err}
 use Rattle.sqlite.specs.declared.error.Error.{Error}
 use Rattle.sqlite.specs.declared.error.Error.TheVariants.{SqliteFailure}
 use Rattle.sqlite.specs.declared.error.ErrorCode.TheVariants.{DatabaseCorrupt}
@@ -41,13 +41,15 @@ AreBooksOn s books = (history : List Record) → IsLegal history → Stands s (r
 abbrev pub AreBooksOf : {S : Type 0} → Ghosts S → VaultValue S → Books → Type 0
 AreBooksOf g v books = (history : List Record) → Holds g v history → AreBooks books history
 
--- Whatever the rows were: both books stand at the number of records, all of them settled, and a history may have so many.
+-- Whatever the rows were: both books stand at the number of records, all of them settled, no outcome waits, and a history may have
+-- so many.
 pub record AreSettled (books : Books) : Type 0 where
   pub endpoints_next : books.endpoints.next_seq ≡ books.records
   pub endpoints_settled : books.endpoints.settled_seq ≡ books.records
   pub no_flags : flags_in books.endpoints ≡ 0
   pub deliveries_next : books.deliveries.next_seq ≡ books.records
   pub deliveries_settled : books.deliveries.settled_seq ≡ books.records
+  pub no_outcomes : books.deliveries.unsettled ≡ []
   pub room : books.records ≤ MAX_RECORDS
 
 -- the store was seen to be usable behind the reads

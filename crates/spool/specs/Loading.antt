@@ -19,7 +19,7 @@ use Rattle.delivery_book.specs.Book.{entries_of}
 use Rattle.spool_sql.specs.Stored.{IsTables}
 use Rattle.spool_sql.specs.Steps.{IfClean}
 use Rattle.spool.specs.Reading.{ReadsOn}
-use Rattle.spool.specs.declared.load_deliveries.Deliveries.{Deliveries}
+use Rattle.spool.specs.declared.deliveries.Deliveries.{Deliveries}
 use Rattle.spool.specs.declared.load_endpoints.Endpoints.{Endpoints}
 use Rattle.spool.specs.declared.load_endpoints.Known.{Known}
 

@@ -4,6 +4,7 @@
 mod accept;
 mod batch;
 mod create;
+mod deliveries;
 mod doubt;
 mod enabled;
 mod ends;

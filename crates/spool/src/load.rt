@@ -9,9 +9,10 @@ ghost use Rattle.spool_sql.specs.Steps.{IfClean, IsOfSame, SparesCommit, Survive
 ghost use Rattle.spool.specs.Loading.{Reads};
 ghost use Rattle.spool.specs.Books.{AreBooks, AreBooksOn, AreSettled, IsSeen, KeepsOpen, TellsLoad, error_of};
 
+use crate::deliveries::Deliveries;
 use crate::ends::LoadFault;
 use crate::load_attempts::load_attempts;
-use crate::load_deliveries::{Deliveries, load_deliveries};
+use crate::load_deliveries::load_deliveries;
 use crate::load_endpoints::{Endpoints, load_endpoints};
 use delivery_book::DeliveryBook;
 use endpoint_book::EndpointBook;

@@ -7,7 +7,7 @@ ghost use Rattle.spool_sql.specs.Stored.{attempt_of};
 ghost use Rattle.spool_sql.specs.Steps.{IsOfSame, SparesCommit};
 ghost use Rattle.spool.specs.Loading.{LeavesOpen, Reads, AreAccepted, AreAttempted, Attempts};
 
-use crate::load_deliveries::Deliveries;
+use crate::deliveries::Deliveries;
 use crate::pages::behind;
 use relay_types::MAX_RECORDS;
 use spool_sql::{AttemptRow, RowFault, Seq, select_attempts};

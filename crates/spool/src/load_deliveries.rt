@@ -7,6 +7,7 @@ ghost use Rattle.spool_sql.specs.Stored.{delivery_of};
 ghost use Rattle.spool_sql.specs.Steps.{IsOfSame, SparesCommit};
 ghost use Rattle.spool.specs.Loading.{LeavesOpen, Reads, AreAccepted, Accepts, MayAccept, AreNames, IsNameOf};
 
+use crate::deliveries::Deliveries;
 use crate::load_endpoints::Known;
 use crate::pages::behind;
 use delivery_book::DeliveryBook;
@@ -14,13 +15,6 @@ use relay_types::{MAX_RECORDS, Moment, MsgId, Name};
 use spool_sql::{DeliveryRow, RowFault, Seq, select_deliveries};
 use sqlite::{Alter, Error, Transaction};
 use std::alloc::Global;
-
-/// The events that were read so far, and the greatest moment of all rows that were.
-#[derive(Drop)]
-pub struct Deliveries {
-    pub(crate) book: DeliveryBook,
-    pub(crate) clock: Moment,
-}
 
 impl Deliveries {
     // Whether the event of this number, endpoint and id may be the next one.

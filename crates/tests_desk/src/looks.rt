@@ -1,16 +1,27 @@
 //! What a desk tells before and after a settling.
+ghost use Rattle.std.specs.Prelude.{◌≡◌};
 
 use crate::turns::{MARK, opened, put, submit, turn};
 use desk::{Desk, Ticket, Told, Totals};
+use permits::PARTS;
 use relay_types::{MsgId, Name, State};
+use spool::Vault;
+use sqlite::MemStore;
+use std::alloc::Global;
+use std::marker::Brand;
+use std::process::Abort;
+use std::sync::ledger::{Blank, Ledger};
 use std::test::Fail;
 
 /// Endpoint `a` with the event `msg_1` of 1000, which wait.
-fn begun(rt: &HostRuntime) -> Result<(Desk, Ticket), Fail> {
-    let alloc = rt.alloc();
-    let mut desk = Desk::new(alloc, MARK)?;
-    put(&mut desk, alloc)?;
-    match submit(&mut desk, alloc, b"{}")? {
+fn begun<L: Ledger>(alloc: Global, blank: Blank) -> Result<(Desk<L>, Ticket), Fail>
+    requires name { blank.name ≡ L.name }
+    requires parts { blank.parts ≡ L.parts }
+    requires enough { blank.parts ≡ PARTS }
+{
+    let mut desk = Desk::new(alloc, blank, MARK)?;
+    put(&mut desk, alloc, 100)?;
+    match submit(&mut desk, alloc, b"msg_1", b"{}")? {
         Ok(ticket) => Ok((desk, ticket)),
         Err(_) => Err(Fail::from("the event was refused")),
     }
@@ -24,9 +35,20 @@ const EMPTY: Totals = Totals {
     records: 0,
 };
 
-#[test]
-fn nothing_that_waits_is_shown(rt: HostRuntime) -> Result<(), Fail> {
-    let (desk, ticket) = begun(&rt)?;
+/// One endpoint with a pending event.
+const BEGUN: Totals = Totals {
+    endpoints: 1,
+    pending: 1,
+    records: 2,
+    ..EMPTY
+};
+
+fn wait<L: Ledger>(rt: &impl Abort, alloc: Global, blank: Blank) -> Result<(), Fail>
+    requires name { blank.name ≡ L.name }
+    requires parts { blank.parts ≡ L.parts }
+    requires enough { blank.parts ≡ PARTS }
+{
+    let (desk, ticket) = begun::<L>(alloc, blank)?;
     assert_eq!(rt; desk.totals(), EMPTY);
     assert!(rt; desk.endpoint_page(ticket.name).is_none());
     assert!(rt; desk.event_page(ticket.name, &ticket.id).is_none());
@@ -37,19 +59,19 @@ fn nothing_that_waits_is_shown(rt: HostRuntime) -> Result<(), Fail> {
 }
 
 #[test]
-fn what_is_settled_is_shown(rt: HostRuntime) -> Result<(), Fail> {
-    let (mut desk, ticket) = begun(&rt)?;
-    let mut vault = opened(rt.alloc())?;
+fn nothing_that_waits_is_shown(rt: HostRuntime) -> Result<(), Fail> {
+    wait::<Brand>(&rt, rt.alloc(), Blank::new(PARTS))
+}
+
+fn settle<L: Ledger>(rt: &impl Abort, alloc: Global, blank: Blank) -> Result<(), Fail>
+    requires name { blank.name ≡ L.name }
+    requires parts { blank.parts ≡ L.parts }
+    requires enough { blank.parts ≡ PARTS }
+{
+    let (mut desk, ticket) = begun::<L>(alloc, blank)?;
+    let mut vault = opened(alloc)?;
     assert_eq!(rt; turn(&mut desk, &mut vault)?, 2);
-    assert_eq!(rt;
-        desk.totals(),
-        Totals {
-            endpoints: 1,
-            pending: 1,
-            records: 2,
-            ..EMPTY
-        }
-    );
+    assert_eq!(rt; desk.totals(), BEGUN);
     assert_eq!(rt; desk.told(&ticket), Told::Settled);
     let Some(body) = desk.settled_body(&ticket) else {
         return Err(Fail::from("the body is not given"));
@@ -61,9 +83,17 @@ fn what_is_settled_is_shown(rt: HostRuntime) -> Result<(), Fail> {
 }
 
 #[test]
-fn pages_have_what_is_settled(rt: HostRuntime) -> Result<(), Fail> {
-    let (mut desk, ticket) = begun(&rt)?;
-    let mut vault = opened(rt.alloc())?;
+fn what_is_settled_is_shown(rt: HostRuntime) -> Result<(), Fail> {
+    settle::<Brand>(&rt, rt.alloc(), Blank::new(PARTS))
+}
+
+fn look<L: Ledger>(rt: &impl Abort, alloc: Global, blank: Blank) -> Result<(), Fail>
+    requires name { blank.name ≡ L.name }
+    requires parts { blank.parts ≡ L.parts }
+    requires enough { blank.parts ≡ PARTS }
+{
+    let (mut desk, ticket) = begun::<L>(alloc, blank)?;
+    let mut vault = opened(alloc)?;
     turn(&mut desk, &mut vault)?;
     let Some(event) = desk.event_page(ticket.name, &ticket.id) else {
         return Err(Fail::from("the event is not shown"));
@@ -79,20 +109,45 @@ fn pages_have_what_is_settled(rt: HostRuntime) -> Result<(), Fail> {
 }
 
 #[test]
-fn a_desk_of_a_vault_knows_what_it_holds(rt: HostRuntime) -> Result<(), Fail> {
-    let alloc = rt.alloc();
-    let (mut desk, _) = begun(&rt)?;
-    let mut vault = opened(alloc)?;
-    turn(&mut desk, &mut vault)?;
+fn pages_have_what_is_settled(rt: HostRuntime) -> Result<(), Fail> {
+    look::<Brand>(&rt, rt.alloc(), Blank::new(PARTS))
+}
+
+fn fill<L: Ledger>(vault: &mut Vault<MemStore>, alloc: Global, blank: Blank) -> Result<(), Fail>
+    requires name { blank.name ≡ L.name }
+    requires parts { blank.parts ≡ L.parts }
+    requires enough { blank.parts ≡ PARTS }
+{
+    let (mut desk, _) = begun::<L>(alloc, blank)?;
+    turn(&mut desk, vault)?;
+    Ok(())
+}
+
+fn reopen<L: Ledger>(
+    rt: &impl Abort,
+    vault: &mut Vault<MemStore>,
+    alloc: Global,
+    blank: Blank,
+) -> Result<(), Fail>
+    requires name { blank.name ≡ L.name }
+    requires parts { blank.parts ≡ L.parts }
+    requires enough { blank.parts ≡ PARTS }
+{
     let Ok(books) = vault.load(alloc) else {
         return Err(Fail::from("the vault was not loaded"));
     };
-    let again = Desk::of(alloc, books, MARK + 1)?;
-    assert_eq!(rt; again.totals(), desk.totals());
+    let desk = Desk::<L>::of(alloc, blank, books, MARK + 1)?;
+    assert_eq!(rt; desk.totals(), BEGUN);
     assert!(rt;
-        again
-            .event_page(Name::read(b"a")?, &MsgId::read(b"msg_1")?)
+        desk.event_page(Name::read(b"a")?, &MsgId::read(b"msg_1")?)
             .is_some()
     );
     Ok(())
+}
+
+#[test]
+fn a_desk_of_a_vault_knows_what_it_holds(rt: HostRuntime) -> Result<(), Fail> {
+    let mut vault = opened(rt.alloc())?;
+    fill::<Brand>(&mut vault, rt.alloc(), Blank::new(PARTS))?;
+    reopen::<Brand>(&rt, &mut vault, rt.alloc(), Blank::new(PARTS))
 }

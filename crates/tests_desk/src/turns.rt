@@ -1,12 +1,17 @@
 //! A desk and the vault that its batches are committed to.
+ghost use Rattle.std.specs.Prelude.{◌≡◌};
 
 use desk::{Command, CommandTicket, Desk, Fault, Refusal, Ticket, Told};
 use group_commit::Held;
+use permits::PARTS;
 use relay_types::{Body, MaxLimit, Moment, MsgId, Name, Secret, Secrets, Target};
 use spool::{Batch, CommitEnd, Receipt, Vault};
 use sqlite::{Connection, MemStore};
 use std::alloc::{AllocError, Global};
+use std::marker::Brand;
+use std::process::Abort;
 use std::sync::Arc;
+use std::sync::ledger::{Blank, Ledger};
 use std::test::Fail;
 
 pub(crate) const MARK: u64 = 7;
@@ -18,12 +23,16 @@ pub(crate) fn opened(alloc: Global) -> Result<Vault<MemStore>, Fail> {
     }
 }
 
-/// Puts endpoint `a`.
-pub(crate) fn put(desk: &mut Desk, alloc: Global) -> Result<CommandTicket, Fail> {
+/// Puts endpoint `a` with this maximum.
+pub(crate) fn put<L: Ledger>(
+    desk: &mut Desk<L>,
+    alloc: Global,
+    max: u64,
+) -> Result<CommandTicket, Fail> {
     let command = Command::PutEndpoint {
         name: Name::read(b"a")?,
         target: Target::read(alloc, b"http://127.0.0.1:9000/hook")?,
-        max: MaxLimit::of(100)?,
+        max: MaxLimit::of(max)?,
         secrets: Secrets::of(&[Secret::read(b"whsec_MDEyMzQ1Njc4OTAxMjM0NTY3ODkwMTIz")?])?,
     };
     match desk.command(command) {
@@ -32,20 +41,16 @@ pub(crate) fn put(desk: &mut Desk, alloc: Global) -> Result<CommandTicket, Fail>
     }
 }
 
-/// Submits the event `msg_1` with these bytes to endpoint `a`.
-pub(crate) fn submit(
-    desk: &mut Desk,
+/// Submits the event of this id with these bytes to endpoint `a`.
+pub(crate) fn submit<L: Ledger>(
+    desk: &mut Desk<L>,
     alloc: Global,
+    id: &[u8],
     text: &[u8],
 ) -> Result<Result<Ticket, Refusal>, Fail> {
     let bytes = Vec::from_slice(alloc, text)?;
     let body = Body::of(Arc::new(alloc, bytes).map_err(AllocError::from)?)?;
-    Ok(desk.submit(
-        Moment::of(1000)?,
-        Name::read(b"a")?,
-        MsgId::read(b"msg_1")?,
-        body,
-    ))
+    Ok(desk.submit(Moment::of(1000)?, Name::read(b"a")?, MsgId::read(id)?, body))
 }
 
 fn written(vault: &mut Vault<MemStore>, batch: Batch) -> Result<Receipt, Fail> {
@@ -63,7 +68,10 @@ fn written(vault: &mut Vault<MemStore>, batch: Batch) -> Result<Receipt, Fail> {
 }
 
 /// Seals what waits, commits it and settles it: how many records are settled then.
-pub(crate) fn turn(desk: &mut Desk, vault: &mut Vault<MemStore>) -> Result<u64, Fail> {
+pub(crate) fn turn<L: Ledger>(
+    desk: &mut Desk<L>,
+    vault: &mut Vault<MemStore>,
+) -> Result<u64, Fail> {
     let Ok(Some(batch)) = desk.seal() else {
         return Err(Fail::from("nothing was sealed"));
     };
@@ -76,7 +84,8 @@ pub(crate) fn turn(desk: &mut Desk, vault: &mut Vault<MemStore>) -> Result<u64, 
     }
 }
 
-fn is_halted_by(desk: &mut Desk, held: Held) -> bool {
+/// Whether what is held halts the desk. Otherwise it is ended.
+pub(crate) fn is_halted_by<L: Ledger>(desk: &mut Desk<L>, held: Held) -> bool {
     match desk.halt(held) {
         Ok(()) => true,
         Err((Held::Nothing, _)) => false,
@@ -91,11 +100,13 @@ fn is_halted_by(desk: &mut Desk, held: Held) -> bool {
     }
 }
 
-#[test]
-fn what_is_known_answers_the_first_ticket(rt: HostRuntime) -> Result<(), Fail> {
-    let alloc = rt.alloc();
-    let mut desk = Desk::new(alloc, MARK)?;
-    let unknown = submit(&mut desk, alloc, b"{}")?;
+fn know<L: Ledger>(rt: &impl Abort, alloc: Global, blank: Blank) -> Result<(), Fail>
+    requires name { blank.name ≡ L.name }
+    requires parts { blank.parts ≡ L.parts }
+    requires enough { blank.parts ≡ PARTS }
+{
+    let mut desk = Desk::<L>::new(alloc, blank, MARK)?;
+    let unknown = submit(&mut desk, alloc, b"msg_1", b"{}")?;
     assert!(rt;
         unknown
             == Err(Refusal {
@@ -103,11 +114,11 @@ fn what_is_known_answers_the_first_ticket(rt: HostRuntime) -> Result<(), Fail> {
                 fault: Fault::UnknownEndpoint
             })
     );
-    put(&mut desk, alloc)?;
-    let first = submit(&mut desk, alloc, b"{}")?;
+    put(&mut desk, alloc, 100)?;
+    let first = submit(&mut desk, alloc, b"msg_1", b"{}")?;
     assert!(rt; first.is_ok_and(|ticket| ticket.seq == 1));
-    assert!(rt; submit(&mut desk, alloc, b"{}")? == first);
-    let conflict = submit(&mut desk, alloc, b"[]")?;
+    assert!(rt; submit(&mut desk, alloc, b"msg_1", b"{}")? == first);
+    let conflict = submit(&mut desk, alloc, b"msg_1", b"[]")?;
     assert!(rt;
         conflict
             == Err(Refusal {
@@ -120,10 +131,17 @@ fn what_is_known_answers_the_first_ticket(rt: HostRuntime) -> Result<(), Fail> {
 }
 
 #[test]
-fn a_halted_desk_takes_nothing(rt: HostRuntime) -> Result<(), Fail> {
-    let alloc = rt.alloc();
-    let mut desk = Desk::new(alloc, MARK)?;
-    let ticket = put(&mut desk, alloc)?;
+fn what_is_known_answers_the_first_ticket(rt: HostRuntime) -> Result<(), Fail> {
+    know::<Brand>(&rt, rt.alloc(), Blank::new(PARTS))
+}
+
+fn stop<L: Ledger>(rt: &impl Abort, alloc: Global, blank: Blank) -> Result<(), Fail>
+    requires name { blank.name ≡ L.name }
+    requires parts { blank.parts ≡ L.parts }
+    requires enough { blank.parts ≡ PARTS }
+{
+    let mut desk = Desk::<L>::new(alloc, blank, MARK)?;
+    let ticket = put(&mut desk, alloc, 100)?;
     let Ok(Some(batch)) = desk.seal() else {
         return Err(Fail::from("nothing was sealed"));
     };
@@ -132,7 +150,7 @@ fn a_halted_desk_takes_nothing(rt: HostRuntime) -> Result<(), Fail> {
     assert_eq!(rt; (by_nothing, by_batch), (false, true));
     assert!(rt; desk.is_halted());
     assert_eq!(rt; desk.told_command(&ticket), Told::Unknown);
-    let refused = submit(&mut desk, alloc, b"{}")?;
+    let refused = submit(&mut desk, alloc, b"msg_1", b"{}")?;
     assert!(rt;
         refused
             == Err(Refusal {
@@ -141,4 +159,9 @@ fn a_halted_desk_takes_nothing(rt: HostRuntime) -> Result<(), Fail> {
             })
     );
     Ok(())
+}
+
+#[test]
+fn a_halted_desk_takes_nothing(rt: HostRuntime) -> Result<(), Fail> {
+    stop::<Brand>(&rt, rt.alloc(), Blank::new(PARTS))
 }

@@ -1,11 +1,13 @@
-use Rattle.std.proofs.Common.{◌≡◌, ◌++◌, ◌∷◌, [], ◌+◌, ◌∙◌, false, true, map, set, ap, arith, sym, subst, deque_capacity}
+use Rattle.std.proofs.Common.{◌≡◌, ◌++◌, ◌∷◌, [], ◌+◌, ◌∙◌, None, false, true, get_or, map, set, ap, arith, sym, subst, deque_capacity}
 use Rattle.std.specs.Option.{option_map_or}
 use Rattle.relay_types.specs.declared.record.Record.TheVariants.{Outcome}
 use Rattle.delivery_book.specs.declared.entry.Entry.{Entry}
-use Rattle.delivery_book.specs.Entries.{with_attempt, at_delivery, takes_outcome, is_open, state_in, progress_after}
-use Rattle.delivery_book.specs.Fields.{IsBook, in_state, counts_for, one_of}
+use Rattle.delivery_book.specs.Entries.{BookValue, with_attempt, at_delivery, entry_at, takes_outcome, is_open, state_in, progress_after}
+use Rattle.delivery_book.specs.Fields.{IsBook, is_numbered, in_state, counts_for, one_of}
 use Rattle.delivery_book.specs.Book.{StandsFor}
-use Rattle.delivery_book.proofs.Updates.{found_in, read_same, set_is}
+use Rattle.delivery_book.proofs.Books.{below}
+use Rattle.delivery_book.proofs.Entries.{entry_at-none}
+use Rattle.delivery_book.proofs.Updates.{all_at, found_in, read_same, set_is}
 use Rattle.delivery_book.proofs.Outcomes.{book-outcome, room_for}
 use Rattle.delivery_book.proofs.Laws.{stands_outcome}
 use Rattle.delivery_book.proofs.book.DeliveryBook.stage_outcome.Goals as goal
@@ -45,6 +47,18 @@ invariant_of-self c =
     (omega (arith, c.requires.above, ap (λ v. v.next_seq) c.self.view_is)) there.0 c.index_mut.ensures.value there.1 free
     (λ those asked. (λ j. in_state asked (counts_for c.remove.new.self those) + one_of (sym first j).name ((ap (λ (y : Entry). state_in y.latest) (sym second) ∙ sym c.state.ensures) j) those asked) ∙ sym (c.remove.ensures.less those asked))
     (λ those asked. c.add.ensures.more those asked ∙ (λ j. in_state asked (counts_for c.remove.new.self those) + one_of (first j).name ((c.state-2.ensures ∙ ap state_in after) j) those asked)))))
+
+pub returns-clause-unused : goal.returns-clause-unused
+returns-clause-unused c =
+    let b = c.self.inside in
+    subst (λ (v : BookValue). entry_at v.entries c.args.seq ≡ None) c.self.view_is
+    (entry_at-none b.entries.items c.args.seq (λ k d h same. absurd (omega (
+      arith,
+      same,
+      c.requires.above,
+      ap (λ (v : BookValue). v.next_seq) c.self.view_is,
+      (below b.next_seq (get_or b.entries.items k d) (all_at (is_numbered b.next_seq) b.entries.items k d h c.self.invariant.keyed.numbered)).0,
+    ))))
 
 pub returns-clause-value : goal.returns-clause-value
 returns-clause-value c =

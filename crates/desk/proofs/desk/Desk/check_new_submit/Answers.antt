@@ -2,16 +2,16 @@ use Rattle.std.proofs.Common.{◌∙◌, length, nat_le, ap}
 use Rattle.desk.specs.declared.limits.TheConstants.{MAX_PENDING, MAX_PENDING_ALL}
 use Rattle.desk.specs.Faults.{first_fault}
 use Rattle.desk.specs.World.{all_records, settled_records}
-use Rattle.desk.proofs.Checks.{is_full, is_spent, new_looks}
+use Rattle.desk.proofs.Checks.{is_full, new_looks}
 use Rattle.desk.proofs.DeskEvents.{pending_is, pending_all_is}
 use Rattle.desk.proofs.DeskLaws.{seen}
 use Rattle.desk.proofs.desk.Desk.check_new_submit.Goals as goal
 
 pub returns-clause-faults : goal.returns-clause-faults
-returns-clause-faults c = λ w h.
+returns-clause-faults g c = λ w h.
     let here = seen c.self.view_is h in
     let own = ap (nat_le MAX_PENDING) (c.pending.ensures.stands (all_records w) (length (settled_records w)) here.books.of_deliveries ∙ pending_is (all_records w) c.args.name) in
     let all = ap (nat_le MAX_PENDING_ALL) (c.pending_all.ensures (all_records w) (length (settled_records w)) here.books.of_deliveries ∙ pending_all_is (all_records w)) in
     let full = is_full c.free_requests.result here c.free_requests.ensures.free in
-    let spent = is_spent c.records.result here c.records.ensures.count in
+    let spent = c.are_seqs_spent.ensures.stands w h in
     c.check.ensures ∙ λ i. first_fault (new_looks (own i) (all i) (full i) (spent i))

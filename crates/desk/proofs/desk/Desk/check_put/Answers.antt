@@ -2,15 +2,15 @@ use Rattle.std.proofs.Common.{◌∙◌, length, nat_le, ap}
 use Rattle.relay_types.specs.declared.limits.TheConstants.{MAX_ENDPOINTS}
 use Rattle.desk.specs.Faults.{first_fault}
 use Rattle.desk.specs.World.{all_records, settled_records}
-use Rattle.desk.proofs.Checks.{is_full, is_spent, put_looks}
+use Rattle.desk.proofs.Checks.{is_full, put_looks}
 use Rattle.desk.proofs.DeskLaws.{seen}
 use Rattle.desk.proofs.desk.Desk.check_put.Goals as goal
 
 pub returns-clause-faults : goal.returns-clause-faults
-returns-clause-faults c = λ w h.
+returns-clause-faults g c = λ w h.
     let here = seen c.self.view_is h in
     let known = c.contains.ensures.stands (all_records w) (length (settled_records w)) here.books.of_endpoints in
     let many = ap (nat_le MAX_ENDPOINTS) (c.len.ensures.stands (all_records w) (length (settled_records w)) here.books.of_endpoints) in
     let full = is_full c.free_requests.result here c.free_requests.ensures.free in
-    let spent = is_spent c.records.result here c.records.ensures.count in
+    let spent = c.are_seqs_spent.ensures.stands w h in
     c.check.ensures ∙ λ i. first_fault (put_looks (here.halted i) (known i) (many i) (full i) (spent i))

@@ -2,14 +2,14 @@ use Rattle.std.proofs.Common.{◌∙◌, length}
 use Rattle.std.specs.Prelude.{not}
 use Rattle.desk.specs.Faults.{first_fault}
 use Rattle.desk.specs.World.{all_records, settled_records}
-use Rattle.desk.proofs.Checks.{is_full, is_spent, set_looks}
+use Rattle.desk.proofs.Checks.{is_full, set_looks}
 use Rattle.desk.proofs.DeskLaws.{seen}
 use Rattle.desk.proofs.desk.Desk.check_set.Goals as goal
 
 pub returns-clause-faults : goal.returns-clause-faults
-returns-clause-faults c = λ w h.
+returns-clause-faults g c = λ w h.
     let here = seen c.self.view_is h in
     let known = c.contains.ensures.stands (all_records w) (length (settled_records w)) here.books.of_endpoints in
     let full = is_full c.free_requests.result here c.free_requests.ensures.free in
-    let spent = is_spent c.records.result here c.records.ensures.count in
+    let spent = c.are_seqs_spent.ensures.stands w h in
     c.check.ensures ∙ λ i. first_fault (set_looks (here.halted i) (not (known i)) (full i) (spent i))

@@ -3,4 +3,4 @@ use Rattle.desk.proofs.LookLaws.{stands_as, records_counted}
 use Rattle.desk.proofs.desk.Desk.records.Goals as goal
 
 pub returns : goal.returns
-returns c = λ w h. c.records.ensures.count ∙ records_counted (stands_as c.self.view_is h)
+returns g c = λ w h. c.records.ensures.count ∙ records_counted (stands_as c.self.view_is h)

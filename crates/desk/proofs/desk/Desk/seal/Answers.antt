@@ -6,7 +6,7 @@ use Rattle.desk.proofs.desk.Desk.seal.Goals as goal
 use Rattle.desk.proofs.desk.Desk.seal.Goals.{in-Ok, in-Err-BatchOut, in-Err-OutOfMemory}
 
 pub returns-clause-moves : goal.returns-clause-moves
-returns-clause-moves c =
+returns-clause-moves g c =
     let reply : c.match-seal.result ≡ seal_reply c.seal.result = elim c.match-seal.branch [
       | in-Ok b ↦ b.result-is ∙ ap seal_reply (sym b.in-Ok.is)
       | in-Err-BatchOut b ↦ b.result-is ∙ ap (λ e. seal_reply (Err e)) (sym b.in-Err-BatchOut.field-0-is) ∙ ap seal_reply (sym b.in-Err-BatchOut.is)

@@ -1,3 +1,4 @@
+use Rattle.std.proofs.Common.{arith}
 use Rattle.desk.specs.declared.command.Command.TheVariants.{SetSecrets}
 use Rattle.desk.specs.Moves.{set_faults, change, changes}
 use Rattle.desk.proofs.MoveLaws.{refuses, replies, hands_on}
@@ -5,18 +6,18 @@ use Rattle.desk.proofs.DeskLaws.{secrets_move}
 use Rattle.desk.proofs.desk.Desk.set_secrets.Goals as goal
 
 pub returns-in_err-check_set-clause-moves : goal.returns-in_err-check_set-clause-moves
-returns-in_err-check_set-clause-moves c =
+returns-in_err-check_set-clause-moves g c =
     let a = c.args in
     replies a.self.now a.self.now (λ w. change w (SetSecrets a.name a.secrets)) _ _
     (refuses a.self.now (λ w. set_faults w a.name) (λ w. changes w (SetSecrets a.name a.secrets)) _ c.in_err-check_set.ensures.faults)
     (hands_on c.from_residual.result _ c.from_residual.ensures.1)
 
 pub returns-clause-moves : goal.returns-clause-moves
-returns-clause-moves c =
+returns-clause-moves g c =
     let a = c.args in
     let checked = c.in_ok-check_set.ensures in
     let made = c.stage_secrets.ensures in
     replies a.self.now _ (λ w. change w (SetSecrets a.name a.secrets)) _ _
-    (secrets_move a.self.now _ a.name a.secrets _ c.stage_secrets.result checked.faults checked.room checked.known
+    (secrets_move a.self.now _ a.name a.secrets _ c.stage_secrets.result checked.faults (omega (arith, checked.room)) checked.known
     made.ticket made.staged made.limits made.err)
     c.or_out_of_memory.ensures

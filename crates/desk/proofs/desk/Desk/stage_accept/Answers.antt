@@ -1,11 +1,18 @@
-use Rattle.std.proofs.Common.{◌+◌, ◌∙◌, ap, sym, subst}
-use Rattle.delivery_book.specs.Entries.{BookValue}
-use Rattle.desk.specs.Desks.{IsDesk}
-use Rattle.desk.proofs.DeskLaws.{deliveries_wait}
+use Rattle.std.proofs.Common.{◌+◌, ap, arith, length, subst, sym}
+use Rattle.group_commit.specs.Waits.{record_count}
+use Rattle.desk.specs.Desks.{DeskValue, IsDesk}
+use Rattle.desk.proofs.AcceptTies.{desk_accept}
+use Rattle.desk.proofs.RequestTies.{desk_reserved}
 use Rattle.desk.proofs.desk.Desk.stage_accept.Goals as goal
 
 pub invariant_of-self-2 : goal.invariant_of-self-2
-invariant_of-self-2 c =
-    let accept = c.in_ok-stage_accept.ensures.accepted in
-    subst (λ waiting. IsDesk c.self.inside.endpoints c.stage_accept.new.self waiting) (sym c.push_request.ensures)
-    (deliveries_wait _ c.self.invariant (ap (λ (b : BookValue). b.next_seq) accept ∙ ap (λ n. n + 1) c.records-seq.ensures.count) (ap (λ (b : BookValue). b.settled_seq) accept))
+invariant_of-self-2 g c =
+    desk_accept c.records-seq.result c.args.name c.args.id _ c.args.body c.args.at c.pending-pending.result c.records-seq.ensures.count c.in_ok-stage_accept.ensures.accepted c.push_request.ensures
+    c.pending-pending.ensures.value
+    (omega (arith, c.requires.room, ap (λ (v : DeskValue). record_count v.waiting + length v.live) c.self.view_is))
+    c.in_ok-reserve.ensures.pairs c.in_ok-reserve.ensures.mark c.self.invariant
+
+pub invariant_of-self-in_err-stage_accept : goal.invariant_of-self-in_err-stage_accept
+invariant_of-self-in_err-stage_accept g c =
+    subst (λ book. IsDesk c.self.inside.endpoints book c.self.inside.waiting c.self.inside.pool c.self.inside.limiters.items c.reserve.new.self) (sym c.in_err-stage_accept.ensures.unchanged)
+    (desk_reserved c.args.name (c.pending-pending.result + 1) c.in_ok-reserve.ensures.pairs c.in_ok-reserve.ensures.mark c.self.invariant)

@@ -1,12 +1,15 @@
-use Rattle.std.proofs.Common.{◌+◌, ◌∙◌, ap, sym, subst}
-use Rattle.endpoint_book.specs.Entries.{BookValue}
-use Rattle.desk.specs.Desks.{IsDesk}
-use Rattle.desk.proofs.DeskLaws.{endpoints_wait}
+use Rattle.std.proofs.Common.{◌+◌, ◌∙◌, ap, arith, length, subst}
+use Rattle.claim_queue.specs.Queues.{ChangesMark, with_room}
+use Rattle.group_commit.specs.Waits.{record_count}
+use Rattle.desk.specs.Desks.{DeskValue}
+use Rattle.desk.specs.Ties.{room_by}
+use Rattle.desk.proofs.RequestTies.{desk_flag}
 use Rattle.desk.proofs.desk.Desk.stage_enabled.Goals as goal
 
 pub invariant_of-self : goal.invariant_of-self
-invariant_of-self c =
-    let flag = c.stage_enabled.ensures.flag in
-    subst (λ waiting. IsDesk c.stage_enabled.new.self c.self.inside.deliveries waiting) (sym c.push_request.ensures)
-    (endpoints_wait _ _ c.self.invariant
-    (ap (λ (b : BookValue). b.changes) flag) (ap (λ (b : BookValue). b.next_seq) flag ∙ ap (λ n. n + 1) c.records-seq.ensures.count) (ap (λ (b : BookValue). b.settled_seq) flag))
+invariant_of-self g c =
+    desk_flag c.records-seq.result c.args.name c.args.flag c.records-seq.ensures.count c.stage_enabled.ensures.flag c.push_request.ensures
+    (omega (arith, c.requires.room, ap (λ (v : DeskValue). record_count v.waiting + length v.live) c.self.view_is))
+    c.tell_room.ensures.pairs
+    (subst (λ ls. ChangesMark c.self.inside.queue c.tell_room.new.queue c.args.name (with_room (room_by c.stage_enabled.new.self ls c.self.inside.pool c.args.name))) c.deref.ensures.value c.tell_room.ensures.mark)
+    c.self.invariant

@@ -1,12 +1,11 @@
-use Rattle.std.proofs.Common.{◌+◌, ◌∙◌, ap, sym, subst}
-use Rattle.endpoint_book.specs.Entries.{BookValue}
-use Rattle.desk.specs.Desks.{IsDesk}
-use Rattle.desk.proofs.DeskLaws.{endpoints_wait}
+use Rattle.std.proofs.Common.{◌+◌, ap, arith, length}
+use Rattle.group_commit.specs.Waits.{record_count}
+use Rattle.desk.specs.Desks.{DeskValue}
+use Rattle.desk.proofs.RequestTies.{desk_secrets}
 use Rattle.desk.proofs.desk.Desk.stage_secrets.Goals as goal
 
 pub invariant_of-self-2 : goal.invariant_of-self-2
-invariant_of-self-2 c =
-    let given = c.in_ok-stage_secrets.ensures.given in
-    subst (λ waiting. IsDesk c.stage_secrets.new.self c.self.inside.deliveries waiting) (sym c.push_request.ensures)
-    (endpoints_wait _ _ c.self.invariant
-    (ap (λ (b : BookValue). b.changes) given) (ap (λ (b : BookValue). b.next_seq) given ∙ ap (λ n. n + 1) c.records-seq.ensures.count) (ap (λ (b : BookValue). b.settled_seq) given))
+invariant_of-self-2 g c =
+    desk_secrets c.records-seq.result c.args.name c.args.secrets c.records-seq.ensures.count c.in_ok-stage_secrets.ensures.given c.push_request.ensures
+    (omega (arith, c.requires.room, ap (λ (v : DeskValue). record_count v.waiting + length v.live) c.self.view_is))
+    c.self.invariant

@@ -1,4 +1,4 @@
-use Rattle.std.proofs.Common.{Option, ℕ, Ok, length, ap, subst}
+use Rattle.std.proofs.Common.{arith, Option, ℕ, Ok, length, ap, subst}
 use Rattle.desk.specs.Desks.{DeskValue, Checks}
 use Rattle.desk.specs.World.{all_records, settled_records}
 use Rattle.desk.specs.Moves.{submit, submit_faults}
@@ -7,7 +7,7 @@ use Rattle.desk.proofs.DeskLaws.{seen, submit_refused, submit_repeated, accept_m
 use Rattle.desk.proofs.desk.Desk.submit.Goals as goal
 
 pub returns-in_err-check_submit-clause-moves : goal.returns-in_err-check_submit-clause-moves
-returns-in_err-check_submit-clause-moves c =
+returns-in_err-check_submit-clause-moves g c =
     let a = c.args in
     replies a.self.now a.self.now (λ w. submit w a.now a.name a.id a.body) _ _
     (submit_refused a.self.now a.now a.name a.id a.body c.find-known.result _
@@ -15,7 +15,7 @@ returns-in_err-check_submit-clause-moves c =
     (hands_on c.from_residual.result _ c.from_residual.ensures.1)
 
 pub returns-in-Some-clause-moves : goal.returns-in-Some-clause-moves
-returns-in-Some-clause-moves c =
+returns-in-Some-clause-moves g c =
     let a = c.args in
     submit_repeated a.self.now _ a.now a.name a.id a.body c.in-Some.seq c.moment-at.result _
     (λ w h. c.in-Some.ensures.stands (all_records w) (length (settled_records w)) (seen c.self.view_is h).books.of_deliveries)
@@ -24,7 +24,7 @@ returns-in-Some-clause-moves c =
     (ap (λ (v : DeskValue). record v { clock = c.moment-at.result }) c.self.view_is)
 
 pub returns-in_err-check_new_submit-clause-moves : goal.returns-in_err-check_new_submit-clause-moves
-returns-in_err-check_new_submit-clause-moves c =
+returns-in_err-check_new_submit-clause-moves g c =
     let a = c.args in
     replies a.self.now a.self.now (λ w. submit w a.now a.name a.id a.body) _ _
     (new_refused a.self.now a.now a.name a.id a.body _ _
@@ -34,14 +34,14 @@ returns-in_err-check_new_submit-clause-moves c =
     (hands_on c.from_residual-in_err-check_new_submit.result _ c.from_residual-in_err-check_new_submit.ensures.1)
 
 pub returns-clause-moves : goal.returns-clause-moves
-returns-clause-moves c =
+returns-clause-moves g c =
     let a = c.args in
     let checked = c.in_ok-check_new_submit.ensures in
     let made = c.stage_accept.ensures in
     replies a.self.now _ (λ w. submit w a.now a.name a.id a.body) _ _
     (accept_moves a.self.now _ a.now a.name a.id a.body c.moment-at.result _ _ c.stage_accept.result checked.faults
     (subst (λ (o : Option ℕ). Checks a.self.now (λ w. submit_faults w a.name o a.body) (Ok _)) c.in_default.is c.in_ok-check_submit.ensures)
-    checked.room
+    (omega (arith, checked.room))
     (λ w h. c.in_default.ensures.stands (all_records w) (length (settled_records w)) (seen c.self.view_is h).books.of_deliveries)
     c.moment-at.ensures made.ticket made.staged made.limits made.err)
     c.or_out_of_memory.ensures

@@ -4,7 +4,7 @@ use Rattle.desk.proofs.LookLaws.{stands_as, totals_are}
 use Rattle.desk.proofs.desk.Desk.totals.Goals as goal
 
 pub returns : goal.returns
-returns c = λ w h.
+returns g c = λ w h.
     let stands = (stands_as c.self.view_is h).books in
     let settled = length (settled_records w) in
     totals_are w _ _ _ (c.settled_counts_all-counts.ensures (all_records w) settled stands.of_deliveries)

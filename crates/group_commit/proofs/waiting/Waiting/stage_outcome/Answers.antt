@@ -8,5 +8,5 @@ use Rattle.group_commit.proofs.waiting.Waiting.stage_outcome.Goals as goal
 pub invariant_of-self : goal.invariant_of-self
 invariant_of-self c =
     let same : upto_of c.self.inside.settled c.self.inside.queue ≡ record_count c.args.self.now = ap record_count c.self.view_is in
-    subst (λ queue. IsWaiting c.self.inside.settled (c.self.inside.records + 1) queue c.self.inside.out) (sym c.push_outcome.ensures)
+    subst (λ queue. IsWaiting c.self.inside.settled (c.self.inside.records + 1) queue c.self.inside.out) (sym c.push_outcome.ensures.staged)
     (waits_more c.self.inside.settled c.self.inside.records c.self.inside.queue c.self.inside.out c.args.step (outcome_one c.args.step c.requires.kind) (omega (arith, c.self.invariant.counted, same, c.requires.room)) c.self.invariant)

@@ -4,7 +4,7 @@ use Rattle.drill.specs.Runners.{IsCleanAt}
 use Rattle.text_lines.proofs.EndLaws.{ends_at_once}
 use Rattle.text_lines.specs.Ends.{IsBetweenLines}
 use Rattle.drill.proofs.ReplayLaws.{Replies-none, replays, keeps_run}
-use Rattle.drill.proofs.runner.replay.Goals as goal
+use Rattle.drill.proofs.runner.replay_with.Goals as goal
 
 pub returns-in-Err-clause-replays : goal.returns-in-Err-clause-replays
 returns-in-Err-clause-replays g c clean begun text had input output = ends_at_once Replies IsNoCall text had _ _ Replies-none output c.in-Err.ensures.faults

@@ -1,0 +1,45 @@
+-- Permits that are all of those that are out, as they are given back one by one.
+use Rattle.std.proofs.Common.{◌≡◌, ◌+◌, ℕ, List, [], ◌∷◌, ◌++◌, Option, Some, None, get_or, refl, sym, ap, arith, cond, IsPermutation}
+use Rattle.std.specs.Prelude.{count_by, position, remove}
+use Rattle.std.proofs.lemmas.List.Quantifiers.{position-Some}
+use Rattle.std.proofs.lemmas.List.Sorted.{sum_by-IsPermutation}
+use Rattle.std.proofs.lemmas.List.Sums.{sum_by-remove, sum_by_push}
+use Rattle.permits.specs.declared.row.Row.{Row}
+use Rattle.permits.specs.Rows.{same_row}
+use Rattle.desk.proofs.RowLaws.{none_counted, none_found, same_row_is, same_row_self}
+
+-- each row stands as often in the one list as in the other
+abbrev pub AreAll : (permits rows : List Row) → Type 0
+AreAll permits rows = (r : Row) → count_by (same_row r) permits ≡ count_by (same_row r) rows
+
+pub all_out : (permits rows : List Row) → IsPermutation permits rows → AreAll permits rows
+all_out permits rows h = λ r. sym (sum_by-IsPermutation (λ x. cond (same_row r x) 1 0) permits rows h)
+
+-- the last permit is one of those that are out
+pub last_out : (permits : List Row) (last : Row) (rows : List Row) → AreAll (permits ++ last ∷ []) rows → position (same_row last) rows ≡ None → ⊥
+last_out permits last rows h e =
+    absurd (omega (
+      arith,
+      h last,
+      sum_by_push (λ x. cond (same_row last x) 1 0) permits last,
+      ap {B = ℕ} (λ b. cond b 1 0) (same_row_self last),
+      none_counted (same_row last) rows (none_found (same_row last) rows e),
+    ))
+
+-- without it the others are all of those that are out
+pub last_back : (permits : List Row) (last : Row) (rows new : List Row) → AreAll (permits ++ last ∷ []) rows → ((i : ℕ) → position (same_row last) rows ≡ Some i → new ≡ remove rows i) → AreAll permits new
+last_back permits last rows new h is = by (position (same_row last) rows) refl
+  where
+    by : (o : Option ℕ) → position (same_row last) rows ≡ o → AreAll permits new
+    by None e = absurd (last_out permits last rows h e)
+    by (Some i) e = λ r.
+        let found = position-Some (same_row last) rows i last e in
+        let own : get_or rows i last ≡ last = sym (same_row_is last (get_or rows i last) found.1) in
+        omega (
+          arith,
+          h r,
+          sum_by_push (λ x. cond (same_row r x) 1 0) permits last,
+          sum_by-remove (λ x. cond (same_row r x) 1 0) rows i last found.0,
+          ap {B = ℕ} (λ x. cond (same_row r x) 1 0) own,
+          ap (count_by (same_row r)) (is i e),
+        )

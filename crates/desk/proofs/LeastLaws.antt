@@ -1,0 +1,133 @@
+-- The least number of a list of rising numbers.
+use Rattle.std.proofs.Common.{◌≡◌, ◌≤◌, ◌<◌, ◌+◌, ◌⊎◌, inl, inr, ℕ, zero, suc, Bool, true, false, List, [], ◌∷◌, Option, Some, None, refl, sym, ◌∙◌, ap, arith, cond, map, subst}
+use Rattle.std.specs.Prelude.{filter, nat_le, is_some, slice_get, option_and_then, if◌then◌else◌}
+use Rattle.std.specs.List.{enumerate_from}
+use Rattle.std.proofs.Math.Decide.{dec_le}
+use Rattle.std.proofs.lemmas.Bool.{le-leb, lt-leb}
+use Rattle.std.proofs.lemmas.Option.{same_Some}
+use Rattle.relay_types.specs.declared.record.Record.{Record}
+use Rattle.relay_types.specs.Records.{Accepted, accepted_by}
+use Rattle.relay_types.specs.Deliveries.{is_accept}
+use Rattle.desk.specs.Claims.{lesser, least_by}
+
+-- each number is above the one before it, and the first is not below this one
+abbrev pub Rises : ℕ → List ℕ → Type 0
+Rises from [] = Unit {0}
+Rises from (n ∷ rest) = (from ≤ n) × Rises (n + 1) rest
+
+abbrev pub Among : ℕ → List ℕ → Type 0
+Among m [] = ⊥
+Among m (n ∷ rest) = (m ≡ n) ⊎ Among m rest
+
+abbrev some_number : ℕ → Option ℕ
+some_number n = Some n
+
+rises_later : (a b : ℕ) (ns : List ℕ) → a ≤ b → Rises b ns → Rises a ns
+rises_later a b [] le h = tt
+rises_later a b (n ∷ rest) le h = (omega (arith, le, h.0), h.1)
+
+pub rises_filter : (test : ℕ → Bool) (from : ℕ) (ns : List ℕ) → Rises from ns → Rises from (filter test ns)
+rises_filter test from [] h = tt
+rises_filter test from (n ∷ rest) h = step (test n) (rises_filter test (n + 1) rest h.1)
+  where
+    step : (b : Bool) → Rises (n + 1) (filter test rest) → Rises from (cond b (n ∷ filter test rest) (filter test rest))
+    step true r = (h.0, r)
+    step false r = rises_later from (n + 1) (filter test rest) (omega (arith, h.0)) r
+
+above : (from : ℕ) (ns : List ℕ) (m : ℕ) → Rises from ns → Among m ns → from ≤ m
+above from [] m h a = absurd a
+above from (n ∷ rest) m h (inl e) = omega (arith, h.0, e)
+above from (n ∷ rest) m h (inr r) = omega (arith, h.0, above (n + 1) rest m h.1 r)
+
+pub among_filter : (test : ℕ → Bool) (m : ℕ) (ns : List ℕ) → Among m ns → test m ≡ true → Among m (filter test ns)
+among_filter test m [] a t = a
+among_filter test m (n ∷ rest) (inl e) t = step (test n) (ap test (sym e) ∙ t)
+  where
+    step : (b : Bool) → b ≡ true → Among m (cond b (n ∷ filter test rest) (filter test rest))
+    step true p = inl e
+    step false p = cc
+among_filter test m (n ∷ rest) (inr r) t = step (test n) (among_filter test m rest r t)
+  where
+    step : (b : Bool) → Among m (filter test rest) → Among m (cond b (n ∷ filter test rest) (filter test rest))
+    step true a = inr a
+    step false a = a
+
+pub passes : (test : ℕ → Bool) (m : ℕ) (ns : List ℕ) → Among m (filter test ns) → test m ≡ true
+passes test m [] a = absurd a
+passes test m (n ∷ rest) a = step (test n) refl a (passes test m rest)
+  where
+    step : (b : Bool) → test n ≡ b → Among m (cond b (n ∷ filter test rest) (filter test rest)) → (Among m (filter test rest) → test m ≡ true) → test m ≡ true
+    step true e (inl s) later = ap test s ∙ e
+    step true e (inr r) later = later r
+    step false e a later = later a
+
+pub none_pass : (test : ℕ → Bool) (ns : List ℕ) → ((m : ℕ) → test m ≡ false) → filter test ns ≡ []
+none_pass test [] none = refl
+none_pass test (n ∷ rest) none = ap (λ b. cond b (n ∷ filter test rest) (filter test rest)) (none n) ∙ none_pass test rest none
+
+pub chosen_among : (key : ℕ → ℕ) (ns : List ℕ) (m : ℕ) → least_by key ns ≡ Some m → Among m ns
+chosen_among key [] m e = cc
+chosen_among key (n ∷ rest) m e = step (least_by key rest) refl e (chosen_among key rest)
+  where
+    at : (b : Bool) (y : ℕ) → Among y rest → some_number (if b then n else y) ≡ Some m → (m ≡ n) ⊎ Among m rest
+    at true y a e = inl (sym (same_Some n m e))
+    at false y a e = inr (subst (λ x. Among x rest) (same_Some y m e) a)
+
+    step : (o : Option ℕ) → least_by key rest ≡ o → some_number (lesser key n o) ≡ Some m → ((y : ℕ) → least_by key rest ≡ Some y → Among y rest) → (m ≡ n) ⊎ Among m rest
+    step None p e later = inl (sym (same_Some n m e))
+    step (Some y) p e later = at (nat_le (key n) (key y)) y (later y p) e
+
+-- no later by the key, nor by itself where both have one key
+abbrev pub IsFirstBy : (key : ℕ → ℕ) (s m : ℕ) → Type 0
+IsFirstBy key s m = (key s ≤ key m) × (key s ≡ key m → s ≤ m)
+
+pub least_is : (key : ℕ → ℕ) (from : ℕ) (ns : List ℕ) (s : ℕ) → Rises from ns → Among s ns → ((m : ℕ) → Among m ns → IsFirstBy key s m) → least_by key ns ≡ Some s
+least_is key from [] s h a first = absurd a
+least_is key from (n ∷ rest) s h (inl e) first = step (least_by key rest) refl
+  where
+    step : (o : Option ℕ) → least_by key rest ≡ o → some_number (lesser key n o) ≡ Some s
+    step None p = ap Some (sym e)
+    step (Some y) p =
+        ap (λ b. some_number (if b then n else y)) (le-leb (key n) (key y) (omega (arith, ap key e, (first y (inr (chosen_among key rest y p))).0)))
+        ∙ ap Some (sym e)
+least_is key from (n ∷ rest) s h (inr r) first =
+    ap (λ o. some_number (lesser key n o)) (least_is key (n + 1) rest s h.1 r (λ m a. first m (inr a)))
+    ∙ ap (λ b. some_number (if b then n else s)) (lt-leb (key n) (key s) (below (first n (inl refl)) (above (n + 1) rest s h.1 r)))
+  where
+    below : IsFirstBy key s n → n + 1 ≤ s → key s < key n
+    below f later = elim (dec_le (key s + 1) (key n)) [
+      | yes less ↦ omega (arith, less)
+      | no more ↦ absurd (omega (arith, later, f.1 (omega (arith, f.0, more))))
+    ]
+
+-- Deliveries
+
+abbrev places_from : (Record → Bool) → ℕ → List Record → List ℕ
+places_from test n records = map (λ (e : ℕ × Record). e.0) (filter (λ e. test e.1) (enumerate_from n records))
+
+pub places_rise : (test : Record → Bool) (n : ℕ) (records : List Record) → Rises n (places_from test n records)
+places_rise test n [] = tt
+places_rise test n (r ∷ rest) = step (test r) (places_rise test (n + 1) rest)
+  where
+    step : (b : Bool) → Rises (n + 1) (places_from test (n + 1) rest)
+        → Rises n (map (λ (e : ℕ × Record). e.0) (cond b ((n, r) ∷ filter (λ e. test e.1) (enumerate_from (n + 1) rest)) (filter (λ e. test e.1) (enumerate_from (n + 1) rest))))
+    step true h = (omega arith, h)
+    step false h = rises_later n (n + 1) (places_from test (n + 1) rest) (omega arith) h
+
+pub accepted_among : (n k : ℕ) (records : List Record) (a : Accepted) → option_and_then accepted_by (slice_get records k) ≡ Some a → Among (n + k) (places_from is_accept n records)
+accepted_among n k [] a e = cc
+accepted_among n zero (r ∷ rest) a e = step (is_accept r) (ap is_some e)
+  where
+    step : (b : Bool) → b ≡ true
+        → Among (n + zero) (map (λ (e : ℕ × Record). e.0) (cond b ((n, r) ∷ filter (λ e. is_accept e.1) (enumerate_from (n + 1) rest)) (filter (λ e. is_accept e.1) (enumerate_from (n + 1) rest))))
+    step true p = inl (omega arith)
+    step false p = cc
+accepted_among n (suc k) (r ∷ rest) a e = step (is_accept r) (subst (λ m. Among m (places_from is_accept (n + 1) rest)) moved (accepted_among (n + 1) k rest a e))
+  where
+    moved : n + 1 + k ≡ n + suc k
+    moved = omega arith
+
+    step : (b : Bool) → Among (n + suc k) (places_from is_accept (n + 1) rest)
+        → Among (n + suc k) (map (λ (e : ℕ × Record). e.0) (cond b ((n, r) ∷ filter (λ e. is_accept e.1) (enumerate_from (n + 1) rest)) (filter (λ e. is_accept e.1) (enumerate_from (n + 1) rest))))
+    step true h = inr h
+    step false h = h

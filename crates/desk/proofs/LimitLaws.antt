@@ -1,0 +1,40 @@
+-- What a desk tells of an endpoint's limit.
+use Rattle.std.proofs.Common.{◌≡◌, ℕ, List, Option, Some, None, refl, ◌∙◌, ap}
+use Rattle.std.specs.Prelude.{is_some, option_map, if◌then◌else◌}
+use Rattle.std.specs.Option.{option_map_or}
+use Rattle.relay_types.specs.Endpoints.{Endpoint, endpoint_of}
+use Rattle.vegas.specs.Vegas.{limit_of, noload_of}
+use Rattle.permits.specs.Rows.{in_flight_of}
+use Rattle.desk.specs.declared.limiter.Limiter.{Limiter}
+use Rattle.desk.specs.declared.spent.Limits.{Limits}
+use Rattle.desk.specs.World.{World, all_records}
+use Rattle.desk.specs.Claims.{limits, live_of, samples_of}
+use Rattle.desk.specs.Ties.{AreLimiters, StandsBy, bound_by, limiter_of}
+use Rattle.desk.specs.Desks.{DeskValue, StandsFor}
+use Rattle.desk.proofs.ChoiceLaws.{bound_in, limiter_is}
+
+abbrev pub limits_by : (in_flight : ℕ) → Limiter → Limits
+limits_by in_flight l = record { limit = l.estimator.state.limit; in_flight = in_flight; noload = l.estimator.state.noload }
+
+pub limits_are : (d : DeskValue) (w : World) (name : List ℕ) → StandsFor d w → AreLimiters d.limiters d.endpoints → option_map (limits_by (in_flight_of name d.live)) (limiter_of d.limiters name) ≡ limits w name
+limits_are d w name h are =
+    ap (λ rows. option_map (limits_by (in_flight_of name rows)) (limiter_of d.limiters name)) h.live
+    ∙ by (limiter_of d.limiters name) (endpoint_of (all_records w) name) (limiter_is name h are) (h.limits name)
+  where
+    same : (a b : List ℕ × ℕ) → Some a ≡ Some b → a.1 ≡ b.1
+    same a b e = cc
+
+    by : (o : Option Limiter) (p : Option Endpoint) → option_map bound_by o ≡ option_map bound_in p → StandsBy o (samples_of w name)
+        → option_map (limits_by (live_of w name)) o ≡ (if is_some p then Some (record {
+          limit = limit_of (option_map_or (λ (e : Endpoint). e.max) p 0) (samples_of w name);
+          in_flight = live_of w name;
+          noload = noload_of (option_map_or (λ (e : Endpoint). e.max) p 0) (samples_of w name);
+        }) else None)
+    by None None e stands = refl
+    by None (Some x) e stands = cc
+    by (Some l) None e stands = cc
+    by (Some l) (Some x) e stands = λ i. Some (record {
+      limit = (stands.limit ∙ ap (λ max. limit_of max (samples_of w name)) (same _ _ e)) i;
+      in_flight = live_of w name;
+      noload = (stands.noload ∙ ap (λ max. noload_of max (samples_of w name)) (same _ _ e)) i;
+    })

@@ -1,0 +1,28 @@
+use Rattle.std.proofs.Common.{◌∙◌, [], false, subst}
+use Rattle.desk.specs.Ties.{AreMarked}
+use Rattle.desk.proofs.LookLaws.{stands_as}
+use Rattle.desk.proofs.OpeningLaws.{is_desk_opened, limited_new, stands_opened}
+use Rattle.desk.proofs.desk.Desk.of.Goals as goal
+
+pub queue_of-requires-clause-limited : goal.queue_of-requires-clause-limited
+queue_of-requires-clause-limited g c = limited_new c.deref.result.now c.args.books.endpoints (c.deref.ensures.value ∙ c.in_ok-limiters.ensures)
+
+pub invariant_of-result-3 : goal.invariant_of-result-3
+invariant_of-result-3 g c =
+    let queue = c.in_ok-queue.queue in
+    is_desk_opened c.args.books _ _ c.in_ok-new.field-0 c.in_ok-pool.pool c.in_ok-limiters.limiters.items queue c.args.mark c.endpoints.view_is c.deliveries.view_is c.requires.settled
+    c.in_ok-new.ensures c.in_ok-pool.ensures c.in_ok-limiters.ensures c.in_ok-queue.ensures.queued
+    (subst (λ ls. AreMarked queue c.args.books.endpoints ls []) c.deref.ensures.value c.in_ok-queue.ensures.marked)
+
+pub returns-clause-stands : goal.returns-clause-stands
+returns-clause-stands g c = λ history are.
+    stands_as (λ i. record {
+      clock = c.args.books.clock;
+      endpoints = c.endpoints.view_is i;
+      deliveries = c.deliveries.view_is i;
+      waiting = c.in_ok-new.field-0;
+      halted = false;
+      live = c.in_ok-pool.pool;
+      limiters = c.in_ok-limiters.limiters.items;
+    })
+    (stands_opened c.args.books c.in_ok-new.field-0 c.in_ok-pool.pool c.in_ok-limiters.limiters.items c.args.mark c.in_ok-new.ensures c.in_ok-pool.ensures c.in_ok-limiters.ensures history are)

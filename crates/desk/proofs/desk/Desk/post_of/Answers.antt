@@ -1,0 +1,36 @@
+use Rattle.std.proofs.Common.{◌≡◌, ◌∙◌, Option, Some, None, List, ℕ, true, length, ap}
+use Rattle.std.specs.Prelude.{is_some, option_map}
+use Rattle.endpoint_book.specs.declared.entry.Entry.{Entry}
+use Rattle.endpoint_book.specs.Entries.{entry_of}
+use Rattle.desk.specs.World.{all_records, settled_records}
+use Rattle.desk.proofs.DeskLaws.{seen}
+use Rattle.desk.proofs.JobLaws.{post_is}
+use Rattle.desk.proofs.ReadyLaws.{endpoint_known, starts_at, starts_from}
+use Rattle.desk.proofs.desk.Desk.post_of.Goals as goal
+
+abbrev no_text : Option (List ℕ)
+no_text = None
+
+there : (o : Option Entry) → no_text ≡ option_map (λ e. e.target) o → is_some o ≡ true → ⊥
+there None e known = cc
+there (Some x) e known = cc
+
+pub unreachable-requires-in_default-target : goal.unreachable-requires-in_default-target
+unreachable-requires-in_default-target g c =
+    let row = c.in-Some.row in
+    let from = starts_from row.endpoint c.args.delivery c.self.view_is (starts_at c.args.delivery row c.self.view_is c.requires c.in-Some.ensures.value) in
+    there (entry_of c.self.inside.endpoints row.endpoint) c.in_default-target.ensures.value (endpoint_known row.endpoint c.args.delivery c.self.invariant.tied.limited from)
+
+pub returns-clause-endpoint : goal.returns-clause-endpoint
+returns-clause-endpoint g c = starts_at c.args.delivery c.in-Some.row c.self.view_is c.requires c.in-Some.ensures.value
+
+pub returns-clause-post : goal.returns-clause-post
+returns-clause-post g c = λ w h.
+    let here = seen c.self.view_is h in
+    let settled = length (settled_records w) in
+    let target = c.in_ok-share.ensures in
+    let body = c.in_ok-share-2.ensures in
+    post_is w c.args.at c.args.delivery c.in-Some.row _ _ c.in-Some-secrets.secrets (c.in-Some.ensures.stands (all_records w) settled here.books.of_deliveries)
+    (ap Some body ∙ c.in-Some-body.ensures.stands (all_records w) settled here.books.of_deliveries)
+    (ap Some target ∙ c.in-Some-target.ensures.stands (all_records w) settled here.books.of_endpoints)
+    (c.in-Some-secrets.ensures.stands (all_records w) settled here.books.of_endpoints)

@@ -1,0 +1,23 @@
+use Rattle.std.proofs.Common.{refl, sym, subst}
+use Rattle.desk.proofs.SettleLaws.{HoldsNext, new_next, places_next, queued_next}
+use Rattle.desk.proofs.holding.settle_next.Goals as goal
+
+pub hold-requires : goal.hold-requires
+hold-requires c = record {
+  places = places_next c.args.queue.now c.args.deliveries.now c.settle_to.new.self c.settled_seq-seq.result c.settled_seq-seq.ensures c.settle_to.ensures.value c.requires.queued;
+  unheld = new_next c.args.queue.now c.args.deliveries.now c.next_settled-concerned.result c.in-Some.delivery c.next_settled-concerned.ensures c.in-Some.is c.requires.queued;
+}
+
+pub returns-in-Some-clause-queued : goal.returns-in-Some-clause-queued
+returns-in-Some-clause-queued c =
+    queued_next c.args.queue.now c.hold.new.queue c.args.deliveries.now c.settle_to.new.self c.settled_seq-seq.result c.next_settled-concerned.result
+    c.settled_seq-seq.ensures c.settle_to.ensures.value c.next_settled-concerned.ensures
+    (subst (λ o. HoldsNext c.args.queue.now c.hold.new.queue c.settle_to.new.self o) (sym c.in-Some.is) c.hold.ensures.held) c.hold.ensures.places
+
+pub returns-in_default-clause-queued : goal.returns-in_default-clause-queued
+returns-in_default-clause-queued c = λ live queued.
+    queued_next c.args.queue.now c.args.queue.now c.args.deliveries.now c.settle_to.new.self c.settled_seq-seq.result c.next_settled-concerned.result
+    c.settled_seq-seq.ensures c.settle_to.ensures.value c.next_settled-concerned.ensures
+    (subst (λ o. HoldsNext c.args.queue.now c.args.queue.now c.settle_to.new.self o) (sym c.in_default.is) refl)
+    (places_next c.args.queue.now c.args.deliveries.now c.settle_to.new.self c.settled_seq-seq.result c.settled_seq-seq.ensures c.settle_to.ensures.value c.requires.queued)
+    live queued

@@ -1,0 +1,33 @@
+use Rattle.std.proofs.Common.{◌≡◌, ◌+◌, ◌∙◌, arith, refl, sym, ap}
+use Rattle.delivery_book.specs.Entries.{BookValue}
+use Rattle.desk.proofs.SettleLaws.{next_within, settles_more, settles_none}
+use Rattle.desk.proofs.holding.settle_to.Goals as goal
+
+pub loop-init : goal.loop-init
+loop-init c = record {
+  number = sym c.settled_seq-counter.ensures;
+  within = omega (arith, c.settled_seq-counter.ensures, c.requires.above);
+  next = omega (arith, c.settled_seq-counter.ensures, next_within c.args.queue.now c.args.deliveries.now c.requires.queued);
+  queued = λ live queued. queued;
+  rooms = record { reserved = λ name. refl; rooms = λ name. refl };
+  stands = settles_none c.args.deliveries.now c.settled_seq-counter.result c.settled_seq-counter.ensures;
+}
+
+pub settle_next-requires : goal.settle_next-requires
+settle_next-requires c = record {
+  room = omega (arith, c.loop.invariant.number, c.loop-test.true, c.requires.within);
+  queued = (c.requires.queued.0, c.loop.invariant.queued c.requires.queued.0 c.requires.queued.1);
+}
+
+pub loop-preserved : goal.loop-preserved
+loop-preserved c =
+    let was = c.loop.invariant in
+    let made = c.settle_next.ensures in
+    record {
+      number = ap (λ (b : BookValue). b.settled_seq) made.value ∙ ap (λ n. n + 1) was.number;
+      within = omega (arith, c.loop-test.true);
+      next = omega (arith, ap (λ (b : BookValue). b.next_seq) made.value, was.number, was.next);
+      queued = λ live queued. made.queued live (was.queued live queued);
+      rooms = record { reserved = λ name. made.rooms.reserved name ∙ was.rooms.reserved name; rooms = λ name. made.rooms.rooms name ∙ was.rooms.rooms name };
+      stands = settles_more c.args.deliveries.now c.loop.deliveries c.settle_next.new.deliveries c.loop.counter c.loop.deliveries.settled_seq was.number was.stands made.stands;
+    }

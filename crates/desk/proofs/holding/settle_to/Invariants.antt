@@ -1,0 +1,15 @@
+use Rattle.std.proofs.Common.{◌≡◌, ◌≤◌, List, max}
+use Rattle.permits.specs.declared.row.Row.{Row}
+use Rattle.delivery_book.specs.Book.{Settles}
+use Rattle.desk.specs.Ties.{AreQueued, KeepsRooms}
+use Rattle.desk.proofs.holding.settle_to.Given as goal
+
+abbrev pub invariant-loop : goal.invariant-loop
+invariant-loop l = record {
+  number : l.deliveries.settled_seq ≡ l.counter;
+  within : l.counter ≤ l.seq;
+  next : l.deliveries.next_seq ≡ max l.fn.deliveries.next_seq l.counter;
+  queued : (live : List Row) → AreQueued l.fn.queue l.fn.deliveries live → AreQueued l.queue l.deliveries live;
+  rooms : KeepsRooms l.fn.queue l.queue;
+  stands : Settles l.fn.deliveries l.counter l.deliveries;
+}

@@ -1,0 +1,11 @@
+use Rattle.std.proofs.Common.{take}
+use Rattle.desk.specs.Ties.{HasPlaces, KeepsRooms}
+use Rattle.desk.proofs.OpeningLaws.{HoldsAmong}
+use Rattle.desk.proofs.opening.hold_all.Given as goal
+
+abbrev pub invariant-loop-place : goal.invariant-loop-place
+invariant-loop-place l = record {
+  held : HoldsAmong l.queue l.deliveries (take l.place l.deliveries.entries);
+  places : HasPlaces l.queue l.deliveries;
+  rooms : KeepsRooms l.fn.queue l.queue;
+}

@@ -1,0 +1,27 @@
+use Rattle.std.proofs.Common.{◌≡◌, ◌+◌, ◌∙◌, true, arith, ap, sym, subst, take}
+use Rattle.std.specs.List.{list_all}
+use Rattle.claim_queue.specs.Queues.{QueueValue, has_room_in, is_held}
+use Rattle.delivery_book.specs.Entries.{row_in}
+use Rattle.desk.proofs.OpeningLaws.{all_more, has_all, nothing_there, places_all, reserved_rooms}
+use Rattle.desk.proofs.opening.reserve_all.Goals as goal
+use Rattle.desk.proofs.opening.reserve_all.Goals.{in-Some+in_ok-reserve, in_default}
+
+pub loop-place-preserved : goal.loop-place-preserved
+loop-place-preserved c =
+    let book = c.args.deliveries.now in
+    let was = c.loop-place.invariant in
+    elim c.match-row_at.branch [
+      | in-Some+in_ok-reserve w ↦ record {
+        pairs = λ pair. ap (λ (q : QueueValue). is_held q pair) w.queue-is ∙ w.in_ok-reserve.ensures.pairs pair ∙ was.pairs pair;
+        rooms = λ name. ap (λ (q : QueueValue). has_room_in q.marks name) w.queue-is
+            ∙ reserved_rooms c.loop-place.queue w.reserve.new.self _ _ w.in_ok-reserve.ensures.mark name ∙ was.rooms name;
+        places = subst (λ (q : QueueValue). list_all (has_all book q) (take (c.loop-place.place + 1) book.entries) ≡ true) (sym w.queue-is)
+            (all_more c.loop-place.queue w.reserve.new.self book c.loop-place.place w.pending-pending.result w.in-Some.row w.in-Some.ensures w.pending-pending.ensures.value
+            w.in_ok-reserve.ensures.mark was.places);
+      }
+      | in_default w ↦ absurd (nothing_there (λ e. row_in e.latest e) book.entries c.loop-place.place (omega (arith, c.loop-place-test.true, c.len-place-end.ensures)) w.in_default.ensures)
+    ]
+
+pub returns-clause-places : goal.returns-clause-places
+returns-clause-places c =
+    places_all c.loop-place.queue c.args.deliveries.now c.loop-place.place (omega (arith, c.loop-place-test.false, c.len-place-end.ensures)) c.loop-place.invariant.places

@@ -1,0 +1,14 @@
+use Rattle.std.proofs.Common.{refl}
+use Rattle.desk.proofs.CloseLaws.{all_out, last_back, last_out}
+use Rattle.desk.proofs.turns.close_pool.Goals as goal
+
+pub loop-permit-init : goal.loop-permit-init
+loop-permit-init g c = all_out c.args.permits.items c.args.pool c.requires
+
+pub loop-permit-preserved : goal.loop-permit-preserved
+loop-permit-preserved g c =
+    last_back c.pop.new.self.items c.in-Some.permit c.loop-permit.pool c.give_back.new.self (rw c.in-Some.ensures.items at c.loop-permit.invariant) c.give_back.ensures.ok
+
+pub unreachable-requires : goal.unreachable-requires
+unreachable-requires g c =
+    last_out c.pop.new.self.items c.in-Some.permit c.loop-permit.pool (rw c.in-Some.ensures.items at c.loop-permit.invariant) (c.in-Err.ensures.foreign.0 refl)

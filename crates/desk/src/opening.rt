@@ -1,0 +1,115 @@
+//! What a new desk keeps beside the books that it begins with.
+ghost use Rattle.std.specs.Prelude.{◌≡◌, ℕ, List, [], ◌∷◌, ◌++◌, false, map, option_map, slice_get, IfOk, OnOk};
+ghost use Rattle.claim_queue.specs.declared.pairs.Pair.{Pair};
+ghost use Rattle.claim_queue.specs.Queues.{HasSamePairs, has_room_in, is_held};
+ghost use Rattle.delivery_book.specs.Entries.{row_in};
+ghost use Rattle.desk.specs.Ties.{AreApart, AreHeld, AreLimiters, AreMarked, AreQueued, HasPlaces, HasSameRooms, KeepsPlaces, KeepsRooms, new_limiter};
+
+use crate::holding::{hold, tell_room};
+use crate::limiter::Limiter;
+use claim_queue::ClaimQueue;
+use delivery_book::{DeliveryBook, Row};
+use endpoint_book::EndpointBook;
+use permits::Pool;
+use std::alloc::{AllocError, Global};
+use std::sync::ledger::Ledger;
+use vegas::Estimator;
+
+// A limiter without samples for each endpoint.
+pub(crate) fn limiters_of(
+    alloc: Global,
+    endpoints: &EndpointBook,
+) -> Result<Vec<Limiter>, AllocError>
+    ensures { IfOk result (λ limiters. limiters.items ≡ map (λ e. new_limiter e.name e.max) endpoints.now.entries) }
+{
+    let mut limiters = Vec::with_capacity(alloc, endpoints.len())?;
+    for name in endpoints.names() {
+        if let Some(max) = endpoints.max_limit(*name) {
+            let estimator = Estimator::new(max)?;
+            limiters.push_reserved(Limiter {
+                endpoint: *name,
+                estimator,
+            });
+        }
+    }
+    Ok(limiters)
+}
+
+// The queue of the deliveries that wait for their next attempts, where no permit is out.
+pub(crate) fn queue_of<L: Ledger>(
+    alloc: Global,
+    endpoints: &EndpointBook,
+    deliveries: &DeliveryBook,
+    limiters: &[Limiter],
+    pool: &Pool<L>,
+) -> Result<ClaimQueue, AllocError>
+    requires none_out { pool.now ≡ [] }
+    requires limited { AreLimiters limiters.now endpoints.now }
+    requires apart { AreApart deliveries.now }
+    ensures queued { IfOk result (λ queue. AreQueued queue deliveries.now []) }
+    ensures marked { IfOk result (λ queue. AreMarked queue endpoints.now limiters.now []) }
+{
+    let mut queue = ClaimQueue::new(alloc);
+    reserve_all(&mut queue, deliveries)?;
+    tell_rooms(&mut queue, endpoints, limiters, pool)?;
+    hold_all(&mut queue, deliveries);
+    Ok(queue)
+}
+
+// Makes a place for each delivery that is pending.
+fn reserve_all(queue: &mut ClaimQueue, deliveries: &DeliveryBook) -> Result<(), AllocError>
+    ensures pairs { OnOk result (HasSamePairs queue.old queue.new) }
+    ensures rooms { OnOk result (HasSameRooms queue.old queue.new) }
+    ensures places { OnOk result (HasPlaces queue.new deliveries.now) }
+{
+    for place in 0..deliveries.len() {
+        if let Some(row) = row_at(deliveries, place) {
+            let pending = deliveries.pending(row.endpoint) as usize;
+            queue.reserve(row.endpoint, pending)?;
+        }
+    }
+    Ok(())
+}
+
+// The delivery at this place.
+fn row_at(deliveries: &DeliveryBook, place: usize) -> Option<Row>
+    ensures { result ≡ option_map (λ e. row_in e.latest e) (slice_get deliveries.now.entries place) }
+{
+    deliveries.row(deliveries.delivery(place)?)
+}
+
+// Tells the queue, which knows no room, of the room of each endpoint.
+fn tell_rooms<L: Ledger>(
+    queue: &mut ClaimQueue,
+    endpoints: &EndpointBook,
+    limiters: &[Limiter],
+    pool: &Pool<L>,
+) -> Result<(), AllocError>
+    requires none_out { pool.now ≡ [] }
+    requires limited { AreLimiters limiters.now endpoints.now }
+    requires untold { (name : List ℕ) → has_room_in queue.old.marks name ≡ false }
+    ensures pairs { OnOk result (HasSamePairs queue.old queue.new) }
+    ensures places { OnOk result (KeepsPlaces queue.old queue.new) }
+    ensures marked { OnOk result (AreMarked queue.new endpoints.now limiters.now []) }
+{
+    for name in endpoints.names() {
+        queue.reserve(*name, 0)?;
+        tell_room(queue, endpoints, limiters, pool, *name);
+    }
+    Ok(())
+}
+
+// Holds each delivery that waits for its next attempt.
+fn hold_all(queue: &mut ClaimQueue, deliveries: &DeliveryBook)
+    requires places { HasPlaces queue.old deliveries.now }
+    requires empty { (pair : Pair) → is_held queue.old pair ≡ false }
+    ensures held { AreHeld queue.new deliveries.now [] }
+    ensures places { HasPlaces queue.new deliveries.now }
+    ensures rooms { KeepsRooms queue.old queue.new }
+{
+    for place in 0..deliveries.len() {
+        if let Some(delivery) = deliveries.delivery(place) {
+            hold(queue, deliveries, delivery);
+        }
+    }
+}

@@ -1,0 +1,7 @@
+use Rattle.tests_desk.proofs.looks.a_desk_of_a_vault_knows_what_it_holds.Given as goal
+
+abbrev pub ghosts-fill : goal.ghosts-fill
+ghosts-fill g a = record { name = a.blank.name; parts = a.blank.parts }
+
+abbrev pub ghosts-reopen : goal.ghosts-reopen
+ghosts-reopen g a = record { name = a.blank.name; parts = a.blank.parts }
