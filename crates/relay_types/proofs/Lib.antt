@@ -1,5 +1,6 @@
 pub mod ByteLaws
 pub mod TargetLemmas
+pub mod VisibleLaws
 pub mod WorkedTargets
 pub mod Base64Laws
 pub mod SecretLaws

@@ -1,15 +1,14 @@
 -- The endpoints of a legal history: their numbers rise, and each has a name of its own.
-use Rattle.std.proofs.Common.{◌≡◌, ◌≤◌, ℕ, zero, suc, ◌+◌, Bool, true, false, ◌&&◌, not, List, [], ◌∷◌, ◌++◌, Option, Some, None, IsTrue, refl, sym, ap, subst, ◌∙◌, arith, append-nil, append_assoc}
+use Rattle.std.proofs.Common.{◌≡◌, ◌≤◌, ℕ, ◌+◌, Bool, true, false, not, List, [], ◌∷◌, ◌++◌, Option, Some, None, refl, sym, ap, subst, ◌∙◌, arith, append-nil, append_assoc}
 use Rattle.std.specs.Prelude.{◌==◌, is_some, find, filter_map, bytes_eq, nat_lt, length, if◌then◌else◌}
-use Rattle.std.specs.List.{enumerate_from, cons_option}
+use Rattle.std.specs.List.{enumerate_from}
 use Rattle.std.specs.Option.{option_or}
 use Rattle.std.proofs.lemmas.Bool.{ne_eqb, eq-eqb}
 use Rattle.std.proofs.lemmas.List.Folds.{find-append}
 use Rattle.std.proofs.lemmas.Slice.Eq.{bytes_eq-Decides}
 use Rattle.relay_types.specs.declared.record.Record.{Record}
 use Rattle.relay_types.specs.declared.record.Record.TheVariants.{Put, Secrets, Enabled, Accept, Outcome}
-use Rattle.relay_types.specs.Records.{numbered}
-use Rattle.relay_types.specs.Endpoints.{Endpoint, endpoint_by, endpoints, endpoint_of, has_endpoint}
+use Rattle.relay_types.specs.Endpoints.{Endpoint, endpoint_by, endpoints, has_endpoint}
 use Rattle.relay_types.specs.Legal.{may_follow, may_all_follow, IsLegal}
 use Rattle.relay_types.proofs.GrowthLaws.{endpoints-snoc}
 use Rattle.relay_types.proofs.KnownLaws.{and_first, and_second}

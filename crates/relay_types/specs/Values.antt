@@ -40,6 +40,13 @@ is_one_of these c = list_any (λ d. d == c) these
 abbrev pub is_text : ℕ → ℕ → (ℕ → Bool) → List ℕ → Bool
 is_text low high test text = is_between low high (length text) && list_all test text
 
+-- printable characters of ASCII, spaces aside
+abbrev pub is_visible_character : ℕ → Bool
+is_visible_character c = is_between 33 126 c
+
+abbrev pub is_visible : Text → Bool
+is_visible text = list_all is_visible_character text
+
 -- 1 to 32 characters of `a-z 0-9 -`
 abbrev pub is_name_character : ℕ → Bool
 is_name_character c = is_lower c || (is_digit c || is_one_of (codes "-") c)

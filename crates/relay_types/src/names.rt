@@ -1,7 +1,7 @@
 //! The names of endpoints and the ids of events.
 ghost use Rattle.std.specs.Prelude.{◌≡◌, ◌↔◌, IsTrue, IsOk, IfOk, IfErr, bytes_eq};
 ghost use Rattle.std.specs.List.{list_all};
-ghost use Rattle.relay_types.specs.Values.{is_name, is_name_character, is_msg_id, is_msg_id_character};
+ghost use Rattle.relay_types.specs.Values.{is_name, is_name_character, is_msg_id, is_msg_id_character, is_visible};
 
 use crate::fault::ReadFault;
 use crate::limits::{MAX_ID_LEN, MAX_NAME_LEN};
@@ -46,6 +46,7 @@ impl Name {
     pub fn as_bytes(&self) -> &[u8]
         ensures text { result.now ≡ self.now }
         ensures valid { IsTrue (is_name self.now) }
+        ensures visible { IsTrue (is_visible self.now) }
     {
         self.text.as_slice()
     }
@@ -115,6 +116,7 @@ impl MsgId {
     pub fn as_bytes(&self) -> &[u8]
         ensures text { result.now ≡ self.now }
         ensures valid { IsTrue (is_msg_id self.now) }
+        ensures visible { IsTrue (is_visible self.now) }
     {
         self.text.as_slice()
     }

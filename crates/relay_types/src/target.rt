@@ -3,7 +3,7 @@ ghost use Rattle.std.specs.Prelude.{◌≡◌, ◌≤◌, ◌↔◌, ◌⊎◌, 
 ghost use Rattle.std.specs.List.{list_all, before_first, position, position_or_len};
 ghost use Rattle.relay_types.specs.Values.{is_digit, has_scheme, behind_scheme, authority_of, path_part_of, host_of, port_part_of};
 ghost use Rattle.relay_types.specs.Values.{is_host, is_host_character, is_port, is_port_part, is_path_character, is_path_mark, is_target};
-ghost use Rattle.relay_types.specs.Values.{number_of, number_of_part, path_of_part, port_of, path_of};
+ghost use Rattle.relay_types.specs.Values.{number_of, number_of_part, path_of_part, port_of, path_of, is_visible};
 
 use crate::fault::ReadFault;
 use crate::limits::{MAX_HOST_LEN, MAX_TARGET_BYTES};
@@ -58,6 +58,7 @@ impl Target {
     pub fn as_bytes(&self) -> &[u8]
         ensures text { result.now ≡ self.now }
         ensures valid { IsTrue (is_target self.now) }
+        ensures visible { IsTrue (is_visible self.now) }
         ensures most { length self.now ≤ MAX_TARGET_BYTES }
     {
         self.text.as_slice()
@@ -86,14 +87,16 @@ impl Target {
 
     /// The host, with `:` and the port where one is written: the value of the header `host`.
     pub fn authority(&self) -> &[u8]
-        ensures { result.now ≡ authority_of self.now }
+        ensures text { result.now ≡ authority_of self.now }
+        ensures visible { IsTrue (is_visible result.now) }
     {
         authority(self.as_bytes())
     }
 
     /// The path with its query as written, `/` where none is written: what a request asks for.
     pub fn path(&self) -> &[u8]
-        ensures { result.now ≡ path_of self.now }
+        ensures text { result.now ≡ path_of self.now }
+        ensures visible { IsTrue (is_visible result.now) }
     {
         path_of_part(path_part(self.as_bytes()))
     }

@@ -5,9 +5,8 @@ use Rattle.std.specs.List.{list_all}
 use Rattle.std.proofs.lemmas.Bool.{and_parts}
 use Rattle.relay_types.specs.Values.{is_name, is_msg_id, is_target, is_max_limit, is_moment, is_body}
 use Rattle.text_lines.specs.Parts.{line, has_no, HasParts}
-use Rattle.text_lines.proofs.CleanWords.{clean-name, clean-id, clean-decimal, clean-body, clean-secrets_word, at_most}
+use Rattle.text_lines.proofs.CleanWords.{clean-name, clean-id, clean-target, clean-decimal, clean-body, clean-secrets_word, at_most}
 use Rattle.text_lines.proofs.PartLaws.{parts_equal}
-use Rattle.text_lines.proofs.TargetWords.{clean-target}
 use Rattle.script_lines.specs.declared.event.Event.{Event}
 use Rattle.script_lines.specs.declared.event.Event.TheVariants as on
 use Rattle.script_lines.specs.Script.{IsNamed, call_word, AreArguments, IsCall, ReadsLine}

@@ -1,22 +1,29 @@
 -- No space stands in a word that is read.
-use Rattle.std.proofs.Common.{◌≡◌, ℕ, ◌<◌, ◌^◌, ◌==◌, true, not, List, [], ◌∷◌, length, decimal, Some, IsTrue, refl, sym, ap, subst, arith, leb-true}
+use Rattle.std.proofs.Common.{◌≡◌, ℕ, ◌<◌, ◌^◌, ◌==◌, true, not, List, [], ◌∷◌, decimal, Some, IsTrue, refl, sym, ap, subst, arith, leb-true}
 use Rattle.std.specs.Prelude.{nat_le, is_some}
 use Rattle.std.specs.Char.{is_ascii_digit}
-use Rattle.std.specs.List.{list_all}
 use Rattle.std.specs.Str.{all_ascii_digits}
 use Rattle.std.proofs.lemmas.Bool.{and_parts}
 use Rattle.std.proofs.lemmas.Fmt.{digits_decimal}
 use Rattle.std.proofs.lemmas.Str.Parse.{numerals_by_value, tells_all_ascii_digits}
-use Rattle.relay_types.specs.Values.{is_between, is_name, is_name_character, is_msg_id, is_msg_id_character}
+use Rattle.relay_types.specs.Values.{is_name, is_msg_id, is_target, is_visible, is_visible_character}
+use Rattle.relay_types.proofs.VisibleLaws.{visible_name, visible_id, visible_target}
 use Rattle.text_lines.specs.Parts.{has_no}
 use Rattle.text_lines.specs.Words.{hex_digit, HexOf, IsBodyWord, IsSecretsWord}
 use Rattle.text_lines.proofs.MarkLaws.{clean-cons, clean-from_all, clean-join, clean-secrets, passes}
 
+-- what is visible is no space
+clean-visible : (text : List ℕ) → IsTrue (is_visible text) → IsTrue (has_no 32 text)
+clean-visible = clean-from_all is_visible_character 32 refl
+
 pub clean-name : (text : List ℕ) → IsTrue (is_name text) → IsTrue (has_no 32 text)
-clean-name text h = clean-from_all is_name_character 32 refl text (and_parts (is_between 1 32 (length text)) (list_all is_name_character text) h).1
+clean-name text h = clean-visible text (visible_name text h)
 
 pub clean-id : (text : List ℕ) → IsTrue (is_msg_id text) → IsTrue (has_no 32 text)
-clean-id text h = clean-from_all is_msg_id_character 32 refl text (and_parts (is_between 1 64 (length text)) (list_all is_msg_id_character text) h).1
+clean-id text h = clean-visible text (visible_id text h)
+
+pub clean-target : (text : List ℕ) → IsTrue (is_target text) → IsTrue (has_no 32 text)
+clean-target text h = clean-visible text (visible_target text h)
 
 clean-digits : (text : List ℕ) → all_ascii_digits text ≡ true → IsTrue (has_no 32 text)
 clean-digits [] h = refl

@@ -5,7 +5,6 @@ pub mod NumberLaws
 pub mod PartLaws
 mod SecretWords
 pub mod StreamLaws
-pub mod TargetWords
 pub mod CleanWords
 pub mod EndLaws
 pub mod AnswerLaws
