@@ -1,5 +1,6 @@
 //! What stands in a page, where it isn't a number.
-ghost use Rattle.std.specs.Prelude.{◌≡◌, IsAscii};
+ghost use Rattle.std.specs.Prelude.{◌≡◌, IsTrue};
+ghost use Rattle.relay_types.specs.Values.{is_visible};
 ghost use Rattle.serde_json.specs.View.{view};
 ghost use Rattle.status.specs.Pages.{due_of, or_null, state_name};
 
@@ -38,25 +39,25 @@ pub fn state_name(state: State) -> &'static str
 pub fn name_text(name: &Name) -> &str
     ensures { result.now ≡ name.now }
 {
-    ascii_text(name.as_bytes())
+    visible_text(name.as_bytes())
 }
 
 /// The characters of an id.
 pub fn id_text(id: &MsgId) -> &str
     ensures { result.now ≡ id.now }
 {
-    ascii_text(id.as_bytes())
+    visible_text(id.as_bytes())
 }
 
 /// The characters of a target.
 pub fn url_text(url: &Target) -> &str
     ensures { result.now ≡ url.now }
 {
-    ascii_text(url.as_bytes())
+    visible_text(url.as_bytes())
 }
 
-fn ascii_text(text: &[u8]) -> &str
-    requires { IsAscii text.now }
+fn visible_text(text: &[u8]) -> &str
+    requires { IsTrue (is_visible text.now) }
     ensures { result.now ≡ text.now }
 {
     match str::from_utf8(text) {
