@@ -1,0 +1,70 @@
+-- The request of a post to a subscriber.
+use Rattle.std.specs.Prelude.{ℕ, Bool, List, [], ◌∷◌, ◌++◌, length, codes, decimal}
+use Rattle.std.specs.List.{list_all}
+use Rattle.relay_types.specs.Values.{Text, Seconds, is_between, authority_of, host_of, port_of, path_of}
+use Rattle.hmac_signer.specs.Signature.{signature_header}
+use Rattle.desk.specs.Claims.{JobValue}
+use Rattle.delivery.specs.declared.header.HeaderName.{HeaderName}
+use Rattle.delivery.specs.declared.header.HeaderName.TheVariants.{Host, UserAgent, ContentType, ContentLength, Connection, WebhookId, WebhookTimestamp, WebhookSignature}
+
+-- a header's name, in lower case, and its value
+pub record HeaderField : Type 0 where
+  pub name : Text
+  pub value : Text
+
+abbrev pub name_text : HeaderName → Text
+name_text Host = codes "host"
+name_text UserAgent = codes "user-agent"
+name_text ContentType = codes "content-type"
+name_text ContentLength = codes "content-length"
+name_text Connection = codes "connection"
+name_text WebhookId = codes "webhook-id"
+name_text WebhookTimestamp = codes "webhook-timestamp"
+name_text WebhookSignature = codes "webhook-signature"
+
+abbrev pub header : (name : HeaderName) (value : Text) → HeaderField
+header name value = record { name = name_text name; value = value }
+
+-- visible characters of ASCII, and spaces
+abbrev pub is_printable : Text → Bool
+is_printable text = list_all (is_between 32 126) text
+
+-- where a request is sent, and what it says
+pub record Request : Type 0 where
+  pub host : Text
+  pub port : ℕ
+  pub method : Text
+  pub target : Text
+  pub headers : List HeaderField
+  pub body : Text
+
+-- whom the request is for, as the subscriber's URL has it, who posts, what the body is, and that nothing comes behind it
+abbrev pub connection_headers : (target body : Text) → List HeaderField
+connection_headers target body =
+    header Host (authority_of target)
+    ∷ header UserAgent (codes "relayd/1")
+    ∷ header ContentType (codes "application/json")
+    ∷ header ContentLength (decimal (length body))
+    ∷ header Connection (codes "close")
+    ∷ []
+
+-- the headers of Standard Webhooks 1.0.0
+abbrev pub webhook_headers : (id : Text) (at : Seconds) (signature : Text) → List HeaderField
+webhook_headers id at signature =
+    header WebhookId id ∷ header WebhookTimestamp (decimal at) ∷ header WebhookSignature signature ∷ []
+
+abbrev pub headers_of : JobValue → List HeaderField
+headers_of job =
+    connection_headers job.target job.body
+    ++ webhook_headers job.id job.at (signature_header job.secrets job.id job.at job.body)
+
+-- the request of an attempt
+abbrev pub request_of : JobValue → Request
+request_of job = record {
+  host = host_of job.target;
+  port = port_of job.target;
+  method = codes "POST";
+  target = path_of job.target;
+  headers = headers_of job;
+  body = job.body;
+}
