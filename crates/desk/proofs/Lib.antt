@@ -2,10 +2,10 @@ mod DeskLists
 mod DeskEvents
 mod MoveLaws
 mod LookLaws
-mod TurnLaws
+pub mod TurnLaws
 mod DeskLaws
 mod Checks
-mod LeastLaws
+pub mod LeastLaws
 mod ChoiceLaws
 mod ClaimLaws
 mod ReadyLaws
@@ -14,7 +14,7 @@ mod PlaceLaws
 mod SettleLaws
 mod OpeningLaws
 mod JobLaws
-mod RowLaws
+pub mod RowLaws
 mod EndpointTies
 mod SampleLaws
 mod TriedLaws

@@ -96,7 +96,7 @@ others_all row (r ∷ rows) none = step (same_row row r) refl (others_all row ro
     step false e rest = ap (λ b. cond (not b) (r ∷ others row rows) (others row rows)) e ∙ ap (λ xs. r ∷ xs) rest
 
 -- the rows without the one at this place are the other rows
-removed_is : (row : Row) (rows : List Row) (i : ℕ) → i < length rows → row ≡ get_or rows i row → attempts_at row.delivery rows ≤ 1 → remove rows i ≡ others row rows
+pub removed_is : (row : Row) (rows : List Row) (i : ℕ) → i < length rows → row ≡ get_or rows i row → attempts_at row.delivery rows ≤ 1 → remove rows i ≡ others row rows
 removed_is row [] i h own once = absurd (omega (arith, h))
 removed_is row (r ∷ rows) zero h own once =
     sym (others_all row rows (omega (arith, once, sum_by-cons (λ (x : Row). cond (nat_eq x.delivery row.delivery) 1 0) r rows, ap {B = ℕ} (λ b. cond b 1 0) (eq-eqb r.delivery row.delivery (ap (λ (x : Row). x.delivery) (sym own))))))

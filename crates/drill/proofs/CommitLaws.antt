@@ -1,5 +1,6 @@
--- What a commit of the batch that is held makes of a runner and its session.
-use Rattle.std.proofs.Common.{◌≡◌, ℕ, ◌-◌, Bool, true, false, List, [], ◌∷◌, ◌++◌, length, Some, None, Result, Err, ◌⊎◌, inl, inr, refl, sym, ap, subst, ◌∙◌}
+-- What a commit of the batch that is held makes of the core, the store and their session.
+use Rattle.std.proofs.Common.{◌≡◌, ℕ, ◌-◌, ◌≤◌, Bool, true, false, List, [], ◌∷◌, ◌++◌, length, Some, None, Result, Err, ◌⊎◌, inl, inr, refl, sym, ap, subst, ◌∙◌}
+use mathlib.Core.Logic.{∥∥₁_map}
 use Rattle.std.specs.Prelude.{IsTrue, if◌then◌else◌}
 use Rattle.sqlite.specs.Store.{Ghosts}
 use Rattle.sqlite.specs.Held as store
@@ -21,15 +22,14 @@ use Rattle.spool.specs.Vaults.{VaultValue}
 use Rattle.script_lines.specs.declared.reply.Reply.{Reply}
 use Rattle.script_lines.specs.declared.reply.Reply.TheVariants as says
 use Rattle.desk.specs.World.{World, Out, Batch, Receipt, Doubt, settled_records, sealed_records}
-use Rattle.desk.specs.Moves.{opened, sealed_batch, is_nothing_out}
+use Rattle.desk.specs.Moves.{sealed_batch, is_nothing_out}
 use Rattle.desk.specs.Desks.{DeskValue, StandsFor}
 use Rattle.drill.specs.declared.held.Held.{Held}
 use Rattle.drill.specs.declared.held.Held.TheVariants as held
-use Rattle.drill.specs.declared.runner.Runner.{Runner}
-use Rattle.drill.specs.declared.tickets.Tickets.{Tickets}
-use Rattle.drill.specs.Tickets.{Keeps}
+use Rattle.drill.specs.declared.calls.Core.{Core}
 use Rattle.drill.specs.Moves.{Session, MayTell, begun, commits, with_receipt, in_doubt}
-use Rattle.drill.specs.Runners.{IsHeld, IsOpenAt, AreOfSteps, HoldsLeft, LeavesBy, VaultStandsFor, KeepsRows, RunnerStandsFor, Answers, EndsAs, CommitsSo, unchanged_reply}
+use Rattle.drill.specs.Cores.{IsHeld, IsOfBatch, CoreStandsFor, IsCore}
+use Rattle.drill.specs.Runners.{IsOpenAt, AreOfSteps, HoldsLeft, LeavesBy, VaultStandsFor, KeepsRows, RunStandsFor, Answers, EndsAs, CommitsSo, unchanged_reply}
 use Rattle.drill.proofs.TurnLaws.{sealed_is, sealed_front}
 
 -- the desk stands for the world in which something else is out
@@ -55,56 +55,55 @@ doubt_leaves : {S : Type 0} (g : Ghosts S) (vault : VaultValue S) (batch : Batch
 doubt_leaves g vault batch w whole may =
     λ db left. let (rows, either, is) = may db left in (rows, elim either [ inl old ↦ inl old | inr (legal, new) ↦ inr (inl (new ∙ ap rows_of whole)) ], is)
 
--- the runner with what is held then
-abbrev runner_of : (L : Type 0) {S : Type 0} → DeskValue → VaultValue S → Held → Tickets → Runner L S
-runner_of L desk vault now tickets = record { desk = desk; vault = vault; held = now; tickets = tickets }
+-- what a commit leaves of the core, whatever the store did
 
-ends_commit : {S : Type 0} (L : Type 0) (g : Ghosts S) (desk : DeskValue) (vault : VaultValue S) (tickets : Tickets) (batch : BatchValue) (now : Held) (reply : Reply) (s : Session) → StandsFor desk s.world
-    → (s.world.out ≡ Batch) × (batch ≡ sealed_batch desk.waiting.mark s.world) → LeavesBy s.world.out s.world → Keeps tickets s.tickets → desk.waiting.mark ≡ vault.mark
-    → EndsAs g vault (settled_records s.world) batch now reply → (next : Session) × MayTell (commits s s.world.out) reply next × RunnerStandsFor g (runner_of L desk vault now tickets) next
-ends_commit L g desk vault tickets batch (held.Receipt receipt) reply s stands had leaves keeps mark h =
+-- the world once this is held
+abbrev pub world_by : Held → World → World
+world_by held.Nothing w = w
+world_by (held.Batch batch) w = w
+world_by (held.Receipt receipt) w = with_receipt w
+world_by (held.Doubt doubt) w = in_doubt w
+
+core_committed : {L : Type 0} (core : Core L) (s : Session) (batch : BatchValue) (now : Held) → CoreStandsFor core s → held.Batch batch ≡ core.held → IsOfBatch batch now
+    → CoreStandsFor (record core { held = now }) (record s { world = world_by now s.world })
+core_committed core s batch now on was = at now (subst (IsHeld core.desk.waiting.mark s.world) (sym was) on.held)
+  where
+    at : (now : Held) → (s.world.out ≡ Batch) × (batch ≡ sealed_batch core.desk.waiting.mark s.world) → IsOfBatch batch now → CoreStandsFor (record core { held = now }) (record s { world = world_by now s.world })
+    at held.Nothing had h = absurd h
+    at (held.Batch back) had h = record { desk = on.desk; held = (had.0, h ∙ had.1); permits = on.permits; once = on.once; tickets = on.tickets }
+    at (held.Receipt receipt) had h =
+        record { desk = out_again core.desk s.world Receipt (s.world.sealed ∷ []) on.desk (ap is_nothing_out had.0); held = (refl, h ∙ had.1); permits = on.permits; once = on.once; tickets = on.tickets }
+    at (held.Doubt doubt) had h =
+        record { desk = out_again core.desk s.world Doubt (s.world.settled ∷ s.world.sealed ∷ []) on.desk (ap is_nothing_out had.0); held = (refl, h ∙ ap doubt_of had.1); permits = on.permits; once = on.once; tickets = on.tickets }
+
+pub core_kept : {L : Type 0} (old new : Core L) (batch : BatchValue) → IsCore old → held.Batch batch ≡ old.held → IsOfBatch batch new.held → new ≡ record old { held = new.held } → IsCore new
+core_kept old new batch core was of same = subst IsCore (sym same)
+    (∥∥₁_map core (λ (s, on). (record s { world = world_by new.held s.world }, core_committed old s batch new.held on was of)))
+
+-- what it leaves of the store, and what is told
+ends_commit : {S : Type 0} (g : Ghosts S) (vault : VaultValue S) (mark : ℕ) (batch : BatchValue) (now : Held) (reply : Reply) (s : Session) → s.world.settled ≤ s.world.sealed
+    → (s.world.out ≡ Batch) × (batch ≡ sealed_batch mark s.world) → LeavesBy s.world.out s.world → EndsAs g vault (settled_records s.world) batch now reply
+    → MayTell (commits s s.world.out) reply (record s { world = world_by now s.world }) × VaultStandsFor g vault (world_by now s.world)
+ends_commit g vault mark batch (held.Receipt receipt) reply s below had leaves h =
     let whole : settled_records s.world ++ records_of batch.steps ≡ sealed_records s.world =
-    ap (λ (r : BatchValue). settled_records s.world ++ records_of r.steps) had.1 ∙ sealed_is desk.waiting.mark s.world stands.waiting.settled_first in
+    ap (λ (r : BatchValue). settled_records s.world ++ records_of r.steps) had.1 ∙ sealed_is mark s.world below in
     let open_at : IsOpenAt g vault (sealed_records s.world) = subst (IsOpenAt g vault) whole h.2 in
     let (free, (holds, stop)) = open_at in
-    let said : reply ≡ says.Committed (length (sealed_records s.world)) = h.1 ∙ ap says.Committed holds.next in
-    let next : Session = record s { world = with_receipt s.world } in (
-      next,
-      subst (λ o. MayTell (commits s o) reply next) (sym had.0) (inl (said, refl)),
-      record {
-        desk = out_again desk s.world Receipt (s.world.sealed ∷ []) stands (ap is_nothing_out had.0);
-        held = (refl, h.0 ∙ had.1);
-        vault = record { leaves = refl; holds = open_at };
-        tickets = keeps;
-        mark = mark;
-      },
+    let said : reply ≡ says.Committed (length (sealed_records s.world)) = h.1 ∙ ap says.Committed holds.next in (
+      subst (λ o. MayTell (commits s o) reply (record s { world = with_receipt s.world })) (sym had.0) (inl (said, refl)),
+      record { leaves = refl; holds = open_at },
     )
-ends_commit L g desk vault tickets batch (held.Batch back) reply s stands had leaves keeps mark h = (
-  s,
+ends_commit g vault mark batch (held.Batch back) reply s below had leaves h = (
   subst (λ o. MayTell (commits s o) reply s) (sym had.0) (inr (inl (h.1, refl))),
-  record {
-    desk = stands;
-    held = (had.0, h.0 ∙ had.1);
-    vault = record { leaves = leaves; holds = subst (HoldsLeft g vault s.world) (sym (subst (λ o. LeavesBy o s.world) had.0 leaves)) h.2 };
-    tickets = keeps;
-    mark = mark;
-  },
+  record { leaves = leaves; holds = subst (HoldsLeft g vault s.world) (sym (subst (λ o. LeavesBy o s.world) had.0 leaves)) h.2 },
 )
-ends_commit L g desk vault tickets batch (held.Doubt doubt) reply s stands had leaves keeps mark (is, said, shut, may) =
+ends_commit g vault mark batch (held.Doubt doubt) reply s below had leaves (is, said, shut, may) =
     let whole : settled_records s.world ++ records_of batch.steps ≡ sealed_records s.world =
-    ap (λ (r : BatchValue). settled_records s.world ++ records_of r.steps) had.1 ∙ sealed_is desk.waiting.mark s.world stands.waiting.settled_first in
-    let next : Session = record s { world = in_doubt s.world } in (
-      next,
-      subst (λ o. MayTell (commits s o) reply next) (sym had.0) (inr (inr (inl (said, refl)))),
-      record {
-        desk = out_again desk s.world Doubt (s.world.settled ∷ s.world.sealed ∷ []) stands (ap is_nothing_out had.0);
-        held = (refl, is ∙ ap doubt_of had.1);
-        vault = record { leaves = refl; holds = (shut, doubt_leaves g vault batch s.world whole may) };
-        tickets = keeps;
-        mark = mark;
-      },
+    ap (λ (r : BatchValue). settled_records s.world ++ records_of r.steps) had.1 ∙ sealed_is mark s.world below in (
+      subst (λ o. MayTell (commits s o) reply (record s { world = in_doubt s.world })) (sym had.0) (inr (inr (inl (said, refl)))),
+      record { leaves = refl; holds = (shut, doubt_leaves g vault batch s.world whole may) },
     )
-ends_commit L g desk vault tickets batch held.Nothing reply s stands had leaves keeps mark h = absurd h
+ends_commit g vault mark batch held.Nothing reply s below had leaves h = absurd h
 
 -- the store takes the next batch, unless it has no memory
 pub unchanged_ends : {S : Type 0} (g : Ghosts S) (old new : VaultValue S) (batch back : BatchValue) (reason : Unchanged) (result : Result BatchValue CommitEnd) → result ≡ Err (ends.Unchanged back reason) → back ≡ batch
@@ -124,28 +123,36 @@ unchanged_ends g old new batch back why.OutOfMemory result is same closed turn i
     at false e = refl
     at true e = elim (doubt e) [ inl h ↦ absurd (let shut : old.closed ≡ true = h in let free : old.closed ≡ false = open_at.0 in cc) | inr h ↦ absurd (subst IsDoubt is h) ]
 
-pub answers_commit : {L S : Type 0} (g : Ghosts S) (old new : Runner L S) (batch : BatchValue) (reply : Reply) → held.Batch batch ≡ old.held → new.desk ≡ old.desk → new.tickets ≡ old.tickets
-    → new.vault.mark ≡ old.vault.mark → CommitsSo g old.vault new.vault batch new.held reply → Answers g old (λ s. commits s s.world.out) reply new
-answers_commit {L} {S} g old new batch reply was desk tickets mark commit s on =
+pub answers_commit : {L S : Type 0} (g : Ghosts S) (old new : Core L) (vault later : VaultValue S) (batch : BatchValue) (reply : Reply) → held.Batch batch ≡ old.held → new ≡ record old { held = new.held }
+    → IsOfBatch batch new.held → later.mark ≡ vault.mark → CommitsSo g vault later batch new.held reply → Answers g old vault (λ s. commits s s.world.out) reply new later
+answers_commit g old new vault later batch reply was same of mark commit s on =
     let w = s.world in
-    let had : (w.out ≡ Batch) × (batch ≡ sealed_batch old.desk.waiting.mark w) = subst (IsHeld old.desk.waiting.mark w) (sym was) on.held in
-    let left : w.left ≡ w.settled ∷ [] = subst (λ o. LeavesBy o w) had.0 on.vault.leaves in
-    let open_at : IsOpenAt g old.vault (settled_records w) = subst (HoldsLeft g old.vault w) left on.vault.holds in
+    let had : (w.out ≡ Batch) × (batch ≡ sealed_batch old.desk.waiting.mark w) = subst (IsHeld old.desk.waiting.mark w) (sym was) on.stands.held in
+    let left : w.left ≡ w.settled ∷ [] = subst (λ o. LeavesBy o w) had.0 on.holds.leaves in
+    let open_at : IsOpenAt g vault (settled_records w) = subst (HoldsLeft g vault w) left on.holds.holds in
     let (free, (holds, stop)) = open_at in
-    let next : IsNext old.vault batch = (ap (λ (r : BatchValue). r.mark) had.1 ∙ on.mark, ap (λ (r : BatchValue). r.from) had.1 ∙ sym holds.next) in
+    let next : IsNext vault batch = (ap (λ (r : BatchValue). r.mark) had.1 ∙ on.mark, ap (λ (r : BatchValue). r.from) had.1 ∙ sym holds.next) in
+    let below = on.stands.desk.waiting.settled_first in
     let whole : settled_records w ++ records_of batch.steps ≡ sealed_records w =
-    ap (λ (r : BatchValue). settled_records w ++ records_of r.steps) had.1 ∙ sealed_is old.desk.waiting.mark w on.desk.waiting.settled_first in
-    let legal : IsLegal (sealed_records w) = legal_front (sealed_records w) _ (subst IsLegal (sym (sealed_front w)) on.desk.books.legal) in
+    ap (λ (r : BatchValue). settled_records w ++ records_of r.steps) had.1 ∙ sealed_is old.desk.waiting.mark w below in
+    let legal : IsLegal (sealed_records w) = legal_front (sealed_records w) _ (subst IsLegal (sym (sealed_front w)) on.stands.desk.books.legal) in
     let ends = commit (settled_records w) open_at next (subst IsLegal (sym whole) legal) in
-    subst (λ (r : Runner L S). (after : Session) × MayTell (commits s s.world.out) reply after × RunnerStandsFor g r after) (λ i. runner_of L (sym desk i) new.vault new.held (sym tickets i))
-    (ends_commit L g old.desk new.vault old.tickets batch new.held reply s on.desk had on.vault.leaves on.tickets (on.mark ∙ sym mark) ends)
+    let after = ends_commit g later old.desk.waiting.mark batch new.held reply s below had on.holds.leaves ends in (
+      record s { world = world_by new.held w },
+      after.0,
+      record {
+        stands = subst (λ c. CoreStandsFor c (record s { world = world_by new.held w })) (sym same) (core_committed old s batch new.held on.stands was of);
+        holds = after.1;
+        mark = ap (λ c. c.desk.waiting.mark) same ∙ on.mark ∙ sym mark;
+      },
+    )
 
 -- The first session
 
-pub started_stands : {S : Type 0} (L : Type 0) (g : Ghosts S) (conn : store.Held S) (mark : ℕ) (vault : VaultValue S) (desk : DeskValue) (tickets : Tickets) → IsOpened g conn mark vault → IsBegun no_schema (store.state g conn).now
-    → desk.waiting.mark ≡ mark → StandsFor desk (opened [] 0) → Keeps tickets [] → RunnerStandsFor g (runner_of L desk vault held.Nothing tickets) begun
-started_stands L g conn mark vault desk tickets made none marked stands keeps =
-    record { desk = stands; held = refl; vault = record { leaves = inl refl; holds = (made.closed, made.history none) }; tickets = keeps; mark = marked ∙ sym made.marked }
+pub started_stands : {L S : Type 0} (g : Ghosts S) (conn : store.Held S) (mark : ℕ) (vault : VaultValue S) (core : Core L) → IsOpened g conn mark vault → IsBegun no_schema (store.state g conn).now
+    → core.desk.waiting.mark ≡ mark → CoreStandsFor core begun → RunStandsFor g core vault begun
+started_stands g conn mark vault core made none marked stands =
+    record { stands = stands; holds = record { leaves = inl refl; holds = (made.closed, made.history none) }; mark = marked ∙ sym made.marked }
 
 -- The rows that the vault's connection keeps
 

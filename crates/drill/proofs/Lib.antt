@@ -1,5 +1,6 @@
-mod SessionLaws
+mod CoreLaws
 mod TurnLaws
+mod VaultLaws
 mod CommitLaws
 mod RunLaws
 pub mod ReplayLaws

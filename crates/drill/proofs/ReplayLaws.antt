@@ -12,7 +12,7 @@ use Rattle.text_lines.proofs.AnswerLaws.{Ends-more}
 use Rattle.script_lines.specs.Replies.{reply_text}
 use Rattle.drill.specs.Moves.{Session, begun}
 use Rattle.drill.specs.Runs.{Run, ReadLines, IsNoCall, replies_text, Replies, RepliesTo}
-use Rattle.drill.specs.Runners.{RunnerStandsFor, KeepsRows}
+use Rattle.drill.specs.Runners.{RunStandsFor, KeepsRows}
 use Rattle.drill.specs.Replays.{RunsLine, Replays, KeepsRun}
 use Rattle.drill.proofs.CommitLaws.{rows_kept}
 
@@ -20,9 +20,9 @@ use Rattle.drill.proofs.CommitLaws.{rows_kept}
 abbrev RepliesFrom : (Session → Type 0) → Session → List (List ℕ) → List ℕ → Type 0
 RepliesFrom Holds s lines written = (events : List Event) × (replies : List Reply) × (last : Session) × ReadLines lines events × Run s events replies last × (written ≡ replies_text replies) × Holds last
 
-replies_from : {L S : Type 0} (g : Ghosts S) (old new : Runner L S) (s : Session) (lines : List (List ℕ)) (written : List ℕ) → RunnerStandsFor g old s → AnswersEach (RunsLine g) old lines written new
-    → RepliesFrom (RunnerStandsFor g new) s lines written
-replies_from g old new s [] written stands (none, same) = ([], [], s, tt, refl, none, subst (λ r. RunnerStandsFor g r s) same stands)
+replies_from : {L S : Type 0} (g : Ghosts S) (old new : Runner L S g) (s : Session) (lines : List (List ℕ)) (written : List ℕ) → RunStandsFor g old.core old.vault s → AnswersEach (RunsLine g) old lines written new
+    → RepliesFrom (RunStandsFor g new.core new.vault) s lines written
+replies_from {L} {S} g old new s [] written stands (none, same) = ([], [], s, tt, refl, none, subst (λ (r : Runner L S g). RunStandsFor g r.core r.vault s) same stands)
 replies_from g old new s (line ∷ lines) written stands (next, text, rest, (event, reply, reads, answers, is), whole, each) =
     let (after, move, on) = answers s stands in
     let (events, replies, last, calls, run, said, holds) = replies_from g next new after lines rest on each in
@@ -32,7 +32,7 @@ pub Replies-none : Replies [] []
 Replies-none = ([], [], begun, tt, refl, refl)
 
 -- a runner of the empty history replays the lines that it answers
-pub replays : {L S : Type 0} (g : Ghosts S) (runner : Runner L S) (input old new : Option (List ℕ)) (end : Result (Unit {0}) StreamFault) → RunnerStandsFor g runner begun
+pub replays : {L S : Type 0} (g : Ghosts S) (runner : Runner L S g) (input old new : Option (List ℕ)) (end : Result (Unit {0}) StreamFault) → RunStandsFor g runner.core runner.vault begun
     → Ends (AnswersFrom (RunsLine g) runner) IsNoCall input old new end → Replays input old new end
 replays g runner input old new end stands ends = Ends-more (AnswersFrom (RunsLine g) runner) Replies IsNoCall says input old new end ends
   where
@@ -42,11 +42,11 @@ replays g runner input old new end stands ends = Ends-more (AnswersFrom (RunsLin
         (events, replies, last, calls, run, said)
 
 -- and its connection keeps the rows of the run that led to it
-pub keeps_run : {L S : Type 0} (g : Ghosts S) (runner now : Runner L S) (conn : store.Held S) (input old new : Option (List ℕ)) (end : Result (Unit {0}) StreamFault) → conn ≡ now.vault.conn → RunnerStandsFor g runner begun
+pub keeps_run : {L S : Type 0} (g : Ghosts S) (runner now : Runner L S g) (conn : store.Held S) (input old new : Option (List ℕ)) (end : Result (Unit {0}) StreamFault) → conn ≡ now.vault.conn → RunStandsFor g runner.core runner.vault begun
     → Ends (AnswersTo (RunsLine g) runner now) IsNoCall input old new end → KeepsRun g conn input old new end
 keeps_run g runner now conn input old new end same stands ends = Ends-more (AnswersTo (RunsLine g) runner now) (RepliesTo (λ last. KeepsRows g conn last.world)) IsNoCall says input old new end ends
   where
     says : (lines : List (List ℕ)) (written : List ℕ) → AnswersTo (RunsLine g) runner now lines written → RepliesTo (λ last. KeepsRows g conn last.world) lines written
     says lines written each =
         let (events, replies, last, calls, run, said, holds) = replies_from g runner now begun lines written stands each in
-        (events, replies, last, calls, run, said, subst (λ at. KeepsRows g at last.world) (sym same) (rows_kept g now.vault last.world holds.vault))
+        (events, replies, last, calls, run, said, subst (λ at. KeepsRows g at last.world) (sym same) (rows_kept g now.vault last.world holds.holds))

@@ -6,7 +6,9 @@ use Rattle.script_lines.specs.declared.event.Event.{Event}
 use Rattle.script_lines.specs.declared.event.Event.TheVariants as on
 use Rattle.script_lines.specs.declared.reply.Reply.{Reply}
 use Rattle.desk.specs.World.{Out, Nothing, Batch, Receipt, Doubt}
-use Rattle.drill.specs.Moves.{Session, IsOneOf, lacks, commits, settles, unseals, halts, answer_to}
+use Rattle.permits.specs.declared.row.Row.{Row}
+use Rattle.retry_table.specs.declared.post.PostResult.{PostResult}
+use Rattle.drill.specs.Moves.{Session, IsOneOf, lacks, commits, settles, unseals, halts, spends, permit_of, answer_to}
 use Rattle.drill.specs.Runs.{Move, replies_of, is_served, AreServedRunsComputed}
 
 -- each of these replies tells of want of memory or of a fault of the store
@@ -47,12 +49,19 @@ halts_wants s Batch = tt
 halts_wants s Receipt = tt
 halts_wants s Doubt = tt
 
+spends_wants : (s : Session) (post : PostResult) (now : ℕ) (permit : Option Row) → AreWants (spends s permit post now).unserved
+spends_wants s post now None = tt
+spends_wants s post now (Some row) = tt
+
 wants : (s : Session) (event : Event) → AreWants (answer_to s event).unserved
 wants s (on.Put name target max secrets) = lacks_wants s _
 wants s (on.Secrets name secrets) = lacks_wants s _
 wants s (on.Enabled name flag) = lacks_wants s _
 wants s (on.Submit now name id body) = lacks_wants s _
 wants s (on.Told seq) = tt
+wants s (on.Claim now) = lacks_wants s _
+wants s (on.Spend delivery now post) = spends_wants s post now (permit_of s.world delivery)
+wants s (on.Limits name) = tt
 wants s on.Seal = lacks_wants s _
 wants s on.Commit = commits_wants s s.world.out
 wants s on.Settle = settles_wants s s.world.out

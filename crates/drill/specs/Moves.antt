@@ -1,7 +1,10 @@
 -- The moves of a script's calls: what each is told, and the session after it. What the desk answers is told by a reply.
-use Rattle.std.specs.Prelude.{◌≡◌, ℕ, ◌+◌, List, [], ◌∷◌, length, Option, Some, None, Result, Ok, Err, ◌⊎◌}
+use Rattle.std.specs.Prelude.{◌≡◌, ℕ, ◌+◌, ◌==◌, List, [], ◌∷◌, length, find, Option, Some, None, Result, Ok, Err, ◌⊎◌}
+use Rattle.relay_types.specs.Values.{Seq, Seconds}
 use Rattle.relay_types.specs.Records.{records_of}
 use Rattle.delivery_book.specs.declared.row.Row.{Row}
+use Rattle.permits.specs.declared.row.Row as under_way
+use Rattle.retry_table.specs.declared.post.PostResult.{PostResult}
 use Rattle.spool.specs.Batches.{BatchValue}
 use Rattle.script_lines.specs.declared.event.Event.{Event}
 use Rattle.script_lines.specs.declared.event.Event.TheVariants as on
@@ -16,8 +19,11 @@ use Rattle.desk.specs.declared.command.Command.TheVariants.{PutEndpoint, SetSecr
 use Rattle.desk.specs.declared.refusal.Fault as desk_refusal
 use Rattle.desk.specs.declared.refusal.Fault.TheVariants as desk_fault
 use Rattle.desk.specs.declared.refusal.Refusal.{Refusal}
+use Rattle.desk.specs.declared.spent.Limits.{Limits}
+use Rattle.desk.specs.declared.spent.Spent.{Spent}
 use Rattle.desk.specs.declared.ticket.Told as desk_ticket
 use Rattle.desk.specs.declared.ticket.Told.TheVariants as desk_told
+use Rattle.desk.specs.Claims.{JobValue, claim, limits, spent_by, with_attempt_over}
 use Rattle.desk.specs.Looks.{EndpointShown, told, told_command, event_page, endpoint_page}
 use Rattle.desk.specs.Moves as desk
 use Rattle.desk.specs.World.{World, Out, Nothing, Batch, Receipt, Doubt, settled_records, sealed_records}
@@ -77,6 +83,21 @@ seal_reply (Ok None) = says.NothingWaits
 seal_reply (Ok (Some batch)) = says.Sealed batch.from (batch.from + length (records_of batch.steps))
 seal_reply (Err refusal) = refusal_reply refusal
 
+abbrev pub permit_reply : JobValue → Reply
+permit_reply job = says.Permit job.row.delivery job.row.endpoint job.id job.attempt job.at job.row.inflight
+
+abbrev pub claim_reply : Result (Option JobValue) Refusal → Reply
+claim_reply (Ok None) = says.NothingDue
+claim_reply (Ok (Some job)) = permit_reply job
+claim_reply (Err refusal) = refusal_reply refusal
+
+abbrev pub spent_reply : Spent → Reply
+spent_reply spent = says.Spent spent.spend spent.limit spent.in_flight spent.staged
+
+abbrev pub limits_reply : Option Limits → Reply
+limits_reply None = says.Absent
+limits_reply (Some limits) = says.Limits limits.limit limits.in_flight limits.noload
+
 abbrev pub told_as : desk_ticket.Told → Told
 told_as desk_told.Settled = as_told.Settled
 told_as desk_told.Waiting = as_told.Waiting
@@ -129,16 +150,26 @@ stages of s answer = record {
 abbrev pub commands : Session → desk_command.Command → Answer
 commands s command = stages Command s (desk.change s.world command)
 
-abbrev pub tells_seal : Session → desk.Answer (Option BatchValue) → Answer
-tells_seal s answer = record {
-  reply = seal_reply answer.reply;
+-- what the desk answers is told so
+abbrev pub tells : {A : Type 0} → (told : Result A Refusal → Reply) → Session → desk.Answer A → Answer
+tells told s answer = record {
+  reply = told answer.reply;
   next = record s { world = answer.next };
   unserved = lacks s answer.memory;
 }
 
 -- A batch has the mark of its opening, of which no reply tells: any mark will do.
 abbrev pub seals : Session → Answer
-seals s = tells_seal s (desk.seal 0 s.world)
+seals s = tells seal_reply s (desk.seal 0 s.world)
+
+-- the permit that was given for the delivery
+abbrev pub permit_of : (w : World) (delivery : Seq) → Option under_way.Row
+permit_of w delivery = find (λ row. row.delivery == delivery) w.live
+
+-- the end of an attempt, where this is its permit
+abbrev pub spends : Session → (permit : Option under_way.Row) → PostResult → (now : Seconds) → Answer
+spends s None post now = stays s says.NoPermit
+spends s (Some row) post now = moves s (spent_reply (spent_by s.world row post now)) (with_attempt_over s.world row post now)
 
 -- the store has the whole batch, and a stop leaves it
 abbrev pub with_receipt : World → World
@@ -196,6 +227,9 @@ answer_to s (on.Secrets name secrets) = commands s (SetSecrets name secrets)
 answer_to s (on.Enabled name flag) = commands s (SetEnabled name flag)
 answer_to s (on.Submit now name id body) = stages Submission s (desk.submit s.world now name id body)
 answer_to s (on.Told seq) = stays s (told_reply s.world (find_ticket s.tickets seq))
+answer_to s (on.Claim now) = tells claim_reply s (claim s.world now)
+answer_to s (on.Spend delivery now post) = spends s (permit_of s.world delivery) post now
+answer_to s (on.Limits name) = stays s (limits_reply (limits s.world name))
 answer_to s on.Seal = seals s
 answer_to s on.Commit = commits s s.world.out
 answer_to s on.Settle = settles s s.world.out

@@ -5,10 +5,10 @@ use Rattle.sqlite.specs.Held.{Held}
 use Rattle.script_lines.specs.declared.event.Event.{Event}
 use Rattle.text_lines.specs.declared.fault.StreamFault.{StreamFault}
 use Rattle.script_lines.specs.declared.reply.Reply.{Reply}
-use Rattle.drill.specs.declared.runner.Runner.{Runner}
 use Rattle.text_lines.specs.Ends.{Ends}
 use Rattle.script_lines.specs.Replies.{reply_text}
 use Rattle.drill.specs.Moves.{answer_to}
+use Rattle.drill.specs.declared.runner.Runner.{Runner}
 use Rattle.drill.specs.Runners.{Answers, KeepsRows}
 use Rattle.drill.specs.Runs.{IsNoCall, Replies, RepliesTo}
 use Rattle.script_lines.specs.Script.{ReadsLine}
@@ -22,5 +22,6 @@ abbrev pub KeepsRun : {S : Type 0} → Ghosts S → Held S → Option (List ℕ)
 KeepsRun g conn input old new end = Ends (RepliesTo (λ last. KeepsRows g conn last.world)) IsNoCall input old new end
 
 -- from one state to the other, the line's call is answered by this text
-abbrev pub RunsLine : {L S : Type 0} → Ghosts S → Runner L S → List ℕ → List ℕ → Runner L S → Type 0
-RunsLine g old line text new = (event : Event) × (reply : Reply) × ReadsLine line event × Answers g old (λ s. answer_to s event) reply new × (text ≡ reply_text reply)
+abbrev pub RunsLine : {L S : Type 0} → (g : Ghosts S) → Runner L S g → List ℕ → List ℕ → Runner L S g → Type 0
+RunsLine g old line text new = (event : Event) × (reply : Reply) × ReadsLine line event
+    × Answers g old.core old.vault (λ s. answer_to s event) reply new.core new.vault × (text ≡ reply_text reply)

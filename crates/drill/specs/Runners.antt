@@ -15,25 +15,15 @@ use Rattle.spool.specs.declared.ends.Unchanged.TheVariants as why
 use Rattle.spool.specs.Commits.{IsNext, HoldsOnDisk}
 use Rattle.spool.specs.Entering.{RestsInDoubt}
 use Rattle.spool.specs.Vaults.{VaultValue}
-use Rattle.group_commit.specs.declared.held.Held as waiting
 use Rattle.script_lines.specs.declared.reply.Fault.TheVariants as fault
 use Rattle.script_lines.specs.declared.reply.Reply.{Reply}
 use Rattle.script_lines.specs.declared.reply.Reply.TheVariants as says
 use Rattle.drill.specs.declared.held.Held.{Held}
 use Rattle.drill.specs.declared.held.Held.TheVariants as held
-use Rattle.drill.specs.declared.runner.Runner.{Runner}
+use Rattle.drill.specs.declared.calls.Core.{Core}
 use Rattle.desk.specs.World.{World, Out, Nothing, Batch, Receipt, Doubt}
-use Rattle.desk.specs.Moves.{sealed_batch, with_halt}
-use Rattle.desk.specs.Desks.{StandsFor, IsHeldOf}
-use Rattle.drill.specs.Moves.{Session, Answer, MayTell, wrong_turn}
-use Rattle.drill.specs.Tickets.{Keeps}
-
--- the runner holds what the core has handed out
-abbrev pub IsHeld : (mark : ℕ) → World → Held → Type 0
-IsHeld mark w held.Nothing = w.out ≡ Nothing
-IsHeld mark w (held.Batch batch) = (w.out ≡ Batch) × (batch ≡ sealed_batch mark w)
-IsHeld mark w (held.Receipt receipt) = (w.out ≡ Receipt) × (receipt ≡ sealed_batch mark w)
-IsHeld mark w (held.Doubt doubt) = (w.out ≡ Doubt) × (doubt ≡ doubt_of (sealed_batch mark w))
+use Rattle.drill.specs.Moves.{Session, Answer, MayTell}
+use Rattle.drill.specs.Cores.{CoreStandsFor}
 
 -- the store takes commits, holds these records, and a stop leaves them
 abbrev pub IsOpenAt : {S : Type 0} → Ghosts S → VaultValue S → List Record → Type 0
@@ -77,35 +67,21 @@ pub record KeepsRows {S : Type 0} (g : Ghosts S) (conn : store.Held S) (w : Worl
   pub leaves : MayLeave (store.state g conn) (AreOfSteps w w.left)
   pub stand : (steps : ℕ) → w.left ≡ steps ∷ [] → Stands (store.state g conn) (rows_of_first w steps)
 
--- the desk, the store, what is held and the tickets stand for one session
-pub record RunnerStandsFor {L S : Type 0} (g : Ghosts S) (runner : Runner L S) (s : Session) : Type 0 where
-  pub desk : StandsFor runner.desk s.world
-  pub held : IsHeld runner.desk.waiting.mark s.world runner.held
-  pub vault : VaultStandsFor g runner.vault s.world
-  pub tickets : Keeps runner.tickets s.tickets
-  pub mark : runner.desk.waiting.mark ≡ runner.vault.mark
+-- the core and the store stand for one session
+pub record RunStandsFor {L S : Type 0} (g : Ghosts S) (core : Core L) (vault : VaultValue S) (s : Session) : Type 0 where
+  pub stands : CoreStandsFor core s
+  pub holds : VaultStandsFor g vault s.world
+  pub mark : core.desk.waiting.mark ≡ vault.mark
 
--- From each session for which the runner stood, a call was told what this answer may tell, and the runner stands for what came of it.
-abbrev pub Answers : {L S : Type 0} → Ghosts S → Runner L S → (Session → Answer) → Reply → Runner L S → Type 0
-Answers g old answer reply new = (s : Session) → RunnerStandsFor g old s → (next : Session) × MayTell (answer s) reply next × RunnerStandsFor g new next
-
--- Where what is handed over is what is out, the desk takes it and is halted; otherwise it goes on as before.
-abbrev pub HandsOver : {L S : Type 0} → Runner L S → waiting.Held → Reply → Runner L S → Type 0
-HandsOver old given reply new =
-    (w : World) → StandsFor old.desk w → IsHeldOf old.desk.waiting.mark w given
-    → (reply ≡ says.Halted) × (new.held ≡ old.held) × StandsFor new.desk (with_halt w)
-
-abbrev pub KeepsOn : {L S : Type 0} → Runner L S → waiting.Held → Reply → Runner L S → Type 0
-KeepsOn old given reply new =
-    (w : World) → StandsFor old.desk w → ¬ IsHeldOf old.desk.waiting.mark w given
-    → (reply ≡ wrong_turn) × StandsFor new.desk w
+-- From each session for which core and store stood, a call was told what this answer may tell, and they stand for what came of it.
+abbrev pub Answers : {L S : Type 0} → Ghosts S → Core L → VaultValue S → (Session → Answer) → Reply → Core L → VaultValue S → Type 0
+Answers g old vault answer reply new later =
+    (s : Session) → RunStandsFor g old vault s
+    → (next : Session) × MayTell (answer s) reply next × RunStandsFor g new later next
 
 -- the connection's disk has returned what was written
 abbrev pub IsCleanAt : {S : Type 0} → Ghosts S → store.Held S → Type 0
 IsCleanAt g conn = HasCleanDisk (store.state g conn)
-
-abbrev pub IsClean : {L S : Type 0} → Ghosts S → Runner L S → Type 0
-IsClean g runner = IsCleanAt g runner.vault.conn
 
 -- the store is open and has no table
 abbrev pub HasNoTable : {S : Type 0} → Ghosts S → store.Held S → Type 0

@@ -1,4 +1,7 @@
-//! What the runner holds between two lines.
+//! What is held between two calls.
+ghost use Rattle.std.specs.Prelude.{◌≡◌};
+ghost use Rattle.drill.specs.Cores.{receipt_of, given_of};
+
 use spool::{Batch, Doubt, Receipt};
 
 /// What the desk or the store handed out.
@@ -17,6 +20,19 @@ impl Held {
             Held::Batch(batch) => drop(batch.into_steps()),
             Held::Receipt(receipt) => drop(receipt.into_steps()),
             Held::Doubt(doubt) => doubt.end(),
+        }
+    }
+
+    // A receipt, or what a committer that gives up hands over.
+    pub(crate) fn parts(self) -> (Option<Receipt>, group_commit::Held)
+        ensures receipt { result.0 ≡ receipt_of self }
+        ensures given { result.1 ≡ given_of self }
+    {
+        match self {
+            Held::Nothing => (None, group_commit::Held::Nothing),
+            Held::Batch(batch) => (None, group_commit::Held::Batch(batch)),
+            Held::Receipt(receipt) => (Some(receipt), group_commit::Held::Nothing),
+            Held::Doubt(doubt) => (None, group_commit::Held::Doubt(doubt)),
         }
     }
 

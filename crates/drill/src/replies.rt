@@ -2,12 +2,13 @@
 ghost use Rattle.std.specs.Prelude.{◌≡◌, ◌+◌, length};
 ghost use Rattle.relay_types.specs.Records.{records_of};
 ghost use Rattle.script_lines.specs.declared.reply.Reply.TheVariants as says;
-ghost use Rattle.drill.specs.Moves.{fault_of, refusal_reply, told_as, event_reply, wrong_turn};
+ghost use Rattle.drill.specs.Moves.{fault_of, refusal_reply, told_as, event_reply, permit_reply, spent_reply, limits_reply, wrong_turn};
 
 use delivery_book::Row;
-use desk::Refusal;
+use desk::{Job, Limits, Refusal, Spent};
 use script_lines::{Fault, Reply, Told};
 use spool::Batch;
+use std::sync::ledger::Ledger;
 
 pub(crate) fn refusal_reply(refusal: Refusal) -> Reply
     ensures { result ≡ refusal_reply refusal }
@@ -73,6 +74,44 @@ pub(crate) fn event_reply(row: Option<Row>) -> Reply
             state: row.state,
             due: row.due,
             attempts: row.attempts,
+        },
+        None => Reply::Absent,
+    }
+}
+
+pub(crate) fn permit_reply<L: Ledger>(job: &Job<L>) -> Reply
+    ensures { result ≡ permit_reply job.now }
+{
+    let permit = job.permit();
+    Reply::Permit {
+        delivery: permit.delivery(),
+        endpoint: job.endpoint(),
+        id: job.id(),
+        attempt: job.attempt(),
+        at: job.moment().seconds(),
+        inflight: permit.inflight(),
+    }
+}
+
+pub(crate) fn spent_reply(spent: Spent) -> Reply
+    ensures { result ≡ spent_reply spent }
+{
+    Reply::Spent {
+        spend: spent.spend,
+        limit: spent.limit,
+        in_flight: spent.in_flight,
+        staged: spent.staged,
+    }
+}
+
+pub(crate) fn limits_reply(limits: Option<Limits>) -> Reply
+    ensures { result ≡ limits_reply limits }
+{
+    match limits {
+        Some(limits) => Reply::Limits {
+            limit: limits.limit,
+            in_flight: limits.in_flight,
+            noload: limits.noload,
         },
         None => Reply::Absent,
     }

@@ -1,13 +1,15 @@
 -- A call by its first word, and by the words behind it.
-use Rattle.std.proofs.Common.{◌≡◌, ◌==◌, subst, length, get_or, arith, ℕ, Bool, true, false, List, [], ◌∷◌, codes, refl, sym, ap, ◌∙◌}
+use Rattle.std.proofs.Common.{◌≡◌, ◌≤◌, ◌-◌, suc, drop, take, ◌==◌, subst, length, get_or, arith, ℕ, Bool, true, false, List, [], ◌∷◌, codes, refl, sym, ap, ◌∙◌}
 use Rattle.std.specs.Prelude.{bytes_eq}
 use Rattle.std.specs.Borrow.{Bor}
 use Rattle.std.proofs.lemmas.List.{length-map}
+use Rattle.std.proofs.Math.Seq.{take-length}
 use Rattle.text_lines.specs.Parts.{texts}
 use Rattle.script_lines.specs.declared.event.Event.{Event}
 use Rattle.script_lines.specs.declared.event.Event.TheVariants as on
+use Rattle.retry_table.specs.declared.post.PostResult.{PostResult}
 use Rattle.text_lines.specs.Words.{IsSecretsWord}
-use Rattle.script_lines.specs.Script.{IsPut, IsSecrets, IsNamed, IsTold, IsSubmit, IsShow, call_word, AreArguments}
+use Rattle.script_lines.specs.Script.{IsPut, IsSecrets, IsNamed, IsTold, IsSubmit, IsClaim, IsSpend, IsShow, call_word, AreArguments}
 use Rattle.text_lines.proofs.NumberLaws.{bytes_equal, true_not_false}
 
 -- two words that differ are not one
@@ -55,6 +57,27 @@ only_told P call words is own (on.Told seq) e h = own seq h
 only_told P call words is own (on.Enabled name true) e h = absurd (apart (codes "told") (codes "enable") call refl is e)
 only_told P call words is own (on.Enabled name false) e h = absurd (apart (codes "told") (codes "disable") call refl is e)
 only_told P call words is own event e h = absurd (apart (codes "told") (call_word event) call refl is e)
+
+pub only_claim : (P : Event → Type 0) (call : List ℕ) (words : List (List ℕ)) → call ≡ codes "claim" → ((now : ℕ) → IsClaim words now → P (on.Claim now))
+    → (event : Event) → call ≡ call_word event → AreArguments words event → P event
+only_claim P call words is own (on.Claim now) e h = own now h
+only_claim P call words is own (on.Enabled name true) e h = absurd (apart (codes "claim") (codes "enable") call refl is e)
+only_claim P call words is own (on.Enabled name false) e h = absurd (apart (codes "claim") (codes "disable") call refl is e)
+only_claim P call words is own event e h = absurd (apart (codes "claim") (call_word event) call refl is e)
+
+pub only_spend : (P : Event → Type 0) (call : List ℕ) (words : List (List ℕ)) → call ≡ codes "spend" → ((delivery now : ℕ) (post : PostResult) → IsSpend words delivery now post → P (on.Spend delivery now post))
+    → (event : Event) → call ≡ call_word event → AreArguments words event → P event
+only_spend P call words is own (on.Spend delivery now post) e h = own delivery now post h
+only_spend P call words is own (on.Enabled name true) e h = absurd (apart (codes "spend") (codes "enable") call refl is e)
+only_spend P call words is own (on.Enabled name false) e h = absurd (apart (codes "spend") (codes "disable") call refl is e)
+only_spend P call words is own event e h = absurd (apart (codes "spend") (call_word event) call refl is e)
+
+pub only_limits : (P : Event → Type 0) (call : List ℕ) (words : List (List ℕ)) → call ≡ codes "limits" → ((name : List ℕ) → IsNamed words name → P (on.Limits name))
+    → (event : Event) → call ≡ call_word event → AreArguments words event → P event
+only_limits P call words is own (on.Limits name) e h = own name h
+only_limits P call words is own (on.Enabled name true) e h = absurd (apart (codes "limits") (codes "enable") call refl is e)
+only_limits P call words is own (on.Enabled name false) e h = absurd (apart (codes "limits") (codes "disable") call refl is e)
+only_limits P call words is own event e h = absurd (apart (codes "limits") (call_word event) call refl is e)
 
 pub only_show : (P : Event → Type 0) (call : List ℕ) (words : List (List ℕ)) → call ≡ codes "show" → ((name : List ℕ) → IsNamed words name → P (on.ShowEndpoint name)) → ((name id : List ℕ) → IsShow words name id → P (on.Show name id))
     → (event : Event) → call ≡ call_word event → AreArguments words event → P event
@@ -110,6 +133,14 @@ two_texts [] d h = cc
 two_texts (a ∷ []) d h = cc
 two_texts (a ∷ b ∷ []) d h = refl
 two_texts (a ∷ b ∷ c ∷ more) d h = absurd (omega (arith, h))
+
+pub texts_from_two : (words : List (Bor (List ℕ))) (d : Bor (List ℕ)) → 2 ≤ length words → texts words ≡ (get_or words 0 d).now ∷ (get_or words 1 d).now ∷ texts (take (length words - 2) (drop 2 words))
+texts_from_two [] d h = absurd (omega (arith, h))
+texts_from_two (a ∷ []) d h = absurd (omega (arith, h))
+texts_from_two (a ∷ b ∷ more) d h = ap (λ (rest : List (Bor (List ℕ))). a.now ∷ b.now ∷ texts rest) (sym (ap (λ n. take n more) (less (length more)) ∙ take-length more))
+  where
+    less : (n : ℕ) → suc (suc n) - 2 ≡ n
+    less n = omega arith
 
 pub four_texts : (words : List (Bor (List ℕ))) (d : Bor (List ℕ)) → length words ≡ 4
     → texts words ≡ (get_or words 0 d).now ∷ (get_or words 1 d).now ∷ (get_or words 2 d).now ∷ (get_or words 3 d).now ∷ []

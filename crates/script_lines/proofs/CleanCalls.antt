@@ -1,5 +1,5 @@
 -- No space stands in a word of a call, so the words of a line tell its call.
-use Rattle.std.proofs.Common.{◌≡◌, ◌≢◌, ℕ, ◌^◌, true, false, List, [], ◌∷◌, decimal, IsTrue, refl, sym, subst, lit<}
+use Rattle.std.proofs.Common.{◌≡◌, ◌≢◌, ℕ, ◌<◌, ◌^◌, arith, true, false, List, [], ◌∷◌, decimal, codes, IsTrue, refl, sym, subst, lit<}
 use Rattle.std.specs.Prelude.{◌&&◌, nat_le}
 use Rattle.std.specs.List.{list_all}
 use Rattle.std.proofs.lemmas.Bool.{and_parts}
@@ -9,7 +9,9 @@ use Rattle.text_lines.proofs.CleanWords.{clean-name, clean-id, clean-target, cle
 use Rattle.text_lines.proofs.PartLaws.{parts_equal}
 use Rattle.script_lines.specs.declared.event.Event.{Event}
 use Rattle.script_lines.specs.declared.event.Event.TheVariants as on
-use Rattle.script_lines.specs.Script.{IsNamed, call_word, AreArguments, IsCall, ReadsLine}
+use Rattle.retry_table.specs.declared.post.PostResult.{PostResult}
+use Rattle.retry_table.specs.declared.post.PostResult.TheVariants.{Answered, TimedOut, Unreached, Unsent}
+use Rattle.script_lines.specs.Script.{IsNamed, IsResult, call_word, AreArguments, IsCall, ReadsLine}
 
 four_clean : (a b c d : List ℕ) → IsTrue (has_no 32 a) → IsTrue (has_no 32 b) → IsTrue (has_no 32 c) → IsTrue (has_no 32 d) → IsTrue (list_all (has_no 32) (a ∷ b ∷ c ∷ d ∷ []))
 four_clean a b c d ha hb hc hd = rw (ha, hb, hc, hd) refl
@@ -25,6 +27,23 @@ none_clean words e = subst (λ xs. IsTrue (list_all (has_no 32) xs)) (sym e) ref
 
 name_alone : (words : List (List ℕ)) (name : List ℕ) → IsNamed words name → IsTrue (list_all (has_no 32) words)
 name_alone words name (e, valid) = subst (λ xs. IsTrue (list_all (has_no 32) xs)) (sym e) (one_clean name (clean-name name valid))
+
+two_and_more_clean : (a b : List ℕ) (more : List (List ℕ)) → IsTrue (has_no 32 a) → IsTrue (has_no 32 b) → IsTrue (list_all (has_no 32) more) → IsTrue (list_all (has_no 32) (a ∷ b ∷ more))
+two_and_more_clean a b more ha hb hm = rw (ha, hb, hm) refl
+
+below : (n k : ℕ) → n < k → k < 2 ^ 64 → n < 2 ^ 64
+below n k h small = omega (arith, h, small)
+
+clean-rtt : (rtt : ℕ) → rtt < 2 ^ 63 → IsTrue (has_no 32 (decimal rtt))
+clean-rtt rtt small = clean-decimal rtt (below rtt (2 ^ 63) small (lit< tt))
+
+clean-result : (words : List (List ℕ)) (post : PostResult) → IsResult words post → IsTrue (list_all (has_no 32) words)
+clean-result words (Answered status rtt) (e, valid, small) =
+    subst (λ xs. IsTrue (list_all (has_no 32) xs)) (sym e)
+    (two_clean (decimal status) (decimal rtt) (clean-decimal status (at_most status 999 (and_parts (nat_le 100 status) (nat_le status 999) valid).1 (lit< tt))) (clean-rtt rtt small))
+clean-result words (TimedOut rtt) (e, small) = subst (λ xs. IsTrue (list_all (has_no 32) xs)) (sym e) (two_clean (codes "timeout") (decimal rtt) refl (clean-rtt rtt small))
+clean-result words Unreached e = subst (λ xs. IsTrue (list_all (has_no 32) xs)) (sym e) refl
+clean-result words Unsent e = subst (λ xs. IsTrue (list_all (has_no 32) xs)) (sym e) refl
 
 clean-arguments : (words : List (List ℕ)) (event : Event) → AreArguments words event → IsTrue (list_all (has_no 32) words)
 clean-arguments words (on.Put name target max secrets) (word, reads, e, valid) =
@@ -48,6 +67,12 @@ clean-arguments words on.Commit e = none_clean words e
 clean-arguments words on.Settle e = none_clean words e
 clean-arguments words on.Unseal e = none_clean words e
 clean-arguments words on.Halt e = none_clean words e
+clean-arguments words (on.Claim now) (e, valid) =
+    subst (λ xs. IsTrue (list_all (has_no 32) xs)) (sym e) (one_clean (decimal now) (clean-decimal now (at_most now (2 ^ 40) valid (lit< tt))))
+clean-arguments words (on.Spend delivery now post) (results, told, e, small, valid) =
+    subst (λ xs. IsTrue (list_all (has_no 32) xs)) (sym e)
+    (two_and_more_clean (decimal delivery) (decimal now) results (clean-decimal delivery small) (clean-decimal now (at_most now (2 ^ 40) valid (lit< tt))) (clean-result results post told))
+clean-arguments words (on.Limits name) named = name_alone words name named
 clean-arguments words (on.ShowEndpoint name) named = name_alone words name named
 clean-arguments words (on.Show name id) (e, valid) =
     let both = and_parts (is_name name) (is_msg_id id) valid in

@@ -1,17 +1,23 @@
 -- One text stands for one call at most.
-use Rattle.std.proofs.Common.{◌≡◌, ◌<◌, ◌^◌, ℕ, true, false, List, codes, IsTrue, refl, ap, subst, lit<}
+use Rattle.std.proofs.Common.{◌≡◌, ◌<◌, ◌^◌, ℕ, Bool, true, false, List, [], ◌∷◌, arith, codes, decimal, IsTrue, refl, sym, ap, subst, lit<}
 use Rattle.std.specs.Prelude.{◌&&◌, nat_le}
 use Rattle.std.proofs.lemmas.Bool.{and_parts}
 use Rattle.std.proofs.lemmas.Fmt.{decimal_injective}
-use Rattle.relay_types.specs.Values.{is_name, is_msg_id, is_target, is_max_limit, is_moment, is_body}
+use Rattle.relay_types.specs.Values.{is_between, is_name, is_msg_id, is_target, is_max_limit, is_moment, is_body}
 use Rattle.text_lines.specs.Words.{IsSecretsWord, IsBodyWord}
 use Rattle.text_lines.proofs.CleanWords.{at_most}
 use Rattle.text_lines.proofs.HexLaws.{one_body}
 use Rattle.text_lines.proofs.WordLaws.{one_secrets}
+use Rattle.std.specs.Str.{all_ascii_digits}
+use Rattle.std.proofs.lemmas.Fmt.{digits_decimal}
+use Rattle.std.proofs.lemmas.Str.Parse.{numerals_by_value, tells_all_ascii_digits}
+use Rattle.text_lines.proofs.NumberLaws.{true_not_false}
+use Rattle.retry_table.specs.declared.post.PostResult.{PostResult}
+use Rattle.retry_table.specs.declared.post.PostResult.TheVariants.{Answered, TimedOut, Unreached, Unsent}
 use Rattle.script_lines.specs.declared.event.Event.{Event}
 use Rattle.script_lines.specs.declared.event.Event.TheVariants as on
-use Rattle.script_lines.specs.Script.{IsPut, IsSecrets, IsNamed, IsTold, IsSubmit, IsShow, call_word, AreArguments, IsCall, HasOneCallAtMost}
-use Rattle.script_lines.proofs.CallLaws.{only_put, only_secrets, only_enable, only_disable, only_submit, only_told, only_show, only_seal, only_commit, only_settle, only_unseal, only_halt}
+use Rattle.script_lines.specs.Script.{IsPut, IsSecrets, IsNamed, IsTold, IsSubmit, IsClaim, IsResult, IsSpend, IsShow, call_word, AreArguments, IsCall, HasOneCallAtMost}
+use Rattle.script_lines.proofs.CallLaws.{only_put, only_secrets, only_enable, only_disable, only_submit, only_told, only_claim, only_spend, only_limits, only_show, only_seal, only_commit, only_settle, only_unseal, only_halt}
 use Rattle.script_lines.proofs.CleanCalls.{the_call, parts_of_call}
 
 same_put : (words : List (List ℕ)) (name target : List ℕ) (max : ℕ) (secrets : List (List ℕ)) (name' target' : List ℕ) (max' : ℕ) (secrets' : List (List ℕ)) → IsPut words name target max secrets
@@ -62,6 +68,60 @@ same_name words name name' (e, valid) (e', valid') = cc
 same_seq : (words : List (List ℕ)) (seq seq' : ℕ) → IsTold words seq → IsTold words seq' → seq ≡ seq'
 same_seq words seq seq' (e, small) (e', small') = decimal_injective seq seq' small small' (cc)
 
+same_moment : (words : List (List ℕ)) (now now' : ℕ) → IsClaim words now → IsClaim words now' → now ≡ now'
+same_moment words now now' (e, valid) (e', valid') =
+    decimal_injective now now' (at_most now (2 ^ 40) valid (lit< tt)) (at_most now' (2 ^ 40) valid' (lit< tt)) (cc)
+
+-- no number is a word of letters
+no_number : (n : ℕ) → n < 2 ^ 64 → decimal n ≡ codes "timeout" → ⊥
+no_number n small e =
+    true_not_false (sym (subst (λ (ds : List ℕ). all_ascii_digits ds ≡ true) e (digits_decimal (numerals_by_value (λ ds. all_ascii_digits ds ≡ true) tells_all_ascii_digits) n small)))
+
+below : (n k : ℕ) → n < k → k < 2 ^ 64 → n < 2 ^ 64
+below n k h small = omega (arith, h, small)
+
+status_small : (status : ℕ) → IsTrue (is_between 100 999 status) → status < 2 ^ 64
+status_small status valid = at_most status 999 (and_parts (nat_le 100 status) (nat_le status 999) valid).1 (lit< tt)
+
+same_rtt : (rtt rtt' : ℕ) → rtt < 2 ^ 63 → rtt' < 2 ^ 63 → decimal rtt ≡ decimal rtt' → rtt ≡ rtt'
+same_rtt rtt rtt' small small' e = decimal_injective rtt rtt' (below rtt (2 ^ 63) small (lit< tt)) (below rtt' (2 ^ 63) small' (lit< tt)) e
+
+same_result : (words : List (List ℕ)) (post post' : PostResult) → IsResult words post → IsResult words post' → post ≡ post'
+same_result words (Answered status rtt) (Answered status' rtt') (e, valid, small) (e', valid', small') =
+    let statuses : status ≡ status' = decimal_injective status status' (status_small status valid) (status_small status' valid') (cc) in
+    let trips : rtt ≡ rtt' = same_rtt rtt rtt' small small' (cc) in
+    λ i. Answered (statuses i) (trips i)
+same_result words (TimedOut rtt) (TimedOut rtt') (e, small) (e', small') = ap TimedOut (same_rtt rtt rtt' small small' (cc))
+same_result words (Answered status rtt) (TimedOut rtt') (e, valid, small) (e', small') = absurd (no_number status (status_small status valid) (cc))
+same_result words (TimedOut rtt) (Answered status' rtt') (e, small) (e', valid', small') = absurd (no_number status' (status_small status' valid') (cc))
+same_result words Unreached Unreached e e' = refl
+same_result words Unsent Unsent e e' = refl
+same_result words Unreached Unsent e e' = absurd (unsent_or_unreached words e e')
+  where
+    unsent_or_unreached : (words : List (List ℕ)) → words ≡ codes "unreached" ∷ [] → words ≡ codes "unsent" ∷ [] → ⊥
+    unsent_or_unreached words e e' = cc
+same_result words Unsent Unreached e e' = absurd (unreached_or_unsent words e e')
+  where
+    unreached_or_unsent : (words : List (List ℕ)) → words ≡ codes "unsent" ∷ [] → words ≡ codes "unreached" ∷ [] → ⊥
+    unreached_or_unsent words e e' = cc
+same_result words (Answered status rtt) Unreached (e, valid, small) e' = cc
+same_result words (Answered status rtt) Unsent (e, valid, small) e' = cc
+same_result words (TimedOut rtt) Unreached (e, small) e' = cc
+same_result words (TimedOut rtt) Unsent (e, small) e' = cc
+same_result words Unreached (Answered status rtt) e (e', valid, small) = cc
+same_result words Unreached (TimedOut rtt) e (e', small) = cc
+same_result words Unsent (Answered status rtt) e (e', valid, small) = cc
+same_result words Unsent (TimedOut rtt) e (e', small) = cc
+
+same_spend : (words : List (List ℕ)) (delivery now : ℕ) (post : PostResult) (delivery' now' : ℕ) (post' : PostResult) → IsSpend words delivery now post → IsSpend words delivery' now' post'
+    → on.Spend delivery now post ≡ on.Spend delivery' now' post'
+same_spend words delivery now post delivery' now' post' (results, told, e, small, valid) (results', told', e', small', valid') =
+    let deliveries : delivery ≡ delivery' = decimal_injective delivery delivery' small small' (cc) in
+    let moments : now ≡ now' = decimal_injective now now' (at_most now (2 ^ 40) valid (lit< tt)) (at_most now' (2 ^ 40) valid' (lit< tt)) (cc) in
+    let others : results' ≡ results = cc in
+    let posts : post ≡ post' = same_result results post post' told (subst (λ xs. IsResult xs post') others told') in
+    λ i. on.Spend (deliveries i) (moments i) (posts i)
+
 -- one word is not two
 name_or_event : (words : List (List ℕ)) (name name' id : List ℕ) → IsNamed words name → IsShow words name' id → ⊥
 name_or_event words name name' id (e, valid) (e', valid') = cc
@@ -85,6 +145,12 @@ same_event words on.Commit b e h = only_commit (λ event. on.Commit ≡ event) (
 same_event words on.Settle b e h = only_settle (λ event. on.Settle ≡ event) (codes "settle") words refl (λ none. refl) b e
 same_event words on.Unseal b e h = only_unseal (λ event. on.Unseal ≡ event) (codes "unseal") words refl (λ none. refl) b e
 same_event words on.Halt b e h = only_halt (λ event. on.Halt ≡ event) (codes "halt") words refl (λ none. refl) b e
+same_event words (on.Claim now) b e h =
+    only_claim (λ event. on.Claim now ≡ event) (codes "claim") words refl (λ now' k. ap on.Claim (same_moment words now now' h k)) b e
+same_event words (on.Spend delivery now post) b e h =
+    only_spend (λ event. on.Spend delivery now post ≡ event) (codes "spend") words refl (λ delivery' now' post' k. same_spend words delivery now post delivery' now' post' h k) b e
+same_event words (on.Limits name) b e h =
+    only_limits (λ event. on.Limits name ≡ event) (codes "limits") words refl (λ name' k. ap on.Limits (same_name words name name' h k)) b e
 same_event words (on.ShowEndpoint name) b e h =
     only_show (λ event. on.ShowEndpoint name ≡ event) (codes "show") words refl (λ name' k. ap on.ShowEndpoint (same_name words name name' h k))
     (λ name' id k. absurd (name_or_event words name name' id h k)) b e

@@ -3,6 +3,8 @@ use Rattle.std.specs.Prelude.{ℕ, Bool, List, [], ◌∷◌, ◌++◌, Option, 
 use Rattle.std.specs.List.{join_with_byte}
 use Rattle.relay_types.specs.declared.state.State.{State}
 use Rattle.relay_types.specs.declared.state.State.TheVariants.{Pending, Delivered, Exhausted}
+use Rattle.retry_table.specs.declared.post.Spend.{Spend}
+use Rattle.retry_table.specs.declared.post.Spend.TheVariants.{Success, Dropped, Ignored}
 use Rattle.script_lines.specs.declared.reply.Fault.{Fault}
 use Rattle.script_lines.specs.declared.reply.Fault.TheVariants as fault
 use Rattle.script_lines.specs.declared.reply.Told.{Told}
@@ -53,6 +55,26 @@ endpoint_words enabled pending delivered exhausted =
     flag_text enabled
     ∷ codes "pending" ∷ decimal pending ∷ codes "delivered" ∷ decimal delivered ∷ codes "exhausted" ∷ decimal exhausted ∷ []
 
+abbrev pub spend_text : Spend → List ℕ
+spend_text Success = codes "success"
+spend_text Dropped = codes "dropped"
+spend_text Ignored = codes "ignored"
+
+abbrev pub permit_words : (delivery : ℕ) (name id : List ℕ) (attempt at inflight : ℕ) → List (List ℕ)
+permit_words delivery name id attempt at inflight =
+    codes "permit" ∷ decimal delivery ∷ name ∷ id
+    ∷ codes "attempt" ∷ decimal attempt ∷ codes "at" ∷ decimal at ∷ codes "inflight" ∷ decimal inflight ∷ []
+
+abbrev pub spent_words : Spend → (limit in_flight : ℕ) → (staged : Option ℕ) → List (List ℕ)
+spent_words spend limit in_flight None =
+    spend_text spend ∷ codes "limit" ∷ decimal limit ∷ codes "inflight" ∷ decimal in_flight ∷ codes "nothing" ∷ []
+spent_words spend limit in_flight (Some seq) =
+    spend_text spend ∷ codes "limit" ∷ decimal limit ∷ codes "inflight" ∷ decimal in_flight ∷ codes "staged" ∷ decimal seq ∷ []
+
+abbrev pub limit_words : (limit in_flight noload : ℕ) → List (List ℕ)
+limit_words limit in_flight noload =
+    codes "limit" ∷ decimal limit ∷ codes "inflight" ∷ decimal in_flight ∷ codes "noload" ∷ decimal noload ∷ []
+
 -- The words of a reply.
 abbrev pub reply_words : Reply → List (List ℕ)
 reply_words (says.Staged seq) = codes "staged" ∷ decimal seq ∷ []
@@ -65,7 +87,12 @@ reply_words (says.Unsealed from to) = codes "unsealed" ∷ range_text from to �
 reply_words says.Halted = codes "halted" ∷ []
 reply_words (says.Endpoint enabled pending delivered exhausted) = endpoint_words enabled pending delivered exhausted
 reply_words (says.Event state due attempts) = event_words state due attempts
+reply_words (says.Permit delivery endpoint id attempt at inflight) = permit_words delivery endpoint id attempt at inflight
+reply_words says.NothingDue = codes "none" ∷ []
+reply_words (says.Spent spend limit in_flight staged) = spent_words spend limit in_flight staged
+reply_words (says.Limits limit in_flight noload) = limit_words limit in_flight noload
 reply_words says.Absent = codes "absent" ∷ []
+reply_words says.NoPermit = codes "no-permit" ∷ []
 reply_words says.NoBatch = codes "no-batch" ∷ []
 reply_words says.NoReceipt = codes "no-receipt" ∷ []
 reply_words says.NoTicket = codes "no-ticket" ∷ []

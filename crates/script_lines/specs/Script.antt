@@ -1,7 +1,9 @@
 -- The lines of a script: which text stands for which call. A text that stands for none is a bad line. The grammar is told by
 -- printing: a line has these words, and one space between.
 use Rattle.std.specs.Prelude.{◌≡◌, ℕ, ◌<◌, ◌^◌, true, false, ◌&&◌, List, [], ◌∷◌, IsTrue, codes, decimal}
-use Rattle.relay_types.specs.Values.{Text, Seq, Seconds, is_name, is_msg_id, is_target, is_max_limit, is_body, is_moment}
+use Rattle.relay_types.specs.Values.{Text, Seq, Seconds, is_name, is_msg_id, is_target, is_max_limit, is_body, is_moment, is_between}
+use Rattle.retry_table.specs.declared.post.PostResult.{PostResult}
+use Rattle.retry_table.specs.declared.post.PostResult.TheVariants.{Answered, TimedOut, Unreached, Unsent}
 use Rattle.text_lines.specs.Parts.{line}
 use Rattle.text_lines.specs.Words.{IsSecretsWord, IsBodyWord}
 use Rattle.script_lines.specs.declared.event.Event.{Event}
@@ -26,6 +28,20 @@ abbrev pub IsSubmit : (words : List Text) (now : Seconds) (name id body : Text) 
 IsSubmit words now name id body = (word : List ℕ) × IsBodyWord word body × (words ≡ decimal now ∷ name ∷ id ∷ word ∷ [])
     × IsTrue (is_moment now && (is_name name && (is_msg_id id && is_body body)))
 
+abbrev pub IsClaim : (words : List Text) (now : Seconds) → Type 0
+IsClaim words now = (words ≡ decimal now ∷ []) × IsTrue (is_moment now)
+
+-- the words of a post's result; a round trip is in microseconds
+abbrev pub IsResult : (words : List Text) → PostResult → Type 0
+IsResult words (Answered status rtt) = (words ≡ decimal status ∷ decimal rtt ∷ []) × IsTrue (is_between 100 999 status) × (rtt < 2 ^ 63)
+IsResult words (TimedOut rtt) = (words ≡ codes "timeout" ∷ decimal rtt ∷ []) × (rtt < 2 ^ 63)
+IsResult words Unreached = words ≡ codes "unreached" ∷ []
+IsResult words Unsent = words ≡ codes "unsent" ∷ []
+
+abbrev pub IsSpend : (words : List Text) (delivery : Seq) (now : Seconds) (post : PostResult) → Type 0
+IsSpend words delivery now post = (results : List Text) × IsResult results post × (words ≡ decimal delivery ∷ decimal now ∷ results)
+    × (delivery < 2 ^ 64) × IsTrue (is_moment now)
+
 abbrev pub IsShow : (words : List Text) (name id : Text) → Type 0
 IsShow words name id = (words ≡ name ∷ id ∷ []) × IsTrue (is_name name && is_msg_id id)
 
@@ -38,6 +54,12 @@ AreOfNoSecrets words = (name : List ℕ) (secrets : List (List ℕ)) → ¬ IsSe
 
 abbrev pub AreOfNoSubmit : List (List ℕ) → Type 0
 AreOfNoSubmit words = (now : ℕ) (name id body : List ℕ) → ¬ IsSubmit words now name id body
+
+abbrev pub AreOfNoResult : List (List ℕ) → Type 0
+AreOfNoResult words = (post : PostResult) → ¬ IsResult words post
+
+abbrev pub AreOfNoSpend : List (List ℕ) → Type 0
+AreOfNoSpend words = (delivery now : ℕ) (post : PostResult) → ¬ IsSpend words delivery now post
 
 abbrev pub AreOfNoName : List (List ℕ) → Type 0
 AreOfNoName words = (name : List ℕ) → ¬ IsNamed words name
@@ -58,6 +80,10 @@ abbrev pub AreOfSubmit : List (List ℕ) → Event → Type 0
 AreOfSubmit words (on.Submit now name id body) = IsSubmit words now name id body
 AreOfSubmit words event = ⊥
 
+abbrev pub AreOfSpend : List (List ℕ) → Event → Type 0
+AreOfSpend words (on.Spend delivery now post) = IsSpend words delivery now post
+AreOfSpend words event = ⊥
+
 abbrev pub AreOfShow : List (List ℕ) → Event → Type 0
 AreOfShow words (on.ShowEndpoint name) = IsNamed words name
 AreOfShow words (on.Show name id) = IsShow words name id
@@ -76,6 +102,9 @@ call_word on.Commit = codes "commit"
 call_word on.Settle = codes "settle"
 call_word on.Unseal = codes "unseal"
 call_word on.Halt = codes "halt"
+call_word (on.Claim now) = codes "claim"
+call_word (on.Spend delivery now post) = codes "spend"
+call_word (on.Limits name) = codes "limits"
 call_word (on.ShowEndpoint name) = codes "show"
 call_word (on.Show name id) = codes "show"
 
@@ -90,6 +119,9 @@ AreArguments words on.Commit = words ≡ []
 AreArguments words on.Settle = words ≡ []
 AreArguments words on.Unseal = words ≡ []
 AreArguments words on.Halt = words ≡ []
+AreArguments words (on.Claim now) = IsClaim words now
+AreArguments words (on.Spend delivery now post) = IsSpend words delivery now post
+AreArguments words (on.Limits name) = IsNamed words name
 AreArguments words (on.ShowEndpoint name) = IsNamed words name
 AreArguments words (on.Show name id) = IsShow words name id
 

@@ -1,5 +1,6 @@
 //! The calls of the core.
 use relay_types::{Body, MaxLimit, Moment, MsgId, Name, Secrets, Target};
+use retry_table::PostResult;
 
 /// One call of the core.
 #[derive(Drop)]
@@ -42,6 +43,20 @@ pub enum Event {
     Unseal,
     /// Takes what is out, or nothing, from a committer that gives up.
     Halt,
+    /// The next attempt that may begin.
+    Claim {
+        now: Moment,
+    },
+    /// What came of the post of the delivery's attempt.
+    Spend {
+        delivery: u64,
+        now: Moment,
+        post: PostResult,
+    },
+    /// How many attempts of an endpoint may be under way, and how many are.
+    Limits {
+        name: Name,
+    },
     /// What the settled records say of an endpoint.
     ShowEndpoint {
         name: Name,

@@ -1,8 +1,10 @@
 //! What a call answers, and how a script prints it.
 ghost use Rattle.std.specs.Prelude.{◌≡◌, Some};
-ghost use Rattle.script_lines.specs.Replies.{fault_text, state_text, told_text, flag_text, reply_text};
+ghost use Rattle.std.specs.Str.{IsAscii};
+ghost use Rattle.script_lines.specs.Replies.{fault_text, state_text, told_text, flag_text, spend_text, reply_text};
 
-use relay_types::State;
+use relay_types::{MsgId, Name, State};
+use retry_table::Spend;
 use std::fmt;
 
 /// The name of a refusal.
@@ -68,7 +70,30 @@ pub enum Reply {
         due: Option<u64>,
         attempts: u64,
     },
+    /// An attempt begins: its delivery, and the attempts of the endpoint that are under way, itself among them.
+    Permit {
+        delivery: u64,
+        endpoint: Name,
+        id: MsgId,
+        attempt: u64,
+        at: u64,
+        inflight: u32,
+    },
+    NothingDue,
+    /// An attempt is over. `staged` is the number of its outcome, where one waits.
+    Spent {
+        spend: Spend,
+        limit: u32,
+        in_flight: u32,
+        staged: Option<u64>,
+    },
+    Limits {
+        limit: u32,
+        in_flight: u32,
+        noload: u64,
+    },
     Absent,
+    NoPermit,
     NoBatch,
     NoReceipt,
     NoTicket,
@@ -145,7 +170,44 @@ impl fmt::Display for Reply {
                 }
                 write!(f, " attempts {attempts}")
             }
+            Reply::Permit {
+                delivery,
+                endpoint,
+                id,
+                attempt,
+                at,
+                inflight,
+            } => {
+                let name = text_of(endpoint.as_bytes());
+                let id = text_of(id.as_bytes());
+                write!(
+                    f,
+                    "permit {delivery} {name} {id} attempt {attempt} at {at} inflight {inflight}"
+                )
+            }
+            Reply::NothingDue => f.write_str("none"),
+            Reply::Spent {
+                spend,
+                limit,
+                in_flight,
+                staged,
+            } => {
+                let spend = spend_word(*spend);
+                match staged {
+                    Some(seq) => write!(
+                        f,
+                        "{spend} limit {limit} inflight {in_flight} staged {seq}"
+                    ),
+                    None => write!(f, "{spend} limit {limit} inflight {in_flight} nothing"),
+                }
+            }
+            Reply::Limits {
+                limit,
+                in_flight,
+                noload,
+            } => write!(f, "limit {limit} inflight {in_flight} noload {noload}"),
             Reply::Absent => f.write_str("absent"),
+            Reply::NoPermit => f.write_str("no-permit"),
             Reply::NoBatch => f.write_str("no-batch"),
             Reply::NoReceipt => f.write_str("no-receipt"),
             Reply::NoTicket => f.write_str("no-ticket"),
@@ -178,4 +240,25 @@ fn flag_word(enabled: bool) -> &'static str
     ensures { result.now ≡ flag_text enabled }
 {
     if enabled { "enabled" } else { "disabled" }
+}
+
+fn spend_word(spend: Spend) -> &'static str
+    ensures { result.now ≡ spend_text spend }
+{
+    match spend {
+        Spend::Success => "success",
+        Spend::Dropped => "dropped",
+        Spend::Ignored => "ignored",
+    }
+}
+
+// The characters of a name or an id.
+fn text_of(bytes: &[u8]) -> &str
+    requires { IsAscii bytes.now }
+    ensures { result.now ≡ bytes.now }
+{
+    match str::from_utf8(bytes) {
+        Ok(text) => text,
+        Err(_) => unreachable!(),
+    }
 }

@@ -1,13 +1,15 @@
 //! The lines of a script: the calls that they stand for.
-ghost use Rattle.std.specs.Prelude.{◌≡◌, ℕ, [], ◌∷◌, IfErr, IfOk, IsErr};
+ghost use Rattle.std.specs.Prelude.{◌≡◌, ℕ, [], ◌∷◌, ◌<◌, ◌^◌, IsTrue, IfErr, IfOk, IsErr, decimal};
+ghost use Rattle.relay_types.specs.Values.{is_between, is_moment};
 ghost use Rattle.text_lines.specs.Parts.{texts};
 ghost use Rattle.script_lines.specs.Script.{ReadsLine, HasOneCallAtMost, IsCall, call_word, AreArguments};
-ghost use Rattle.script_lines.specs.Script.{AreOfPut, AreOfSecrets, AreOfSubmit, AreOfShow, IsNamed, IsTold};
-ghost use Rattle.script_lines.specs.Script.{AreOfNoPut, AreOfNoSecrets, AreOfNoSubmit, AreOfNoName, AreOfNoEvent};
+ghost use Rattle.script_lines.specs.Script.{AreOfPut, AreOfSecrets, AreOfSubmit, AreOfSpend, AreOfShow, IsNamed, IsTold, IsClaim, IsResult};
+ghost use Rattle.script_lines.specs.Script.{AreOfNoPut, AreOfNoSecrets, AreOfNoSubmit, AreOfNoSpend, AreOfNoResult, AreOfNoName, AreOfNoEvent};
 ghost use Rattle.script_lines.specs.declared.event.Event.{Event};
 
 use crate::event::Event;
-use relay_types::{MsgId, Name, Target};
+use relay_types::{Moment, MsgId, Name, Target};
+use retry_table::{PostResult, Status};
 use std::alloc::Global;
 use text_lines::{
     WordFault, is_word, read_body, read_max, read_moment, read_number, read_secrets, split,
@@ -63,6 +65,16 @@ fn read_call(alloc: Global, call: &[u8], arguments: &[&[u8]]) -> Result<Event, W
     } else if is_word(call, "told") {
         Ok(Event::Told {
             seq: read_seq(arguments)?,
+        })
+    } else if is_word(call, "claim") {
+        Ok(Event::Claim {
+            now: read_now(arguments)?,
+        })
+    } else if is_word(call, "spend") {
+        read_spend(arguments)
+    } else if is_word(call, "limits") {
+        Ok(Event::Limits {
+            name: read_name(arguments)?,
         })
     } else if is_word(call, "show") {
         read_show(arguments)
@@ -192,6 +204,107 @@ fn read_submit_words(
         id: MsgId::read(id)?,
         body: read_body(alloc, body)?,
     })
+}
+
+// The one argument of a call that tells the moment alone.
+fn read_now(arguments: &[&[u8]]) -> Result<Moment, WordFault>
+    ensures stands { IfOk result (λ now. IsClaim (texts arguments.now) now) }
+    ensures bad { IsErr result → (now : ℕ) → ¬ IsClaim (texts arguments.now) now }
+    ensures fault { IfErr result (λ fault. fault ≡ WordFault.Bad) }
+{
+    match arguments {
+        [now] => Ok(read_moment(now)?),
+        _ => Err(WordFault::Bad),
+    }
+}
+
+fn read_spend(arguments: &[&[u8]]) -> Result<Event, WordFault>
+    ensures stands { IfOk result (λ event. AreOfSpend (texts arguments.now) event) }
+    ensures bad { IsErr result → AreOfNoSpend (texts arguments.now) }
+    ensures fault { IfErr result (λ fault. fault ≡ WordFault.Bad) }
+{
+    match arguments {
+        [delivery, now, post @ ..] => read_spend_words(delivery, now, post),
+        _ => Err(WordFault::Bad),
+    }
+}
+
+fn read_spend_words(delivery: &[u8], now: &[u8], post: &[&[u8]]) -> Result<Event, WordFault>
+    ensures stands { IfOk result (λ event. AreOfSpend (delivery.now ∷ now.now ∷ texts post.now) event) }
+    ensures bad { IsErr result → AreOfNoSpend (delivery.now ∷ now.now ∷ texts post.now) }
+    ensures fault { IfErr result (λ fault. fault ≡ WordFault.Bad) }
+{
+    Ok(Event::Spend {
+        delivery: read_number(delivery).ok_or(WordFault::Bad)?,
+        now: read_moment(now)?,
+        post: read_post(post)?,
+    })
+}
+
+// What came of a post.
+fn read_post(words: &[&[u8]]) -> Result<PostResult, WordFault>
+    ensures stands { IfOk result (λ post. IsResult (texts words.now) post) }
+    ensures bad { IsErr result → AreOfNoResult (texts words.now) }
+    ensures fault { IfErr result (λ fault. fault ≡ WordFault.Bad) }
+{
+    match words {
+        [word] => read_unmeasured(word),
+        [word, rtt] => read_measured(word, rtt),
+        _ => Err(WordFault::Bad),
+    }
+}
+
+fn read_unmeasured(word: &[u8]) -> Result<PostResult, WordFault>
+    ensures stands { IfOk result (λ post. IsResult (word.now ∷ []) post) }
+    ensures bad { IsErr result → AreOfNoResult (word.now ∷ []) }
+    ensures fault { IfErr result (λ fault. fault ≡ WordFault.Bad) }
+{
+    if is_word(word, "unreached") {
+        Ok(PostResult::Unreached)
+    } else if is_word(word, "unsent") {
+        Ok(PostResult::Unsent)
+    } else {
+        Err(WordFault::Bad)
+    }
+}
+
+fn read_measured(word: &[u8], rtt: &[u8]) -> Result<PostResult, WordFault>
+    ensures stands { IfOk result (λ post. IsResult (word.now ∷ rtt.now ∷ []) post) }
+    ensures bad { IsErr result → AreOfNoResult (word.now ∷ rtt.now ∷ []) }
+    ensures fault { IfErr result (λ fault. fault ≡ WordFault.Bad) }
+{
+    let rtt = read_round_trip(rtt)?;
+    if is_word(word, "timeout") {
+        return Ok(PostResult::TimedOut { rtt });
+    }
+    Ok(PostResult::Answered {
+        status: read_status(word)?,
+        rtt,
+    })
+}
+
+// A round trip in microseconds, below 2^63.
+fn read_round_trip(word: &[u8]) -> Result<u64, WordFault>
+    ensures value { IfOk result (λ rtt. (word.now ≡ decimal rtt) × (rtt < 2 ^ 63)) }
+    ensures each { (rtt : ℕ) → rtt < 2 ^ 63 → word.now ≡ decimal rtt → result ≡ Ok rtt }
+    ensures fault { IfErr result (λ fault. fault ≡ WordFault.Bad) }
+{
+    match read_number(word) {
+        Some(rtt) if rtt < 1 << 63 => Ok(rtt),
+        _ => Err(WordFault::Bad),
+    }
+}
+
+// A status, 100 to 999.
+fn read_status(word: &[u8]) -> Result<Status, WordFault>
+    ensures value { IfOk result (λ status. (word.now ≡ decimal status) × IsTrue (is_between 100 999 status)) }
+    ensures each { (status : ℕ) → IsTrue (is_between 100 999 status) → word.now ≡ decimal status → result ≡ Ok status }
+    ensures fault { IfErr result (λ fault. fault ≡ WordFault.Bad) }
+{
+    match read_number(word) {
+        Some(number) if number <= 999 => Status::of(number as u16).ok_or(WordFault::Bad),
+        _ => Err(WordFault::Bad),
+    }
 }
 
 // The endpoint or the event that is shown.

@@ -1,6 +1,14 @@
+use Rattle.std.proofs.Common.{◌∙◌, [], refl}
+use Rattle.std.proofs.lemmas.Grind.{merely}
+use Rattle.desk.specs.Moves.{opened}
+use Rattle.drill.specs.Moves.{begun}
 use Rattle.drill.proofs.CommitLaws.{started_stands}
 use Rattle.drill.proofs.runner.start.Goals as goal
 
+pub invariant_of-result : goal.invariant_of-result
+invariant_of-result g c = record { stands = merely (begun, c.of.ensures.stands (opened [] 0) c.in-Ok-new.ensures.stands refl refl) }
+
 pub returns-in-Ok-new-clause-stands : goal.returns-in-Ok-new-clause-stands
-returns-in-Ok-new-clause-stands g c clean begun =
-    started_stands _ g.S.Store c.args.conn c.args.mark c.in-Ok.vault c.in-Ok-new.desk c.new-in-Ok-new.result (c.in-Ok.ensures.opened clean) begun c.in-Ok-new.ensures.mark c.in-Ok-new.ensures.stands c.new-in-Ok-new.ensures
+returns-in-Ok-new-clause-stands g c clean none =
+    started_stands g.S.Store c.args.conn c.args.mark c.in-Ok.vault c.of.result (c.in-Ok.ensures.opened clean) none (c.of.ensures.mark ∙ c.in-Ok-new.ensures.mark)
+    (c.of.ensures.stands (opened [] 0) c.in-Ok-new.ensures.stands refl refl)

@@ -1,7 +1,0 @@
-use Rattle.std.proofs.Common.{refl}
-use Rattle.drill.proofs.TurnLaws.{answers_settled}
-use Rattle.drill.proofs.runner.Runner.settle.Goals as goal
-
-pub returns-in-Ok-clause-answers : goal.returns-in-Ok-clause-answers
-returns-in-Ok-clause-answers g c =
-    answers_settled g.S.Store c.args.self.now _ c.in-Receipt.receipt _ c.in-Receipt.ensures.value c.in-Ok.ensures.moves c.in-Ok.ensures.records c.in-Ok.ensures.mark refl refl c.replace.ensures.after

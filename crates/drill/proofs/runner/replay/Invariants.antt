@@ -1,4 +1,0 @@
-use Rattle.drill.proofs.runner.replay.Given as goal
-
-abbrev pub ghosts-replay_with : goal.ghosts-replay_with
-ghosts-replay_with g a = record { name = a.blank.name; parts = a.blank.parts }

@@ -1,0 +1,95 @@
+-- The desk with what it has handed out, and the sessions for which they stand.
+use Rattle.std.specs.Prelude.{◌≡◌, ℕ, ◌≤◌, ◌<◌, Bool, true, false, List, Option, Some, None, count_by, ◌==◌, vec_len, vec_capacity}
+use Rattle.relay_types.specs.Values.{Seq}
+use Rattle.permits.specs.declared.row.Row.{Row}
+use Rattle.spool.specs.Batches.{BatchValue, doubt_of}
+use Rattle.group_commit.specs.declared.held.Held as waiting
+use Rattle.group_commit.specs.declared.held.Held.TheVariants as waiting_held
+use Rattle.script_lines.specs.declared.event.Event.{Event}
+use Rattle.script_lines.specs.declared.event.Event.TheVariants as on
+use Rattle.script_lines.specs.declared.reply.Reply.{Reply}
+use Rattle.script_lines.specs.declared.reply.Reply.TheVariants as says
+use Rattle.drill.specs.declared.held.Held.{Held}
+use Rattle.drill.specs.declared.held.Held.TheVariants as held
+use Rattle.drill.specs.declared.calls.Core.{Core}
+use Rattle.desk.specs.World.{World, Nothing, Batch, Receipt, Doubt}
+use Rattle.desk.specs.Moves.{sealed_batch, with_halt}
+use Rattle.desk.specs.Desks.{StandsFor, IsHeldOf}
+use Rattle.drill.specs.Moves.{Session, Answer, MayTell, wrong_turn}
+use Rattle.drill.specs.declared.tickets.Given.{Given}
+use Rattle.drill.specs.Tickets as tickets
+
+-- what is out at the desk is held
+abbrev pub IsHeld : (mark : ℕ) → World → Held → Type 0
+IsHeld mark w held.Nothing = w.out ≡ Nothing
+IsHeld mark w (held.Batch batch) = (w.out ≡ Batch) × (batch ≡ sealed_batch mark w)
+IsHeld mark w (held.Receipt receipt) = (w.out ≡ Receipt) × (receipt ≡ sealed_batch mark w)
+IsHeld mark w (held.Doubt doubt) = (w.out ≡ Doubt) × (doubt ≡ doubt_of (sealed_batch mark w))
+
+-- at most one attempt at each delivery is under way
+abbrev pub AreOnce : List Row → Type 0
+AreOnce rows = (delivery : Seq) → count_by (λ row. row.delivery == delivery) rows ≤ 1
+
+-- The desk, what is held, the permits and the tickets stand for one session: all that is out is held.
+pub record CoreStandsFor {L : Type 0} (core : Core L) (s : Session) : Type 0 where
+  pub desk : StandsFor core.desk s.world
+  pub held : IsHeld core.desk.waiting.mark s.world core.held
+  pub permits : core.permits.items ≡ s.world.live
+  pub once : AreOnce s.world.live
+  pub tickets : tickets.Keeps core.tickets s.tickets
+
+-- they stand for some session
+abbrev pub IsCore : {L : Type 0} → Core L → Type 0
+IsCore core = ∥ ((s : Session) × CoreStandsFor core s) ∥₁
+
+-- one more ticket and one more permit can be kept without memory
+abbrev pub HasRoom : {L : Type 0} → Core L → Type 0
+HasRoom core = tickets.HasRoom core.tickets × (vec_len core.permits < vec_capacity core.permits)
+
+-- Room was made: what is kept stays.
+pub record KeepsAll {L : Type 0} (old new : Core L) : Type 0 where
+  pub desk : new.desk ≡ old.desk
+  pub held : new.held ≡ old.held
+  pub permits : new.permits.items ≡ old.permits.items
+  pub tickets : (given : List Given) → tickets.Keeps old.tickets given → tickets.Keeps new.tickets given
+
+-- From each session for which they stood, a call was told what this answer may tell, and they stand for what came of it.
+pub record CoreAnswers {L : Type 0} (old : Core L) (answer : Session → Answer) (reply : Reply) (new : Core L) : Type 0 where
+  pub mark : new.desk.waiting.mark ≡ old.desk.waiting.mark
+  pub moves : (s : Session) → CoreStandsFor old s → (next : Session) × MayTell (answer s) reply next × CoreStandsFor new next
+
+-- whether the call is one of the store
+abbrev pub is_commit : Event → Bool
+is_commit on.Commit = true
+is_commit event = false
+
+-- a receipt, and what a committer that gives up hands over of what is held
+abbrev pub receipt_of : Held → Option BatchValue
+receipt_of held.Nothing = None
+receipt_of (held.Batch batch) = None
+receipt_of (held.Receipt receipt) = Some receipt
+receipt_of (held.Doubt doubt) = None
+
+abbrev pub given_of : Held → waiting.Held
+given_of held.Nothing = waiting_held.Nothing
+given_of (held.Batch batch) = waiting_held.Batch batch
+given_of (held.Receipt receipt) = waiting_held.Nothing
+given_of (held.Doubt doubt) = waiting_held.Doubt doubt
+
+-- Where what is handed over is what is out, the desk takes it and is halted; otherwise it goes on as before.
+abbrev pub HandsOver : {L : Type 0} → Core L → waiting.Held → Reply → Core L → Type 0
+HandsOver old given reply new =
+    (w : World) → StandsFor old.desk w → IsHeldOf old.desk.waiting.mark w given
+    → (reply ≡ says.Halted) × (new.held ≡ old.held) × StandsFor new.desk (with_halt w)
+
+abbrev pub KeepsOn : {L : Type 0} → Core L → waiting.Held → Reply → Core L → Type 0
+KeepsOn old given reply new =
+    (w : World) → StandsFor old.desk w → ¬ IsHeldOf old.desk.waiting.mark w given
+    → (reply ≡ wrong_turn) × StandsFor new.desk w
+
+-- what may be held after a commit of the batch
+abbrev pub IsOfBatch : BatchValue → Held → Type 0
+IsOfBatch batch held.Nothing = ⊥
+IsOfBatch batch (held.Batch back) = back ≡ batch
+IsOfBatch batch (held.Receipt receipt) = receipt ≡ batch
+IsOfBatch batch (held.Doubt doubt) = doubt ≡ doubt_of batch

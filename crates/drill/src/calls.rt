@@ -1,0 +1,133 @@
+//! The desk, with all that it has handed out.
+ghost use Rattle.std.specs.Prelude.{◌≡◌, [], ◌≤◌, ◌+◌, false, IsPermutation, OnOk, vec_capacity, vec_len};
+ghost use Rattle.script_lines.specs.declared.event.Event.TheVariants as on;
+ghost use Rattle.desk.specs.World.{World, Nothing};
+ghost use Rattle.desk.specs.Desks.{StandsFor};
+ghost use Rattle.drill.specs.Moves.{answer_to};
+ghost use Rattle.drill.specs.Cores.{CoreStandsFor, CoreAnswers, IsCore, HasRoom, KeepsAll, is_commit};
+ghost use Rattle.drill.specs.Runners.{Answers, IsCleanAt};
+
+use crate::held::Held;
+use crate::tickets::Tickets;
+use desk::{Command, Desk};
+use permits::Permit;
+use script_lines::{Event, Reply};
+use spool::Vault;
+use sqlite::Alter;
+use std::alloc::{AllocError, Global};
+use std::mem;
+use std::sync::ledger::Ledger;
+
+/// The desk, what it handed out and didn't take back, and the tickets that it gave.
+pub(crate) struct Core<L: Ledger> {
+    pub(crate) desk: Desk<L>,
+    pub(crate) held: Held,
+    pub(crate) permits: Vec<Permit<L>>,
+    pub(crate) tickets: Tickets,
+}
+
+impl<L: Ledger> Core<L> {
+    // A desk that has handed out nothing.
+    pub(crate) fn of(alloc: Global, desk: Desk<L>) -> Core<L>
+        ensures mark { result.desk.waiting.mark ≡ desk.waiting.mark }
+        ensures stands { (w : World) → StandsFor desk w → w.out ≡ Nothing → w.live ≡ []
+            → CoreStandsFor result (record { world = w; tickets = [] }) }
+    {
+        Core {
+            desk,
+            held: Held::Nothing,
+            permits: Vec::new(alloc),
+            tickets: Tickets::new(alloc),
+        }
+    }
+
+    // Makes room for what one call may hand out.
+    pub(crate) fn reserve(&mut self) -> Result<(), AllocError>
+        ensures same { KeepsAll self.old self.new }
+        ensures room { OnOk result (HasRoom self.new) }
+    {
+        self.tickets.reserve()?;
+        self.permits.reserve(1)
+    }
+
+    // Gives the call to the desk or the store. There is room for what it hands out.
+    pub(crate) fn carry_out<S: Alter>(&mut self, vault: &mut Vault<S>, event: Event) -> Reply
+        requires room { HasRoom self.old }
+        requires core { IsCore self.old }
+        ensures answers { IsCleanAt S.Store vault.new.conn
+            → Answers S.Store self.old vault.old (λ s. answer_to s event) result self.new vault.new }
+        ensures core { IsCore self.new }
+        ensures clean { IsCleanAt S.Store vault.new.conn → IsCleanAt S.Store vault.old.conn }
+    {
+        match event {
+            Event::Commit => self.commit(vault),
+            other => self.call(other),
+        }
+    }
+
+    // Gives the call to the desk.
+    fn call(&mut self, event: Event) -> Reply
+        requires room { HasRoom self.old }
+        requires core { IsCore self.old }
+        requires desk { is_commit event ≡ false }
+        ensures { CoreAnswers self.old (λ s. answer_to s event) result self.new }
+    {
+        match event {
+            Event::Put {
+                name,
+                target,
+                max,
+                secrets,
+            } => self.command(Command::PutEndpoint {
+                name,
+                target,
+                max,
+                secrets,
+            }),
+            Event::Secrets { name, secrets } => self.command(Command::SetSecrets { name, secrets }),
+            Event::Enabled { name, flag } => self.command(Command::SetEnabled { name, flag }),
+            Event::Submit {
+                now,
+                name,
+                id,
+                body,
+            } => self.submit(now, name, id, body),
+            Event::Told { seq } => self.told(seq),
+            Event::Claim { now } => self.claim(now),
+            Event::Spend {
+                delivery,
+                now,
+                post,
+            } => self.spend(delivery, now, post),
+            Event::Limits { name } => self.limits(name),
+            Event::Seal => self.seal(),
+            Event::Commit => unreachable!(),
+            Event::Settle => self.settle(),
+            Event::Unseal => self.unseal(),
+            Event::Halt => self.halt(),
+            Event::ShowEndpoint { name } => self.show_endpoint(name),
+            Event::Show { name, id } => self.show(name, &id),
+        }
+    }
+
+    // Holds this in place of what was held, which is ended.
+    pub(crate) fn hold(&mut self, held: Held)
+        ensures { self.new ≡ record self.old { held = held } }
+    {
+        mem::replace(&mut self.held, held).end();
+    }
+
+    // Closes the desk, with all that is out.
+    pub(crate) fn close(self)
+        requires { IsCore self }
+    {
+        let Core {
+            desk,
+            held,
+            permits,
+            tickets: _,
+        } = self;
+        let (receipt, held) = held.parts();
+        desk.close(permits, receipt, held);
+    }
+}

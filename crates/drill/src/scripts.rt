@@ -1,0 +1,92 @@
+//! Scripts: each line is a call of the desk or a commit of the store.
+ghost use Rattle.std.specs.Prelude.{◌≡◌, false, Err, IsTrue};
+ghost use Rattle.permits.specs.declared.pool.TheConstants.{PARTS};
+ghost use Rattle.sqlite.specs.Held.{state};
+ghost use Rattle.spool.specs.Opening.{has_ours};
+ghost use Rattle.text_lines.specs.Ends.{IsBetweenLines};
+ghost use Rattle.drill.specs.Runners.{IsCleanAt, HasNoTable};
+ghost use Rattle.drill.specs.Replays.{Replays, KeepsRun, RunsLine};
+ghost use Rattle.drill.specs.Runs.{IsNoCall};
+
+use crate::runner::{Runner, start};
+use permits::PARTS;
+use script_lines::{Reply, read_event};
+use sqlite::{Alter, Connection};
+use std::alloc::Global;
+use std::io::{Read, Write};
+use std::marker::Brand;
+use std::sync::ledger::{Blank, Ledger};
+use text_lines::{Answerer, StreamFault, WordFault, answer_lines};
+
+impl<L: Ledger, S: Alter> Answerer for Runner<L, S> {
+    type Reply = Reply;
+
+    ghost Answers = { RunsLine S.Store };
+
+    ghost IsNoLine = { IsNoCall };
+
+    ghost IsClean = { λ runner. IsCleanAt S.Store runner.vault.conn };
+
+    fn answer(&mut self, alloc: Global, line: &[u8]) -> Result<Reply, WordFault> {
+        let event = read_event(alloc, line)?;
+        self.core.reserve()?;
+        Ok(self.core.carry_out(&mut self.vault, event))
+    }
+}
+
+/// Runs the script that the reader gives over a store without tables, and writes a reply for each line. A store that has one of the
+/// relay's tables, or whose connection is in a transaction, is `Lost`, and nothing is written. The connection
+/// comes back, outside a transaction if it came so; where the script ended between two lines, with the rows that its commits wrote.
+pub fn replay<S: Alter, I: Read, O: Write>(
+    alloc: Global,
+    input: &mut I,
+    output: &mut O,
+    conn: Connection<S>,
+    mark: u64,
+) -> (Connection<S>, Result<(), StreamFault>)
+    ensures replays { IsCleanAt S.Store result.0 → HasNoTable S.Store conn
+        → Replays (I.remaining input.old) (O.contents output.old) (O.contents output.new) result.1 }
+    ensures rows { IsCleanAt S.Store result.0 → HasNoTable S.Store conn → IsBetweenLines result.1
+        → KeepsRun S.Store result.0 (I.remaining input.old) (O.contents output.old) (O.contents output.new) result.1 }
+    ensures clean { IsCleanAt S.Store result.0 → IsCleanAt S.Store conn }
+    ensures mode { conn.in_transaction ≡ false → result.0.in_transaction ≡ false }
+    ensures busy { IsTrue conn.in_transaction
+        → (result ≡ (conn, Err StreamFault.Lost)) × (output.new ≡ output.old) }
+    ensures taken { IsTrue (has_ours (state S.Store conn).now.schema)
+        → (result.1 ≡ Err StreamFault.Lost) × (output.new ≡ output.old) }
+{
+    replay_with::<Brand, S, I, O>(alloc, Blank::new(PARTS), input, output, conn, mark)
+}
+
+// The script over a ledger of its own.
+fn replay_with<L: Ledger, S: Alter, I: Read, O: Write>(
+    alloc: Global,
+    blank: Blank,
+    input: &mut I,
+    output: &mut O,
+    conn: Connection<S>,
+    mark: u64,
+) -> (Connection<S>, Result<(), StreamFault>)
+    requires name { blank.name ≡ L.name }
+    requires parts { blank.parts ≡ L.parts }
+    requires enough { blank.parts ≡ PARTS }
+    ensures replays { IsCleanAt S.Store result.0 → HasNoTable S.Store conn
+        → Replays (I.remaining input.old) (O.contents output.old) (O.contents output.new) result.1 }
+    ensures rows { IsCleanAt S.Store result.0 → HasNoTable S.Store conn → IsBetweenLines result.1
+        → KeepsRun S.Store result.0 (I.remaining input.old) (O.contents output.old) (O.contents output.new) result.1 }
+    ensures clean { IsCleanAt S.Store result.0 → IsCleanAt S.Store conn }
+    ensures mode { conn.in_transaction ≡ false → result.0.in_transaction ≡ false }
+    ensures busy { IsTrue conn.in_transaction
+        → (result ≡ (conn, Err StreamFault.Lost)) × (output.new ≡ output.old) }
+    ensures taken { IsTrue (has_ours (state S.Store conn).now.schema)
+        → (result.1 ≡ Err StreamFault.Lost) × (output.new ≡ output.old) }
+{
+    match start::<L, S>(alloc, blank, conn, mark) {
+        Ok(runner) => {
+            let mut runner = runner;
+            let end = answer_lines(alloc, &mut runner, input, output);
+            (runner.close(), end)
+        }
+        Err((conn, fault)) => (conn, Err(fault)),
+    }
+}
