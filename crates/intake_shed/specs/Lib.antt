@@ -1,6 +1,7 @@
 pub mod Bodies
 pub mod Lines
 pub mod Members
+pub mod Pages
 pub mod Replies
 pub mod Requests
 pub mod Routes

@@ -1,4 +1,7 @@
 //! Requests, and what they ask for.
+ghost use Rattle.std.specs.Prelude.{◌≡◌};
+ghost use Rattle.intake_shed.specs.Pages.{asks_for_page};
+
 use desk::Command;
 use relay_types::{Body, MsgId, Name};
 
@@ -28,4 +31,16 @@ pub enum Asked {
     Endpoint(Name),
     /// The page of an endpoint's event.
     Event(Name, MsgId),
+}
+
+impl Asked {
+    /// Whether a page is asked for, and no change.
+    pub fn asks_for_page(&self) -> bool
+        ensures { result ≡ asks_for_page self.now }
+    {
+        match self {
+            Asked::Change(_) | Asked::Post { .. } => false,
+            Asked::Totals | Asked::Endpoint(_) | Asked::Event(_, _) => true,
+        }
+    }
 }

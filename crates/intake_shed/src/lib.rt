@@ -5,6 +5,7 @@ mod ask;
 mod changes;
 mod fault;
 mod members;
+mod pages;
 mod reading;
 mod refusals;
 mod reply;
@@ -12,6 +13,7 @@ mod routes;
 
 pub use crate::ask::{Ask, Asked};
 pub use crate::fault::AskFault;
+pub use crate::pages::page_reply;
 pub use crate::reading::read_ask;
 pub use crate::refusals::refusal_reply;
 pub use crate::reply::{Reply, ReplyText};
