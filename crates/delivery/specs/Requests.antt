@@ -38,7 +38,7 @@ pub record Request : Type 0 where
   pub headers : List HeaderField
   pub body : Text
 
--- whom the request is for, as the subscriber's URL has it, who posts, what the body is, and that nothing comes behind it
+-- the subscriber's host and port as they are written, who posts, what the body is, and that no other request follows
 abbrev pub connection_headers : (target body : Text) → List HeaderField
 connection_headers target body =
     header Host (authority_of target)

@@ -43,7 +43,7 @@ impl HeaderName {
     }
 }
 
-/// A header of a request. Its value is printable ASCII, which every header may have as its value (RFC 9110, section 5.5).
+/// A header of a request. Its value is printable ASCII, which any header may have (RFC 9110, section 5.5).
 #[derive(Drop)]
 pub struct Header {
     name: HeaderName,

@@ -6,4 +6,4 @@ pub add-requires : goal.add-requires
 add-requires c = rw c.as_bytes.ensures.text (visible_printable c.args.id c.as_bytes.ensures.visible)
 
 pub add-requires-2 : goal.add-requires-2
-add-requires-2 c = rw (c.as_bytes-2.ensures.value, c.in_ok-timestamp.ensures.ok) (decimal_printable c.seconds.result (search rules))
+add-requires-2 c = rw (c.as_bytes-2.ensures.value, c.in_ok-timestamp.ensures.ok) (decimal_printable _ (search rules))
