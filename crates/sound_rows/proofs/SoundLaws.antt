@@ -1,0 +1,181 @@
+-- What is asked of rows, and what of their numbers.
+use Rattle.std.proofs.Common.{◌≡◌, ℕ, ◌+◌, ◌==◌, Bool, true, false, ◌&&◌, ◌||◌, List, [], ◌∷◌, length, map, refl, sym, ap, ◌∙◌, cond}
+use Rattle.std.specs.Prelude.{not, nat_le, nat_lt, filter, count_by}
+use Rattle.std.specs.List.{list_any, list_all, range_with_len}
+use Rattle.std.proofs.lemmas.List.{length-map}
+use Rattle.std.proofs.lemmas.List.Folds.{fold-map, list_all-map}
+use Rattle.relay_types.specs.declared.limits.TheConstants.{MAX_ENDPOINTS, MAX_FAILURES, MAX_RECORDS}
+use Rattle.relay_types.specs.Values.{is_msg_id, is_body, is_moment}
+use Rattle.relay_types.specs.Judging.{is_delivered_status, is_gone_status, is_failed_status}
+use Rattle.relay_types.specs.Legal.{is_status}
+use Rattle.relay_types.specs.Rows.{Rows, EndpointRow, DeliveryRow, AttemptRow}
+use Rattle.relay_types.specs.Sound as rows
+use Rattle.relay_types.proofs.KnownLaws.{and_first, and_second}
+use Rattle.relay_types.proofs.FilterLaws.{rising_map}
+use Rattle.sound_rows.specs.declared.numbers.Endpoint.{Endpoint}
+use Rattle.sound_rows.specs.declared.numbers.Delivery.{Delivery}
+use Rattle.sound_rows.specs.declared.numbers.Attempt.{Attempt}
+use Rattle.sound_rows.specs.Numbers.{numbers_of, of_endpoint, of_delivery, of_attempt, AreAscending, AreValues}
+use Rattle.sound_rows.specs.Checks.{are_below, is_put, is_delivery, is_attempt, is_taken, are_apart, is_secrets_place, is_gone_attempt, is_flag_place, are_behind, before, is_turn, is_named, is_overtaken, are_others_overtaken, are_numbers_sound}
+use Rattle.sound_rows.proofs.SearchLaws.{rising_ascends}
+
+-- Lists that are mapped
+
+any_map : {X Y : Type 0} (f : X → Y) (test : Y → Bool) (xs : List X) → list_any test (map f xs) ≡ list_any (λ x. test (f x)) xs
+any_map f test [] = refl
+any_map f test (x ∷ xs) = ap (λ b. test (f x) || b) (any_map f test xs)
+
+filter_map : {X Y : Type 0} (f : X → Y) (test : Y → Bool) (xs : List X) → filter test (map f xs) ≡ map f (filter (λ x. test (f x)) xs)
+filter_map f test [] = refl
+filter_map {X} {Y} f test (x ∷ xs) = at (test (f x)) (filter_map f test xs)
+  where
+    at : (b : Bool) → filter test (map f xs) ≡ map f (filter (λ y. test (f y)) xs)
+        → cond b (f x ∷ filter test (map f xs)) (filter test (map f xs)) ≡ map f (cond b (x ∷ filter (λ y. test (f y)) xs) (filter (λ y. test (f y)) xs))
+    at true rest = ap (λ ys. f x ∷ ys) rest
+    at false rest = rest
+
+count_map : {X Y : Type 0} (f : X → Y) (test : Y → Bool) (xs : List X) → count_by test (map f xs) ≡ count_by (λ x. test (f x)) xs
+count_map f test xs = fold-map (λ n y. n + cond (test y) 1 0) f 0 xs
+
+-- two tests tell the same of a list whose elements pass a third, where these two tell the same of what passes it
+all_same : {X : Type 0} (p q r : X → Bool) (xs : List X) → list_all q xs ≡ true → ((x : X) → q x ≡ true → p x ≡ r x) → list_all p xs ≡ list_all r xs
+all_same p q r [] h same = refl
+all_same p q r (x ∷ xs) h same = λ i. same x (and_first (q x) (list_all q xs) h) i && all_same p q r xs (and_second (q x) (list_all q xs) h) same i
+
+-- Each condition
+
+module _ (all : Rows) where
+  put_same : (n : ℕ) → is_put (numbers_of all) n ≡ rows.is_put_at all n
+  put_same n = any_map of_endpoint (λ e. e.put == n) all.endpoints
+
+  delivery_same : (n : ℕ) → is_delivery (numbers_of all) n ≡ rows.is_delivery_at all n
+  delivery_same n = any_map of_delivery (λ d. d.seq == n) all.deliveries
+
+  attempt_same : (n : ℕ) → is_attempt (numbers_of all) n ≡ rows.is_attempt_at all n
+  attempt_same n = any_map of_attempt (λ t. t.seq == n) all.attempts
+
+  taken_same : (n : ℕ) → is_taken (numbers_of all) n ≡ rows.is_taken all n
+  taken_same n = λ i. put_same n i || (delivery_same n i || attempt_same n i)
+
+  below_same : are_below (numbers_of all) ≡ rows.are_numbers_below all
+  below_same = λ i.
+      nat_le all.records MAX_RECORDS
+      && (list_all-map (λ (e : Endpoint). nat_lt e.put all.records && (nat_lt e.enabled_by all.records && nat_lt e.secrets_by all.records)) of_endpoint all.endpoints i
+      && (list_all-map (λ (d : Delivery). nat_lt d.seq all.records) of_delivery all.deliveries i && list_all-map (λ (t : Attempt). nat_lt t.seq all.records) of_attempt all.attempts i))
+
+  apart_same : are_apart (numbers_of all) ≡ rows.are_numbers_apart all
+  apart_same = λ i. endpoints i && deliveries i
+    where
+      endpoints : list_all (λ (e : Endpoint). not (is_delivery (numbers_of all) e.put || is_attempt (numbers_of all) e.put)) (map of_endpoint all.endpoints)
+          ≡ list_all (λ (e : EndpointRow). not (rows.is_delivery_at all e.put || rows.is_attempt_at all e.put)) all.endpoints
+      endpoints = list_all-map (λ (e : Endpoint). not (is_delivery (numbers_of all) e.put || is_attempt (numbers_of all) e.put)) of_endpoint all.endpoints
+          ∙ ap (λ f. list_all f all.endpoints) (λ i e. not (delivery_same e.put i || attempt_same e.put i))
+
+      deliveries : list_all (λ (d : Delivery). not (is_attempt (numbers_of all) d.seq)) (map of_delivery all.deliveries)
+          ≡ list_all (λ (d : DeliveryRow). not (rows.is_attempt_at all d.seq)) all.deliveries
+      deliveries = list_all-map (λ (d : Delivery). not (is_attempt (numbers_of all) d.seq)) of_delivery all.deliveries ∙ ap (λ f. list_all f all.deliveries) (λ i d. not (attempt_same d.seq i))
+
+  endpoint_any : (test : Endpoint → Bool) → list_any test (map of_endpoint all.endpoints) ≡ list_any (λ e. test (of_endpoint e)) all.endpoints
+  endpoint_any test = any_map of_endpoint test all.endpoints
+
+  secrets_same : (e : EndpointRow) → is_secrets_place (numbers_of all) (of_endpoint e) ≡ rows.is_secrets_place all e
+  secrets_same e = λ i.
+      e.secrets_by == e.put
+      || (nat_lt e.put e.secrets_by && (not (taken_same e.secrets_by i)
+      && (not (endpoint_any (λ f. f.secrets_by == e.secrets_by && not (f.put == e.put)) i)
+      && not (endpoint_any (λ f. f.enabled_by == e.secrets_by) i))))
+
+  gone_same : (e : EndpointRow) (t : AttemptRow) → is_gone_attempt (numbers_of all) (of_endpoint e) (of_attempt t) ≡ rows.is_gone_attempt_of all e t
+  gone_same e t = λ i. is_gone_status t.status && any_map of_delivery (λ d. d.seq == t.delivery && d.endpoint == e.put) all.deliveries i
+
+  gone_any : (e : EndpointRow) (test : ℕ → Bool) → list_any (λ (t : Attempt). test t.seq && is_gone_attempt (numbers_of all) (of_endpoint e) t) (map of_attempt all.attempts)
+      ≡ list_any (λ (t : AttemptRow). test t.seq && rows.is_gone_attempt_of all e t) all.attempts
+  gone_any e test = any_map of_attempt (λ (t : Attempt). test t.seq && is_gone_attempt (numbers_of all) (of_endpoint e) t) all.attempts
+      ∙ ap (λ f. list_any f all.attempts) (λ i t. test t.seq && gone_same e t i)
+
+  flag_same : (e : EndpointRow) → is_flag_place (numbers_of all) (of_endpoint e) ≡ rows.is_flag_place all e
+  flag_same e = λ i.
+      (e.enabled_by == e.put && e.enabled
+      || (gone_any e (λ n. n == e.enabled_by) i && not e.enabled
+      || (nat_lt e.put e.enabled_by && (not (taken_same e.enabled_by i)
+      && (not (endpoint_any (λ f. f.enabled_by == e.enabled_by && not (f.put == e.put)) i)
+      && not (endpoint_any (λ f. f.secrets_by == e.enabled_by) i))))))
+      && not (gone_any e (λ n. nat_lt e.enabled_by n) i)
+
+  endpoints_all : (p : Endpoint → Bool) (q : EndpointRow → Bool) → ((e : EndpointRow) → p (of_endpoint e) ≡ q e) → list_all p (map of_endpoint all.endpoints) ≡ list_all q all.endpoints
+  endpoints_all p q same = list_all-map p of_endpoint all.endpoints ∙ ap (λ f. list_all f all.endpoints) (λ i e. same e i)
+
+  few_same : AreValues all → nat_le (length (map of_endpoint all.endpoints)) MAX_ENDPOINTS ≡ rows.are_endpoint_rows all
+  few_same values = ap (λ n. nat_le n MAX_ENDPOINTS) (length-map all.endpoints of_endpoint) ∙ sym (and_true (nat_le (length all.endpoints) MAX_ENDPOINTS)) ∙ ap (λ b. nat_le (length all.endpoints) MAX_ENDPOINTS && b) (sym values.endpoints)
+    where
+      and_true : (b : Bool) → b && true ≡ b
+      and_true true = refl
+      and_true false = refl
+
+  behind_same : AreValues all → are_behind (numbers_of all) ≡ list_all rows.is_delivery_row all.deliveries
+  behind_same values = list_all-map (λ (d : Delivery). nat_lt d.endpoint d.seq) of_delivery all.deliveries
+      ∙ all_same (λ (d : DeliveryRow). nat_lt d.endpoint d.seq) (λ d. is_msg_id d.id && (is_body d.body && is_moment d.at)) rows.is_delivery_row all.deliveries values.deliveries (λ d h. sym (and_true (nat_lt d.endpoint d.seq)) ∙ ap (λ b. nat_lt d.endpoint d.seq && b) (sym h))
+    where
+      and_true : (b : Bool) → b && true ≡ b
+      and_true true = refl
+      and_true false = refl
+
+  -- Attempts
+
+  before_same : (t : AttemptRow) → before (map of_attempt all.attempts) (of_attempt t) ≡ map of_attempt (rows.attempts_before all t)
+  before_same t = ap (filter (λ (s : Attempt). s.delivery == t.delivery)) (filter_map of_attempt (λ s. nat_lt s.seq t.seq) all.attempts)
+      ∙ filter_map of_attempt (λ s. s.delivery == t.delivery) (filter (λ (s : AttemptRow). nat_lt s.seq t.seq) all.attempts)
+
+  turn_same : (t : AttemptRow) → is_moment t.at ≡ true → is_turn (map of_attempt all.attempts) (of_attempt t) ≡ rows.is_attempt_row all t
+  turn_same t moment = λ i.
+      nat_lt t.delivery t.seq
+      && (t.number == count i + 1
+      && (is_status t.status && with_moment (not (delivered i) && nat_lt (failures i) MAX_FAILURES) i))
+    where
+      count : length (before (map of_attempt all.attempts) (of_attempt t)) ≡ length (rows.attempts_before all t)
+      count = ap length (before_same t) ∙ length-map (rows.attempts_before all t) of_attempt
+
+      delivered : list_any (λ (s : Attempt). is_delivered_status s.status) (before (map of_attempt all.attempts) (of_attempt t)) ≡ list_any (λ (s : AttemptRow). is_delivered_status s.status) (rows.attempts_before all t)
+      delivered = ap (list_any (λ (s : Attempt). is_delivered_status s.status)) (before_same t) ∙ any_map of_attempt (λ s. is_delivered_status s.status) (rows.attempts_before all t)
+
+      failures : count_by (λ (s : Attempt). is_failed_status s.status) (before (map of_attempt all.attempts) (of_attempt t)) ≡ count_by (λ (s : AttemptRow). is_failed_status s.status) (rows.attempts_before all t)
+      failures = ap (count_by (λ (s : Attempt). is_failed_status s.status)) (before_same t) ∙ count_map of_attempt (λ s. is_failed_status s.status) (rows.attempts_before all t)
+
+      with_moment : (b : Bool) → b ≡ is_moment t.at && b
+      with_moment b = ap (λ m. m && b) (sym moment)
+
+  turns_same : AreValues all → list_all (is_turn (map of_attempt all.attempts)) (map of_attempt all.attempts) ≡ list_all (rows.is_attempt_row all) all.attempts
+  turns_same values = list_all-map (is_turn (map of_attempt all.attempts)) of_attempt all.attempts
+      ∙ all_same (λ (t : AttemptRow). is_turn (map of_attempt all.attempts) (of_attempt t)) (λ t. is_moment t.at) (rows.is_attempt_row all) all.attempts values.attempts turn_same
+
+  -- Records that no row names
+
+  named_same : (n : ℕ) → is_named (numbers_of all) n ≡ rows.is_named all n
+  named_same n = λ i. taken_same n i || endpoint_any (λ e. e.enabled_by == n || e.secrets_by == n) i
+
+  others_same : are_others_overtaken (numbers_of all) ≡ rows.are_others_overtaken all
+  others_same = ap (λ f. list_all f (range_with_len 0 all.records)) (λ i n. named_same n i || endpoint_any (is_overtaken n) i)
+
+  -- All of them
+
+  pub sound_same : AreValues all → are_numbers_sound (numbers_of all) ≡ rows.are_sound all
+  sound_same values = (λ i.
+      below_same i
+      && ((apart_same i && (few_same values i && (endpoints_all (is_secrets_place (numbers_of all)) (rows.is_secrets_place all) secrets_same i
+      && (endpoints_all (is_flag_place (numbers_of all)) (rows.is_flag_place all) flag_same i && behind_same values i))))
+      && (turns_same values i && others_same i)))
+      ∙ ap (λ b. rows.are_numbers_below all && b) (regroup (rows.are_numbers_apart all) (rows.are_endpoint_rows all) (list_all (rows.is_secrets_place all) all.endpoints) (list_all (rows.is_flag_place all) all.endpoints)
+      (list_all rows.is_delivery_row all.deliveries) (list_all (rows.is_attempt_row all) all.attempts && rows.are_others_overtaken all))
+    where
+      regroup : (a b c d e r : Bool) → (a && (b && (c && (d && e)))) && r ≡ a && (b && (c && (d && (e && r))))
+      regroup false b c d e r = refl
+      regroup true false c d e r = refl
+      regroup true true false d e r = refl
+      regroup true true true false e r = refl
+      regroup true true true true e r = refl
+
+  pub keyed_ascends : rows.AreKeyed all → AreAscending (numbers_of all)
+  keyed_ascends keyed = record {
+    deliveries = rising_ascends (λ (d : Delivery). d.seq) 0 (map of_delivery all.deliveries) (rising_map of_delivery (λ (d : Delivery). d.seq) 0 all.deliveries keyed.deliveries_rise);
+    attempts = rising_ascends (λ (t : Attempt). t.seq) 0 (map of_attempt all.attempts) (rising_map of_attempt (λ (t : Attempt). t.seq) 0 all.attempts keyed.attempts_rise);
+  }

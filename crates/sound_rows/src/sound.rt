@@ -1,0 +1,31 @@
+//! The check of all rows.
+ghost use Rattle.std.specs.Prelude.{◌≡◌, IfOk};
+ghost use Rattle.relay_types.specs.Rows.{Rows};
+ghost use Rattle.relay_types.specs.Sound.{AreKeyed, are_sound};
+ghost use Rattle.sound_rows.specs.Numbers.{AreNumbersOf, AreValues};
+
+use crate::numbers::Numbers;
+use crate::turns::are_in_turn;
+use std::alloc::{AllocError, Global};
+
+impl Numbers {
+    /// Whether rows with these numbers are such as a legal history has, where the values in them keep their rules and the
+    /// tables keep their keys. It takes memory for what came of each event, and time in proportion to `n log n`, for the
+    /// endpoints are few. An error is want of memory.
+    pub fn are_sound(&self, alloc: Global) -> Result<bool, AllocError>
+        ensures { IfOk result (λ answer. (rows : Rows)
+            → AreNumbersOf self.now rows → AreKeyed rows → AreValues rows → answer ≡ are_sound rows) }
+    {
+        if !self.are_below() {
+            return Ok(false);
+        }
+        if !self.are_ascending() {
+            return Ok(false);
+        }
+        if !self.have_places() {
+            return Ok(false);
+        }
+        let are_in_turn = are_in_turn(&self.attempts, alloc)?;
+        Ok(are_in_turn && self.are_others_overtaken())
+    }
+}
