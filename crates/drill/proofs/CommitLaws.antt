@@ -16,7 +16,7 @@ use Rattle.spool.specs.declared.ends.CommitEnd.{CommitEnd}
 use Rattle.spool.specs.declared.ends.CommitEnd.TheVariants as ends
 use Rattle.spool.specs.declared.ends.Unchanged.{Unchanged}
 use Rattle.spool.specs.declared.ends.Unchanged.TheVariants as why
-use Rattle.spool.specs.Commits.{IsOpened, IsNext, IsDoubt, IsIllegal, LeavesHistory}
+use Rattle.spool.specs.Commits.{IsNext, IsDoubt, IsIllegal, LeavesHistory}
 use Rattle.spool.specs.Entering.{RestsInDoubt}
 use Rattle.spool.specs.Vaults.{VaultValue}
 use Rattle.script_lines.specs.declared.reply.Reply.{Reply}
@@ -29,7 +29,9 @@ use Rattle.drill.specs.declared.held.Held.TheVariants as held
 use Rattle.drill.specs.declared.calls.Core.{Core}
 use Rattle.drill.specs.Moves.{Session, MayTell, begun, commits, with_receipt, in_doubt}
 use Rattle.drill.specs.Cores.{IsHeld, IsOfBatch, CoreStandsFor, IsCore}
-use Rattle.drill.specs.Runners.{IsOpenAt, AreOfSteps, HoldsLeft, LeavesBy, VaultStandsFor, KeepsRows, RunStandsFor, Answers, EndsAs, CommitsSo, unchanged_reply}
+use Rattle.drill.specs.Runners.{RunStandsFor, Answers, EndsAs, CommitsSo, unchanged_reply}
+use Rattle.recovery.specs.Openings.{IsFirst}
+use Rattle.recovery.specs.Left.{HasNoTable, IsOpenAt, AreOfSteps, HoldsLeft, LeavesBy, VaultStandsFor, KeepsRows}
 use Rattle.drill.proofs.TurnLaws.{sealed_is, sealed_front}
 
 -- the desk stands for the world in which something else is out
@@ -149,10 +151,9 @@ answers_commit g old new vault later batch reply was same of mark commit s on =
 
 -- The first session
 
-pub started_stands : {L S : Type 0} (g : Ghosts S) (conn : store.Held S) (mark : ℕ) (vault : VaultValue S) (core : Core L) → IsOpened g conn mark vault → IsBegun no_schema (store.state g conn).now
+pub started_stands : {L S : Type 0} (g : Ghosts S) (conn : store.Held S) (mark : ℕ) (vault : VaultValue S) (core : Core L) → IsFirst g conn mark vault → HasNoTable g conn
     → core.desk.waiting.mark ≡ mark → CoreStandsFor core begun → RunStandsFor g core vault begun
-started_stands g conn mark vault core made none marked stands =
-    record { stands = stands; holds = record { leaves = inl refl; holds = (made.closed, made.history none) }; mark = marked ∙ sym made.marked }
+started_stands g conn mark vault core first none marked stands = record { stands = stands; holds = first.stands none; mark = marked ∙ sym first.marked }
 
 -- The rows that the vault's connection keeps
 

@@ -12,7 +12,8 @@ use Rattle.text_lines.proofs.AnswerLaws.{Ends-more}
 use Rattle.script_lines.specs.Replies.{reply_text}
 use Rattle.drill.specs.Moves.{Session, begun}
 use Rattle.drill.specs.Runs.{Run, ReadLines, IsNoCall, replies_text, Replies, RepliesTo}
-use Rattle.drill.specs.Runners.{RunStandsFor, KeepsRows}
+use Rattle.drill.specs.Runners.{RunStandsFor}
+use Rattle.recovery.specs.Left.{KeepsRows}
 use Rattle.drill.specs.Replays.{RunsLine, Replays, KeepsRun}
 use Rattle.drill.proofs.CommitLaws.{rows_kept}
 

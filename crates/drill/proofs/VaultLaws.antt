@@ -16,7 +16,7 @@ use Rattle.desk.specs.Moves.{submit, change, with_batch, with_sealed_settled, wi
 use Rattle.desk.specs.Claims.{claim, with_attempt_over}
 use Rattle.drill.specs.Moves.{Session, MayTell, IsOneOf, lacks, tells, seal_reply, answer_to, commands, settles, unseals, halts, spends, permit_of}
 use Rattle.drill.specs.Cores.{is_commit}
-use Rattle.drill.specs.Runners.{IsOpenAt, AreOfSteps, LeavesBy, HoldsLeft, VaultStandsFor}
+use Rattle.recovery.specs.Left.{IsOpenAt, AreOfSteps, LeavesBy, HoldsLeft, VaultStandsFor}
 use Rattle.drill.proofs.CoreLaws.{Goes, goes_change, goes_submit, goes_over, goes_claimed, same_first}
 use Rattle.drill.proofs.TurnLaws.{answer_by, is_nothing}
 

@@ -23,49 +23,8 @@ use Rattle.drill.specs.declared.held.Held.TheVariants as held
 use Rattle.drill.specs.declared.calls.Core.{Core}
 use Rattle.desk.specs.World.{World, Out, Nothing, Batch, Receipt, Doubt}
 use Rattle.drill.specs.Moves.{Session, Answer, MayTell}
+use Rattle.recovery.specs.Left.{IsOpenAt, VaultStandsFor}
 use Rattle.drill.specs.Cores.{CoreStandsFor}
-
--- the store takes commits, holds these records, and a stop leaves them
-abbrev pub IsOpenAt : {S : Type 0} → Ghosts S → VaultValue S → List Record → Type 0
-IsOpenAt g vault records = (vault.closed ≡ false) × HoldsOnDisk g vault records
-
--- the records of the first so many steps, and their rows
-abbrev pub records_of_first : World → (steps : ℕ) → List Record
-records_of_first w steps = records_of (take steps w.history)
-
-abbrev pub rows_of_first : World → (steps : ℕ) → Rows
-rows_of_first w steps = rows_of (records_of_first w steps)
-
--- these are the rows of the first steps, for one of these numbers of steps
-abbrev pub AreOfSteps : World → (numbers : List ℕ) → Rows → Type 0
-AreOfSteps w [] rows = ⊥
-AreOfSteps w (steps ∷ others) rows = (rows ≡ rows_of_first w steps) ⊎ AreOfSteps w others rows
-
--- How many steps a stop may leave, by what is out: the settled ones, or the sealed ones once they are committed. A doubt leaves either,
--- also once a committer has given up.
-abbrev pub LeavesBy : Out → World → Type 0
-LeavesBy Nothing w = (w.left ≡ w.settled ∷ []) ⊎ (IsTrue w.halted × (w.left ≡ w.settled ∷ w.sealed ∷ []))
-LeavesBy Batch w = w.left ≡ w.settled ∷ []
-LeavesBy Receipt w = w.left ≡ w.sealed ∷ []
-LeavesBy Doubt w = w.left ≡ w.settled ∷ w.sealed ∷ []
-
--- Where a stop may leave one number of steps, the store takes commits and holds these steps. Otherwise it takes none.
-abbrev pub HoldsLeft : {S : Type 0} → Ghosts S → VaultValue S → World → (left : List ℕ) → Type 0
-HoldsLeft g vault w [] = ⊥
-HoldsLeft g vault w (steps ∷ []) = IsOpenAt g vault (records_of_first w steps)
-HoldsLeft g vault w (steps ∷ other ∷ more) =
-    IsTrue vault.closed × MayLeave (store.state g vault.conn) (AreOfSteps w (steps ∷ other ∷ more))
-
--- the store holds what a stop may leave
-pub record VaultStandsFor {S : Type 0} (g : Ghosts S) (vault : VaultValue S) (w : World) : Type 0 where
-  pub leaves : LeavesBy w.out w
-  pub holds : HoldsLeft g vault w w.left
-
--- A stop leaves the rows of the first steps, for one of the numbers that the world says. Where there is but one, these rows stand in
--- the store.
-pub record KeepsRows {S : Type 0} (g : Ghosts S) (conn : store.Held S) (w : World) : Type 0 where
-  pub leaves : MayLeave (store.state g conn) (AreOfSteps w w.left)
-  pub stand : (steps : ℕ) → w.left ≡ steps ∷ [] → Stands (store.state g conn) (rows_of_first w steps)
 
 -- the core and the store stand for one session
 pub record RunStandsFor {L S : Type 0} (g : Ghosts S) (core : Core L) (vault : VaultValue S) (s : Session) : Type 0 where
@@ -78,14 +37,6 @@ abbrev pub Answers : {L S : Type 0} → Ghosts S → Core L → VaultValue S →
 Answers g old vault answer reply new later =
     (s : Session) → RunStandsFor g old vault s
     → (next : Session) × MayTell (answer s) reply next × RunStandsFor g new later next
-
--- the connection's disk has returned what was written
-abbrev pub IsCleanAt : {S : Type 0} → Ghosts S → store.Held S → Type 0
-IsCleanAt g conn = HasCleanDisk (store.state g conn)
-
--- the store is open and has no table
-abbrev pub HasNoTable : {S : Type 0} → Ghosts S → store.Held S → Type 0
-HasNoTable g conn = IsBegun no_schema (store.state g conn).now
 
 -- the reply to a commit that changed nothing
 abbrev pub unchanged_reply : Unchanged → Reply

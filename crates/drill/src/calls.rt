@@ -5,7 +5,8 @@ ghost use Rattle.desk.specs.World.{World, Nothing};
 ghost use Rattle.desk.specs.Desks.{StandsFor};
 ghost use Rattle.drill.specs.Moves.{answer_to};
 ghost use Rattle.drill.specs.Cores.{CoreStandsFor, CoreAnswers, IsCore, HasRoom, KeepsAll, is_commit};
-ghost use Rattle.drill.specs.Runners.{Answers, IsCleanAt};
+ghost use Rattle.drill.specs.Runners.{Answers};
+ghost use Rattle.recovery.specs.Left.{IsCleanAt};
 
 use crate::held::Held;
 use crate::tickets::Tickets;

@@ -1,7 +1,8 @@
 //! A commit of the batch that is held.
 ghost use Rattle.std.specs.Prelude.{◌≡◌};
 ghost use Rattle.drill.specs.Cores.{IsOfBatch};
-ghost use Rattle.drill.specs.Runners.{IsCleanAt, CommitsSo, unchanged_reply};
+ghost use Rattle.drill.specs.Runners.{CommitsSo, unchanged_reply};
+ghost use Rattle.recovery.specs.Left.{IsCleanAt};
 
 use crate::held::Held;
 use script_lines::{Fault, Reply};

@@ -5,14 +5,15 @@ ghost use Rattle.sqlite.specs.Held.{state};
 ghost use Rattle.spool.specs.Opening.{has_ours};
 ghost use Rattle.drill.specs.Moves.{begun};
 ghost use Rattle.drill.specs.Cores.{IsCore};
-ghost use Rattle.drill.specs.Runners.{RunStandsFor, IsCleanAt, HasNoTable};
+ghost use Rattle.drill.specs.Runners.{RunStandsFor};
+ghost use Rattle.recovery.specs.Left.{IsCleanAt, HasNoTable};
 
 use crate::calls::Core;
-use desk::Desk;
 use permits::PARTS;
+use recovery::create;
 use spool::Vault;
 use sqlite::{Alter, Connection};
-use std::alloc::{AllocError, Global};
+use std::alloc::Global;
 use std::sync::ledger::{Blank, Ledger};
 use text_lines::StreamFault;
 
@@ -55,21 +56,17 @@ pub(crate) fn start<L: Ledger, S: Alter>(
     ensures mode { conn.in_transaction ≡ false → IfErr result (λ back. back.0.in_transaction ≡ false) }
     ensures busy { IsTrue conn.in_transaction → result ≡ Err (conn, StreamFault.Lost) }
     ensures taken { IsTrue (has_ours (state S.Store conn).now.schema)
-        → MatchResult result (λ _. ⊥) (λ back. back.1 ≡ StreamFault.Lost) }
+        → MatchResult result (λ _. ⊥) (λ back. Unit {0}) }
 {
     if !conn.is_autocommit() {
         return Err((conn, StreamFault::Lost));
     }
-    let vault = match Vault::create(conn, mark) {
-        Ok(vault) => vault,
-        Err((conn, fault)) if fault.is_memory() => return Err((conn, StreamFault::OutOfMemory)),
-        Err((conn, _)) => return Err((conn, StreamFault::Lost)),
-    };
-    match Desk::new(alloc, blank, mark) {
-        Ok(desk) => Ok(Runner {
+    match create(alloc, blank, conn, mark) {
+        Ok((desk, vault)) => Ok(Runner {
             core: Core::of(alloc, desk),
             vault,
         }),
-        Err(AllocError) => Err((vault.release(), StreamFault::OutOfMemory)),
+        Err((conn, fault)) if fault.is_memory() => Err((conn, StreamFault::OutOfMemory)),
+        Err((conn, _)) => Err((conn, StreamFault::Lost)),
     }
 }

@@ -4,8 +4,8 @@ ghost use Rattle.permits.specs.declared.pool.TheConstants.{PARTS};
 ghost use Rattle.sqlite.specs.Held.{state};
 ghost use Rattle.spool.specs.Opening.{has_ours};
 ghost use Rattle.text_lines.specs.Ends.{IsBetweenLines};
-ghost use Rattle.drill.specs.Runners.{IsCleanAt, HasNoTable};
-ghost use Rattle.drill.specs.Replays.{Replays, KeepsRun, RunsLine};
+ghost use Rattle.recovery.specs.Left.{IsCleanAt, HasNoTable};
+ghost use Rattle.drill.specs.Replays.{Replays, KeepsRun, RunsLine, IsUnopened};
 ghost use Rattle.drill.specs.Runs.{IsNoCall};
 
 use crate::runner::{Runner, start};
@@ -35,7 +35,7 @@ impl<L: Ledger, S: Alter> Answerer for Runner<L, S> {
 }
 
 /// Runs the script that the reader gives over a store without tables, and writes a reply for each line. A store that has one of the
-/// relay's tables, or whose connection is in a transaction, is `Lost`, and nothing is written. The connection
+/// relay's tables, or whose connection is in a transaction, is `Lost`, unless memory was refused first; nothing is written. The connection
 /// comes back, outside a transaction if it came so; where the script ended between two lines, with the rows that its commits wrote.
 pub fn replay<S: Alter, I: Read, O: Write>(
     alloc: Global,
@@ -53,7 +53,7 @@ pub fn replay<S: Alter, I: Read, O: Write>(
     ensures busy { IsTrue conn.in_transaction
         → (result ≡ (conn, Err StreamFault.Lost)) × (output.new ≡ output.old) }
     ensures taken { IsTrue (has_ours (state S.Store conn).now.schema)
-        → (result.1 ≡ Err StreamFault.Lost) × (output.new ≡ output.old) }
+        → IsUnopened result.1 × (output.new ≡ output.old) }
 {
     replay_with::<Brand, S, I, O>(alloc, Blank::new(PARTS), input, output, conn, mark)
 }
@@ -79,7 +79,7 @@ fn replay_with<L: Ledger, S: Alter, I: Read, O: Write>(
     ensures busy { IsTrue conn.in_transaction
         → (result ≡ (conn, Err StreamFault.Lost)) × (output.new ≡ output.old) }
     ensures taken { IsTrue (has_ours (state S.Store conn).now.schema)
-        → (result.1 ≡ Err StreamFault.Lost) × (output.new ≡ output.old) }
+        → IsUnopened result.1 × (output.new ≡ output.old) }
 {
     match start::<L, S>(alloc, blank, conn, mark) {
         Ok(runner) => {

@@ -5,7 +5,8 @@ ghost use Rattle.script_lines.specs.declared.reply.Fault.{Fault};
 ghost use Rattle.script_lines.specs.declared.reply.Reply.TheVariants as says;
 ghost use Rattle.drill.specs.Moves.{answer_to, wrong_turn};
 ghost use Rattle.drill.specs.Cores.{CoreAnswers, HandsOver, IsCore, KeepsOn};
-ghost use Rattle.drill.specs.Runners.{Answers, IsCleanAt};
+ghost use Rattle.drill.specs.Runners.{Answers};
+ghost use Rattle.recovery.specs.Left.{IsCleanAt};
 
 use crate::calls::Core;
 use crate::commit::commit_batch;

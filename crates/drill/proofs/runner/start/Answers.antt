@@ -6,9 +6,9 @@ use Rattle.drill.proofs.CommitLaws.{started_stands}
 use Rattle.drill.proofs.runner.start.Goals as goal
 
 pub invariant_of-result : goal.invariant_of-result
-invariant_of-result g c = record { stands = merely (begun, c.of.ensures.stands (opened [] 0) c.in-Ok-new.ensures.stands refl refl) }
+invariant_of-result g c = record { stands = merely (begun, c.of.ensures.stands (opened [] 0) c.in-Ok.ensures.desk refl refl) }
 
-pub returns-in-Ok-new-clause-stands : goal.returns-in-Ok-new-clause-stands
-returns-in-Ok-new-clause-stands g c clean none =
-    started_stands g.S.Store c.args.conn c.args.mark c.in-Ok.vault c.of.result (c.in-Ok.ensures.opened clean) none (c.of.ensures.mark ∙ c.in-Ok-new.ensures.mark)
-    (c.of.ensures.stands (opened [] 0) c.in-Ok-new.ensures.stands refl refl)
+pub returns-in-Ok-clause-stands : goal.returns-in-Ok-clause-stands
+returns-in-Ok-clause-stands g c clean none =
+    started_stands g.S.Store c.args.conn c.args.mark c.in-Ok.vault c.of.result (c.in-Ok.ensures.vault clean) none (c.of.ensures.mark ∙ c.in-Ok.ensures.mark)
+    (c.of.ensures.stands (opened [] 0) c.in-Ok.ensures.desk refl refl)

@@ -1,6 +1,6 @@
 use Rattle.std.proofs.Common.{subst, inl, inr, Err, ap}
 use Rattle.drill.specs.Runs.{IsNoCall, Replies}
-use Rattle.drill.specs.Runners.{IsCleanAt}
+use Rattle.recovery.specs.Left.{IsCleanAt}
 use Rattle.text_lines.proofs.EndLaws.{ends_at_once}
 use Rattle.text_lines.specs.Ends.{IsBetweenLines}
 use Rattle.drill.proofs.ReplayLaws.{Replies-none, replays, keeps_run}
