@@ -1,5 +1,6 @@
 -- The desk with what it has handed out, and the sessions for which they stand.
-use Rattle.std.specs.Prelude.{◌≡◌, ℕ, ◌≤◌, ◌<◌, Bool, true, false, List, Option, Some, None, count_by, ◌==◌, vec_len, vec_capacity}
+use Rattle.std.specs.Prelude.{◌≡◌, ℕ, ◌+◌, ◌≤◌, Bool, true, false, List, Option, Some, None, count_by, ◌==◌, vec_len, vec_capacity}
+use Rattle.std.specs.HashMap.{spare}
 use Rattle.relay_types.specs.Values.{Seq}
 use Rattle.permits.specs.declared.row.Row.{Row}
 use Rattle.spool.specs.Batches.{BatchValue, doubt_of}
@@ -42,9 +43,15 @@ pub record CoreStandsFor {L : Type 0} (core : Core L) (s : Session) : Type 0 whe
 abbrev pub IsCore : {L : Type 0} → Core L → Type 0
 IsCore core = ∥ ((s : Session) × CoreStandsFor core s) ∥₁
 
--- one more ticket and one more permit can be kept without memory
-abbrev pub HasRoom : {L : Type 0} → Core L → Type 0
-HasRoom core = tickets.HasRoom core.tickets × (vec_len core.permits < vec_capacity core.permits)
+-- so many more tickets and permits can be kept without memory
+abbrev pub HasRoom : {L : Type 0} → Core L → (count : ℕ) → Type 0
+HasRoom core count = tickets.HasRoom core.tickets count × (vec_len core.permits + count ≤ vec_capacity core.permits)
+
+-- a call took the room of one of them at most
+pub record TakesRoom {L : Type 0} (old new : Core L) : Type 0 where
+  pub tickets : spare old.tickets.given ≤ spare new.tickets.given + 1
+  pub permits : vec_len new.permits ≤ vec_len old.permits + 1
+  pub capacity : vec_capacity new.permits ≡ vec_capacity old.permits
 
 -- Room was made: what is kept stays.
 pub record KeepsAll {L : Type 0} (old new : Core L) : Type 0 where

@@ -1,5 +1,5 @@
 -- The tickets that a script was given, and how they are kept.
-use Rattle.std.specs.Prelude.{◌≡◌, ◌<◌, ◌==◌, nat_eq, List, Option, find}
+use Rattle.std.specs.Prelude.{◌≡◌, ℕ, ◌≤◌, ◌==◌, nat_eq, List, Option, find}
 use Rattle.std.specs.HashMap.{get, spare}
 use Rattle.relay_types.specs.Values.{Seq}
 use Rattle.drill.specs.declared.tickets.Given.{Given}
@@ -23,6 +23,6 @@ kept_at kept seq = get nat_eq kept.given seq
 abbrev pub Keeps : (kept : Tickets) (tickets : List Given) → Type 0
 Keeps kept tickets = (seq : Seq) → kept_at kept seq ≡ find_ticket tickets seq
 
--- one more ticket can be kept without memory
-abbrev pub HasRoom : Tickets → Type 0
-HasRoom kept = 0 < spare kept.given
+-- so many more tickets can be kept without memory
+abbrev pub HasRoom : Tickets → (count : ℕ) → Type 0
+HasRoom kept count = count ≤ spare kept.given

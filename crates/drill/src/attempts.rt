@@ -2,7 +2,7 @@
 ghost use Rattle.std.specs.Prelude.{◌≡◌, ◌==◌, position};
 ghost use Rattle.script_lines.specs.declared.event.Event.TheVariants as on;
 ghost use Rattle.drill.specs.Moves.{answer_to};
-ghost use Rattle.drill.specs.Cores.{CoreAnswers, HasRoom, IsCore};
+ghost use Rattle.drill.specs.Cores.{CoreAnswers, HasRoom, IsCore, TakesRoom};
 
 use crate::calls::Core;
 use crate::replies::{permit_reply, refusal_reply, spent_reply};
@@ -15,8 +15,9 @@ use std::sync::ledger::Ledger;
 impl<L: Ledger> Core<L> {
     // Holds the permit of the attempt that may begin.
     pub(crate) fn claim(&mut self, now: Moment) -> Reply
-        requires { HasRoom self.old }
-        ensures { CoreAnswers self.old (λ s. answer_to s (on.Claim now)) result self.new }
+        requires { HasRoom self.old 1 }
+        ensures answers { CoreAnswers self.old (λ s. answer_to s (on.Claim now)) result self.new }
+        ensures room { TakesRoom self.old self.new }
     {
         match self.desk.claim(now) {
             Ok(Some(job)) => {
@@ -32,7 +33,8 @@ impl<L: Ledger> Core<L> {
     // Gives the permit of the delivery back, with what came of its post.
     pub(crate) fn spend(&mut self, delivery: u64, now: Moment, post: PostResult) -> Reply
         requires { IsCore self.old }
-        ensures { CoreAnswers self.old (λ s. answer_to s (on.Spend delivery now post)) result self.new }
+        ensures answers { CoreAnswers self.old (λ s. answer_to s (on.Spend delivery now post)) result self.new }
+        ensures room { TakesRoom self.old self.new }
     {
         let Some(place) = place_of(&self.permits, delivery) else {
             return Reply::NoPermit;

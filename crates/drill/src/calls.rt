@@ -4,7 +4,7 @@ ghost use Rattle.script_lines.specs.declared.event.Event.TheVariants as on;
 ghost use Rattle.desk.specs.World.{World, Nothing};
 ghost use Rattle.desk.specs.Desks.{StandsFor};
 ghost use Rattle.drill.specs.Moves.{answer_to};
-ghost use Rattle.drill.specs.Cores.{CoreStandsFor, CoreAnswers, IsCore, HasRoom, KeepsAll, is_commit};
+ghost use Rattle.drill.specs.Cores.{CoreStandsFor, CoreAnswers, IsCore, HasRoom, TakesRoom, KeepsAll, is_commit};
 ghost use Rattle.drill.specs.Runners.{Answers};
 ghost use Rattle.recovery.specs.Left.{IsCleanAt};
 
@@ -42,22 +42,23 @@ impl<L: Ledger> Core<L> {
         }
     }
 
-    // Makes room for what one call may hand out.
-    pub(crate) fn reserve(&mut self) -> Result<(), AllocError>
+    // Makes room for what so many calls may hand out.
+    pub(crate) fn reserve(&mut self, count: usize) -> Result<(), AllocError>
         ensures same { KeepsAll self.old self.new }
-        ensures room { OnOk result (HasRoom self.new) }
+        ensures room { OnOk result (HasRoom self.new count) }
     {
-        self.tickets.reserve()?;
-        self.permits.reserve(1)
+        self.tickets.reserve(count)?;
+        self.permits.reserve(count)
     }
 
     // Gives the call to the desk or the store. There is room for what it hands out.
     pub(crate) fn carry_out<S: Alter>(&mut self, vault: &mut Vault<S>, event: Event) -> Reply
-        requires room { HasRoom self.old }
+        requires room { HasRoom self.old 1 }
         requires core { IsCore self.old }
         ensures answers { IsCleanAt S.Store vault.new.conn
             → Answers S.Store self.old vault.old (λ s. answer_to s event) result self.new vault.new }
         ensures core { IsCore self.new }
+        ensures room { TakesRoom self.old self.new }
         ensures clean { IsCleanAt S.Store vault.new.conn → IsCleanAt S.Store vault.old.conn }
     {
         match event {
@@ -68,10 +69,11 @@ impl<L: Ledger> Core<L> {
 
     // Gives the call to the desk.
     fn call(&mut self, event: Event) -> Reply
-        requires room { HasRoom self.old }
+        requires room { HasRoom self.old 1 }
         requires core { IsCore self.old }
         requires desk { is_commit event ≡ false }
-        ensures { CoreAnswers self.old (λ s. answer_to s event) result self.new }
+        ensures answers { CoreAnswers self.old (λ s. answer_to s event) result self.new }
+        ensures room { TakesRoom self.old self.new }
     {
         match event {
             Event::Put {

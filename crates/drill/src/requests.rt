@@ -5,7 +5,7 @@ ghost use Rattle.script_lines.specs.declared.reply.Reply.TheVariants as says;
 ghost use Rattle.drill.specs.declared.tickets.Given as given;
 ghost use Rattle.drill.specs.Moves.{answer_to, commands};
 ghost use Rattle.drill.specs.Tickets.{seq_of, Keeps};
-ghost use Rattle.drill.specs.Cores.{CoreAnswers, HasRoom};
+ghost use Rattle.drill.specs.Cores.{CoreAnswers, HasRoom, TakesRoom};
 
 use crate::calls::Core;
 use crate::replies::{event_reply, limits_reply, refusal_reply, told_reply};
@@ -17,8 +17,9 @@ use std::sync::ledger::Ledger;
 
 impl<L: Ledger> Core<L> {
     pub(crate) fn command(&mut self, command: Command) -> Reply
-        requires { HasRoom self.old }
-        ensures { CoreAnswers self.old (λ s. commands s command) result self.new }
+        requires { HasRoom self.old 1 }
+        ensures answers { CoreAnswers self.old (λ s. commands s command) result self.new }
+        ensures room { TakesRoom self.old self.new }
     {
         match self.desk.command(command) {
             Ok(ticket) => self.keep(Given::Command(ticket)),
@@ -27,8 +28,9 @@ impl<L: Ledger> Core<L> {
     }
 
     pub(crate) fn submit(&mut self, now: Moment, name: Name, id: MsgId, body: Body) -> Reply
-        requires { HasRoom self.old }
-        ensures { CoreAnswers self.old (λ s. answer_to s (on.Submit now name id body)) result self.new }
+        requires { HasRoom self.old 1 }
+        ensures answers { CoreAnswers self.old (λ s. answer_to s (on.Submit now name id body)) result self.new }
+        ensures room { TakesRoom self.old self.new }
     {
         match self.desk.submit(now, name, id, body) {
             Ok(ticket) => self.keep(Given::Submission(ticket)),
@@ -38,11 +40,12 @@ impl<L: Ledger> Core<L> {
 
     // Keeps the ticket, and tells its number.
     fn keep(&mut self, ticket: Given) -> Reply
-        requires { HasRoom self.old }
+        requires { HasRoom self.old 1 }
         ensures reply { result ≡ says.Staged (seq_of ticket) }
         ensures kept { (tickets : List given.Given)
             → Keeps self.old.tickets tickets → Keeps self.new.tickets (ticket ∷ tickets) }
         ensures same { self.new ≡ record self.old { tickets = self.new.tickets } }
+        ensures room { TakesRoom self.old self.new }
     {
         let seq = ticket.seq();
         self.tickets.keep(ticket);

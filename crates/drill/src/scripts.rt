@@ -29,7 +29,7 @@ impl<L: Ledger, S: Alter> Answerer for Runner<L, S> {
 
     fn answer(&mut self, alloc: Global, line: &[u8]) -> Result<Reply, WordFault> {
         let event = read_event(alloc, line)?;
-        self.core.reserve()?;
+        self.core.reserve(1)?;
         Ok(self.core.carry_out(&mut self.vault, event))
     }
 }

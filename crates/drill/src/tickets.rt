@@ -1,5 +1,6 @@
 //! The tickets that a script was given.
-ghost use Rattle.std.specs.Prelude.{◌≡◌, List, [], ◌∷◌, OnOk};
+ghost use Rattle.std.specs.Prelude.{◌≡◌, ◌+◌, ◌≤◌, List, [], ◌∷◌, OnOk};
+ghost use Rattle.std.specs.HashMap.{spare};
 ghost use Rattle.drill.specs.declared.tickets.Given as given;
 ghost use Rattle.drill.specs.Tickets.{seq_of, find_ticket, Keeps, HasRoom};
 
@@ -41,18 +42,19 @@ impl Tickets {
         }
     }
 
-    // Makes room for one more.
-    pub(crate) fn reserve(&mut self) -> Result<(), AllocError>
+    // Makes room for so many more.
+    pub(crate) fn reserve(&mut self, count: usize) -> Result<(), AllocError>
         ensures same { (tickets : List given.Given) → Keeps self.old tickets → Keeps self.new tickets }
-        ensures room { OnOk result (HasRoom self.new) }
+        ensures room { OnOk result (HasRoom self.new count) }
     {
-        self.given.reserve(1)
+        self.given.reserve(count)
     }
 
     // Keeps the ticket, in place of an older one of this number. It takes no memory.
     pub(crate) fn keep(&mut self, ticket: Given)
-        requires { HasRoom self.old }
-        ensures { (tickets : List given.Given) → Keeps self.old tickets → Keeps self.new (ticket ∷ tickets) }
+        requires { HasRoom self.old 1 }
+        ensures kept { (tickets : List given.Given) → Keeps self.old tickets → Keeps self.new (ticket ∷ tickets) }
+        ensures room { spare self.old.given ≤ spare self.new.given + 1 }
     {
         let seq = ticket.seq();
         let _ = self.given.insert(seq, ticket);

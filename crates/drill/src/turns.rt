@@ -4,7 +4,7 @@ ghost use Rattle.script_lines.specs.declared.event.Event.TheVariants as on;
 ghost use Rattle.script_lines.specs.declared.reply.Fault.{Fault};
 ghost use Rattle.script_lines.specs.declared.reply.Reply.TheVariants as says;
 ghost use Rattle.drill.specs.Moves.{answer_to, wrong_turn};
-ghost use Rattle.drill.specs.Cores.{CoreAnswers, HandsOver, IsCore, KeepsOn};
+ghost use Rattle.drill.specs.Cores.{CoreAnswers, HandsOver, IsCore, KeepsOn, TakesRoom};
 ghost use Rattle.drill.specs.Runners.{Answers};
 ghost use Rattle.recovery.specs.Left.{IsCleanAt};
 
@@ -21,7 +21,8 @@ use std::sync::ledger::Ledger;
 
 impl<L: Ledger> Core<L> {
     pub(crate) fn seal(&mut self) -> Reply
-        ensures { CoreAnswers self.old (λ s. answer_to s on.Seal) result self.new }
+        ensures answers { CoreAnswers self.old (λ s. answer_to s on.Seal) result self.new }
+        ensures room { TakesRoom self.old self.new }
     {
         match self.desk.seal() {
             Ok(Some(batch)) => {
@@ -40,6 +41,7 @@ impl<L: Ledger> Core<L> {
         ensures answers { IsCleanAt S.Store vault.new.conn
             → Answers S.Store self.old vault.old (λ s. answer_to s on.Commit) result self.new vault.new }
         ensures core { IsCore self.new }
+        ensures room { TakesRoom self.old self.new }
         ensures clean { IsCleanAt S.Store vault.new.conn → IsCleanAt S.Store vault.old.conn }
     {
         match mem::replace(&mut self.held, Held::Nothing) {
@@ -57,6 +59,7 @@ impl<L: Ledger> Core<L> {
 
     pub(crate) fn settle(&mut self) -> Reply
         ensures answers { CoreAnswers self.old (λ s. answer_to s on.Settle) result self.new }
+        ensures room { TakesRoom self.old self.new }
         ensures refused { (number : ℕ) (fault : Fault) → result ≡ says.Refused number fault → result ≡ wrong_turn }
     {
         match mem::replace(&mut self.held, Held::Nothing) {
@@ -78,6 +81,7 @@ impl<L: Ledger> Core<L> {
 
     pub(crate) fn unseal(&mut self) -> Reply
         ensures answers { CoreAnswers self.old (λ s. answer_to s on.Unseal) result self.new }
+        ensures room { TakesRoom self.old self.new }
         ensures refused { (number : ℕ) (fault : Fault) → result ≡ says.Refused number fault → result ≡ wrong_turn }
     {
         match mem::replace(&mut self.held, Held::Nothing) {
@@ -99,7 +103,8 @@ impl<L: Ledger> Core<L> {
     }
 
     pub(crate) fn halt(&mut self) -> Reply
-        ensures { CoreAnswers self.old (λ s. answer_to s on.Halt) result self.new }
+        ensures answers { CoreAnswers self.old (λ s. answer_to s on.Halt) result self.new }
+        ensures room { TakesRoom self.old self.new }
     {
         match mem::replace(&mut self.held, Held::Nothing) {
             Held::Nothing => self.hand_over(group_commit::Held::Nothing),

@@ -5,7 +5,7 @@ use Rattle.drill.proofs.calls.Core.carry_out.Goals as goal
 
 pub returns-in_default-clause-answers : goal.returns-in_default-clause-answers
 returns-in_default-clause-answers g c = λ clean s on.
-    let (next, told, after) = c.call.ensures.moves s on.stands in
+    let (next, told, after) = c.call.ensures.answers.moves s on.stands in
     let below = on.stands.desk.waiting.settled_first in
     let within = on.stands.desk.waiting.sealed_within in (
       next,
@@ -13,9 +13,9 @@ returns-in_default-clause-answers g c = λ clean s on.
       record {
         stands = after;
         holds = vault_follows g.S.Store c.args.vault.now s next c.args.event c.call.result (is_of_desk c.args.event c.in_default.not-Commit) below within on.holds told;
-        mark = c.call.ensures.mark ∙ on.mark;
+        mark = c.call.ensures.answers.mark ∙ on.mark;
       },
     )
 
 pub returns-in_default-clause-core : goal.returns-in_default-clause-core
-returns-in_default-clause-core g c = kept c.args.self.now _ _ _ c.requires.core c.call.ensures
+returns-in_default-clause-core g c = kept c.args.self.now _ _ _ c.requires.core c.call.ensures.answers

@@ -4,16 +4,16 @@ use Rattle.desk.specs.Desks.{IsMove}
 use Rattle.drill.proofs.CoreLaws.{answers_claimed, answers_unclaimed}
 use Rattle.drill.proofs.calls.Core.claim.Goals as goal
 
-pub returns-in-Ok-Some : goal.returns-in-Ok-Some
-returns-in-Ok-Some g c = rw c.permit_reply-reply.ensures
+pub returns-in-Ok-Some-clause-answers : goal.returns-in-Ok-Some-clause-answers
+returns-in-Ok-Some-clause-answers g c = rw c.permit_reply-reply.ensures
     (answers_claimed c.args.self.now _ c.args.now c.in-Ok-Some.job (subst (λ o. IsMove c.args.self.now.desk (λ w. claim w c.args.now) (Ok o) c.claim.new.self) c.in-Ok-Some.field-0-is c.in-Ok-Some.ensures.moves)
     c.in-Ok-Some.ensures.mark refl (c.push_reserved.ensures.items ∙ ap (λ row. c.args.self.now.permits.items ++ row ∷ []) c.into_permit.ensures) refl)
 
-pub returns-in-Ok-None : goal.returns-in-Ok-None
-returns-in-Ok-None g c =
+pub returns-in-Ok-None-clause-answers : goal.returns-in-Ok-None-clause-answers
+returns-in-Ok-None-clause-answers g c =
     answers_unclaimed c.args.self.now _ c.args.now (Ok None) refl (subst (λ o. IsMove c.args.self.now.desk (λ w. claim w c.args.now) (Ok o) c.claim.new.self) c.in-Ok-None.field-0-is c.in-Ok-None.ensures.moves)
     c.in-Ok-None.ensures.mark refl refl refl
 
-pub returns-in-Err : goal.returns-in-Err
-returns-in-Err g c = rw c.refusal_reply.ensures
+pub returns-in-Err-clause-answers : goal.returns-in-Err-clause-answers
+returns-in-Err-clause-answers g c = rw c.refusal_reply.ensures
     (answers_unclaimed c.args.self.now _ c.args.now (Err c.in-Err.refusal) refl c.in-Err.ensures.moves c.in-Err.ensures.mark refl refl refl)

@@ -2,17 +2,17 @@ use Rattle.std.proofs.Common.{refl, ap}
 use Rattle.drill.proofs.TurnLaws.{answers_halted}
 use Rattle.drill.proofs.calls.Core.halt.Goals as goal
 
-pub returns-in-Nothing : goal.returns-in-Nothing
-returns-in-Nothing g c =
+pub returns-in-Nothing-clause-answers : goal.returns-in-Nothing-clause-answers
+returns-in-Nothing-clause-answers g c =
     answers_halted c.args.self.now c.hand_over.new.self _ _ c.hand_over.result c.in-Nothing.ensures.value c.replace.ensures.after refl c.hand_over.ensures.halts c.hand_over.ensures.mark
     (ap (λ r. r.permits.items) c.hand_over.ensures.same) (ap (λ r. r.tickets) c.hand_over.ensures.same)
 
-pub returns-in-Batch : goal.returns-in-Batch
-returns-in-Batch g c =
+pub returns-in-Batch-clause-answers : goal.returns-in-Batch-clause-answers
+returns-in-Batch-clause-answers g c =
     answers_halted c.args.self.now c.hand_over-in-Batch.new.self _ _ c.hand_over-in-Batch.result c.in-Batch.ensures.value c.replace.ensures.after refl c.hand_over-in-Batch.ensures.halts c.hand_over-in-Batch.ensures.mark
     (ap (λ r. r.permits.items) c.hand_over-in-Batch.ensures.same) (ap (λ r. r.tickets) c.hand_over-in-Batch.ensures.same)
 
-pub returns-in-Doubt : goal.returns-in-Doubt
-returns-in-Doubt g c =
+pub returns-in-Doubt-clause-answers : goal.returns-in-Doubt-clause-answers
+returns-in-Doubt-clause-answers g c =
     answers_halted c.args.self.now c.hand_over-in-Doubt.new.self _ _ c.hand_over-in-Doubt.result c.in-Doubt.ensures.value c.replace.ensures.after refl c.hand_over-in-Doubt.ensures.halts c.hand_over-in-Doubt.ensures.mark
     (ap (λ r. r.permits.items) c.hand_over-in-Doubt.ensures.same) (ap (λ r. r.tickets) c.hand_over-in-Doubt.ensures.same)

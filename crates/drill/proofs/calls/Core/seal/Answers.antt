@@ -4,16 +4,16 @@ use Rattle.desk.specs.Desks.{IsMove}
 use Rattle.drill.proofs.TurnLaws.{answers_sealed, answers_unsealed}
 use Rattle.drill.proofs.calls.Core.seal.Goals as goal
 
-pub returns-in-Ok-Some : goal.returns-in-Ok-Some
-returns-in-Ok-Some g c = rw (c.sealed_reply-reply.ensures, c.hold.ensures)
+pub returns-in-Ok-Some-clause-answers : goal.returns-in-Ok-Some-clause-answers
+returns-in-Ok-Some-clause-answers g c = rw (c.sealed_reply-reply.ensures, c.hold.ensures)
     (answers_sealed c.args.self.now _ c.in-Ok-Some.batch (subst (λ o. IsMove c.args.self.now.desk (seal c.args.self.now.desk.waiting.mark) (Ok o) c.seal.new.self) c.in-Ok-Some.field-0-is c.in-Ok-Some.ensures.moves)
     c.in-Ok-Some.ensures.mark refl refl refl)
 
-pub returns-in-Ok-None : goal.returns-in-Ok-None
-returns-in-Ok-None g c =
+pub returns-in-Ok-None-clause-answers : goal.returns-in-Ok-None-clause-answers
+returns-in-Ok-None-clause-answers g c =
     answers_unsealed c.args.self.now _ (Ok None) refl (subst (λ o. IsMove c.args.self.now.desk (seal c.args.self.now.desk.waiting.mark) (Ok o) c.seal.new.self) c.in-Ok-None.field-0-is c.in-Ok-None.ensures.moves)
     c.in-Ok-None.ensures.mark refl refl refl
 
-pub returns-in-Err : goal.returns-in-Err
-returns-in-Err g c = rw c.refusal_reply.ensures
+pub returns-in-Err-clause-answers : goal.returns-in-Err-clause-answers
+returns-in-Err-clause-answers g c = rw c.refusal_reply.ensures
     (answers_unsealed c.args.self.now _ (Err c.in-Err.refusal) refl c.in-Err.ensures.moves c.in-Err.ensures.mark refl refl refl)
