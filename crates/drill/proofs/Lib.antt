@@ -1,7 +1,9 @@
 mod CoreLaws
 mod TurnLaws
+mod FollowLaws
 mod VaultLaws
 mod CommitLaws
+mod ShownLaws
 mod RunLaws
 pub mod ReplayLaws
 mod WorkedRun

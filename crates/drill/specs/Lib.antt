@@ -1,6 +1,9 @@
 pub mod Tickets
 pub mod Moves
 pub mod Runs
+pub mod Events
 pub mod Cores
 pub mod Runners
+pub mod Worlds
 pub mod Replays
+pub mod Places

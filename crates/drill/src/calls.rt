@@ -6,9 +6,12 @@ ghost use Rattle.desk.specs.Desks.{StandsFor};
 ghost use Rattle.drill.specs.Moves.{answer_to};
 ghost use Rattle.drill.specs.Cores.{CoreStandsFor, CoreAnswers, IsCore, HasRoom, TakesRoom, KeepsAll, is_commit};
 ghost use Rattle.drill.specs.Runners.{Answers};
+ghost use Rattle.drill.specs.Worlds.{TakesEvent};
 ghost use Rattle.recovery.specs.Left.{IsCleanAt};
 
+use crate::events;
 use crate::held::Held;
+use crate::looking::look_at;
 use crate::tickets::Tickets;
 use desk::{Command, Desk};
 use permits::Permit;
@@ -64,6 +67,26 @@ impl<L: Ledger> Core<L> {
         match event {
             Event::Commit => self.commit(vault),
             other => self.call(other),
+        }
+    }
+
+    // Makes the call of one event.
+    pub(crate) fn take<S: Alter>(
+        &mut self,
+        vault: &mut Vault<S>,
+        event: events::Event,
+    ) -> events::Reply
+        requires room { HasRoom self.old 1 }
+        requires core { IsCore self.old }
+        ensures answers { IsCleanAt S.Store vault.new.conn
+            → TakesEvent S.Store self.old vault.old event result self.new vault.new }
+        ensures core { IsCore self.new }
+        ensures room { TakesRoom self.old self.new }
+        ensures clean { IsCleanAt S.Store vault.new.conn → IsCleanAt S.Store vault.old.conn }
+    {
+        match event {
+            events::Event::Line(event) => events::Reply::Line(self.carry_out(vault, event)),
+            events::Event::Look(look) => look_at(&self.desk, look),
         }
     }
 

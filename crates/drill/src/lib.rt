@@ -4,14 +4,19 @@
 mod attempts;
 mod calls;
 mod commit;
+mod events;
 mod held;
 mod law;
+mod looking;
 mod replies;
 mod requests;
 mod runner;
+mod runs;
 mod scripts;
 mod tickets;
 mod turns;
 
+pub use crate::events::{Event, Look, Reply};
 pub use crate::law::served_runs_are_computed;
+pub use crate::runs::{World, run};
 pub use crate::scripts::replay;

@@ -1,6 +1,9 @@
 //! The calls of the core.
+ghost use Rattle.std.specs.Prelude.{◌≡◌, IfOk};
+
 use relay_types::{Body, MaxLimit, Moment, MsgId, Name, Secrets, Target};
 use retry_table::PostResult;
+use std::alloc::AllocError;
 
 /// One call of the core.
 #[derive(Drop)]
@@ -66,4 +69,66 @@ pub enum Event {
         name: Name,
         id: MsgId,
     },
+}
+
+impl Event {
+    /// The same call for another holder. It copies no text and no body.
+    pub fn share(&self) -> Result<Event, AllocError>
+        ensures { IfOk result (λ same. same ≡ self.now) }
+    {
+        match self {
+            Event::Submit {
+                now,
+                name,
+                id,
+                body,
+            } => Ok(Event::Submit {
+                now: *now,
+                name: *name,
+                id: *id,
+                body: body.share()?,
+            }),
+            Event::Put {
+                name,
+                target,
+                max,
+                secrets,
+            } => Ok(Event::Put {
+                name: *name,
+                target: target.share()?,
+                max: *max,
+                secrets: *secrets,
+            }),
+            Event::Secrets { name, secrets } => Ok(Event::Secrets {
+                name: *name,
+                secrets: *secrets,
+            }),
+            Event::Enabled { name, flag } => Ok(Event::Enabled {
+                name: *name,
+                flag: *flag,
+            }),
+            Event::Told { seq } => Ok(Event::Told { seq: *seq }),
+            Event::Seal => Ok(Event::Seal),
+            Event::Commit => Ok(Event::Commit),
+            Event::Settle => Ok(Event::Settle),
+            Event::Unseal => Ok(Event::Unseal),
+            Event::Halt => Ok(Event::Halt),
+            Event::Claim { now } => Ok(Event::Claim { now: *now }),
+            Event::Spend {
+                delivery,
+                now,
+                post,
+            } => Ok(Event::Spend {
+                delivery: *delivery,
+                now: *now,
+                post: *post,
+            }),
+            Event::Limits { name } => Ok(Event::Limits { name: *name }),
+            Event::ShowEndpoint { name } => Ok(Event::ShowEndpoint { name: *name }),
+            Event::Show { name, id } => Ok(Event::Show {
+                name: *name,
+                id: *id,
+            }),
+        }
+    }
 }

@@ -1,6 +1,7 @@
 use Rattle.std.proofs.Common.{◌∙◌}
 use Rattle.drill.proofs.CoreLaws.{kept}
-use Rattle.drill.proofs.VaultLaws.{vault_follows, is_of_desk}
+use Rattle.drill.proofs.FollowLaws.{is_of_desk}
+use Rattle.drill.proofs.VaultLaws.{vault_follows}
 use Rattle.drill.proofs.calls.Core.carry_out.Goals as goal
 
 pub returns-in_default-clause-answers : goal.returns-in_default-clause-answers

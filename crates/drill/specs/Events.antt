@@ -1,0 +1,69 @@
+-- The calls of a run: what each is told, and how far the replies show records to be settled.
+use Rattle.std.specs.Prelude.{◌≡◌, ℕ, ◌+◌, ◌≤◌, max, true, List, [], ◌∷◌, length, is_some}
+use Rattle.std.specs.List.{AllByRecursion}
+use Rattle.script_lines.specs.declared.event.Event as line
+use Rattle.script_lines.specs.declared.event.Event.TheVariants as on_line
+use Rattle.script_lines.specs.declared.reply.Reply as line_reply
+use Rattle.script_lines.specs.declared.reply.Reply.TheVariants as says
+use Rattle.script_lines.specs.declared.reply.Told.TheVariants.{Settled}
+use Rattle.desk.specs.Looks.{told, told_command, settled_body, totals}
+use Rattle.desk.specs.World.{World, all_records, settled_records}
+use Rattle.recovery.specs.Left.{records_of_first}
+use Rattle.drill.specs.declared.events.Event.{Event}
+use Rattle.drill.specs.declared.events.Event.TheVariants as on
+use Rattle.drill.specs.declared.events.Look.{Look}
+use Rattle.drill.specs.declared.events.Look.TheVariants as look
+use Rattle.drill.specs.declared.events.Reply.{Reply}
+use Rattle.drill.specs.declared.events.Reply.TheVariants as reply
+use Rattle.drill.specs.Moves.{Session, told_as}
+use Rattle.drill.specs.Runs.{Move}
+
+-- What a look is told.
+abbrev pub look_reply : World → Look → Reply
+look_reply w (look.Told ticket) = reply.Line (says.ToldAs (told_as (told w ticket)))
+look_reply w (look.ToldCommand ticket) = reply.Line (says.ToldAs (told_as (told_command w ticket)))
+look_reply w (look.SettledBody ticket) = reply.HasBody (is_some (settled_body w ticket))
+look_reply w look.Totals = reply.Totals (totals (settled_records w))
+look_reply w look.Records = reply.Count (length (all_records w))
+look_reply w look.SettledRecords = reply.Count (length (settled_records w))
+look_reply w look.IsHalted = reply.Flag w.halted
+
+-- From s, the core may give this reply to the event and go on to next.
+abbrev pub Makes : Session → Event → Reply → Session → Type 0
+Makes s (on.Line event) told next = (line : line_reply.Reply) × (told ≡ reply.Line line) × Move s event line next
+Makes s (on.Look asked) told next = (told ≡ look_reply s.world asked) × (next ≡ s)
+
+-- The reply shows that the records below this number are settled. A ticket that is told Settled and a job show a record, and with it those
+-- before it; a settlement shows all that it settled; a page, a body and a settled count show all that was settled.
+abbrev pub shown_by_line : World → line.Event → line_reply.Reply → ℕ
+shown_by_line w (on_line.Told seq) (says.ToldAs Settled) = seq + 1
+shown_by_line w (on_line.Claim now) (says.Permit delivery endpoint id attempt at inflight) = delivery + 1
+shown_by_line w on_line.Settle (says.SettledTo to) = to
+shown_by_line w (on_line.ShowEndpoint name) (says.Endpoint enabled pending delivered exhausted) = length (settled_records w)
+shown_by_line w (on_line.Show name id) (says.Event state due attempts) = length (settled_records w)
+shown_by_line w event other = 0
+
+abbrev pub shown_by_look : World → Look → Reply → ℕ
+shown_by_look w (look.Told ticket) (reply.Line (says.ToldAs Settled)) = ticket.seq + 1
+shown_by_look w (look.ToldCommand ticket) (reply.Line (says.ToldAs Settled)) = ticket.seq + 1
+shown_by_look w (look.SettledBody ticket) (reply.HasBody true) = length (settled_records w)
+shown_by_look w look.Totals (reply.Totals totals) = length (settled_records w)
+shown_by_look w look.SettledRecords (reply.Count records) = length (settled_records w)
+shown_by_look w asked other = 0
+
+abbrev pub shown : World → Event → Reply → ℕ
+shown w (on.Line event) (reply.Line told) = shown_by_line w event told
+shown w (on.Line event) other = 0
+shown w (on.Look asked) told = shown_by_look w asked told
+
+-- The core may give these replies to these events, one after another, and they show that the records below this number are settled.
+abbrev pub Runs : Session → List Event → List Reply → Session → (acknowledged : ℕ) → Type 0
+Runs s [] [] last acknowledged = (last ≡ s) × (acknowledged ≡ 0)
+Runs s (event ∷ events) (told ∷ replies) last acknowledged = (next : Session) × (later : ℕ)
+    × Makes s event told next × Runs next events replies last later × (acknowledged ≡ max (shown s.world event told) later)
+Runs s [] (told ∷ replies) last acknowledged = ⊥
+Runs s (event ∷ events) [] last acknowledged = ⊥
+
+-- Whatever a stop may leave has all records below this number.
+abbrev pub IsKept : World → (acknowledged : ℕ) → Type 0
+IsKept w acknowledged = AllByRecursion (λ steps. acknowledged ≤ length (records_of_first w steps)) w.left

@@ -1,0 +1,64 @@
+-- What a run of events leaves.
+use Rattle.std.specs.Prelude.{◌≡◌, ℕ, ◌≤◌, List, [], length, Option, Some, None}
+use Rattle.sqlite.specs.Store.{Ghosts}
+use Rattle.relay_types.specs.Values.{Seconds}
+use Rattle.relay_types.specs.Records.{History}
+use Rattle.spool.specs.Batches.{BatchValue, doubt_of}
+use Rattle.spool.specs.Vaults.{VaultValue}
+use Rattle.group_commit.specs.declared.held.Held as waiting
+use Rattle.group_commit.specs.declared.held.Held.TheVariants as held
+use Rattle.desk.specs.World.{World, Nothing, Batch, Receipt, Doubt, settled_records}
+use Rattle.desk.specs.Moves.{opened, sealed_batch}
+use Rattle.desk.specs.Desks.{DeskValue, StandsFor}
+use Rattle.recovery.specs.Left.{VaultStandsFor, KeepsRows}
+use Rattle.drill.specs.declared.calls.Core.{Core}
+use Rattle.drill.specs.declared.events.Event.{Event}
+use Rattle.drill.specs.declared.events.Reply.{Reply}
+use Rattle.drill.specs.declared.runs.World as left
+use Rattle.drill.specs.Moves.{Session}
+use Rattle.drill.specs.Events.{Makes, Runs, IsKept}
+use Rattle.drill.specs.Runners.{RunStandsFor}
+
+-- everything is settled, and nothing is out or under way
+abbrev pub IsOpening : World → Type 0
+IsOpening w = (history : History) × (clock : Seconds) × (w ≡ opened history clock)
+
+-- the desk stands for some opening
+abbrev pub IsOpened : DeskValue → Type 0
+IsOpened desk = ∥ ((w : World) × StandsFor desk w × IsOpening w) ∥₁
+
+-- the session in which a run from this world begins: no ticket was given
+abbrev pub session_of : World → Session
+session_of w = record { world = w; tickets = [] }
+
+-- From each session for which core and store stood, the event was told this, and they stand for what came of it.
+abbrev pub TakesEvent : {L S : Type 0} → Ghosts S → Core L → VaultValue S → Event → Reply → Core L → VaultValue S → Type 0
+TakesEvent g old vault event told new later =
+    (s : Session) → RunStandsFor g old vault s → (next : Session) × Makes s event told next × RunStandsFor g new later next
+
+-- The same of events that come one after another. What their replies show is settled.
+abbrev pub TakesEvents : {L S : Type 0} → Ghosts S → Core L → VaultValue S → List Event → List Reply → Core L → VaultValue S → Type 0
+TakesEvents g old vault events replies new later = (s : Session) → RunStandsFor g old vault s
+    → (last : Session) × (acknowledged : ℕ) × Runs s events replies last acknowledged × RunStandsFor g new later last × (acknowledged ≤ length (settled_records last.world))
+
+-- what is out in the world was handed out: a receipt, a batch or a doubt
+abbrev pub IsOut : (mark : ℕ) → World → (receipt : Option BatchValue) → (given : waiting.Held) → Type 0
+IsOut mark w None held.Nothing = w.out ≡ Nothing
+IsOut mark w None (held.Batch batch) = (w.out ≡ Batch) × (batch ≡ sealed_batch mark w)
+IsOut mark w None (held.Doubt doubt) = (w.out ≡ Doubt) × (doubt ≡ doubt_of (sealed_batch mark w))
+IsOut mark w (Some receipt) held.Nothing = (w.out ≡ Receipt) × (receipt ≡ sealed_batch mark w)
+IsOut mark w (Some receipt) given = ⊥
+
+-- These are the replies of a run of the events from the session, and what is left stands for its last world: the desk, the permits of the
+-- attempts under way, what is out, and the store, which a stop leaves as this world says: each time with all records that were shown.
+pub record IsRunFrom {L S : Type 0} (g : Ghosts S) (s : Session) (events : List Event) (to : left.World L S) : Type 0 where
+  pub last : Session
+  pub acknowledged : ℕ
+  pub runs : Runs s events to.replies.items last acknowledged
+  pub desk : StandsFor to.desk last.world
+  pub permits : to.permits.items ≡ last.world.live
+  pub out : IsOut to.desk.waiting.mark last.world to.receipt to.held
+  pub vault : VaultStandsFor g to.vault last.world
+  pub mark : to.desk.waiting.mark ≡ to.vault.mark
+  pub leaves : KeepsRows g to.vault.conn last.world
+  pub kept : IsKept last.world acknowledged

@@ -1,0 +1,164 @@
+//! Runs: calls of the core, one after another.
+ghost use Rattle.std.specs.Prelude.{◌≡◌, ◌+◌, ◌≤◌, ◌++◌, ◌∷◌, [], length, IfErr, IfOk, IsPermutation, OnOk, vec_capacity, vec_len};
+ghost use Rattle.desk.specs.Desks.{IsAllOut, StandsFor};
+ghost use Rattle.desk.specs.World as model;
+ghost use Rattle.drill.specs.Cores.{HasRoom, IsCore, TakesRoom};
+ghost use Rattle.drill.specs.Places.{HasPlaces};
+ghost use Rattle.drill.specs.Tickets.{Keeps};
+ghost use Rattle.drill.specs.Worlds.{IsOpened, IsOpening, IsRunFrom, TakesEvents, session_of};
+ghost use Rattle.recovery.specs.Left.{IsCleanAt, VaultStandsFor};
+
+use crate::calls::Core;
+use crate::events::{Event, Reply};
+use crate::held::Held;
+use crate::tickets::Tickets;
+use desk::Desk;
+use permits::Permit;
+use spool::{Receipt, Vault};
+use sqlite::Alter;
+use std::alloc::{AllocError, Global};
+use std::sync::ledger::Ledger;
+
+/// What a run leaves: the desk and the store, what they handed out and didn't take back, and a reply to each event. `Desk::close`
+/// takes all but the store and the replies.
+pub struct World<L: Ledger, S: Alter> {
+    pub desk: Desk<L>,
+    pub vault: Vault<S>,
+    pub permits: Vec<Permit<L>>,
+    pub receipt: Option<Receipt>,
+    pub held: group_commit::Held,
+    pub replies: Vec<Reply>,
+}
+
+/// Makes the calls one after another, from an opening: desk and vault of one mark, and nothing handed out. What a call hands out is kept and
+/// goes to the call that takes it: a batch to `commit`, `unseal` or `halt`, a receipt to `settle`, a doubt to `halt`, a permit to the spend that
+/// names its delivery, a ticket's number to `told`. All memory of its own is taken first; where it is refused, nothing was done.
+pub fn run<L: Ledger, S: Alter>(
+    alloc: Global,
+    desk: Desk<L>,
+    vault: Vault<S>,
+    events: &[Event],
+) -> Result<World<L, S>, (Desk<L>, Vault<S>, AllocError)>
+    requires opened { IsOpened desk }
+    requires mark { desk.waiting.mark ≡ vault.mark }
+    ensures runs { IfOk result (λ to. IsCleanAt S.Store to.vault.conn → (w : model.World)
+        → IsOpening w → StandsFor desk w → VaultStandsFor S.Store vault w
+        → IsRunFrom S.Store (session_of w) events.now to) }
+    ensures replies { IfOk result (λ to. length to.replies.items ≡ length events.now) }
+    ensures permits { IfOk result (λ to. IsPermutation to.permits.items to.desk.live) }
+    ensures out { IfOk result (λ to. IsAllOut to.desk.waiting to.receipt to.held) }
+    ensures clean { IfOk result (λ to. IsCleanAt S.Store to.vault.conn → IsCleanAt S.Store vault.conn) }
+    ensures undone { IfErr result (λ back. (back.0 ≡ desk) × (back.1 ≡ vault)) }
+{
+    match Places::of(alloc, events) {
+        Ok(places) => Ok(run_in(places, desk, vault)),
+        Err(fault) => Err((desk, vault, fault)),
+    }
+}
+
+// What a run takes of memory: its events, which share all texts and bodies, and places for what they are told and given.
+struct Places<L: Ledger> {
+    events: Vec<Event>,
+    replies: Vec<Reply>,
+    tickets: Tickets,
+    permits: Vec<Permit<L>>,
+}
+
+impl<L: Ledger> Places<L> {
+    fn of(alloc: Global, events: &[Event]) -> Result<Places<L>, AllocError>
+        ensures events { IfOk result (λ places. places.events.items ≡ events.now) }
+        ensures tickets { IfOk result (λ places. Keeps places.tickets []) }
+        ensures room { IfOk result HasPlaces }
+        ensures empty { IfOk result (λ places. (places.replies.items ≡ []) × (places.permits.items ≡ [])) }
+    {
+        let copies = share_all(alloc, events)?;
+        let replies = Vec::with_capacity(alloc, events.len())?;
+        let mut tickets = Tickets::new(alloc);
+        tickets.reserve(events.len())?;
+        let permits = Vec::with_capacity(alloc, events.len())?;
+        Ok(Places {
+            events: copies,
+            replies,
+            tickets,
+            permits,
+        })
+    }
+}
+
+fn share_all(alloc: Global, events: &[Event]) -> Result<Vec<Event>, AllocError>
+    ensures { IfOk result (λ copies. copies.items ≡ events.now) }
+{
+    let mut copies = Vec::with_capacity(alloc, events.len())?;
+    for event in events {
+        copies.push_reserved(event.share()?);
+    }
+    Ok(copies)
+}
+
+// Makes the calls in the places that were made for them.
+fn run_in<L: Ledger, S: Alter>(places: Places<L>, desk: Desk<L>, vault: Vault<S>) -> World<L, S>
+    requires opened { IsOpened desk }
+    requires mark { desk.waiting.mark ≡ vault.mark }
+    requires room { HasPlaces places }
+    requires tickets { Keeps places.tickets [] }
+    requires empty { (places.replies.items ≡ []) × (places.permits.items ≡ []) }
+    ensures runs { IsCleanAt S.Store result.vault.conn → (w : model.World) → IsOpening w
+        → StandsFor desk w → VaultStandsFor S.Store vault w → IsRunFrom S.Store (session_of w) places.events.items result }
+    ensures replies { length result.replies.items ≡ length places.events.items }
+    ensures permits { IsPermutation result.permits.items result.desk.live }
+    ensures out { IsAllOut result.desk.waiting result.receipt result.held }
+    ensures clean { IsCleanAt S.Store result.vault.conn → IsCleanAt S.Store vault.conn }
+{
+    let Places {
+        events,
+        mut replies,
+        tickets,
+        permits,
+    } = places;
+    let mut vault = vault;
+    let mut core = Core {
+        desk,
+        held: Held::Nothing,
+        permits,
+        tickets,
+    };
+    make_calls(&mut core, &mut vault, events, &mut replies);
+    let Core {
+        desk,
+        held,
+        permits,
+        tickets: _,
+    } = core;
+    let (receipt, held) = held.parts();
+    World {
+        desk,
+        vault,
+        permits,
+        receipt,
+        held,
+        replies,
+    }
+}
+
+// Makes the calls one after another, and adds what each was told.
+fn make_calls<L: Ledger, S: Alter>(
+    core: &mut Core<L>,
+    vault: &mut Vault<S>,
+    events: Vec<Event>,
+    replies: &mut Vec<Reply>,
+)
+    requires core { IsCore core.old }
+    requires room { HasRoom core.old (length events.items) }
+    requires places { length events.items ≤ vec_capacity replies.old }
+    requires empty { replies.old.items ≡ [] }
+    ensures runs { IsCleanAt S.Store vault.new.conn
+        → TakesEvents S.Store core.old vault.old events.items replies.new.items core.new vault.new }
+    ensures replies { length replies.new.items ≡ length events.items }
+    ensures core { IsCore core.new }
+    ensures clean { IsCleanAt S.Store vault.new.conn → IsCleanAt S.Store vault.old.conn }
+{
+    for event in events {
+        let reply = core.take(vault, event);
+        replies.push_reserved(reply);
+    }
+}
