@@ -27,13 +27,23 @@ const EXIT_HELP: &str = "Exit status:
   3  every other fault
 A fault is told on standard error.";
 
-const REPLAY_HELP: &str = "Lines, words with one space between:
-  put NAME URL MAX SECRETS  a new endpoint; 1 to 4 secrets with commas between, the newest first
-  submit NOW NAME ID BODY   a new event; NOW in seconds since the Unix epoch, BODY in hexadecimal or -
-  seal                      makes a batch of what waits
-  commit                    writes the batch into the store
-  settle                    acknowledges what was written
-  show NAME ID              what became of an event
+const REPLAY_HELP: &str =
+    "Lines, words with one space between; NOW is in seconds since the Unix epoch:
+  put NAME URL MAX SECRETS    a new endpoint; 1 to 4 secrets with commas between, the newest first
+  secrets NAME SECRETS        other secrets of an endpoint
+  enable NAME, disable NAME   whether its events are posted
+  submit NOW NAME ID BODY     a new event; BODY in hexadecimal or -
+  told SEQ                    what is known of the record that was staged under this number
+  seal                        makes a batch of what waits
+  commit                      writes the batch into the store
+  settle                      acknowledges what was written
+  unseal                      takes the batch back: its records wait again
+  halt                        ends what is out; nothing is taken from then on
+  claim NOW                   the next attempt that may begin
+  spend DELIVERY NOW RESULT   what came of it: STATUS RTT, timeout RTT, unreached or unsent
+  show NAME                   what the settled records say of an endpoint
+  show NAME ID                what became of an event
+  limits NAME                 how many attempts at an endpoint may be under way, and how many are
 A bad line ends the script with status 2; the replies before it stand.";
 
 const SIGN_HELP: &str =
