@@ -21,8 +21,9 @@ fmt:
 # Prints one table of measurements, each beside what stands for comparison.
 bench:
 	cd crates/bench && rt run
+	cd crates/bench_desk && rt run
 	cd crates/bench_store && rt run
 	cd crates/relayd && rt run -- --version
-	./scripts/bench crates/bench/out/bench crates/bench_store/out/bench_store crates/relayd/out/relayd
+	./scripts/bench crates/bench/out/bench crates/bench_desk/out/bench_desk crates/bench_store/out/bench_store crates/relayd/out/relayd
 
 .PHONY: run test check edits fmt bench

@@ -5,13 +5,11 @@ mod filling;
 mod inserting;
 mod loading;
 mod records;
-mod submitting;
 mod turns;
 
 use crate::filling::{fill, fill_tables};
 use crate::inserting::insert;
 use crate::loading::print_loads;
-use crate::submitting::submit;
 use sqlite::Connection;
 use std::io;
 use std::process::ExitCode;
@@ -22,7 +20,6 @@ tables PATH        each record once
 loads PATH         the same, and then two loads
 fill COUNT PATH    as many events, half of them with two attempts
 load COUNT PATH    the same, and then read back into books
-submit COUNT PATH  as many submissions, committed 256 at a time
 insert COUNT PATH  the rows of as many events, by bare statements
 ";
 
@@ -94,18 +91,6 @@ fn load(rt: &HostRuntime, count: &str, path: &str) -> io::Result<bool> {
     Ok(true)
 }
 
-/// Submits as many events over the file, and prints how many records are settled. Whether that went well.
-fn take_in(rt: &HostRuntime, count: &str, path: &str) -> io::Result<bool> {
-    let (Some(count), Ok(conn)) = (count_of(count), Connection::open(rt, path)) else {
-        return Ok(false);
-    };
-    let Ok(settled) = submit(rt.alloc(), conn, count) else {
-        return Ok(false);
-    };
-    println!(rt; "settled {settled}")?;
-    Ok(true)
-}
-
 /// Inserts the rows of as many events. Whether they were written.
 fn write_rows(rt: &HostRuntime, count: &str, path: &str) -> bool {
     let (Some(count), Ok(mut conn)) = (count_of(count), Connection::open(rt, path)) else {
@@ -126,7 +111,6 @@ fn run(rt: &HostRuntime, words: &[&str]) -> io::Result<bool> {
         [_, "loads", path] => load_tables(rt, path),
         [_, "fill", count, path] => Ok(write_events(rt, count, path)),
         [_, "load", count, path] => load(rt, count, path),
-        [_, "submit", count, path] => take_in(rt, count, path),
         [_, "insert", count, path] => Ok(write_rows(rt, count, path)),
         _ => Ok(false),
     }

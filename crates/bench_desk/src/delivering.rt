@@ -1,0 +1,62 @@
+//! Events that are posted: each is claimed and spent with status 200, and the outcomes are committed 256 at a time.
+use crate::failed::Failed;
+use crate::open_desk::OpenDesk;
+use crate::times::{Times, add};
+use crate::turns::{BATCH, turn};
+use relay_types::Moment;
+use retry_table::{PostResult, Status};
+use spool::Vault;
+use sqlite::Alter;
+use std::sync::ledger::Ledger;
+use std::time::Instant;
+
+/// The round trip of each post, in microseconds.
+const ROUND_TRIP: u64 = 100_000;
+
+/// Posts as many events, which are pending and due.
+pub(crate) fn deliver<L: Ledger, S: Alter>(
+    rt: &HostRuntime,
+    desk: &mut OpenDesk<L>,
+    vault: &mut Vault<S>,
+    count: u32,
+    times: &mut Times,
+) -> Result<(), Failed> {
+    for batch in 0..count.div_ceil(BATCH) {
+        let from = batch.saturating_mul(BATCH);
+        for _ in from..count.min(from.saturating_add(BATCH)) {
+            post(rt, desk, times)?;
+        }
+        if times.first_claims.is_zero() {
+            times.first_claims = times.claiming;
+        }
+        turn(rt, desk, vault, &mut times.outcomes)?;
+    }
+    Ok(())
+}
+
+/// Posts the event that is next.
+fn post<L: Ledger>(
+    rt: &HostRuntime,
+    desk: &mut OpenDesk<L>,
+    times: &mut Times,
+) -> Result<(), Failed> {
+    let now = Moment::of(1000)?;
+    let Some(status) = Status::of(200) else {
+        return Err(Failed);
+    };
+    let began = Instant::now(rt)?;
+    let Some(job) = desk.claim(now)? else {
+        return Err(Failed);
+    };
+    let claimed = Instant::now(rt);
+    let result = PostResult::Answered {
+        status,
+        rtt: ROUND_TRIP,
+    };
+    desk.spend(job.into_permit(), result, now);
+    let spent = Instant::now(rt)?;
+    let claimed = claimed?;
+    add(&mut times.claiming, began, claimed);
+    add(&mut times.spending, claimed, spent);
+    Ok(())
+}
