@@ -10,7 +10,7 @@ const ENDPOINTS: u64 = 100;
 const MAX_WAITING: u64 = 256;
 
 /// A book of as many events, all with the body `{}`, over 100 endpoints.
-pub fn stage_events(alloc: Global, count: u64) -> io::Result<DeliveryBook> {
+pub(crate) fn stage_events(alloc: Global, count: u64) -> io::Result<DeliveryBook> {
     let mut book = DeliveryBook::new(alloc);
     let Ok(body) = Body::of(Arc::new(alloc, Vec::from_slice(alloc, b"{}")?)?) else {
         return Ok(book);
@@ -40,7 +40,7 @@ fn stage_event(alloc: Global, book: &mut DeliveryBook, number: u64, body: Body) 
 }
 
 /// One failed outcome of each event, the first of which has number 0. After every 256 of them all are settled.
-pub fn stage_outcomes(book: &mut DeliveryBook, count: u64) {
+pub(crate) fn stage_outcomes(book: &mut DeliveryBook, count: u64) {
     for delivery in 0..count {
         stage_outcome(book, delivery);
         if delivery % MAX_WAITING == MAX_WAITING - 1 {

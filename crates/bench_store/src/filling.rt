@@ -12,7 +12,7 @@ use std::alloc::Global;
 const MARK: u64 = 0;
 
 /// A vault over a store without tables.
-pub fn opened<S: Alter + Drop>(conn: Connection<S>) -> Result<Vault<S>, Failed> {
+pub(crate) fn opened<S: Alter + Drop>(conn: Connection<S>) -> Result<Vault<S>, Failed> {
     if !conn.is_autocommit() {
         return Err(Failed);
     }
@@ -23,7 +23,7 @@ pub fn opened<S: Alter + Drop>(conn: Connection<S>) -> Result<Vault<S>, Failed> 
 }
 
 /// Puts 100 endpoints, takes in as many events of 1 KiB, and then two failed attempts at every second of them.
-pub fn fill<S: Alter + Drop>(
+pub(crate) fn fill<S: Alter + Drop>(
     alloc: Global,
     conn: Connection<S>,
     count: u32,
@@ -72,7 +72,7 @@ fn try_each<S: Alter + Drop>(
 
 /// Writes each kind of record: an endpoint, an event, a failed attempt, one that finds the endpoint gone, a flag, a third
 /// attempt, and other secrets.
-pub fn fill_tables<S: Alter + Drop>(
+pub(crate) fn fill_tables<S: Alter + Drop>(
     alloc: Global,
     conn: Connection<S>,
 ) -> Result<Vault<S>, Failed> {

@@ -21,7 +21,11 @@ const DELIVERIES_TABLE: &str =
      id TEXT NOT NULL, at INTEGER NOT NULL, body BLOB NOT NULL, UNIQUE(endpoint, id)) STRICT";
 
 /// Inserts the rows of 100 endpoints and of as many events of 1 KiB.
-pub fn insert<S: Alter>(alloc: Global, conn: &mut Connection<S>, count: u32) -> Result<(), Failed> {
+pub(crate) fn insert<S: Alter>(
+    alloc: Global,
+    conn: &mut Connection<S>,
+    count: u32,
+) -> Result<(), Failed> {
     conn.execute(ENDPOINTS_TABLE, &[])?;
     conn.execute(DELIVERIES_TABLE, &[])?;
     let mut body = Vec::with_capacity(alloc, BODY)?;

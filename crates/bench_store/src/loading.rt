@@ -6,7 +6,7 @@ use std::io;
 
 /// Loads the vault twice, and prints what each load tells: its fault, or what the books have of endpoint `a` and of the event
 /// with number 1.
-pub fn print_loads<S: Alter>(rt: &HostRuntime, vault: &mut Vault<S>) -> io::Result<()> {
+pub(crate) fn print_loads<S: Alter>(rt: &HostRuntime, vault: &mut Vault<S>) -> io::Result<()> {
     print_load(rt, vault)?;
     print_load(rt, vault)
 }

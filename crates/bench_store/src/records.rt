@@ -8,32 +8,32 @@ use std::alloc::{AllocError, Global};
 use std::sync::Arc;
 
 /// How many endpoints there are.
-pub const ENDPOINTS: u32 = 100;
+pub(crate) const ENDPOINTS: u32 = 100;
 
 /// The bytes of a body.
-pub const BODY: usize = 1024;
+pub(crate) const BODY: usize = 1024;
 
-pub fn name_of(alloc: Global, number: u32) -> Result<Name, Failed> {
+pub(crate) fn name_of(alloc: Global, number: u32) -> Result<Name, Failed> {
     let text = format!(in alloc; "e{number}")?;
     Ok(Name::read(text.as_bytes())?)
 }
 
 /// The id of an event: ids come in no order, as made ones do, and none comes twice, as the factor is odd.
-pub fn id_of(alloc: Global, number: u32) -> Result<MsgId, Failed> {
+pub(crate) fn id_of(alloc: Global, number: u32) -> Result<MsgId, Failed> {
     let text = id_text(alloc, number)?;
     Ok(MsgId::read(text.as_bytes())?)
 }
 
-pub fn id_text(alloc: Global, number: u32) -> Result<String, Failed> {
+pub(crate) fn id_text(alloc: Global, number: u32) -> Result<String, Failed> {
     Ok(format!(in alloc; "msg_{}", number.wrapping_mul(2_654_435_761))?)
 }
 
-pub fn secret() -> Result<Secret, Failed> {
+pub(crate) fn secret() -> Result<Secret, Failed> {
     Ok(Secret::read(b"whsec_MDEyMzQ1Njc4OTAxMjM0NTY3ODkwMTIz")?)
 }
 
 /// A new endpoint.
-pub fn put(alloc: Global, name: Name) -> Result<Step, Failed>
+pub(crate) fn put(alloc: Global, name: Name) -> Result<Step, Failed>
     ensures { IfOk result (λ step. IsTrue (is_request step)) }
 {
     Ok(Step::of(Record::Put {
@@ -45,7 +45,7 @@ pub fn put(alloc: Global, name: Name) -> Result<Step, Failed>
 }
 
 /// A body of as many equal bytes.
-pub fn body_of(alloc: Global, size: usize) -> Result<Body, Failed> {
+pub(crate) fn body_of(alloc: Global, size: usize) -> Result<Body, Failed> {
     let mut bytes = Vec::with_capacity(alloc, size)?;
     bytes.resize(size, b'{')?;
     let shared = Arc::new(alloc, bytes).map_err(AllocError::from)?;
@@ -53,7 +53,7 @@ pub fn body_of(alloc: Global, size: usize) -> Result<Body, Failed> {
 }
 
 /// An event of this number.
-pub fn accept(alloc: Global, name: Name, number: u32, body: &Body) -> Result<Step, Failed>
+pub(crate) fn accept(alloc: Global, name: Name, number: u32, body: &Body) -> Result<Step, Failed>
     ensures { IfOk result (λ step. IsTrue (is_request step)) }
 {
     Ok(Step::of(Record::Accept {
@@ -65,7 +65,7 @@ pub fn accept(alloc: Global, name: Name, number: u32, body: &Body) -> Result<Ste
 }
 
 /// An attempt that ended with this status, or 0.
-pub fn outcome(delivery: u64, attempt: u64, status: u16, at: u64) -> Result<Step, Failed>
+pub(crate) fn outcome(delivery: u64, attempt: u64, status: u16, at: u64) -> Result<Step, Failed>
     ensures { IfOk result (λ step. IsTrue (is_outcome step)) }
 {
     Ok(Step::of(Record::Outcome {

@@ -13,7 +13,7 @@ const BATCH: usize = 256;
 
 /// A run that went wrong.
 #[derive(Drop)]
-pub struct Failed;
+pub(crate) struct Failed;
 
 impl From<AllocError> for Failed {
     fn from(_: AllocError) -> Failed {
@@ -28,7 +28,7 @@ impl From<ReadFault> for Failed {
 }
 
 /// Stages a request, behind a commit where a whole batch waits.
-pub fn request<S: Alter>(
+pub(crate) fn request<S: Alter>(
     waiting: &mut Waiting,
     vault: &mut Vault<S>,
     step: Step,
@@ -43,7 +43,7 @@ pub fn request<S: Alter>(
 }
 
 /// Stages an outcome, behind a commit where a whole batch waits.
-pub fn outcome<S: Alter>(
+pub(crate) fn outcome<S: Alter>(
     waiting: &mut Waiting,
     vault: &mut Vault<S>,
     step: Step,
@@ -66,7 +66,7 @@ fn make_place<S: Alter>(waiting: &mut Waiting, vault: &mut Vault<S>) -> Result<(
 }
 
 /// Commits what waits, and settles it.
-pub fn commit<S: Alter>(waiting: &mut Waiting, vault: &mut Vault<S>) -> Result<(), Failed> {
+pub(crate) fn commit<S: Alter>(waiting: &mut Waiting, vault: &mut Vault<S>) -> Result<(), Failed> {
     match waiting.seal() {
         Ok(Some(batch)) => settle(waiting, written(vault, batch)?),
         Ok(None) => Ok(()),
@@ -75,7 +75,7 @@ pub fn commit<S: Alter>(waiting: &mut Waiting, vault: &mut Vault<S>) -> Result<(
 }
 
 /// The receipt of the batch, once it is committed.
-pub fn written<S: Alter>(vault: &mut Vault<S>, batch: Batch) -> Result<Receipt, Failed> {
+pub(crate) fn written<S: Alter>(vault: &mut Vault<S>, batch: Batch) -> Result<Receipt, Failed> {
     match vault.commit(batch) {
         Ok(receipt) => Ok(receipt),
         Err(CommitEnd::Unchanged(batch, _)) => {
