@@ -1,28 +1,24 @@
 //! What a desk tells before and after a settling.
 ghost use Rattle.std.specs.Prelude.{◌≡◌};
 
+use crate::courses::{Course, follow};
 use crate::turns::{MARK, opened, put, submit, turn};
 use desk::{Desk, Ticket, Told, Totals};
 use permits::PARTS;
 use relay_types::{MsgId, Name, State};
 use spool::Vault;
-use sqlite::MemStore;
+use sqlite::{Alter, Connection};
 use std::alloc::Global;
 use std::marker::Brand;
 use std::process::Abort;
 use std::sync::ledger::{Blank, Ledger};
 use std::test::Fail;
 
-/// Endpoint `a` with the event `msg_1` of 1000, which wait.
-fn begun<L: Ledger>(alloc: Global, blank: Blank) -> Result<(Desk<L>, Ticket), Fail>
-    requires name { blank.name ≡ L.name }
-    requires parts { blank.parts ≡ L.parts }
-    requires enough { blank.parts ≡ PARTS }
-{
-    let mut desk = Desk::new(alloc, blank, MARK)?;
-    put(&mut desk, alloc, 100)?;
-    match submit(&mut desk, alloc, b"msg_1", b"{}")? {
-        Ok(ticket) => Ok((desk, ticket)),
+/// Gives the desk endpoint `a` with the event `msg_1` of 1000, which wait.
+fn begin<L: Ledger>(alloc: Global, desk: &mut Desk<L>) -> Result<Ticket, Fail> {
+    put(desk, alloc, 100)?;
+    match submit(desk, alloc, b"msg_1", b"{}")? {
+        Ok(ticket) => Ok(ticket),
         Err(_) => Err(Fail::from("the event was refused")),
     }
 }
@@ -43,12 +39,12 @@ const BEGUN: Totals = Totals {
     ..EMPTY
 };
 
-fn wait<L: Ledger>(rt: &impl Abort, alloc: Global, blank: Blank) -> Result<(), Fail>
-    requires name { blank.name ≡ L.name }
-    requires parts { blank.parts ≡ L.parts }
-    requires enough { blank.parts ≡ PARTS }
-{
-    let (desk, ticket) = begun::<L>(alloc, blank)?;
+pub(crate) fn wait<L: Ledger>(
+    rt: &impl Abort,
+    alloc: Global,
+    desk: &mut Desk<L>,
+) -> Result<(), Fail> {
+    let ticket = begin(alloc, desk)?;
     assert_eq!(rt; desk.totals(), EMPTY);
     assert!(rt; desk.endpoint_page(ticket.name).is_none());
     assert!(rt; desk.event_page(ticket.name, &ticket.id).is_none());
@@ -60,17 +56,17 @@ fn wait<L: Ledger>(rt: &impl Abort, alloc: Global, blank: Blank) -> Result<(), F
 
 #[test]
 fn nothing_that_waits_is_shown(rt: HostRuntime) -> Result<(), Fail> {
-    wait::<Brand>(&rt, rt.alloc(), Blank::new(PARTS))
+    follow(&rt, rt.alloc(), Course::Wait)
 }
 
-fn settle<L: Ledger>(rt: &impl Abort, alloc: Global, blank: Blank) -> Result<(), Fail>
-    requires name { blank.name ≡ L.name }
-    requires parts { blank.parts ≡ L.parts }
-    requires enough { blank.parts ≡ PARTS }
-{
-    let (mut desk, ticket) = begun::<L>(alloc, blank)?;
-    let mut vault = opened(alloc)?;
-    assert_eq!(rt; turn(&mut desk, &mut vault)?, 2);
+pub(crate) fn settle<L: Ledger, S: Alter>(
+    rt: &impl Abort,
+    alloc: Global,
+    desk: &mut Desk<L>,
+    vault: &mut Vault<S>,
+) -> Result<(), Fail> {
+    let ticket = begin(alloc, desk)?;
+    assert_eq!(rt; turn(rt, desk, vault)?, 2);
     assert_eq!(rt; desk.totals(), BEGUN);
     assert_eq!(rt; desk.told(&ticket), Told::Settled);
     let Some(body) = desk.settled_body(&ticket) else {
@@ -84,17 +80,17 @@ fn settle<L: Ledger>(rt: &impl Abort, alloc: Global, blank: Blank) -> Result<(),
 
 #[test]
 fn what_is_settled_is_shown(rt: HostRuntime) -> Result<(), Fail> {
-    settle::<Brand>(&rt, rt.alloc(), Blank::new(PARTS))
+    follow(&rt, rt.alloc(), Course::Settle)
 }
 
-fn look<L: Ledger>(rt: &impl Abort, alloc: Global, blank: Blank) -> Result<(), Fail>
-    requires name { blank.name ≡ L.name }
-    requires parts { blank.parts ≡ L.parts }
-    requires enough { blank.parts ≡ PARTS }
-{
-    let (mut desk, ticket) = begun::<L>(alloc, blank)?;
-    let mut vault = opened(alloc)?;
-    turn(&mut desk, &mut vault)?;
+pub(crate) fn look<L: Ledger, S: Alter>(
+    rt: &impl Abort,
+    alloc: Global,
+    desk: &mut Desk<L>,
+    vault: &mut Vault<S>,
+) -> Result<(), Fail> {
+    let ticket = begin(alloc, desk)?;
+    turn(rt, desk, vault)?;
     let Some(event) = desk.event_page(ticket.name, &ticket.id) else {
         return Err(Fail::from("the event is not shown"));
     };
@@ -110,22 +106,28 @@ fn look<L: Ledger>(rt: &impl Abort, alloc: Global, blank: Blank) -> Result<(), F
 
 #[test]
 fn pages_have_what_is_settled(rt: HostRuntime) -> Result<(), Fail> {
-    look::<Brand>(&rt, rt.alloc(), Blank::new(PARTS))
+    follow(&rt, rt.alloc(), Course::Look)
 }
 
-fn fill<L: Ledger>(vault: &mut Vault<MemStore>, alloc: Global, blank: Blank) -> Result<(), Fail>
+fn fill<L: Ledger, S: Alter>(
+    rt: &impl Abort,
+    vault: &mut Vault<S>,
+    alloc: Global,
+    blank: Blank,
+) -> Result<(), Fail>
     requires name { blank.name ≡ L.name }
     requires parts { blank.parts ≡ L.parts }
     requires enough { blank.parts ≡ PARTS }
 {
-    let (mut desk, _) = begun::<L>(alloc, blank)?;
-    turn(&mut desk, vault)?;
+    let mut desk = Desk::<L>::new(alloc, blank, MARK)?;
+    begin(alloc, &mut desk)?;
+    turn(rt, &mut desk, vault)?;
     Ok(())
 }
 
-fn reopen<L: Ledger>(
+fn reopen<L: Ledger, S: Alter>(
     rt: &impl Abort,
-    vault: &mut Vault<MemStore>,
+    vault: &mut Vault<S>,
     alloc: Global,
     blank: Blank,
 ) -> Result<(), Fail>
@@ -145,9 +147,17 @@ fn reopen<L: Ledger>(
     Ok(())
 }
 
+fn open_again<S: Alter + Drop>(
+    rt: &impl Abort,
+    alloc: Global,
+    conn: Connection<S>,
+) -> Result<(), Fail> {
+    let mut vault = opened(conn)?;
+    fill::<Brand, S>(rt, &mut vault, alloc, Blank::new(PARTS))?;
+    reopen::<Brand, S>(rt, &mut vault, alloc, Blank::new(PARTS))
+}
+
 #[test]
 fn a_desk_of_a_vault_knows_what_it_holds(rt: HostRuntime) -> Result<(), Fail> {
-    let mut vault = opened(rt.alloc())?;
-    fill::<Brand>(&mut vault, rt.alloc(), Blank::new(PARTS))?;
-    reopen::<Brand>(&rt, &mut vault, rt.alloc(), Blank::new(PARTS))
+    open_again(&rt, rt.alloc(), Connection::open_in_memory(rt.alloc())?)
 }

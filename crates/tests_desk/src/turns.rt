@@ -1,23 +1,25 @@
 //! A desk and the vault that its batches are committed to.
-ghost use Rattle.std.specs.Prelude.{◌≡◌};
 
+use crate::courses::{Course, follow};
 use desk::{Command, CommandTicket, Desk, Fault, Refusal, Ticket, Told};
-use group_commit::Held;
-use permits::PARTS;
+use group_commit::{Held, WrongTurn};
 use relay_types::{Body, MaxLimit, Moment, MsgId, Name, Secret, Secrets, Target};
-use spool::{Batch, CommitEnd, Receipt, Vault};
-use sqlite::{Connection, MemStore};
+use spool::{Batch, Receipt, Vault};
+use sqlite::{Alter, Connection};
 use std::alloc::{AllocError, Global};
-use std::marker::Brand;
 use std::process::Abort;
 use std::sync::Arc;
-use std::sync::ledger::{Blank, Ledger};
+use std::sync::ledger::Ledger;
 use std::test::Fail;
 
 pub(crate) const MARK: u64 = 7;
 
-pub(crate) fn opened(alloc: Global) -> Result<Vault<MemStore>, Fail> {
-    match Vault::create(Connection::open_in_memory(alloc)?, MARK) {
+/// A vault over a store without tables.
+pub(crate) fn opened<S: Alter + Drop>(conn: Connection<S>) -> Result<Vault<S>, Fail> {
+    if !conn.is_autocommit() {
+        return Err(Fail::from("the store is in a transaction"));
+    }
+    match Vault::create(conn, MARK) {
         Ok(vault) => Ok(vault),
         Err((_, _)) => Err(Fail::from("create was refused")),
     }
@@ -53,115 +55,95 @@ pub(crate) fn submit<L: Ledger>(
     Ok(desk.submit(Moment::of(1000)?, Name::read(b"a")?, MsgId::read(id)?, body))
 }
 
-fn written(vault: &mut Vault<MemStore>, batch: Batch) -> Result<Receipt, Fail> {
+fn written<S: Alter>(rt: &impl Abort, vault: &mut Vault<S>, batch: Batch) -> Receipt {
     match vault.commit(batch) {
-        Ok(receipt) => Ok(receipt),
-        Err(CommitEnd::Unchanged(batch, _)) => {
-            drop(batch.into_steps());
-            Err(Fail::from("the commit was refused"))
-        }
-        Err(CommitEnd::Doubtful(doubt, _)) => {
-            doubt.end();
-            Err(Fail::from("the commit was doubtful"))
-        }
+        Ok(receipt) => receipt,
+        Err(_end) => panic!(rt; "the commit was refused"),
+    }
+}
+
+fn settle<L: Ledger>(rt: &impl Abort, desk: &mut Desk<L>, receipt: Receipt) -> u64 {
+    match desk.settle(receipt) {
+        Ok(settled) => settled.records,
+        Err((_receipt, WrongTurn)) => panic!(rt; "the receipt was refused"),
     }
 }
 
 /// Seals what waits, commits it and settles it: how many records are settled then.
-pub(crate) fn turn<L: Ledger>(
+pub(crate) fn turn<L: Ledger, S: Alter>(
+    rt: &impl Abort,
     desk: &mut Desk<L>,
-    vault: &mut Vault<MemStore>,
+    vault: &mut Vault<S>,
 ) -> Result<u64, Fail> {
     let Ok(Some(batch)) = desk.seal() else {
         return Err(Fail::from("nothing was sealed"));
     };
-    match desk.settle(written(vault, batch)?) {
-        Ok(settled) => Ok(settled.records),
-        Err((receipt, _)) => {
-            drop(receipt.into_steps());
-            Err(Fail::from("the receipt was refused"))
-        }
-    }
+    Ok(settle(rt, desk, written(rt, vault, batch)))
 }
 
-/// Whether what is held halts the desk. Otherwise it is ended.
-pub(crate) fn is_halted_by<L: Ledger>(desk: &mut Desk<L>, held: Held) -> bool {
+/// Whether what is held halts the desk. Nothing else than nothing comes back.
+fn is_halted_by<L: Ledger>(rt: &impl Abort, desk: &mut Desk<L>, held: Held) -> bool {
     match desk.halt(held) {
         Ok(()) => true,
-        Err((Held::Nothing, _)) => false,
-        Err((Held::Batch(batch), _)) => {
-            drop(batch.into_steps());
-            false
-        }
-        Err((Held::Doubt(doubt), _)) => {
-            doubt.end();
-            false
-        }
+        Err((Held::Nothing, WrongTurn)) => false,
+        Err((_held, WrongTurn)) => panic!(rt; "what is out was refused"),
     }
 }
 
-fn know<L: Ledger>(rt: &impl Abort, alloc: Global, blank: Blank) -> Result<(), Fail>
-    requires name { blank.name ≡ L.name }
-    requires parts { blank.parts ≡ L.parts }
-    requires enough { blank.parts ≡ PARTS }
-{
-    let mut desk = Desk::<L>::new(alloc, blank, MARK)?;
-    let unknown = submit(&mut desk, alloc, b"msg_1", b"{}")?;
-    assert!(rt;
-        unknown
-            == Err(Refusal {
-                number: 2,
-                fault: Fault::UnknownEndpoint
-            })
-    );
-    put(&mut desk, alloc, 100)?;
-    let first = submit(&mut desk, alloc, b"msg_1", b"{}")?;
+/// Why a submission of these bytes as `msg_1` is refused.
+fn refusal<L: Ledger>(
+    desk: &mut Desk<L>,
+    alloc: Global,
+    text: &[u8],
+) -> Result<Option<(u8, Fault)>, Fail> {
+    match submit(desk, alloc, b"msg_1", text)? {
+        Ok(_) => Ok(None),
+        Err(refusal) => Ok(Some((refusal.number, refusal.fault))),
+    }
+}
+
+pub(crate) fn know<L: Ledger>(
+    rt: &impl Abort,
+    alloc: Global,
+    desk: &mut Desk<L>,
+) -> Result<(), Fail> {
+    let unknown = refusal(desk, alloc, b"{}")?;
+    assert!(rt; unknown == Some((2, Fault::UnknownEndpoint)));
+    put(desk, alloc, 100)?;
+    let first = submit(desk, alloc, b"msg_1", b"{}")?;
     assert!(rt; first.is_ok_and(|ticket| ticket.seq == 1));
-    assert!(rt; submit(&mut desk, alloc, b"msg_1", b"{}")? == first);
-    let conflict = submit(&mut desk, alloc, b"msg_1", b"[]")?;
-    assert!(rt;
-        conflict
-            == Err(Refusal {
-                number: 3,
-                fault: Fault::Conflict
-            })
-    );
+    assert!(rt; submit(desk, alloc, b"msg_1", b"{}")? == first);
+    let conflict = refusal(desk, alloc, b"[]")?;
+    assert!(rt; conflict == Some((3, Fault::Conflict)));
     assert_eq!(rt; desk.records(), 2);
+    Ok(())
+}
+
+pub(crate) fn stop<L: Ledger>(
+    rt: &impl Abort,
+    alloc: Global,
+    desk: &mut Desk<L>,
+) -> Result<(), Fail> {
+    let ticket = put(desk, alloc, 100)?;
+    let Ok(Some(batch)) = desk.seal() else {
+        return Err(Fail::from("nothing was sealed"));
+    };
+    let by_nothing = is_halted_by(rt, desk, Held::Nothing);
+    let by_batch = is_halted_by(rt, desk, Held::Batch(batch));
+    assert_eq!(rt; (by_nothing, by_batch), (false, true));
+    assert!(rt; desk.is_halted());
+    assert_eq!(rt; desk.told_command(&ticket), Told::Unknown);
+    let refused = refusal(desk, alloc, b"{}")?;
+    assert!(rt; refused == Some((1, Fault::Halted)));
     Ok(())
 }
 
 #[test]
 fn what_is_known_answers_the_first_ticket(rt: HostRuntime) -> Result<(), Fail> {
-    know::<Brand>(&rt, rt.alloc(), Blank::new(PARTS))
-}
-
-fn stop<L: Ledger>(rt: &impl Abort, alloc: Global, blank: Blank) -> Result<(), Fail>
-    requires name { blank.name ≡ L.name }
-    requires parts { blank.parts ≡ L.parts }
-    requires enough { blank.parts ≡ PARTS }
-{
-    let mut desk = Desk::<L>::new(alloc, blank, MARK)?;
-    let ticket = put(&mut desk, alloc, 100)?;
-    let Ok(Some(batch)) = desk.seal() else {
-        return Err(Fail::from("nothing was sealed"));
-    };
-    let by_nothing = is_halted_by(&mut desk, Held::Nothing);
-    let by_batch = is_halted_by(&mut desk, Held::Batch(batch));
-    assert_eq!(rt; (by_nothing, by_batch), (false, true));
-    assert!(rt; desk.is_halted());
-    assert_eq!(rt; desk.told_command(&ticket), Told::Unknown);
-    let refused = submit(&mut desk, alloc, b"msg_1", b"{}")?;
-    assert!(rt;
-        refused
-            == Err(Refusal {
-                number: 1,
-                fault: Fault::Halted
-            })
-    );
-    Ok(())
+    follow(&rt, rt.alloc(), Course::Know)
 }
 
 #[test]
 fn a_halted_desk_takes_nothing(rt: HostRuntime) -> Result<(), Fail> {
-    stop::<Brand>(&rt, rt.alloc(), Blank::new(PARTS))
+    follow(&rt, rt.alloc(), Course::Stop)
 }

@@ -1,4 +1,4 @@
-use Rattle.tests_desk.proofs.looks.a_desk_of_a_vault_knows_what_it_holds.Given as goal
+use Rattle.tests_desk.proofs.looks.open_again.Given as goal
 
 abbrev pub ghosts-fill : goal.ghosts-fill
 ghosts-fill g a = record { name = a.blank.name; parts = a.blank.parts }
