@@ -18,7 +18,7 @@ use std::process::ExitCode;
 use text_lines::read_number;
 
 const LIST: &str =
-    "submit COUNT PATH  submissions to 100 endpoints, 256 in a commit, and then their posts
+    "submit COUNT PATH  submissions to 100 endpoints, 256 in a commit, and their posts, in rounds of 10,240
 post COUNT PATH    as many pending events of 50 endpoints, and then their posts
 ";
 
@@ -32,13 +32,16 @@ fn count_of(word: &str) -> Option<u32> {
     }
 }
 
-/// As many submissions, each batch of which is posted behind its commit.
+/// How many submissions are pending before they are posted, so that what one commit leaves to the next weighs little.
+const ROUND: u32 = 40 * BATCH;
+
+/// As many submissions, which are posted in rounds, as a desk takes only so many pending events.
 fn submit_plan(events: u32) -> Plan {
     Plan {
         endpoints: 100,
         events,
-        rounds: events.div_ceil(BATCH),
-        pending: BATCH,
+        rounds: events.div_ceil(ROUND),
+        pending: ROUND,
     }
 }
 
