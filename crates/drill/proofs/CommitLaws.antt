@@ -9,8 +9,7 @@ use Rattle.relay_types.specs.Records.{records_of}
 use Rattle.relay_types.specs.Legal.{IsLegal}
 use Rattle.relay_types.specs.Rows.{rows_of}
 use Rattle.relay_types.proofs.KnownLaws.{legal_front}
-use Rattle.spool_sql.specs.Tables.{no_schema}
-use Rattle.spool_sql.specs.Steps.{IsBegun, MayLeave}
+use Rattle.spool_sql.specs.Steps.{MayLeave}
 use Rattle.spool.specs.Batches.{BatchValue, doubt_of}
 use Rattle.spool.specs.declared.ends.CommitEnd.{CommitEnd}
 use Rattle.spool.specs.declared.ends.CommitEnd.TheVariants as ends

@@ -4,14 +4,14 @@ use mathlib.Core.Logic.{∥∥₁_map}
 use Rattle.std.specs.Prelude.{IsSomeAnd, count_by, find, position, remove, slice_get, if◌then◌else◌}
 use Rattle.std.specs.List.{list_any, position_or_len}
 use Rattle.std.specs.Option.{option_map_or}
-use Rattle.std.proofs.lemmas.Bool.{and_parts, eqb-true, ltb-false}
+use Rattle.std.proofs.lemmas.Bool.{and_parts, eqb-true, ltb-false, not-true}
 use Rattle.std.proofs.lemmas.List.{take-append-le}
 use Rattle.std.proofs.lemmas.List.Folds.{find_at, list_any_at}
 use Rattle.std.proofs.lemmas.List.Quantifiers.{position-Some}
 use Rattle.std.proofs.lemmas.List.Sums.{sum_by-remove, sum_by_push}
 use Rattle.std.proofs.lemmas.Option.{same_Some, slice_get-get_or, slice_get_past}
 use Rattle.relay_types.specs.Records.{History, Accepted, records_of}
-use Rattle.relay_types.specs.Deliveries.{accepted, deliveries, due_of, known_as}
+use Rattle.relay_types.specs.Deliveries.{accepted, attempts_of, deliveries, due_of, is_pending, known_as}
 use Rattle.permits.specs.declared.row.Row.{Row}
 use Rattle.permits.specs.Rows.{is_out, same_row}
 use Rattle.retry_table.specs.declared.post.PostResult.{PostResult}
@@ -55,14 +55,18 @@ pub record Goes (w next : World) : Type 0 where
 pub record Stages (w next : World) : Type 0 where
   pub goes : Goes w next
   pub live : next.live ≡ w.live
+  pub none : (d : ℕ) → attempts_of (records_of goes.more) d ≡ []
 
-goes_with : (w : World) (more : History) (clock : ℕ) → Stages w (record w { history = w.history ++ more; clock = clock })
-goes_with w more clock =
-    record { goes = record { out = refl; settled = refl; sealed = refl; left = refl; halted = refl; more = more; history = refl }; live = refl }
+goes_with : (w : World) (more : History) (clock : ℕ) → ((d : ℕ) → attempts_of (records_of more) d ≡ []) → Stages w (record w { history = w.history ++ more; clock = clock })
+goes_with w more clock none =
+    record { goes = record { out = refl; settled = refl; sealed = refl; left = refl; halted = refl; more = more; history = refl }; live = refl; none = none }
 
-later : (w : World) (clock : ℕ) → Stages w (record w { clock = clock })
-later w clock =
-    record { goes = record { out = refl; settled = refl; sealed = refl; left = refl; halted = refl; more = []; history = sym (append-nil w.history) }; live = refl }
+pub later : (w : World) (clock : ℕ) → Stages w (record w { clock = clock })
+later w clock = record {
+  goes = record { out = refl; settled = refl; sealed = refl; left = refl; halted = refl; more = []; history = sym (append-nil w.history) };
+  live = refl;
+  none = λ d. refl;
+}
 
 pub stays_so : (w : World) → Stages w w
 stays_so w = later w w.clock
@@ -81,7 +85,7 @@ goes_submit w now name id body =
     (at (known_as (all_records w) name id))
   where
     new : Stages w (submit_new w now name id body).next
-    new = goes_unless (new_submit_faults w name) w _ (goes_with w _ (moment w now))
+    new = goes_unless (new_submit_faults w name) w _ (goes_with w _ (moment w now) (λ d. refl))
 
     at : (o : Option ℕ) → Stages w (option_map_or (repeats w now name id) o (submit_new w now name id body)).next
     at None = new
@@ -91,9 +95,9 @@ pub goes_change : (w : World) (command : Command) → Stages w (change w command
 goes_change w command = goes_unless (change_faults w command) w (changes w command) (at command)
   where
     at : (command : Command) → Stages w (changes w command).next
-    at (PutEndpoint name target max secrets) = goes_with w _ w.clock
-    at (SetSecrets name secrets) = goes_with w _ w.clock
-    at (SetEnabled name flag) = goes_with w _ w.clock
+    at (PutEndpoint name target max secrets) = goes_with w _ w.clock (λ d. refl)
+    at (SetSecrets name secrets) = goes_with w _ w.clock (λ d. refl)
+    at (SetEnabled name flag) = goes_with w _ w.clock (λ d. refl)
 
 lacks_stays : {A : Type 0} (o : Option ℕ) (result : Result A Refusal) (w next : World) → IsSomeAnd o (λ number. (result ≡ Err (refusal number desk_fault.OutOfMemory)) × (next ≡ w)) → next ≡ w
 lacks_stays None result w next h = absurd h
@@ -181,24 +185,24 @@ tells_given told s answer result next refusing (inr without) = inr (at answer.me
     at None h = h
     at (Some number) (e, f) = inl (ap told e ∙ refusing (refusal number desk_fault.OutOfMemory), λ i. record s { world = f i })
 
--- what is chosen isn't under way
-not_live : (w : World) (now d : ℕ) → choice w now ≡ Some d → is_live w d ≡ false
-not_live w now d e = by (accepted (settled_records w) d) (passes (is_claimable w now) d (deliveries (settled_records w)) (chosen_among (due_of (settled_records w)) (claimables w now) d e))
+-- what is chosen waits for its next attempt
+waits_if_chosen : (w : World) (now d : ℕ) → choice w now ≡ Some d → waits w d ≡ true
+waits_if_chosen w now d e = by (accepted (settled_records w) d) (passes (is_claimable w now) d (deliveries (settled_records w)) (chosen_among (due_of (settled_records w)) (claimables w now) d e))
   where
-    not_true : (b : Bool) → not b ≡ true → b ≡ false
-    not_true true h = sym h
-    not_true false h = refl
-
-    by : (o : Option Accepted) → option_map_or (is_claimable_for w now d) o false ≡ true → is_live w d ≡ false
+    by : (o : Option Accepted) → option_map_or (is_claimable_for w now d) o false ≡ true → waits w d ≡ true
     by None h = absurd (let no = h in cc)
-    by (Some a) h =
-        let waiting = (and_parts (waits w d) _ h).0 in
-        let behind = (and_parts _ (has_no_waiting_outcome w d && not (is_live w d)) waiting).1 in
-        not_true (is_live w d) (and_parts (has_no_waiting_outcome w d) (not (is_live w d)) behind).1
+    by (Some a) h = (and_parts (waits w d) _ h).0
+
+-- what waits is pending, no outcome of it waits, and no attempt at it is under way
+pub waits_so : (w : World) (d : ℕ) → waits w d ≡ true → (is_pending (settled_records w) d ≡ true) × (has_no_waiting_outcome w d ≡ true) × (is_live w d ≡ false)
+waits_so w d h =
+    let (pending, behind) = and_parts (is_pending (settled_records w) d) (has_no_waiting_outcome w d && not (is_live w d)) h in
+    let (none, free) = and_parts (has_no_waiting_outcome w d) (not (is_live w d)) behind in
+    (pending, none, not-true (is_live w d) free)
 
 -- what a claim leaves: an attempt more, or at most a later clock
 abbrev pub IsClaimed : (w : World) (result : Result (Option JobValue) Refusal) (next : World) → Type 0
-IsClaimed w (Ok (Some job)) next = (at : ℕ) × (next ≡ with_attempt w at job.row) × (is_live w job.row.delivery ≡ false)
+IsClaimed w (Ok (Some job)) next = (at : ℕ) × (next ≡ with_attempt w at job.row) × (waits w job.row.delivery ≡ true)
 IsClaimed w (Ok None) next = (at : ℕ) × (next ≡ record w { clock = at })
 IsClaimed w (Err r) next = (at : ℕ) × (next ≡ record w { clock = at })
 
@@ -211,7 +215,7 @@ claimed w now result next = at w.halted (choice w (moment w now)) refl
     began d e true accept (inr without) = absurd without
     began d e false None (inl given) = subst (λ r. IsClaimed w r next) (sym given.0) (moment w now, given.1)
     began d e false None (inr without) = absurd without
-    began d e false (Some a) (inl given) = subst (λ r. IsClaimed w r next) (sym given.0) (moment w now, given.1, not_live w (moment w now) d e)
+    began d e false (Some a) (inl given) = subst (λ r. IsClaimed w r next) (sym given.0) (moment w now, given.1, waits_if_chosen w (moment w now) d e)
     began d e false (Some a) (inr without) = subst (λ r. IsClaimed w r next) (sym without.0) (w.clock, without.1)
 
     at : (halted : Bool) (chosen : Option ℕ) → choice w (moment w now) ≡ chosen
@@ -225,13 +229,13 @@ claimed w now result next = at w.halted (choice w (moment w now)) refl
 begins : (w : World) (at : ℕ) (row : Row) → Goes w (with_attempt w at row)
 begins w at row = record { out = refl; settled = refl; sealed = refl; left = refl; halted = refl; more = []; history = sym (append-nil w.history) }
 
-goes_claim : (w : World) (result : Result (Option JobValue) Refusal) (next : World) → IsClaimed w result next → Goes w next
-goes_claim w (Ok (Some job)) next (at, e, free) = subst (Goes w) (sym e) (begins w at job.row)
+pub goes_claim : (w : World) (result : Result (Option JobValue) Refusal) (next : World) → IsClaimed w result next → Goes w next
+goes_claim w (Ok (Some job)) next (at, e, waiting) = subst (Goes w) (sym e) (begins w at job.row)
 goes_claim w (Ok None) next (at, e) = subst (Goes w) (sym e) (later w at).goes
 goes_claim w (Err r) next (at, e) = subst (Goes w) (sym e) (later w at).goes
 
-pub goes_claimed : (w : World) (now : ℕ) → Goes w (claim w now).next
-goes_claimed w now = goes_claim w (claim w now).reply (claim w now).next (claimed w now (claim w now).reply (claim w now).next (inl (refl, refl)))
+pub is_claim : (w : World) (now : ℕ) → IsClaimed w (claim w now).reply (claim w now).next
+is_claim w now = claimed w now (claim w now).reply (claim w now).next (inl (refl, refl))
 
 -- one attempt more, at a delivery that had none
 once_more : (rows : List Row) (row : Row) → AreOnce rows → is_out row.delivery rows ≡ false → AreOnce (rows ++ row ∷ [])
@@ -252,12 +256,12 @@ answers_claimed old new now job moved mark same permits tickets = record {
   mark = mark;
   moves = λ s on.
       let made = moved s.world on.desk in
-      let (at, e, free) = claimed s.world now (Ok (Some job)) made.0 made.1 in
+      let (at, e, waiting) = claimed s.world now (Ok (Some job)) made.0 made.1 in
       let live : made.0.live ≡ s.world.live ++ job.row ∷ [] = ap (λ (w : World). w.live) e in (
         record s { world = made.0 },
         tells_given claim_reply s (claim s.world now) (Ok (Some job)) made.0 (λ r. refl) made.1,
-        core_goes old new s made.0 s.tickets on (goes_claim s.world (Ok (Some job)) made.0 (at, e, free)) made.2 mark same
-            (permits ∙ ap (λ rows. rows ++ job.row ∷ []) on.permits ∙ sym live) (subst AreOnce (sym live) (once_more s.world.live job.row on.once free)) (subst (λ t. Keeps t s.tickets) (sym tickets) on.tickets),
+        core_goes old new s made.0 s.tickets on (goes_claim s.world (Ok (Some job)) made.0 (at, e, waiting)) made.2 mark same
+            (permits ∙ ap (λ rows. rows ++ job.row ∷ []) on.permits ∙ sym live) (subst AreOnce (sym live) (once_more s.world.live job.row on.once (waits_so s.world job.row.delivery waiting).2)) (subst (λ t. Keeps t s.tickets) (sym tickets) on.tickets),
       );
 }
 

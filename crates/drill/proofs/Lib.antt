@@ -3,6 +3,7 @@ mod TurnLaws
 mod FollowLaws
 mod VaultLaws
 mod CommitLaws
+mod AttemptLaws
 mod ShownLaws
 mod RunLaws
 pub mod ReplayLaws

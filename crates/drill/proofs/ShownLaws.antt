@@ -1,10 +1,9 @@
 -- What a reply shows is settled, and stays so.
-use Rattle.std.proofs.Common.{◌≡◌, ◌≤◌, ◌<◌, ◌+◌, ◌==◌, ◌&&◌, ℕ, Bool, true, false, not, List, [], ◌∷◌, ◌++◌, length, take, max, Option, Some, None, inl, inr, refl, sym, ap, subst, ◌∙◌, arith, length-append, cond}
+use Rattle.std.proofs.Common.{◌≡◌, ◌≤◌, ◌+◌, ◌==◌, ◌&&◌, ℕ, Bool, true, false, not, List, [], ◌∷◌, ◌++◌, length, take, max, Option, Some, None, inl, inr, refl, sym, ap, subst, ◌∙◌, arith, length-append}
 use mathlib.Core.Logic.{∥∥₁_map}
-use Rattle.std.specs.Prelude.{find, is_some, nat_lt, if◌then◌else◌}
-use Rattle.std.specs.List.{AllByRecursion}
+use Rattle.std.specs.Prelude.{is_some, nat_lt, if◌then◌else◌}
 use Rattle.std.specs.Option.{option_map_or}
-use Rattle.std.proofs.lemmas.Bool.{and_parts, eqb-true, ltb-true}
+use Rattle.std.proofs.lemmas.Bool.{eqb-true, ltb-true}
 use Rattle.std.proofs.lemmas.Option.{same_Some}
 use Rattle.sqlite.specs.Store.{Ghosts}
 use Rattle.spool.specs.Vaults.{VaultValue}
@@ -27,7 +26,7 @@ use Rattle.desk.specs.Moves.{moment, unless, are_seqs_spent, next_seq, sealed_ba
 use Rattle.desk.specs.Desks.{StandsFor}
 use Rattle.desk.specs.World.{World, Out, Nothing, Batch, Receipt, Doubt, all_records, settled_records, sealed_records}
 use Rattle.desk.proofs.LeastLaws.{chosen_among, passes}
-use Rattle.recovery.specs.Left.{LeavesBy, VaultStandsFor, records_of_first}
+use Rattle.recovery.specs.Left.{LeavesBy, records_of_first}
 use Rattle.drill.specs.declared.events.Event.{Event}
 use Rattle.drill.specs.declared.events.Event.TheVariants as on
 use Rattle.drill.specs.declared.events.Look.{Look}
@@ -43,13 +42,15 @@ use Rattle.drill.specs.Cores.{AreOnce, CoreStandsFor, IsCore, IsHeld, is_commit,
 use Rattle.drill.specs.Runners.{RunStandsFor}
 use Rattle.drill.specs.Worlds.{IsOpened, IsOpening, IsOut, IsRunFrom, TakesEvent, TakesEvents, session_of}
 use Rattle.drill.specs.Events.{Makes, Runs, IsKept, shown, shown_by_line, shown_by_look, look_reply}
-use Rattle.drill.specs.Moves.{Session, MayTell, IsOneOf, answer_to, claim_reply, commits, lacks, settles, told_as, told_reply}
+use Rattle.drill.specs.Moves.{Session, MayTell, IsOneOf, claim_reply, lacks, settles, told_as, told_reply}
 use Rattle.drill.specs.Runs.{Move}
 use Rattle.drill.specs.Tickets.{Keeps, find_ticket, seq_of}
 use Rattle.drill.specs.declared.runs.World as left
 use Rattle.drill.proofs.CommitLaws.{rows_kept}
 use Rattle.drill.proofs.CoreLaws.{same_first}
-use Rattle.drill.proofs.FollowLaws.{follows, is_of_desk}
+use Rattle.drill.proofs.FollowLaws.{by_call, commits_follow, follows}
+use Rattle.drill.proofs.VaultLaws.{each_left}
+use Rattle.drill.proofs.AttemptLaws.{attempts_pending_again}
 use Rattle.drill.proofs.TurnLaws.{sealed_is}
 
 -- how many records are settled, and sealed
@@ -66,23 +67,14 @@ settled_in_sealed w h = omega (arith, ap length (sealed_is 0 w h.below), length-
 
 -- What is settled stays settled
 
-commit_keeps : (s next : Session) (told : line_reply.Reply) (o : Out) → MayTell (commits s o) told next → settled_count s.world ≤ settled_count next.world
-commit_keeps s next told Nothing (inl given) = subst (λ (t : Session). settled_count s.world ≤ settled_count t.world) (sym given.1) (omega arith)
-commit_keeps s next told Nothing (inr none) = absurd none
-commit_keeps s next told Batch (inl given) = subst (λ (t : Session). settled_count s.world ≤ settled_count t.world) (sym given.1) (omega arith)
-commit_keeps s next told Batch (inr (inl given)) = subst (λ (t : Session). settled_count s.world ≤ settled_count t.world) (sym given.1) (omega arith)
-commit_keeps s next told Batch (inr (inr (inl given))) = subst (λ (t : Session). settled_count s.world ≤ settled_count t.world) (sym given.1) (omega arith)
-commit_keeps s next told Batch (inr (inr (inr none))) = absurd none
-commit_keeps s next told Receipt (inl given) = subst (λ (t : Session). settled_count s.world ≤ settled_count t.world) (sym given.1) (omega arith)
-commit_keeps s next told Receipt (inr none) = absurd none
-commit_keeps s next told Doubt (inl given) = subst (λ (t : Session). settled_count s.world ≤ settled_count t.world) (sym given.1) (omega arith)
-commit_keeps s next told Doubt (inr none) = absurd none
-
 line_keeps : (s next : Session) (event : line.Event) (told : line_reply.Reply) → IsOrdered s.world → Move s event told next → settled_count s.world ≤ settled_count next.world
-line_keeps s next event told h move = at (is_commit event) refl
+line_keeps s next event told h move = by_call keeps s next event told desk (commits_follow keeps s next told s.world.out refl (omega arith) (λ e. omega arith) (λ e. omega arith)) move
   where
+    keeps : World → Type 0
+    keeps w = settled_count s.world ≤ settled_count w
+
     desk : is_commit event ≡ false → settled_count s.world ≤ settled_count next.world
-    desk own = follows (λ w. settled_count s.world ≤ settled_count w) s next event told own (record {
+    desk own = follows keeps s next event told own (record {
       stays = omega arith;
       goes = λ other g. omega (arith, ap length (same_first s.world other s.world.settled g (omega (arith, h.below, h.within)) ∙ ap (λ k. records_of (take k other.history)) (sym g.settled)));
       seals = λ going free. omega arith;
@@ -90,14 +82,6 @@ line_keeps s next event told h move = at (is_commit event) refl
       unseals = λ e. omega arith;
       halts = λ other. omega arith;
     }) move
-
-    at : (b : Bool) → is_commit event ≡ b → settled_count s.world ≤ settled_count next.world
-    at false own = desk own
-    at true is = store event is move
-      where
-        store : (event : line.Event) → is_commit event ≡ true → Move s event told next → settled_count s.world ≤ settled_count next.world
-        store on_line.Commit is move = commit_keeps s next told s.world.out move
-        store event is move = absurd (let no = is in cc)
 
 pub event_keeps : (s next : Session) (event : Event) (told : Reply) → IsOrdered s.world → Makes s event told next → settled_count s.world ≤ settled_count next.world
 event_keeps s next (on.Line event) told h (line, is, move) = line_keeps s next event line h move
@@ -267,20 +251,7 @@ runs_more s mid next (first ∷ events) [] n event told run makes = absurd run
 
 -- Whatever a stop may leave has what is settled.
 pub settled_kept : (w : World) (n : ℕ) → IsOrdered w → LeavesBy w.out w → n ≤ settled_count w → IsKept w n
-settled_kept w n h leaves below = at w.out leaves
-  where
-    in_sealed : n ≤ length (sealed_records w)
-    in_sealed = omega (arith, below, settled_in_sealed w h)
-
-    by : (left : List ℕ) → w.left ≡ left → AllByRecursion (λ steps. n ≤ length (records_of_first w steps)) left → IsKept w n
-    by left e all = subst (AllByRecursion (λ steps. n ≤ length (records_of_first w steps))) (sym e) all
-
-    at : (o : Out) → LeavesBy o w → IsKept w n
-    at Nothing (inl e) = by (w.settled ∷ []) e (below, tt)
-    at Nothing (inr (halted, e)) = by (w.settled ∷ w.sealed ∷ []) e (below, (in_sealed, tt))
-    at Batch e = by (w.settled ∷ []) e (below, tt)
-    at Receipt e = by (w.sealed ∷ []) e (in_sealed, tt)
-    at Doubt e = by (w.settled ∷ w.sealed ∷ []) e (below, (in_sealed, tt))
+settled_kept w n h leaves below = each_left (λ steps. n ≤ length (records_of_first w steps)) w w.out leaves below (omega (arith, below, settled_in_sealed w h))
 
 -- What is held, as it is handed on.
 
@@ -323,10 +294,10 @@ opened_core core opened nothing none kept = ∥∥₁_map opened (λ (w, on, ope
 
 -- What is left when all events were told their replies
 
-pub run_from : {L S : Type 0} (g : Ghosts S) (first : Core L) (before : VaultValue S) (core : Core L) (s : Session) (events : List Event) (to : left.World L S) → RunStandsFor g first before s
-    → TakesEvents g first before events to.replies.items core to.vault → to.desk ≡ core.desk → to.permits ≡ core.permits → to.receipt ≡ receipt_of core.held → to.held ≡ given_of core.held → IsRunFrom g s events to
-run_from g first before core s events to started takes desk permits receipt given =
-    let (last, n, run, on, below) = takes s started in record {
+pub run_from : {L S : Type 0} (g : Ghosts S) (first : Core L) (before : VaultValue S) (core : Core L) (w : World) (events : List Event) (to : left.World L S) → IsOpening w → RunStandsFor g first before (session_of w)
+    → TakesEvents g first before events to.replies.items core to.vault → to.desk ≡ core.desk → to.permits ≡ core.permits → to.receipt ≡ receipt_of core.held → to.held ≡ given_of core.held → IsRunFrom g (session_of w) events to
+run_from g first before core w events to opening started takes desk permits receipt given =
+    let (last, n, run, on, below) = takes (session_of w) started in record {
       last = last;
       acknowledged = n;
       runs = run;
@@ -338,4 +309,5 @@ run_from g first before core s events to started takes desk permits receipt give
       mark = ap (λ d. d.waiting.mark) desk ∙ on.mark;
       leaves = rows_kept g to.vault last.world on.holds;
       kept = settled_kept last.world n (is_ordered g core to.vault last on) on.holds.leaves below;
+      again = attempts_pending_again w events to.replies.items last n opening run;
     }

@@ -139,19 +139,24 @@ answers_unsealed old new result unsealed moved mark permits tickets same = recor
 
 -- The records of a batch
 
-flatten_both : (xs ys : History) → records_of (xs ++ ys) ≡ records_of xs ++ records_of ys
+pub flatten_both : (xs ys : History) → records_of (xs ++ ys) ≡ records_of xs ++ records_of ys
 flatten_both [] ys = refl
 flatten_both (x ∷ xs) ys = ap (λ r. x ++ r) (flatten_both xs ys) ∙ sym (append_assoc x (records_of xs) (records_of ys))
 
+pub split_at : (n : ℕ) (xs : History) → records_of (take n xs) ++ records_of (drop n xs) ≡ records_of xs
+split_at n xs = sym (flatten_both (take n xs) (drop n xs)) ∙ ap records_of (take-append-drop n xs)
+
+-- the first records and those up to a later mark
+pub front_is : (xs : History) (from to : ℕ) → from ≤ to → records_of (take from xs) ++ records_of (drop from (take to xs)) ≡ records_of (take to xs)
+front_is xs from to below = ap (λ front. records_of front ++ records_of (drop from (take to xs))) (sym (take-take from to xs below)) ∙ split_at from (take to xs)
+
 -- the settled records and those of the batch are the sealed ones
 pub sealed_is : (mark : ℕ) (w : World) → w.settled ≤ w.sealed → settled_records w ++ records_of (sealed_batch mark w).steps ≡ sealed_records w
-sealed_is mark w below =
-    sym (flatten_both (take w.settled w.history) (drop w.settled (take w.sealed w.history)))
-    ∙ ap records_of (ap (λ front. front ++ drop w.settled (take w.sealed w.history)) (sym (take-take w.settled w.sealed w.history below)) ∙ take-append-drop w.settled (take w.sealed w.history))
+sealed_is mark w below = front_is w.history w.settled w.sealed below
 
 -- and a front of all
 pub sealed_front : (w : World) → sealed_records w ++ records_of (drop w.sealed w.history) ≡ records_of w.history
-sealed_front w = sym (flatten_both (take w.sealed w.history) (drop w.sealed w.history)) ∙ ap records_of (take-append-drop w.sealed w.history)
+sealed_front w = split_at w.sealed w.history
 
 -- Turns that end
 

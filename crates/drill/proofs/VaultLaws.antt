@@ -1,5 +1,5 @@
 -- A call of the desk leaves the store as it is, and what the store is for the world.
-use Rattle.std.proofs.Common.{◌≡◌, ℕ, ◌≤◌, ◌==◌, Bool, true, false, List, [], ◌∷◌, length, Option, Some, None, inl, inr, refl, sym, ap, subst, ◌∙◌, arith}
+use Rattle.std.proofs.Common.{◌≡◌, ℕ, ◌≤◌, false, List, [], ◌∷◌, length, inl, inr, refl, sym, ap, subst, ◌∙◌, arith}
 use Rattle.std.specs.List.{AllByRecursion}
 use Rattle.sqlite.specs.Store.{Ghosts}
 use Rattle.relay_types.specs.Rows.{Rows, rows_of}
@@ -14,20 +14,20 @@ use Rattle.recovery.specs.Left.{IsOpenAt, AreOfSteps, LeavesBy, HoldsLeft, Vault
 use Rattle.drill.proofs.CoreLaws.{Goes, same_first}
 use Rattle.drill.proofs.FollowLaws.{follows}
 
-leaves_goes : (w next : World) (o : Out) → Goes w next → LeavesBy o w → LeavesBy o next
+pub leaves_goes : (w next : World) (o : Out) → Goes w next → LeavesBy o w → LeavesBy o next
 leaves_goes w next Nothing g (inl e) = inl (g.left ∙ e ∙ ap (λ k. k ∷ []) (sym g.settled))
 leaves_goes w next Nothing g (inr (h, e)) = inr (g.halted ∙ h, g.left ∙ e ∙ (λ i. sym g.settled i ∷ sym g.sealed i ∷ []))
 leaves_goes w next Batch g e = g.left ∙ e ∙ ap (λ k. k ∷ []) (sym g.settled)
 leaves_goes w next Receipt g e = g.left ∙ e ∙ ap (λ k. k ∷ []) (sym g.sealed)
 leaves_goes w next Doubt g e = g.left ∙ e ∙ (λ i. sym g.settled i ∷ sym g.sealed i ∷ [])
 
--- a stop leaves none but steps that are there
-left_within : (w : World) (o : Out) → w.settled ≤ w.sealed → w.sealed ≤ length w.history → LeavesBy o w → AllByRecursion (λ k. k ≤ length w.history) w.left
-left_within w Nothing below within (inl e) = subst (AllByRecursion (λ k. k ≤ length w.history)) (sym e) (omega arith, tt)
-left_within w Nothing below within (inr (h, e)) = subst (AllByRecursion (λ k. k ≤ length w.history)) (sym e) (omega arith, (within, tt))
-left_within w Batch below within e = subst (AllByRecursion (λ k. k ≤ length w.history)) (sym e) (omega arith, tt)
-left_within w Receipt below within e = subst (AllByRecursion (λ k. k ≤ length w.history)) (sym e) (within, tt)
-left_within w Doubt below within e = subst (AllByRecursion (λ k. k ≤ length w.history)) (sym e) (omega arith, (within, tt))
+-- a stop leaves none but the settled steps and the sealed ones
+pub each_left : (P : ℕ → Type 0) (w : World) (o : Out) → LeavesBy o w → P w.settled → P w.sealed → AllByRecursion P w.left
+each_left P w Nothing (inl e) settled sealed = subst (AllByRecursion P) (sym e) (settled, tt)
+each_left P w Nothing (inr (h, e)) settled sealed = subst (AllByRecursion P) (sym e) (settled, (sealed, tt))
+each_left P w Batch e settled sealed = subst (AllByRecursion P) (sym e) (settled, tt)
+each_left P w Receipt e settled sealed = subst (AllByRecursion P) (sym e) (sealed, tt)
+each_left P w Doubt e settled sealed = subst (AllByRecursion P) (sym e) (settled, (sealed, tt))
 
 steps_go : (w next : World) (left : List ℕ) (rows : Rows) → Goes w next → AllByRecursion (λ k. k ≤ length w.history) left → AreOfSteps w left rows → AreOfSteps next left rows
 steps_go w next [] rows g within h = h
@@ -43,16 +43,16 @@ holds_goes g vault w next (k ∷ other ∷ more) goes within (shut, may) =
 vault_goes : {S : Type 0} (g : Ghosts S) (vault : VaultValue S) (w next : World) → Goes w next → w.settled ≤ w.sealed → w.sealed ≤ length w.history → VaultStandsFor g vault w → VaultStandsFor g vault next
 vault_goes g vault w next goes below within h = record {
   leaves = subst (λ o. LeavesBy o next) (sym goes.out) (leaves_goes w next w.out goes h.leaves);
-  holds = subst (HoldsLeft g vault next) (sym goes.left) (holds_goes g vault w next w.left goes (left_within w w.out below within h.leaves) h.holds);
+  holds = subst (HoldsLeft g vault next) (sym goes.left) (holds_goes g vault w next w.left goes (each_left (λ k. k ≤ length w.history) w w.out h.leaves (omega arith) within) h.holds);
 }
 
 -- where nothing is out at a desk that isn't halted, a stop leaves the settled steps
-leaves_settled : (w : World) → w.halted ≡ false → LeavesBy Nothing w → w.left ≡ w.settled ∷ []
+pub leaves_settled : (w : World) → w.halted ≡ false → LeavesBy Nothing w → w.left ≡ w.settled ∷ []
 leaves_settled w going (inl e) = e
 leaves_settled w going (inr (halted, e)) = absurd (let no = halted in cc)
 
 -- where a stop leaves the settled steps, it does once a committer gives up
-left_on_halt : (w : World) (o : Out) → (o ≡ Receipt → ⊥) → LeavesBy o w → LeavesBy Nothing (with_halt w)
+pub left_on_halt : (w : World) (o : Out) → (o ≡ Receipt → ⊥) → LeavesBy o w → LeavesBy Nothing (with_halt w)
 left_on_halt w Nothing other (inl left) = inl left
 left_on_halt w Nothing other (inr (halted, left)) = inr (refl, left)
 left_on_halt w Batch other left = inl left

@@ -2,6 +2,7 @@ pub mod Tickets
 pub mod Moves
 pub mod Runs
 pub mod Events
+pub mod Unrecorded
 pub mod Cores
 pub mod Runners
 pub mod Worlds

@@ -1,18 +1,14 @@
 -- What the runner keeps between two lines, and the sessions for which it stands.
-use Rattle.std.specs.Prelude.{◌≡◌, ℕ, ◌++◌, ◌⊎◌, false, List, [], ◌∷◌, take, IsTrue}
+use Rattle.std.specs.Prelude.{◌≡◌, ◌++◌, List, IsTrue}
 use Rattle.sqlite.specs.Store.{Ghosts}
-use Rattle.sqlite.specs.State.{HasCleanDisk}
 use Rattle.sqlite.specs.Held as store
 use Rattle.relay_types.specs.declared.record.Record.{Record}
 use Rattle.relay_types.specs.Records.{records_of}
 use Rattle.relay_types.specs.Legal.{IsLegal}
-use Rattle.relay_types.specs.Rows.{Rows, rows_of}
-use Rattle.spool_sql.specs.Tables.{no_schema}
-use Rattle.spool_sql.specs.Steps.{IsBegun, MayLeave, Stands}
 use Rattle.spool.specs.Batches.{BatchValue, doubt_of}
 use Rattle.spool.specs.declared.ends.Unchanged.{Unchanged}
 use Rattle.spool.specs.declared.ends.Unchanged.TheVariants as why
-use Rattle.spool.specs.Commits.{IsNext, HoldsOnDisk}
+use Rattle.spool.specs.Commits.{IsNext}
 use Rattle.spool.specs.Entering.{RestsInDoubt}
 use Rattle.spool.specs.Vaults.{VaultValue}
 use Rattle.script_lines.specs.declared.reply.Fault.TheVariants as fault
@@ -21,7 +17,6 @@ use Rattle.script_lines.specs.declared.reply.Reply.TheVariants as says
 use Rattle.drill.specs.declared.held.Held.{Held}
 use Rattle.drill.specs.declared.held.Held.TheVariants as held
 use Rattle.drill.specs.declared.calls.Core.{Core}
-use Rattle.desk.specs.World.{World, Out, Nothing, Batch, Receipt, Doubt}
 use Rattle.drill.specs.Moves.{Session, Answer, MayTell}
 use Rattle.recovery.specs.Left.{IsOpenAt, VaultStandsFor}
 use Rattle.drill.specs.Cores.{CoreStandsFor}

@@ -17,6 +17,7 @@ use Rattle.drill.specs.declared.events.Reply.{Reply}
 use Rattle.drill.specs.declared.runs.World as left
 use Rattle.drill.specs.Moves.{Session}
 use Rattle.drill.specs.Events.{Makes, Runs, IsKept}
+use Rattle.drill.specs.Unrecorded.{ArePendingAgain}
 use Rattle.drill.specs.Runners.{RunStandsFor}
 
 -- everything is settled, and nothing is out or under way
@@ -50,7 +51,8 @@ IsOut mark w (Some receipt) held.Nothing = (w.out ≡ Receipt) × (receipt ≡ s
 IsOut mark w (Some receipt) given = ⊥
 
 -- These are the replies of a run of the events from the session, and what is left stands for its last world: the desk, the permits of the
--- attempts under way, what is out, and the store, which a stop leaves as this world says: each time with all records that were shown.
+-- attempts under way, what is out, and the store, which a stop leaves as this world says: each time with all records that were shown, and with
+-- each event pending whose attempt has no outcome there.
 pub record IsRunFrom {L S : Type 0} (g : Ghosts S) (s : Session) (events : List Event) (to : left.World L S) : Type 0 where
   pub last : Session
   pub acknowledged : ℕ
@@ -62,3 +64,10 @@ pub record IsRunFrom {L S : Type 0} (g : Ghosts S) (s : Session) (events : List 
   pub mark : to.desk.waiting.mark ≡ to.vault.mark
   pub leaves : KeepsRows g to.vault.conn last.world
   pub kept : IsKept last.world acknowledged
+  pub again : ArePendingAgain last.world
+
+-- A law of runs from any opening: whatever a stop may leave, each event with an attempt that has no outcome there is pending there.
+abbrev pub AreAttemptsPendingAgain : Type 0
+AreAttemptsPendingAgain =
+    (w : World) (events : List Event) (replies : List Reply) (last : Session) (acknowledged : ℕ)
+    → IsOpening w → Runs (session_of w) events replies last acknowledged → ArePendingAgain last.world

@@ -15,8 +15,10 @@ mod runs;
 mod scripts;
 mod tickets;
 mod turns;
+mod unrecorded;
 
 pub use crate::events::{Event, Look, Reply};
 pub use crate::law::served_runs_are_computed;
 pub use crate::runs::{World, run};
 pub use crate::scripts::replay;
+pub use crate::unrecorded::attempts_are_pending_again;

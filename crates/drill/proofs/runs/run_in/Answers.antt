@@ -1,5 +1,4 @@
 use Rattle.std.proofs.Common.{refl}
-use Rattle.drill.specs.Worlds.{session_of}
 use Rattle.drill.proofs.ShownLaws.{begun_core, opened_core, run_from}
 use Rattle.drill.proofs.TurnLaws.{all_held, all_given}
 use Rattle.drill.proofs.runs.run_in.Goals as goal
@@ -8,7 +7,7 @@ pub make_calls-requires-clause-core : goal.make_calls-requires-clause-core
 make_calls-requires-clause-core g c = opened_core _ c.requires.opened refl c.requires.empty.1 c.requires.tickets
 
 pub returns-clause-runs : goal.returns-clause-runs
-returns-clause-runs g c = λ clean w opening on vault. run_from g.S.Store _ c.args.vault c.make_calls.new.core (session_of w) c.args.places.events.items _ (record {
+returns-clause-runs g c = λ clean w opening on vault. run_from g.S.Store _ c.args.vault c.make_calls.new.core w c.args.places.events.items _ opening (record {
   stands = begun_core _ w on opening refl c.requires.empty.1 c.requires.tickets;
   holds = vault;
   mark = c.requires.mark;

@@ -1,0 +1,32 @@
+-- Attempts of which a stop may leave no outcome.
+use Rattle.std.specs.Prelude.{◌≡◌, ℕ, ◌+◌, ◌≤◌, ◌==◌, List, length, drop, count_by, IsTrue}
+use Rattle.std.specs.List.{AllByRecursion}
+use Rattle.relay_types.specs.declared.record.Record.{Record}
+use Rattle.relay_types.specs.Values.{Seq}
+use Rattle.relay_types.specs.Records.{records_of}
+use Rattle.relay_types.specs.Deliveries.{accepted, attempts_of, is_pending}
+use Rattle.desk.specs.World.{World, all_records}
+use Rattle.recovery.specs.Left.{records_of_first}
+
+-- the records of the steps behind the first so many
+abbrev pub records_behind : World → (steps : ℕ) → List Record
+records_behind w steps = records_of (drop steps w.history)
+
+-- how many attempts at the delivery have no outcome in the first so many steps: those under way, and those whose outcome
+-- stands behind them
+abbrev pub unrecorded : World → (steps : ℕ) → (delivery : Seq) → ℕ
+unrecorded w steps d = count_by (λ row. row.delivery == d) w.live + length (attempts_of (records_behind w steps) d)
+
+-- In these steps the event is pending, with its endpoint, its id and its body, and but one attempt at it has no outcome there.
+pub record IsPendingAgain (w : World) (steps : ℕ) (delivery : Seq) : Type 0 where
+  pub pending : IsTrue (is_pending (records_of_first w steps) delivery)
+  pub same : accepted (records_of_first w steps) delivery ≡ accepted (all_records w) delivery
+  pub once : unrecorded w steps delivery ≡ 1
+
+-- each event with an attempt that has no outcome in these steps is pending there
+abbrev pub IsEachPendingAgain : World → (steps : ℕ) → Type 0
+IsEachPendingAgain w steps = (delivery : Seq) → 1 ≤ unrecorded w steps delivery → IsPendingAgain w steps delivery
+
+-- It is so of whatever a stop may leave.
+abbrev pub ArePendingAgain : World → Type 0
+ArePendingAgain w = AllByRecursion (IsEachPendingAgain w) w.left
