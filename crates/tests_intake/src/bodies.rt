@@ -23,11 +23,11 @@ fn told(
     rt: &impl Abort,
     alloc: Global,
     path: &str,
-    bodies: &[&[u8]],
+    bodies: &[&str],
     wanted: (u16, &str),
 ) -> Result<(), Fail> {
     for body in bodies {
-        let asked = ask(alloc, "PUT", path.as_bytes(), &[], body)?;
+        let asked = ask(alloc, "PUT", path.as_bytes(), &[], body.as_bytes())?;
         assert_eq!(rt; refused(&asked), wanted);
     }
     Ok(())
@@ -40,22 +40,22 @@ const ENABLED: &str = "/v1/endpoints/a/enabled";
 // The kinds of all members come before what each of them says.
 #[test]
 fn a_body_has_the_members_of_its_line(rt: HostRuntime) -> Result<(), Fail> {
-    let bodies: [&[u8]; 15] = [
-        b"{\"url\":\"http://h/\",\"max\":\"1\",\"secrets\":[]}",
-        b"{\"url\":\"https://h/\",\"max\":0,\"secrets\":[1]}",
-        b"{\"url\":\"https://h/\",\"max\":0,\"secrets\":\"a\"}",
-        b"{\"url\":\"https://h/\",\"max\":null,\"secrets\":[]}",
-        b"{\"url\":\"https://h/\",\"max\":true,\"secrets\":[]}",
-        b"{\"url\":7,\"max\":1,\"secrets\":[]}",
-        b"{\"max\":1,\"secrets\":[]}",
-        b"{\"url\":\"http://h/\",\"secrets\":[]}",
-        b"{\"url\":\"http://h/\",\"max\":1}",
-        b"{\"URL\":\"http://h/\",\"max\":1,\"secrets\":[]}",
-        b"{\"url\":\"http://h/\",\"max\":1,\"secrets\":[]} x",
-        b"[\"http://h/\",1,[]]",
-        b"{}",
-        b"null",
-        b"",
+    let bodies = [
+        "{\"url\":\"http://h/\",\"max\":\"1\",\"secrets\":[]}",
+        "{\"url\":\"https://h/\",\"max\":0,\"secrets\":[1]}",
+        "{\"url\":\"https://h/\",\"max\":0,\"secrets\":\"a\"}",
+        "{\"url\":\"https://h/\",\"max\":null,\"secrets\":[]}",
+        "{\"url\":\"https://h/\",\"max\":true,\"secrets\":[]}",
+        "{\"url\":7,\"max\":1,\"secrets\":[]}",
+        "{\"max\":1,\"secrets\":[]}",
+        "{\"url\":\"http://h/\",\"secrets\":[]}",
+        "{\"url\":\"http://h/\",\"max\":1}",
+        "{\"URL\":\"http://h/\",\"max\":1,\"secrets\":[]}",
+        "{\"url\":\"http://h/\",\"max\":1,\"secrets\":[]} x",
+        "[\"http://h/\",1,[]]",
+        "{}",
+        "null",
+        "",
     ];
     told(&rt, rt.alloc(), ENDPOINT, &bodies, BAD_BODY)
 }
@@ -63,19 +63,19 @@ fn a_body_has_the_members_of_its_line(rt: HostRuntime) -> Result<(), Fail> {
 // The url is checked before the max, and the max before the secrets.
 #[test]
 fn the_first_bad_member_is_told(rt: HostRuntime) -> Result<(), Fail> {
-    let urls: [&[u8]; 2] = [
-        b"{\"url\":\"https://h/\",\"max\":0,\"secrets\":[]}",
-        b"{\"secrets\":[],\"max\":0,\"url\":\"http://h\\n/\"}",
+    let urls = [
+        "{\"url\":\"https://h/\",\"max\":0,\"secrets\":[]}",
+        "{\"secrets\":[],\"max\":0,\"url\":\"http://h\\n/\"}",
     ];
     told(&rt, rt.alloc(), ENDPOINT, &urls, BAD_URL)?;
-    let limits: [&[u8]; 2] = [
-        b"{\"url\":\"http://h/\",\"max\":0,\"secrets\":[]}",
-        b"{\"url\":\"http://h/\",\"max\":1.5,\"secrets\":[]}",
+    let limits = [
+        "{\"url\":\"http://h/\",\"max\":0,\"secrets\":[]}",
+        "{\"url\":\"http://h/\",\"max\":1.5,\"secrets\":[]}",
     ];
     told(&rt, rt.alloc(), ENDPOINT, &limits, BAD_MAX)?;
-    let secrets: [&[u8]; 2] = [
-        b"{\"url\":\"http://h/\",\"max\":1,\"secrets\":[]}",
-        b"{\"url\":\"http://h/\",\"max\":1,\"secrets\":[\"a\"]}",
+    let secrets = [
+        "{\"url\":\"http://h/\",\"max\":1,\"secrets\":[]}",
+        "{\"url\":\"http://h/\",\"max\":1,\"secrets\":[\"a\"]}",
     ];
     told(&rt, rt.alloc(), ENDPOINT, &secrets, BAD_SECRET)
 }
@@ -119,50 +119,57 @@ fn a_max_is_a_whole_number_from_1_to_1000(rt: HostRuntime) -> Result<(), Fail> {
 // The last of two members counts. Others are ignored, but have to be JSON.
 #[test]
 fn a_flag_is_a_bool(rt: HostRuntime) -> Result<(), Fail> {
-    let read: [&[u8]; 4] = [
-        b"{\"enabled\":true}",
-        b" {\"x\":[1e2,{}],\"enabled\":\tfalse}\n",
-        b"{\"enabled\":1,\"enabled\":true}",
-        b"{\"\\u0065nabled\":true}",
+    let read = [
+        "{\"enabled\":true}",
+        " {\"x\":[1e2,{}],\"enabled\":\tfalse}\n",
+        "{\"enabled\":1,\"enabled\":true}",
+        "{\"\\u0065nabled\":true}",
     ];
     told(&rt, rt.alloc(), ENABLED, &read, READ)?;
-    let bad: [&[u8]; 9] = [
-        b"{\"enabled\":true,\"enabled\":1}",
-        b"{\"enabled\":\"true\"}",
-        b"{\"enabled\":null}",
-        b"{}",
-        b"{\"enabled\":true,\"x\":1e999}",
-        b"{\"enabled\":true,\"x\":\"\\ud800\"}",
-        b"{\"enabled\":true,\"x\":\"\xff\"}",
-        b"\xef\xbb\xbf{\"enabled\":true}",
-        b"{\"enabled\":true,}",
+    let bad = [
+        "{\"enabled\":true,\"enabled\":1}",
+        "{\"enabled\":\"true\"}",
+        "{\"enabled\":null}",
+        "{}",
+        "{\"enabled\":true,\"x\":1e999}",
+        "{\"enabled\":true,\"x\":\"\\ud800\"}",
+        "\u{feff}{\"enabled\":true}",
+        "{\"enabled\":true,}",
     ];
     told(&rt, rt.alloc(), ENABLED, &bad, BAD_BODY)
 }
 
-/// The body of a flag with another member, of so many arrays in one another.
-fn nested(alloc: Global, arrays: usize) -> Result<Vec<u8>, Fail> {
+// A body that isn't UTF-8.
+#[test]
+fn a_body_is_a_text(rt: HostRuntime) -> Result<(), Fail> {
+    let body = b"{\"enabled\":true,\"x\":\"\xff\"}";
+    let asked = ask(rt.alloc(), "PUT", ENABLED.as_bytes(), &[], body)?;
+    assert_eq!(rt; refused(&asked), BAD_BODY);
+    Ok(())
+}
+
+/// A flag's body with another member, of so many arrays in one another, is answered so.
+fn nested_told(
+    rt: &impl Abort,
+    alloc: Global,
+    arrays: usize,
+    wanted: (u16, &str),
+) -> Result<(), Fail> {
     let mut body = Vec::from_slice(alloc, b"{\"enabled\":true,\"x\":")?;
     body.extend_from_slice(vec![in alloc; b'['; arrays]?.as_slice())?;
     body.extend_from_slice(vec![in alloc; b']'; arrays]?.as_slice())?;
     body.extend_from_slice(b"}")?;
-    Ok(body)
+    let asked = ask(alloc, "PUT", ENABLED.as_bytes(), &[], body.as_slice())?;
+    assert_eq!(rt; refused(&asked), wanted);
+    Ok(())
 }
 
 // The body's own object is counted.
 #[test]
 fn a_body_nests_at_most_127_deep(rt: HostRuntime) -> Result<(), Fail> {
-    let most = nested(rt.alloc(), 126)?;
-    told(&rt, rt.alloc(), ENABLED, &[most.as_slice()], READ)?;
-    let more = nested(rt.alloc(), 127)?;
-    let many = nested(rt.alloc(), 30_000)?;
-    told(
-        &rt,
-        rt.alloc(),
-        ENABLED,
-        &[more.as_slice(), many.as_slice()],
-        BAD_BODY,
-    )
+    nested_told(&rt, rt.alloc(), 126, READ)?;
+    nested_told(&rt, rt.alloc(), 127, BAD_BODY)?;
+    nested_told(&rt, rt.alloc(), 30_000, BAD_BODY)
 }
 
 #[test]
@@ -215,12 +222,12 @@ fn other_secrets_are_asked_for(rt: HostRuntime) -> Result<(), Fail> {
 #[test]
 fn a_list_of_1_to_4_secrets_is_asked_for(rt: HostRuntime) -> Result<(), Fail> {
     let path = "/v1/endpoints/a/secrets";
-    told(&rt, rt.alloc(), path, &[b"{\"secrets\":[]}"], BAD_SECRET)?;
-    told(&rt, rt.alloc(), path, &[b"{\"secrets\":{}}"], BAD_BODY)?;
+    told(&rt, rt.alloc(), path, &["{\"secrets\":[]}"], BAD_SECRET)?;
+    told(&rt, rt.alloc(), path, &["{\"secrets\":{}}"], BAD_BODY)?;
     let five = format!(in rt.alloc();
         "{{\"secrets\":[\"{SECRET}\",\"{SECRET}\",\"{SECRET}\",\"{SECRET}\",\"{SECRET}\"]}}"
     )?;
-    told(&rt, rt.alloc(), path, &[five.as_bytes()], BAD_SECRET)
+    told(&rt, rt.alloc(), path, &[five.as_str()], BAD_SECRET)
 }
 
 /// The flag that this body asks for.
