@@ -40,9 +40,8 @@ pub fn run<L: Ledger, S: Alter>(
     events: &[Event],
 ) -> Result<World<L, S>, (Desk<L>, Vault<S>, AllocError)>
     requires opened { IsOpened desk }
-    requires mark { desk.waiting.mark ≡ vault.mark }
-    ensures runs { IfOk result (λ to. IsCleanAt S.Store to.vault.conn → (w : model.World)
-        → IsOpening w → StandsFor desk w → VaultStandsFor S.Store vault w
+    ensures runs { IfOk result (λ to. IsCleanAt S.Store to.vault.conn → desk.waiting.mark ≡ vault.mark
+        → (w : model.World) → IsOpening w → StandsFor desk w → VaultStandsFor S.Store vault w
         → IsRunFrom S.Store (session_of w) events.now to) }
     ensures replies { IfOk result (λ to. length to.replies.items ≡ length events.now) }
     ensures permits { IfOk result (λ to. IsPermutation to.permits.items to.desk.live) }
@@ -98,12 +97,12 @@ fn share_all(alloc: Global, events: &[Event]) -> Result<Vec<Event>, AllocError>
 // Makes the calls in the places that were made for them.
 fn run_in<L: Ledger, S: Alter>(places: Places<L>, desk: Desk<L>, vault: Vault<S>) -> World<L, S>
     requires opened { IsOpened desk }
-    requires mark { desk.waiting.mark ≡ vault.mark }
     requires room { HasPlaces places }
     requires tickets { Keeps places.tickets [] }
     requires empty { (places.replies.items ≡ []) × (places.permits.items ≡ []) }
-    ensures runs { IsCleanAt S.Store result.vault.conn → (w : model.World) → IsOpening w
-        → StandsFor desk w → VaultStandsFor S.Store vault w → IsRunFrom S.Store (session_of w) places.events.items result }
+    ensures runs { IsCleanAt S.Store result.vault.conn → desk.waiting.mark ≡ vault.mark
+        → (w : model.World) → IsOpening w → StandsFor desk w → VaultStandsFor S.Store vault w
+        → IsRunFrom S.Store (session_of w) places.events.items result }
     ensures replies { length result.replies.items ≡ length places.events.items }
     ensures permits { IsPermutation result.permits.items result.desk.live }
     ensures out { IsAllOut result.desk.waiting result.receipt result.held }

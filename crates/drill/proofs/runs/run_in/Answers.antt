@@ -7,10 +7,10 @@ pub make_calls-requires-clause-core : goal.make_calls-requires-clause-core
 make_calls-requires-clause-core g c = opened_core _ c.requires.opened refl c.requires.empty.1 c.requires.tickets
 
 pub returns-clause-runs : goal.returns-clause-runs
-returns-clause-runs g c = λ clean w opening on vault. run_from g.S.Store _ c.args.vault c.make_calls.new.core w c.args.places.events.items _ opening (record {
+returns-clause-runs g c = λ clean marks w opening on vault. run_from g.S.Store _ c.args.vault c.make_calls.new.core w c.args.places.events.items _ opening (record {
   stands = begun_core _ w on opening refl c.requires.empty.1 c.requires.tickets;
   holds = vault;
-  mark = c.requires.mark;
+  mark = marks;
 }) (c.make_calls.ensures.runs clean) refl refl c.parts-receipt.ensures.receipt c.parts-receipt.ensures.given
 
 pub returns-clause-permits : goal.returns-clause-permits
