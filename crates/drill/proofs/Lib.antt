@@ -8,3 +8,5 @@ mod ShownLaws
 mod RunLaws
 pub mod ReplayLaws
 mod WorkedRun
+mod WithinLaws
+mod RefusalLaws

@@ -8,3 +8,5 @@ pub mod Runners
 pub mod Worlds
 pub mod Replays
 pub mod Places
+pub mod Within
+pub mod Refusals

@@ -18,7 +18,10 @@ mod turns;
 mod unrecorded;
 
 pub use crate::events::{Event, Look, Reply};
-pub use crate::law::served_runs_are_computed;
+pub use crate::law::{
+    calls_change_places_with_commits, refusals_of_moves, runs_keep_marks_in_order,
+    served_runs_are_computed,
+};
 pub use crate::runs::{World, run};
 pub use crate::scripts::replay;
 pub use crate::unrecorded::attempts_are_pending_again;
