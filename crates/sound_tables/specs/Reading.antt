@@ -1,5 +1,6 @@
 -- What is read of a table row by row, and why it isn't.
-use Rattle.std.specs.Prelude.{◌≡◌, ◌≢◌, ◌⊎◌, ◌≤◌, ℕ, length, Bool, true, false, List, [], Option, Some, None, Ok, IsTrue}
+use Rattle.std.specs.Prelude.{◌≡◌, ◌≢◌, ◌⊎◌, ◌≤◌, ℕ, length, Bool, true, false, List, [], Vec, Option, Some, None, Ok, IsTrue}
+use Rattle.std.specs.declared.alloc.Global.{Global}
 use Rattle.std.specs.List.{AllZip}
 use Rattle.sqlite_resolve.specs.declared.compiled.Compiled.{Compiled}
 use Rattle.sqlite.specs.Order.{Row}
@@ -33,6 +34,11 @@ IsReadAs shows row None = (x : _) → ¬ shows row x
 abbrev pub Fits : {X : Type 0} → Shows X → (sql : List ℕ) → State → State → List X → Bool → Type 0
 Fits shows sql a b xs true = IsUnchanged a b × ((rows : List Row) × Shown sql [] a b rows × AllZip shows rows xs)
 Fits shows sql a b xs false = IsUnchanged a b × ((rows : List Row) × Begins sql [] a rows × ((ys : List _) → ¬ AllZip shows rows ys))
+
+-- all rows of the answer show the values that were found, or it begins with rows that show none
+abbrev pub Finds : {X : Type 0} → Shows X → (sql : List ℕ) → State → State → Option (Vec X Global) → Type 0
+Finds shows sql a b (Some xs) = Fits shows sql a b xs.items true
+Finds shows sql a b None = Fits shows sql a b [] false
 
 -- Under the schema of the database the text is one query without parameters, which no row makes fail.
 pub record IsAnswerable (db : Database) (sql : List ℕ) : Type 0 where

@@ -8,8 +8,10 @@ mod endpoint;
 mod meta;
 mod reading;
 mod secret;
+mod tables;
 mod value;
 
 pub use crate::meta::Meta;
 pub use crate::reading::{Reading, read_table};
 pub use crate::secret::Secret;
+pub use crate::tables::{read_attempts, read_deliveries, read_endpoints, read_meta, read_secrets};

@@ -1,9 +1,9 @@
 //! A table that is read row by row.
-ghost use Rattle.std.specs.Prelude.{◌≡◌, [], List, ℕ, true, false, IfOk, IfErr, MatchOption};
+ghost use Rattle.std.specs.Prelude.{◌≡◌, List, ℕ, IfOk, IfErr};
 ghost use Rattle.sqlite.specs.Held.{state};
 ghost use Rattle.sqlite.specs.State.{HasCleanDisk};
 ghost use Rattle.spool_sql.specs.Steps.{IfClean};
-ghost use Rattle.sound_tables.specs.Reading.{IsPlainText, Shows, IsReadAs, Fits, IsFault, HasTaken, Looks};
+ghost use Rattle.sound_tables.specs.Reading.{IsPlainText, Shows, IsReadAs, Fits, Finds, IsFault, HasTaken, Looks};
 
 use sqlite::{Alter, Connection, Error, ErrorCode, Row, Rows};
 use std::alloc::{AllocError, Global};
@@ -29,7 +29,7 @@ pub fn read_table<S: Alter, T: Reading>(
     requires plain { IsPlainText sql.now }
     ensures looks { Looks S.Store conn.old conn.new }
     ensures taken { IfClean S.Store conn.old conn.new
-        (λ a b. IfOk result (λ found. MatchOption found (Fits T.is_shown sql.now a b [] false) (λ v. Fits T.is_shown sql.now a b v.items true))) }
+        (λ a b. IfOk result (Finds T.is_shown sql.now a b)) }
     ensures fault { IfClean S.Store conn.old conn.new (λ a _. IfErr result (IsFault sql.now a)) }
 {
     let mut found = Vec::new(alloc);

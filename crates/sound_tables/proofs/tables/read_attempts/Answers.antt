@@ -1,0 +1,18 @@
+use Rattle.sqlite.specs.Held.{state}
+use Rattle.sound_tables.specs.Shown.{ShowsAttempt}
+use Rattle.sound_tables.proofs.TableLemmas.{plain_text, tells, unchanged_by, no_other}
+use Rattle.sound_tables.proofs.Texts.{attempts_text, attempts_columns, attempts_read}
+use Rattle.sound_tables.proofs.tables.read_attempts.Goals as goal
+
+pub read_table-requires : goal.read_table-requires
+read_table-requires g c = record { plain = plain_text attempts_text 7 attempts_columns _ attempts_read }
+
+pub returns-clause-found : goal.returns-clause-found
+returns-clause-found g c clean has =
+    tells ShowsAttempt attempts_text 7 attempts_columns _ attempts_read (state g.S.Store c.args.conn.now) (state g.S.Store c.read_table.new.conn) has c.read_table.result (c.read_table.ensures.taken clean)
+
+pub returns-clause-same : goal.returns-clause-same
+returns-clause-same g c clean = unchanged_by ShowsAttempt attempts_text (state g.S.Store c.args.conn.now) (state g.S.Store c.read_table.new.conn) c.read_table.result (c.read_table.ensures.taken clean)
+
+pub returns-clause-fault : goal.returns-clause-fault
+returns-clause-fault g c clean has = no_other attempts_text 7 attempts_columns _ attempts_read (state g.S.Store c.args.conn.now) has c.read_table.result (c.read_table.ensures.fault clean)

@@ -1,0 +1,112 @@
+//! The five tables, each read whole by one statement.
+ghost use Rattle.std.specs.Prelude.{◌≡◌, ◌≢◌, IfOk, IfErr, OnOk};
+ghost use Rattle.sqlite.specs.State.{IsUnchanged};
+ghost use Rattle.spool_sql.specs.Causes.{cause};
+ghost use Rattle.spool_sql.specs.declared.cause.Cause.TheVariants.{Other};
+ghost use Rattle.spool_sql.specs.Steps.{IfClean};
+ghost use Rattle.spool_sql.specs.Tables.{relay_schema};
+ghost use Rattle.sound_tables.specs.Reading.{Looks};
+ghost use Rattle.sound_tables.specs.Shown.{ShowsMeta, ShowsEndpoint, ShowsSecret, ShowsDelivery, ShowsAttempt};
+ghost use Rattle.sound_tables.specs.Tables.{Tells, meta_columns, endpoint_columns, secret_columns, delivery_columns, attempt_columns};
+
+use crate::meta::Meta;
+use crate::reading::read_table;
+use crate::secret::Secret;
+use sound_rows::{Attempt, Delivery, Endpoint};
+use sqlite::{Alter, Connection, Error};
+use std::alloc::Global;
+
+/// The rows of `meta` that name the relay, or nothing where a row is none.
+pub fn read_meta<S: Alter>(
+    conn: &mut Connection<S>,
+    alloc: Global,
+) -> Result<Option<Vec<Meta>>, Error>
+    ensures looks { Looks S.Store conn.old conn.new }
+    ensures found { IfClean S.Store conn.old conn.new (λ a _. a.now.schema ≡ relay_schema
+        → IfOk result (Tells ShowsMeta meta_columns (a.now.trees 0))) }
+    ensures same { IfClean S.Store conn.old conn.new (λ a b. OnOk result (IsUnchanged a b)) }
+    ensures fault { IfClean S.Store conn.old conn.new (λ a _. a.now.schema ≡ relay_schema
+        → IfErr result (λ e. cause e ≢ Other)) }
+{
+    read_table(
+        conn,
+        "SELECT k, app, version, records FROM meta ORDER BY k",
+        alloc,
+    )
+}
+
+/// The numbers in the rows of `endpoints`, or nothing where a row is none.
+pub fn read_endpoints<S: Alter>(
+    conn: &mut Connection<S>,
+    alloc: Global,
+) -> Result<Option<Vec<Endpoint>>, Error>
+    ensures looks { Looks S.Store conn.old conn.new }
+    ensures found { IfClean S.Store conn.old conn.new (λ a _. a.now.schema ≡ relay_schema
+        → IfOk result (Tells ShowsEndpoint endpoint_columns (a.now.trees 1))) }
+    ensures same { IfClean S.Store conn.old conn.new (λ a b. OnOk result (IsUnchanged a b)) }
+    ensures fault { IfClean S.Store conn.old conn.new (λ a _. a.now.schema ≡ relay_schema
+        → IfErr result (λ e. cause e ≢ Other)) }
+{
+    read_table(
+        conn,
+        "SELECT put, name, url, max, enabled, enabled_by, secrets_by FROM endpoints ORDER BY put",
+        alloc,
+    )
+}
+
+/// Where the secrets of `secrets` stand, or nothing where a row is none.
+pub fn read_secrets<S: Alter>(
+    conn: &mut Connection<S>,
+    alloc: Global,
+) -> Result<Option<Vec<Secret>>, Error>
+    ensures looks { Looks S.Store conn.old conn.new }
+    ensures found { IfClean S.Store conn.old conn.new (λ a _. a.now.schema ≡ relay_schema
+        → IfOk result (Tells ShowsSecret secret_columns (a.now.trees 3))) }
+    ensures same { IfClean S.Store conn.old conn.new (λ a b. OnOk result (IsUnchanged a b)) }
+    ensures fault { IfClean S.Store conn.old conn.new (λ a _. a.now.schema ≡ relay_schema
+        → IfErr result (λ e. cause e ≢ Other)) }
+{
+    read_table(
+        conn,
+        "SELECT rowid, endpoint, place, secret FROM secrets ORDER BY rowid",
+        alloc,
+    )
+}
+
+/// The numbers in the rows of `deliveries`, or nothing where a row is none.
+pub fn read_deliveries<S: Alter>(
+    conn: &mut Connection<S>,
+    alloc: Global,
+) -> Result<Option<Vec<Delivery>>, Error>
+    ensures looks { Looks S.Store conn.old conn.new }
+    ensures found { IfClean S.Store conn.old conn.new (λ a _. a.now.schema ≡ relay_schema
+        → IfOk result (Tells ShowsDelivery delivery_columns (a.now.trees 5))) }
+    ensures same { IfClean S.Store conn.old conn.new (λ a b. OnOk result (IsUnchanged a b)) }
+    ensures fault { IfClean S.Store conn.old conn.new (λ a _. a.now.schema ≡ relay_schema
+        → IfErr result (λ e. cause e ≢ Other)) }
+{
+    read_table(
+        conn,
+        "SELECT seq, endpoint, id, at, body FROM deliveries ORDER BY seq",
+        alloc,
+    )
+}
+
+/// The numbers in the rows of `attempts`, or nothing where a row is none.
+pub fn read_attempts<S: Alter>(
+    conn: &mut Connection<S>,
+    alloc: Global,
+) -> Result<Option<Vec<Attempt>>, Error>
+    ensures looks { Looks S.Store conn.old conn.new }
+    ensures found { IfClean S.Store conn.old conn.new (λ a _. a.now.schema ≡ relay_schema
+        → IfOk result (Tells ShowsAttempt attempt_columns (a.now.trees 7))) }
+    ensures same { IfClean S.Store conn.old conn.new (λ a b. OnOk result (IsUnchanged a b)) }
+    ensures fault { IfClean S.Store conn.old conn.new (λ a _. a.now.schema ≡ relay_schema
+        → IfErr result (λ e. cause e ≢ Other)) }
+{
+    read_table(
+        conn,
+        "SELECT seq, delivery, number, status, at FROM attempts ORDER BY seq",
+        alloc,
+    )
+}
