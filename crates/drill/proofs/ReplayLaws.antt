@@ -14,7 +14,8 @@ use Rattle.drill.specs.Moves.{Session, begun}
 use Rattle.drill.specs.Runs.{Run, ReadLines, IsNoCall, replies_text, Replies, RepliesTo}
 use Rattle.drill.specs.Runners.{RunStandsFor}
 use Rattle.recovery.specs.Left.{KeepsRows}
-use Rattle.drill.specs.Replays.{RunsLine, Replays, KeepsRun}
+use Rattle.drill.specs.Replays.{RunsLine, Replays, LeavesRun, KeepsRun}
+use Rattle.drill.proofs.AttemptLaws.{pending_again_by_lines}
 use Rattle.drill.proofs.CommitLaws.{rows_kept}
 
 -- what is written for the lines, from any session on, where this holds of the last one
@@ -45,9 +46,9 @@ replays g runner input old new end stands ends = Ends-more (AnswersFrom (RunsLin
 -- and its connection keeps the rows of the run that led to it
 pub keeps_run : {L S : Type 0} (g : Ghosts S) (runner now : Runner L S g) (conn : store.Held S) (input old new : Option (List ℕ)) (end : Result (Unit {0}) StreamFault) → conn ≡ now.vault.conn → RunStandsFor g runner.core runner.vault begun
     → Ends (AnswersTo (RunsLine g) runner now) IsNoCall input old new end → KeepsRun g conn input old new end
-keeps_run g runner now conn input old new end same stands ends = Ends-more (AnswersTo (RunsLine g) runner now) (RepliesTo (λ last. KeepsRows g conn last.world)) IsNoCall says input old new end ends
+keeps_run g runner now conn input old new end same stands ends = Ends-more (AnswersTo (RunsLine g) runner now) (RepliesTo (LeavesRun g conn)) IsNoCall says input old new end ends
   where
-    says : (lines : List (List ℕ)) (written : List ℕ) → AnswersTo (RunsLine g) runner now lines written → RepliesTo (λ last. KeepsRows g conn last.world) lines written
+    says : (lines : List (List ℕ)) (written : List ℕ) → AnswersTo (RunsLine g) runner now lines written → RepliesTo (LeavesRun g conn) lines written
     says lines written each =
         let (events, replies, last, calls, run, said, holds) = replies_from g runner now begun lines written stands each in
-        (events, replies, last, calls, run, said, subst (λ at. KeepsRows g at last.world) (sym same) (rows_kept g now.vault last.world holds.holds))
+        (events, replies, last, calls, run, said, (subst (λ at. KeepsRows g at last.world) (sym same) (rows_kept g now.vault last.world holds.holds), pending_again_by_lines events replies last run))

@@ -1,19 +1,27 @@
--- A worked run: an endpoint is put, sealed and taken back; an event is taken in, and both are sealed, committed and settled.
-use Rattle.std.proofs.Common.{◌≡◌, inl, ℕ, true, false, List, [], ◌∷◌, ◌++◌, Some, codes, refl}
+-- A worked run: an endpoint is put, sealed and taken back; an event is taken in, and both are sealed, committed and settled. Then what a stop
+-- takes back of an attempt at it.
+use Rattle.std.proofs.Common.{◌≡◌, inl, inr, ℕ, true, false, List, [], ◌∷◌, ◌++◌, Some, codes, refl}
 use Rattle.std.specs.Fmt.{digits}
 use Rattle.relay_types.specs.Records.{History}
-use Rattle.relay_types.specs.declared.record.Record.TheVariants.{Put, Accept}
+use Rattle.relay_types.specs.Deliveries.{is_pending}
+use Rattle.relay_types.specs.declared.record.Record.TheVariants.{Put, Accept, Outcome}
 use Rattle.relay_types.specs.declared.state.State.TheVariants.{Pending}
+use Rattle.permits.specs.declared.row.Row.{Row}
+use Rattle.retry_table.specs.declared.post.PostResult.TheVariants.{Unreached}
 use Rattle.script_lines.specs.declared.event.Event.{Event}
 use Rattle.script_lines.specs.declared.event.Event.TheVariants as on
+use Rattle.script_lines.specs.declared.reply.Fault.TheVariants.{Store}
 use Rattle.script_lines.specs.declared.reply.Reply.{Reply}
 use Rattle.script_lines.specs.declared.reply.Reply.TheVariants as says
 use Rattle.script_lines.specs.declared.reply.Told.TheVariants.{Settled}
-use Rattle.desk.specs.World.{World, Out, Nothing, Batch, Receipt}
+use Rattle.desk.specs.World.{World, Out, Nothing, Batch, Receipt, Doubt}
+use Rattle.desk.specs.Claims.{spent_by}
+use Rattle.recovery.specs.Left.{records_of_first}
 use Rattle.drill.specs.declared.tickets.Given.{Given}
 use Rattle.drill.specs.declared.tickets.Given.TheVariants.{Submission, Command}
-use Rattle.drill.specs.Moves.{Session, begun}
+use Rattle.drill.specs.Moves.{Session, begun, spent_reply}
 use Rattle.drill.specs.Runs.{Run, replies_of, replies_text}
+use Rattle.drill.specs.Unrecorded.{unrecorded}
 
 events : List Event
 events =
@@ -109,3 +117,40 @@ computed = refl
 written : replies_text replies ≡ codes "staged 0\nsealed 0..1\nunsealed 0..1\nstaged 1\nsealed 0..2\ncommitted 2\nsettled 2\nsettled\nenabled pending 1 delivered 0 exhausted 0\npending due 1000 attempts 0\n"
 unfolding digits replies
 written = refl
+
+-- An attempt at the event is under way. Three calls more: its post reaches nobody, the outcome is sealed, and nobody knows how the commit ends.
+
+abbrev row : Row
+row = record { endpoint = codes "a"; delivery = 1; inflight = 1 }
+
+abbrev claimed : World
+claimed = record (world both_steps 2 2 Nothing 2 1000) { live = row ∷ [] }
+
+abbrev three_steps : History
+three_steps = both_steps ++ (Outcome 1 1 0 1002 ∷ []) ∷ []
+
+-- a stop leaves the first two steps or all three
+abbrev doubted : World
+doubted = record (world three_steps 2 3 Doubt 2 1002) { left = 2 ∷ 3 ∷ [] }
+
+more : List Event
+more = on.Spend 1 1002 Unreached ∷ on.Seal ∷ on.Commit ∷ []
+
+told_more : List Reply
+told_more = spent_reply (spent_by claimed row Unreached 1002) ∷ says.Sealed 2 3 ∷ says.Refused 5 Store ∷ []
+
+run_on : Run (at both_tickets claimed) more told_more (at both_tickets doubted)
+unfolding more told_more
+run_on = (
+  at both_tickets (world three_steps 2 2 Nothing 2 1002),
+  inl (refl, refl),
+  (at both_tickets (world three_steps 2 3 Batch 2 1002), inl (refl, refl), (at both_tickets doubted, inr (inr (inl (refl, refl))), refl)),
+)
+
+-- the first two steps have no outcome of the attempt, all three have it
+taken_back : (unrecorded claimed 2 1 ≡ 1) × (unrecorded doubted 2 1 ≡ 1) × (unrecorded doubted 3 1 ≡ 0)
+taken_back = (refl, refl, refl)
+
+-- and the event is pending in either
+pending : (is_pending (records_of_first doubted 2) 1 ≡ true) × (is_pending (records_of_first doubted 3) 1 ≡ true)
+pending = (refl, refl)
