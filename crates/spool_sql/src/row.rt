@@ -1,7 +1,8 @@
 //! The rows of the tables, as they are read.
-ghost use Rattle.std.specs.Prelude.{◌≡◌, ◌==◌, not, IfOk};
+ghost use Rattle.std.specs.Prelude.{◌≡◌, ◌⊎◌, ◌==◌, not, false, [], Err, IfOk};
 ghost use Rattle.sqlite_value.specs.Order.{column, bytes};
 ghost use Rattle.sqlite_trees.specs.Objects.{number_in};
+ghost use Rattle.relay_types.specs.Values.{is_body, is_target};
 ghost use Rattle.spool_sql.specs.Stored.{endpoint_in, endpoint_of, delivery_in, delivery_of, attempt_in, attempt_of};
 
 use crate::seq::Seq;
@@ -87,7 +88,8 @@ fn read_moment(row: &Row, at: usize) -> Result<Moment, RowFault>
 
 // The bytes of a text or a blob.
 fn read_bytes(row: &Row, at: usize) -> Result<&[u8], RowFault>
-    ensures { IfOk result (λ text. text.now ≡ bytes (column row.now at)) }
+    ensures value { IfOk result (λ text. text.now ≡ bytes (column row.now at)) }
+    ensures unreadable { result ≡ Err RowFault.Unreadable → bytes (column row.now at) ≡ [] }
 {
     match row.get_ref(at)? {
         ValueRef::Text(text) | ValueRef::Blob(text) => Ok(text),
@@ -105,7 +107,9 @@ fn read_id(row: &Row, at: usize) -> Result<MsgId, RowFault>
 }
 
 fn read_body(row: &Row, at: usize, alloc: Global) -> Result<Body, RowFault>
-    ensures { IfOk result (λ body. body ≡ bytes (column row.now at)) }
+    ensures value { IfOk result (λ body. body ≡ bytes (column row.now at)) }
+    ensures unreadable { result ≡ Err RowFault.Unreadable
+        → (bytes (column row.now at) ≡ []) ⊎ (is_body (bytes (column row.now at)) ≡ false) }
 {
     let bytes = Vec::from_slice(alloc, read_bytes(row, at)?).map_err(Error::from)?;
     let shared = Arc::new(alloc, bytes).map_err(Error::from)?;
@@ -125,7 +129,8 @@ fn read_name(row: &Row, at: usize) -> Result<Name, RowFault>
 }
 
 fn read_target(row: &Row, at: usize, alloc: Global) -> Result<Target, RowFault>
-    ensures { IfOk result (λ target. target ≡ bytes (column row.now at)) }
+    ensures value { IfOk result (λ target. target ≡ bytes (column row.now at)) }
+    ensures unreadable { result ≡ Err RowFault.Unreadable → is_target (bytes (column row.now at)) ≡ false }
 {
     match Target::read(alloc, read_bytes(row, at)?) {
         Ok(target) => Ok(target),
