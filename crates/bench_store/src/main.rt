@@ -5,11 +5,13 @@ mod filling;
 mod inserting;
 mod loading;
 mod records;
+mod running;
 mod turns;
 
 use crate::filling::{fill, fill_tables};
 use crate::inserting::insert;
 use crate::loading::print_loads;
+use crate::running::print_runs;
 use sqlite::Connection;
 use std::io;
 use std::process::ExitCode;
@@ -18,6 +20,7 @@ use text_lines::read_number;
 const LIST: &str = "replay PATH        the script on standard input
 tables PATH        each record once
 loads PATH         the same, and then two loads
+runs PATH          a run of calls, and a second one where the first had no memory
 fill COUNT PATH    as many events, half of them with two attempts
 load COUNT PATH    the same, and then read back into books
 insert COUNT PATH  the rows of as many events, by bare statements
@@ -60,6 +63,14 @@ fn load_tables(rt: &HostRuntime, path: &str) -> io::Result<bool> {
     };
     print_loads(rt, &mut vault)?;
     Ok(true)
+}
+
+/// Runs calls over the file, which is to have no table, and prints their replies. Whether they were made.
+fn run_calls(rt: &HostRuntime, path: &str) -> io::Result<bool> {
+    match Connection::open(rt, path) {
+        Ok(conn) => print_runs(rt, conn),
+        Err(_) => Ok(false),
+    }
 }
 
 /// Fills the file, which is to have no table. Whether it was written.
@@ -109,6 +120,7 @@ fn run(rt: &HostRuntime, words: &[&str]) -> io::Result<bool> {
         [_, "replay", path] => Ok(replay(rt, path)),
         [_, "tables", path] => Ok(write_tables(rt, path)),
         [_, "loads", path] => load_tables(rt, path),
+        [_, "runs", path] => run_calls(rt, path),
         [_, "fill", count, path] => Ok(write_events(rt, count, path)),
         [_, "load", count, path] => load(rt, count, path),
         [_, "insert", count, path] => Ok(write_rows(rt, count, path)),
