@@ -1,21 +1,23 @@
 -- What an UPDATE or a DELETE with WHERE leaves of a table.
-use Rattle.std.proofs.Common.{◌≡◌, ◌⊎◌, inl, inr, ℕ, ℤ, List, [], ◌∷◌, ◌++◌, map, filter, drop, Bool, true, false, cond, not, ◌||◌, ◌&&◌, if◌then◌else◌, slice_get, Some, None, Ok, refl, sym, ap, ap₂, subst, subst₂, ◌∙◌, append_assoc, append-nil}
+use Rattle.std.proofs.Common.{◌≡◌, ◌≤◌, ◌⊎◌, inl, inr, ℕ, ℤ, length, arith, List, [], ◌∷◌, ◌++◌, map, filter, drop, Bool, true, false, cond, not, ◌||◌, ◌&&◌, if◌then◌else◌, slice_get, Some, None, Ok, refl, sym, ap, ap₂, subst, subst₂, ◌∙◌, append_assoc, append-nil}
 use Rattle.std.specs.declared.cmp.Ordering.{Ordering}
 use Rattle.std.specs.declared.cmp.Ordering.TheVariants.{Less, Equal, Greater}
 use Rattle.std.specs.Ordering.{is_eq}
 use Rattle.std.specs.List.{list_any}
 use Rattle.std.proofs.lemmas.Cmp.{tied_itself}
+use Rattle.std.proofs.lemmas.List.Elements.{filter-append}
+use Rattle.std.specs.FinMap.{int_cmp-IsAntisymmetric}
 use Rattle.std.specs.List.Sorted.{IsPermutation}
 use Rattle.std.proofs.lemmas.Bool.{cases_Bool, false_from_ne_true}
-use Rattle.std.proofs.lemmas.List.Sorted.{IsPermutation-refl, IsPermutation-sym, IsPermutation-trans, IsPermutation-cons, IsPermutation-map, IsPermutation-append, IsPermutation-middle, list_any-IsPermutation}
-use Rattle.sqlite_trees.proofs.ListLemmas.{IsPermutation-same, filter_same, pull_back}
+use Rattle.std.proofs.lemmas.List.Sorted.{IsPermutation-refl, IsPermutation-sym, IsPermutation-trans, IsPermutation-cons, IsPermutation-map, IsPermutation-append, IsPermutation-middle, length_permutation, list_any-IsPermutation}
+use Rattle.sqlite_trees.proofs.ListLemmas.{IsPermutation-same, IsPermutation-filter, all-filter, filter_same, pull_back}
 use Rattle.sqlite.specs.Order.{Row}
+use Rattle.sqlite.specs.declared.types.Value.TheVariants.{Int}
 use Rattle.sqlite.specs.Term.{Term}
 use Rattle.sqlite.specs.Table.{Table}
 use Rattle.sqlite_value.specs.Order.{value_cmp}
-use Rattle.sqlite_value.proofs.OrderLemmas.{value_cmp_total}
-use Rattle.sqlite_trees.specs.declared.store.Shape.TheVariants as shape
-use Rattle.sqlite_trees.proofs.TreeLemmas.{IsShaped-filter}
+use Rattle.sqlite_value.proofs.OrderLemmas.{value_cmp_total, value_cmp-Int}
+use Rattle.sqlite_trees.proofs.TreeLemmas.{all-put_row}
 use Rattle.sqlite_rules.proofs.TableLemmas.{int_is}
 use Rattle.sqlite.specs.Tree.{Trees, rowid, has_rowid, put_row, without_rowid}
 use Rattle.sqlite_rules.specs.Lists.{Has}
@@ -24,7 +26,7 @@ use Rattle.sqlite_rules.specs.Edit.{id_in, without_all, put_all, is_taken, are_f
 use Rattle.sqlite_rules.specs.Calls.{ids_of}
 use Rattle.sqlite_rules.proofs.ListLemmas.{all_has, all_from, has_filtered, has_kept, some_has, some_from}
 use Rattle.sqlite_rules.proofs.ProbeLemmas.{mapped_has}
-use Rattle.sqlite_rules.proofs.PlaceLemmas.{given, tied_same}
+use Rattle.sqlite_rules.proofs.PlaceLemmas.{given}
 use Rattle.sqlite.specs.Rowids.TheVariants.{Given}
 use Rattle.sqlite_rules.specs.Action.{works, Writes as Goes}
 use Rattle.sqlite_schema.specs.declared.program.Program.{Program}
@@ -100,24 +102,80 @@ equal_is Equal h = refl
 equal_is Less h = absurd (let e = h in cc)
 equal_is Greater h = absurd (let e = h in cc)
 
+same_int : (m n : ℤ) → is_eq (value_cmp (Int m) (Int n)) ≡ true → n ≡ m
+same_int m n e = sym (int_cmp-IsAntisymmetric m n (sym (value_cmp-Int m n) ∙ equal_is _ e))
+
+one_at_most : {X : Type 0} (xs : List X) (x y : X) → length xs ≤ 1 → Has xs x → Has xs y → x ≡ y
+one_at_most [] x y few h k = absurd h
+one_at_most (z ∷ []) x y few (inl a) (inl b) = a ∙ sym b
+one_at_most (z ∷ []) x y few (inl a) (inr k) = absurd k
+one_at_most (z ∷ []) x y few (inr h) k = absurd h
+one_at_most (z ∷ w ∷ zs) x y few h k = absurd (omega (arith, few))
+
 -- in a tree of a table each row has a rowid of its own
 module _ (tree : List Row) (rowids : HasRowids tree) (p : Row → Bool) where
-  tied : (r s : Row) → Has tree s → has_rowid (id_in (rowid s)) r ≡ true → value_cmp (rowid r) (rowid s) ≡ Equal
-  tied r s there tie = equal_is _ (subst (λ v. is_eq (value_cmp (rowid r) v) ≡ true) (sym (int_is (rowid s) (all_has _ tree s rowids.1 there))) tie)
-
   own_rowid : (r : Row) → Has tree r → has_rowid (id_in (rowid r)) r ≡ true
   own_rowid r there =
-      let keyed = int_is (rowid r) (all_has _ tree r rowids.1 there) in
+      let keyed = int_is (rowid r) (all_has _ tree r rowids.numbered there) in
       subst (λ v. is_eq (value_cmp (rowid r) v) ≡ true) keyed (ap is_eq (tied_itself value_cmp_total (rowid r)))
 
   pub left_in_table : (ids : List ℤ) → IsPermutation (map (λ r. id_in (rowid r)) (filter p tree)) ids → without_all tree ids ≡ filter (λ r. not (p r)) tree
   left_in_table ids these =
       left_over p tree ids these (λ r there here. own_rowid r there)
-      (λ r s there other here tie. subst (λ x. p x ≡ true) (sym (tied_same tree r s rowids.0 there other (tied r s other tie))) here)
+      (λ r s there other here tie.
+      let one = has_rowid (id_in (rowid s)) in
+      let same = one_at_most (filter one tree) r s (rowids.once (id_in (rowid s))) (has_kept one tree r there tie) (has_kept one tree s other (own_rowid s other)) in
+      subst (λ x. p x ≡ true) (sym same) here)
+
+fewer : (p q : Row → Bool) (rows : List Row) → length (filter p (filter q rows)) ≤ length (filter p rows)
+fewer p q [] = omega arith
+fewer p q (r ∷ rows) = at (q r) (p r) refl (fewer p q rows)
+  where
+    at : (a b : Bool) → p r ≡ b → length (filter p (filter q rows)) ≤ length (filter p rows)
+        → length (filter p (cond a (r ∷ filter q rows) (filter q rows))) ≤ length (cond b (r ∷ filter p rows) (filter p rows))
+    at true true is less = rw is (omega (arith, less))
+    at true false is less = rw is less
+    at false true is less = omega (arith, less)
+    at false false is less = less
 
 pub left_rowids : (ids : List ℤ) (tree : List Row) → HasRowids tree → HasRowids (without_all tree ids)
 left_rowids [] tree rowids = rowids
-left_rowids (id ∷ ids) tree rowids = left_rowids ids (without_rowid id tree) (IsShaped-filter shape.Table (λ r. not (has_rowid id r)) tree rowids)
+left_rowids (id ∷ ids) tree rowids = left_rowids ids (without_rowid id tree) (record {
+  numbered = all-filter _ (λ r. not (has_rowid id r)) tree rowids.numbered;
+  once = λ other. omega (arith, fewer (has_rowid other) (λ r. not (has_rowid id r)) tree, rowids.once other);
+})
+
+none_kept : {X : Type 0} (p : X → Bool) (xs : List X) → list_any p xs ≡ false → filter p xs ≡ []
+none_kept p [] e = refl
+none_kept p (x ∷ xs) e = at (p x) e (none_kept p xs)
+  where
+    at : (b : Bool) → b || list_any p xs ≡ false → (list_any p xs ≡ false → filter p xs ≡ []) → cond b (x ∷ filter p xs) (filter p xs) ≡ []
+    at true e rest = absurd (let f = e in cc)
+    at false e rest = rest e
+
+-- a row whose rowid is free
+module _ (id : ℤ) (rest : Row) (rows : List Row) (free : are_fresh rows ((Int id ∷ rest) ∷ []) ≡ true) (rowids : HasRowids rows) where
+  abbrev put : Row
+  put = Int id ∷ rest
+
+  none_with : filter (has_rowid id) rows ≡ []
+  none_with = none_kept (has_rowid id) rows (untaken _ free)
+    where
+      untaken : (b : Bool) → not b && true ≡ true → b ≡ false
+      untaken false e = refl
+      untaken true e = absurd (let f = e in cc)
+
+  few : (other : ℤ) (b : Bool) → is_eq (value_cmp (Int id) (Int other)) ≡ b → length (filter (has_rowid other) rows ++ cond b (put ∷ []) []) ≤ 1
+  few other false e = rw (append-nil (filter (has_rowid other) rows)) (rowids.once other)
+  few other true e = rw (ap (λ n. filter (has_rowid n) rows) (same_int id other e) ∙ none_with) (omega arith)
+
+  pub put_rowids : HasRowids (put_row put rows)
+  put_rowids = record {
+    numbered = all-put_row _ put rows refl rowids.numbered;
+    once = λ other.
+        let long = length_permutation _ _ (IsPermutation-filter (has_rowid other) _ _ (put_fresh put rows free)) in
+        omega (arith, long, ap length (filter-append (has_rowid other) rows (put ∷ [])), few other (has_rowid other put) refl);
+  }
 
 -- ---- the rows that are put in
 

@@ -15,7 +15,7 @@ use Rattle.sqlite.specs.Rowids.TheVariants.{Chosen}
 use Rattle.sqlite.specs.Rows.{stamped}
 use Rattle.sqlite.specs.Effect.{value_rows}
 use Rattle.sqlite.specs.Tree.{Trees, put_row}
-use Rattle.sqlite_trees.proofs.TreeLemmas.{IsShaped-put_row}
+use Rattle.spool_sql.proofs.ChangeLemmas.{put_rowids}
 use Rattle.sqlite.specs.Schema.{Schema}
 use Rattle.sqlite.specs.Listing.{understood}
 use Rattle.sqlite_tied.specs.Compute.{everything}
@@ -148,7 +148,7 @@ module _ (schema : Schema) (version : ℕ) (has : HasTables schema) (old new : S
         tables = other_secrets schema version old.now.trees new.now.trees rows t.tables w.sound (others_of schema has old new 3 _ w) (rows.secrets ++ s ∷ [])
             (subst (λ x. IsPermutation (map (drop 1) x) (map secret_stored (rows.secrets ++ s ∷ []))) (sym w.rows_are)
             (put_hidden secret_stored s (Int (next_rowid (old.now.trees 3))) (old.now.trees 3) rows.secrets u.1 t.tables.secrets))
-            (subst (HasRowids) (sym w.rows_are) (IsShaped-put_row (hidden s old.now.trees) (old.now.trees 3) refl t.tables.secret_rowids));
+            (subst (HasRowids) (sym w.rows_are) (put_rowids (next_rowid (old.now.trees 3)) (secret_stored s) (old.now.trees 3) u.1 t.tables.secret_rowids));
       }
 
 -- ---- the relay's
@@ -204,6 +204,6 @@ makes_first_rows old new count h b =
         secrets = subst (λ x. IsPermutation (map (drop 1) x) []) (sym (o.secrets (λ e. absurd (omega (arith, e))) ∙ b.empty.1.1.0)) none;
         deliveries = subst (λ x. IsPermutation x []) (sym (o.deliveries (λ e. absurd (omega (arith, e))) ∙ b.empty.1.1.1.0)) none;
         attempts = subst (λ x. IsPermutation x []) (sym (o.attempts (λ e. absurd (omega (arith, e))) ∙ b.empty.1.1.1.1.0)) none;
-        secret_rowids = subst (HasRowids) (sym (o.secrets (λ e. absurd (omega (arith, e))) ∙ b.empty.1.1.0)) (tt, tt);
+        secret_rowids = subst (HasRowids) (sym (o.secrets (λ e. absurd (omega (arith, e))) ∙ b.empty.1.1.0)) (record { numbered = tt; once = λ id. omega arith });
       };
     }

@@ -1,13 +1,13 @@
 -- How the rows of a history are stored in the five tables.
-use Rattle.std.specs.List.{list_any}
-use Rattle.std.specs.Prelude.{◌≡◌, ℕ, ◌==◌, ◌&&◌, not, pos, Bool, true, cond, List, [], ◌∷◌, ◌++◌, map, drop, filter, codes, bytes_eq, Option, slice_get, nat_le, take}
+use Rattle.std.specs.List.{AllByRecursion, list_any}
+use Rattle.std.specs.Prelude.{◌≡◌, ◌≤◌, ℕ, ℤ, ◌==◌, ◌&&◌, not, pos, Bool, true, cond, List, [], ◌∷◌, ◌++◌, length, map, drop, filter, codes, bytes_eq, Option, slice_get, nat_le, take, IsTrue}
 use Rattle.sqlite.specs.declared.types.Value.TheVariants.{Null, Int, Text as Words, Blob as Bytes}
 use Rattle.sqlite.specs.Order.{Row}
 use Rattle.sqlite.specs.Effect.{Database}
 use Rattle.sqlite.specs.Tree.{Trees}
 use Rattle.sqlite.specs.Schema.{Schema}
-use Rattle.sqlite_trees.specs.declared.store.Shape.TheVariants.{Table}
-use Rattle.sqlite_trees.specs.View.{IsShaped}
+use Rattle.sqlite_trees.specs.Tree.{rowid, has_rowid}
+use Rattle.sqlite_trees.specs.View.{is_int}
 use Rattle.sqlite_catalog.specs.Listing.{IsSound}
 use Rattle.std.specs.List.Sorted.{IsPermutation, IsNonDecreasingBy}
 use Rattle.relay_types.specs.Values.{Seq, Text}
@@ -39,9 +39,10 @@ attempt_stored a = Int (pos a.seq) ∷ Null ∷ Int (pos a.delivery) ∷ Int (po
 abbrev pub secret_stored : SecretRow → Row
 secret_stored s = Int (pos s.endpoint) ∷ Int (pos s.place) ∷ Bytes s.secret ∷ []
 
--- each row of a tree has a rowid of its own
-abbrev pub HasRowids : List Row → Type 0
-HasRowids = IsShaped Table
+-- each row of a tree has a number as its rowid, which no other row has
+pub record HasRowids (tree : List Row) : Type 0 where
+  pub numbered : AllByRecursion (λ r. IsTrue (is_int (rowid r))) tree
+  pub once : (id : ℤ) → length (filter (has_rowid id) tree) ≤ 1
 
 -- the trees list the tables of a schema and obey it, meta tells their version, and they have these rows in any order
 pub record AreTables (schema : Schema) (version : ℕ) (db : Trees) (rows : Rows) : Type 0 where
