@@ -1,3 +1,12 @@
 pub mod ReadingLemmas
 pub mod Texts
 pub mod TableLemmas
+pub mod StoredLemmas
+pub mod KeyLemmas
+pub mod OrderLemmas
+pub mod PlaceLemmas
+pub mod ShownLemmas
+pub mod SoundLemmas
+pub mod LackLemmas
+pub mod LookLemmas
+pub mod MetaLemmas

@@ -1,10 +1,8 @@
 -- The SELECT statements that read a whole table.
-use Rattle.std.proofs.Common.{◌≡◌, ◌⊎◌, inl, inr, ℕ, List, [], ◌∷◌, length, codes, true, false, Option, None, Some, Ok, refl, sym, subst, arith}
+use Rattle.std.proofs.Common.{◌≡◌, ℕ, List, [], ◌∷◌, length, codes, true, false, None, Ok, refl}
 use Rattle.sqlite.specs.Collation.TheVariants.{Binary}
 use Rattle.sqlite_value.specs.Keys.{ascending}
 use Rattle.sqlite_value.specs.declared.keys.Key.{Key}
-use Rattle.sqlite.specs.declared.error.Error.{Error}
-use Rattle.sqlite.specs.Effect.{Database, RefusesToRead}
 use Rattle.sqlite.specs.Term.{Term, col}
 use Rattle.sqlite.specs.Query.{Query}
 use Rattle.sqlite.specs.Command.TheVariants.{Select}
@@ -13,9 +11,8 @@ use Rattle.sqlite_typing.specs.Types.{accepts_program}
 use Rattle.sqlite_resolve.specs.declared.compiled.Compiled.{Compiled}
 use Rattle.sqlite_tied.specs.Compute.{everything}
 use Rattle.spool_sql.specs.Tables.{relay_schema}
-use Rattle.spool_sql.proofs.BareLemmas.{IsBare, understood_bare}
+use Rattle.spool_sql.proofs.BareLemmas.{IsBare}
 use Rattle.spool_sql.proofs.UpdateLemmas.{scan_by}
-use Rattle.sound_tables.specs.Reading.{IsPlainText, IsAnswerable}
 
 -- the order of the first column
 abbrev pub in_order : List (Term × Key)

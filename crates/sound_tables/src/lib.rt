@@ -3,14 +3,23 @@
 #![tactic(auto)]
 
 mod attempt;
+mod check;
 mod delivery;
 mod endpoint;
+mod fault;
+mod judge;
 mod meta;
+mod order;
+mod places;
 mod reading;
+mod records;
 mod secret;
+mod stored;
 mod tables;
 mod value;
 
+pub use crate::check::check_tables;
+pub use crate::fault::TableFault;
 pub use crate::meta::Meta;
 pub use crate::reading::{Reading, read_table};
 pub use crate::secret::Secret;

@@ -1,0 +1,53 @@
+-- One look at the database after another.
+use Rattle.std.proofs.Common.{◌≡◌, ℕ, Result, Ok, Err, IfOk, IfErr, OnOk, MatchResult, ap, subst, ◌∙◌, arith}
+use Rattle.sqlite_trees.specs.declared.store.Store.{Ghosts}
+use Rattle.sqlite.specs.Held.{Held, state}
+use Rattle.sqlite.specs.Effect.{Database}
+use Rattle.sqlite.specs.State.{HasCleanDisk, IsLive, IsUnchanged}
+use Rattle.sqlite_catalog.specs.Listing.{IsSound}
+use Rattle.sqlite.proofs.Callers.{unchanged_then}
+use Rattle.spool_sql.specs.Tables.{relay_schema}
+use Rattle.sound_tables.specs.Checks.{AreRead, AreShown, HasRecords}
+use Rattle.sound_tables.specs.declared.stored.StoredRows.{StoredRows}
+use Rattle.sound_tables.specs.Reading.{Looks}
+use Rattle.sound_tables.proofs.ReadingLemmas.{IsStill, looks_failed}
+
+-- the first look changed nothing
+module _ {S : Type 0} (g : Ghosts S) (a m b : Held S) (first : Looks g a m) (same : HasCleanDisk (state g m) → IsUnchanged (state g a) (state g m)) (second : Looks g m b) where
+  still : IsStill g a m
+  still = record { mode = first.mode; survives = first.survives; was_open = λ clean is_open. (same clean).0.was_open; same = λ clean is_open. same clean }
+
+  pub looks_both : Looks g a b
+  looks_both = looks_failed g a m b still second.mode second.survives second.left
+
+  pub clean_early : HasCleanDisk (state g b) → HasCleanDisk (state g m)
+  clean_early clean = omega (arith, clean, second.survives.clean)
+
+  pub same_now : HasCleanDisk (state g b) → (state g m).now ≡ (state g a).now
+  same_now clean = (same (clean_early clean)).0.now_is
+
+  pub schema_still : HasCleanDisk (state g b) → (state g a).now.schema ≡ relay_schema → (state g m).now.schema ≡ relay_schema
+  schema_still clean has = ap (λ db. db.schema) (same_now clean) ∙ has
+
+  pub same_both : HasCleanDisk (state g b) → IsUnchanged (state g m) (state g b) → IsUnchanged (state g a) (state g b)
+  same_both clean later = unchanged_then _ _ _ (same (clean_early clean)) later
+
+  pub are_read : (records : ℕ) (rows : StoredRows) → IsLive (state g a) → HasCleanDisk (state g b) → (state g a).now.schema ≡ relay_schema → HasRecords (state g a).now records → AreShown (state g m).now rows → AreRead (state g a).now records rows
+  are_read records rows live clean has meta shown = record {
+    schema_is = has;
+    obeys = subst (λ schema. IsSound schema (state g a).now.trees) has (live (same (clean_early clean)).0.was_open).0;
+    meta = meta;
+    shown = subst (λ (db : Database). AreShown db rows) (same_now clean) shown;
+  }
+
+pub told_ok : {A E : Type 0} (r : Result A E) (P : A → Type 0) (Q : E → Type 0) → MatchResult r P Q → IfOk r P
+told_ok (Ok x) P Q h = h
+told_ok (Err e) P Q h = tt
+
+pub told_err : {A E : Type 0} (r : Result A E) (P : A → Type 0) (Q : E → Type 0) → MatchResult r P Q → IfErr r Q
+told_err (Ok x) P Q h = tt
+told_err (Err e) P Q h = h
+
+pub on_ok : {A E : Type 0} (r : Result A E) (P : Type 0) → P → OnOk r P
+on_ok (Ok x) P h = h
+on_ok (Err e) P h = tt

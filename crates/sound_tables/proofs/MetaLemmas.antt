@@ -1,0 +1,53 @@
+-- The row of meta, as it is read.
+use Rattle.std.proofs.Common.{◌≡◌, ◌≢◌, ◌≤◌, ℕ, pos, suc, List, [], ◌∷◌, map, length, get_or, refl, sym, ap, subst, arith, IsPermutation}
+use Rattle.std.specs.List.{AllZip}
+use Rattle.std.proofs.lemmas.List.Sorted.{length_permutation}
+use Rattle.sqlite.specs.Order.{Row}
+use Rattle.sqlite.specs.Effect.{Database}
+use Rattle.sqlite_trees.proofs.ListLemmas.{all-permutation}
+use Rattle.relay_types.specs.Rows.{Rows}
+use Rattle.sound_tables.specs.Checks.{AreSoundTables, HasMeta, HasRecords, IsRefusedAt}
+use Rattle.sound_tables.specs.declared.fault.TableFault.TheVariants.{Damaged}
+use Rattle.sound_tables.specs.Shown.{ShowsMeta}
+use Rattle.sound_tables.specs.Tables.{HasShown, LacksShown, meta_columns}
+use Rattle.sound_tables.specs.declared.meta.Meta.{Meta}
+
+zip_length : (rows : List Row) (ms : List Meta) → AllZip ShowsMeta rows ms → length rows ≡ length ms
+zip_length [] [] zip = refl
+zip_length [] (m ∷ ms) zip = absurd zip
+zip_length (r ∷ rows) [] zip = absurd zip
+zip_length (r ∷ rows) (m ∷ ms) zip = ap suc (zip_length rows ms zip.1)
+
+pub not_one : (db : Database) (ms : List Meta) → HasShown ShowsMeta meta_columns (db.trees 0) ms → length ms ≢ 1 → (m : Meta) → ¬ HasMeta db m
+not_one db ms shown many m has =
+    let one : length (map meta_columns (db.trees 0)) ≡ 1 = ap (λ t. length (map meta_columns t)) has.1 in
+    let same = length_permutation (map meta_columns (db.trees 0)) shown.0 shown.1 in
+    let as_long = zip_length shown.0 ms shown.2 in
+    many (omega (arith, one, same, as_long))
+
+pub one_shown : (db : Database) (ms : List Meta) (d : Meta) → HasShown ShowsMeta meta_columns (db.trees 0) ms → length ms ≡ 1 → HasMeta db (get_or ms 0 d)
+one_shown db [] d shown one = absurd (omega (arith, one))
+one_shown db (m ∷ n ∷ ms) d shown one = absurd (omega (arith, one))
+one_shown db (m ∷ []) d shown one = at (db.trees 0) shown.0 refl shown.1 shown.2
+  where
+    at : (tree rows : List Row) → db.trees 0 ≡ tree → IsPermutation (map meta_columns tree) rows → AllZip ShowsMeta rows (m ∷ []) → HasMeta db m
+    at tree [] is same zip = absurd zip
+    at tree (r ∷ s ∷ rows) is same zip = absurd zip.1
+    at [] (r ∷ []) is same zip = absurd (let n = length_permutation [] (r ∷ []) same in omega (arith, n))
+    at (row ∷ more ∷ tree) (r ∷ []) is same zip = absurd (let n = length_permutation (map meta_columns (row ∷ more ∷ tree)) (r ∷ []) same in omega (arith, n))
+    at (row ∷ []) (r ∷ []) is same zip =
+        let each = all-permutation (λ w. w ≡ meta_columns row) (meta_columns row ∷ []) (r ∷ []) same (refl, tt) in
+        (row, is, subst (λ w. ShowsMeta w m) each.0 zip.0)
+
+-- a row that shows no meta isn't the relay's
+pub none_shown : (db : Database) → LacksShown ShowsMeta meta_columns (db.trees 0) → (m : Meta) → ¬ HasMeta db m
+none_shown db lacks m has = lacks (subst (Rattle.std.specs.List.AllByRecursion (λ r. (x : Meta) × ShowsMeta (meta_columns r) x)) (sym has.1) ((m, has.2), tt))
+
+at_most_one : (version : ℕ) → pos 1 ≡ pos version → version ≤ 1
+at_most_one version same =
+    let one : 1 ≡ version = cc in
+    omega (arith, one)
+
+-- tables of this version that have no sound rows
+pub damaged : (db : Database) (records : ℕ) → HasRecords db records → ((rows : Rows) → ¬ AreSoundTables db rows) → IsRefusedAt db Damaged
+damaged db records has none = (record { key = pos 1; version = pos 1; records = pos records }, has, at_most_one, none)

@@ -1,0 +1,47 @@
+//! Whether the rows that were read are such as a legal history has.
+ghost use Rattle.std.specs.Prelude.{IfOk, MatchBool, MatchResult};
+ghost use Rattle.sqlite.specs.Effect.{Database};
+ghost use Rattle.relay_types.specs.Rows.{Rows};
+ghost use Rattle.sound_tables.specs.Checks.{AreInOrder, AreRead, AreSoundTables, HasSound, IsRefusedAt};
+
+use crate::fault::TableFault;
+use crate::places::are_in_places;
+use crate::stored::StoredRows;
+use sound_rows::Numbers;
+use sqlite::{Error, ErrorCode};
+use std::alloc::{AllocError, Global};
+
+/// How many records the rows tell of, where they are such as a legal history has.
+pub(crate) fn judge(records: u64, rows: StoredRows, alloc: Global) -> Result<u64, TableFault>
+    ensures { (db : Database) → AreRead db records rows → MatchResult result (HasSound db) (IsRefusedAt db) }
+{
+    // The statements ask for this order.
+    if !rows.are_in_order() {
+        return Err(TableFault::Failed(Error::SqliteFailure(ErrorCode::DatabaseCorrupt)));
+    }
+    match are_sound(records, rows, alloc) {
+        Ok(true) => Ok(records),
+        Ok(false) => Err(TableFault::Damaged),
+        Err(_) => Err(TableFault::Failed(Error::SqliteFailure(ErrorCode::OutOfMemory))),
+    }
+}
+
+fn are_sound(records: u64, rows: StoredRows, alloc: Global) -> Result<bool, AllocError>
+    requires { AreInOrder rows }
+    ensures { IfOk result (λ sound. (db : Database) → AreRead db records rows
+        → MatchBool sound (HasSound db records) ((all : Rows) → ¬ AreSoundTables db all)) }
+{
+    let StoredRows {
+        endpoints,
+        mut secrets,
+        deliveries,
+        attempts,
+    } = rows;
+    let numbers = Numbers {
+        records,
+        endpoints,
+        deliveries,
+        attempts,
+    };
+    Ok(numbers.are_sound(alloc)? && are_in_places(&numbers.endpoints, &mut secrets))
+}

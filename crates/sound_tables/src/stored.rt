@@ -1,0 +1,92 @@
+//! The rows of the four tables beside `meta`.
+ghost use Rattle.std.specs.Prelude.{◌≡◌, ◌≢◌, IfOk, IfErr, OnOk};
+ghost use Rattle.sqlite.specs.Effect.{Database};
+ghost use Rattle.sqlite.specs.State.{IsUnchanged};
+ghost use Rattle.spool_sql.specs.Causes.{cause};
+ghost use Rattle.spool_sql.specs.declared.cause.Cause.TheVariants.{Other};
+ghost use Rattle.spool_sql.specs.Steps.{IfClean};
+ghost use Rattle.spool_sql.specs.Tables.{relay_schema};
+ghost use Rattle.sound_tables.specs.Checks.{TellsStored, TellsEndpoints, TellsEvents};
+ghost use Rattle.sound_tables.specs.Reading.{Looks};
+
+use crate::secret::Secret;
+use crate::tables::{read_attempts, read_deliveries, read_endpoints, read_secrets};
+use sound_rows::{Attempt, Delivery, Endpoint};
+use sqlite::{Alter, Connection, Error};
+use std::alloc::Global;
+
+/// What the rows of the four tables show, in the order in which the store gave them.
+#[derive(Drop)]
+pub struct StoredRows {
+    pub endpoints: Vec<Endpoint>,
+    pub secrets: Vec<Secret>,
+    pub deliveries: Vec<Delivery>,
+    pub attempts: Vec<Attempt>,
+}
+
+/// The rows of the four tables, or nothing where a row is none of theirs.
+pub(crate) fn read_stored<S: Alter>(
+    conn: &mut Connection<S>,
+    alloc: Global,
+) -> Result<Option<StoredRows>, Error>
+    ensures looks { Looks S.Store conn.old conn.new }
+    ensures found { IfClean S.Store conn.old conn.new (λ a _. a.now.schema ≡ relay_schema
+        → IfOk result (TellsStored a.now)) }
+    ensures same { IfClean S.Store conn.old conn.new (λ a b. OnOk result (IsUnchanged a b)) }
+    ensures fault { IfClean S.Store conn.old conn.new (λ a _. a.now.schema ≡ relay_schema
+        → IfErr result (λ e. cause e ≢ Other)) }
+{
+    let (endpoints, secrets) = read_endpoint_tables(conn, alloc)?;
+    let (deliveries, attempts) = read_event_tables(conn, alloc)?;
+    Ok(all_of(endpoints, secrets, deliveries, attempts))
+}
+
+fn read_endpoint_tables<S: Alter>(
+    conn: &mut Connection<S>,
+    alloc: Global,
+) -> Result<(Option<Vec<Endpoint>>, Option<Vec<Secret>>), Error>
+    ensures looks { Looks S.Store conn.old conn.new }
+    ensures found { IfClean S.Store conn.old conn.new (λ a _. a.now.schema ≡ relay_schema
+        → IfOk result (λ told. TellsEndpoints a.now told.0 told.1)) }
+    ensures same { IfClean S.Store conn.old conn.new (λ a b. OnOk result (IsUnchanged a b)) }
+    ensures fault { IfClean S.Store conn.old conn.new (λ a _. a.now.schema ≡ relay_schema
+        → IfErr result (λ e. cause e ≢ Other)) }
+{
+    let endpoints = read_endpoints(conn, alloc)?;
+    let secrets = read_secrets(conn, alloc)?;
+    Ok((endpoints, secrets))
+}
+
+fn read_event_tables<S: Alter>(
+    conn: &mut Connection<S>,
+    alloc: Global,
+) -> Result<(Option<Vec<Delivery>>, Option<Vec<Attempt>>), Error>
+    ensures looks { Looks S.Store conn.old conn.new }
+    ensures found { IfClean S.Store conn.old conn.new (λ a _. a.now.schema ≡ relay_schema
+        → IfOk result (λ told. TellsEvents a.now told.0 told.1)) }
+    ensures same { IfClean S.Store conn.old conn.new (λ a b. OnOk result (IsUnchanged a b)) }
+    ensures fault { IfClean S.Store conn.old conn.new (λ a _. a.now.schema ≡ relay_schema
+        → IfErr result (λ e. cause e ≢ Other)) }
+{
+    let deliveries = read_deliveries(conn, alloc)?;
+    let attempts = read_attempts(conn, alloc)?;
+    Ok((deliveries, attempts))
+}
+
+// All four, where each was read.
+fn all_of(
+    endpoints: Option<Vec<Endpoint>>,
+    secrets: Option<Vec<Secret>>,
+    deliveries: Option<Vec<Delivery>>,
+    attempts: Option<Vec<Attempt>>,
+) -> Option<StoredRows>
+    ensures { (db : Database) → TellsEndpoints db endpoints secrets → TellsEvents db deliveries attempts
+        → TellsStored db result }
+{
+    Some(StoredRows {
+        endpoints: endpoints?,
+        secrets: secrets?,
+        deliveries: deliveries?,
+        attempts: attempts?,
+    })
+}
