@@ -1,5 +1,5 @@
 -- Permits that are all of those that are out, as they are given back one by one.
-use Rattle.std.proofs.Common.{◌≡◌, ◌+◌, ℕ, List, [], ◌∷◌, ◌++◌, Option, Some, None, get_or, refl, sym, ap, arith, cond, IsPermutation}
+use Rattle.std.proofs.Common.{◌≡◌, ◌+◌, ℕ, List, [], ◌∷◌, ◌++◌, Option, Some, None, get_or, refl, sym, ap, arith, cond, length, IsPermutation}
 use Rattle.std.specs.Prelude.{count_by, position, remove}
 use Rattle.std.proofs.lemmas.List.Quantifiers.{position-Some}
 use Rattle.std.proofs.lemmas.List.Sorted.{sum_by-IsPermutation}
@@ -43,3 +43,16 @@ last_back permits last rows new h is = by (position (same_row last) rows) refl
           ap {B = ℕ} (λ x. cond (same_row r x) 1 0) own,
           ap (count_by (same_row r)) (is i e),
         )
+
+-- all are back
+pub none_left : (permits rows : List Row) → length permits ≡ 0 → AreAll permits rows → rows ≡ []
+none_left (permit ∷ permits) rows none h = absurd (omega (arith, none))
+none_left [] [] none h = refl
+none_left [] (r ∷ rows) none h =
+    absurd (omega (
+      arith,
+      h r,
+      none_counted (same_row r) [] refl,
+      sum_by-remove (λ x. cond (same_row r x) 1 0) (r ∷ rows) 0 r (omega arith),
+      ap {B = ℕ} (λ b. cond b 1 0) (same_row_self r),
+    ))

@@ -86,11 +86,9 @@ impl<L: Ledger> Desk<L> {
         })
     }
 
-    /// The desk of a history of which a vault gave these books: all of it is settled.
-    pub fn of(alloc: Global, blank: Blank, books: Books, mark: u64) -> Result<Desk<L>, AllocError>
-        requires name { blank.name ≡ L.name }
-        requires parts { blank.parts ≡ L.parts }
-        requires enough { blank.parts ≡ PARTS }
+    /// The desk of a history of which a vault gave these books: all of it is settled. Its permits come out of the pool.
+    pub fn of(alloc: Global, pool: Pool<L>, books: Books, mark: u64) -> Result<Desk<L>, AllocError>
+        requires empty { pool ≡ [] }
         requires settled { AreSettled books }
         ensures mark { IfOk result (λ desk. desk.waiting.mark ≡ mark) }
         ensures stands { IfOk result (Opens books) }
@@ -101,7 +99,6 @@ impl<L: Ledger> Desk<L> {
             records,
             clock,
         } = books;
-        let pool = Pool::new(alloc, blank)?;
         let limiters = limiters_of(alloc, &endpoints)?;
         let queue = queue_of(alloc, &endpoints, &deliveries, &limiters, &pool)?;
         Ok(Desk {

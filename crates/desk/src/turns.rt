@@ -1,5 +1,5 @@
 //! How the desk hands out what waits, and takes back what became of it.
-ghost use Rattle.std.specs.Prelude.{◌≡◌, length, ◌↔◌, IsTrue, IfOk, IfErr, IfSome, IsOk, IsPermutation, OnErr};
+ghost use Rattle.std.specs.Prelude.{◌≡◌, [], length, ◌↔◌, IsTrue, IfOk, IfErr, IfSome, IsOk, IsPermutation, OnErr};
 ghost use Rattle.spool.specs.Batches.{doubt_of};
 ghost use Rattle.group_commit.specs.Waits.{batch_of, sealed_count};
 ghost use Rattle.group_commit.specs.Turns as waiting;
@@ -78,13 +78,14 @@ impl<L: Ledger> Desk<L> {
         Ok(())
     }
 
-    /// Ends the desk, with the permits that are out and what else is. Nothing that waits will be settled.
-    pub fn close(self, permits: Vec<Permit<L>>, receipt: Option<Receipt>, held: Held)
+    /// Ends the desk, with the permits that are out and what else is. Nothing that waits will be settled. The pool is empty, and another
+    /// opening may take it.
+    pub fn close(self, permits: Vec<Permit<L>>, receipt: Option<Receipt>, held: Held) -> Pool<L>
         requires permits { IsPermutation permits.items self.live }
         requires out { IsAllOut self.waiting receipt held }
+        ensures { result ≡ [] }
     {
         let Desk { pool, .. } = self;
-        close_pool(pool, permits);
         if let Some(receipt) = receipt {
             drop(receipt.into_steps());
         }
@@ -93,12 +94,14 @@ impl<L: Ledger> Desk<L> {
             Held::Batch(batch) => drop(batch.into_steps()),
             Held::Doubt(doubt) => doubt.end(),
         }
+        emptied(pool, permits)
     }
 }
 
-// Takes back all permits that are out, and closes their ledger.
-fn close_pool<L: Ledger>(mut pool: Pool<L>, mut permits: Vec<Permit<L>>)
+// The pool, once all permits that are out are given back.
+fn emptied<L: Ledger>(mut pool: Pool<L>, mut permits: Vec<Permit<L>>) -> Pool<L>
     requires { IsPermutation permits.items pool }
+    ensures { result ≡ [] }
 {
     while let Some(permit) = permits.pop() {
         match pool.give_back(permit) {
@@ -107,5 +110,5 @@ fn close_pool<L: Ledger>(mut pool: Pool<L>, mut permits: Vec<Permit<L>>)
         }
     }
     permits.destroy_empty();
-    let _ = pool.close();
+    pool
 }

@@ -9,7 +9,7 @@ use crate::posts::claim_refused;
 use delivery_book::DeliveryBook;
 use desk::{Command, Desk, Fault, Refusal};
 use endpoint_book::EndpointBook;
-use permits::PARTS;
+use permits::{PARTS, Pool};
 use relay_types::{Body, MAX_RECORDS, MaxLimit, Moment, MsgId, Name, Secret, Secrets, Target};
 use spool::Books;
 use std::alloc::{AllocError, Global};
@@ -79,7 +79,8 @@ fn refuse<L: Ledger>(rt: &impl Abort, alloc: Global, blank: Blank) -> Result<(),
     requires parts { blank.parts ≡ L.parts }
     requires enough { blank.parts ≡ PARTS }
 {
-    let mut desk = Desk::<L>::of(alloc, blank, spent_books(alloc)?, MARK)?;
+    let pool = Pool::<L>::new(alloc, blank)?;
+    let mut desk = Desk::of(alloc, pool, spent_books(alloc)?, MARK)?;
     let now = Moment::of(1000)?;
     assert!(rt; claim_refused(rt, &mut desk, Moment::of(999)?).is_none());
     assert!(rt; claim_refused(rt, &mut desk, now) == refusal(2, Fault::SeqExhausted));

@@ -4,7 +4,7 @@ ghost use Rattle.std.specs.Prelude.{◌≡◌};
 use crate::courses::{Course, follow};
 use crate::turns::{MARK, opened, put, submit, turn};
 use desk::{Desk, Ticket, Told, Totals};
-use permits::PARTS;
+use permits::{PARTS, Pool};
 use relay_types::{MsgId, Name, State};
 use spool::Vault;
 use sqlite::{Alter, Connection};
@@ -138,7 +138,8 @@ fn reopen<L: Ledger, S: Alter>(
     let Ok(books) = vault.load(alloc) else {
         return Err(Fail::from("the vault was not loaded"));
     };
-    let desk = Desk::<L>::of(alloc, blank, books, MARK + 1)?;
+    let pool = Pool::<L>::new(alloc, blank)?;
+    let desk = Desk::of(alloc, pool, books, MARK + 1)?;
     assert_eq!(rt; desk.totals(), BEGUN);
     assert!(rt;
         desk.event_page(Name::read(b"a")?, &MsgId::read(b"msg_1")?)

@@ -10,8 +10,8 @@ queue_of-requires-clause-limited g c = limited_new c.deref.result.now c.args.boo
 pub invariant_of-result-3 : goal.invariant_of-result-3
 invariant_of-result-3 g c =
     let queue = c.in_ok-queue.queue in
-    is_desk_opened c.args.books _ _ c.in_ok-new.field-0 c.in_ok-pool.pool c.in_ok-limiters.limiters.items queue c.args.mark c.endpoints.view_is c.deliveries.view_is c.requires.settled
-    c.in_ok-new.ensures c.in_ok-pool.ensures c.in_ok-limiters.ensures c.in_ok-queue.ensures.queued
+    is_desk_opened c.args.books _ _ c.in_ok-new.field-0 c.args.pool c.in_ok-limiters.limiters.items queue c.args.mark c.endpoints.view_is c.deliveries.view_is c.requires.settled
+    c.in_ok-new.ensures c.requires.empty c.in_ok-limiters.ensures c.in_ok-queue.ensures.queued
     (subst (λ ls. AreMarked queue c.args.books.endpoints ls []) c.deref.ensures.value c.in_ok-queue.ensures.marked)
 
 pub returns-clause-stands : goal.returns-clause-stands
@@ -22,7 +22,7 @@ returns-clause-stands g c = λ history are.
       deliveries = c.deliveries.view_is i;
       waiting = c.in_ok-new.field-0;
       halted = false;
-      live = c.in_ok-pool.pool;
+      live = c.args.pool;
       limiters = c.in_ok-limiters.limiters.items;
     })
-    (stands_opened c.args.books c.in_ok-new.field-0 c.in_ok-pool.pool c.in_ok-limiters.limiters.items c.args.mark c.in_ok-new.ensures c.in_ok-pool.ensures c.in_ok-limiters.ensures history are)
+    (stands_opened c.args.books c.in_ok-new.field-0 c.args.pool c.in_ok-limiters.limiters.items c.args.mark c.in_ok-new.ensures c.requires.empty c.in_ok-limiters.ensures history are)

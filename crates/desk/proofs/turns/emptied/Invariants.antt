@@ -1,5 +1,5 @@
 use Rattle.desk.proofs.CloseLaws.{AreAll}
-use Rattle.desk.proofs.turns.close_pool.Given as goal
+use Rattle.desk.proofs.turns.emptied.Given as goal
 
 abbrev pub invariant-loop-permit : goal.invariant-loop-permit
 invariant-loop-permit g l = AreAll l.permits.items l.pool
