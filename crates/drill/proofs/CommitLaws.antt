@@ -7,9 +7,9 @@ use Rattle.sqlite.specs.Held as store
 use Rattle.relay_types.specs.declared.record.Record.{Record}
 use Rattle.relay_types.specs.Records.{records_of}
 use Rattle.relay_types.specs.Legal.{IsLegal}
-use Rattle.relay_types.specs.Rows.{rows_of}
+use Rattle.relay_types.specs.Rows.{Rows, rows_of}
 use Rattle.relay_types.proofs.KnownLaws.{legal_front}
-use Rattle.spool_sql.specs.Steps.{MayLeave}
+use Rattle.spool_sql.specs.Steps.{MayLeave, Stands}
 use Rattle.spool.specs.Batches.{BatchValue, doubt_of}
 use Rattle.spool.specs.declared.ends.CommitEnd.{CommitEnd}
 use Rattle.spool.specs.declared.ends.CommitEnd.TheVariants as ends
@@ -30,7 +30,7 @@ use Rattle.drill.specs.Moves.{Session, MayTell, begun, commits, with_receipt, in
 use Rattle.drill.specs.Cores.{IsHeld, IsOfBatch, CoreStandsFor, IsCore}
 use Rattle.drill.specs.Runners.{RunStandsFor, Answers, EndsAs, CommitsSo, unchanged_reply}
 use Rattle.recovery.specs.Openings.{IsFirst}
-use Rattle.recovery.specs.Left.{HasNoTable, IsOpenAt, AreOfSteps, HoldsLeft, LeavesBy, VaultStandsFor, KeepsRows}
+use Rattle.recovery.specs.Left.{HasNoTable, IsOpenAt, AreOfSteps, HoldsLeft, LeavesBy, VaultStandsFor, KeepsRows, rows_of_first}
 use Rattle.drill.proofs.TurnLaws.{sealed_is, sealed_front}
 
 -- the desk stands for the world in which something else is out
@@ -54,7 +54,7 @@ out_again desk w o left s same = record {
 doubt_leaves : {S : Type 0} (g : Ghosts S) (vault : VaultValue S) (batch : BatchValue) (w : World) → settled_records w ++ records_of batch.steps ≡ sealed_records w
     → RestsInDoubt (store.state g vault.conn) (settled_records w) (records_of batch.steps) → MayLeave (store.state g vault.conn) (AreOfSteps w (w.settled ∷ w.sealed ∷ []))
 doubt_leaves g vault batch w whole may =
-    λ db left. let (rows, either, is) = may db left in (rows, elim either [ inl old ↦ inl old | inr (legal, new) ↦ inr (inl (new ∙ ap rows_of whole)) ], is)
+    λ db left. let (rows, either, is) = may.leaves db left in (rows, elim either [ inl old ↦ inl old | inr (legal, new) ↦ inr (inl (new ∙ ap rows_of whole)) ], is)
 
 -- what a commit leaves of the core, whatever the store did
 
@@ -102,7 +102,7 @@ ends_commit g vault mark batch (held.Doubt doubt) reply s below had leaves (is, 
     let whole : settled_records s.world ++ records_of batch.steps ≡ sealed_records s.world =
     ap (λ (r : BatchValue). settled_records s.world ++ records_of r.steps) had.1 ∙ sealed_is mark s.world below in (
       subst (λ o. MayTell (commits s o) reply (record s { world = in_doubt s.world })) (sym had.0) (inr (inr (inl (said, refl)))),
-      record { leaves = refl; holds = (shut, doubt_leaves g vault batch s.world whole may) },
+      record { leaves = refl; holds = (shut, doubt_leaves g vault batch s.world whole may, may.stands) },
     )
 ends_commit g vault mark batch held.Nothing reply s below had leaves h = absurd h
 
@@ -157,9 +157,18 @@ started_stands g conn mark vault core first none marked stands = record { stands
 -- The rows that the vault's connection keeps
 
 pub rows_kept : {S : Type 0} (g : Ghosts S) (vault : VaultValue S) (w : World) → VaultStandsFor g vault w → KeepsRows g vault.conn w
-rows_kept g vault w h = record { leaves = leaves w.left h.holds; stand = λ steps e. let (free, (holds, stop)) = subst (HoldsLeft g vault w) e h.holds in holds.stands }
+rows_kept g vault w h = record {
+  leaves = leaves w.left h.holds;
+  stand = λ steps e. let (free, (holds, stop)) = subst (HoldsLeft g vault w) e h.holds in holds.stands;
+  finds = λ is_open. finds is_open w.left h.holds;
+}
   where
     leaves : (left : List ℕ) → HoldsLeft g vault w left → MayLeave (store.state g vault.conn) (AreOfSteps w left)
     leaves [] nothing = absurd nothing
     leaves (steps ∷ []) (free, (holds, stop)) = λ db left. let (rows, of, is) = stop db left in (rows, inl of, is)
-    leaves (steps ∷ other ∷ more) (shut, may) = may
+    leaves (steps ∷ other ∷ more) (shut, may, stands) = may
+
+    finds : IsTrue (store.state g vault.conn).is_open → (left : List ℕ) → HoldsLeft g vault w left → (rows : Rows) × AreOfSteps w left rows × Stands (store.state g vault.conn) rows
+    finds is_open [] nothing = absurd nothing
+    finds is_open (steps ∷ []) (free, (holds, stop)) = (rows_of_first w steps, inl refl, holds.stands)
+    finds is_open (steps ∷ other ∷ more) (shut, may, stands) = (rows_of_first w steps, inl refl, stands is_open)

@@ -2,7 +2,9 @@
 use Rattle.std.proofs.Common.{◌≡◌, ℕ, ◌≤◌, false, List, [], ◌∷◌, length, inl, inr, refl, sym, ap, subst, ◌∙◌, arith}
 use Rattle.std.specs.List.{AllByRecursion}
 use Rattle.sqlite.specs.Store.{Ghosts}
+use Rattle.sqlite.specs.Held.{state}
 use Rattle.relay_types.specs.Rows.{Rows, rows_of}
+use Rattle.spool_sql.specs.Steps.{Stands}
 use Rattle.spool.specs.Vaults.{VaultValue}
 use Rattle.script_lines.specs.declared.event.Event.{Event}
 use Rattle.script_lines.specs.declared.reply.Reply.{Reply}
@@ -37,8 +39,11 @@ steps_go w next (k ∷ left) rows g within (inr h) = inr (steps_go w next left r
 holds_goes : {S : Type 0} (g : Ghosts S) (vault : VaultValue S) (w next : World) (left : List ℕ) → Goes w next → AllByRecursion (λ k. k ≤ length w.history) left → HoldsLeft g vault w left → HoldsLeft g vault next left
 holds_goes g vault w next [] goes within h = h
 holds_goes g vault w next (k ∷ []) goes within h = subst (IsOpenAt g vault) (same_first w next k goes within.0) h
-holds_goes g vault w next (k ∷ other ∷ more) goes within (shut, may) =
-    (shut, λ db is. let (rows, of, are) = may db is in (rows, steps_go w next (k ∷ other ∷ more) rows goes within of, are))
+holds_goes g vault w next (k ∷ other ∷ more) goes within (shut, may, stands) = (
+  shut,
+  (λ db is. let (rows, of, are) = may db is in (rows, steps_go w next (k ∷ other ∷ more) rows goes within of, are)),
+  λ is_open. subst (Stands (state g vault.conn)) (ap rows_of (same_first w next k goes within.0)) (stands is_open),
+)
 
 vault_goes : {S : Type 0} (g : Ghosts S) (vault : VaultValue S) (w next : World) → Goes w next → w.settled ≤ w.sealed → w.sealed ≤ length w.history → VaultStandsFor g vault w → VaultStandsFor g vault next
 vault_goes g vault w next goes below within h = record {

@@ -1,0 +1,2 @@
+mod ReadingLaws
+mod ReopeningLaws

@@ -6,7 +6,7 @@ use Rattle.sqlite.specs.Schema.{Schema}
 use Rattle.spool_sql.specs.Steps.{IfClean}
 use Rattle.spool.specs.Opening.{has_ours, LeavesAt}
 use Rattle.spool.specs.declared.ends.OpenFault.{OpenFault}
-use Rattle.spool.specs.declared.ends.OpenFault.TheVariants.{NotOurs, Store, OutOfMemory}
+use Rattle.spool.specs.declared.ends.OpenFault.TheVariants.{NotOurs, NewerVersion, Damaged, Store, OutOfMemory}
 use Rattle.spool.specs.Vaults.{VaultValue}
 use Rattle.desk.specs.Moves.{opened}
 use Rattle.recovery.specs.Left.{VaultStandsFor, HasNoTable}
@@ -19,6 +19,8 @@ pub record IsFirst {S : Type 0} (g : Ghosts S) (conn : Held S) (mark : ℕ) (vau
 -- Why a store without tables wasn't opened. A table of ours is told as such, or memory was refused before the look at the store.
 abbrev pub IsRefusedAs : Schema → OpenFault → Type 0
 IsRefusedAs schema NotOurs = IsTrue (has_ours schema)
+IsRefusedAs schema NewerVersion = ⊥
+IsRefusedAs schema Damaged = ⊥
 IsRefusedAs schema OutOfMemory = Unit {0}
 IsRefusedAs schema (Store cause) = has_ours schema ≡ false
 

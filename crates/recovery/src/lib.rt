@@ -2,5 +2,8 @@
 #![tactic(auto)]
 
 mod opening;
+mod reading;
+mod reopening;
 
 pub use crate::opening::create;
+pub use crate::reopening::reopen;

@@ -1,5 +1,5 @@
 -- The books of the tables once all their records are settled, and the vault behind a load.
-use Rattle.std.proofs.Common.{◌≡◌, ℕ, List, [], ◌∷◌, Result, Ok, Err, IfOk, IsTrue, map, length, refl, ap, ◌∙◌, arith}
+use Rattle.std.proofs.Common.{◌≡◌, ℕ, List, [], ◌∷◌, Result, Ok, Err, IfOk, IsTrue, map, length, inl, inr, refl, ap, ◌∙◌, arith}
 use Rattle.std.specs.Prelude.{filter}
 use Rattle.sqlite.specs.Effect.{Database}
 use Rattle.sqlite.specs.State.{State, HasCleanDisk, Survives}
@@ -26,6 +26,7 @@ use Rattle.spool_sql.specs.Stored.{IsTables}
 use Rattle.spool.specs.Loading.{AreRestored, AreAttempted, entry_of_row}
 use Rattle.spool_sql.proofs.StepLemmas.{leaves_along, leaves_commit}
 use Rattle.spool.specs.Vaults.{VaultValue, Holds}
+use Rattle.spool.specs.Adopting.{IsOnlyRead}
 use Rattle.spool.specs.Commits.{HoldsOnDisk}
 use Rattle.spool.specs.Books.{AreBooks, IsSeen, KeepsOpen, LeavesHeld}
 use Rattle.spool.specs.declared.ends.LoadFault.{LoadFault}
@@ -117,3 +118,10 @@ module _ {S : Type 0} (g : Ghosts S) (old new : VaultValue S) where
     (λ is_open. holds_still keeps next is_open history held),
     leaves_along before after (λ r. r ≡ rows_of history) survives clean (leaves_commit before (rows_of history) held.stands was_settled),
   )
+
+-- What a read leaves, whatever it is answered
+pub only_read : (old new : State) → KeepsOpen old new → Survives old new (λ _. ⊥) → HasCleanDisk new → IsOnlyRead old new
+only_read old new keeps survives clean = record {
+  stays = keeps;
+  leaves = λ db may. elim (survives.crash clean db may) [ inl was ↦ was | inr none ↦ absurd none ];
+}

@@ -1,5 +1,5 @@
 -- Records in one transaction that is committed, and what a stop leaves.
-use Rattle.std.proofs.Common.{◌≡◌, inl, inr, ℕ, Bool, true, false, List, ◌++◌, Result, Ok, IfOk, IsTrue, refl, sym, subst, ◌∙◌, arith}
+use Rattle.std.proofs.Common.{◌≡◌, ◌⊎◌, inl, inr, ℕ, Bool, true, false, List, ◌++◌, Result, Ok, IfOk, IsTrue, refl, sym, subst, ◌∙◌, arith}
 use Rattle.sqlite.specs.declared.error.Error.{Error}
 use Rattle.sqlite.specs.Tree.{Trees}
 use Rattle.sqlite.specs.State.{State, HasCleanDisk, IsUnchanged, KeepsCommit, Survives}
@@ -9,12 +9,14 @@ use Rattle.sqlite.specs.Held.{Held, state}
 use Rattle.sqlite.proofs.StateLemmas.{survives_then}
 use Rattle.sqlite.proofs.Callers.{survives_begin}
 use Rattle.relay_types.specs.declared.record.Record.{Record}
+use Rattle.relay_types.specs.Legal.{IsLegal}
 use Rattle.relay_types.specs.Rows.{Rows, rows_of}
 use Rattle.spool_sql.specs.Stored.{IsTables}
-use Rattle.spool_sql.specs.Steps.{Spares, Stands}
+use Rattle.spool_sql.specs.Steps.{MayLeave, Spares, Stands}
 use Rattle.spool_sql.proofs.StepLemmas.{leaves_commit, leaves_along, stands_along}
 use Rattle.spool.specs.Vaults.{HoldsAt}
-use Rattle.spool.specs.Entering.{EntersWhole, Commits, CommitsAll, StaysAs, Rests, RestsInDoubt, WriteEndsAs, IsUnwritten, Tells}
+use Rattle.spool.specs.Books.{KeepsOpen}
+use Rattle.spool.specs.Entering.{AsksForLook, EntersWhole, Commits, CommitsAll, StaysAs, Rests, RestsInDoubt, WriteEndsAs, IsUnwritten, Tells}
 use Rattle.spool.specs.declared.transaction.WriteEnd.{WriteEnd}
 use Rattle.spool.specs.declared.transaction.WriteEnd.TheVariants.{Committed, Illegal, OutOfMemory, Doubtful}
 
@@ -58,31 +60,40 @@ ends_illegal : (old mid new : State) (next : ℕ) (entries : List Record) (legal
 ends_illegal old mid new next entries legal turns is stays same settled records at =
     (λ yes. absurd (let no = sym (turns.judges records at) ∙ is in let h = yes in cc), rests_along old mid new (rows_of records) stays same settled at.stands)
 
-leaves_all : (a b : State) (next : ℕ) (entries records : List Record) → Survives a b (CommitsAll a next entries) → HasCleanDisk b → HoldsAt a next records → IsSettled a → RestsInDoubt b records entries
+leaves_all : (a b : State) (next : ℕ) (entries records : List Record) → Survives a b (CommitsAll a next entries) → HasCleanDisk b → HoldsAt a next records → IsSettled a
+    → MayLeave b (λ r. (r ≡ rows_of records) ⊎ (IsLegal (records ++ entries) × (r ≡ rows_of (records ++ entries))))
 leaves_all a b next entries records s clean at settled db may = elim (s.crash clean db may) [
   | inl was ↦ (rows_of records, inl refl, rw (settled db at.stands.is_open was) at.stands.committed.tables)
   | inr new ↦ let now = new records at in (rows_of (records ++ entries), inr (now.0, refl), now.1)
 ]
 
+-- a transaction whose end isn't known wasn't seen to be committed
+not_seen : (mid new : State) (tried : Result Bool Error) (error : Error) → Tells mid new tried (Doubtful error) → tried ≡ Ok true → ⊥
+not_seen mid new tried error (inl (failed, other)) made = absurd (let e = sym failed ∙ made in cc)
+not_seen mid new tried error (inr (asks, fails)) made = absurd (let e = subst AsksForLook made asks in cc)
+
 doubts_all : (a b c : State) (next : ℕ) (entries : List Record) → Survives a b (CommitsAll a next entries) → Survives b c (λ _. ⊥) → HasCleanDisk c → IsSettled a
-    → (records : List Record) → HoldsAt a next records → RestsInDoubt c records entries
-doubts_all a b c next entries s probed clean settled records at =
+    → (IsTrue c.is_open → IsTrue b.is_open × StaysAs b c) → (IsTrue b.is_open → StaysAs a b) → (records : List Record) → HoldsAt a next records → RestsInDoubt c records entries
+doubts_all a b c next entries s probed clean settled looked undone records at =
     let early : HasCleanDisk b = omega (arith, clean, probed.clean) in
-    leaves_along b c _ probed clean (leaves_all a b next entries records s early at settled)
+    record {
+      leaves = leaves_along b c _ probed clean (leaves_all a b next entries records s early at settled);
+      stands = λ is_open. let (was_open, stays) = looked is_open in stays (rows_of records) (undone was_open (rows_of records) at.stands);
+    }
 
 -- how the write ends, by what is told of the transaction
 pub ends_told : (old mid new : State) (next : ℕ) (entries : List Record) (tried : Result Bool Error) (told : WriteEnd) → IfOk tried (Commits old mid next entries)
     → ((tried ≡ Ok true → ⊥) → IsTrue mid.is_open → StaysAs old mid) → Survives old mid (CommitsAll old next entries) → Survives mid new (λ _. ⊥) → HasCleanDisk new
-    → Tells mid new tried told → (told ≡ Committed → StaysAs mid new) → (IsUnwritten told → IsUnchanged mid new) → IsSettled old → IsSettled new → WriteEndsAs old new next entries told
-ends_told old mid new next entries tried Committed turns undone first later clean told made same was_settled settled = λ records at.
+    → Tells mid new tried told → (told ≡ Committed → StaysAs mid new) → (IsUnwritten told → IsUnchanged mid new) → KeepsOpen mid new → IsSettled old → IsSettled new → WriteEndsAs old new next entries told
+ends_told old mid new next entries tried Committed turns undone first later clean told made same looked was_settled settled = λ records at.
     let turned : Commits old mid next entries true = subst (λ t. IfOk t (Commits old mid next entries)) told turns in
     let now = made refl (rows_of (records ++ entries)) (turned.makes refl records at) in
     (sym (turned.judges records at), (now, leaves_commit new (rows_of (records ++ entries)) now settled))
-ends_told old mid new next entries tried Illegal turns undone first later clean told made same was_settled settled =
+ends_told old mid new next entries tried Illegal turns undone first later clean told made same looked was_settled settled =
     let turned : Commits old mid next entries false = subst (λ t. IfOk t (Commits old mid next entries)) told turns in
     let unchanged = same tt in
     ends_illegal old mid new next entries false turned refl (undone (λ yes. absurd (let a = sym told ∙ yes in cc)) unchanged.0.was_open) unchanged settled
-ends_told old mid new next entries tried OutOfMemory turns undone first later clean told made same was_settled settled = λ rows stands.
+ends_told old mid new next entries tried OutOfMemory turns undone first later clean told made same looked was_settled settled = λ rows stands.
     let unchanged = same tt in
     rests_along old mid new rows (undone (λ yes. absurd (let a = sym told.1 ∙ yes in cc)) unchanged.0.was_open) unchanged settled stands
-ends_told old mid new next entries tried (Doubtful error) turns undone first later clean told made same was_settled settled = doubts_all old mid new next entries first later clean was_settled
+ends_told old mid new next entries tried (Doubtful error) turns undone first later clean told made same looked was_settled settled = doubts_all old mid new next entries first later clean was_settled looked (undone (not_seen mid new tried error told))

@@ -5,7 +5,7 @@ use Rattle.sqlite.specs.Tree.{Trees}
 use Rattle.sqlite.specs.State.{State, HasCleanDisk, IsUnchanged, Survives}
 use Rattle.spool.specs.Opening.{has_ours, IsBack, Founded, LeavesAt, TellsFault}
 use Rattle.spool.specs.declared.ends.OpenFault.{OpenFault}
-use Rattle.spool.specs.declared.ends.OpenFault.TheVariants.{NotOurs, Store, OutOfMemory}
+use Rattle.spool.specs.declared.ends.OpenFault.TheVariants.{NotOurs, NewerVersion, Damaged, Store, OutOfMemory}
 
 abbrev IsSettled : State → Type 0
 IsSettled s = (db : Trees) → IsTrue s.is_open → s.may_leave db → db ≡ s.committed.trees
@@ -14,6 +14,8 @@ IsSettled s = (db : Trees) → IsTrue s.is_open → s.may_leave db → db ≡ s.
 pub leaves_told : (old mid new : State) (error : Error) (fault : OpenFault) → has_ours old.now.schema ≡ false → (IsTrue mid.is_open → IsBack old mid) → Survives old mid (Founded old)
     → Survives mid new (λ _. ⊥) → HasCleanDisk new → TellsFault mid new error fault → (fault ≡ OutOfMemory → IsUnchanged mid new) → IsSettled new → LeavesAt old new fault
 leaves_told old mid new error NotOurs free back first later clean told same settled = absurd told
+leaves_told old mid new error NewerVersion free back first later clean told same settled = absurd told
+leaves_told old mid new error Damaged free back first later clean told same settled = absurd told
 leaves_told old mid new error OutOfMemory free back first later clean told same settled =
     let unchanged = same refl in
     let was = back unchanged.0.was_open in

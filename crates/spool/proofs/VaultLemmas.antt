@@ -21,7 +21,7 @@ rows_made old new count next entries over records on =
 pub rows_doubted : (old new : State) (count : ℕ) (entries : List Record) → ((records : List Record) → HoldsAt old count records → RestsInDoubt new records entries)
     → (records : List Record) → HoldsAt old count records → MayLeave new (λ r. (r ≡ rows_of records) ⊎ (r ≡ put_rows (rows_of records) entries))
 rows_doubted old new count entries over records on db may =
-    let left = over records on db may in (
+    let left = (over records on).leaves db may in (
       left.0,
       elim left.1 [ inl was ↦ inl was | inr new ↦ inr (new.1 ∙ rows_of-all records entries new.0) ],
       left.2,

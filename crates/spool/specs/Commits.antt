@@ -1,13 +1,12 @@
 -- How a commit ends, and what it leaves of a vault.
-use Rattle.std.specs.Prelude.{◌≡◌, ◌⊎◌, ◌++◌, ℕ, false, List, [], Result, Ok, Err}
-use Rattle.sqlite.specs.Held.{Held, state}
+use Rattle.std.specs.Prelude.{◌≡◌, ◌⊎◌, ◌++◌, List, Result, Ok, Err}
+use Rattle.sqlite.specs.Held.{state}
 use Rattle.sqlite_trees.specs.declared.store.Store.{Ghosts}
 use Rattle.relay_types.specs.Rows.{rows_of, put_rows}
 use Rattle.relay_types.specs.declared.record.Record.{Record}
 use Rattle.relay_types.specs.Records.{records_of}
 use Rattle.relay_types.specs.Legal.{IsLegal}
-use Rattle.spool_sql.specs.Steps.{MayLeave, IsBegun}
-use Rattle.spool_sql.specs.Tables.{no_schema}
+use Rattle.spool_sql.specs.Steps.{MayLeave}
 use Rattle.spool.specs.declared.ends.CommitEnd.{CommitEnd}
 use Rattle.spool.specs.declared.ends.CommitEnd.TheVariants as ends
 use Rattle.spool.specs.declared.ends.Unchanged.TheVariants as why
@@ -20,13 +19,6 @@ use Rattle.spool.specs.Vaults.{VaultValue, Holds}
 -- the vault holds this history, and a stop leaves its rows
 abbrev pub HoldsOnDisk : {S : Type 0} → Ghosts S → VaultValue S → List Record → Type 0
 HoldsOnDisk g v records = Holds g v records × MayLeave (state g v.conn) (λ r. r ≡ rows_of records)
-
--- a vault of this mark without a record; if the store had no table, it holds the empty history
-pub record IsOpened {S : Type 0} (g : Ghosts S) (conn : Held S) (mark : ℕ) (v : VaultValue S) : Type 0 where
-  pub marked : v.mark ≡ mark
-  pub next : v.next ≡ 0
-  pub closed : v.closed ≡ false
-  pub history : IsBegun no_schema (state g conn).now → HoldsOnDisk g v []
 
 -- the batch is of the vault's opening, and begins with its next record
 abbrev pub IsNext : {S : Type 0} → VaultValue S → BatchValue → Type 0

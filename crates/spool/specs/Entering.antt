@@ -111,9 +111,11 @@ StaysAs old new = (rows : Rows) → Stands old rows → Stands new rows
 abbrev pub Rests : State → Rows → Type 0
 Rests s rows = Stands s rows × MayLeave s (λ r. r ≡ rows)
 
--- a stop leaves the rows of the history, or it goes on legally with these records, and a stop leaves the rows of both
-abbrev pub RestsInDoubt : State → List Record → List Record → Type 0
-RestsInDoubt s records entries = MayLeave s (λ r. (r ≡ rows_of records) ⊎ (IsLegal (records ++ entries) × (r ≡ rows_of (records ++ entries))))
+-- A stop leaves the rows of the history, or it goes on legally with these records, and a stop leaves the rows of both. If the store is
+-- still open, the rows of the history stand.
+pub record RestsInDoubt (s : State) (records entries : List Record) : Type 0 where
+  pub leaves : MayLeave s (λ r. (r ≡ rows_of records) ⊎ (IsLegal (records ++ entries) × (r ≡ rows_of (records ++ entries))))
+  pub stands : IsTrue s.is_open → Stands s (rows_of records)
 
 -- how the write of records ends
 abbrev pub WriteEndsAs : State → State → ℕ → List Record → WriteEnd → Type 0

@@ -1,3 +1,4 @@
+pub mod Adopting
 pub mod Batches
 pub mod Vaults
 pub mod Entering

@@ -13,7 +13,7 @@ use Rattle.spool_sql.specs.Causes.{cause}
 use Rattle.spool_sql.specs.declared.cause.Cause.TheVariants.{Memory}
 use Rattle.spool.specs.Entering.{Rests}
 use Rattle.spool.specs.declared.ends.OpenFault.{OpenFault}
-use Rattle.spool.specs.declared.ends.OpenFault.TheVariants.{NotOurs, Store, OutOfMemory}
+use Rattle.spool.specs.declared.ends.OpenFault.TheVariants.{NotOurs, NewerVersion, Damaged, Store, OutOfMemory}
 
 -- a table, an index or a view of the store has the name of one of the five tables, in any case of its letters
 abbrev pub has_ours : Schema → Bool
@@ -22,12 +22,16 @@ has_ours schema = is_used schema (codes "meta") || (is_used schema (codes "endpo
 -- NotOurs comes of such a store, and every other refusal of another
 abbrev pub IsRefusedFor : Schema → OpenFault → Type 0
 IsRefusedFor schema NotOurs = IsTrue (has_ours schema)
+IsRefusedFor schema NewerVersion = ⊥
+IsRefusedFor schema Damaged = ⊥
 IsRefusedFor schema OutOfMemory = has_ours schema ≡ false
 IsRefusedFor schema (Store cause) = has_ours schema ≡ false
 
 -- how a refusal is printed
 abbrev pub fault_name : OpenFault → List ℕ
 fault_name NotOurs = codes "NotOurs"
+fault_name NewerVersion = codes "NewerVersion"
+fault_name Damaged = codes "Damaged"
 fault_name (Store cause) = codes "Store"
 fault_name OutOfMemory = codes "OutOfMemory"
 
@@ -58,6 +62,8 @@ MayBeMade old new = (db : Trees) → new.may_leave db → old.may_leave db ⊎ (
 -- what each refusal leaves
 abbrev pub LeavesAt : State → State → OpenFault → Type 0
 LeavesAt old new NotOurs = (db : Trees) → new.may_leave db → old.may_leave db
+LeavesAt old new NewerVersion = ⊥
+LeavesAt old new Damaged = ⊥
 LeavesAt old new OutOfMemory = KeepsTables old new
 LeavesAt old new (Store cause) = MayBeMade old new
 
@@ -65,5 +71,7 @@ LeavesAt old new (Store cause) = MayBeMade old new
 -- behind it, where the store failed.
 abbrev pub TellsFault : State → State → Error → OpenFault → Type 0
 TellsFault old new error NotOurs = ⊥
+TellsFault old new error NewerVersion = ⊥
+TellsFault old new error Damaged = ⊥
 TellsFault old new error OutOfMemory = cause error ≡ Memory
 TellsFault old new error (Store told) = ((told ≡ error) × (¬ (cause error ≡ Memory))) ⊎ ((cause error ≡ Memory) × (HasCleanDisk new → Fails old new ⊥ told))

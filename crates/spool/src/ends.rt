@@ -11,8 +11,13 @@ use std::fmt;
 /// Why a store was not opened.
 #[derive(Clone, Copy)]
 pub enum OpenFault {
-    /// A table, an index or a view already has the name of one of the relay's tables.
+    /// Where tables are to be made: a table, an index or a view already has the name of one of the relay's tables. Where they are read:
+    /// the store has none of the relay's.
     NotOurs,
+    /// The tables are of a later version.
+    NewerVersion,
+    /// The tables are the relay's, and their rows aren't such as a legal history has.
+    Damaged,
     /// The store refused a call for a fault of its own. What a stop may leave stands in the file.
     Store(Error),
     /// Memory was refused, and the tables are as they were.
@@ -34,6 +39,8 @@ impl fmt::Display for OpenFault {
     fn fmt<W: fmt::Write>(&self, f: &mut fmt::Formatter<W>) -> fmt::Result {
         match self {
             OpenFault::NotOurs => f.write_str("NotOurs"),
+            OpenFault::NewerVersion => f.write_str("NewerVersion"),
+            OpenFault::Damaged => f.write_str("Damaged"),
             OpenFault::Store(_) => f.write_str("Store"),
             OpenFault::OutOfMemory => f.write_str("OutOfMemory"),
         }

@@ -2,6 +2,7 @@
 #![tactic(auto)]
 
 mod accept;
+mod adopt;
 mod batch;
 mod create;
 mod deliveries;

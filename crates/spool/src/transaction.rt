@@ -5,6 +5,7 @@ ghost use Rattle.sqlite.specs.Held.{state};
 ghost use Rattle.relay_types.specs.declared.limits.TheConstants.{MAX_RECORDS};
 ghost use Rattle.relay_types.specs.Records.{records_of};
 ghost use Rattle.spool_sql.specs.Steps.{IfClean, SurvivesAs};
+ghost use Rattle.spool.specs.Books.{KeepsOpen};
 ghost use Rattle.spool.specs.Entering.{Commits, CommitsAll, StaysAs, WriteEndsAs, IsUnwritten, Tells};
 
 use crate::records::write_records;
@@ -67,6 +68,7 @@ fn end_of<S: Alter>(conn: &mut Connection<S>, tried: Result<bool, Error>) -> Wri
     ensures told { Tells (state S.Store conn.old) (state S.Store conn.new) tried result }
     ensures committed { result ≡ WriteEnd.Committed → conn.new ≡ conn.old }
     ensures same { IfClean S.Store conn.old conn.new (λ a b. IsUnwritten result → IsUnchanged a b) }
+    ensures stays { IfClean S.Store conn.old conn.new KeepsOpen }
     ensures mode { conn.new.in_transaction ≡ false }
     ensures survives { SurvivesAs S.Store conn.old conn.new (λ _ _. ⊥) }
 {

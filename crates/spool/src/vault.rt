@@ -1,13 +1,16 @@
 //! The one writer of a store.
-ghost use Rattle.std.specs.Prelude.{◌≡◌, ◌⊎◌, ◌↔◌, ◌+◌, false, length, IsTrue, IfOk, IfErr, MatchResult, cond, is_ok};
+ghost use Rattle.std.specs.Prelude.{◌≡◌, ◌⊎◌, ◌↔◌, ◌+◌, false, [], length, IsTrue, IfOk, IfErr, MatchResult, cond, is_ok};
 ghost use Rattle.sqlite.specs.State.{HasCleanDisk};
 ghost use Rattle.sqlite.specs.Held.{state};
 ghost use Rattle.relay_types.specs.Records.{records_of};
-ghost use Rattle.spool_sql.specs.Steps.{IfClean};
+ghost use Rattle.spool_sql.specs.Steps.{IfClean, IsBegun};
+ghost use Rattle.spool_sql.specs.Tables.{no_schema, relay_schema};
+ghost use Rattle.spool.specs.Adopting.{IsAdopted, IsOnlyRead, IsUnadopted, LeavesRead};
 ghost use Rattle.spool.specs.Opening.{has_ours, IsRefusedFor, LeavesAt};
-ghost use Rattle.spool.specs.Books.{AreBooksOf, AreSettled, LeavesHeld};
-ghost use Rattle.spool.specs.Commits.{IsOpened, IsNext, HandsBack, IsDoubt, IsRefused, answer_of, LeavesRows, LeavesHistory, IsIllegal};
+ghost use Rattle.spool.specs.Books.{AreBooksOf, AreSettled, IsSeen, LeavesHeld};
+ghost use Rattle.spool.specs.Commits.{HoldsOnDisk, IsNext, HandsBack, IsDoubt, IsRefused, answer_of, LeavesRows, LeavesHistory, IsIllegal};
 
+use crate::adopt::adopt_tables;
 use crate::batch::{Batch, Receipt};
 use crate::create::create_store;
 use crate::doubt::Doubt;
@@ -47,7 +50,9 @@ impl<S: Alter> Vault<S> {
     /// transaction.
     pub fn create(conn: Connection<S>, mark: u64) -> Result<Vault<S>, (Connection<S>, OpenFault)>
         requires { conn.in_transaction ≡ false }
-        ensures opened { IfOk result (λ v. IfClean S.Store conn v.conn (λ _ _. IsOpened S.Store conn mark v)) }
+        ensures opened { IfOk result (λ v. (v.mark ≡ mark) × (v.next ≡ 0) × (v.closed ≡ false)) }
+        ensures empty { IfOk result (λ v. IfClean S.Store conn v.conn
+            (λ a _. IsBegun no_schema a.now → HoldsOnDisk S.Store v [])) }
         ensures free { IfOk result (λ _. has_ours (state S.Store conn).now.schema ≡ false) }
         ensures cause { IfErr result (λ e. IsRefusedFor (state S.Store conn).now.schema e.1) }
         ensures untouched { IfErr result (λ e. e.1 ≡ OpenFault.NotOurs → e.0 ≡ conn) }
@@ -62,6 +67,38 @@ impl<S: Alter> Vault<S> {
                 conn,
                 mark,
                 next: 0,
+                closed: false,
+            }),
+            Err(fault) => Err((conn, fault)),
+        }
+    }
+
+    /// The vault of the tables that stand, whoever wrote them. Each table is read once, row by row, and nothing is written. Refusals come
+    /// in the order of `OpenFault`, but a fault of the store and want of memory come at the call that was refused; each gives the
+    /// connection back. The caller sees by `is_autocommit` that the connection is outside a transaction.
+    pub fn adopt(
+        conn: Connection<S>,
+        mark: u64,
+        alloc: Global,
+    ) -> Result<Vault<S>, (Connection<S>, OpenFault)>
+        requires { conn.in_transaction ≡ false }
+        ensures opened { IfOk result (λ v. (v.mark ≡ mark) × (v.closed ≡ false)) }
+        ensures adopted { IfOk result (λ v. IfClean S.Store conn v.conn
+            (λ a _. a.now.schema ≡ relay_schema → IsAdopted S.Store a.now v)) }
+        ensures refused { IfErr result (λ e. IfClean S.Store conn e.0
+            (λ a b. a.now.schema ≡ relay_schema → IsUnadopted a b e.1)) }
+        ensures read { MatchResult result (λ v. IfClean S.Store conn v.conn IsOnlyRead)
+            (λ e. IfClean S.Store conn e.0 (λ a b. LeavesRead a b e.1)) }
+        ensures clean { MatchResult result (λ v. IfClean S.Store conn v.conn (λ a _. HasCleanDisk a))
+            (λ e. IfClean S.Store conn e.0 (λ a _. HasCleanDisk a)) }
+        ensures mode { IfErr result (λ e. e.0.in_transaction ≡ false) }
+    {
+        let mut conn = conn;
+        match adopt_tables(&mut conn, alloc) {
+            Ok(records) => Ok(Vault {
+                conn,
+                mark,
+                next: records,
                 closed: false,
             }),
             Err(fault) => Err((conn, fault)),
@@ -137,6 +174,8 @@ impl<S: Alter> Vault<S> {
         ensures doubt { self.new.closed ≡ self.old.closed }
         ensures history { IfClean S.Store self.old.conn self.new.conn
             (λ _ _. LeavesHeld S.Store self.old self.new result) }
+        ensures read { IfClean S.Store self.old.conn self.new.conn IsOnlyRead }
+        ensures seen { IfClean S.Store self.old.conn self.new.conn (λ _ b. IsSeen result → IsTrue b.is_open) }
         ensures clean { IfClean S.Store self.old.conn self.new.conn (λ a _. HasCleanDisk a) }
     {
         if self.closed {

@@ -1,6 +1,7 @@
 use Rattle.std.proofs.Common.{refl}
+use Rattle.sqlite.specs.Held.{state}
 use Rattle.spool.specs.Vaults.{VaultValue}
-use Rattle.spool.proofs.BookLoads.{leaves_held}
+use Rattle.spool.proofs.BookLoads.{leaves_held, only_read}
 use Rattle.spool.proofs.vault.Vault.load.Goals as goal
 
 pub returns-clause-history : goal.returns-clause-history
@@ -9,3 +10,7 @@ returns-clause-history g c clean =
     let new : VaultValue g.row.S.Denot = record { conn = c.load_books.new.conn; mark = c.self.inside.mark; next = c.self.inside.next; closed = c.self.inside.closed } in
     let read = c.load_books.ensures in
     rw (← c.self.view_is) (leaves_held g.S.Store old new c.load_books.result read.tried (read.seen clean) (read.stays clean) read.survives clean refl (g.met.S.Store.settled old.conn.store) (g.met.S.Store.settled new.conn.store))
+
+pub returns-clause-read : goal.returns-clause-read
+returns-clause-read g c clean =
+    rw (← c.self.view_is) (only_read (state g.S.Store c.self.inside.conn) (state g.S.Store c.load_books.new.conn) (c.load_books.ensures.stays clean) c.load_books.ensures.survives clean)

@@ -1,0 +1,93 @@
+-- A store that stands is opened as what it holds, and a store that a stop left as what was left.
+use Rattle.std.proofs.Common.{◌≡◌, ℕ, Result, Ok, Err, IfOk, IfErr, List, [], ◌∷◌, map, ◌++◌, take, drop, inl, inr, refl, sym, ap, subst, ◌∙◌, append_assoc}
+use Rattle.std.proofs.lemmas.List.{take-append-drop}
+use Rattle.std.specs.Prelude.{MatchResult}
+use Rattle.sqlite.specs.Store.{Ghosts}
+use Rattle.sqlite.specs.State.{State}
+use Rattle.sqlite.specs.Effect.{Database}
+use Rattle.sqlite.specs.Held.{Held, state}
+use Rattle.relay_types.specs.declared.record.Record.{Record}
+use Rattle.relay_types.specs.Records.{History, records_of}
+use Rattle.relay_types.specs.Legal.{IsLegal}
+use Rattle.relay_types.specs.Rows.{Rows, rows_of}
+use Rattle.relay_types.specs.Sound.{history_from}
+use Rattle.relay_types.proofs.HistoryLaws.{of_a_history}
+use Rattle.relay_types.proofs.KnownLaws.{legal_front}
+use Rattle.spool_sql.specs.Stored.{IsTables}
+use Rattle.spool_sql.specs.Tables.{relay_schema}
+use Rattle.spool.specs.Adopting.{IsAdopted, IsOnlyRead, LeavesRead}
+use Rattle.spool.specs.declared.ends.OpenFault.{OpenFault}
+use Rattle.spool.specs.declared.ends.OpenFault.TheVariants.{NotOurs, NewerVersion, Damaged, Store, OutOfMemory}
+use Rattle.spool.specs.Vaults.{VaultValue}
+use Rattle.desk.specs.World.{World, all_records}
+use Rattle.desk.specs.Desks.{DeskValue}
+use Rattle.recovery.specs.Left.{AreOfSteps}
+use Rattle.recovery.specs.Reopenings.{AreOpenedAt, AreOpenedAtOne, IsReopened, OpensHeld, ReopensLeft, steps_from}
+
+records_of_each : (records : List Record) → records_of (map (λ entry. entry ∷ []) records) ≡ records
+records_of_each [] = refl
+records_of_each (entry ∷ records) = ap (λ rest. entry ∷ rest) (records_of_each records)
+
+-- what was adopted, and the desk of what the vault holds
+pub is_reopened : {S : Type 0} (g : Ghosts S) (db : Database) (vault : VaultValue S) (desk : DeskValue) (new : VaultValue S) → IsAdopted g db vault → OpensHeld g vault desk new → IsReopened g db desk new
+is_reopened g db vault desk new adopted opens = record { rows = adopted.rows; sound = adopted.stand; stands = stands; each = each }
+  where
+    each : (history : History) → IsLegal (records_of history) → IsTables db (rows_of (records_of history)) → AreOpenedAt g desk new history
+    each history legal tables = opens history (adopted.holds (records_of history) legal tables).0
+
+    stands : AreOpenedAt g desk new (steps_from adopted.rows)
+    stands =
+        let law = of_a_history adopted.rows adopted.stand.keyed adopted.stand.sound in
+        let same : history_from adopted.rows ≡ records_of (steps_from adopted.rows) = sym (records_of_each (history_from adopted.rows)) in
+        each (steps_from adopted.rows) (subst IsLegal same law.0) (subst (λ (records : List Record). IsTables db (rows_of records)) same (subst (IsTables db) (sym law.1) adopted.stand.tables))
+
+records_of_both : (xs ys : History) → records_of (xs ++ ys) ≡ records_of xs ++ records_of ys
+records_of_both [] ys = refl
+records_of_both (x ∷ xs) ys = ap (λ rest. x ++ rest) (records_of_both xs ys) ∙ sym (append_assoc x (records_of xs) (records_of ys))
+
+legal_first : (steps : ℕ) (history : History) → IsLegal (records_of history) → IsLegal (records_of (take steps history))
+legal_first steps history legal = legal_front (records_of (take steps history)) (records_of (drop steps history)) (subst IsLegal (ap records_of (sym (take-append-drop steps history)) ∙ records_of_both (take steps history) (drop steps history)) legal)
+
+-- what a stop left of a world is one of the legal histories of the rows
+pub reopens_left : {S : Type 0} (g : Ghosts S) (conn : Held S) (desk : DeskValue) (vault : VaultValue S) → ((state g conn).now.schema ≡ relay_schema → IsReopened g (state g conn).now desk vault) → ReopensLeft g conn desk vault
+reopens_left g conn desk vault opened w legal (rows, left, stands) = at w.left left
+  where
+    at : (numbers : List ℕ) → AreOfSteps w numbers rows → AreOpenedAtOne g desk vault w numbers
+    at [] none = absurd none
+    at (steps ∷ others) (inl is) = inl ((opened stands.now.schema_is).each (take steps w.history) (legal_first steps w.history legal) (subst (IsTables (state g conn).now) is stands.now))
+    at (steps ∷ others) (inr of) = inr (at others of)
+
+-- What is known of an answer or of a refusal, with what a clause on both says of it
+
+module _ {A E : Type 0} (P Q R : A → Type 0) (M : E → Type 0) where
+  pub of_answer : (r : Result A E) → ((x : A) → P x → Q x → R x) → IfOk r P → MatchResult r Q M → IfOk r R
+  of_answer (Ok x) then p q = then x p q
+  of_answer (Err e) then p q = tt
+
+module _ {A E : Type 0} (P Q R : E → Type 0) (M : A → Type 0) where
+  pub of_refusal : (r : Result A E) → ((e : E) → P e → Q e → R e) → IfErr r P → MatchResult r M Q → IfErr r R
+  of_refusal (Ok x) then p q = tt
+  of_refusal (Err e) then p q = then e p q
+
+module _ {A E : Type 0} (P R U : A → Type 0) (Q M V : E → Type 0) where
+  pub of_both : (r : Result A E) → ((x : A) → P x → R x → U x) → ((e : E) → Q e → M e → V e) → MatchResult r P Q → MatchResult r R M → MatchResult r U V
+  of_both (Ok x) answers refuses p r = answers x p r
+  of_both (Err e) answers refuses q m = refuses e q m
+
+-- One read behind another
+
+pub only_read_then : (a b c : State) → IsOnlyRead a b → IsOnlyRead b c → IsOnlyRead a c
+only_read_then a b c first second = record {
+  stays = λ is_open.
+      let later = second.stays is_open in
+      let before = first.stays later.0 in
+      (before.0, λ rows stands. later.1 rows (before.1 rows stands));
+  leaves = λ db may. first.leaves db (second.leaves db may);
+}
+
+pub leaves_read_then : (a b c : State) (fault : OpenFault) → IsOnlyRead a b → LeavesRead b c fault → LeavesRead a c fault
+leaves_read_then a b c NotOurs first (second, is_open) = (only_read_then a b c first second, is_open)
+leaves_read_then a b c NewerVersion first (second, is_open) = (only_read_then a b c first second, is_open)
+leaves_read_then a b c Damaged first (second, is_open) = (only_read_then a b c first second, is_open)
+leaves_read_then a b c (Store cause) first second = only_read_then a b c first second
+leaves_read_then a b c OutOfMemory first (second, is_open) = (only_read_then a b c first second, is_open)

@@ -1,0 +1,32 @@
+use Rattle.std.proofs.Common.{inl, inr}
+use Rattle.std.proofs.lemmas.Result.{err_from_is_err_and}
+use Rattle.sqlite.specs.Held.{state}
+use Rattle.recovery.proofs.ReopeningLaws.{is_reopened, reopens_left, of_answer, of_refusal, of_both, only_read_then, leaves_read_then}
+use Rattle.recovery.proofs.reopening.reopen.Goals as goal
+
+pub returns-clause-opened : goal.returns-clause-opened
+returns-clause-opened g c = of_answer _ _ _ _ c.with_desk.result
+    (λ opening opens clean new schema. is_reopened g.S.Store (state g.S.Store c.args.conn).now c.in_ok-vault.vault opening.0 opening.1 (c.in_ok-vault.ensures.adopted (clean new) schema) (opens new))
+    c.with_desk.ensures.opens c.with_desk.ensures.clean
+
+pub returns-clause-reopens : goal.returns-clause-reopens
+returns-clause-reopens g c = of_answer _ _ _ _ c.with_desk.result
+    (λ opening opens clean new. reopens_left g.S.Store c.args.conn opening.0 opening.1
+    (λ schema. is_reopened g.S.Store (state g.S.Store c.args.conn).now c.in_ok-vault.vault opening.0 opening.1 (c.in_ok-vault.ensures.adopted (clean new) schema) (opens new)))
+    c.with_desk.ensures.opens c.with_desk.ensures.clean
+
+pub returns-clause-refused : goal.returns-clause-refused
+returns-clause-refused g c = of_refusal _ _ _ _ c.with_desk.result
+    (λ back reading clean new schema. let adopted = c.in_ok-vault.ensures.adopted (clean new) schema in inr (reading, adopted.rows, adopted.stand))
+    c.with_desk.ensures.cause c.with_desk.ensures.clean
+
+pub returns-clause-read : goal.returns-clause-read
+returns-clause-read g c = of_both _ _ _ _ _ _ c.with_desk.result
+    (λ opening read clean new. (only_read_then _ _ _ (c.in_ok-vault.ensures.read (clean new)) (read new).0, (read new).1))
+    (λ back read clean new. leaves_read_then _ _ _ back.1 (c.in_ok-vault.ensures.read (clean new)) (read new))
+    c.with_desk.ensures.read c.with_desk.ensures.clean
+
+pub returns-in_err-vault-clause-refused : goal.returns-in_err-vault-clause-refused
+returns-in_err-vault-clause-refused g c =
+    let p = err_from_is_err_and c.from_residual.result c.from_residual.ensures.1 in
+    rw (p.1, p.2) (λ clean schema. inl (c.in_err-vault.ensures.refused clean schema))

@@ -1,0 +1,46 @@
+//! The desk of what a vault holds.
+ghost use Rattle.std.specs.Prelude.{◌≡◌, [], false, IfErr, IfOk, MatchResult};
+ghost use Rattle.spool_sql.specs.Steps.{IfClean};
+ghost use Rattle.spool.specs.Adopting.{IsReadOpen, LeavesRead};
+ghost use Rattle.recovery.specs.Left.{IsCleanAt};
+ghost use Rattle.recovery.specs.Reopenings.{IsOfReading, OpensHeld};
+
+use desk::Desk;
+use permits::Pool;
+use spool::{LoadFault, OpenFault, Vault};
+use sqlite::{Alter, Connection};
+use std::alloc::Global;
+use std::sync::ledger::Ledger;
+
+// The vault with the desk of what it holds. Nothing is written.
+pub(crate) fn with_desk<L: Ledger, S: Alter>(
+    alloc: Global,
+    pool: Pool<L>,
+    vault: Vault<S>,
+    mark: u64,
+) -> Result<(Desk<L>, Vault<S>), (Connection<S>, OpenFault)>
+    requires empty { pool ≡ [] }
+    requires mark { vault.mark ≡ mark }
+    requires open { vault.closed ≡ false }
+    ensures mark { IfOk result (λ opening. (opening.0.waiting.mark ≡ mark) × (opening.1.mark ≡ mark)) }
+    ensures opens { IfOk result (λ opening. IsCleanAt S.Store opening.1.conn
+        → OpensHeld S.Store vault opening.0 opening.1) }
+    ensures cause { IfErr result (λ back. IsOfReading back.1) }
+    ensures read { MatchResult result (λ opening. IfClean S.Store vault.conn opening.1.conn IsReadOpen)
+        (λ back. IfClean S.Store vault.conn back.0 (λ a b. LeavesRead a b back.1)) }
+    ensures clean { MatchResult result
+        (λ opening. IsCleanAt S.Store opening.1.conn → IsCleanAt S.Store vault.conn)
+        (λ back. IsCleanAt S.Store back.0 → IsCleanAt S.Store vault.conn) }
+    ensures outside { IfErr result (λ back. back.0.in_transaction ≡ false) }
+{
+    let mut vault = vault;
+    match vault.load(alloc) {
+        Ok(books) => match Desk::of(alloc, pool, books, mark) {
+            Ok(desk) => Ok((desk, vault)),
+            Err(_) => Err((vault.release(), OpenFault::OutOfMemory)),
+        },
+        Err(LoadFault::OutOfMemory) => Err((vault.release(), OpenFault::OutOfMemory)),
+        Err(LoadFault::Store(error)) => Err((vault.release(), OpenFault::Store(error))),
+        Err(LoadFault::Closed) => unreachable!(),
+    }
+}

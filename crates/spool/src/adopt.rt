@@ -1,0 +1,72 @@
+//! The tables that stand, as they are adopted.
+ghost use Rattle.std.specs.Prelude.{◌≡◌, false, IfOk, IfErr, MatchResult};
+ghost use Rattle.sqlite.specs.State.{HasCleanDisk};
+ghost use Rattle.spool_sql.specs.Steps.{IfClean, SurvivesAs};
+ghost use Rattle.spool_sql.specs.Tables.{relay_schema};
+ghost use Rattle.spool.specs.Adopting.{AreAdopted, IsOnlyRead, IsUnadopted, LeavesRead, TellsCheck, fault_of};
+
+use crate::ends::OpenFault;
+use sound_tables::{TableFault, check_tables};
+use spool_sql::{Cause, cause_of, probe};
+use sqlite::{Alter, Connection};
+use std::alloc::Global;
+
+/// How many records the tables that stand tell of, where they are such as a legal history has.
+pub(crate) fn adopt_tables<S: Alter>(
+    conn: &mut Connection<S>,
+    alloc: Global,
+) -> Result<u64, OpenFault>
+    requires { conn.old.in_transaction ≡ false }
+    ensures adopted { IfClean S.Store conn.old conn.new
+        (λ a b. a.now.schema ≡ relay_schema → IfOk result (AreAdopted a b)) }
+    ensures refused { IfClean S.Store conn.old conn.new
+        (λ a b. a.now.schema ≡ relay_schema → IfErr result (IsUnadopted a b)) }
+    ensures read { IfClean S.Store conn.old conn.new
+        (λ a b. MatchResult result (λ _. IsOnlyRead a b) (LeavesRead a b)) }
+    ensures clean { IfClean S.Store conn.old conn.new (λ a _. HasCleanDisk a) }
+    ensures mode { conn.new.in_transaction ≡ false }
+{
+    // So what is seen is what the last commit left.
+    prove!(conn.is_autocommit());
+    let checked = check_tables(conn, alloc);
+    end_check(conn, checked)
+}
+
+// What is told of a check with this answer, after a look at the store where it isn't told as the store's fault.
+fn end_check<S: Alter>(
+    conn: &mut Connection<S>,
+    checked: Result<u64, TableFault>,
+) -> Result<u64, OpenFault>
+    requires { conn.old.in_transaction ≡ false }
+    ensures told { IfClean S.Store conn.old conn.new (λ a b. TellsCheck a b checked result) }
+    ensures mode { conn.new.in_transaction ≡ false }
+    ensures survives { SurvivesAs S.Store conn.old conn.new (λ _ _. ⊥) }
+{
+    let end = match checked {
+        Ok(records) => Ok(records),
+        Err(fault) => match fault_of(fault) {
+            OpenFault::Store(error) => return Err(OpenFault::Store(error)),
+            fault => Err(fault),
+        },
+    };
+    match probe(conn) {
+        Ok(()) => end,
+        Err(error) => Err(OpenFault::Store(error)),
+    }
+}
+
+// As what a fault of the check is told. Under the relay's schema no statement is refused for another cause than memory or the store.
+fn fault_of(fault: TableFault) -> OpenFault
+    ensures { result ≡ fault_of fault }
+{
+    match fault {
+        TableFault::NotOurs => OpenFault::NotOurs,
+        TableFault::NewerVersion => OpenFault::NewerVersion,
+        TableFault::Damaged => OpenFault::Damaged,
+        TableFault::Failed(error) => match cause_of(error) {
+            Cause::Memory => OpenFault::OutOfMemory,
+            Cause::Store => OpenFault::Store(error),
+            Cause::Other => OpenFault::NotOurs,
+        },
+    }
+}
