@@ -9,7 +9,7 @@ use spool::{Batch, CommitEnd, Receipt, Vault};
 use sqlite::MemStore;
 use std::alloc::{AllocError, Global};
 use std::sync::ledger::Ledger;
-use text_lines::{Answerer, WordFault};
+use text_lines::{Answerer, LineFault};
 
 /// A desk, and the store that its batches are committed to.
 #[derive(Drop)]
@@ -121,7 +121,9 @@ impl<L: Ledger> Answerer for Relay<L> {
 
     ghost IsClean = { λ _. Unit {0} };
 
-    fn answer(&mut self, alloc: Global, line: &[u8]) -> Result<String, WordFault> {
+    ghost MayLose = { Unit {0} };
+
+    fn answer(&mut self, alloc: Global, line: &[u8]) -> Result<String, LineFault> {
         let call = read_call(alloc, line)?;
         Ok(self.carry_out(alloc, call)?)
     }

@@ -1,7 +1,6 @@
 //! What a run of calls is told, and a second one where the first had no memory.
 ghost use Rattle.std.specs.Prelude.{◌≡◌, IsPermutation};
-ghost use Rattle.desk.specs.Desks.{IsAllOut};
-ghost use Rattle.drill.specs.Worlds.{IsOpened};
+ghost use Rattle.desk.specs.Desks.{HasNothingOut, IsAllOut};
 
 use crate::turns::Failed;
 use desk::Desk;
@@ -79,7 +78,8 @@ fn print_once_or_twice<L: Ledger, S: Alter + Drop>(
     vault: Vault<S>,
     events: &[Event],
 ) -> io::Result<bool>
-    requires { IsOpened desk }
+    requires out { HasNothingOut desk }
+    requires mark { desk.waiting.mark ≡ vault.mark }
 {
     match run(rt.alloc(), desk, vault, events) {
         Ok(world) => print_replies(rt, &closed(world)),

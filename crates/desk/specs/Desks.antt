@@ -22,7 +22,7 @@ use Rattle.group_commit.specs.declared.held.Held.TheVariants as held
 use Rattle.group_commit.specs.Turns as turns
 use Rattle.group_commit.specs.declared.limits.TheConstants.{MAX_WAITING_OUTCOMES}
 use Rattle.group_commit.specs.Steps.{outcomes_in}
-use Rattle.group_commit.specs.Waits.{WaitingValue, record_count, with_step}
+use Rattle.group_commit.specs.Waits.{WaitingValue, batch_out, record_count, with_step}
 use Rattle.permits.specs.declared.row.Row.{Row}
 use Rattle.retry_table.specs.declared.post.PostResult.{PostResult}
 use Rattle.claim_queue.specs.Queues.{QueueValue}
@@ -122,6 +122,19 @@ IsAllOut waiting None held = turns.IsHeldOf waiting held
 IsAllOut waiting (Some receipt) held.Nothing = turns.IsReceiptOf waiting receipt
 IsAllOut waiting (Some receipt) (held.Batch batch) = ⊥
 IsAllOut waiting (Some receipt) (held.Doubt doubt) = ⊥
+
+-- no permit is out, and no batch
+abbrev pub HasNothingOut : DeskValue → Type 0
+HasNothingOut desk = (desk.live ≡ []) × (desk.waiting.out ≡ None)
+
+-- what is out is as before
+abbrev pub KeepsOut : (old new : DeskValue) → Type 0
+KeepsOut old new = (new.live ≡ old.live) × (batch_out new.waiting ≡ batch_out old.waiting)
+
+-- the rows of the permits that are out, once this job is
+abbrev pub with_job : List Row → Option JobValue → List Row
+with_job rows None = rows
+with_job rows (Some job) = rows ++ job.row ∷ []
 
 -- From each world for which the desk stood: what is handed in ends the turn exactly where it is what is out, and comes back
 -- otherwise.

@@ -1,11 +1,11 @@
 //! How the desk chooses what is posted next, and how it learns what came of it.
-ghost use Rattle.std.specs.Prelude.{◌≡◌, ◌<◌, ◌≤◌, ◌+◌, length, option_map, IsTrue, IfErr, IfNone, IfOk, IfSome, OnErr};
+ghost use Rattle.std.specs.Prelude.{◌≡◌, ◌<◌, ◌≤◌, ◌+◌, ◌∷◌, ◌++◌, [], None, Some, ℕ, length, option_map, position, remove, ◌↔◌, IsErr, IsTrue, IfErr, IfNone, IfOk, IfSome, OnErr};
 ghost use Rattle.relay_types.specs.declared.limits.TheConstants.{MAX_RECORDS};
-ghost use Rattle.group_commit.specs.Waits.{record_count};
+ghost use Rattle.group_commit.specs.Waits.{batch_out, record_count};
 ghost use Rattle.relay_types.specs.Legal.{is_status};
-ghost use Rattle.permits.specs.Rows.{next_row};
+ghost use Rattle.permits.specs.Rows.{next_row, same_row};
 ghost use Rattle.desk.specs.Claims.{choice, claim};
-ghost use Rattle.desk.specs.Desks.{HasOutcome, IsMove, IsPostOf, OverWorlds, Spends, Starts, TakesOutcome, attempt_in, may_start, may_start_at, with_live};
+ghost use Rattle.desk.specs.Desks.{HasOutcome, IsMove, IsPostOf, OverWorlds, Spends, Starts, TakesOutcome, attempt_in, may_start, may_start_at, with_job, with_live};
 
 use crate::desk::Desk;
 use crate::holding::{hold, let_go, tell_room};
@@ -28,6 +28,8 @@ impl<L: Ledger> Desk<L> {
     pub fn claim(&mut self, now: Moment) -> Result<Option<Job<L>>, Refusal>
         ensures moves { IsMove self.old (λ w. claim w now) result self.new }
         ensures mark { self.new.waiting.mark ≡ self.old.waiting.mark }
+        ensures live { IfOk result (λ given. self.new.live ≡ with_job self.old.live given) }
+        ensures out { batch_out self.new.waiting ≡ batch_out self.old.waiting }
         ensures err { OnErr result (self.new ≡ self.old) }
     {
         check(&[(self.halted, 1, Fault::Halted)])?;
@@ -60,6 +62,8 @@ impl<L: Ledger> Desk<L> {
         requires ready { IsTrue (may_start self.old delivery) }
         requires room { record_count self.old.waiting + length self.old.live < MAX_RECORDS }
         ensures starts { IfOk result (λ job. Starts self.old at delivery job self.new) }
+        ensures live { IfOk result (λ job. self.new.live ≡ self.old.live ++ job.row ∷ []) }
+        ensures out { self.new.waiting ≡ self.old.waiting }
         ensures mark { self.new.waiting.mark ≡ self.old.waiting.mark }
         ensures err { OnErr result (self.new ≡ self.old) }
     {
@@ -130,6 +134,10 @@ impl<L: Ledger> Desk<L> {
     ) -> Result<Spent, (Permit<L>, Foreign)>
         ensures moves { Spends self.old permit post now result self.new }
         ensures back { IfErr result (λ back. back.0 ≡ permit) }
+        ensures foreign { IsErr result ↔ (position (same_row permit) self.old.live ≡ None) }
+        ensures live { (place : ℕ) → position (same_row permit) self.old.live ≡ Some place
+            → self.new.live ≡ remove self.old.live place }
+        ensures out { batch_out self.new.waiting ≡ batch_out self.old.waiting }
         ensures mark { self.new.waiting.mark ≡ self.old.waiting.mark }
         ensures err { OnErr result (self.new ≡ self.old) }
     {
@@ -179,6 +187,7 @@ fn stage_status(
     requires status { IfSome status (λ status. IsTrue (is_status status)) }
     requires ready { TakesOutcome waiting.old endpoints.old deliveries.old row.now }
     ensures staged { result ≡ option_map (λ _. record_count waiting.old) status }
+    ensures out { batch_out waiting.new ≡ batch_out waiting.old }
     ensures some { IfSome status (HasOutcome waiting.old endpoints.old deliveries.old row.now at waiting.new endpoints.new deliveries.new) }
     ensures none { IfNone status ((waiting.new ≡ waiting.old) × (endpoints.new ≡ endpoints.old) × (deliveries.new ≡ deliveries.old)) }
 {
@@ -200,6 +209,7 @@ fn stage_outcome(
     requires status { IsTrue (is_status status) }
     requires ready { TakesOutcome waiting.old endpoints.old deliveries.old row.now }
     ensures seq { result ≡ record_count waiting.old }
+    ensures out { batch_out waiting.new ≡ batch_out waiting.old }
     ensures staged { HasOutcome waiting.old endpoints.old deliveries.old row.now at waiting.new endpoints.new deliveries.new status }
 {
     let seq = waiting.records();

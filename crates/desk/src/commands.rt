@@ -7,9 +7,9 @@ ghost use Rattle.endpoint_book.specs.declared.limits.TheConstants.{MAX_FLAGS};
 ghost use Rattle.endpoint_book.specs.Entries.{is_known};
 ghost use Rattle.group_commit.specs.declared.limits.TheConstants.{MAX_WAITING_REQUESTS};
 ghost use Rattle.group_commit.specs.Steps.{requests_in};
-ghost use Rattle.group_commit.specs.Waits.{record_count};
+ghost use Rattle.group_commit.specs.Waits.{batch_out, record_count};
 ghost use Rattle.desk.specs.Moves.{change, put_faults, set_faults};
-ghost use Rattle.desk.specs.Desks.{IsMove, Checks, with_put, with_secrets, with_enabled};
+ghost use Rattle.desk.specs.Desks.{IsMove, Checks, KeepsOut, with_put, with_secrets, with_enabled};
 
 use crate::command::Command;
 use crate::desk::{Desk, push_request};
@@ -27,6 +27,7 @@ impl<L: Ledger> Desk<L> {
     pub fn command(&mut self, command: Command) -> Result<CommandTicket, Refusal>
         ensures moves { IsMove self.old (λ w. change w command) result self.new }
         ensures mark { self.new.waiting.mark ≡ self.old.waiting.mark }
+        ensures out { KeepsOut self.old self.new }
         ensures err { OnErr result (self.new ≡ self.old) }
     {
         match command {
@@ -50,6 +51,7 @@ impl<L: Ledger> Desk<L> {
     ) -> Result<CommandTicket, Refusal>
         ensures moves { IsMove self.old (λ w. change w (Command.PutEndpoint name target max secrets)) result self.new }
         ensures mark { self.new.waiting.mark ≡ self.old.waiting.mark }
+        ensures out { KeepsOut self.old self.new }
         ensures err { OnErr result (self.new ≡ self.old) }
     {
         self.check_put(name)?;
@@ -59,6 +61,7 @@ impl<L: Ledger> Desk<L> {
     fn set_secrets(&mut self, name: Name, secrets: Secrets) -> Result<CommandTicket, Refusal>
         ensures moves { IsMove self.old (λ w. change w (Command.SetSecrets name secrets)) result self.new }
         ensures mark { self.new.waiting.mark ≡ self.old.waiting.mark }
+        ensures out { KeepsOut self.old self.new }
         ensures err { OnErr result (self.new ≡ self.old) }
     {
         self.check_set(name)?;
@@ -68,6 +71,7 @@ impl<L: Ledger> Desk<L> {
     fn set_enabled(&mut self, name: Name, flag: bool) -> Result<CommandTicket, Refusal>
         ensures moves { IsMove self.old (λ w. change w (Command.SetEnabled name flag)) result self.new }
         ensures mark { self.new.waiting.mark ≡ self.old.waiting.mark }
+        ensures out { KeepsOut self.old self.new }
         ensures err { OnErr result (self.new ≡ self.old) }
     {
         self.check_set(name)?;
@@ -121,6 +125,7 @@ impl<L: Ledger> Desk<L> {
         requires unknown { is_known self.old.endpoints name ≡ false }
         ensures ticket { IfOk result (λ ticket. ticket.seq ≡ record_count self.old.waiting) }
         ensures staged { OnOk result (self.new ≡ with_put self.old name target max secrets) }
+        ensures out { batch_out self.new.waiting ≡ batch_out self.old.waiting }
         ensures limits { OnOk result (IsTrue (is_within_limits (on.Put name target max secrets))) }
         ensures err { OnErr result (self.new ≡ self.old) }
     {
@@ -159,6 +164,7 @@ impl<L: Ledger> Desk<L> {
         requires known { IsTrue (is_known self.old.endpoints name) }
         ensures ticket { IfOk result (λ ticket. ticket.seq ≡ record_count self.old.waiting) }
         ensures staged { OnOk result (self.new ≡ with_secrets self.old name secrets) }
+        ensures out { batch_out self.new.waiting ≡ batch_out self.old.waiting }
         ensures limits { OnOk result (IsTrue (is_within_limits (on.Secrets name secrets))) }
         ensures err { OnErr result (self.new ≡ self.old) }
     {
@@ -175,6 +181,7 @@ impl<L: Ledger> Desk<L> {
         requires free { record_count self.old.waiting < self.old.waiting.settled + MAX_FLAGS }
         ensures ticket { result.seq ≡ record_count self.old.waiting }
         ensures staged { self.new ≡ with_enabled self.old name flag }
+        ensures out { batch_out self.new.waiting ≡ batch_out self.old.waiting }
         ensures limits { IsTrue (is_within_limits (on.Enabled name flag)) }
     {
         let seq = self.waiting.records();

@@ -8,12 +8,12 @@ ghost use Rattle.delivery_book.specs.Entries.{known_in, pending_in};
 ghost use Rattle.spool.specs.Books.{AreSettled};
 ghost use Rattle.group_commit.specs.declared.limits.TheConstants.{MAX_WAITING_REQUESTS};
 ghost use Rattle.group_commit.specs.Steps.{is_request, requests_in};
-ghost use Rattle.group_commit.specs.Waits.{record_count, with_step};
+ghost use Rattle.group_commit.specs.Waits.{batch_out, record_count, with_step};
 ghost use Rattle.desk.specs.World.{all_records};
 ghost use Rattle.desk.specs.Moves.{are_seqs_spent, opened, ticket, submit, submit_faults, new_submit_faults, is_conflict, has_body};
 ghost use Rattle.desk.specs.declared.limits.TheConstants.{MAX_PENDING};
 ghost use Rattle.permits.specs.declared.pool.TheConstants.{PARTS};
-ghost use Rattle.desk.specs.Desks.{StandsFor, Opens, IsMove, Checks, OverWorlds, with_accept};
+ghost use Rattle.desk.specs.Desks.{StandsFor, Opens, IsMove, Checks, HasNothingOut, KeepsOut, OverWorlds, with_accept};
 
 use crate::limiter::Limiter;
 use crate::limits::{MAX_PENDING, MAX_PENDING_ALL};
@@ -70,6 +70,7 @@ impl<L: Ledger> Desk<L> {
         requires enough { blank.parts ≡ PARTS }
         ensures mark { IfOk result (λ desk. desk.waiting.mark ≡ mark) }
         ensures stands { IfOk result (λ desk. StandsFor desk (opened [] 0)) }
+        ensures out { IfOk result HasNothingOut }
     {
         let Ok(clock) = Moment::of(0) else {
             unreachable!()
@@ -92,6 +93,7 @@ impl<L: Ledger> Desk<L> {
         requires settled { AreSettled books }
         ensures mark { IfOk result (λ desk. desk.waiting.mark ≡ mark) }
         ensures stands { IfOk result (Opens books) }
+        ensures out { IfOk result HasNothingOut }
     {
         let Books {
             endpoints,
@@ -123,6 +125,7 @@ impl<L: Ledger> Desk<L> {
     ) -> Result<Ticket, Refusal>
         ensures moves { IsMove self.old (λ w. submit w now name id body) result self.new }
         ensures mark { self.new.waiting.mark ≡ self.old.waiting.mark }
+        ensures out { KeepsOut self.old self.new }
         ensures err { OnErr result (self.new ≡ self.old) }
     {
         let known = self.deliveries.find(name, &id);
@@ -217,6 +220,7 @@ impl<L: Ledger> Desk<L> {
         requires unknown { known_in self.old.deliveries name id ≡ None }
         ensures ticket { IfOk result (λ given. given ≡ ticket (record_count self.old.waiting) name id) }
         ensures staged { OnOk result (self.new ≡ with_accept self.old name id body at) }
+        ensures out { batch_out self.new.waiting ≡ batch_out self.old.waiting }
         ensures limits { OnOk result (IsTrue (is_within_limits (Accept name id body at))) }
         ensures err { OnErr result (self.new ≡ self.old) }
     {
@@ -236,7 +240,8 @@ pub(crate) fn push_request(waiting: &mut Waiting, entry: Record)
     requires kind { IsTrue (is_request (entry ∷ [])) }
     requires place { requests_in waiting.old.waiting < MAX_WAITING_REQUESTS }
     requires room { record_count waiting.old < MAX_RECORDS }
-    ensures { waiting.new ≡ with_step waiting.old (entry ∷ []) }
+    ensures staged { waiting.new ≡ with_step waiting.old (entry ∷ []) }
+    ensures out { batch_out waiting.new ≡ batch_out waiting.old }
 {
     let Ok(()) = waiting.stage_request(Step::of(entry)) else {
         unreachable!()

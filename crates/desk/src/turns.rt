@@ -1,7 +1,7 @@
 //! How the desk hands out what waits, and takes back what became of it.
-ghost use Rattle.std.specs.Prelude.{◌≡◌, [], length, ◌↔◌, IsTrue, IfOk, IfErr, IfSome, IsOk, IsPermutation, OnErr};
+ghost use Rattle.std.specs.Prelude.{◌≡◌, [], None, Some, length, ◌↔◌, IsTrue, IfOk, IfErr, IfNone, IfSome, IsOk, IsPermutation, OnErr, OnOk};
 ghost use Rattle.spool.specs.Batches.{doubt_of};
-ghost use Rattle.group_commit.specs.Waits.{batch_of, sealed_count};
+ghost use Rattle.group_commit.specs.Waits.{batch_of, batch_out, sealed_count};
 ghost use Rattle.group_commit.specs.Turns as waiting;
 ghost use Rattle.desk.specs.World.{sealed_records};
 ghost use Rattle.desk.specs.Moves.{seal, with_sealed_settled, with_batch_back, with_halt};
@@ -21,6 +21,9 @@ impl<L: Ledger> Desk<L> {
         ensures moves { IsMove self.old (seal self.old.waiting.mark) result self.new }
         ensures batch { IfOk result (λ sealed. IfSome sealed (λ batch.
             batch ≡ batch_of self.old.waiting (sealed_count self.old.waiting))) }
+        ensures out { IfOk result (λ sealed. IfSome sealed (λ batch. batch_out self.new.waiting ≡ Some batch)) }
+        ensures same { IfOk result (λ sealed. IfNone sealed (self.new ≡ self.old)) }
+        ensures live { self.new.live ≡ self.old.live }
         ensures mark { self.new.waiting.mark ≡ self.old.waiting.mark }
         ensures err { OnErr result (self.new ≡ self.old) }
     {
@@ -43,6 +46,8 @@ impl<L: Ledger> Desk<L> {
         ensures moves { Turns self.old (λ w. IsReceiptOf self.old.waiting.mark w receipt) with_sealed_settled result self.new }
         ensures records { IfOk result (λ settled. OverWorlds self.old (λ w. settled.records ≡ length (sealed_records w))) }
         ensures turn { IsOk result ↔ waiting.IsReceiptOf self.old.waiting receipt }
+        ensures out { OnOk result (self.new.waiting.out ≡ None) }
+        ensures live { self.new.live ≡ self.old.live }
         ensures back { IfErr result (λ back. back.0 ≡ receipt) }
         ensures mark { self.new.waiting.mark ≡ self.old.waiting.mark }
         ensures err { OnErr result (self.new ≡ self.old) }
@@ -57,6 +62,8 @@ impl<L: Ledger> Desk<L> {
     pub fn unseal(&mut self, batch: Batch) -> Result<(), (Batch, WrongTurn)>
         ensures moves { Turns self.old (λ w. ArePlacesOf self.old.waiting.mark w (doubt_of batch)) with_batch_back result self.new }
         ensures turn { IsOk result ↔ waiting.ArePlacesOf self.old.waiting (doubt_of batch) }
+        ensures out { OnOk result (self.new.waiting.out ≡ None) }
+        ensures live { self.new.live ≡ self.old.live }
         ensures back { IfErr result (λ back. back.0 ≡ batch) }
         ensures mark { self.new.waiting.mark ≡ self.old.waiting.mark }
         ensures err { OnErr result (self.new ≡ self.old) }
@@ -69,6 +76,8 @@ impl<L: Ledger> Desk<L> {
     pub fn halt(&mut self, held: Held) -> Result<(), (Held, WrongTurn)>
         ensures moves { Turns self.old (λ w. IsHeldOf self.old.waiting.mark w held) with_halt result self.new }
         ensures turn { IsOk result ↔ waiting.IsHeldOf self.old.waiting held }
+        ensures out { OnOk result (self.new.waiting.out ≡ None) }
+        ensures live { self.new.live ≡ self.old.live }
         ensures back { IfErr result (λ back. back.0 ≡ held) }
         ensures mark { self.new.waiting.mark ≡ self.old.waiting.mark }
         ensures err { OnErr result (self.new ≡ self.old) }

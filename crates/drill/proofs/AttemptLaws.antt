@@ -34,8 +34,8 @@ use Rattle.drill.specs.declared.events.Event.TheVariants as on
 use Rattle.drill.specs.declared.events.Reply.{Reply}
 use Rattle.drill.specs.Cores.{is_commit}
 use Rattle.drill.specs.Events.{Makes, Runs}
-use Rattle.drill.specs.Moves.{Session, begun, permit_of}
-use Rattle.drill.specs.Runs.{Move, Run}
+use Rattle.drill.specs.Moves.{Session, permit_of}
+use Rattle.drill.specs.Runs.{Move}
 use Rattle.drill.specs.Unrecorded.{ArePendingAgain, IsEachPendingAgain, IsPendingAgain, records_behind, unrecorded}
 use Rattle.drill.specs.Worlds.{AreAttemptsPendingAgain, IsOpening, session_of}
 use Rattle.drill.proofs.CoreLaws.{Goes, IsClaimed, Stages, later, same_first, waits_so}
@@ -74,10 +74,10 @@ still_pending some more d pending none =
 -- Marks
 
 -- The marks stand in their order, and at most one attempt at each event has no settled outcome: such an event is pending in the settled records.
-record IsTracked (w : World) : Type 0 where
-  below : w.settled ≤ w.sealed
-  within : w.sealed ≤ length w.history
-  leaves : LeavesBy w.out w
+pub record IsTracked (w : World) : Type 0 where
+  pub below : w.settled ≤ w.sealed
+  pub within : w.sealed ≤ length w.history
+  pub leaves : LeavesBy w.out w
   once : (d : ℕ) → unrecorded w w.settled d ≤ 1
   pending : (d : ℕ) → 1 ≤ unrecorded w w.settled d → is_pending (settled_records w) d ≡ true
 
@@ -99,7 +99,7 @@ pending_at w steps d h below within some = record {
     front = ap (λ records. is_pending records d) (sym (front_is w.history w.settled steps below))
         ∙ still_pending (settled_records w) (records_of (between w.history w.settled steps)) d (h.pending d (omega (arith, counted w steps d below within, some))) (omega (arith, counted w steps d below within, h.once d, some))
 
-pending_again : (w : World) → IsTracked w → ArePendingAgain w
+pub pending_again : (w : World) → IsTracked w → ArePendingAgain w
 pending_again w h = each_left (IsEachPendingAgain w) w w.out h.leaves
     (λ d. pending_at w w.settled d h (omega arith) (omega (arith, h.below, h.within))) (λ d. pending_at w w.sealed d h h.below h.within)
 
@@ -245,7 +245,7 @@ desk_tracked s next event told h own move = follows_each IsTracked s next event 
   halts = λ other. record { below = h.below; within = h.within; leaves = left_on_halt s.world s.world.out other h.leaves; once = h.once; pending = h.pending };
 }) move
 
-line_tracked : (s next : Session) (event : line.Event) (told : line_reply.Reply) → IsTracked s.world → Move s event told next → IsTracked next.world
+pub line_tracked : (s next : Session) (event : line.Event) (told : line_reply.Reply) → IsTracked s.world → Move s event told next → IsTracked next.world
 line_tracked s next event told h move = by_call IsTracked s next event told (λ own. desk_tracked s next event told h own move)
     (commits_follow IsTracked s next told s.world.out refl h
     (λ e. record { below = h.below; within = h.within; leaves = refl; once = h.once; pending = h.pending })
@@ -264,7 +264,7 @@ run_tracked s [] (told ∷ replies) last n h run = absurd run
 run_tracked s (event ∷ events) [] last n h run = absurd run
 
 -- nothing waits or is under way in an opening
-opening_tracked : (w : World) → IsOpening w → IsTracked w
+pub opening_tracked : (w : World) → IsOpening w → IsTracked w
 opening_tracked w (history, clock, is) = subst IsTracked (sym is) (record {
   below = omega arith;
   within = omega arith;
@@ -275,15 +275,6 @@ opening_tracked w (history, clock, is) = subst IsTracked (sym is) (record {
   where
     none : (d : ℕ) → outcomes (records_of (drop (length history) history)) d ≡ 0
     none d = ap (λ (steps : History). outcomes (records_of steps) d) (drop-length history)
-
-lines_tracked : (s : Session) (events : List line.Event) (replies : List line_reply.Reply) (last : Session) → IsTracked s.world → Run s events replies last → IsTracked last.world
-lines_tracked s [] [] last h same = subst (λ (t : Session). IsTracked t.world) (sym same) h
-lines_tracked s (event ∷ events) (told ∷ replies) last h (next, move, run) = lines_tracked next events replies last (line_tracked s next event told h move) run
-lines_tracked s [] (told ∷ replies) last h run = absurd run
-lines_tracked s (event ∷ events) [] last h run = absurd run
-
-pub pending_again_by_lines : (events : List line.Event) (replies : List line_reply.Reply) (last : Session) → Run begun events replies last → ArePendingAgain last.world
-pending_again_by_lines events replies last run = pending_again last.world (lines_tracked begun events replies last (opening_tracked begun.world ([], 0, refl)) run)
 
 pub attempts_pending_again : AreAttemptsPendingAgain
 attempts_pending_again w events replies last n opening run = pending_again last.world (run_tracked (session_of w) events replies last n (opening_tracked w opening) run)

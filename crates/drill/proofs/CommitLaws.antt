@@ -1,7 +1,7 @@
 -- What a commit of the batch that is held makes of the core, the store and their session.
 use Rattle.std.proofs.Common.{◌≡◌, ℕ, ◌-◌, ◌≤◌, Bool, true, false, List, [], ◌∷◌, ◌++◌, length, Some, None, Result, Err, ◌⊎◌, inl, inr, refl, sym, ap, subst, ◌∙◌}
 use mathlib.Core.Logic.{∥∥₁_map}
-use Rattle.std.specs.Prelude.{IsTrue, if◌then◌else◌}
+use Rattle.std.specs.Prelude.{IsTrue, option_map, if◌then◌else◌}
 use Rattle.sqlite.specs.Store.{Ghosts}
 use Rattle.sqlite.specs.Held as store
 use Rattle.relay_types.specs.declared.record.Record.{Record}
@@ -20,17 +20,17 @@ use Rattle.spool.specs.Entering.{RestsInDoubt}
 use Rattle.spool.specs.Vaults.{VaultValue}
 use Rattle.script_lines.specs.declared.reply.Reply.{Reply}
 use Rattle.script_lines.specs.declared.reply.Reply.TheVariants as says
+use Rattle.group_commit.specs.Waits.{batch_out}
 use Rattle.desk.specs.World.{World, Out, Batch, Receipt, Doubt, settled_records, sealed_records}
 use Rattle.desk.specs.Moves.{sealed_batch, is_nothing_out}
 use Rattle.desk.specs.Desks.{DeskValue, StandsFor}
 use Rattle.drill.specs.declared.held.Held.{Held}
 use Rattle.drill.specs.declared.held.Held.TheVariants as held
 use Rattle.drill.specs.declared.calls.Core.{Core}
-use Rattle.drill.specs.Moves.{Session, MayTell, begun, commits, with_receipt, in_doubt}
-use Rattle.drill.specs.Cores.{IsHeld, IsOfBatch, CoreStandsFor, IsCore}
+use Rattle.drill.specs.Moves.{Session, MayTell, commits, with_receipt, in_doubt}
+use Rattle.drill.specs.Cores.{HoldsAll, HoldsOut, IsHeld, IsOfBatch, CoreStandsFor, IsCore}
 use Rattle.drill.specs.Runners.{RunStandsFor, Answers, EndsAs, CommitsSo, unchanged_reply}
-use Rattle.recovery.specs.Openings.{IsFirst}
-use Rattle.recovery.specs.Left.{HasNoTable, IsOpenAt, AreOfSteps, HoldsLeft, LeavesBy, VaultStandsFor, KeepsRows, rows_of_first}
+use Rattle.recovery.specs.Left.{IsOpenAt, AreOfSteps, HoldsLeft, LeavesBy, VaultStandsFor, KeepsRows, rows_of_first}
 use Rattle.drill.proofs.TurnLaws.{sealed_is, sealed_front}
 
 -- the desk stands for the world in which something else is out
@@ -78,8 +78,16 @@ core_committed core s batch now on was = at now (subst (IsHeld core.desk.waiting
         record { desk = out_again core.desk s.world Doubt (s.world.settled ∷ s.world.sealed ∷ []) on.desk (ap is_nothing_out had.0); held = (refl, h ∙ ap doubt_of had.1); permits = on.permits; once = on.once; tickets = on.tickets }
 
 pub core_kept : {L : Type 0} (old new : Core L) (batch : BatchValue) → IsCore old → held.Batch batch ≡ old.held → IsOfBatch batch new.held → new ≡ record old { held = new.held } → IsCore new
-core_kept old new batch core was of same = subst IsCore (sym same)
-    (∥∥₁_map core (λ (s, on). (record s { world = world_by new.held s.world }, core_committed old s batch new.held on was of)))
+core_kept old new batch core was of same = subst IsCore (sym same) (∥∥₁_map core (λ (h : HoldsAll old). record {
+  permits = h.permits;
+  out = at new.held of (subst (HoldsOut (batch_out old.desk.waiting)) (sym was) h.out);
+}))
+  where
+    at : (now : Held) → IsOfBatch batch now → batch_out old.desk.waiting ≡ Some batch → HoldsOut (batch_out old.desk.waiting) now
+    at held.Nothing none e = absurd none
+    at (held.Batch back) is e = e ∙ ap (λ b. Some b) (sym is)
+    at (held.Receipt receipt) is e = e ∙ ap (λ b. Some b) (sym is)
+    at (held.Doubt doubt) is e = ap (option_map doubt_of) e ∙ ap (λ d. Some d) (sym is)
 
 -- what it leaves of the store, and what is told
 ends_commit : {S : Type 0} (g : Ghosts S) (vault : VaultValue S) (mark : ℕ) (batch : BatchValue) (now : Held) (reply : Reply) (s : Session) → s.world.settled ≤ s.world.sealed
@@ -147,12 +155,6 @@ answers_commit g old new vault later batch reply was same of mark commit s on =
         mark = ap (λ c. c.desk.waiting.mark) same ∙ on.mark ∙ sym mark;
       },
     )
-
--- The first session
-
-pub started_stands : {L S : Type 0} (g : Ghosts S) (conn : store.Held S) (mark : ℕ) (vault : VaultValue S) (core : Core L) → IsFirst g conn mark vault → HasNoTable g conn
-    → core.desk.waiting.mark ≡ mark → CoreStandsFor core begun → RunStandsFor g core vault begun
-started_stands g conn mark vault core first none marked stands = record { stands = stands; holds = first.stands none; mark = marked ∙ sym first.marked }
 
 -- The rows that the vault's connection keeps
 

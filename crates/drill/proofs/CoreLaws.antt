@@ -1,10 +1,10 @@
 -- What calls of the desk make of a core and its session: looks, steps that are staged, and attempts.
-use Rattle.std.proofs.Common.{◌≡◌, ◌≤◌, ◌<◌, ◌+◌, ◌==◌, ℕ, Bool, true, false, not, ◌&&◌, cond, List, [], ◌∷◌, ◌++◌, length, take, drop, get_or, Option, Some, None, Result, Ok, Err, inl, inr, refl, sym, ap, subst, ◌∙◌, arith, append-nil, nat_eq, nat_lt}
+use Rattle.std.proofs.Common.{◌≡◌, ◌≤◌, ◌<◌, ◌+◌, ◌==◌, ℕ, Bool, true, false, not, ◌&&◌, cond, List, [], ◌∷◌, ◌++◌, length, take, drop, get_or, Option, Some, None, Result, Ok, Err, inl, inr, ⊎_elim, refl, sym, ap, subst, ◌∙◌, arith, append-nil, nat_eq, nat_lt}
 use mathlib.Core.Logic.{∥∥₁_map}
 use Rattle.std.specs.Prelude.{IsSomeAnd, count_by, find, position, remove, slice_get, if◌then◌else◌}
 use Rattle.std.specs.List.{list_any, position_or_len}
 use Rattle.std.specs.Option.{option_map_or}
-use Rattle.std.proofs.lemmas.Bool.{and_parts, eqb-true, ltb-false, not-true}
+use Rattle.std.proofs.lemmas.Bool.{and_parts, cases_lt, eqb-true, ltb-false, not-true}
 use Rattle.std.proofs.lemmas.List.{take-append-le}
 use Rattle.std.proofs.lemmas.List.Folds.{find_at, list_any_at}
 use Rattle.std.proofs.lemmas.List.Quantifiers.{position-Some}
@@ -28,16 +28,17 @@ use Rattle.desk.specs.World.{World, all_records, settled_records}
 use Rattle.desk.specs.Moves as desk
 use Rattle.desk.specs.Moves.{MayGive, refused, unless, submit, submit_faults, submit_new, new_submit_faults, repeats, change, changes, change_faults, sealed_batch, moment, are_seqs_spent}
 use Rattle.desk.specs.Claims.{JobValue, is_live, is_claimable, is_claimable_for, claimables, has_no_waiting_outcome, waits, choice, claim, claim_chosen, starts, rests, with_attempt, has_row, with_attempt_over, without_row, outcome_by, sample_by}
-use Rattle.desk.specs.Desks.{StandsFor, IsMove, Spends}
+use Rattle.group_commit.specs.Waits.{batch_out}
+use Rattle.desk.specs.Desks.{StandsFor, IsMove, KeepsOut, Spends}
 use Rattle.desk.proofs.LeastLaws.{chosen_among, passes}
-use Rattle.desk.proofs.RowLaws.{attempts_at, others, none_counted, removed_is, same_row_self}
+use Rattle.desk.proofs.RowLaws.{attempts_at, others, none_counted, none_found, removed_is, same_row_is, same_row_self}
 use Rattle.drill.specs.declared.calls.Core.{Core}
 use Rattle.drill.specs.declared.held.Held.{Held}
 use Rattle.drill.specs.declared.held.Held.TheVariants as held
 use Rattle.drill.specs.declared.tickets.Given.{Given}
 use Rattle.drill.specs.Tickets.{Keeps}
 use Rattle.drill.specs.Moves.{Session, Answer, MayTell, IsOneOf, stays, lacks, tells, stages, staged_reply, refusal_reply, with_ticket, claim_reply, spent_reply, spends, permit_of}
-use Rattle.drill.specs.Cores.{IsHeld, AreOnce, CoreStandsFor, IsCore, CoreAnswers, KeepsAll}
+use Rattle.drill.specs.Cores.{IsHeld, AreOnce, CoreStandsFor, HoldsAll, HoldsOut, IsCore, CoreAnswers, KeepsAll}
 
 -- Worlds after which what is out, settled and sealed is as before
 
@@ -135,6 +136,13 @@ core_goes old new s next given on goes desk mark same permits once keeps = recor
   tickets = keeps;
 }
 
+-- Where nothing is handed out or taken back, all that is out is held as before.
+pub holds_so : {L : Type 0} (old new : Core L) → KeepsOut old.desk new.desk → new.held ≡ old.held → new.permits.items ≡ old.permits.items → IsCore old → IsCore new
+holds_so old new (live, out) same permits core = ∥∥₁_map core (λ (h : HoldsAll old). record {
+  permits = permits ∙ h.permits ∙ sym live;
+  out = subst (HoldsOut (batch_out new.desk.waiting)) (sym same) (subst (λ o. HoldsOut o old.held) (sym out) h.out);
+})
+
 -- Steps that are staged
 
 may_stage : {A : Type 0} (of : A → Given) (s : Session) (answer : desk.Answer A) (result : Result A Refusal) (next : World) → MayGive s.world answer result next
@@ -148,10 +156,11 @@ may_stage of s answer result next (inr without) = inr (at answer.memory without)
     at (Some number) (e, f) = inl (ap (staged_reply of) e, λ i. record { world = f i; tickets = with_ticket of (e i) s.tickets })
 
 pub answers_staged : {L A : Type 0} (old new : Core L) (of : A → Given) (move : World → desk.Answer A) (result : Result A Refusal) → ((w : World) → Stages w (move w).next)
-    → IsMove old.desk move result new.desk → new.desk.waiting.mark ≡ old.desk.waiting.mark → new.held ≡ old.held → new.permits.items ≡ old.permits.items
+    → IsMove old.desk move result new.desk → new.desk.waiting.mark ≡ old.desk.waiting.mark → KeepsOut old.desk new.desk → new.held ≡ old.held → new.permits.items ≡ old.permits.items
     → ((given : List Given) → Keeps old.tickets given → Keeps new.tickets (with_ticket of result given)) → CoreAnswers old (λ s. stages of s (move s.world)) (staged_reply of result) new
-answers_staged old new of move result plain moved mark same permits keeps = record {
+answers_staged old new of move result plain moved mark out same permits keeps = record {
   mark = mark;
+  keeps = holds_so old new out same permits;
   moves = λ s on.
       let made = moved s.world on.desk in
       let goes = goes_given s.world (move s.world) result made.0 (plain s.world) made.1 in (
@@ -163,7 +172,7 @@ answers_staged old new of move result plain moved mark same permits keeps = reco
 
 -- A look leaves the session as it is.
 pub answers_look : {L : Type 0} (core : Core L) (told : Session → Reply) (reply : Reply) → ((s : Session) → CoreStandsFor core s → reply ≡ told s) → CoreAnswers core (λ s. stays s (told s)) reply core
-answers_look core told reply says = record { mark = refl; moves = λ s on. (s, inl (says s on, refl), on) }
+answers_look core told reply says = record { mark = refl; moves = λ s on. (s, inl (says s on, refl), on); keeps = λ same. same }
 
 -- Room is made.
 pub stands_with_room : {L : Type 0} (old new : Core L) (s : Session) → KeepsAll old new → CoreStandsFor old s → CoreStandsFor new s
@@ -172,7 +181,7 @@ stands_with_room old new s same on =
     (same.permits ∙ on.permits) on.once (same.tickets s.tickets on.tickets)
 
 pub kept_with_room : {L : Type 0} (old new : Core L) → KeepsAll old new → IsCore old → IsCore new
-kept_with_room old new same core = ∥∥₁_map core (λ (s, on). (s, stands_with_room old new s same on))
+kept_with_room old new same = holds_so old new (ap (λ d. d.live) same.desk, ap (λ d. batch_out d.waiting) same.desk) same.held same.permits
 
 -- Claims
 
@@ -250,10 +259,15 @@ once_more rows row once free d = at (nat_eq row.delivery d) refl
         omega (arith, push, none, ap {B = ℕ} (λ b. cond b 1 0) e)
     at false e = omega (arith, push, once d, ap {B = ℕ} (λ b. cond b 1 0) e)
 
-pub answers_claimed : {L : Type 0} (old new : Core L) (now : ℕ) (job : JobValue) → IsMove old.desk (λ w. claim w now) (Ok (Some job)) new.desk → new.desk.waiting.mark ≡ old.desk.waiting.mark → new.held ≡ old.held
+pub answers_claimed : {L : Type 0} (old new : Core L) (now : ℕ) (job : JobValue) → IsMove old.desk (λ w. claim w now) (Ok (Some job)) new.desk → new.desk.waiting.mark ≡ old.desk.waiting.mark
+    → new.desk.live ≡ old.desk.live ++ job.row ∷ [] → batch_out new.desk.waiting ≡ batch_out old.desk.waiting → new.held ≡ old.held
     → new.permits.items ≡ old.permits.items ++ job.row ∷ [] → new.tickets ≡ old.tickets → CoreAnswers old (λ s. tells claim_reply s (claim s.world now)) (claim_reply (Ok (Some job))) new
-answers_claimed old new now job moved mark same permits tickets = record {
+answers_claimed old new now job moved mark rows out same permits tickets = record {
   mark = mark;
+  keeps = λ core. ∥∥₁_map core (λ (h : HoldsAll old). record {
+    permits = permits ∙ ap (λ live. live ++ job.row ∷ []) h.permits ∙ sym rows;
+    out = subst (HoldsOut (batch_out new.desk.waiting)) (sym same) (subst (λ o. HoldsOut o old.held) (sym out) h.out);
+  });
   moves = λ s on.
       let made = moved s.world on.desk in
       let (at, e, waiting) = claimed s.world now (Ok (Some job)) made.0 made.1 in
@@ -277,10 +291,11 @@ same_live w (Ok None) next none (at, e) = ap (λ (v : World). v.live) e
 same_live w (Err r) next none (at, e) = ap (λ (v : World). v.live) e
 
 pub answers_unclaimed : {L : Type 0} (old new : Core L) (now : ℕ) (result : Result (Option JobValue) Refusal) → is_claimed result ≡ false → IsMove old.desk (λ w. claim w now) result new.desk
-    → new.desk.waiting.mark ≡ old.desk.waiting.mark → new.held ≡ old.held → new.permits.items ≡ old.permits.items → new.tickets ≡ old.tickets
+    → new.desk.waiting.mark ≡ old.desk.waiting.mark → KeepsOut old.desk new.desk → new.held ≡ old.held → new.permits.items ≡ old.permits.items → new.tickets ≡ old.tickets
     → CoreAnswers old (λ s. tells claim_reply s (claim s.world now)) (claim_reply result) new
-answers_unclaimed old new now result none moved mark same permits tickets = record {
+answers_unclaimed old new now result none moved mark out same permits tickets = record {
   mark = mark;
+  keeps = holds_so old new out same permits;
   moves = λ s on.
       let made = moved s.world on.desk in
       let is = claimed s.world now result made.0 made.1 in
@@ -336,6 +351,30 @@ pub record IsTaken (delivery place : ℕ) (row : Row) (rows rest : List Row) : T
 taken_within : (delivery place : ℕ) (row : Row) (rows rest : List Row) → IsTaken delivery place row rows rest → place < length rows
 taken_within delivery place row rows rest t = (position-Some (λ (r : Row). r.delivery == delivery) rows place row t.at).0
 
+-- it stands first of those with its row
+pub taken_first : (delivery place : ℕ) (row : Row) (rows rest : List Row) → IsTaken delivery place row rows rest → position (same_row row) rows ≡ Some place
+taken_first delivery place row rows rest t = by (position (same_row row) rows) refl
+  where
+    first : (place < length rows) × (nat_eq (get_or rows place row).delivery delivery ≡ true) × ((k : ℕ) → k < place → nat_eq (get_or rows k row).delivery delivery ≡ false)
+    first = position-Some (λ (r : Row). r.delivery == delivery) rows place row t.at
+
+    here : same_row row (get_or rows place row) ≡ true
+    here = ap (same_row row) (sym t.own) ∙ same_row_self row
+
+    early : (i : ℕ) → i < place → same_row row (get_or rows i row) ≡ true → ⊥
+    early i lt found =
+        let other : nat_eq (get_or rows i row).delivery delivery ≡ false = first.2 i lt in
+        let same : nat_eq (get_or rows i row).delivery delivery ≡ true = ap (λ (r : Row). nat_eq r.delivery delivery) (sym (same_row_is row (get_or rows i row) found) ∙ t.own) ∙ first.1 in
+        let no : true ≡ false = sym same ∙ other in cc
+
+    by : (o : Option ℕ) → position (same_row row) rows ≡ o → position (same_row row) rows ≡ Some place
+    by None none =
+        let no : true ≡ false = sym (list_any_at (same_row row) rows place row first.0 here) ∙ none_found (same_row row) rows none in cc
+    by (Some i) e =
+        let (within, found, before) = position-Some (same_row row) rows i row e in
+        let late : place < i → ⊥ = λ lt. (let no : true ≡ false = sym here ∙ before place lt in cc) in
+        e ∙ ap (λ n. Some n) (⊎_elim (λ lt. absurd (early i lt found)) (λ most. ⊎_elim (λ lt. absurd (late lt)) (λ least. omega (arith, most, least)) (cases_lt place i)) (cases_lt i place))
+
 -- it is that of an attempt that is under way
 pub taken_is_out : {L : Type 0} (core : Core L) (s : Session) (delivery place : ℕ) (row : Row) (rest : List Row) → CoreStandsFor core s → IsTaken delivery place row core.permits.items rest → has_row s.world row ≡ true
 taken_is_out core s delivery place row rest on t =
@@ -349,10 +388,15 @@ once_less rows place d within once n =
     omega (arith, less, once n)
 
 pub answers_spent : {L : Type 0} (old new : Core L) (delivery now place : ℕ) (post : PostResult) (row : Row) (spent : Spent) → IsTaken delivery place row old.permits.items new.permits.items
-    → Spends {E = Unit {0}} old.desk row post now (Ok spent) new.desk → new.desk.waiting.mark ≡ old.desk.waiting.mark → new.held ≡ old.held → new.tickets ≡ old.tickets
+    → Spends {E = Unit {0}} old.desk row post now (Ok spent) new.desk → new.desk.waiting.mark ≡ old.desk.waiting.mark
+    → ((place : ℕ) → position (same_row row) old.desk.live ≡ Some place → new.desk.live ≡ remove old.desk.live place) → batch_out new.desk.waiting ≡ batch_out old.desk.waiting → new.held ≡ old.held → new.tickets ≡ old.tickets
     → CoreAnswers old (λ s. spends s (permit_of s.world delivery) post now) (spent_reply spent) new
-answers_spent old new delivery now place post row spent t spends_so mark same tickets = record {
+answers_spent old new delivery now place post row spent t spends_so mark rows out same tickets = record {
   mark = mark;
+  keeps = λ core. ∥∥₁_map core (λ (h : HoldsAll old). record {
+    permits = t.left ∙ ap (λ live. remove live place) h.permits ∙ sym (rows place (subst (λ live. position (same_row row) live ≡ Some place) h.permits (taken_first delivery place row old.permits.items new.permits.items t)));
+    out = subst (HoldsOut (batch_out new.desk.waiting)) (sym same) (subst (λ o. HoldsOut o old.held) (sym out) h.out);
+  });
   moves = λ s on.
       let over = spends_so s.world on.desk in
       let next = with_attempt_over s.world row post now in
@@ -374,6 +418,7 @@ pub answers_no_permit : {L : Type 0} (core : Core L) (delivery now : ℕ) (post 
     → CoreAnswers core (λ s. spends s (permit_of s.world delivery) post now) says.NoPermit core
 answers_no_permit core delivery now post none = record {
   mark = refl;
+  keeps = λ same. same;
   moves = λ s on.
       let missing : permit_of s.world delivery ≡ None = ap (find (λ (r : Row). r.delivery == delivery)) (sym on.permits) ∙ not_found core.permits.items none in
       (s, subst (λ p. MayTell (spends s p post now) says.NoPermit s) (sym missing) (inl (refl, refl)), on);
@@ -387,7 +432,3 @@ answers_no_permit core delivery now post none = record {
         pick true below e = cc
         pick false beyond e = find_at (λ (r : Row). r.delivery == delivery) rows
             ∙ slice_get_past rows (position_or_len (λ (r : Row). r.delivery == delivery) rows) (ltb-false (position_or_len (λ (r : Row). r.delivery == delivery) rows) (length rows) beyond)
-
--- Whatever a call is told, the core stands for some session after it.
-pub kept : {L : Type 0} (old new : Core L) (answer : Session → Answer) (reply : Reply) → IsCore old → CoreAnswers old answer reply new → IsCore new
-kept old new answer reply core answers = ∥∥₁_map core (λ (s, on). let (next, told, after) = answers.moves s on in (next, after))

@@ -5,6 +5,8 @@ mod VaultLaws
 mod CommitLaws
 mod AttemptLaws
 mod ShownLaws
+mod RestartLaws
+mod StopLaws
 mod RunLaws
 pub mod ReplayLaws
 mod WorkedRun

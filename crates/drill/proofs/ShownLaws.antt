@@ -1,9 +1,9 @@
 -- What a reply shows is settled, and stays so.
 use Rattle.std.proofs.Common.{◌≡◌, ◌≤◌, ◌+◌, ◌==◌, ◌&&◌, ℕ, Bool, true, false, not, List, [], ◌∷◌, ◌++◌, length, take, max, Option, Some, None, inl, inr, refl, sym, ap, subst, ◌∙◌, arith, length-append}
-use mathlib.Core.Logic.{∥∥₁_map}
-use Rattle.std.specs.Prelude.{is_some, nat_lt, if◌then◌else◌}
+use Rattle.std.specs.Prelude.{is_some, nat_lt, option_map, if◌then◌else◌}
 use Rattle.std.specs.Option.{option_map_or}
 use Rattle.std.proofs.lemmas.Bool.{eqb-true, ltb-true}
+use Rattle.std.proofs.lemmas.Grind.{merely}
 use Rattle.std.proofs.lemmas.Option.{same_Some}
 use Rattle.sqlite.specs.Store.{Ghosts}
 use Rattle.spool.specs.Vaults.{VaultValue}
@@ -23,7 +23,8 @@ use Rattle.desk.specs.declared.ticket.Told.TheVariants.{Waiting, Unknown}
 use Rattle.desk.specs.Claims.{choice, claim, claim_chosen, claimables, is_claimable, is_claimable_for, starts, rests}
 use Rattle.desk.specs.Looks.{known, has_event, is_event_of, settled_body, told, told_command}
 use Rattle.desk.specs.Moves.{moment, unless, are_seqs_spent, next_seq, sealed_batch}
-use Rattle.desk.specs.Desks.{StandsFor}
+use Rattle.group_commit.specs.Waits.{batch_of, batch_out}
+use Rattle.desk.specs.Desks.{HasNothingOut, StandsFor}
 use Rattle.desk.specs.World.{World, Out, Nothing, Batch, Receipt, Doubt, all_records, settled_records, sealed_records}
 use Rattle.desk.proofs.LeastLaws.{chosen_among, passes}
 use Rattle.recovery.specs.Left.{LeavesBy, records_of_first}
@@ -38,9 +39,9 @@ use Rattle.drill.specs.declared.tickets.Given.TheVariants.{Submission, Command}
 use Rattle.drill.specs.declared.calls.Core.{Core}
 use Rattle.drill.specs.declared.held.Held.{Held}
 use Rattle.drill.specs.declared.held.Held.TheVariants as held
-use Rattle.drill.specs.Cores.{AreOnce, CoreStandsFor, IsCore, IsHeld, is_commit, receipt_of, given_of}
+use Rattle.drill.specs.Cores.{AreOnce, CoreStandsFor, HoldsAll, HoldsOut, IsCore, IsHeld, is_commit, receipt_of, given_of}
 use Rattle.drill.specs.Runners.{RunStandsFor}
-use Rattle.drill.specs.Worlds.{IsOpened, IsOpening, IsOut, IsRunFrom, TakesEvent, TakesEvents, session_of}
+use Rattle.drill.specs.Worlds.{IsOpening, IsOut, IsRunFrom, TakesEvent, TakesEvents, session_of}
 use Rattle.drill.specs.Events.{Makes, Runs, IsKept, shown, shown_by_line, shown_by_look, look_reply}
 use Rattle.drill.specs.Moves.{Session, MayTell, IsOneOf, claim_reply, lacks, settles, told_as, told_reply}
 use Rattle.drill.specs.Runs.{Move}
@@ -54,7 +55,7 @@ use Rattle.drill.proofs.AttemptLaws.{attempts_pending_again}
 use Rattle.drill.proofs.TurnLaws.{sealed_is}
 
 -- how many records are settled, and sealed
-abbrev settled_count : World → ℕ
+abbrev pub settled_count : World → ℕ
 settled_count w = length (settled_records w)
 
 -- the marks stand in their order
@@ -67,7 +68,7 @@ settled_in_sealed w h = omega (arith, ap length (sealed_is 0 w h.below), length-
 
 -- What is settled stays settled
 
-line_keeps : (s next : Session) (event : line.Event) (told : line_reply.Reply) → IsOrdered s.world → Move s event told next → settled_count s.world ≤ settled_count next.world
+pub line_keeps : (s next : Session) (event : line.Event) (told : line_reply.Reply) → IsOrdered s.world → Move s event told next → settled_count s.world ≤ settled_count next.world
 line_keeps s next event told h move = by_call keeps s next event told desk (commits_follow keeps s next told s.world.out refl (omega arith) (λ e. omega arith) (λ e. omega arith)) move
   where
     keeps : World → Type 0
@@ -197,7 +198,7 @@ by_event : (w : World) (name id : List ℕ) (told : line_reply.Reply) → shown_
 by_event w name id (says.Event state due attempts) = omega arith
 by_event w name id other = omega arith
 
-line_shown : (s next : Session) (event : line.Event) (told : line_reply.Reply) → IsOrdered s.world → Move s event told next → shown_by_line s.world event told ≤ settled_count next.world
+pub line_shown : (s next : Session) (event : line.Event) (told : line_reply.Reply) → IsOrdered s.world → Move s event told next → shown_by_line s.world event told ≤ settled_count next.world
 line_shown s next event told h move = at event move (line_keeps s next event told h move)
   where
     at : (event : line.Event) → Move s event told next → settled_count s.world ≤ settled_count next.world → shown_by_line s.world event told ≤ settled_count next.world
@@ -289,8 +290,11 @@ begun_core core w on (history, clock, is) nothing none kept = record {
   tickets = kept;
 }
 
-pub opened_core : {L : Type 0} (core : Core L) → IsOpened core.desk → core.held ≡ held.Nothing → core.permits.items ≡ [] → Keeps core.tickets [] → IsCore core
-opened_core core opened nothing none kept = ∥∥₁_map opened (λ (w, on, opening). (session_of w, begun_core core w on opening nothing none kept))
+pub idle_core : {L : Type 0} (core : Core L) → HasNothingOut core.desk → core.held ≡ held.Nothing → core.permits.items ≡ [] → IsCore core
+idle_core core (live, out) nothing none = merely (record {
+  permits = none ∙ sym live;
+  out = subst (HoldsOut (batch_out core.desk.waiting)) (sym nothing) (ap (option_map (batch_of core.desk.waiting)) out);
+})
 
 -- What is left when all events were told their replies
 

@@ -1,16 +1,17 @@
 -- What the turns of a batch make of a core and its session: it is sealed, settled, taken back or given up.
 use Rattle.std.proofs.Common.{◌≡◌, ℕ, ◌+◌, ◌≤◌, ◌==◌, Bool, true, false, not, [], ◌∷◌, ◌++◌, length, take, drop, Option, Some, None, Result, Ok, Err, inl, inr, refl, sym, ap, subst, ◌∙◌, append_assoc, length-append}
-use mathlib.Core.Logic.{∥∥₁_elim}
-use Rattle.std.specs.Prelude.{if◌then◌else◌, List, IsPermutation, IsSomeAnd}
+use mathlib.Core.Logic.{∥∥₁_elim, ∥∥₁_map}
+use Rattle.std.specs.Prelude.{if◌then◌else◌, List, IsPermutation, IsSomeAnd, option_map}
 use Rattle.std.specs.Coded.{Coded, Coded-set, codes}
 use Rattle.std.proofs.lemmas.List.Sorted.{IsPermutation-refl}
 use Rattle.permits.specs.declared.row.Row.{Row}
 use Rattle.group_commit.specs.declared.held.Held as waiting
 use Rattle.group_commit.specs.declared.held.Held.TheVariants as waiting_held
-use Rattle.group_commit.specs.Waits.{WaitingValue, batch_of}
+use Rattle.group_commit.specs.Waits.{WaitingValue, batch_of, batch_out}
+use Rattle.group_commit.specs.Turns as turns
 use Rattle.std.proofs.lemmas.List.{take-append-drop, take-take}
 use Rattle.relay_types.specs.Records.{History, records_of}
-use Rattle.spool.specs.Batches.{BatchValue, doubt_of}
+use Rattle.spool.specs.Batches.{BatchValue, DoubtValue, doubt_of}
 use Rattle.script_lines.specs.declared.reply.Reply.{Reply}
 use Rattle.script_lines.specs.declared.reply.Reply.TheVariants as says
 use Rattle.desk.specs.declared.refusal.Fault.TheVariants as desk_fault
@@ -18,15 +19,14 @@ use Rattle.desk.specs.declared.refusal.Refusal.{Refusal}
 use Rattle.desk.specs.World.{World, Out, Nothing, Batch, Receipt, Doubt, settled_records, sealed_records}
 use Rattle.desk.specs.Moves as desk
 use Rattle.desk.specs.Moves.{MayGive, refused, seal, seal_waiting, sealed_batch, with_batch, with_sealed_settled, with_batch_back, with_halt, is_nothing_out}
-use Rattle.desk.specs.Desks.{StandsFor, IsMove, IsReceiptOf, ArePlacesOf, IsHeldOf, IsAllOut, OverWorlds}
-use Rattle.desk.proofs.TurnLaws.{held_is, receipt_is}
+use Rattle.desk.specs.Desks.{StandsFor, IsMove, IsReceiptOf, ArePlacesOf, IsHeldOf, IsAllOut, KeepsOut, OverWorlds}
 use Rattle.drill.specs.declared.calls.Core.{Core}
 use Rattle.drill.specs.declared.held.Held.{Held}
 use Rattle.drill.specs.declared.held.Held.TheVariants as held
 use Rattle.drill.specs.Tickets.{Keeps}
 use Rattle.drill.specs.Moves.{Session, Answer, MayTell, moves, stays, tells, seal_reply, settles, unseals, halts, unsealed_reply}
-use Rattle.drill.specs.Cores.{IsHeld, AreOnce, CoreStandsFor, CoreAnswers, IsCore, HandsOver, receipt_of, given_of}
-use Rattle.drill.proofs.CoreLaws.{tells_given}
+use Rattle.drill.specs.Cores.{IsHeld, AreOnce, CoreStandsFor, CoreAnswers, HoldsAll, HoldsOut, IsCore, HandsOver, KeepsOn, receipt_of, given_of}
+use Rattle.drill.proofs.CoreLaws.{holds_so, tells_given}
 
 pub is_nothing : (o : Out) → is_nothing_out o ≡ true → o ≡ Nothing
 is_nothing Nothing h = refl
@@ -99,9 +99,13 @@ unsealed_move mark w result next unsealed = at w.halted (is_nothing_out w.out) (
     at false true false (inr without) = without.1
 
 pub answers_sealed : {L : Type 0} (old new : Core L) (batch : BatchValue) → IsMove old.desk (seal old.desk.waiting.mark) (Ok (Some batch)) new.desk → new.desk.waiting.mark ≡ old.desk.waiting.mark
-    → new.permits.items ≡ old.permits.items → new.tickets ≡ old.tickets → new.held ≡ held.Batch batch → CoreAnswers old (λ s. tells seal_reply s (seal 0 s.world)) (seal_reply (Ok (Some batch))) new
-answers_sealed old new batch moved mark permits tickets same = record {
+    → new.desk.live ≡ old.desk.live → batch_out new.desk.waiting ≡ Some batch → new.permits.items ≡ old.permits.items → new.tickets ≡ old.tickets → new.held ≡ held.Batch batch → CoreAnswers old (λ s. tells seal_reply s (seal 0 s.world)) (seal_reply (Ok (Some batch))) new
+answers_sealed old new batch moved mark live out permits tickets same = record {
   mark = mark;
+  keeps = λ core. ∥∥₁_map core (λ (h : HoldsAll old). record {
+    permits = permits ∙ h.permits ∙ sym live;
+    out = subst (HoldsOut (batch_out new.desk.waiting)) (sym same) out;
+  });
   moves = λ s on.
       let move = moved s.world on.desk in
       let made = sealed_move old.desk.waiting.mark s.world batch move.0 move.1 in
@@ -119,9 +123,10 @@ answers_sealed old new batch moved mark permits tickets same = record {
 }
 
 pub answers_unsealed : {L : Type 0} (old new : Core L) (result : Result (Option BatchValue) Refusal) → is_sealed result ≡ false → IsMove old.desk (seal old.desk.waiting.mark) result new.desk
-    → new.desk.waiting.mark ≡ old.desk.waiting.mark → new.permits.items ≡ old.permits.items → new.tickets ≡ old.tickets → new.held ≡ old.held → CoreAnswers old (λ s. tells seal_reply s (seal 0 s.world)) (seal_reply result) new
-answers_unsealed old new result unsealed moved mark permits tickets same = record {
+    → new.desk.waiting.mark ≡ old.desk.waiting.mark → KeepsOut old.desk new.desk → new.permits.items ≡ old.permits.items → new.tickets ≡ old.tickets → new.held ≡ old.held → CoreAnswers old (λ s. tells seal_reply s (seal 0 s.world)) (seal_reply result) new
+answers_unsealed old new result unsealed moved mark out permits tickets same = record {
   mark = mark;
+  keeps = holds_so old new out same permits;
   moves = λ s on.
       let move = moved s.world on.desk in
       let stayed = unsealed_move old.desk.waiting.mark s.world result move.0 unsealed move.1 in (
@@ -171,15 +176,24 @@ ended old new s next on desk out live permits tickets same = record {
   tickets = subst (λ t. Keeps t s.tickets) (sym tickets) on.tickets;
 }
 
+-- whatever was read of the store
+ended_so : {L : Type 0} (old new : Core L) → new.desk.live ≡ old.desk.live → new.desk.waiting.out ≡ None → new.permits.items ≡ old.permits.items → new.held ≡ held.Nothing → IsCore old → IsCore new
+ended_so old new live out permits same core = ∥∥₁_map core (λ (h : HoldsAll old). record {
+  permits = permits ∙ h.permits ∙ sym live;
+  out = subst (HoldsOut (batch_out new.desk.waiting)) (sym same) (ap (option_map (batch_of new.desk.waiting)) out);
+})
+
 -- what is held is at the places of what is out
 are_places : (mark : ℕ) (w : World) (batch : BatchValue) → IsHeld mark w (held.Batch batch) → ArePlacesOf mark w (doubt_of batch)
 are_places mark w batch h = (ap is_nothing_out h.0, ap doubt_of h.1)
 
 pub answers_settled : {L : Type 0} (old new : Core L) (receipt : BatchValue) (records : ℕ) → held.Receipt receipt ≡ old.held
     → OverWorlds old.desk (λ w. IsReceiptOf old.desk.waiting.mark w receipt × StandsFor new.desk (with_sealed_settled w)) → OverWorlds old.desk (λ w. records ≡ length (sealed_records w))
-    → new.desk.waiting.mark ≡ old.desk.waiting.mark → new.permits.items ≡ old.permits.items → new.tickets ≡ old.tickets → new.held ≡ held.Nothing → CoreAnswers old (λ s. settles s s.world.out) (says.SettledTo records) new
-answers_settled old new receipt records was moved counts mark permits tickets same = record {
+    → new.desk.waiting.mark ≡ old.desk.waiting.mark → new.desk.live ≡ old.desk.live → new.desk.waiting.out ≡ None
+    → new.permits.items ≡ old.permits.items → new.tickets ≡ old.tickets → new.held ≡ held.Nothing → CoreAnswers old (λ s. settles s s.world.out) (says.SettledTo records) new
+answers_settled old new receipt records was moved counts mark live out permits tickets same = record {
   mark = mark;
+  keeps = ended_so old new live out permits same;
   moves = λ s on.
       let had = subst (IsHeld old.desk.waiting.mark s.world) (sym was) on.held in
       let next = with_sealed_settled s.world in (
@@ -191,9 +205,11 @@ answers_settled old new receipt records was moved counts mark permits tickets sa
 
 pub answers_taken_back : {L : Type 0} (old new : Core L) (batch : BatchValue) (from to : ℕ) → held.Batch batch ≡ old.held → from ≡ batch.from → to ≡ (doubt_of batch).upto
     → OverWorlds old.desk (λ w. ArePlacesOf old.desk.waiting.mark w (doubt_of batch) × StandsFor new.desk (with_batch_back w))
-    → new.desk.waiting.mark ≡ old.desk.waiting.mark → new.permits.items ≡ old.permits.items → new.tickets ≡ old.tickets → new.held ≡ held.Nothing → CoreAnswers old (λ s. unseals s s.world.out) (says.Unsealed from to) new
-answers_taken_back old new batch from to was first last moved mark permits tickets same = record {
+    → new.desk.waiting.mark ≡ old.desk.waiting.mark → new.desk.live ≡ old.desk.live → new.desk.waiting.out ≡ None
+    → new.permits.items ≡ old.permits.items → new.tickets ≡ old.tickets → new.held ≡ held.Nothing → CoreAnswers old (λ s. unseals s s.world.out) (says.Unsealed from to) new
+answers_taken_back old new batch from to was first last moved mark live out permits tickets same = record {
   mark = mark;
+  keeps = ended_so old new live out permits same;
   moves = λ s on.
       let had = subst (IsHeld old.desk.waiting.mark s.world) (sym was) on.held in
       let next = with_batch_back s.world in
@@ -212,7 +228,43 @@ answers_taken_back old new batch from to was first last moved mark permits ticke
 pub answers_idle : {L : Type 0} (old new : Core L) (answer : Session → Answer) (reply : Reply) → ((s : Session) → IsHeld old.desk.waiting.mark s.world old.held → answer s ≡ stays s reply)
     → new ≡ old → CoreAnswers old answer reply new
 answers_idle {L} old new answer reply says same = subst (CoreAnswers old answer reply) (sym same)
-    (record { mark = refl; moves = λ s on. (s, subst (λ a. MayTell a reply s) (sym (says s on.held)) (inl (refl, refl)), on) })
+    (record { mark = refl; moves = λ s on. (s, subst (λ a. MayTell a reply s) (sym (says s on.held)) (inl (refl, refl)), on); keeps = λ same. same })
+
+-- What is held is what is out
+
+-- the batch that is out has so many of the steps that wait
+out_at : (w : WaitingValue) (batch : BatchValue) → batch_out w ≡ Some batch → turns.IsReceiptOf w batch
+out_at w batch = at w.out
+  where
+    one : {X : Type 0} {x y : X} → Some x ≡ Some y → y ≡ x
+    one e = cc
+
+    at : (o : Option ℕ) → option_map (batch_of w) o ≡ Some batch → IsSomeAnd o (λ count. batch ≡ batch_of w count)
+    at None e = cc
+    at (Some count) e = one e
+
+places_at : (w : WaitingValue) (doubt : DoubtValue) → option_map doubt_of (batch_out w) ≡ Some doubt → turns.ArePlacesOf w doubt
+places_at w doubt = at w.out
+  where
+    one : {X : Type 0} {x y : X} → Some x ≡ Some y → y ≡ x
+    one e = cc
+
+    at : (o : Option ℕ) → option_map doubt_of (option_map (batch_of w) o) ≡ Some doubt → IsSomeAnd o (λ count. doubt ≡ doubt_of (batch_of w count))
+    at None e = cc
+    at (Some count) e = one e
+
+none_out : (w : WaitingValue) → batch_out w ≡ None → w.out ≡ None
+none_out w = at w.out
+  where
+    at : (o : Option ℕ) → option_map (batch_of w) o ≡ None → o ≡ None
+    at None e = refl
+    at (Some count) e = cc
+
+pub all_out : (w : WaitingValue) (now : Held) → HoldsOut (batch_out w) now → IsAllOut w (receipt_of now) (given_of now)
+all_out w held.Nothing h = none_out w h
+all_out w (held.Batch batch) h = places_at w (doubt_of batch) (ap (option_map doubt_of) h)
+all_out w (held.Receipt receipt) h = out_at w receipt h
+all_out w (held.Doubt doubt) h = places_at w doubt h
 
 -- Halts
 
@@ -221,6 +273,13 @@ is_no_receipt held.Nothing = true
 is_no_receipt (held.Batch batch) = true
 is_no_receipt (held.Receipt receipt) = false
 is_no_receipt (held.Doubt doubt) = true
+
+-- and where it isn't a receipt, the desk takes it
+haltable_out : (w : WaitingValue) (now : Held) → is_no_receipt now ≡ true → HoldsOut (batch_out w) now → turns.IsHeldOf w (given_of now)
+haltable_out w held.Nothing e h = none_out w h
+haltable_out w (held.Batch batch) e h = places_at w (doubt_of batch) (ap (option_map doubt_of) h)
+haltable_out w (held.Receipt receipt) e h = absurd (let no = e in cc)
+haltable_out w (held.Doubt doubt) e h = places_at w doubt h
 
 -- what is so of a held thing that isn't a receipt
 record IsHaltable (mark : ℕ) (s : Session) (now : Held) : Type 0 where
@@ -234,9 +293,15 @@ is_haltable mark s (held.Receipt receipt) e h = absurd (let no = e in cc)
 is_haltable mark s (held.Doubt doubt) e h = record { out = (ap is_nothing_out h.0, h.1); answer = ap (halts s) h.0 }
 
 pub answers_halted : {L : Type 0} (old new : Core L) (now gone : Held) (reply : Reply) → now ≡ old.held → gone ≡ held.Nothing → is_no_receipt now ≡ true → HandsOver (record old { held = gone }) (given_of now) reply new
-    → new.desk.waiting.mark ≡ old.desk.waiting.mark → new.permits.items ≡ old.permits.items → new.tickets ≡ old.tickets → CoreAnswers old (λ s. halts s s.world.out) reply new
-answers_halted old new now gone reply was nothing none over mark permits tickets = record {
+    → new.desk.waiting.mark ≡ old.desk.waiting.mark → new.desk.live ≡ old.desk.live → (turns.IsHeldOf old.desk.waiting (given_of now) → (new.held ≡ gone) × (new.desk.waiting.out ≡ None))
+    → new.permits.items ≡ old.permits.items → new.tickets ≡ old.tickets → CoreAnswers old (λ s. halts s s.world.out) reply new
+answers_halted old new now gone reply was nothing none over mark live gives permits tickets = record {
   mark = mark;
+  keeps = λ core. ∥∥₁_map core (λ (h : HoldsAll old).
+      let (same, out) = gives (haltable_out old.desk.waiting now none (subst (HoldsOut (batch_out old.desk.waiting)) (sym was) h.out)) in record {
+        permits = permits ∙ h.permits ∙ sym live;
+        out = subst (HoldsOut (batch_out new.desk.waiting)) (sym (same ∙ nothing)) (ap (option_map (batch_of new.desk.waiting)) out);
+      });
   moves = λ s on.
       let may = is_haltable old.desk.waiting.mark s now none (subst (IsHeld old.desk.waiting.mark s.world) (sym was) on.held) in
       let done = over s.world on.desk may.out in
@@ -247,17 +312,34 @@ answers_halted old new now gone reply was nothing none over mark permits tickets
       );
 }
 
--- All that is out is held.
-all_out_held : {L : Type 0} (core : Core L) (s : Session) → CoreStandsFor core s → IsAllOut core.desk.waiting (receipt_of core.held) (given_of core.held)
-all_out_held core s on = at core.held on.held
-  where
-    at : (now : Held) → IsHeld core.desk.waiting.mark s.world now → IsAllOut core.desk.waiting (receipt_of now) (given_of now)
-    at held.Nothing h = (held_is (given_of held.Nothing) on.desk).1 (ap is_nothing_out h)
-    at (held.Batch batch) h = (held_is (given_of (held.Batch batch)) on.desk).1 (are_places core.desk.waiting.mark s.world batch h)
-    at (held.Receipt receipt) h = (receipt_is receipt on.desk).1 (ap is_nothing_out h.0, h.1)
-    at (held.Doubt doubt) h = (held_is (given_of (held.Doubt doubt)) on.desk).1 (ap is_nothing_out h.0, h.1)
+-- A receipt is held, so what is out isn't given up.
+pub answers_not_halted : {L : Type 0} (old middle : Core L) (gone : Held) (receipt : BatchValue) (reply : Reply) → held.Receipt receipt ≡ old.held → KeepsOn (record old { held = gone }) waiting_held.Nothing reply middle
+    → (¬ turns.IsHeldOf old.desk.waiting waiting_held.Nothing → middle.desk ≡ old.desk) → middle.desk.waiting.mark ≡ old.desk.waiting.mark
+    → middle.permits.items ≡ old.permits.items → middle.tickets ≡ old.tickets → CoreAnswers old (λ s. halts s s.world.out) reply (record middle { held = held.Receipt receipt })
+answers_not_halted old middle gone receipt reply was over kept mark permits tickets = record {
+  mark = mark;
+  keeps = λ core. ∥∥₁_map core (λ (h : HoldsAll old).
+      let out : batch_out old.desk.waiting ≡ Some receipt = subst (HoldsOut (batch_out old.desk.waiting)) (sym was) h.out in
+      let same = kept (λ idle. let no : None ≡ Some receipt = sym (ap (option_map (batch_of old.desk.waiting)) idle) ∙ out in cc) in record {
+        permits = permits ∙ h.permits ∙ ap (λ d. d.live) (sym same);
+        out = ap (λ d. batch_out d.waiting) same ∙ out;
+      });
+  moves = λ s on.
+      let had : (s.world.out ≡ Receipt) × (receipt ≡ sealed_batch old.desk.waiting.mark s.world) = subst (IsHeld old.desk.waiting.mark s.world) (sym was) on.held in
+      let (told, stands) = over s.world on.desk (λ idle. let no : false ≡ true = sym (ap is_nothing_out had.0) ∙ idle in cc) in (
+        s,
+        subst (λ o. MayTell (halts s o) reply s) (sym had.0) (inl (told, refl)),
+        record {
+          desk = stands;
+          held = (had.0, had.1 ∙ ap (λ m. sealed_batch m s.world) (sym mark));
+          permits = permits ∙ on.permits;
+          once = on.once;
+          tickets = subst (λ t. Keeps t s.tickets) (sym tickets) on.tickets;
+        },
+      );
+}
 
--- two proofs of it are one
+-- All that is out is held: two proofs of it are one
 
 prop_at : {X : Type 0} → Coded X → (o : Option ℕ) (a : X) (f : ℕ → X) → (x y : IsSomeAnd o (λ n. a ≡ f n)) → x ≡ y
 prop_at code None a f x y = absurd x
@@ -272,10 +354,10 @@ prop_all_out w (Some receipt) (waiting_held.Batch batch) = λ x y. absurd x
 prop_all_out w (Some receipt) (waiting_held.Doubt doubt) = λ x y. absurd x
 
 pub all_held : {L : Type 0} (core : Core L) → IsCore core → IsAllOut core.desk.waiting (receipt_of core.held) (given_of core.held)
-all_held core is = ∥∥₁_elim is (prop_all_out core.desk.waiting (receipt_of core.held) (given_of core.held)) (λ (s, on). all_out_held core s on)
+all_held core is = ∥∥₁_elim is (prop_all_out core.desk.waiting (receipt_of core.held) (given_of core.held)) (λ (h : HoldsAll core). all_out core.desk.waiting core.held h.out)
 
 prop_rows : (rows others : List Row) → (x y : rows ≡ others) → x ≡ y
 prop_rows = Coded-set (Prim.hlevel codes)
 
 pub all_given : {L : Type 0} (core : Core L) → IsCore core → IsPermutation core.permits.items core.desk.live
-all_given core is = subst (IsPermutation core.permits.items) (∥∥₁_elim is (prop_rows core.permits.items core.desk.live) (λ (s, on). on.permits ∙ sym on.desk.live)) (IsPermutation-refl core.permits.items)
+all_given core is = subst (IsPermutation core.permits.items) (∥∥₁_elim is (prop_rows core.permits.items core.desk.live) (λ (h : HoldsAll core). h.permits)) (IsPermutation-refl core.permits.items)

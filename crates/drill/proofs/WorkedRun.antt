@@ -20,7 +20,8 @@ use Rattle.recovery.specs.Left.{records_of_first}
 use Rattle.drill.specs.declared.tickets.Given.{Given}
 use Rattle.drill.specs.declared.tickets.Given.TheVariants.{Submission, Command}
 use Rattle.drill.specs.Moves.{Session, begun, spent_reply}
-use Rattle.drill.specs.Runs.{Run, replies_of, replies_text}
+use Rattle.drill.specs.Runs.{Run, replies_of}
+use Rattle.drill.specs.Restarts.{replies_text}
 use Rattle.drill.specs.Unrecorded.{unrecorded}
 
 events : List Event

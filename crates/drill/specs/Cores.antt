@@ -1,9 +1,10 @@
 -- The desk with what it has handed out, and the sessions for which they stand.
-use Rattle.std.specs.Prelude.{◌≡◌, ℕ, ◌+◌, ◌≤◌, Bool, true, false, List, Option, Some, None, count_by, ◌==◌, vec_len, vec_capacity}
+use Rattle.std.specs.Prelude.{◌≡◌, ℕ, ◌+◌, ◌≤◌, Bool, true, false, List, Option, Some, None, option_map, count_by, ◌==◌, vec_len, vec_capacity}
 use Rattle.std.specs.HashMap.{spare}
 use Rattle.relay_types.specs.Values.{Seq}
 use Rattle.permits.specs.declared.row.Row.{Row}
 use Rattle.spool.specs.Batches.{BatchValue, doubt_of}
+use Rattle.group_commit.specs.Waits.{batch_out}
 use Rattle.group_commit.specs.declared.held.Held as waiting
 use Rattle.group_commit.specs.declared.held.Held.TheVariants as waiting_held
 use Rattle.script_lines.specs.declared.event.Event.{Event}
@@ -39,9 +40,20 @@ pub record CoreStandsFor {L : Type 0} (core : Core L) (s : Session) : Type 0 whe
   pub once : AreOnce s.world.live
   pub tickets : tickets.Keeps core.tickets s.tickets
 
--- they stand for some session
+-- what is held is the batch that is out, in whichever form
+abbrev pub HoldsOut : (out : Option BatchValue) → Held → Type 0
+HoldsOut out held.Nothing = out ≡ None
+HoldsOut out (held.Batch batch) = out ≡ Some batch
+HoldsOut out (held.Receipt receipt) = out ≡ Some receipt
+HoldsOut out (held.Doubt doubt) = option_map doubt_of out ≡ Some doubt
+
+-- Whatever the store gave back: the permits are those that are out at the desk, and what is held is what is out there.
+pub record HoldsAll {L : Type 0} (core : Core L) : Type 0 where
+  pub permits : core.permits.items ≡ core.desk.live
+  pub out : HoldsOut (batch_out core.desk.waiting) core.held
+
 abbrev pub IsCore : {L : Type 0} → Core L → Type 0
-IsCore core = ∥ ((s : Session) × CoreStandsFor core s) ∥₁
+IsCore core = ∥ HoldsAll core ∥₁
 
 -- so many more tickets and permits can be kept without memory
 abbrev pub HasRoom : {L : Type 0} → Core L → (count : ℕ) → Type 0
@@ -64,6 +76,7 @@ pub record KeepsAll {L : Type 0} (old new : Core L) : Type 0 where
 pub record CoreAnswers {L : Type 0} (old : Core L) (answer : Session → Answer) (reply : Reply) (new : Core L) : Type 0 where
   pub mark : new.desk.waiting.mark ≡ old.desk.waiting.mark
   pub moves : (s : Session) → CoreStandsFor old s → (next : Session) × MayTell (answer s) reply next × CoreStandsFor new next
+  pub keeps : IsCore old → IsCore new
 
 -- whether the call is one of the store
 abbrev pub is_commit : Event → Bool

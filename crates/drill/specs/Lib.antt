@@ -6,6 +6,8 @@ pub mod Unrecorded
 pub mod Cores
 pub mod Runners
 pub mod Worlds
+pub mod Players
+pub mod Restarts
 pub mod Replays
 pub mod Places
 pub mod Within

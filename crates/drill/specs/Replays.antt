@@ -2,37 +2,64 @@
 use Rattle.std.specs.Prelude.{◌≡◌, ◌⊎◌, ℕ, List, Option, Result, Err}
 use Rattle.sqlite.specs.Store.{Ghosts}
 use Rattle.sqlite.specs.Held.{Held}
-use Rattle.script_lines.specs.declared.event.Event.{Event}
+use Rattle.script_lines.specs.declared.event.Line.{Line}
 use Rattle.text_lines.specs.declared.fault.StreamFault.{StreamFault}
 use Rattle.text_lines.specs.declared.fault.StreamFault.TheVariants.{Lost, OutOfMemory}
 use Rattle.script_lines.specs.declared.reply.Reply.{Reply}
 use Rattle.text_lines.specs.Ends.{Ends}
 use Rattle.script_lines.specs.Replies.{reply_text}
-use Rattle.drill.specs.Moves.{Session, answer_to}
+use Rattle.script_lines.specs.Script.{IsLine}
+use Rattle.recovery.specs.Left.{KeepsRows, IsCleanAt}
+use Rattle.drill.specs.Moves.{Session}
+use Rattle.drill.specs.declared.player.Player.{Player}
+use Rattle.drill.specs.declared.player.State.{State}
+use Rattle.drill.specs.declared.player.State.TheVariants.{Open, Shut, Between}
 use Rattle.drill.specs.declared.runner.Runner.{Runner}
-use Rattle.drill.specs.Runners.{Answers}
-use Rattle.recovery.specs.Left.{KeepsRows}
-use Rattle.drill.specs.Runs.{IsNoCall, Replies, RepliesTo}
+use Rattle.drill.specs.Events.{IsKept}
+use Rattle.drill.specs.Restarts.{IsNoLine, Replies, RepliesTo, Takes}
+use Rattle.drill.specs.Runners.{RunStandsFor}
 use Rattle.drill.specs.Unrecorded.{ArePendingAgain}
-use Rattle.script_lines.specs.Script.{ReadsLine}
 
 -- The replies to the lines of the reader's text are written, as far as this end says.
 abbrev pub Replays : Option (List ℕ) → Option (List ℕ) → Option (List ℕ) → Result (Unit {0}) StreamFault → Type 0
-Replays input old new end = Ends Replies IsNoCall input old new end
+Replays input old new end = Ends Replies IsNoLine input old new end
 
 -- the store wasn't opened
 abbrev pub IsUnopened : Result (Unit {0}) StreamFault → Type 0
 IsUnopened end = (end ≡ Err Lost) ⊎ (end ≡ Err OutOfMemory)
 
--- what a stop leaves of the connection at the end of a run, and that what it takes back is pending again
-abbrev pub LeavesRun : {S : Type 0} → Ghosts S → Held S → Session → Type 0
-LeavesRun g conn last = KeepsRows g conn last.world × ArePendingAgain last.world
+-- What a stop leaves of the connection at the end of a run, that all records that were shown to be settled are there, and that each
+-- attempt without an outcome there is pending again.
+pub record LeavesRun {S : Type 0} (g : Ghosts S) (conn : Held S) (last : Session) (acknowledged : ℕ) : Type 0 where
+  pub leaves : KeepsRows g conn last.world
+  pub kept : IsKept last.world acknowledged
+  pub again : ArePendingAgain last.world
 
 -- They are those of a run whose rows the connection has.
 abbrev pub KeepsRun : {S : Type 0} → Ghosts S → Held S → Option (List ℕ) → Option (List ℕ) → Option (List ℕ) → Result (Unit {0}) StreamFault → Type 0
-KeepsRun g conn input old new end = Ends (RepliesTo (LeavesRun g conn)) IsNoCall input old new end
+KeepsRun g conn input old new end = Ends (RepliesTo (LeavesRun g conn)) IsNoLine input old new end
 
--- from one state to the other, the line's call is answered by this text
-abbrev pub RunsLine : {L S : Type 0} → (g : Ghosts S) → Runner L S g → List ℕ → List ℕ → Runner L S g → Type 0
-RunsLine g old line text new = (event : Event) × (reply : Reply) × ReadsLine line event
-    × Answers g old.core old.vault (λ s. answer_to s event) reply new.core new.vault × (text ≡ reply_text reply)
+-- what is replayed is open, and its core and its store stand for the session
+abbrev pub StateStandsFor : {L S : Type 0} → (g : Ghosts S) → State L S g → Session → Type 0
+StateStandsFor {L} {S} g state s = (runner : Runner L S g) × (state ≡ Open runner) × RunStandsFor g runner.core runner.vault s
+
+-- From each session for which the one stood, the line is told what leads to one for which the other does.
+abbrev pub TakesLine : {L S : Type 0} → (g : Ghosts S) → State L S g → Line → Reply → State L S g → Type 0
+TakesLine g old line reply new =
+    (s : Session) → StateStandsFor g old s → (next : Session) × Takes s line reply next × StateStandsFor g new next
+
+-- from one state to the other, the line is answered by this text
+abbrev pub RunsLine : {L S : Type 0} → (g : Ghosts S) → Player L S g → List ℕ → List ℕ → Player L S g → Type 0
+RunsLine g old text told new = (line : Line) × (reply : Reply) × IsLine text line × TakesLine g old.state line reply new.state × (told ≡ reply_text reply)
+
+-- the disk has returned what was written, whether the store is open or not
+abbrev pub IsStateClean : {L S : Type 0} → (g : Ghosts S) → State L S g → Type 0
+IsStateClean g (Open runner) = IsCleanAt g runner.vault.conn
+IsStateClean g (Shut conn) = IsCleanAt g conn
+IsStateClean g Between = Unit {0}
+
+-- the connection of what stands here
+abbrev pub IsConnOf : {L S : Type 0} → (g : Ghosts S) → State L S g → Held S → Type 0
+IsConnOf g (Open runner) conn = conn ≡ runner.vault.conn
+IsConnOf g (Shut left) conn = conn ≡ left
+IsConnOf g Between conn = ⊥

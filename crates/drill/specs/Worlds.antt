@@ -24,10 +24,6 @@ use Rattle.drill.specs.Runners.{RunStandsFor}
 abbrev pub IsOpening : World → Type 0
 IsOpening w = (history : History) × (clock : Seconds) × (w ≡ opened history clock)
 
--- the desk stands for some opening
-abbrev pub IsOpened : DeskValue → Type 0
-IsOpened desk = ∥ ((w : World) × StandsFor desk w × IsOpening w) ∥₁
-
 -- the session in which a run from this world begins: no ticket was given
 abbrev pub session_of : World → Session
 session_of w = record { world = w; tickets = [] }

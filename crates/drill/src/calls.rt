@@ -2,7 +2,7 @@
 ghost use Rattle.std.specs.Prelude.{◌≡◌, [], ◌≤◌, ◌+◌, false, IsPermutation, OnOk, vec_capacity, vec_len};
 ghost use Rattle.script_lines.specs.declared.event.Event.TheVariants as on;
 ghost use Rattle.desk.specs.World.{World, Nothing};
-ghost use Rattle.desk.specs.Desks.{StandsFor};
+ghost use Rattle.desk.specs.Desks.{HasNothingOut, StandsFor};
 ghost use Rattle.drill.specs.Moves.{answer_to};
 ghost use Rattle.drill.specs.Cores.{CoreStandsFor, CoreAnswers, IsCore, HasRoom, TakesRoom, KeepsAll, is_commit};
 ghost use Rattle.drill.specs.Runners.{Answers};
@@ -14,7 +14,7 @@ use crate::held::Held;
 use crate::looking::look_at;
 use crate::tickets::Tickets;
 use desk::{Command, Desk};
-use permits::Permit;
+use permits::{Permit, Pool};
 use script_lines::{Event, Reply};
 use spool::Vault;
 use sqlite::Alter;
@@ -33,6 +33,8 @@ pub(crate) struct Core<L: Ledger> {
 impl<L: Ledger> Core<L> {
     // A desk that has handed out nothing.
     pub(crate) fn of(alloc: Global, desk: Desk<L>) -> Core<L>
+        requires { HasNothingOut desk }
+        ensures core { IsCore result }
         ensures mark { result.desk.waiting.mark ≡ desk.waiting.mark }
         ensures stands { (w : World) → StandsFor desk w → w.out ≡ Nothing → w.live ≡ []
             → CoreStandsFor result (record { world = w; tickets = [] }) }
@@ -143,9 +145,10 @@ impl<L: Ledger> Core<L> {
         mem::replace(&mut self.held, held).end();
     }
 
-    // Closes the desk, with all that is out.
-    pub(crate) fn close(self)
+    // Closes the desk, with all that is out: its pool is empty.
+    pub(crate) fn close(self) -> Pool<L>
         requires { IsCore self }
+        ensures { result ≡ [] }
     {
         let Core {
             desk,
@@ -154,6 +157,6 @@ impl<L: Ledger> Core<L> {
             tickets: _,
         } = self;
         let (receipt, held) = held.parts();
-        desk.close(permits, receipt, held);
+        desk.close(permits, receipt, held)
     }
 }

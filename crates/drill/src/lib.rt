@@ -8,6 +8,8 @@ mod events;
 mod held;
 mod law;
 mod looking;
+mod player;
+mod playing;
 mod replies;
 mod requests;
 mod runner;

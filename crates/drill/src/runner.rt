@@ -1,38 +1,82 @@
 //! The runner of scripts: the desk with what it handed out, and the store.
-ghost use Rattle.std.specs.Prelude.{◌≡◌, ◌⊎◌, false, Err, IsTrue, IfOk, IfErr, MatchResult};
+ghost use Rattle.std.specs.Prelude.{◌≡◌, ◌≢◌, ◌⊎◌, [], false, Err, IsTrue, IfOk, IfErr, MatchResult};
 ghost use Rattle.permits.specs.declared.pool.TheConstants.{PARTS};
 ghost use Rattle.sqlite.specs.Held.{state};
 ghost use Rattle.spool.specs.Opening.{has_ours};
-ghost use Rattle.drill.specs.Moves.{begun};
+ghost use Rattle.drill.specs.Moves.{Session, answer_to, begun};
 ghost use Rattle.drill.specs.Cores.{IsCore};
-ghost use Rattle.drill.specs.Runners.{RunStandsFor};
+ghost use Rattle.drill.specs.Restarts.{OpensAgain};
+ghost use Rattle.drill.specs.Runners.{Answers, RunStandsFor};
 ghost use Rattle.recovery.specs.Left.{IsCleanAt, HasNoTable};
 
 use crate::calls::Core;
-use permits::PARTS;
-use recovery::create;
+use permits::{PARTS, Pool};
+use recovery::{create, reopen};
+use script_lines::{Event, Reply};
 use spool::Vault;
 use sqlite::{Alter, Connection};
-use std::alloc::Global;
+use std::alloc::{AllocError, Global};
 use std::sync::ledger::{Blank, Ledger};
-use text_lines::StreamFault;
+use text_lines::{LineFault, StreamFault};
 
 /// The desk with what it handed out, and the store. It stands for some session at each line.
 pub(crate) struct Runner<L: Ledger, S: Alter> {
     pub(crate) core: Core<L>,
     pub(crate) vault: Vault<S>,
+    pub(crate) mark: u64,
     ghost stands: { IsCore core },
 }
 
 impl<L: Ledger, S: Alter> Runner<L, S> {
-    // Closes the desk with all that is out: the store's connection.
-    pub(crate) fn close(self) -> Connection<S>
-        ensures same { result ≡ self.vault.conn }
-        ensures mode { result.in_transaction ≡ false }
+    // Makes one call.
+    pub(crate) fn call(&mut self, event: Event) -> Result<Reply, AllocError>
+        ensures answers { IsCleanAt S.Store self.new.vault.conn → IfOk result (λ reply.
+            Answers S.Store self.old.core self.old.vault (λ s. answer_to s event) reply self.new.core self.new.vault) }
+        ensures clean { IsCleanAt S.Store self.new.vault.conn → IsCleanAt S.Store self.old.vault.conn }
     {
-        let Runner { core, vault } = self;
-        core.close();
-        vault.release()
+        self.core.reserve(1)?;
+        Ok(self.core.carry_out(&mut self.vault, event))
+    }
+
+    // Closes the desk with all that is out, and opens the store again, under the next mark.
+    pub(crate) fn reopen(
+        self,
+        alloc: Global,
+    ) -> Result<(Runner<L, S>, Reply), (Connection<S>, LineFault)>
+        ensures opens { IfOk result (λ to. IsCleanAt S.Store to.0.vault.conn → (s : Session)
+            → RunStandsFor S.Store self.core self.vault s
+            → (next : Session) × OpensAgain s s.world.left to.1 next × RunStandsFor S.Store to.0.core to.0.vault next) }
+        ensures fault { IfErr result (λ back. back.1 ≢ LineFault.Bad) }
+        ensures clean { MatchResult result
+            (λ to. IsCleanAt S.Store to.0.vault.conn → IsCleanAt S.Store self.vault.conn)
+            (λ back. IsCleanAt S.Store back.0 → IsCleanAt S.Store self.vault.conn) }
+        ensures mode { IfErr result (λ back. back.0.in_transaction ≡ false) }
+    {
+        let mark = self.mark.wrapping_add(1);
+        let (pool, conn) = self.close();
+        match reopen(alloc, pool, conn, mark) {
+            Ok((desk, vault)) => {
+                let records = vault.next();
+                let core = Core::of(alloc, desk);
+                Ok((Runner { core, vault, mark }, Reply::Reopened { records }))
+            }
+            Err((conn, fault)) if fault.is_memory() => Err((conn, LineFault::OutOfMemory)),
+            Err((conn, _)) => Err((conn, LineFault::Lost)),
+        }
+    }
+
+    // Closes the desk with all that is out: its pool, which is empty, and the store's connection.
+    pub(crate) fn close(self) -> (Pool<L>, Connection<S>)
+        ensures empty { result.0 ≡ [] }
+        ensures same { result.1 ≡ self.vault.conn }
+        ensures mode { result.1.in_transaction ≡ false }
+    {
+        let Runner {
+            core,
+            vault,
+            mark: _,
+        } = self;
+        (core.close(), vault.release())
     }
 }
 
@@ -65,6 +109,7 @@ pub(crate) fn start<L: Ledger, S: Alter>(
         Ok((desk, vault)) => Ok(Runner {
             core: Core::of(alloc, desk),
             vault,
+            mark,
         }),
         Err((conn, fault)) if fault.is_memory() => Err((conn, StreamFault::OutOfMemory)),
         Err((conn, _)) => Err((conn, StreamFault::Lost)),

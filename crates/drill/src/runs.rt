@@ -1,11 +1,11 @@
 //! Runs: calls of the core, one after another.
 ghost use Rattle.std.specs.Prelude.{◌≡◌, ◌+◌, ◌≤◌, ◌++◌, ◌∷◌, [], length, IfErr, IfOk, IsPermutation, OnOk, vec_capacity, vec_len};
-ghost use Rattle.desk.specs.Desks.{IsAllOut, StandsFor};
+ghost use Rattle.desk.specs.Desks.{HasNothingOut, IsAllOut, StandsFor};
 ghost use Rattle.desk.specs.World as model;
 ghost use Rattle.drill.specs.Cores.{HasRoom, IsCore, TakesRoom};
 ghost use Rattle.drill.specs.Places.{HasPlaces};
 ghost use Rattle.drill.specs.Tickets.{Keeps};
-ghost use Rattle.drill.specs.Worlds.{IsOpened, IsOpening, IsRunFrom, TakesEvents, session_of};
+ghost use Rattle.drill.specs.Worlds.{IsOpening, IsRunFrom, TakesEvents, session_of};
 ghost use Rattle.recovery.specs.Left.{IsCleanAt, VaultStandsFor};
 
 use crate::calls::Core;
@@ -39,8 +39,9 @@ pub fn run<L: Ledger, S: Alter>(
     vault: Vault<S>,
     events: &[Event],
 ) -> Result<World<L, S>, (Desk<L>, Vault<S>, AllocError)>
-    requires opened { IsOpened desk }
-    ensures runs { IfOk result (λ to. IsCleanAt S.Store to.vault.conn → desk.waiting.mark ≡ vault.mark
+    requires out { HasNothingOut desk }
+    requires mark { desk.waiting.mark ≡ vault.mark }
+    ensures runs { IfOk result (λ to. IsCleanAt S.Store to.vault.conn
         → (w : model.World) → IsOpening w → StandsFor desk w → VaultStandsFor S.Store vault w
         → IsRunFrom S.Store (session_of w) events.now to) }
     ensures replies { IfOk result (λ to. length to.replies.items ≡ length events.now) }
@@ -96,11 +97,12 @@ fn share_all(alloc: Global, events: &[Event]) -> Result<Vec<Event>, AllocError>
 
 // Makes the calls in the places that were made for them.
 fn run_in<L: Ledger, S: Alter>(places: Places<L>, desk: Desk<L>, vault: Vault<S>) -> World<L, S>
-    requires opened { IsOpened desk }
+    requires out { HasNothingOut desk }
+    requires mark { desk.waiting.mark ≡ vault.mark }
     requires room { HasPlaces places }
     requires tickets { Keeps places.tickets [] }
     requires empty { (places.replies.items ≡ []) × (places.permits.items ≡ []) }
-    ensures runs { IsCleanAt S.Store result.vault.conn → desk.waiting.mark ≡ vault.mark
+    ensures runs { IsCleanAt S.Store result.vault.conn
         → (w : model.World) → IsOpening w → StandsFor desk w → VaultStandsFor S.Store vault w
         → IsRunFrom S.Store (session_of w) places.events.items result }
     ensures replies { length result.replies.items ≡ length places.events.items }

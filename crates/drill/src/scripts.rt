@@ -5,38 +5,44 @@ ghost use Rattle.sqlite.specs.Held.{state};
 ghost use Rattle.spool.specs.Opening.{has_ours};
 ghost use Rattle.text_lines.specs.Ends.{IsBetweenLines};
 ghost use Rattle.recovery.specs.Left.{IsCleanAt, HasNoTable};
-ghost use Rattle.drill.specs.Replays.{Replays, KeepsRun, RunsLine, IsUnopened};
-ghost use Rattle.drill.specs.Runs.{IsNoCall};
+ghost use Rattle.drill.specs.Replays.{Replays, KeepsRun, RunsLine, IsStateClean, IsUnopened};
+ghost use Rattle.drill.specs.Restarts.{IsNoLine};
 
-use crate::runner::{Runner, start};
+use crate::player::Player;
+use crate::runner::start;
 use permits::PARTS;
-use script_lines::{Reply, read_event};
+use script_lines::{Line, Reply, read_line};
 use sqlite::{Alter, Connection};
 use std::alloc::Global;
 use std::io::{Read, Write};
 use std::marker::Brand;
 use std::sync::ledger::{Blank, Ledger};
-use text_lines::{Answerer, StreamFault, WordFault, answer_lines};
+use text_lines::{Answerer, LineFault, StreamFault, answer_lines};
 
-impl<L: Ledger, S: Alter> Answerer for Runner<L, S> {
+impl<L: Ledger, S: Alter> Answerer for Player<L, S> {
     type Reply = Reply;
 
     ghost Answers = { RunsLine S.Store };
 
-    ghost IsNoLine = { IsNoCall };
+    ghost IsNoLine = { IsNoLine };
 
-    ghost IsClean = { λ runner. IsCleanAt S.Store runner.vault.conn };
+    ghost IsClean = { λ player. IsStateClean S.Store player.state };
 
-    fn answer(&mut self, alloc: Global, line: &[u8]) -> Result<Reply, WordFault> {
-        let event = read_event(alloc, line)?;
-        self.core.reserve(1)?;
-        Ok(self.core.carry_out(&mut self.vault, event))
+    ghost MayLose = { Unit {0} };
+
+    fn answer(&mut self, alloc: Global, line: &[u8]) -> Result<Reply, LineFault> {
+        match read_line(alloc, line)? {
+            Line::Call(event) => self.call(event),
+            Line::Stop => self.stop(alloc),
+        }
     }
 }
 
-/// Runs the script that the reader gives over a store without tables, and writes a reply for each line. A store that has one of the
-/// relay's tables, or whose connection is in a transaction, is `Lost`, unless memory was refused first; nothing is written. The connection
-/// comes back, outside a transaction if it came so; where the script ended between two lines, with the rows that its commits wrote.
+/// Runs the script that the reader gives over a store without tables, and writes a reply for each line. A stop closes the desk with all that
+/// is out and opens the store again, under the next mark; where that is refused, the script ends as `Lost` or for want of memory. A store
+/// that has one of the relay's tables, or whose connection is in a transaction, is `Lost`, unless memory was refused first; nothing is
+/// written. The connection comes back, outside a transaction if it came so; where the script ended between two lines, with the rows that
+/// its commits wrote.
 pub fn replay<S: Alter, I: Read, O: Write>(
     alloc: Global,
     input: &mut I,
@@ -83,9 +89,9 @@ fn replay_with<L: Ledger, S: Alter, I: Read, O: Write>(
 {
     match start::<L, S>(alloc, blank, conn, mark) {
         Ok(runner) => {
-            let mut runner = runner;
-            let end = answer_lines(alloc, &mut runner, input, output);
-            (runner.close(), end)
+            let mut player = Player::of(runner);
+            let end = answer_lines(alloc, &mut player, input, output);
+            (player.close(), end)
         }
         Err((conn, fault)) => (conn, Err(fault)),
     }

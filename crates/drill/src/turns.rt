@@ -1,5 +1,6 @@
 //! The turns of a batch.
-ghost use Rattle.std.specs.Prelude.{◌≡◌, ℕ};
+ghost use Rattle.std.specs.Prelude.{◌≡◌, ℕ, None};
+ghost use Rattle.group_commit.specs.Turns.{IsHeldOf};
 ghost use Rattle.script_lines.specs.declared.event.Event.TheVariants as on;
 ghost use Rattle.script_lines.specs.declared.reply.Fault.{Fault};
 ghost use Rattle.script_lines.specs.declared.reply.Reply.TheVariants as says;
@@ -123,6 +124,10 @@ impl<L: Ledger> Core<L> {
         ensures halts { HandsOver self.old held result self.new }
         ensures refused { KeepsOn self.old held result self.new }
         ensures mark { self.new.desk.waiting.mark ≡ self.old.desk.waiting.mark }
+        ensures live { self.new.desk.live ≡ self.old.desk.live }
+        ensures gone { IsHeldOf self.old.desk.waiting held
+            → (self.new.held ≡ self.old.held) × (self.new.desk.waiting.out ≡ None) }
+        ensures kept { ¬ IsHeldOf self.old.desk.waiting held → self.new.desk ≡ self.old.desk }
         ensures same { self.new ≡ record self.old { desk = self.new.desk; held = self.new.held } }
     {
         match self.desk.halt(held) {

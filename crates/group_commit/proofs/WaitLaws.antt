@@ -1,6 +1,6 @@
 -- What staging, sealing and settling make of the fields.
-use Rattle.std.proofs.Common.{◌≡◌, ℕ, ◌<◌, ◌+◌, List, [], ◌∷◌, ◌++◌, length, take, drop, Option, Some, None, sym, ◌∙◌, ap, arith, length-append}
-use Rattle.std.specs.Prelude.{min, IsSomeAnd}
+use Rattle.std.proofs.Common.{◌≡◌, ℕ, ◌<◌, ◌+◌, List, [], ◌∷◌, ◌++◌, length, take, drop, Option, Some, None, refl, sym, ◌∙◌, ap, arith, length-append}
+use Rattle.std.specs.Prelude.{min, option_map, IsSomeAnd}
 use Rattle.std.proofs.lemmas.List.{take-append-le, take_min, length-take}
 use Rattle.relay_types.specs.declared.limits.TheConstants.{MAX_RECORDS}
 use Rattle.relay_types.specs.declared.record.Record.{Record}
@@ -8,7 +8,7 @@ use Rattle.relay_types.specs.Records.{History, records_of}
 use Rattle.spool.specs.declared.limits.TheConstants.{MAX_BATCH_STEPS}
 use Rattle.spool.specs.Batches.{BatchValue, IsBatch, upto_of}
 use Rattle.group_commit.specs.declared.out.Out.{Out}
-use Rattle.group_commit.specs.Waits.{WaitingValue, IsOut, IsWaiting, batch_of}
+use Rattle.group_commit.specs.Waits.{WaitingValue, IsOut, IsWaiting, batch_of, batch_out}
 use Rattle.group_commit.specs.Turns.{IsReceiptOf}
 use Rattle.group_commit.proofs.StepLaws.{length-records_of, length-records_of-split}
 
@@ -78,3 +78,10 @@ receipt_front w receipt h = at w.out h
           ap (λ (b : BatchValue). b.from) is,
           steps ∙ sym (take_min n w.waiting) ∙ ap (λ k. take k w.waiting) (sym (ap length steps ∙ length-take n w.waiting)),
         )
+
+-- One more step waits behind what is out.
+pub out_stays : (mark settled records : ℕ) (steps : History) (out : Option Out) (step : List Record) → IsWaiting settled records steps out
+    → batch_out (record { mark = mark; settled = settled; waiting = steps ++ step ∷ []; out = option_map (λ o. o.steps) out }) ≡ batch_out (record { mark = mark; settled = settled; waiting = steps; out = option_map (λ o. o.steps) out })
+out_stays mark settled records steps None step h = refl
+out_stays mark settled records steps (Some o) step h =
+    ap (λ first. Some (record { mark = mark; from = settled; steps = first })) (take-append-le o.steps steps (step ∷ []) (h.sealed o refl).within)

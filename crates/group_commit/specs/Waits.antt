@@ -1,5 +1,5 @@
 -- What a list of waiting steps is seen as, and what each call makes of it.
-use Rattle.std.specs.Prelude.{◌≡◌, ℕ, ◌≤◌, min, List, [], ◌∷◌, ◌++◌, length, take, drop, Option, Some, None}
+use Rattle.std.specs.Prelude.{◌≡◌, ℕ, ◌≤◌, min, List, [], ◌∷◌, ◌++◌, length, take, drop, Option, Some, None, option_map}
 use Rattle.std.specs.Option.{ForSome}
 use Rattle.relay_types.specs.declared.limits.TheConstants.{MAX_RECORDS}
 use Rattle.relay_types.specs.declared.record.Record.{Record}
@@ -23,6 +23,10 @@ record_count w = upto_of w.settled w.waiting
 -- the first so many steps that wait, as a batch
 abbrev pub batch_of : WaitingValue → (count : ℕ) → BatchValue
 batch_of w count = record { mark = w.mark; from = w.settled; steps = take count w.waiting }
+
+-- the batch that is out
+abbrev pub batch_out : WaitingValue → Option BatchValue
+batch_out w = option_map (batch_of w) w.out
 
 -- how many steps the next batch has
 abbrev pub sealed_count : WaitingValue → ℕ

@@ -3,7 +3,7 @@ ghost use Rattle.std.specs.Prelude.{◌≡◌, ◌≤◌, ◌<◌, ◌-◌, ◌+
 ghost use Rattle.relay_types.specs.declared.limits.TheConstants.{MAX_RECORDS};
 ghost use Rattle.spool.specs.Batches.{doubt_of};
 ghost use Rattle.group_commit.specs.Steps.{is_request, is_outcome, requests_in, outcomes_in};
-ghost use Rattle.group_commit.specs.Waits.{batch_of, record_count, sealed_count, with_step, with_batch_out, with_settled, with_nothing_out};
+ghost use Rattle.group_commit.specs.Waits.{batch_of, batch_out, record_count, sealed_count, with_step, with_batch_out, with_settled, with_nothing_out};
 ghost use Rattle.group_commit.specs.Turns.{IsReceiptOf, ArePlacesOf, IsHeldOf};
 
 use crate::fault::{SealFault, WaitingFull, WrongTurn};
@@ -62,6 +62,7 @@ impl Waiting {
         ensures full { IsErr result ↔ (requests_in self.old.waiting ≡ MAX_WAITING_REQUESTS) }
         ensures back { IfErr result (λ back. back.0 ≡ step) }
         ensures staged { OnOk result (self.new ≡ with_step self.old step) }
+        ensures out { batch_out self.new ≡ batch_out self.old }
         ensures err { OnErr result (self.new ≡ self.old) }
     {
         if self.free_requests() == 0 {
@@ -78,6 +79,7 @@ impl Waiting {
         requires place { outcomes_in self.old.waiting < MAX_WAITING_OUTCOMES }
         requires room { record_count self.old < MAX_RECORDS }
         ensures staged { self.new ≡ with_step self.old step }
+        ensures out { batch_out self.new ≡ batch_out self.old }
         ensures few { record_count self.old < self.old.settled + MAX_WAITING_REQUESTS + MAX_WAITING_OUTCOMES }
     {
         self.records += 1;

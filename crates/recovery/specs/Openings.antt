@@ -1,5 +1,5 @@
 -- What an opening gives.
-use Rattle.std.specs.Prelude.{◌≡◌, ◌⊎◌, ℕ, false, [], IsTrue}
+use Rattle.std.specs.Prelude.{◌≡◌, ◌⊎◌, false, IsTrue}
 use Rattle.sqlite.specs.Store.{Ghosts}
 use Rattle.sqlite.specs.Held.{Held}
 use Rattle.sqlite.specs.Schema.{Schema}
@@ -7,14 +7,6 @@ use Rattle.spool_sql.specs.Steps.{IfClean}
 use Rattle.spool.specs.Opening.{has_ours, LeavesAt}
 use Rattle.spool.specs.declared.ends.OpenFault.{OpenFault}
 use Rattle.spool.specs.declared.ends.OpenFault.TheVariants.{NotOurs, NewerVersion, Damaged, Store, OutOfMemory}
-use Rattle.spool.specs.Vaults.{VaultValue}
-use Rattle.desk.specs.Moves.{opened}
-use Rattle.recovery.specs.Left.{VaultStandsFor, HasNoTable}
-
--- a vault of this mark, which holds the empty history where the store had no table
-pub record IsFirst {S : Type 0} (g : Ghosts S) (conn : Held S) (mark : ℕ) (vault : VaultValue S) : Type 0 where
-  pub marked : vault.mark ≡ mark
-  pub stands : HasNoTable g conn → VaultStandsFor g vault (opened [] 0)
 
 -- Why a store without tables wasn't opened. A table of ours is told as such, or memory was refused before the look at the store.
 abbrev pub IsRefusedAs : Schema → OpenFault → Type 0

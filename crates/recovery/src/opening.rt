@@ -4,9 +4,9 @@ ghost use Rattle.permits.specs.declared.pool.TheConstants.{PARTS};
 ghost use Rattle.sqlite.specs.Held.{state};
 ghost use Rattle.spool.specs.Opening.{has_ours};
 ghost use Rattle.desk.specs.Moves.{opened};
-ghost use Rattle.desk.specs.Desks.{StandsFor};
-ghost use Rattle.recovery.specs.Left.{IsCleanAt};
-ghost use Rattle.recovery.specs.Openings.{IsFirst, IsRefusedAs, LeavesOr};
+ghost use Rattle.desk.specs.Desks.{HasNothingOut, StandsFor};
+ghost use Rattle.recovery.specs.Left.{HasNoTable, IsCleanAt, VaultStandsFor};
+ghost use Rattle.recovery.specs.Openings.{IsRefusedAs, LeavesOr};
 
 use desk::Desk;
 use permits::PARTS;
@@ -29,9 +29,11 @@ pub fn create<L: Ledger, S: Alter>(
     requires parts { blank.parts ≡ L.parts }
     requires enough { blank.parts ≡ PARTS }
     requires mode { conn.in_transaction ≡ false }
-    ensures mark { IfOk result (λ opening. opening.0.waiting.mark ≡ mark) }
+    ensures mark { IfOk result (λ opening. (opening.0.waiting.mark ≡ mark) × (opening.1.mark ≡ mark)) }
+    ensures out { IfOk result (λ opening. HasNothingOut opening.0) }
     ensures desk { IfOk result (λ opening. StandsFor opening.0 (opened [] 0)) }
-    ensures vault { IfOk result (λ opening. IsCleanAt S.Store opening.1.conn → IsFirst S.Store conn mark opening.1) }
+    ensures vault { IfOk result (λ opening. IsCleanAt S.Store opening.1.conn
+        → HasNoTable S.Store conn → VaultStandsFor S.Store opening.1 (opened [] 0)) }
     ensures cause { IfErr result (λ back. IsRefusedAs (state S.Store conn).now.schema back.1) }
     ensures untouched { IfErr result (λ back. back.1 ≡ OpenFault.NotOurs → back.0 ≡ conn) }
     ensures refused { IfErr result (λ back. LeavesOr S.Store conn back.0 back.1) }

@@ -2,6 +2,7 @@
 ghost use Rattle.std.specs.Prelude.{◌≡◌, [], false, IfErr, IfOk, MatchResult};
 ghost use Rattle.spool_sql.specs.Steps.{IfClean};
 ghost use Rattle.spool.specs.Adopting.{IsReadOpen, LeavesRead};
+ghost use Rattle.desk.specs.Desks.{HasNothingOut};
 ghost use Rattle.recovery.specs.Left.{IsCleanAt};
 ghost use Rattle.recovery.specs.Reopenings.{IsOfReading, OpensHeld};
 
@@ -23,6 +24,7 @@ pub(crate) fn with_desk<L: Ledger, S: Alter>(
     requires mark { vault.mark ≡ mark }
     requires open { vault.closed ≡ false }
     ensures mark { IfOk result (λ opening. (opening.0.waiting.mark ≡ mark) × (opening.1.mark ≡ mark)) }
+    ensures out { IfOk result (λ opening. HasNothingOut opening.0) }
     ensures opens { IfOk result (λ opening. IsCleanAt S.Store opening.1.conn
         → OpensHeld S.Store vault opening.0 opening.1) }
     ensures cause { IfErr result (λ back. IsOfReading back.1) }

@@ -3,6 +3,7 @@ ghost use Rattle.std.specs.Prelude.{◌≡◌, [], false, IfErr, IfOk, MatchResu
 ghost use Rattle.spool_sql.specs.Steps.{IfClean};
 ghost use Rattle.spool_sql.specs.Tables.{relay_schema};
 ghost use Rattle.spool.specs.Adopting.{IsReadOpen, LeavesRead};
+ghost use Rattle.desk.specs.Desks.{HasNothingOut};
 ghost use Rattle.recovery.specs.Left.{IsCleanAt};
 ghost use Rattle.recovery.specs.Reopenings.{IsReopened, IsUnopened, ReopensLeft};
 
@@ -27,6 +28,7 @@ pub fn reopen<L: Ledger, S: Alter>(
     requires empty { pool ≡ [] }
     requires mode { conn.in_transaction ≡ false }
     ensures mark { IfOk result (λ opening. (opening.0.waiting.mark ≡ mark) × (opening.1.mark ≡ mark)) }
+    ensures out { IfOk result (λ opening. HasNothingOut opening.0) }
     ensures opened { IfOk result (λ opening. IfClean S.Store conn opening.1.conn
         (λ a _. a.now.schema ≡ relay_schema → IsReopened S.Store a.now opening.0 opening.1)) }
     ensures reopens { IfOk result (λ opening. IsCleanAt S.Store opening.1.conn

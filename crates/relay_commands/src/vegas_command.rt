@@ -10,7 +10,8 @@ use std::alloc::Global;
 use std::fmt;
 use std::io::{Read, Write};
 use text_lines::{
-    Answerer, StreamFault, WordFault, answer_lines, is_word, read_max, read_number, split,
+    Answerer, LineFault, StreamFault, WordFault, answer_lines, is_word, read_max, read_number,
+    split,
 };
 use vegas::Estimator;
 
@@ -60,7 +61,9 @@ impl Answerer for Follower {
 
     ghost IsClean = { λ _. Unit {0} };
 
-    fn answer(&mut self, alloc: Global, line: &[u8]) -> Result<Numbers, WordFault> {
+    ghost MayLose = { ⊥ };
+
+    fn answer(&mut self, alloc: Global, line: &[u8]) -> Result<Numbers, LineFault> {
         let sample = read_sample(alloc, line)?;
         self.estimator
             .sample(sample.rtt, sample.inflight, sample.dropped);

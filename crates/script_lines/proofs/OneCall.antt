@@ -1,6 +1,6 @@
--- One text stands for one call at most.
-use Rattle.std.proofs.Common.{◌≡◌, ◌<◌, ◌^◌, ℕ, Bool, true, false, List, [], ◌∷◌, arith, codes, decimal, IsTrue, refl, sym, ap, subst, lit<}
-use Rattle.std.specs.Prelude.{◌&&◌, nat_le}
+-- One text stands for one line at most.
+use Rattle.std.proofs.Common.{◌≡◌, ◌<◌, ◌^◌, ℕ, Bool, true, false, List, [], ◌∷◌, get_or, arith, codes, decimal, IsTrue, refl, sym, ap, subst, lit<, ◌∙◌}
+use Rattle.std.specs.Prelude.{◌&&◌, bytes_eq, nat_le}
 use Rattle.std.proofs.lemmas.Bool.{and_parts}
 use Rattle.std.proofs.lemmas.Fmt.{decimal_injective}
 use Rattle.relay_types.specs.Values.{is_between, is_name, is_msg_id, is_target, is_max_limit, is_moment, is_body}
@@ -16,7 +16,9 @@ use Rattle.retry_table.specs.declared.post.PostResult.{PostResult}
 use Rattle.retry_table.specs.declared.post.PostResult.TheVariants.{Answered, TimedOut, Unreached, Unsent}
 use Rattle.script_lines.specs.declared.event.Event.{Event}
 use Rattle.script_lines.specs.declared.event.Event.TheVariants as on
-use Rattle.script_lines.specs.Script.{IsPut, IsSecrets, IsNamed, IsTold, IsSubmit, IsClaim, IsResult, IsSpend, IsShow, call_word, AreArguments, IsCall, HasOneCallAtMost}
+use Rattle.script_lines.specs.declared.event.Line.{Line}
+use Rattle.script_lines.specs.declared.event.Line.TheVariants as as_line
+use Rattle.script_lines.specs.Script.{IsPut, IsSecrets, IsNamed, IsTold, IsSubmit, IsClaim, IsResult, IsSpend, IsShow, call_word, AreArguments, IsCall, ReadsLine, IsLine, HasOneLineAtMost}
 use Rattle.script_lines.proofs.CallLaws.{only_put, only_secrets, only_enable, only_disable, only_submit, only_told, only_claim, only_spend, only_limits, only_show, only_seal, only_commit, only_settle, only_unseal, only_halt}
 use Rattle.script_lines.proofs.CleanCalls.{the_call, parts_of_call}
 
@@ -164,5 +166,27 @@ same_call words a b (behind, e, h) (behind', e', h') =
     let others : behind' ≡ behind = cc in
     same_event behind a b first h (subst (λ xs. AreArguments xs b) others h')
 
-pub one_call_at_most : HasOneCallAtMost
-one_call_at_most text a b (words, e, call) other = same_call words a b call (the_call text words b (parts_of_call text words a e call) other)
+one_call : (text : List ℕ) (a b : Event) → ReadsLine text a → ReadsLine text b → a ≡ b
+one_call text a b (words, e, call) other = same_call words a b call (the_call text words b (parts_of_call text words a e call) other)
+
+-- no call has the word of a stop
+other_word : (event : Event) → bytes_eq (call_word event) (codes "stop") ≡ false
+other_word (on.Enabled name true) = refl
+other_word (on.Enabled name false) = refl
+other_word event = refl
+
+pub stop_is_no_call : (event : Event) → ReadsLine (codes "stop") event → ⊥
+stop_is_no_call event reads =
+    let (arguments, is, told) = the_call (codes "stop") (codes "stop" ∷ []) event (refl, (λ none. cc), refl) reads in
+    let word : codes "stop" ≡ call_word event = ap (λ (ws : List (List ℕ)). get_or ws 0 []) is in
+    absurd (let no : true ≡ false = ap (λ w. bytes_eq w (codes "stop")) word ∙ other_word event in cc)
+
+pub no_line : (text : List ℕ) → ((event : Event) → ReadsLine text event → ⊥) → (text ≡ codes "stop" → ⊥) → (line : Line) → IsLine text line → ⊥
+no_line text calls stop (as_line.Call event) h = calls event h
+no_line text calls stop as_line.Stop h = stop h
+
+pub one_line_at_most : HasOneLineAtMost
+one_line_at_most text (as_line.Call a) (as_line.Call b) one other = ap as_line.Call (one_call text a b one other)
+one_line_at_most text (as_line.Call a) as_line.Stop one other = absurd (stop_is_no_call a (subst (λ t. ReadsLine t a) other one))
+one_line_at_most text as_line.Stop (as_line.Call b) one other = absurd (stop_is_no_call b (subst (λ t. ReadsLine t b) one other))
+one_line_at_most text as_line.Stop as_line.Stop one other = refl

@@ -91,6 +91,7 @@ reply_words (says.Permit delivery endpoint id attempt at inflight) = permit_word
 reply_words says.NothingDue = codes "none" ∷ []
 reply_words (says.Spent spend limit in_flight staged) = spent_words spend limit in_flight staged
 reply_words (says.Limits limit in_flight noload) = limit_words limit in_flight noload
+reply_words (says.Reopened records) = codes "reopened" ∷ decimal records ∷ []
 reply_words says.Absent = codes "absent" ∷ []
 reply_words says.NoPermit = codes "no-permit" ∷ []
 reply_words says.NoBatch = codes "no-batch" ∷ []

@@ -8,6 +8,8 @@ use Rattle.text_lines.specs.Parts.{line}
 use Rattle.text_lines.specs.Words.{IsSecretsWord, IsBodyWord}
 use Rattle.script_lines.specs.declared.event.Event.{Event}
 use Rattle.script_lines.specs.declared.event.Event.TheVariants as on
+use Rattle.script_lines.specs.declared.event.Line.{Line}
+use Rattle.script_lines.specs.declared.event.Line.TheVariants as as_line
 
 -- the words behind the first one of a call
 abbrev pub IsPut : (words : List Text) (name target : Text) (max : ℕ) (secrets : List Text) → Type 0
@@ -133,6 +135,11 @@ IsCall words event = (arguments : List (List ℕ)) × (words ≡ call_word event
 abbrev pub ReadsLine : List ℕ → Event → Type 0
 ReadsLine text event = (words : List (List ℕ)) × (text ≡ line words) × IsCall words event
 
--- a law: one text stands for one call at most
-abbrev pub HasOneCallAtMost : Type 0
-HasOneCallAtMost = (text : List ℕ) (one other : Event) → ReadsLine text one → ReadsLine text other → one ≡ other
+-- the text stands for this line
+abbrev pub IsLine : List ℕ → Line → Type 0
+IsLine text (as_line.Call event) = ReadsLine text event
+IsLine text as_line.Stop = text ≡ codes "stop"
+
+-- a law: one text stands for one line at most
+abbrev pub HasOneLineAtMost : Type 0
+HasOneLineAtMost = (text : List ℕ) (one other : Line) → IsLine text one → IsLine text other → one ≡ other

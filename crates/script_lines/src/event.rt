@@ -1,4 +1,4 @@
-//! The calls of the core.
+//! The calls of the core, and the line that isn't one.
 ghost use Rattle.std.specs.Prelude.{◌≡◌, IfOk};
 
 use relay_types::{Body, MaxLimit, Moment, MsgId, Name, Secrets, Target};
@@ -69,6 +69,15 @@ pub enum Event {
         name: Name,
         id: MsgId,
     },
+}
+
+/// One line of a script.
+#[derive(Drop)]
+pub enum Line {
+    /// A call of the core.
+    Call(Event),
+    /// The desk is closed with all that is out, and its store is opened again.
+    Stop,
 }
 
 impl Event {

@@ -92,6 +92,10 @@ pub enum Reply {
         in_flight: u32,
         noload: u64,
     },
+    /// The store was opened again, with so many records.
+    Reopened {
+        records: u64,
+    },
     Absent,
     NoPermit,
     NoBatch,
@@ -206,6 +210,7 @@ impl fmt::Display for Reply {
                 in_flight,
                 noload,
             } => write!(f, "limit {limit} inflight {in_flight} noload {noload}"),
+            Reply::Reopened { records } => write!(f, "reopened {records}"),
             Reply::Absent => f.write_str("absent"),
             Reply::NoPermit => f.write_str("no-permit"),
             Reply::NoBatch => f.write_str("no-batch"),

@@ -2,18 +2,35 @@
 ghost use Rattle.std.specs.Prelude.{◌≡◌, ℕ, [], ◌∷◌, ◌<◌, ◌^◌, IsTrue, IfErr, IfOk, IsErr, decimal};
 ghost use Rattle.relay_types.specs.Values.{is_between, is_moment};
 ghost use Rattle.text_lines.specs.Parts.{texts};
-ghost use Rattle.script_lines.specs.Script.{ReadsLine, HasOneCallAtMost, IsCall, call_word, AreArguments};
+ghost use Rattle.script_lines.specs.Script.{ReadsLine, IsLine, HasOneLineAtMost, IsCall, call_word, AreArguments};
 ghost use Rattle.script_lines.specs.Script.{AreOfPut, AreOfSecrets, AreOfSubmit, AreOfSpend, AreOfShow, IsNamed, IsTold, IsClaim, IsResult};
 ghost use Rattle.script_lines.specs.Script.{AreOfNoPut, AreOfNoSecrets, AreOfNoSubmit, AreOfNoSpend, AreOfNoResult, AreOfNoName, AreOfNoEvent};
 ghost use Rattle.script_lines.specs.declared.event.Event.{Event};
+ghost use Rattle.script_lines.specs.declared.event.Line.{Line};
 
-use crate::event::Event;
+use crate::event::{Event, Line};
 use relay_types::{Moment, MsgId, Name, Target};
 use retry_table::{PostResult, Status};
 use std::alloc::Global;
 use text_lines::{
     WordFault, is_word, read_body, read_max, read_moment, read_number, read_secrets, split,
 };
+
+/// What a line stands for.
+pub fn read_line(alloc: Global, line: &[u8]) -> Result<Line, WordFault>
+    ensures stands { IfOk result (λ read. IsLine line.now read) }
+    ensures bad { result ≡ Err WordFault.Bad → (other : Line) → ¬ IsLine line.now other }
+{
+    if is_word(line, "stop") {
+        return Ok(Line::Stop);
+    }
+    Ok(Line::Call(read_event(alloc, line)?))
+}
+
+/// A law of scripts: a line stands for one thing at most.
+pub fn one_line_at_most()
+    ensures { HasOneLineAtMost }
+{}
 
 /// The call that a line stands for.
 pub fn read_event(alloc: Global, line: &[u8]) -> Result<Event, WordFault>
@@ -23,11 +40,6 @@ pub fn read_event(alloc: Global, line: &[u8]) -> Result<Event, WordFault>
     let words = split(alloc, line)?;
     read_words(alloc, words.as_slice())
 }
-
-/// A law of scripts: a line stands for one call at most.
-pub fn one_call_at_most()
-    ensures { HasOneCallAtMost }
-{}
 
 // The call that has these words.
 fn read_words(alloc: Global, words: &[&[u8]]) -> Result<Event, WordFault>

@@ -21,7 +21,7 @@ module _ (Says More : List (List ℕ) → List ℕ → Type 0) (IsBad : List ℕ
   at_end (Err TooLong) text written (before, rest, is, clean, within, long, says) = (before, rest, is, clean, within, long, more before written says)
   at_end (Err Read) text written (before, rest, is, within, says) = (before, rest, is, within, more before written says)
   at_end (Err Write) text written (left, (before, rest, is, within, says)) = (left, (before, rest, is, within, more before (written ++ left) says))
-  at_end (Err Lost) text written none = none
+  at_end (Err Lost) text written (before, rest, is, within, says) = (before, rest, is, within, more before written says)
   at_end (Err OutOfMemory) text written (before, rest, is, within, says) = (before, rest, is, within, more before written says)
 
   pub Ends-more : (input old new : Option (List ℕ)) (end : Result (Unit {0}) StreamFault) → Ends Says IsBad input old new end → Ends More IsBad input old new end

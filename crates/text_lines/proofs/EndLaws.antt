@@ -228,7 +228,7 @@ pub ends_at_once : (Says : List (List ℕ) → List ℕ → Type 0) (IsBad : Lis
 ends_at_once Says IsBad text had contents fault says output why = ([], output ∙ ap Some (sym (append-nil had)), at why)
   where
     at : (fault ≡ Lost) ⊎ (fault ≡ OutOfMemory) → IsWrittenAtEnd Says IsBad (Err fault) text []
-    at (inl e) = subst (λ f. IsWrittenAtEnd Says IsBad (Err f) text []) (sym e) refl
+    at (inl e) = subst (λ f. IsWrittenAtEnd Says IsBad (Err f) text []) (sym e) (up_to_line Says text [] text [] (inl (refl, refl)) none_within says)
     at (inr e) = subst (λ f. IsWrittenAtEnd Says IsBad (Err f) text []) (sym e) (up_to_line Says text [] text [] (inl (refl, refl)) none_within says)
 
 -- the line that was read stays unanswered
@@ -265,7 +265,7 @@ ends_at_line Says IsBad Gives text had reading remaining old new (BadLine number
 ends_at_line Says IsBad Gives text had reading remaining old new TooLong t says more h = absurd h
 ends_at_line Says IsBad Gives text had reading remaining old new Read t says more h = absurd h
 ends_at_line Says IsBad Gives text had reading remaining old new Write t says more h = cut_line Says Gives text had reading remaining old new t says more h
-ends_at_line Says IsBad Gives text had reading remaining old new Lost t says more h = absurd h
+ends_at_line Says IsBad Gives text had reading remaining old new Lost t says more h = before_line Says text had reading remaining old new t says h
 ends_at_line Says IsBad Gives text had reading remaining old new OutOfMemory t says more h = before_line Says text had reading remaining old new t says h
 
 -- a bad line is the one fault of a line that comes between two lines

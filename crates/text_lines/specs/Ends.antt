@@ -54,7 +54,7 @@ IsWrittenAtEnd Says IsBad (Err (BadLine number)) text written = IsUpToBad Says I
 IsWrittenAtEnd Says IsBad (Err TooLong) text written = IsUpToTooLong Says text written
 IsWrittenAtEnd Says IsBad (Err Read) text written = IsUpToLine Says text written
 IsWrittenAtEnd Says IsBad (Err Write) text written = IsCut Says text written
-IsWrittenAtEnd Says IsBad (Err Lost) text written = written ≡ []
+IsWrittenAtEnd Says IsBad (Err Lost) text written = IsUpToLine Says text written
 IsWrittenAtEnd Says IsBad (Err OutOfMemory) text written = IsUpToLine Says text written
 
 -- Known bytes of a reader are the text, and those of a writer grew by what this end says.
@@ -104,5 +104,5 @@ EndsLine Gives IsBad lines old new (Err (BadLine number)) = (number ≡ lines.co
 EndsLine Gives IsBad lines old new (Err TooLong) = ⊥
 EndsLine Gives IsBad lines old new (Err Read) = ⊥
 EndsLine Gives IsBad lines old new (Err Write) = CutsLine Gives old new
-EndsLine Gives IsBad lines old new (Err Lost) = ⊥
+EndsLine Gives IsBad lines old new (Err Lost) = Keeps old new
 EndsLine Gives IsBad lines old new (Err OutOfMemory) = Keeps old new

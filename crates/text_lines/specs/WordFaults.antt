@@ -1,6 +1,8 @@
--- Which fault of a word a reader's refusal is.
+-- Which fault of a word a reader's refusal is, and which of a line.
 use Rattle.relay_types.specs.declared.fault.ReadFault.{ReadFault}
 use Rattle.relay_types.specs.declared.fault.ReadFault.TheVariants as reader
+use Rattle.text_lines.specs.declared.answering.LineFault.{LineFault}
+use Rattle.text_lines.specs.declared.answering.LineFault.TheVariants as line
 use Rattle.text_lines.specs.declared.words.WordFault.{WordFault}
 use Rattle.text_lines.specs.declared.words.WordFault.TheVariants.{Bad, OutOfMemory}
 
@@ -13,3 +15,7 @@ word_fault reader.BadMax = Bad
 word_fault reader.TooLong = Bad
 word_fault reader.BadMoment = Bad
 word_fault reader.OutOfMemory = OutOfMemory
+
+abbrev pub line_fault : WordFault → LineFault
+line_fault Bad = line.Bad
+line_fault OutOfMemory = line.OutOfMemory

@@ -17,7 +17,7 @@ pub enum StreamFault {
     Read,
     /// The writer failed.
     Write,
-    /// The store couldn't be opened.
+    /// What lies below the command couldn't be opened, or not again.
     Lost,
     /// Memory was refused.
     OutOfMemory,

@@ -9,7 +9,7 @@ mod lines;
 mod output;
 mod words;
 
-pub use crate::answering::{Answerer, answer_lines};
+pub use crate::answering::{Answerer, LineFault, answer_lines};
 pub use crate::fault::StreamFault;
 pub use crate::limits::{MAX_LINE_BYTES, MAX_LINES, MAX_READS, MAX_WRITES};
 pub use crate::lines::{Lines, extend_within, read_into};

@@ -1,16 +1,16 @@
 use Rattle.std.proofs.Common.{refl}
-use Rattle.drill.proofs.ShownLaws.{begun_core, opened_core, run_from}
+use Rattle.drill.proofs.ShownLaws.{begun_core, idle_core, run_from}
 use Rattle.drill.proofs.TurnLaws.{all_held, all_given}
 use Rattle.drill.proofs.runs.run_in.Goals as goal
 
 pub make_calls-requires-clause-core : goal.make_calls-requires-clause-core
-make_calls-requires-clause-core g c = opened_core _ c.requires.opened refl c.requires.empty.1 c.requires.tickets
+make_calls-requires-clause-core g c = idle_core _ c.requires.out refl c.requires.empty.1
 
 pub returns-clause-runs : goal.returns-clause-runs
-returns-clause-runs g c = λ clean marks w opening on vault. run_from g.S.Store _ c.args.vault c.make_calls.new.core w c.args.places.events.items _ opening (record {
+returns-clause-runs g c = λ clean w opening on vault. run_from g.S.Store _ c.args.vault c.make_calls.new.core w c.args.places.events.items _ opening (record {
   stands = begun_core _ w on opening refl c.requires.empty.1 c.requires.tickets;
   holds = vault;
-  mark = marks;
+  mark = c.requires.mark;
 }) (c.make_calls.ensures.runs clean) refl refl c.parts-receipt.ensures.receipt c.parts-receipt.ensures.given
 
 pub returns-clause-permits : goal.returns-clause-permits

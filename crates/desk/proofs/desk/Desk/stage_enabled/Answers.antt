@@ -8,7 +8,7 @@ use Rattle.desk.proofs.desk.Desk.stage_enabled.Goals as goal
 
 pub invariant_of-self : goal.invariant_of-self
 invariant_of-self g c =
-    desk_flag c.records-seq.result c.args.name c.args.flag c.records-seq.ensures.count c.stage_enabled.ensures.flag c.push_request.ensures
+    desk_flag c.records-seq.result c.args.name c.args.flag c.records-seq.ensures.count c.stage_enabled.ensures.flag c.push_request.ensures.staged
     (omega (arith, c.requires.room, ap (λ (v : DeskValue). record_count v.waiting + length v.live) c.self.view_is))
     c.tell_room.ensures.pairs
     (subst (λ ls. ChangesMark c.self.inside.queue c.tell_room.new.queue c.args.name (with_room (room_by c.stage_enabled.new.self ls c.self.inside.pool c.args.name))) c.deref.ensures.value c.tell_room.ensures.mark)

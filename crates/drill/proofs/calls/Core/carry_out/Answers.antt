@@ -1,5 +1,4 @@
 use Rattle.std.proofs.Common.{◌∙◌}
-use Rattle.drill.proofs.CoreLaws.{kept}
 use Rattle.drill.proofs.FollowLaws.{is_of_desk}
 use Rattle.drill.proofs.VaultLaws.{vault_follows}
 use Rattle.drill.proofs.calls.Core.carry_out.Goals as goal
@@ -19,4 +18,4 @@ returns-in_default-clause-answers g c = λ clean s on.
     )
 
 pub returns-in_default-clause-core : goal.returns-in_default-clause-core
-returns-in_default-clause-core g c = kept c.args.self.now _ _ _ c.requires.core c.call.ensures.answers
+returns-in_default-clause-core g c = c.call.ensures.answers.keeps c.requires.core

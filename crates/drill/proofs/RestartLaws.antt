@@ -1,0 +1,71 @@
+-- What a script's run keeps over its stops.
+use Rattle.std.proofs.Common.{◌≡◌, ◌≤◌, ℕ, List, [], ◌∷◌, length, take, max, inl, inr, refl, sym, ap, subst, arith}
+use Rattle.std.proofs.Math.Seq.{take-length}
+use Rattle.std.specs.List.{AllByRecursion}
+use Rattle.relay_types.specs.Records.{History, records_of}
+use Rattle.script_lines.specs.declared.event.Line.{Line}
+use Rattle.script_lines.specs.declared.event.Line.TheVariants.{Call, Stop}
+use Rattle.script_lines.specs.declared.reply.Reply.{Reply}
+use Rattle.recovery.specs.Reopenings.{opening_of}
+use Rattle.drill.specs.Moves.{Session, begun}
+use Rattle.drill.specs.Events.{IsKept}
+use Rattle.drill.specs.Restarts.{OpensAgain, Takes, shown_of, Replay}
+use Rattle.drill.specs.Unrecorded.{ArePendingAgain}
+use Rattle.drill.specs.Worlds.{session_of}
+use Rattle.drill.proofs.AttemptLaws.{IsTracked, line_tracked, opening_tracked, pending_again}
+use Rattle.drill.proofs.ShownLaws.{IsOrdered, line_keeps, line_shown, settled_count, settled_kept}
+
+ordered : (s : Session) → IsTracked s.world → IsOrdered s.world
+ordered s h = record { below = h.below; within = h.within }
+
+-- what one line keeps of the records that are settled, and what it shows of them
+record Keeps (s : Session) (line : Line) (told : Reply) (next : Session) : Type 0 where
+  tracked : IsTracked next.world
+  settled : settled_count s.world ≤ settled_count next.world
+  shown : shown_of s.world line told ≤ settled_count next.world
+
+-- an opening on steps that a stop left
+opens_again : (s : Session) (left : List ℕ) (told : Reply) (next : Session) → AllByRecursion (λ steps. settled_count s.world ≤ length (records_of (take steps s.world.history))) left
+    → OpensAgain s left told next → Keeps s Stop told next
+opens_again s [] told next kept none = absurd none
+opens_again s (steps ∷ left) told next kept (inl (said, is)) =
+    let first : History = take steps s.world.history in
+    subst (Keeps s Stop told) (sym is) (record {
+      tracked = opening_tracked (opening_of first) (first, (opening_of first).clock, refl);
+      settled = omega (arith, kept.0, ap (λ (h : History). length (records_of h)) (take-length first));
+      shown = omega arith;
+    })
+opens_again s (steps ∷ left) told next kept (inr others) = opens_again s left told next kept.1 others
+
+keeps : (s : Session) (line : Line) (told : Reply) (next : Session) → IsTracked s.world → Takes s line told next → Keeps s line told next
+keeps s (Call event) told next h move = record {
+  tracked = line_tracked s next event told h move;
+  settled = line_keeps s next event told (ordered s h) move;
+  shown = line_shown s next event told (ordered s h) move;
+}
+keeps s Stop told next h opens = opens_again s s.world.left told next (settled_kept s.world (settled_count s.world) (ordered s h) h.leaves (omega arith)) opens
+
+-- what all lines keep, and what they show
+record KeepsAll (s : Session) (last : Session) (acknowledged : ℕ) : Type 0 where
+  tracked : IsTracked last.world
+  settled : settled_count s.world ≤ settled_count last.world
+  shown : acknowledged ≤ settled_count last.world
+
+keeps_all : (s : Session) (lines : List Line) (replies : List Reply) (last : Session) (n : ℕ) → IsTracked s.world → Replay s lines replies last n → KeepsAll s last n
+keeps_all s [] [] last n h (same, none) = subst (λ t. KeepsAll s t n) (sym same) (record { tracked = h; settled = omega arith; shown = omega (arith, none) })
+keeps_all s (line ∷ lines) (told ∷ replies) last n h (next, later, takes, rest, is) =
+    let here = keeps s line told next h takes in
+    let behind = keeps_all next lines replies last later here.tracked rest in
+    record {
+      tracked = behind.tracked;
+      settled = omega (arith, here.settled, behind.settled);
+      shown = omega (arith, here.shown, behind.settled, behind.shown, is);
+    }
+keeps_all s [] (told ∷ replies) last n h run = absurd run
+keeps_all s (line ∷ lines) [] last n h run = absurd run
+
+-- At the end of a script's run each record that was shown to be settled is kept, and each attempt without an outcome is pending again.
+pub kept_over_stops : (lines : List Line) (replies : List Reply) (last : Session) (n : ℕ) → Replay begun lines replies last n → IsKept last.world n × ArePendingAgain last.world
+kept_over_stops lines replies last n run =
+    let all = keeps_all begun lines replies last n (opening_tracked begun.world ([], 0, refl)) run in
+    (settled_kept last.world n (ordered last all.tracked) all.tracked.leaves all.shown, pending_again last.world all.tracked)
