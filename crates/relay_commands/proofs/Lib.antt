@@ -1,3 +1,4 @@
 mod SampleWords
 mod SignLaws
 pub mod TraceLaws
+mod CheckLaws

@@ -2,3 +2,4 @@ pub mod Reports
 pub mod Replays
 pub mod Signs
 pub mod Traces
+pub mod Checks

@@ -2,13 +2,14 @@
 use Rattle.std.specs.Prelude.{ℕ, List, Option, Result, Ok, Err}
 use Rattle.drill.specs.Replays.{Replays}
 use Rattle.relay_commands.specs.declared.ends.CommandFault.{CommandFault}
-use Rattle.relay_commands.specs.declared.ends.CommandFault.TheVariants.{Argument, Ended}
+use Rattle.relay_commands.specs.declared.ends.CommandFault.TheVariants.{Argument, Ended, File}
 use Rattle.relay_commands.specs.Reports.{Reports}
 
--- what is written at an end; there are no arguments
+-- what is written at an end; there are no arguments and no file
 abbrev pub ReplaysSo : Option (List ℕ) → Option (List ℕ) → Option (List ℕ) → Result (Unit {0}) CommandFault → Type 0
 ReplaysSo input old new (Ok done) = Replays input old new (Ok done)
 ReplaysSo input old new (Err (Argument fault)) = ⊥
+ReplaysSo input old new (Err (File fault)) = ⊥
 ReplaysSo input old new (Err (Ended fault)) = Replays input old new (Err fault)
 
 -- The replies to the script on the reader are written, and the exit status and standard error tell of the same end.

@@ -10,7 +10,7 @@ use Rattle.text_lines.specs.declared.fault.StreamFault.TheVariants.{BadLine, Too
 use Rattle.text_lines.specs.Words.{AreSecretTexts}
 use Rattle.text_lines.specs.Streams.{AppendsFront, with_feed}
 use Rattle.relay_commands.specs.declared.ends.CommandFault.{CommandFault}
-use Rattle.relay_commands.specs.declared.ends.CommandFault.TheVariants.{Argument, Ended}
+use Rattle.relay_commands.specs.declared.ends.CommandFault.TheVariants.{Argument, Ended, File}
 use Rattle.relay_commands.specs.declared.sign_command.Asked.{Asked}
 use Rattle.relay_commands.specs.Reports.{Reports}
 
@@ -64,6 +64,7 @@ SignsSo id at texts input old new (Err (Ended Write)) = Asks id at texts (SignsF
 SignsSo id at texts input old new (Err (Ended OutOfMemory)) = HasIdAndMoment id at × Keeps old new
 SignsSo id at texts input old new (Err (Ended Lost)) = ⊥
 SignsSo id at texts input old new (Err (Ended (BadLine number))) = ⊥
+SignsSo id at texts input old new (Err (File fault)) = ⊥
 
 -- So it is, and the exit status and standard error tell of the same end.
 abbrev pub SignsTo : List ℕ → List ℕ → List (List ℕ) → Option (List ℕ) → Option (List ℕ) → Option (List ℕ)

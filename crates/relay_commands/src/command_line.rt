@@ -6,6 +6,7 @@ ghost use Rattle.clap.specs.Words.{kind_of};
 ghost use Rattle.relay_commands.specs.declared.ends.CommandFault.TheVariants.{Ended};
 ghost use Rattle.relay_commands.specs.Reports.{IsShownAs};
 
+use crate::check_command::check;
 use crate::ends::{CommandFault, USAGE, end};
 use crate::replay_command::replay;
 use crate::sign_command::sign;
@@ -25,6 +26,7 @@ const EXIT_HELP: &str = "Exit status:
   1  words that are no command, or an argument that its reader refuses
   2  a bad line, or too much input
   3  every other fault
+  4  a file that isn't the relay's, is of a later version, or is damaged
 A fault is told on standard error.";
 
 const REPLAY_HELP: &str =
@@ -46,6 +48,10 @@ const REPLAY_HELP: &str =
   limits NAME                 how many attempts at an endpoint may be under way, and how many are
 A bad line ends the script with status 2; the replies before it stand.";
 
+const CHECK_HELP: &str =
+    "Prints `ok records N endpoints E pending P`. The file isn't written, and none is made.
+Status 4 and NotOurs, NewerVersion or Damaged tell of a file that the relay doesn't take.";
+
 const SIGN_HELP: &str =
     "Whoever may list the processes of this machine sees the secrets. A body has at most 65536 bytes;
 status 2 tells of a longer one, status 1 and a name of an argument that is refused.";
@@ -56,9 +62,9 @@ const VEGAS_HELP: &str = "Lines: RTT INFLIGHT ok, or RTT INFLIGHT drop
 A bad line ends the samples with status 2; the limits before it stand.";
 
 /// Runs the command that the words name, the first of which is the program's own: 0 done, 1 usage, 2 what was read,
-/// 3 every other fault. Help and the version go to the output.
+/// 4 a file that the relay doesn't take, 3 every other fault. Help and the version go to the output.
 pub fn run<S: AsStr, R: Read, O: Write, E: Write>(
-    alloc: Global,
+    rt: &HostRuntime,
     words: &[S],
     input: &mut R,
     output: &mut O,
@@ -66,13 +72,18 @@ pub fn run<S: AsStr, R: Read, O: Write, E: Write>(
 ) -> u8
     ensures done { result ≡ 0 → Keeps (E.contents errors.old) (E.contents errors.new) }
     ensures usage { result ≡ 1 → Keeps (O.contents output.old) (O.contents output.new) }
-    ensures most { result ≤ 3 }
+    ensures most { result ≤ 4 }
 {
+    let alloc = rt.alloc();
     let matches = match parse(alloc, words) {
         Ok(matches) => matches,
         Err(error) => return show(&error, output, errors),
     };
     match matches.subcommand() {
+        Some(("check", words)) => match words.get_str("file") {
+            Some(path) => check(rt, path, output, errors),
+            None => USAGE,
+        },
         Some(("replay", _)) => replay(alloc, input, output, errors),
         Some(("sign", words)) => sign_words(alloc, words, input, output, errors),
         Some(("vegas", words)) => match words.get_str("max") {
@@ -93,7 +104,7 @@ fn show<O: Write, E: Write>(error: &Error, output: &mut O, errors: &mut E) -> u8
     ensures done { result ≡ 0 → Keeps (E.contents errors.old) (E.contents errors.new) }
     ensures usage { result ≡ 1 → Keeps (O.contents output.old) (O.contents output.new) }
     ensures shown { IsShownAs (kind_of error.now) result }
-    ensures most { result ≤ 3 }
+    ensures most { result ≤ 4 }
 {
     match error.kind() {
         ErrorKind::OutOfMemory => end(errors, Err(CommandFault::from(AllocError))),
@@ -139,13 +150,21 @@ fn relayd<'a>(alloc: Global) -> Result<Command<'a>, AllocError> {
     Command::new(alloc, "relayd")
         .version(VERSION)
         .about(
-            "Shows the layers of a webhook relay: a script of its calls, signatures, the adaptive limit",
+            "Checks the file of a webhook relay, and shows its layers: a script of its calls, signatures, the adaptive limit",
         )
         .after_help(EXIT_HELP)
         .subcommand_required(true)
+        .subcommand(check_syntax(alloc)?)?
         .subcommand(replay_syntax(alloc))?
         .subcommand(sign_syntax(alloc)?)?
         .subcommand(vegas_syntax(alloc)?)
+}
+
+fn check_syntax<'a>(alloc: Global) -> Result<Command<'a>, AllocError> {
+    Command::new(alloc, "check")
+        .about("Reads the file of a relay's store and prints how much it holds")
+        .after_help(CHECK_HELP)
+        .arg(text(alloc, "file").help("The file's path"))
 }
 
 fn replay_syntax<'a>(alloc: Global) -> Command<'a> {

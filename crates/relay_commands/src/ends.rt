@@ -4,10 +4,11 @@ ghost use Rattle.std.specs.Io.KnownBytes.{Appends};
 ghost use Rattle.text_lines.specs.Streams.{AppendsFront};
 ghost use Rattle.text_lines.specs.declared.fault.StreamFault.TheVariants as command;
 ghost use Rattle.relay_commands.specs.declared.ends.CommandFault.TheVariants.{Ended};
-ghost use Rattle.relay_commands.specs.Reports.{argument_fault, exit_status, told_text, told_line, Tells};
+ghost use Rattle.relay_commands.specs.Reports.{argument_fault, open_fault, file_fault_name, exit_status, told_text, told_line, Tells};
 
 use arrayvec::ArrayString;
 use relay_types::ReadFault;
+use spool::OpenFault;
 use std::alloc::AllocError;
 use std::fmt;
 use std::fmt::Write as _;
@@ -20,6 +21,32 @@ pub const DONE: u8 = 0;
 /// The words are no command, or an argument isn't what its reader takes.
 pub const USAGE: u8 = 1;
 
+/// The file isn't one that the relay takes.
+pub const UNFIT: u8 = 4;
+
+/// Why the relay doesn't take a file.
+#[derive(Clone, Copy, PartialEq, Eq, Debug)]
+pub enum FileFault {
+    /// It isn't one of SQLite's, or has none of the relay's tables.
+    NotOurs,
+    /// Its tables are of a later version.
+    NewerVersion,
+    /// Its tables are the relay's, and their rows aren't such as a legal history has.
+    Damaged,
+}
+
+impl fmt::Display for FileFault {
+    ghost output = { λ fault. Some (file_fault_name fault) };
+
+    fn fmt<W: fmt::Write>(&self, f: &mut fmt::Formatter<W>) -> fmt::Result {
+        match self {
+            FileFault::NotOurs => f.write_str("NotOurs"),
+            FileFault::NewerVersion => f.write_str("NewerVersion"),
+            FileFault::Damaged => f.write_str("Damaged"),
+        }
+    }
+}
+
 /// Why a command wasn't done.
 #[derive(Clone, Copy, PartialEq, Eq, Debug)]
 pub enum CommandFault {
@@ -27,17 +54,20 @@ pub enum CommandFault {
     Argument(ReadFault),
     /// The command ended early.
     Ended(StreamFault),
+    /// The relay doesn't take the file.
+    File(FileFault),
 }
 
 impl CommandFault {
-    /// The exit status of a command that ends so: 1 for an argument, 2 for what was read, 3 for the rest.
+    /// The exit status of a command that ends so: 1 for an argument, 2 for what was read, 4 for a file, 3 for the rest.
     fn status(self) -> u8
         ensures status { result ≡ exit_status (Err self) }
-        ensures most { result ≤ 3 }
+        ensures most { result ≤ 4 }
     {
         match self {
             CommandFault::Argument(_) => USAGE,
             CommandFault::Ended(fault) => fault.status(),
+            CommandFault::File(_) => UNFIT,
         }
     }
 }
@@ -49,6 +79,7 @@ impl fmt::Display for CommandFault {
         match self {
             CommandFault::Argument(fault) => write!(f, "{fault}"),
             CommandFault::Ended(fault) => write!(f, "{fault}"),
+            CommandFault::File(fault) => write!(f, "{fault}"),
         }
     }
 }
@@ -80,11 +111,26 @@ impl From<AllocError> for CommandFault {
     }
 }
 
-/// Tells the fault of an end, and gives its exit status: 0 done, 1 an argument is refused, 2 what was read, 3 the rest.
+impl From<OpenFault> for CommandFault {
+    ghost from_gives = { λ refusal fault. fault ≡ open_fault refusal };
+
+    fn from(fault: OpenFault) -> CommandFault {
+        match fault {
+            OpenFault::NotOurs => CommandFault::File(FileFault::NotOurs),
+            OpenFault::NewerVersion => CommandFault::File(FileFault::NewerVersion),
+            OpenFault::Damaged => CommandFault::File(FileFault::Damaged),
+            OpenFault::Store(_) => CommandFault::Ended(StreamFault::Lost),
+            OpenFault::OutOfMemory => CommandFault::Ended(StreamFault::OutOfMemory),
+        }
+    }
+}
+
+/// Tells the fault of an end, and gives its exit status: 0 done, 1 an argument is refused, 2 what was read, 4 the relay doesn't take
+/// the file, 3 the rest.
 pub fn end<E: Write>(errors: &mut E, end: Result<(), CommandFault>) -> u8
     ensures status { result ≡ exit_status end }
     ensures tells { Tells end (E.contents errors.old) (E.contents errors.new) }
-    ensures most { result ≤ 3 }
+    ensures most { result ≤ 4 }
 {
     match end {
         Ok(()) => DONE,

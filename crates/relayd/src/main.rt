@@ -10,7 +10,7 @@ use std::process::ExitCode;
 fn main(rt: HostRuntime) -> io::Result<ExitCode> {
     let status = match words_of(&rt) {
         Ok(words) => run(
-            rt.alloc(),
+            &rt,
             words.as_slice(),
             &mut rt.stdin(),
             &mut rt.stdout(),

@@ -25,7 +25,7 @@ fn gets_on_a_byte_at_a_time(rt: HostRuntime) -> Result<(), Fail> {
     let replies = "nothing\n".repeat(rt.alloc(), 300)?;
     for interrupted in [1, 2, 40, 100_000] {
         let words = ["relayd", "replay"];
-        let told = tell_through(rt.alloc(), slow(interrupted), &words, script.as_bytes());
+        let told = tell_through(&rt, slow(interrupted), &words, script.as_bytes());
         check(
             &rt,
             &told,
@@ -44,7 +44,7 @@ fn signs_a_body_a_byte_at_a_time(rt: HostRuntime) -> Result<(), Fail> {
     let header = "v1,EMvyJS7ChJFPhceI/ew8iUyUewHL/lPPEPqSM5LF0Qw=\n";
     for interrupted in [1, 2, 40, 100_000] {
         let words = ["relayd", "sign", "msg_1", "1000", SECRET];
-        let told = tell_through(rt.alloc(), slow(interrupted), &words, body.as_slice());
+        let told = tell_through(&rt, slow(interrupted), &words, body.as_slice());
         check(&rt, &told, header, "", 0);
     }
     Ok(())
@@ -106,7 +106,7 @@ fn ends_where_a_reader_or_a_writer_fails(rt: HostRuntime) {
         };
         check(
             &rt,
-            &tell_through(rt.alloc(), streams, words, text),
+            &tell_through(&rt, streams, words, text),
             written,
             told,
             3,

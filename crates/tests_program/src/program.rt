@@ -162,7 +162,7 @@ fn replays_scripts(rt: HostRuntime) {
         (HALTED, HALTED_REPLIES),
         (CHANGED, CHANGED_REPLIES),
     ] {
-        let told = tell(rt.alloc(), &["relayd", "replay"], script.as_bytes());
+        let told = tell(&rt, &["relayd", "replay"], script.as_bytes());
         check(&rt, &told, replies, "", 0);
     }
 }
@@ -189,7 +189,7 @@ fn refuses_bad_lines(rt: HostRuntime) {
         "show A\n",
         "show a b c\n",
     ] {
-        let told = tell(rt.alloc(), &["relayd", "replay"], line.as_bytes());
+        let told = tell(&rt, &["relayd", "replay"], line.as_bytes());
         check(&rt, &told, "", "relayd: line 1: bad line\n", 2);
     }
 }
@@ -199,9 +199,9 @@ fn refuses_bad_lines(rt: HostRuntime) {
 fn bounds_a_line(rt: HostRuntime) -> Result<(), Fail> {
     let mut line = vec![in rt.alloc(); b'a'; 140_001]?;
     line.push(b'\n')?;
-    let told = tell(rt.alloc(), &["relayd", "replay"], line.as_slice());
+    let told = tell(&rt, &["relayd", "replay"], line.as_slice());
     check(&rt, &told, "", "relayd: TooLong\n", 2);
-    let told = tell(rt.alloc(), &["relayd", "replay"], &line.as_slice()[1..]);
+    let told = tell(&rt, &["relayd", "replay"], &line.as_slice()[1..]);
     check(&rt, &told, "", "relayd: line 1: bad line\n", 2);
     Ok(())
 }
@@ -221,7 +221,7 @@ pub(crate) const EXAMPLE_BODY: &[u8] = b"{\"test\": 2432232314}";
 
 #[test]
 fn signs_the_example(rt: HostRuntime) {
-    let told = tell(rt.alloc(), EXAMPLE, EXAMPLE_BODY);
+    let told = tell(&rt, EXAMPLE, EXAMPLE_BODY);
     let header = "v1,g0hM9SsE+OTPJTGt/tmIKtSyZlE3uFJELVlNIOLJ1OE=\n";
     check(&rt, &told, header, "", 0);
 }
@@ -233,11 +233,11 @@ fn signs_by_four_secrets(rt: HostRuntime) {
         "relayd", "sign", "msg_1", "1000", SECRET, SECRET, SECRET, SECRET, SECRET,
     ];
     for count in 1..5 {
-        let told = tell(rt.alloc(), &words[..count + 4], b"");
+        let told = tell(&rt, &words[..count + 4], b"");
         assert_eq!(rt; told.status, 0);
         assert_eq!(rt; told.output.len(), 48 * count);
     }
-    let told = tell(rt.alloc(), &words, b"");
+    let told = tell(&rt, &words, b"");
     check(&rt, &told, "", "relayd: BadSecret\n", 1);
 }
 
@@ -249,10 +249,10 @@ fn refuses_arguments(rt: HostRuntime) {
         ("msg_1", "1099511627777", "y", "relayd: BadMoment\n"),
         ("msg_1", "1000", "y", "relayd: BadSecret\n"),
     ] {
-        let told = tell(rt.alloc(), &["relayd", "sign", id, at, secret], b"");
+        let told = tell(&rt, &["relayd", "sign", id, at, secret], b"");
         check(&rt, &told, "", errors, 1);
     }
-    let told = tell(rt.alloc(), &["relayd", "vegas", "1001"], b"");
+    let told = tell(&rt, &["relayd", "vegas", "1001"], b"");
     check(&rt, &told, "", "relayd: BadMax\n", 1);
 }
 
@@ -261,9 +261,9 @@ fn refuses_arguments(rt: HostRuntime) {
 fn bounds_a_body(rt: HostRuntime) -> Result<(), Fail> {
     let words = ["relayd", "sign", "msg_1", "1000", SECRET];
     let body = vec![in rt.alloc(); b'a'; 65_537]?;
-    let told = tell(rt.alloc(), &words, body.as_slice());
+    let told = tell(&rt, &words, body.as_slice());
     check(&rt, &told, "", "relayd: TooLong\n", 2);
-    let told = tell(rt.alloc(), &words, &body.as_slice()[1..]);
+    let told = tell(&rt, &words, &body.as_slice()[1..]);
     assert_eq!(rt; told.status, 0);
     Ok(())
 }
@@ -277,7 +277,7 @@ fn bounds_the_body_of_an_event(rt: HostRuntime) -> Result<(), Fail> {
     ] {
         let body = "7b".repeat(rt.alloc(), count)?;
         let line = format!(in rt.alloc(); "submit 1 a m {body}")?;
-        let told = tell(rt.alloc(), &["relayd", "replay"], line.as_bytes());
+        let told = tell(&rt, &["relayd", "replay"], line.as_bytes());
         check(&rt, &told, output, errors, status);
     }
     Ok(())
@@ -290,14 +290,14 @@ fn follows_samples(rt: HostRuntime) {
         b"100000 1 ok\n100000 10 ok\n100000 12 ok\n100000 13 ok\n110000 16 ok\n105000 16 ok\n200000 17 ok\n200000 17 drop\n";
     let limits =
         "20 100000\n26 100000\n26 100000\n32 100000\n32 100000\n33 100000\n32 100000\n31 100000\n";
-    check(&rt, &tell(rt.alloc(), &words, samples), limits, "", 0);
+    check(&rt, &tell(&rt, &words, samples), limits, "", 0);
     for text in [
         "100000 1 ok\n100000 0 ok\n",
         "100000 1 ok\n100000 1001 drop\n",
         "100000 1 ok\n9223372036854775808 1 ok\n",
         "100000 1 ok\n1 1 okay\n",
     ] {
-        let told = tell(rt.alloc(), &words, text.as_bytes());
+        let told = tell(&rt, &words, text.as_bytes());
         check(&rt, &told, "20 100000\n", "relayd: line 2: bad line\n", 2);
     }
 }
@@ -305,7 +305,7 @@ fn follows_samples(rt: HostRuntime) {
 // Help and the version stand on standard output.
 #[test]
 fn shows_help(rt: HostRuntime) {
-    let told = tell(rt.alloc(), &["relayd", "--version"], b"");
+    let told = tell(&rt, &["relayd", "--version"], b"");
     check(&rt, &told, "relayd 0.1.0\n", "", 0);
     let all: &[(&[&str], &str)] = &[
         (
@@ -326,7 +326,7 @@ fn shows_help(rt: HostRuntime) {
         ),
     ];
     for (words, help) in all {
-        let told = tell(rt.alloc(), words, b"");
+        let told = tell(&rt, words, b"");
         assert!(rt; told.output.ends_with(help.as_bytes()));
         assert_eq!(rt; told.errors.len(), 0);
         assert_eq!(rt; told.status, 0);
@@ -346,7 +346,7 @@ fn refuses_words(rt: HostRuntime) {
         &["relayd", "vegas", "1", "2"],
     ];
     for words in all {
-        let told = tell(rt.alloc(), words, b"seal\n");
+        let told = tell(&rt, words, b"seal\n");
         assert!(rt; told.errors.starts_with(b"error: "));
         assert_eq!(rt; told.output.len(), 0);
         assert_eq!(rt; told.status, 1);

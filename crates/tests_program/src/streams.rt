@@ -114,14 +114,20 @@ pub(crate) struct Told {
     pub(crate) status: u8,
 }
 
-pub(crate) fn tell_through(alloc: Global, streams: Streams, words: &[&str], text: &[u8]) -> Told {
+pub(crate) fn tell_through(
+    rt: &HostRuntime,
+    streams: Streams,
+    words: &[&str],
+    text: &[u8],
+) -> Told {
+    let alloc = rt.alloc();
     let mut input = Reader {
         rest: text,
         calls: streams.input,
     };
     let mut output = Writer::new(alloc, streams.output);
     let mut errors = Writer::new(alloc, streams.errors);
-    let status = run(alloc, words, &mut input, &mut output, &mut errors);
+    let status = run(rt, words, &mut input, &mut output, &mut errors);
     Told {
         output: output.bytes,
         errors: errors.bytes,
@@ -129,13 +135,13 @@ pub(crate) fn tell_through(alloc: Global, streams: Streams, words: &[&str], text
     }
 }
 
-pub(crate) fn tell(alloc: Global, words: &[&str], text: &[u8]) -> Told {
+pub(crate) fn tell(rt: &HostRuntime, words: &[&str], text: &[u8]) -> Told {
     let whole = Streams {
         input: Calls::WHOLE,
         output: Calls::WHOLE,
         errors: Calls::WHOLE,
     };
-    tell_through(alloc, whole, words, text)
+    tell_through(rt, whole, words, text)
 }
 
 pub(crate) fn check(rt: &impl Abort, told: &Told, output: &str, errors: &str, status: u8) {
