@@ -1,2 +1,3 @@
+pub mod FileLaws
 mod ReadingLaws
 mod ReopeningLaws

@@ -21,7 +21,7 @@ use Rattle.spool.specs.declared.ends.OpenFault.TheVariants.{NotOurs, NewerVersio
 use Rattle.spool.specs.Vaults.{VaultValue}
 use Rattle.desk.specs.World.{World, all_records}
 use Rattle.desk.specs.Desks.{DeskValue}
-use Rattle.recovery.specs.Left.{AreOfSteps}
+use Rattle.recovery.specs.Left.{AreLeft, AreOfSteps}
 use Rattle.recovery.specs.Reopenings.{AreOpenedAt, AreOpenedAtOne, IsReopened, OpensHeld, ReopensLeft, steps_from}
 
 records_of_each : (records : List Record) → records_of (map (λ entry. entry ∷ []) records) ≡ records
@@ -49,13 +49,18 @@ legal_first : (steps : ℕ) (history : History) → IsLegal (records_of history)
 legal_first steps history legal = legal_front (records_of (take steps history)) (records_of (drop steps history)) (subst IsLegal (ap records_of (sym (take-append-drop steps history)) ∙ records_of_both (take steps history) (drop steps history)) legal)
 
 -- what a stop left of a world is one of the legal histories of the rows
-pub reopens_left : {S : Type 0} (g : Ghosts S) (conn : Held S) (desk : DeskValue) (vault : VaultValue S) → ((state g conn).now.schema ≡ relay_schema → IsReopened g (state g conn).now desk vault) → ReopensLeft g conn desk vault
-reopens_left g conn desk vault opened w legal (rows, left, stands) = at w.left left
+pub opens_one : {S : Type 0} (g : Ghosts S) (desk : DeskValue) (vault : VaultValue S) (w : World) → IsLegal (all_records w) → (rows : Rows) → AreLeft w rows
+    → ((history : History) → IsLegal (records_of history) → rows ≡ rows_of (records_of history) → AreOpenedAt g desk vault history) → AreOpenedAtOne g desk vault w w.left
+opens_one g desk vault w legal rows left opened = at w.left left
   where
     at : (numbers : List ℕ) → AreOfSteps w numbers rows → AreOpenedAtOne g desk vault w numbers
     at [] none = absurd none
-    at (steps ∷ others) (inl is) = inl ((opened stands.now.schema_is).each (take steps w.history) (legal_first steps w.history legal) (subst (IsTables (state g conn).now) is stands.now))
+    at (steps ∷ others) (inl is) = inl (opened (take steps w.history) (legal_first steps w.history legal) is)
     at (steps ∷ others) (inr of) = inr (at others of)
+
+pub reopens_left : {S : Type 0} (g : Ghosts S) (conn : Held S) (desk : DeskValue) (vault : VaultValue S) → ((state g conn).now.schema ≡ relay_schema → IsReopened g (state g conn).now desk vault) → ReopensLeft g conn desk vault
+reopens_left g conn desk vault opened w legal (rows, left, stands) =
+    opens_one g desk vault w legal rows left (λ history of is. (opened stands.now.schema_is).each history of (subst (IsTables (state g conn).now) is stands.now))
 
 -- What is known of an answer or of a refusal, with what a clause on both says of it
 

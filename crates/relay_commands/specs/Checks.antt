@@ -1,21 +1,24 @@
 -- What `relayd check` writes, by how it ends.
-use Rattle.std.specs.Prelude.{◌≡◌, ℕ, List, [], ◌∷◌, Option, Result, Ok, Err, codes, decimal}
+use Rattle.std.specs.Prelude.{◌≡◌, ◌⊎◌, ℕ, List, [], ◌∷◌, Option, Some, None, Result, Ok, Err, IfOk, IsErr, codes, decimal}
 use Rattle.std.specs.Io.KnownBytes.{Appends, Keeps}
 use Rattle.sqlite.specs.Store.{Ghosts}
 use Rattle.sqlite.specs.Effect.{Database}
 use Rattle.sqlite.specs.Held.{Held}
-use Rattle.sqlite.specs.declared.error.Error.{Error}
-use Rattle.sqlite.specs.declared.error.Error.TheVariants.{SqliteFailure}
-use Rattle.sqlite.specs.declared.error.ErrorCode.TheVariants as code
-use Rattle.relay_types.specs.Rows.{Rows}
+use Rattle.sqlite.specs.Recovery.{Image}
+use Rattle.sqlite.specs.Files.{AreFoundIn}
+use Rattle.relay_types.specs.Records.{History, records_of}
+use Rattle.relay_types.specs.Legal.{IsLegal}
+use Rattle.relay_types.specs.Rows.{Rows, rows_of}
 use Rattle.spool_sql.specs.Steps.{IfClean}
-use Rattle.spool_sql.specs.Tables.{relay_schema}
+use Rattle.spool_sql.specs.Stored.{IsTables}
+use Rattle.spool_sql.specs.Tables.{no_schema, relay_schema}
 use Rattle.sound_tables.specs.Checks.{AreSoundTables}
 use Rattle.spool.specs.declared.ends.OpenFault.{OpenFault}
-use Rattle.spool.specs.declared.ends.OpenFault.TheVariants as opening
 use Rattle.desk.specs.World.{settled_records}
 use Rattle.desk.specs.Looks.{totals}
 use Rattle.desk.specs.declared.pages.Totals.{Totals}
+use Rattle.recovery.specs.Files.{HoldsRows}
+use Rattle.recovery.specs.Left.{IsCleanAt}
 use Rattle.recovery.specs.Reopenings.{IsUnopened, opening_of, steps_from}
 use Rattle.text_lines.specs.declared.fault.StreamFault.TheVariants.{Write, OutOfMemory}
 use Rattle.text_lines.specs.Parts.{line}
@@ -32,14 +35,35 @@ counts_text t = line
 abbrev pub counts_line : Totals → List ℕ
 counts_line t = with_feed (counts_text t)
 
--- the tables have sound rows, and these are the totals of the opening of their history
-abbrev pub AreTotalsOf : Database → Totals → Type 0
-AreTotalsOf db t = (rows : Rows) × AreSoundTables db rows × (t ≡ totals (settled_records (opening_of (steps_from rows))))
+-- The tables have sound rows, and these are the totals of the opening of their history, and of each legal history that has these rows.
+pub record AreTotalsOf (db : Database) (t : Totals) : Type 0 where
+  pub rows : Rows
+  pub sound : AreSoundTables db rows
+  pub counts : t ≡ totals (settled_records (opening_of (steps_from rows)))
+  pub each : (history : History) → IsLegal (records_of history) → IsTables db (rows_of (records_of history))
+      → t ≡ totals (settled_records (opening_of history))
 
--- What was read of the store: its totals, or why it wasn't opened. The clauses speak of the relay's schema.
+-- Where there was no table, they are the totals of no record, and where the relay's tables were, those of their history.
+abbrev pub AreTotalsFound : Database → Totals → Type 0
+AreTotalsFound db t = ((db.schema ≡ no_schema) × (t ≡ totals [])) ⊎ (db.schema ≡ relay_schema → AreTotalsOf db t)
+
+-- What was counted of a store: its totals, or why it wasn't opened, which is said of the relay's schema.
 abbrev pub IsCounted : {S : Type 0} → Ghosts S → (old new : Held S) → Result Totals OpenFault → Type 0
-IsCounted g old new (Ok t) = IfClean g old new (λ a b. a.now.schema ≡ relay_schema → AreTotalsOf a.now t)
+IsCounted g old new (Ok t) = IfClean g old new (λ a b. AreTotalsFound a.now t)
 IsCounted g old new (Err why) = IfClean g old new (λ a b. a.now.schema ≡ relay_schema → IsUnopened a b why)
+
+-- They are the totals of what a file and its log held, and of each legal history whose rows these were.
+pub record AreTotalsIn (image : Image) (t : Totals) : Type 0 where
+  pub found : Database
+  pub finds : AreFoundIn image found.trees
+  pub counts : AreTotalsFound found t
+  pub each : (history : History) → IsLegal (records_of history) → HoldsRows image (rows_of (records_of history))
+      → t ≡ totals (settled_records (opening_of history))
+
+-- What was counted of the file that held so much, where it was opened, and while its disk returns what was written.
+abbrev pub IsCountedIn : {S : Type 0} → Ghosts S → Image → (opened : Option (Held S)) → Result Totals OpenFault → Type 0
+IsCountedIn g image (Some conn) counted = IsCleanAt g conn → IfOk counted (AreTotalsIn image)
+IsCountedIn g image None counted = IsErr counted
 
 -- what is written of the totals where their line isn't: a front of it where the writer failed, and nothing without memory
 abbrev pub WritesFront : Totals → Option (List ℕ) → Option (List ℕ) → CommandFault → Type 0
@@ -57,19 +81,19 @@ ChecksSo (Err why) old new end = (end ≡ Err (open_fault why)) × Keeps old new
 abbrev pub ReportsChecked : Result Totals OpenFault → Option (List ℕ) → Option (List ℕ) → Option (List ℕ) → Option (List ℕ) → ℕ → Type 0
 ReportsChecked counted old new untold told status = Reports (ChecksSo counted old new) untold told status
 
--- the same, of what was read of the store of a connection
+-- the same, of what was counted of the store of a connection
 abbrev pub ChecksTo : {S : Type 0} → Ghosts S → (conn back : Held S) → Option (List ℕ) → Option (List ℕ)
     → Option (List ℕ) → Option (List ℕ) → ℕ → Type 0
 ChecksTo g conn back old new untold told status =
     (counted : Result Totals OpenFault) × IsCounted g conn back counted × ReportsChecked counted old new untold told status
 
--- the same of a file: no clause ties a path to what a store holds
-abbrev pub ChecksFileTo : Option (List ℕ) → Option (List ℕ) → Option (List ℕ) → Option (List ℕ) → ℕ → Type 0
-ChecksFileTo old new untold told status =
-    (counted : Result Totals OpenFault) × ReportsChecked counted old new untold told status
+-- the same, of what was counted of a file
+abbrev pub ChecksFileTo : {S : Type 0} → Ghosts S → Image → (opened : Option (Held S))
+    → Option (List ℕ) → Option (List ℕ) → Option (List ℕ) → Option (List ℕ) → ℕ → Type 0
+ChecksFileTo g image opened old new untold told status =
+    (counted : Result Totals OpenFault) × IsCountedIn g image opened counted × ReportsChecked counted old new untold told status
 
--- as what a refused open of a file is told
-abbrev pub refusal_of : Error → OpenFault
-refusal_of (SqliteFailure code.NotADatabase) = opening.NotOurs
-refusal_of (SqliteFailure code.OutOfMemory) = opening.OutOfMemory
-refusal_of other = opening.Store other
+-- the same, whatever was counted
+abbrev pub ChecksAny : Option (List ℕ) → Option (List ℕ) → Option (List ℕ) → Option (List ℕ) → ℕ → Type 0
+ChecksAny old new untold told status =
+    (counted : Result Totals OpenFault) × ReportsChecked counted old new untold told status

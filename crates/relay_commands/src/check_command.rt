@@ -1,28 +1,25 @@
 //! `relayd check`: how much the store in a file holds.
-ghost use Rattle.std.specs.Prelude.{◌≡◌, false, Some, IfOk};
+ghost use Rattle.std.specs.Prelude.{◌≡◌, false, Some};
 ghost use Rattle.permits.specs.declared.pool.TheConstants.{PARTS};
+ghost use Rattle.sqlite.specs.Files.{over_files};
+ghost use Rattle.sqlite.specs.WalFiles.{image_at};
 ghost use Rattle.spool_sql.specs.Steps.{IfClean};
 ghost use Rattle.spool.specs.Adopting.{IsOnlyRead};
 ghost use Rattle.recovery.specs.Left.{IsCleanAt};
-ghost use Rattle.relay_commands.specs.Checks.{IsCounted, ChecksSo, ChecksTo, ChecksFileTo, counts_text, refusal_of};
+ghost use Rattle.relay_commands.specs.Checks.{IsCounted, ChecksSo, ChecksTo, ChecksFileTo, ChecksAny, counts_text};
 
 use crate::ends::{CommandFault, end};
 use desk::Totals;
-use permits::{PARTS, Pool};
-use recovery::reopen;
+use permits::PARTS;
+use recovery::{connect, open};
 use spool::OpenFault;
-use sqlite::{Alter, Connection, Error, ErrorCode, File, FileStore};
+use sqlite::{Alter, Connection, FileFrom, FileStore, Start};
 use std::alloc::Global;
-use std::io::{self, ErrorKind, Read, Write};
+use std::fmt;
+use std::io::Write;
 use std::marker::Brand;
 use std::sync::ledger::{Blank, Ledger};
-use std::{fmt, fs};
 use text_lines::write_line;
-
-// What a file of SQLite begins with.
-const HEADER: [u8; 16] = *b"SQLite format 3\0";
-
-const CANNOT_OPEN: OpenFault = OpenFault::Store(Error::SqliteFailure(ErrorCode::CannotOpen));
 
 /// How much a store holds.
 #[derive(Clone, Copy)]
@@ -47,34 +44,59 @@ impl fmt::Display for Counts {
     }
 }
 
-/// Reads the store in the file, which is neither made nor written, and writes how many records, endpoints and pending events it holds:
-/// 0 done, 4 the relay doesn't take the file, 3 every other fault. SQLite's log may be made beside the file.
-pub fn check<O: Write, E: Write>(rt: &HostRuntime, path: &str, output: &mut O, errors: &mut E) -> u8
-    ensures checks { ChecksFileTo (O.contents output.old) (O.contents output.new)
+/// Opens the store in the file and writes how many records, endpoints and pending events it holds: 0 done, 4 the relay doesn't take
+/// the file, 3 every other fault. Where nothing stands at the path, or an empty file, a store of the empty history is made; every
+/// other file isn't written, but SQLite's log may be made beside it. `start` stands for what the file and its log hold.
+pub fn check<T: Start, O: Write, E: Write>(
+    rt: &HostRuntime,
+    path: &str,
+    start: T,
+    output: &mut O,
+    errors: &mut E,
+) -> u8
+    ensures checks { ChecksAny (O.contents output.old) (O.contents output.new)
         (E.contents errors.old) (E.contents errors.new) result }
 {
-    match open_file(rt, path) {
-        Ok(conn) => check_store(rt.alloc(), conn, output, errors).1,
-        Err(fault) => end(errors, Err(CommandFault::from(fault))),
+    check_file(rt, path, start, output, errors).1
+}
+
+/// The same. The connection comes back where the file was opened.
+pub fn check_file<T: Start, O: Write, E: Write>(
+    rt: &HostRuntime,
+    path: &str,
+    start: T,
+    output: &mut O,
+    errors: &mut E,
+) -> (Option<Connection<FileStore<FileFrom<T>>>>, u8)
+    ensures checks { ChecksFileTo over_files (image_at T.Start) result.0 (O.contents output.old) (O.contents output.new)
+        (E.contents errors.old) (E.contents errors.new) result.1 }
+{
+    match connect(rt, path, start) {
+        Ok((conn, is_new)) => {
+            let (conn, status) = check_store(rt.alloc(), conn, is_new, output, errors);
+            (Some(conn), status)
+        }
+        Err(fault) => (None, end(errors, Err(CommandFault::from(fault)))),
     }
 }
 
-/// Reads the store of the connection, and writes how many records, endpoints and pending events it holds. The connection comes back.
-/// The caller sees by `is_autocommit` that it is outside a transaction.
+/// The same of the store of a connection, which is made where it `is_new` and has no table. The connection comes back. The caller
+/// sees by `is_autocommit` that it is outside a transaction.
 pub fn check_store<S: Alter, O: Write, E: Write>(
     alloc: Global,
     conn: Connection<S>,
+    is_new: bool,
     output: &mut O,
     errors: &mut E,
 ) -> (Connection<S>, u8)
     requires mode { conn.in_transaction ≡ false }
     ensures checks { ChecksTo S.Store conn result.0 (O.contents output.old) (O.contents output.new)
         (E.contents errors.old) (E.contents errors.new) result.1 }
-    ensures read { IfClean S.Store conn result.0 IsOnlyRead }
+    ensures read { is_new ≡ false → IfClean S.Store conn result.0 IsOnlyRead }
     ensures clean { IsCleanAt S.Store result.0 → IsCleanAt S.Store conn }
     ensures outside { result.0.in_transaction ≡ false }
 {
-    let (conn, counted) = count::<Brand, S>(alloc, Blank::new(PARTS), conn);
+    let (conn, counted) = count::<Brand, S>(alloc, Blank::new(PARTS), conn, is_new);
     (conn, end(errors, write_counts(alloc, counted, output)))
 }
 
@@ -83,20 +105,18 @@ fn count<L: Ledger, S: Alter>(
     alloc: Global,
     blank: Blank,
     conn: Connection<S>,
+    is_new: bool,
 ) -> (Connection<S>, Result<Totals, OpenFault>)
     requires name { blank.name ≡ L.name }
     requires parts { blank.parts ≡ L.parts }
     requires enough { blank.parts ≡ PARTS }
     requires mode { conn.in_transaction ≡ false }
     ensures counted { IsCounted S.Store conn result.0 result.1 }
-    ensures read { IfClean S.Store conn result.0 IsOnlyRead }
+    ensures read { is_new ≡ false → IfClean S.Store conn result.0 IsOnlyRead }
     ensures clean { IsCleanAt S.Store result.0 → IsCleanAt S.Store conn }
     ensures outside { result.0.in_transaction ≡ false }
 {
-    let Ok(pool) = Pool::<L>::new(alloc, blank) else {
-        return (conn, Err(OpenFault::OutOfMemory));
-    };
-    match reopen(alloc, pool, conn, 0) {
+    match open::<L, S>(alloc, blank, conn, is_new, 0) {
         Ok((desk, vault)) => {
             let totals = desk.totals();
             (vault.release(), Ok(totals))
@@ -115,40 +135,4 @@ fn write_counts<O: Write>(
 {
     let totals = counted?;
     Ok(write_line(alloc, output, &Counts { totals })?)
-}
-
-// Opens the file of a store that was made before.
-fn open_file(rt: &HostRuntime, path: &str) -> Result<Connection<FileStore<File>>, OpenFault>
-    ensures { IfOk result (λ conn. conn.in_transaction ≡ false) }
-{
-    match has_header(rt, path) {
-        Ok(true) => Connection::open(rt, path).map_err(refusal_of),
-        Ok(false) => Err(OpenFault::NotOurs),
-        Err(error) if error.kind() == ErrorKind::OutOfMemory => Err(OpenFault::OutOfMemory),
-        Err(_) => Err(CANNOT_OPEN),
-    }
-}
-
-// Whether the file begins as those of SQLite do. Another isn't opened: an open would make a store of an empty one.
-fn has_header(rt: &HostRuntime, path: &str) -> io::Result<bool> {
-    if !fs::metadata(rt, path)?.is_file() {
-        return Err(ErrorKind::Unsupported.into());
-    }
-    let mut header = [0; 16];
-    match fs::File::open(rt, path)?.read_exact(&mut header) {
-        Ok(()) => Ok(header == HEADER),
-        Err(error) if error.kind() == ErrorKind::UnexpectedEof => Ok(false),
-        Err(error) => Err(error),
-    }
-}
-
-// As what the store's refusal of an open is told.
-fn refusal_of(error: Error) -> OpenFault
-    ensures { result ≡ refusal_of error }
-{
-    match error {
-        Error::SqliteFailure(ErrorCode::NotADatabase) => OpenFault::NotOurs,
-        Error::SqliteFailure(ErrorCode::OutOfMemory) => OpenFault::OutOfMemory,
-        other => OpenFault::Store(other),
-    }
 }

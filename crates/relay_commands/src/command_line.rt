@@ -13,6 +13,7 @@ use crate::sign_command::sign;
 use crate::vegas_command::vegas;
 use clap::error::{Error, ErrorKind};
 use clap::{Arg, ArgAction, ArgMatches, Command};
+use sqlite::Unknown;
 use std::alloc::{AllocError, Global};
 use std::convert::AsStr;
 use std::io::{Read, Write};
@@ -49,7 +50,7 @@ const REPLAY_HELP: &str =
 A bad line ends the script with status 2; the replies before it stand.";
 
 const CHECK_HELP: &str =
-    "Prints `ok records N endpoints E pending P`. The file isn't written, and none is made.
+    "Prints `ok records N endpoints E pending P`. Where no file is, or an empty one, a store is made.
 Status 4 and NotOurs, NewerVersion or Damaged tell of a file that the relay doesn't take.";
 
 const SIGN_HELP: &str =
@@ -81,7 +82,7 @@ pub fn run<S: AsStr, R: Read, O: Write, E: Write>(
     };
     match matches.subcommand() {
         Some(("check", words)) => match words.get_str("file") {
-            Some(path) => check(rt, path, output, errors),
+            Some(path) => check(rt, path, Unknown, output, errors),
             None => USAGE,
         },
         Some(("replay", _)) => replay(alloc, input, output, errors),

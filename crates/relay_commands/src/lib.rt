@@ -8,7 +8,7 @@ mod replay_command;
 mod sign_command;
 mod vegas_command;
 
-pub use crate::check_command::{check, check_store};
+pub use crate::check_command::{check, check_file};
 pub use crate::command_line::{VERSION, run};
 pub use crate::ends::{CommandFault, DONE, FileFault, UNFIT, USAGE, end};
 pub use crate::replay_command::replay;

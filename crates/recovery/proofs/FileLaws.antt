@@ -1,0 +1,64 @@
+-- A file is opened as what it and its log held.
+use Rattle.std.proofs.Common.{◌≡◌, List, [], ◌∷◌, inl, inr, sym, subst, ◌∙◌}
+use Rattle.sqlite.specs.Store.{Ghosts}
+use Rattle.sqlite.specs.State.{State, IsLive, Opens}
+use Rattle.sqlite.specs.Effect.{Database}
+use Rattle.sqlite.specs.Tree.{Trees}
+use Rattle.sqlite.specs.Schema.{Schema}
+use Rattle.sqlite.specs.Table.{Table}
+use Rattle.sqlite.specs.Recovery.{Image}
+use Rattle.sqlite.specs.Files.{AreFoundIn}
+use Rattle.sqlite.specs.Start.{FindsIn}
+use Rattle.relay_types.specs.Records.{History, records_of}
+use Rattle.relay_types.specs.Legal.{IsLegal}
+use Rattle.relay_types.specs.Rows.{Rows, rows_of}
+use Rattle.spool_sql.specs.Stored.{AreTablesOf, IsTables}
+use Rattle.spool_sql.specs.Tables.{no_schema, relay_schema}
+use Rattle.spool_sql.proofs.StepLemmas.{opened_tables}
+use Rattle.spool.specs.Adopting.{IsOnlyRead, LeavesRead}
+use Rattle.spool.specs.declared.ends.OpenFault.{OpenFault}
+use Rattle.spool.specs.declared.ends.OpenFault.TheVariants.{NotOurs, NewerVersion, Damaged, Store, OutOfMemory}
+use Rattle.spool.specs.Vaults.{VaultValue}
+use Rattle.desk.specs.Desks.{DeskValue}
+use Rattle.desk.specs.World.{World, all_records}
+use Rattle.recovery.specs.Files.{HoldsRows, HoldsLeftOf, IsMadeOrReopened, IsFileOpened}
+use Rattle.recovery.specs.Reopenings.{AreOpenedAt, AreOpenedAtOne}
+use Rattle.recovery.proofs.ReopeningLaws.{opens_one}
+
+abbrev HasNone : List Table → Type 0
+HasNone [] = Unit {0}
+HasNone (table ∷ tables) = ⊥
+
+pub not_both : {P : Type 0} (schema : Schema) → schema ≡ no_schema → schema ≡ relay_schema → P
+not_both schema none ours = absurd (subst (λ (it : Schema). HasNone it.tables) (sym none ∙ ours) tt)
+
+-- the relay's tables of these rows are what the connection shows
+pub finds_rows : (image : Image) (s : State) → IsLive s → Opens s → FindsIn image s → (rows : Rows) → HoldsRows image rows → IsTables s.now rows
+finds_rows image s live opens finds rows (db, holds, tables) =
+    subst (λ (it : Database). IsTables it rows) (sym opens.clean)
+    (opened_tables s.committed rows (live opens.is_open).1 (subst (λ (trees : Trees). AreTablesOf trees rows) (sym (finds.holds db holds)) tables))
+
+pub finds_trees : (image : Image) (s : State) → Opens s → FindsIn image s → AreFoundIn image s.now.trees
+finds_trees image s opens finds = subst (λ (db : Database). AreFoundIn image db.trees) (sym opens.clean) finds.reads
+
+module _ {S : Type 0} (g : Ghosts S) (desk : DeskValue) (vault : VaultValue S) where
+  of_tables : (db : Database) → IsMadeOrReopened g db desk vault → (history : History) → IsLegal (records_of history) → IsTables db (rows_of (records_of history)) → AreOpenedAt g desk vault history
+  of_tables db (inl (none, made)) history legal tables = not_both db.schema none tables.schema_is
+  of_tables db (inr reopened) history legal tables = (reopened tables.schema_is).each history legal tables
+
+  pub file_opened : (image : Image) (s : State) → IsLive s → Opens s → FindsIn image s → IsMadeOrReopened g s.now desk vault → IsFileOpened g image desk vault
+  file_opened image s live opens finds made = record { found = s.now; finds = finds_trees image s opens finds; opens = made; each = each; left = left }
+    where
+      each : (history : History) → IsLegal (records_of history) → HoldsRows image (rows_of (records_of history)) → AreOpenedAt g desk vault history
+      each history legal held = of_tables s.now made history legal (finds_rows image s live opens finds (rows_of (records_of history)) held)
+
+      left : (w : World) → IsLegal (all_records w) → HoldsLeftOf image w → AreOpenedAtOne g desk vault w w.left
+      left w legal (rows, is_left, held) = opens_one g desk vault w legal rows is_left (λ history of is. each history of (subst (HoldsRows image) is held))
+
+-- What a refusal leaves was only read.
+pub only_read : (old new : State) (fault : OpenFault) → LeavesRead old new fault → IsOnlyRead old new
+only_read old new NotOurs (read, is_open) = read
+only_read old new NewerVersion (read, is_open) = read
+only_read old new Damaged (read, is_open) = read
+only_read old new (Store cause) read = read
+only_read old new OutOfMemory (read, is_open) = read

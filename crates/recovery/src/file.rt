@@ -1,0 +1,142 @@
+//! The opening of a file.
+ghost use Rattle.std.specs.Prelude.{◌≡◌, false, IfErr, IfOk, MatchResult};
+ghost use Rattle.permits.specs.declared.pool.TheConstants.{PARTS};
+ghost use Rattle.sqlite.specs.Files.{file_state, over_files, IsOpened};
+ghost use Rattle.sqlite.specs.Held.{state};
+ghost use Rattle.sqlite.specs.Start.{FindsIn};
+ghost use Rattle.sqlite.specs.WalFiles.{image_at};
+ghost use Rattle.spool_sql.specs.Steps.{IfClean};
+ghost use Rattle.spool_sql.specs.Tables.{relay_schema};
+ghost use Rattle.spool.specs.Adopting.{IsOnlyRead};
+ghost use Rattle.desk.specs.Desks.{HasNothingOut};
+ghost use Rattle.recovery.specs.Files.{IsFileOpened, IsFoundOpened};
+ghost use Rattle.recovery.specs.Left.{IsCleanAt};
+ghost use Rattle.recovery.specs.Reopenings.{IsUnopened};
+
+use crate::opening::create;
+use crate::reopening::reopen;
+use desk::Desk;
+use permits::{PARTS, Pool};
+use spool::{OpenFault, Vault};
+use spool_sql::is_empty;
+use sqlite::{Alter, Connection, Error, ErrorCode, FileFrom, FileStore, Start};
+use std::alloc::Global;
+use std::fs;
+use std::io::{self, ErrorKind};
+use std::sync::ledger::{Blank, Ledger};
+
+// What a file of SQLite begins with has so many bytes. A shorter one isn't opened: of one byte an open would make a store.
+const HEADER_LENGTH: u64 = 16;
+
+const CANNOT_OPEN: OpenFault = OpenFault::Store(Error::SqliteFailure(ErrorCode::CannotOpen));
+
+/// The desk and the vault of the file at the path. Where nothing stands there, or an empty file, a store of the empty history is
+/// made; every other file is opened as by `reopen`, and isn't written. `start` stands for what the file and its log hold.
+///
+/// A file that no SQLite wrote is `NotOurs`, and so is one without the relay's tables, also where a stop left it so as it was made:
+/// such a file is deleted by hand. What can't be opened is `Store`. SQLite's log may be made beside the file.
+pub fn open_path<L: Ledger, T: Start>(
+    rt: &HostRuntime,
+    blank: Blank,
+    path: &str,
+    start: T,
+    mark: u64,
+) -> Result<(Desk<L>, Vault<FileStore<FileFrom<T>>>), OpenFault>
+    requires name { blank.name ≡ L.name }
+    requires parts { blank.parts ≡ L.parts }
+    requires enough { blank.parts ≡ PARTS }
+    ensures mark { IfOk result (λ opening. (opening.0.waiting.mark ≡ mark) × (opening.1.mark ≡ mark)) }
+    ensures out { IfOk result (λ opening. HasNothingOut opening.0) }
+    ensures opened { IfOk result (λ opening. IsCleanAt over_files opening.1.conn
+        → IsFileOpened over_files (image_at T.Start) opening.0 opening.1) }
+{
+    let (conn, is_new) = connect(rt, path, start)?;
+    match open(rt.alloc(), blank, conn, is_new, mark) {
+        Ok(opening) => Ok(opening),
+        Err((_, fault)) => Err(fault),
+    }
+}
+
+/// The connection to the file at the path, and whether nothing stood there, or an empty file. It is outside a transaction.
+pub fn connect<T: Start>(
+    rt: &HostRuntime,
+    path: &str,
+    start: T,
+) -> Result<(Connection<FileStore<FileFrom<T>>>, bool), OpenFault>
+    ensures outside { IfOk result (λ found. found.0.in_transaction ≡ false) }
+    ensures opened { IfOk result (λ found. IsCleanAt over_files found.0 → IsOpened found.0) }
+    ensures finds { IfOk result (λ found. IsCleanAt over_files found.0
+        → FindsIn (image_at T.Start) (file_state found.0)) }
+{
+    let length = length_at(rt, path).map_err(refusal_of_look)?;
+    if 0 < length && length < HEADER_LENGTH {
+        return Err(OpenFault::NotOurs);
+    }
+    match Connection::open_from(rt, path, false, start) {
+        Ok(conn) => Ok((conn, length == 0)),
+        Err((error, _)) => Err(refusal_of(error)),
+    }
+}
+
+/// The desk and the vault of what was found: a new store without any table becomes the relay's, as by `create`, and every other is
+/// opened as by `reopen`. Each refusal gives the connection back. The caller sees by `is_autocommit` that the connection is outside
+/// a transaction.
+pub fn open<L: Ledger, S: Alter>(
+    alloc: Global,
+    blank: Blank,
+    conn: Connection<S>,
+    is_new: bool,
+    mark: u64,
+) -> Result<(Desk<L>, Vault<S>), (Connection<S>, OpenFault)>
+    requires name { blank.name ≡ L.name }
+    requires parts { blank.parts ≡ L.parts }
+    requires enough { blank.parts ≡ PARTS }
+    requires mode { conn.in_transaction ≡ false }
+    ensures mark { IfOk result (λ opening. (opening.0.waiting.mark ≡ mark) × (opening.1.mark ≡ mark)) }
+    ensures out { IfOk result (λ opening. HasNothingOut opening.0) }
+    ensures opened { IfOk result (λ opening. IsCleanAt S.Store opening.1.conn
+        → IsFoundOpened S.Store conn opening.0 opening.1) }
+    ensures refused { IfErr result (λ back. IfClean S.Store conn back.0
+        (λ a b. a.now.schema ≡ relay_schema → IsUnopened a b back.1)) }
+    ensures read { is_new ≡ false → MatchResult result (λ opening. IfClean S.Store conn opening.1.conn IsOnlyRead)
+        (λ back. IfClean S.Store conn back.0 IsOnlyRead) }
+    ensures clean { MatchResult result
+        (λ opening. IsCleanAt S.Store opening.1.conn → IsCleanAt S.Store conn)
+        (λ back. IsCleanAt S.Store back.0 → IsCleanAt S.Store conn) }
+    ensures outside { IfErr result (λ back. back.0.in_transaction ≡ false) }
+{
+    if is_new && is_empty(&conn) {
+        return create(alloc, blank, conn, mark);
+    }
+    match Pool::<L>::new(alloc, blank) {
+        Ok(pool) => reopen(alloc, pool, conn, mark),
+        Err(_) => Err((conn, OpenFault::OutOfMemory)),
+    }
+}
+
+// How long the file at the path is in bytes, and 0 where nothing stands there.
+fn length_at(rt: &HostRuntime, path: &str) -> io::Result<u64> {
+    match fs::metadata(rt, path) {
+        Ok(found) if found.is_file() => Ok(found.len()),
+        Ok(_) => Err(ErrorKind::Unsupported.into()),
+        Err(error) if error.kind() == ErrorKind::NotFound => Ok(0),
+        Err(error) => Err(error),
+    }
+}
+
+// As what a refused look at the path is told.
+fn refusal_of_look(error: io::Error) -> OpenFault {
+    match error.kind() {
+        ErrorKind::OutOfMemory => OpenFault::OutOfMemory,
+        _ => CANNOT_OPEN,
+    }
+}
+
+// As what the store's refusal of an open is told.
+fn refusal_of(error: Error) -> OpenFault {
+    match error {
+        Error::SqliteFailure(ErrorCode::NotADatabase) => OpenFault::NotOurs,
+        Error::SqliteFailure(ErrorCode::OutOfMemory) => OpenFault::OutOfMemory,
+        other => OpenFault::Store(other),
+    }
+}
