@@ -151,7 +151,7 @@ fn no_number_is_of_two_rows(rt: HostRuntime) -> Result<(), Fail> {
     check_all(&rt, rt.alloc(), NO_NUMBER_IS_OF_TWO_ROWS)
 }
 
-/// Condition 4.
+/// Condition 4. A flag with the number of the secrets breaks 5 too.
 const SECRETS_ARE_OF_ONE_COMMAND: &[File<'static>] = &[
     (
         TWO,
