@@ -5,12 +5,14 @@ mod filling;
 mod inserting;
 mod loading;
 mod records;
+mod reopening;
 mod running;
 mod turns;
 
 use crate::filling::{fill, fill_tables};
 use crate::inserting::insert;
 use crate::loading::print_loads;
+use crate::reopening::{print_parts, print_reopening};
 use crate::running::print_runs;
 use sqlite::Connection;
 use std::io;
@@ -24,6 +26,8 @@ runs PATH          a run of calls, and a second one where the first had no memor
 fill COUNT PATH    as many events, half of them with two attempts
 load COUNT PATH    the same, and then read back into books
 insert COUNT PATH  the rows of as many events, by bare statements
+reopen PATH        a store that stands
+parts PATH         the same, part by part
 ";
 
 /// The most events of a run.
@@ -124,6 +128,8 @@ fn run(rt: &HostRuntime, words: &[&str]) -> io::Result<bool> {
         [_, "fill", count, path] => Ok(write_events(rt, count, path)),
         [_, "load", count, path] => load(rt, count, path),
         [_, "insert", count, path] => Ok(write_rows(rt, count, path)),
+        [_, "reopen", path] => print_reopening(rt, path),
+        [_, "parts", path] => print_parts(rt, path),
         _ => Ok(false),
     }
 }
