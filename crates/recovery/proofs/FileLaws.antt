@@ -61,4 +61,4 @@ only_read old new NotOurs (read, is_open) = read
 only_read old new NewerVersion (read, is_open) = read
 only_read old new Damaged (read, is_open) = read
 only_read old new (Store cause) read = read
-only_read old new OutOfMemory (read, is_open) = read
+only_read old new OutOfMemory read = read

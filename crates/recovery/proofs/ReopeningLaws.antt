@@ -95,4 +95,4 @@ leaves_read_then a b c NotOurs first (second, is_open) = (only_read_then a b c f
 leaves_read_then a b c NewerVersion first (second, is_open) = (only_read_then a b c first second, is_open)
 leaves_read_then a b c Damaged first (second, is_open) = (only_read_then a b c first second, is_open)
 leaves_read_then a b c (Store cause) first second = only_read_then a b c first second
-leaves_read_then a b c OutOfMemory first (second, is_open) = (only_read_then a b c first second, is_open)
+leaves_read_then a b c OutOfMemory first second = only_read_then a b c first second

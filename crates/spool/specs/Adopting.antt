@@ -37,22 +37,21 @@ pub record IsOnlyRead (old new : State) : Type 0 where
 abbrev pub IsReadOpen : State → State → Type 0
 IsReadOpen old new = IsOnlyRead old new × IsTrue new.is_open
 
--- What each refusal says of the tables. A fault of the store is that of a statement, or of the look at the store behind them, which may
--- have been refused for memory.
+-- What each refusal says of the tables. A fault of the store is that of a statement, or of the look at the store behind them.
 abbrev pub IsUnadopted : (old new : State) → OpenFault → Type 0
 IsUnadopted old new NotOurs = tables.IsRefusedAt old.now table.NotOurs
 IsUnadopted old new NewerVersion = tables.IsRefusedAt old.now table.NewerVersion
 IsUnadopted old new Damaged = tables.IsRefusedAt old.now table.Damaged
-IsUnadopted old new (Store error) = (cause error ≡ of.Store) ⊎ ((cause error ≡ of.Memory) × (IsTrue new.is_open → Fails old new ⊥ error))
+IsUnadopted old new (Store error) = cause error ≡ of.Store
 IsUnadopted old new OutOfMemory = Unit {0}
 
--- what each refusal leaves: where it is no fault of the store, the store was seen to be open
+-- what each refusal leaves: where it is of the tables, the store was seen to be open
 abbrev pub LeavesRead : State → State → OpenFault → Type 0
 LeavesRead old new NotOurs = IsReadOpen old new
 LeavesRead old new NewerVersion = IsReadOpen old new
 LeavesRead old new Damaged = IsReadOpen old new
 LeavesRead old new (Store error) = IsOnlyRead old new
-LeavesRead old new OutOfMemory = IsReadOpen old new
+LeavesRead old new OutOfMemory = IsOnlyRead old new
 
 -- ---- between the check and the look at the store behind it
 
@@ -78,11 +77,14 @@ fault_of (table.Failed error) = fault_by error (cause error)
 abbrev pub IsToldAs : Result ℕ TableFault → OpenFault → Type 0
 IsToldAs checked told = (fault : TableFault) × (checked ≡ Err fault) × (told ≡ fault_of fault)
 
--- What is told of a check with this answer. A fault of the store is the check's own, or that of the look at the store behind it.
+-- What is told of a check with this answer. A fault of the store, and want of memory, is the check's own, or that of the look at the
+-- store behind it.
 abbrev pub TellsCheck : State → State → Result ℕ TableFault → Result ℕ OpenFault → Type 0
 TellsCheck old new checked (Ok records) = (checked ≡ Ok records) × IsUnchanged old new
 TellsCheck old new checked (Err NotOurs) = IsToldAs checked NotOurs × IsUnchanged old new
 TellsCheck old new checked (Err NewerVersion) = IsToldAs checked NewerVersion × IsUnchanged old new
 TellsCheck old new checked (Err Damaged) = IsToldAs checked Damaged × IsUnchanged old new
-TellsCheck old new checked (Err OutOfMemory) = IsToldAs checked OutOfMemory × IsUnchanged old new
-TellsCheck old new checked (Err (Store error)) = (IsToldAs checked (Store error) × KeepsOpen old new) ⊎ Fails old new ⊥ error
+TellsCheck old new checked (Err OutOfMemory) =
+    (IsToldAs checked OutOfMemory × IsUnchanged old new) ⊎ ((error : Error) × (cause error ≡ of.Memory) × Fails old new ⊥ error)
+TellsCheck old new checked (Err (Store error)) =
+    (IsToldAs checked (Store error) × KeepsOpen old new) ⊎ ((cause error ≡ of.Store) × Fails old new ⊥ error)

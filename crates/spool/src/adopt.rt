@@ -51,7 +51,7 @@ fn end_check<S: Alter>(
     };
     match probe(conn) {
         Ok(()) => end,
-        Err(error) => Err(OpenFault::Store(error)),
+        Err(error) => Err(fault_of(TableFault::Failed(error))),
     }
 }
 
