@@ -1,5 +1,5 @@
 -- A script's run: its calls, with stops between them, what they are told, and what is written for its lines.
-use Rattle.std.specs.Prelude.{◌≡◌, ◌⊎◌, ℕ, List, [], ◌∷◌, ◌++◌, length, max, take}
+use Rattle.std.specs.Prelude.{◌≡◌, ◌⊎◌, ℕ, ◌+◌, ◌%◌, ◌^◌, List, [], ◌∷◌, ◌++◌, length, max, take}
 use Rattle.relay_types.specs.Records.{records_of}
 use Rattle.script_lines.specs.declared.event.Line.{Line}
 use Rattle.script_lines.specs.declared.event.Line.TheVariants.{Call, Stop}
@@ -13,6 +13,10 @@ use Rattle.drill.specs.Moves.{Session, begun}
 use Rattle.drill.specs.Runs.{Move}
 use Rattle.drill.specs.Events.{shown_by_line}
 use Rattle.drill.specs.Worlds.{session_of}
+
+-- the mark of the next opening
+abbrev pub next_mark : (mark : ℕ) → ℕ
+next_mark mark = (mark + 1) % 2 ^ 64
 
 -- The store is opened again on the first steps, for one of these numbers of steps, and no ticket is known.
 abbrev pub OpensAgain : Session → (numbers : List ℕ) → Reply → Session → Type 0

@@ -5,7 +5,7 @@ ghost use Rattle.sqlite.specs.Held.{state};
 ghost use Rattle.spool.specs.Opening.{has_ours};
 ghost use Rattle.drill.specs.Moves.{Session, answer_to, begun};
 ghost use Rattle.drill.specs.Cores.{IsCore};
-ghost use Rattle.drill.specs.Restarts.{OpensAgain};
+ghost use Rattle.drill.specs.Restarts.{OpensAgain, next_mark};
 ghost use Rattle.drill.specs.Runners.{Answers, RunStandsFor};
 ghost use Rattle.recovery.specs.Left.{IsCleanAt, HasNoTable};
 
@@ -46,6 +46,7 @@ impl<L: Ledger, S: Alter> Runner<L, S> {
         ensures opens { IfOk result (λ to. IsCleanAt S.Store to.0.vault.conn → (s : Session)
             → RunStandsFor S.Store self.core self.vault s
             → (next : Session) × OpensAgain s s.world.left to.1 next × RunStandsFor S.Store to.0.core to.0.vault next) }
+        ensures mark { IfOk result (λ to. (to.0.mark ≡ next_mark self.mark) × (to.0.vault.mark ≡ to.0.mark)) }
         ensures fault { IfErr result (λ back. back.1 ≢ LineFault.Bad) }
         ensures clean { MatchResult result
             (λ to. IsCleanAt S.Store to.0.vault.conn → IsCleanAt S.Store self.vault.conn)
@@ -93,6 +94,7 @@ pub(crate) fn start<L: Ledger, S: Alter>(
     ensures stands { IfOk result
         (λ runner. IsCleanAt S.Store runner.vault.conn → HasNoTable S.Store conn
         → RunStandsFor S.Store runner.core runner.vault begun) }
+    ensures mark { IfOk result (λ runner. (runner.mark ≡ mark) × (runner.vault.mark ≡ mark)) }
     ensures clean { MatchResult result
         (λ runner. IsCleanAt S.Store runner.vault.conn → IsCleanAt S.Store conn)
         (λ back. IsCleanAt S.Store back.0 → IsCleanAt S.Store conn) }
