@@ -4,6 +4,7 @@
 mod filling;
 mod inserting;
 mod loading;
+mod opening;
 mod records;
 mod reopening;
 mod running;
@@ -12,6 +13,7 @@ mod turns;
 use crate::filling::{fill, fill_tables};
 use crate::inserting::insert;
 use crate::loading::print_loads;
+use crate::opening::print_opening;
 use crate::reopening::{print_parts, print_reopening};
 use crate::running::print_runs;
 use sqlite::Connection;
@@ -26,6 +28,7 @@ runs PATH          a run of calls, and a second one where the first had no memor
 fill COUNT PATH    as many events, half of them with two attempts
 load COUNT PATH    the same, and then read back into books
 insert COUNT PATH  the rows of as many events, by bare statements
+open PATH          the store in the file, made where none stands
 reopen PATH        a store that stands
 parts PATH         the same, part by part
 ";
@@ -128,6 +131,7 @@ fn run(rt: &HostRuntime, words: &[&str]) -> io::Result<bool> {
         [_, "fill", count, path] => Ok(write_events(rt, count, path)),
         [_, "load", count, path] => load(rt, count, path),
         [_, "insert", count, path] => Ok(write_rows(rt, count, path)),
+        [_, "open", path] => print_opening(rt, path),
         [_, "reopen", path] => print_reopening(rt, path),
         [_, "parts", path] => print_parts(rt, path),
         _ => Ok(false),

@@ -101,7 +101,7 @@ fn print_since(rt: &HostRuntime, part: &str, began: Instant) -> io::Result<()> {
     println!(rt; "{part} {}", taken.as_micros())
 }
 
-fn print_totals(rt: &HostRuntime, totals: Totals) -> io::Result<bool> {
+pub(crate) fn print_totals(rt: &HostRuntime, totals: Totals) -> io::Result<bool> {
     let Totals {
         endpoints,
         pending,
