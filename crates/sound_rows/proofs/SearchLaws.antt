@@ -2,11 +2,15 @@
 use Rattle.std.proofs.Common.{◌≡◌, ◌≢◌, ◌<◌, ◌≤◌, ℕ, zero, suc, ◌+◌, ◌==◌, Bool, true, false, ◌&&◌, List, [], ◌∷◌, length, get_or, refl, sym, ap, subst, ◌∙◌, ltb, arith, ⊎_elim}
 use Rattle.std.specs.List.{list_any, AllAdjacentBelow}
 use Rattle.std.specs.List.Sorted.{IsPartitionedBy}
-use Rattle.std.proofs.lemmas.Bool.{ne_eqb, cases_eq, cases_lt, and_left, cases_Bool}
+use Rattle.std.proofs.lemmas.Bool.{ne_eqb, cases_eq, cases_lt, and_left, and_right, cases_Bool}
 use Rattle.std.proofs.lemmas.List.Folds.{list_any_at, list_any_none}
 use Rattle.std.proofs.lemmas.List.Sorted.{IsPartitionedBy-ltb}
 use Rattle.relay_types.specs.Sound.{IsRisingFrom}
 use Rattle.sound_rows.specs.Numbers.{IsAscending, FirstBelow, RestFrom}
+
+-- what none passes isn't found
+pub none_at : {X : Type 0} (p q : X → Bool) (xs : List X) → ((x : X) → q x ≡ false) → false ≡ list_any (λ x. p x && q x) xs
+none_at p q xs none = sym (list_any_none (λ x. p x && q x) xs (λ k d l. and_right (p (get_or xs k d)) (q (get_or xs k d)) (none (get_or xs k d))))
 
 module _ {X : Type 0} (number : X → ℕ) where
   -- numbers that rise are parted by each number

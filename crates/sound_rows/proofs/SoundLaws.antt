@@ -15,8 +15,8 @@ use Rattle.relay_types.proofs.FilterLaws.{rising_map}
 use Rattle.sound_rows.specs.declared.numbers.Endpoint.{Endpoint}
 use Rattle.sound_rows.specs.declared.numbers.Delivery.{Delivery}
 use Rattle.sound_rows.specs.declared.numbers.Attempt.{Attempt}
-use Rattle.sound_rows.specs.Numbers.{numbers_of, of_endpoint, of_delivery, of_attempt, AreAscending, AreValues}
-use Rattle.sound_rows.specs.Checks.{are_below, is_put, is_delivery, is_attempt, is_taken, are_apart, is_secrets_place, is_gone_attempt, is_flag_place, are_behind, before, is_turn, is_named, is_overtaken, are_others_overtaken, are_numbers_sound}
+use Rattle.sound_rows.specs.Numbers.{Kept, numbers_of, of_endpoint, of_delivery, of_attempt, AreAscending, AreValues}
+use Rattle.sound_rows.specs.Checks.{are_below, is_put, is_delivery, is_attempt, is_taken, are_apart, is_secrets_place, is_gone_attempt, is_flag_given, are_flag_places, are_behind, before, is_turn, is_named, is_overtaken, are_others_overtaken, are_numbers_sound}
 use Rattle.sound_rows.proofs.SearchLaws.{rising_ascends}
 
 -- Lists that are mapped
@@ -41,6 +41,41 @@ count_map f test xs = fold-map (λ n y. n + cond (test y) 1 0) f 0 xs
 all_same : {X : Type 0} (p q r : X → Bool) (xs : List X) → list_all q xs ≡ true → ((x : X) → q x ≡ true → p x ≡ r x) → list_all p xs ≡ list_all r xs
 all_same p q r [] h same = refl
 all_same p q r (x ∷ xs) h same = λ i. same x (and_first (q x) (list_all q xs) h) i && all_same p q r xs (and_second (q x) (list_all q xs) h) same i
+
+-- what is asked of each of some, and of no pair of one of them with one of others
+
+any_or : {X : Type 0} (p q : X → Bool) (xs : List X) → (list_any p xs || list_any q xs) ≡ list_any (λ x. p x || q x) xs
+any_or p q [] = refl
+any_or {X} p q (x ∷ xs) = at (p x) (q x) (list_any p xs) (list_any q xs) ∙ ap (λ b. (p x || q x) || b) (any_or p q xs)
+  where
+    at : (a b c d : Bool) → (a || c) || (b || d) ≡ (a || b) || (c || d)
+    at true b c d = refl
+    at false true true d = refl
+    at false true false d = refl
+    at false false c d = refl
+
+any_swap : {X Y : Type 0} (test : X → Y → Bool) (xs : List X) (ys : List Y) → list_any (λ x. list_any (test x) ys) xs ≡ list_any (λ y. list_any (λ x. test x y) xs) ys
+any_swap test [] [] = refl
+any_swap test [] (y ∷ ys) = any_swap test [] ys
+any_swap test (x ∷ xs) ys = ap (λ b. list_any (test x) ys || b) (any_swap test xs ys) ∙ any_or (test x) (λ y. list_any (λ x. test x y) xs) ys
+
+all_not : {X : Type 0} (p q : X → Bool) (xs : List X) → list_all p xs && not (list_any q xs) ≡ list_all (λ x. p x && not (q x)) xs
+all_not p q [] = refl
+all_not {X} p q (x ∷ xs) = at (p x) (q x) (list_all p xs) (list_any q xs) ∙ ap (λ b. (p x && not (q x)) && b) (all_not p q xs)
+  where
+    at : (a b c d : Bool) → (a && c) && not (b || d) ≡ (a && not b) && (c && not d)
+    at false b c d = refl
+    at true true true d = refl
+    at true true false d = refl
+    at true false c d = refl
+
+-- what is asked of the flag of one endpoint
+abbrev is_flag_place : Kept → Endpoint → Bool
+is_flag_place k e = is_flag_given k e && not (list_any (λ t. nat_lt e.enabled_by t.seq && is_gone_attempt k e t) k.attempts)
+
+flag_places : (k : Kept) → are_flag_places k ≡ list_all (is_flag_place k) k.endpoints
+flag_places k = ap (λ b. list_all (is_flag_given k) k.endpoints && not b) (sym (any_swap (λ (e : Endpoint) (t : Attempt). nat_lt e.enabled_by t.seq && is_gone_attempt k e t) k.endpoints k.attempts))
+    ∙ all_not (is_flag_given k) (λ e. list_any (λ t. nat_lt e.enabled_by t.seq && is_gone_attempt k e t) k.attempts) k.endpoints
 
 -- Each condition
 
@@ -162,7 +197,7 @@ module _ (all : Rows) where
   sound_same values = (λ i.
       below_same i
       && ((apart_same i && (few_same values i && (endpoints_all (is_secrets_place (numbers_of all)) (rows.is_secrets_place all) secrets_same i
-      && (endpoints_all (is_flag_place (numbers_of all)) (rows.is_flag_place all) flag_same i && behind_same values i))))
+      && ((flag_places (numbers_of all) ∙ endpoints_all (is_flag_place (numbers_of all)) (rows.is_flag_place all) flag_same) i && behind_same values i))))
       && (turns_same values i && others_same i)))
       ∙ ap (λ b. rows.are_numbers_below all && b) (regroup (rows.are_numbers_apart all) (rows.are_endpoint_rows all) (list_all (rows.is_secrets_place all) all.endpoints) (list_all (rows.is_flag_place all) all.endpoints)
       (list_all rows.is_delivery_row all.deliveries) (list_all (rows.is_attempt_row all) all.attempts && rows.are_others_overtaken all))

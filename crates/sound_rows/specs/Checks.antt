@@ -62,9 +62,12 @@ is_flag_given k e =
     || (list_any (λ t. t.seq == e.enabled_by && is_gone_attempt k e t) k.attempts && not e.enabled
     || is_flag_command k e)
 
-abbrev pub is_flag_place : Kept → Endpoint → Bool
-is_flag_place k e =
-    is_flag_given k e && not (list_any (λ t. nat_lt e.enabled_by t.seq && is_gone_attempt k e t) k.attempts)
+-- whether the attempt was answered gone behind the record that gave its endpoint its flag
+abbrev pub is_overlooked : Kept → Attempt → Bool
+is_overlooked k t = list_any (λ e. nat_lt e.enabled_by t.seq && is_gone_attempt k e t) k.endpoints
+
+abbrev pub are_flag_places : Kept → Bool
+are_flag_places k = list_all (is_flag_given k) k.endpoints && not (list_any (is_overlooked k) k.attempts)
 
 abbrev pub are_behind : Kept → Bool
 are_behind k = list_all (λ d. nat_lt d.endpoint d.seq) k.deliveries
@@ -133,7 +136,7 @@ abbrev pub have_places : Kept → Bool
 have_places k =
     are_apart k
     && (nat_le (length k.endpoints) MAX_ENDPOINTS
-    && (list_all (is_secrets_place k) k.endpoints && (list_all (is_flag_place k) k.endpoints && are_behind k)))
+    && (list_all (is_secrets_place k) k.endpoints && (are_flag_places k && are_behind k)))
 
 -- all that is asked
 abbrev pub are_numbers_sound : Kept → Bool

@@ -2,10 +2,10 @@
 ghost use Rattle.std.specs.Prelude.{◌≡◌, ◌==◌, ◌&&◌, nat_lt, not};
 ghost use Rattle.std.specs.List.{list_any, list_all};
 ghost use Rattle.sound_rows.specs.Numbers.{AreAscending, kept};
-ghost use Rattle.sound_rows.specs.Checks.{are_behind, have_places, is_flag_command, is_flag_given, is_flag_place, is_gone_attempt, is_secrets_place};
+ghost use Rattle.sound_rows.specs.Checks.{are_behind, are_flag_places, have_places, is_flag_command, is_flag_given, is_gone_attempt, is_overlooked, is_secrets_place};
 
-use crate::numbers::{Attempt, Endpoint, Numbers};
-use crate::search::is_delivery_of;
+use crate::numbers::{Attempt, Delivery, Endpoint, Numbers};
+use crate::search::{is_delivery_of, place_of_attempt, place_of_delivery};
 use crate::status::is_gone;
 use relay_types::MAX_ENDPOINTS;
 
@@ -49,19 +49,26 @@ impl Numbers {
                 && !gave_flag(&self.endpoints, by)
     }
 
-    // Whether each endpoint's flag is that of a record that may have given it, and none behind it gave another.
+    // Whether each endpoint's flag is that of a record that may have given it, and no attempt behind it took the flag away.
     fn are_flag_places(&self) -> bool
         requires { AreAscending (kept self.now) }
-        ensures { result ≡ list_all (is_flag_place (kept self.now)) (kept self.now).endpoints }
+        ensures { result ≡ are_flag_places (kept self.now) }
     {
-        self.endpoints.iter().all(|e| self.is_flag_place(e))
+        self.are_flags_given() && !self.is_any_overlooked()
     }
 
-    fn is_flag_place(&self, endpoint: &Endpoint) -> bool
+    fn are_flags_given(&self) -> bool
         requires { AreAscending (kept self.now) }
-        ensures { result ≡ is_flag_place (kept self.now) endpoint.now }
+        ensures { result ≡ list_all (is_flag_given (kept self.now)) (kept self.now).endpoints }
     {
-        self.is_flag_given(endpoint) && !self.is_gone_behind(endpoint, endpoint.enabled_by)
+        self.endpoints.iter().all(|e| self.is_flag_given(e))
+    }
+
+    fn is_any_overlooked(&self) -> bool
+        requires { AreAscending (kept self.now) }
+        ensures { result ≡ list_any (is_overlooked (kept self.now)) (kept self.now).attempts }
+    {
+        self.attempts.iter().any(|t| self.is_overlooked(t))
     }
 
     // Whether the flag is that of the Put, of an attempt that was answered gone, or of a command.
@@ -93,20 +100,10 @@ impl Numbers {
         ensures { result ≡ list_any (λ t. t.seq == number && is_gone_attempt (kept self.now) endpoint.now t)
             (kept self.now).attempts }
     {
-        self.attempts
-            .iter()
-            .any(|t| t.seq == number && self.is_gone_attempt(endpoint, t))
-    }
-
-    // Whether an attempt behind this number is one at an event of the endpoint that was answered gone.
-    fn is_gone_behind(&self, endpoint: &Endpoint, number: u64) -> bool
-        requires { AreAscending (kept self.now) }
-        ensures { result ≡ list_any (λ t. nat_lt number t.seq && is_gone_attempt (kept self.now) endpoint.now t)
-            (kept self.now).attempts }
-    {
-        self.attempts
-            .iter()
-            .any(|t| number < t.seq && self.is_gone_attempt(endpoint, t))
+        match self.attempts.get(place_of_attempt(&self.attempts, number)) {
+            Some(found) => found.seq == number && self.is_gone_attempt(endpoint, found),
+            None => false,
+        }
     }
 
     // Whether the attempt is one at an event of the endpoint that was answered gone.
@@ -116,6 +113,31 @@ impl Numbers {
     {
         is_gone(attempt.status) && is_delivery_of(&self.deliveries, attempt.delivery, endpoint.put)
     }
+
+    // Whether the attempt was answered gone behind the record that gave its endpoint its flag.
+    fn is_overlooked(&self, attempt: &Attempt) -> bool
+        requires { AreAscending (kept self.now) }
+        ensures { result ≡ is_overlooked (kept self.now) attempt.now }
+    {
+        if !is_gone(attempt.status) {
+            return false;
+        }
+        match self
+            .deliveries
+            .get(place_of_delivery(&self.deliveries, attempt.delivery))
+        {
+            Some(found) => has_older_flag(&self.endpoints, found, attempt),
+            None => false,
+        }
+    }
+}
+
+// Whether the attempt is one at this event, of an endpoint that has its flag from a record before the attempt.
+fn has_older_flag(endpoints: &[Endpoint], event: &Delivery, attempt: &Attempt) -> bool
+    ensures { result ≡ list_any (λ e. nat_lt e.enabled_by attempt.now.seq
+        && (event.now.seq == attempt.now.delivery && event.now.endpoint == e.put)) endpoints.now }
+{
+    endpoints.iter().any(|e| e.enabled_by < attempt.seq && event.is_of(attempt.delivery, e.put))
 }
 
 // Whether the record with this number gave the secrets of an endpoint that another one put.

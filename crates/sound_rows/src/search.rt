@@ -6,8 +6,8 @@ ghost use Rattle.sound_rows.specs.Numbers.{FirstBelow, IsAscending, RestFrom};
 use crate::numbers::{Attempt, Delivery};
 
 impl Delivery {
-    // Whether it is the event with this number, of the endpoint that the record with number `put` made.
-    fn is_of(&self, seq: u64, put: u64) -> bool
+    /// Whether it is the event with this number, of the endpoint that the record with number `put` made.
+    pub(crate) fn is_of(&self, seq: u64, put: u64) -> bool
         ensures { result ≡ (self.now.seq == seq && self.now.endpoint == put) }
     {
         self.seq == seq && self.endpoint == put
@@ -47,8 +47,8 @@ pub(crate) fn has_attempt(attempts: &[Attempt], seq: u64) -> bool
     }
 }
 
-// How many events have lower numbers.
-fn place_of_delivery(deliveries: &[Delivery], seq: u64) -> usize
+/// How many events have lower numbers.
+pub(crate) fn place_of_delivery(deliveries: &[Delivery], seq: u64) -> usize
     requires { IsAscending (λ d. d.seq) deliveries.now }
     ensures below { FirstBelow (λ d. d.seq) result seq deliveries.now }
     ensures above { RestFrom (λ d. d.seq) result seq deliveries.now }
@@ -56,8 +56,8 @@ fn place_of_delivery(deliveries: &[Delivery], seq: u64) -> usize
     deliveries.partition_point(|d| d.seq < seq)
 }
 
-// How many attempts have lower numbers.
-fn place_of_attempt(attempts: &[Attempt], seq: u64) -> usize
+/// How many attempts have lower numbers.
+pub(crate) fn place_of_attempt(attempts: &[Attempt], seq: u64) -> usize
     requires { IsAscending (λ t. t.seq) attempts.now }
     ensures below { FirstBelow (λ t. t.seq) result seq attempts.now }
     ensures above { RestFrom (λ t. t.seq) result seq attempts.now }
