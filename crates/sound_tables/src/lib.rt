@@ -20,7 +20,3 @@ mod value;
 
 pub use crate::check::check_tables;
 pub use crate::fault::TableFault;
-pub use crate::meta::Meta;
-pub use crate::reading::{Reading, read_table};
-pub use crate::secret::Secret;
-pub use crate::tables::{read_attempts, read_deliveries, read_endpoints, read_meta, read_secrets};

@@ -9,7 +9,7 @@ use std::alloc::{AllocError, Global};
 
 /// The row of the relay's `meta`: its key, the version of the tables and how many records they hold, as they stand there.
 #[derive(Clone, Copy)]
-pub struct Meta {
+pub(crate) struct Meta {
     pub key: i64,
     pub version: i64,
     pub records: i64,

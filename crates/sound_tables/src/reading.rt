@@ -9,7 +9,7 @@ use sqlite::{Alter, Connection, Error, ErrorCode, Row, Rows};
 use std::alloc::{AllocError, Global};
 
 /// What a row of some table may show.
-pub trait Reading: Drop {
+pub(crate) trait Reading: Drop {
     // The row shows this one.
     ghost is_shown: { Shows Self };
 
@@ -21,7 +21,7 @@ pub trait Reading: Drop {
 /// What the rows show that the query answers, one for each, or nothing where a row shows none. It holds a few rows at a
 /// time beside what they show, and stops at the first that shows nothing. Only a table of more rows than a `u64` counts is
 /// told as `TooBig`.
-pub fn read_table<S: Alter, T: Reading>(
+pub(crate) fn read_table<S: Alter, T: Reading>(
     conn: &mut Connection<S>,
     sql: &str,
     alloc: Global,

@@ -9,7 +9,7 @@ use std::alloc::{AllocError, Global};
 
 /// Where a secret stands: its rowid, the number of its endpoint's record, and its place among that endpoint's secrets.
 #[derive(Clone, Copy)]
-pub struct Secret {
+pub(crate) struct Secret {
     pub rowid: i64,
     pub endpoint: u64,
     pub place: u64,

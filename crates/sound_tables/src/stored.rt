@@ -17,7 +17,7 @@ use std::alloc::Global;
 
 /// What the rows of the four tables show, in the order in which the store gave them.
 #[derive(Drop)]
-pub struct StoredRows {
+pub(crate) struct StoredRows {
     pub endpoints: Vec<Endpoint>,
     pub secrets: Vec<Secret>,
     pub deliveries: Vec<Delivery>,

@@ -17,7 +17,7 @@ use sqlite::{Alter, Connection, Error};
 use std::alloc::Global;
 
 /// The rows of `meta` that name the relay, or nothing where a row is none.
-pub fn read_meta<S: Alter>(
+pub(crate) fn read_meta<S: Alter>(
     conn: &mut Connection<S>,
     alloc: Global,
 ) -> Result<Option<Vec<Meta>>, Error>
@@ -36,7 +36,7 @@ pub fn read_meta<S: Alter>(
 }
 
 /// The numbers in the rows of `endpoints`, or nothing where a row is none.
-pub fn read_endpoints<S: Alter>(
+pub(crate) fn read_endpoints<S: Alter>(
     conn: &mut Connection<S>,
     alloc: Global,
 ) -> Result<Option<Vec<Endpoint>>, Error>
@@ -55,7 +55,7 @@ pub fn read_endpoints<S: Alter>(
 }
 
 /// Where the secrets of `secrets` stand, or nothing where a row is none.
-pub fn read_secrets<S: Alter>(
+pub(crate) fn read_secrets<S: Alter>(
     conn: &mut Connection<S>,
     alloc: Global,
 ) -> Result<Option<Vec<Secret>>, Error>
@@ -74,7 +74,7 @@ pub fn read_secrets<S: Alter>(
 }
 
 /// The numbers in the rows of `deliveries`, or nothing where a row is none.
-pub fn read_deliveries<S: Alter>(
+pub(crate) fn read_deliveries<S: Alter>(
     conn: &mut Connection<S>,
     alloc: Global,
 ) -> Result<Option<Vec<Delivery>>, Error>
@@ -93,7 +93,7 @@ pub fn read_deliveries<S: Alter>(
 }
 
 /// The numbers in the rows of `attempts`, or nothing where a row is none.
-pub fn read_attempts<S: Alter>(
+pub(crate) fn read_attempts<S: Alter>(
     conn: &mut Connection<S>,
     alloc: Global,
 ) -> Result<Option<Vec<Attempt>>, Error>
