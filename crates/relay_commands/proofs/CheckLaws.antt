@@ -24,16 +24,19 @@ use Rattle.relay_commands.specs.Checks.{AreTotalsFound, AreTotalsIn, IsCounted}
 
 pub totals_found : {S : Type 0} (g : Ghosts S) (db : Database) (desk : DeskValue) (vault : VaultValue S) (t : Totals) → IsMadeOrReopened g db desk vault → OverWorlds desk (λ w. t ≡ totals (settled_records w)) → AreTotalsFound db t
 totals_found g db desk vault t (inl (none, made)) are = inl (none, are (opening_of []) made.0)
-totals_found g db desk vault t (inr reopened) are = inr (λ ours.
-    let it = reopened ours in
-    record { rows = it.rows; sound = it.sound; counts = are (opening_of (steps_from it.rows)) it.stands.0; each = λ history legal tables. are (opening_of history) (it.each history legal tables).0 })
+totals_found g db desk vault t (inr (five, reopened)) are = inr (
+  five,
+  λ ours.
+      let it = reopened ours in
+      record { rows = it.rows; sound = it.sound; counts = are (opening_of (steps_from it.rows)) it.stands.0; each = λ history legal tables. are (opening_of history) (it.each history legal tables).0 },
+)
 
 pub totals_in : (image : Image) (s : State) (t : Totals) → IsLive s → Opens s → FindsIn image s → AreTotalsFound s.now t → AreTotalsIn image t
 totals_in image s t live opens finds counts = record { found = s.now; finds = finds_trees image s opens finds; counts = counts; each = each }
   where
     of_tables : AreTotalsFound s.now t → (history : History) → IsLegal (records_of history) → IsTables s.now (rows_of (records_of history)) → t ≡ totals (settled_records (opening_of history))
     of_tables (inl (none, is)) history legal tables = not_both s.now.schema none tables.schema_is
-    of_tables (inr of) history legal tables = (of tables.schema_is).each history legal tables
+    of_tables (inr (five, of)) history legal tables = (of tables.schema_is).each history legal tables
 
     each : (history : History) → IsLegal (records_of history) → HoldsRows image (rows_of (records_of history)) → t ≡ totals (settled_records (opening_of history))
     each history legal held = of_tables counts history legal (finds_rows image s live opens finds (rows_of (records_of history)) held)

@@ -1,5 +1,5 @@
 -- What `relayd check` writes, by how it ends.
-use Rattle.std.specs.Prelude.{◌≡◌, ◌⊎◌, ℕ, List, [], ◌∷◌, Option, Some, None, Result, Ok, Err, IfOk, IsErr, codes, decimal}
+use Rattle.std.specs.Prelude.{◌≡◌, ◌⊎◌, ℕ, List, [], ◌∷◌, Option, Some, None, Result, Ok, Err, IfOk, IsErr, IsTrue, codes, decimal}
 use Rattle.std.specs.Io.KnownBytes.{Appends, Keeps}
 use Rattle.sqlite.specs.Store.{Ghosts}
 use Rattle.sqlite.specs.Effect.{Database}
@@ -12,7 +12,7 @@ use Rattle.relay_types.specs.Rows.{Rows, rows_of}
 use Rattle.spool_sql.specs.Steps.{IfClean}
 use Rattle.spool_sql.specs.Stored.{IsTables}
 use Rattle.spool_sql.specs.Tables.{no_schema, relay_schema}
-use Rattle.sound_tables.specs.Checks.{AreSoundTables}
+use Rattle.sound_tables.specs.Checks.{AreSoundTables, has_five_tables}
 use Rattle.spool.specs.declared.ends.OpenFault.{OpenFault}
 use Rattle.desk.specs.World.{settled_records}
 use Rattle.desk.specs.Looks.{totals}
@@ -43,9 +43,11 @@ pub record AreTotalsOf (db : Database) (t : Totals) : Type 0 where
   pub each : (history : History) → IsLegal (records_of history) → IsTables db (rows_of (records_of history))
       → t ≡ totals (settled_records (opening_of history))
 
--- Where there was no table, they are the totals of no record, and where the relay's tables were, those of their history.
+-- Where there was no table, they are the totals of no record. Otherwise there were five, and where these were the relay's, they are those of
+-- their history.
 abbrev pub AreTotalsFound : Database → Totals → Type 0
-AreTotalsFound db t = ((db.schema ≡ no_schema) × (t ≡ totals [])) ⊎ (db.schema ≡ relay_schema → AreTotalsOf db t)
+AreTotalsFound db t =
+    ((db.schema ≡ no_schema) × (t ≡ totals [])) ⊎ (IsTrue (has_five_tables db.schema) × (db.schema ≡ relay_schema → AreTotalsOf db t))
 
 -- What was counted of a store: its totals, or why it wasn't opened, which is said of the relay's schema.
 abbrev pub IsCounted : {S : Type 0} → Ghosts S → (old new : Held S) → Result Totals OpenFault → Type 0

@@ -45,6 +45,14 @@ IsUnadopted old new Damaged = tables.IsRefusedAt old.now table.Damaged
 IsUnadopted old new (Store error) = cause error ≡ of.Store
 IsUnadopted old new OutOfMemory = Unit {0}
 
+-- As what a store is told that hasn't as many tables as the relay's: as none of the relay's, or the look at it was refused.
+abbrev pub IsForeign : OpenFault → Type 0
+IsForeign NotOurs = Unit {0}
+IsForeign NewerVersion = ⊥
+IsForeign Damaged = ⊥
+IsForeign (Store error) = Unit {0}
+IsForeign OutOfMemory = Unit {0}
+
 -- what each refusal leaves: where it is of the tables, the store was seen to be open
 abbrev pub LeavesRead : State → State → OpenFault → Type 0
 LeavesRead old new NotOurs = IsReadOpen old new

@@ -1,9 +1,11 @@
 //! The tables that stand, as they are adopted.
-ghost use Rattle.std.specs.Prelude.{◌≡◌, false, IfOk, IfErr, MatchResult};
+ghost use Rattle.std.specs.Prelude.{◌≡◌, false, Err, IfOk, IfErr, MatchResult};
+ghost use Rattle.sqlite.specs.Held.{state};
 ghost use Rattle.sqlite.specs.State.{HasCleanDisk};
 ghost use Rattle.spool_sql.specs.Steps.{IfClean, SurvivesAs};
 ghost use Rattle.spool_sql.specs.Tables.{relay_schema};
-ghost use Rattle.spool.specs.Adopting.{AreAdopted, IsOnlyRead, IsUnadopted, LeavesRead, TellsCheck, fault_of};
+ghost use Rattle.sound_tables.specs.Checks.{has_five_tables};
+ghost use Rattle.spool.specs.Adopting.{AreAdopted, IsForeign, IsOnlyRead, IsUnadopted, LeavesRead, TellsCheck, fault_of};
 
 use crate::ends::OpenFault;
 use sound_tables::{TableFault, check_tables};
@@ -17,6 +19,7 @@ pub(crate) fn adopt_tables<S: Alter>(
     alloc: Global,
 ) -> Result<u64, OpenFault>
     requires { conn.old.in_transaction ≡ false }
+    ensures ours { has_five_tables (state S.Store conn.old).now.schema ≡ false → MatchResult result (λ _. ⊥) IsForeign }
     ensures adopted { IfClean S.Store conn.old conn.new
         (λ a b. a.now.schema ≡ relay_schema → IfOk result (AreAdopted a b)) }
     ensures refused { IfClean S.Store conn.old conn.new
@@ -38,6 +41,7 @@ fn end_check<S: Alter>(
     checked: Result<u64, TableFault>,
 ) -> Result<u64, OpenFault>
     requires { conn.old.in_transaction ≡ false }
+    ensures ours { checked ≡ Err TableFault.NotOurs → MatchResult result (λ _. ⊥) IsForeign }
     ensures told { IfClean S.Store conn.old conn.new (λ a b. TellsCheck a b checked result) }
     ensures mode { conn.new.in_transaction ≡ false }
     ensures survives { SurvivesAs S.Store conn.old conn.new (λ _ _. ⊥) }

@@ -5,7 +5,8 @@ ghost use Rattle.sqlite.specs.Held.{state};
 ghost use Rattle.relay_types.specs.Records.{records_of};
 ghost use Rattle.spool_sql.specs.Steps.{IfClean, IsBegun};
 ghost use Rattle.spool_sql.specs.Tables.{no_schema, relay_schema};
-ghost use Rattle.spool.specs.Adopting.{IsAdopted, IsOnlyRead, IsUnadopted, LeavesRead};
+ghost use Rattle.sound_tables.specs.Checks.{has_five_tables};
+ghost use Rattle.spool.specs.Adopting.{IsAdopted, IsForeign, IsOnlyRead, IsUnadopted, LeavesRead};
 ghost use Rattle.spool.specs.Opening.{has_ours, IsRefusedFor, LeavesAt};
 ghost use Rattle.spool.specs.Books.{AreBooksOf, AreSettled, IsSeen, LeavesHeld};
 ghost use Rattle.spool.specs.Commits.{HoldsOnDisk, IsNext, HandsBack, IsDoubt, IsRefused, answer_of, LeavesRows, LeavesHistory, IsIllegal};
@@ -83,6 +84,8 @@ impl<S: Alter> Vault<S> {
     ) -> Result<Vault<S>, (Connection<S>, OpenFault)>
         requires { conn.in_transaction ≡ false }
         ensures opened { IfOk result (λ v. (v.mark ≡ mark) × (v.closed ≡ false)) }
+        ensures ours { has_five_tables (state S.Store conn).now.schema ≡ false
+            → MatchResult result (λ _. ⊥) (λ e. IsForeign e.1) }
         ensures adopted { IfOk result (λ v. IfClean S.Store conn v.conn
             (λ a _. a.now.schema ≡ relay_schema → IsAdopted S.Store a.now v)) }
         ensures refused { IfErr result (λ e. IfClean S.Store conn e.0

@@ -1,11 +1,11 @@
 use Rattle.std.proofs.Common.{inr}
-use Rattle.spool_sql.proofs.StepLemmas.{ok_then}
-use Rattle.recovery.proofs.FileLaws.{only_read}
+use Rattle.recovery.proofs.FileLaws.{of_five, only_read}
 use Rattle.recovery.proofs.ReopeningLaws.{of_both}
 use Rattle.recovery.proofs.file.open.Goals as goal
 
 pub returns-in-Ok-clause-opened : goal.returns-in-Ok-clause-opened
-returns-in-Ok-clause-opened g c = ok_then c.reopen.result _ _ c.reopen.ensures.opened (λ opening opened new. inr (opened new))
+returns-in-Ok-clause-opened g c =
+    of_five _ _ _ _ c.reopen.result c.reopen.ensures.ours c.reopen.ensures.opened (λ opening five opened new. inr (five, opened new))
 
 pub returns-in-Ok-clause-read : goal.returns-in-Ok-clause-read
 returns-in-Ok-clause-read g c old = of_both _ _ _ _ _ _ c.reopen.result (λ opening read same new. (read new).0) (λ back read same new. only_read _ _ back.1 (read new))
