@@ -1,9 +1,9 @@
 -- What ties a desk's fields stays so as a submission waits.
-use Rattle.std.proofs.Common.{◌≡◌, ◌<◌, ◌≤◌, ◌+◌, ℕ, Bool, true, false, List, [], ◌∷◌, ◌++◌, Option, Some, None, length, refl, sym, ◌∙◌, ap, arith, ◌&&◌, ◌||◌, not, cond, subst, IsTrue}
-use Rattle.std.specs.Prelude.{count_by, find, is_some, nat_eq, nat_le, nat_lt, bytes_eq, if◌then◌else◌}
+use Rattle.std.proofs.Common.{◌≡◌, ◌<◌, ◌≤◌, ◌+◌, ℕ, Bool, true, false, List, [], ◌∷◌, ◌++◌, Option, Some, None, length, refl, sym, ◌∙◌, ap, arith, ◌&&◌, not, cond, subst}
+use Rattle.std.specs.Prelude.{count_by, is_some, nat_eq, nat_le, nat_lt, bytes_eq}
 use Rattle.std.specs.List.{list_all}
 use Rattle.std.specs.Option.{option_map_or, option_or}
-use Rattle.std.proofs.lemmas.Bool.{eqb-true, leb-true, ltb-true, lt-ltb, le-ltb, ne_eqb}
+use Rattle.std.proofs.lemmas.Bool.{ltb-true, lt-ltb, le-ltb, ne_eqb}
 use Rattle.std.proofs.lemmas.List.Folds.{find-append}
 use Rattle.std.proofs.lemmas.List.Sums.{sum_by_push}
 use Rattle.relay_types.specs.declared.limits.TheConstants.{MAX_RECORDS}
@@ -17,13 +17,12 @@ use Rattle.delivery_book.specs.declared.entry.Unsettled.{Unsettled}
 use Rattle.delivery_book.specs.Entries.{BookValue, entry_at, is_open, new_entry, pending_in, state_in, with_event}
 use Rattle.delivery_book.proofs.Updates.{all_weaker}
 use Rattle.claim_queue.specs.declared.pairs.Pair.{Pair}
-use Rattle.claim_queue.specs.declared.marks.Mark.{Mark}
 use Rattle.claim_queue.specs.Queues.{QueueValue, HasSamePairs, SetsMark, free_places, is_held, reserved_mark}
 use Rattle.group_commit.specs.Waits.{WaitingValue, record_count, with_step}
 use Rattle.permits.specs.declared.row.Row.{Row}
 use Rattle.permits.specs.Rows.{is_out}
 use Rattle.desk.specs.declared.limiter.Limiter.{Limiter}
-use Rattle.desk.specs.Ties.{AreApart, AreHeld, AreQueued, AreTied, AreUnderWay, HasPlaces, is_entry_of, is_idle, is_own, is_pair_of, is_told, is_under_way, is_unheld, own_pair, rises, waits_as}
+use Rattle.desk.specs.Ties.{AreApart, AreTied, AreUnderWay, HasPlaces, is_entry_of, is_idle, is_own, is_pair_of, is_told, is_under_way, is_unheld, own_pair, rises, waits_as}
 use Rattle.desk.specs.Desks.{IsDesk}
 use Rattle.desk.proofs.DeskLaws.{deliveries_wait}
 use Rattle.desk.proofs.EndpointTies.{room_requested}

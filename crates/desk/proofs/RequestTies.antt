@@ -1,6 +1,6 @@
 -- What ties a desk's fields stays so as a request waits.
 use Rattle.std.proofs.Common.{◌≡◌, ◌<◌, ◌≤◌, ◌+◌, ℕ, Bool, true, false, List, [], ◌∷◌, ◌++◌, Option, Some, None, length, map, refl, sym, ◌∙◌, ap, arith, ◌&&◌, not, cond, subst, IsTrue}
-use Rattle.std.specs.Prelude.{count_by, find, is_some, nat_lt, max, option_map, bytes_eq, if◌then◌else◌}
+use Rattle.std.specs.Prelude.{count_by, find, is_some, nat_lt, max, bytes_eq, if◌then◌else◌}
 use Rattle.std.specs.List.{list_all}
 use Rattle.std.specs.Option.{option_map_or, option_or}
 use Rattle.std.proofs.lemmas.List.{map-append}
@@ -20,13 +20,13 @@ use Rattle.endpoint_book.specs.Entries.{BookValue, change_at, entry_of, is_known
 use Rattle.delivery_book.specs.Entries as delivery_entries
 use Rattle.delivery_book.specs.declared.entry.Entry.{Entry as DeliveryEntry}
 use Rattle.claim_queue.specs.declared.marks.Mark.{Mark}
-use Rattle.claim_queue.specs.Queues.{QueueValue, ChangesMark, HasSamePairs, SetsMark, free_places, has_room_in, is_mark, is_reserved, mark_for, mark_in, mark_of, reserved_mark, with_room}
+use Rattle.claim_queue.specs.Queues.{QueueValue, ChangesMark, HasSamePairs, SetsMark, free_places, has_room_in, is_reserved, mark_for, mark_in, mark_of, reserved_mark, with_room}
 use Rattle.group_commit.specs.Steps.{is_outcome}
 use Rattle.group_commit.specs.Waits.{WaitingValue, record_count, with_step}
 use Rattle.permits.specs.declared.row.Row.{Row}
 use Rattle.permits.specs.Rows.{in_flight_of}
 use Rattle.desk.specs.declared.limiter.Limiter.{Limiter}
-use Rattle.desk.specs.Ties.{AreHeld, AreLimiters, AreMarked, AreQueued, AreTied, HasPlaces, bound_by, bound_of, is_limiter_of, limit_by, is_unheld, limiter_of, own_pair, room_by}
+use Rattle.desk.specs.Ties.{AreLimiters, AreMarked, AreQueued, AreTied, HasPlaces, bound_by, bound_of, is_limiter_of, limit_by, is_unheld, limiter_of, own_pair, room_by}
 use Rattle.desk.specs.Desks.{IsDesk}
 use Rattle.desk.proofs.DeskLaws.{endpoints_wait}
 use Rattle.desk.proofs.EndpointTies.{changed_max, changed_name, enabled_same, flag_known, flag_limiters, flag_room, known_same, pairs_same, room_requested}

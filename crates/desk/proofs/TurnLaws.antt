@@ -1,6 +1,6 @@
 -- What a desk hands out, and what becomes of it when it comes back.
 use Rattle.std.proofs.Common.{◌≡◌, ℕ, ◌+◌, ◌-◌, ◌≤◌, Bool, true, false, [], ◌∷◌, Option, Some, None, length, take, drop, map, refl, sym, ◌∙◌, ap, arith, cond, subst, eqb, max, List, ◌↔◌}
-use Rattle.std.specs.Prelude.{count_by, nat_lt, option_map, ◌&&◌, Result, Ok, Err, OnOk, OnErr, IsOk, IsErr, IfOk, IfSome, IsSome, IsSomeAnd, not, is_some, if◌then◌else◌}
+use Rattle.std.specs.Prelude.{nat_lt, option_map, ◌&&◌, Result, Ok, Err, OnOk, OnErr, IsOk, IsErr, IfOk, IfSome, IsSome, IsSomeAnd, not, is_some, if◌then◌else◌}
 use Rattle.std.specs.List.{list_all}
 use Rattle.std.specs.Option.{option_map_or}
 use Rattle.std.proofs.Math.Seq.{take-add}

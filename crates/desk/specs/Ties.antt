@@ -1,6 +1,6 @@
 -- What ties the permits, the limits and the queue of a desk to its books. No world is named here: this holds of the fields
 -- whatever they stand for.
-use Rattle.std.specs.Prelude.{◌≡◌, ℕ, ◌+◌, ◌≤◌, Bool, true, false, ◌&&◌, ◌||◌, ◌==◌, not, nat_le, nat_lt, List, [], ◌∷◌, ◌++◌, length, map, Option, Some, None, find, is_some, unwrap_or, option_map, option_and_then, count_by, bytes_eq, IsTrue, if◌then◌else◌}
+use Rattle.std.specs.Prelude.{◌≡◌, ℕ, ◌+◌, ◌≤◌, Bool, false, ◌&&◌, ◌==◌, not, nat_le, nat_lt, List, [], ◌∷◌, ◌++◌, length, map, Option, Some, None, find, is_some, unwrap_or, option_map, option_and_then, count_by, bytes_eq, IsTrue, if◌then◌else◌}
 use Rattle.std.specs.List.{list_all}
 use Rattle.std.specs.Option.{option_map_or}
 use Rattle.relay_types.specs.declared.limits.TheConstants.{MAX_RECORDS}
@@ -22,7 +22,7 @@ use Rattle.delivery_book.specs.Entries as delivery_entries
 use Rattle.delivery_book.specs.declared.entry.Unsettled.{Unsettled}
 use Rattle.delivery_book.specs.Entries.{entry_at, is_open, state_in, settled_row, takes_outcome}
 use Rattle.claim_queue.specs.declared.pairs.Pair.{Pair}
-use Rattle.claim_queue.specs.Queues.{QueueValue, HasSamePairs, Gains, Loses, ChangesMark, place_taken, place_given, pair_of, is_held, is_reserved, has_room_in, free_places}
+use Rattle.claim_queue.specs.Queues.{QueueValue, Gains, Loses, ChangesMark, place_taken, place_given, pair_of, is_held, is_reserved, has_room_in, free_places}
 use Rattle.group_commit.specs.declared.limits.TheConstants.{MAX_WAITING_OUTCOMES}
 use Rattle.group_commit.specs.Steps.{outcomes_in}
 use Rattle.group_commit.specs.Waits.{WaitingValue, record_count}

@@ -158,6 +158,7 @@ impl<L: Ledger> Desk<L> {
                 at,
             )
         };
+        let limit = limit_of(&self.limiters, row.endpoint);
         hold(&mut self.queue, &self.deliveries, row.delivery);
         tell_room(
             &mut self.queue,
@@ -169,7 +170,7 @@ impl<L: Ledger> Desk<L> {
         Ok(Spent {
             spend,
             staged,
-            limit: limit_of(&self.limiters, row.endpoint),
+            limit,
             in_flight: self.pool.in_flight(row.endpoint),
         })
     }

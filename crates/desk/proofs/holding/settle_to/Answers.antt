@@ -1,4 +1,4 @@
-use Rattle.std.proofs.Common.{◌≡◌, ◌+◌, ◌∙◌, arith, refl, sym, ap}
+use Rattle.std.proofs.Common.{◌+◌, ◌∙◌, arith, refl, sym, ap}
 use Rattle.delivery_book.specs.Entries.{BookValue}
 use Rattle.desk.proofs.SettleLaws.{next_within, settles_more, settles_none}
 use Rattle.desk.proofs.holding.settle_to.Goals as goal

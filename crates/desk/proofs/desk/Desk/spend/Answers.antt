@@ -5,13 +5,72 @@ use Rattle.relay_types.specs.Values.{is_moment}
 use Rattle.claim_queue.specs.Queues.{QueueValue, ChangesMark, IsNew, with_room}
 use Rattle.desk.specs.declared.desk.Desk.TheInside.{Inside}
 use Rattle.desk.specs.declared.limiter.Limiter.{Limiter}
-use Rattle.desk.specs.Desks.{DeskValue}
+use Rattle.desk.specs.Desks.{DeskValue, IsDesk}
 use Rattle.desk.specs.contracts.desk.Desk.{the_view}
 use Rattle.desk.specs.Ties.{AreLimiters, AreSampled, HasPlaces, Holds, idle_pair, limit_by, room_by}
 use denote.Param.{param}
-use Rattle.desk.proofs.OverTies.{IsOver, back_from, foreign_spends, halted_over, is_desk_left, is_live, limiter_known, new_left, places_left, reserved_left, spends, takes_outcome, told_over, written}
-use Rattle.desk.proofs.desk.Desk.spend.Goals.{then-self, else-self}
+use Rattle.desk.proofs.RowLaws.{IsReturned}
+use Rattle.desk.proofs.OverTies.{IsLive, IsOver, back_from, foreign_spends, halted_over, is_desk_left, is_live, limiter_known, new_left, places_left, reserved_left, spends, takes_outcome, told_over, written}
+use Rattle.desk.proofs.desk.Desk.spend.Given.{Over}
+use Rattle.desk.proofs.desk.Desk.spend.Goals.{In_ok-row, After-limit_of-limit, After-hold, After-tell_room, then-self, else-self}
 use Rattle.desk.proofs.desk.Desk.spend.Goals as goal
+
+-- the permit came back
+module _ (g : Over) (c : In_ok-row g) where
+  abbrev old : DeskValue
+  old = the_view (param 0 g.row.L) g.L.Ledger c.self.inside
+
+  back : IsReturned c.in_ok-row.row old.live c.give_back.new.self
+  back = back_from c.in_ok-row.row c.args.permit old.live c.give_back.new.self c.in_ok-row.ensures.returned (λ none. let no : false ≡ true = c.in_ok-row.ensures.foreign.1 none in cc) c.in_ok-row.ensures.ok c.self.invariant.tied.queued.under_way.once
+
+  live : IsLive old c.in_ok-row.row c.give_back.new.self
+  live = is_live old c.self.inside.queue c.in_ok-row.row c.give_back.new.self c.self.invariant.tied back
+
+-- the desk took what came of the post
+module _ (g : Over) (c : After-limit_of-limit g) where
+  abbrev new : DeskValue
+  new = the_view (param 0 g.row.L) g.L.Ledger c.if-self.self-inside
+
+  same : c.if-self.self-inside.queue ≡ c.self.inside.queue
+  same = elim c.if-self.branch [
+    | then-self w ↦ ap (λ (x : Inside g.row.L.Denot). x.queue) w.self-inside-is
+    | else-self w ↦ ap (λ (x : Inside g.row.L.Denot). x.queue) w.self-inside-is
+  ]
+
+  over : IsOver (old g (goal.at.After-limit_of-limit g c).In_ok-row) new c.in_ok-row.row c.give_back.new.self c.args.post c.moment-at.result c.if-self.staged
+  over =
+      let view = the_view (param 0 g.row.L) g.L.Ledger in
+      let d = view c.self.inside in
+      let row = c.in_ok-row.row in
+      let rest = c.give_back.new.self in
+      elim c.if-self.branch [
+        | then-self w ↦ halted_over d new row rest c.args.post c.moment-at.result c.if-self.staged w.if-self.true (ap view w.self-inside-is) w.staged-is
+        | else-self w ↦
+            let stage = w.stage_status-staged in
+            told_over d new row rest c.args.post c.moment-at.result c.if-self.staged c.judge-spend.result.1 stage.new.endpoints stage.new.deliveries stage.new.waiting w.sample.new.limiters
+            w.if-self.false
+            (ap view w.self-inside-is ∙ ap (λ (ls : List Limiter). record d { clock = c.moment-at.result; endpoints = stage.new.endpoints; deliveries = stage.new.deliveries; waiting = stage.new.waiting; live = rest; limiters = ls })
+            (written (vec_len c.self.inside.limiters) w.deref_mut.result.now w.sample.new.limiters c.self.inside.limiters.items row c.args.post w.sample.ensures w.deref_mut.ensures.len))
+            (subst (λ (ls : List Limiter). AreSampled ls w.sample.new.limiters row c.args.post) w.deref_mut.ensures.value w.sample.ensures)
+            c.judge-spend.ensures.status stage.ensures.some stage.ensures.none (w.staged-is ∙ stage.ensures.staged)
+      ]
+
+-- the delivery is held again
+module _ (g : Over) (c : After-hold g) where
+  holds : Holds c.self.inside.queue c.hold.new.queue (idle_pair (new g (goal.at.After-hold g c).After-limit_of-limit).deliveries c.in_ok-row.row.delivery)
+  holds =
+      let join = (goal.at.After-hold g c).After-limit_of-limit in
+      subst (λ (q : QueueValue). Holds q c.hold.new.queue (idle_pair (new g join).deliveries c.in_ok-row.row.delivery)) (same g join) c.hold.ensures.held
+
+-- the queue was told of the endpoint's room
+module _ (g : Over) (c : After-tell_room g) where
+  after : let m = new g (goal.at.After-tell_room g c).After-limit_of-limit in IsDesk m.endpoints m.deliveries m.waiting m.live m.limiters c.tell_room.new.queue
+  after =
+      let at = goal.at.After-tell_room g c in
+      let m = new g at.After-limit_of-limit in
+      is_desk_left (old g at.In_ok-row) m c.self.inside.queue c.hold.new.queue c.tell_room.new.queue c.in_ok-row.row c.give_back.new.self c.args.post c.moment-at.result c.if-self.staged
+      c.self.invariant (back g at.In_ok-row) (over g at.After-limit_of-limit) (holds g at.After-hold) c.hold.ensures.places c.tell_room.ensures.pairs
+      (subst (λ (ls : List Limiter). ChangesMark c.hold.new.queue c.tell_room.new.queue c.in_ok-row.row.endpoint (with_room (room_by m.endpoints ls m.live c.in_ok-row.row.endpoint))) c.deref-2.ensures.value c.tell_room.ensures.mark)
 
 pub returns-in_err-row-clause-moves : goal.returns-in_err-row-clause-moves
 returns-in_err-row-clause-moves g c =
@@ -19,131 +78,43 @@ returns-in_err-row-clause-moves g c =
 
 pub sample-requires-clause-known : goal.sample-requires-clause-known
 sample-requires-clause-known g c =
-    let view = the_view (param 0 g.row.L) g.L.Ledger in
-    let d = view c.self.inside in
-    let row = c.in_ok-row.row in
-    let rest = c.give_back.new.self in
-    let back = back_from row c.args.permit d.live rest c.in_ok-row.ensures.returned (λ none. let no : false ≡ true = c.in_ok-row.ensures.foreign.1 none in cc) c.in_ok-row.ensures.ok c.self.invariant.tied.queued.under_way.once in
-    limiter_known c.deref_mut.result.now d.endpoints row.endpoint (subst (λ (ls : List Limiter). AreLimiters ls d.endpoints) (sym c.deref_mut.ensures.value) c.self.invariant.tied.limited)
-    (is_live d c.self.inside.queue row rest c.self.invariant.tied back).known
+    let at = (goal.at.sample-requires-clause-known g c).In_ok-row in
+    let d = old g at in
+    limiter_known c.deref_mut.result.now d.endpoints c.in_ok-row.row.endpoint (subst (λ (ls : List Limiter). AreLimiters ls d.endpoints) (sym c.deref_mut.ensures.value) c.self.invariant.tied.limited) (live g at).known
 
 pub stage_status-staged-requires-clause-ready : goal.stage_status-staged-requires-clause-ready
 stage_status-staged-requires-clause-ready g c =
-    let view = the_view (param 0 g.row.L) g.L.Ledger in
-    let d = view c.self.inside in
-    let row = c.in_ok-row.row in
-    let rest = c.give_back.new.self in
-    let back = back_from row c.args.permit d.live rest c.in_ok-row.ensures.returned (λ none. let no : false ≡ true = c.in_ok-row.ensures.foreign.1 none in cc) c.in_ok-row.ensures.ok c.self.invariant.tied.queued.under_way.once in
-    takes_outcome d c.self.inside.queue row rest c.self.invariant (is_live d c.self.inside.queue row rest c.self.invariant.tied back)
+    let at = (goal.at.stage_status-staged-requires-clause-ready g c).In_ok-row in
+    takes_outcome (old g at) c.self.inside.queue c.in_ok-row.row c.give_back.new.self c.self.invariant (live g at)
 
 pub hold-requires-clause-unheld : goal.hold-requires-clause-unheld
 hold-requires-clause-unheld g c =
-    let view = the_view (param 0 g.row.L) g.L.Ledger in
-    let d = view c.self.inside in
-    let row = c.in_ok-row.row in
-    let rest = c.give_back.new.self in
-    let back = back_from row c.args.permit d.live rest c.in_ok-row.ensures.returned (λ none. let no : false ≡ true = c.in_ok-row.ensures.foreign.1 none in cc) c.in_ok-row.ensures.ok c.self.invariant.tied.queued.under_way.once in
-    let same : c.if-self.self-inside.queue ≡ c.self.inside.queue = elim c.if-self.branch [
-      | then-self w ↦ ap (λ (x : Inside g.row.L.Denot). x.queue) w.self-inside-is
-      | else-self w ↦ ap (λ (x : Inside g.row.L.Denot). x.queue) w.self-inside-is
-    ] in
-    subst (λ (q : QueueValue). IsNew q row.delivery) (sym same) (new_left d c.self.inside.queue row rest c.self.invariant back)
+    let at = goal.at.hold-requires-clause-unheld g c in
+    subst (λ (q : QueueValue). IsNew q c.in_ok-row.row.delivery) (sym (same g at.After-limit_of-limit))
+    (new_left (old g at.In_ok-row) c.self.inside.queue c.in_ok-row.row c.give_back.new.self c.self.invariant (back g at.In_ok-row))
 
 pub hold-requires-clause-places : goal.hold-requires-clause-places
 hold-requires-clause-places g c =
-    let view = the_view (param 0 g.row.L) g.L.Ledger in
-    let d = view c.self.inside in
-    let row = c.in_ok-row.row in
-    let rest = c.give_back.new.self in
-    let same : c.if-self.self-inside.queue ≡ c.self.inside.queue = elim c.if-self.branch [
-      | then-self w ↦ ap (λ (x : Inside g.row.L.Denot). x.queue) w.self-inside-is
-      | else-self w ↦ ap (λ (x : Inside g.row.L.Denot). x.queue) w.self-inside-is
-    ] in
-    let m = view c.if-self.self-inside in
-    let over : IsOver d m row rest c.args.post c.moment-at.result c.if-self.staged = elim c.if-self.branch [
-      | then-self w ↦ halted_over d m row rest c.args.post c.moment-at.result c.if-self.staged w.if-self.true (ap view w.self-inside-is) w.staged-is
-      | else-self w ↦
-          let stage = w.stage_status-staged in
-          told_over d m row rest c.args.post c.moment-at.result c.if-self.staged c.judge-spend.result.1 stage.new.endpoints stage.new.deliveries stage.new.waiting w.sample.new.limiters
-          w.if-self.false
-          (ap view w.self-inside-is ∙ ap (λ (ls : List Limiter). record d { clock = c.moment-at.result; endpoints = stage.new.endpoints; deliveries = stage.new.deliveries; waiting = stage.new.waiting; live = rest; limiters = ls })
-          (written (vec_len c.self.inside.limiters) w.deref_mut.result.now w.sample.new.limiters c.self.inside.limiters.items row c.args.post w.sample.ensures w.deref_mut.ensures.len))
-          (subst (λ (ls : List Limiter). AreSampled ls w.sample.new.limiters row c.args.post) w.deref_mut.ensures.value w.sample.ensures)
-          c.judge-spend.ensures.status stage.ensures.some stage.ensures.none (w.staged-is ∙ stage.ensures.staged)
-    ] in
-    subst (λ (q : QueueValue). HasPlaces q m.deliveries) (sym same) (places_left d m c.self.inside.queue row rest c.args.post c.moment-at.result c.if-self.staged c.self.invariant over)
+    let at = goal.at.hold-requires-clause-places g c in
+    let m = new g at.After-limit_of-limit in
+    subst (λ (q : QueueValue). HasPlaces q m.deliveries) (sym (same g at.After-limit_of-limit))
+    (places_left (old g at.In_ok-row) m c.self.inside.queue c.in_ok-row.row c.give_back.new.self c.args.post c.moment-at.result c.if-self.staged c.self.invariant (over g at.After-limit_of-limit))
 
 pub tell_room-requires : goal.tell_room-requires
 tell_room-requires g c =
-    let view = the_view (param 0 g.row.L) g.L.Ledger in
-    let d = view c.self.inside in
-    let row = c.in_ok-row.row in
-    let rest = c.give_back.new.self in
-    let back = back_from row c.args.permit d.live rest c.in_ok-row.ensures.returned (λ none. let no : false ≡ true = c.in_ok-row.ensures.foreign.1 none in cc) c.in_ok-row.ensures.ok c.self.invariant.tied.queued.under_way.once in
-    let same : c.if-self.self-inside.queue ≡ c.self.inside.queue = elim c.if-self.branch [
-      | then-self w ↦ ap (λ (x : Inside g.row.L.Denot). x.queue) w.self-inside-is
-      | else-self w ↦ ap (λ (x : Inside g.row.L.Denot). x.queue) w.self-inside-is
-    ] in
-    let m = view c.if-self.self-inside in
-    let holds = subst (λ (q : QueueValue). Holds q c.hold.new.queue (idle_pair m.deliveries row.delivery)) same c.hold.ensures.held in
-    reserved_left d m c.self.inside.queue c.hold.new.queue row rest c.self.invariant back holds
+    let at = goal.at.tell_room-requires g c in
+    reserved_left (old g at.In_ok-row) (new g at.After-limit_of-limit) c.self.inside.queue c.hold.new.queue c.in_ok-row.row c.give_back.new.self c.self.invariant (back g at.In_ok-row) (holds g at.After-hold)
 
 pub invariant_of-self-2 : goal.invariant_of-self-2
-invariant_of-self-2 g c =
-    let view = the_view (param 0 g.row.L) g.L.Ledger in
-    let d = view c.self.inside in
-    let row = c.in_ok-row.row in
-    let rest = c.give_back.new.self in
-    let back = back_from row c.args.permit d.live rest c.in_ok-row.ensures.returned (λ none. let no : false ≡ true = c.in_ok-row.ensures.foreign.1 none in cc) c.in_ok-row.ensures.ok c.self.invariant.tied.queued.under_way.once in
-    let same : c.if-self.self-inside.queue ≡ c.self.inside.queue = elim c.if-self.branch [
-      | then-self w ↦ ap (λ (x : Inside g.row.L.Denot). x.queue) w.self-inside-is
-      | else-self w ↦ ap (λ (x : Inside g.row.L.Denot). x.queue) w.self-inside-is
-    ] in
-    let m = view c.if-self.self-inside in
-    let over : IsOver d m row rest c.args.post c.moment-at.result c.if-self.staged = elim c.if-self.branch [
-      | then-self w ↦ halted_over d m row rest c.args.post c.moment-at.result c.if-self.staged w.if-self.true (ap view w.self-inside-is) w.staged-is
-      | else-self w ↦
-          let stage = w.stage_status-staged in
-          told_over d m row rest c.args.post c.moment-at.result c.if-self.staged c.judge-spend.result.1 stage.new.endpoints stage.new.deliveries stage.new.waiting w.sample.new.limiters
-          w.if-self.false
-          (ap view w.self-inside-is ∙ ap (λ (ls : List Limiter). record d { clock = c.moment-at.result; endpoints = stage.new.endpoints; deliveries = stage.new.deliveries; waiting = stage.new.waiting; live = rest; limiters = ls })
-          (written (vec_len c.self.inside.limiters) w.deref_mut.result.now w.sample.new.limiters c.self.inside.limiters.items row c.args.post w.sample.ensures w.deref_mut.ensures.len))
-          (subst (λ (ls : List Limiter). AreSampled ls w.sample.new.limiters row c.args.post) w.deref_mut.ensures.value w.sample.ensures)
-          c.judge-spend.ensures.status stage.ensures.some stage.ensures.none (w.staged-is ∙ stage.ensures.staged)
-    ] in
-    let holds = subst (λ (q : QueueValue). Holds q c.hold.new.queue (idle_pair m.deliveries row.delivery)) same c.hold.ensures.held in
-    let changes = subst (λ (ls : List Limiter). ChangesMark c.hold.new.queue c.tell_room.new.queue row.endpoint (with_room (room_by m.endpoints ls m.live row.endpoint))) c.deref.ensures.value c.tell_room.ensures.mark in
-    let after = is_desk_left d m c.self.inside.queue c.hold.new.queue c.tell_room.new.queue row rest c.args.post c.moment-at.result c.if-self.staged c.self.invariant back over holds c.hold.ensures.places c.tell_room.ensures.pairs changes in
-    after
+invariant_of-self-2 g c = after g (goal.at.invariant_of-self-2 g c).After-tell_room
 
 pub returns-clause-moves : goal.returns-clause-moves
 returns-clause-moves g c =
     let moment_is : IsTrue (is_moment c.moment-at.result) = search (rules, c.moment-at.type_inv) in
-    let view = the_view (param 0 g.row.L) g.L.Ledger in
-    let d = view c.self.inside in
-    let row = c.in_ok-row.row in
-    let rest = c.give_back.new.self in
-    let back = back_from row c.args.permit d.live rest c.in_ok-row.ensures.returned (λ none. let no : false ≡ true = c.in_ok-row.ensures.foreign.1 none in cc) c.in_ok-row.ensures.ok c.self.invariant.tied.queued.under_way.once in
-    let same : c.if-self.self-inside.queue ≡ c.self.inside.queue = elim c.if-self.branch [
-      | then-self w ↦ ap (λ (x : Inside g.row.L.Denot). x.queue) w.self-inside-is
-      | else-self w ↦ ap (λ (x : Inside g.row.L.Denot). x.queue) w.self-inside-is
-    ] in
-    let m = view c.if-self.self-inside in
-    let over : IsOver d m row rest c.args.post c.moment-at.result c.if-self.staged = elim c.if-self.branch [
-      | then-self w ↦ halted_over d m row rest c.args.post c.moment-at.result c.if-self.staged w.if-self.true (ap view w.self-inside-is) w.staged-is
-      | else-self w ↦
-          let stage = w.stage_status-staged in
-          told_over d m row rest c.args.post c.moment-at.result c.if-self.staged c.judge-spend.result.1 stage.new.endpoints stage.new.deliveries stage.new.waiting w.sample.new.limiters
-          w.if-self.false
-          (ap view w.self-inside-is ∙ ap (λ (ls : List Limiter). record d { clock = c.moment-at.result; endpoints = stage.new.endpoints; deliveries = stage.new.deliveries; waiting = stage.new.waiting; live = rest; limiters = ls })
-          (written (vec_len c.self.inside.limiters) w.deref_mut.result.now w.sample.new.limiters c.self.inside.limiters.items row c.args.post w.sample.ensures w.deref_mut.ensures.len))
-          (subst (λ (ls : List Limiter). AreSampled ls w.sample.new.limiters row c.args.post) w.deref_mut.ensures.value w.sample.ensures)
-          c.judge-spend.ensures.status stage.ensures.some stage.ensures.none (w.staged-is ∙ stage.ensures.staged)
-    ] in
-    let holds = subst (λ (q : QueueValue). Holds q c.hold.new.queue (idle_pair m.deliveries row.delivery)) same c.hold.ensures.held in
-    let changes = subst (λ (ls : List Limiter). ChangesMark c.hold.new.queue c.tell_room.new.queue row.endpoint (with_room (room_by m.endpoints ls m.live row.endpoint))) c.deref.ensures.value c.tell_room.ensures.mark in
-    let after = is_desk_left d m c.self.inside.queue c.hold.new.queue c.tell_room.new.queue row rest c.args.post c.moment-at.result c.if-self.staged c.self.invariant back over holds c.hold.ensures.places c.tell_room.ensures.pairs changes in
-    spends d c.args.self.now c.self.view_is m c.self.inside.queue c.tell_room.new.queue row c.args.permit rest c.args.post c.args.now c.moment-at.result c.judge-spend.result.0 c.if-self.staged c.limit_of.result c.in_flight.result
-    c.self.invariant back c.in_ok-row.ensures.returned over after (c.moment-at.ensures ∙ ap (λ (v : DeskValue). max c.args.now v.clock) (sym c.self.view_is)) moment_is
+    let at = goal.at.returns-clause-moves g c in
+    spends (old g at.In_ok-row) c.args.self.now c.self.view_is (new g at.After-limit_of-limit) c.self.inside.queue c.tell_room.new.queue c.in_ok-row.row c.args.permit c.give_back.new.self c.args.post c.args.now c.moment-at.result
+    c.judge-spend.result.0 c.if-self.staged c.limit_of-limit.result c.in_flight.result
+    c.self.invariant (back g at.In_ok-row) c.in_ok-row.ensures.returned (over g at.After-limit_of-limit) (after g at.After-tell_room)
+    (c.moment-at.ensures ∙ ap (λ (v : DeskValue). max c.args.now v.clock) (sym c.self.view_is)) moment_is
     (λ s e. subst (λ (o : Option ℕ). IfSome o (λ x. IsTrue (is_status x))) (c.judge-spend.ensures.status ∙ e) c.judge-spend.ensures.legal)
-    c.judge-spend.ensures.spend (c.limit_of.ensures ∙ ap (λ (ls : List Limiter). limit_by ls row.endpoint) c.deref-2.ensures.value) c.in_flight.ensures.count
+    c.judge-spend.ensures.spend (c.limit_of-limit.ensures ∙ ap (λ (ls : List Limiter). limit_by ls c.in_ok-row.row.endpoint) c.deref.ensures.value) c.in_flight.ensures.count

@@ -1,4 +1,4 @@
-use Rattle.std.proofs.Common.{◌+◌, ◌∙◌, ap, arith, length, subst}
+use Rattle.std.proofs.Common.{◌+◌, ap, arith, length, subst}
 use Rattle.claim_queue.specs.Queues.{ChangesMark, with_room}
 use Rattle.group_commit.specs.Waits.{record_count}
 use Rattle.desk.specs.Desks.{DeskValue}

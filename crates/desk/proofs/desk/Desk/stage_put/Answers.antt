@@ -3,7 +3,7 @@ use Rattle.claim_queue.specs.Queues.{ChangesMark, with_room}
 use Rattle.group_commit.specs.Waits.{record_count}
 use Rattle.desk.specs.declared.limiter.Limiter.{Limiter}
 use Rattle.desk.specs.Desks.{DeskValue, IsDesk, with_put}
-use Rattle.desk.specs.Ties.{bound_by, new_limiter, room_by}
+use Rattle.desk.specs.Ties.{new_limiter, room_by}
 use Rattle.desk.proofs.OpeningLaws.{limiter_is}
 use Rattle.desk.proofs.RequestTies.{desk_put, desk_reserved}
 use Rattle.desk.proofs.desk.Desk.stage_put.Goals as goal
