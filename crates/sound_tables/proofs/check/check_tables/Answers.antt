@@ -1,39 +1,35 @@
-use Rattle.std.proofs.Common.{None, subst}
+use Rattle.std.proofs.Common.{◌≡◌, MatchResult, None, subst}
 use Rattle.sqlite.specs.Effect.{Database}
 use Rattle.sqlite.specs.Held.{state}
+use Rattle.sqlite.specs.State.{HasCleanDisk}
+use Rattle.spool_sql.specs.Tables.{relay_schema}
 use Rattle.sound_tables.specs.Checks.{HasSound, IsRefusedAt, TellsStored}
 use Rattle.sound_tables.proofs.LackLemmas.{lacks_sound}
 use Rattle.sound_tables.proofs.LookLemmas.{are_read, clean_early, same_now, schema_still, told_err, told_ok}
 use Rattle.sound_tables.proofs.MetaLemmas.{damaged}
+use Rattle.sound_tables.proofs.check.check_tables.Given.{Over}
+use Rattle.sound_tables.proofs.check.check_tables.Goals.{After-judge}
 use Rattle.sound_tables.proofs.check.check_tables.Goals as goal
 
-pub returns-in-Ok-Some-clause-found : goal.returns-in-Ok-Some-clause-found
-returns-in-Ok-Some-clause-found g c clean has =
+-- what the values that were read are judged to be is so of the tables
+judged : (g : Over) (c : After-judge g) → HasCleanDisk (state g.S.Store c.read_stored.new.conn) → (state g.S.Store c.args.conn.now).now.schema ≡ relay_schema
+    → let db = (state g.S.Store c.args.conn.now).now in MatchResult c.judge.result (HasSound db) (IsRefusedAt db)
+judged g c clean has =
     let a = c.args.conn.now in
     let m = c.read_records.new.conn in
     let b = c.read_stored.new.conn in
     let first = c.in_ok-records.ensures in
     let later = c.in-Ok-Some.ensures in
-    let db = (state g.S.Store a).now in
     let still = schema_still g.S.Store a m b first.looks first.same later.looks clean has in
     let shown = subst (TellsStored (state g.S.Store m).now) c.in-Ok-Some.field-0-is (later.found clean still) in
     let meta = first.found (clean_early g.S.Store a m b first.looks first.same later.looks clean) has in
-    told_ok c.judge.result (HasSound db) (IsRefusedAt db)
-    (c.judge.ensures db (are_read g.S.Store a m b first.looks first.same later.looks c.in_ok-records.records c.in-Ok-Some.rows c.has_five_tables.ensures.live clean has meta shown))
+    c.judge.ensures (state g.S.Store a).now (are_read g.S.Store a m b first.looks first.same later.looks c.in_ok-records.records c.in-Ok-Some.rows c.has_five_tables.ensures.live clean has meta shown)
+
+pub returns-in-Ok-Some-clause-found : goal.returns-in-Ok-Some-clause-found
+returns-in-Ok-Some-clause-found g c clean has = told_ok c.judge.result _ _ (judged g (goal.at.returns-in-Ok-Some-clause-found g c).After-judge clean has)
 
 pub returns-in-Ok-Some-clause-refused : goal.returns-in-Ok-Some-clause-refused
-returns-in-Ok-Some-clause-refused g c clean has =
-    let a = c.args.conn.now in
-    let m = c.read_records.new.conn in
-    let b = c.read_stored.new.conn in
-    let first = c.in_ok-records.ensures in
-    let later = c.in-Ok-Some.ensures in
-    let db = (state g.S.Store a).now in
-    let still = schema_still g.S.Store a m b first.looks first.same later.looks clean has in
-    let shown = subst (TellsStored (state g.S.Store m).now) c.in-Ok-Some.field-0-is (later.found clean still) in
-    let meta = first.found (clean_early g.S.Store a m b first.looks first.same later.looks clean) has in
-    told_err c.judge.result (HasSound db) (IsRefusedAt db)
-    (c.judge.ensures db (are_read g.S.Store a m b first.looks first.same later.looks c.in_ok-records.records c.in-Ok-Some.rows c.has_five_tables.ensures.live clean has meta shown))
+returns-in-Ok-Some-clause-refused g c clean has = told_err c.judge.result _ _ (judged g (goal.at.returns-in-Ok-Some-clause-refused g c).After-judge clean has)
 
 pub returns-in-Ok-None-clause-refused : goal.returns-in-Ok-None-clause-refused
 returns-in-Ok-None-clause-refused g c clean has =
