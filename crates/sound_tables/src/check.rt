@@ -16,7 +16,8 @@ use sqlite::{Alter, Connection};
 use std::alloc::Global;
 
 /// How many records the tables tell of, where their rows are such as a legal history has. Each table is read once, row by row, whoever
-/// wrote it, and nothing is written. A store with more or fewer than five tables is `NotOurs`. It takes memory for the numbers in the rows, and time in proportion to `n log n`.
+/// wrote it, and nothing is written. A store with more or fewer than five tables is `NotOurs`. It takes memory for the numbers in the rows,
+/// and time in proportion to `n log n`.
 pub fn check_tables<S: Alter>(conn: &mut Connection<S>, alloc: Global) -> Result<u64, TableFault>
     ensures looks { Looks S.Store conn.old conn.new }
     ensures ours { has_five_tables (state S.Store conn.old).now.schema ≡ false → result ≡ Err TableFault.NotOurs }
