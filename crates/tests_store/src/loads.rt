@@ -1,92 +1,129 @@
-use crate::changes::{Change, accept, begun, enter, enter_all, put};
-use crate::vault::opened;
-use relay_types::{Name, State};
-use spool::{Books, Vault};
-use sqlite::MemStore;
-use std::alloc::Global;
+//! What `Vault::load` gives.
+
+use crate::entries::{Entry, Keys};
+use crate::stories::{Fault, Look, Step, Story, walk};
+use crate::tables::{EVENT_A, PUT_A};
+use crate::vaults::{Moments, Span, Told};
 use std::test::Fail;
 
-fn loaded(vault: &mut Vault<MemStore>, alloc: Global) -> Result<Books, Fail> {
-    match vault.load(alloc) {
-        Ok(books) => Ok(books),
-        Err(_) => Err(Fail::from("a load was refused")),
-    }
-}
+/// An endpoint with one secret.
+const PUT: Entry = Entry::Put(b'a', 100, ONE);
 
-/// How many records there are, the clock, and how many endpoints.
-fn counts(books: &Books) -> (u64, u64, usize) {
-    (
-        books.records,
-        books.clock.seconds(),
-        books.endpoints.settled_len(),
-    )
-}
+const ONE: Keys = Keys::Of([1; 4], 1);
 
-/// The attempts at the event with this number, whether it is pending, when it is due and its last status.
-fn told(books: &Books, delivery: u64) -> Option<(u64, bool, Option<u64>, Option<u16>)> {
-    match books.deliveries.settled(delivery) {
-        Some(row) => Some((
-            row.attempts,
-            matches!(row.state, State::Pending),
-            row.due,
-            row.last_status,
-        )),
-        None => None,
-    }
-}
+const AN_EMPTY_STORE_GIVES_EMPTY_BOOKS: Story = Story {
+    limit: None,
+    steps: &[Step::Shows(&[Look::Holds(0, 0, 0), Look::NoEvent(0)])],
+    counts: &[],
+};
 
 #[test]
 fn an_empty_store_gives_empty_books(rt: HostRuntime) -> Result<(), Fail> {
-    let alloc = rt.alloc();
-    let mut vault = opened(alloc)?;
-    let books = loaded(&mut vault, alloc)?;
-    assert_eq!(rt; counts(&books), (0, 0, 0));
-    assert_eq!(rt; told(&books, 0), None);
-    Ok(())
+    walk(&rt, rt.alloc(), &AN_EMPTY_STORE_GIVES_EMPTY_BOOKS)
 }
+
+const EVERY_RECORD_IS_READ_BACK: Story = Story {
+    limit: None,
+    steps: &[
+        Step::Enter(PUT_A, Told::Written),
+        Step::Enter(EVENT_A, Told::Written),
+        Step::Enter(Entry::Outcome(1, 1, 500, 1001), Told::Written),
+        Step::Enter(Entry::Outcome(1, 2, 410, 1006), Told::Written),
+        Step::Shows(&[
+            Look::Holds(4, 1006, 1),
+            Look::Event(1, 2, true, Some(1006), Some(410)),
+            Look::IsEnabled(b'a', false),
+        ]),
+        Step::Enter(Entry::Enable(b'a', true), Told::Written),
+        Step::Enter(Entry::Outcome(1, 3, 500, 1007), Told::Written),
+        Step::Shows(&[
+            Look::Holds(6, 1007, 1),
+            Look::Event(1, 3, true, Some(1307), Some(500)),
+            Look::IsEnabled(b'a', true),
+            Look::Settled(1, 0),
+        ]),
+    ],
+    counts: &[],
+};
 
 #[test]
 fn every_record_is_read_back(rt: HostRuntime) -> Result<(), Fail> {
-    let alloc = rt.alloc();
-    let mut vault = begun(alloc)?;
-    let first = [
-        Change::Outcome(1, 1, 500, 1001),
-        Change::Outcome(1, 2, 410, 1006),
-    ];
-    assert_eq!(rt; enter_all(&mut vault, alloc, &first)?, Ok(()));
-    let books = loaded(&mut vault, alloc)?;
-    let a = Name::read(b"a")?;
-    assert_eq!(rt; counts(&books), (4, 1006, 1));
-    assert_eq!(rt; told(&books, 1), Some((2, true, Some(1006), Some(410))));
-    assert!(rt; !books.endpoints.is_enabled(a));
-    let then = [Change::Enabled(true), Change::Outcome(1, 3, 500, 1007)];
-    assert_eq!(rt; enter_all(&mut vault, alloc, &then)?, Ok(()));
-    let books = loaded(&mut vault, alloc)?;
-    assert_eq!(rt; counts(&books), (6, 1007, 1));
-    assert_eq!(rt; told(&books, 1), Some((3, true, Some(1307), Some(500))));
-    assert!(rt; books.endpoints.is_enabled(a));
-    assert_eq!(rt; books.deliveries.settled_counts_all().pending, 1);
-    Ok(())
+    walk(&rt, rt.alloc(), &EVERY_RECORD_IS_READ_BACK)
 }
 
-/// A page has 256 rows.
+/// A page has 256 rows. Each record is committed alone, and later ones have earlier moments.
+const TABLES_OF_MORE_THAN_A_PAGE_ARE_READ_BACK: Story = Story {
+    limit: None,
+    steps: &[
+        Step::Enter(PUT_A, Told::Written),
+        Step::Events(Span(1, 258, 1), Moments(2000, 1, 1000)),
+        Step::Ends(Span(1, 258, 1), 204, Moments(3000, 1, 1000)),
+        Step::Shows(&[
+            Look::Holds(515, 2999, 1),
+            Look::Settled(0, 257),
+            Look::Event(257, 1, false, None, Some(204)),
+        ]),
+    ],
+    counts: &[],
+};
+
 #[test]
 fn tables_of_more_than_a_page_are_read_back(rt: HostRuntime) -> Result<(), Fail> {
-    let alloc = rt.alloc();
-    let mut vault = opened(alloc)?;
-    assert_eq!(rt; enter(&mut vault, alloc, put(alloc, b"a")?)?, Ok(()));
-    for n in 1..258u32 {
-        let id = format!(in alloc; "m{n}")?;
-        let event = accept(alloc, id.as_bytes(), 2000 - n)?;
-        assert_eq!(rt; enter(&mut vault, alloc, event)?, Ok(()));
-    }
-    for n in 1..258u32 {
-        let end = [Change::Outcome(u64::from(n), 1, 204, 3000 - n)];
-        assert_eq!(rt; enter_all(&mut vault, alloc, &end)?, Ok(()));
-    }
-    let books = loaded(&mut vault, alloc)?;
-    assert_eq!(rt; counts(&books), (515, 2999, 1));
-    assert_eq!(rt; books.deliveries.settled_counts_all().delivered, 257);
-    assert_eq!(rt; told(&books, 257), Some((1, false, None, Some(204))));
-    Ok(())
+    walk(&rt, rt.alloc(), &TABLES_OF_MORE_THAN_A_PAGE_ARE_READ_BACK)
+}
+
+/// 600 events, which have the numbers 1 to 600, and a failed outcome of each, in batches of 200.
+const MORE_THAN_TWO_PAGES_ARE_LOADED: Story = Story {
+    limit: None,
+    steps: &[
+        Step::Enter(PUT, Told::Written),
+        Step::Events(Span(0, 600, 200), Moments(1000, 7, 1)),
+        Step::Ends(Span(1, 601, 200), 500, Moments(2000, 1, 1000)),
+        Step::Shows(&[
+            Look::Holds(1201, 1999, 1),
+            Look::Pending(600),
+            Look::Attempted(600),
+        ]),
+    ],
+    counts: &[],
+};
+
+#[test]
+fn more_than_two_pages_are_loaded(rt: HostRuntime) -> Result<(), Fail> {
+    walk(&rt, rt.alloc(), &MORE_THAN_TWO_PAGES_ARE_LOADED)
+}
+
+/// So few that a statement fails which reads 200 events or counts 100 endpoints.
+const FEW: Option<u64> = Some(100);
+
+const A_STORE_THAT_FAILS_IS_TOLD: Story = Story {
+    limit: FEW,
+    steps: &[
+        Step::Enter(PUT, Told::Written),
+        Step::Events(Span(0, 200, 200), Moments(1000, 7, 1)),
+        Step::IsNotLoaded(Fault::Store),
+        Step::IsClosed(false),
+        Step::Events(Span(200, 400, 200), Moments(1000, 7, 1)),
+    ],
+    counts: &[],
+};
+
+#[test]
+fn a_store_that_fails_is_told(rt: HostRuntime) -> Result<(), Fail> {
+    walk(&rt, rt.alloc(), &A_STORE_THAT_FAILS_IS_TOLD)
+}
+
+const A_CLOSED_VAULT_IS_NOT_LOADED: Story = Story {
+    limit: FEW,
+    steps: &[
+        Step::Puts(256, ONE, Told::Doubtful),
+        Step::IsClosed(true),
+        Step::IsNotLoaded(Fault::Closed),
+    ],
+    counts: &[],
+};
+
+#[test]
+fn a_closed_vault_is_not_loaded(rt: HostRuntime) -> Result<(), Fail> {
+    walk(&rt, rt.alloc(), &A_CLOSED_VAULT_IS_NOT_LOADED)
 }

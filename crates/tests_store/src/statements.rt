@@ -1,232 +1,377 @@
-use relay_types::{Body, MaxLimit, Moment, MsgId, Name, Secret, Target};
+//! The statements of `spool_sql`: rows that are written, found and refused.
+
+use crate::database::{Count, count_all, holds};
+use crate::entries::body_of;
+use relay_types::{MaxLimit, Moment, MsgId, Name, Secret, Target};
 use spool_sql::{
     Cause, Seq, cause_of, count_endpoints, create_tables, has_delivery, insert_attempt,
     insert_delivery, insert_endpoint, insert_secret, is_empty, probe, select_put, update_records,
 };
 use sqlite::{Connection, Error, ErrorCode, MemStore, Transaction};
-use std::alloc::{AllocError, Global};
-use std::sync::Arc;
+use std::alloc::Global;
+use std::process::Abort;
 use std::test::Fail;
 
-/// A store with one endpoint, two secrets of it, one event and one attempt at it.
-fn filled(alloc: Global) -> Result<Connection<MemStore>, Fail> {
-    let mut conn = Connection::open_in_memory(alloc)?;
-    let mut tx = conn.transaction();
-    create_tables(&mut tx)?;
-    add_endpoint(&mut tx, 3, &Target::read(alloc, b"http://h/")?)?;
-    add_secret(&mut tx, 0, b"0123456789abcdef01234567")?;
-    add_secret(&mut tx, 1, b"89abcdef0123456789abcdef")?;
-    add_event(&mut tx, &hello(alloc)?)?;
-    tx.commit()?;
-    Ok(conn)
+/// A call that writes.
+#[derive(Clone, Copy)]
+enum Call {
+    Tables,
+    /// The number, the name and the greatest limit. The URL is `http://h/`.
+    Endpoint(u32, &'static [u8], u64),
+    /// The endpoint, the place and the bytes.
+    Secret(u32, u32, &'static [u8]),
+    /// The number, the endpoint, the id and the moment. The body is `hello`.
+    Delivery(u32, u32, &'static [u8], u64),
+    /// The number, the delivery, the attempt's number, the status and the moment.
+    Attempt(u32, u32, u32, u16, u64),
+    Records(u32),
 }
 
-fn hello(alloc: Global) -> Result<Body, Fail> {
-    let bytes = Vec::from_slice(alloc, b"hello")?;
-    let shared = Arc::new(alloc, bytes).map_err(AllocError::from)?;
-    Ok(Body::of(shared)?)
+/// A call, and its answer.
+#[derive(Clone, Copy)]
+enum Step {
+    Done(Call),
+    /// The rows or the tables that stand refuse it.
+    Refused(Call),
+    /// The number of the endpoint of this name.
+    Put(&'static [u8], Option<u32>),
+    Endpoints(usize),
+    /// Whether the endpoint has an event of this id.
+    Has(u32, &'static [u8], bool),
 }
 
-fn add_endpoint(tx: &mut Transaction<'_, MemStore>, put: u32, target: &Target) -> Result<(), Fail> {
-    let name = Name::read(b"alpha")?;
-    let max = MaxLimit::of(10)?;
-    Ok(insert_endpoint(tx, Seq::of(u64::from(put)), &name, target, max)?)
+fn seq(number: u32) -> Seq {
+    Seq::of(u64::from(number))
 }
 
-fn add_secret(tx: &mut Transaction<'_, MemStore>, place: u32, bytes: &[u8]) -> Result<(), Fail> {
-    Ok(insert_secret(tx, Seq::of(3), u64::from(place), &Secret::of(bytes)?)?)
+fn add_endpoint(
+    alloc: Global,
+    tx: &mut Transaction<'_, MemStore>,
+    put: u32,
+    name: &[u8],
+    max: u64,
+) -> Result<Result<(), Error>, Fail> {
+    let name = Name::read(name)?;
+    let max = MaxLimit::of(max)?;
+    let target = Target::read(alloc, b"http://h/")?;
+    Ok(insert_endpoint(tx, seq(put), &name, &target, max))
 }
 
-fn add_event(tx: &mut Transaction<'_, MemStore>, body: &Body) -> Result<(), Fail> {
-    let id = MsgId::read(b"msg_1")?;
-    insert_delivery(tx, Seq::of(4), Seq::of(3), &id, Moment::of(1000)?, body)?;
-    insert_attempt(tx, Seq::of(5), Seq::of(4), 1, 503, Moment::of(1002)?)?;
-    Ok(update_records(tx, 6)?)
+fn add_secret(
+    tx: &mut Transaction<'_, MemStore>,
+    endpoint: u32,
+    place: u32,
+    bytes: &[u8],
+) -> Result<Result<(), Error>, Fail> {
+    let secret = Secret::of(bytes)?;
+    Ok(insert_secret(tx, seq(endpoint), u64::from(place), &secret))
 }
 
-fn number(conn: &mut Connection<MemStore>, sql: &str) -> Result<i64, Fail> {
-    Ok(conn.query_row(sql, &[])?.get(0)?)
+fn add_delivery(
+    alloc: Global,
+    tx: &mut Transaction<'_, MemStore>,
+    number: u32,
+    endpoint: u32,
+    id: &[u8],
+    at: u64,
+) -> Result<Result<(), Error>, Fail> {
+    let id = MsgId::read(id)?;
+    let at = Moment::of(at)?;
+    let body = body_of(alloc, b"hello")?;
+    Ok(insert_delivery(tx, seq(number), seq(endpoint), &id, at, &body))
 }
 
-#[test]
-fn rows_are_written(rt: HostRuntime) -> Result<(), Fail> {
-    let mut conn = filled(rt.alloc())?;
-    let wanted = [
-        ("SELECT count(*) FROM meta", 1),
-        (
-            "SELECT count(*) FROM meta WHERE k = 1 AND app = 'webhook-relay' AND version = 1 AND records = 6",
-            1,
-        ),
-        ("SELECT count(*) FROM endpoints", 1),
-        (
-            "SELECT count(*) FROM endpoints WHERE put = 3 AND name = 'alpha' AND url = 'http://h/' AND max = 10",
-            1,
-        ),
-        (
-            "SELECT count(*) FROM endpoints WHERE enabled = 1 AND enabled_by = 3 AND secrets_by = 3",
-            1,
-        ),
-        ("SELECT count(*) FROM secrets", 2),
-        (
-            "SELECT count(*) FROM secrets WHERE endpoint = 3 AND place = 0 AND secret = x'303132333435363738396162636465663031323334353637'",
-            1,
-        ),
-        (
-            "SELECT count(*) FROM secrets WHERE endpoint = 3 AND place = 1 AND secret = x'383961626364656630313233343536373839616263646566'",
-            1,
-        ),
-        ("SELECT count(*) FROM deliveries", 1),
-        (
-            "SELECT count(*) FROM deliveries WHERE seq = 4 AND endpoint = 3 AND id = 'msg_1' AND at = 1000 AND body = x'68656c6c6f'",
-            1,
-        ),
-        ("SELECT count(*) FROM attempts", 1),
-        (
-            "SELECT count(*) FROM attempts WHERE seq = 5 AND delivery = 4 AND number = 1 AND status = 503 AND at = 1002",
-            1,
-        ),
-    ];
-    for (sql, count) in wanted {
-        assert_eq!(rt; number(&mut conn, sql)?, count, "at {sql}");
+fn add_attempt(
+    tx: &mut Transaction<'_, MemStore>,
+    number: u32,
+    delivery: u32,
+    attempt: u32,
+    status: u16,
+    at: u64,
+) -> Result<Result<(), Error>, Fail> {
+    let at = Moment::of(at)?;
+    Ok(insert_attempt(
+        tx,
+        seq(number),
+        seq(delivery),
+        u64::from(attempt),
+        status,
+        at,
+    ))
+}
+
+fn make(
+    alloc: Global,
+    tx: &mut Transaction<'_, MemStore>,
+    call: Call,
+) -> Result<Result<(), Error>, Fail> {
+    match call {
+        Call::Tables => Ok(create_tables(tx)),
+        Call::Endpoint(put, name, max) => add_endpoint(alloc, tx, put, name, max),
+        Call::Secret(endpoint, place, bytes) => add_secret(tx, endpoint, place, bytes),
+        Call::Delivery(number, endpoint, id, at) => {
+            add_delivery(alloc, tx, number, endpoint, id, at)
+        }
+        Call::Attempt(number, delivery, attempt, status, at) => {
+            add_attempt(tx, number, delivery, attempt, status, at)
+        }
+        Call::Records(count) => Ok(update_records(tx, u64::from(count))),
     }
-    Ok(())
-}
-
-#[test]
-fn endpoints_are_found(rt: HostRuntime) -> Result<(), Fail> {
-    let mut conn = filled(rt.alloc())?;
-    if !conn.is_autocommit() {
-        return Err(Fail::from("a transaction is open"));
-    }
-    let mut tx = conn.transaction();
-    for (name, put) in [("alpha", Some(Seq::of(3))), ("alph", None)] {
-        assert_eq!(rt; select_put(&mut tx, &Name::read(name.as_bytes())?)?, put);
-    }
-    assert_eq!(rt; count_endpoints(&mut tx)?, 1);
-    Ok(())
-}
-
-#[test]
-fn events_are_found(rt: HostRuntime) -> Result<(), Fail> {
-    let mut conn = filled(rt.alloc())?;
-    if !conn.is_autocommit() {
-        return Err(Fail::from("a transaction is open"));
-    }
-    let mut tx = conn.transaction();
-    let (three, four) = (Seq::of(3), Seq::of(4));
-    let asked = [
-        (three, "msg_1", true),
-        (three, "msg_2", false),
-        (four, "msg_1", false),
-    ];
-    for (endpoint, id, is_there) in asked {
-        let id = MsgId::read(id.as_bytes())?;
-        assert_eq!(rt; has_delivery(&mut tx, endpoint, &id)?, is_there);
-    }
-    Ok(())
 }
 
 fn is_refused(answer: Result<(), Error>) -> bool {
-    matches!(answer, Err(error) if cause_of(error) == Cause::Other)
+    match answer {
+        Err(error) => cause_of(error) == Cause::Other,
+        Ok(()) => false,
+    }
 }
 
-#[test]
-fn endpoints_that_repeat_are_refused(rt: HostRuntime) -> Result<(), Fail> {
-    let mut conn = filled(rt.alloc())?;
+fn is_put(
+    tx: &mut Transaction<'_, MemStore>,
+    name: &[u8],
+    wanted: Option<u32>,
+) -> Result<bool, Fail> {
+    let name = Name::read(name)?;
+    match (select_put(tx, &name)?, wanted) {
+        (Some(found), Some(put)) => Ok(found.get() == u64::from(put)),
+        (None, None) => Ok(true),
+        _ => Ok(false),
+    }
+}
+
+fn has(
+    tx: &mut Transaction<'_, MemStore>,
+    endpoint: u32,
+    id: &[u8],
+    wanted: bool,
+) -> Result<bool, Fail> {
+    let id = MsgId::read(id)?;
+    Ok(has_delivery(tx, seq(endpoint), &id)? == wanted)
+}
+
+fn is_so(alloc: Global, tx: &mut Transaction<'_, MemStore>, step: Step) -> Result<bool, Fail> {
+    match step {
+        Step::Done(made) => Ok(make(alloc, tx, made)?.is_ok()),
+        Step::Refused(made) => Ok(is_refused(make(alloc, tx, made)?)),
+        Step::Put(name, wanted) => is_put(tx, name, wanted),
+        Step::Endpoints(count) => Ok(count_endpoints(tx)? == count),
+        Step::Has(endpoint, id, wanted) => has(tx, endpoint, id, wanted),
+    }
+}
+
+fn take(
+    rt: &impl Abort,
+    alloc: Global,
+    tx: &mut Transaction<'_, MemStore>,
+    steps: &[Step],
+) -> Result<(), Fail> {
+    for (place, step) in steps.iter().enumerate() {
+        holds(rt, is_so(alloc, tx, *step)?, place);
+    }
+    Ok(())
+}
+
+/// Takes the steps in one transaction, which is kept or undone.
+fn take_within(
+    rt: &impl Abort,
+    alloc: Global,
+    conn: &mut Connection<MemStore>,
+    steps: &[Step],
+    is_kept: bool,
+) -> Result<(), Fail> {
     if !conn.is_autocommit() {
         return Err(Fail::from("a transaction is open"));
     }
     let mut tx = conn.transaction();
-    assert!(rt; is_refused(create_tables(&mut tx)));
-    let target = Target::read(rt.alloc(), b"http://h/")?;
-    let name = Name::read(b"alpha")?;
-    assert!(rt;
-        is_refused(insert_endpoint(&mut tx, Seq::of(6), &name, &target, MaxLimit::of(10)?))
-    );
-    let secret = Secret::of(b"fedcba98fedcba98fedcba98")?;
-    assert!(rt; is_refused(insert_secret(&mut tx, Seq::of(3), 1, &secret)));
-    Ok(())
+    let told = take(rt, alloc, &mut tx, steps);
+    match told {
+        Ok(()) if is_kept => Ok(tx.commit()?),
+        told => told,
+    }
 }
 
-#[test]
-fn events_that_repeat_are_refused(rt: HostRuntime) -> Result<(), Fail> {
-    let mut conn = filled(rt.alloc())?;
-    if !conn.is_autocommit() {
-        return Err(Fail::from("a transaction is open"));
-    }
-    let mut tx = conn.transaction();
-    let (body, at, six) = (hello(rt.alloc())?, Moment::of(1000)?, Seq::of(6));
-    for (endpoint, id) in [(Seq::of(3), "msg_1"), (Seq::of(7), "msg_2")] {
-        let id = MsgId::read(id.as_bytes())?;
-        assert!(rt; is_refused(insert_delivery(&mut tx, six, endpoint, &id, at, &body)));
-    }
-    assert!(rt; is_refused(insert_attempt(&mut tx, six, Seq::of(4), 1, 200, at)));
-    Ok(())
+fn answers(conn: &mut Connection<MemStore>) -> bool {
+    conn.is_autocommit() && probe(conn).is_ok()
 }
+
+fn look(
+    rt: &impl Abort,
+    alloc: Global,
+    conn: &mut Connection<MemStore>,
+    steps: &[Step],
+    counts: &[Count],
+) -> Result<(), Fail> {
+    holds(rt, is_empty(conn), 0);
+    take_within(rt, alloc, conn, &FILLED, true)?;
+    holds(rt, !is_empty(conn), 1);
+    take_within(rt, alloc, conn, steps, false)?;
+    holds(rt, answers(conn), 2);
+    holds(rt, answers(conn), 3);
+    count_all(rt, conn, counts)
+}
+
+/// Fills a new store, takes the steps in a transaction that is undone, and counts.
+fn walk(rt: &impl Abort, alloc: Global, steps: &[Step], counts: &[Count]) -> Result<(), Fail> {
+    let mut conn = Connection::open_in_memory(alloc)?;
+    look(rt, alloc, &mut conn, steps, counts)
+}
+
+/// An endpoint, two secrets of it, one event and one attempt at it.
+const FILLED: [Step; 7] = [
+    Step::Done(Call::Tables),
+    Step::Done(Call::Endpoint(3, b"alpha", 10)),
+    Step::Done(Call::Secret(3, 0, b"0123456789abcdef01234567")),
+    Step::Done(Call::Secret(3, 1, b"89abcdef0123456789abcdef")),
+    Step::Done(Call::Delivery(4, 3, b"msg_1", 1000)),
+    Step::Done(Call::Attempt(5, 4, 1, 503, 1002)),
+    Step::Done(Call::Records(6)),
+];
+
+const NO_STEP: [Step; 0] = [];
+
+const ROWS: [Count; 12] = [
+    ("SELECT count(*) FROM meta", 1),
+    (
+        "SELECT count(*) FROM meta WHERE k = 1 AND app = 'webhook-relay' AND version = 1 AND records = 6",
+        1,
+    ),
+    ("SELECT count(*) FROM endpoints", 1),
+    (
+        "SELECT count(*) FROM endpoints WHERE put = 3 AND name = 'alpha' AND url = 'http://h/' AND max = 10",
+        1,
+    ),
+    (
+        "SELECT count(*) FROM endpoints WHERE enabled = 1 AND enabled_by = 3 AND secrets_by = 3",
+        1,
+    ),
+    ("SELECT count(*) FROM secrets", 2),
+    (
+        "SELECT count(*) FROM secrets WHERE endpoint = 3 AND place = 0 AND secret = x'303132333435363738396162636465663031323334353637'",
+        1,
+    ),
+    (
+        "SELECT count(*) FROM secrets WHERE endpoint = 3 AND place = 1 AND secret = x'383961626364656630313233343536373839616263646566'",
+        1,
+    ),
+    ("SELECT count(*) FROM deliveries", 1),
+    (
+        "SELECT count(*) FROM deliveries WHERE seq = 4 AND endpoint = 3 AND id = 'msg_1' AND at = 1000 AND body = x'68656c6c6f'",
+        1,
+    ),
+    ("SELECT count(*) FROM attempts", 1),
+    (
+        "SELECT count(*) FROM attempts WHERE seq = 5 AND delivery = 4 AND number = 1 AND status = 503 AND at = 1002",
+        1,
+    ),
+];
+
+#[test]
+fn rows_are_written(rt: HostRuntime) -> Result<(), Fail> {
+    walk(&rt, rt.alloc(), &NO_STEP, &ROWS)
+}
+
+const FOUND: [Step; 6] = [
+    Step::Put(b"alpha", Some(3)),
+    Step::Put(b"alph", None),
+    Step::Endpoints(1),
+    Step::Has(3, b"msg_1", true),
+    Step::Has(3, b"msg_2", false),
+    Step::Has(4, b"msg_1", false),
+];
+
+#[test]
+fn endpoints_and_events_are_found(rt: HostRuntime) -> Result<(), Fail> {
+    walk(&rt, rt.alloc(), &FOUND, &ROWS)
+}
+
+const REPEATED: [Step; 6] = [
+    Step::Refused(Call::Tables),
+    Step::Refused(Call::Endpoint(6, b"alpha", 10)),
+    Step::Refused(Call::Secret(3, 1, b"fedcba98fedcba98fedcba98")),
+    Step::Refused(Call::Delivery(6, 3, b"msg_1", 1000)),
+    Step::Refused(Call::Delivery(6, 7, b"msg_2", 1000)),
+    Step::Refused(Call::Attempt(6, 4, 1, 200, 1000)),
+];
+
+#[test]
+fn endpoints_and_events_that_repeat_are_refused(rt: HostRuntime) -> Result<(), Fail> {
+    walk(&rt, rt.alloc(), &REPEATED, &ROWS)
+}
+
+const TABLES: [Count; 6] = [
+    (
+        "SELECT count(*) FROM sqlite_schema WHERE sql = \
+         'CREATE TABLE meta(k INTEGER PRIMARY KEY CHECK(k = 1), app TEXT NOT NULL, \
+         version INTEGER NOT NULL, records INTEGER NOT NULL) STRICT'",
+        1,
+    ),
+    (
+        "SELECT count(*) FROM sqlite_schema WHERE sql = \
+         'CREATE TABLE endpoints(put INTEGER PRIMARY KEY, name TEXT NOT NULL UNIQUE, \
+         url TEXT NOT NULL, max INTEGER NOT NULL, enabled INTEGER NOT NULL, \
+         enabled_by INTEGER NOT NULL, secrets_by INTEGER NOT NULL) STRICT'",
+        1,
+    ),
+    (
+        "SELECT count(*) FROM sqlite_schema WHERE sql = \
+         'CREATE TABLE secrets(endpoint INTEGER NOT NULL REFERENCES endpoints(put), \
+         place INTEGER NOT NULL, secret BLOB NOT NULL, PRIMARY KEY(endpoint, place)) STRICT'",
+        1,
+    ),
+    (
+        "SELECT count(*) FROM sqlite_schema WHERE sql = \
+         'CREATE TABLE deliveries(seq INTEGER PRIMARY KEY, \
+         endpoint INTEGER NOT NULL REFERENCES endpoints(put), id TEXT NOT NULL, \
+         at INTEGER NOT NULL, body BLOB NOT NULL, UNIQUE(endpoint, id)) STRICT'",
+        1,
+    ),
+    (
+        "SELECT count(*) FROM sqlite_schema WHERE sql = \
+         'CREATE TABLE attempts(seq INTEGER PRIMARY KEY, \
+         delivery INTEGER NOT NULL REFERENCES deliveries(seq), number INTEGER NOT NULL, \
+         status INTEGER NOT NULL, at INTEGER NOT NULL, UNIQUE(delivery, number)) STRICT'",
+        1,
+    ),
+    (
+        "SELECT count(*) FROM sqlite_schema WHERE sql IS NOT NULL",
+        5,
+    ),
+];
 
 #[test]
 fn tables_are_kept_as_written(rt: HostRuntime) -> Result<(), Fail> {
-    let alloc = rt.alloc();
-    let mut conn = filled(alloc)?;
-    let texts = [
-        "CREATE TABLE meta(k INTEGER PRIMARY KEY CHECK(k = 1), app TEXT NOT NULL, \
-         version INTEGER NOT NULL, records INTEGER NOT NULL) STRICT",
-        "CREATE TABLE endpoints(put INTEGER PRIMARY KEY, name TEXT NOT NULL UNIQUE, \
-         url TEXT NOT NULL, max INTEGER NOT NULL, enabled INTEGER NOT NULL, \
-         enabled_by INTEGER NOT NULL, secrets_by INTEGER NOT NULL) STRICT",
-        "CREATE TABLE secrets(endpoint INTEGER NOT NULL REFERENCES endpoints(put), \
-         place INTEGER NOT NULL, secret BLOB NOT NULL, PRIMARY KEY(endpoint, place)) STRICT",
-        "CREATE TABLE deliveries(seq INTEGER PRIMARY KEY, \
-         endpoint INTEGER NOT NULL REFERENCES endpoints(put), id TEXT NOT NULL, \
-         at INTEGER NOT NULL, body BLOB NOT NULL, UNIQUE(endpoint, id)) STRICT",
-        "CREATE TABLE attempts(seq INTEGER PRIMARY KEY, \
-         delivery INTEGER NOT NULL REFERENCES deliveries(seq), number INTEGER NOT NULL, \
-         status INTEGER NOT NULL, at INTEGER NOT NULL, UNIQUE(delivery, number)) STRICT",
-    ];
-    for text in texts {
-        let sql = format!(in alloc; "SELECT count(*) FROM sqlite_schema WHERE sql = '{text}'")?;
-        assert_eq!(rt; number(&mut conn, &sql)?, 1, "at {text}");
-    }
-    let all = "SELECT count(*) FROM sqlite_schema WHERE sql IS NOT NULL";
-    assert_eq!(rt; number(&mut conn, all)?, 5);
-    Ok(())
+    walk(&rt, rt.alloc(), &NO_STEP, &TABLES)
 }
 
-#[test]
-fn a_new_store_is_empty(rt: HostRuntime) -> Result<(), Fail> {
-    assert!(rt; is_empty(&Connection::open_in_memory(rt.alloc())?));
-    assert!(rt; !is_empty(&filled(rt.alloc())?));
-    Ok(())
-}
+const CAUSES: [(Error, Cause); 11] = [
+    (Error::SqliteFailure(ErrorCode::OutOfMemory), Cause::Memory),
+    (
+        Error::SqliteFailure(ErrorCode::SystemIoFailure),
+        Cause::Store,
+    ),
+    (
+        Error::SqliteFailure(ErrorCode::DatabaseCorrupt),
+        Cause::Store,
+    ),
+    (Error::SqliteFailure(ErrorCode::DiskFull), Cause::Store),
+    (Error::SqliteFailure(ErrorCode::Closed), Cause::Store),
+    (Error::SqliteFailure(ErrorCode::TooBig), Cause::Store),
+    (
+        Error::SqliteFailure(ErrorCode::OperationInterrupted),
+        Cause::Store,
+    ),
+    (
+        Error::SqliteFailure(ErrorCode::TransactionState),
+        Cause::Store,
+    ),
+    (Error::SqliteFailure(ErrorCode::NameTaken), Cause::Other),
+    (Error::SqliteFailure(ErrorCode::NoRowid), Cause::Other),
+    (Error::MultipleStatement, Cause::Other),
+];
 
 #[test]
-fn open_store_answers(rt: HostRuntime) -> Result<(), Fail> {
-    let mut conn = filled(rt.alloc())?;
-    if !conn.is_autocommit() {
-        return Err(Fail::from("a transaction is open"));
+fn causes(rt: HostRuntime) {
+    for (place, (error, cause)) in CAUSES.iter().enumerate() {
+        holds(&rt, cause_of(*error) == *cause, place);
     }
-    assert!(rt; probe(&mut conn).is_ok());
-    assert!(rt; probe(&mut conn).is_ok());
-    Ok(())
-}
-
-#[test]
-fn causes(rt: HostRuntime) -> Result<(), Fail> {
-    let wanted = [
-        (ErrorCode::OutOfMemory, Cause::Memory),
-        (ErrorCode::SystemIoFailure, Cause::Store),
-        (ErrorCode::DatabaseCorrupt, Cause::Store),
-        (ErrorCode::DiskFull, Cause::Store),
-        (ErrorCode::Closed, Cause::Store),
-        (ErrorCode::TooBig, Cause::Store),
-        (ErrorCode::OperationInterrupted, Cause::Store),
-        (ErrorCode::TransactionState, Cause::Store),
-        (ErrorCode::NameTaken, Cause::Other),
-        (ErrorCode::NoRowid, Cause::Other),
-    ];
-    for (code, cause) in wanted {
-        assert_eq!(rt; cause_of(Error::SqliteFailure(code)), cause);
-    }
-    assert_eq!(rt; cause_of(Error::MultipleStatement), Cause::Other);
-    Ok(())
 }

@@ -1,30 +1,30 @@
 //! Whether two books give the same answers.
 
+use crate::draws::{IDS, LETTERS};
+use crate::entries::name_of;
 use delivery_book::{DeliveryBook, Row};
 use endpoint_book::{EndpointBook, EndpointView};
 use relay_types::{Body, MsgId, Name, Secrets, Target};
 use spool::Books;
+use std::test::Fail;
 
-/// Whether all answers of the books are the same that concern these names, these ids and the numbers up to that of the next record.
-pub(crate) fn same_books(one: &Books, other: &Books, names: &[Name], ids: &[MsgId]) -> bool {
-    one.records == other.records
+/// Whether all answers of the books are the same that concern the drawn names and ids, and the numbers up to that of the next record.
+pub(crate) fn same_books(one: &Books, other: &Books) -> Result<bool, Fail> {
+    let is_same = one.records == other.records
         && one.clock == other.clock
-        && same_endpoints(&one.endpoints, &other.endpoints, names)
-        && same_numbers(&one.deliveries, &other.deliveries, one.records)
-        && same_names(&one.deliveries, &other.deliveries, names, ids)
+        && same_lengths(&one.endpoints, &other.endpoints)
+        && same_order(one.endpoints.names(), other.endpoints.names())
+        && same_totals(&one.deliveries, &other.deliveries)
+        && same_numbers(&one.deliveries, &other.deliveries, one.records);
+    Ok(same_names(one, other)? && is_same)
 }
 
-fn same_endpoints(one: &EndpointBook, other: &EndpointBook, names: &[Name]) -> bool {
-    let mut is_same = one.len() == other.len()
+fn same_lengths(one: &EndpointBook, other: &EndpointBook) -> bool {
+    one.len() == other.len()
         && one.settled_len() == other.settled_len()
         && one.next_seq() == other.next_seq()
         && one.settled_seq() == other.settled_seq()
         && one.free_flags() == other.free_flags()
-        && same_order(one.names(), other.names());
-    for name in names {
-        is_same = is_same && same_endpoint(one, other, *name);
-    }
-    is_same
 }
 
 fn same_order(one: &[Name], other: &[Name]) -> bool {
@@ -33,6 +33,18 @@ fn same_order(one: &[Name], other: &[Name]) -> bool {
         is_same = is_same && name.is(*named);
     }
     is_same
+}
+
+fn same_names(one: &Books, other: &Books) -> Result<bool, Fail> {
+    let mut is_same = true;
+    for letter in &LETTERS {
+        let name = name_of(*letter)?;
+        is_same = is_same
+            && same_endpoint(&one.endpoints, &other.endpoints, name)
+            && same_counts(&one.deliveries, &other.deliveries, name)
+            && same_found(&one.deliveries, &other.deliveries, name)?;
+    }
+    Ok(is_same)
 }
 
 fn same_endpoint(one: &EndpointBook, other: &EndpointBook, name: Name) -> bool {
@@ -47,14 +59,16 @@ fn same_endpoint(one: &EndpointBook, other: &EndpointBook, name: Name) -> bool {
 fn same_secrets(one: Option<Secrets>, other: Option<Secrets>) -> bool {
     match (one, other) {
         (Some(one), Some(other)) => one.is(&other),
-        (one, other) => one.is_none() && other.is_none(),
+        (None, None) => true,
+        _ => false,
     }
 }
 
 fn same_target(one: Option<&Target>, other: Option<&Target>) -> bool {
     match (one, other) {
         (Some(one), Some(other)) => one.is(other),
-        (one, other) => one.is_none() && other.is_none(),
+        (None, None) => true,
+        _ => false,
     }
 }
 
@@ -78,20 +92,27 @@ fn is_shown(book: &EndpointBook, name: Name, view: &EndpointView<'_>) -> bool {
     }
 }
 
-/// What is told of the deliveries with these numbers.
-fn same_numbers(one: &DeliveryBook, other: &DeliveryBook, count: u64) -> bool {
-    let mut is_same = one.next_seq() == other.next_seq()
+fn same_totals(one: &DeliveryBook, other: &DeliveryBook) -> bool {
+    one.next_seq() == other.next_seq()
         && one.settled_seq() == other.settled_seq()
         && one.pending_all() == other.pending_all()
-        && one.settled_counts_all() == other.settled_counts_all();
+        && one.settled_counts_all() == other.settled_counts_all()
+}
+
+/// What is told of the deliveries with these numbers.
+fn same_numbers(one: &DeliveryBook, other: &DeliveryBook, count: u64) -> bool {
+    let mut is_same = true;
     for delivery in 0..=count {
-        is_same = is_same
-            && one.takes_outcome(delivery) == other.takes_outcome(delivery)
-            && same_row(one.row(delivery), other.row(delivery))
-            && same_row(one.settled(delivery), other.settled(delivery))
-            && same_body(one.body(delivery), other.body(delivery));
+        is_same = is_same && same_delivery(one, other, delivery);
     }
     is_same
+}
+
+fn same_delivery(one: &DeliveryBook, other: &DeliveryBook, delivery: u64) -> bool {
+    one.takes_outcome(delivery) == other.takes_outcome(delivery)
+        && same_row(one.row(delivery), other.row(delivery))
+        && same_row(one.settled(delivery), other.settled(delivery))
+        && same_body(one.body(delivery), other.body(delivery))
 }
 
 fn same_row(one: Option<Row>, other: Option<Row>) -> bool {
@@ -105,26 +126,29 @@ fn same_row(one: Option<Row>, other: Option<Row>) -> bool {
                 && one.due == other.due
                 && one.last_status == other.last_status
         }
-        (one, other) => one.is_none() && other.is_none(),
+        (None, None) => true,
+        _ => false,
     }
 }
 
 fn same_body(one: Option<&Body>, other: Option<&Body>) -> bool {
     match (one, other) {
         (Some(one), Some(other)) => one.is(other),
-        (one, other) => one.is_none() && other.is_none(),
+        (None, None) => true,
+        _ => false,
     }
 }
 
-fn same_names(one: &DeliveryBook, other: &DeliveryBook, names: &[Name], ids: &[MsgId]) -> bool {
+fn same_counts(one: &DeliveryBook, other: &DeliveryBook, name: Name) -> bool {
+    one.pending(name) == other.pending(name)
+        && one.settled_counts(name) == other.settled_counts(name)
+}
+
+fn same_found(one: &DeliveryBook, other: &DeliveryBook, name: Name) -> Result<bool, Fail> {
     let mut is_same = true;
-    for name in names {
-        is_same = is_same
-            && one.pending(*name) == other.pending(*name)
-            && one.settled_counts(*name) == other.settled_counts(*name);
-        for id in ids {
-            is_same = is_same && one.find(*name, id) == other.find(*name, id);
-        }
+    for id in &IDS {
+        let id = MsgId::read(id)?;
+        is_same = is_same && one.find(name, &id) == other.find(name, &id);
     }
-    is_same
+    Ok(is_same)
 }

@@ -1,0 +1,43 @@
+//! Databases in memory, and what is asked of them.
+
+use sqlite::{Connection, MemStore};
+use std::alloc::Global;
+use std::process::Abort;
+use std::test::Fail;
+
+/// A query of one number, and that number.
+pub(crate) type Count = (&'static str, i64);
+
+pub(crate) fn holds(rt: &impl Abort, is: bool, place: usize) {
+    assert!(rt; is, "step {place}");
+}
+
+fn same_number(rt: &impl Abort, found: i64, wanted: i64, sql: &str) {
+    assert!(rt; found == wanted, "{found} at {sql}");
+}
+
+fn number(conn: &mut Connection<MemStore>, sql: &str) -> Result<i64, Fail> {
+    Ok(conn.query_row(sql, &[])?.get(0)?)
+}
+
+/// Whether each query gives its number.
+pub(crate) fn count_all(
+    rt: &impl Abort,
+    conn: &mut Connection<MemStore>,
+    counts: &[Count],
+) -> Result<(), Fail> {
+    for (sql, wanted) in counts {
+        same_number(rt, number(conn, sql)?, *wanted, sql);
+    }
+    Ok(())
+}
+
+/// The rows that the query gives.
+pub(crate) fn answer(
+    alloc: Global,
+    conn: &mut Connection<MemStore>,
+    sql: &str,
+) -> Result<String, Fail> {
+    let rows = conn.query_all(sql, &[])?;
+    Ok(format!(in alloc; "{rows:?}")?)
+}

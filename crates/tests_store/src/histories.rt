@@ -1,0 +1,73 @@
+//! Random legal histories: what a load gives has the answers of the books in which each record was staged.
+
+use crate::database::holds;
+use crate::draws::{Numbers, draw};
+use crate::entries::record_of;
+use crate::same::same_books;
+use crate::staged::{empty, stage};
+use crate::vaults::Spool;
+use spool::Books;
+use std::alloc::Global;
+use std::process::Abort;
+use std::test::Fail;
+
+/// How often a record is drawn for a history. One that may not follow is left out.
+const DRAWS: u32 = 120;
+
+/// The books of a history, and the vault to which it is committed.
+#[derive(Drop)]
+struct Both {
+    books: Books,
+    spool: Spool,
+}
+
+fn begun(alloc: Global) -> Result<Both, Fail> {
+    let books = empty(alloc)?;
+    let spool = Spool::new(alloc, None)?;
+    Ok(Both { books, spool })
+}
+
+/// Draws a record, and commits what waits in one case of four. Whether it is written.
+fn go_on(
+    rt: &impl Abort,
+    alloc: Global,
+    numbers: &mut Numbers,
+    both: &mut Both,
+) -> Result<bool, Fail> {
+    if let Some(entry) = draw(numbers, &both.books)? {
+        stage(rt, alloc, &mut both.books, entry)?;
+        both.spool.stage(rt, record_of(alloc, entry)?);
+    }
+    Ok(numbers.below(4) > 0 || both.spool.is_written())
+}
+
+fn draw_all(rt: &impl Abort, alloc: Global, first: u64, both: &mut Both) -> Result<bool, Fail> {
+    let mut numbers = Numbers { last: first };
+    let mut is_written = true;
+    for _ in 0..DRAWS {
+        is_written = go_on(rt, alloc, &mut numbers, both)? && is_written;
+    }
+    Ok(both.spool.is_written() && is_written)
+}
+
+fn is_same(alloc: Global, both: &mut Both) -> Result<bool, Fail> {
+    let loaded = both.spool.books(alloc)?;
+    same_books(&both.books, &loaded)
+}
+
+/// Whether a history that is drawn from this number is loaded as it was staged.
+fn is_loaded(rt: &impl Abort, alloc: Global, first: u64) -> Result<bool, Fail> {
+    let mut both = begun(alloc)?;
+    match draw_all(rt, alloc, first, &mut both) {
+        Ok(true) => is_same(alloc, &mut both),
+        told => told,
+    }
+}
+
+#[test]
+fn two_hundred_histories_are_loaded(rt: HostRuntime) -> Result<(), Fail> {
+    for first in 0..200usize {
+        holds(&rt, is_loaded(&rt, rt.alloc(), first as u64)?, first);
+    }
+    Ok(())
+}

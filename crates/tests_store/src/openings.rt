@@ -1,0 +1,340 @@
+//! Stores whose rows anyone may have written, and what their opening answers.
+ghost use Rattle.std.specs.Prelude.{◌≡◌, []};
+
+use crate::database::{Count, answer, count_all};
+use crate::entries::{body_of, name_of};
+use crate::vaults::{MARK, opened};
+use delivery_book::Row;
+use desk::{Command, Desk, Fault, Refusal};
+use permits::{PARTS, Pool};
+use recovery::reopen;
+use relay_types::{MAX_RECORDS, Moment, MsgId, Name, State};
+use spool::{Books, OpenFault, Vault};
+use sqlite::{Connection, MemStore};
+use sqlite_value::value::ValueRef;
+use std::alloc::Global;
+use std::marker::Brand;
+use std::process::Abort;
+use std::sync::ledger::{Blank, Ledger};
+use std::test::Fail;
+
+/// What stands in a store before its texts are executed.
+#[derive(Clone, Copy)]
+pub(crate) enum Start {
+    /// No table.
+    Nothing,
+    /// The rows of the empty history.
+    Ours,
+    /// Those of an endpoint, an event with so many bytes and an attempt at it.
+    Body(usize),
+    /// Those of so many endpoints with a secret each.
+    Endpoints(u32),
+}
+
+/// What is in a store, the queries that tell all of it, what its opening answers, and numbers that it has before and behind it.
+pub(crate) struct File(
+    pub Start,
+    pub &'static [&'static str],
+    pub &'static [&'static str],
+    pub &'static str,
+    pub &'static [Count],
+);
+
+/// All rows, table by table.
+pub(crate) const ROWS: &[&str] = &[
+    "SELECT * FROM meta",
+    "SELECT * FROM endpoints",
+    "SELECT * FROM secrets",
+    "SELECT * FROM deliveries",
+    "SELECT * FROM attempts",
+];
+
+pub(crate) const ATTEMPTED: &str =
+    "INSERT INTO endpoints VALUES(0, 'a', 'http://h/', 100, 1, 0, 0); \
+     INSERT INTO secrets VALUES(0, 0, x'303132333435363738396162636465663031323334353637'); \
+     INSERT INTO deliveries VALUES(1, 0, 'msg_1', 1000, x'7b7d'); \
+     INSERT INTO attempts VALUES(2, 1, 1, 500, 1001); \
+     UPDATE meta SET records = 3";
+
+fn fill_body(alloc: Global, conn: &mut Connection<MemStore>, len: usize) -> Result<(), Fail> {
+    let mut bytes = Vec::with_capacity(alloc, len)?;
+    for _ in 0..len {
+        bytes.push(b'a')?;
+    }
+    let value = ValueRef::Blob(bytes.as_slice());
+    conn.execute("UPDATE deliveries SET body = ?1", &[value])?;
+    Ok(())
+}
+
+fn with_endpoints(alloc: Global, count: u32) -> Result<String, Fail> {
+    let mut text = format!(in alloc; "BEGIN; UPDATE meta SET records = {count}")?;
+    for n in 0..count {
+        let row = format!(in alloc;
+            "; INSERT INTO endpoints VALUES({n}, 'e{n}', 'http://h/', 100, 1, {n}, {n}); \
+             INSERT INTO secrets VALUES({n}, 0, x'303132333435363738396162636465663031323334353637')"
+        )?;
+        text.push_str(&row)?;
+    }
+    text.push_str("; COMMIT")?;
+    Ok(text)
+}
+
+fn run(conn: &mut Connection<MemStore>, text: &str) -> Result<(), Fail> {
+    Ok(conn.execute_batch(text)?)
+}
+
+fn fill_endpoints(alloc: Global, conn: &mut Connection<MemStore>, count: u32) -> Result<(), Fail> {
+    let text = with_endpoints(alloc, count)?;
+    run(conn, &text)
+}
+
+fn fill_start(alloc: Global, conn: &mut Connection<MemStore>, start: Start) -> Result<(), Fail> {
+    match start {
+        Start::Nothing | Start::Ours => Ok(()),
+        Start::Body(len) => {
+            run(conn, ATTEMPTED)?;
+            fill_body(alloc, conn, len)
+        }
+        Start::Endpoints(count) => fill_endpoints(alloc, conn, count),
+    }
+}
+
+fn fill(alloc: Global, conn: &mut Connection<MemStore>, file: &File) -> Result<(), Fail> {
+    fill_start(alloc, conn, file.0)?;
+    for text in file.1 {
+        run(conn, text)?;
+    }
+    Ok(())
+}
+
+fn begun(alloc: Global, start: Start) -> Result<Connection<MemStore>, Fail> {
+    match start {
+        Start::Nothing => Ok(Connection::open_in_memory(alloc)?),
+        _ => Ok(opened(alloc, None)?.release()),
+    }
+}
+
+/// The store, opened over again.
+fn again(rt: &impl Abort, alloc: Global, conn: Connection<MemStore>) -> Connection<MemStore> {
+    match Connection::over(alloc, conn.into_store()) {
+        Ok(conn) => conn,
+        Err((_, _)) => panic!(rt; "the store was not opened again"),
+    }
+}
+
+/// All rows, before and behind the opening.
+fn told(alloc: Global, conn: &mut Connection<MemStore>, queries: &[&str]) -> Result<String, Fail> {
+    let mut text = String::new(alloc);
+    for sql in queries {
+        text.push_str(&answer(alloc, conn, sql)?)?;
+    }
+    Ok(text)
+}
+
+fn text_or_abort(rt: &impl Abort, text: Result<String, Fail>) -> String {
+    match text {
+        Ok(text) => text,
+        Err(_) => panic!(rt; "no text"),
+    }
+}
+
+fn look(rt: &impl Abort, alloc: Global, conn: &mut Connection<MemStore>, file: &File) -> String {
+    if let Err(_) = count_all(rt, conn, file.4) {
+        panic!(rt; "a query was refused");
+    }
+    text_or_abort(rt, told(alloc, conn, file.2))
+}
+
+fn same_text(rt: &impl Abort, found: &str, wanted: &str, place: usize) {
+    assert!(rt; found == wanted, "{found} at {place}");
+}
+
+/// How many records there are, whether endpoint `a` is enabled, and its event `msg_1`.
+fn text_of(
+    alloc: Global,
+    records: u64,
+    enabled: Option<bool>,
+    event: Option<Row>,
+) -> Result<String, Fail> {
+    let endpoint = match enabled {
+        Some(true) => " enabled",
+        Some(false) => " disabled",
+        None => "",
+    };
+    let Some(row) = event else {
+        return Ok(format!(in alloc; "records {records}{endpoint}")?);
+    };
+    let state = match row.state {
+        State::Pending => "pending",
+        State::Delivered => "delivered",
+        State::Exhausted => "exhausted",
+    };
+    let due = row.due.unwrap_or(0);
+    let attempts = row.attempts;
+    Ok(format!(in alloc; "records {records}{endpoint} {state} due {due} attempts {attempts}")?)
+}
+
+/// What the desk shows of what is settled.
+fn shown<L: Ledger>(alloc: Global, desk: &Desk<L>) -> Result<String, Fail> {
+    let a = name_of(b'a')?;
+    let enabled = match desk.endpoint_page(a) {
+        Some(page) => Some(page.enabled),
+        None => None,
+    };
+    let event = desk.event_page(a, &MsgId::read(b"msg_1")?);
+    text_of(alloc, desk.settled_records(), enabled, event)
+}
+
+fn event_in(books: &Books, name: Name, id: &MsgId) -> Option<Row> {
+    match books.deliveries.find(name, id) {
+        Some(delivery) => books.deliveries.settled(delivery),
+        None => None,
+    }
+}
+
+fn listed(alloc: Global, books: &Books) -> Result<String, Fail> {
+    let a = name_of(b'a')?;
+    let enabled = match books.endpoints.settled(a) {
+        Some(view) => Some(view.enabled),
+        None => None,
+    };
+    let event = event_in(books, a, &MsgId::read(b"msg_1")?);
+    text_of(alloc, books.records, enabled, event)
+}
+
+fn loaded(alloc: Global, vault: &mut Vault<MemStore>) -> Result<String, Fail> {
+    match vault.load(alloc) {
+        Ok(books) => listed(alloc, &books),
+        Err(_) => Err(Fail::from("the load was refused")),
+    }
+}
+
+fn fault_of(alloc: Global, fault: OpenFault) -> Result<String, Fail> {
+    Ok(format!(in alloc; "{fault}")?)
+}
+
+/// What the vault of the store lists, or why there is none.
+fn adopted(
+    rt: &impl Abort,
+    alloc: Global,
+    conn: Connection<MemStore>,
+) -> (String, Connection<MemStore>) {
+    assert!(rt; conn.is_autocommit());
+    match Vault::adopt(conn, MARK, alloc) {
+        Ok(vault) => {
+            let mut vault = vault;
+            let text = text_or_abort(rt, loaded(alloc, &mut vault));
+            (text, vault.release())
+        }
+        Err((conn, fault)) => (text_or_abort(rt, fault_of(alloc, fault)), conn),
+    }
+}
+
+fn submitted<L: Ledger>(alloc: Global, desk: &mut Desk<L>) -> Result<Option<Refusal>, Fail> {
+    let name = name_of(b'a')?;
+    let id = MsgId::read(b"msg_1")?;
+    let at = Moment::of(1000)?;
+    let body = body_of(alloc, b"{}")?;
+    Ok(desk.submit(at, name, id, body).err())
+}
+
+fn commanded<L: Ledger>(desk: &mut Desk<L>) -> Result<Option<Refusal>, Fail> {
+    let name = name_of(b'a')?;
+    Ok(desk.command(Command::SetEnabled { name, flag: true }).err())
+}
+
+fn is_exhausted(refusal: Option<Refusal>, number: u8) -> bool {
+    match refusal {
+        Some(refusal) => refusal.number == number && refusal.fault == Fault::SeqExhausted,
+        None => false,
+    }
+}
+
+/// Whether the desk refuses an event and a command as it has no number left.
+fn is_full<L: Ledger>(alloc: Global, desk: &mut Desk<L>) -> Result<bool, Fail> {
+    let event = submitted(alloc, desk)?;
+    let command = commanded(desk)?;
+    Ok(is_exhausted(event, 7) && is_exhausted(command, 6))
+}
+
+/// What the desk shows. One that is full takes nothing more.
+fn tried<L: Ledger>(alloc: Global, desk: &mut Desk<L>) -> Result<String, Fail> {
+    if desk.settled_records() == MAX_RECORDS && !is_full(alloc, desk)? {
+        return Err(Fail::from("a full desk takes more"));
+    }
+    shown(alloc, desk)
+}
+
+/// What the desk of the store shows, or why there is none.
+fn reopened<L: Ledger>(
+    rt: &impl Abort,
+    alloc: Global,
+    pool: Pool<L>,
+    conn: Connection<MemStore>,
+) -> (String, Connection<MemStore>)
+    requires { pool ≡ [] }
+{
+    assert!(rt; conn.is_autocommit());
+    match reopen(alloc, pool, conn, MARK) {
+        Ok((desk, vault)) => {
+            let mut desk = desk;
+            let text = text_or_abort(rt, tried(alloc, &mut desk));
+            (text, vault.release())
+        }
+        Err((conn, fault)) => (text_or_abort(rt, fault_of(alloc, fault)), conn),
+    }
+}
+
+fn pool_of<L: Ledger>(rt: &impl Abort, alloc: Global, blank: Blank) -> Pool<L>
+    requires name { blank.name ≡ L.name }
+    requires parts { blank.parts ≡ L.parts }
+    requires enough { blank.parts ≡ PARTS }
+    ensures { result ≡ [] }
+{
+    match Pool::<L>::new(alloc, blank) {
+        Ok(pool) => pool,
+        Err(_) => panic!(rt; "no memory"),
+    }
+}
+
+/// The desk is that of the last opening: whether the vault and the desk of the store answer so.
+fn check_in<L: Ledger>(rt: &impl Abort, alloc: Global, blank: Blank, file: &File, place: usize)
+    requires name { blank.name ≡ L.name }
+    requires parts { blank.parts ≡ L.parts }
+    requires enough { blank.parts ≡ PARTS }
+{
+    let pool = pool_of::<L>(rt, alloc, blank);
+    let mut conn = made(rt, alloc, file);
+    let before = look(rt, alloc, &mut conn, file);
+    let (text, conn) = adopted(rt, alloc, conn);
+    same_text(rt, &text, file.3, place);
+    let (text, conn) = reopened::<L>(rt, alloc, pool, conn);
+    same_text(rt, &text, file.3, place);
+    let mut conn = conn;
+    let after = look(rt, alloc, &mut conn, file);
+    same_text(rt, &after, &before, place);
+}
+
+fn made(rt: &impl Abort, alloc: Global, file: &File) -> Connection<MemStore> {
+    match written(alloc, file) {
+        Ok(conn) => again(rt, alloc, conn),
+        Err(_) => panic!(rt; "a text was refused"),
+    }
+}
+
+fn written(alloc: Global, file: &File) -> Result<Connection<MemStore>, Fail> {
+    let mut conn = begun(alloc, file.0)?;
+    fill(alloc, &mut conn, file)?;
+    Ok(conn)
+}
+
+fn check(rt: &impl Abort, alloc: Global, file: &File, place: usize) {
+    check_in::<Brand>(rt, alloc, Blank::new(PARTS), file, place);
+}
+
+/// Whether the files are answered so, and then have the rows that they had.
+pub(crate) fn check_all(rt: &impl Abort, alloc: Global, files: &[File]) {
+    for (place, file) in files.iter().enumerate() {
+        check(rt, alloc, file, place);
+    }
+}

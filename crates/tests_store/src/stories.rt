@@ -1,0 +1,177 @@
+//! Steps of a vault, and what is then told of it.
+
+use crate::database::{Count, count_all, holds};
+use crate::entries::{Entry, Keys, name_of};
+use crate::vaults::{
+    Moments, Span, Spool, Told, end_all, id_of, put_all, same_told, take_in, take_next, take_turn,
+};
+use delivery_book::DeliveryBook;
+use relay_types::State;
+use spool::{Books, LoadFault};
+use std::alloc::Global;
+use std::process::Abort;
+use std::test::Fail;
+
+/// What is committed, or what is expected then.
+#[derive(Clone, Copy)]
+pub(crate) enum Step {
+    /// A batch of this mark and number, of this entry alone, and what is told.
+    Turn(u64, u32, Entry, Told),
+    /// The same, as the next of the vault's own mark.
+    Enter(Entry, Told),
+    /// Endpoints `e0`, `e1` and so on with these secrets, until one is not written, and what is told then.
+    Puts(u32, Keys, Told),
+    /// Events of `a` with the ids `msg_0`, `msg_1` and so on, which are written.
+    Events(Span, Moments),
+    /// A first outcome of each event with these numbers, which are written.
+    Ends(Span, u16, Moments),
+    Next(u64),
+    IsClosed(bool),
+    /// What the books that are loaded tell.
+    Shows(&'static [Look]),
+    IsNotLoaded(Fault),
+}
+
+/// Why books are not loaded.
+#[derive(Clone, Copy)]
+pub(crate) enum Fault {
+    Closed,
+    Store,
+}
+
+/// What books tell.
+#[derive(Clone, Copy)]
+pub(crate) enum Look {
+    /// How many records there are, the clock, and how many endpoints.
+    Holds(u64, u64, usize),
+    /// The attempts at the event with this number, whether it is pending, when it is due and its last status.
+    Event(u64, u64, bool, Option<u64>, Option<u16>),
+    /// There is no event of this number.
+    NoEvent(u64),
+    IsEnabled(u8, bool),
+    /// How many settled events are pending, and how many delivered.
+    Settled(u64, u64),
+    /// How many events are pending.
+    Pending(u64),
+    /// Event `msg_n` has the number n + 1 and one attempt, for each n below this.
+    Attempted(u64),
+}
+
+/// Steps on a new vault, and what its tables hold then. A statement fails that takes more steps than the limit.
+pub(crate) struct Story {
+    pub limit: Option<u64>,
+    pub steps: &'static [Step],
+    pub counts: &'static [Count],
+}
+
+fn tells(book: &DeliveryBook, step: Look) -> bool {
+    let Look::Event(delivery, attempts, is_pending, due, last_status) = step else {
+        return false;
+    };
+    match book.settled(delivery) {
+        Some(row) => {
+            row.attempts == attempts
+                && matches!(row.state, State::Pending) == is_pending
+                && row.due == due
+                && row.last_status == last_status
+        }
+        None => false,
+    }
+}
+
+fn is_attempted(alloc: Global, book: &DeliveryBook, number: u64) -> Result<bool, Fail> {
+    let name = name_of(b'a')?;
+    let id = id_of(alloc, number)?;
+    let delivery = number.saturating_add(1);
+    let is_found = book.find(name, &id) == Some(delivery);
+    match book.settled(delivery) {
+        Some(row) => Ok(is_found && row.attempts == 1),
+        None => Ok(false),
+    }
+}
+
+fn are_attempted(alloc: Global, book: &DeliveryBook, count: u64) -> Result<bool, Fail> {
+    let mut is_so = true;
+    for number in 0..count {
+        is_so = is_attempted(alloc, book, number)? && is_so;
+    }
+    Ok(is_so)
+}
+
+fn sees(alloc: Global, books: &Books, look: Look) -> Result<bool, Fail> {
+    match look {
+        Look::Holds(records, clock, len) => Ok(
+            books.records == records
+                && books.clock.seconds() == clock
+                && books.endpoints.settled_len() == len,
+        ),
+        Look::Event(_, _, _, _, _) => Ok(tells(&books.deliveries, look)),
+        Look::NoEvent(delivery) => Ok(books.deliveries.settled(delivery).is_none()),
+        Look::IsEnabled(letter, flag) => Ok(books.endpoints.is_enabled(name_of(letter)?) == flag),
+        Look::Settled(pending, delivered) => {
+            let counts = books.deliveries.settled_counts_all();
+            Ok(counts.pending == pending && counts.delivered == delivered)
+        }
+        Look::Pending(count) => Ok(books.deliveries.pending_all() == count),
+        Look::Attempted(count) => are_attempted(alloc, &books.deliveries, count),
+    }
+}
+
+fn sees_all(rt: &impl Abort, alloc: Global, books: &Books, looks: &[Look]) -> Result<(), Fail> {
+    for (place, look) in looks.iter().enumerate() {
+        holds(rt, sees(alloc, books, *look)?, place);
+    }
+    Ok(())
+}
+
+fn shows(rt: &impl Abort, alloc: Global, spool: &mut Spool, looks: &[Look]) -> Result<bool, Fail> {
+    let books = spool.books(alloc)?;
+    match sees_all(rt, alloc, &books, looks) {
+        Ok(()) => Ok(true),
+        Err(fail) => Err(fail),
+    }
+}
+
+fn is_not_loaded(alloc: Global, spool: &mut Spool, fault: Fault) -> bool {
+    match (spool.vault.load(alloc), fault) {
+        (Err(LoadFault::Closed), Fault::Closed) => true,
+        (Err(LoadFault::Store(_)), Fault::Store) => true,
+        _ => false,
+    }
+}
+
+fn take(rt: &impl Abort, alloc: Global, spool: &mut Spool, step: Step) -> Result<bool, Fail> {
+    match step {
+        Step::Turn(mark, from, entry, wanted) => {
+            Ok(same_told(take_turn(alloc, spool, mark, from, entry)?, wanted))
+        }
+        Step::Enter(entry, wanted) => Ok(same_told(take_next(alloc, spool, entry)?, wanted)),
+        Step::Puts(count, keys, wanted) => {
+            Ok(same_told(put_all(alloc, spool, count, keys)?, wanted))
+        }
+        Step::Events(span, moments) => take_in(rt, alloc, spool, span, moments),
+        Step::Ends(span, status, moments) => end_all(rt, alloc, spool, span, status, moments),
+        Step::Next(number) => Ok(spool.vault.next() == number),
+        Step::IsClosed(flag) => Ok(spool.vault.is_closed() == flag),
+        Step::Shows(looks) => shows(rt, alloc, spool, looks),
+        Step::IsNotLoaded(fault) => Ok(is_not_loaded(alloc, spool, fault)),
+    }
+}
+
+fn take_all(rt: &impl Abort, alloc: Global, spool: &mut Spool, steps: &[Step]) -> Result<(), Fail> {
+    for (place, step) in steps.iter().enumerate() {
+        holds(rt, take(rt, alloc, spool, *step)?, place);
+    }
+    Ok(())
+}
+
+/// Takes the steps in turn on a new vault.
+pub(crate) fn walk(rt: &impl Abort, alloc: Global, story: &Story) -> Result<(), Fail> {
+    let mut spool = Spool::new(alloc, story.limit)?;
+    let told = take_all(rt, alloc, &mut spool, story.steps);
+    let mut conn = spool.release();
+    match told {
+        Ok(()) => count_all(rt, &mut conn, story.counts),
+        told => told,
+    }
+}

@@ -1,0 +1,261 @@
+//! What is committed to a vault and refused, and what its tables then hold.
+//!
+//! The rows themselves are read by `scripts/check-tables`.
+
+use crate::database::count_all;
+use crate::entries::{Entry, Keys};
+use crate::stories::{Step, Story, walk};
+use crate::vaults::{MARK, Told, opened};
+use spool::{OpenFault, Unchanged, Vault};
+use std::test::Fail;
+
+pub(crate) const KEYS: Keys = Keys::Two(
+    b"whsec_MDEyMzQ1Njc4OWFiY2RlZjAxMjM0NTY3",
+    b"whsec_ODlhYmNkZWYwMTIzNDU2Nzg5YWJjZGVm",
+);
+
+pub(crate) const PUT_A: Entry = Entry::Put(b'a', 100, KEYS);
+
+const PUT_B: Entry = Entry::Put(b'b', 100, KEYS);
+
+pub(crate) const EVENT_A: Entry = Entry::Accept(b'a', b"msg_1", b"{}", 1000);
+
+const EVENT_B: Entry = Entry::Accept(b'b', b"msg_1", b"{}", 1000);
+
+const OUT_OF_TURN: Told = Told::Refused(Unchanged::OutOfTurn);
+
+const ILLEGAL: Told = Told::Refused(Unchanged::Illegal);
+
+const ROWS_ARE_COUNTED: Story = Story {
+    limit: None,
+    steps: &[
+        Step::Turn(MARK, 0, PUT_A, Told::Written),
+        Step::Turn(MARK, 1, EVENT_A, Told::Written),
+        Step::Next(2),
+        Step::IsClosed(false),
+    ],
+    counts: &[
+        ("SELECT count(*) FROM meta", 1),
+        ("SELECT records FROM meta", 2),
+        ("SELECT count(*) FROM endpoints", 1),
+        ("SELECT count(*) FROM secrets", 2),
+        ("SELECT count(*) FROM deliveries", 1),
+        ("SELECT count(*) FROM attempts", 0),
+    ],
+};
+
+#[test]
+fn rows_are_counted(rt: HostRuntime) -> Result<(), Fail> {
+    walk(&rt, rt.alloc(), &ROWS_ARE_COUNTED)
+}
+
+#[test]
+fn a_store_with_our_tables_is_not_ours(rt: HostRuntime) -> Result<(), Fail> {
+    let conn = opened(rt.alloc(), None)?.release();
+    match Vault::create(conn, 8) {
+        Ok(_) => Err(Fail::from("create was not refused")),
+        Err((conn, fault)) => {
+            let mut conn = conn;
+            assert!(rt; matches!(fault, OpenFault::NotOurs));
+            count_all(&rt, &mut conn, &[("SELECT records FROM meta", 0)])
+        }
+    }
+}
+
+const REFUSALS_CHANGE_NOTHING: Story = Story {
+    limit: None,
+    steps: &[
+        Step::Turn(8, 0, PUT_A, OUT_OF_TURN),
+        Step::Turn(MARK, 1, PUT_A, OUT_OF_TURN),
+        Step::Turn(MARK, 0, EVENT_A, ILLEGAL),
+        Step::Turn(MARK, 0, PUT_A, Told::Written),
+        Step::Turn(MARK, 1, PUT_A, ILLEGAL),
+        Step::Turn(MARK, 1, EVENT_A, Told::Written),
+        Step::Turn(MARK, 2, EVENT_A, ILLEGAL),
+        Step::Turn(MARK, 2, PUT_B, Told::Written),
+        Step::Turn(MARK, 3, EVENT_B, Told::Written),
+    ],
+    counts: &[
+        ("SELECT records FROM meta", 4),
+        ("SELECT count(*) FROM deliveries", 2),
+    ],
+};
+
+#[test]
+fn refusals_change_nothing(rt: HostRuntime) -> Result<(), Fail> {
+    walk(&rt, rt.alloc(), &REFUSALS_CHANGE_NOTHING)
+}
+
+const AT_MOST_256_ENDPOINTS: Story = Story {
+    limit: None,
+    steps: &[
+        Step::Puts(256, KEYS, Told::Written),
+        Step::Next(256),
+        Step::Turn(MARK, 256, Entry::Put(b'f', 100, KEYS), ILLEGAL),
+    ],
+    counts: &[],
+};
+
+#[test]
+fn at_most_256_endpoints(rt: HostRuntime) -> Result<(), Fail> {
+    walk(&rt, rt.alloc(), &AT_MOST_256_ENDPOINTS)
+}
+
+const A_GONE_ENDPOINT_IS_DISABLED: Story = Story {
+    limit: None,
+    steps: &[
+        Step::Enter(PUT_A, Told::Written),
+        Step::Enter(EVENT_A, Told::Written),
+        Step::Enter(Entry::Outcome(1, 1, 500, 1001), Told::Written),
+        Step::Enter(Entry::Outcome(1, 2, 410, 1006), Told::Written),
+    ],
+    counts: &[
+        ("SELECT records FROM meta", 4),
+        (
+            "SELECT count(*) FROM endpoints WHERE enabled = 0 AND enabled_by = 3 AND secrets_by = 0",
+            1,
+        ),
+        ("SELECT count(*) FROM attempts", 2),
+        (
+            "SELECT count(*) FROM attempts WHERE seq = 3 AND delivery = 1 AND number = 2 AND status = 410 AND at = 1006",
+            1,
+        ),
+    ],
+};
+
+#[test]
+fn a_gone_endpoint_is_disabled(rt: HostRuntime) -> Result<(), Fail> {
+    walk(&rt, rt.alloc(), &A_GONE_ENDPOINT_IS_DISABLED)
+}
+
+const EVERY_RECORD_IS_WRITTEN: Story = Story {
+    limit: None,
+    steps: &[
+        Step::Enter(PUT_A, Told::Written),
+        Step::Enter(EVENT_A, Told::Written),
+        Step::Enter(Entry::Outcome(1, 1, 500, 1001), Told::Written),
+        Step::Enter(Entry::Outcome(1, 2, 410, 1006), Told::Written),
+        Step::Enter(Entry::Enable(b'a', true), Told::Written),
+        Step::Enter(Entry::Outcome(1, 3, 500, 1007), Told::Written),
+        Step::Enter(Entry::Outcome(1, 3, 500, 1007), ILLEGAL),
+        Step::Enter(Entry::Outcome(1, 5, 500, 1007), ILLEGAL),
+        Step::Enter(Entry::Outcome(1, 4, 99, 1007), ILLEGAL),
+        Step::Enter(Entry::Outcome(0, 1, 500, 1007), ILLEGAL),
+        Step::Enter(Entry::Outcome(6, 1, 500, 1007), ILLEGAL),
+        Step::Enter(Entry::Outcome(u64::MAX, 1, 500, 1007), ILLEGAL),
+    ],
+    counts: &[
+        ("SELECT records FROM meta", 6),
+        (
+            "SELECT count(*) FROM endpoints WHERE put = 0 AND name = 'a' AND max = 100",
+            1,
+        ),
+        (
+            "SELECT count(*) FROM endpoints WHERE enabled = 1 AND enabled_by = 4 AND secrets_by = 0",
+            1,
+        ),
+        ("SELECT count(*) FROM secrets", 2),
+        (
+            "SELECT count(*) FROM deliveries WHERE seq = 1 AND endpoint = 0 AND id = 'msg_1' AND at = 1000 AND body = x'7b7d'",
+            1,
+        ),
+        ("SELECT count(*) FROM attempts", 3),
+        (
+            "SELECT count(*) FROM attempts WHERE seq = 2 AND delivery = 1 AND number = 1 AND status = 500 AND at = 1001",
+            1,
+        ),
+        (
+            "SELECT count(*) FROM attempts WHERE seq = 3 AND delivery = 1 AND number = 2 AND status = 410 AND at = 1006",
+            1,
+        ),
+        (
+            "SELECT count(*) FROM attempts WHERE seq = 5 AND delivery = 1 AND number = 3 AND status = 500 AND at = 1007",
+            1,
+        ),
+    ],
+};
+
+#[test]
+fn every_record_is_written(rt: HostRuntime) -> Result<(), Fail> {
+    walk(&rt, rt.alloc(), &EVERY_RECORD_IS_WRITTEN)
+}
+
+const FEWER: Keys = Keys::One(b"whsec_YWFhYWFhYWFhYWFhYWFhYWFhYWFhYWFh");
+
+const SECRETS_ARE_REPLACED_BY_FEWER: Story = Story {
+    limit: None,
+    steps: &[
+        Step::Enter(PUT_A, Told::Written),
+        Step::Enter(EVENT_A, Told::Written),
+        Step::Enter(PUT_B, Told::Written),
+        Step::Enter(Entry::Give(b'a', FEWER), Told::Written),
+        Step::Enter(Entry::Give(b'c', FEWER), ILLEGAL),
+    ],
+    counts: &[
+        (
+            "SELECT count(*) FROM endpoints WHERE name = 'a' AND secrets_by = 3 AND enabled_by = 0",
+            1,
+        ),
+        (
+            "SELECT count(*) FROM endpoints WHERE name = 'b' AND secrets_by = 2",
+            1,
+        ),
+        ("SELECT count(*) FROM secrets WHERE endpoint = 0", 1),
+        ("SELECT count(*) FROM secrets WHERE endpoint = 2", 2),
+        (
+            "SELECT count(*) FROM secrets WHERE endpoint = 0 AND place = 0 AND secret = x'616161616161616161616161616161616161616161616161'",
+            1,
+        ),
+    ],
+};
+
+#[test]
+fn secrets_are_replaced_by_fewer(rt: HostRuntime) -> Result<(), Fail> {
+    walk(&rt, rt.alloc(), &SECRETS_ARE_REPLACED_BY_FEWER)
+}
+
+/// Nine failures and a gone, and then the tenth failure.
+const TEN_FAILURES_EXHAUST: Story = Story {
+    limit: None,
+    steps: &[
+        Step::Enter(PUT_A, Told::Written),
+        Step::Enter(EVENT_A, Told::Written),
+        Step::Enter(Entry::Outcome(1, 1, 500, 1001), Told::Written),
+        Step::Enter(Entry::Outcome(1, 2, 0, 1001), Told::Written),
+        Step::Enter(Entry::Outcome(1, 3, 404, 1001), Told::Written),
+        Step::Enter(Entry::Outcome(1, 4, 302, 1001), Told::Written),
+        Step::Enter(Entry::Outcome(1, 5, 503, 1001), Told::Written),
+        Step::Enter(Entry::Outcome(1, 6, 410, 1001), Told::Written),
+        Step::Enter(Entry::Outcome(1, 7, 500, 1001), Told::Written),
+        Step::Enter(Entry::Outcome(1, 8, 600, 1001), Told::Written),
+        Step::Enter(Entry::Outcome(1, 9, 100, 1001), Told::Written),
+        Step::Enter(Entry::Outcome(1, 10, 500, 1001), Told::Written),
+        Step::Enter(Entry::Outcome(1, 11, 500, 1001), Told::Written),
+        Step::Enter(Entry::Outcome(1, 12, 500, 1001), ILLEGAL),
+        Step::Next(13),
+    ],
+    counts: &[],
+};
+
+#[test]
+fn ten_failures_exhaust(rt: HostRuntime) -> Result<(), Fail> {
+    walk(&rt, rt.alloc(), &TEN_FAILURES_EXHAUST)
+}
+
+const A_DELIVERED_EVENT_TAKES_NO_OUTCOME: Story = Story {
+    limit: None,
+    steps: &[
+        Step::Enter(PUT_A, Told::Written),
+        Step::Enter(EVENT_A, Told::Written),
+        Step::Enter(Entry::Outcome(1, 1, 500, 1001), Told::Written),
+        Step::Enter(Entry::Outcome(1, 2, 204, 1001), Told::Written),
+        Step::Enter(Entry::Outcome(1, 3, 500, 1001), ILLEGAL),
+        Step::Next(4),
+    ],
+    counts: &[],
+};
+
+#[test]
+fn a_delivered_event_takes_no_outcome(rt: HostRuntime) -> Result<(), Fail> {
+    walk(&rt, rt.alloc(), &A_DELIVERED_EVENT_TAKES_NO_OUTCOME)
+}

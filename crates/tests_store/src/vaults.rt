@@ -1,0 +1,279 @@
+//! Vaults over stores in memory, and what is committed to them.
+
+use crate::entries::{Entry, Keys, accept, name_of, put, record_of, secrets_of};
+use group_commit::Waiting;
+use relay_types::{Moment, MsgId, Name, Record, Step};
+use spool::{Batch, Books, CommitEnd, Receipt, Unchanged, Vault};
+use sqlite::{Connection, MemStore};
+use std::alloc::Global;
+use std::process::Abort;
+use std::test::Fail;
+
+pub(crate) const MARK: u64 = 7;
+
+/// What a commit tells.
+#[derive(Clone, Copy)]
+pub(crate) enum Told {
+    /// The receipt is that of the batch.
+    Written,
+    Refused(Unchanged),
+    Doubtful,
+    /// The receipt is another's.
+    Astray,
+}
+
+pub(crate) fn same_told(told: Told, wanted: Told) -> bool {
+    match (told, wanted) {
+        (Told::Written, Told::Written) => true,
+        (Told::Doubtful, Told::Doubtful) => true,
+        (Told::Refused(why), Told::Refused(cause)) => why == cause,
+        _ => false,
+    }
+}
+
+/// A vault, and the steps that wait to be committed to it.
+#[derive(Drop)]
+pub(crate) struct Spool {
+    pub vault: Vault<MemStore>,
+    pub waiting: Waiting,
+}
+
+fn created(conn: Connection<MemStore>) -> Result<Vault<MemStore>, Fail> {
+    if !conn.is_autocommit() {
+        return Err(Fail::from("a transaction is open"));
+    }
+    match Vault::create(conn, MARK) {
+        Ok(vault) => Ok(vault),
+        Err((_, _)) => Err(Fail::from("create was refused")),
+    }
+}
+
+/// A new vault. A statement fails that takes more steps than the limit.
+pub(crate) fn opened(alloc: Global, limit: Option<u64>) -> Result<Vault<MemStore>, Fail> {
+    let mut conn = Connection::open_in_memory(alloc)?;
+    conn.set_step_limit(limit);
+    created(conn)
+}
+
+fn ended(receipt: Receipt, mark: u64, from: u64) -> Told {
+    let is_same = receipt.mark() == mark && receipt.from() == from;
+    drop(receipt.into_steps());
+    if is_same { Told::Written } else { Told::Astray }
+}
+
+fn commit(vault: &mut Vault<MemStore>, batch: Batch, mark: u64, from: u64) -> Told {
+    match vault.commit(batch) {
+        Ok(receipt) => ended(receipt, mark, from),
+        Err(CommitEnd::Unchanged(batch, why)) => {
+            drop(batch.into_steps());
+            Told::Refused(why)
+        }
+        Err(CommitEnd::Doubtful(doubt, _)) => {
+            doubt.end();
+            Told::Doubtful
+        }
+    }
+}
+
+/// A batch of this mark and number, of this record alone.
+fn batch(alloc: Global, mark: u64, from: u32, record: Record) -> Result<Batch, Fail> {
+    let mut steps = Vec::with_capacity(alloc, 1)?;
+    steps.push_reserved(Step::of(record));
+    Ok(Batch::of(mark, u64::from(from), steps))
+}
+
+/// Commits the record alone as a batch of this mark and number.
+fn enter(
+    alloc: Global,
+    vault: &mut Vault<MemStore>,
+    mark: u64,
+    from: u32,
+    record: Record,
+) -> Result<Told, Fail> {
+    let batch = batch(alloc, mark, from, record)?;
+    Ok(commit(vault, batch, mark, u64::from(from)))
+}
+
+/// Commits the entry alone as a batch of this mark and number.
+pub(crate) fn take_turn(
+    alloc: Global,
+    spool: &mut Spool,
+    mark: u64,
+    from: u32,
+    entry: Entry,
+) -> Result<Told, Fail> {
+    let record = record_of(alloc, entry)?;
+    enter(alloc, &mut spool.vault, mark, from, record)
+}
+
+/// Commits the entry as the next.
+pub(crate) fn take_next(alloc: Global, spool: &mut Spool, entry: Entry) -> Result<Told, Fail> {
+    let from = u32::try_from(spool.vault.next())?;
+    take_turn(alloc, spool, MARK, from, entry)
+}
+
+fn numbered(alloc: Global, number: u32) -> Result<Name, Fail> {
+    let text = format!(in alloc; "e{number}")?;
+    Ok(Name::read(text.as_bytes())?)
+}
+
+/// Puts so many endpoints, until one is not written.
+pub(crate) fn put_all(
+    alloc: Global,
+    spool: &mut Spool,
+    count: u32,
+    keys: Keys,
+) -> Result<Told, Fail> {
+    for number in 0..count {
+        let record = put(alloc, numbered(alloc, number)?, 100, secrets_of(keys)?)?;
+        let told = enter(alloc, &mut spool.vault, MARK, number, record)?;
+        if !same_told(told, Told::Written) {
+            return Ok(told);
+        }
+    }
+    Ok(Told::Written)
+}
+
+impl Spool {
+    /// A new vault.
+    pub(crate) fn new(alloc: Global, limit: Option<u64>) -> Result<Spool, Fail> {
+        let waiting = Waiting::new(alloc, 0, MARK)?;
+        let vault = opened(alloc, limit)?;
+        Ok(Spool { vault, waiting })
+    }
+
+    /// The record waits as a step.
+    pub(crate) fn stage(&mut self, rt: &impl Abort, record: Record) {
+        assert!(rt; self.waiting.records() < 1_000_000);
+        if matches!(record, Record::Outcome { .. }) {
+            assert!(rt; self.waiting.free_outcomes() > 0);
+            self.waiting.stage_outcome(Step::of(record));
+        } else {
+            let told = self.waiting.stage_request(Step::of(record));
+            assert!(rt; told.is_ok());
+        }
+    }
+
+    /// Commits what waits, 256 steps at most.
+    pub(crate) fn commit(&mut self) -> Told {
+        let Ok(Some(batch)) = self.waiting.seal() else {
+            return Told::Written;
+        };
+        match self.vault.commit(batch) {
+            Ok(receipt) => self.settle(receipt),
+            Err(CommitEnd::Unchanged(batch, why)) => {
+                drop(batch.into_steps());
+                Told::Refused(why)
+            }
+            Err(CommitEnd::Doubtful(doubt, _)) => {
+                doubt.end();
+                Told::Doubtful
+            }
+        }
+    }
+
+    fn settle(&mut self, receipt: Receipt) -> Told {
+        match self.waiting.settle(receipt) {
+            Ok(_) => Told::Written,
+            Err((receipt, _)) => {
+                drop(receipt.into_steps());
+                Told::Astray
+            }
+        }
+    }
+
+    /// Whether what waits is written.
+    pub(crate) fn is_written(&mut self) -> bool {
+        same_told(self.commit(), Told::Written)
+    }
+
+    /// The books of a vault that has them.
+    pub(crate) fn books(&mut self, alloc: Global) -> Result<Books, Fail> {
+        match self.vault.load(alloc) {
+            Ok(books) => Ok(books),
+            Err(_) => Err(Fail::from("the load was refused")),
+        }
+    }
+
+    /// Steps wait behind what was committed alone.
+    fn follow(&mut self, rt: &impl Abort, alloc: Global) -> Result<(), Fail> {
+        let next = self.vault.next();
+        assert!(rt; next < 1_000_000);
+        self.waiting = Waiting::new(alloc, next, MARK)?;
+        Ok(())
+    }
+
+    /// The connection.
+    pub(crate) fn release(self) -> Connection<MemStore> {
+        let Spool { vault, waiting: _ } = self;
+        vault.release()
+    }
+}
+
+/// Numbers from the first up to the end, and how many make a batch.
+#[derive(Clone, Copy)]
+pub(crate) struct Span(pub u64, pub u64, pub usize);
+
+/// The moment of a number: the base, raised by the number's remainder at the second and lowered by that at the third.
+#[derive(Clone, Copy)]
+pub(crate) struct Moments(pub u64, pub u64, pub u64);
+
+fn moment(moments: Moments, number: u64) -> u64 {
+    let Moments(base, up, down) = moments;
+    let raised = base.saturating_add(number.checked_rem(up).unwrap_or(0));
+    raised.saturating_sub(number.checked_rem(down).unwrap_or(0))
+}
+
+pub(crate) fn id_of(alloc: Global, number: u64) -> Result<MsgId, Fail> {
+    let text = format!(in alloc; "msg_{number}")?;
+    Ok(MsgId::read(text.as_bytes())?)
+}
+
+/// Commits events of `a` with these numbers in their ids.
+pub(crate) fn take_in(
+    rt: &impl Abort,
+    alloc: Global,
+    spool: &mut Spool,
+    span: Span,
+    moments: Moments,
+) -> Result<bool, Fail> {
+    let Span(first, end, size) = span;
+    let name = name_of(b'a')?;
+    spool.follow(rt, alloc)?;
+    let mut is_done = true;
+    for number in first..end {
+        let id = id_of(alloc, number)?;
+        spool.stage(rt, accept(alloc, name, id, b"{}", moment(moments, number))?);
+        if spool.waiting.len() >= size {
+            is_done = is_done && spool.is_written();
+        }
+    }
+    Ok(is_done && spool.is_written())
+}
+
+/// Commits a first outcome of the events with these numbers.
+pub(crate) fn end_all(
+    rt: &impl Abort,
+    alloc: Global,
+    spool: &mut Spool,
+    span: Span,
+    status: u16,
+    moments: Moments,
+) -> Result<bool, Fail> {
+    let Span(first, end, size) = span;
+    spool.follow(rt, alloc)?;
+    let mut is_done = true;
+    for delivery in first..end {
+        let record = Record::Outcome {
+            delivery,
+            attempt: 1,
+            status,
+            at: Moment::of(moment(moments, delivery))?,
+        };
+        spool.stage(rt, record);
+        if spool.waiting.len() >= size {
+            is_done = is_done && spool.is_written();
+        }
+    }
+    Ok(is_done && spool.is_written())
+}
