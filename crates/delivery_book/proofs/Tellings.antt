@@ -8,7 +8,9 @@ use Rattle.relay_types.specs.Records.{Accepted, numbered}
 use Rattle.relay_types.specs.Deliveries.{accepted, known_as, deliveries, deliveries_of, attempts_of, state_of, is_in_state}
 use Rattle.delivery_book.specs.declared.entry.Entry.{Entry}
 use Rattle.delivery_book.specs.Entries.{BookValue, entry_at, known_in, row_in}
-use Rattle.delivery_book.specs.Fields.{is_counted}
+use Rattle.delivery_book.specs.declared.row.Counts.{Counts}
+use Rattle.relay_types.specs.declared.state.State.TheVariants.{Pending, Delivered, Exhausted}
+use Rattle.delivery_book.specs.Fields.{in_state, is_counted, settled_among, settled_counts}
 use Rattle.delivery_book.proofs.Entries.{is_below}
 use Rattle.delivery_book.specs.Book.{StandsFor, entry_for, entry_by, row_of, body_of, count_in}
 use Rattle.delivery_book.proofs.Histories.{known_as-entries, entry_at-entries, row_of-made, accepted-take, accepted-past, entries-below, counts_from}
@@ -65,3 +67,10 @@ stands_settled_counts book records settled n None asked h first =
 stands_settled_counts book records settled n (Some name) asked h first =
     ap (count_by (is_counted (λ e. e.settled) (Some name) asked)) (settled_entries book records settled n h first)
     ∙ sym (counts_from (attempts_of records) (attempts_of (take settled records)) (λ o. option_map_or (λ a. bytes_eq a.endpoint name) o false) refl (λ d. is_in_state asked (state_of (take settled records) d)) (is_counted (λ e. e.settled) (Some name) asked) (λ n a. refl) 0 (take settled records))
+
+-- counts that are those of the first entries, which are the settled ones
+pub counts_told : (book : BookValue) (n : ℕ) (counts : Counts) (those : Option (List ℕ)) → take n book.entries ≡ filter (is_below book.settled_seq) book.entries
+    → ((asked : State) → in_state asked counts ≡ settled_among (take n book.entries) those asked) → counts ≡ settled_counts book those
+counts_told book n counts those first each =
+    let at : (asked : State) → in_state asked counts ≡ settled_among (filter (is_below book.settled_seq) book.entries) those asked = λ asked. each asked ∙ ap (λ es. settled_among es those asked) first in
+    λ i. record { pending = at Pending i; delivered = at Delivered i; exhausted = at Exhausted i }

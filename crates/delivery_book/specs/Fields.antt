@@ -1,5 +1,5 @@
 -- What ties the index, the counts and the room of a book to its entries.
-use Rattle.std.specs.Prelude.{◌≡◌, ℕ, ◌+◌, ◌^◌, ◌<◌, ◌≤◌, ◌&&◌, ◌==◌, not, Bool, true, nat_lt, nat_eq, List, length, take, Option, Some, None, option_map, unwrap_or, is_some, slice_index_or, find, count_by, bytes_eq, IsTrue, if◌then◌else◌}
+use Rattle.std.specs.Prelude.{◌≡◌, ℕ, ◌+◌, ◌^◌, ◌<◌, ◌≤◌, ◌&&◌, ◌==◌, not, Bool, true, nat_lt, nat_eq, List, length, take, Option, Some, None, option_map, unwrap_or, is_some, slice_index_or, filter, find, count_by, bytes_eq, IsTrue, if◌then◌else◌}
 use Rattle.std.specs.List.{list_all}
 use Rattle.std.specs.BTreeMap.{BTreeMap}
 use Rattle.std.specs.BTreeMap as tree
@@ -19,7 +19,7 @@ use Rattle.delivery_book.specs.declared.keys.EventKey.{EventKey}
 use Rattle.delivery_book.specs.declared.progress.Progress.{Progress}
 use Rattle.delivery_book.specs.declared.row.Counts.{Counts}
 use Rattle.delivery_book.specs.declared.tally.Tally.{Tally}
-use Rattle.delivery_book.specs.Entries.{is_entry_as, entry_at, state_in}
+use Rattle.delivery_book.specs.Entries.{BookValue, is_entry_as, entry_at, state_in}
 
 -- Keys
 
@@ -91,6 +91,17 @@ is_counted picked those asked entry = is_among those entry.name && is_in_state a
 
 abbrev pub settled_among : List Entry → (those : Option Text) (asked : State) → ℕ
 settled_among entries those asked = count_by (is_counted (λ e. e.settled) those asked) entries
+
+-- the entries of the events that are settled, and how many of them are in each state
+abbrev pub settled_entries : BookValue → List Entry
+settled_entries book = filter (λ e. nat_lt e.seq book.settled_seq) book.entries
+
+abbrev pub settled_counts : BookValue → (those : Option Text) → Counts
+settled_counts book those = record {
+  pending = settled_among (settled_entries book) those Pending;
+  delivered = settled_among (settled_entries book) those Delivered;
+  exhausted = settled_among (settled_entries book) those Exhausted;
+}
 
 -- these entries can be counted too
 abbrev pub CanCount : Tally → List Entry → Type 0

@@ -1,5 +1,5 @@
 //! The book itself.
-ghost use Rattle.std.specs.Prelude.{◌≡◌, ◌≤◌, ◌<◌, ◌+◌, ℕ, [], length, take, true, None, is_some, unwrap_or, slice_get};
+ghost use Rattle.std.specs.Prelude.{◌≡◌, ◌≤◌, ◌<◌, ◌+◌, ℕ, [], length, take, true, None, Some, is_some, unwrap_or, slice_get};
 ghost use Rattle.std.specs.Prelude.{option_copied, option_map, IfSome, OnOk, OnErr};
 ghost use Rattle.relay_types.specs.declared.limits.TheConstants.{MAX_RECORDS};
 ghost use Rattle.relay_types.specs.declared.record.Record.TheVariants.{Accept, Outcome};
@@ -7,6 +7,7 @@ ghost use Rattle.relay_types.specs.Deliveries.{known_as};
 ghost use Rattle.delivery_book.specs.Entries.{empty_book, with_event, with_outcome, with_outcome_restored, with_events_settled};
 ghost use Rattle.delivery_book.specs.Entries.{settle_first, with_settled, known_in, takes_outcome, may_restore, HasOneEach};
 ghost use Rattle.delivery_book.specs.Entries.{entry_at, latest_row, settled_row, pending_in, next_settled};
+ghost use Rattle.delivery_book.specs.Fields.{settled_counts};
 ghost use Rattle.delivery_book.specs.Book.{StandsFor, OverHistories, Takes, Settles, is_free, row_of, body_of, counts_of, counts_of_all};
 
 use crate::entry::{Entry, Unsettled};
@@ -336,14 +337,16 @@ impl DeliveryBook {
 
     /// How many deliveries of the endpoint are in each state, as the settled records have it.
     pub fn settled_counts(&self, name: Name) -> Counts
-        ensures { OverHistories self.now (λ records settled. result ≡ counts_of (take settled records) name) }
+        ensures value { result ≡ settled_counts self.now (Some name) }
+        ensures stands { OverHistories self.now (λ records settled. result ≡ counts_of (take settled records) name) }
     {
         self.settled_tally.of(name)
     }
 
     /// How many deliveries of all endpoints are in each state, as the settled records have it.
     pub fn settled_counts_all(&self) -> Counts
-        ensures { OverHistories self.now (λ records settled. result ≡ counts_of_all (take settled records)) }
+        ensures value { result ≡ settled_counts self.now None }
+        ensures stands { OverHistories self.now (λ records settled. result ≡ counts_of_all (take settled records)) }
     {
         self.settled_tally.all()
     }

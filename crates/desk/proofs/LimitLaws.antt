@@ -6,15 +6,12 @@ use Rattle.relay_types.specs.Endpoints.{Endpoint, endpoint_of}
 use Rattle.vegas.specs.Vegas.{limit_of, noload_of}
 use Rattle.permits.specs.Rows.{in_flight_of}
 use Rattle.desk.specs.declared.limiter.Limiter.{Limiter}
-use Rattle.desk.specs.declared.spent.Limits.{Limits}
 use Rattle.desk.specs.World.{World, all_records}
 use Rattle.desk.specs.Claims.{limits, live_of, samples_of}
 use Rattle.desk.specs.Ties.{AreLimiters, StandsBy, bound_by, limiter_of}
 use Rattle.desk.specs.Desks.{DeskValue, StandsFor}
+use Rattle.desk.specs.Kept.{limits_by}
 use Rattle.desk.proofs.ChoiceLaws.{bound_in, limiter_is}
-
-abbrev pub limits_by : (in_flight : ℕ) → Limiter → Limits
-limits_by in_flight l = record { limit = l.estimator.state.limit; in_flight = in_flight; noload = l.estimator.state.noload }
 
 pub limits_are : (d : DeskValue) (w : World) (name : List ℕ) → StandsFor d w → AreLimiters d.limiters d.endpoints → option_map (limits_by (in_flight_of name d.live)) (limiter_of d.limiters name) ≡ limits w name
 limits_are d w name h are =

@@ -5,3 +5,4 @@ pub mod Claims
 pub mod Ties
 pub mod Desks
 pub mod Looks
+pub mod Kept

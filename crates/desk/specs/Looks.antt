@@ -33,8 +33,11 @@ abbrev pub is_row_of : (ticket : Ticket) → Option Row → Bool
 is_row_of ticket row = option_map_or (λ r. bytes_eq r.endpoint ticket.name && bytes_eq r.id ticket.id) row false
 
 -- what is known of a record that is settled or not, and there or not
+abbrev pub known_by : (halted is_settled is_there : Bool) → Told
+known_by halted is_settled is_there = if is_settled then Settled else (if is_there && not halted then Waiting else Unknown)
+
 abbrev pub known : (w : World) (is_settled is_there : Bool) → Told
-known w is_settled is_there = if is_settled then Settled else (if is_there && not w.halted then Waiting else Unknown)
+known w is_settled is_there = known_by w.halted is_settled is_there
 
 abbrev pub told : World → Ticket → Told
 told w ticket = known w (has_event (settled_records w) ticket) (has_event (all_records w) ticket)
@@ -85,3 +88,7 @@ totals_with records counts = record {
 
 abbrev pub totals : (records : List Record) → Totals
 totals records = totals_with records (counts_of_all records)
+
+-- how many deliveries are in each state, as the totals tell
+abbrev pub counts_told : Totals → Counts
+counts_told t = record { pending = t.pending; delivered = t.delivered; exhausted = t.exhausted }

@@ -4,6 +4,7 @@ ghost use Rattle.relay_types.specs.declared.limits.TheConstants.{MAX_RECORDS};
 ghost use Rattle.group_commit.specs.Waits.{batch_out, record_count};
 ghost use Rattle.relay_types.specs.Legal.{is_status};
 ghost use Rattle.permits.specs.Rows.{next_row, same_row};
+ghost use Rattle.retry_table.specs.Judging.{spend_of};
 ghost use Rattle.desk.specs.Claims.{choice, claim};
 ghost use Rattle.desk.specs.Desks.{HasOutcome, IsMove, IsPostOf, OverWorlds, Spends, Starts, TakesOutcome, attempt_in, may_start, may_start_at, with_job, with_live};
 
@@ -133,6 +134,7 @@ impl<L: Ledger> Desk<L> {
         now: Moment,
     ) -> Result<Spent, (Permit<L>, Foreign)>
         ensures moves { Spends self.old permit post now result self.new }
+        ensures judged { IfOk result (λ spent. spent.spend ≡ spend_of post) }
         ensures back { IfErr result (λ back. back.0 ≡ permit) }
         ensures foreign { IsErr result ↔ (position (same_row permit) self.old.live ≡ None) }
         ensures live { (place : ℕ) → position (same_row permit) self.old.live ≡ Some place

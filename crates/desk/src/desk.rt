@@ -124,6 +124,7 @@ impl<L: Ledger> Desk<L> {
         body: Body,
     ) -> Result<Ticket, Refusal>
         ensures moves { IsMove self.old (λ w. submit w now name id body) result self.new }
+        ensures ticket { IfOk result (λ given. (given.name ≡ name) × (given.id ≡ id)) }
         ensures mark { self.new.waiting.mark ≡ self.old.waiting.mark }
         ensures out { KeepsOut self.old self.new }
         ensures err { OnErr result (self.new ≡ self.old) }

@@ -1,8 +1,11 @@
 //! What the desk tells.
-ghost use Rattle.std.specs.Prelude.{◌≡◌, length, option_map, option_copied};
+ghost use Rattle.std.specs.Prelude.{◌≡◌, ◌<◌, length, None, IsSome, option_map, option_copied};
+ghost use Rattle.delivery_book.specs.Fields.{settled_counts};
+ghost use Rattle.group_commit.specs.Waits.{record_count};
 ghost use Rattle.desk.specs.World.{all_records, settled_records};
 ghost use Rattle.desk.specs.Claims.{limits};
-ghost use Rattle.desk.specs.Looks.{is_row_of, has_event, told, told_command, settled_body, event_page, endpoint_page, shown, totals};
+ghost use Rattle.desk.specs.Looks.{is_row_of, has_event, told, told_command, settled_body, event_page, endpoint_page, shown, totals, counts_told};
+ghost use Rattle.desk.specs.Kept as kept;
 ghost use Rattle.desk.specs.Desks.{OverWorlds};
 
 use crate::desk::Desk;
@@ -17,7 +20,8 @@ use std::sync::ledger::Ledger;
 impl<L: Ledger> Desk<L> {
     /// What is known of a submission.
     pub fn told(&self, ticket: &Ticket) -> Told
-        ensures { OverWorlds self.now (λ w. result ≡ told w ticket.now) }
+        ensures value { result ≡ kept.told self.now ticket.now }
+        ensures stands { OverWorlds self.now (λ w. result ≡ told w ticket.now) }
     {
         if self.has_settled(ticket) {
             Told::Settled
@@ -30,7 +34,8 @@ impl<L: Ledger> Desk<L> {
 
     /// What is known of a command.
     pub fn told_command(&self, ticket: &CommandTicket) -> Told
-        ensures { OverWorlds self.now (λ w. result ≡ told_command w ticket.now) }
+        ensures value { result ≡ kept.told_command self.now ticket.now }
+        ensures stands { OverWorlds self.now (λ w. result ≡ told_command w ticket.now) }
     {
         if ticket.seq < self.settled_records() {
             Told::Settled
@@ -43,7 +48,9 @@ impl<L: Ledger> Desk<L> {
 
     /// The body of a submission that is settled.
     pub fn settled_body(&self, ticket: &Ticket) -> Option<&Body>
-        ensures { OverWorlds self.now (λ w. option_copied result ≡ settled_body w ticket.now) }
+        ensures value { option_copied result ≡ kept.settled_body self.now ticket.now }
+        ensures stands { OverWorlds self.now (λ w. option_copied result ≡ settled_body w ticket.now) }
+        ensures settled { IsSome result → ticket.now.seq < self.now.waiting.settled }
     {
         if self.has_settled(ticket) {
             self.deliveries.body(ticket.seq)
@@ -54,7 +61,8 @@ impl<L: Ledger> Desk<L> {
 
     /// What the settled records say of an event.
     pub fn event_page(&self, name: Name, id: &MsgId) -> Option<Row>
-        ensures { OverWorlds self.now (λ w. result ≡ event_page (settled_records w) name id.now) }
+        ensures value { result ≡ kept.event_page self.now name id.now }
+        ensures stands { OverWorlds self.now (λ w. result ≡ event_page (settled_records w) name id.now) }
     {
         let delivery = self.deliveries.find(name, id)?;
         self.deliveries.settled(delivery)
@@ -62,7 +70,8 @@ impl<L: Ledger> Desk<L> {
 
     /// What the settled records say of an endpoint.
     pub fn endpoint_page(&self, name: Name) -> Option<EndpointPage<'_>>
-        ensures { OverWorlds self.now (λ w. option_map shown result ≡ endpoint_page (settled_records w) name) }
+        ensures value { option_map shown result ≡ kept.endpoint_page self.now name }
+        ensures stands { OverWorlds self.now (λ w. option_map shown result ≡ endpoint_page (settled_records w) name) }
     {
         let counts = self.deliveries.settled_counts(name);
         match self.endpoints.settled(name) {
@@ -82,7 +91,8 @@ impl<L: Ledger> Desk<L> {
 
     /// How many attempts of an endpoint may be under way, by all records, and how many are.
     pub fn limits(&self, name: Name) -> Option<Limits>
-        ensures { OverWorlds self.now (λ w. result ≡ limits w name) }
+        ensures value { result ≡ kept.limits self.now name }
+        ensures stands { OverWorlds self.now (λ w. result ≡ limits w name) }
     {
         let limiter = limiter_of(&self.limiters, name)?;
         Some(Limits {
@@ -94,7 +104,9 @@ impl<L: Ledger> Desk<L> {
 
     /// What the settled records say of all endpoints and events.
     pub fn totals(&self) -> Totals
-        ensures { OverWorlds self.now (λ w. result ≡ totals (settled_records w)) }
+        ensures records { result.records ≡ self.now.waiting.settled }
+        ensures counts { counts_told result ≡ settled_counts self.now.deliveries None }
+        ensures stands { OverWorlds self.now (λ w. result ≡ totals (settled_records w)) }
     {
         let counts = self.deliveries.settled_counts_all();
         Totals {
@@ -108,14 +120,16 @@ impl<L: Ledger> Desk<L> {
 
     /// How many records there are.
     pub fn records(&self) -> u64
-        ensures { OverWorlds self.now (λ w. result ≡ length (all_records w)) }
+        ensures value { result ≡ record_count self.now.waiting }
+        ensures stands { OverWorlds self.now (λ w. result ≡ length (all_records w)) }
     {
         self.waiting.records()
     }
 
     /// How many records are settled.
     pub fn settled_records(&self) -> u64
-        ensures { OverWorlds self.now (λ w. result ≡ length (settled_records w)) }
+        ensures value { result ≡ self.now.waiting.settled }
+        ensures stands { OverWorlds self.now (λ w. result ≡ length (settled_records w)) }
     {
         self.waiting.settled_records()
     }
@@ -129,7 +143,8 @@ impl<L: Ledger> Desk<L> {
 
     // Whether the ticket's event is settled.
     fn has_settled(&self, ticket: &Ticket) -> bool
-        ensures { OverWorlds self.now (λ w. result ≡ has_event (settled_records w) ticket.now) }
+        ensures value { result ≡ kept.has_event self.now ticket.now }
+        ensures stands { OverWorlds self.now (λ w. result ≡ has_event (settled_records w) ticket.now) }
     {
         is_of(self.deliveries.settled(ticket.seq), ticket)
     }

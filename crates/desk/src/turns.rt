@@ -1,7 +1,7 @@
 //! How the desk hands out what waits, and takes back what became of it.
 ghost use Rattle.std.specs.Prelude.{◌≡◌, [], None, Some, length, ◌↔◌, IsTrue, IfOk, IfErr, IfNone, IfSome, IsOk, IsPermutation, OnErr, OnOk};
 ghost use Rattle.spool.specs.Batches.{doubt_of};
-ghost use Rattle.group_commit.specs.Waits.{batch_of, batch_out, sealed_count};
+ghost use Rattle.group_commit.specs.Waits.{batch_of, batch_out, sealed_count, with_settled};
 ghost use Rattle.group_commit.specs.Turns as waiting;
 ghost use Rattle.desk.specs.World.{sealed_records};
 ghost use Rattle.desk.specs.Moves.{seal, with_sealed_settled, with_batch_back, with_halt};
@@ -45,6 +45,8 @@ impl<L: Ledger> Desk<L> {
     pub fn settle(&mut self, receipt: Receipt) -> Result<Settled, (Receipt, WrongTurn)>
         ensures moves { Turns self.old (λ w. IsReceiptOf self.old.waiting.mark w receipt) with_sealed_settled result self.new }
         ensures records { IfOk result (λ settled. OverWorlds self.old (λ w. settled.records ≡ length (sealed_records w))) }
+        ensures waiting { OnOk result (self.new.waiting ≡ with_settled self.old.waiting (length receipt.steps)) }
+        ensures count { IfOk result (λ settled. settled.records ≡ self.new.waiting.settled) }
         ensures turn { IsOk result ↔ waiting.IsReceiptOf self.old.waiting receipt }
         ensures out { OnOk result (self.new.waiting.out ≡ None) }
         ensures live { self.new.live ≡ self.old.live }

@@ -3,19 +3,20 @@ use Rattle.std.specs.Prelude.{option_map}
 use Rattle.permits.specs.Rows.{in_flight_of}
 use Rattle.desk.specs.declared.limiter.Limiter.{Limiter}
 use Rattle.desk.specs.Ties.{limiter_of}
-use Rattle.desk.proofs.LimitLaws.{limits_are, limits_by}
+use Rattle.desk.specs.Kept.{limits_by}
+use Rattle.desk.proofs.LimitLaws.{limits_are}
 use Rattle.desk.proofs.LookLaws.{stands_as}
 use Rattle.desk.proofs.desk.Desk.limits.Goals as goal
 
-pub returns-in_err-limiter : goal.returns-in_err-limiter
-returns-in_err-limiter g c = λ w h.
+pub returns-in_err-limiter-clause-stands : goal.returns-in_err-limiter-clause-stands
+returns-in_err-limiter-clause-stands g c = λ w h.
     let none : None ≡ limiter_of c.self.inside.limiters.items c.args.name = c.in_err-limiter.ensures ∙ ap (λ (ls : List Limiter). limiter_of ls c.args.name) c.deref.ensures.value in
     c.from_residual.ensures
     ∙ ap (option_map (limits_by (in_flight_of c.args.name c.self.inside.pool))) none
     ∙ limits_are _ w c.args.name (stands_as c.self.view_is h) c.self.invariant.tied.limited
 
-pub returns : goal.returns
-returns g c = λ w h.
+pub returns-clause-stands : goal.returns-clause-stands
+returns-clause-stands g c = λ w h.
     let found : Some c.in_ok-limiter.limiter.now ≡ limiter_of c.self.inside.limiters.items c.args.name = c.in_ok-limiter.ensures ∙ ap (λ (ls : List Limiter). limiter_of ls c.args.name) c.deref.ensures.value in
     let told : Some (record { limit = c.limit.result; in_flight = c.in_flight.result; noload = c.noload.result }) ≡ Some (limits_by (in_flight_of c.args.name c.self.inside.pool) c.in_ok-limiter.limiter.now) =
     λ i. Some (record { limit = c.limit.ensures.number i; in_flight = c.in_flight.ensures.count i; noload = c.noload.ensures.number i }) in

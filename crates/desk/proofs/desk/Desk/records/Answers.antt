@@ -2,5 +2,5 @@ use Rattle.std.proofs.Common.{◌∙◌}
 use Rattle.desk.proofs.LookLaws.{stands_as, records_counted}
 use Rattle.desk.proofs.desk.Desk.records.Goals as goal
 
-pub returns : goal.returns
-returns g c = λ w h. c.records.ensures.count ∙ records_counted (stands_as c.self.view_is h)
+pub returns-clause-stands : goal.returns-clause-stands
+returns-clause-stands g c = λ w h. c.records.ensures.count ∙ records_counted (stands_as c.self.view_is h)

@@ -6,10 +6,10 @@ use Rattle.desk.specs.Looks.{has_event}
 use Rattle.desk.proofs.LookLaws.{stands_as, settled_first, body_first}
 use Rattle.desk.proofs.desk.Desk.settled_body.Goals as goal
 
-pub returns-then-has_settled : goal.returns-then-has_settled
-returns-then-has_settled g c = λ w h.
+pub returns-then-has_settled-clause-stands : goal.returns-then-has_settled-clause-stands
+returns-then-has_settled-clause-stands g c = λ w h.
     let ticket = c.args.ticket.now in
-    let settled : has_event (settled_records w) ticket ≡ true = sym (c.has_settled.ensures w h) ∙ c.if-has_settled.true in
+    let settled : has_event (settled_records w) ticket ≡ true = sym (c.has_settled.ensures.stands w h) ∙ c.if-has_settled.true in
     c.body.ensures.stands (all_records w) (length (settled_records w)) (stands_as c.self.view_is h).books.of_deliveries
     ∙ ap (λ records. body_of records ticket.seq) (settled_first w)
     ∙ body_first (settled_records w) (waiting_records w) ticket settled
