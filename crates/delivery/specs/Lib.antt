@@ -1,1 +1,4 @@
 pub mod Requests
+pub mod Keepers
+pub mod Shares
+pub mod Rounds

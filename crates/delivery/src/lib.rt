@@ -1,8 +1,22 @@
-//! Posts to subscribers: the request of an attempt.
+//! Posts to subscribers, and the threads that share a desk: the request of an attempt, a round of a worker, and the committer.
 #![tactic(auto)]
 
+mod committer;
 mod header;
+mod keeper;
+mod locked;
 mod outgoing;
+mod pass;
+mod roles;
+mod shared;
+mod worker;
 
+pub use crate::committer::{CommitterEnd, HaltCause, MAX_REFUSALS, committer_run};
 pub use crate::header::Header;
+pub use crate::keeper::Keeper;
+pub use crate::locked::Locked;
 pub use crate::outgoing::Outgoing;
+pub use crate::pass::{Pass, WentBack};
+pub use crate::roles::{Clock, Poster};
+pub use crate::shared::{REST_SECONDS, Shared};
+pub use crate::worker::{Round, worker_round};

@@ -1,0 +1,82 @@
+-- What a commit leaves of the histories that a keeper holds, and what a run of commits leaves.
+use Rattle.std.specs.Prelude.{◌≡◌, ◌⊎◌, List, [], ◌∷◌, ◌++◌, Option, Some, None, Result, Ok, Err}
+use Rattle.relay_types.specs.declared.record.Record.{Record}
+use Rattle.relay_types.specs.Records.{History, records_of}
+use Rattle.spool.specs.declared.ends.CommitEnd.{CommitEnd}
+use Rattle.spool.specs.declared.ends.CommitEnd.TheVariants as ends
+use Rattle.spool.specs.declared.ends.Unchanged.{Unchanged}
+use Rattle.spool.specs.declared.ends.Unchanged.TheVariants as why
+use Rattle.spool.specs.Batches.{BatchValue}
+use Rattle.delivery.specs.declared.committer.CommitterEnd.{CommitterEnd}
+use Rattle.delivery.specs.declared.committer.CommitterEnd.TheVariants.{Finished, Halted}
+use Rattle.delivery.specs.declared.committer.HaltCause.{HaltCause}
+use Rattle.delivery.specs.declared.committer.HaltCause.TheVariants as cause
+use Rattle.delivery.specs.declared.committer.Next.{Next}
+use Rattle.delivery.specs.declared.committer.Next.TheVariants as next
+
+module _ {K : Type 0} (holds : K → List Record → Type 0) (in_doubt : K → List Record → List Record → Type 0) where
+  -- Of each history that was held: a commit adds the batch's records, or nothing; of a doubtful one nobody knows.
+  abbrev pub Leaves : (old new : K) → BatchValue → Result BatchValue CommitEnd → Type 0
+  Leaves old new batch (Ok receipt) = (records : List Record) → holds old records → holds new (records ++ records_of batch.steps)
+  Leaves old new batch (Err (ends.Unchanged back reason)) = (records : List Record) → holds old records → holds new records
+  Leaves old new batch (Err (ends.Doubtful doubt reason)) =
+      (records : List Record) → holds old records → in_doubt new records (records_of batch.steps)
+
+  -- what stands at the end: the history, and where the store was at fault perhaps the last batch behind it
+  abbrev pub Stands : K → List Record → CommitterEnd → Type 0
+  Stands new records Finished = holds new records
+  Stands new records (Halted (cause.Store error)) = (last : History) × in_doubt new records (records_of last)
+  Stands new records (Halted cause.Closed) = holds new records
+  Stands new records (Halted cause.OutOfTurn) = holds new records
+  Stands new records (Halted cause.Illegal) = holds new records
+  Stands new records (Halted cause.OutOfMemory) = holds new records
+  Stands new records (Halted cause.Halted) = holds new records
+  Stands new records (Halted cause.BatchOut) = holds new records
+
+-- the records of batches, one batch behind another
+abbrev pub records_in : (batches : List History) → List Record
+records_in [] = []
+records_in (steps ∷ batches) = records_of steps ++ records_in batches
+
+module _ {K : Type 0} (holds : K → List Record → Type 0) (in_doubt : K → List Record → List Record → Type 0) where
+  -- Of each history that was held: the steps of whole batches were added, in their order.
+  abbrev pub Adds : (old new : K) → CommitterEnd → Type 0
+  Adds old new end = (records : List Record) → holds old records
+      → (batches : List History) × Stands holds in_doubt new (records ++ records_in batches) end
+
+-- As what a commit that changed nothing ends a committer.
+abbrev pub cause_of : Unchanged → HaltCause
+cause_of why.Closed = cause.Closed
+cause_of why.OutOfTurn = cause.OutOfTurn
+cause_of why.Illegal = cause.Illegal
+cause_of why.OutOfMemory = cause.OutOfMemory
+
+-- How a committer ends behind a commit, if it ends. After want of memory it may go on.
+abbrev pub EndsBy : Result BatchValue CommitEnd → Option CommitterEnd → Type 0
+EndsBy (Ok receipt) end = end ≡ None
+EndsBy (Err (ends.Unchanged batch why.OutOfMemory)) end = (end ≡ None) ⊎ (end ≡ Some (Halted cause.OutOfMemory))
+EndsBy (Err (ends.Unchanged batch why.Closed)) end = end ≡ Some (Halted cause.Closed)
+EndsBy (Err (ends.Unchanged batch why.OutOfTurn)) end = end ≡ Some (Halted cause.OutOfTurn)
+EndsBy (Err (ends.Unchanged batch why.Illegal)) end = end ≡ Some (Halted cause.Illegal)
+EndsBy (Err (ends.Doubtful doubt error)) end = end ≡ Some (Halted (cause.Store error))
+
+-- the end names a fault of the store, or a keeper that takes no batch any more
+abbrev pub IsOfKeeper : CommitterEnd → Type 0
+IsOfKeeper Finished = ⊥
+IsOfKeeper (Halted (cause.Store error)) = Unit {0}
+IsOfKeeper (Halted cause.Closed) = Unit {0}
+IsOfKeeper (Halted cause.OutOfTurn) = ⊥
+IsOfKeeper (Halted cause.Illegal) = ⊥
+IsOfKeeper (Halted cause.OutOfMemory) = ⊥
+IsOfKeeper (Halted cause.Halted) = ⊥
+IsOfKeeper (Halted cause.BatchOut) = ⊥
+
+-- the desk alone brings such an end
+abbrev pub IsOfDesk : CommitterEnd → Type 0
+IsOfDesk end = (end ≡ Finished) ⊎ ((end ≡ Halted cause.Halted) ⊎ (end ≡ Halted cause.BatchOut))
+
+abbrev pub EndsByDesk : Next → Type 0
+EndsByDesk (next.End end) = IsOfDesk end
+EndsByDesk (next.Commit batch) = Unit {0}
+EndsByDesk next.Wait = Unit {0}
+EndsByDesk next.Refused = Unit {0}

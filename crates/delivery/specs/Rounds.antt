@@ -1,0 +1,34 @@
+-- What a round of a worker posted.
+use Rattle.std.specs.Prelude.{◌≡◌}
+use Rattle.retry_table.specs.declared.post.PostResult.{PostResult}
+use Rattle.retry_table.specs.Judging.{spend_of}
+use Rattle.desk.specs.Claims.{JobValue}
+use Rattle.delivery.specs.declared.worker.Claimed.{Claimed}
+use Rattle.delivery.specs.declared.worker.Claimed.TheVariants as claimed
+use Rattle.delivery.specs.declared.worker.Round.{Round}
+use Rattle.delivery.specs.declared.worker.Round.TheVariants.{Posted, Idle, Halted, Closing, NoMemory, WentBack}
+use Rattle.delivery.specs.Requests.{Request, request_of}
+
+-- A round that posted sent the request of a job, was answered what the poster may answer to it, and spent the permit by that.
+abbrev pub IsPostedBy : (may_answer : Request → PostResult → Type 0) → Round → Type 0
+IsPostedBy may_answer (Posted request result spent) =
+    (job : JobValue) × (request ≡ request_of job) × may_answer request result × (spent.spend ≡ spend_of result)
+IsPostedBy may_answer Idle = Unit {0}
+IsPostedBy may_answer Halted = Unit {0}
+IsPostedBy may_answer Closing = Unit {0}
+IsPostedBy may_answer NoMemory = Unit {0}
+IsPostedBy may_answer (WentBack told) = Unit {0}
+
+-- nothing was posted
+abbrev pub HasNotPosted : Round → Type 0
+HasNotPosted (Posted request result spent) = ⊥
+HasNotPosted Idle = Unit {0}
+HasNotPosted Halted = Unit {0}
+HasNotPosted Closing = Unit {0}
+HasNotPosted NoMemory = Unit {0}
+HasNotPosted (WentBack told) = Unit {0}
+
+-- a claim without a job ends the round, in which nothing was posted
+abbrev pub EndsUnposted : {g : _} → Claimed g → Type 0
+EndsUnposted (claimed.Job job) = Unit {0}
+EndsUnposted (claimed.Nothing round) = HasNotPosted round

@@ -1,0 +1,198 @@
+//! What threads share: the desk under one lock, and whom a change wakes.
+//!
+//! The committer waits on `staged` until a step waits, and everybody else on `changed` until something is settled, or nothing will be.
+ghost use Rattle.std.specs.Prelude.{◌≡◌, ◌≤◌, IfOk};
+ghost use Rattle.retry_table.specs.Judging.{spend_of};
+ghost use Rattle.delivery.specs.Keepers.{EndsByDesk};
+ghost use Rattle.delivery.specs.Rounds.{EndsUnposted};
+
+use crate::committer::Next;
+use crate::locked::Locked;
+use crate::pass::Pass;
+use crate::worker::Claimed;
+use desk::{Command, CommandTicket, Desk, Refusal, Spent, Ticket, Told};
+use group_commit::{Held, WrongTurn};
+use permits::{Foreign, Permit};
+use relay_types::{Body, Moment, MsgId, Name};
+use retry_table::PostResult;
+use spool::{Batch, Receipt};
+use std::sync::ledger::Ledger;
+use std::sync::{Condvar, Mutex, MutexGuard, Wait};
+use std::time::Duration;
+
+/// How many seconds a worker that found nothing rests at most.
+pub const REST_SECONDS: u64 = 1;
+
+/// The desk that threads share.
+#[derive(Drop)]
+pub struct Shared<L: Ledger> {
+    locked: Mutex<Locked<L>>,
+    staged: Condvar,
+    changed: Condvar,
+}
+
+impl<L: Ledger> Shared<L> {
+    pub fn new(desk: Desk<L>) -> Shared<L> {
+        Shared {
+            locked: Mutex::new(Locked::new(desk)),
+            staged: Condvar::new(),
+            changed: Condvar::new(),
+        }
+    }
+
+    /// The desk, once no other thread has it.
+    pub fn into_desk(self) -> Desk<L> {
+        let Shared { locked, .. } = self;
+        locked.into_inner().into_desk()
+    }
+
+    /// From now on nothing is staged or claimed. The committer goes on until nothing waits.
+    pub fn finish<R: Wait>(&self, rt: &R) {
+        self.locked.lock(rt).close();
+        self.staged.notify_all();
+        self.changed.notify_all();
+    }
+
+    /// Takes an event, and wakes the committer.
+    pub fn submit<R: Wait>(
+        &self,
+        rt: &R,
+        now: Moment,
+        name: Name,
+        id: MsgId,
+        body: Body,
+    ) -> Result<Ticket, Refusal>
+        ensures ticket { IfOk result (λ given. (given.name ≡ name) × (given.id ≡ id)) }
+    {
+        let staged = self.locked.lock(rt).submit(now, name, id, body);
+        self.staged.notify_one();
+        staged
+    }
+
+    /// Changes an endpoint, and wakes the committer.
+    pub fn command<R: Wait>(&self, rt: &R, command: Command) -> Result<CommandTicket, Refusal> {
+        let staged = self.locked.lock(rt).command(command);
+        self.staged.notify_one();
+        staged
+    }
+
+    /// Waits until the submission is settled, or won't be.
+    pub fn wait_for<R: Wait>(&self, rt: &R, ticket: &Ticket) -> MutexGuard<'_, Locked<L>> {
+        self.changed.wait_while(rt, self.locked.lock(rt), |locked| {
+            locked.desk().told(ticket) == Told::Waiting
+        })
+    }
+
+    /// Waits until the command is settled, or won't be.
+    pub fn wait_for_command<R: Wait>(
+        &self,
+        rt: &R,
+        ticket: &CommandTicket,
+    ) -> MutexGuard<'_, Locked<L>> {
+        self.changed.wait_while(rt, self.locked.lock(rt), |locked| {
+            locked.desk().told_command(ticket) == Told::Waiting
+        })
+    }
+
+    /// The desk, to be looked at.
+    pub fn lock<R: Wait>(&self, rt: &R) -> MutexGuard<'_, Locked<L>> {
+        self.locked.lock(rt)
+    }
+
+    /// Rests until more is settled than the pass has seen, or a second has passed.
+    pub fn rest<R: Wait + std::time::Clock>(&self, rt: &R, pass: &Pass) {
+        let seen = pass.seen();
+        let most = Duration::from_secs(REST_SECONDS);
+        let (_locked, _) = self
+            .changed
+            .wait_timeout_while(rt, self.locked.lock(rt), most, |locked| {
+                locked.may_rest(seen)
+            });
+    }
+
+    pub(crate) fn claim<R: Wait>(&self, rt: &R, now: Moment, pass: &mut Pass) -> Claimed<L>
+        ensures nothing { EndsUnposted result }
+        ensures pass { pass.old ≤ pass.new }
+    {
+        self.locked.lock(rt).claim(now, pass)
+    }
+
+    // Hands the permit in until it is taken, and wakes the committer where an outcome waits.
+    pub(crate) fn spend<R: Wait>(
+        &self,
+        rt: &R,
+        permit: Permit<L>,
+        post: &PostResult,
+        now: Moment,
+    ) -> Spent
+        ensures { result.spend ≡ spend_of post.now }
+    {
+        let mut held = permit;
+        for _ in rt.forever() {
+            let taken = self.locked.lock(rt).spend(held, *post, now);
+            match taken {
+                Ok(spent) => {
+                    self.staged.notify_one();
+                    return spent;
+                }
+                Err((back, Foreign)) => held = back,
+            }
+        }
+        unreachable!()
+    }
+
+    // Waits until a step waits, or the end has come.
+    pub(crate) fn next_batch<R: Wait>(&self, rt: &R) -> Next
+        ensures { EndsByDesk result }
+    {
+        let mut locked = self
+            .staged
+            .wait_while(rt, self.locked.lock(rt), |locked| locked.is_idle());
+        locked.next_batch()
+    }
+
+    // Hands the receipt in until it is taken, and wakes all that wait for what is settled.
+    pub(crate) fn settle<R: Wait>(&self, rt: &R, receipt: Receipt) {
+        let mut held = receipt;
+        for _ in rt.forever() {
+            let taken = self.locked.lock(rt).settle(held);
+            match taken {
+                Ok(_) => {
+                    self.changed.notify_all();
+                    return;
+                }
+                Err((back, WrongTurn)) => held = back,
+            }
+        }
+        unreachable!()
+    }
+
+    // Hands the batch in until it is taken.
+    pub(crate) fn unseal<R: Wait>(&self, rt: &R, batch: Batch) {
+        let mut held = batch;
+        for _ in rt.forever() {
+            let taken = self.locked.lock(rt).unseal(held);
+            match taken {
+                Ok(()) => return,
+                Err((back, WrongTurn)) => held = back,
+            }
+        }
+        unreachable!()
+    }
+
+    // Hands in what is out until it is taken, and wakes all: nothing more will be settled.
+    pub(crate) fn halt<R: Wait>(&self, rt: &R, out: Held) {
+        let mut held = out;
+        for _ in rt.forever() {
+            let taken = self.locked.lock(rt).halt(held);
+            match taken {
+                Ok(()) => {
+                    self.changed.notify_all();
+                    return;
+                }
+                Err((back, WrongTurn)) => held = back,
+            }
+        }
+        unreachable!()
+    }
+}

@@ -1,0 +1,70 @@
+//! One round of a worker: it claims an attempt, posts it with the lock free, and spends its permit.
+ghost use Rattle.std.specs.Prelude.{◌≡◌, ◌≤◌};
+ghost use Rattle.delivery.specs.Rounds.{IsPostedBy};
+
+use crate::outgoing::Outgoing;
+use crate::pass::{Pass, WentBack};
+use crate::roles::{Clock, Poster};
+use crate::shared::Shared;
+use desk::{Job, Spent};
+use retry_table::PostResult;
+use std::alloc::Global;
+use std::sync::Wait;
+use std::sync::ledger::Ledger;
+
+/// How a round ended.
+#[derive(Drop)]
+pub enum Round {
+    /// The request was posted, with this result, and its permit was spent.
+    Posted {
+        request: Outgoing,
+        result: PostResult,
+        spent: Spent,
+    },
+    /// Nothing is to be posted at this moment.
+    Idle,
+    /// The desk is halted.
+    Halted,
+    /// The end was asked for.
+    Closing,
+    /// Memory was refused. No permit is kept.
+    NoMemory,
+    /// The desk has fewer settled records than the pass has seen.
+    WentBack(WentBack),
+}
+
+// What a claim under the lock gave: a job, or how the round ends without one.
+pub(crate) enum Claimed<L: Ledger> {
+    Job(Job<L>),
+    Nothing(Round),
+}
+
+/// Claims the attempt that is due first, posts it with the lock free, and spends its permit by the result. A job whose request lacks memory
+/// is spent as unsent.
+pub fn worker_round<L: Ledger, P: Poster, C: Clock, R: Wait>(
+    rt: &R,
+    alloc: Global,
+    shared: &Shared<L>,
+    poster: &P,
+    clock: &C,
+    pass: &mut Pass,
+) -> Round
+    ensures posted { IsPostedBy (P.may_answer poster.now) result }
+    ensures pass { pass.old ≤ pass.new }
+{
+    let job = match shared.claim(rt, clock.now(), pass) {
+        Claimed::Job(job) => job,
+        Claimed::Nothing(round) => return round,
+    };
+    let Ok(request) = Outgoing::build(alloc, &job) else {
+        let _spent = shared.spend(rt, job.into_permit(), &PostResult::Unsent, clock.now());
+        return Round::NoMemory;
+    };
+    let result = poster.post(&request);
+    let spent = shared.spend(rt, job.into_permit(), &result, clock.now());
+    Round::Posted {
+        request,
+        result,
+        spent,
+    }
+}
