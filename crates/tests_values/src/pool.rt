@@ -1,25 +1,63 @@
-// The pool at a ledger of its own.
+//! The pool at a ledger of its own.
 ghost use Rattle.std.specs.Prelude.{◌≡◌};
 
+use crate::cases::{done, holds, name};
 use permits::{Foreign, MAX_PERMITS, PARTS, Permit, Pool, Refused, Row};
 use relay_types::Name;
 use std::alloc::Global;
 use std::marker::Brand;
 use std::process::Abort;
 use std::sync::ledger::{Blank, Ledger};
-use std::sync::{Mutex, Wait};
-use std::test::Fail;
-use std::thread::Threads;
-use std::{slice, thread};
 
-fn name(rt: &impl Abort, text: &[u8]) -> Name {
-    match Name::read(text) {
-        Ok(name) => name,
-        Err(fault) => panic!(rt; "{fault}"),
-    }
+/// A call of a pool. The permits that are out stand in the order in which they came.
+#[derive(Clone, Copy)]
+enum Step {
+    /// A permit of this endpoint, delivery and limit.
+    Take(&'static [u8], u64, u32),
+    /// Why there is none.
+    Refuse(&'static [u8], u64, u32, Refused),
+    /// So many permits, for the deliveries from 0.
+    Fill(&'static [u8], u64, u32),
+    /// The permit at this place shows this endpoint, delivery and in-flight number.
+    Shows(usize, &'static [u8], u64, u32),
+    /// The permit at this place comes back, and its row is this.
+    Put(usize, &'static [u8], u64, u32),
+    /// How many are out of an endpoint.
+    InFlight(&'static [u8], u32),
+    Live(usize),
+    /// How many are out beside the first permits, of which there are so many.
+    Audit(usize, usize),
 }
 
-fn take<L: Ledger>(
+const PERMITS_TAKE_TURNS: [Step; 17] = [
+    Step::Take(b"a", 1, 2),
+    Step::Refuse(b"a", 1, 2, Refused::AlreadyOut),
+    Step::Take(b"a", 2, 2),
+    Step::Refuse(b"a", 3, 2, Refused::AtLimit),
+    Step::Refuse(b"b", 2, 2, Refused::AlreadyOut),
+    Step::Refuse(b"b", 2, 0, Refused::AtLimit),
+    Step::Shows(0, b"a", 1, 1),
+    Step::Shows(1, b"a", 2, 2),
+    Step::InFlight(b"a", 2),
+    Step::InFlight(b"b", 0),
+    Step::Live(2),
+    Step::Audit(1, 1),
+    Step::Put(0, b"a", 1, 1),
+    Step::InFlight(b"a", 1),
+    Step::InFlight(b"b", 0),
+    Step::Live(1),
+    Step::Put(0, b"a", 2, 2),
+];
+
+const ALL_PLACES_ARE_TAKEN: [Step; 5] = [
+    Step::Fill(b"a", 256, 1000),
+    Step::Refuse(b"a", 256, 1000, Refused::TooManyOut),
+    Step::Refuse(b"a", 0, 1000, Refused::TooManyOut),
+    Step::Refuse(b"a", 256, 256, Refused::AtLimit),
+    Step::Audit(256, 0),
+];
+
+pub(crate) fn take<L: Ledger>(
     rt: &impl Abort,
     pool: &mut Pool<L>,
     endpoint: Name,
@@ -32,17 +70,7 @@ fn take<L: Ledger>(
     }
 }
 
-// For each endpoint, delivery and limit, why there is no permit.
-fn refuse<L: Ledger>(rt: &impl Abort, pool: &mut Pool<L>, rows: &[(Name, u64, u32, Refused)]) {
-    for (endpoint, delivery, limit, want) in rows {
-        match pool.acquire(*endpoint, *delivery, *limit) {
-            Ok(permit) => panic!(rt; "a permit for {}", permit.delivery()),
-            Err(refused) => assert_eq!(rt; refused, *want),
-        }
-    }
-}
-
-fn put<L: Ledger>(rt: &impl Abort, pool: &mut Pool<L>, permit: Permit<L>) -> Row {
+pub(crate) fn put<L: Ledger>(rt: &impl Abort, pool: &mut Pool<L>, permit: Permit<L>) -> Row {
     match pool.give_back(permit) {
         Ok(returned) => returned,
         Err((permit, Foreign)) => panic!(rt; "{} is foreign", permit.delivery()),
@@ -50,14 +78,49 @@ fn put<L: Ledger>(rt: &impl Abort, pool: &mut Pool<L>, permit: Permit<L>) -> Row
 }
 
 // Closes a pool of which all permits have come back.
-fn shut<L: Ledger>(rt: &impl Abort, pool: Pool<L>) {
+pub(crate) fn shut<L: Ledger>(rt: &impl Abort, pool: Pool<L>) {
     if pool.live() != 0 {
         panic!(rt; "{} are out", pool.live());
     }
     let _closed = pool.close();
 }
 
-// Whether the permit shows this endpoint, delivery and in-flight number, one by one and as its row.
+fn refuses<L: Ledger>(
+    rt: &impl Abort,
+    pool: &mut Pool<L>,
+    endpoint: Name,
+    delivery: u64,
+    limit: u32,
+    want: Refused,
+) -> bool {
+    match pool.acquire(endpoint, delivery, limit) {
+        Ok(permit) => panic!(rt; "a permit for {}", permit.delivery()),
+        Err(refused) => refused == want,
+    }
+}
+
+fn keep<L: Ledger>(rt: &impl Abort, out: &mut Vec<Permit<L>>, permit: Permit<L>) {
+    match out.push(permit) {
+        Ok(()) => {}
+        Err(refused) => panic!(rt; "no room for {}", refused.value.delivery()),
+    }
+}
+
+fn fill<L: Ledger>(
+    rt: &impl Abort,
+    pool: &mut Pool<L>,
+    out: &mut Vec<Permit<L>>,
+    endpoint: Name,
+    count: u64,
+    limit: u32,
+) {
+    for delivery in 0..count {
+        let permit = take(rt, pool, endpoint, delivery, limit);
+        keep(rt, out, permit);
+    }
+}
+
+// Whether the permit shows this, one by one and as its row.
 fn shows<L: Ledger>(permit: &Permit<L>, row: Row) -> bool {
     let Row {
         endpoint,
@@ -70,55 +133,71 @@ fn shows<L: Ledger>(permit: &Permit<L>, row: Row) -> bool {
         && permit.inflight() == inflight
 }
 
-fn counts<L: Ledger>(pool: &Pool<L>, a: Name, b: Name) -> (u32, u32, usize) {
-    (pool.in_flight(a), pool.in_flight(b), pool.live())
+fn shows_at<L: Ledger>(out: &Vec<Permit<L>>, place: usize, row: Row) -> bool {
+    match out.get(place) {
+        Some(permit) => shows(permit, row),
+        None => false,
+    }
 }
 
-fn turns<L: Ledger>(rt: &impl Abort, alloc: Global, blank: Blank) -> Result<(), Fail>
-    requires name { blank.name ≡ L.name }
-    requires parts { blank.parts ≡ L.parts }
-    requires enough { blank.parts ≡ PARTS }
-{
-    let mut pool = Pool::<L>::new(alloc, blank)?;
-    let a = name(rt, b"a");
-    let b = name(rt, b"b");
-    let mut one = take(rt, &mut pool, a, 1, 2);
-    refuse(rt, &mut pool, &[(a, 1, 2, Refused::AlreadyOut)]);
-    let two = take(rt, &mut pool, a, 2, 2);
-    let refused = [
-        (a, 3, 2, Refused::AtLimit),
-        (b, 2, 2, Refused::AlreadyOut),
-        (b, 2, 0, Refused::AtLimit),
-    ];
-    refuse(rt, &mut pool, &refused);
-    let [first, second] = [(1, 1), (2, 2)].map(|(delivery, inflight)| Row {
-        endpoint: a,
+fn put_at<L: Ledger>(
+    rt: &impl Abort,
+    pool: &mut Pool<L>,
+    out: &mut Vec<Permit<L>>,
+    place: usize,
+) -> Row {
+    assert!(rt; place < out.len());
+    let permit = out.remove(place);
+    put(rt, pool, permit)
+}
+
+fn audit<L: Ledger>(
+    rt: &impl Abort,
+    pool: &mut Pool<L>,
+    out: &mut Vec<Permit<L>>,
+    count: usize,
+) -> usize {
+    assert!(rt; count <= out.len());
+    pool.audit(&mut out.as_mut_slice()[..count])
+}
+
+fn row(rt: &impl Abort, text: &[u8], delivery: u64, inflight: u32) -> Row {
+    Row {
+        endpoint: name(rt, text),
         delivery,
         inflight,
-    });
-    assert!(rt; shows(&one, first) && shows(&two, second));
-    assert_eq!(rt; counts(&pool, a, b), (2, 0, 2));
-    assert_eq!(rt; pool.audit(slice::from_mut(&mut one)), 1);
-    assert!(rt; put(rt, &mut pool, one).is(first));
-    assert_eq!(rt; counts(&pool, a, b), (1, 0, 1));
-    assert!(rt; put(rt, &mut pool, two).is(second));
-    shut(rt, pool);
-    Ok(())
+    }
 }
 
-#[test]
-fn permits_take_turns(rt: HostRuntime) -> Result<(), Fail> {
-    turns::<Brand>(&rt, rt.alloc(), Blank::new(PARTS))
-}
-
-// Every place is taken.
-fn fill<L: Ledger>(rt: &impl Abort, pool: &mut Pool<L>, endpoint: Name, out: &mut Vec<Permit<L>>) {
-    for delivery in 0..256u64 {
-        let permit = take(rt, pool, endpoint, delivery, 1000);
-        match out.push(permit) {
-            Ok(()) => {}
-            Err(refused) => panic!(rt; "no room for {}", refused.value.delivery()),
+/// Takes the step; whether what it expects is so.
+fn make<L: Ledger>(
+    rt: &impl Abort,
+    pool: &mut Pool<L>,
+    out: &mut Vec<Permit<L>>,
+    step: Step,
+) -> bool {
+    match step {
+        Step::Take(text, delivery, limit) => {
+            let permit = take(rt, pool, name(rt, text), delivery, limit);
+            keep(rt, out, permit);
+            true
         }
+        Step::Refuse(text, delivery, limit, want) => {
+            refuses(rt, pool, name(rt, text), delivery, limit, want)
+        }
+        Step::Fill(text, count, limit) => {
+            fill(rt, pool, out, name(rt, text), count, limit);
+            true
+        }
+        Step::Shows(place, text, delivery, inflight) => {
+            shows_at(out, place, row(rt, text, delivery, inflight))
+        }
+        Step::Put(place, text, delivery, inflight) => {
+            put_at(rt, pool, out, place).is(row(rt, text, delivery, inflight))
+        }
+        Step::InFlight(text, count) => pool.in_flight(name(rt, text)) == count,
+        Step::Live(count) => pool.live() == count,
+        Step::Audit(count, others) => audit(rt, pool, out, count) == others,
     }
 }
 
@@ -130,92 +209,70 @@ fn empty<L: Ledger>(rt: &impl Abort, pool: &mut Pool<L>, mut out: Vec<Permit<L>>
     out.destroy_empty();
 }
 
-fn full<L: Ledger>(rt: &impl Abort, alloc: Global, blank: Blank) -> Result<(), Fail>
+fn follow<L: Ledger>(rt: &impl Abort, alloc: Global, pool: &mut Pool<L>, steps: &[Step]) {
+    let mut out = Vec::new(alloc);
+    for (place, next) in steps.iter().enumerate() {
+        let is = make(rt, pool, &mut out, *next);
+        holds(rt, is, place);
+    }
+    empty(rt, pool, out);
+}
+
+pub(crate) fn open<L: Ledger>(rt: &impl Abort, alloc: Global, blank: Blank) -> Pool<L>
     requires name { blank.name ≡ L.name }
     requires parts { blank.parts ≡ L.parts }
     requires enough { blank.parts ≡ PARTS }
 {
-    let mut pool = Pool::<L>::new(alloc, blank)?;
-    let a = name(rt, b"a");
-    let mut out = Vec::with_capacity(alloc, MAX_PERMITS)?;
-    fill(rt, &mut pool, a, &mut out);
-    let refused = [
-        (a, 256, 1000, Refused::TooManyOut),
-        (a, 0, 1000, Refused::TooManyOut),
-        (a, 256, 256, Refused::AtLimit),
-    ];
-    refuse(rt, &mut pool, &refused);
-    assert_eq!(rt; pool.audit(out.as_mut_slice()), 0);
-    empty(rt, &mut pool, out);
+    match Pool::<L>::new(alloc, blank) {
+        Ok(pool) => pool,
+        Err(_) => panic!(rt; "no memory"),
+    }
+}
+
+fn walk<L: Ledger>(rt: &impl Abort, alloc: Global, blank: Blank, steps: &[Step])
+    requires name { blank.name ≡ L.name }
+    requires parts { blank.parts ≡ L.parts }
+    requires enough { blank.parts ≡ PARTS }
+{
+    let mut pool = open::<L>(rt, alloc, blank);
+    follow(rt, alloc, &mut pool, steps);
     shut(rt, pool);
-    Ok(())
+}
+
+/// Takes the steps on a new pool.
+fn walk_through(rt: &impl Abort, alloc: Global, steps: &[Step]) {
+    walk::<Brand>(rt, alloc, Blank::new(PARTS), steps);
 }
 
 #[test]
-fn all_places_are_taken(rt: HostRuntime) -> Result<(), Fail> {
-    full::<Brand>(&rt, rt.alloc(), Blank::new(PARTS))
+fn permits_take_turns(rt: HostRuntime) {
+    walk_through(&rt, rt.alloc(), &PERMITS_TAKE_TURNS);
 }
 
 #[test]
-fn refusals_have_numbers_and_names(rt: HostRuntime) -> Result<(), Fail> {
-    for (refused, number, text) in [
-        (Refused::AtLimit, 1, "AtLimit"),
-        (Refused::TooManyOut, 2, "TooManyOut"),
-        (Refused::AlreadyOut, 3, "AlreadyOut"),
-    ] {
-        assert_eq!(rt; refused.number(), number);
-        assert_eq!(rt; format!(in rt.alloc(); "{refused}")?.as_str(), text);
-    }
-    Ok(())
+fn all_places_are_taken(rt: HostRuntime) {
+    walk_through(&rt, rt.alloc(), &ALL_PLACES_ARE_TAKEN);
 }
 
-// Waits until the endpoint is below its limit of one, holds the permit with the lock free, and gives it back.
-fn deliver<L: Ledger, R: Wait + Abort>(
-    rt: &R,
-    pool: &Mutex<Pool<L>>,
-    endpoint: Name,
-    delivery: u64,
-) -> Row {
-    for _ in rt.forever() {
-        let answer = pool.lock(rt).acquire(endpoint, delivery, 1);
-        match answer {
-            Ok(permit) => return put(rt, &mut *pool.lock(rt), permit),
-            Err(Refused::AtLimit) => {}
-            Err(refused) => panic!(rt; "{delivery}: {refused}"),
-        }
-    }
-    unreachable!()
-}
+/// A refusal, its number and its name.
+#[derive(Clone, Copy)]
+struct Refusal(Refused, u8, &'static str);
 
-fn work<L: Ledger, R: Wait + Abort>(rt: &R, pool: &Mutex<Pool<L>>, first: u64, last: u64) {
-    let endpoint = name(rt, b"a");
-    for delivery in first..last {
-        let returned = deliver(rt, pool, endpoint, delivery);
-        assert_eq!(rt; (returned.delivery, returned.inflight), (delivery, 1));
-    }
-}
+const REFUSALS: [Refusal; 3] = [
+    Refusal(Refused::AtLimit, 1, "AtLimit"),
+    Refusal(Refused::TooManyOut, 2, "TooManyOut"),
+    Refusal(Refused::AlreadyOut, 3, "AlreadyOut"),
+];
 
-fn share<L: Ledger + Send + Sync, R: Threads + Wait + Abort + Sync>(
-    rt: &R,
-    alloc: Global,
-    blank: Blank,
-) -> Result<(), Fail>
-    requires name { blank.name ≡ L.name }
-    requires parts { blank.parts ≡ L.parts }
-    requires enough { blank.parts ≡ PARTS }
-{
-    let shared = Mutex::new(Pool::<L>::new(alloc, blank)?);
-    let pool = &shared;
-    let (_, _) = thread::join(
-        rt,
-        move || work(rt, pool, 0, 5_000),
-        move || work(rt, pool, 5_000, 10_000),
-    );
-    shut(rt, shared.into_inner());
-    Ok(())
+fn is_told(rt: &impl Abort, alloc: Global, refusal: Refusal) -> bool {
+    let Refusal(refused, number, name) = refusal;
+    let text = format!(in alloc; "{refused}").expect(rt, "memory");
+    refused.number() == number && text.as_str() == name
 }
 
 #[test]
-fn two_threads_share_a_pool(rt: HostRuntime) -> Result<(), Fail> {
-    share::<Brand, _>(&rt, rt.alloc(), Blank::new(PARTS))
+fn refusals_have_numbers_and_names(rt: HostRuntime) {
+    for (place, refusal) in REFUSALS.iter().enumerate() {
+        holds(&rt, is_told(&rt, rt.alloc(), *refusal), place);
+    }
 }

@@ -1,102 +1,152 @@
+//! Targets: their parts, and texts that are none.
+
+use crate::cases::{holds, target};
 use relay_types::{ReadFault, Target};
 use std::alloc::Global;
-use std::test::Fail;
-
-fn is_read(alloc: Global, text: &[u8]) -> bool {
-    Target::read(alloc, text).is_ok()
-}
-
-fn is_refused(alloc: Global, text: &[u8]) -> bool {
-    matches!(Target::read(alloc, text), Err(ReadFault::BadUrl))
-}
+use std::process::Abort;
 
 /// The text of a target, its host, port and authority, and its path.
-type Row<'a> = (&'a [u8], &'a [u8], u16, &'a [u8], &'a [u8]);
+#[derive(Clone, Copy)]
+struct Parts {
+    text: &'static [u8],
+    host: &'static [u8],
+    port: u16,
+    authority: &'static [u8],
+    path: &'static [u8],
+}
 
-// Whether a second holder of the target sees these parts of it.
-fn has_parts(alloc: Global, row: Row<'_>) -> Result<bool, Fail> {
-    let (text, host, port, authority, path) = row;
-    let target = Target::read(alloc, text)?.share()?;
-    Ok(
-        target.as_bytes() == text
-            && target.host() == host
-            && target.port() == port
-            && target.authority() == authority
-            && target.path() == path,
-    )
+const PARTS: [Parts; 6] = [
+    Parts {
+        text: b"HTTP://h",
+        host: b"h",
+        port: 80,
+        authority: b"h",
+        path: b"/",
+    },
+    Parts {
+        text: b"hTtP://a-B_c.d/",
+        host: b"a-B_c.d",
+        port: 80,
+        authority: b"a-B_c.d",
+        path: b"/",
+    },
+    Parts {
+        text: b"http://h:1",
+        host: b"h",
+        port: 1,
+        authority: b"h:1",
+        path: b"/",
+    },
+    Parts {
+        text: b"http://h:65535/",
+        host: b"h",
+        port: 65_535,
+        authority: b"h:65535",
+        path: b"/",
+    },
+    Parts {
+        text: b"http://127.0.0.1:9000/hook",
+        host: b"127.0.0.1",
+        port: 9000,
+        authority: b"127.0.0.1:9000",
+        path: b"/hook",
+    },
+    // every mark of a path
+    Parts {
+        text: b"http://h/Az09-._~!$&'()*+,;=:@/%?",
+        host: b"h",
+        port: 80,
+        authority: b"h",
+        path: b"/Az09-._~!$&'()*+,;=:@/%?",
+    },
+];
+
+/// Whether a second holder of the target sees these parts of it.
+fn has_parts(rt: &impl Abort, target: Target, parts: Parts) -> bool {
+    let shared = target.share().expect(rt, "memory");
+    shared.as_bytes() == parts.text
+        && shared.host() == parts.host
+        && shared.port() == parts.port
+        && shared.authority() == parts.authority
+        && shared.path() == parts.path
+        && target.is(&shared)
 }
 
 #[test]
-fn parts_of_targets(rt: HostRuntime) -> Result<(), Fail> {
-    let rows: [Row<'_>; 6] = [
-        (b"HTTP://h", b"h", 80, b"h", b"/"),
-        (b"hTtP://a-B_c.d/", b"a-B_c.d", 80, b"a-B_c.d", b"/"),
-        (b"http://h:1", b"h", 1, b"h:1", b"/"),
-        (b"http://h:65535/", b"h", 65_535, b"h:65535", b"/"),
-        (
-            b"http://127.0.0.1:9000/hook",
-            b"127.0.0.1",
-            9000,
-            b"127.0.0.1:9000",
-            b"/hook",
-        ),
-        // every mark of a path
-        (
-            b"http://h/Az09-._~!$&'()*+,;=:@/%?",
-            b"h",
-            80,
-            b"h",
-            b"/Az09-._~!$&'()*+,;=:@/%?",
-        ),
-    ];
-    for row in rows {
-        assert!(rt; has_parts(rt.alloc(), row)?, "of {:?}", row.0);
+fn parts_of_targets(rt: HostRuntime) {
+    for (place, parts) in PARTS.iter().enumerate() {
+        let target = target(&rt, rt.alloc(), parts.text);
+        holds(&rt, has_parts(&rt, target, *parts), place);
     }
-    Ok(())
+}
+
+fn are_same(one: Target, other: Target) -> bool {
+    one.is(&other)
 }
 
 #[test]
-fn targets_are_compared(rt: HostRuntime) -> Result<(), Fail> {
-    let target = Target::read(rt.alloc(), b"http://h/")?;
-    assert!(rt; target.is(&target.share()?));
-    assert!(rt; !target.is(&Target::read(rt.alloc(), b"http://h")?));
-    Ok(())
+fn targets_are_compared(rt: HostRuntime) {
+    let alloc = rt.alloc();
+    let url = b"http://h/";
+    holds(
+        &rt,
+        are_same(target(&rt, alloc, url), target(&rt, alloc, url)),
+        0,
+    );
+    holds(
+        &rt,
+        !are_same(target(&rt, alloc, url), target(&rt, alloc, b"http://h")),
+        1,
+    );
+}
+
+/// How a text begins, and how many letters follow it.
+#[derive(Clone, Copy)]
+struct Text(&'static [u8], usize);
+
+const READ: [Text; 2] = [Text(b"http://", 253), Text(b"http://h/", 2039)];
+
+const REFUSED: [Text; 18] = [
+    Text(b"http://h:0/", 0),
+    Text(b"http://h:65536/", 0),
+    Text(b"https://h/", 0),
+    Text(b"http:///x", 0),
+    Text(b"http://h:/", 0),
+    Text(b"http://h:080/", 0),
+    Text(b"http://h:100000/", 0),
+    Text(b"http://h:8a/", 0),
+    Text(b"http://u@h/", 0),
+    Text(b"http://[::1]/", 0),
+    Text(b"http://h/a b", 0),
+    Text(b"http://h/#a", 0),
+    Text(b"http://h?a", 0),
+    Text(b"http://", 0),
+    Text(b"http:/", 0),
+    Text(b"", 0),
+    Text(b"http://", 254),
+    Text(b"http://h/", 2040),
+];
+
+fn fault_of(rt: &impl Abort, alloc: Global, text: Text) -> Option<ReadFault> {
+    let Text(start, count) = text;
+    let mut bytes = Vec::from_slice(alloc, start).expect(rt, "memory");
+    for _ in 0..count {
+        bytes.push(b'h').expect(rt, "memory");
+    }
+    Target::read(alloc, bytes.as_slice()).err()
+}
+
+#[test]
+fn texts_of_targets(rt: HostRuntime) {
+    for (place, text) in READ.iter().enumerate() {
+        holds(&rt, fault_of(&rt, rt.alloc(), *text).is_none(), place);
+    }
 }
 
 #[test]
 fn refused_targets(rt: HostRuntime) {
-    let rows: [&[u8]; 16] = [
-        b"http://h:0/",
-        b"http://h:65536/",
-        b"https://h/",
-        b"http:///x",
-        b"http://h:/",
-        b"http://h:080/",
-        b"http://h:100000/",
-        b"http://h:8a/",
-        b"http://u@h/",
-        b"http://[::1]/",
-        b"http://h/a b",
-        b"http://h/#a",
-        b"http://h?a",
-        b"http://",
-        b"http:/",
-        b"",
-    ];
-    for text in rows.iter() {
-        assert!(rt; is_refused(rt.alloc(), text));
+    for (place, text) in REFUSED.iter().enumerate() {
+        let fault = fault_of(&rt, rt.alloc(), *text);
+        holds(&rt, fault == Some(ReadFault::BadUrl), place);
     }
-}
-
-#[test]
-fn limits_of_targets(rt: HostRuntime) {
-    let mut long_host = [b'h'; 7 + 254];
-    long_host[..7].copy_from_slice(b"http://");
-    assert!(rt; is_read(rt.alloc(), &long_host[..7 + 253]));
-    assert!(rt; is_refused(rt.alloc(), &long_host));
-
-    let mut long_path = [b'p'; 2049];
-    long_path[..9].copy_from_slice(b"http://h/");
-    assert!(rt; is_read(rt.alloc(), &long_path[..2048]));
-    assert!(rt; is_refused(rt.alloc(), &long_path));
 }

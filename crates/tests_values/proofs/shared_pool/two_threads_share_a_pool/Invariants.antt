@@ -1,4 +1,4 @@
-use Rattle.tests_values.proofs.pool.two_threads_share_a_pool.Given as goal
+use Rattle.tests_values.proofs.shared_pool.two_threads_share_a_pool.Given as goal
 
 abbrev pub ghosts-share : goal.ghosts-share
 ghosts-share g a = record { name = a.blank.name; parts = a.blank.parts }

@@ -1,0 +1,198 @@
+//! Lists of secrets, and records and steps: how they are shared and compared.
+
+use crate::cases::{body, holds, max_limit, moment, msg_id, name, secret, target};
+use relay_types::{ReadFault, Record, Secret, Secrets, Step};
+use std::alloc::Global;
+use std::process::Abort;
+
+// Each of these is the base64 of 24 bytes.
+const KEYS: [&[u8]; 5] = [
+    b"MDEyMzQ1Njc4OTAxMjM0NTY3ODkwMTIz",
+    b"MfKQ9r8GKYqrTwjUPD8ILPZIo2LaLaSw",
+    b"AAAAAAAAAAAAAAAAAAAAAAAAAAAAAAAA",
+    b"////////////////////////////////",
+    b"MDEyMzQ1Njc4OTAxMjM0NTY3ODkwMTIz",
+];
+
+/// The secrets at these places of the keys.
+fn listed(rt: &impl Abort, keys: &[usize]) -> Result<Secrets, ReadFault> {
+    let mut all = [secret(rt, KEYS[0]); 5];
+    for (slot, key) in all.iter_mut().zip(keys) {
+        *slot = secret(rt, KEYS[*key % 5]);
+    }
+    Secrets::of(&all[..keys.len().min(5)])
+}
+
+/// A list of secrets by their places among the keys.
+#[derive(Clone, Copy)]
+enum List {
+    Refused(&'static [usize]),
+    /// The list has these secrets and no others.
+    Has(&'static [usize]),
+    /// Whether the lists are the same.
+    Same(&'static [usize], &'static [usize], bool),
+}
+
+const LISTS: [List; 9] = [
+    List::Refused(&[]),
+    List::Refused(&[0, 1, 2, 3, 4]),
+    List::Has(&[0]),
+    List::Has(&[0, 1]),
+    List::Has(&[0, 1, 2]),
+    List::Has(&[0, 1, 2, 3]),
+    List::Same(&[0, 1], &[0, 1], true),
+    List::Same(&[0, 1], &[1, 0], false),
+    List::Same(&[0, 1], &[0], false),
+];
+
+fn secrets_of(rt: &impl Abort, keys: &[usize]) -> Secrets {
+    listed(rt, keys).expect(rt, "secrets")
+}
+
+fn is_secret(found: Option<Secret>, wanted: Option<Secret>) -> bool {
+    found == wanted
+}
+
+fn key_at(rt: &impl Abort, keys: &[usize], place: usize) -> Option<Secret> {
+    match keys.get(place) {
+        Some(key) => Some(secret(rt, KEYS[*key % 5])),
+        None => None,
+    }
+}
+
+fn has(rt: &impl Abort, secrets: &Secrets, keys: &[usize]) -> bool {
+    let mut all = secrets.count() == keys.len();
+    for place in 0..6 {
+        all = all && is_secret(secrets.get(place), key_at(rt, keys, place));
+    }
+    all
+}
+
+fn is_so(rt: &impl Abort, case: List) -> bool {
+    match case {
+        List::Refused(keys) => listed(rt, keys).err() == Some(ReadFault::BadSecret),
+        List::Has(keys) => has(rt, &secrets_of(rt, keys), keys),
+        List::Same(one, other, same) => secrets_of(rt, one).is(&secrets_of(rt, other)) == same,
+    }
+}
+
+#[test]
+fn lists_of_secrets(rt: HostRuntime) {
+    for (place, case) in LISTS.iter().enumerate() {
+        holds(&rt, is_so(&rt, *case), place);
+    }
+}
+
+/// A record of this kind, and what of it a second holder sees.
+#[derive(Clone, Copy)]
+enum Kind {
+    Put(u64),
+    /// Secrets of these keys.
+    Secrets(&'static [usize]),
+    Enabled(bool),
+    /// An event at this moment with this body.
+    Accept(u64, &'static [u8]),
+    Outcome(u64, u64, u16),
+}
+
+// Records of each kind, no two of which are the same.
+const KINDS: [Kind; 7] = [
+    Kind::Put(20),
+    Kind::Secrets(&[0]),
+    Kind::Secrets(&[1, 1]),
+    Kind::Enabled(true),
+    Kind::Enabled(false),
+    Kind::Accept(1000, &[7, 7]),
+    Kind::Outcome(8, 1, 204),
+];
+
+fn record(rt: &impl Abort, alloc: Global, kind: Kind) -> Record {
+    let name = name(rt, b"a");
+    match kind {
+        Kind::Put(max) => Record::Put {
+            name,
+            target: target(rt, alloc, b"http://h/"),
+            max: max_limit(rt, max),
+            secrets: secrets_of(rt, &[0]),
+        },
+        Kind::Secrets(keys) => Record::Secrets {
+            name,
+            secrets: secrets_of(rt, keys),
+        },
+        Kind::Enabled(flag) => Record::Enabled { name, flag },
+        Kind::Accept(at, text) => Record::Accept {
+            name,
+            id: msg_id(rt, b"msg_1"),
+            body: body(rt, alloc, text),
+            at: moment(rt, at),
+        },
+        Kind::Outcome(delivery, attempt, status) => Record::Outcome {
+            delivery,
+            attempt,
+            status,
+            at: moment(rt, 1000),
+        },
+    }
+}
+
+fn is_of(rt: &impl Abort, record: &Record, kind: Kind) -> bool {
+    match (record, kind) {
+        (Record::Put { max, .. }, Kind::Put(wanted)) => u64::from(max.get()) == wanted,
+        (Record::Secrets { secrets, .. }, Kind::Secrets(keys)) => has(rt, secrets, keys),
+        (Record::Enabled { flag, .. }, Kind::Enabled(wanted)) => *flag == wanted,
+        (Record::Accept { body, at, .. }, Kind::Accept(moment, text)) => {
+            at.seconds() == moment && body.as_bytes() == text
+        }
+        (
+            Record::Outcome {
+                delivery,
+                attempt,
+                status,
+                ..
+            },
+            Kind::Outcome(number, count, answer),
+        ) => *delivery == number && *attempt == count && *status == answer,
+        _ => false,
+    }
+}
+
+fn shared(rt: &impl Abort, record: &Record) -> Step {
+    Step::of(record.share().expect(rt, "memory"))
+}
+
+/// Whether the record, its step and a second holder of the step show what the record is of.
+fn are_of(rt: &impl Abort, record: &Record, step: &Step, kind: Kind) -> bool {
+    let second = step.share().expect(rt, "memory");
+    is_of(rt, record, kind) && is_of(rt, step.record(), kind) && is_of(rt, second.record(), kind)
+}
+
+fn show(rt: &impl Abort, record: &Record, kind: Kind, place: usize) {
+    let step = shared(rt, record);
+    holds(rt, are_of(rt, record, &step, kind), place);
+}
+
+#[test]
+fn records_and_steps_are_shared(rt: HostRuntime) {
+    for (place, kind) in KINDS.iter().enumerate() {
+        show(&rt, &record(&rt, rt.alloc(), *kind), *kind, place);
+    }
+}
+
+/// Whether two records and their steps are the same.
+fn compare(rt: &impl Abort, one: &Record, other: &Record, same: bool, place: usize) {
+    holds(rt, one.is(other) == same, place);
+    holds(rt, shared(rt, one).is(&shared(rt, other)) == same, place);
+}
+
+fn compare_all(rt: &impl Abort, alloc: Global, one: &Record, at: usize) {
+    for (place, kind) in KINDS.iter().enumerate() {
+        compare(rt, one, &record(rt, alloc, *kind), place == at, place);
+    }
+}
+
+#[test]
+fn records_and_steps_are_compared(rt: HostRuntime) {
+    for (place, kind) in KINDS.iter().enumerate() {
+        compare_all(&rt, rt.alloc(), &record(&rt, rt.alloc(), *kind), place);
+    }
+}
