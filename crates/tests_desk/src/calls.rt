@@ -1,0 +1,297 @@
+//! Calls of a desk, and whether they answer what is expected.
+
+use crate::given::{body, post_of, put_command, secrets};
+use crate::kept::{Kept, numbers_of};
+use crate::steps::{Answer, Endpoint, Given, Went};
+use desk::{Command, Desk, Job, Refusal, Spent, Ticket};
+use group_commit::{Held, WrongTurn};
+use permits::Foreign;
+use relay_types::{Moment, MsgId, Name};
+use retry_table::PostResult;
+use spool::Vault;
+use sqlite::MemStore;
+use std::alloc::Global;
+use std::process::Abort;
+use std::sync::ledger::Ledger;
+use std::test::Fail;
+
+fn is_refused(refusal: Refusal, wanted: Answer) -> bool {
+    match wanted {
+        Answer::Refused(number, fault) => refusal.number == number && refusal.fault == fault,
+        Answer::Record(_) => false,
+    }
+}
+
+fn is_record(seq: u64, wanted: Answer) -> bool {
+    match wanted {
+        Answer::Record(number) => seq == number,
+        Answer::Refused(_, _) => false,
+    }
+}
+
+fn command<L: Ledger>(desk: &mut Desk<L>, command: Command, wanted: Answer) -> bool {
+    match desk.command(command) {
+        Ok(ticket) => is_record(ticket.seq, wanted),
+        Err(refusal) => is_refused(refusal, wanted),
+    }
+}
+
+pub(crate) fn put<L: Ledger>(
+    desk: &mut Desk<L>,
+    alloc: Global,
+    name: &[u8],
+    endpoint: &Endpoint,
+    wanted: Answer,
+) -> Result<bool, Fail> {
+    let given = put_command(alloc, name, endpoint)?;
+    Ok(command(desk, given, wanted))
+}
+
+pub(crate) fn set_secrets<L: Ledger>(
+    desk: &mut Desk<L>,
+    alloc: Global,
+    name: &[u8],
+    texts: &[&[u8]],
+    wanted: Answer,
+) -> Result<bool, Fail> {
+    let name = Name::read(name)?;
+    let secrets = secrets(alloc, texts)?;
+    Ok(command(desk, Command::SetSecrets { name, secrets }, wanted))
+}
+
+pub(crate) fn enable<L: Ledger>(
+    desk: &mut Desk<L>,
+    name: &[u8],
+    flag: bool,
+    wanted: Answer,
+) -> Result<bool, Fail> {
+    let name = Name::read(name)?;
+    Ok(command(desk, Command::SetEnabled { name, flag }, wanted))
+}
+
+fn is_ticket(ticket: Ticket, name: Name, id: MsgId, wanted: Answer) -> bool {
+    is_record(ticket.seq, wanted) && ticket.name.is(name) && ticket.id.is(id)
+}
+
+pub(crate) fn submit<L: Ledger>(
+    desk: &mut Desk<L>,
+    alloc: Global,
+    now: u64,
+    name: &[u8],
+    id: &[u8],
+    text: &[u8],
+    wanted: Answer,
+) -> Result<bool, Fail> {
+    let now = Moment::of(now)?;
+    let name = Name::read(name)?;
+    let id = MsgId::read(id)?;
+    match desk.submit(now, name, id, body(alloc, text)?) {
+        Ok(ticket) => Ok(is_ticket(ticket, name, id, wanted)),
+        Err(refusal) => Ok(is_refused(refusal, wanted)),
+    }
+}
+
+/// Submits the twenty events `a` to `t` of 1000 with two bytes.
+pub(crate) fn submit_twenty<L: Ledger>(
+    desk: &mut Desk<L>,
+    alloc: Global,
+    name: &[u8],
+    first: u64,
+) -> Result<bool, Fail> {
+    for id in b'a'..b'u' {
+        let seq = first.saturating_add(u64::from(id - b'a'));
+        if !submit(desk, alloc, 1000, name, &[id], b"{}", Answer::Record(seq))? {
+            return Ok(false);
+        }
+    }
+    Ok(true)
+}
+
+/// Seals, and keeps the batch.
+pub(crate) fn seal<L: Ledger>(desk: &mut Desk<L>, kept: &mut Kept) -> Option<(u64, u64, usize)> {
+    match desk.seal() {
+        Ok(Some(batch)) => {
+            let told = numbers_of(&batch);
+            kept.keep_batch(batch);
+            Some(told)
+        }
+        Ok(None) | Err(_) => None,
+    }
+}
+
+/// How many records the receipt that is kept settles.
+fn settle<L: Ledger>(desk: &mut Desk<L>, kept: &mut Kept) -> Option<u64> {
+    let receipt = kept.receipt.take()?;
+    match desk.settle(receipt) {
+        Ok(settled) => Some(settled.records),
+        Err((receipt, WrongTurn)) => {
+            kept.keep_receipt(receipt);
+            None
+        }
+    }
+}
+
+/// Seals, commits and settles: whether so many records are settled then.
+pub(crate) fn turn<L: Ledger>(
+    desk: &mut Desk<L>,
+    vault: &mut Vault<MemStore>,
+    kept: &mut Kept,
+    wanted: u64,
+) -> bool {
+    seal(desk, kept).is_some() && kept.commit(vault) && settle(desk, kept) == Some(wanted)
+}
+
+/// Whether what is held halts the desk. Only nothing comes back as nothing.
+fn is_halted_by<L: Ledger>(desk: &mut Desk<L>, kept: &mut Kept, held: Held) -> bool {
+    match desk.halt(held) {
+        Ok(()) => true,
+        Err((Held::Nothing, WrongTurn)) => false,
+        Err((Held::Batch(batch), WrongTurn)) => {
+            kept.keep_batch(batch);
+            false
+        }
+        Err((Held::Doubt(doubt), WrongTurn)) => {
+            doubt.end();
+            false
+        }
+    }
+}
+
+pub(crate) fn halt_by_nothing<L: Ledger>(desk: &mut Desk<L>, kept: &mut Kept) -> bool {
+    is_halted_by(desk, kept, Held::Nothing)
+}
+
+pub(crate) fn halt_by_batch<L: Ledger>(desk: &mut Desk<L>, kept: &mut Kept) -> bool {
+    match kept.batch.take() {
+        Some(batch) => is_halted_by(desk, kept, Held::Batch(batch)),
+        None => false,
+    }
+}
+
+fn numbers_in<L: Ledger>(job: &Job<L>) -> Given {
+    Given::Job(
+        job.permit().delivery(),
+        job.attempt(),
+        job.moment().seconds(),
+        job.permit().inflight(),
+    )
+}
+
+/// Claims, and keeps the job.
+fn next<L: Ledger>(
+    rt: &impl Abort,
+    desk: &mut Desk<L>,
+    jobs: &mut Vec<Job<L>>,
+    now: Moment,
+) -> Given {
+    match desk.claim(now) {
+        Ok(Some(job)) => {
+            let given = numbers_in(&job);
+            keep_job(rt, jobs, job);
+            given
+        }
+        Ok(None) => Given::Nothing,
+        Err(refusal) => Given::Refused(refusal.number, refusal.fault),
+    }
+}
+
+fn keep_job<L: Ledger>(rt: &impl Abort, jobs: &mut Vec<Job<L>>, job: Job<L>) {
+    match jobs.push(job) {
+        Ok(()) => {}
+        Err(refused) => panic!(rt; "no room for {}", refused.value.permit().delivery()),
+    }
+}
+
+pub(crate) fn claim<L: Ledger>(
+    rt: &impl Abort,
+    desk: &mut Desk<L>,
+    jobs: &mut Vec<Job<L>>,
+    now: u64,
+    wanted: Given,
+) -> Result<bool, Fail> {
+    let now = Moment::of(now)?;
+    Ok(next(rt, desk, jobs, now) == wanted)
+}
+
+/// Claims so many jobs.
+pub(crate) fn claim_many<L: Ledger>(
+    rt: &impl Abort,
+    desk: &mut Desk<L>,
+    jobs: &mut Vec<Job<L>>,
+    now: u64,
+    count: usize,
+) -> Result<bool, Fail> {
+    let now = Moment::of(now)?;
+    for _ in 0..count {
+        if !matches!(next(rt, desk, jobs, now), Given::Job(..)) {
+            return Ok(false);
+        }
+    }
+    Ok(true)
+}
+
+fn spend_job<L: Ledger>(
+    rt: &impl Abort,
+    desk: &mut Desk<L>,
+    job: Job<L>,
+    post: PostResult,
+    now: Moment,
+) -> Spent {
+    match desk.spend(job.into_permit(), post, now) {
+        Ok(spent) => spent,
+        Err((permit, Foreign)) => panic!(rt; "{} is foreign", permit.delivery()),
+    }
+}
+
+pub(crate) fn spend<L: Ledger>(
+    rt: &impl Abort,
+    desk: &mut Desk<L>,
+    jobs: &mut Vec<Job<L>>,
+    place: usize,
+    went: Went,
+    now: u64,
+    wanted: Spent,
+) -> Result<bool, Fail> {
+    let now = Moment::of(now)?;
+    let post = post_of(went)?;
+    assert!(rt; place < jobs.len(), "job {place} is not kept");
+    Ok(spend_job(rt, desk, jobs.remove(place), post, now) == wanted)
+}
+
+/// Claims, and gives the job back unsent.
+pub(crate) fn look<L: Ledger>(
+    rt: &impl Abort,
+    desk: &mut Desk<L>,
+    jobs: &mut Vec<Job<L>>,
+    now: u64,
+    wanted: Given,
+) -> Result<bool, Fail> {
+    let now = Moment::of(now)?;
+    let given = next(rt, desk, jobs, now);
+    if let Given::Job(..) = given {
+        spend_last(rt, desk, jobs, now);
+    }
+    Ok(given == wanted)
+}
+
+fn spend_last<L: Ledger>(rt: &impl Abort, desk: &mut Desk<L>, jobs: &mut Vec<Job<L>>, now: Moment) {
+    match jobs.pop() {
+        Some(job) => {
+            spend_job(rt, desk, job, PostResult::Unsent, now);
+        }
+        None => panic!(rt; "no job is kept"),
+    }
+}
+
+/// Spends the permits of all these jobs, which weren't sent.
+pub(crate) fn spend_all<L: Ledger>(
+    rt: &impl Abort,
+    desk: &mut Desk<L>,
+    mut jobs: Vec<Job<L>>,
+    now: Moment,
+) {
+    while let Some(job) = jobs.pop() {
+        spend_job(rt, desk, job, PostResult::Unsent, now);
+    }
+    jobs.destroy_empty();
+}

@@ -1,0 +1,40 @@
+//! Requests as lines.
+
+use crate::steps::Request;
+use delivery::{Header, Outgoing};
+use desk::Job;
+use std::alloc::{AllocError, Global};
+use std::sync::ledger::Ledger;
+use std::test::Fail;
+
+fn add_header(text: &mut Vec<u8>, header: &Header) -> Result<(), AllocError> {
+    text.extend_from_slice(header.name().as_bytes())?;
+    text.extend_from_slice(b": ")?;
+    text.extend_from_slice(header.value())?;
+    text.extend_from_slice(b"\n")
+}
+
+/// The method and what is asked for, the headers and the body, each on a line.
+fn lines_of(alloc: Global, outgoing: &Outgoing) -> Result<Vec<u8>, AllocError> {
+    let mut text = Vec::new(alloc);
+    text.extend_from_slice(outgoing.method().as_bytes())?;
+    text.extend_from_slice(b" ")?;
+    text.extend_from_slice(outgoing.target())?;
+    text.extend_from_slice(b"\n")?;
+    for header in outgoing.headers() {
+        add_header(&mut text, header)?;
+    }
+    text.extend_from_slice(outgoing.body().as_bytes())?;
+    Ok(text)
+}
+
+/// Whether this is the request of the job.
+pub(crate) fn asks<L: Ledger>(alloc: Global, job: &Job<L>, wanted: &Request) -> Result<bool, Fail> {
+    let outgoing = Outgoing::build(alloc, job)?;
+    let lines = lines_of(alloc, &outgoing)?;
+    Ok(
+        lines.as_slice() == wanted.lines
+            && outgoing.host() == wanted.host
+            && outgoing.port() == wanted.port,
+    )
+}
