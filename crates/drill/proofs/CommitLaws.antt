@@ -29,7 +29,7 @@ use Rattle.drill.specs.declared.held.Held.TheVariants as held
 use Rattle.drill.specs.declared.calls.Core.{Core}
 use Rattle.drill.specs.Moves.{Session, MayTell, commits, with_receipt, in_doubt}
 use Rattle.drill.specs.Cores.{HoldsAll, HoldsOut, IsHeld, IsOfBatch, CoreStandsFor, IsCore}
-use Rattle.drill.specs.Runners.{RunStandsFor, Answers, EndsAs, CommitsSo, unchanged_reply}
+use Rattle.drill.specs.Runners.{Answers, EndsAs, CommitsSo, unchanged_reply}
 use Rattle.recovery.specs.Left.{IsOpenAt, AreOfSteps, HoldsLeft, LeavesBy, VaultStandsFor, KeepsRows, rows_of_first}
 use Rattle.drill.proofs.TurnLaws.{sealed_is, sealed_front}
 

@@ -37,7 +37,7 @@ use Rattle.drill.specs.declared.held.Held.{Held}
 use Rattle.drill.specs.declared.held.Held.TheVariants as held
 use Rattle.drill.specs.declared.tickets.Given.{Given}
 use Rattle.drill.specs.Tickets.{Keeps}
-use Rattle.drill.specs.Moves.{Session, Answer, MayTell, IsOneOf, stays, lacks, tells, stages, staged_reply, refusal_reply, with_ticket, claim_reply, spent_reply, spends, permit_of}
+use Rattle.drill.specs.Moves.{Session, MayTell, IsOneOf, stays, lacks, tells, stages, staged_reply, refusal_reply, with_ticket, claim_reply, spent_reply, spends, permit_of}
 use Rattle.drill.specs.Cores.{IsHeld, AreOnce, CoreStandsFor, HoldsAll, HoldsOut, IsCore, CoreAnswers, KeepsAll}
 
 -- Worlds after which what is out, settled and sealed is as before

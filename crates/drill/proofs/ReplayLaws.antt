@@ -14,7 +14,6 @@ use Rattle.drill.specs.declared.player.State.TheVariants.{Open}
 use Rattle.drill.specs.declared.runner.Runner.{Runner}
 use Rattle.drill.specs.Moves.{Session, begun}
 use Rattle.drill.specs.Restarts.{Replay, ReadLines, IsNoLine, shown_of, replies_text, Replies, RepliesTo}
-use Rattle.drill.specs.Runners.{RunStandsFor}
 use Rattle.drill.specs.Replays.{RunsLine, Replays, LeavesRun, KeepsRun, StateStandsFor}
 use Rattle.recovery.specs.Left.{KeepsRows}
 use Rattle.drill.proofs.CommitLaws.{rows_kept}
