@@ -257,7 +257,7 @@ event_tracked s next (on.Look asked) told h (is, same) = subst (λ (t : Session)
 
 -- Runs
 
-run_tracked : (s : Session) (events : List Event) (replies : List Reply) (last : Session) (n : ℕ) → IsTracked s.world → Runs s events replies last n → IsTracked last.world
+pub run_tracked : (s : Session) (events : List Event) (replies : List Reply) (last : Session) (n : ℕ) → IsTracked s.world → Runs s events replies last n → IsTracked last.world
 run_tracked s [] [] last n h (same, none) = subst (λ (t : Session). IsTracked t.world) (sym same) h
 run_tracked s (event ∷ events) (told ∷ replies) last n h (next, later, makes, run, is) = run_tracked next events replies last later (event_tracked s next event told h makes) run
 run_tracked s [] (told ∷ replies) last n h run = absurd run

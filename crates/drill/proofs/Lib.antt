@@ -3,6 +3,7 @@ mod TurnLaws
 mod FollowLaws
 mod VaultLaws
 mod CommitLaws
+mod GoingLaws
 mod AttemptLaws
 mod ShownLaws
 mod RestartLaws
@@ -12,3 +13,4 @@ pub mod ReplayLaws
 mod WorkedRun
 mod WithinLaws
 mod RefusalLaws
+mod LaterLaws

@@ -7,6 +7,7 @@ use Rattle.std.proofs.lemmas.Grind.{merely}
 use Rattle.std.proofs.lemmas.Option.{same_Some}
 use Rattle.sqlite.specs.Store.{Ghosts}
 use Rattle.spool.specs.Vaults.{VaultValue}
+use Rattle.relay_types.specs.declared.record.Record.{Record}
 use Rattle.relay_types.specs.Records.{Accepted, records_of}
 use Rattle.relay_types.specs.Deliveries.{accepted, deliveries, due_of}
 use Rattle.relay_types.proofs.KnownLaws.{below_if_accepted}
@@ -27,7 +28,7 @@ use Rattle.group_commit.specs.Waits.{batch_of, batch_out}
 use Rattle.desk.specs.Desks.{HasNothingOut, StandsFor}
 use Rattle.desk.specs.World.{World, Out, Nothing, Batch, Receipt, Doubt, all_records, settled_records, sealed_records}
 use Rattle.desk.proofs.LeastLaws.{chosen_among, passes}
-use Rattle.recovery.specs.Left.{LeavesBy, records_of_first}
+use Rattle.recovery.specs.Left.{LeavesBy}
 use Rattle.drill.specs.declared.events.Event.{Event}
 use Rattle.drill.specs.declared.events.Event.TheVariants as on
 use Rattle.drill.specs.declared.events.Look.{Look}
@@ -39,10 +40,10 @@ use Rattle.drill.specs.declared.tickets.Given.TheVariants.{Submission, Command}
 use Rattle.drill.specs.declared.calls.Core.{Core}
 use Rattle.drill.specs.declared.held.Held.{Held}
 use Rattle.drill.specs.declared.held.Held.TheVariants as held
-use Rattle.drill.specs.Cores.{AreOnce, CoreStandsFor, HoldsAll, HoldsOut, IsCore, IsHeld, is_commit, receipt_of, given_of}
+use Rattle.drill.specs.Cores.{AreOnce, CoreStandsFor, HoldsOut, IsCore, IsHeld, is_commit, receipt_of, given_of}
 use Rattle.drill.specs.Runners.{RunStandsFor}
 use Rattle.drill.specs.Worlds.{IsOpening, IsOut, IsRunFrom, TakesEvent, TakesEvents, session_of}
-use Rattle.drill.specs.Events.{Makes, Runs, IsKept, shown, shown_by_line, shown_by_look, look_reply}
+use Rattle.drill.specs.Events.{KeepsFirst, Makes, Runs, IsKept, shown, shown_by_line, shown_by_look, look_reply}
 use Rattle.drill.specs.Moves.{Session, MayTell, IsOneOf, claim_reply, lacks, settles, told_as, told_reply}
 use Rattle.drill.specs.Runs.{Move}
 use Rattle.drill.specs.Tickets.{Keeps, find_ticket, seq_of}
@@ -50,7 +51,7 @@ use Rattle.drill.specs.declared.runs.World as left
 use Rattle.drill.proofs.CommitLaws.{rows_kept}
 use Rattle.drill.proofs.CoreLaws.{same_first}
 use Rattle.drill.proofs.FollowLaws.{by_call, commits_follow, follows}
-use Rattle.drill.proofs.VaultLaws.{each_left}
+use Rattle.drill.proofs.GoingLaws.{front_kept, opening_in_front, opening_marks, run_goes_on}
 use Rattle.drill.proofs.AttemptLaws.{attempts_pending_again}
 use Rattle.drill.proofs.TurnLaws.{sealed_is}
 
@@ -250,9 +251,12 @@ runs_more s mid next (first ∷ events) (given ∷ replies) n event told (after,
 runs_more s mid next [] (given ∷ replies) n event told run makes = absurd run
 runs_more s mid next (first ∷ events) [] n event told run makes = absurd run
 
--- Whatever a stop may leave has what is settled.
+-- Whatever a stop may leave has what is settled, in its place.
+pub first_kept : (w : World) (n : ℕ) (records : List Record) → IsOrdered w → LeavesBy w.out w → n ≤ settled_count w → take n (all_records w) ≡ take n records → KeepsFirst w n records
+first_kept w n records h leaves below same = front_kept w n records leaves below (omega (arith, below, settled_in_sealed w h)) same
+
 pub settled_kept : (w : World) (n : ℕ) → IsOrdered w → LeavesBy w.out w → n ≤ settled_count w → IsKept w n
-settled_kept w n h leaves below = each_left (λ steps. n ≤ length (records_of_first w steps)) w w.out leaves below (omega (arith, below, settled_in_sealed w h))
+settled_kept w n h leaves below = first_kept w n (all_records w) h leaves below refl
 
 -- What is held, as it is handed on.
 
@@ -301,7 +305,8 @@ idle_core core (live, out) nothing none = merely (record {
 pub run_from : {L S : Type 0} (g : Ghosts S) (first : Core L) (before : VaultValue S) (core : Core L) (w : World) (events : List Event) (to : left.World L S) → IsOpening w → RunStandsFor g first before (session_of w)
     → TakesEvents g first before events to.replies.items core to.vault → to.desk ≡ core.desk → to.permits ≡ core.permits → to.receipt ≡ receipt_of core.held → to.held ≡ given_of core.held → IsRunFrom g (session_of w) events to
 run_from g first before core w events to opening started takes desk permits receipt given =
-    let (last, n, run, on, below) = takes (session_of w) started in record {
+    let (last, n, run, on, below) = takes (session_of w) started in
+    let going = run_goes_on events to.replies.items (session_of w) last n (opening_marks w opening) run in record {
       last = last;
       acknowledged = n;
       runs = run;
@@ -311,7 +316,9 @@ run_from g first before core w events to opening started takes desk permits rece
           (subst (IsOut core.desk.waiting.mark last.world (receipt_of core.held)) (sym given) (is_out core.desk.waiting.mark last.world core.held on.stands.held)));
       vault = on.holds;
       mark = ap (λ d. d.waiting.mark) desk ∙ on.mark;
+      goes = going.0;
       leaves = rows_kept g to.vault last.world on.holds;
+      begins = opening_in_front w last.world opening going.0 going.1 on.holds.leaves;
       kept = settled_kept last.world n (is_ordered g core to.vault last on) on.holds.leaves below;
       again = attempts_pending_again w events to.replies.items last n opening run;
     }

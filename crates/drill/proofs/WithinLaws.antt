@@ -1,5 +1,5 @@
 -- Calls that may be made during a commit change places with it: they read neither what is out nor what a stop leaves.
-use Rattle.std.proofs.Common.{◌≡◌, ◌≤◌, ◌==◌, ℕ, Bool, true, false, List, [], ◌∷◌, ◌++◌, length, take, max, Option, Some, None, ◌⊎◌, inl, inr, refl, sym, ap, subst, ◌∙◌, arith, length-append}
+use Rattle.std.proofs.Common.{◌≡◌, ◌≤◌, ◌==◌, ℕ, Bool, true, false, List, [], ◌∷◌, ◌++◌, length, take, max, Option, Some, None, ◌⊎◌, inl, inr, refl, sym, ap, subst, ◌∙◌, arith}
 use Rattle.std.specs.Prelude.{if◌then◌else◌}
 use Rattle.std.specs.List.{list_all}
 use Rattle.std.specs.Option.{option_map_or}
@@ -31,7 +31,6 @@ use Rattle.drill.specs.declared.events.Reply.{Reply}
 use Rattle.drill.specs.declared.events.Reply.TheVariants as reply
 use Rattle.drill.specs.declared.tickets.Given.{Given}
 use Rattle.drill.specs.declared.tickets.Given.TheVariants.{Submission, Command as OfCommand}
-use Rattle.drill.specs.Cores.{is_commit}
 use Rattle.drill.specs.Events.{Makes, Runs, look_reply, shown, shown_by_line}
 use Rattle.drill.specs.Moves.{Session, Answer, MayTell, answer_to, claim_reply, commits, endpoint_reply, event_reply, lacks, limits_reply, moves, permit_of, refusal_reply, seal_reply, spends, spent_reply, staged_reply, stages, stays, tells, told_reply, with_ticket}
 use Rattle.drill.specs.Runs.{Move}
@@ -39,7 +38,7 @@ use Rattle.drill.specs.Tickets.{find_ticket}
 use Rattle.drill.specs.Within.{CallsChangePlacesWithCommits, HasMarksInOrder, RunsKeepMarksInOrder, commit, is_line_within, is_within}
 use Rattle.drill.specs.Worlds.{session_of}
 use Rattle.drill.proofs.CoreLaws.{Goes, goes_change, goes_claim, goes_over, goes_submit, is_claim, same_first, stays_so}
-use Rattle.drill.proofs.FollowLaws.{by_call, commits_follow, follows}
+use Rattle.drill.proofs.GoingLaws.{marks_go, opening_marks, run_goes_on}
 use Rattle.drill.proofs.ShownLaws.{event_shown}
 use Rattle.drill.proofs.TurnLaws.{answer_by}
 
@@ -321,9 +320,6 @@ shows w (on.Look asked) told o left = refl
 settled_as : (w next : World) → Goes w next → HasMarksInOrder w → length (settled_records w) ≡ length (settled_records next)
 settled_as w next g marks = ap length (same_first w next w.settled g (omega (arith, marks.0, marks.1)) ∙ ap (λ k. records_of (take k next.history)) (sym g.settled))
 
-marks_go : (w next : World) → Goes w next → HasMarksInOrder w → HasMarksInOrder next
-marks_go w next g marks = (omega (arith, marks.0, g.settled, g.sealed), omega (arith, marks.1, g.sealed, ap length g.history, length-append w.history g.more))
-
 -- calls that may be made within show no more than was settled
 run_shows : (events : List Event) (replies : List Reply) (s last : Session) (n : ℕ) → is_nothing_out s.world.out ≡ false → HasMarksInOrder s.world → list_all is_within events ≡ true
     → Runs s events replies last n → n ≤ length (settled_records s.world)
@@ -401,26 +397,5 @@ calls_change_places s last events replies committed n out marks within =
 
 -- The marks stay in order
 
-line_marks : (s next : Session) (event : line.Event) (told : line_reply.Reply) → HasMarksInOrder s.world → Move s event told next → HasMarksInOrder next.world
-line_marks s next event told marks move = by_call HasMarksInOrder s next event told desk (commits_follow HasMarksInOrder s next told s.world.out refl marks (λ e. marks) (λ e. marks)) move
-  where
-    desk : is_commit event ≡ false → HasMarksInOrder next.world
-    desk own = follows HasMarksInOrder s next event told own (record {
-      stays = marks;
-      goes = λ other g. marks_go s.world other g marks;
-      seals = λ going free. (omega (arith, marks.0, marks.1), omega arith);
-      settles = λ e. (omega arith, marks.1);
-      unseals = λ e. (omega arith, omega (arith, marks.0, marks.1));
-      halts = λ other. marks;
-    }) move
-
-run_marks : (events : List Event) (replies : List Reply) (s last : Session) (n : ℕ) → HasMarksInOrder s.world → Runs s events replies last n → HasMarksInOrder last.world
-run_marks [] [] s last n marks (same, none) = subst (λ (t : Session). HasMarksInOrder t.world) (sym same) marks
-run_marks (on.Line event ∷ events) (told ∷ replies) s last n marks (next, later, (line, says_so, move), rest, is) = run_marks events replies next last later (line_marks s next event line marks move) rest
-run_marks (on.Look asked ∷ events) (told ∷ replies) s last n marks (next, later, (says_so, same), rest, is) = run_marks events replies next last later (subst (λ (t : Session). HasMarksInOrder t.world) (sym same) marks) rest
-run_marks [] (told ∷ replies) s last n marks run = absurd run
-run_marks (event ∷ events) [] s last n marks run = absurd run
-
 pub runs_keep_marks : RunsKeepMarksInOrder
-runs_keep_marks w events replies last n (history, clock, is) run =
-    run_marks events replies (session_of w) last n (subst HasMarksInOrder (sym is) (omega arith, omega arith)) run
+runs_keep_marks w events replies last n opening run = (run_goes_on events replies (session_of w) last n (opening_marks w opening) run).1

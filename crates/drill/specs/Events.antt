@@ -1,6 +1,7 @@
 -- The calls of a run: what each is told, and how far the replies show records to be settled.
-use Rattle.std.specs.Prelude.{◌≡◌, ℕ, ◌+◌, ◌≤◌, max, true, List, [], ◌∷◌, length, is_some}
+use Rattle.std.specs.Prelude.{◌≡◌, ℕ, ◌+◌, ◌≤◌, max, true, List, [], ◌∷◌, length, take, is_some}
 use Rattle.std.specs.List.{AllByRecursion}
+use Rattle.relay_types.specs.declared.record.Record.{Record}
 use Rattle.script_lines.specs.declared.event.Event as line
 use Rattle.script_lines.specs.declared.event.Event.TheVariants as on_line
 use Rattle.script_lines.specs.declared.reply.Reply as line_reply
@@ -64,6 +65,14 @@ Runs s (event ∷ events) (told ∷ replies) last acknowledged = (next : Session
 Runs s [] (told ∷ replies) last acknowledged = ⊥
 Runs s (event ∷ events) [] last acknowledged = ⊥
 
--- Whatever a stop may leave has all records below this number.
+-- so many records are there, and they are the first of these
+abbrev pub HasFirst : (count : ℕ) (records there : List Record) → Type 0
+HasFirst count records there = (count ≤ length there) × (take count there ≡ take count records)
+
+-- Whatever a stop may leave of the world has the first so many of these records, in their places.
+abbrev pub KeepsFirst : World → (count : ℕ) (records : List Record) → Type 0
+KeepsFirst w count records = AllByRecursion (λ steps. HasFirst count records (records_of_first w steps)) w.left
+
+-- Whatever a stop may leave has all records below this number, in their places.
 abbrev pub IsKept : World → (acknowledged : ℕ) → Type 0
-IsKept w acknowledged = AllByRecursion (λ steps. acknowledged ≤ length (records_of_first w steps)) w.left
+IsKept w acknowledged = KeepsFirst w acknowledged (all_records w)

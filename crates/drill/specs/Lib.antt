@@ -12,3 +12,4 @@ pub mod Replays
 pub mod Places
 pub mod Within
 pub mod Refusals
+pub mod Later

@@ -1,16 +1,18 @@
 -- What a run of events leaves.
-use Rattle.std.specs.Prelude.{◌≡◌, ℕ, ◌≤◌, List, [], length, Option, Some, None}
+use Rattle.std.specs.Prelude.{◌≡◌, ℕ, ◌≤◌, List, [], ◌++◌, length, Option, Some, None}
+use Rattle.std.specs.List.{AllByRecursion}
 use Rattle.sqlite.specs.Store.{Ghosts}
+use Rattle.relay_types.specs.declared.record.Record.{Record}
 use Rattle.relay_types.specs.Values.{Seconds}
 use Rattle.relay_types.specs.Records.{History}
 use Rattle.spool.specs.Batches.{BatchValue, doubt_of}
 use Rattle.spool.specs.Vaults.{VaultValue}
 use Rattle.group_commit.specs.declared.held.Held as waiting
 use Rattle.group_commit.specs.declared.held.Held.TheVariants as held
-use Rattle.desk.specs.World.{World, Nothing, Batch, Receipt, Doubt, settled_records}
+use Rattle.desk.specs.World.{World, Nothing, Batch, Receipt, Doubt, all_records, settled_records}
 use Rattle.desk.specs.Moves.{opened, sealed_batch}
-use Rattle.desk.specs.Desks.{DeskValue, StandsFor}
-use Rattle.recovery.specs.Left.{VaultStandsFor, KeepsRows}
+use Rattle.desk.specs.Desks.{StandsFor}
+use Rattle.recovery.specs.Left.{VaultStandsFor, KeepsRows, records_of_first}
 use Rattle.drill.specs.declared.calls.Core.{Core}
 use Rattle.drill.specs.declared.events.Event.{Event}
 use Rattle.drill.specs.declared.events.Reply.{Reply}
@@ -46,9 +48,19 @@ IsOut mark w None (held.Doubt doubt) = (w.out ≡ Doubt) × (doubt ≡ doubt_of 
 IsOut mark w (Some receipt) held.Nothing = (w.out ≡ Receipt) × (receipt ≡ sealed_batch mark w)
 IsOut mark w (Some receipt) given = ⊥
 
+-- The second world goes on from the first: more steps may have come to its history, and no fewer are settled.
+pub record GoesOn (w next : World) : Type 0 where
+  pub more : History
+  pub history : next.history ≡ w.history ++ more
+  pub settled : w.settled ≤ next.settled
+
+-- Whatever a stop may leave of the world begins with these records.
+abbrev pub AreInFront : (records : List Record) → World → Type 0
+AreInFront records w = AllByRecursion (λ steps. (more : List Record) × (records_of_first w steps ≡ records ++ more)) w.left
+
 -- These are the replies of a run of the events from the session, and what is left stands for its last world: the desk, the permits of the
--- attempts under way, what is out, and the store, which a stop leaves as this world says: each time with all records that were shown, and with
--- each event pending whose attempt has no outcome there.
+-- attempts under way, what is out, and the store. This world goes on from the session's, and a stop leaves the store as it says: each time with
+-- all records of the session in front, with all that were shown, and with each event pending whose attempt has no outcome there.
 pub record IsRunFrom {L S : Type 0} (g : Ghosts S) (s : Session) (events : List Event) (to : left.World L S) : Type 0 where
   pub last : Session
   pub acknowledged : ℕ
@@ -58,7 +70,9 @@ pub record IsRunFrom {L S : Type 0} (g : Ghosts S) (s : Session) (events : List 
   pub out : IsOut to.desk.waiting.mark last.world to.receipt to.held
   pub vault : VaultStandsFor g to.vault last.world
   pub mark : to.desk.waiting.mark ≡ to.vault.mark
+  pub goes : GoesOn s.world last.world
   pub leaves : KeepsRows g to.vault.conn last.world
+  pub begins : AreInFront (all_records s.world) last.world
   pub kept : IsKept last.world acknowledged
   pub again : ArePendingAgain last.world
 

@@ -1,7 +1,11 @@
 //! What follows of the definitions alone.
+ghost use Rattle.drill.specs.Later.{CallsKeepWhatWasShown, RestartsKeepWhatWasShown, RunsGoOn, StopsKeepWhatWasShown};
 ghost use Rattle.drill.specs.Refusals.{RefusalsOfMoves};
 ghost use Rattle.drill.specs.Runs.{AreServedRunsComputed};
 ghost use Rattle.drill.specs.Within.{CallsChangePlacesWithCommits, RunsKeepMarksInOrder};
+
+use sqlite::Alter;
+use std::sync::ledger::Ledger;
 
 /// A law of scripts: where no reply of a run tells of want of memory or of a fault of the store, the replies are those that
 /// the moves compute.
@@ -25,4 +29,25 @@ pub fn runs_keep_marks_in_order()
 /// out.
 pub fn refusals_of_moves()
     ensures { RefusalsOfMoves }
+{}
+
+/// A law of runs: no step is lost within a run, and what is settled stays settled.
+pub fn runs_go_on()
+    ensures { RunsGoOn }
+{}
+
+/// A law of restarts: what was once shown to be settled stays. Whatever a stop may leave of a later run begins with the same records, in
+/// the same places, however many restarts lie between.
+pub fn restarts_keep_what_was_shown()
+    ensures { RestartsKeepWhatWasShown }
+{}
+
+/// The same law of scripts, whose stops are lines.
+pub fn stops_keep_what_was_shown()
+    ensures { StopsKeepWhatWasShown }
+{}
+
+/// The same of `run`, of the `reopen` that follows a stop, and of the `run` after it, by what these say.
+pub fn calls_keep_what_was_shown<L: Ledger, S: Alter>()
+    ensures { CallsKeepWhatWasShown L S.Store }
 {}

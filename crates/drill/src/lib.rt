@@ -21,8 +21,9 @@ mod unrecorded;
 
 pub use crate::events::{Event, Look, Reply};
 pub use crate::law::{
-    calls_change_places_with_commits, refusals_of_moves, runs_keep_marks_in_order,
-    served_runs_are_computed,
+    calls_change_places_with_commits, calls_keep_what_was_shown, refusals_of_moves,
+    restarts_keep_what_was_shown, runs_go_on, runs_keep_marks_in_order, served_runs_are_computed,
+    stops_keep_what_was_shown,
 };
 pub use crate::runs::{World, run};
 pub use crate::scripts::replay;
