@@ -1,247 +1,272 @@
 //! The bodies of changes.
 
-use crate::paths::{READ, ask, read, refused};
-use desk::Command;
-use intake_shed::Asked;
-use std::alloc::Global;
-use std::process::Abort;
+use crate::asks::{Answer, Case, Text, walk};
 use std::test::Fail;
 
-/// 32 bytes.
-pub const SECRET: &str = "whsec_MDAwMDAwMDAwMDAwMDAwMDAwMDAwMDAwMDAwMDAwMDA=";
+const BAD_BODY: Answer = Answer::Refused(400, b"{\"error\":\"BadBody\"}");
 
-const BAD_BODY: (u16, &str) = (400, "{\"error\":\"BadBody\"}");
+const BAD_URL: Answer = Answer::Refused(400, b"{\"error\":\"BadUrl\"}");
 
-const BAD_URL: (u16, &str) = (400, "{\"error\":\"BadUrl\"}");
+const BAD_MAX: Answer = Answer::Refused(400, b"{\"error\":\"BadMax\"}");
 
-const BAD_MAX: (u16, &str) = (400, "{\"error\":\"BadMax\"}");
+const BAD_SECRET: Answer = Answer::Refused(400, b"{\"error\":\"BadSecret\"}");
 
-const BAD_SECRET: (u16, &str) = (400, "{\"error\":\"BadSecret\"}");
+const ENDPOINT: &[Text] = &[Text::Is(b"/v1/endpoints/a")];
 
-/// Each of these bodies, put to this path, is answered so.
-fn told(
-    rt: &impl Abort,
-    alloc: Global,
-    path: &str,
-    bodies: &[&str],
-    wanted: (u16, &str),
-) -> Result<(), Fail> {
-    for body in bodies {
-        let asked = ask(alloc, "PUT", path.as_bytes(), &[], body.as_bytes())?;
-        assert_eq!(rt; refused(&asked), wanted);
-    }
-    Ok(())
-}
+const SECRETS: &[Text] = &[Text::Is(b"/v1/endpoints/a/secrets")];
 
-const ENDPOINT: &str = "/v1/endpoints/a";
+const ENABLED: &[Text] = &[Text::Is(b"/v1/endpoints/a/enabled")];
 
-const ENABLED: &str = "/v1/endpoints/a/enabled";
+const TRUE: Answer = Answer::Flag(b"a", true);
+
+const FALSE: Answer = Answer::Flag(b"a", false);
 
 // The kinds of all members come before what each of them says.
+const OTHER_MEMBERS: [Case; 1] = [Case {
+    method: b"PUT",
+    paths: ENDPOINT,
+    ids: &[],
+    bodies: &[
+        Text::Is(br#"{"url":"http://h/","max":"1","secrets":[]}"#),
+        Text::Is(br#"{"url":"https://h/","max":0,"secrets":[1]}"#),
+        Text::Is(br#"{"url":"https://h/","max":0,"secrets":"a"}"#),
+        Text::Is(br#"{"url":"https://h/","max":null,"secrets":[]}"#),
+        Text::Is(br#"{"url":"https://h/","max":true,"secrets":[]}"#),
+        Text::Is(br#"{"url":7,"max":1,"secrets":[]}"#),
+        Text::Is(br#"{"max":1,"secrets":[]}"#),
+        Text::Is(br#"{"url":"http://h/","secrets":[]}"#),
+        Text::Is(br#"{"url":"http://h/","max":1}"#),
+        Text::Is(br#"{"URL":"http://h/","max":1,"secrets":[]}"#),
+        Text::Is(br#"{"url":"http://h/","max":1,"secrets":[]} x"#),
+        Text::Is(br#"["http://h/",1,[]]"#),
+        Text::Is(b"{}"),
+        Text::Is(b"null"),
+        Text::Is(b""),
+    ],
+    answer: BAD_BODY,
+}];
+
 #[test]
 fn a_body_has_the_members_of_its_line(rt: HostRuntime) -> Result<(), Fail> {
-    let bodies = [
-        "{\"url\":\"http://h/\",\"max\":\"1\",\"secrets\":[]}",
-        "{\"url\":\"https://h/\",\"max\":0,\"secrets\":[1]}",
-        "{\"url\":\"https://h/\",\"max\":0,\"secrets\":\"a\"}",
-        "{\"url\":\"https://h/\",\"max\":null,\"secrets\":[]}",
-        "{\"url\":\"https://h/\",\"max\":true,\"secrets\":[]}",
-        "{\"url\":7,\"max\":1,\"secrets\":[]}",
-        "{\"max\":1,\"secrets\":[]}",
-        "{\"url\":\"http://h/\",\"secrets\":[]}",
-        "{\"url\":\"http://h/\",\"max\":1}",
-        "{\"URL\":\"http://h/\",\"max\":1,\"secrets\":[]}",
-        "{\"url\":\"http://h/\",\"max\":1,\"secrets\":[]} x",
-        "[\"http://h/\",1,[]]",
-        "{}",
-        "null",
-        "",
-    ];
-    told(&rt, rt.alloc(), ENDPOINT, &bodies, BAD_BODY)
+    walk(&rt, rt.alloc(), &OTHER_MEMBERS)
 }
 
 // The url is checked before the max, and the max before the secrets.
+const FIRST_BAD_MEMBERS: [Case; 3] = [
+    Case {
+        method: b"PUT",
+        paths: ENDPOINT,
+        ids: &[],
+        bodies: &[
+            Text::Is(br#"{"url":"https://h/","max":0,"secrets":[]}"#),
+            Text::Is(br#"{"secrets":[],"max":0,"url":"http://h\n/"}"#),
+        ],
+        answer: BAD_URL,
+    },
+    Case {
+        method: b"PUT",
+        paths: ENDPOINT,
+        ids: &[],
+        bodies: &[
+            Text::Is(br#"{"url":"http://h/","max":0,"secrets":[]}"#),
+            Text::Is(br#"{"url":"http://h/","max":1.5,"secrets":[]}"#),
+        ],
+        answer: BAD_MAX,
+    },
+    Case {
+        method: b"PUT",
+        paths: ENDPOINT,
+        ids: &[],
+        bodies: &[
+            Text::Is(br#"{"url":"http://h/","max":1,"secrets":[]}"#),
+            Text::Is(br#"{"url":"http://h/","max":1,"secrets":["a"]}"#),
+        ],
+        answer: BAD_SECRET,
+    },
+];
+
 #[test]
 fn the_first_bad_member_is_told(rt: HostRuntime) -> Result<(), Fail> {
-    let urls = [
-        "{\"url\":\"https://h/\",\"max\":0,\"secrets\":[]}",
-        "{\"secrets\":[],\"max\":0,\"url\":\"http://h\\n/\"}",
-    ];
-    told(&rt, rt.alloc(), ENDPOINT, &urls, BAD_URL)?;
-    let limits = [
-        "{\"url\":\"http://h/\",\"max\":0,\"secrets\":[]}",
-        "{\"url\":\"http://h/\",\"max\":1.5,\"secrets\":[]}",
-    ];
-    told(&rt, rt.alloc(), ENDPOINT, &limits, BAD_MAX)?;
-    let secrets = [
-        "{\"url\":\"http://h/\",\"max\":1,\"secrets\":[]}",
-        "{\"url\":\"http://h/\",\"max\":1,\"secrets\":[\"a\"]}",
-    ];
-    told(&rt, rt.alloc(), ENDPOINT, &secrets, BAD_SECRET)
-}
-
-/// Each of these texts as the max of a new endpoint is answered so.
-fn max_told(
-    rt: &impl Abort,
-    alloc: Global,
-    texts: &[&str],
-    wanted: (u16, &str),
-) -> Result<(), Fail> {
-    for text in texts {
-        let body = format!(in alloc;
-            "{{\"url\":\"http://h/\",\"max\":{text},\"secrets\":[\"{SECRET}\"]}}"
-        )?;
-        let asked = ask(alloc, "PUT", ENDPOINT.as_bytes(), &[], body.as_bytes())?;
-        assert_eq!(rt; refused(&asked), wanted);
-    }
-    Ok(())
+    walk(&rt, rt.alloc(), &FIRST_BAD_MEMBERS)
 }
 
 // A number with a point or an exponent is no whole one, nor is -0. One beyond all floats is no JSON that is read.
+const LIMITS: [Case; 5] = [
+    Case {
+        method: b"PUT",
+        paths: ENDPOINT,
+        ids: &[],
+        bodies: &[Text::Max(b"1")],
+        answer: Answer::Put(b"a", b"http://h/", 1, 1),
+    },
+    Case {
+        method: b"PUT",
+        paths: ENDPOINT,
+        ids: &[],
+        bodies: &[Text::Max(b"7")],
+        answer: Answer::Put(b"a", b"http://h/", 7, 1),
+    },
+    Case {
+        method: b"PUT",
+        paths: ENDPOINT,
+        ids: &[],
+        bodies: &[Text::Max(b"1000")],
+        answer: Answer::Put(b"a", b"http://h/", 1000, 1),
+    },
+    Case {
+        method: b"PUT",
+        paths: ENDPOINT,
+        ids: &[],
+        bodies: &[
+            Text::Max(b"0"),
+            Text::Max(b"1001"),
+            Text::Max(b"1e2"),
+            Text::Max(b"7.0"),
+            Text::Max(b"-0"),
+            Text::Max(b"-1"),
+            Text::Max(b"18446744073709551615"),
+            Text::Max(b"18446744073709551616"),
+        ],
+        answer: BAD_MAX,
+    },
+    Case {
+        method: b"PUT",
+        paths: ENDPOINT,
+        ids: &[],
+        bodies: &[
+            Text::Max(b"1e999"),
+            Text::Max(b"01"),
+            Text::Max(b"+1"),
+            Text::Max(b".5"),
+            Text::Max(b"true"),
+            Text::Max(b"\"7\""),
+        ],
+        answer: BAD_BODY,
+    },
+];
+
 #[test]
 fn a_max_is_a_whole_number_from_1_to_1000(rt: HostRuntime) -> Result<(), Fail> {
-    max_told(&rt, rt.alloc(), &["1", "7", "1000"], READ)?;
-    let bad = [
-        "0",
-        "1001",
-        "1e2",
-        "7.0",
-        "-0",
-        "-1",
-        "18446744073709551615",
-        "18446744073709551616",
-    ];
-    max_told(&rt, rt.alloc(), &bad, BAD_MAX)?;
-    let no_json = ["1e999", "01", "+1", ".5", "true", "\"7\""];
-    max_told(&rt, rt.alloc(), &no_json, BAD_BODY)
+    walk(&rt, rt.alloc(), &LIMITS)
 }
 
 // The last of two members counts. Others are ignored, but have to be JSON.
+const FLAGS: [Case; 3] = [
+    Case {
+        method: b"PUT",
+        paths: ENABLED,
+        ids: &[],
+        bodies: &[
+            Text::Is(br#"{"enabled":true}"#),
+            Text::Is(br#"{"enabled":1,"enabled":true}"#),
+            Text::Is(br#"{"\u0065nabled":true}"#),
+        ],
+        answer: TRUE,
+    },
+    Case {
+        method: b"PUT",
+        paths: ENABLED,
+        ids: &[],
+        bodies: &[
+            Text::Is(br#"{"enabled":false}"#),
+            Text::Is(b" {\"x\":[1e2,{}],\"enabled\":\tfalse}\n"),
+            Text::Is(br#"{"enabled":true,"enabled":false}"#),
+        ],
+        answer: FALSE,
+    },
+    Case {
+        method: b"PUT",
+        paths: ENABLED,
+        ids: &[],
+        bodies: &[
+            Text::Is(br#"{"enabled":true,"enabled":1}"#),
+            Text::Is(br#"{"enabled":"true"}"#),
+            Text::Is(br#"{"enabled":null}"#),
+            Text::Is(b"{}"),
+            Text::Is(br#"{"enabled":true,"x":1e999}"#),
+            Text::Is(br#"{"enabled":true,"x":"\ud800"}"#),
+            Text::Is(b"\xef\xbb\xbf{\"enabled\":true}"),
+            Text::Is(br#"{"enabled":true,}"#),
+            Text::Is(b"{\"enabled\":true,\"x\":\"\xff\"}"),
+        ],
+        answer: BAD_BODY,
+    },
+];
+
 #[test]
 fn a_flag_is_a_bool(rt: HostRuntime) -> Result<(), Fail> {
-    let read = [
-        "{\"enabled\":true}",
-        " {\"x\":[1e2,{}],\"enabled\":\tfalse}\n",
-        "{\"enabled\":1,\"enabled\":true}",
-        "{\"\\u0065nabled\":true}",
-    ];
-    told(&rt, rt.alloc(), ENABLED, &read, READ)?;
-    let bad = [
-        "{\"enabled\":true,\"enabled\":1}",
-        "{\"enabled\":\"true\"}",
-        "{\"enabled\":null}",
-        "{}",
-        "{\"enabled\":true,\"x\":1e999}",
-        "{\"enabled\":true,\"x\":\"\\ud800\"}",
-        "\u{feff}{\"enabled\":true}",
-        "{\"enabled\":true,}",
-    ];
-    told(&rt, rt.alloc(), ENABLED, &bad, BAD_BODY)
-}
-
-// A body that isn't UTF-8.
-#[test]
-fn a_body_is_a_text(rt: HostRuntime) -> Result<(), Fail> {
-    let body = b"{\"enabled\":true,\"x\":\"\xff\"}";
-    let asked = ask(rt.alloc(), "PUT", ENABLED.as_bytes(), &[], body)?;
-    assert_eq!(rt; refused(&asked), BAD_BODY);
-    Ok(())
-}
-
-/// A flag's body with another member, of so many arrays in one another, is answered so.
-fn nested_told(
-    rt: &impl Abort,
-    alloc: Global,
-    arrays: usize,
-    wanted: (u16, &str),
-) -> Result<(), Fail> {
-    let mut body = Vec::from_slice(alloc, b"{\"enabled\":true,\"x\":")?;
-    body.extend_from_slice(vec![in alloc; b'['; arrays]?.as_slice())?;
-    body.extend_from_slice(vec![in alloc; b']'; arrays]?.as_slice())?;
-    body.extend_from_slice(b"}")?;
-    let asked = ask(alloc, "PUT", ENABLED.as_bytes(), &[], body.as_slice())?;
-    assert_eq!(rt; refused(&asked), wanted);
-    Ok(())
+    walk(&rt, rt.alloc(), &FLAGS)
 }
 
 // The body's own object is counted.
+const NESTED: [Case; 2] = [
+    Case {
+        method: b"PUT",
+        paths: ENABLED,
+        ids: &[],
+        bodies: &[Text::Nested(126)],
+        answer: TRUE,
+    },
+    Case {
+        method: b"PUT",
+        paths: ENABLED,
+        ids: &[],
+        bodies: &[Text::Nested(127), Text::Nested(30_000)],
+        answer: BAD_BODY,
+    },
+];
+
 #[test]
 fn a_body_nests_at_most_127_deep(rt: HostRuntime) -> Result<(), Fail> {
-    nested_told(&rt, rt.alloc(), 126, READ)?;
-    nested_told(&rt, rt.alloc(), 127, BAD_BODY)?;
-    nested_told(&rt, rt.alloc(), 30_000, BAD_BODY)
+    walk(&rt, rt.alloc(), &NESTED)
 }
 
-#[test]
-fn a_new_endpoint_is_asked_for(rt: HostRuntime) -> Result<(), Fail> {
-    let body = format!(in rt.alloc();
-        "{{\"url\":\"http://h/\",\"max\":7,\"secrets\":[\"{SECRET}\",\"{SECRET}\"]}}"
-    )?;
-    let asked = read(
-        rt.alloc(),
-        "PUT",
-        b"/v1/endpoints/a?x",
-        &[],
-        body.as_bytes(),
-    )?;
-    let Asked::Change(
-        Command::PutEndpoint {
-            name,
-            target,
-            max,
-            secrets,
-        },
-    ) = &asked
-    else {
-        return Err(Fail::from("no endpoint is asked for"));
-    };
-    assert!(rt; name.as_bytes() == b"a".as_slice());
-    assert!(rt; target.as_bytes() == b"http://h/".as_slice());
-    assert_eq!(rt; (max.get(), secrets.count()), (7, 2));
-    Ok(())
-}
+const TWO_SECRETS: &[u8] = b"{\"url\":\"http://h/\",\"max\":7,\"secrets\":[\
+    \"whsec_MDAwMDAwMDAwMDAwMDAwMDAwMDAwMDAwMDAwMDAwMDA=\",\
+    \"whsec_MDAwMDAwMDAwMDAwMDAwMDAwMDAwMDAwMDAwMDAwMDA=\"]}";
 
-#[test]
-fn other_secrets_are_asked_for(rt: HostRuntime) -> Result<(), Fail> {
-    let body = format!(in rt.alloc(); "{{\"secrets\":[\"{SECRET}\"]}}")?;
-    let asked = read(
-        rt.alloc(),
-        "PUT",
-        b"/v1/endpoints/a/secrets",
-        &[],
-        body.as_bytes(),
-    )?;
-    let Asked::Change(Command::SetSecrets { name, secrets }) = &asked else {
-        return Err(Fail::from("no secrets are asked for"));
-    };
-    assert!(rt; name.as_bytes() == b"a".as_slice());
-    assert_eq!(rt; secrets.count(), 1);
-    Ok(())
-}
+const FIVE_SECRETS: &[u8] = b"{\"secrets\":[\
+    \"whsec_MDAwMDAwMDAwMDAwMDAwMDAwMDAwMDAwMDAwMDAwMDA=\",\
+    \"whsec_MDAwMDAwMDAwMDAwMDAwMDAwMDAwMDAwMDAwMDAwMDA=\",\
+    \"whsec_MDAwMDAwMDAwMDAwMDAwMDAwMDAwMDAwMDAwMDAwMDA=\",\
+    \"whsec_MDAwMDAwMDAwMDAwMDAwMDAwMDAwMDAwMDAwMDAwMDA=\",\
+    \"whsec_MDAwMDAwMDAwMDAwMDAwMDAwMDAwMDAwMDAwMDAwMDA=\"]}";
+
+// The secrets are 1 to 4.
+const LISTS: [Case; 4] = [
+    Case {
+        method: b"PUT",
+        paths: &[Text::Is(b"/v1/endpoints/a?x")],
+        ids: &[],
+        bodies: &[Text::Is(TWO_SECRETS)],
+        answer: Answer::Put(b"a", b"http://h/", 7, 2),
+    },
+    Case {
+        method: b"PUT",
+        paths: SECRETS,
+        ids: &[],
+        bodies: &[Text::Is(
+            b"{\"secrets\":[\"whsec_MDAwMDAwMDAwMDAwMDAwMDAwMDAwMDAwMDAwMDAwMDA=\"]}",
+        )],
+        answer: Answer::Secrets(b"a", 1),
+    },
+    Case {
+        method: b"PUT",
+        paths: SECRETS,
+        ids: &[],
+        bodies: &[Text::Is(b"{\"secrets\":[]}"), Text::Is(FIVE_SECRETS)],
+        answer: BAD_SECRET,
+    },
+    Case {
+        method: b"PUT",
+        paths: SECRETS,
+        ids: &[],
+        bodies: &[Text::Is(b"{\"secrets\":{}}")],
+        answer: BAD_BODY,
+    },
+];
 
 #[test]
 fn a_list_of_1_to_4_secrets_is_asked_for(rt: HostRuntime) -> Result<(), Fail> {
-    let path = "/v1/endpoints/a/secrets";
-    told(&rt, rt.alloc(), path, &["{\"secrets\":[]}"], BAD_SECRET)?;
-    told(&rt, rt.alloc(), path, &["{\"secrets\":{}}"], BAD_BODY)?;
-    let five = format!(in rt.alloc();
-        "{{\"secrets\":[\"{SECRET}\",\"{SECRET}\",\"{SECRET}\",\"{SECRET}\",\"{SECRET}\"]}}"
-    )?;
-    told(&rt, rt.alloc(), path, &[five.as_str()], BAD_SECRET)
-}
-
-/// The flag that this body asks for.
-fn flag_of(alloc: Global, body: &[u8]) -> Result<bool, Fail> {
-    match &read(alloc, "PUT", ENABLED.as_bytes(), &[], body)? {
-        Asked::Change(Command::SetEnabled { flag, .. }) => Ok(*flag),
-        _ => Err(Fail::from("no flag is asked for")),
-    }
-}
-
-#[test]
-fn a_flag_is_asked_for(rt: HostRuntime) -> Result<(), Fail> {
-    assert!(rt; flag_of(rt.alloc(), b"{\"enabled\":true}")?);
-    assert!(rt; !flag_of(rt.alloc(), b"{\"enabled\":false}")?);
-    assert!(rt; !flag_of(rt.alloc(), b"{\"enabled\":true,\"enabled\":false}")?);
-    Ok(())
+    walk(&rt, rt.alloc(), &LISTS)
 }

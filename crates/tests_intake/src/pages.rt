@@ -1,15 +1,14 @@
 //! The pages of a desk, which show nothing that waits.
 ghost use Rattle.std.specs.Prelude.{◌≡◌};
 
-use crate::bodies::SECRET;
-use crate::paths::read;
-use crate::refusals::parts;
+use crate::asks::{ask, is_reply};
 use desk::{Desk, Job};
+use group_commit::WrongTurn;
 use intake_shed::{Asked, Reply, page_reply};
 use permits::{Foreign, PARTS};
 use relay_types::Moment;
 use retry_table::{PostResult, Status};
-use spool::{Batch, CommitEnd, Receipt, Vault};
+use spool::{Batch, Receipt, Vault};
 use sqlite::{Connection, MemStore};
 use std::alloc::Global;
 use std::marker::Brand;
@@ -17,204 +16,254 @@ use std::process::Abort;
 use std::sync::ledger::{Blank, Ledger};
 use std::test::Fail;
 
-const MARK: u64 = 7;
+/// What is done to a desk, or the reply to a request for a page.
+#[derive(Clone, Copy)]
+enum Step {
+    /// A change of an endpoint: the path and the body.
+    Change(&'static [u8], &'static [u8]),
+    /// An event of this moment: the path, the id and the body.
+    Post(u64, &'static [u8], &'static [u8], &'static [u8]),
+    /// What waits is sealed, committed and settled.
+    Settle,
+    /// An attempt at this moment, which is answered by this status.
+    Attempt(u64, u16),
+    /// The reply to a request for the page of this path: its status and its text.
+    Page(&'static [u8], u16, &'static [u8]),
+}
 
-const NO_RECORD: &str =
-    "{\"delivered\":0,\"endpoints\":0,\"exhausted\":0,\"pending\":0,\"records\":0}";
+const PUT: Step = Step::Change(
+    b"/v1/endpoints/a",
+    b"{\"max\":100,\"secrets\":[\"whsec_MDAwMDAwMDAwMDAwMDAwMDAwMDAwMDAwMDAwMDAwMDA=\"],\
+        \"url\":\"http://127.0.0.1:9000/hook\"}",
+);
 
-const TWO_RECORDS: &str =
-    "{\"delivered\":0,\"endpoints\":1,\"exhausted\":0,\"pending\":1,\"records\":2}";
+const POST: Step = Step::Post(1000, b"/v1/endpoints/a/events", b"msg_1", b"{}");
 
-const ENDPOINT: &str =
-    "{\"delivered\":0,\"enabled\":true,\"exhausted\":0,\"max\":100,\"name\":\"a\",\
+const UNKNOWN_ENDPOINT: &[u8] = b"{\"error\":\"UnknownEndpoint\"}";
+
+const UNKNOWN_EVENT: &[u8] = b"{\"error\":\"UnknownEvent\"}";
+
+const ENDPOINT: &[u8] =
+    b"{\"delivered\":0,\"enabled\":true,\"exhausted\":0,\"max\":100,\"name\":\"a\",\
     \"pending\":1,\"secrets\":1,\"url\":\"http://127.0.0.1:9000/hook\"}";
 
-const EVENT: &str = "{\"at\":1000,\"attempts\":0,\"due\":1000,\"endpoint\":\"a\",\"id\":\"msg_1\",\
-    \"last_status\":null,\"state\":\"pending\"}";
+const WAITING: [Step; 5] = [
+    PUT,
+    POST,
+    Step::Page(
+        b"/v1/status",
+        200,
+        b"{\"delivered\":0,\"endpoints\":0,\"exhausted\":0,\"pending\":0,\"records\":0}",
+    ),
+    Step::Page(b"/v1/endpoints/a", 404, UNKNOWN_ENDPOINT),
+    Step::Page(b"/v1/endpoints/a/events/msg_1", 404, UNKNOWN_ENDPOINT),
+];
 
-const FAILED: &str = "{\"at\":1000,\"attempts\":1,\"due\":1006,\"endpoint\":\"a\",\"id\":\"msg_1\",\
-    \"last_status\":500,\"state\":\"pending\"}";
-
-const UNKNOWN_ENDPOINT: (u16, &str, bool) = (404, "{\"error\":\"UnknownEndpoint\"}", false);
-
-const UNKNOWN_EVENT: (u16, &str, bool) = (404, "{\"error\":\"UnknownEvent\"}", false);
-
-/// The reply to a request for the page of this path.
-fn page<L: Ledger>(alloc: Global, desk: &Desk<L>, path: &str) -> Result<Reply, Fail> {
-    let asked = read(alloc, "GET", path.as_bytes(), &[], b"")?;
-    if !asked.asks_for_page() {
-        return Err(Fail::from("no page is asked for"));
-    }
-    Ok(page_reply(alloc, desk, &asked))
+#[test]
+fn nothing_that_waits_has_a_page(rt: HostRuntime) -> Result<(), Fail> {
+    walk(&rt, rt.alloc(), &WAITING)
 }
 
-/// These are the replies to requests for the pages of these paths.
-fn shown<L: Ledger>(
-    rt: &impl Abort,
+// The attempt that ended waits.
+const SETTLED: [Step; 10] = [
+    PUT,
+    POST,
+    Step::Settle,
+    Step::Attempt(1001, 500),
+    Step::Page(
+        b"/v1/status",
+        200,
+        b"{\"delivered\":0,\"endpoints\":1,\"exhausted\":0,\"pending\":1,\"records\":2}",
+    ),
+    Step::Page(b"/v1/endpoints/a", 200, ENDPOINT),
+    Step::Page(b"/v1/endpoints/b", 404, UNKNOWN_ENDPOINT),
+    Step::Page(
+        b"/v1/endpoints/a/events/msg_1",
+        200,
+        b"{\"at\":1000,\"attempts\":0,\"due\":1000,\"endpoint\":\"a\",\"id\":\"msg_1\",\
+            \"last_status\":null,\"state\":\"pending\"}",
+    ),
+    Step::Page(b"/v1/endpoints/a/events/msg_2", 404, UNKNOWN_EVENT),
+    Step::Page(b"/v1/endpoints/b/events/msg_1", 404, UNKNOWN_ENDPOINT),
+];
+
+#[test]
+fn what_is_settled_has_its_pages(rt: HostRuntime) -> Result<(), Fail> {
+    walk(&rt, rt.alloc(), &SETTLED)
+}
+
+const FAILED: [Step; 7] = [
+    PUT,
+    POST,
+    Step::Settle,
+    Step::Attempt(1001, 500),
+    Step::Settle,
+    Step::Page(b"/v1/endpoints/a", 200, ENDPOINT),
+    Step::Page(
+        b"/v1/endpoints/a/events/msg_1",
+        200,
+        b"{\"at\":1000,\"attempts\":1,\"due\":1006,\"endpoint\":\"a\",\"id\":\"msg_1\",\
+            \"last_status\":500,\"state\":\"pending\"}",
+    ),
+];
+
+#[test]
+fn a_settled_failure_is_shown(rt: HostRuntime) -> Result<(), Fail> {
+    walk(&rt, rt.alloc(), &FAILED)
+}
+
+const MARK: u64 = 7;
+
+fn change<L: Ledger>(
     alloc: Global,
-    desk: &Desk<L>,
-    pages: &[(&str, (u16, &str, bool))],
-) -> Result<(), Fail> {
-    for (path, wanted) in pages {
-        assert_eq!(rt; parts(&page(alloc, desk, path)?), *wanted);
-    }
-    Ok(())
-}
-
-fn moment(rt: &impl Abort, seconds: u64) -> Moment {
-    match Moment::of(seconds) {
-        Ok(moment) => moment,
-        Err(fault) => panic!(rt; "{fault}"),
+    desk: &mut Desk<L>,
+    path: &[u8],
+    body: &[u8],
+) -> Result<bool, Fail> {
+    match ask(alloc, b"PUT", path, &[], body)? {
+        Ok(Asked::Change(command)) => Ok(desk.command(command).is_ok()),
+        _ => Ok(false),
     }
 }
 
-/// A desk that was asked for endpoint `a` and its event `msg_1` of 1000, which wait.
-fn begun<L: Ledger>(rt: &impl Abort, alloc: Global, blank: Blank) -> Result<Desk<L>, Fail>
-    requires name { blank.name ≡ L.name }
-    requires parts { blank.parts ≡ L.parts }
-    requires enough { blank.parts ≡ PARTS }
-{
-    let mut desk = Desk::new(alloc, blank, MARK)?;
-    let body = format!(in alloc;
-        "{{\"max\":100,\"secrets\":[\"{SECRET}\"],\"url\":\"http://127.0.0.1:9000/hook\"}}"
-    )?;
-    let Asked::Change(command) = read(alloc, "PUT", b"/v1/endpoints/a", &[], body.as_bytes())?
-    else {
-        return Err(Fail::from("no endpoint is asked for"));
-    };
-    assert!(rt; desk.command(command).is_ok());
-    let asked = read(alloc, "POST", b"/v1/endpoints/a/events", &[b"msg_1"], b"{}")?;
-    let Asked::Post { name, id, body } = &asked else {
-        return Err(Fail::from("no event is asked for"));
-    };
-    assert!(rt;
-        desk.submit(moment(rt, 1000), *name, *id, body.share()?)
-            .is_ok()
-    );
-    Ok(desk)
-}
-
-fn opened(alloc: Global) -> Result<Vault<MemStore>, Fail> {
-    match Vault::create(Connection::open_in_memory(alloc)?, MARK) {
-        Ok(vault) => Ok(vault),
-        Err((_, _)) => Err(Fail::from("create was refused")),
+fn post<L: Ledger>(
+    alloc: Global,
+    desk: &mut Desk<L>,
+    at: Moment,
+    path: &[u8],
+    id: &[u8],
+    body: &[u8],
+) -> Result<bool, Fail> {
+    match &ask(alloc, b"POST", path, &[id], body)? {
+        Ok(Asked::Post { name, id, body }) => {
+            Ok(desk.submit(at, *name, *id, body.share()?).is_ok())
+        }
+        _ => Ok(false),
     }
 }
 
-fn written(vault: &mut Vault<MemStore>, batch: Batch) -> Result<Receipt, Fail> {
+fn opened(rt: &impl Abort, conn: Connection<MemStore>) -> Vault<MemStore> {
+    assert!(rt; conn.is_autocommit());
+    match Vault::create(conn, MARK) {
+        Ok(vault) => vault,
+        Err(_) => panic!(rt; "create was refused"),
+    }
+}
+
+fn written(rt: &impl Abort, vault: &mut Vault<MemStore>, batch: Batch) -> Receipt {
     match vault.commit(batch) {
-        Ok(receipt) => Ok(receipt),
-        Err(CommitEnd::Unchanged(batch, _)) => {
-            drop(batch.into_steps());
-            Err(Fail::from("the commit was refused"))
-        }
-        Err(CommitEnd::Doubtful(doubt, _)) => {
-            doubt.end();
-            Err(Fail::from("the commit was doubtful"))
-        }
+        Ok(receipt) => receipt,
+        Err(_end) => panic!(rt; "the commit was refused"),
     }
 }
 
-/// Seals what waits, commits it and settles it.
-fn settle<L: Ledger>(desk: &mut Desk<L>, vault: &mut Vault<MemStore>) -> Result<(), Fail> {
+fn settle<L: Ledger>(rt: &impl Abort, desk: &mut Desk<L>, vault: &mut Vault<MemStore>) -> bool {
     let Ok(Some(batch)) = desk.seal() else {
-        return Err(Fail::from("nothing was sealed"));
+        return false;
     };
-    match desk.settle(written(vault, batch)?) {
-        Ok(_) => Ok(()),
-        Err((receipt, _)) => {
-            drop(receipt.into_steps());
-            Err(Fail::from("the receipt was refused"))
-        }
+    match desk.settle(written(rt, vault, batch)) {
+        Ok(_) => true,
+        Err((_receipt, WrongTurn)) => panic!(rt; "the receipt was refused"),
     }
 }
 
-fn claim<L: Ledger>(rt: &impl Abort, desk: &mut Desk<L>, seconds: u64) -> Job<L> {
-    match desk.claim(moment(rt, seconds)) {
+fn claim<L: Ledger>(rt: &impl Abort, desk: &mut Desk<L>, at: Moment) -> Job<L> {
+    match desk.claim(at) {
         Ok(Some(job)) => job,
-        Ok(None) => panic!(rt; "no job at {seconds}"),
-        Err(refusal) => panic!(rt; "refused {}", refusal.number),
+        _ => panic!(rt; "no job"),
     }
 }
 
-/// An attempt at 1001, which is answered by 500.
-fn fail<L: Ledger>(rt: &impl Abort, desk: &mut Desk<L>) {
-    let Some(status) = Status::of(500) else {
-        panic!(rt; "500 is no status");
-    };
-    let job = claim(rt, desk, 1001);
+fn attempt<L: Ledger>(rt: &impl Abort, desk: &mut Desk<L>, at: Moment, status: Status) -> bool {
+    let job = claim(rt, desk, at);
     let post = PostResult::Answered {
         status,
         rtt: 100_000,
     };
-    match desk.spend(job.into_permit(), post, moment(rt, 1001)) {
-        Ok(_) => {}
+    match desk.spend(job.into_permit(), post, at) {
+        Ok(_) => true,
         Err((permit, Foreign)) => panic!(rt; "{} is foreign", permit.delivery()),
     }
 }
 
-fn wait<L: Ledger>(rt: &impl Abort, alloc: Global, blank: Blank) -> Result<(), Fail>
+fn status_of(number: u16) -> Result<Status, Fail> {
+    match Status::of(number) {
+        Some(status) => Ok(status),
+        None => Err(Fail::from("no status")),
+    }
+}
+
+fn reply_of<L: Ledger>(alloc: Global, desk: &Desk<L>, asked: &Asked) -> Option<Reply> {
+    if asked.asks_for_page() {
+        Some(page_reply(alloc, desk, asked))
+    } else {
+        None
+    }
+}
+
+fn shows<L: Ledger>(
+    alloc: Global,
+    desk: &Desk<L>,
+    path: &[u8],
+    status: u16,
+    text: &[u8],
+) -> Result<bool, Fail> {
+    match &ask(alloc, b"GET", path, &[], b"")? {
+        Ok(asked) => match reply_of(alloc, desk, asked) {
+            Some(reply) => Ok(is_reply(&reply, status, false, text)),
+            None => Ok(false),
+        },
+        Err(_) => Ok(false),
+    }
+}
+
+fn is_so<L: Ledger>(
+    rt: &impl Abort,
+    alloc: Global,
+    desk: &mut Desk<L>,
+    vault: &mut Vault<MemStore>,
+    step: Step,
+) -> Result<bool, Fail> {
+    match step {
+        Step::Change(path, body) => change(alloc, desk, path, body),
+        Step::Post(at, path, id, body) => post(alloc, desk, Moment::of(at)?, path, id, body),
+        Step::Settle => Ok(settle(rt, desk, vault)),
+        Step::Attempt(at, status) => { Ok(attempt(rt, desk, Moment::of(at)?, status_of(status)?)) }
+        Step::Page(path, status, text) => shows(alloc, desk, path, status, text),
+    }
+}
+
+fn take<L: Ledger>(
+    rt: &impl Abort,
+    alloc: Global,
+    desk: &mut Desk<L>,
+    vault: &mut Vault<MemStore>,
+    steps: &[Step],
+) -> Result<(), Fail> {
+    for (place, step) in steps.iter().enumerate() {
+        let is = is_so(rt, alloc, desk, vault, *step)?;
+        assert!(rt; is, "step {place}");
+    }
+    Ok(())
+}
+
+fn begin<L: Ledger>(
+    rt: &impl Abort,
+    alloc: Global,
+    blank: Blank,
+    vault: &mut Vault<MemStore>,
+    steps: &[Step],
+) -> Result<(), Fail>
     requires name { blank.name ≡ L.name }
     requires parts { blank.parts ≡ L.parts }
     requires enough { blank.parts ≡ PARTS }
 {
-    let desk = begun::<L>(rt, alloc, blank)?;
-    let pages = [
-        ("/v1/status", (200, NO_RECORD, false)),
-        ("/v1/endpoints/a", UNKNOWN_ENDPOINT),
-        ("/v1/endpoints/a/events/msg_1", UNKNOWN_ENDPOINT),
-    ];
-    shown(rt, alloc, &desk, &pages)
+    let mut desk = Desk::<L>::new(alloc, blank, MARK)?;
+    take(rt, alloc, &mut desk, vault, steps)
 }
 
-#[test]
-fn nothing_that_waits_has_a_page(rt: HostRuntime) -> Result<(), Fail> {
-    wait::<Brand>(&rt, rt.alloc(), Blank::new(PARTS))
-}
-
-fn show<L: Ledger>(rt: &impl Abort, alloc: Global, blank: Blank) -> Result<(), Fail>
-    requires name { blank.name ≡ L.name }
-    requires parts { blank.parts ≡ L.parts }
-    requires enough { blank.parts ≡ PARTS }
-{
-    let mut desk = begun::<L>(rt, alloc, blank)?;
-    settle(&mut desk, &mut opened(alloc)?)?;
-    fail(rt, &mut desk);
-    let pages = [
-        ("/v1/status", (200, TWO_RECORDS, false)),
-        ("/v1/endpoints/a", (200, ENDPOINT, false)),
-        ("/v1/endpoints/b", UNKNOWN_ENDPOINT),
-        ("/v1/endpoints/a/events/msg_1", (200, EVENT, false)),
-        ("/v1/endpoints/a/events/msg_2", UNKNOWN_EVENT),
-        ("/v1/endpoints/b/events/msg_1", UNKNOWN_ENDPOINT),
-    ];
-    shown(rt, alloc, &desk, &pages)
-}
-
-// The attempt that ended waits.
-#[test]
-fn what_is_settled_has_its_pages(rt: HostRuntime) -> Result<(), Fail> {
-    show::<Brand>(&rt, rt.alloc(), Blank::new(PARTS))
-}
-
-fn retry<L: Ledger>(rt: &impl Abort, alloc: Global, blank: Blank) -> Result<(), Fail>
-    requires name { blank.name ≡ L.name }
-    requires parts { blank.parts ≡ L.parts }
-    requires enough { blank.parts ≡ PARTS }
-{
-    let mut desk = begun::<L>(rt, alloc, blank)?;
-    let mut vault = opened(alloc)?;
-    settle(&mut desk, &mut vault)?;
-    fail(rt, &mut desk);
-    settle(&mut desk, &mut vault)?;
-    let pages = [
-        ("/v1/endpoints/a", (200, ENDPOINT, false)),
-        ("/v1/endpoints/a/events/msg_1", (200, FAILED, false)),
-    ];
-    shown(rt, alloc, &desk, &pages)
-}
-
-#[test]
-fn a_settled_failure_is_shown(rt: HostRuntime) -> Result<(), Fail> {
-    retry::<Brand>(&rt, rt.alloc(), Blank::new(PARTS))
+/// Takes the steps in turn, with a new desk and a new vault.
+fn walk(rt: &impl Abort, alloc: Global, steps: &[Step]) -> Result<(), Fail> {
+    let mut vault = opened(rt, Connection::open_in_memory(alloc)?);
+    begin::<Brand>(rt, alloc, Blank::new(PARTS), &mut vault, steps)
 }

@@ -1,287 +1,350 @@
 //! Which method and path stand on which line, and the checks of a name, a size and an id.
 
-use crate::refusals::parts;
-use intake_shed::{Ask, Asked, Reply, read_ask};
-use relay_types::MsgId;
-use std::alloc::Global;
-use std::process::Abort;
+use crate::asks::{Answer, Case, Text, walk};
 use std::test::Fail;
 
-/// A fresh id.
-pub fn fresh() -> Result<MsgId, Fail> {
-    match MsgId::read(b"fresh") {
-        Ok(id) => Ok(id),
-        Err(_) => Err(Fail::from("the id was refused")),
-    }
-}
+const NOT_FOUND: Answer = Answer::Refused(404, b"{\"error\":\"NotFound\"}");
 
-/// What is asked for, or the reply.
-pub fn ask(
-    alloc: Global,
-    method: &str,
-    path: &[u8],
-    ids: &[&[u8]],
-    body: &[u8],
-) -> Result<Result<Asked, Reply>, Fail> {
-    let ask = Ask {
-        method: method.as_bytes(),
-        path,
-        ids,
-        body,
-    };
-    Ok(read_ask(alloc, &ask, fresh()?))
-}
+const BAD_NAME: Answer = Answer::Refused(400, b"{\"error\":\"BadName\"}");
 
-/// What is asked for by a request that is read.
-pub fn read(
-    alloc: Global,
-    method: &str,
-    path: &[u8],
-    ids: &[&[u8]],
-    body: &[u8],
-) -> Result<Asked, Fail> {
-    match ask(alloc, method, path, ids, body)? {
-        Ok(asked) => Ok(asked),
-        Err(_) => Err(Fail::from("the request was refused")),
-    }
-}
+const BAD_ID: Answer = Answer::Refused(400, b"{\"error\":\"BadId\"}");
 
-/// The status and the text of the reply, or 0 and nothing where there is none.
-pub fn refused(asked: &Result<Asked, Reply>) -> (u16, &str) {
-    match asked {
-        Ok(_) => (0, ""),
-        Err(reply) => (reply.status, reply.body.as_str()),
-    }
-}
+const TOO_LONG: Answer = Answer::Refused(413, b"{\"error\":\"TooLong\"}");
 
-/// Each of these requests, with this body and two ids, is answered so.
-fn told(
-    rt: &impl Abort,
-    alloc: Global,
-    requests: &[(&str, &str)],
-    body: &[u8],
-    wanted: (u16, &str),
-) -> Result<(), Fail> {
-    let ids = [b"a".as_slice(), b"b".as_slice()];
-    for (method, path) in requests {
-        let asked = ask(alloc, method, path.as_bytes(), &ids, body)?;
-        assert_eq!(rt; refused(&asked), wanted);
-    }
-    Ok(())
-}
+const NO_ID: &[&[u8]] = &[];
 
-const NOT_FOUND: (u16, &str) = (404, "{\"error\":\"NotFound\"}");
+const TWO_IDS: &[&[u8]] = &[b"a", b"b"];
 
-const BAD_NAME: (u16, &str) = (400, "{\"error\":\"BadName\"}");
+const EMPTY: &[Text] = &[Text::Is(b"")];
 
-const BAD_ID: (u16, &str) = (400, "{\"error\":\"BadId\"}");
+const OBJECT: &[Text] = &[Text::Is(b"{}")];
 
-const TOO_LONG: (u16, &str) = (413, "{\"error\":\"TooLong\"}");
-
-/// What is read isn't refused.
-pub const READ: (u16, &str) = (0, "");
+const EVENTS: &[Text] = &[Text::Is(b"/v1/endpoints/a/events")];
 
 // The table has no such line: a method in other letters, a slash more, a part more or less, an escape in a fixed part.
+const NOT_IN_THE_TABLE: [Case; 8] = [
+    Case {
+        method: b"DELETE",
+        paths: &[Text::Is(b"/v1/status")],
+        ids: NO_ID,
+        bodies: EMPTY,
+        answer: NOT_FOUND,
+    },
+    Case {
+        method: b"DELETE",
+        paths: &[Text::Is(b"/v1/status")],
+        ids: TWO_IDS,
+        bodies: OBJECT,
+        answer: NOT_FOUND,
+    },
+    Case {
+        method: b"HEAD",
+        paths: &[Text::Is(b"/v1/status")],
+        ids: TWO_IDS,
+        bodies: OBJECT,
+        answer: NOT_FOUND,
+    },
+    Case {
+        method: b"get",
+        paths: &[Text::Is(b"/v1/status")],
+        ids: TWO_IDS,
+        bodies: OBJECT,
+        answer: NOT_FOUND,
+    },
+    Case {
+        method: b"GET",
+        paths: &[
+            Text::Is(b"/v1/status/"),
+            Text::Is(b"/v1//status"),
+            Text::Is(b"/V1/status"),
+            Text::Is(b"/v1/st%61tus"),
+            Text::Is(b"v1/status"),
+            Text::Is(b"http://h/v1/status"),
+            Text::Is(b""),
+            Text::Is(b"/?/v1/status"),
+            Text::Is(b"/v1/endpoints"),
+            Text::Is(b"/v1/endpoints/a/"),
+            Text::Is(b"/v1/endpoints/a/secrets"),
+            Text::Is(b"/v1/endpoints/a/events"),
+            Text::Is(b"/v1/endpoints/a/events/msg_1/"),
+            Text::Is(b"/v1/endpoints/a/b/events/msg_1"),
+        ],
+        ids: TWO_IDS,
+        bodies: OBJECT,
+        answer: NOT_FOUND,
+    },
+    Case {
+        method: b"POST",
+        paths: &[
+            Text::Is(b"/v1/endpoints/a"),
+            Text::Is(b"/v1/endpoints/A/events/"),
+        ],
+        ids: TWO_IDS,
+        bodies: OBJECT,
+        answer: NOT_FOUND,
+    },
+    Case {
+        method: b"PUT",
+        paths: &[
+            Text::Is(b"/v1/endpoints/A/events"),
+            Text::Is(b"/v1/endpoints/a/enabled/"),
+        ],
+        ids: TWO_IDS,
+        bodies: OBJECT,
+        answer: NOT_FOUND,
+    },
+    Case {
+        method: b"",
+        paths: &[Text::Is(b"/v1/endpoints/a")],
+        ids: TWO_IDS,
+        bodies: OBJECT,
+        answer: NOT_FOUND,
+    },
+];
+
 #[test]
 fn what_is_not_in_the_table_is_not_found(rt: HostRuntime) -> Result<(), Fail> {
-    let requests = [
-        ("DELETE", "/v1/status"),
-        ("HEAD", "/v1/status"),
-        ("get", "/v1/status"),
-        ("GET", "/v1/status/"),
-        ("GET", "/v1//status"),
-        ("GET", "/V1/status"),
-        ("GET", "/v1/st%61tus"),
-        ("GET", "v1/status"),
-        ("GET", "http://h/v1/status"),
-        ("GET", ""),
-        ("GET", "/?/v1/status"),
-        ("GET", "/v1/endpoints"),
-        ("GET", "/v1/endpoints/a/"),
-        ("GET", "/v1/endpoints/a/secrets"),
-        ("GET", "/v1/endpoints/a/events"),
-        ("GET", "/v1/endpoints/a/events/msg_1/"),
-        ("GET", "/v1/endpoints/a/b/events/msg_1"),
-        ("POST", "/v1/endpoints/a"),
-        ("POST", "/v1/endpoints/A/events/"),
-        ("PUT", "/v1/endpoints/A/events"),
-        ("PUT", "/v1/endpoints/a/enabled/"),
-        ("", "/v1/endpoints/a"),
-    ];
-    told(&rt, rt.alloc(), &requests, b"{}", NOT_FOUND)
+    walk(&rt, rt.alloc(), &NOT_IN_THE_TABLE)
 }
 
 // A name is what stands between two slashes, before a query, and nothing in it is decoded. It may be empty.
+const BAD_NAMES: [Case; 3] = [
+    Case {
+        method: b"PUT",
+        paths: &[
+            Text::Is(b"/v1/endpoints/A"),
+            Text::Is(b"/v1/endpoints/"),
+            Text::Is(b"/v1/endpoints/%61"),
+            Text::Is(b"/v1/endpoints//secrets"),
+            Text::Is(b"/v1/endpoints/A/enabled?x"),
+        ],
+        ids: TWO_IDS,
+        bodies: EMPTY,
+        answer: BAD_NAME,
+    },
+    Case {
+        method: b"GET",
+        paths: &[
+            Text::Is(b"/v1/endpoints/"),
+            Text::Is(b"/v1/endpoints/?a"),
+            Text::Is(b"/v1/endpoints//events/."),
+        ],
+        ids: TWO_IDS,
+        bodies: EMPTY,
+        answer: BAD_NAME,
+    },
+    Case {
+        method: b"POST",
+        paths: &[Text::Is(b"/v1/endpoints/a b/events")],
+        ids: TWO_IDS,
+        bodies: EMPTY,
+        answer: BAD_NAME,
+    },
+];
+
 #[test]
 fn a_bad_name_is_told(rt: HostRuntime) -> Result<(), Fail> {
-    let requests = [
-        ("PUT", "/v1/endpoints/A"),
-        ("PUT", "/v1/endpoints/"),
-        ("PUT", "/v1/endpoints/%61"),
-        ("PUT", "/v1/endpoints//secrets"),
-        ("PUT", "/v1/endpoints/A/enabled?x"),
-        ("GET", "/v1/endpoints/"),
-        ("GET", "/v1/endpoints/?a"),
-        ("GET", "/v1/endpoints//events/."),
-        ("POST", "/v1/endpoints/a b/events"),
-    ];
-    told(&rt, rt.alloc(), &requests, b"", BAD_NAME)
+    walk(&rt, rt.alloc(), &BAD_NAMES)
 }
+
+// An event is sent with at most one id, and that is one.
+const BAD_IDS: [Case; 5] = [
+    Case {
+        method: b"POST",
+        paths: EVENTS,
+        ids: TWO_IDS,
+        bodies: EMPTY,
+        answer: BAD_ID,
+    },
+    Case {
+        method: b"POST",
+        paths: EVENTS,
+        ids: &[b"msg_1", b"msg_1"],
+        bodies: OBJECT,
+        answer: BAD_ID,
+    },
+    Case {
+        method: b"POST",
+        paths: EVENTS,
+        ids: &[b""],
+        bodies: OBJECT,
+        answer: BAD_ID,
+    },
+    Case {
+        method: b"POST",
+        paths: EVENTS,
+        ids: &[b"msg 1"],
+        bodies: OBJECT,
+        answer: BAD_ID,
+    },
+    Case {
+        method: b"GET",
+        paths: &[
+            Text::Is(b"/v1/endpoints/a/events/"),
+            Text::Is(b"/v1/endpoints/a/events/a.b"),
+            Text::Is(b"/v1/endpoints/a/events/%61"),
+            Text::Is(b"/v1/endpoints/a/events/msg_1%"),
+        ],
+        ids: TWO_IDS,
+        bodies: EMPTY,
+        answer: BAD_ID,
+    },
+];
 
 #[test]
 fn a_bad_id_is_told(rt: HostRuntime) -> Result<(), Fail> {
-    let requests = [
-        ("POST", "/v1/endpoints/a/events"),
-        ("GET", "/v1/endpoints/a/events/"),
-        ("GET", "/v1/endpoints/a/events/a.b"),
-        ("GET", "/v1/endpoints/a/events/%61"),
-        ("GET", "/v1/endpoints/a/events/msg_1%"),
-    ];
-    told(&rt, rt.alloc(), &requests, b"", BAD_ID)
+    walk(&rt, rt.alloc(), &BAD_IDS)
 }
 
-// A request for a page has no use for ids, and a query is cut off.
+// A request for a page has no use for ids or a body, and a query is cut off.
+const PAGES: [Case; 6] = [
+    Case {
+        method: b"GET",
+        paths: &[
+            Text::Is(b"/v1/endpoints/a"),
+            Text::Is(b"/v1/endpoints/a?"),
+            Text::Is(b"/v1/endpoints/a?b/c?d"),
+        ],
+        ids: TWO_IDS,
+        bodies: EMPTY,
+        answer: Answer::Endpoint(b"a"),
+    },
+    Case {
+        method: b"GET",
+        paths: &[Text::Is(b"/v1/status?x=/v2")],
+        ids: TWO_IDS,
+        bodies: EMPTY,
+        answer: Answer::Totals,
+    },
+    Case {
+        method: b"GET",
+        paths: &[Text::Is(b"/v1/endpoints/a/events/msg_1?x")],
+        ids: TWO_IDS,
+        bodies: EMPTY,
+        answer: Answer::Event(b"a", b"msg_1"),
+    },
+    Case {
+        method: b"GET",
+        paths: &[Text::Is(b"/v1/status")],
+        ids: NO_ID,
+        bodies: &[Text::Is(b"x")],
+        answer: Answer::Totals,
+    },
+    Case {
+        method: b"GET",
+        paths: &[Text::Is(b"/v1/endpoints/a")],
+        ids: NO_ID,
+        bodies: EMPTY,
+        answer: Answer::Endpoint(b"a"),
+    },
+    Case {
+        method: b"GET",
+        paths: &[Text::Is(b"/v1/endpoints/a/events/msg_1")],
+        ids: NO_ID,
+        bodies: EMPTY,
+        answer: Answer::Event(b"a", b"msg_1"),
+    },
+];
+
 #[test]
-fn a_query_is_cut_off(rt: HostRuntime) -> Result<(), Fail> {
-    let requests = [
-        ("GET", "/v1/endpoints/a"),
-        ("GET", "/v1/endpoints/a?"),
-        ("GET", "/v1/endpoints/a?b/c?d"),
-        ("GET", "/v1/status?x=/v2"),
-        ("GET", "/v1/endpoints/a/events/msg_1?x"),
-    ];
-    told(&rt, rt.alloc(), &requests, b"", READ)
+fn pages_are_asked_for(rt: HostRuntime) -> Result<(), Fail> {
+    walk(&rt, rt.alloc(), &PAGES)
 }
+
+const LONG_PATHS: [Case; 2] = [
+    Case {
+        method: b"GET",
+        paths: &[Text::Long(b"", b'/', 10_000_000)],
+        ids: NO_ID,
+        bodies: EMPTY,
+        answer: NOT_FOUND,
+    },
+    Case {
+        method: b"GET",
+        paths: &[Text::Long(b"/v1/endpoints/", b'a', 10_000_000)],
+        ids: NO_ID,
+        bodies: EMPTY,
+        answer: BAD_NAME,
+    },
+];
 
 #[test]
 fn a_path_of_10_mb_is_refused(rt: HostRuntime) -> Result<(), Fail> {
-    let slashes = vec![in rt.alloc(); b'/'; 10_000_000]?;
-    let asked = ask(rt.alloc(), "GET", slashes.as_slice(), &[], b"")?;
-    assert_eq!(rt; refused(&asked), NOT_FOUND);
-    let mut path = Vec::from_slice(rt.alloc(), b"/v1/endpoints/")?;
-    path.extend_from_slice(vec![in rt.alloc(); b'a'; 10_000_000]?.as_slice())?;
-    let asked = ask(rt.alloc(), "GET", path.as_slice(), &[], b"")?;
-    assert_eq!(rt; refused(&asked), BAD_NAME);
-    Ok(())
+    walk(&rt, rt.alloc(), &LONG_PATHS)
 }
+
+const TOO_MUCH: &[Text] = &[Text::Long(b"", b'x', 65_537)];
 
 // The size is checked after the name and before the ids, of each method.
+const LONG_BODIES: [Case; 5] = [
+    Case {
+        method: b"DELETE",
+        paths: &[Text::Is(b"/v1/status")],
+        ids: TWO_IDS,
+        bodies: TOO_MUCH,
+        answer: NOT_FOUND,
+    },
+    Case {
+        method: b"PUT",
+        paths: &[Text::Is(b"/v1/endpoints/A")],
+        ids: TWO_IDS,
+        bodies: TOO_MUCH,
+        answer: BAD_NAME,
+    },
+    Case {
+        method: b"PUT",
+        paths: &[Text::Is(b"/v1/endpoints/a")],
+        ids: TWO_IDS,
+        bodies: TOO_MUCH,
+        answer: TOO_LONG,
+    },
+    Case {
+        method: b"POST",
+        paths: EVENTS,
+        ids: TWO_IDS,
+        bodies: TOO_MUCH,
+        answer: TOO_LONG,
+    },
+    Case {
+        method: b"GET",
+        paths: &[
+            Text::Is(b"/v1/status"),
+            Text::Is(b"/v1/endpoints/a/events/a.b"),
+        ],
+        ids: TWO_IDS,
+        bodies: TOO_MUCH,
+        answer: TOO_LONG,
+    },
+];
+
 #[test]
 fn a_body_of_65_537_bytes_is_too_long(rt: HostRuntime) -> Result<(), Fail> {
-    let long = vec![in rt.alloc(); b'x'; 65_537]?;
-    told(
-        &rt,
-        rt.alloc(),
-        &[("DELETE", "/v1/status")],
-        long.as_slice(),
-        NOT_FOUND,
-    )?;
-    told(
-        &rt,
-        rt.alloc(),
-        &[("PUT", "/v1/endpoints/A")],
-        long.as_slice(),
-        BAD_NAME,
-    )?;
-    let requests = [
-        ("GET", "/v1/status"),
-        ("PUT", "/v1/endpoints/a"),
-        ("POST", "/v1/endpoints/a/events"),
-        ("GET", "/v1/endpoints/a/events/a.b"),
-    ];
-    told(&rt, rt.alloc(), &requests, long.as_slice(), TOO_LONG)
+    walk(&rt, rt.alloc(), &LONG_BODIES)
 }
+
+// An event has the id that is given, or a fresh one, and its body is any 65,536 bytes or fewer.
+const SENT: [Case; 2] = [
+    Case {
+        method: b"POST",
+        paths: EVENTS,
+        ids: &[b"msg_1"],
+        bodies: EMPTY,
+        answer: Answer::Post(b"a", b"msg_1"),
+    },
+    Case {
+        method: b"POST",
+        paths: EVENTS,
+        ids: NO_ID,
+        bodies: &[
+            Text::Is(b""),
+            Text::Is(b"\xff not JSON"),
+            Text::Long(b"", b'x', 65_536),
+        ],
+        answer: Answer::Post(b"a", b"fresh"),
+    },
+];
 
 #[test]
-fn a_body_of_65_536_bytes_is_read(rt: HostRuntime) -> Result<(), Fail> {
-    let longest = vec![in rt.alloc(); b'x'; 65_536]?;
-    let path = b"/v1/endpoints/a/events";
-    let asked = ask(rt.alloc(), "POST", path, &[], longest.as_slice())?;
-    assert_eq!(rt; refused(&asked), READ);
-    Ok(())
-}
-
-/// The id of the event that is asked for with these ids.
-fn id_given(alloc: Global, ids: &[&[u8]]) -> Result<MsgId, Fail> {
-    let path = b"/v1/endpoints/a/events";
-    match &read(alloc, "POST", path, ids, b"")? {
-        Asked::Post { id, .. } => Ok(*id),
-        _ => Err(Fail::from("no event is asked for")),
-    }
-}
-
-// An event has the id of the one header, or a fresh one.
-#[test]
-fn an_event_has_the_one_id_that_is_given(rt: HostRuntime) -> Result<(), Fail> {
-    let given = id_given(rt.alloc(), &[b"msg_1"])?;
-    assert!(rt; given.as_bytes() == b"msg_1".as_slice());
-    let made = id_given(rt.alloc(), &[])?;
-    assert!(rt; made.as_bytes() == b"fresh".as_slice());
-    Ok(())
-}
-
-#[test]
-fn two_ids_or_none_of_an_id_are_refused(rt: HostRuntime) -> Result<(), Fail> {
-    let path = b"/v1/endpoints/a/events";
-    let same = ask(rt.alloc(), "POST", path, &[b"msg_1", b"msg_1"], b"{}")?;
-    assert_eq!(rt; refused(&same), BAD_ID);
-    let empty = ask(rt.alloc(), "POST", path, &[b""], b"{}")?;
-    assert_eq!(rt; refused(&empty), BAD_ID);
-    let spaced = ask(rt.alloc(), "POST", path, &[b"msg 1"], b"{}")?;
-    assert_eq!(rt; refused(&spaced), BAD_ID);
-    Ok(())
-}
-
-// The body of an event is any bytes.
-#[test]
-fn an_event_has_its_body(rt: HostRuntime) -> Result<(), Fail> {
-    let bytes = b"\xff not JSON";
-    let path = b"/v1/endpoints/a/events";
-    let asked = read(rt.alloc(), "POST", path, &[], bytes)?;
-    let Asked::Post { name, body, .. } = &asked else {
-        return Err(Fail::from("no event is asked for"));
-    };
-    assert!(rt; name.as_bytes() == b"a".as_slice());
-    assert!(rt; body.as_bytes() == bytes.as_slice());
-    Ok(())
-}
-
-#[test]
-fn totals_are_asked_for(rt: HostRuntime) -> Result<(), Fail> {
-    match &read(rt.alloc(), "GET", b"/v1/status", &[], b"x")? {
-        Asked::Totals => Ok(()),
-        _ => Err(Fail::from("not the totals")),
-    }
-}
-
-#[test]
-fn an_endpoint_is_asked_for(rt: HostRuntime) -> Result<(), Fail> {
-    let asked = read(rt.alloc(), "GET", b"/v1/endpoints/a", &[], b"")?;
-    let Asked::Endpoint(name) = &asked else {
-        return Err(Fail::from("not the endpoint"));
-    };
-    assert!(rt; name.as_bytes() == b"a".as_slice());
-    Ok(())
-}
-
-#[test]
-fn an_event_is_asked_for(rt: HostRuntime) -> Result<(), Fail> {
-    let path = b"/v1/endpoints/a/events/msg_1";
-    let asked = read(rt.alloc(), "GET", path, &[], b"")?;
-    let Asked::Event(name, id) = &asked else {
-        return Err(Fail::from("not the event"));
-    };
-    assert!(rt; name.as_bytes() == b"a".as_slice());
-    assert!(rt; id.as_bytes() == b"msg_1".as_slice());
-    Ok(())
-}
-
-// A refused request may be made again later only where the relay is at fault.
-#[test]
-fn a_bad_request_stays_one(rt: HostRuntime) -> Result<(), Fail> {
-    let Err(reply) = ask(rt.alloc(), "DELETE", b"/v1/status", &[], b"")? else {
-        return Err(Fail::from("the request was read"));
-    };
-    assert_eq!(rt; parts(&reply), (404, "{\"error\":\"NotFound\"}", false));
-    Ok(())
+fn an_event_has_its_id_and_its_body(rt: HostRuntime) -> Result<(), Fail> {
+    walk(&rt, rt.alloc(), &SENT)
 }
