@@ -1,2 +1,3 @@
 pub mod Printable
 pub mod KeeperLaws
+pub mod UrlLaws

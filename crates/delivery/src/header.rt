@@ -1,6 +1,6 @@
 //! A header of a request.
 ghost use Rattle.std.specs.Prelude.{◌≡◌, IsTrue};
-ghost use Rattle.delivery.specs.Requests.{header, is_printable, name_text};
+ghost use Rattle.delivery.specs.Requests.{header, is_printable, is_token, name_text};
 
 use std::marker::Model;
 
@@ -26,9 +26,10 @@ pub enum HeaderName {
 }
 
 impl HeaderName {
-    /// The name in lower case.
+    /// The name's text, in lower case.
     pub fn text(self) -> &'static str
-        ensures { result.now ≡ name_text self }
+        ensures text { result.now ≡ name_text self }
+        ensures token { IsTrue (is_token result.now) }
     {
         match self {
             HeaderName::Host => "host",
@@ -70,11 +71,11 @@ impl Header {
         Header { name, value }
     }
 
-    /// The name in lower case.
-    pub fn name(&self) -> &'static str
-        ensures { result.now ≡ self.now.name }
+    /// Which header this is.
+    pub fn name(&self) -> HeaderName
+        ensures { result ≡ self.now.name }
     {
-        self.name.text()
+        self.name
     }
 
     /// The value.

@@ -12,7 +12,7 @@ mod shared;
 mod worker;
 
 pub use crate::committer::{CommitterEnd, HaltCause, MAX_REFUSALS, committer_run};
-pub use crate::header::Header;
+pub use crate::header::{Header, HeaderName};
 pub use crate::keeper::Keeper;
 pub use crate::locked::Locked;
 pub use crate::outgoing::Outgoing;

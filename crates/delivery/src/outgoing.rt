@@ -1,7 +1,8 @@
 //! The request of a post to a subscriber.
 ghost use Rattle.std.specs.Prelude.{◌≡◌, ◌++◌, [], ◌∷◌, codes, IsTrue, IfOk, OnOk};
-ghost use Rattle.relay_types.specs.Values.{is_visible};
-ghost use Rattle.delivery.specs.Requests.{header, is_printable, connection_headers, webhook_headers, request_of};
+ghost use Rattle.relay_types.specs.Values.{is_host, is_visible};
+ghost use Rattle.delivery.specs.Requests.{header, is_printable, is_request_target};
+ghost use Rattle.delivery.specs.Requests.{connection_headers, webhook_headers, request_of};
 
 use crate::header::{Header, HeaderName};
 use desk::Job;
@@ -55,10 +56,12 @@ impl Outgoing {
         })
     }
 
-    /// The host to connect to.
+    /// The host to connect to, as it is written in the subscriber's URL.
     pub fn host(&self) -> &[u8]
-        ensures { result.now ≡ self.now.host }
+        ensures text { result.now ≡ self.now.host }
+        ensures valid { IsTrue (is_host self.now.host) }
     {
+        let _url = self.target.as_bytes();
         self.target.host()
     }
 
@@ -79,8 +82,10 @@ impl Outgoing {
     /// What the request asks for: the path of the subscriber's URL, with its query.
     pub fn target(&self) -> &[u8]
         ensures text { result.now ≡ self.now.target }
+        ensures valid { IsTrue (is_request_target self.now.target) }
         ensures visible { IsTrue (is_visible self.now.target) }
     {
+        let _url = self.target.as_bytes();
         self.target.path()
     }
 

@@ -5,3 +5,4 @@ mod pages;
 mod words;
 
 pub use crate::pages::{endpoint_text, event_text, totals_text};
+pub use crate::words::id_text;
