@@ -3,7 +3,7 @@
 use crate::asking::{Call, Request, read_call};
 use desk::{Command, Desk};
 use group_commit::Held;
-use intake_shed::{Ask, Asked, Reply, page_reply, read_ask, refusal_reply};
+use intake_shed::{Ask, AskBody, Asked, Reply, WaitFault, page_reply, read_ask, refusal_reply};
 use relay_types::{Body, Moment, MsgId, Name};
 use spool::{Batch, CommitEnd, Receipt, Vault};
 use sqlite::MemStore;
@@ -33,7 +33,7 @@ impl<L: Ledger> Relay<L> {
             method: request.method.as_slice(),
             path: request.path.as_slice(),
             ids: ids.as_slice(),
-            body: request.body.as_slice(),
+            body: AskBody::Whole(request.body.as_slice()),
         };
         match read_ask(alloc, &ask, request.fresh) {
             Ok(asked) => self.carry_on(alloc, request.now, asked),
@@ -56,7 +56,7 @@ impl<L: Ledger> Relay<L> {
     fn change(&mut self, alloc: Global, command: Command) -> Result<String, AllocError> {
         match self.desk.command(command) {
             Ok(ticket) => format!(in alloc; "staged {}", ticket.seq),
-            Err(refusal) => reply_text(alloc, &refusal_reply(&refusal)),
+            Err(refusal) => reply_text(alloc, &refusal_reply(&WaitFault::Refused(refusal))),
         }
     }
 
@@ -70,7 +70,7 @@ impl<L: Ledger> Relay<L> {
     ) -> Result<String, AllocError> {
         match self.desk.submit(now, name, id, body) {
             Ok(ticket) => format!(in alloc; "staged {} {}", ticket.seq, word_of(&ticket.id)),
-            Err(refusal) => reply_text(alloc, &refusal_reply(&refusal)),
+            Err(refusal) => reply_text(alloc, &refusal_reply(&WaitFault::Refused(refusal))),
         }
     }
 

@@ -6,7 +6,8 @@ use Rattle.relay_types.specs.Values.{authority_of, host_of, port_of, path_of, is
 use Rattle.hmac_signer.specs.Signature.{signature_header}
 use Rattle.desk.specs.Claims.{JobValue}
 use Rattle.delivery.specs.declared.header.HeaderName.{HeaderName}
-use Rattle.delivery.specs.declared.header.HeaderName.TheVariants.{Host, UserAgent, ContentType, ContentLength, Connection, WebhookId, WebhookTimestamp, WebhookSignature}
+use Rattle.delivery.specs.declared.header.HeaderName.TheVariants.{Host, UserAgent, ContentType, ContentLength, Connection}
+use Rattle.delivery.specs.declared.header.HeaderName.TheVariants.{WebhookId, WebhookTimestamp, WebhookSignature}
 
 -- a header: which one, and its value
 pub record HeaderField : Type 0 where

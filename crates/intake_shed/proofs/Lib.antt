@@ -1,2 +1,4 @@
 pub mod MemberLaws
+pub mod OneLine
+pub mod OneReason
 pub mod PathLaws

@@ -1,7 +1,8 @@
 -- What the bodies of requests say. Which value a body has is the word of `serde_json`.
 use Rattle.std.specs.Prelude.{◌≡◌, Bool, false, List, [], ◌∷◌, ◌&&◌, Some, IsTrue, codes}
 use Rattle.std.specs.Str.{IsUtf8}
-use Rattle.serde_json.specs.Data.{Num, unsigned, negative, float, Data, boolean, number, string, array, Items, no_items, item}
+use Rattle.serde_json.specs.Data.{Num, unsigned, negative, float}
+use Rattle.serde_json.specs.Data.{Data, boolean, number, string, array, Items, no_items, item}
 use Rattle.serde_json.specs.Find.{get}
 use Rattle.serde_json.specs.Read.{read}
 use Rattle.relay_types.specs.Values.{Text, is_target, is_max_limit}

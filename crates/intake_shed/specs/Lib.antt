@@ -1,4 +1,5 @@
 pub mod Bodies
+pub mod Done
 pub mod Lines
 pub mod Members
 pub mod Pages

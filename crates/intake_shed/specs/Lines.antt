@@ -1,5 +1,5 @@
--- The lines of the table of requests. A path is told by printing: a request stands on a line where its method is the line's, and
--- its path, with the query cut off, is the line's with these parts in it. Nothing is decoded.
+-- The lines of the table of requests. A path is told by printing: a request stands on a line where its method is the
+-- line's, and its path, with the query cut off, is the line's with these parts in it. Nothing is decoded.
 use Rattle.std.specs.Prelude.{◌≡◌, ◌==◌, true, Bool, List, [], ◌∷◌, ◌++◌, IsTrue, codes}
 use Rattle.std.specs.List.{list_all, before_first}
 use Rattle.relay_types.specs.Values.{Text, is_name}

@@ -21,6 +21,7 @@ IsBodyFault result = IfErr result (λ fault. (fault ≡ BadBody) ⊎ (fault ≡ 
 
 -- a new endpoint of these members
 abbrev pub IsPutOf : (name url : Text) (max : Num) (secrets : List Text) → Command → Type 0
-IsPutOf name url max secrets (PutEndpoint its target limit given) = (its ≡ name) × (target ≡ url) × (max ≡ unsigned limit)
+IsPutOf name url max secrets (PutEndpoint its target limit given) =
+    (its ≡ name) × (target ≡ url) × (max ≡ unsigned limit)
     × IsTrue (is_target url && is_max_limit limit) × AreSecretTexts secrets given
 IsPutOf name url max secrets command = ⊥

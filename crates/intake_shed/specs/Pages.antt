@@ -1,11 +1,12 @@
 -- The pages that a request asks for, of the settled records.
-use Rattle.std.specs.Prelude.{◌≡◌, ◌⊎◌, Bool, true, false, List, Option, Some, None, codes}
+use Rattle.std.specs.Prelude.{◌≡◌, Bool, true, false, List, Option, Some, None, codes}
 use Rattle.relay_types.specs.Values.{Text}
 use Rattle.relay_types.specs.declared.record.Record.{Record}
 use Rattle.delivery_book.specs.declared.row.Row.{Row}
 use Rattle.desk.specs.Looks.{EndpointShown, endpoint_page, event_page, totals}
 use Rattle.status.specs.Pages.{totals_text, endpoint_text, event_text}
-use Rattle.intake_shed.specs.Replies.{refused, refused_now}
+use Rattle.intake_shed.specs.Done.{IsDone}
+use Rattle.intake_shed.specs.Replies.{refused}
 use Rattle.intake_shed.specs.declared.ask.Asked.{Asked}
 use Rattle.intake_shed.specs.declared.ask.Asked.TheVariants as asked
 use Rattle.intake_shed.specs.declared.reply.Reply.{Reply}
@@ -18,12 +19,9 @@ asks_for_page asked.Totals = true
 asks_for_page (asked.Endpoint name) = true
 asks_for_page (asked.Event name id) = true
 
-abbrev pub page : Text → Reply
-page text = record { status = 200; retry = false; body = text }
-
 -- the page is given, or there is no memory for it
 abbrev pub GivesPage : (text : Text) → Reply → Type 0
-GivesPage text reply = (reply ≡ page text) ⊎ (reply ≡ refused_now (codes "OutOfMemory"))
+GivesPage text reply = IsDone 200 text reply
 
 -- of an endpoint that isn't settled there is no page, nor of its events; nor of an event that isn't settled
 abbrev pub GivesEndpoint : Option EndpointShown → Reply → Type 0
@@ -39,5 +37,6 @@ GivesEvent (Some endpoint) (Some event) reply = GivesPage (event_text event) rep
 abbrev pub RepliesTo : (records : List Record) → Asked → Reply → Type 0
 RepliesTo records asked.Totals reply = GivesPage (totals_text (totals records)) reply
 RepliesTo records (asked.Endpoint name) reply = GivesEndpoint (endpoint_page records name) reply
-RepliesTo records (asked.Event name id) reply = GivesEvent (endpoint_page records name) (event_page records name id) reply
+RepliesTo records (asked.Event name id) reply =
+    GivesEvent (endpoint_page records name) (event_page records name id) reply
 RepliesTo records what reply = ⊥

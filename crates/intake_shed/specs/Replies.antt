@@ -1,10 +1,12 @@
--- The replies of refusals: a status, whether the request may be made again in a second, and a body that names the refusal.
+-- The replies of refusals: a status, whether the request may be made again in a second, and a body with the name.
 use Rattle.std.specs.Prelude.{ℕ, ◌++◌, true, false, codes}
 use Rattle.relay_types.specs.Values.{Text}
 use Rattle.desk.specs.declared.refusal.Fault.{Fault}
 use Rattle.desk.specs.declared.refusal.Fault.TheVariants as desk
 use Rattle.intake_shed.specs.declared.fault.AskFault.{AskFault}
 use Rattle.intake_shed.specs.declared.fault.AskFault.TheVariants as ask
+use Rattle.intake_shed.specs.declared.refusals.WaitFault.{WaitFault}
+use Rattle.intake_shed.specs.declared.refusals.WaitFault.TheVariants as wait
 use Rattle.intake_shed.specs.declared.reply.Reply.{Reply}
 
 abbrev pub refusal_text : (name : Text) → Text
@@ -17,6 +19,10 @@ refused status name = record { status = status; retry = false; body = refusal_te
 abbrev pub refused_now : (name : Text) → Reply
 refused_now name = record { status = 503; retry = true; body = refusal_text name }
 
+-- the reply where memory is refused
+abbrev pub out_of_memory : Reply
+out_of_memory = refused_now (codes "OutOfMemory")
+
 -- the reply to a request that isn't read
 abbrev pub ask_reply : AskFault → Reply
 ask_reply ask.NotFound = refused 404 (codes "NotFound")
@@ -27,7 +33,7 @@ ask_reply ask.BadBody = refused 400 (codes "BadBody")
 ask_reply ask.BadUrl = refused 400 (codes "BadUrl")
 ask_reply ask.BadMax = refused 400 (codes "BadMax")
 ask_reply ask.BadSecret = refused 400 (codes "BadSecret")
-ask_reply ask.OutOfMemory = refused_now (codes "OutOfMemory")
+ask_reply ask.OutOfMemory = out_of_memory
 
 -- the reply to a refusal of the desk
 abbrev pub fault_reply : Fault → Reply
@@ -41,4 +47,10 @@ fault_reply desk.TooManyEndpoints = refused 409 (codes "TooManyEndpoints")
 fault_reply desk.WaitingFull = refused_now (codes "WaitingFull")
 fault_reply desk.SeqExhausted = refused_now (codes "SeqExhausted")
 fault_reply desk.BatchOut = refused_now (codes "BatchOut")
-fault_reply desk.OutOfMemory = refused_now (codes "OutOfMemory")
+fault_reply desk.OutOfMemory = out_of_memory
+
+-- the reply to a change or an event that isn't done
+abbrev pub refusal_reply : WaitFault → Reply
+refusal_reply (wait.Refused refusal) = fault_reply refusal.fault
+refusal_reply wait.Unknown = refused_now (codes "Unknown")
+refusal_reply wait.WentBack = refused_now (codes "WentBack")

@@ -1,5 +1,5 @@
 -- What a request asks for, and what it is refused for: the first check that fails decides.
-use Rattle.std.specs.Prelude.{◌≡◌, true, false, Bool, ◌&&◌, nat_le, List, [], ◌∷◌, length, IsTrue}
+use Rattle.std.specs.Prelude.{◌≡◌, ◌⊎◌, true, false, Bool, ◌&&◌, nat_le, List, [], ◌∷◌, length, Result, Ok, Err, IsTrue}
 use Rattle.serde_json.specs.Data.{Data}
 use Rattle.relay_types.specs.declared.limits.TheConstants.{MAX_BODY_BYTES}
 use Rattle.relay_types.specs.Values.{Text, is_msg_id}
@@ -7,9 +7,12 @@ use Rattle.text_lines.specs.Parts.{texts}
 use Rattle.desk.specs.declared.command.Command.{Command}
 use Rattle.desk.specs.declared.command.Command.TheVariants as change
 use Rattle.intake_shed.specs.Bodies.{IsJson, Says, IsBadPut, IsBadSecrets, IsBadFlag, OfBody}
-use Rattle.intake_shed.specs.Lines.{Line, Put, SetSecrets, SetEnabled, Submit, Totals, Endpoint, Event, IsLine, before_query, has_name}
-use Rattle.intake_shed.specs.Replies.{ask_reply}
+use Rattle.intake_shed.specs.Lines.{Line, Put, SetSecrets, SetEnabled, Submit, Totals, Endpoint, Event}
+use Rattle.intake_shed.specs.Lines.{IsLine, before_query, has_name}
+use Rattle.intake_shed.specs.Replies.{ask_reply, out_of_memory}
 use Rattle.intake_shed.specs.declared.ask.Ask.{Ask}
+use Rattle.intake_shed.specs.declared.ask.AskBody.{AskBody}
+use Rattle.intake_shed.specs.declared.ask.AskBody.TheVariants.{Whole, TooLong}
 use Rattle.intake_shed.specs.declared.ask.Asked.{Asked}
 use Rattle.intake_shed.specs.declared.ask.Asked.TheVariants as asked
 use Rattle.intake_shed.specs.declared.fault.AskFault.{AskFault}
@@ -20,8 +23,15 @@ use Rattle.intake_shed.specs.declared.reply.Reply.{Reply}
 abbrev pub IsOn : Line → Ask → Type 0
 IsOn line ask = IsLine line ask.method.now (before_query ask.path.now)
 
-abbrev pub has_room : (body : Text) → Bool
-has_room body = nat_le (length body) MAX_BODY_BYTES
+-- whether the body is whole, and has at most 65,536 bytes
+abbrev pub has_room : AskBody → Bool
+has_room (Whole bytes) = nat_le (length bytes.now) MAX_BODY_BYTES
+has_room TooLong = false
+
+-- the bytes of a body that has room
+abbrev pub bytes_of : AskBody → Text
+bytes_of (Whole bytes) = bytes.now
+bytes_of TooLong = []
 
 -- whether no id is given, or one that is an id
 abbrev pub has_one_id : (ids : List Text) → Bool
@@ -45,7 +55,7 @@ has_id (Event name id) ask = is_msg_id id
 
 -- the checks of a request's name, size and id
 abbrev pub has_parts : Line → Ask → Bool
-has_parts line ask = has_name line && (has_room ask.body.now && has_id line ask)
+has_parts line ask = has_name line && (has_room ask.body && has_id line ask)
 
 -- the line of what is asked for
 abbrev pub line_changed : Command → Line
@@ -62,8 +72,8 @@ line_asked (asked.Event name id) = Event name id
 
 -- what is asked for is what the body, or the ids and the body, say
 abbrev pub IsOfBody : Ask → (fresh : Text) → Asked → Type 0
-IsOfBody ask fresh (asked.Change command) = (value : Data) × IsJson ask.body.now value × Says value command
-IsOfBody ask fresh (asked.Post name id body) = (id ≡ id_of (texts ask.ids.now) fresh) × (body ≡ ask.body.now)
+IsOfBody ask fresh (asked.Change command) = (value : Data) × IsJson (bytes_of ask.body) value × Says value command
+IsOfBody ask fresh (asked.Post name id body) = (id ≡ id_of (texts ask.ids.now) fresh) × (body ≡ bytes_of ask.body)
 IsOfBody ask fresh asked.Totals = Unit {0}
 IsOfBody ask fresh (asked.Endpoint name) = Unit {0}
 IsOfBody ask fresh (asked.Event name id) = Unit {0}
@@ -74,7 +84,7 @@ pub record AsksFor (ask : Ask) (fresh : Text) (what : Asked) : Type 0 where
   pub passes : IsTrue (has_parts (line_asked what) ask)
   pub says : IsOfBody ask fresh what
 
--- what the body of a PUT is refused for; that of a POST can lack memory
+-- What the body is refused for: that of a PUT. Where a body is read or copied, memory may be refused.
 abbrev pub IsBadBody : Line → (body : Text) → AskFault → Type 0
 IsBadBody (Put name) body why = OfBody IsBadPut body why
 IsBadBody (SetSecrets name) body why = OfBody IsBadSecrets body why
@@ -82,24 +92,36 @@ IsBadBody (SetEnabled name) body why = OfBody IsBadFlag body why
 IsBadBody (Submit name) body fault.OutOfMemory = Unit {0}
 IsBadBody line body why = ⊥
 
--- what a name or a size is refused for
-abbrev pub IsBadNameOrSize : (named room : Bool) → AskFault → Type 0
-IsBadNameOrSize named room fault.BadName = named ≡ false
-IsBadNameOrSize named room fault.TooLong = IsTrue named × (room ≡ false)
-IsBadNameOrSize named room why = ⊥
-
 -- what a request on this line is refused for: it passes the checks before, and not this one
 abbrev pub IsBadOn : Line → Ask → AskFault → Type 0
 IsBadOn line ask fault.BadName = has_name line ≡ false
-IsBadOn line ask fault.TooLong = IsTrue (has_name line) × (has_room ask.body.now ≡ false)
-IsBadOn line ask fault.BadId = IsTrue (has_name line && has_room ask.body.now) × (has_id line ask ≡ false)
-IsBadOn line ask why = IsTrue (has_parts line ask) × IsBadBody line ask.body.now why
+IsBadOn line ask fault.TooLong = IsTrue (has_name line) × (has_room ask.body ≡ false)
+IsBadOn line ask fault.BadId = IsTrue (has_name line && has_room ask.body) × (has_id line ask ≡ false)
+IsBadOn line ask why = IsTrue (has_parts line ask) × IsBadBody line (bytes_of ask.body) why
 
--- what a request is refused for
+-- the check that a request is refused for, the first that fails: it stands on no line, or on one on which it is bad
 abbrev pub IsRefusedFor : Ask → AskFault → Type 0
 IsRefusedFor ask fault.NotFound = (line : Line) → ¬ IsOn line ask
+IsRefusedFor ask fault.OutOfMemory = ⊥
 IsRefusedFor ask why = (line : Line) × IsOn line ask × IsBadOn line ask why
 
--- the reply to a request that is refused
+-- memory may be refused for a body that is read or copied, once the checks of name, size and id are passed
+abbrev pub MayLackMemory : Ask → Type 0
+MayLackMemory ask = (line : Line) × IsOn line ask × IsBadOn line ask fault.OutOfMemory
+
+-- why a request isn't read: a check, or memory
+abbrev pub IsNotReadFor : Ask → AskFault → Type 0
+IsNotReadFor ask fault.OutOfMemory = MayLackMemory ask
+IsNotReadFor ask why = IsRefusedFor ask why
+
+-- the reply to a request that isn't read: that of the check, or of memory
 abbrev pub IsRefusal : Ask → Reply → Type 0
-IsRefusal ask reply = (why : AskFault) × (reply ≡ ask_reply why) × IsRefusedFor ask why
+IsRefusal ask reply = (why : AskFault) × (reply ≡ ask_reply why) × IsNotReadFor ask why
+
+-- the answer is this one, or that memory is lacking
+abbrev pub Gives : Result Asked Reply → Asked → Type 0
+Gives result what = (result ≡ Ok what) ⊎ (result ≡ Err out_of_memory)
+
+-- the answer is the reply of this check, or that memory is lacking
+abbrev pub Tells : Result Asked Reply → AskFault → Type 0
+Tells result why = (result ≡ Err (ask_reply why)) ⊎ (result ≡ Err out_of_memory)

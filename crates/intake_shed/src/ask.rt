@@ -5,6 +5,15 @@ ghost use Rattle.intake_shed.specs.Pages.{asks_for_page};
 use desk::Command;
 use relay_types::{Body, MsgId, Name};
 
+/// The body of a request.
+#[derive(Clone, Copy)]
+pub enum AskBody<'a> {
+    /// All of its bytes.
+    Whole(&'a [u8]),
+    /// It was longer than 65,536 bytes, and its bytes weren't kept.
+    TooLong,
+}
+
 /// A request over HTTP.
 #[derive(Clone, Copy)]
 pub struct Ask<'a> {
@@ -14,8 +23,8 @@ pub struct Ask<'a> {
     pub path: &'a [u8],
     /// The values of all headers `webhook-id`.
     pub ids: &'a [&'a [u8]],
-    /// The body. Of one that is longer than 65,536 bytes the first 65,537 are enough.
-    pub body: &'a [u8],
+    /// The body.
+    pub body: AskBody<'a>,
 }
 
 /// What a request asks for.

@@ -6,7 +6,8 @@ ghost use Rattle.relay_types.specs.Values.{is_target, is_max_limit};
 ghost use Rattle.text_lines.specs.Parts.{texts};
 ghost use Rattle.text_lines.specs.Words.{AreSecretTexts};
 ghost use Rattle.intake_shed.specs.Lines.{Put, SetSecrets, SetEnabled};
-ghost use Rattle.intake_shed.specs.Bodies.{IsJson, Says, IsBadMember, IsBadPut, IsBadSecrets, IsBadFlag, OfBody, AreNoSecrets, is_max};
+ghost use Rattle.intake_shed.specs.Bodies.{IsJson, Says, AreNoSecrets, is_max};
+ghost use Rattle.intake_shed.specs.Bodies.{IsBadMember, IsBadPut, IsBadSecrets, IsBadFlag, OfBody};
 ghost use Rattle.intake_shed.specs.Members.{IsPutOf};
 ghost use Rattle.intake_shed.specs.Requests.{line_changed};
 

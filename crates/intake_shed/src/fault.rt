@@ -43,7 +43,7 @@ impl AskFault {
             AskFault::BadUrl => Reply::refused(400, "{\"error\":\"BadUrl\"}"),
             AskFault::BadMax => Reply::refused(400, "{\"error\":\"BadMax\"}"),
             AskFault::BadSecret => Reply::refused(400, "{\"error\":\"BadSecret\"}"),
-            AskFault::OutOfMemory => Reply::refused_now("{\"error\":\"OutOfMemory\"}"),
+            AskFault::OutOfMemory => Reply::out_of_memory(),
         }
     }
 }

@@ -3,6 +3,7 @@
 
 mod ask;
 mod changes;
+mod done;
 mod fault;
 mod members;
 mod pages;
@@ -11,9 +12,10 @@ mod refusals;
 mod reply;
 mod routes;
 
-pub use crate::ask::{Ask, Asked};
+pub use crate::ask::{Ask, AskBody, Asked};
+pub use crate::done::{accepted_reply, change_reply, change_status};
 pub use crate::fault::AskFault;
 pub use crate::pages::page_reply;
 pub use crate::reading::read_ask;
-pub use crate::refusals::refusal_reply;
+pub use crate::refusals::{WaitFault, refusal_reply};
 pub use crate::reply::{Reply, ReplyText};

@@ -1,17 +1,16 @@
 //! The replies to requests for pages.
-ghost use Rattle.std.specs.Prelude.{◌≡◌, ℕ, List, IsTrue, IfOk, string_bytes};
+ghost use Rattle.std.specs.Prelude.{IsTrue};
 ghost use Rattle.desk.specs.World.{settled_records};
 ghost use Rattle.desk.specs.Desks.{OverWorlds};
 ghost use Rattle.desk.specs.Looks.{endpoint_page, event_page};
-ghost use Rattle.intake_shed.specs.Pages.{asks_for_page, RepliesTo, GivesPage, GivesEndpoint, GivesEvent};
+ghost use Rattle.intake_shed.specs.Pages.{asks_for_page, RepliesTo, GivesEndpoint, GivesEvent};
 
 use crate::ask::Asked;
-use crate::fault::AskFault;
-use crate::reply::{Reply, ReplyText};
+use crate::reply::Reply;
 use desk::Desk;
 use relay_types::{MsgId, Name};
 use status::{endpoint_text, event_text, totals_text};
-use std::alloc::{AllocError, Global};
+use std::alloc::Global;
 use std::sync::ledger::Ledger;
 
 /// The page that is asked for, of what is settled. It changes nothing.
@@ -20,7 +19,7 @@ pub fn page_reply<L: Ledger>(alloc: Global, desk: &Desk<L>, asked: &Asked) -> Re
     ensures { OverWorlds desk.now (λ w. RepliesTo (settled_records w) asked.now result) }
 {
     match asked {
-        Asked::Totals => page_of(totals_text(alloc, &desk.totals())),
+        Asked::Totals => Reply::done(200, totals_text(alloc, &desk.totals())),
         Asked::Endpoint(name) => endpoint_reply(alloc, desk, *name),
         Asked::Event(name, id) => event_reply(alloc, desk, *name, id),
         Asked::Change(_) | Asked::Post { .. } => unreachable!(),
@@ -31,7 +30,7 @@ fn endpoint_reply<L: Ledger>(alloc: Global, desk: &Desk<L>, name: Name) -> Reply
     ensures { OverWorlds desk.now (λ w. GivesEndpoint (endpoint_page (settled_records w) name) result) }
 {
     match desk.endpoint_page(name) {
-        Some(page) => page_of(endpoint_text(alloc, &page)),
+        Some(page) => Reply::done(200, endpoint_text(alloc, &page)),
         None => Reply::refused(404, "{\"error\":\"UnknownEndpoint\"}"),
     }
 }
@@ -44,21 +43,7 @@ fn event_reply<L: Ledger>(alloc: Global, desk: &Desk<L>, name: Name, id: &MsgId)
         return Reply::refused(404, "{\"error\":\"UnknownEndpoint\"}");
     }
     match desk.event_page(name, id) {
-        Some(row) => page_of(event_text(alloc, &row)),
+        Some(row) => Reply::done(200, event_text(alloc, &row)),
         None => Reply::refused(404, "{\"error\":\"UnknownEvent\"}"),
-    }
-}
-
-// The reply with this page.
-fn page_of(text: Result<String, AllocError>) -> Reply
-    ensures { (bytes : List ℕ) → IfOk text (λ made. string_bytes made ≡ bytes) → GivesPage bytes result }
-{
-    match text {
-        Ok(text) => Reply {
-            status: 200,
-            retry: false,
-            body: ReplyText::made(text),
-        },
-        Err(AllocError) => AskFault::OutOfMemory.reply(),
     }
 }

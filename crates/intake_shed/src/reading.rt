@@ -1,13 +1,16 @@
 //! Which request asks for what.
-ghost use Rattle.std.specs.Prelude.{◌≡◌, ◌&&◌, false, IsTrue, IfOk, IfErr, OnOk};
+ghost use Rattle.std.specs.Prelude.{◌≡◌, ◌≤◌, false, length, IsTrue, IfOk, IfErr, OnOk};
 ghost use Rattle.std.specs.Arc.{arc_value};
 ghost use Rattle.relay_types.specs.Values.{is_name};
 ghost use Rattle.text_lines.specs.Parts.{texts};
-ghost use Rattle.intake_shed.specs.Requests.{AsksFor, IsRefusal, IsRefusedFor, IsBadOn, IsOfBody, line_asked};
-ghost use Rattle.intake_shed.specs.Requests.{has_parts, has_room, has_one_id, id_of, IsBadNameOrSize};
+ghost use Rattle.intake_shed.specs.Requests.{AsksFor, IsRefusal, IsRefusedFor, IsNotReadFor, Gives, Tells};
+ghost use Rattle.intake_shed.specs.Requests.{IsBadOn, IsOfBody, line_asked};
+ghost use Rattle.intake_shed.specs.Requests.{has_parts, has_room, bytes_of, has_one_id, id_of};
 ghost use Rattle.intake_shed.specs.Routes.{line_of};
+ghost use Rattle.intake_shed.specs.declared.ask.Asked.{Asked};
+ghost use Rattle.intake_shed.specs.declared.fault.AskFault.{AskFault};
 
-use crate::ask::{Ask, Asked};
+use crate::ask::{Ask, AskBody, Asked};
 use crate::changes::{read_flag, read_put, read_secrets};
 use crate::fault::AskFault;
 use crate::reply::Reply;
@@ -16,11 +19,13 @@ use relay_types::{Body, MAX_BODY_BYTES, MsgId, Name};
 use std::alloc::{AllocError, Global};
 use std::sync::Arc;
 
-/// What a request asks for, or the reply that refuses it: the first check that fails decides. An event that isn't given an
-/// id gets the fresh one.
+/// What a request asks for, or the reply that refuses it: the first check that fails decides, and only memory may be
+/// refused before it. An event that isn't given an id gets the fresh one.
 pub fn read_ask(alloc: Global, ask: &Ask<'_>, fresh: MsgId) -> Result<Asked, Reply>
     ensures asked { IfOk result (λ asked. AsksFor ask.now fresh asked) }
+    ensures asks { (asked : Asked) → AsksFor ask.now fresh asked → Gives result asked }
     ensures refused { IfErr result (λ reply. IsRefusal ask.now reply) }
+    ensures refuses { (why : AskFault) → IsRefusedFor ask.now why → Tells result why }
 {
     match read(alloc, ask, fresh) {
         Ok(asked) => Ok(asked),
@@ -30,7 +35,7 @@ pub fn read_ask(alloc: Global, ask: &Ask<'_>, fresh: MsgId) -> Result<Asked, Rep
 
 fn read(alloc: Global, ask: &Ask<'_>, fresh: MsgId) -> Result<Asked, AskFault>
     ensures asked { IfOk result (λ asked. AsksFor ask.now fresh asked) }
-    ensures refused { IfErr result (λ why. IsRefusedFor ask.now why) }
+    ensures refused { IfErr result (λ why. IsNotReadFor ask.now why) }
 {
     match read_route(ask.method, ask.path) {
         Some(route) => read_on(alloc, route, ask, fresh),
@@ -47,56 +52,68 @@ fn read_on(alloc: Global, route: Route<'_>, ask: &Ask<'_>, fresh: MsgId) -> Resu
 {
     match route {
         Route::Put(name) => {
-            let name = read_name(name, ask.body)?;
-            Ok(Asked::Change(read_put(alloc, name, ask.body)?))
+            let name = read_name(name)?;
+            let body = read_size(&ask.body)?;
+            Ok(Asked::Change(read_put(alloc, name, body)?))
         }
         Route::SetSecrets(name) => {
-            let name = read_name(name, ask.body)?;
-            Ok(Asked::Change(read_secrets(alloc, name, ask.body)?))
+            let name = read_name(name)?;
+            let body = read_size(&ask.body)?;
+            Ok(Asked::Change(read_secrets(alloc, name, body)?))
         }
         Route::SetEnabled(name) => {
-            let name = read_name(name, ask.body)?;
-            Ok(Asked::Change(read_flag(alloc, name, ask.body)?))
+            let name = read_name(name)?;
+            let body = read_size(&ask.body)?;
+            Ok(Asked::Change(read_flag(alloc, name, body)?))
         }
         Route::Submit(name) => {
-            let name = read_name(name, ask.body)?;
+            let name = read_name(name)?;
+            let body = read_size(&ask.body)?;
             let id = read_id(ask.ids, fresh)?;
-            let body = copy_body(alloc, ask.body)?;
-            Ok(Asked::Post { name, id, body })
+            Ok(Asked::Post {
+                name,
+                id,
+                body: copy_body(alloc, body)?,
+            })
         }
         Route::Totals => {
-            check_size(ask.body)?;
+            read_size(&ask.body)?;
             Ok(Asked::Totals)
         }
-        Route::Endpoint(name) => Ok(Asked::Endpoint(read_name(name, ask.body)?)),
+        Route::Endpoint(name) => {
+            let name = read_name(name)?;
+            read_size(&ask.body)?;
+            Ok(Asked::Endpoint(name))
+        }
         Route::Event(name, id) => {
-            let name = read_name(name, ask.body)?;
+            let name = read_name(name)?;
+            read_size(&ask.body)?;
             Ok(Asked::Event(name, MsgId::read(id).map_err(|_| AskFault::BadId)?))
         }
     }
 }
 
-// The name of the endpoint, of a request with this body.
-fn read_name(name: &[u8], body: &[u8]) -> Result<Name, AskFault>
+// The name of the endpoint.
+fn read_name(name: &[u8]) -> Result<Name, AskFault>
     ensures value { IfOk result (λ read. read ≡ name.now) }
-    ensures passes { OnOk result (IsTrue (is_name name.now && has_room body.now)) }
-    ensures refused { IfErr result (λ why. IsBadNameOrSize (is_name name.now) (has_room body.now) why) }
+    ensures passes { OnOk result (IsTrue (is_name name.now)) }
+    ensures refused { IfErr result (λ why. (why ≡ AskFault.BadName) × (is_name name.now ≡ false)) }
 {
-    let Ok(name) = Name::read(name) else {
-        return Err(AskFault::BadName);
-    };
-    check_size(body)?;
-    Ok(name)
+    match Name::read(name) {
+        Ok(name) => Ok(name),
+        Err(_) => Err(AskFault::BadName),
+    }
 }
 
-fn check_size(body: &[u8]) -> Result<(), AskFault>
+// The bytes of a body that has room.
+fn read_size<'a>(body: &AskBody<'a>) -> Result<&'a [u8], AskFault>
+    ensures bytes { IfOk result (λ bytes. bytes.now ≡ bytes_of body.now) }
     ensures passes { OnOk result (IsTrue (has_room body.now)) }
     ensures refused { IfErr result (λ why. (why ≡ AskFault.TooLong) × (has_room body.now ≡ false)) }
 {
-    if body.len() <= MAX_BODY_BYTES {
-        Ok(())
-    } else {
-        Err(AskFault::TooLong)
+    match *body {
+        AskBody::Whole(bytes) if bytes.len() <= MAX_BODY_BYTES => Ok(bytes),
+        AskBody::Whole(_) | AskBody::TooLong => Err(AskFault::TooLong),
     }
 }
 
@@ -118,7 +135,7 @@ fn read_id(ids: &[&[u8]], fresh: MsgId) -> Result<MsgId, AskFault>
 
 // The body of an event, which has room.
 fn copy_body(alloc: Global, bytes: &[u8]) -> Result<Body, AskFault>
-    requires { IsTrue (has_room bytes.now) }
+    requires { length bytes.now ≤ MAX_BODY_BYTES }
     ensures value { IfOk result (λ body. body ≡ bytes.now) }
     ensures refused { IfErr result (λ why. why ≡ AskFault.OutOfMemory) }
 {

@@ -1,15 +1,46 @@
-//! The replies to what the desk refuses.
+//! The replies to changes and events that aren't done.
 ghost use Rattle.std.specs.Prelude.{◌≡◌};
-ghost use Rattle.intake_shed.specs.Replies.{fault_reply};
+ghost use Rattle.intake_shed.specs.Replies.{fault_reply, refusal_reply};
+ghost use Rattle.intake_shed.specs.declared.refusals.WaitFault.TheVariants.{Refused};
 
 use crate::reply::Reply;
 use desk::{Fault, Refusal};
 
-/// The reply to what the desk refuses. It takes no memory.
-pub fn refusal_reply(refusal: &Refusal) -> Reply
-    ensures { result ≡ fault_reply refusal.now.fault }
+/// Why a change or an event that was waited for isn't told as done.
+#[derive(Clone, Copy, PartialEq, Eq, Debug)]
+pub enum WaitFault {
+    /// The desk refused it.
+    Refused(Refusal),
+    /// It waited when the desk halted: it may be done or not.
+    Unknown,
+    /// The desk has fewer settled records than were seen before.
+    WentBack,
+}
+
+impl From<Refusal> for WaitFault {
+    ghost from_gives = { λ refusal fault. fault ≡ Refused refusal };
+
+    fn from(refusal: Refusal) -> WaitFault {
+        WaitFault::Refused(refusal)
+    }
+}
+
+/// The reply to what isn't done. It takes no memory.
+pub fn refusal_reply(fault: &WaitFault) -> Reply
+    ensures { result ≡ refusal_reply fault.now }
 {
-    match refusal.fault {
+    match fault {
+        WaitFault::Refused(refusal) => fault_reply(refusal.fault),
+        WaitFault::Unknown => Reply::refused_now("{\"error\":\"Unknown\"}"),
+        WaitFault::WentBack => Reply::refused_now("{\"error\":\"WentBack\"}"),
+    }
+}
+
+// The desk answers `BatchOut` to a seal alone.
+fn fault_reply(fault: Fault) -> Reply
+    ensures { result ≡ fault_reply fault }
+{
+    match fault {
         Fault::Halted => Reply::refused_now("{\"error\":\"Halted\"}"),
         Fault::UnknownEndpoint => Reply::refused(404, "{\"error\":\"UnknownEndpoint\"}"),
         Fault::Conflict => Reply::refused(409, "{\"error\":\"Conflict\"}"),

@@ -1,7 +1,10 @@
 //! Replies.
-ghost use Rattle.std.specs.Prelude.{◌≡◌, true, false, string_bytes};
+ghost use Rattle.std.specs.Prelude.{◌≡◌, ℕ, List, true, false, IfOk, string_bytes};
 ghost use Rattle.std.specs.Cow.{cow_str_bytes};
+ghost use Rattle.intake_shed.specs.Replies.{out_of_memory};
+ghost use Rattle.intake_shed.specs.Done.{IsDone};
 
+use std::alloc::AllocError;
 use std::borrow::CowStr;
 use std::marker::Model;
 
@@ -45,6 +48,14 @@ impl ReplyText {
     {
         self.text.as_str()
     }
+
+    /// The text, without a copy: borrowed where it stands in the program, as that of each refusal does, or else as it was
+    /// made.
+    pub fn into_cow(self) -> CowStr<'static>
+        ensures { cow_str_bytes result ≡ self }
+    {
+        self.text
+    }
 }
 
 /// A reply over HTTP.
@@ -59,6 +70,27 @@ pub struct Reply {
 }
 
 impl Reply {
+    // The reply of what was done, with this text if there was memory for it.
+    pub(crate) fn done(status: u16, text: Result<String, AllocError>) -> Reply
+        ensures { (bytes : List ℕ) → IfOk text (λ made. string_bytes made ≡ bytes) → IsDone status bytes result }
+    {
+        match text {
+            Ok(text) => Reply {
+                status,
+                retry: false,
+                body: ReplyText::made(text),
+            },
+            Err(AllocError) => Reply::out_of_memory(),
+        }
+    }
+
+    // The reply where memory was refused.
+    pub(crate) fn out_of_memory() -> Reply
+        ensures { result ≡ out_of_memory }
+    {
+        Reply::refused_now("{\"error\":\"OutOfMemory\"}")
+    }
+
     // The reply of a refusal that stays one.
     pub(crate) fn refused(status: u16, text: &'static str) -> Reply
         ensures { result ≡ record { status = status; retry = false; body = text.now } }

@@ -15,6 +15,6 @@ gives_event f (Some page) found row event reply there e same given =
 
 pub returns-in-Some : goal.returns-in-Some
 returns-in-Some g c = λ w stands.
-    gives_event shown c.endpoint_page.result _ c.in-Some.row _ c.page_of.result
+    gives_event shown c.endpoint_page.result _ c.in-Some.row _ c.done.result
     (c.is_none.ensures ∙ ap not c.if-is_none.false) (c.endpoint_page.ensures w stands) (c.in-Some.ensures w stands)
-    (c.page_of.ensures (event_text c.in-Some.row) c.event_text.ensures)
+    (c.done.ensures (event_text c.in-Some.row) c.event_text.ensures)

@@ -1,0 +1,37 @@
+-- The replies to what is done: a status, and a text that is compact JSON with its members in the order of their names.
+use Rattle.std.specs.Prelude.{◌≡◌, ◌⊎◌, ℕ, [], ◌∷◌, false, codes}
+use Rattle.serde_json.specs.Data.{Data, string}
+use Rattle.serde_json.specs.Written.{compact_text}
+use Rattle.relay_types.specs.Values.{Text, Seq}
+use Rattle.desk.specs.declared.command.Command.{Command}
+use Rattle.desk.specs.declared.command.Command.TheVariants.{PutEndpoint, SetSecrets, SetEnabled}
+use Rattle.status.specs.Pages.{object_of, natural}
+use Rattle.intake_shed.specs.Replies.{out_of_memory}
+use Rattle.intake_shed.specs.declared.reply.Reply.{Reply}
+
+abbrev pub done : (status : ℕ) (text : Text) → Reply
+done status text = record { status = status; retry = false; body = text }
+
+-- it is this one, or there is no memory for its text
+abbrev pub IsDone : (status : ℕ) (text : Text) → Reply → Type 0
+IsDone status text reply = (reply ≡ done status text) ⊎ (reply ≡ out_of_memory)
+
+-- a new endpoint is made, other changes are taken over
+abbrev pub change_status : Command → ℕ
+change_status (PutEndpoint name target max secrets) = 201
+change_status (SetSecrets name secrets) = 200
+change_status (SetEnabled name flag) = 200
+
+-- a change is told by its record's number
+abbrev pub change_body : Seq → Data
+change_body seq = object_of ((codes "seq", natural seq) ∷ [])
+
+abbrev pub change_text : Seq → Text
+change_text seq = compact_text (change_body seq)
+
+-- an event is told by its id and its record's number
+abbrev pub accepted_body : (id : Text) → Seq → Data
+accepted_body id seq = object_of ((codes "id", string id) ∷ (codes "seq", natural seq) ∷ [])
+
+abbrev pub accepted_text : (id : Text) → Seq → Text
+accepted_text id seq = compact_text (accepted_body id seq)

@@ -1,0 +1,64 @@
+//! The replies to changes and events that are done.
+ghost use Rattle.std.specs.Prelude.{◌≡◌, IfOk, string_bytes};
+ghost use Rattle.serde_json.specs.View.{view};
+ghost use Rattle.intake_shed.specs.Done.{IsDone, change_status, change_body, change_text, accepted_body, accepted_text};
+
+use crate::reply::Reply;
+use desk::Command;
+use relay_types::MsgId;
+use serde_json::{Value, json};
+use status::id_text;
+use std::alloc::{AllocError, Global};
+
+/// The status of a change that is done: 201 of a new endpoint, 200 of the others.
+pub fn change_status(command: &Command) -> u16
+    ensures { result ≡ change_status command.now }
+{
+    match command {
+        Command::PutEndpoint { .. } => 201,
+        Command::SetSecrets { .. } | Command::SetEnabled { .. } => 200,
+    }
+}
+
+/// The reply to a change that is done, of this status: its record's number. Without memory for the text it is that of
+/// OutOfMemory, and the change stays done.
+pub fn change_reply(alloc: Global, status: u16, seq: u64) -> Reply
+    ensures { IsDone status (change_text seq) result }
+{
+    Reply::done(status, change_text(alloc, seq))
+}
+
+fn change_text(alloc: Global, seq: u64) -> Result<String, AllocError>
+    ensures { IfOk result (λ text. string_bytes text ≡ change_text seq) }
+{
+    change_body(alloc, seq)?.to_string(alloc)
+}
+
+fn change_body(alloc: Global, seq: u64) -> Result<Value, AllocError>
+    ensures { IfOk result (λ value. view value ≡ change_body seq) }
+{
+    json!(in alloc; { "seq": seq })
+}
+
+/// The reply to an event that is settled: its id, and its record's number. Without memory for the text it is that of
+/// OutOfMemory, and the event stays settled.
+pub fn accepted_reply(alloc: Global, id: &MsgId, seq: u64) -> Reply
+    ensures { IsDone 202 (accepted_text id.now seq) result }
+{
+    Reply::done(202, accepted_text(alloc, id, seq))
+}
+
+fn accepted_text(alloc: Global, id: &MsgId, seq: u64) -> Result<String, AllocError>
+    ensures { IfOk result (λ text. string_bytes text ≡ accepted_text id.now seq) }
+{
+    accepted_body(alloc, id, seq)?.to_string(alloc)
+}
+
+fn accepted_body(alloc: Global, id: &MsgId, seq: u64) -> Result<Value, AllocError>
+    ensures { IfOk result (λ value. view value ≡ accepted_body id.now seq) }
+{
+    json!(in alloc; {
+        "id": id_text(id),
+        "seq": seq,
+    })
+}
