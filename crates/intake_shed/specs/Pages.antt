@@ -3,6 +3,9 @@ use Rattle.std.specs.Prelude.{◌≡◌, Bool, true, false, List, Option, Some, 
 use Rattle.relay_types.specs.Values.{Text}
 use Rattle.relay_types.specs.declared.record.Record.{Record}
 use Rattle.delivery_book.specs.declared.row.Row.{Row}
+use Rattle.desk.specs.declared.pages.Totals.{Totals}
+use Rattle.desk.specs.Desks.{DeskValue}
+use Rattle.desk.specs.Kept as kept
 use Rattle.desk.specs.Looks.{EndpointShown, endpoint_page, event_page, totals}
 use Rattle.status.specs.Pages.{totals_text, endpoint_text, event_text}
 use Rattle.intake_shed.specs.Done.{IsDone}
@@ -40,3 +43,10 @@ RepliesTo records (asked.Endpoint name) reply = GivesEndpoint (endpoint_page rec
 RepliesTo records (asked.Event name id) reply =
     GivesEvent (endpoint_page records name) (event_page records name id) reply
 RepliesTo records what reply = ⊥
+
+-- The same by what a desk keeps, whether or not it stands for a world. The totals tell as many records as are settled.
+abbrev pub RepliesBy : DeskValue → Asked → Reply → Type 0
+RepliesBy desk asked.Totals reply = (t : Totals) × (t.records ≡ desk.waiting.settled) × GivesPage (totals_text t) reply
+RepliesBy desk (asked.Endpoint name) reply = GivesEndpoint (kept.endpoint_page desk name) reply
+RepliesBy desk (asked.Event name id) reply = GivesEvent (kept.endpoint_page desk name) (kept.event_page desk name id) reply
+RepliesBy desk what reply = ⊥

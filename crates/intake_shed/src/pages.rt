@@ -2,8 +2,9 @@
 ghost use Rattle.std.specs.Prelude.{IsTrue};
 ghost use Rattle.desk.specs.World.{settled_records};
 ghost use Rattle.desk.specs.Desks.{OverWorlds};
+ghost use Rattle.desk.specs.Kept as kept;
 ghost use Rattle.desk.specs.Looks.{endpoint_page, event_page};
-ghost use Rattle.intake_shed.specs.Pages.{asks_for_page, RepliesTo, GivesEndpoint, GivesEvent};
+ghost use Rattle.intake_shed.specs.Pages.{asks_for_page, RepliesBy, RepliesTo, GivesEndpoint, GivesEvent};
 
 use crate::ask::Asked;
 use crate::reply::Reply;
@@ -16,7 +17,8 @@ use std::sync::ledger::Ledger;
 /// The page that is asked for, of what is settled. It changes nothing.
 pub fn page_reply<L: Ledger>(alloc: Global, desk: &Desk<L>, asked: &Asked) -> Reply
     requires { IsTrue (asks_for_page asked.now) }
-    ensures { OverWorlds desk.now (λ w. RepliesTo (settled_records w) asked.now result) }
+    ensures value { RepliesBy desk.now asked.now result }
+    ensures stands { OverWorlds desk.now (λ w. RepliesTo (settled_records w) asked.now result) }
 {
     match asked {
         Asked::Totals => Reply::done(200, totals_text(alloc, &desk.totals())),
@@ -27,7 +29,8 @@ pub fn page_reply<L: Ledger>(alloc: Global, desk: &Desk<L>, asked: &Asked) -> Re
 }
 
 fn endpoint_reply<L: Ledger>(alloc: Global, desk: &Desk<L>, name: Name) -> Reply
-    ensures { OverWorlds desk.now (λ w. GivesEndpoint (endpoint_page (settled_records w) name) result) }
+    ensures value { GivesEndpoint (kept.endpoint_page desk.now name) result }
+    ensures stands { OverWorlds desk.now (λ w. GivesEndpoint (endpoint_page (settled_records w) name) result) }
 {
     match desk.endpoint_page(name) {
         Some(page) => Reply::done(200, endpoint_text(alloc, &page)),
@@ -36,7 +39,8 @@ fn endpoint_reply<L: Ledger>(alloc: Global, desk: &Desk<L>, name: Name) -> Reply
 }
 
 fn event_reply<L: Ledger>(alloc: Global, desk: &Desk<L>, name: Name, id: &MsgId) -> Reply
-    ensures { OverWorlds desk.now (λ w.
+    ensures value { GivesEvent (kept.endpoint_page desk.now name) (kept.event_page desk.now name id.now) result }
+    ensures stands { OverWorlds desk.now (λ w.
         GivesEvent (endpoint_page (settled_records w) name) (event_page (settled_records w) name id.now) result) }
 {
     if desk.endpoint_page(name).is_none() {

@@ -1,7 +1,7 @@
 //! Requests, and how each is answered.
 
 use desk::Command;
-use intake_shed::{Ask, Asked, Reply, read_ask};
+use intake_shed::{Ask, AskBody, Asked, Reply, read_ask};
 use relay_types::{Body, MaxLimit, MsgId, Name, Secrets, Target};
 use std::alloc::{AllocError, Global};
 use std::process::Abort;
@@ -62,9 +62,23 @@ pub(crate) fn ask(
         method,
         path,
         ids,
-        body,
+        body: AskBody::Whole(body),
     };
     Ok(read_ask(alloc, &ask, fresh))
+}
+
+/// The status of a request whose body was longer than any may be, and wasn't kept.
+pub(crate) fn status_without_body(alloc: Global, method: &[u8], path: &[u8]) -> Result<u16, Fail> {
+    let ask = Ask {
+        method,
+        path,
+        ids: &[],
+        body: AskBody::TooLong,
+    };
+    Ok(match read_ask(alloc, &ask, MsgId::read(b"fresh")?) {
+        Ok(_) => 0,
+        Err(reply) => reply.status,
+    })
 }
 
 /// Whether the reply has this status and text, and says by `retry` whether the request may be made again.

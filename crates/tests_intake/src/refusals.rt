@@ -1,9 +1,12 @@
 //! The reply to each refusal of the desk.
 
-use crate::asks::is_reply;
-use desk::{Fault, Refusal};
-use intake_shed::refusal_reply;
+use crate::asks::{is_reply, status_without_body};
+use desk::{Command, Fault, Refusal};
+use intake_shed::{WaitFault, accepted_reply, change_reply, change_status, refusal_reply};
+use relay_types::{MsgId, Name};
+use std::borrow::CowStr;
 use std::process::Abort;
+use std::test::Fail;
 
 /// A refusal, the status and the text that it is told by, and whether the request may be made again.
 #[derive(Clone, Copy)]
@@ -85,10 +88,10 @@ const REFUSALS: [Case; 11] = [
 ];
 
 fn is_told(case: &Case) -> bool {
-    let reply = refusal_reply(&Refusal {
+    let reply = refusal_reply(&WaitFault::Refused(Refusal {
         number: 1,
         fault: case.fault,
-    });
+    }));
     is_reply(&reply, case.status, case.retry, case.text)
 }
 
@@ -101,4 +104,37 @@ fn walk(rt: &impl Abort, cases: &[Case]) {
 #[test]
 fn each_refusal_of_the_desk_has_its_reply(rt: HostRuntime) {
     walk(&rt, &REFUSALS);
+}
+
+#[test]
+fn what_was_waited_for_in_vain_has_its_reply(rt: HostRuntime) {
+    let unknown = refusal_reply(&WaitFault::Unknown);
+    assert!(rt; is_reply(&unknown, 503, true, b"{\"error\":\"Unknown\"}"));
+    let went_back = refusal_reply(&WaitFault::WentBack);
+    assert!(rt; is_reply(&went_back, 503, true, b"{\"error\":\"WentBack\"}"));
+}
+
+#[test]
+fn what_is_done_is_told_by_its_number(rt: HostRuntime) -> Result<(), Fail> {
+    let accepted = accepted_reply(rt.alloc(), &MsgId::read(b"msg_1")?, 1);
+    assert!(rt; is_reply(&accepted, 202, false, b"{\"id\":\"msg_1\",\"seq\":1}"));
+    let changed = change_reply(rt.alloc(), 201, 7);
+    assert!(rt; is_reply(&changed, 201, false, b"{\"seq\":7}"));
+    let name = Name::read(b"a")?;
+    assert!(rt; change_status(&Command::SetEnabled { name, flag: true }) == 200);
+    Ok(())
+}
+
+#[test]
+fn a_body_that_was_not_kept_is_too_long(rt: HostRuntime) -> Result<(), Fail> {
+    let posted = status_without_body(rt.alloc(), b"POST", b"/v1/endpoints/a/events")?;
+    let asked = status_without_body(rt.alloc(), b"GET", b"/v1/nothing")?;
+    assert!(rt; (posted, asked) == (413, 404));
+    Ok(())
+}
+
+#[test]
+fn the_text_of_a_refusal_stands_in_the_program(rt: HostRuntime) {
+    let text = refusal_reply(&WaitFault::Unknown).body.into_cow();
+    assert!(rt; matches!(text, CowStr::Borrowed(_)));
 }

@@ -13,8 +13,14 @@ gives_event f None found row event reply there e same given = cc
 gives_event f (Some page) found row event reply there e same given =
     subst (λ o. GivesEvent o event reply) e (subst (λ o. GivesEvent (Some (f page)) o reply) same given)
 
-pub returns-in-Some : goal.returns-in-Some
-returns-in-Some g c = λ w stands.
+pub returns-in-Some-clause-value : goal.returns-in-Some-clause-value
+returns-in-Some-clause-value g c =
     gives_event shown c.endpoint_page.result _ c.in-Some.row _ c.done.result
-    (c.is_none.ensures ∙ ap not c.if-is_none.false) (c.endpoint_page.ensures w stands) (c.in-Some.ensures w stands)
+    (c.is_none.ensures ∙ ap not c.if-is_none.false) c.endpoint_page.ensures.value c.in-Some.ensures.value
+    (c.done.ensures (event_text c.in-Some.row) c.event_text.ensures)
+
+pub returns-in-Some-clause-stands : goal.returns-in-Some-clause-stands
+returns-in-Some-clause-stands g c = λ w stands.
+    gives_event shown c.endpoint_page.result _ c.in-Some.row _ c.done.result
+    (c.is_none.ensures ∙ ap not c.if-is_none.false) (c.endpoint_page.ensures.stands w stands) (c.in-Some.ensures.stands w stands)
     (c.done.ensures (event_text c.in-Some.row) c.event_text.ensures)
