@@ -1,8 +1,8 @@
 //! What the opening of a store is to answer, by plain SQL and the conditions of `docs/FORMATS.md`.
 
-use crate::given::number;
+use crate::stores::number;
 use sqlite::{Connection, MemStore};
-use std::test::Fail;
+use std::process::Abort;
 
 /// Each counts what breaks a rule of `docs/FORMATS.md`, "Rows that are opened", in rows that were those of a history
 /// with fewer than 1000 records before a cell was changed to a value of `cells`. The version first, then the conditions
@@ -67,22 +67,24 @@ const FAULTS: &[&str] = &[
      OR (e.put < b.p AND (b.p < e.enabled_by OR b.p < e.secrets_by)))",
 ];
 
-/// The refusal that the rows call for. It is empty where they are to be opened.
-pub(crate) fn refusal_of(conn: &mut Connection<MemStore>) -> Result<&'static str, Fail> {
-    if number(
-        conn,
-        "SELECT count(*) FROM meta WHERE app = 'webhook-relay'",
-    )? != 1
-    {
-        return Ok("NotOurs");
-    }
-    if number(conn, "SELECT version FROM meta")? > 1 {
-        return Ok("NewerVersion");
-    }
+const OURS: &str = "SELECT count(*) FROM meta WHERE app = 'webhook-relay'";
+
+fn is_sound(rt: &impl Abort, conn: &mut Connection<MemStore>) -> bool {
     for fault in FAULTS {
-        if number(conn, fault)? > 0 {
-            return Ok("Damaged");
+        if number(rt, conn, fault) > 0 {
+            return false;
         }
     }
-    Ok("")
+    true
+}
+
+/// The refusal that the rows call for. It is empty where they are to be opened.
+pub(crate) fn refusal_of(rt: &impl Abort, conn: &mut Connection<MemStore>) -> &'static str {
+    if number(rt, conn, OURS) != 1 {
+        return "NotOurs";
+    }
+    if number(rt, conn, "SELECT version FROM meta") > 1 {
+        return "NewerVersion";
+    }
+    if is_sound(rt, conn) { "" } else { "Damaged" }
 }

@@ -1,4 +1,4 @@
-use Rattle.tests_restarts.proofs.restarts.check.Given as goal
+use Rattle.tests_restarts.proofs.runs.check.Given as goal
 
 abbrev pub ghosts-told : goal.ghosts-told
 ghosts-told g a = record { name = a.blank.name; parts = a.blank.parts }

@@ -1,0 +1,181 @@
+//! Random legal histories: a desk of the rows that they left shows and does what the desk does that made them.
+ghost use Rattle.std.specs.Prelude.{◌≡◌};
+
+use crate::draws::{Numbers, draw};
+use crate::given::{Text, add_given, spend};
+use crate::pages::{check_limits, check_pages, latest};
+use crate::stores::{MARK, again, all_rows, in_memory};
+use desk::Desk;
+use permits::{PARTS, Pool};
+use recovery::{create, reopen};
+use relay_types::Moment;
+use retry_table::PostResult;
+use spool::{OpenFault, Vault};
+use sqlite::{Connection, MemStore};
+use std::alloc::Global;
+use std::marker::Brand;
+use std::process::Abort;
+use std::sync::ledger::{Blank, Ledger};
+
+/// What is done with a store.
+#[derive(Clone, Copy)]
+pub(crate) enum Way {
+    /// It is new. Random calls are made.
+    Begun,
+    /// It is opened, and random calls are made.
+    GoneOn,
+    /// It is opened.
+    Opened,
+    /// It is opened, or the opening is refused.
+    Tried,
+}
+
+/// Whether the clock stands at the latest moment in the rows, where an attempt is due then. It isn't sent.
+fn check_clock<L: Ledger>(rt: &impl Abort, desk: &mut Desk<L>, latest: u64) {
+    let start = Moment::of(0).expect(rt, "a moment");
+    match desk.claim(start) {
+        Ok(Some(job)) => {
+            let at = job.moment().seconds();
+            spend(rt, desk, job.into_permit(), PostResult::Unsent, start);
+            assert!(rt; at == latest, "at {at}");
+        }
+        Ok(None) => {}
+        Err(_) => panic!(rt; "a claim was refused"),
+    }
+}
+
+/// Whether the desk shows what plain SQL tells of the rows. Adds what it gives, of which nothing is asked where the
+/// opening might be refused.
+fn check_desk<L: Ledger>(
+    rt: &impl Abort,
+    alloc: Global,
+    way: Way,
+    desk: &mut Desk<L>,
+    conn: &mut Connection<MemStore>,
+    text: &mut Text,
+) {
+    check_pages(rt, alloc, conn, desk);
+    match way {
+        Way::Begun | Way::GoneOn => add_given(rt, desk, text),
+        Way::Opened => {
+            check_limits(rt, alloc, conn, desk);
+            check_clock(rt, desk, latest(rt, conn));
+            add_given(rt, desk, text);
+        }
+        Way::Tried => check_limits(rt, alloc, conn, desk),
+    }
+}
+
+fn draw_where_asked<L: Ledger>(
+    rt: &impl Abort,
+    alloc: Global,
+    way: Way,
+    desk: &mut Desk<L>,
+    vault: &mut Vault<MemStore>,
+    numbers: &mut Numbers,
+) {
+    match way {
+        Way::Begun | Way::GoneOn => draw(rt, alloc, desk, vault, numbers),
+        Way::Opened | Way::Tried => {}
+    }
+}
+
+fn add_refusal(rt: &impl Abort, way: Way, fault: OpenFault, text: &mut Text) {
+    assert!(rt; matches!(way, Way::Tried), "the opening was refused");
+    text.add_fault(rt, fault);
+}
+
+/// A desk of the store, and its vault.
+fn opened<L: Ledger>(
+    rt: &impl Abort,
+    alloc: Global,
+    blank: Blank,
+    way: Way,
+    conn: Connection<MemStore>,
+) -> Result<(Desk<L>, Vault<MemStore>), (Connection<MemStore>, OpenFault)>
+    requires name { blank.name ≡ L.name }
+    requires parts { blank.parts ≡ L.parts }
+    requires enough { blank.parts ≡ PARTS }
+{
+    assert!(rt; conn.is_autocommit());
+    if matches!(way, Way::Begun) {
+        return create::<L, MemStore>(alloc, blank, conn, MARK);
+    }
+    let pool = Pool::<L>::new(alloc, blank).expect(rt, "memory");
+    reopen(alloc, pool, conn, MARK)
+}
+
+/// Opens the store, and checks and does what the way asks for. The store, and what the desk gave, or the refusal.
+fn visit<L: Ledger>(
+    rt: &impl Abort,
+    alloc: Global,
+    blank: Blank,
+    way: Way,
+    conn: Connection<MemStore>,
+    numbers: &mut Numbers,
+    text: &mut Text,
+) -> Connection<MemStore>
+    requires name { blank.name ≡ L.name }
+    requires parts { blank.parts ≡ L.parts }
+    requires enough { blank.parts ≡ PARTS }
+{
+    match opened::<L>(rt, alloc, blank, way, conn) {
+        Ok((desk, vault)) => {
+            let (mut desk, mut vault) = (desk, vault);
+            draw_where_asked(rt, alloc, way, &mut desk, &mut vault, numbers);
+            let mut conn = vault.release();
+            check_desk(rt, alloc, way, &mut desk, &mut conn, text);
+            conn
+        }
+        Err((conn, fault)) => {
+            add_refusal(rt, way, fault, text);
+            conn
+        }
+    }
+}
+
+/// What comes of the store, opened over again, on this way: the store, and what the desk gave, or the refusal.
+pub(crate) fn after(
+    rt: &impl Abort,
+    alloc: Global,
+    way: Way,
+    conn: Connection<MemStore>,
+    numbers: &mut Numbers,
+    text: &mut Text,
+) -> Connection<MemStore> {
+    let conn = again(rt, alloc, conn);
+    let conn = visit::<Brand>(rt, alloc, Blank::new(PARTS), way, conn, numbers, text);
+    again(rt, alloc, conn)
+}
+
+/// The store after random calls. A desk of its rows gives what the one gave that made them, and leaves the rows as they were.
+fn drawn(
+    rt: &impl Abort,
+    alloc: Global,
+    way: Way,
+    conn: Connection<MemStore>,
+    numbers: &mut Numbers,
+) -> Connection<MemStore> {
+    let (mut given, mut then) = (Text::new(alloc), Text::new(alloc));
+    let mut conn = after(rt, alloc, way, conn, numbers, &mut given);
+    let before = all_rows(rt, alloc, &mut conn);
+    let mut conn = after(rt, alloc, Way::Opened, conn, numbers, &mut then);
+    let rows = all_rows(rt, alloc, &mut conn);
+    assert!(rt; then.is(&given.told));
+    assert!(rt; rows.as_str() == before.as_str());
+    conn
+}
+
+/// The store of a history that is drawn from this number. Its desk was opened again half way.
+pub(crate) fn history(rt: &impl Abort, alloc: Global, first: u64) -> Connection<MemStore> {
+    let mut numbers = Numbers::from(first);
+    let conn = drawn(rt, alloc, Way::Begun, in_memory(rt, alloc), &mut numbers);
+    drawn(rt, alloc, Way::GoneOn, conn, &mut numbers)
+}
+
+#[test]
+fn five_hundred_histories_are_opened_as_they_were_left(rt: HostRuntime) {
+    for first in 0..250 {
+        history(&rt, rt.alloc(), first);
+    }
+}

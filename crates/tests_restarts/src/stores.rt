@@ -1,0 +1,65 @@
+//! Stores, in memory.
+
+use sqlite::{Connection, MemStore, Row};
+use std::alloc::Global;
+use std::process::Abort;
+
+pub(crate) const MARK: u64 = 7;
+
+pub(crate) fn in_memory(rt: &impl Abort, alloc: Global) -> Connection<MemStore> {
+    match Connection::open_in_memory(alloc) {
+        Ok(conn) => conn,
+        Err(_) => panic!(rt; "no store"),
+    }
+}
+
+/// The store of the connection, opened over again.
+pub(crate) fn again(
+    rt: &impl Abort,
+    alloc: Global,
+    conn: Connection<MemStore>,
+) -> Connection<MemStore> {
+    match Connection::over(alloc, conn.into_store()) {
+        Ok(conn) => conn,
+        Err((_, _)) => panic!(rt; "the store was not opened over again"),
+    }
+}
+
+pub(crate) fn answer(rt: &impl Abort, conn: &mut Connection<MemStore>, sql: &str) -> Vec<Row> {
+    conn.query_all(sql, &[]).expect(rt, "rows")
+}
+
+/// The only number that this asks for.
+pub(crate) fn number(rt: &impl Abort, conn: &mut Connection<MemStore>, sql: &str) -> i64 {
+    let row = conn.query_row(sql, &[]).expect(rt, "a row");
+    row.get(0).expect(rt, "a number")
+}
+
+const TABLES: [&str; 5] = [
+    "SELECT rowid, * FROM meta",
+    "SELECT rowid, * FROM endpoints",
+    "SELECT rowid, * FROM secrets",
+    "SELECT rowid, * FROM deliveries",
+    "SELECT rowid, * FROM attempts",
+];
+
+fn add_rows(
+    rt: &impl Abort,
+    alloc: Global,
+    conn: &mut Connection<MemStore>,
+    sql: &str,
+    text: &mut String,
+) {
+    let rows = answer(rt, conn, sql);
+    let rows = format!(in alloc; "{rows:?}").expect(rt, "memory");
+    text.push_str(&rows).expect(rt, "memory");
+}
+
+/// All rows, table by table.
+pub(crate) fn all_rows(rt: &impl Abort, alloc: Global, conn: &mut Connection<MemStore>) -> String {
+    let mut text = String::new(alloc);
+    for sql in TABLES.iter() {
+        add_rows(rt, alloc, conn, sql, &mut text);
+    }
+    text
+}
