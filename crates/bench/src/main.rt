@@ -1,95 +1,161 @@
-//! Runs of the relay's layers without a store that `scripts/bench` measures. Without words it lists them.
+//! Runs of the relay's layers that `scripts/bench` measures, and over files and requests for the scripts that look at them. Without words
+//! it lists them. Each run opens what it works on in one function, lends it to others, and prints once at its end.
 #![tactic(auto)]
 
-ghost use Rattle.std.specs.Prelude.{◌≤◌};
-
+mod asking;
 mod books;
+mod delivering;
+mod events;
+mod failed;
+mod inserting;
+mod limits;
+mod loading;
+mod open_desk;
+mod opening;
+mod relay;
+mod reopening;
+mod running;
+mod submitting;
+mod times;
+mod turns;
 
-use crate::books::{stage_events, stage_outcomes};
-use relay_types::MaxLimit;
+use crate::books::print_book;
+use crate::inserting::insert;
+use crate::limits::print_limit;
+use crate::loading::print_loads;
+use crate::opening::print_opening;
+use crate::relay::answer_asks;
+use crate::reopening::print_parts;
+use crate::running::print_runs;
+use crate::submitting::{Plan, post_plan, print_submitting, submit_plan};
+use sqlite::{Alter, Connection};
 use std::io;
 use std::process::ExitCode;
+use std::time::Instant;
 use text_lines::read_number;
-use vegas::Estimator;
 
-const LIST: &str = "limit COUNT     the adaptive limit after as many samples
-events COUNT    a book of as many events
-outcomes COUNT  the same, and then one outcome of each, settled 256 at a time
+const LIST: &str = "limit COUNT        the adaptive limit after as many samples
+events COUNT       a book of as many events
+outcomes COUNT     the same, and then one outcome of each, settled 256 at a time
+submit COUNT PATH  submissions to 100 endpoints, 256 in a commit, and their posts, in rounds of 10,240
+post COUNT PATH    as many pending events of 50 endpoints, and then their posts
+insert COUNT PATH  the rows of as many events, by bare statements
+replay PATH        the script on standard input
+runs PATH          a run of calls, and a second one where the first had no memory
+loads PATH         two loads of a store that stands
+parts PATH         a store that stands, reopened part by part
+open PATH          the store in the file, made where none stands
+asks               the requests on standard input, one on a line
 ";
 
-/// What an estimator is given.
+/// The most events of a run over a file.
+const MAX_COUNT: u64 = 10_000_000;
+
+fn number_of(word: &str) -> Option<u64> {
+    read_number(word.as_bytes())
+}
+
+fn count_of(word: &str) -> Option<u32> {
+    match number_of(word) {
+        Some(count) if count <= MAX_COUNT => Some(count as u32),
+        _ => None,
+    }
+}
+
+/// A run over the store in a file.
 #[derive(Clone, Copy)]
-struct Sample {
-    rtt: u64,
-    inflight: u32,
-    dropped: bool,
+enum Run {
+    Insert(u32),
+    Loads,
+    Parts,
+    Replay,
+    Runs,
+    Submit(Plan),
 }
 
-/// The next number of a linear congruential generator, with the constants of Knuth's MMIX.
-fn next(number: u64) -> u64 {
-    number
-        .wrapping_mul(6_364_136_223_846_793_005)
-        .wrapping_add(1_442_695_040_888_963_407)
-}
-
-/// The sample that a number stands for: a round trip of 0.1 to 1.1 seconds, 1 to 1000 in flight, one drop in 64.
-fn sample_of(number: u64) -> Sample
-    ensures { result.inflight ≤ 1000 }
-{
-    Sample {
-        rtt: 100_000 + (number >> 33) % 1_000_003,
-        inflight: ((number >> 20) % 1000) as u32 + 1,
-        dropped: number >> 58 == 0,
+/// The run over a file that takes no number.
+fn run_of(name: &str) -> Option<Run> {
+    match name {
+        "loads" => Some(Run::Loads),
+        "parts" => Some(Run::Parts),
+        "replay" => Some(Run::Replay),
+        "runs" => Some(Run::Runs),
+        _ => None,
     }
 }
 
-/// An estimator after as many samples.
-fn feed(mut estimator: Estimator, count: u64) -> Estimator {
-    let mut number = 0;
-    for _ in 0..count {
-        number = next(number);
-        let sample = sample_of(number);
-        estimator.sample(sample.rtt, sample.inflight, sample.dropped);
+/// The run of so many events over a file.
+fn counted_run_of(name: &str, count: u32) -> Option<Run> {
+    match name {
+        "insert" => Some(Run::Insert(count)),
+        "post" => Some(Run::Submit(post_plan(count))),
+        "submit" => Some(Run::Submit(submit_plan(count))),
+        _ => None,
     }
-    estimator
 }
 
-/// Prints the limit and the no-load time after as many samples. Whether the word is a number.
-fn print_limit(rt: &HostRuntime, count: &str) -> io::Result<bool> {
-    let (Some(count), Ok(max)) = (read_number(count.as_bytes()), MaxLimit::of(1000)) else {
+/// Makes the run over the store in the file. Whether there is such a run, and it ended well.
+fn run_over(rt: &HostRuntime, run: Option<Run>, path: &str) -> io::Result<bool> {
+    let Some(run) = run else {
         return Ok(false);
     };
-    let estimator = feed(Estimator::new(max)?, count);
-    println!(rt; "{} {}", estimator.limit(), estimator.noload())?;
-    Ok(true)
+    let began = Instant::now(rt)?;
+    match Connection::open(rt, path) {
+        Ok(conn) => run_with(rt, began, conn, run),
+        Err(_) => Ok(false),
+    }
 }
 
-/// Prints how many events a book of as many has pending, and how many attempts the last one had, where each is to have an
-/// outcome. Whether the word is a number.
-fn print_book(rt: &HostRuntime, count: &str, has_outcomes: bool) -> io::Result<bool> {
-    let Some(count) = read_number(count.as_bytes()) else {
-        return Ok(false);
-    };
-    let mut book = stage_events(rt.alloc(), count)?;
-    if has_outcomes {
-        stage_outcomes(&mut book, count);
+fn run_with<S: Alter + Drop>(
+    rt: &HostRuntime,
+    began: Instant,
+    conn: Connection<S>,
+    run: Run,
+) -> io::Result<bool> {
+    match run {
+        Run::Insert(count) => Ok(insert_into(rt, conn, count)),
+        Run::Loads => print_loads(rt, conn),
+        Run::Parts => print_parts(rt, began, conn),
+        Run::Replay => Ok(replay(rt, conn)),
+        Run::Runs => print_runs(rt, conn),
+        Run::Submit(plan) => print_submitting(rt, began, conn, plan),
     }
-    let last = book.settled(count.saturating_sub(1));
-    let attempts = last.map_or(0, |row| row.attempts);
-    println!(rt; "pending {} attempts {attempts}", book.pending_all())?;
-    Ok(true)
+}
+
+fn insert_into<S: Alter + Drop>(rt: &HostRuntime, mut conn: Connection<S>, count: u32) -> bool {
+    insert(rt.alloc(), &mut conn, count).is_ok()
+}
+
+/// Replays the script on standard input. Whether it ended well.
+fn replay<S: Alter + Drop>(rt: &HostRuntime, conn: Connection<S>) -> bool {
+    let (_, end) = drill::replay(rt.alloc(), &mut rt.stdin(), &mut rt.stdout(), conn, 0);
+    end.is_ok()
+}
+
+/// The run that takes a number or a path. Whether there is one, and it ended well.
+fn run_one(rt: &HostRuntime, name: &str, word: &str) -> io::Result<bool> {
+    match name {
+        "limit" => print_limit(rt, number_of(word)),
+        "events" => print_book(rt, number_of(word), false),
+        "outcomes" => print_book(rt, number_of(word), true),
+        "open" => print_opening(rt, word),
+        _ => run_over(rt, run_of(name), word),
+    }
 }
 
 /// Runs what the words name. Whether they name a run that ended well.
-fn run(rt: &HostRuntime, words: &[&str]) -> io::Result<bool> {
+fn run_words(rt: &HostRuntime, words: &[&str]) -> io::Result<bool> {
     match words {
         [_] => {
             print!(rt; "{LIST}")?;
             Ok(true)
         }
-        [_, "limit", count] => print_limit(rt, count),
-        [_, "events", count] => print_book(rt, count, false),
-        [_, "outcomes", count] => print_book(rt, count, true),
+        [_, "asks"] => Ok(answer_asks(rt.alloc(), &mut rt.stdin(), &mut rt.stdout())),
+        [_, name, word] => run_one(rt, name, word),
+        [_, name, count, path] => match count_of(count) {
+            Some(count) => run_over(rt, counted_run_of(name, count), path),
+            None => Ok(false),
+        },
         _ => Ok(false),
     }
 }
@@ -98,6 +164,6 @@ fn main(rt: HostRuntime) -> io::Result<ExitCode> {
     let alloc = rt.alloc();
     let words: Vec<String> = std::env::args(&rt)?.collect(alloc)?;
     let shown: Vec<&str> = words.iter().map(|word| word.as_str()).collect(alloc)?;
-    let is_done = run(&rt, shown.as_slice())?;
+    let is_done = run_words(&rt, shown.as_slice())?;
     Ok(ExitCode::from(u8::from(!is_done)))
 }

@@ -1,0 +1,74 @@
+//! Events that are posted: each is claimed and spent with status 200, and the outcomes are committed 256 at a time.
+use crate::failed::Failed;
+use crate::open_desk::OpenDesk;
+use crate::times::{Times, add, since};
+use crate::turns::{BATCH, turn};
+use relay_types::Moment;
+use retry_table::{PostResult, Status};
+use spool::Vault;
+use sqlite::Alter;
+use std::sync::ledger::Ledger;
+use std::time::Instant;
+
+/// The round trip of each post, in microseconds.
+const ROUND_TRIP: u64 = 100_000;
+
+/// Posts as many events, which are pending and due.
+pub(crate) fn deliver<L: Ledger, S: Alter>(
+    rt: &HostRuntime,
+    began: Instant,
+    desk: &mut OpenDesk<L>,
+    vault: &mut Vault<S>,
+    count: u32,
+    times: &mut Times,
+) -> Result<(), Failed> {
+    for batch in 0..count.div_ceil(BATCH) {
+        let posts = count.saturating_sub(batch.saturating_mul(BATCH)).min(BATCH);
+        post_each(rt, began, desk, posts, times)?;
+        if times.first_claims.is_zero() {
+            times.first_claims = times.claiming;
+        }
+        turn(rt, began, desk, vault, &mut times.outcomes)?;
+    }
+    Ok(())
+}
+
+fn post_each<L: Ledger>(
+    rt: &HostRuntime,
+    began: Instant,
+    desk: &mut OpenDesk<L>,
+    count: u32,
+    times: &mut Times,
+) -> Result<(), Failed> {
+    let now = Moment::of(1000)?;
+    for _ in 0..count {
+        post(rt, began, desk, now, times)?;
+    }
+    Ok(())
+}
+
+/// Posts the event that is next.
+fn post<L: Ledger>(
+    rt: &HostRuntime,
+    began: Instant,
+    desk: &mut OpenDesk<L>,
+    now: Moment,
+    times: &mut Times,
+) -> Result<(), Failed> {
+    let Some(status) = Status::of(200) else {
+        return Err(Failed);
+    };
+    let from = since(rt, began);
+    let Some(job) = desk.claim(now)? else {
+        return Err(Failed);
+    };
+    let claimed = since(rt, began);
+    let result = PostResult::Answered {
+        status,
+        rtt: ROUND_TRIP,
+    };
+    desk.spend(job.into_permit(), result, now);
+    add(&mut times.claiming, from, claimed);
+    add(&mut times.spending, claimed, since(rt, began));
+    Ok(())
+}

@@ -1,0 +1,99 @@
+//! The rows of a run by bare statements, 256 in one transaction.
+use crate::events::{ENDPOINTS, bytes_of_body, id_text};
+use crate::failed::Failed;
+use crate::turns::BATCH;
+use sqlite::{Alter, Connection, Error, Transaction};
+use sqlite_value::value::ValueRef;
+use std::alloc::Global;
+
+const ENDPOINTS_TABLE: &str =
+    "CREATE TABLE endpoints(put INTEGER PRIMARY KEY, name TEXT NOT NULL UNIQUE, url TEXT NOT NULL) STRICT";
+
+const DELIVERIES_TABLE: &str =
+    "CREATE TABLE deliveries(seq INTEGER PRIMARY KEY, endpoint INTEGER NOT NULL REFERENCES endpoints(put), \
+     id TEXT NOT NULL, at INTEGER NOT NULL, body BLOB NOT NULL, UNIQUE(endpoint, id)) STRICT";
+
+/// Inserts the rows of 100 endpoints and of as many events of 1 KiB.
+pub(crate) fn insert<S: Alter>(
+    alloc: Global,
+    conn: &mut Connection<S>,
+    count: u32,
+) -> Result<(), Failed> {
+    conn.execute(ENDPOINTS_TABLE, &[])?;
+    conn.execute(DELIVERIES_TABLE, &[])?;
+    for number in 0..ENDPOINTS {
+        insert_endpoint(alloc, conn, number)?;
+    }
+    let body = bytes_of_body(alloc)?;
+    for batch in 0..count.div_ceil(BATCH) {
+        insert_batch(alloc, conn, batch.saturating_mul(BATCH), count, &body)?;
+    }
+    Ok(())
+}
+
+fn insert_endpoint<S: Alter>(
+    alloc: Global,
+    conn: &mut Connection<S>,
+    number: u32,
+) -> Result<(), Failed> {
+    let name = format!(in alloc; "e{number}")?;
+    conn.execute(
+        "INSERT INTO endpoints VALUES(?1, ?2, 'http://127.0.0.1:9000/hook')",
+        &[
+            ValueRef::Int(i64::from(number)),
+            ValueRef::Text(name.as_bytes()),
+        ],
+    )?;
+    Ok(())
+}
+
+/// Inserts the events from this one on, 256 of them at most, in one transaction.
+fn insert_batch<S: Alter>(
+    alloc: Global,
+    conn: &mut Connection<S>,
+    from: u32,
+    count: u32,
+    body: &[u8],
+) -> Result<(), Failed> {
+    if !conn.is_autocommit() {
+        return Err(Failed);
+    }
+    let upto = count.min(from.saturating_add(BATCH));
+    let mut tx = conn.transaction();
+    match insert_events(alloc, &mut tx, (from, upto), body) {
+        Ok(()) => Ok(tx.commit()?),
+        Err(Failed) => Err(Failed),
+    }
+}
+
+fn insert_events<S: Alter>(
+    alloc: Global,
+    tx: &mut Transaction<'_, S>,
+    (from, upto): (u32, u32),
+    body: &[u8],
+) -> Result<(), Failed> {
+    for number in from..upto {
+        let id = id_text(alloc, number)?;
+        insert_row(tx, number, id.as_bytes(), body)?;
+    }
+    Ok(())
+}
+
+fn insert_row<'a, S: Alter>(
+    tx: &mut Transaction<'_, S>,
+    number: u32,
+    id: &'a [u8],
+    body: &'a [u8],
+) -> Result<(), Error> {
+    tx.execute(
+        "INSERT INTO deliveries VALUES(?1, ?2, ?3, ?4, ?5)",
+        &[
+            ValueRef::Int(i64::from(number)),
+            ValueRef::Int(i64::from(number % ENDPOINTS)),
+            ValueRef::Text(id),
+            ValueRef::Int(1000),
+            ValueRef::Blob(body),
+        ],
+    )?;
+    Ok(())
+}

@@ -1,0 +1,64 @@
+//! What waits goes into the store, in one commit.
+use crate::failed::Failed;
+use crate::open_desk::OpenDesk;
+use crate::times::{Turns, add, since};
+use spool::{Batch, CommitEnd, Receipt, Vault};
+use sqlite::{Alter, Connection};
+use std::sync::ledger::Ledger;
+use std::time::Instant;
+
+/// The mark of the only opening.
+pub(crate) const MARK: u64 = 0;
+
+/// How many steps are sealed at once.
+pub(crate) const BATCH: u32 = 256;
+
+/// A vault over a store without tables.
+pub(crate) fn created<S: Alter + Drop>(conn: Connection<S>) -> Result<Vault<S>, Failed> {
+    if !conn.is_autocommit() {
+        return Err(Failed);
+    }
+    match Vault::create(conn, MARK) {
+        Ok(vault) => Ok(vault),
+        Err(_) => Err(Failed),
+    }
+}
+
+/// The receipt of the batch, if it was committed.
+pub(crate) fn written<S: Alter>(vault: &mut Vault<S>, batch: Batch) -> Option<Receipt> {
+    match vault.commit(batch) {
+        Ok(receipt) => Some(receipt),
+        Err(CommitEnd::Unchanged(batch, _)) => {
+            drop(batch.into_steps());
+            None
+        }
+        Err(CommitEnd::Doubtful(doubt, _)) => {
+            doubt.end();
+            None
+        }
+    }
+}
+
+/// Seals what waits, commits it and settles it.
+pub(crate) fn turn<L: Ledger, S: Alter>(
+    rt: &HostRuntime,
+    began: Instant,
+    desk: &mut OpenDesk<L>,
+    vault: &mut Vault<S>,
+    turns: &mut Turns,
+) -> Result<(), Failed> {
+    let from = since(rt, began);
+    let Some(batch) = desk.seal()? else {
+        return Ok(());
+    };
+    let sealed = since(rt, began);
+    let Some(receipt) = written(vault, batch) else {
+        return Err(Failed);
+    };
+    let committed = since(rt, began);
+    desk.settle(receipt)?;
+    add(&mut turns.sealing, from, sealed);
+    add(&mut turns.committing, sealed, committed);
+    add(&mut turns.sealing, committed, since(rt, began));
+    Ok(())
+}
