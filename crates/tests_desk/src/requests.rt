@@ -8,7 +8,7 @@ use std::sync::ledger::Ledger;
 use std::test::Fail;
 
 fn add_header(text: &mut Vec<u8>, header: &Header) -> Result<(), AllocError> {
-    text.extend_from_slice(header.name().as_bytes())?;
+    text.extend_from_slice(header.name().text().as_bytes())?;
     text.extend_from_slice(b": ")?;
     text.extend_from_slice(header.value())?;
     text.extend_from_slice(b"\n")
