@@ -2,6 +2,8 @@
 #![tactic(auto)]
 
 #[cfg(test)]
+mod attempts;
+#[cfg(test)]
 mod conditions;
 #[cfg(test)]
 mod database;
