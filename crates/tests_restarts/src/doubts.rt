@@ -1,4 +1,5 @@
-//! A store that stops taking writes: which call of its log fails first is tried in turn, up to the last one of a commit.
+//! A store that stops taking writes: which call of its log fails first is tried in turn, up to the last one of a
+//! commit.
 ghost use Rattle.std.specs.Prelude.{◌≡◌};
 
 use crate::calls::{Call, Path, check_replies, events_of, is_line_at};

@@ -24,6 +24,7 @@ const BYTES: &[u8] = b"xxxxxxxx";
 /// Numbers of a linear congruential generator, with the constants of Knuth's MMIX, and the moment of the last call.
 #[derive(Drop)]
 pub(crate) struct Numbers {
+    pub(crate) first: u64,
     last: u64,
     seconds: u64,
 }
@@ -31,6 +32,7 @@ pub(crate) struct Numbers {
 impl Numbers {
     pub(crate) fn from(first: u64) -> Numbers {
         Numbers {
+            first,
             last: first,
             seconds: 1000,
         }

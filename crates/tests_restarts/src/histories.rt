@@ -148,7 +148,8 @@ pub(crate) fn after(
     again(rt, alloc, conn)
 }
 
-/// The store after random calls. A desk of its rows gives what the one gave that made them, and leaves the rows as they were.
+/// The store after random calls. A desk of its rows gives what the one gave that made them, and leaves the rows as they
+/// were.
 fn drawn(
     rt: &impl Abort,
     alloc: Global,
@@ -161,8 +162,9 @@ fn drawn(
     let before = all_rows(rt, alloc, &mut conn);
     let mut conn = after(rt, alloc, Way::Opened, conn, numbers, &mut then);
     let rows = all_rows(rt, alloc, &mut conn);
-    assert!(rt; then.is(&given.told));
-    assert!(rt; rows.as_str() == before.as_str());
+    let first = numbers.first;
+    assert!(rt; then.is(&given.told), "from {first}");
+    assert!(rt; rows.as_str() == before.as_str(), "from {first}");
     conn
 }
 
