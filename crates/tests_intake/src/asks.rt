@@ -67,15 +67,9 @@ pub(crate) fn ask(
     Ok(read_ask(alloc, &ask, fresh))
 }
 
-/// The status of a request whose body was longer than any may be, and wasn't kept.
-pub(crate) fn status_without_body(alloc: Global, method: &[u8], path: &[u8]) -> Result<u16, Fail> {
-    let ask = Ask {
-        method,
-        path,
-        ids: &[],
-        body: AskBody::TooLong,
-    };
-    Ok(match read_ask(alloc, &ask, MsgId::read(b"fresh")?) {
+/// The status of the reply that refuses a request, or 0 where it is read.
+pub(crate) fn refused_with(alloc: Global, ask: &Ask<'static>) -> Result<u16, Fail> {
+    Ok(match read_ask(alloc, ask, MsgId::read(b"fresh")?) {
         Ok(_) => 0,
         Err(reply) => reply.status,
     })

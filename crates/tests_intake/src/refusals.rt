@@ -1,8 +1,10 @@
 //! The reply to each refusal of the desk.
 
-use crate::asks::{is_reply, status_without_body};
+use crate::asks::{is_reply, refused_with};
 use desk::{Command, Fault, Refusal};
-use intake_shed::{WaitFault, accepted_reply, change_reply, change_status, refusal_reply};
+use intake_shed::{
+    Ask, AskBody, WaitFault, accepted_reply, change_reply, change_status, refusal_reply,
+};
 use relay_types::{MsgId, Name};
 use std::borrow::CowStr;
 use std::process::Abort;
@@ -125,11 +127,24 @@ fn what_is_done_is_told_by_its_number(rt: HostRuntime) -> Result<(), Fail> {
     Ok(())
 }
 
+const NOT_KEPT: Ask<'static> = Ask {
+    method: b"POST",
+    path: b"/v1/endpoints/a/events",
+    ids: &[],
+    body: AskBody::TooLong,
+};
+
+const NOT_KEPT_OF_NOTHING: Ask<'static> = Ask {
+    method: b"POST",
+    path: b"/v1/nothing",
+    ids: &[],
+    body: AskBody::TooLong,
+};
+
 #[test]
 fn a_body_that_was_not_kept_is_too_long(rt: HostRuntime) -> Result<(), Fail> {
-    let posted = status_without_body(rt.alloc(), b"POST", b"/v1/endpoints/a/events")?;
-    let asked = status_without_body(rt.alloc(), b"GET", b"/v1/nothing")?;
-    assert!(rt; (posted, asked) == (413, 404));
+    assert!(rt; refused_with(rt.alloc(), &NOT_KEPT)? == 413);
+    assert!(rt; refused_with(rt.alloc(), &NOT_KEPT_OF_NOTHING)? == 404);
     Ok(())
 }
 
