@@ -1,10 +1,10 @@
 -- The path of a URL that is a target.
-use Rattle.std.proofs.Common.{◌≡◌, ℕ, suc, ◌+◌, ◌==◌, Bool, true, false, not, cond, [], ◌∷◌, length, take, drop, IsTrue, refl, subst, arith, nat_le, ◌&&◌}
+use Rattle.std.proofs.Common.{◌≡◌, ◌≤◌, ℕ, suc, ◌+◌, ◌==◌, Bool, true, false, not, cond, [], ◌∷◌, length, take, drop, length-drop, IsTrue, refl, subst, arith, nat_le, ◌&&◌}
 use Rattle.std.specs.List.{list_all, before_first, position_or_len}
 use Rattle.std.proofs.lemmas.Bool.{and_parts, and_from}
 use Rattle.relay_types.specs.declared.limits.TheConstants.{MAX_TARGET_BYTES}
 use Rattle.relay_types.specs.Values.{Text, is_target, has_scheme, is_host, host_of, is_port_part, port_part_of}
-use Rattle.relay_types.specs.Values.{behind_scheme, path_part_of, path_of_part, path_of, is_path_character}
+use Rattle.relay_types.specs.Values.{behind_scheme, authority_of, path_part_of, path_of_part, path_of, is_path_character}
 use Rattle.delivery.specs.Requests.{is_request_target}
 
 last_holds : (a b c d e : Bool) → IsTrue (a && (b && (c && (d && e)))) → IsTrue e
@@ -38,3 +38,16 @@ part_asks (c ∷ rest) starts all = and_from (c == 47) (list_all is_path_charact
 
 pub asks_for_path : (text : Text) → IsTrue (is_target text) → IsTrue (is_request_target (path_of text))
 asks_for_path text h = part_asks (path_part_of text) (from-begins (behind_scheme text)) (target_path text h)
+
+short_part : (part : Text) → length part ≤ MAX_TARGET_BYTES → length (path_of_part part) ≤ MAX_TARGET_BYTES
+short_part [] h = omega arith
+short_part (c ∷ rest) h = h
+
+shorter : (k : ℕ) (text : Text) → length (drop k text) ≤ length text
+shorter k text = omega (arith, length-drop k text)
+
+pub short_path : (text : Text) → length text ≤ MAX_TARGET_BYTES → length (path_of text) ≤ MAX_TARGET_BYTES
+short_path text h =
+    let behind : length (behind_scheme text) ≤ length text = shorter 7 text in
+    let part : length (path_part_of text) ≤ length (behind_scheme text) = shorter (length (authority_of text)) (behind_scheme text) in
+    short_part (path_part_of text) (omega (arith, h, behind, part))

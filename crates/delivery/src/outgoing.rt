@@ -1,5 +1,6 @@
 //! The request of a post to a subscriber.
-ghost use Rattle.std.specs.Prelude.{◌≡◌, ◌++◌, [], ◌∷◌, codes, IsTrue, IfOk, OnOk};
+ghost use Rattle.std.specs.Prelude.{◌≡◌, ◌≤◌, ◌++◌, [], ◌∷◌, length, codes, IsTrue, IfOk, OnOk};
+ghost use Rattle.relay_types.specs.declared.limits.TheConstants.{MAX_TARGET_BYTES};
 ghost use Rattle.relay_types.specs.Values.{is_host, is_visible};
 ghost use Rattle.delivery.specs.Requests.{header, is_printable, is_request_target};
 ghost use Rattle.delivery.specs.Requests.{connection_headers, webhook_headers, request_of};
@@ -83,6 +84,7 @@ impl Outgoing {
     pub fn target(&self) -> &[u8]
         ensures text { result.now ≡ self.now.target }
         ensures valid { IsTrue (is_request_target self.now.target) }
+        ensures most { length self.now.target ≤ MAX_TARGET_BYTES }
         ensures visible { IsTrue (is_visible self.now.target) }
     {
         let _url = self.target.as_bytes();
