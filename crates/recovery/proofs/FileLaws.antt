@@ -1,6 +1,6 @@
 -- A file is opened as what it and its log held.
 use Rattle.std.proofs.Common.{◌≡◌, List, [], ◌∷◌, Bool, true, false, Result, Ok, Err, inl, inr, refl, sym, subst, ◌∙◌}
-use Rattle.std.specs.Prelude.{IsTrue, IfOk, MatchResult}
+use Rattle.std.specs.Prelude.{IsTrue, IfOk, IsErr}
 use Rattle.sqlite.specs.Store.{Ghosts}
 use Rattle.sqlite.specs.State.{State, IsLive, Opens}
 use Rattle.sqlite.specs.Effect.{Database}
@@ -45,7 +45,7 @@ finds_trees image s opens finds = subst (λ (db : Database). AreFoundIn image db
 module _ {S : Type 0} (g : Ghosts S) (desk : DeskValue) (vault : VaultValue S) where
   of_tables : (db : Database) → IsMadeOrReopened g db desk vault → (history : History) → IsLegal (records_of history) → IsTables db (rows_of (records_of history)) → AreOpenedAt g desk vault history
   of_tables db (inl (none, made)) history legal tables = not_both db.schema none tables.schema_is
-  of_tables db (inr (five, reopened)) history legal tables = (reopened tables.schema_is).each history legal tables
+  of_tables db (inr (stand, reopened)) history legal tables = (reopened tables.schema_is).each history legal tables
 
   pub file_opened : (image : Image) (s : State) → IsLive s → Opens s → FindsIn image s → IsMadeOrReopened g s.now desk vault → IsFileOpened g image desk vault
   file_opened image s live opens finds made = record { found = s.now; finds = finds_trees image s opens finds; opens = made; each = each; left = left }
@@ -56,12 +56,12 @@ module _ {S : Type 0} (g : Ghosts S) (desk : DeskValue) (vault : VaultValue S) w
       left : (w : World) → IsLegal (all_records w) → HoldsLeftOf image w → AreOpenedAtOne g desk vault w w.left
       left w legal (rows, is_left, held) = opens_one g desk vault w legal rows is_left (λ history of is. each history of (subst (HoldsRows image) is held))
 
--- What was opened had five tables.
-pub of_five : {A E : Type 0} (P R : A → Type 0) (Q : E → Type 0) (five : Bool) (r : Result A E) → (five ≡ false → MatchResult r (λ _. ⊥) Q) → IfOk r P
-    → ((x : A) → IsTrue five → P x → R x) → IfOk r R
-of_five P R Q true (Ok x) ours p then = then x refl p
-of_five P R Q false (Ok x) ours p then = absurd (ours refl)
-of_five P R Q five (Err e) ours p then = tt
+-- What was opened had the tables.
+pub of_whole : {A E : Type 0} (P R : A → Type 0) (stand : Bool) (r : Result A E) → (stand ≡ false → IsErr r) → IfOk r P
+    → ((x : A) → IsTrue stand → P x → R x) → IfOk r R
+of_whole P R true (Ok x) whole p then = then x refl p
+of_whole P R false (Ok x) whole p then = absurd (let no : false ≡ true = whole refl in cc)
+of_whole P R stand (Err e) whole p then = tt
 
 -- What a refusal leaves was only read.
 pub only_read : (old new : State) (fault : OpenFault) → LeavesRead old new fault → IsOnlyRead old new

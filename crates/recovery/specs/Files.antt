@@ -11,7 +11,7 @@ use Rattle.relay_types.specs.Legal.{IsLegal}
 use Rattle.relay_types.specs.Rows.{Rows, rows_of}
 use Rattle.spool_sql.specs.Stored.{AreTablesOf}
 use Rattle.spool_sql.specs.Tables.{no_schema, relay_schema}
-use Rattle.sound_tables.specs.Checks.{has_five_tables}
+use Rattle.sound_tables.specs.Keys.{has_tables}
 use Rattle.spool.specs.Vaults.{VaultValue}
 use Rattle.desk.specs.World.{World, all_records}
 use Rattle.desk.specs.Desks.{DeskValue}
@@ -26,12 +26,12 @@ HoldsRows image rows = (db : Trees) × HoldsDatabase image db × AreTablesOf db 
 abbrev pub HoldsLeftOf : Image → World → Type 0
 HoldsLeftOf image w = (rows : Rows) × AreLeft w rows × HoldsRows image rows
 
--- Where there was no table, desk and vault stand for the opening of the empty history. Otherwise there were five, and where these were the
--- relay's, they stand for that of their rows.
+-- Where there was no table, desk and vault stand for the opening of the empty history. Otherwise the five stood with their keys, and where
+-- the schema was the relay's, they stand for that of their rows.
 abbrev pub IsMadeOrReopened : {S : Type 0} → Ghosts S → Database → DeskValue → VaultValue S → Type 0
 IsMadeOrReopened g db desk vault =
     ((db.schema ≡ no_schema) × AreOpenedAt g desk vault [])
-    ⊎ (IsTrue (has_five_tables db.schema) × (db.schema ≡ relay_schema → IsReopened g db desk vault))
+    ⊎ (IsTrue (has_tables db.schema) × (db.schema ≡ relay_schema → IsReopened g db desk vault))
 
 -- the same of what a connection found
 abbrev pub IsFoundOpened : {S : Type 0} → Ghosts S → Held S → DeskValue → VaultValue S → Type 0

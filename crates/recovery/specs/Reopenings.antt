@@ -14,7 +14,7 @@ use Rattle.spool.specs.Adopting.{IsUnadopted}
 use Rattle.spool.specs.Loading.{greatest_of}
 use Rattle.spool.specs.Vaults.{VaultValue, Holds}
 use Rattle.spool.specs.declared.ends.OpenFault.{OpenFault}
-use Rattle.spool.specs.declared.ends.OpenFault.TheVariants.{Store, OutOfMemory}
+use Rattle.spool.specs.declared.ends.OpenFault.TheVariants.{NewerVersion, Damaged, Store, OutOfMemory}
 use Rattle.desk.specs.World.{World, all_records}
 use Rattle.desk.specs.Moves.{opened}
 use Rattle.desk.specs.Desks.{DeskValue, StandsFor}
@@ -53,11 +53,17 @@ AreOpenedAtOne g desk vault w (steps ∷ others) = AreOpenedAt g desk vault (tak
 abbrev pub ReopensLeft : {S : Type 0} → Ghosts S → Held S → DeskValue → VaultValue S → Type 0
 ReopensLeft g conn desk vault = (w : World) → IsLegal (all_records w) → FindsLeft g conn w → AreOpenedAtOne g desk vault w w.left
 
--- reading was refused by the store or for memory
+-- it was refused by the store or for memory
 abbrev pub IsOfReading : OpenFault → Type 0
 IsOfReading (Store cause) = Unit {0}
 IsOfReading OutOfMemory = Unit {0}
 IsOfReading other = ⊥
+
+-- it is the relay's by its meta, and isn't taken for its rows or its version
+abbrev pub IsOfRows : OpenFault → Type 0
+IsOfRows NewerVersion = Unit {0}
+IsOfRows Damaged = Unit {0}
+IsOfRows other = ⊥
 
 -- Why the tables that stand weren't opened: as the vault says, or they are sound, and reading the books was refused.
 abbrev pub IsUnopened : (old new : State) → OpenFault → Type 0

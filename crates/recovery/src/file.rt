@@ -1,28 +1,30 @@
 //! The opening of a file.
-ghost use Rattle.std.specs.Prelude.{◌≡◌, false, IfErr, IfOk, MatchResult};
+ghost use Rattle.std.specs.Prelude.{◌≡◌, false, IfErr, IfOk, IsTrue, MatchResult};
 ghost use Rattle.permits.specs.declared.pool.TheConstants.{PARTS};
 ghost use Rattle.sqlite.specs.Files.{file_state, over_files, IsOpened};
 ghost use Rattle.sqlite.specs.Held.{state};
 ghost use Rattle.sqlite.specs.Start.{FindsIn};
 ghost use Rattle.sqlite.specs.WalFiles.{image_at};
 ghost use Rattle.spool_sql.specs.Steps.{IfClean};
-ghost use Rattle.spool_sql.specs.Tables.{relay_schema};
+ghost use Rattle.spool_sql.specs.Tables.{no_schema, relay_schema};
 ghost use Rattle.spool.specs.Adopting.{IsOnlyRead};
 ghost use Rattle.desk.specs.Desks.{HasNothingOut};
 ghost use Rattle.recovery.specs.Files.{IsFileOpened, IsFoundOpened};
 ghost use Rattle.recovery.specs.Left.{IsCleanAt};
-ghost use Rattle.recovery.specs.Reopenings.{IsUnopened};
+ghost use Rattle.recovery.specs.Openings.{LeavesOr};
+ghost use Rattle.recovery.specs.Reopenings.{IsOfReading, IsOfRows, IsUnopened};
 
 use crate::opening::create;
 use crate::reopening::reopen;
 use desk::Desk;
 use permits::{PARTS, Pool};
+use sound_tables::judge_unsound;
 use spool::{OpenFault, Vault};
 use spool_sql::is_empty;
-use sqlite::{Alter, Connection, Error, ErrorCode, FileFrom, FileStore, Start};
+use sqlite::{Alter, Connection, Error, ErrorCode, FileFrom, FileStore, Leftover, Start};
 use std::alloc::Global;
 use std::fs;
-use std::io::{self, ErrorKind};
+use std::io::ErrorKind;
 use std::sync::ledger::{Blank, Ledger};
 
 // What a file of SQLite begins with has so many bytes. A shorter one isn't opened: of one byte an open would make a store.
@@ -34,7 +36,8 @@ const CANNOT_OPEN: OpenFault = OpenFault::Store(Error::SqliteFailure(ErrorCode::
 /// made; every other file is opened as by `reopen`, and isn't written. `start` stands for what the file and its log hold.
 ///
 /// A file that no SQLite wrote is `NotOurs`, and so is one without the relay's tables, also where a stop left it so as it was made:
-/// such a file is deleted by hand. What can't be opened is `Store`. SQLite's log may be made beside the file.
+/// such a file is deleted by hand. What can't be opened is `Store` with its cause, `DatabaseBusy` where another program has the file open;
+/// so is a log beside no file. SQLite's log may be made beside the file.
 pub fn open_path<L: Ledger, T: Start>(
     rt: &HostRuntime,
     blank: Blank,
@@ -68,13 +71,13 @@ pub fn connect<T: Start>(
     ensures finds { IfOk result (λ found. IsCleanAt over_files found.0
         → FindsIn (image_at T.Start) (file_state found.0)) }
 {
-    let length = length_at(rt, path).map_err(refusal_of_look)?;
+    let length = length_of(rt, path)?;
     if 0 < length && length < HEADER_LENGTH {
         return Err(OpenFault::NotOurs);
     }
     match Connection::open_from(rt, path, false, start) {
         Ok(conn) => Ok((conn, length == 0)),
-        Err((error, _)) => Err(refusal_of(error)),
+        Err((error, mut left)) => Err(refusal_of(rt.alloc(), error, left.as_mut())),
     }
 }
 
@@ -98,6 +101,8 @@ pub fn open<L: Ledger, S: Alter>(
         → IsFoundOpened S.Store conn opening.0 opening.1) }
     ensures refused { IfErr result (λ back. IfClean S.Store conn back.0
         (λ a b. a.now.schema ≡ relay_schema → IsUnopened a b back.1)) }
+    ensures made { IsTrue is_new → (state S.Store conn).now.schema ≡ no_schema
+        → IfErr result (λ back. IsOfReading back.1 × LeavesOr S.Store conn back.0 back.1) }
     ensures read { is_new ≡ false → MatchResult result (λ opening. IfClean S.Store conn opening.1.conn IsOnlyRead)
         (λ back. IfClean S.Store conn back.0 IsOnlyRead) }
     ensures clean { MatchResult result
@@ -114,28 +119,47 @@ pub fn open<L: Ledger, S: Alter>(
     }
 }
 
-// How long the file at the path is in bytes, and 0 where nothing stands there.
-fn length_at(rt: &HostRuntime, path: &str) -> io::Result<u64> {
+// How long the file at the path is in bytes, and 0 where nothing stands there. A log that lies beside no file holds what somebody's store
+// held, and an open would cut it.
+fn length_of(rt: &HostRuntime, path: &str) -> Result<u64, OpenFault> {
+    if let Some(length) = length_at(rt, path)? {
+        return Ok(length);
+    }
+    let Ok(log) = format!(in rt.alloc(); "{path}-wal") else {
+        return Err(OpenFault::OutOfMemory);
+    };
+    match length_at(rt, log.as_str())? {
+        Some(length) if 0 < length => Err(CANNOT_OPEN),
+        _ => Ok(0),
+    }
+}
+
+// How long the file at the path is in bytes, if one stands there.
+fn length_at(rt: &HostRuntime, path: &str) -> Result<Option<u64>, OpenFault> {
     match fs::metadata(rt, path) {
-        Ok(found) if found.is_file() => Ok(found.len()),
-        Ok(_) => Err(ErrorKind::Unsupported.into()),
-        Err(error) if error.kind() == ErrorKind::NotFound => Ok(0),
-        Err(error) => Err(error),
+        Ok(found) if found.is_file() => Ok(Some(found.len())),
+        Ok(_) => Err(CANNOT_OPEN),
+        Err(error) => match error.kind() {
+            ErrorKind::NotFound => Ok(None),
+            ErrorKind::OutOfMemory => Err(OpenFault::OutOfMemory),
+            _ => Err(CANNOT_OPEN),
+        },
     }
 }
 
-// As what a refused look at the path is told.
-fn refusal_of_look(error: io::Error) -> OpenFault {
-    match error.kind() {
-        ErrorKind::OutOfMemory => OpenFault::OutOfMemory,
-        _ => CANNOT_OPEN,
-    }
-}
-
-// As what the store's refusal of an open is told.
-fn refusal_of(error: Error) -> OpenFault {
+// As what the store's refusal of an open is told. Where the store was read, and its rows break its schema, `meta` tells whose it is.
+fn refusal_of<T: Start>(
+    alloc: Global,
+    error: Error,
+    left: Option<&mut Leftover<FileFrom<T>>>,
+) -> OpenFault
+    ensures { IsOfRows result → error ≡ Error.SqliteFailure ErrorCode.NotADatabase }
+{
     match error {
-        Error::SqliteFailure(ErrorCode::NotADatabase) => OpenFault::NotOurs,
+        Error::SqliteFailure(ErrorCode::NotADatabase) => match left {
+            Some(Leftover::Store(store)) => OpenFault::from(judge_unsound(store, alloc)),
+            _ => OpenFault::NotOurs,
+        },
         Error::SqliteFailure(ErrorCode::OutOfMemory) => OpenFault::OutOfMemory,
         other => OpenFault::Store(other),
     }

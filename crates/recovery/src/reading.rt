@@ -8,7 +8,7 @@ ghost use Rattle.recovery.specs.Reopenings.{IsOfReading, OpensHeld};
 
 use desk::Desk;
 use permits::Pool;
-use spool::{LoadFault, OpenFault, Vault};
+use spool::{OpenFault, Vault};
 use sqlite::{Alter, Connection};
 use std::alloc::Global;
 use std::sync::ledger::Ledger;
@@ -41,8 +41,6 @@ pub(crate) fn with_desk<L: Ledger, S: Alter>(
             Ok(desk) => Ok((desk, vault)),
             Err(_) => Err((vault.release(), OpenFault::OutOfMemory)),
         },
-        Err(LoadFault::OutOfMemory) => Err((vault.release(), OpenFault::OutOfMemory)),
-        Err(LoadFault::Store(error)) => Err((vault.release(), OpenFault::Store(error))),
-        Err(LoadFault::Closed) => unreachable!(),
+        Err(fault) => Err((vault.release(), OpenFault::from(fault))),
     }
 }

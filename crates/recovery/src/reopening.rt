@@ -1,9 +1,9 @@
 //! The opening of a store that stands.
-ghost use Rattle.std.specs.Prelude.{◌≡◌, [], false, IfErr, IfOk, MatchResult};
+ghost use Rattle.std.specs.Prelude.{◌≡◌, [], false, IfErr, IfOk, IsErr, MatchResult};
 ghost use Rattle.sqlite.specs.Held.{state};
 ghost use Rattle.spool_sql.specs.Steps.{IfClean};
 ghost use Rattle.spool_sql.specs.Tables.{relay_schema};
-ghost use Rattle.sound_tables.specs.Checks.{has_five_tables};
+ghost use Rattle.sound_tables.specs.Keys.{has_meta, has_tables};
 ghost use Rattle.spool.specs.Adopting.{IsForeign, IsReadOpen, LeavesRead};
 ghost use Rattle.desk.specs.Desks.{HasNothingOut};
 ghost use Rattle.recovery.specs.Left.{IsCleanAt};
@@ -18,9 +18,9 @@ use std::alloc::Global;
 use std::sync::ledger::Ledger;
 
 /// The desk and the vault of the tables that stand, whoever wrote them: all of it is settled, nothing is out, no attempt is under way, and
-/// the clock stands at the greatest moment of its events and attempts. Nothing is written, and no table is made: a store that has none of
-/// the relay's is `NotOurs`, and so is one with more or fewer tables than five. Each refusal gives the connection back. Want of memory may
-/// come first. The caller sees by `is_autocommit` that the connection is outside a transaction.
+/// the clock stands at the greatest moment of its events and attempts. Nothing is written, and no table is made: a store without a `meta` of
+/// the relay's is `NotOurs`, and so is one that lacks another of its tables. Tables of others are passed over. Each refusal gives the
+/// connection back. Want of memory may come first. The caller sees by `is_autocommit` that the connection is outside a transaction.
 pub fn reopen<L: Ledger, S: Alter>(
     alloc: Global,
     pool: Pool<L>,
@@ -31,8 +31,9 @@ pub fn reopen<L: Ledger, S: Alter>(
     requires mode { conn.in_transaction ≡ false }
     ensures mark { IfOk result (λ opening. (opening.0.waiting.mark ≡ mark) × (opening.1.mark ≡ mark)) }
     ensures out { IfOk result (λ opening. HasNothingOut opening.0) }
-    ensures ours { has_five_tables (state S.Store conn).now.schema ≡ false
+    ensures ours { has_meta (state S.Store conn).now.schema ≡ false
         → MatchResult result (λ _. ⊥) (λ back. IsForeign back.1) }
+    ensures whole { has_tables (state S.Store conn).now.schema ≡ false → IsErr result }
     ensures opened { IfOk result (λ opening. IfClean S.Store conn opening.1.conn
         (λ a _. a.now.schema ≡ relay_schema → IsReopened S.Store a.now opening.0 opening.1)) }
     ensures reopens { IfOk result (λ opening. IsCleanAt S.Store opening.1.conn

@@ -1,5 +1,5 @@
 -- What an opening counts.
-use Rattle.std.proofs.Common.{◌≡◌, [], Result, Ok, Err, IfOk, inl, inr}
+use Rattle.std.proofs.Common.{◌≡◌, [], Result, Ok, Err, Some, inl, inr}
 use Rattle.sqlite.specs.Store.{Ghosts}
 use Rattle.sqlite.specs.State.{State, IsLive, Opens}
 use Rattle.sqlite.specs.Effect.{Database}
@@ -12,20 +12,21 @@ use Rattle.relay_types.specs.Rows.{rows_of}
 use Rattle.spool_sql.specs.Stored.{IsTables}
 use Rattle.spool.specs.Vaults.{VaultValue}
 use Rattle.spool.specs.declared.ends.OpenFault.{OpenFault}
+use Rattle.spool.specs.declared.ends.OpenFault.TheVariants.{NotOurs, NewerVersion, Damaged, Store, OutOfMemory}
 use Rattle.desk.specs.World.{settled_records}
 use Rattle.desk.specs.Looks.{totals}
 use Rattle.desk.specs.Desks.{DeskValue, OverWorlds}
 use Rattle.desk.specs.declared.pages.Totals.{Totals}
 use Rattle.recovery.specs.Files.{HoldsRows, IsMadeOrReopened}
 use Rattle.recovery.specs.Left.{IsCleanAt}
-use Rattle.recovery.specs.Reopenings.{opening_of, steps_from}
+use Rattle.recovery.specs.Reopenings.{IsUnopened, opening_of, steps_from}
 use Rattle.recovery.proofs.FileLaws.{finds_rows, finds_trees, not_both}
-use Rattle.relay_commands.specs.Checks.{AreTotalsFound, AreTotalsIn, IsCounted}
+use Rattle.relay_commands.specs.Checks.{AreTotalsFound, AreTotalsIn, IsCounted, IsCountedIn, SaysOf}
 
 pub totals_found : {S : Type 0} (g : Ghosts S) (db : Database) (desk : DeskValue) (vault : VaultValue S) (t : Totals) → IsMadeOrReopened g db desk vault → OverWorlds desk (λ w. t ≡ totals (settled_records w)) → AreTotalsFound db t
 totals_found g db desk vault t (inl (none, made)) are = inl (none, are (opening_of []) made.0)
-totals_found g db desk vault t (inr (five, reopened)) are = inr (
-  five,
+totals_found g db desk vault t (inr (stand, reopened)) are = inr (
+  stand,
   λ ours.
       let it = reopened ours in
       record { rows = it.rows; sound = it.sound; counts = are (opening_of (steps_from it.rows)) it.stands.0; each = λ history legal tables. are (opening_of history) (it.each history legal tables).0 },
@@ -36,15 +37,31 @@ totals_in image s t live opens finds counts = record { found = s.now; finds = fi
   where
     of_tables : AreTotalsFound s.now t → (history : History) → IsLegal (records_of history) → IsTables s.now (rows_of (records_of history)) → t ≡ totals (settled_records (opening_of history))
     of_tables (inl (none, is)) history legal tables = not_both s.now.schema none tables.schema_is
-    of_tables (inr (five, of)) history legal tables = (of tables.schema_is).each history legal tables
+    of_tables (inr (stand, of)) history legal tables = (of tables.schema_is).each history legal tables
 
     each : (history : History) → IsLegal (records_of history) → HoldsRows image (rows_of (records_of history)) → t ≡ totals (settled_records (opening_of history))
     each history legal held = of_tables counts history legal (finds_rows image s live opens finds (rows_of (records_of history)) held)
 
+says_of : (old new : State) (why : OpenFault) → IsUnopened old new why → SaysOf old.now why
+says_of old new NotOurs (inl unadopted) = unadopted
+says_of old new NotOurs (inr (none, rows, sound)) = absurd none
+says_of old new NewerVersion (inl unadopted) = unadopted
+says_of old new NewerVersion (inr (none, rows, sound)) = absurd none
+says_of old new Damaged (inl unadopted) = unadopted
+says_of old new Damaged (inr (none, rows, sound)) = absurd none
+says_of old new (Store error) unopened = tt
+says_of old new OutOfMemory unopened = tt
+
 pub counted_in : {S : Type 0} (g : Ghosts S) (image : Image) (old new : Held S) (counted : Result Totals OpenFault) → (IsCleanAt g new → IsCleanAt g old)
     → (IsCleanAt g old → Opens (state g old) × IsLive (state g old)) → (IsCleanAt g old → FindsIn image (state g old)) → IsCounted g old new counted
-    → IsCleanAt g new → IfOk counted (AreTotalsIn image)
-counted_in g image old new (Ok t) clean opened finds is now =
+    → IsCountedIn g image (Some new) counted
+counted_in g image old new (Ok t) clean opened finds is = λ now.
     let before = clean now in
     totals_in image (state g old) t (opened before).1 (opened before).0 (finds before) (is now)
-counted_in g image old new (Err why) clean opened finds is now = tt
+counted_in g image old new (Err why) clean opened finds is = λ now.
+    let before = clean now in
+    record {
+      found = (state g old).now;
+      finds = finds_trees image (state g old) (opened before).0 (finds before);
+      says = λ ours. says_of (state g old) (state g new) why (is now ours);
+    }

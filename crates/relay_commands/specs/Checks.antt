@@ -1,5 +1,5 @@
 -- What `relayd check` writes, by how it ends.
-use Rattle.std.specs.Prelude.{◌≡◌, ◌⊎◌, ℕ, List, [], ◌∷◌, Option, Some, None, Result, Ok, Err, IfOk, IsErr, IsTrue, codes, decimal}
+use Rattle.std.specs.Prelude.{◌≡◌, ◌⊎◌, ℕ, List, [], ◌∷◌, Option, Some, None, Result, Ok, Err, IsTrue, codes, decimal}
 use Rattle.std.specs.Io.KnownBytes.{Appends, Keeps}
 use Rattle.sqlite.specs.Store.{Ghosts}
 use Rattle.sqlite.specs.Effect.{Database}
@@ -12,8 +12,12 @@ use Rattle.relay_types.specs.Rows.{Rows, rows_of}
 use Rattle.spool_sql.specs.Steps.{IfClean}
 use Rattle.spool_sql.specs.Stored.{IsTables}
 use Rattle.spool_sql.specs.Tables.{no_schema, relay_schema}
-use Rattle.sound_tables.specs.Checks.{AreSoundTables, has_five_tables}
+use Rattle.sound_tables.specs.Checks.{AreSoundTables, IsRefusedAt}
+use Rattle.sound_tables.specs.declared.fault.TableFault.TheVariants as table
+use Rattle.sound_tables.specs.Keys.{has_tables}
 use Rattle.spool.specs.declared.ends.OpenFault.{OpenFault}
+use Rattle.spool.specs.declared.ends.OpenFault.TheVariants.{NotOurs, NewerVersion, Damaged, Store}
+use Rattle.spool.specs.declared.ends.OpenFault.TheVariants as opening
 use Rattle.desk.specs.World.{settled_records}
 use Rattle.desk.specs.Looks.{totals}
 use Rattle.desk.specs.declared.pages.Totals.{Totals}
@@ -43,11 +47,11 @@ pub record AreTotalsOf (db : Database) (t : Totals) : Type 0 where
   pub each : (history : History) → IsLegal (records_of history) → IsTables db (rows_of (records_of history))
       → t ≡ totals (settled_records (opening_of history))
 
--- Where there was no table, they are the totals of no record. Otherwise there were five, and where these were the relay's, they are those of
--- their history.
+-- Where there was no table, they are the totals of no record. Otherwise the five stood with their keys, and where the schema was the
+-- relay's, they are those of their history.
 abbrev pub AreTotalsFound : Database → Totals → Type 0
 AreTotalsFound db t =
-    ((db.schema ≡ no_schema) × (t ≡ totals [])) ⊎ (IsTrue (has_five_tables db.schema) × (db.schema ≡ relay_schema → AreTotalsOf db t))
+    ((db.schema ≡ no_schema) × (t ≡ totals [])) ⊎ (IsTrue (has_tables db.schema) × (db.schema ≡ relay_schema → AreTotalsOf db t))
 
 -- What was counted of a store: its totals, or why it wasn't opened, which is said of the relay's schema.
 abbrev pub IsCounted : {S : Type 0} → Ghosts S → (old new : Held S) → Result Totals OpenFault → Type 0
@@ -62,10 +66,27 @@ pub record AreTotalsIn (image : Image) (t : Totals) : Type 0 where
   pub each : (history : History) → IsLegal (records_of history) → HoldsRows image (rows_of (records_of history))
       → t ≡ totals (settled_records (opening_of history))
 
--- What was counted of the file that held so much, where it was opened, and while its disk returns what was written.
+-- what a refusal says of the tables
+abbrev pub SaysOf : Database → OpenFault → Type 0
+SaysOf db NotOurs = IsRefusedAt db table.NotOurs
+SaysOf db NewerVersion = IsRefusedAt db table.NewerVersion
+SaysOf db Damaged = IsRefusedAt db table.Damaged
+SaysOf db (Store error) = Unit {0}
+SaysOf db opening.OutOfMemory = Unit {0}
+
+-- What a refusal says of what a file and its log held, if its schema was the relay's.
+pub record IsRefusedIn (image : Image) (why : OpenFault) : Type 0 where
+  pub found : Database
+  pub finds : AreFoundIn image found.trees
+  pub says : found.schema ≡ relay_schema → SaysOf found why
+
+-- What was counted of the file that held so much, where it was opened, and while its disk returns what was written. Why a file wasn't opened
+-- says nothing of it.
 abbrev pub IsCountedIn : {S : Type 0} → Ghosts S → Image → (opened : Option (Held S)) → Result Totals OpenFault → Type 0
-IsCountedIn g image (Some conn) counted = IsCleanAt g conn → IfOk counted (AreTotalsIn image)
-IsCountedIn g image None counted = IsErr counted
+IsCountedIn g image (Some conn) (Ok t) = IsCleanAt g conn → AreTotalsIn image t
+IsCountedIn g image (Some conn) (Err why) = IsCleanAt g conn → IsRefusedIn image why
+IsCountedIn g image None (Ok t) = ⊥
+IsCountedIn g image None (Err why) = Unit {0}
 
 -- what is written of the totals where their line isn't: a front of it where the writer failed, and nothing without memory
 abbrev pub WritesFront : Totals → Option (List ℕ) → Option (List ℕ) → CommandFault → Type 0
@@ -94,8 +115,3 @@ abbrev pub ChecksFileTo : {S : Type 0} → Ghosts S → Image → (opened : Opti
     → Option (List ℕ) → Option (List ℕ) → Option (List ℕ) → Option (List ℕ) → ℕ → Type 0
 ChecksFileTo g image opened old new untold told status =
     (counted : Result Totals OpenFault) × IsCountedIn g image opened counted × ReportsChecked counted old new untold told status
-
--- the same, whatever was counted
-abbrev pub ChecksAny : Option (List ℕ) → Option (List ℕ) → Option (List ℕ) → Option (List ℕ) → ℕ → Type 0
-ChecksAny old new untold told status =
-    (counted : Result Totals OpenFault) × ReportsChecked counted old new untold told status

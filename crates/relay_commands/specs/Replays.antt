@@ -2,7 +2,7 @@
 use Rattle.std.specs.Prelude.{ℕ, List, Option, Result, Ok, Err}
 use Rattle.drill.specs.Replays.{Replays}
 use Rattle.relay_commands.specs.declared.ends.CommandFault.{CommandFault}
-use Rattle.relay_commands.specs.declared.ends.CommandFault.TheVariants.{Argument, Ended, File}
+use Rattle.relay_commands.specs.declared.ends.CommandFault.TheVariants.{Argument, Ended, File, Store}
 use Rattle.relay_commands.specs.Reports.{Reports}
 
 -- what is written at an end; there are no arguments and no file
@@ -10,6 +10,7 @@ abbrev pub ReplaysSo : Option (List ℕ) → Option (List ℕ) → Option (List 
 ReplaysSo input old new (Ok done) = Replays input old new (Ok done)
 ReplaysSo input old new (Err (Argument fault)) = ⊥
 ReplaysSo input old new (Err (File fault)) = ⊥
+ReplaysSo input old new (Err (Store fault)) = ⊥
 ReplaysSo input old new (Err (Ended fault)) = Replays input old new (Err fault)
 
 -- The replies to the script on the reader are written, and the exit status and standard error tell of the same end.

@@ -10,7 +10,7 @@ use Rattle.text_lines.specs.declared.fault.StreamFault.TheVariants.{BadLine, Too
 use Rattle.text_lines.specs.Words.{AreSecretTexts}
 use Rattle.text_lines.specs.Streams.{AppendsFront, with_feed}
 use Rattle.relay_commands.specs.declared.ends.CommandFault.{CommandFault}
-use Rattle.relay_commands.specs.declared.ends.CommandFault.TheVariants.{Argument, Ended, File}
+use Rattle.relay_commands.specs.declared.ends.CommandFault.TheVariants.{Argument, Ended, File, Store}
 use Rattle.relay_commands.specs.declared.sign_command.Asked.{Asked}
 use Rattle.relay_commands.specs.Reports.{Reports}
 
@@ -65,6 +65,7 @@ SignsSo id at texts input old new (Err (Ended OutOfMemory)) = HasIdAndMoment id 
 SignsSo id at texts input old new (Err (Ended Lost)) = ⊥
 SignsSo id at texts input old new (Err (Ended (BadLine number))) = ⊥
 SignsSo id at texts input old new (Err (File fault)) = ⊥
+SignsSo id at texts input old new (Err (Store fault)) = ⊥
 
 -- So it is, and the exit status and standard error tell of the same end.
 abbrev pub SignsTo : List ℕ → List ℕ → List (List ℕ) → Option (List ℕ) → Option (List ℕ) → Option (List ℕ)

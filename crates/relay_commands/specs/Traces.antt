@@ -11,7 +11,7 @@ use Rattle.text_lines.specs.Ends.{Ends}
 use Rattle.text_lines.specs.Parts.{line}
 use Rattle.text_lines.specs.Streams.{with_feed}
 use Rattle.relay_commands.specs.declared.ends.CommandFault.{CommandFault}
-use Rattle.relay_commands.specs.declared.ends.CommandFault.TheVariants.{Argument, Ended, File}
+use Rattle.relay_commands.specs.declared.ends.CommandFault.TheVariants.{Argument, Ended, File, Store}
 use Rattle.relay_commands.specs.declared.vegas_command.Follower.{Follower}
 use Rattle.relay_commands.specs.declared.vegas_command.TheConstants.{MAX_IN_FLIGHT, MAX_ROUND_TRIP}
 use Rattle.relay_commands.specs.Reports.{Reports}
@@ -75,6 +75,7 @@ TracesSo word input old new (Ok done) = HasMaximum word (λ maximum. Traces maxi
 TracesSo word input old new (Err (Argument fault)) = (fault ≡ BadMax) × HasNoMaximum word × Keeps old new
 TracesSo word input old new (Err (Ended fault)) = HasMaximum word (λ maximum. Traces maximum input old new (Err fault))
 TracesSo word input old new (Err (File fault)) = ⊥
+TracesSo word input old new (Err (Store fault)) = ⊥
 
 -- So it is, and the exit status and standard error tell of the same end.
 abbrev pub TracesTo : List ℕ → Option (List ℕ) → Option (List ℕ) → Option (List ℕ)

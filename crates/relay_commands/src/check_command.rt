@@ -6,7 +6,7 @@ ghost use Rattle.sqlite.specs.WalFiles.{image_at};
 ghost use Rattle.spool_sql.specs.Steps.{IfClean};
 ghost use Rattle.spool.specs.Adopting.{IsOnlyRead};
 ghost use Rattle.recovery.specs.Left.{IsCleanAt};
-ghost use Rattle.relay_commands.specs.Checks.{IsCounted, ChecksSo, ChecksTo, ChecksFileTo, ChecksAny, counts_text};
+ghost use Rattle.relay_commands.specs.Checks.{IsCounted, ChecksSo, ChecksTo, ChecksFileTo, counts_text};
 
 use crate::ends::{CommandFault, end};
 use desk::Totals;
@@ -44,23 +44,10 @@ impl fmt::Display for Counts {
     }
 }
 
-/// Opens the store in the file and writes how many records, endpoints and pending events it holds: 0 done, 4 the relay doesn't take
-/// the file, 3 every other fault. Where nothing stands at the path, or an empty file, a store of the empty history is made; every
-/// other file isn't written, but SQLite's log may be made beside it. `start` stands for what the file and its log hold.
-pub fn check<T: Start, O: Write, E: Write>(
-    rt: &HostRuntime,
-    path: &str,
-    start: T,
-    output: &mut O,
-    errors: &mut E,
-) -> u8
-    ensures checks { ChecksAny (O.contents output.old) (O.contents output.new)
-        (E.contents errors.old) (E.contents errors.new) result }
-{
-    check_file(rt, path, start, output, errors).1
-}
-
-/// The same. The connection comes back where the file was opened.
+/// Where nothing stands at the path, or an empty file, a store of the empty history is made; every other file isn't written, but SQLite's
+/// log may be made beside it. Opens the store in the file and writes how many records, endpoints and pending events it holds: 0 done, 4 the
+/// relay doesn't take the file, 3 every other fault. `start` stands for what the file and its log hold. The connection comes back where the
+/// file was opened.
 pub fn check_file<T: Start, O: Write, E: Write>(
     rt: &HostRuntime,
     path: &str,

@@ -6,7 +6,7 @@ ghost use Rattle.clap.specs.Words.{kind_of};
 ghost use Rattle.relay_commands.specs.declared.ends.CommandFault.TheVariants.{Ended};
 ghost use Rattle.relay_commands.specs.Reports.{IsShownAs};
 
-use crate::check_command::check;
+use crate::check_command::check_file;
 use crate::ends::{CommandFault, USAGE, end};
 use crate::replay_command::replay;
 use crate::sign_command::sign;
@@ -50,8 +50,10 @@ const REPLAY_HELP: &str =
 A bad line ends the script with status 2; the replies before it stand.";
 
 const CHECK_HELP: &str =
-    "Prints `ok records N endpoints E pending P`. Where no file is, or an empty one, a store is made.
-Status 4 and NotOurs, NewerVersion or Damaged tell of a file that the relay doesn't take.";
+    "Makes a store where no file is, or an empty one; every other file is only read.
+Prints `ok records N endpoints E pending P`.
+Status 4 and NotOurs, NewerVersion or Damaged tell of a file that the relay doesn't take; status 3 and
+Busy of one that another program has open, CannotOpen, Corrupt, Full or Lost of what else is wrong.";
 
 const SIGN_HELP: &str =
     "Whoever may list the processes of this machine sees the secrets. A body has at most 65536 bytes;
@@ -82,7 +84,7 @@ pub fn run<S: AsStr, R: Read, O: Write, E: Write>(
     };
     match matches.subcommand() {
         Some(("check", words)) => match words.get_str("file") {
-            Some(path) => check(rt, path, Unknown, output, errors),
+            Some(path) => check_file(rt, path, Unknown, output, errors).1,
             None => USAGE,
         },
         Some(("replay", _)) => replay(alloc, input, output, errors),
@@ -163,7 +165,7 @@ fn relayd<'a>(alloc: Global) -> Result<Command<'a>, AllocError> {
 
 fn check_syntax<'a>(alloc: Global) -> Result<Command<'a>, AllocError> {
     Command::new(alloc, "check")
-        .about("Reads the file of a relay's store and prints how much it holds")
+        .about("Prints how much the store in a file holds; makes a store where no file is")
         .after_help(CHECK_HELP)
         .arg(text(alloc, "file").help("The file's path"))
 }

@@ -4,11 +4,12 @@ ghost use Rattle.std.specs.Io.KnownBytes.{Appends};
 ghost use Rattle.text_lines.specs.Streams.{AppendsFront};
 ghost use Rattle.text_lines.specs.declared.fault.StreamFault.TheVariants as command;
 ghost use Rattle.relay_commands.specs.declared.ends.CommandFault.TheVariants.{Ended};
-ghost use Rattle.relay_commands.specs.Reports.{argument_fault, open_fault, file_fault_name, exit_status, told_text, told_line, Tells};
+ghost use Rattle.relay_commands.specs.Reports.{argument_fault, open_fault, store_fault, file_fault_name, store_fault_name, exit_status, told_text, told_line, Tells};
 
 use arrayvec::ArrayString;
 use relay_types::ReadFault;
 use spool::OpenFault;
+use sqlite::{Error, ErrorCode};
 use std::alloc::AllocError;
 use std::fmt;
 use std::fmt::Write as _;
@@ -21,18 +22,34 @@ pub const DONE: u8 = 0;
 /// The words are no command, or an argument isn't what its reader takes.
 pub const USAGE: u8 = 1;
 
+/// A reader, a writer, the store or memory failed.
+pub const FAILED: u8 = 3;
+
 /// The file isn't one that the relay takes.
 pub const UNFIT: u8 = 4;
 
 /// Why the relay doesn't take a file.
 #[derive(Clone, Copy, PartialEq, Eq, Debug)]
 pub enum FileFault {
-    /// It isn't one of SQLite's, or has none of the relay's tables.
+    /// It isn't one of SQLite's, or its tables aren't the relay's.
     NotOurs,
     /// Its tables are of a later version.
     NewerVersion,
     /// Its tables are the relay's, and their rows aren't such as a legal history has.
     Damaged,
+}
+
+/// Why a store can't be opened or read, whatever its tables are.
+#[derive(Clone, Copy, PartialEq, Eq, Debug)]
+pub enum StoreFault {
+    /// Another program has the file open, another relay for one.
+    Busy,
+    /// The path leads to no file that may be opened and written, or a rollback journal of SQLite's lies beside it.
+    CannotOpen,
+    /// A page isn't what was written, or not one of SQLite's.
+    Corrupt,
+    /// The disk or the file has no room.
+    Full,
 }
 
 impl fmt::Display for FileFault {
@@ -47,6 +64,19 @@ impl fmt::Display for FileFault {
     }
 }
 
+impl fmt::Display for StoreFault {
+    ghost output = { λ fault. Some (store_fault_name fault) };
+
+    fn fmt<W: fmt::Write>(&self, f: &mut fmt::Formatter<W>) -> fmt::Result {
+        match self {
+            StoreFault::Busy => f.write_str("Busy"),
+            StoreFault::CannotOpen => f.write_str("CannotOpen"),
+            StoreFault::Corrupt => f.write_str("Corrupt"),
+            StoreFault::Full => f.write_str("Full"),
+        }
+    }
+}
+
 /// Why a command wasn't done.
 #[derive(Clone, Copy, PartialEq, Eq, Debug)]
 pub enum CommandFault {
@@ -56,10 +86,12 @@ pub enum CommandFault {
     Ended(StreamFault),
     /// The relay doesn't take the file.
     File(FileFault),
+    /// The store can't be opened or read.
+    Store(StoreFault),
 }
 
 impl CommandFault {
-    /// The exit status of a command that ends so: 1 for an argument, 2 for what was read, 4 for a file, 3 for the rest.
+    /// The exit status of a command that ends so: 1 for an argument, 2 for what was read, 4 for what is in a file, 3 for the rest.
     fn status(self) -> u8
         ensures status { result ≡ exit_status (Err self) }
         ensures most { result ≤ 4 }
@@ -68,6 +100,7 @@ impl CommandFault {
             CommandFault::Argument(_) => USAGE,
             CommandFault::Ended(fault) => fault.status(),
             CommandFault::File(_) => UNFIT,
+            CommandFault::Store(_) => FAILED,
         }
     }
 }
@@ -80,6 +113,7 @@ impl fmt::Display for CommandFault {
             CommandFault::Argument(fault) => write!(f, "{fault}"),
             CommandFault::Ended(fault) => write!(f, "{fault}"),
             CommandFault::File(fault) => write!(f, "{fault}"),
+            CommandFault::Store(fault) => write!(f, "{fault}"),
         }
     }
 }
@@ -119,9 +153,24 @@ impl From<OpenFault> for CommandFault {
             OpenFault::NotOurs => CommandFault::File(FileFault::NotOurs),
             OpenFault::NewerVersion => CommandFault::File(FileFault::NewerVersion),
             OpenFault::Damaged => CommandFault::File(FileFault::Damaged),
-            OpenFault::Store(_) => CommandFault::Ended(StreamFault::Lost),
+            OpenFault::Store(error) => store_fault(error),
             OpenFault::OutOfMemory => CommandFault::Ended(StreamFault::OutOfMemory),
         }
+    }
+}
+
+// As what the store's error is told.
+fn store_fault(error: Error) -> CommandFault
+    ensures { result ≡ store_fault error }
+{
+    match error {
+        Error::SqliteFailure(ErrorCode::DatabaseBusy) => CommandFault::Store(StoreFault::Busy),
+        Error::SqliteFailure(ErrorCode::CannotOpen) => CommandFault::Store(StoreFault::CannotOpen),
+        Error::SqliteFailure(ErrorCode::DatabaseCorrupt) => CommandFault::Store(
+            StoreFault::Corrupt,
+        ),
+        Error::SqliteFailure(ErrorCode::DiskFull) => CommandFault::Store(StoreFault::Full),
+        _ => CommandFault::Ended(StreamFault::Lost),
     }
 }
 

@@ -8,9 +8,9 @@ mod replay_command;
 mod sign_command;
 mod vegas_command;
 
-pub use crate::check_command::{check, check_file};
+pub use crate::check_command::check_file;
 pub use crate::command_line::{VERSION, run};
-pub use crate::ends::{CommandFault, DONE, FileFault, UNFIT, USAGE, end};
+pub use crate::ends::{CommandFault, DONE, FAILED, FileFault, StoreFault, UNFIT, USAGE, end};
 pub use crate::replay_command::replay;
 pub use crate::sign_command::sign;
 pub use crate::vegas_command::vegas;

@@ -3,6 +3,7 @@ pub mod Texts
 pub mod TableLemmas
 pub mod StoredLemmas
 pub mod KeyLemmas
+pub mod KeyedLemmas
 pub mod OrderLemmas
 pub mod PlaceLemmas
 pub mod ShownLemmas
@@ -10,3 +11,4 @@ pub mod SoundLemmas
 pub mod LackLemmas
 pub mod LookLemmas
 pub mod MetaLemmas
+pub mod UnsoundLemmas

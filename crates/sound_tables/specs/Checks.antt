@@ -1,9 +1,8 @@
 -- Which tables are adopted, and why others aren't.
-use Rattle.std.specs.Prelude.{◌≡◌, ◌≢◌, ◌<◌, ◌≤◌, ◌⊎◌, ◌==◌, ℕ, pos, Bool, true, [], ◌∷◌, length, Vec, Option, Some, None, int_lt, IsTrue}
+use Rattle.std.specs.Prelude.{◌≡◌, ◌≢◌, ◌<◌, ◌≤◌, ◌⊎◌, ℕ, pos, true, [], ◌∷◌, Vec, Option, Some, None, int_lt, IsTrue}
 use Rattle.std.specs.declared.alloc.Global.{Global}
 use Rattle.sqlite.specs.Order.{Row}
 use Rattle.sqlite.specs.Effect.{Database}
-use Rattle.sqlite.specs.Schema.{Schema}
 use Rattle.relay_types.specs.Rows.{Rows}
 use Rattle.relay_types.specs.Sound.{AreKeyed, IsRisingFrom, are_sound}
 use Rattle.sqlite_trees.specs.Tree.{IsAscending}
@@ -22,10 +21,6 @@ use Rattle.sound_tables.specs.declared.secret.Secret.{Secret}
 use Rattle.sound_tables.specs.declared.stored.StoredRows.{StoredRows}
 use Rattle.sound_tables.specs.declared.fault.TableFault.{TableFault}
 use Rattle.sound_tables.specs.declared.fault.TableFault.TheVariants.{NotOurs, NewerVersion, Damaged, Failed}
-
--- as many tables stand as the relay has
-abbrev pub has_five_tables : Schema → Bool
-has_five_tables schema = length schema.tables == 5
 
 -- the tables have these rows, which are such as a legal history has
 pub record AreSoundTables (db : Database) (rows : Rows) : Type 0 where

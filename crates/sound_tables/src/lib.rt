@@ -8,6 +8,7 @@ mod delivery;
 mod endpoint;
 mod fault;
 mod judge;
+mod keys;
 mod meta;
 mod order;
 mod places;
@@ -16,7 +17,9 @@ mod records;
 mod secret;
 mod stored;
 mod tables;
+mod unsound;
 mod value;
 
 pub use crate::check::check_tables;
 pub use crate::fault::TableFault;
+pub use crate::unsound::judge_unsound;

@@ -16,7 +16,7 @@ use sqlite::{Alter, Connection};
 use std::alloc::Global;
 
 // The version of the tables that this relay writes and reads.
-const VERSION: i64 = 1;
+pub(crate) const VERSION: i64 = 1;
 
 /// How many records `meta` tells of, where it is the relay's, of this version.
 pub(crate) fn read_records<S: Alter>(

@@ -16,6 +16,10 @@ use Rattle.spool_sql.specs.Steps.{MayLeave}
 use Rattle.sound_tables.specs.Checks as tables
 use Rattle.sound_tables.specs.declared.fault.TableFault.{TableFault}
 use Rattle.sound_tables.specs.declared.fault.TableFault.TheVariants as table
+use Rattle.sqlite.specs.declared.error.Error.TheVariants.{SqliteFailure}
+use Rattle.sqlite.specs.declared.error.ErrorCode.TheVariants as code
+use Rattle.spool.specs.declared.ends.LoadFault.{LoadFault}
+use Rattle.spool.specs.declared.ends.LoadFault.TheVariants as load
 use Rattle.spool.specs.declared.ends.OpenFault.{OpenFault}
 use Rattle.spool.specs.declared.ends.OpenFault.TheVariants.{NotOurs, NewerVersion, Damaged, Store, OutOfMemory}
 use Rattle.spool.specs.Books.{KeepsOpen}
@@ -45,7 +49,7 @@ IsUnadopted old new Damaged = tables.IsRefusedAt old.now table.Damaged
 IsUnadopted old new (Store error) = cause error ≡ of.Store
 IsUnadopted old new OutOfMemory = Unit {0}
 
--- As what a store is told that hasn't as many tables as the relay's: as none of the relay's, or the look at it was refused.
+-- As what a store without a table `meta` is told: as none of the relay's, or the look at it was refused.
 abbrev pub IsForeign : OpenFault → Type 0
 IsForeign NotOurs = Unit {0}
 IsForeign NewerVersion = ⊥
@@ -81,6 +85,12 @@ fault_of table.NotOurs = NotOurs
 fault_of table.NewerVersion = NewerVersion
 fault_of table.Damaged = Damaged
 fault_of (table.Failed error) = fault_by error (cause error)
+
+-- as what an opening is told whose books weren't loaded
+abbrev pub unloaded_fault : LoadFault → OpenFault
+unloaded_fault load.Closed = Store (SqliteFailure code.Closed)
+unloaded_fault (load.Store error) = Store error
+unloaded_fault load.OutOfMemory = OutOfMemory
 
 abbrev pub IsToldAs : Result ℕ TableFault → OpenFault → Type 0
 IsToldAs checked told = (fault : TableFault) × (checked ≡ Err fault) × (told ≡ fault_of fault)

@@ -1,15 +1,15 @@
 //! The tables that stand, as they are adopted.
-ghost use Rattle.std.specs.Prelude.{◌≡◌, false, Err, IfOk, IfErr, MatchResult};
+ghost use Rattle.std.specs.Prelude.{◌≡◌, false, Err, IfOk, IfErr, IsErr, MatchResult};
 ghost use Rattle.sqlite.specs.Held.{state};
 ghost use Rattle.sqlite.specs.State.{HasCleanDisk};
 ghost use Rattle.spool_sql.specs.Steps.{IfClean, SurvivesAs};
 ghost use Rattle.spool_sql.specs.Tables.{relay_schema};
-ghost use Rattle.sound_tables.specs.Checks.{has_five_tables};
-ghost use Rattle.spool.specs.Adopting.{AreAdopted, IsForeign, IsOnlyRead, IsUnadopted, LeavesRead, TellsCheck, fault_of};
+ghost use Rattle.sound_tables.specs.Keys.{has_meta, has_tables};
+ghost use Rattle.spool.specs.Adopting.{AreAdopted, IsForeign, IsOnlyRead, IsUnadopted, LeavesRead, TellsCheck};
 
 use crate::ends::OpenFault;
 use sound_tables::{TableFault, check_tables};
-use spool_sql::{Cause, cause_of, probe};
+use spool_sql::probe;
 use sqlite::{Alter, Connection};
 use std::alloc::Global;
 
@@ -19,7 +19,8 @@ pub(crate) fn adopt_tables<S: Alter>(
     alloc: Global,
 ) -> Result<u64, OpenFault>
     requires { conn.old.in_transaction ≡ false }
-    ensures ours { has_five_tables (state S.Store conn.old).now.schema ≡ false → MatchResult result (λ _. ⊥) IsForeign }
+    ensures ours { has_meta (state S.Store conn.old).now.schema ≡ false → MatchResult result (λ _. ⊥) IsForeign }
+    ensures whole { has_tables (state S.Store conn.old).now.schema ≡ false → IsErr result }
     ensures adopted { IfClean S.Store conn.old conn.new
         (λ a b. a.now.schema ≡ relay_schema → IfOk result (AreAdopted a b)) }
     ensures refused { IfClean S.Store conn.old conn.new
@@ -42,35 +43,20 @@ fn end_check<S: Alter>(
 ) -> Result<u64, OpenFault>
     requires { conn.old.in_transaction ≡ false }
     ensures ours { checked ≡ Err TableFault.NotOurs → MatchResult result (λ _. ⊥) IsForeign }
+    ensures refused { IsErr checked → IsErr result }
     ensures told { IfClean S.Store conn.old conn.new (λ a b. TellsCheck a b checked result) }
     ensures mode { conn.new.in_transaction ≡ false }
     ensures survives { SurvivesAs S.Store conn.old conn.new (λ _ _. ⊥) }
 {
     let end = match checked {
         Ok(records) => Ok(records),
-        Err(fault) => match fault_of(fault) {
+        Err(fault) => match OpenFault::from(fault) {
             OpenFault::Store(error) => return Err(OpenFault::Store(error)),
             fault => Err(fault),
         },
     };
     match probe(conn) {
         Ok(()) => end,
-        Err(error) => Err(fault_of(TableFault::Failed(error))),
-    }
-}
-
-// As what a fault of the check is told. Under the relay's schema no statement is refused for another cause than memory or the store.
-fn fault_of(fault: TableFault) -> OpenFault
-    ensures { result ≡ fault_of fault }
-{
-    match fault {
-        TableFault::NotOurs => OpenFault::NotOurs,
-        TableFault::NewerVersion => OpenFault::NewerVersion,
-        TableFault::Damaged => OpenFault::Damaged,
-        TableFault::Failed(error) => match cause_of(error) {
-            Cause::Memory => OpenFault::OutOfMemory,
-            Cause::Store => OpenFault::Store(error),
-            Cause::Other => OpenFault::NotOurs,
-        },
+        Err(error) => Err(OpenFault::from(TableFault::Failed(error))),
     }
 }

@@ -1,22 +1,25 @@
 //! Why an opening, a load or a commit gave no value.
 ghost use Rattle.std.specs.Prelude.{◌≡◌, ◌↔◌, Some, IsTrue};
+ghost use Rattle.spool.specs.Adopting.{fault_of, unloaded_fault};
 ghost use Rattle.spool.specs.Books.{load_fault_name};
 ghost use Rattle.spool.specs.Opening.{fault_name};
 
 use crate::batch::Batch;
 use crate::doubt::Doubt;
-use sqlite::Error;
+use sound_tables::TableFault;
+use spool_sql::{Cause, cause_of};
+use sqlite::{Error, ErrorCode};
 use std::fmt;
 
 /// Why a store was not opened.
 #[derive(Clone, Copy)]
 pub enum OpenFault {
     /// Where tables are to be made: a table, an index or a view already has the name of one of the relay's tables. Where they are read:
-    /// the store has none of the relay's.
+    /// the store has no `meta` that names the relay, or lacks another table of the relay's.
     NotOurs,
     /// The tables are of a later version.
     NewerVersion,
-    /// The tables are the relay's, and their rows aren't such as a legal history has.
+    /// The tables are the relay's, and their rows aren't such as a legal history has, or they lack a key or a reference.
     Damaged,
     /// The store refused a call for a fault of its own. What a stop may leave stands in the file.
     Store(Error),
@@ -30,6 +33,37 @@ impl OpenFault {
         ensures { IsTrue result ↔ (self ≡ OpenFault.OutOfMemory) }
     {
         matches!(self, OpenFault::OutOfMemory)
+    }
+}
+
+// Under the relay's schema no statement is refused for another cause than memory or the store.
+impl From<TableFault> for OpenFault {
+    ghost from_gives = { λ fault told. told ≡ fault_of fault };
+
+    fn from(fault: TableFault) -> OpenFault {
+        match fault {
+            TableFault::NotOurs => OpenFault::NotOurs,
+            TableFault::NewerVersion => OpenFault::NewerVersion,
+            TableFault::Damaged => OpenFault::Damaged,
+            TableFault::Failed(error) => match cause_of(error) {
+                Cause::Memory => OpenFault::OutOfMemory,
+                Cause::Store => OpenFault::Store(error),
+                Cause::Other => OpenFault::NotOurs,
+            },
+        }
+    }
+}
+
+// As what an opening is told whose books weren't loaded. A vault that was just adopted isn't closed.
+impl From<LoadFault> for OpenFault {
+    ghost from_gives = { λ fault told. told ≡ unloaded_fault fault };
+
+    fn from(fault: LoadFault) -> OpenFault {
+        match fault {
+            LoadFault::Closed => OpenFault::Store(Error::SqliteFailure(ErrorCode::Closed)),
+            LoadFault::Store(error) => OpenFault::Store(error),
+            LoadFault::OutOfMemory => OpenFault::OutOfMemory,
+        }
     }
 }
 

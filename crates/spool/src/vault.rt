@@ -1,11 +1,11 @@
 //! The one writer of a store.
-ghost use Rattle.std.specs.Prelude.{◌≡◌, ◌⊎◌, ◌↔◌, ◌+◌, false, [], length, IsTrue, IfOk, IfErr, MatchResult, cond, is_ok};
+ghost use Rattle.std.specs.Prelude.{◌≡◌, ◌⊎◌, ◌↔◌, ◌+◌, false, [], length, IsTrue, IfOk, IfErr, IsErr, MatchResult, cond, is_ok};
 ghost use Rattle.sqlite.specs.State.{HasCleanDisk};
 ghost use Rattle.sqlite.specs.Held.{state};
 ghost use Rattle.relay_types.specs.Records.{records_of};
 ghost use Rattle.spool_sql.specs.Steps.{IfClean, IsBegun};
 ghost use Rattle.spool_sql.specs.Tables.{no_schema, relay_schema};
-ghost use Rattle.sound_tables.specs.Checks.{has_five_tables};
+ghost use Rattle.sound_tables.specs.Keys.{has_meta, has_tables};
 ghost use Rattle.spool.specs.Adopting.{IsAdopted, IsForeign, IsOnlyRead, IsUnadopted, LeavesRead};
 ghost use Rattle.spool.specs.Opening.{has_ours, IsRefusedFor, LeavesAt};
 ghost use Rattle.spool.specs.Books.{AreBooksOf, AreSettled, IsSeen, LeavesHeld};
@@ -74,8 +74,8 @@ impl<S: Alter> Vault<S> {
         }
     }
 
-    /// The vault of the tables that stand, whoever wrote them. Each table is read once, row by row, and nothing is written. Refusals come
-    /// in the order of `OpenFault`, but a fault of the store and want of memory come at the call that was refused; each gives the
+    /// The vault of the tables that stand, whoever wrote them. Each table is read once, row by row, and nothing is written; other tables
+    /// than the relay's are passed over, as `create` makes its own beside them. Refusals come in the order of `OpenFault`, but a fault of the store and want of memory come at the call that was refused; each gives the
     /// connection back. The caller sees by `is_autocommit` that the connection is outside a transaction.
     pub fn adopt(
         conn: Connection<S>,
@@ -84,8 +84,9 @@ impl<S: Alter> Vault<S> {
     ) -> Result<Vault<S>, (Connection<S>, OpenFault)>
         requires { conn.in_transaction ≡ false }
         ensures opened { IfOk result (λ v. (v.mark ≡ mark) × (v.closed ≡ false)) }
-        ensures ours { has_five_tables (state S.Store conn).now.schema ≡ false
+        ensures ours { has_meta (state S.Store conn).now.schema ≡ false
             → MatchResult result (λ _. ⊥) (λ e. IsForeign e.1) }
+        ensures whole { has_tables (state S.Store conn).now.schema ≡ false → IsErr result }
         ensures adopted { IfOk result (λ v. IfClean S.Store conn v.conn
             (λ a _. a.now.schema ≡ relay_schema → IsAdopted S.Store a.now v)) }
         ensures refused { IfErr result (λ e. IfClean S.Store conn e.0

@@ -1,8 +1,10 @@
-use Rattle.std.proofs.Common.{◌≡◌, MatchResult, None, subst}
+use Rattle.std.proofs.Common.{◌≡◌, MatchResult, None, subst, sym, ◌∙◌}
 use Rattle.sqlite.specs.Effect.{Database}
 use Rattle.sqlite.specs.Held.{state}
 use Rattle.sqlite.specs.State.{HasCleanDisk}
 use Rattle.spool_sql.specs.Tables.{relay_schema}
+use Rattle.sound_tables.specs.Keys.{has_meta, has_names, has_tables}
+use Rattle.sound_tables.proofs.KeyedLemmas.{not_lacking, relay_meta, relay_names, relay_tables}
 use Rattle.sound_tables.specs.Checks.{HasSound, IsRefusedAt, TellsStored}
 use Rattle.sound_tables.proofs.LackLemmas.{lacks_sound}
 use Rattle.sound_tables.proofs.LookLemmas.{are_read, clean_early, same_now, schema_still, told_err, told_ok}
@@ -23,7 +25,7 @@ judged g c clean has =
     let still = schema_still g.S.Store a m b first.looks first.same later.looks clean has in
     let shown = subst (TellsStored (state g.S.Store m).now) c.in-Ok-Some.field-0-is (later.found clean still) in
     let meta = first.found (clean_early g.S.Store a m b first.looks first.same later.looks clean) has in
-    c.judge.ensures (state g.S.Store a).now (are_read g.S.Store a m b first.looks first.same later.looks c.in_ok-records.records c.in-Ok-Some.rows c.has_five_tables.ensures.live clean has meta shown)
+    c.judge.ensures (state g.S.Store a).now (are_read g.S.Store a m b first.looks first.same later.looks c.in_ok-records.records c.in-Ok-Some.rows c.has_meta.ensures.live clean has meta shown)
 
 pub returns-in-Ok-Some-clause-found : goal.returns-in-Ok-Some-clause-found
 returns-in-Ok-Some-clause-found g c clean has = told_ok c.judge.result _ _ (judged g (goal.at.returns-in-Ok-Some-clause-found g c).After-judge clean has)
@@ -43,3 +45,13 @@ returns-in-Ok-None-clause-refused g c clean has =
     let lacks = subst (TellsStored (state g.S.Store m).now) c.in-Ok-None.field-0-is (later.found clean still) in
     let meta = first.found (clean_early g.S.Store a m b first.looks first.same later.looks clean) has in
     damaged db c.in_ok-records.records meta (lacks_sound db (subst (λ (d : Database). TellsStored d None) (same_now g.S.Store a m b first.looks first.same later.looks clean) lacks))
+
+-- the relay's schema lacks none of these
+pub returns-then-not-has_meta-clause-refused : goal.returns-then-not-has_meta-clause-refused
+returns-then-not-has_meta-clause-refused g c clean is = not_lacking has_meta _ relay_meta (sym c.has_meta.ensures.meta ∙ c.if-not-has_meta.true) is
+
+pub returns-then-not-is_whole-clause-refused : goal.returns-then-not-is_whole-clause-refused
+returns-then-not-is_whole-clause-refused g c clean is = not_lacking has_names _ relay_names (sym c.look_at_schema-is_whole.ensures.names ∙ c.if-not-is_whole.true) is
+
+pub returns-then-not-is_keyed-clause-refused : goal.returns-then-not-is_keyed-clause-refused
+returns-then-not-is_keyed-clause-refused g c clean is = not_lacking has_tables _ relay_tables (sym c.look_at_schema-is_whole.ensures.keys ∙ c.if-not-is_keyed.true) is
