@@ -25,7 +25,7 @@ use Rattle.delivery_book.specs.declared.progress.Progress.{Progress}
 use Rattle.delivery_book.specs.declared.tally.Tally.{Tally}
 use Rattle.delivery_book.specs.Entries.{new_entry, is_entry_as, entry_at, state_in}
 use Rattle.delivery_book.specs.Fields.{IsBook, IsKeyed, IsIndex, IsTally, is_numbered, is_waiting, is_later, event_cmp, in_state, counts_for, has_room, one_of, is_counted}
-use Rattle.delivery_book.proofs.Updates.{all_at, all_weaker}
+use Rattle.delivery_book.proofs.Updates.{all_at, all_weaker, caught-push}
 
 -- Keys
 
@@ -140,6 +140,7 @@ book-push index later tally counted settled_tally opened_tally entries unsettled
   queue = record {
     later = all_weaker (is_later entries) (is_later (entries ++ new_entry seq name id body at ∷ [])) unsettled (λ o is. found_still entries (new_entry seq name id body at) o is) h.queue.later;
     counted = omega (arith, h.queue.counted, sum_by_push (λ e. cond (is_waiting e) 1 0) entries (new_entry seq name id body at));
+    caught_up = caught-push unsettled entries seq name id body at h.queue.caught_up;
     room = omega (arith, enough, length-append entries (new_entry seq name id body at ∷ []));
   };
 }
@@ -162,5 +163,5 @@ book-same index kept tally counted settled_tally opened_tally entries unsettled 
   latest = λ those asked. ap (in_state asked) (alike those) ∙ h.latest those asked;
   settled = λ those asked. ap (in_state asked) (same those) ∙ h.settled those asked;
   opened = all_weaker (λ e. has_room settled_tally e.name) (λ e. has_room opened_tally e.name) entries (λ e is. stays e.name is) h.opened;
-  queue = record { later = h.queue.later; counted = h.queue.counted; room = omega (arith, h.queue.room, enough) };
+  queue = record { later = h.queue.later; counted = h.queue.counted; caught_up = h.queue.caught_up; room = omega (arith, h.queue.room, enough) };
 }

@@ -8,3 +8,4 @@ pub mod Tellings
 pub mod Updates
 pub mod Books
 pub mod Outcomes
+pub mod Waiting

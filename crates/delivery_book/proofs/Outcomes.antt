@@ -1,7 +1,7 @@
 -- What ties the index, the counts and the room to the entries stays so with one more outcome, and with more records settled.
 use Rattle.std.proofs.Common.{◌≡◌, ◌&&◌, ℕ, ◌+◌, ◌-◌, ◌<◌, ◌≤◌, Bool, true, false, List, [], ◌∷◌, ◌++◌, Option, Some, length, take, drop, set, map, get_or, refl, sym, ◌∙◌, ap, subst, eqb, ltb, not, arith, cond, ⊎_elim, length-append}
 use Rattle.std.specs.Prelude.{count_by, is_some, max, option_to_list}
-use Rattle.std.specs.List.{list_all}
+use Rattle.std.specs.List.{AllByRecursion, list_all}
 use Rattle.std.specs.Option.{option_map_or}
 use Rattle.std.specs.BTreeMap.{BTreeMap}
 use Rattle.std.proofs.lemmas.Bool.{cases_lt, lt-ltb, ltb-true, eqb-true, eq-eqb, ne_eqb}
@@ -18,10 +18,10 @@ use Rattle.delivery_book.specs.declared.entry.Entry.{Entry}
 use Rattle.delivery_book.specs.declared.entry.Unsettled.{Unsettled}
 use Rattle.delivery_book.specs.declared.keys.EventKey.{EventKey}
 use Rattle.delivery_book.specs.declared.tally.Tally.{Tally}
-use Rattle.delivery_book.specs.Entries.{BookValue, with_attempt, with_attempt_restored, with_latest_settled, at_delivery, is_open, entry_at, state_in, has_room_for_attempt, may_restore}
+use Rattle.delivery_book.specs.Entries.{BookValue, IsCaughtUp, with_attempt, with_attempt_restored, with_latest_settled, at_delivery, is_open, entry_at, state_in, has_room_for_attempt, may_restore}
 use Rattle.delivery_book.specs.Fields.{IsBook, IsKeyed, IsQueue, IsTally, is_numbered, is_waiting, is_later, in_state, counts_for, has_room, one_of, is_counted}
 use Rattle.delivery_book.proofs.Entries.{count-slice}
-use Rattle.delivery_book.proofs.Updates.{KeepsKeys, all_at, all_set, all_weaker, count-map, either_way, set_is, keeps_where, entry_at-map, keyed-map, all_numbered, tally-set, opened_still, some_at}
+use Rattle.delivery_book.proofs.Updates.{KeepsKeys, all_at, all_set, all_weaker, count-map, either_way, set_is, keeps_where, entry_at-map, keyed-map, all_numbered, tally-set, opened_still, some_at, caught-outcome, caught-restored, caught-settle}
 use Rattle.delivery_book.proofs.Books.{below, numbered_if}
 use Rattle.delivery_book.proofs.Progresses.{empty_if}
 
@@ -78,6 +78,7 @@ book-outcome index tally less more settled_tally entries unsettled room next set
         ∙ and_both _ _ (all_weaker (is_later entries) (is_later entries') unsettled (λ o late. ap (λ b. b && ltb o.delivery o.seq) (ap (λ es. is_some (entry_at es o.delivery)) changed ∙ entry_at-map g entries o.delivery keeps) ∙ late) h.queue.later)
         (and_both (is_later entries' (record { seq = seq; delivery = delivery })) true (and_both _ _ there (lt-ltb delivery seq (omega (arith, same, ap (λ (e : Entry). e.seq) is, (below next (get_or entries i x) (all_at (is_numbered next) entries i x inside h.keyed.numbered)).0, l)))) refl);
     counted = omega (arith, h.queue.counted, length-append unsettled (record { seq = seq; delivery = delivery } ∷ []), waits_more status at entries i x inside is free);
+    caught_up = subst (AllByRecursion (IsCaughtUp (unsettled ++ record { seq = seq; delivery = delivery } ∷ []))) (sym changed) (caught-outcome unsettled entries seq delivery status at h.queue.caught_up);
     room = omega (arith, h.queue.room, length-set entries i (with_attempt status at x));
   };
 }
@@ -134,6 +135,7 @@ book-restored index tally less more settled_tally entries unsettled room next se
   queue = record {
     later = ap (list_all (is_later (set entries i y))) waiting;
     counted = omega (arith, ap length waiting);
+    caught_up = subst (AllByRecursion (IsCaughtUp unsettled)) (sym changed) (caught-restored unsettled entries delivery status at h.queue.caught_up);
     room = omega (arith, h.queue.room, length-set entries i y);
   };
 }
@@ -219,6 +221,7 @@ book-settle index tally settled_tally less more entries o rest room next settled
     later = all_weaker (is_later entries) (is_later (set entries i (with_latest_settled x))) rest
         (λ p late. ap (λ b. b && ltb p.delivery p.seq) (ap (λ es. is_some (entry_at es p.delivery)) changed ∙ entry_at-map g entries p.delivery keeps) ∙ late) (and_second (is_later entries o) (list_all (is_later entries) rest) h.queue.later);
     counted = omega (arith, h.queue.counted, sum_by-set (λ e. cond (is_waiting e) 1 0) entries i (with_latest_settled x) x inside, at_most (is_waiting (get_or entries i x)));
+    caught_up = subst (AllByRecursion (IsCaughtUp rest)) (sym changed) (caught-settle o rest entries h.queue.caught_up);
     room = omega (arith, h.queue.room, length-set entries i (with_latest_settled x));
   };
 }

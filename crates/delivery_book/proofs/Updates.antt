@@ -1,11 +1,11 @@
 -- What stays where one entry is changed in place.
-use Rattle.std.proofs.Common.{◌≡◌, ◌≢◌, ℕ, zero, suc, ◌+◌, ◌<◌, ◌≤◌, Bool, true, false, List, [], ◌∷◌, Option, Some, None, length, take, drop, map, set, get_or, refl, sym, ◌∙◌, ap, eqb, arith, cond, ⊎_elim}
-use Rattle.std.specs.Prelude.{count_by, find, is_some, option_map}
-use Rattle.std.specs.List.{list_all}
+use Rattle.std.proofs.Common.{◌≡◌, ◌≢◌, ℕ, zero, suc, ◌+◌, ◌<◌, ◌≤◌, Bool, true, false, List, [], ◌∷◌, Option, Some, None, ◌++◌, length, take, drop, map, set, get_or, refl, subst, sym, ◌∙◌, ap, eqb, arith, cond, ⊎_elim}
+use Rattle.std.specs.Prelude.{count_by, find, is_some, option_map, ◌||◌}
+use Rattle.std.specs.List.{AllByRecursion, list_all, list_any}
 use Rattle.std.specs.BTreeMap.{BTreeMap}
 use Rattle.std.proofs.lemmas.Bool.{eq-eqb, ne_eqb, cases_lt}
 use Rattle.std.proofs.lemmas.List.{get_or-map, length-map, length-set, take-append-drop}
-use Rattle.std.proofs.lemmas.List.Folds.{list_all_at, list_all-append, list_all-map}
+use Rattle.std.proofs.lemmas.List.Folds.{list_all_at, list_all-append, list_all-map, list_any-append}
 use Rattle.std.proofs.lemmas.List.Sums.{sum_by-set, sum_by-cons, get_or-le-sum_by, count_by-le-length}
 use Rattle.relay_types.specs.declared.state.State.{State}
 use Rattle.relay_types.specs.declared.state.State.TheVariants.{Pending, Delivered, Exhausted}
@@ -16,7 +16,8 @@ use Rattle.delivery_book.specs.declared.entry.Entry.{Entry}
 use Rattle.delivery_book.specs.declared.keys.EventKey.{EventKey}
 use Rattle.delivery_book.specs.declared.progress.Progress.{Progress}
 use Rattle.delivery_book.specs.declared.tally.Tally.{Tally}
-use Rattle.delivery_book.specs.Entries.{at_delivery, entry_at, is_entry_as, state_in}
+use Rattle.delivery_book.specs.declared.entry.Unsettled.{Unsettled}
+use Rattle.delivery_book.specs.Entries.{IsCaughtUp, at_delivery, entry_at, is_entry_as, new_entry, state_in, with_attempt, with_attempt_restored, with_latest_settled}
 use Rattle.delivery_book.specs.Fields.{IsAscending, IsIndex, IsKeyed, IsTally, is_numbered, in_state, counts_for, has_room, is_among, one_of, is_counted}
 use Rattle.delivery_book.proofs.Entries.{get_or-any}
 
@@ -220,3 +221,54 @@ found_in looked entries i seq x e h found number is = (
 -- two reads of one entry are the same
 pub read_same : (entries : List Entry) (i : ℕ) (x y : Entry) → i < length entries → x ≡ get_or entries i x → y ≡ get_or entries i y → x ≡ y
 read_same entries i x y h is also = is ∙ get_or-any entries i x y h ∙ sym also
+
+-- Entries that have come as far by the settled records as by all, unless an outcome of theirs waits
+
+each_map : {X : Type 0} (P Q : X → Type 0) (g : X → X) (xs : List X) → ((x : X) → P x → Q (g x)) → AllByRecursion P xs → AllByRecursion Q (map g xs)
+each_map P Q g [] step h = tt
+each_map P Q g (x ∷ xs) step h = (step x h.0, each_map P Q g xs step h.1)
+
+pub caught-push : (unsettled : List Unsettled) (entries : List Entry) (seq : ℕ) (name id body : List ℕ) (at : ℕ) → AllByRecursion (IsCaughtUp unsettled) entries
+    → AllByRecursion (IsCaughtUp unsettled) (entries ++ new_entry seq name id body at ∷ [])
+caught-push unsettled [] seq name id body at h = (λ none. refl, tt)
+caught-push unsettled (x ∷ xs) seq name id body at h = (h.0, caught-push unsettled xs seq name id body at h.1)
+
+-- what a change at a delivery makes of each entry
+caught_at : (P Q : Entry → Type 0) (d : ℕ) (change : Entry → Entry) (entries : List Entry) → ((e : Entry) → eqb d e.seq ≡ true → Q (change e)) → ((e : Entry) → eqb d e.seq ≡ false → P e → Q e)
+    → AllByRecursion P entries → AllByRecursion Q (map (at_delivery d change) entries)
+caught_at P Q d change entries own other h = each_map P Q (at_delivery d change) entries (λ e p. pick e p (eqb d e.seq) refl) h
+  where
+    pick : (e : Entry) → P e → (b : Bool) → eqb d e.seq ≡ b → Q (cond b (change e) e)
+    pick e p true same = own e same
+    pick e p false apart = other e apart p
+
+pub caught-outcome : (unsettled : List Unsettled) (entries : List Entry) (seq d status at : ℕ) → AllByRecursion (IsCaughtUp unsettled) entries
+    → AllByRecursion (IsCaughtUp (unsettled ++ record { seq = seq; delivery = d } ∷ [])) (map (at_delivery d (with_attempt status at)) entries)
+caught-outcome unsettled entries seq d status at h =
+    caught_at (IsCaughtUp unsettled) (IsCaughtUp (unsettled ++ record { seq = seq; delivery = d } ∷ [])) d (with_attempt status at) entries
+    (λ e same none. absurd (there (list_any (λ o. eqb o.delivery e.seq) unsettled) (eqb d e.seq) same (sym (joined e) ∙ none)))
+    (λ e apart was none. was (first (list_any (λ o. eqb o.delivery e.seq) unsettled) (eqb d e.seq || false) (sym (joined e) ∙ none)))
+    h
+  where
+    joined : (e : Entry) → list_any (λ o. eqb o.delivery e.seq) (unsettled ++ record { seq = seq; delivery = d } ∷ []) ≡ (list_any (λ o. eqb o.delivery e.seq) unsettled || (eqb d e.seq || false))
+    joined e = list_any-append (λ o. eqb o.delivery e.seq) unsettled (record { seq = seq; delivery = d } ∷ [])
+
+    there : (a b : Bool) → b ≡ true → (a || (b || false)) ≡ false → ⊥
+    there true b same none = let no : true ≡ false = none in cc
+    there false true same none = let no : true ≡ false = none in cc
+    there false false same none = let no : false ≡ true = same in cc
+
+    first : (a b : Bool) → (a || b) ≡ false → a ≡ false
+    first true b none = none
+    first false b none = refl
+
+pub caught-restored : (unsettled : List Unsettled) (entries : List Entry) (d status at : ℕ) → AllByRecursion (IsCaughtUp unsettled) entries
+    → AllByRecursion (IsCaughtUp unsettled) (map (at_delivery d (with_attempt_restored status at)) entries)
+caught-restored unsettled entries d status at h =
+    caught_at (IsCaughtUp unsettled) (IsCaughtUp unsettled) d (with_attempt_restored status at) entries (λ e same none. refl) (λ e apart was. was) h
+
+pub caught-settle : (o : Unsettled) (rest : List Unsettled) (entries : List Entry) → AllByRecursion (IsCaughtUp (o ∷ rest)) entries
+    → AllByRecursion (IsCaughtUp rest) (map (at_delivery o.delivery with_latest_settled) entries)
+caught-settle o rest entries h =
+    caught_at (IsCaughtUp (o ∷ rest)) (IsCaughtUp rest) o.delivery with_latest_settled entries (λ e same none. refl)
+    (λ e apart was none. was (ap (λ b. b || list_any (λ p. eqb p.delivery e.seq) rest) apart ∙ none)) h

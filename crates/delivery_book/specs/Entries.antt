@@ -1,6 +1,6 @@
 -- What the book keeps: an entry for each event, in the order in which they were taken in, and the outcomes that wait.
-use Rattle.std.specs.Prelude.{ℕ, ◌+◌, ◌≤◌, ◌&&◌, ◌||◌, ◌==◌, Bool, false, nat_le, nat_lt, List, [], ◌∷◌, ◌++◌, length, map, Option, Some, None, is_some, option_map, bytes_eq, find, count_by, max, if◌then◌else◌}
-use Rattle.std.specs.List.{list_any}
+use Rattle.std.specs.Prelude.{◌≡◌, ℕ, ◌+◌, ◌≤◌, ◌&&◌, ◌||◌, ◌==◌, Bool, false, nat_le, nat_lt, List, [], ◌∷◌, ◌++◌, length, map, Option, Some, None, is_some, option_map, bytes_eq, find, count_by, max, IsTrue, if◌then◌else◌}
+use Rattle.std.specs.List.{AllByRecursion, list_all, list_any}
 use Rattle.std.specs.Option.{option_map_or}
 use Rattle.relay_types.specs.declared.limits.TheConstants.{MAX_FAILURES, MAX_RECORDS}
 use Rattle.relay_types.specs.declared.state.State.{State}
@@ -146,6 +146,16 @@ takes_outcome book delivery = option_map_or is_open (entry_at book.entries deliv
 -- no two entries are of one delivery
 abbrev pub HasOneEach : BookValue → Type 0
 HasOneEach book = (delivery : Seq) → count_by (λ entry. entry.seq == delivery) book.entries ≤ 1
+
+-- the entry has come as far by the settled records as by all, unless one of these outcomes is of its delivery
+abbrev pub IsCaughtUp : List Unsettled → Entry → Type 0
+IsCaughtUp outcomes entry = list_any (λ o. o.delivery == entry.seq) outcomes ≡ false → entry.latest ≡ entry.settled
+
+-- Each delivery has a number below that of the next record, and one without an outcome that waits has come as far by the settled
+-- records as by all.
+pub record IsInStep (book : BookValue) : Type 0 where
+  pub numbered : IsTrue (list_all (λ entry. nat_lt entry.seq book.next_seq) book.entries)
+  pub caught_up : AllByRecursion (IsCaughtUp book.unsettled) book.entries
 
 -- the delivery as all records have it, and as the settled ones have it
 abbrev pub latest_row : BookValue → (delivery : Seq) → Option Row

@@ -1,6 +1,6 @@
 -- What ties the index, the counts and the room of a book to its entries.
 use Rattle.std.specs.Prelude.{◌≡◌, ℕ, ◌+◌, ◌^◌, ◌<◌, ◌≤◌, ◌&&◌, ◌==◌, not, Bool, true, nat_lt, nat_eq, List, length, take, Option, Some, None, option_map, unwrap_or, is_some, slice_index_or, filter, find, count_by, bytes_eq, IsTrue, if◌then◌else◌}
-use Rattle.std.specs.List.{list_all}
+use Rattle.std.specs.List.{AllByRecursion, list_all}
 use Rattle.std.specs.BTreeMap.{BTreeMap}
 use Rattle.std.specs.BTreeMap as tree
 use Rattle.std.specs.Cmp.Lexicographic.{pointwise, slice_cmp}
@@ -19,7 +19,7 @@ use Rattle.delivery_book.specs.declared.keys.EventKey.{EventKey}
 use Rattle.delivery_book.specs.declared.progress.Progress.{Progress}
 use Rattle.delivery_book.specs.declared.row.Counts.{Counts}
 use Rattle.delivery_book.specs.declared.tally.Tally.{Tally}
-use Rattle.delivery_book.specs.Entries.{BookValue, is_entry_as, entry_at, state_in}
+use Rattle.delivery_book.specs.Entries.{BookValue, IsCaughtUp, is_entry_as, entry_at, state_in}
 
 -- Keys
 
@@ -167,6 +167,7 @@ pub record IsKeyed (entries : List Entry) (index : BTreeMap EventKey ℕ) (next_
 pub record IsQueue (entries : List Entry) (unsettled : List Unsettled) (capacity : ℕ) : Type 0 where
   pub later : IsTrue (list_all (is_later entries) unsettled)
   pub counted : length unsettled ≤ count_by is_waiting entries
+  pub caught_up : AllByRecursion (IsCaughtUp unsettled) entries
   pub room : length entries ≤ capacity
 
 -- what holds of the fields of a book

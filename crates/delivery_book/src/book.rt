@@ -5,7 +5,7 @@ ghost use Rattle.relay_types.specs.declared.limits.TheConstants.{MAX_RECORDS};
 ghost use Rattle.relay_types.specs.declared.record.Record.TheVariants.{Accept, Outcome};
 ghost use Rattle.relay_types.specs.Deliveries.{known_as};
 ghost use Rattle.delivery_book.specs.Entries.{empty_book, with_event, with_outcome, with_outcome_restored, with_events_settled};
-ghost use Rattle.delivery_book.specs.Entries.{settle_first, with_settled, known_in, takes_outcome, may_restore, HasOneEach};
+ghost use Rattle.delivery_book.specs.Entries.{settle_first, with_settled, known_in, takes_outcome, may_restore, HasOneEach, IsInStep};
 ghost use Rattle.delivery_book.specs.Entries.{entry_at, latest_row, settled_row, pending_in, next_settled};
 ghost use Rattle.delivery_book.specs.Fields.{settled_counts};
 ghost use Rattle.delivery_book.specs.Book.{StandsFor, OverHistories, Takes, Settles, is_free, row_of, body_of, counts_of, counts_of_all};
@@ -252,7 +252,8 @@ impl DeliveryBook {
 
     /// How many deliveries there are.
     pub fn len(&self) -> usize
-        ensures { result ≡ length self.now.entries }
+        ensures count { result ≡ length self.now.entries }
+        ensures in_step { IsInStep self.now }
     {
         self.entries.len()
     }

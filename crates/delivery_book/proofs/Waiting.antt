@@ -1,0 +1,305 @@
+-- What a book has of the records that wait, as one more waits and as they are settled.
+use Rattle.std.proofs.Common.{◌≡◌, ℕ, ◌+◌, ◌<◌, ◌≤◌, Bool, true, false, List, [], ◌∷◌, ◌++◌, Option, Some, None, append-nil, length, take, drop, map, refl, sym, ◌∙◌, ap, subst, arith, cond, eqb, leb, ltb, IsTrue}
+use Rattle.std.specs.Prelude.{filter, filter_map, find, is_some, option_map, nat_lt, ◌||◌}
+use Rattle.std.specs.List.{AllByRecursion, cons_option, enumerate_from, list_all}
+use Rattle.std.specs.Option.{option_map_or, option_or}
+use Rattle.std.proofs.lemmas.Bool.{eq-eqb, eqb-true, ne_eqb, le-leb, leb-true, lt-leb, ltb-true}
+use Rattle.std.proofs.lemmas.List.Elements.{filter-append, filter_map-append}
+use Rattle.std.proofs.lemmas.List.Folds.{find-append}
+use Rattle.relay_types.specs.declared.record.Record.{Record}
+use Rattle.relay_types.specs.declared.record.Record.TheVariants.{Put, Secrets, Enabled, Accept, Outcome}
+use Rattle.relay_types.specs.Records.{Attempt, attempt_by}
+use Rattle.relay_types.specs.Deliveries.{attempts_of}
+use Rattle.relay_types.proofs.GrowthLaws.{attempts_of-snoc, enumerate_from-snoc}
+use Rattle.relay_types.proofs.KnownLaws.{and_first, and_second}
+use Rattle.relay_types.proofs.RowLaws.{find_map}
+use Rattle.delivery_book.specs.declared.entry.Entry.{Entry}
+use Rattle.delivery_book.specs.declared.entry.Unsettled.{Unsettled}
+use Rattle.delivery_book.specs.declared.progress.Progress.{Progress}
+use Rattle.delivery_book.specs.Book.{is_other, outcome_by, outcomes_from}
+use Rattle.delivery_book.specs.Entries.{BookValue, IsCaughtUp, IsInStep, at_delivery, at_outcomes, entry_at, front_below, is_open, new_entry, progress_after, rest_from, with_attempt, with_event, with_latest_settled, with_outcome, with_settled}
+use Rattle.delivery_book.specs.Waiting.{AreTries, HasWaiting, event_by, events_from, is_from}
+use Rattle.delivery_book.proofs.Settling.{map-same}
+use Rattle.delivery_book.proofs.Waits.{front-outcomes, outcomes_from-snoc, rest-outcomes}
+
+pub events_from-snoc : (n : ℕ) (records : List Record) (entry : Record) → events_from n (records ++ entry ∷ []) ≡ events_from n records ++ cons_option (event_by (n + length records, entry)) []
+events_from-snoc n records entry = ap (filter_map event_by) (enumerate_from-snoc n records entry) ∙ filter_map-append event_by (enumerate_from n records) ((n + length records, entry) ∷ [])
+
+-- A record of which the book has nothing
+
+same_waiting : (book : BookValue) (records : List Record) (entry : Record) → event_by (book.settled_seq + length records, entry) ≡ None → outcome_by (book.settled_seq + length records, entry) ≡ None
+    → ((d : ℕ) → attempt_by d entry ≡ None) → HasWaiting book records → HasWaiting book (records ++ entry ∷ [])
+same_waiting book records entry event outcome none h = record {
+  events = h.events ∙ sym (events_from-snoc book.settled_seq records entry ∙ ap (λ o. events_from book.settled_seq records ++ cons_option o []) event ∙ append-nil (events_from book.settled_seq records));
+  outcomes = h.outcomes ∙ sym (outcomes_from-snoc book.settled_seq records entry ∙ ap (λ o. outcomes_from book.settled_seq records ++ cons_option o []) outcome ∙ append-nil (outcomes_from book.settled_seq records));
+  tries = λ d. subst (λ ts. AreTries ts (entry_at book.entries d)) (sym (attempts_of-snoc records entry d ∙ ap (λ o. attempts_of records d ++ cons_option o []) (none d) ∙ append-nil (attempts_of records d))) (h.tries d);
+}
+
+pub waiting_other : (book : BookValue) (records : List Record) (entry : Record) → is_other entry ≡ true → HasWaiting book records → HasWaiting book (records ++ entry ∷ [])
+waiting_other book records (Put name target max secrets) other h = same_waiting book records (Put name target max secrets) refl refl (λ d. refl) h
+waiting_other book records (Secrets name secrets) other h = same_waiting book records (Secrets name secrets) refl refl (λ d. refl) h
+waiting_other book records (Enabled name flag) other h = same_waiting book records (Enabled name flag) refl refl (λ d. refl) h
+waiting_other book records (Accept name id body at) other h = let wrong : false ≡ true = other in cc
+waiting_other book records (Outcome delivery attempt status at) other h = let wrong : false ≡ true = other in cc
+
+-- An event
+
+pub waiting_event : (book : BookValue) (records : List Record) (seq : ℕ) (name id body : List ℕ) (at : ℕ) → seq ≡ book.settled_seq + length records → HasWaiting book records
+    → HasWaiting (with_event book seq name id body at) (records ++ Accept name id body at ∷ [])
+waiting_event book records seq name id body at number h = record {
+  events = filter-append (is_from book.settled_seq) book.entries (entry ∷ [])
+      ∙ ap (λ b. filter (is_from book.settled_seq) book.entries ++ cond b (entry ∷ []) []) (le-leb book.settled_seq seq (omega (arith, number)))
+      ∙ (λ i. h.events i ++ new_entry (number i) name id body at ∷ [])
+      ∙ sym (events_from-snoc book.settled_seq records (Accept name id body at));
+  outcomes = h.outcomes ∙ sym (outcomes_from-snoc book.settled_seq records (Accept name id body at) ∙ append-nil (outcomes_from book.settled_seq records));
+  tries = λ d. subst (λ ts. AreTries ts (entry_at (book.entries ++ entry ∷ []) d)) (sym (attempts_of-snoc records (Accept name id body at) d ∙ append-nil (attempts_of records d)))
+      (subst (AreTries (attempts_of records d)) (sym (find-append (λ x. eqb x.seq d) book.entries (entry ∷ []))) (by d (entry_at book.entries d) (h.tries d)));
+}
+  where
+    entry : Entry
+    entry = new_entry seq name id body at
+
+    fresh : (b : Bool) → AreTries [] (cond b (Some entry) None)
+    fresh true = refl
+    fresh false = refl
+
+    by : (d : ℕ) (o : Option Entry) → AreTries (attempts_of records d) o → AreTries (attempts_of records d) (option_or o (entry_at (entry ∷ []) d))
+    by d None none = subst (λ ts. AreTries ts (entry_at (entry ∷ []) d)) (sym none) (fresh (eqb seq d))
+    by d (Some e) tries = tries
+
+-- Entries that are changed in place
+
+filter_changed : (p : Entry → Bool) (g : Entry → Entry) (entries : List Entry) → ((e : Entry) → p (g e) ≡ p e) → filter p (map g entries) ≡ map g (filter p entries)
+filter_changed p g [] same = refl
+filter_changed p g (e ∷ es) same = ap (λ b. cond b (g e ∷ filter p (map g es)) (filter p (map g es))) (same e) ∙ by (p e) (filter_changed p g es same)
+  where
+    by : (b : Bool) → filter p (map g es) ≡ map g (filter p es) → cond b (g e ∷ filter p (map g es)) (filter p (map g es)) ≡ map g (cond b (e ∷ filter p es) (filter p es))
+    by true later = ap (λ xs. g e ∷ xs) later
+    by false later = later
+
+filter_unchanged : (p : Entry → Bool) (g : Entry → Entry) (entries : List Entry) → ((e : Entry) → p e ≡ true → g e ≡ e) → map g (filter p entries) ≡ filter p entries
+filter_unchanged p g [] same = refl
+filter_unchanged p g (e ∷ es) same = by (p e) refl (filter_unchanged p g es same)
+  where
+    by : (b : Bool) → p e ≡ b → map g (filter p es) ≡ filter p es → map g (cond b (e ∷ filter p es) (filter p es)) ≡ cond b (e ∷ filter p es) (filter p es)
+    by true passes later = λ i. same e passes i ∷ later i
+    by false passes later = later
+
+entry_changed : (g : Entry → Entry) (entries : List Entry) (d : ℕ) → ((e : Entry) → (g e).seq ≡ e.seq) → entry_at (map g entries) d ≡ option_map g (entry_at entries d)
+entry_changed g entries d same = find_map g (λ e. eqb e.seq d) entries ∙ (λ i. option_map g (find (λ (e : Entry). eqb (same e i) d) entries))
+
+own_number : (entries : List Entry) (d : ℕ) (e : Entry) → entry_at entries d ≡ Some e → e.seq ≡ d
+own_number [] d e h = let wrong : None ≡ Some e = h in cc
+own_number (x ∷ xs) d e h = by (eqb x.seq d) refl h (own_number xs d e)
+  where
+    one : (a b : Entry) → Some a ≡ Some b → a ≡ b
+    one a b p = cc
+
+    by : (b : Bool) → eqb x.seq d ≡ b → cond b (Some x) (entry_at xs d) ≡ Some e → (entry_at xs d ≡ Some e → e.seq ≡ d) → e.seq ≡ d
+    by true same p later = ap (λ (y : Entry). y.seq) (sym (one x e p)) ∙ eqb-true x.seq d same
+    by false apart p later = later p
+
+-- An outcome
+
+-- no outcome of an open delivery waits
+no_try : (tries : List Attempt) (e : Entry) → is_open e ≡ true → AreTries tries (Some e) → (tries ≡ []) × (e.latest ≡ e.settled)
+no_try [] e opened is = (refl, is)
+no_try (t ∷ []) e opened is =
+    let counted = eqb-true e.latest.attempts e.settled.attempts (and_second _ (eqb e.latest.attempts e.settled.attempts) opened) in
+    absurd (omega (arith, counted, ap (λ (p : Progress). p.attempts) is.1))
+no_try (t ∷ u ∷ more) e opened is = absurd is
+
+pub waiting_outcome : (book : BookValue) (records : List Record) (seq d attempt status at : ℕ) (e : Entry) → seq ≡ book.settled_seq + length records → entry_at book.entries d ≡ Some e → is_open e ≡ true → d < book.settled_seq
+    → attempt ≡ e.latest.attempts + 1 → HasWaiting book records → HasWaiting (with_outcome book seq d status at) (records ++ Outcome d attempt status at ∷ [])
+waiting_outcome book records seq d attempt status at e number there opened settled counted h = record {
+  events = filter_changed (is_from book.settled_seq) g book.entries (λ x. ap (leb book.settled_seq) (keeps x))
+      ∙ filter_unchanged (is_from book.settled_seq) g book.entries (λ x from. others x (ne_eqb d x.seq (λ same. absurd (omega (arith, same, settled, leb-true book.settled_seq x.seq from)))))
+      ∙ h.events ∙ sym (events_from-snoc book.settled_seq records (Outcome d attempt status at) ∙ append-nil (events_from book.settled_seq records));
+  outcomes = (λ i. h.outcomes i ++ record { seq = number i; delivery = d } ∷ []) ∙ sym (outcomes_from-snoc book.settled_seq records (Outcome d attempt status at));
+  tries = λ n. subst (λ ts. AreTries ts (entry_at (map g book.entries) n)) (sym (attempts_of-snoc records (Outcome d attempt status at) n))
+      (subst (AreTries (attempts_of records n ++ cons_option (cond (eqb d n) (Some t) None) [])) (sym (entry_changed g book.entries n keeps)) (by n (eqb d n) refl));
+}
+  where
+    g : Entry → Entry
+    g = at_delivery d (with_attempt status at)
+
+    t : Attempt
+    t = record { number = attempt; status = status; at = at }
+
+    keeps : (x : Entry) → (g x).seq ≡ x.seq
+    keeps x = pick (eqb d x.seq)
+      where
+        pick : (b : Bool) → (cond b (with_attempt status at x) x).seq ≡ x.seq
+        pick true = refl
+        pick false = refl
+
+    others : (x : Entry) → eqb d x.seq ≡ false → g x ≡ x
+    others x apart = ap (λ b. cond b (with_attempt status at x) x) apart
+
+    own : g e ≡ with_attempt status at e
+    own = ap (λ b. cond b (with_attempt status at e) e) (eq-eqb d e.seq (sym (own_number book.entries d e there)))
+
+    tried : AreTries (t ∷ []) (Some (with_attempt status at e))
+    tried =
+        let was = no_try (attempts_of records d) e opened (subst (AreTries (attempts_of records d)) there (h.tries d)) in
+        (counted ∙ ap (λ (p : Progress). p.attempts + 1) was.1, ap (progress_after status at) was.1)
+
+    still : (n : ℕ) (o : Option Entry) → entry_at book.entries n ≡ o → eqb d n ≡ false → option_map g o ≡ o
+    still n None e apart = refl
+    still n (Some x) e apart = ap Some (others x (ap (eqb d) (own_number book.entries n x e) ∙ apart))
+
+    by : (n : ℕ) (b : Bool) → eqb d n ≡ b → AreTries (attempts_of records n ++ cons_option (cond b (Some t) None) []) (option_map g (entry_at book.entries n))
+    by n true same =
+        let found : entry_at book.entries n ≡ Some e = ap (entry_at book.entries) (sym (eqb-true d n same)) ∙ there in
+        subst (λ o. AreTries (attempts_of records n ++ t ∷ []) (option_map g o)) (sym found)
+        (subst (λ x. AreTries (attempts_of records n ++ t ∷ []) (Some x)) (sym own)
+        (subst (λ ts. AreTries (ts ++ t ∷ []) (Some (with_attempt status at e)))
+        (sym (no_try (attempts_of records n) e opened (subst (AreTries (attempts_of records n)) found (h.tries n))).0) tried))
+    by n false apart =
+        subst (AreTries (attempts_of records n ++ [])) (sym (still n (entry_at book.entries n) refl apart))
+        (subst (λ ts. AreTries ts (entry_at book.entries n)) (sym (append-nil (attempts_of records n))) (h.tries n))
+
+-- One more record, settled
+
+filter_weaker : (p q : Entry → Bool) (entries : List Entry) → ((e : Entry) → p e ≡ true → q e ≡ true) → filter p (filter q entries) ≡ filter p entries
+filter_weaker p q [] weaker = refl
+filter_weaker p q (e ∷ es) weaker = by (q e) refl (p e) refl (filter_weaker p q es weaker)
+  where
+    by : (b : Bool) → q e ≡ b → (a : Bool) → p e ≡ a → filter p (filter q es) ≡ filter p es → filter p (cond b (e ∷ filter q es) (filter q es)) ≡ cond (p e) (e ∷ filter p es) (filter p es)
+    by true there a passes later = ap (λ xs. cond (p e) (e ∷ xs) xs) later
+    by false there true passes later = let wrong : false ≡ true = sym there ∙ weaker e passes in cc
+    by false there false passes later = later ∙ sym (ap (λ b. cond b (e ∷ filter p es) (filter p es)) passes)
+
+-- an event with its number as its place is one of those from there on
+kept_event : (n from : ℕ) (o : Option Entry) (few more : List Entry) → ((e : Entry) → o ≡ Some e → e.seq ≡ n) → from ≤ n → filter (is_from from) more ≡ few → filter (is_from from) (cons_option o more) ≡ cons_option o few
+kept_event n from None few more numbered h later = later
+kept_event n from (Some e) few more numbered h later = ap (λ b. cond b (e ∷ filter (is_from from) more) (filter (is_from from) more)) (le-leb from e.seq (omega (arith, h, numbered e refl))) ∙ ap (λ xs. e ∷ xs) later
+
+left_event : (n from : ℕ) (o : Option Entry) (few more : List Entry) → ((e : Entry) → o ≡ Some e → e.seq ≡ n) → n < from → filter (is_from from) more ≡ few → filter (is_from from) (cons_option o more) ≡ few
+left_event n from None few more numbered h later = later
+left_event n from (Some e) few more numbered h later = ap (λ b. cond b (e ∷ filter (is_from from) more) (filter (is_from from) more)) (lt-leb from e.seq (omega (arith, h, numbered e refl))) ∙ later
+
+event_number : (n : ℕ) (r : Record) (e : Entry) → event_by (n, r) ≡ Some e → e.seq ≡ n
+event_number n (Accept name id body at) e h = ap (λ (y : Entry). y.seq) (sym (one (new_entry n name id body at) e h))
+  where
+    one : (a b : Entry) → Some a ≡ Some b → a ≡ b
+    one a b p = cc
+event_number n (Put name target max secrets) e h = let wrong : None ≡ Some e = h in cc
+event_number n (Secrets name secrets) e h = let wrong : None ≡ Some e = h in cc
+event_number n (Enabled name flag) e h = let wrong : None ≡ Some e = h in cc
+event_number n (Outcome delivery attempt status at) e h = let wrong : None ≡ Some e = h in cc
+
+all_events : (n from : ℕ) (records : List Record) → from ≤ n → filter (is_from from) (events_from n records) ≡ events_from n records
+all_events n from [] h = refl
+all_events n from (r ∷ rest) h = kept_event n from (event_by (n, r)) (events_from (n + 1) rest) (events_from (n + 1) rest) (event_number n r) h (all_events (n + 1) from rest (omega (arith, h)))
+
+later_events : (n : ℕ) (records : List Record) → filter (is_from (n + 1)) (events_from n records) ≡ events_from (n + 1) (drop 1 records)
+later_events n [] = refl
+later_events n (r ∷ rest) = left_event n (n + 1) (event_by (n, r)) (events_from (n + 1) rest) (events_from (n + 1) rest) (event_number n r) (omega arith) (all_events (n + 1) (n + 1) rest (omega arith))
+
+-- settling leaves an event without an attempt
+settles_fresh : (outcomes : List Unsettled) (n : ℕ) (records : List Record) → map (at_outcomes outcomes with_latest_settled) (events_from n records) ≡ events_from n records
+settles_fresh outcomes n [] = refl
+settles_fresh outcomes n (Accept name id body at ∷ rest) = λ i. fresh (at_outcomes outcomes with_latest_settled entry) refl i ∷ settles_fresh outcomes (n + 1) rest i
+  where
+    entry : Entry
+    entry = new_entry n name id body at
+
+    pick : (b : Bool) → cond b (with_latest_settled entry) entry ≡ entry
+    pick true = refl
+    pick false = refl
+
+    fresh : (x : Entry) → at_outcomes outcomes with_latest_settled entry ≡ x → at_outcomes outcomes with_latest_settled entry ≡ entry
+    fresh x e = pick _
+settles_fresh outcomes n (Put name target max secrets ∷ rest) = settles_fresh outcomes (n + 1) rest
+settles_fresh outcomes n (Secrets name secrets ∷ rest) = settles_fresh outcomes (n + 1) rest
+settles_fresh outcomes n (Enabled name flag ∷ rest) = settles_fresh outcomes (n + 1) rest
+settles_fresh outcomes n (Outcome delivery attempt status at ∷ rest) = settles_fresh outcomes (n + 1) rest
+
+settles_keeps : (outcomes : List Unsettled) (e : Entry) → (at_outcomes outcomes with_latest_settled e).seq ≡ e.seq
+settles_keeps outcomes e = pick _
+  where
+    pick : (b : Bool) → (cond b (with_latest_settled e) e).seq ≡ e.seq
+    pick true = refl
+    pick false = refl
+
+-- the attempts at a delivery, where the first record is settled
+settled_tries : (n : ℕ) (records : List Record) (d : ℕ) (o : Option Entry) → ((e : Entry) → o ≡ Some e → e.seq ≡ d) → AreTries (attempts_of records d) o
+    → AreTries (attempts_of (drop 1 records) d) (option_map (at_outcomes (outcomes_from n (take 1 records)) with_latest_settled) o)
+settled_tries n [] d None own tries = tries
+settled_tries n [] d (Some e) own tries = tries
+settled_tries n (Put name target max secrets ∷ rest) d None own tries = tries
+settled_tries n (Put name target max secrets ∷ rest) d (Some e) own tries = tries
+settled_tries n (Secrets name secrets ∷ rest) d None own tries = tries
+settled_tries n (Secrets name secrets ∷ rest) d (Some e) own tries = tries
+settled_tries n (Enabled name flag ∷ rest) d None own tries = tries
+settled_tries n (Enabled name flag ∷ rest) d (Some e) own tries = tries
+settled_tries n (Accept name id body at ∷ rest) d None own tries = tries
+settled_tries n (Accept name id body at ∷ rest) d (Some e) own tries = tries
+settled_tries n (Outcome delivery attempt status at ∷ rest) d None own tries = by (eqb delivery d) tries
+  where
+    by : (b : Bool) → cons_option (cond b (Some (record { number = attempt; status = status; at = at })) None) (attempts_of rest d) ≡ [] → attempts_of rest d ≡ []
+    by true h = cc
+    by false h = h
+settled_tries n (Outcome delivery attempt status at ∷ rest) d (Some e) own tries =
+    subst (λ b. AreTries (attempts_of rest d) (Some (cond (b || false) (with_latest_settled e) e))) (ap (eqb delivery) (sym (own e refl))) (by (eqb delivery d) (attempts_of rest d) tries)
+  where
+    t : Attempt
+    t = record { number = attempt; status = status; at = at }
+
+    alone : (ts : List Attempt) → AreTries (t ∷ ts) (Some e) → AreTries ts (Some (with_latest_settled e))
+    alone [] h = refl
+    alone (u ∷ us) h = absurd h
+
+    by : (b : Bool) (ts : List Attempt) → AreTries (cons_option (cond b (Some t) None) ts) (Some e) → AreTries ts (Some (cond (b || false) (with_latest_settled e) e))
+    by true ts h = alone ts h
+    by false ts h = h
+
+pub waiting_settled : (book : BookValue) (records : List Record) → HasWaiting book records → HasWaiting (with_settled book (book.settled_seq + 1)) (drop 1 records)
+waiting_settled book records h = subst (λ (b : BookValue). HasWaiting b (drop 1 records)) (sym is) (record {
+  events = filter_changed (is_from (s + 1)) g book.entries (λ e. ap (leb (s + 1)) (settles_keeps outcomes e))
+      ∙ ap (map g) (sym (filter_weaker (is_from (s + 1)) (is_from s) book.entries (λ e from. le-leb s e.seq (omega (arith, leb-true (s + 1) e.seq from)))) ∙ ap (filter (is_from (s + 1))) h.events ∙ later_events s records)
+      ∙ settles_fresh outcomes (s + 1) (drop 1 records);
+  outcomes = rest-outcomes s 1 (s + 1) records refl;
+  tries = λ d. subst (AreTries (attempts_of (drop 1 records) d)) (sym (entry_changed g book.entries d (settles_keeps outcomes)))
+      (settled_tries s records d (entry_at book.entries d) (own_number book.entries d) (h.tries d));
+})
+  where
+    s : ℕ
+    s = book.settled_seq
+
+    outcomes : List Unsettled
+    outcomes = outcomes_from s (take 1 records)
+
+    g : Entry → Entry
+    g = at_outcomes outcomes with_latest_settled
+
+    moved : List Unsettled → BookValue
+    moved front = record (with_settled book (s + 1)) { entries = map (at_outcomes front with_latest_settled) book.entries; unsettled = rest_from (s + 1) (outcomes_from s records) }
+
+    is : with_settled book (s + 1) ≡ moved outcomes
+    is = (λ i. record (with_settled book (s + 1)) { entries = map (at_outcomes (front_below (s + 1) (h.outcomes i)) with_latest_settled) book.entries; unsettled = rest_from (s + 1) (h.outcomes i) })
+        ∙ ap moved (front-outcomes s 1 (s + 1) records refl)
+
+-- Nothing waits
+
+none_from : (s : ℕ) (entries : List Entry) → list_all (λ e. nat_lt e.seq s) entries ≡ true → filter (is_from s) entries ≡ []
+none_from s [] below = refl
+none_from s (e ∷ es) below =
+    ap (λ b. cond b (e ∷ filter (is_from s) es) (filter (is_from s) es)) (lt-leb s e.seq (ltb-true e.seq s (and_first (nat_lt e.seq s) _ below)))
+    ∙ none_from s es (and_second (nat_lt e.seq s) _ below)
+
+no_tries : (entries : List Entry) (d : ℕ) → AllByRecursion (IsCaughtUp []) entries → AreTries [] (entry_at entries d)
+no_tries [] d h = refl
+no_tries (e ∷ es) d h = by (eqb e.seq d) (no_tries es d h.1)
+  where
+    by : (b : Bool) → AreTries [] (entry_at es d) → AreTries [] (cond b (Some e) (entry_at es d))
+    by true later = h.0 refl
+    by false later = later
+
+pub waiting_none : (book : BookValue) → IsInStep book → book.unsettled ≡ [] → book.next_seq ≡ book.settled_seq → HasWaiting book []
+waiting_none book step none all = record {
+  events = none_from book.settled_seq book.entries (ap (λ n. list_all (λ (e : Entry). nat_lt e.seq n) book.entries) (sym all) ∙ step.numbered);
+  outcomes = none;
+  tries = λ d. no_tries book.entries d (subst (λ os. AllByRecursion (IsCaughtUp os) book.entries) none step.caught_up);
+}
