@@ -9,13 +9,16 @@ use Rattle.std.proofs.lemmas.List.Sums.{sum_by_push}
 use Rattle.relay_types.specs.declared.limits.TheConstants.{MAX_RECORDS}
 use Rattle.relay_types.specs.declared.record.Record.TheVariants.{Accept}
 use Rattle.relay_types.specs.declared.state.State.TheVariants.{Pending}
+use Rattle.relay_types.specs.Records.{records_of}
 use Rattle.relay_types.specs.Deliveries.{is_in_state}
 use Rattle.relay_types.proofs.KnownLaws.{and_first, and_second, and_both}
 use Rattle.endpoint_book.specs.Entries as endpoint_entries
 use Rattle.delivery_book.specs.declared.entry.Entry.{Entry}
 use Rattle.delivery_book.specs.declared.entry.Unsettled.{Unsettled}
 use Rattle.delivery_book.specs.Entries.{BookValue, entry_at, is_open, new_entry, pending_in, state_in, with_event}
+use Rattle.delivery_book.specs.Waiting.{HasWaiting}
 use Rattle.delivery_book.proofs.Updates.{all_weaker}
+use Rattle.delivery_book.proofs.Waiting.{waiting_event}
 use Rattle.claim_queue.specs.declared.pairs.Pair.{Pair}
 use Rattle.claim_queue.specs.Queues.{QueueValue, HasSamePairs, SetsMark, free_places, is_held, reserved_mark}
 use Rattle.group_commit.specs.Waits.{WaitingValue, record_count, with_step}
@@ -169,12 +172,14 @@ tied_accept {endpoints} {deliveries} {waiting} {live} {limiters} {queue} {new} s
 }
 
 pub desk_accept : {endpoints : endpoint_entries.BookValue} {deliveries taken : BookValue} {waiting later : WaitingValue} {live : List Row} {limiters : List Limiter} {queue new : QueueValue} (s : ℕ) (name id kept body : List ℕ) (at pending : ℕ)
-    → s ≡ record_count waiting → taken ≡ with_event deliveries s name id kept at → later ≡ with_step waiting (Accept name id body at ∷ []) → pending ≡ pending_in deliveries name
+    → s ≡ record_count waiting → kept ≡ body → taken ≡ with_event deliveries s name id kept at → later ≡ with_step waiting (Accept name id body at ∷ []) → pending ≡ pending_in deliveries name
     → record_count waiting + length live < MAX_RECORDS → HasSamePairs queue new → SetsMark queue new (reserved_mark queue name (pending + 1))
     → IsDesk endpoints deliveries waiting live limiters queue → IsDesk endpoints taken later live limiters new
-desk_accept {endpoints} {deliveries} {taken} {waiting} {later} {live} {limiters} {queue} {new} s name id kept body at pending count is step few numbers same sets h =
+desk_accept {endpoints} {deliveries} {taken} {waiting} {later} {live} {limiters} {queue} {new} s name id kept body at pending count shared is step few numbers same sets h =
     subst (λ w. IsDesk endpoints taken w live limiters new) (sym step)
     (deliveries_wait (Accept name id body at) h (ap (λ (b : BookValue). b.next_seq) is ∙ ap (λ n. n + 1) count) (ap (λ (b : BookValue). b.settled_seq) is)
+    (subst (λ (b : BookValue). HasWaiting b (records_of waiting.waiting ++ Accept name id body at ∷ [])) (sym (is ∙ ap (λ bytes. with_event deliveries s name id bytes at) shared))
+    (waiting_event deliveries (records_of waiting.waiting) s name id body at (omega (arith, count, h.deliveries_settled)) h.deliveries_wait))
     (subst (λ b. AreTied endpoints b (with_step waiting (Accept name id body at ∷ [])) live limiters new) (sym is)
     (tied_accept s name id kept body at numbers (omega (arith, count, h.deliveries_staged)) (omega (arith, count, h.deliveries_settled)) same
     (subst (λ n. SetsMark queue new (reserved_mark queue name (n + 1))) few sets) h.tied)))

@@ -1,14 +1,18 @@
 -- What the desk looks for before a call is what the model does.
-use Rattle.std.proofs.Common.{◌≡◌, ℕ, zero, suc, ◌+◌, Bool, [], ◌∷◌, length, sym, ◌∙◌, ap, arith}
-use Rattle.std.specs.Prelude.{nat_le, nat_eq}
+use Rattle.std.proofs.Common.{◌≡◌, ℕ, zero, suc, ◌+◌, Bool, true, false, ◌&&◌, [], ◌∷◌, length, IsTrue, sym, ◌∙◌, ap, subst, arith}
+use Rattle.std.specs.Prelude.{nat_le, nat_eq, Result, Err, IfErr, if◌then◌else◌}
+use Rattle.std.specs.List.{list_all}
+use Rattle.std.proofs.lemmas.Bool.{and_parts}
 use Rattle.std.proofs.Math.Dec.{eqb-suc-zero}
 use Rattle.std.proofs.lemmas.Bool.{le-leb, lt-leb}
 use Rattle.relay_types.specs.declared.limits.TheConstants.{MAX_RECORDS}
 use Rattle.group_commit.specs.declared.limits.TheConstants.{MAX_WAITING_REQUESTS}
 use Rattle.group_commit.specs.Steps.{requests_in}
 use Rattle.group_commit.specs.Waits.{record_count}
+use Rattle.desk.specs.declared.refusal.Fault.{Fault}
 use Rattle.desk.specs.declared.refusal.Fault.TheVariants as fault
-use Rattle.desk.specs.Faults.{Faults}
+use Rattle.desk.specs.declared.refusal.Refusal.{Refusal}
+use Rattle.desk.specs.Faults.{Faults, refusal, first_fault}
 use Rattle.desk.specs.World.{World, all_records}
 use Rattle.desk.specs.Moves.{is_waiting_full, are_seqs_spent}
 use Rattle.desk.specs.Desks.{DeskValue, StandsFor}
@@ -42,3 +46,19 @@ put_looks halted known many full spent =
 
 abbrev pub set_looks : (halted unknown full spent : Bool) → Faults
 set_looks halted unknown full spent = (halted, 1, fault.Halted) ∷ (unknown, 2, fault.UnknownEndpoint) ∷ (full, 5, fault.WaitingFull) ∷ (spent, 6, fault.SeqExhausted) ∷ []
+
+-- a refusal has one of the names that are looked for
+first_named : (may : Fault → Bool) (there : Bool) (number : ℕ) (fault : Fault) (rest : Faults) → IsTrue (may fault) → IfErr (first_fault rest) (λ why. IsTrue (may why.fault))
+    → IfErr (if there then Err (refusal number fault) else first_fault rest) (λ why. IsTrue (may why.fault))
+first_named may true number fault rest first behind = first
+first_named may false number fault rest first behind = behind
+
+named : (may : Fault → Bool) (faults : Faults) → IsTrue (list_all (λ looked. may looked.2) faults) → IfErr (first_fault faults) (λ why. IsTrue (may why.fault))
+named may [] all = tt
+named may ((there, number, fault) ∷ rest) all =
+    let parts = and_parts (may fault) (list_all (λ looked. may looked.2) rest) all in
+    first_named may there number fault rest parts.0 (named may rest parts.1)
+
+pub refused_by : (may : Fault → Bool) (faults : Faults) (result : Result (Unit {0}) Refusal) → result ≡ first_fault faults → IsTrue (list_all (λ looked. may looked.2) faults)
+    → IfErr result (λ why. IsTrue (may why.fault))
+refused_by may faults result e all = subst (λ (r : Result (Unit {0}) Refusal). IfErr r (λ why. IsTrue (may why.fault))) (sym e) (named may faults all)

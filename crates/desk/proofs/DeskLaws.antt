@@ -21,7 +21,10 @@ use Rattle.endpoint_book.proofs.Histories.{known-entry}
 use Rattle.endpoint_book.proofs.Laws.{stands-other}
 use Rattle.endpoint_book.proofs.Staged.{stands-put, stands-secrets, stands-enabled}
 use Rattle.delivery_book.specs.Entries as delivery_entries
+use Rattle.delivery_book.specs.Book.{is_other}
+use Rattle.delivery_book.specs.Waiting.{HasWaiting}
 use Rattle.delivery_book.proofs.Laws.{stands_accept, stands_other}
+use Rattle.delivery_book.proofs.Waiting.{waiting_other}
 use Rattle.group_commit.specs.Waits.{WaitingValue, record_count, with_step}
 use Rattle.group_commit.proofs.StepLaws.{length-records_of, count_by_snoc}
 use Rattle.desk.specs.declared.command.Command.TheVariants.{PutEndpoint, SetSecrets, SetEnabled}
@@ -78,16 +81,21 @@ stands_later d w at h = record {
 pub one_more : (waiting : WaitingValue) (entry : Record) → record_count (with_step waiting (entry ∷ [])) ≡ record_count waiting + 1
 one_more waiting entry = omega (arith, length-records_of waiting.waiting ((entry ∷ []) ∷ []))
 
+-- the records that wait, and one more behind them
+pub one_waits : (d : delivery_entries.BookValue) (waiting : WaitingValue) (entry : Record) → HasWaiting d (records_of waiting.waiting ++ entry ∷ []) → HasWaiting d (records_of (with_step waiting (entry ∷ [])).waiting)
+one_waits d waiting entry h = subst (HasWaiting d) (sym (records_of-snoc waiting.waiting entry)) h
+
 -- the endpoints and the steps with one more record
 pub endpoints_wait : {e f : endpoint_entries.BookValue} {d : delivery_entries.BookValue} {waiting : WaitingValue} {live : List Row} {limiters more : List Limiter} {queue later : QueueValue} (change : Change) (entry : Record) → IsDesk e d waiting live limiters queue
-    → f.changes ≡ e.changes ++ change ∷ [] → f.next_seq ≡ record_count waiting + 1 → f.settled_seq ≡ e.settled_seq
+    → f.changes ≡ e.changes ++ change ∷ [] → f.next_seq ≡ record_count waiting + 1 → f.settled_seq ≡ e.settled_seq → is_other entry ≡ true
     → AreTied f d (with_step waiting (entry ∷ [])) live more later → IsDesk f d (with_step waiting (entry ∷ [])) live more later
-endpoints_wait {e} {f} {d} {waiting} change entry h changes next settled tied = record {
+endpoints_wait {e} {f} {d} {waiting} change entry h changes next settled other tied = record {
   endpoints_staged = omega (arith, next, one_more waiting entry);
   endpoints_settled = settled ∙ h.endpoints_settled;
   flags_few = omega (arith, ap (count_by is_flag) changes, count_by_snoc is_flag e.changes change, one_most (is_flag change), next, settled, h.flags_few, h.endpoints_staged);
   deliveries_staged = omega (arith, h.deliveries_staged, one_more waiting entry);
   deliveries_settled = h.deliveries_settled;
+  deliveries_wait = one_waits d waiting entry (waiting_other d (records_of waiting.waiting) entry other h.deliveries_wait);
   tied = tied;
 }
   where
@@ -97,13 +105,14 @@ endpoints_wait {e} {f} {d} {waiting} change entry h changes next settled tied = 
 
 -- the deliveries and the steps with one more record
 pub deliveries_wait : {e : endpoint_entries.BookValue} {d f : delivery_entries.BookValue} {waiting : WaitingValue} {live : List Row} {limiters : List Limiter} {queue later : QueueValue} (entry : Record) → IsDesk e d waiting live limiters queue
-    → f.next_seq ≡ record_count waiting + 1 → f.settled_seq ≡ d.settled_seq → AreTied e f (with_step waiting (entry ∷ [])) live limiters later → IsDesk e f (with_step waiting (entry ∷ [])) live limiters later
-deliveries_wait {e} {d} {f} {waiting} entry h next settled tied = record {
+    → f.next_seq ≡ record_count waiting + 1 → f.settled_seq ≡ d.settled_seq → HasWaiting f (records_of waiting.waiting ++ entry ∷ []) → AreTied e f (with_step waiting (entry ∷ [])) live limiters later → IsDesk e f (with_step waiting (entry ∷ [])) live limiters later
+deliveries_wait {e} {d} {f} {waiting} entry h next settled waits tied = record {
   endpoints_staged = omega (arith, h.endpoints_staged, one_more waiting entry);
   endpoints_settled = h.endpoints_settled;
   flags_few = h.flags_few;
   deliveries_staged = omega (arith, next, one_more waiting entry);
   deliveries_settled = settled ∙ h.deliveries_settled;
+  deliveries_wait = one_waits f waiting entry waits;
   tied = tied;
 }
 

@@ -24,3 +24,4 @@ mod CloseLaws
 mod LimitLaws
 mod RequestTies
 mod AcceptTies
+mod ComparingLaws

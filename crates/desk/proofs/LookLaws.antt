@@ -16,7 +16,8 @@ use Rattle.group_commit.proofs.StepLaws.{length-records_of-split}
 use Rattle.desk.specs.declared.ticket.Ticket.{Ticket}
 use Rattle.desk.specs.World.{World, all_records, settled_records, waiting_records}
 use Rattle.desk.specs.Looks.{is_row_of, has_event, event_page, endpoint_page, totals}
-use Rattle.desk.specs.Desks.{DeskValue, StandsFor}
+use Rattle.claim_queue.specs.Queues.{QueueValue}
+use Rattle.desk.specs.Desks.{DeskValue, IsCore, IsDesk, StandsFor}
 use Rattle.desk.proofs.DeskLists.{records_of-split}
 use Rattle.desk.proofs.DeskEvents.{event_unknown, event_known}
 
@@ -34,6 +35,19 @@ settled_front w = ap (take (length (settled_records w))) (settled_first w) ∙ t
 pub records_counted : {d : DeskValue} {w : World} → StandsFor d w → record_count d.waiting ≡ length (all_records w)
 records_counted {d} {w} h =
     omega (arith, h.waiting.settled_seq, ap (λ steps. length (records_of steps)) h.waiting.steps, length-records_of-split w.settled w.history)
+
+-- what ties a desk's fields, but for its queue
+pub is_core : {d v : DeskValue} {queue : QueueValue} → d ≡ v → IsDesk d.endpoints d.deliveries d.waiting d.live d.limiters queue → IsCore v
+is_core {d} same h = subst (λ (x : DeskValue). IsCore x) same (record {
+  endpoints_settled = h.endpoints_settled;
+  endpoints_within = h.endpoints_staged;
+  deliveries_settled = h.deliveries_settled;
+  deliveries_within = h.deliveries_staged;
+  deliveries_wait = h.deliveries_wait;
+  live = h.tied.queued.under_way;
+  limits = h.tied.limited;
+  room = h.tied.room;
+})
 
 -- Tickets
 

@@ -28,7 +28,8 @@ use Rattle.endpoint_book.specs.Entries as endpoint_entries
 use Rattle.endpoint_book.specs.declared.entry.Entry.{Entry as EndpointEntry}
 use Rattle.delivery_book.specs.declared.entry.Entry.{Entry}
 use Rattle.delivery_book.specs.declared.row.Row.{Row as DeliveryRow}
-use Rattle.delivery_book.specs.Entries.{BookValue, HasOneEach, entry_at, is_pending_of, latest_row, pending_in, row_in, state_in}
+use Rattle.delivery_book.proofs.Waiting.{waiting_none}
+use Rattle.delivery_book.specs.Entries.{BookValue, HasOneEach, IsInStep, entry_at, is_pending_of, latest_row, pending_in, row_in, state_in}
 use Rattle.delivery_book.proofs.Updates.{all_weaker}
 use Rattle.permits.specs.declared.row.Row.{Row}
 use Rattle.permits.specs.Rows.{in_flight_of}
@@ -44,10 +45,10 @@ use Rattle.desk.proofs.TieLaws.{mark_keeps, mark_there, room_told}
 
 -- Places of a list
 
-same_some : {X : Type 0} (a b : X) → Some a ≡ Some b → a ≡ b
+pub same_some : {X : Type 0} (a b : X) → Some a ≡ Some b → a ≡ b
 same_some a b p = cc
 
-take_next : {X : Type 0} (xs : List X) (i : ℕ) (x : X) → slice_get xs i ≡ Some x → take (i + 1) xs ≡ take i xs ++ x ∷ []
+pub take_next : {X : Type 0} (xs : List X) (i : ℕ) (x : X) → slice_get xs i ≡ Some x → take (i + 1) xs ≡ take i xs ++ x ∷ []
 take_next xs i x h =
     let within = slice_get_within xs i x h in
     take_more xs i x within ∙ ap (λ y. take i xs ++ y ∷ []) (same_some (get_or xs i x) x (sym (slice_get-get_or xs i x within) ∙ h))
@@ -364,7 +365,7 @@ told_more old between new book limiters done name sets changes told = record {
         ∙ sym (ap (λ b. b && room_by book limiters [] n) (more n ∙ ap (λ b. is_among done n || b) e ∙ or-false (is_among done n)))
 
 -- the names so far, and the next one of the list
-names_next : (book : endpoint_entries.BookValue) (names : List (List ℕ)) (i : ℕ) (name : List ℕ) → names ≡ map (λ e. e.name) book.entries → i < length names → name ≡ get_or names i name
+pub names_next : (book : endpoint_entries.BookValue) (names : List (List ℕ)) (i : ℕ) (name : List ℕ) → names ≡ map (λ e. e.name) book.entries → i < length names → name ≡ get_or names i name
     → take (i + 1) (map (λ (e : EndpointEntry). e.name) book.entries) ≡ take i (map (λ (e : EndpointEntry). e.name) book.entries) ++ name ∷ []
 names_next book names i name are within is =
     ap (take (i + 1)) (sym are) ∙ take_more names i name within ∙ (λ j. take i (are j) ++ sym is j ∷ [])
@@ -513,9 +514,9 @@ abbrev pub none_waiting : (records mark : ℕ) → WaitingValue
 none_waiting records mark = record { mark = mark; settled = records; waiting = []; out = None }
 
 pub is_desk_opened : (books : Books) (endpoints : endpoint_entries.BookValue) (deliveries : BookValue) (waiting : WaitingValue) (live : List Row) (limiters : List Limiter) (queue : QueueValue) (mark : ℕ)
-    → endpoints ≡ books.endpoints → deliveries ≡ books.deliveries → AreSettled books → waiting ≡ none_waiting books.records mark → live ≡ []
+    → endpoints ≡ books.endpoints → deliveries ≡ books.deliveries → AreSettled books → IsInStep books.deliveries → waiting ≡ none_waiting books.records mark → live ≡ []
     → limiters ≡ map (λ e. new_limiter e.name e.max) books.endpoints.entries → AreQueued queue books.deliveries [] → AreMarked queue books.endpoints limiters [] → IsDesk endpoints deliveries waiting live limiters queue
-is_desk_opened books endpoints deliveries waiting live limiters queue mark same_endpoints same_deliveries settled none nobody are queued marked =
+is_desk_opened books endpoints deliveries waiting live limiters queue mark same_endpoints same_deliveries settled step none nobody are queued marked =
     subst (λ (e : endpoint_entries.BookValue). IsDesk e deliveries waiting live limiters queue) (sym same_endpoints)
     (subst (λ (d : BookValue). IsDesk books.endpoints d waiting live limiters queue) (sym same_deliveries)
     (subst (λ (w : WaitingValue). IsDesk books.endpoints books.deliveries w live limiters queue) (sym none)
@@ -525,6 +526,7 @@ is_desk_opened books endpoints deliveries waiting live limiters queue mark same_
       flags_few = omega (arith, settled.no_flags, settled.endpoints_settled, settled.endpoints_next);
       deliveries_staged = omega (arith, settled.deliveries_next);
       deliveries_settled = settled.deliveries_settled;
+      deliveries_wait = waiting_none books.deliveries step settled.no_outcomes (settled.deliveries_next ∙ sym settled.deliveries_settled);
       tied = record {
         limited = limited_new limiters books.endpoints are;
         room = record { places = omega arith; numbers = omega (arith, settled.room) };

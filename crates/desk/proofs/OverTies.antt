@@ -2,7 +2,7 @@
 use Rattle.std.proofs.Common.{◌≡◌, ◌≤◌, ◌+◌, ℕ, Bool, true, false, List, [], ◌∷◌, ◌++◌, Option, Some, None, length, map, take, drop, refl, sym, ◌∙◌, ap, arith, ◌&&◌, ◌||◌, subst, IsTrue, max}
 use Rattle.std.specs.Prelude.{find, position, remove, IfNone, IfSome, IsErr, Result, Ok, Err, is_some, nat_eq, nat_lt, option_map, bytes_eq, if◌then◌else◌}
 use Rattle.std.proofs.Math.Seq.{take-append_seam}
-use Rattle.std.proofs.lemmas.Bool.{eq-eqb}
+use Rattle.std.proofs.lemmas.Bool.{eq-eqb, ltb-true}
 use Rattle.std.proofs.lemmas.List.{length-map}
 use Rattle.std.specs.List.{list_any}
 use Rattle.std.specs.Option.{option_map_or}
@@ -10,6 +10,7 @@ use Rattle.relay_types.specs.declared.record.Record.TheVariants.{Outcome}
 use Rattle.relay_types.specs.Judging.{is_gone_status}
 use Rattle.relay_types.specs.Legal.{is_status}
 use Rattle.relay_types.specs.Values.{is_moment}
+use Rattle.relay_types.specs.Records.{records_of}
 use Rattle.relay_types.proofs.RowLaws.{find_map}
 use Rattle.endpoint_book.specs.Book.{enabled_in}
 use Rattle.endpoint_book.specs.Entries as endpoint_entries
@@ -17,7 +18,9 @@ use Rattle.endpoint_book.specs.declared.entry.Change.{Change}
 use Rattle.endpoint_book.specs.declared.entry.Entry.{Entry as EndpointEntry}
 use Rattle.endpoint_book.specs.declared.entry.Kind.TheVariants.{Flag}
 use Rattle.delivery_book.specs.Entries as delivery_entries
+use Rattle.delivery_book.specs.declared.entry.Entry.{Entry}
 use Rattle.delivery_book.proofs.Updates.{all_weaker}
+use Rattle.delivery_book.proofs.Waiting.{waiting_outcome}
 use Rattle.claim_queue.specs.declared.pairs.Pair.{Pair}
 use Rattle.claim_queue.specs.Queues.{QueueValue, ChangesMark, IsNew, HasSamePairs, has_room_in, is_reserved, mark_of, place_taken, with_room}
 use Rattle.group_commit.specs.Steps.{is_outcome}
@@ -34,7 +37,7 @@ use Rattle.desk.specs.declared.spent.Spent.{Spent}
 use Rattle.desk.specs.World.{World}
 use Rattle.desk.specs.Claims.{has_row, spent_by, with_attempt_over}
 use Rattle.desk.specs.Desks.{DeskValue, HasOutcome, IsDesk, OverWorlds, Spends, StandsFor, TakesOutcome, attempt_in}
-use Rattle.desk.proofs.DeskLaws.{one_more}
+use Rattle.desk.proofs.DeskLaws.{one_more, one_waits}
 use Rattle.desk.proofs.EndpointTies.{flag_known, flag_limiters, flag_room}
 use Rattle.desk.proofs.RowLaws.{IsReturned, attempts_at, none_found, returned, same_row_is}
 use Rattle.desk.proofs.LookLaws.{stands_as}
@@ -215,23 +218,27 @@ tied_over d queue held told row rest status at limiters h is unused kept holds p
       };
     }
 
-pub is_desk_over : (d : DeskValue) (queue told : QueueValue) (row : Row) (rest : List Row) (status : Option ℕ) (at : ℕ) (limiters : List Limiter) → IsDesk d.endpoints d.deliveries d.waiting d.live d.limiters queue
+pub is_desk_over : (d : DeskValue) (queue told : QueueValue) (row : Row) (rest : List Row) (status : Option ℕ) (at : ℕ) (limiters : List Limiter) → IsDesk d.endpoints d.deliveries d.waiting d.live d.limiters queue → IsLive d row rest
     → AreTied (disabled d.endpoints (record_count d.waiting) row.endpoint status) (tried d.deliveries (record_count d.waiting) row.delivery status at) (recorded d row at status) rest limiters told
     → IsDesk (disabled d.endpoints (record_count d.waiting) row.endpoint status) (tried d.deliveries (record_count d.waiting) row.delivery status at) (recorded d row at status) rest limiters told
-is_desk_over d queue told row rest None at limiters h tied = record {
+is_desk_over d queue told row rest None at limiters h is tied = record {
   endpoints_staged = h.endpoints_staged;
   endpoints_settled = h.endpoints_settled;
   flags_few = h.flags_few;
   deliveries_staged = h.deliveries_staged;
   deliveries_settled = h.deliveries_settled;
+  deliveries_wait = h.deliveries_wait;
   tied = tied;
 }
-is_desk_over d queue told row rest (Some s) at limiters h tied = record {
+is_desk_over d queue told row rest (Some s) at limiters h is tied = record {
   endpoints_staged = (staged (is_gone_status s)).0;
   endpoints_settled = (staged (is_gone_status s)).1 ∙ h.endpoints_settled;
   flags_few = (staged (is_gone_status s)).2;
   deliveries_staged = omega (arith, one_more d.waiting (Outcome row.delivery (attempt_in d.deliveries row.delivery) s at));
   deliveries_settled = h.deliveries_settled;
+  deliveries_wait = one_waits (tried d.deliveries (record_count d.waiting) row.delivery (Some s) at) d.waiting (Outcome row.delivery (attempt_in d.deliveries row.delivery) s at)
+      (waiting_outcome d.deliveries (records_of d.waiting.waiting) (record_count d.waiting) row.delivery (attempt_in d.deliveries row.delivery) s at is.entry.entry (omega (arith, h.deliveries_settled)) is.entry.there is.entry.opened
+      (ltb-true row.delivery d.deliveries.settled_seq is.entry.settled) (ap (λ o. option_map_or (λ (e : Entry). e.latest.attempts) o 0 + 1) is.entry.there) h.deliveries_wait);
   tied = tied;
 }
   where
@@ -336,7 +343,7 @@ is_desk_left d m queue held told row rest post at staged h r over holds places s
     (subst (λ waiting. IsDesk m.endpoints m.deliveries waiting rest m.limiters told) (sym over.waiting)
     (subst (λ deliveries. IsDesk m.endpoints deliveries (recorded d row at status) rest m.limiters told) (sym over.deliveries)
     (subst (λ endpoints. IsDesk endpoints (tried d.deliveries (record_count d.waiting) row.delivery status at) (recorded d row at status) rest m.limiters told) (sym over.endpoints)
-    (is_desk_over d queue told row rest status at m.limiters h
+    (is_desk_over d queue told row rest status at m.limiters h (is_live d queue row rest h.tied r)
     (tied_over d queue held told row rest status at m.limiters h (is_live d queue row rest h.tied r) over.unused (keeps_others d.halted d.limiters m.limiters row post over.told)
     (subst (λ deliveries. Holds queue held (idle_pair deliveries row.delivery)) over.deliveries holds)
     (subst (λ deliveries. HasPlaces held deliveries) over.deliveries places)

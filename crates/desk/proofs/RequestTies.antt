@@ -305,7 +305,7 @@ pub desk_secrets : {endpoints more : BookValue} {deliveries : delivery_entries.B
     → IsDesk more deliveries later live limiters queue
 desk_secrets {endpoints} {more} {deliveries} {waiting} {later} {live} {limiters} {queue} seq name secrets count is step numbers h =
     subst (λ w. IsDesk more deliveries w live limiters queue) (sym step)
-    (endpoints_wait _ (Secrets name secrets) h (ap (λ (b : BookValue). b.changes) is) (ap (λ (b : BookValue). b.next_seq) is ∙ ap (λ n. n + 1) count) (ap (λ (b : BookValue). b.settled_seq) is)
+    (endpoints_wait _ (Secrets name secrets) h (ap (λ (b : BookValue). b.changes) is) (ap (λ (b : BookValue). b.next_seq) is ∙ ap (λ n. n + 1) count) (ap (λ (b : BookValue). b.settled_seq) is) refl
     (subst (λ b. AreTied b deliveries (with_step waiting (Secrets name secrets ∷ [])) live limiters queue) (sym is)
     (tied_request (Secrets name secrets) refl numbers (secrets_limiters endpoints seq name secrets limiters h.tied.limited) (secrets_show endpoints seq name secrets) h.tied)))
 
@@ -314,7 +314,7 @@ pub desk_flag : {endpoints more : BookValue} {deliveries : delivery_entries.Book
     → ChangesMark queue new name (with_room (room_by more limiters live name)) → IsDesk endpoints deliveries waiting live limiters queue → IsDesk more deliveries later live limiters new
 desk_flag {endpoints} {more} {deliveries} {waiting} {later} {live} {limiters} {queue} {new} seq name flag count is step numbers same changes h =
     subst (λ w. IsDesk more deliveries w live limiters new) (sym step)
-    (endpoints_wait _ (Enabled name flag) h (ap (λ (b : BookValue). b.changes) is) (ap (λ (b : BookValue). b.next_seq) is ∙ ap (λ n. n + 1) count) (ap (λ (b : BookValue). b.settled_seq) is)
+    (endpoints_wait _ (Enabled name flag) h (ap (λ (b : BookValue). b.changes) is) (ap (λ (b : BookValue). b.next_seq) is ∙ ap (λ n. n + 1) count) (ap (λ (b : BookValue). b.settled_seq) is) refl
     (subst (λ b. AreTied b deliveries (with_step waiting (Enabled name flag ∷ [])) live limiters new) (sym is)
     (tied_flag (Enabled name flag) seq name flag refl numbers same (subst (λ b. ChangesMark queue new name (with_room (room_by b limiters live name))) is changes) h.tied)))
 
@@ -326,7 +326,7 @@ desk_put {endpoints} {more} {deliveries} {waiting} {later} {live} {limiters} {lo
     let x = endpoint_entries.new_entry seq name kept max secrets in
     let told = subst (λ ls. ChangesMark reserved new name (with_room (room_by (with_put endpoints x) ls live name))) longer_is (subst (λ b. ChangesMark reserved new name (with_room (room_by b longer live name))) is changes) in
     subst (λ w. IsDesk more deliveries w live longer new) (sym step)
-    (endpoints_wait _ (Put name target max secrets) h (ap (λ (b : BookValue). b.changes) is) (ap (λ (b : BookValue). b.next_seq) is ∙ ap (λ n. n + 1) count) (ap (λ (b : BookValue). b.settled_seq) is)
+    (endpoints_wait _ (Put name target max secrets) h (ap (λ (b : BookValue). b.changes) is) (ap (λ (b : BookValue). b.next_seq) is ∙ ap (λ n. n + 1) count) (ap (λ (b : BookValue). b.settled_seq) is) refl
     (subst (λ b. AreTied b deliveries (with_step waiting (Put name target max secrets ∷ [])) live longer new) (sym is)
     (subst (λ ls. AreTied (with_put endpoints x) deliveries (with_step waiting (Put name target max secrets ∷ [])) live ls new) (sym longer_is)
     (tied_put reserved (Put name target max secrets) x l refl numbers bounds same sets again told h.tied))))
@@ -340,5 +340,6 @@ desk_reserved name more same sets h = record {
   flags_few = h.flags_few;
   deliveries_staged = h.deliveries_staged;
   deliveries_settled = h.deliveries_settled;
+  deliveries_wait = h.deliveries_wait;
   tied = tied_reserved name more same sets h.tied;
 }

@@ -1,11 +1,12 @@
 -- One more record is settled: what that makes of the book, and of what the queue holds.
-use Rattle.std.proofs.Common.{◌≡◌, ◌≤◌, ◌+◌, ℕ, Bool, true, false, List, [], ◌∷◌, Option, Some, None, map, max, refl, sym, ◌∙◌, ap, arith, not, ◌&&◌, ◌||◌, cond, subst}
+use Rattle.std.proofs.Common.{◌≡◌, ◌≤◌, ◌+◌, ◌-◌, ℕ, Bool, true, false, List, [], ◌∷◌, Option, Some, None, drop, map, max, refl, sym, ◌∙◌, ap, arith, not, ◌&&◌, ◌||◌, cond, subst}
 use Rattle.std.specs.Prelude.{count_by, find, is_some, option_map, option_and_then, unwrap_or, nat_eq, nat_le, nat_lt, bytes_eq, if◌then◌else◌}
 use Rattle.std.specs.List.{list_all, list_any}
 use Rattle.std.specs.Option.{option_map_or}
 use Rattle.std.proofs.Math.Bool.{or-false}
 use Rattle.std.proofs.lemmas.Bool.{eq-eqb, eqb-true, eqb-false, ne_eqb, lt-ltb, ltb-true, le-ltb, ltb-false, le-leb, leb-true}
 use Rattle.std.proofs.lemmas.List.Sums.{sum_by-cons}
+use Rattle.relay_types.specs.declared.record.Record.{Record}
 use Rattle.relay_types.specs.declared.state.State.TheVariants.{Pending}
 use Rattle.relay_types.specs.Deliveries.{is_in_state}
 use Rattle.relay_types.proofs.KnownLaws.{and_first, and_second, and_both}
@@ -14,7 +15,10 @@ use Rattle.delivery_book.specs.declared.entry.Entry.{Entry}
 use Rattle.delivery_book.specs.declared.entry.Unsettled.{Unsettled}
 use Rattle.delivery_book.specs.Book.{Settles, StandsFor}
 use Rattle.delivery_book.specs.Entries.{BookValue, entry_at, first_outcome, front_below, is_open, next_settled, rest_from, row_in, state_in, takes_outcome, with_latest_settled, with_settled}
+use Rattle.delivery_book.specs.Waiting.{HasWaiting}
 use Rattle.delivery_book.proofs.Updates.{count-map}
+use Rattle.delivery_book.proofs.Waiting.{waiting_settled}
+use Rattle.group_commit.proofs.StepLaws.{drop_drop}
 use Rattle.permits.specs.declared.row.Row.{Row}
 use Rattle.permits.specs.Rows.{is_out}
 use Rattle.claim_queue.specs.declared.pairs.Pair.{Pair}
@@ -557,3 +561,19 @@ settles_more book between after n m same before more = λ records settled h le.
 
 pub next_within : (queue : QueueValue) (book : BookValue) → (live : List Row) × AreQueued queue book live → book.settled_seq ≤ book.next_seq
 next_within queue book queued = rises_within book.settled_seq book.next_seq book.unsettled queued.1.apart.in_turn
+
+-- What waits behind the records that are settled
+
+pub one_settled : (book new : BookValue) (seq : ℕ) (records : List Record) → seq ≡ book.settled_seq → new ≡ with_settled book (seq + 1) → HasWaiting book records → HasWaiting new (drop 1 records)
+one_settled book new seq records is made waits =
+    subst (λ (b : BookValue). HasWaiting b (drop 1 records)) (sym (made ∙ ap (λ n. with_settled book (n + 1)) is)) (waiting_settled book records waits)
+
+pub none_left : (book : BookValue) (settled counter : ℕ) (records : List Record) → counter ≡ settled → HasWaiting book records → HasWaiting book (drop (counter - settled) records)
+none_left book settled counter records is waits =
+    let none : 0 ≡ counter - settled = omega (arith, is) in
+    subst (λ n. HasWaiting book (drop n records)) none waits
+
+pub one_further : (book : BookValue) (settled counter : ℕ) (records : List Record) → settled ≤ counter → HasWaiting book (drop 1 (drop (counter - settled) records)) → HasWaiting book (drop (counter + 1 - settled) records)
+one_further book settled counter records above waits =
+    let more : counter - settled + 1 ≡ counter + 1 - settled = omega (arith, above) in
+    subst (HasWaiting book) (drop_drop (counter - settled) 1 records ∙ ap (λ n. drop n records) more) waits

@@ -196,6 +196,7 @@ desk_started {d} {queue} gone new name s live h from numbers is lets places same
   flags_few = h.flags_few;
   deliveries_staged = h.deliveries_staged;
   deliveries_settled = h.deliveries_settled;
+  deliveries_wait = h.deliveries_wait;
   tied = subst (λ rows. AreTied d.endpoints d.deliveries d.waiting rows d.limiters new) (sym is) (record {
     limited = tied.limited;
     room = room_started name s row from numbers;

@@ -3,12 +3,13 @@ use Rattle.std.proofs.Common.{◌≡◌, ℕ, ◌+◌, ◌-◌, ◌≤◌, Bool,
 use Rattle.std.specs.Prelude.{nat_lt, option_map, ◌&&◌, Result, Ok, Err, OnOk, OnErr, IsOk, IsErr, IfOk, IfSome, IsSome, IsSomeAnd, not, is_some, if◌then◌else◌}
 use Rattle.std.specs.List.{list_all}
 use Rattle.std.specs.Option.{option_map_or}
-use Rattle.std.proofs.Math.Seq.{take-add}
+use Rattle.std.proofs.Math.Seq.{drop-append_seam, take-add}
 use Rattle.std.proofs.lemmas.Bool.{eq-eqb, ne_eqb}
 use Rattle.std.proofs.lemmas.List.{drop-take, length-drop, length-take, take-append-drop}
 use Rattle.std.proofs.lemmas.List.Sums.{sum_by-append}
 use Rattle.std.proofs.lemmas.Simd.{map-map}
 use Rattle.relay_types.specs.declared.limits.TheConstants.{MAX_RECORDS}
+use Rattle.relay_types.specs.declared.record.Record.{Record}
 use Rattle.relay_types.specs.Records.{History, records_of}
 use Rattle.relay_types.proofs.RowLaws.{find_map}
 use Rattle.endpoint_book.specs.declared.entry.Entry.{Entry as EndpointEntry}
@@ -16,6 +17,7 @@ use Rattle.endpoint_book.specs.Book as endpoint_book
 use Rattle.endpoint_book.specs.Entries as endpoint_entries
 use Rattle.delivery_book.specs.Book as delivery_book
 use Rattle.delivery_book.specs.Entries as delivery_entries
+use Rattle.delivery_book.specs.Waiting.{HasWaiting}
 use Rattle.spool.specs.Batches.{BatchValue, DoubtValue, doubt_of, upto_of}
 use Rattle.group_commit.specs.declared.fault.SealFault.{SealFault}
 use Rattle.group_commit.specs.declared.fault.SealFault.TheVariants as sealing
@@ -37,6 +39,7 @@ use Rattle.desk.specs.declared.limiter.Limiter.{Limiter}
 use Rattle.desk.specs.Ties.{AreMarked, AreQueued, KeepsRooms, bound_of, limit_by, room_by}
 use Rattle.desk.specs.Desks.{DeskValue, IsDesk, StandsFor, IsReceiptOf, ArePlacesOf, IsHeldOf, OverWorlds, Turns, IsMove}
 use Rattle.desk.proofs.MoveLaws.{refuses, passes, makes, lacks, becomes, leaves}
+use Rattle.desk.proofs.DeskLists.{records_of-split}
 use Rattle.desk.proofs.LookLaws.{stands_as}
 
 -- Steps
@@ -222,13 +225,22 @@ outcomes_left count steps =
 records_settled : (steps : WaitingValue) (count : ℕ) → record_count (with_settled steps count) ≡ record_count steps
 records_settled steps count = omega (arith, length-records_of-split count steps.waiting)
 
+-- the records that are left behind those of the first steps
+records_left : (steps : WaitingValue) (count place settled : ℕ) → place ≡ upto_of steps.settled (take count steps.waiting) → settled ≡ steps.settled
+    → drop (place - settled) (records_of steps.waiting) ≡ records_of (drop count steps.waiting)
+records_left steps count place settled is same =
+    let front : place - settled ≡ length (records_of (take count steps.waiting)) = omega (arith, is, same) in
+    (λ i. drop (front i) (records_of-split count steps.waiting i))
+    ∙ drop-append_seam (records_of (take count steps.waiting)) (records_of (drop count steps.waiting))
+
 -- the books of a desk that settles, and what ties them
 pub is_desk_settled : {endpoints later : endpoint_entries.BookValue} {deliveries moved : delivery_entries.BookValue} {steps rest : WaitingValue} {live : List Row} {limiters : List Limiter} {queue told : QueueValue} (count place : ℕ)
     → IsDesk endpoints deliveries steps live limiters queue
     → later ≡ endpoint_entries.with_settled endpoints place → moved.settled_seq ≡ place → moved.next_seq ≡ max deliveries.next_seq place → rest ≡ with_settled steps count → place ≡ rest.settled
+    → ((records : List Record) → HasWaiting deliveries records → HasWaiting moved (drop (place - deliveries.settled_seq) records))
     → endpoint_entries.flags_in later + later.settled_seq ≤ later.next_seq → KeepsRooms queue told → ((live : List Row) → AreQueued queue deliveries live → AreQueued told moved live)
     → IsDesk later moved rest live limiters told
-is_desk_settled {endpoints} {later} {deliveries} {moved} {steps} {rest} {live} {limiters} {queue} {told} count place h e settled next g is few rooms queued =
+is_desk_settled {endpoints} {later} {deliveries} {moved} {steps} {rest} {live} {limiters} {queue} {told} count place h e settled next g is waits few rooms queued =
     let same : record_count rest ≡ record_count steps = ap record_count g ∙ records_settled steps count in
     let within : place ≤ record_count rest = omega (arith, is) in
     record {
@@ -237,6 +249,8 @@ is_desk_settled {endpoints} {later} {deliveries} {moved} {steps} {rest} {live} {
       flags_few = few;
       deliveries_staged = omega (arith, next, h.deliveries_staged, same, within);
       deliveries_settled = settled ∙ is;
+      deliveries_wait = subst (HasWaiting moved) (records_left steps count place deliveries.settled_seq (is ∙ ap (λ (w : WaitingValue). w.settled) g) h.deliveries_settled ∙ ap (λ (w : WaitingValue). records_of w.waiting) (sym g))
+          (waits (records_of steps.waiting) h.deliveries_wait);
       tied = record {
         limited = h.tied.limited
             ∙ sym (map-map bound_of (λ e. endpoint_entries.settled_at place endpoints.changes e.name e) endpoints.entries)

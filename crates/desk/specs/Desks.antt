@@ -14,6 +14,7 @@ use Rattle.endpoint_book.specs.Book as endpoint_book
 use Rattle.endpoint_book.specs.Entries as endpoint_entries
 use Rattle.delivery_book.specs.Book as delivery_book
 use Rattle.delivery_book.specs.Entries as delivery_entries
+use Rattle.delivery_book.specs.Waiting.{HasWaiting}
 use Rattle.spool.specs.declared.load.Books.{Books}
 use Rattle.spool.specs.Books as loaded
 use Rattle.spool.specs.Batches.{BatchValue, DoubtValue, doubt_of}
@@ -35,7 +36,7 @@ use Rattle.desk.specs.declared.limiter.Limiter.{Limiter}
 use Rattle.desk.specs.declared.spent.Spent.{Spent}
 use Rattle.desk.specs.Moves.{Answer, MayGive, is_nothing_out, sealed_batch, opened}
 use Rattle.desk.specs.Claims.{JobValue, samples_of, next_attempt, target_in, job_of, with_attempt, has_row, with_attempt_over, spent_by}
-use Rattle.desk.specs.Ties.{AreTied, StandsAt, is_idle, new_limiter, room_by}
+use Rattle.desk.specs.Ties.{AreLimiters, AreTied, AreUnderWay, HasRoomForAll, StandsAt, is_idle, new_limiter, room_by}
 
 -- The books of all records, the steps that wait, the latest moment, whether nothing is taken any more, the permits that are out
 -- and the limits. What the queue holds follows from these.
@@ -55,7 +56,22 @@ pub record IsDesk (endpoints : endpoint_entries.BookValue) (deliveries : deliver
   pub flags_few : endpoint_entries.flags_in endpoints + endpoints.settled_seq ≤ endpoints.next_seq
   pub deliveries_staged : deliveries.next_seq ≤ record_count waiting
   pub deliveries_settled : deliveries.settled_seq ≡ waiting.settled
+  pub deliveries_wait : HasWaiting deliveries (records_of waiting.waiting)
   pub tied : AreTied endpoints deliveries waiting live limiters queue
+
+-- What is so of a desk whenever its lock is got, whatever its store had. The records that wait stand behind the settled ones, and
+-- both books begin to wait where the list does. Of the deliveries just those wait that the list has, each by the same record.
+-- Each attempt that is under way is one at a settled delivery that is pending and has no outcome that waits, no two are at one
+-- delivery, and there are a place and a number for the outcome of each. Each endpoint has a limit.
+pub record IsCore (desk : DeskValue) : Type 0 where
+  pub endpoints_settled : desk.endpoints.settled_seq ≡ desk.waiting.settled
+  pub endpoints_within : desk.endpoints.next_seq ≤ record_count desk.waiting
+  pub deliveries_settled : desk.deliveries.settled_seq ≡ desk.waiting.settled
+  pub deliveries_within : desk.deliveries.next_seq ≤ record_count desk.waiting
+  pub deliveries_wait : HasWaiting desk.deliveries (records_of desk.waiting.waiting)
+  pub live : AreUnderWay desk.live desk.deliveries
+  pub limits : AreLimiters desk.limiters desk.endpoints
+  pub room : HasRoomForAll desk.waiting desk.live
 
 -- The world for which a desk stands, part by part. It stores no history.
 

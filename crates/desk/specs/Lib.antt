@@ -6,3 +6,4 @@ pub mod Ties
 pub mod Desks
 pub mod Looks
 pub mod Kept
+pub mod Comparing

@@ -1,5 +1,5 @@
 //! How the desk changes endpoints.
-ghost use Rattle.std.specs.Prelude.{◌≡◌, ◌<◌, ◌+◌, length, false, IsTrue, IfOk, OnOk, OnErr};
+ghost use Rattle.std.specs.Prelude.{◌≡◌, ◌<◌, ◌+◌, length, false, IsTrue, IfOk, IfErr, OnOk, OnErr};
 ghost use Rattle.relay_types.specs.declared.limits.TheConstants.{MAX_RECORDS};
 ghost use Rattle.relay_types.specs.declared.record.Record.TheVariants as on;
 ghost use Rattle.relay_types.specs.Legal.{is_within_limits};
@@ -8,6 +8,7 @@ ghost use Rattle.endpoint_book.specs.Entries.{is_known};
 ghost use Rattle.group_commit.specs.declared.limits.TheConstants.{MAX_WAITING_REQUESTS};
 ghost use Rattle.group_commit.specs.Steps.{requests_in};
 ghost use Rattle.group_commit.specs.Waits.{batch_out, record_count};
+ghost use Rattle.desk.specs.Faults.{may_refuse, may_refuse_put, may_refuse_set};
 ghost use Rattle.desk.specs.Moves.{change, put_faults, set_faults};
 ghost use Rattle.desk.specs.Desks.{IsMove, Checks, KeepsOut, with_put, with_secrets, with_enabled};
 
@@ -26,6 +27,7 @@ impl<L: Ledger> Desk<L> {
     /// Changes an endpoint.
     pub fn command(&mut self, command: Command) -> Result<CommandTicket, Refusal>
         ensures moves { IsMove self.old (λ w. change w command) result self.new }
+        ensures names { IfErr result (λ why. IsTrue (may_refuse command why.fault)) }
         ensures mark { self.new.waiting.mark ≡ self.old.waiting.mark }
         ensures out { KeepsOut self.old self.new }
         ensures err { OnErr result (self.new ≡ self.old) }
@@ -50,6 +52,7 @@ impl<L: Ledger> Desk<L> {
         secrets: Secrets,
     ) -> Result<CommandTicket, Refusal>
         ensures moves { IsMove self.old (λ w. change w (Command.PutEndpoint name target max secrets)) result self.new }
+        ensures names { IfErr result (λ why. IsTrue (may_refuse_put why.fault)) }
         ensures mark { self.new.waiting.mark ≡ self.old.waiting.mark }
         ensures out { KeepsOut self.old self.new }
         ensures err { OnErr result (self.new ≡ self.old) }
@@ -60,6 +63,7 @@ impl<L: Ledger> Desk<L> {
 
     fn set_secrets(&mut self, name: Name, secrets: Secrets) -> Result<CommandTicket, Refusal>
         ensures moves { IsMove self.old (λ w. change w (Command.SetSecrets name secrets)) result self.new }
+        ensures names { IfErr result (λ why. IsTrue (may_refuse_set why.fault)) }
         ensures mark { self.new.waiting.mark ≡ self.old.waiting.mark }
         ensures out { KeepsOut self.old self.new }
         ensures err { OnErr result (self.new ≡ self.old) }
@@ -70,6 +74,7 @@ impl<L: Ledger> Desk<L> {
 
     fn set_enabled(&mut self, name: Name, flag: bool) -> Result<CommandTicket, Refusal>
         ensures moves { IsMove self.old (λ w. change w (Command.SetEnabled name flag)) result self.new }
+        ensures names { IfErr result (λ why. IsTrue (may_refuse_set why.fault)) }
         ensures mark { self.new.waiting.mark ≡ self.old.waiting.mark }
         ensures out { KeepsOut self.old self.new }
         ensures err { OnErr result (self.new ≡ self.old) }
@@ -80,6 +85,7 @@ impl<L: Ledger> Desk<L> {
 
     fn check_put(&self, name: Name) -> Result<(), Refusal>
         ensures faults { Checks self.now (λ w. put_faults w name) result }
+        ensures names { IfErr result (λ why. IsTrue (may_refuse_put why.fault)) }
         ensures place { OnOk result (requests_in self.now.waiting.waiting < MAX_WAITING_REQUESTS) }
         ensures room { OnOk result (record_count self.now.waiting + length self.now.live < MAX_RECORDS) }
         ensures unknown { OnOk result (is_known self.now.endpoints name ≡ false) }
@@ -99,6 +105,7 @@ impl<L: Ledger> Desk<L> {
 
     fn check_set(&self, name: Name) -> Result<(), Refusal>
         ensures faults { Checks self.now (λ w. set_faults w name) result }
+        ensures names { IfErr result (λ why. IsTrue (may_refuse_set why.fault)) }
         ensures place { OnOk result (requests_in self.now.waiting.waiting < MAX_WAITING_REQUESTS) }
         ensures room { OnOk result (record_count self.now.waiting + length self.now.live < MAX_RECORDS) }
         ensures free { OnOk result (record_count self.now.waiting < self.now.waiting.settled + MAX_FLAGS) }

@@ -1,5 +1,5 @@
 //! The desk, and how it takes events.
-ghost use Rattle.std.specs.Prelude.{◌≡◌, ◌<◌, ◌+◌, [], ◌∷◌, length, max, nat_le, IsTrue, None, IfOk, OnOk, OnErr};
+ghost use Rattle.std.specs.Prelude.{◌≡◌, ◌<◌, ◌+◌, [], ◌∷◌, length, max, nat_le, IsTrue, None, IfOk, IfErr, OnOk, OnErr};
 ghost use Rattle.relay_types.specs.declared.limits.TheConstants.{MAX_RECORDS};
 ghost use Rattle.relay_types.specs.declared.record.Record.TheVariants.{Accept};
 ghost use Rattle.relay_types.specs.Deliveries.{accepted};
@@ -9,6 +9,7 @@ ghost use Rattle.spool.specs.Books.{AreSettled};
 ghost use Rattle.group_commit.specs.declared.limits.TheConstants.{MAX_WAITING_REQUESTS};
 ghost use Rattle.group_commit.specs.Steps.{is_request, requests_in};
 ghost use Rattle.group_commit.specs.Waits.{batch_out, record_count, with_step};
+ghost use Rattle.desk.specs.Faults.{may_refuse_event};
 ghost use Rattle.desk.specs.World.{all_records};
 ghost use Rattle.desk.specs.Moves.{are_seqs_spent, opened, ticket, submit, submit_faults, new_submit_faults, is_conflict, has_body};
 ghost use Rattle.desk.specs.declared.limits.TheConstants.{MAX_PENDING};
@@ -125,6 +126,7 @@ impl<L: Ledger> Desk<L> {
     ) -> Result<Ticket, Refusal>
         ensures moves { IsMove self.old (λ w. submit w now name id body) result self.new }
         ensures ticket { IfOk result (λ given. (given.name ≡ name) × (given.id ≡ id)) }
+        ensures names { IfErr result (λ why. IsTrue (may_refuse_event why.fault)) }
         ensures mark { self.new.waiting.mark ≡ self.old.waiting.mark }
         ensures out { KeepsOut self.old self.new }
         ensures err { OnErr result (self.new ≡ self.old) }
@@ -176,7 +178,8 @@ impl<L: Ledger> Desk<L> {
     }
 
     fn check_submit(&self, name: Name, known: Option<u64>, body: &Body) -> Result<(), Refusal>
-        ensures { Checks self.now (λ w. submit_faults w name known body.now) result }
+        ensures faults { Checks self.now (λ w. submit_faults w name known body.now) result }
+        ensures names { IfErr result (λ why. IsTrue (may_refuse_event why.fault)) }
     {
         check(&[
             (self.halted, 1, Fault::Halted),
@@ -187,6 +190,7 @@ impl<L: Ledger> Desk<L> {
 
     fn check_new_submit(&self, name: Name) -> Result<(), Refusal>
         ensures faults { Checks self.now (λ w. new_submit_faults w name) result }
+        ensures names { IfErr result (λ why. IsTrue (may_refuse_event why.fault)) }
         ensures few { OnOk result (pending_in self.now.deliveries name < MAX_PENDING) }
         ensures place { OnOk result (requests_in self.now.waiting.waiting < MAX_WAITING_REQUESTS) }
         ensures room { OnOk result (record_count self.now.waiting + length self.now.live < MAX_RECORDS) }

@@ -1,10 +1,12 @@
 //! What the desk's queue is told.
-ghost use Rattle.std.specs.Prelude.{◌≡◌, ◌<◌, ◌≤◌, ◌+◌, max, List, IsTrue, IfSome, option_map};
+ghost use Rattle.std.specs.Prelude.{◌≡◌, ◌<◌, ◌≤◌, ◌+◌, ◌-◌, max, drop, List, IsTrue, IfSome, option_map};
 ghost use Rattle.relay_types.specs.declared.limits.TheConstants.{MAX_RECORDS};
+ghost use Rattle.relay_types.specs.declared.record.Record.{Record};
 ghost use Rattle.permits.specs.declared.row.Row.{Row};
 ghost use Rattle.claim_queue.specs.Queues.{ChangesMark, HasSamePairs, IsNew, is_held, is_reserved, pair_of, with_room};
 ghost use Rattle.delivery_book.specs.Book.{Settles};
 ghost use Rattle.delivery_book.specs.Entries.{HasOneEach, with_settled};
+ghost use Rattle.delivery_book.specs.Waiting.{HasWaiting};
 ghost use Rattle.desk.specs.Ties.{AreQueued, HasPlaces, Holds, KeepsRooms, LetsGo, idle_pair, pair_in, room_by};
 
 use crate::limiter::{Limiter, limit_of};
@@ -80,6 +82,7 @@ fn settle_next(queue: &mut ClaimQueue, deliveries: &mut DeliveryBook)
     ensures rooms { KeepsRooms queue.old queue.new }
     ensures value { deliveries.new ≡ with_settled deliveries.old (deliveries.old.settled_seq + 1) }
     ensures stands { Settles deliveries.old (deliveries.old.settled_seq + 1) deliveries.new }
+    ensures waits { (records : List Record) → HasWaiting deliveries.old records → HasWaiting deliveries.new (drop 1 records) }
 {
     let seq = deliveries.settled_seq();
     let concerned = deliveries.next_settled();
@@ -99,6 +102,8 @@ pub(crate) fn settle_to(queue: &mut ClaimQueue, deliveries: &mut DeliveryBook, s
     ensures settled { deliveries.new.settled_seq ≡ seq }
     ensures next { deliveries.new.next_seq ≡ max deliveries.old.next_seq seq }
     ensures stands { Settles deliveries.old seq deliveries.new }
+    ensures waits { (records : List Record) → HasWaiting deliveries.old records
+        → HasWaiting deliveries.new (drop (seq - deliveries.old.settled_seq) records) }
 {
     for _ in deliveries.settled_seq()..seq {
         settle_next(queue, deliveries);

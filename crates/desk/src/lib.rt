@@ -5,6 +5,7 @@
 mod claims;
 mod command;
 mod commands;
+mod comparing;
 mod desk;
 mod holding;
 mod job;

@@ -6,7 +6,7 @@ ghost use Rattle.desk.specs.World.{all_records, settled_records};
 ghost use Rattle.desk.specs.Claims.{limits};
 ghost use Rattle.desk.specs.Looks.{is_row_of, has_event, told, told_command, settled_body, event_page, endpoint_page, shown, totals, counts_told};
 ghost use Rattle.desk.specs.Kept as kept;
-ghost use Rattle.desk.specs.Desks.{OverWorlds};
+ghost use Rattle.desk.specs.Desks.{IsCore, OverWorlds};
 
 use crate::desk::Desk;
 use crate::limiter::limiter_of;
@@ -104,6 +104,7 @@ impl<L: Ledger> Desk<L> {
 
     /// What the settled records say of all endpoints and events.
     pub fn totals(&self) -> Totals
+        ensures value { result ≡ kept.totals self.now }
         ensures records { result.records ≡ self.now.waiting.settled }
         ensures counts { counts_told result ≡ settled_counts self.now.deliveries None }
         ensures stands { OverWorlds self.now (λ w. result ≡ totals (settled_records w)) }
@@ -120,6 +121,7 @@ impl<L: Ledger> Desk<L> {
 
     /// How many records there are.
     pub fn records(&self) -> u64
+        ensures core { IsCore self.now }
         ensures value { result ≡ record_count self.now.waiting }
         ensures stands { OverWorlds self.now (λ w. result ≡ length (all_records w)) }
     {
@@ -128,6 +130,7 @@ impl<L: Ledger> Desk<L> {
 
     /// How many records are settled.
     pub fn settled_records(&self) -> u64
+        ensures core { IsCore self.now }
         ensures value { result ≡ self.now.waiting.settled }
         ensures stands { OverWorlds self.now (λ w. result ≡ length (settled_records w)) }
     {

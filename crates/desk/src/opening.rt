@@ -2,7 +2,7 @@
 ghost use Rattle.std.specs.Prelude.{◌≡◌, ℕ, List, [], ◌∷◌, ◌++◌, false, map, option_map, slice_get, IfOk, OnOk};
 ghost use Rattle.claim_queue.specs.declared.pairs.Pair.{Pair};
 ghost use Rattle.claim_queue.specs.Queues.{HasSamePairs, has_room_in, is_held};
-ghost use Rattle.delivery_book.specs.Entries.{row_in};
+ghost use Rattle.delivery_book.specs.Entries.{IsInStep, row_in};
 ghost use Rattle.desk.specs.Ties.{AreApart, AreHeld, AreLimiters, AreMarked, AreQueued, HasPlaces, HasSameRooms, KeepsPlaces, KeepsRooms, new_limiter};
 
 use crate::holding::{hold, tell_room};
@@ -48,6 +48,7 @@ pub(crate) fn queue_of<L: Ledger>(
     requires apart { AreApart deliveries.now }
     ensures queued { IfOk result (λ queue. AreQueued queue deliveries.now []) }
     ensures marked { IfOk result (λ queue. AreMarked queue endpoints.now limiters.now []) }
+    ensures in_step { OnOk result (IsInStep deliveries.now) }
 {
     let mut queue = ClaimQueue::new(alloc);
     reserve_all(&mut queue, deliveries)?;
@@ -72,7 +73,7 @@ fn reserve_all(queue: &mut ClaimQueue, deliveries: &DeliveryBook) -> Result<(), 
 }
 
 // The delivery at this place.
-fn row_at(deliveries: &DeliveryBook, place: usize) -> Option<Row>
+pub(crate) fn row_at(deliveries: &DeliveryBook, place: usize) -> Option<Row>
     ensures { result ≡ option_map (λ e. row_in e.latest e) (slice_get deliveries.now.entries place) }
 {
     deliveries.row(deliveries.delivery(place)?)
@@ -106,6 +107,7 @@ fn hold_all(queue: &mut ClaimQueue, deliveries: &DeliveryBook)
     ensures held { AreHeld queue.new deliveries.now [] }
     ensures places { HasPlaces queue.new deliveries.now }
     ensures rooms { KeepsRooms queue.old queue.new }
+    ensures in_step { IsInStep deliveries.now }
 {
     for place in 0..deliveries.len() {
         if let Some(delivery) = deliveries.delivery(place) {

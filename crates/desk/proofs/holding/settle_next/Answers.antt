@@ -1,5 +1,5 @@
 use Rattle.std.proofs.Common.{refl, sym, subst}
-use Rattle.desk.proofs.SettleLaws.{HoldsNext, new_next, places_next, queued_next}
+use Rattle.desk.proofs.SettleLaws.{HoldsNext, new_next, one_settled, places_next, queued_next}
 use Rattle.desk.proofs.holding.settle_next.Goals as goal
 
 pub hold-requires : goal.hold-requires
@@ -21,3 +21,9 @@ returns-in_default-clause-queued c = λ live queued.
     (subst (λ o. HoldsNext c.args.queue.now c.args.queue.now c.settle_to.new.self o) (sym c.in_default.is) refl)
     (places_next c.args.queue.now c.args.deliveries.now c.settle_to.new.self c.settled_seq-seq.result c.settled_seq-seq.ensures c.settle_to.ensures.value c.requires.queued)
     live queued
+
+pub returns-in-Some-clause-waits : goal.returns-in-Some-clause-waits
+returns-in-Some-clause-waits c = λ records waits. one_settled c.args.deliveries.now c.settle_to.new.self c.settled_seq-seq.result records c.settled_seq-seq.ensures c.settle_to.ensures.value waits
+
+pub returns-in_default-clause-waits : goal.returns-in_default-clause-waits
+returns-in_default-clause-waits c = λ records waits. one_settled c.args.deliveries.now c.settle_to.new.self c.settled_seq-seq.result records c.settled_seq-seq.ensures c.settle_to.ensures.value waits

@@ -1,6 +1,8 @@
-use Rattle.std.proofs.Common.{◌+◌, ◌∙◌, arith, refl, sym, ap}
+use Rattle.std.proofs.Common.{◌≡◌, ◌+◌, ◌-◌, ◌∙◌, arith, drop, refl, sym, ap, subst}
+use Rattle.delivery_book.specs.Book.{Settles}
+use Rattle.delivery_book.specs.Waiting.{HasWaiting}
 use Rattle.delivery_book.specs.Entries.{BookValue}
-use Rattle.desk.proofs.SettleLaws.{next_within, settles_more, settles_none}
+use Rattle.desk.proofs.SettleLaws.{next_within, none_left, one_further, settles_more, settles_none}
 use Rattle.desk.proofs.holding.settle_to.Goals as goal
 
 pub loop-init : goal.loop-init
@@ -11,6 +13,8 @@ loop-init c = record {
   queued = λ live queued. queued;
   rooms = record { reserved = λ name. refl; rooms = λ name. refl };
   stands = settles_none c.args.deliveries.now c.settled_seq-counter.result c.settled_seq-counter.ensures;
+  above = omega (arith, c.settled_seq-counter.ensures);
+  waits = λ records waits. none_left c.args.deliveries.now c.args.deliveries.now.settled_seq c.settled_seq-counter.result records c.settled_seq-counter.ensures waits;
 }
 
 pub settle_next-requires : goal.settle_next-requires
@@ -30,4 +34,16 @@ loop-preserved c =
       queued = λ live queued. made.queued live (was.queued live queued);
       rooms = record { reserved = λ name. made.rooms.reserved name ∙ was.rooms.reserved name; rooms = λ name. made.rooms.rooms name ∙ was.rooms.rooms name };
       stands = settles_more c.args.deliveries.now c.loop.deliveries c.settle_next.new.deliveries c.loop.counter c.loop.deliveries.settled_seq was.number was.stands made.stands;
+      above = omega (arith, was.above);
+      waits = λ records waits. one_further c.settle_next.new.deliveries c.args.deliveries.now.settled_seq c.loop.counter records was.above (made.waits _ (was.waits records waits));
     }
+
+pub returns-clause-stands : goal.returns-clause-stands
+returns-clause-stands c =
+    let last : c.loop.counter ≡ c.args.seq = omega (arith, c.loop-test.false, c.loop.invariant.within) in
+    subst (λ n. Settles c.args.deliveries.now n c.loop.deliveries) last c.loop.invariant.stands
+
+pub returns-clause-waits : goal.returns-clause-waits
+returns-clause-waits c = λ records waits.
+    let last : c.loop.counter ≡ c.args.seq = omega (arith, c.loop-test.false, c.loop.invariant.within) in
+    subst (λ n. HasWaiting c.loop.deliveries (drop (n - c.args.deliveries.now.settled_seq) records)) last (c.loop.invariant.waits records waits)

@@ -1,6 +1,8 @@
-use Rattle.std.proofs.Common.{◌≡◌, ◌≤◌, List, max}
+use Rattle.std.proofs.Common.{◌≡◌, ◌≤◌, ◌-◌, List, drop, max}
+use Rattle.relay_types.specs.declared.record.Record.{Record}
 use Rattle.permits.specs.declared.row.Row.{Row}
 use Rattle.delivery_book.specs.Book.{Settles}
+use Rattle.delivery_book.specs.Waiting.{HasWaiting}
 use Rattle.desk.specs.Ties.{AreQueued, KeepsRooms}
 use Rattle.desk.proofs.holding.settle_to.Given as goal
 
@@ -12,4 +14,6 @@ invariant-loop l = record {
   queued : (live : List Row) → AreQueued l.fn.queue l.fn.deliveries live → AreQueued l.queue l.deliveries live;
   rooms : KeepsRooms l.fn.queue l.queue;
   stands : Settles l.fn.deliveries l.counter l.deliveries;
+  above : l.fn.deliveries.settled_seq ≤ l.counter;
+  waits : (records : List Record) → HasWaiting l.fn.deliveries records → HasWaiting l.deliveries (drop (l.counter - l.fn.deliveries.settled_seq) records);
 }

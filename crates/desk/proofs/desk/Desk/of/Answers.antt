@@ -10,7 +10,7 @@ queue_of-requires-clause-limited g c = limited_new c.deref.result.now c.args.boo
 pub invariant_of-result-3 : goal.invariant_of-result-3
 invariant_of-result-3 g c =
     let queue = c.in_ok-queue.queue in
-    is_desk_opened c.args.books _ _ c.in_ok-new.field-0 c.args.pool c.in_ok-limiters.limiters.items queue c.args.mark c.endpoints.view_is c.deliveries.view_is c.requires.settled
+    is_desk_opened c.args.books _ _ c.in_ok-new.field-0 c.args.pool c.in_ok-limiters.limiters.items queue c.args.mark c.endpoints.view_is c.deliveries.view_is c.requires.settled c.in_ok-queue.ensures.in_step
     c.in_ok-new.ensures c.requires.empty c.in_ok-limiters.ensures c.in_ok-queue.ensures.queued
     (subst (λ ls. AreMarked queue c.args.books.endpoints ls []) c.deref.ensures.value c.in_ok-queue.ensures.marked)
 

@@ -1,0 +1,159 @@
+-- Two sides that tell the same of all that either has tell the same of everything.
+use Rattle.std.proofs.Common.{◌≡◌, ◌<◌, ◌+◌, ℕ, length, get_or, Bool, true, false, List, [], ◌∷◌, ◌++◌, Option, Some, None, map, take, refl, sym, ◌∙◌, ap, subst, ◌&&◌, cond, eqb, IsTrue}
+use Rattle.std.specs.Prelude.{find, is_some, option_map, option_and_then, bytes_eq, slice_get, IsSome}
+use Rattle.std.specs.List.{AllByRecursion}
+use Rattle.std.proofs.lemmas.Bool.{eq-eqb, eqb-true}
+use Rattle.std.proofs.lemmas.Slice.Eq.{bytes_eq-Decides}
+use Rattle.relay_types.proofs.KnownLaws.{and_first, and_second, and_both}
+use Rattle.endpoint_book.specs.Book.{view_by}
+use Rattle.endpoint_book.specs.Entries as endpoint_entries
+use Rattle.endpoint_book.specs.declared.entry.Entry.{Entry as EndpointEntry}
+use Rattle.delivery_book.specs.declared.entry.Entry.{Entry}
+use Rattle.delivery_book.specs.declared.row.Row.{Row}
+use Rattle.delivery_book.specs.Entries.{BookValue, is_entry_as, known_in, row_in, settled_row}
+use Rattle.delivery_book.specs.Fields.{settled_counts}
+use Rattle.spool.specs.declared.load.Books.{Books}
+use Rattle.desk.specs.declared.pages.Totals.{Totals}
+use Rattle.desk.specs.Desks.{DeskValue}
+use Rattle.desk.specs.Kept.{AreTold, endpoint_in, endpoint_page, event_in, event_page, shown_with, totals, totals_in}
+use Rattle.desk.proofs.OpeningLaws.{names_next, same_some, take_next}
+
+-- One more element
+
+all_append : {X : Type 0} (P : X → Type 0) (xs : List X) (x : X) → AllByRecursion P xs → P x → AllByRecursion P (xs ++ x ∷ [])
+all_append P [] x h p = (p, tt)
+all_append P (y ∷ ys) x h p = (h.0, all_append P ys x h.1 p)
+
+pub all_next : {X : Type 0} (P : X → Type 0) (xs : List X) (i : ℕ) (x : X) → slice_get xs i ≡ Some x → AllByRecursion P (take i xs) → P x → AllByRecursion P (take (i + 1) xs)
+all_next P xs i x at h p = subst (AllByRecursion P) (sym (take_next xs i x at)) (all_append P (take i xs) x h p)
+
+-- the next endpoint, and the next event
+pub name_next : (P : List ℕ → Type 0) (book : endpoint_entries.BookValue) (names : List (List ℕ)) (i : ℕ) (name : List ℕ) → names ≡ map (λ e. e.name) book.entries → i < length names → name ≡ get_or names i name
+    → AllByRecursion P (take i (map (λ e. e.name) book.entries)) → P name → AllByRecursion P (take (i + 1) (map (λ e. e.name) book.entries))
+name_next P book names i name are within is h p = subst (AllByRecursion P) (sym (names_next book names i name are within is)) (all_append P (take i (map (λ (e : EndpointEntry). e.name) book.entries)) name h p)
+
+pub event_next : (P : List ℕ → List ℕ → Type 0) (entries : List Entry) (place : ℕ) (row : Row) → Some row ≡ option_map (λ e. row_in e.latest e) (slice_get entries place)
+    → AllByRecursion (λ e. P e.name e.id) (take place entries) → P row.endpoint row.id → AllByRecursion (λ e. P e.name e.id) (take (place + 1) entries)
+event_next P entries place row found h p = by (slice_get entries place) refl found
+  where
+    by : (o : Option Entry) → slice_get entries place ≡ o → Some row ≡ option_map (λ (e : Entry). row_in e.latest e) o → AllByRecursion (λ (e : Entry). P e.name e.id) (take (place + 1) entries)
+    by None at none = let wrong : Some row ≡ None = none in cc
+    by (Some e) at same =
+        let is = same_some row (row_in e.latest e) same in
+        all_next (λ (x : Entry). P x.name x.id) entries place e at h (subst (λ (r : Row). P r.endpoint r.id) is p)
+
+-- what is known is found
+pub found_known : {X : Type 0} (f : X → ℕ) (o : Option X) → is_some (option_map f o) ≡ true → is_some o ≡ true
+found_known f None h = h
+found_known f (Some x) h = refl
+
+-- What holds of each element that is there holds of what is found among them
+
+pub named_among : (P : List ℕ → Type 0) (entries : List EndpointEntry) (name : List ℕ) → AllByRecursion P (map (λ e. e.name) entries) → is_some (find (endpoint_entries.is_named name) entries) ≡ true → P name
+named_among P [] name h there = cc
+named_among P (e ∷ es) name h there = by (bytes_eq e.name name) refl there (named_among P es name h.1)
+  where
+    by : (b : Bool) → bytes_eq e.name name ≡ b → is_some (cond b (Some e) (find (endpoint_entries.is_named name) es)) ≡ true
+        → (is_some (find (endpoint_entries.is_named name) es) ≡ true → P name) → P name
+    by true same t later = subst P ((bytes_eq-Decides e.name name).0 same) h.0
+    by false same t later = later t
+
+pub event_among : (P : List ℕ → List ℕ → Type 0) (entries : List Entry) (name id : List ℕ) → AllByRecursion (λ e. P e.name e.id) entries → is_some (find (is_entry_as name id) entries) ≡ true → P name id
+event_among P [] name id h there = cc
+event_among P (e ∷ es) name id h there = by (is_entry_as name id e) refl there (event_among P es name id h.1)
+  where
+    by : (b : Bool) → is_entry_as name id e ≡ b → is_some (cond b (Some e) (find (is_entry_as name id) es)) ≡ true → (is_some (find (is_entry_as name id) es) ≡ true → P name id) → P name id
+    by true same t later =
+        subst (λ n. P n id) ((bytes_eq-Decides e.name name).0 (and_first (bytes_eq e.name name) (bytes_eq e.id id) same))
+        (subst (P e.name) ((bytes_eq-Decides e.id id).0 (and_second (bytes_eq e.name name) (bytes_eq e.id id) same)) h.0)
+    by false same t later = later t
+
+-- What neither side has is told by neither
+
+nothing_found : {X : Type 0} (o : Option X) → is_some o ≡ false → o ≡ None
+nothing_found None e = refl
+nothing_found (Some x) e = cc
+
+unknown_endpoint : (endpoints : endpoint_entries.BookValue) (deliveries : BookValue) (name : List ℕ) → endpoint_entries.is_known endpoints name ≡ false → endpoint_in endpoints deliveries name ≡ None
+unknown_endpoint endpoints deliveries name none =
+    ap (λ o. option_map (shown_with (settled_counts deliveries (Some name))) (option_and_then (λ (e : EndpointEntry). option_map (view_by e) e.settled) o)) (nothing_found (endpoint_entries.entry_of endpoints name) none)
+
+unknown_event : (deliveries : BookValue) (name id : List ℕ) → is_some (known_in deliveries name id) ≡ false → event_in deliveries name id ≡ None
+unknown_event deliveries name id none = ap (option_and_then (settled_row deliveries)) (nothing_found (known_in deliveries name id) none)
+
+-- what the one side has is told by the other, and both tell the same of all
+pub record IsFound (endpoints : endpoint_entries.BookValue) (deliveries : BookValue) (others : endpoint_entries.BookValue) (other : BookValue) : Type 0 where
+  pub endpoints_in : (name : List ℕ) → IsTrue (endpoint_entries.is_known endpoints name) → endpoint_in endpoints deliveries name ≡ endpoint_in others other name
+  pub events_in : (name id : List ℕ) → IsSome (known_in deliveries name id) → event_in deliveries name id ≡ event_in other name id
+
+pub endpoints_told : (e oe : endpoint_entries.BookValue) (d od : BookValue) → IsFound e d oe od → IsFound oe od e d → (name : List ℕ) → endpoint_in oe od name ≡ endpoint_in e d name
+endpoints_told e oe d od mine theirs name = by (endpoint_entries.is_known e name) refl
+  where
+    absent : (b : Bool) → endpoint_entries.is_known oe name ≡ b → endpoint_entries.is_known e name ≡ false → endpoint_in oe od name ≡ endpoint_in e d name
+    absent true is none = theirs.endpoints_in name is
+    absent false is none = unknown_endpoint oe od name is ∙ sym (unknown_endpoint e d name none)
+
+    by : (b : Bool) → endpoint_entries.is_known e name ≡ b → endpoint_in oe od name ≡ endpoint_in e d name
+    by true is = sym (mine.endpoints_in name is)
+    by false is = absent (endpoint_entries.is_known oe name) refl is
+
+pub events_told : (e oe : endpoint_entries.BookValue) (d od : BookValue) → IsFound e d oe od → IsFound oe od e d → (name id : List ℕ) → event_in od name id ≡ event_in d name id
+events_told e oe d od mine theirs name id = by (is_some (known_in d name id)) refl
+  where
+    absent : (b : Bool) → is_some (known_in od name id) ≡ b → is_some (known_in d name id) ≡ false → event_in od name id ≡ event_in d name id
+    absent true is none = theirs.events_in name id is
+    absent false is none = unknown_event od name id is ∙ sym (unknown_event d name id none)
+
+    by : (b : Bool) → is_some (known_in d name id) ≡ b → event_in od name id ≡ event_in d name id
+    by true is = sym (mine.events_in name id is)
+    by false is = absent (is_some (known_in od name id)) refl is
+
+-- Totals
+
+abbrev pub test_totals : Totals → Totals → Bool
+test_totals a b = eqb a.delivered b.delivered && (eqb a.endpoints b.endpoints && (eqb a.exhausted b.exhausted && (eqb a.pending b.pending && eqb a.records b.records)))
+
+pub same_totals : (a b : Totals) → test_totals a b ≡ true → a ≡ b
+same_totals a b h =
+    let behind = and_second (eqb a.delivered b.delivered) _ h in
+    let rest = and_second (eqb a.endpoints b.endpoints) _ behind in
+    let last = and_second (eqb a.exhausted b.exhausted) _ rest in
+    λ i. record {
+      delivered = eqb-true a.delivered b.delivered (and_first (eqb a.delivered b.delivered) _ h) i;
+      endpoints = eqb-true a.endpoints b.endpoints (and_first (eqb a.endpoints b.endpoints) _ behind) i;
+      exhausted = eqb-true a.exhausted b.exhausted (and_first (eqb a.exhausted b.exhausted) _ rest) i;
+      pending = eqb-true a.pending b.pending (and_first (eqb a.pending b.pending) _ last) i;
+      records = eqb-true a.records b.records (and_second (eqb a.pending b.pending) _ last) i;
+    }
+
+pub test_same : (a b : Totals) → a ≡ b → test_totals a b ≡ true
+test_same a b same = subst (λ (x : Totals). test_totals a x ≡ true) same
+    (and_both (eqb a.delivered a.delivered) _ (eq-eqb a.delivered a.delivered refl)
+    (and_both (eqb a.endpoints a.endpoints) _ (eq-eqb a.endpoints a.endpoints refl)
+    (and_both (eqb a.exhausted a.exhausted) _ (eq-eqb a.exhausted a.exhausted refl)
+    (and_both (eqb a.pending a.pending) _ (eq-eqb a.pending a.pending refl) (eq-eqb a.records a.records refl)))))
+
+-- Desks
+
+pub is_told : {d v : DeskValue} → d ≡ v → (books : Books) → totals_in books.endpoints books.deliveries books.records ≡ totals v → IsFound d.endpoints d.deliveries books.endpoints books.deliveries
+    → IsFound books.endpoints books.deliveries d.endpoints d.deliveries → AreTold v books
+is_told {d} {v} same books counted mine theirs = record {
+  totals = counted;
+  endpoints = λ name. endpoints_told d.endpoints books.endpoints d.deliveries books.deliveries mine theirs name ∙ ap (λ (x : DeskValue). endpoint_page x name) same;
+  events = λ name id. events_told d.endpoints books.endpoints d.deliveries books.deliveries mine theirs name id ∙ ap (λ (x : DeskValue). event_page x name id) same;
+}
+
+-- what is told isn't found to differ, from either side
+pub not_here : {d v : DeskValue} → d ≡ v → (books : Books)
+    → ¬ (((name : List ℕ) → endpoint_in d.endpoints d.deliveries name ≡ endpoint_in books.endpoints books.deliveries name) × ((name id : List ℕ) → event_in d.deliveries name id ≡ event_in books.deliveries name id)) → AreTold v books → ⊥
+not_here {d} {v} same books differs told = differs (
+  λ name. ap (λ (x : DeskValue). endpoint_page x name) same ∙ sym (told.endpoints name),
+  λ name id. ap (λ (x : DeskValue). event_page x name id) same ∙ sym (told.events name id),
+)
+
+pub not_there : {d v : DeskValue} → d ≡ v → (books : Books)
+    → ¬ (((name : List ℕ) → endpoint_in books.endpoints books.deliveries name ≡ endpoint_in d.endpoints d.deliveries name) × ((name id : List ℕ) → event_in books.deliveries name id ≡ event_in d.deliveries name id)) → AreTold v books → ⊥
+not_there {d} {v} same books differs told = differs (
+  λ name. told.endpoints name ∙ sym (ap (λ (x : DeskValue). endpoint_page x name) same),
+  λ name id. told.events name id ∙ sym (ap (λ (x : DeskValue). event_page x name id) same),
+)

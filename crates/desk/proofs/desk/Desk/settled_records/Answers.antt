@@ -1,0 +1,5 @@
+use Rattle.desk.proofs.LookLaws.{is_core}
+use Rattle.desk.proofs.desk.Desk.settled_records.Goals as goal
+
+pub returns-clause-core : goal.returns-clause-core
+returns-clause-core g c = is_core c.self.view_is c.self.invariant
