@@ -13,3 +13,4 @@ pub mod Places
 pub mod Within
 pub mod Refusals
 pub mod Later
+pub mod Audits

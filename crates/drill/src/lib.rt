@@ -2,6 +2,7 @@
 #![tactic(auto)]
 
 mod attempts;
+mod audits;
 mod calls;
 mod commit;
 mod events;
@@ -19,6 +20,7 @@ mod tickets;
 mod turns;
 mod unrecorded;
 
+pub use crate::audits::{AuditFault, audit};
 pub use crate::events::{Event, Look, Reply};
 pub use crate::law::{
     calls_change_places_with_commits, calls_keep_what_was_shown, refusals_of_moves,
