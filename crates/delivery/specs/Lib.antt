@@ -2,3 +2,4 @@ pub mod Requests
 pub mod Keepers
 pub mod Shares
 pub mod Rounds
+pub mod Turns

@@ -1,16 +1,23 @@
 //! What lies under the lock. Each call is one of the desk's, or leaves the desk as it was.
-ghost use Rattle.std.specs.Prelude.{◌≡◌, ◌≤◌, true, false, None, IfOk, IfErr, IfSome, IsTrue, OnErr};
-ghost use Rattle.desk.specs.Desks.{IsMove, Spends};
-ghost use Rattle.desk.specs.Moves.{change, submit};
-ghost use Rattle.desk.specs.Claims.{claim};
+ghost use Rattle.std.specs.Prelude.{◌≡◌, ◌≤◌, ◌<◌, ◌↔◌, true, false, None, IfOk, IfErr, IfSome, IsOk, IsTrue, OnErr, OnOk, Result, Option, length};
+ghost use Rattle.spool.specs.Batches.{BatchValue, doubt_of};
+ghost use Rattle.group_commit.specs.Turns as waiting;
+ghost use Rattle.group_commit.specs.Waits.{record_count, with_settled};
+ghost use Rattle.desk.specs.Desks.{IsMove, Spends, Turns, IsReceiptOf, ArePlacesOf, IsHeldOf};
+ghost use Rattle.desk.specs.Faults.{may_refuse, may_refuse_event};
+ghost use Rattle.desk.specs.Kept as kept;
+ghost use Rattle.desk.specs.Moves.{change, seal, submit, with_sealed_settled, with_batch_back, with_halt};
+ghost use Rattle.desk.specs.Claims.{JobValue, claim};
+ghost use Rattle.desk.specs.declared.refusal.Refusal.{Refusal};
 ghost use Rattle.retry_table.specs.Judging.{spend_of};
 ghost use Rattle.delivery.specs.Keepers.{EndsByDesk};
-ghost use Rattle.delivery.specs.Rounds.{EndsUnposted, HasNotPosted};
+ghost use Rattle.delivery.specs.Rounds.{EndsUnposted};
+ghost use Rattle.delivery.specs.Turns.{claimed_by, halted, next_by, refused, round_of, went_back};
 
 use crate::committer::{CommitterEnd, HaltCause, Next};
 use crate::pass::Pass;
 use crate::worker::{Claimed, Round};
-use desk::{Command, CommandTicket, Desk, Fault, Refusal, Spent, Ticket};
+use desk::{Command, CommandTicket, Desk, Fault, Job, Refusal, Spent, Ticket, Told};
 use group_commit::{Held, Settled, WrongTurn};
 use permits::{Foreign, Permit};
 use relay_types::{Body, Moment, MsgId, Name};
@@ -87,7 +94,8 @@ impl<L: Ledger> Locked<L> {
         ensures moves { self.old.closing ≡ false
             → IsMove self.old.desk (λ w. submit w now name id body) result self.new.desk }
         ensures ticket { IfOk result (λ given. (given.name ≡ name) × (given.id ≡ id)) }
-        ensures closing { IsTrue self.old.closing → self.new.desk ≡ self.old.desk }
+        ensures names { IfErr result (λ why. IsTrue (may_refuse_event why.fault)) }
+        ensures closing { IsTrue self.old.closing → result ≡ Err halted }
         ensures flag { self.new.closing ≡ self.old.closing }
         ensures err { OnErr result (self.new ≡ self.old) }
     {
@@ -100,7 +108,8 @@ impl<L: Ledger> Locked<L> {
     pub(crate) fn command(&mut self, command: Command) -> Result<CommandTicket, Refusal>
         ensures moves { self.old.closing ≡ false
             → IsMove self.old.desk (λ w. change w command) result self.new.desk }
-        ensures closing { IsTrue self.old.closing → self.new.desk ≡ self.old.desk }
+        ensures names { IfErr result (λ why. IsTrue (may_refuse command why.fault)) }
+        ensures closing { IsTrue self.old.closing → result ≡ Err halted }
         ensures flag { self.new.closing ≡ self.old.closing }
         ensures err { OnErr result (self.new ≡ self.old) }
     {
@@ -112,6 +121,13 @@ impl<L: Ledger> Locked<L> {
 
     // The pass is compared first.
     pub(crate) fn claim(&mut self, now: Moment, pass: &mut Pass) -> Claimed<L>
+        ensures back { self.old.desk.waiting.settled < pass.old
+            → (result ≡ Claimed.Nothing (went_back pass.old self.old.desk.waiting.settled)) × (self.new ≡ self.old) }
+        ensures closing { pass.old ≤ self.old.desk.waiting.settled → IsTrue self.old.closing
+            → (result ≡ Claimed.Nothing Round.Closing) × (self.new ≡ self.old) }
+        ensures moves { pass.old ≤ self.old.desk.waiting.settled → self.old.closing ≡ false
+            → (reply : Result (Option JobValue) Refusal) × (result ≡ claimed_by reply)
+            × IsMove self.old.desk (λ w. claim w now) reply self.new.desk }
         ensures nothing { EndsUnposted result }
         ensures pass { pass.old ≤ pass.new }
         ensures flag { self.new.closing ≡ self.old.closing }
@@ -122,11 +138,7 @@ impl<L: Ledger> Locked<L> {
         if self.is_closing {
             return Claimed::Nothing(Round::Closing);
         }
-        match self.desk.claim(now) {
-            Ok(Some(job)) => Claimed::Job(job),
-            Ok(None) => Claimed::Nothing(Round::Idle),
-            Err(refusal) => Claimed::Nothing(round_of(refusal.fault)),
-        }
+        claimed_by(self.desk.claim(now))
     }
 
     pub(crate) fn spend(
@@ -143,45 +155,96 @@ impl<L: Ledger> Locked<L> {
         self.desk.spend(permit, post, now)
     }
 
+    pub(crate) fn is_waiting(&self, ticket: &Ticket) -> bool
+        ensures { IsTrue result ↔ (kept.told self.now.desk ticket.now ≡ Told.Waiting) }
+    {
+        self.desk.told(ticket) == Told::Waiting
+    }
+
+    pub(crate) fn is_command_waiting(&self, ticket: &CommandTicket) -> bool
+        ensures { IsTrue result ↔ (kept.told_command self.now.desk ticket.now ≡ Told.Waiting) }
+    {
+        self.desk.told_command(ticket) == Told::Waiting
+    }
+
     // Nothing waits to be sealed, and the end hasn't come.
-    pub(crate) fn is_idle(&self) -> bool {
+    pub(crate) fn is_idle(&self) -> bool
+        ensures sealed { IsTrue result → record_count self.now.desk.waiting ≡ self.now.desk.waiting.settled }
+        ensures going { IsTrue result → (self.now.closing ≡ false) × (self.now.desk.halted ≡ false) }
+    {
         self.desk.records() == self.desk.settled_records()
             && !self.is_closing
             && !self.desk.is_halted()
     }
 
-    // Nothing was settled since so much was, and the end hasn't come.
-    pub(crate) fn may_rest(&self, seen: u64) -> bool {
-        self.desk.settled_records() == seen && !self.is_closing && !self.desk.is_halted()
+    // No more is settled than so much, and the end hasn't come.
+    pub(crate) fn may_rest(&self, seen: u64) -> bool
+        ensures settled { IsTrue result → self.now.desk.waiting.settled ≤ seen }
+        ensures going { IsTrue result → (self.now.closing ≡ false) × (self.now.desk.halted ≡ false) }
+    {
+        self.desk.settled_records() <= seen && !self.is_closing && !self.desk.is_halted()
     }
 
     pub(crate) fn next_batch(&mut self) -> Next
+        ensures moves { (reply : Result (Option BatchValue) Refusal) × (result ≡ next_by self.old.closing reply)
+            × IsMove self.old.desk (seal self.old.desk.waiting.mark) reply self.new.desk }
         ensures end { EndsByDesk result }
+        ensures flag { self.new.closing ≡ self.old.closing }
     {
-        match self.desk.seal() {
-            Ok(Some(batch)) => Next::Commit(batch),
-            Ok(None) if self.is_closing => Next::End(CommitterEnd::Finished),
-            Ok(None) => Next::Wait,
-            Err(refusal) => refused(refusal.fault),
-        }
+        next_by(self.is_closing, self.desk.seal())
     }
 
-    pub(crate) fn settle(&mut self, receipt: Receipt) -> Result<Settled, (Receipt, WrongTurn)> {
+    pub(crate) fn settle(&mut self, receipt: Receipt) -> Result<Settled, (Receipt, WrongTurn)>
+        ensures moves { Turns self.old.desk (λ w. IsReceiptOf self.old.desk.waiting.mark w receipt) with_sealed_settled
+            result self.new.desk }
+        ensures turn { IsOk result ↔ waiting.IsReceiptOf self.old.desk.waiting receipt }
+        ensures waiting { OnOk result
+            (self.new.desk.waiting ≡ with_settled self.old.desk.waiting (length receipt.steps)) }
+        ensures back { IfErr result (λ back. back.0 ≡ receipt) }
+        ensures flag { self.new.closing ≡ self.old.closing }
+        ensures err { OnErr result (self.new ≡ self.old) }
+    {
         self.desk.settle(receipt)
     }
 
-    pub(crate) fn unseal(&mut self, batch: Batch) -> Result<(), (Batch, WrongTurn)> {
+    pub(crate) fn unseal(&mut self, batch: Batch) -> Result<(), (Batch, WrongTurn)>
+        ensures moves { Turns self.old.desk (λ w. ArePlacesOf self.old.desk.waiting.mark w (doubt_of batch)) with_batch_back
+            result self.new.desk }
+        ensures turn { IsOk result ↔ waiting.ArePlacesOf self.old.desk.waiting (doubt_of batch) }
+        ensures back { IfErr result (λ back. back.0 ≡ batch) }
+        ensures flag { self.new.closing ≡ self.old.closing }
+        ensures err { OnErr result (self.new ≡ self.old) }
+    {
         self.desk.unseal(batch)
     }
 
-    pub(crate) fn halt(&mut self, held: Held) -> Result<(), (Held, WrongTurn)> {
+    pub(crate) fn halt(&mut self, held: Held) -> Result<(), (Held, WrongTurn)>
+        ensures moves { Turns self.old.desk (λ w. IsHeldOf self.old.desk.waiting.mark w held) with_halt
+            result self.new.desk }
+        ensures turn { IsOk result ↔ waiting.IsHeldOf self.old.desk.waiting held }
+        ensures back { IfErr result (λ back. back.0 ≡ held) }
+        ensures flag { self.new.closing ≡ self.old.closing }
+        ensures err { OnErr result (self.new ≡ self.old) }
+    {
         self.desk.halt(held)
+    }
+}
+
+// What a claim's answer is to a round.
+fn claimed_by<L: Ledger>(claimed: Result<Option<Job<L>>, Refusal>) -> Claimed<L>
+    ensures value { result ≡ claimed_by claimed }
+    ensures nothing { EndsUnposted result }
+{
+    match claimed {
+        Ok(Some(job)) => Claimed::Job(job),
+        Ok(None) => Claimed::Nothing(Round::Idle),
+        Err(refusal) => Claimed::Nothing(round_of(refusal.fault)),
     }
 }
 
 // What a round is where a claim is refused for this.
 fn round_of(fault: Fault) -> Round
-    ensures { HasNotPosted result }
+    ensures { result ≡ round_of fault }
 {
     match fault {
         Fault::Halted => Round::Halted,
@@ -190,9 +253,23 @@ fn round_of(fault: Fault) -> Round
     }
 }
 
+// What a seal's answer is to the committer.
+fn next_by(is_closing: bool, sealed: Result<Option<Batch>, Refusal>) -> Next
+    ensures value { result ≡ next_by is_closing sealed }
+    ensures end { EndsByDesk result }
+{
+    match sealed {
+        Ok(Some(batch)) => Next::Commit(batch),
+        Ok(None) if is_closing => Next::End(CommitterEnd::Finished),
+        Ok(None) => Next::Wait,
+        Err(refusal) => refused(refusal.fault),
+    }
+}
+
 // What comes next where a seal is refused for this.
 fn refused(fault: Fault) -> Next
-    ensures { EndsByDesk result }
+    ensures value { result ≡ refused fault }
+    ensures end { EndsByDesk result }
 {
     match fault {
         Fault::OutOfMemory => Next::Refused,

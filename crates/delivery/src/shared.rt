@@ -1,7 +1,11 @@
 //! What threads share: the desk under one lock, and whom a change wakes.
 //!
 //! The committer waits on `staged` until a step waits, and everybody else on `changed` until something is settled, or nothing will be.
-ghost use Rattle.std.specs.Prelude.{◌≡◌, ◌≤◌, IfOk};
+ghost use Rattle.std.specs.Prelude.{◌≡◌, ◌≢◌, ◌≤◌, IfErr, IfOk, IsTrue};
+ghost use Rattle.std.specs.Sync.Mutex.{mutex_guard_value};
+ghost use Rattle.desk.specs.Faults.{may_refuse, may_refuse_event};
+ghost use Rattle.desk.specs.Kept as kept;
+ghost use Rattle.desk.specs.declared.ticket.Told.TheVariants.{Waiting};
 ghost use Rattle.retry_table.specs.Judging.{spend_of};
 ghost use Rattle.delivery.specs.Keepers.{EndsByDesk};
 ghost use Rattle.delivery.specs.Rounds.{EndsUnposted};
@@ -10,7 +14,7 @@ use crate::committer::Next;
 use crate::locked::Locked;
 use crate::pass::Pass;
 use crate::worker::Claimed;
-use desk::{Command, CommandTicket, Desk, Refusal, Spent, Ticket, Told};
+use desk::{Command, CommandTicket, Desk, Refusal, Spent, Ticket};
 use group_commit::{Held, WrongTurn};
 use permits::{Foreign, Permit};
 use relay_types::{Body, Moment, MsgId, Name};
@@ -63,6 +67,7 @@ impl<L: Ledger> Shared<L> {
         body: Body,
     ) -> Result<Ticket, Refusal>
         ensures ticket { IfOk result (λ given. (given.name ≡ name) × (given.id ≡ id)) }
+        ensures names { IfErr result (λ why. IsTrue (may_refuse_event why.fault)) }
     {
         let staged = self.locked.lock(rt).submit(now, name, id, body);
         self.staged.notify_one();
@@ -70,17 +75,21 @@ impl<L: Ledger> Shared<L> {
     }
 
     /// Changes an endpoint, and wakes the committer.
-    pub fn command<R: Wait>(&self, rt: &R, command: Command) -> Result<CommandTicket, Refusal> {
+    pub fn command<R: Wait>(&self, rt: &R, command: Command) -> Result<CommandTicket, Refusal>
+        ensures names { IfErr result (λ why. IsTrue (may_refuse command why.fault)) }
+    {
         let staged = self.locked.lock(rt).command(command);
         self.staged.notify_one();
         staged
     }
 
     /// Waits until the submission is settled, or won't be.
-    pub fn wait_for<R: Wait>(&self, rt: &R, ticket: &Ticket) -> MutexGuard<'_, Locked<L>> {
-        self.changed.wait_while(rt, self.locked.lock(rt), |locked| {
-            locked.desk().told(ticket) == Told::Waiting
-        })
+    pub fn wait_for<R: Wait>(&self, rt: &R, ticket: &Ticket) -> MutexGuard<'_, Locked<L>>
+        ensures over { kept.told (mutex_guard_value result).desk ticket.now ≢ Waiting }
+    {
+        let locked = self.locked.lock(rt);
+        self.changed
+            .wait_while(rt, locked, |locked| locked.is_waiting(ticket))
     }
 
     /// Waits until the command is settled, or won't be.
@@ -88,10 +97,12 @@ impl<L: Ledger> Shared<L> {
         &self,
         rt: &R,
         ticket: &CommandTicket,
-    ) -> MutexGuard<'_, Locked<L>> {
-        self.changed.wait_while(rt, self.locked.lock(rt), |locked| {
-            locked.desk().told_command(ticket) == Told::Waiting
-        })
+    ) -> MutexGuard<'_, Locked<L>>
+        ensures over { kept.told_command (mutex_guard_value result).desk ticket.now ≢ Waiting }
+    {
+        let locked = self.locked.lock(rt);
+        self.changed
+            .wait_while(rt, locked, |locked| locked.is_command_waiting(ticket))
     }
 
     /// The desk, to be looked at.
@@ -187,6 +198,7 @@ impl<L: Ledger> Shared<L> {
             let taken = self.locked.lock(rt).halt(held);
             match taken {
                 Ok(()) => {
+                    self.staged.notify_all();
                     self.changed.notify_all();
                     return;
                 }

@@ -1,0 +1,65 @@
+-- What the desk's answers to a claim and to a seal are to those who asked.
+use Rattle.std.specs.Prelude.{ℕ, Bool, true, false, Option, Some, None, Result, Ok, Err}
+use Rattle.spool.specs.Batches.{BatchValue}
+use Rattle.desk.specs.declared.refusal.Fault.{Fault}
+use Rattle.desk.specs.declared.refusal.Fault.TheVariants as fault
+use Rattle.desk.specs.declared.refusal.Refusal.{Refusal}
+use Rattle.desk.specs.Faults.{refusal}
+use Rattle.desk.specs.Claims.{JobValue}
+use Rattle.delivery.specs.declared.committer.CommitterEnd.TheVariants as end
+use Rattle.delivery.specs.declared.committer.HaltCause.TheVariants as cause
+use Rattle.delivery.specs.declared.committer.Next.{Next}
+use Rattle.delivery.specs.declared.committer.Next.TheVariants as next
+use Rattle.delivery.specs.declared.worker.Claimed.{Claimed}
+use Rattle.delivery.specs.declared.worker.Claimed.TheVariants as claimed
+use Rattle.delivery.specs.declared.worker.Round.{Round}
+use Rattle.delivery.specs.declared.worker.Round.TheVariants as round
+
+-- what a submission and a command are refused with once the end was asked for
+abbrev pub halted : Refusal
+halted = refusal 1 fault.Halted
+
+-- how a round ends whose claim is refused: of numbers that are all given out nothing more is posted
+abbrev pub round_of : Fault → Round
+round_of fault.Halted = round.Halted
+round_of fault.UnknownEndpoint = round.Idle
+round_of fault.Conflict = round.Idle
+round_of fault.Exists = round.Idle
+round_of fault.EndpointBacklog = round.Idle
+round_of fault.Backlog = round.Idle
+round_of fault.TooManyEndpoints = round.Idle
+round_of fault.WaitingFull = round.Idle
+round_of fault.SeqExhausted = round.Idle
+round_of fault.BatchOut = round.Idle
+round_of fault.OutOfMemory = round.NoMemory
+
+-- how a round ends whose pass has seen more settled records than are found
+abbrev pub went_back : (seen found : ℕ) → Round
+went_back seen found = round.WentBack (record { seen = seen; found = found })
+
+-- a job, or the end of the round
+abbrev pub claimed_by : {g : _} → Result (Option JobValue) Refusal → Claimed g
+claimed_by (Ok (Some job)) = claimed.Job job
+claimed_by (Ok None) = claimed.Nothing round.Idle
+claimed_by (Err why) = claimed.Nothing (round_of why.fault)
+
+-- what a committer does whose seal is refused
+abbrev pub refused : Fault → Next
+refused fault.Halted = next.End (end.Halted cause.Halted)
+refused fault.UnknownEndpoint = next.End (end.Halted cause.BatchOut)
+refused fault.Conflict = next.End (end.Halted cause.BatchOut)
+refused fault.Exists = next.End (end.Halted cause.BatchOut)
+refused fault.EndpointBacklog = next.End (end.Halted cause.BatchOut)
+refused fault.Backlog = next.End (end.Halted cause.BatchOut)
+refused fault.TooManyEndpoints = next.End (end.Halted cause.BatchOut)
+refused fault.WaitingFull = next.End (end.Halted cause.BatchOut)
+refused fault.SeqExhausted = next.End (end.Halted cause.BatchOut)
+refused fault.BatchOut = next.End (end.Halted cause.BatchOut)
+refused fault.OutOfMemory = next.Refused
+
+-- it commits a batch; where nothing waits it waits, or is finished once the end was asked for
+abbrev pub next_by : (closing : Bool) → Result (Option BatchValue) Refusal → Next
+next_by closing (Ok (Some batch)) = next.Commit batch
+next_by true (Ok None) = next.End end.Finished
+next_by false (Ok None) = next.Wait
+next_by closing (Err why) = refused why.fault
