@@ -1,3 +1,4 @@
+pub mod AnswerLaws
 pub mod MemberLaws
 pub mod OneLine
 pub mod OneReason

@@ -1,3 +1,5 @@
+pub mod Acks
+pub mod Answers
 pub mod Bodies
 pub mod Done
 pub mod Lines

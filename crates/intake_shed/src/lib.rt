@@ -1,6 +1,9 @@
-//! What a request over HTTP asks for, what it is refused with, and the replies, without a socket. No call here waits.
+//! What a request over HTTP asks for, what it is refused with, and the replies, without a socket; and the answer to it over a desk
+//! that threads share. The calls that wait are `submit_and_wait`, `command_and_wait` and `answer`.
 #![tactic(auto)]
 
+mod ack;
+mod answering;
 mod ask;
 mod changes;
 mod done;
@@ -11,7 +14,10 @@ mod reading;
 mod refusals;
 mod reply;
 mod routes;
+mod waits;
 
+pub use crate::ack::Ack;
+pub use crate::answering::answer;
 pub use crate::ask::{Ask, AskBody, Asked};
 pub use crate::done::{accepted_reply, change_reply, change_status};
 pub use crate::fault::AskFault;
@@ -19,3 +25,4 @@ pub use crate::pages::page_reply;
 pub use crate::reading::read_ask;
 pub use crate::refusals::{WaitFault, refusal_reply};
 pub use crate::reply::{Reply, ReplyText};
+pub use crate::waits::{command_and_wait, submit_and_wait};

@@ -1,9 +1,10 @@
 //! The replies to changes and events that aren't done.
 ghost use Rattle.std.specs.Prelude.{◌≡◌};
 ghost use Rattle.intake_shed.specs.Replies.{fault_reply, refusal_reply};
-ghost use Rattle.intake_shed.specs.declared.refusals.WaitFault.TheVariants.{Refused};
+ghost use Rattle.intake_shed.specs.declared.refusals.WaitFault.TheVariants as wait;
 
 use crate::reply::Reply;
+use delivery::WentBack;
 use desk::{Fault, Refusal};
 
 /// Why a change or an event that was waited for isn't told as done.
@@ -18,10 +19,18 @@ pub enum WaitFault {
 }
 
 impl From<Refusal> for WaitFault {
-    ghost from_gives = { λ refusal fault. fault ≡ Refused refusal };
+    ghost from_gives = { λ refusal fault. fault ≡ wait.Refused refusal };
 
     fn from(refusal: Refusal) -> WaitFault {
         WaitFault::Refused(refusal)
+    }
+}
+
+impl From<WentBack> for WaitFault {
+    ghost from_gives = { λ _ fault. fault ≡ wait.WentBack };
+
+    fn from(_: WentBack) -> WaitFault {
+        WaitFault::WentBack
     }
 }
 

@@ -1,0 +1,116 @@
+//! What is asked, as far as `hyper` shows it.
+ghost use Rattle.std.specs.Prelude.{◌≡◌, ◌⊎◌, Err, IfOk, codes, map};
+ghost use Rattle.hyper.specs.declared.error.Error.{Error};
+ghost use Rattle.http_body_util.specs.Collected.{collected_bytes};
+ghost use Rattle.http_body_util.specs.declared.limited.LimitedError.TheVariants.{LengthLimit, Body};
+ghost use Rattle.hyper_intake.specs.Shown.{is_chunked, is_coded, path_shown, values_shown};
+ghost use Rattle.hyper_intake.specs.declared.asking.BodyRead.TheVariants.{Whole, TooLong, NoMemory, Cut};
+
+use bytes::Bytes;
+use delivery::{Pass, Shared};
+use http::header::HeaderMap;
+use http::{Uri, request};
+use http_body_util::{Collected, LimitedError};
+use intake_shed::{Ask, AskBody, AskFault, Reply, answer};
+use relay_host::{HostClock, fresh_id};
+use std::alloc::{AllocError, AllocGlobal, Global};
+use std::random::RandomSource;
+use std::sync::Wait;
+use std::sync::ledger::Ledger;
+use std::time::Clock;
+
+// What came of a body.
+pub(crate) type Gathered = Result<Collected, LimitedError<hyper::Error>>;
+
+// How a body was read.
+pub(crate) enum BodyRead {
+    Whole(Bytes),
+    TooLong,
+    NoMemory,
+    /// It ended early, or wasn't one.
+    Cut,
+}
+
+// The bytes of a body.
+pub(crate) fn read_body(gathered: Gathered) -> BodyRead
+    ensures whole { IfOk gathered (λ collected. (result ≡ Whole (collected_bytes collected)) ⊎ (result ≡ NoMemory)) }
+    ensures long { gathered ≡ Err LengthLimit → result ≡ TooLong }
+    ensures cut { (error : Error) → gathered ≡ Err (Body error) → (result ≡ Cut) ⊎ (result ≡ NoMemory) }
+{
+    match gathered {
+        Ok(collected) => match collected.to_bytes() {
+            Ok(bytes) => BodyRead::Whole(bytes),
+            Err(AllocError) => BodyRead::NoMemory,
+        },
+        Err(LimitedError::LengthLimit) => BodyRead::TooLong,
+        Err(LimitedError::Body(error)) if error.is_out_of_memory() => BodyRead::NoMemory,
+        Err(LimitedError::Body(_)) => BodyRead::Cut,
+    }
+}
+
+// The reply to the request.
+pub(crate) fn reply_to<R, L>(
+    rt: &R,
+    shared: &Shared<L>,
+    head: &request::Parts,
+    body: AskBody<'_>,
+) -> Reply
+where
+    R: Wait + Clock + RandomSource + AllocGlobal,
+    L: Ledger,
+{
+    let Ok(ids) = ids_of(rt.alloc(), &head.headers) else {
+        return AskFault::OutOfMemory.reply();
+    };
+    let Ok(fresh) = fresh_id(rt) else {
+        return AskFault::OutOfMemory.reply();
+    };
+    let ask = Ask {
+        method: head.method.as_str().as_bytes(),
+        path: path_of(&head.uri),
+        ids: ids.as_slice(),
+        body,
+    };
+    let now = delivery::Clock::now(&HostClock::new(rt));
+    answer(rt, rt.alloc(), shared, &ask, fresh, now, &mut Pass::new())
+}
+
+// The path with its query, as it was sent up to a `#`. Of a target in absolute form it is what follows the authority, and a target that
+// is an authority alone has none.
+fn path_of(uri: &Uri) -> &[u8]
+    ensures { result.now ≡ path_shown uri.now }
+{
+    match uri.path_and_query() {
+        Some(path) => path.as_str().as_bytes(),
+        None => b"",
+    }
+}
+
+// The values of all headers `webhook-id`.
+fn ids_of(alloc: Global, headers: &HeaderMap) -> Result<Vec<&[u8]>, AllocError>
+    ensures { IfOk result (λ ids. map (λ id. id.now) ids.items ≡ values_shown headers.now (codes "webhook-id")) }
+{
+    let mut ids = Vec::new(alloc);
+    for id in headers.get_all("webhook-id") {
+        ids.push(id.as_bytes())?;
+    }
+    Ok(ids)
+}
+
+// Whether the body was sent in another coding than chunks, of which nothing is known here (RFC 9112, section 6.1).
+pub(crate) fn is_coded(headers: &HeaderMap) -> bool
+    ensures { result ≡ is_coded headers.now }
+{
+    for coding in headers.get_all("transfer-encoding") {
+        if !is_chunked(coding.as_bytes()) {
+            return true;
+        }
+    }
+    false
+}
+
+fn is_chunked(coding: &[u8]) -> bool
+    ensures { result ≡ is_chunked coding.now }
+{
+    coding.eq_ignore_ascii_case(b"chunked")
+}

@@ -1,0 +1,9 @@
+//! Posts to subscribers over sockets: a connection of its own for each request.
+#![tactic(auto)]
+
+mod exchange;
+mod failure;
+mod poster;
+mod request;
+
+pub use crate::poster::HyperPoster;

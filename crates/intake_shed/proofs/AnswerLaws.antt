@@ -1,0 +1,72 @@
+-- The answer to what is asked for is that to the request.
+use Rattle.std.proofs.Common.{◌≡◌, ◌<◌, ℕ, Bool, true, false, Ok, Err, IsTrue, ◌⊎◌, inl, inr, refl, subst}
+use Rattle.std.specs.Prelude.{Result, IfOk, IfErr}
+use Rattle.relay_types.specs.Values.{Text}
+use Rattle.desk.specs.declared.command.Command.{Command}
+use Rattle.intake_shed.specs.Acks.{AckValue, IsOfEvent}
+use Rattle.intake_shed.specs.Answers.{Answers, AcceptsEvent, FailsBy, GivesPageAt, IsNoRefusal, IsTold, OrLacksMemory, may_fail, may_fail_event}
+use Rattle.intake_shed.specs.Pages.{asks_for_page}
+use Rattle.intake_shed.specs.Replies.{ask_reply, out_of_memory}
+use Rattle.intake_shed.specs.Requests.{Gives, Tells}
+use Rattle.intake_shed.specs.declared.ask.Asked.{Asked}
+use Rattle.intake_shed.specs.declared.ask.Asked.TheVariants as asked
+use Rattle.intake_shed.specs.declared.fault.AskFault.{AskFault}
+use Rattle.intake_shed.specs.declared.refusals.WaitFault.{WaitFault}
+use Rattle.intake_shed.specs.declared.refusals.WaitFault.TheVariants as wait
+use Rattle.intake_shed.specs.declared.reply.Reply.{Reply}
+
+-- an event and a change may both go back, and be unknown
+pub event_may_fail : (why : WaitFault) → IsNoRefusal why → IsTrue (may_fail_event why)
+event_may_fail (wait.Refused refusal) h = absurd h
+event_may_fail wait.Unknown h = refl
+event_may_fail wait.WentBack h = refl
+
+pub change_may_fail : (command : Command) (why : WaitFault) → IsNoRefusal why → IsTrue (may_fail command why)
+change_may_fail command (wait.Refused refusal) h = absurd h
+change_may_fail command wait.Unknown h = refl
+change_may_fail command wait.WentBack h = refl
+
+-- an event that was waited for is acknowledged, or isn't
+pub told_event : (name id body : Text) (seen : ℕ) (waited : Result AckValue WaitFault) (reply : Reply) → IfOk waited (λ ack. IsOfEvent ack name id body) → IfOk waited (λ ack. ack.seq < seen)
+    → IfErr waited (λ why. IsTrue (may_fail_event why)) → IsTold waited reply → AcceptsEvent name id body seen reply ⊎ FailsBy may_fail_event reply
+told_event name id body seen (Ok ack) reply event below may told = inl (ack, event, below, told)
+told_event name id body seen (Err why) reply event below may told = inr (why, may, told)
+
+-- a page that is asked for
+pub page_answers : (what : Asked) (seen : ℕ) (reply : Reply) → IsTrue (asks_for_page what) → GivesPageAt what seen reply → Answers what seen reply
+page_answers (asked.Change command) seen reply asks given = cc
+page_answers (asked.Post name id body) seen reply asks given = cc
+page_answers asked.Totals seen reply asks given = given
+page_answers (asked.Endpoint name) seen reply asks given = given
+page_answers (asked.Event name id) seen reply asks given = given
+
+abbrev was_read : Asked → Result Asked Reply
+was_read what = Ok what
+
+abbrev was_refused : Reply → Result Asked Reply
+was_refused reply = Err reply
+
+same_asked : (a b : Asked) → was_read a ≡ was_read b → a ≡ b
+same_asked a b e = cc
+
+same_reply : (a b : Reply) → was_refused a ≡ was_refused b → a ≡ b
+same_reply a b e = cc
+
+-- what is asked for is the one thing that the request asks for
+pub answers_what : (read what : Asked) (seen : ℕ) (reply : Reply) → Gives (Ok read) what → Answers read seen reply → OrLacksMemory (Answers what seen reply) reply
+answers_what read what seen reply (inl e) h = inl (subst (λ (a : Asked). Answers a seen reply) (same_asked read what e) h)
+answers_what read what seen reply (inr e) h = cc
+
+-- what isn't read though it asks for something lacks memory
+pub not_read_lacks : (what : Asked) (P : Type 0) (reply : Reply) → Gives (Err reply) what → OrLacksMemory P reply
+not_read_lacks what P reply (inl e) = cc
+not_read_lacks what P reply (inr e) = inr (same_reply reply out_of_memory e)
+
+-- what is refused isn't read
+pub read_not_refused : (read : Asked) (why : AskFault) → Tells (Ok read) why → ⊥
+read_not_refused read why (inl e) = cc
+read_not_refused read why (inr e) = cc
+
+pub refused_so : (why : AskFault) (reply : Reply) → Tells (Err reply) why → OrLacksMemory (reply ≡ ask_reply why) reply
+refused_so why reply (inl e) = inl (same_reply reply (ask_reply why) e)
+refused_so why reply (inr e) = inr (same_reply reply out_of_memory e)

@@ -1,0 +1,74 @@
+-- What the answer to a request is, once its caller has seen so many records settled.
+use Rattle.std.specs.Prelude.{◌≡◌, ◌<◌, ◌⊎◌, ℕ, Bool, true, Result, Ok, Err, IsTrue}
+use Rattle.relay_types.specs.Values.{Text, Seq}
+use Rattle.desk.specs.declared.command.Command.{Command}
+use Rattle.desk.specs.Desks.{DeskValue}
+use Rattle.desk.specs.Faults as desk
+use Rattle.intake_shed.specs.Acks.{AckValue, IsOfEvent}
+use Rattle.intake_shed.specs.Done.{IsDone, change_status, change_text, accepted_text}
+use Rattle.intake_shed.specs.Pages.{RepliesBy}
+use Rattle.intake_shed.specs.Replies.{out_of_memory, refusal_reply}
+use Rattle.intake_shed.specs.Requests.{AsksFor}
+use Rattle.intake_shed.specs.declared.ask.Ask.{Ask}
+use Rattle.intake_shed.specs.declared.ask.Asked.{Asked}
+use Rattle.intake_shed.specs.declared.ask.Asked.TheVariants as asked
+use Rattle.intake_shed.specs.declared.refusals.WaitFault.{WaitFault}
+use Rattle.intake_shed.specs.declared.refusals.WaitFault.TheVariants as wait
+use Rattle.intake_shed.specs.declared.reply.Reply.{Reply}
+
+-- whether an event that was submitted and waited for may not be told as settled for this
+abbrev pub may_fail_event : WaitFault → Bool
+may_fail_event (wait.Refused refusal) = desk.may_refuse_event refusal.fault
+may_fail_event wait.Unknown = true
+may_fail_event wait.WentBack = true
+
+-- the same of a change
+abbrev pub may_fail : Command → WaitFault → Bool
+may_fail command (wait.Refused refusal) = desk.may_refuse command refusal.fault
+may_fail command wait.Unknown = true
+may_fail command wait.WentBack = true
+
+-- it isn't the desk that refused
+abbrev pub IsNoRefusal : WaitFault → Type 0
+IsNoRefusal (wait.Refused refusal) = ⊥
+IsNoRefusal wait.Unknown = Unit {0}
+IsNoRefusal wait.WentBack = Unit {0}
+
+-- the reply of one of these faults
+abbrev pub FailsBy : (may : WaitFault → Bool) → Reply → Type 0
+FailsBy may reply = (why : WaitFault) × IsTrue (may why) × (reply ≡ refusal_reply why)
+
+-- the reply to an event that was waited for: it is acknowledged, or it isn't for this
+abbrev pub IsTold : Result AckValue WaitFault → Reply → Type 0
+IsTold (Ok ack) reply = IsDone 202 (accepted_text ack.id ack.seq) reply
+IsTold (Err why) reply = reply ≡ refusal_reply why
+
+-- the event is acknowledged, and was seen to be settled
+abbrev pub AcceptsEvent : (name id body : Text) (seen : ℕ) → Reply → Type 0
+AcceptsEvent name id body seen reply =
+    (ack : AckValue) × IsOfEvent ack name id body × (ack.seq < seen) × IsDone 202 (accepted_text ack.id ack.seq) reply
+
+-- the change is told by its record's number, and was seen to be settled
+abbrev pub TakesChange : Command → (seen : ℕ) → Reply → Type 0
+TakesChange command seen reply = (seq : Seq) × (seq < seen) × IsDone (change_status command) (change_text seq) reply
+
+-- the page of a desk that has so many records settled, or no page of it
+abbrev pub GivesPageAt : Asked → (seen : ℕ) → Reply → Type 0
+GivesPageAt what seen reply =
+    ((desk : DeskValue) × (desk.waiting.settled ≡ seen) × RepliesBy desk what reply) ⊎ (reply ≡ refusal_reply wait.WentBack)
+
+-- The answer to what is asked for, where so many records were then seen as settled.
+abbrev pub Answers : Asked → (seen : ℕ) → Reply → Type 0
+Answers (asked.Change command) seen reply = TakesChange command seen reply ⊎ FailsBy (may_fail command) reply
+Answers (asked.Post name id body) seen reply = AcceptsEvent name id body seen reply ⊎ FailsBy may_fail_event reply
+Answers asked.Totals seen reply = GivesPageAt asked.Totals seen reply
+Answers (asked.Endpoint name) seen reply = GivesPageAt (asked.Endpoint name) seen reply
+Answers (asked.Event name id) seen reply = GivesPageAt (asked.Event name id) seen reply
+
+-- the same to a request
+abbrev pub AnswersAsk : Ask → (fresh : Text) (seen : ℕ) → Reply → Type 0
+AnswersAsk ask fresh seen reply = (what : Asked) × AsksFor ask fresh what × Answers what seen reply
+
+-- it is so, or memory is lacking
+abbrev pub OrLacksMemory : Type 0 → Reply → Type 0
+OrLacksMemory IsSo reply = IsSo ⊎ (reply ≡ out_of_memory)
