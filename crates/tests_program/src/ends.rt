@@ -1,116 +1,147 @@
 // How commands end, and that they get on with readers and writers that give or take little.
 
 use crate::program::{EXAMPLE, EXAMPLE_BODY, SCRIPT, SECRET};
-use crate::streams::{Calls, Streams, Writer, check, tell_through};
-use relay_commands::{CommandFault, end, sign};
+use crate::streams::{Calls, Streams, Writer, check, holds, tell_through};
+use relay_commands::{CommandFault, StoreFault, end, sign};
 use std::alloc::{AllocError, Global};
-use std::io::Read;
+use std::process::Abort;
 use std::test::Fail;
 use text_lines::StreamFault;
 
-fn slow(interrupted: u32) -> Streams {
-    let calls = Calls::slow(interrupted);
-    Streams {
-        input: calls,
-        output: calls,
-        errors: calls,
-    }
+/// A long text that is read, or told, a byte at a time.
+#[derive(Clone, Copy)]
+struct Long {
+    words: &'static [&'static str],
+    line: &'static str,
+    count: usize,
+    rest: &'static str,
+    reply: &'static str,
+    end: &'static str,
+    errors: &'static str,
+    status: u8,
 }
 
-// Over 1,500 reads of one byte, and a fault that is told byte by byte.
+// Over 1,500 reads of one byte, and a fault that is told byte by byte. The header is that of Python's hmac.
+const LONG: &[Long] = &[
+    Long {
+        words: &["relayd", "replay"],
+        line: "seal\n",
+        count: 300,
+        rest: "fly\n",
+        reply: "nothing\n",
+        end: "",
+        errors: "relayd: line 301: bad line\n",
+        status: 2,
+    },
+    Long {
+        words: &["relayd", "sign", "msg_1", "1000", SECRET],
+        line: "aaaaa",
+        count: 300,
+        rest: "",
+        reply: "",
+        end: "v1,EMvyJS7ChJFPhceI/ew8iUyUewHL/lPPEPqSM5LF0Qw=\n",
+        errors: "",
+        status: 0,
+    },
+];
+
+// Which call is interrupted, if any is.
+const INTERRUPTED: &[u32] = &[1, 2, 40, 100_000];
+
+fn repeated(alloc: Global, text: &str, count: usize, rest: &str) -> Result<String, Fail> {
+    let many = text.repeat(alloc, count)?;
+    Ok(format!(in alloc; "{many}{rest}")?)
+}
+
 #[test]
 fn gets_on_a_byte_at_a_time(rt: HostRuntime) -> Result<(), Fail> {
-    let mut script = "seal\n".repeat(rt.alloc(), 300)?;
-    script.push_str("fly\n")?;
-    let replies = "nothing\n".repeat(rt.alloc(), 300)?;
-    for interrupted in [1, 2, 40, 100_000] {
-        let words = ["relayd", "replay"];
-        let told = tell_through(&rt, slow(interrupted), &words, script.as_bytes());
-        check(
-            &rt,
-            &told,
-            replies.as_str(),
-            "relayd: line 301: bad line\n",
-            2,
-        );
+    for (place, long) in LONG.iter().enumerate() {
+        let text = repeated(rt.alloc(), long.line, long.count, long.rest)?;
+        let output = repeated(rt.alloc(), long.reply, long.count, long.end)?;
+        for interrupted in INTERRUPTED {
+            let streams = Streams::of(Calls::slow(*interrupted));
+            let told = tell_through(&rt, streams, long.words, text.as_bytes());
+            check(&rt, &told, output.as_str(), long.errors, long.status, place);
+        }
     }
     Ok(())
 }
 
-// The header is that of Python's hmac.
-#[test]
-fn signs_a_body_a_byte_at_a_time(rt: HostRuntime) -> Result<(), Fail> {
-    let body = vec![in rt.alloc(); b'a'; 1500]?;
-    let header = "v1,EMvyJS7ChJFPhceI/ew8iUyUewHL/lPPEPqSM5LF0Qw=\n";
-    for interrupted in [1, 2, 40, 100_000] {
-        let words = ["relayd", "sign", "msg_1", "1000", SECRET];
-        let told = tell_through(&rt, slow(interrupted), &words, body.as_slice());
-        check(&rt, &told, header, "", 0);
-    }
-    Ok(())
+/// A run whose reader or writer fails: what is written before, and what is told.
+#[derive(Clone, Copy)]
+struct Broken {
+    words: &'static [&'static str],
+    text: &'static str,
+    // The most bytes of a read and how many reads are answered, and the same of writes.
+    input: (usize, u32),
+    output: (usize, u32),
+    written: &'static str,
+    told: &'static str,
 }
+
+const WHOLE: (usize, u32) = (usize::MAX, u32::MAX);
+
+const BROKEN: &[Broken] = &[
+    Broken {
+        words: &["relayd", "replay"],
+        text: SCRIPT,
+        input: (7, 12),
+        output: WHOLE,
+        written: "staged 0\nsealed 0..1\n",
+        told: "relayd: Read\n",
+    },
+    Broken {
+        words: &["relayd", "replay"],
+        text: SCRIPT,
+        input: WHOLE,
+        output: (100, 3),
+        written: "staged 0\nsealed 0..1\ncommitted 1\n",
+        told: "relayd: Write\n",
+    },
+    Broken {
+        words: &["relayd", "replay"],
+        text: SCRIPT,
+        input: WHOLE,
+        output: (0, u32::MAX),
+        written: "",
+        told: "relayd: Write\n",
+    },
+    Broken {
+        words: EXAMPLE,
+        text: EXAMPLE_BODY,
+        input: (7, 3),
+        output: WHOLE,
+        written: "",
+        told: "relayd: Read\n",
+    },
+    Broken {
+        words: EXAMPLE,
+        text: EXAMPLE_BODY,
+        input: WHOLE,
+        output: (100, 0),
+        written: "",
+        told: "relayd: Write\n",
+    },
+    Broken {
+        words: &["relayd", "--help"],
+        text: "",
+        input: WHOLE,
+        output: (100, 0),
+        written: "",
+        told: "relayd: Write\n",
+    },
+];
 
 #[test]
 fn ends_where_a_reader_or_a_writer_fails(rt: HostRuntime) {
-    let replay: &[&str] = &["relayd", "replay"];
-    let help: &[&str] = &["relayd", "--help"];
-    let script = SCRIPT.as_bytes();
-    let whole = Calls::WHOLE;
-    for (words, text, input, output, written, told) in [
-        (
-            replay,
-            script,
-            Calls::of(7, 12),
-            whole,
-            "staged 0\nsealed 0..1\n",
-            "relayd: Read\n",
-        ),
-        (
-            replay,
-            script,
-            whole,
-            Calls::of(100, 3),
-            "staged 0\nsealed 0..1\ncommitted 1\n",
-            "relayd: Write\n",
-        ),
-        (
-            replay,
-            script,
-            whole,
-            Calls::of(0, u32::MAX),
-            "",
-            "relayd: Write\n",
-        ),
-        (
-            EXAMPLE,
-            EXAMPLE_BODY,
-            Calls::of(7, 3),
-            whole,
-            "",
-            "relayd: Read\n",
-        ),
-        (
-            EXAMPLE,
-            EXAMPLE_BODY,
-            whole,
-            Calls::of(100, 0),
-            "",
-            "relayd: Write\n",
-        ),
-        (help, b"", whole, Calls::of(100, 0), "", "relayd: Write\n"),
-    ] {
+    for (place, broken) in BROKEN.iter().enumerate() {
         let streams = Streams {
-            input,
-            output,
-            errors: whole,
+            input: Calls::of(broken.input.0, broken.input.1),
+            output: Calls::of(broken.output.0, broken.output.1),
+            errors: Calls::WHOLE,
         };
-        check(
-            &rt,
-            &tell_through(&rt, streams, words, text),
-            written,
-            told,
-            3,
-        );
+        let told = tell_through(&rt, streams, broken.words, broken.text.as_bytes());
+        check(&rt, &told, broken.written, broken.told, 3, place);
     }
 }
 
@@ -129,25 +160,42 @@ fn refuses_no_secret(rt: HostRuntime) {
         &mut output,
         &mut errors,
     );
-    assert_eq!(rt; status, 1);
-    assert_eq!(rt; output.bytes.len(), 0);
-    assert_eq!(rt; errors.bytes.as_slice(), b"relayd: BadSecret\n".as_slice());
+    holds(&rt, status == 1, "status", 0);
+    holds(&rt, output.bytes.is_empty(), "output", 0);
+    let is_told = errors.bytes.as_slice() == b"relayd: BadSecret\n".as_slice();
+    holds(&rt, is_told, "standard error", 0);
 }
 
-// The faults that no other test tells, and the longest line.
+// The longest line.
+const LAST_LINE: StreamFault = StreamFault::BadLine(u64::MAX);
+
+fn tells(alloc: Global, rt: &impl Abort, fault: CommandFault, text: &str, status: u8) {
+    let mut errors = Writer::new(alloc, Calls::slow(3));
+    holds(rt, end(&mut errors, Err(fault)) == status, text, 0);
+    holds(rt, errors.bytes.as_slice() == text.as_bytes(), text, 1);
+}
+
+// The faults that no other test tells.
 #[test]
 fn tells_each_fault(rt: HostRuntime) {
-    for (fault, text, status) in [
-        (
-            CommandFault::Ended(StreamFault::BadLine(u64::MAX)),
-            "relayd: line 18446744073709551615: bad line\n",
-            2,
-        ),
-        (CommandFault::Ended(StreamFault::Lost), "relayd: Lost\n", 3),
-        (CommandFault::from(AllocError), "relayd: OutOfMemory\n", 3),
-    ] {
-        let mut errors = Writer::new(rt.alloc(), Calls::slow(3));
-        assert_eq!(rt; end(&mut errors, Err(fault)), status);
-        assert_eq!(rt; errors.bytes.as_slice(), text.as_bytes());
-    }
+    tells(
+        rt.alloc(),
+        &rt,
+        CommandFault::Ended(LAST_LINE),
+        "relayd: line 18446744073709551615: bad line\n",
+        2,
+    );
+    let alloc = rt.alloc();
+    let lost = CommandFault::Ended(StreamFault::Lost);
+    tells(alloc, &rt, lost, "relayd: Lost\n", 3);
+    let no_memory = CommandFault::from(AllocError);
+    tells(alloc, &rt, no_memory, "relayd: OutOfMemory\n", 3);
+    tells_store(&rt, alloc, StoreFault::Busy, "relayd: Busy\n");
+    tells_store(&rt, alloc, StoreFault::CannotOpen, "relayd: CannotOpen\n");
+    tells_store(&rt, alloc, StoreFault::Corrupt, "relayd: Corrupt\n");
+    tells_store(&rt, alloc, StoreFault::Full, "relayd: Full\n");
+}
+
+fn tells_store(rt: &impl Abort, alloc: Global, fault: StoreFault, text: &str) {
+    tells(alloc, rt, CommandFault::Store(fault), text, 3);
 }

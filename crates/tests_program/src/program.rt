@@ -1,7 +1,23 @@
 // The commands over readers and writers in memory. Expected texts are those of the rules, worked by hand.
 
-use crate::streams::{check, tell};
+use crate::streams::{check, holds, tell};
+use std::alloc::Global;
+use std::process::Abort;
 use std::test::Fail;
+
+/// What the program is told, and what it has to tell of each of these texts.
+#[derive(Clone, Copy)]
+struct Run {
+    words: &'static [&'static str],
+    texts: &'static [&'static str],
+    output: &'static str,
+    errors: &'static str,
+    status: u8,
+}
+
+const REPLAY: &[&str] = &["relayd", "replay"];
+
+const VEGAS: &[&str] = &["relayd", "vegas", "1000"];
 
 // The first path, and then each reply and refusal that a short script can have.
 pub(crate) const SCRIPT: &str =
@@ -153,23 +169,60 @@ disabled pending 1 delivered 0 exhausted 0
 waiting
 ";
 
-#[test]
-fn replays_scripts(rt: HostRuntime) {
-    for (script, replies) in [
-        ("", ""),
-        (SCRIPT, REPLIES),
-        (TAKEN_BACK, TAKEN_BACK_REPLIES),
-        (HALTED, HALTED_REPLIES),
-        (CHANGED, CHANGED_REPLIES),
-    ] {
-        let told = tell(&rt, &["relayd", "replay"], script.as_bytes());
-        check(&rt, &told, replies, "", 0);
-    }
-}
+pub(crate) const SECRET: &str = "whsec_MDEyMzQ1Njc4OTAxMjM0NTY3ODkwMTIz";
 
-#[test]
-fn refuses_bad_lines(rt: HostRuntime) {
-    for line in [
+// The example of Standard Webhooks 1.0.0.
+pub(crate) const EXAMPLE: &[&str] = &[
+    "relayd",
+    "sign",
+    "msg_p5jXN8AQM9LWM0D4loKWxJek",
+    "1614265330",
+    "whsec_MfKQ9r8GKYqrTwjUPD8ILPZIo2LaLaSw",
+];
+
+pub(crate) const EXAMPLE_BODY: &str = "{\"test\": 2432232314}";
+
+const SCRIPTS: &[Run] = &[
+    Run {
+        words: REPLAY,
+        texts: &[""],
+        output: "",
+        errors: "",
+        status: 0,
+    },
+    Run {
+        words: REPLAY,
+        texts: &[SCRIPT],
+        output: REPLIES,
+        errors: "",
+        status: 0,
+    },
+    Run {
+        words: REPLAY,
+        texts: &[TAKEN_BACK],
+        output: TAKEN_BACK_REPLIES,
+        errors: "",
+        status: 0,
+    },
+    Run {
+        words: REPLAY,
+        texts: &[HALTED],
+        output: HALTED_REPLIES,
+        errors: "",
+        status: 0,
+    },
+    Run {
+        words: REPLAY,
+        texts: &[CHANGED],
+        output: CHANGED_REPLIES,
+        errors: "",
+        status: 0,
+    },
+];
+
+const BAD_LINES: &[Run] = &[Run {
+    words: REPLAY,
+    texts: &[
         "\n",
         "fly\n",
         "seal \n",
@@ -188,167 +241,334 @@ fn refuses_bad_lines(rt: HostRuntime) {
         "show\n",
         "show A\n",
         "show a b c\n",
-    ] {
-        let told = tell(&rt, &["relayd", "replay"], line.as_bytes());
-        check(&rt, &told, "", "relayd: line 1: bad line\n", 2);
-    }
-}
+    ],
+    output: "",
+    errors: "relayd: line 1: bad line\n",
+    status: 2,
+}];
 
-// 140,001 bytes and a line feed, and one byte less.
-#[test]
-fn bounds_a_line(rt: HostRuntime) -> Result<(), Fail> {
-    let mut line = vec![in rt.alloc(); b'a'; 140_001]?;
-    line.push(b'\n')?;
-    let told = tell(&rt, &["relayd", "replay"], line.as_slice());
-    check(&rt, &told, "", "relayd: TooLong\n", 2);
-    let told = tell(&rt, &["relayd", "replay"], &line.as_slice()[1..]);
-    check(&rt, &told, "", "relayd: line 1: bad line\n", 2);
-    Ok(())
-}
-
-pub(crate) const SECRET: &str = "whsec_MDEyMzQ1Njc4OTAxMjM0NTY3ODkwMTIz";
-
-// The example of Standard Webhooks 1.0.0.
-pub(crate) const EXAMPLE: &[&str] = &[
-    "relayd",
-    "sign",
-    "msg_p5jXN8AQM9LWM0D4loKWxJek",
-    "1614265330",
-    "whsec_MfKQ9r8GKYqrTwjUPD8ILPZIo2LaLaSw",
+const ARGUMENTS: &[Run] = &[
+    Run {
+        words: &["relayd", "sign", "a.b", "x", "y"],
+        texts: &[""],
+        output: "",
+        errors: "relayd: BadId\n",
+        status: 1,
+    },
+    Run {
+        words: &["relayd", "sign", "msg_1", "01", "y"],
+        texts: &[""],
+        output: "",
+        errors: "relayd: BadMoment\n",
+        status: 1,
+    },
+    Run {
+        words: &["relayd", "sign", "msg_1", "1099511627777", "y"],
+        texts: &[""],
+        output: "",
+        errors: "relayd: BadMoment\n",
+        status: 1,
+    },
+    Run {
+        words: &["relayd", "sign", "msg_1", "1000", "y"],
+        texts: &[""],
+        output: "",
+        errors: "relayd: BadSecret\n",
+        status: 1,
+    },
+    Run {
+        words: &[
+            "relayd", "sign", "msg_1", "1000", SECRET, SECRET, SECRET, SECRET, SECRET,
+        ],
+        texts: &[""],
+        output: "",
+        errors: "relayd: BadSecret\n",
+        status: 1,
+    },
+    Run {
+        words: &["relayd", "vegas", "1001"],
+        texts: &[""],
+        output: "",
+        errors: "relayd: BadMax\n",
+        status: 1,
+    },
 ];
 
-pub(crate) const EXAMPLE_BODY: &[u8] = b"{\"test\": 2432232314}";
+const SAMPLES: &[Run] = &[
+    Run {
+        words: VEGAS,
+        texts: &[
+            "100000 1 ok\n100000 10 ok\n100000 12 ok\n100000 13 ok\n110000 16 ok\n105000 16 ok\n200000 17 ok\n200000 17 drop\n",
+        ],
+        output: "20 100000\n26 100000\n26 100000\n32 100000\n32 100000\n33 100000\n32 100000\n31 100000\n",
+        errors: "",
+        status: 0,
+    },
+    Run {
+        words: VEGAS,
+        texts: &[
+            "100000 1 ok\n100000 0 ok\n",
+            "100000 1 ok\n100000 1001 drop\n",
+            "100000 1 ok\n9223372036854775808 1 ok\n",
+            "100000 1 ok\n1 1 okay\n",
+        ],
+        output: "20 100000\n",
+        errors: "relayd: line 2: bad line\n",
+        status: 2,
+    },
+    Run {
+        words: VEGAS,
+        texts: &["9223372036854775807 1 ok\n"],
+        output: "20 3600000000\n",
+        errors: "",
+        status: 0,
+    },
+];
 
-#[test]
-fn signs_the_example(rt: HostRuntime) {
-    let told = tell(&rt, EXAMPLE, EXAMPLE_BODY);
-    let header = "v1,g0hM9SsE+OTPJTGt/tmIKtSyZlE3uFJELVlNIOLJ1OE=\n";
-    check(&rt, &told, header, "", 0);
+// A signature for each of one to four secrets, each as Python's hmac makes it.
+const SIGNATURES: &[Run] = &[
+    Run {
+        words: &["relayd", "sign", "msg_1", "1000", SECRET],
+        texts: &[""],
+        output: "v1,SWmnEwHTCxM5LOV+bjJ4VJ8UF8MOq1/kZ1YxmYp0p4g=\n",
+        errors: "",
+        status: 0,
+    },
+    Run {
+        words: &["relayd", "sign", "msg_1", "1000", SECRET, SECRET],
+        texts: &[""],
+        output: "v1,SWmnEwHTCxM5LOV+bjJ4VJ8UF8MOq1/kZ1YxmYp0p4g= v1,SWmnEwHTCxM5LOV+bjJ4VJ8UF8MOq1/kZ1YxmYp0p4g=\n",
+        errors: "",
+        status: 0,
+    },
+    Run {
+        words: &["relayd", "sign", "msg_1", "1000", SECRET, SECRET, SECRET],
+        texts: &[""],
+        output: "v1,SWmnEwHTCxM5LOV+bjJ4VJ8UF8MOq1/kZ1YxmYp0p4g= v1,SWmnEwHTCxM5LOV+bjJ4VJ8UF8MOq1/kZ1YxmYp0p4g= v1,SWmnEwHTCxM5LOV+bjJ4VJ8UF8MOq1/kZ1YxmYp0p4g=\n",
+        errors: "",
+        status: 0,
+    },
+    Run {
+        words: &[
+            "relayd", "sign", "msg_1", "1000", SECRET, SECRET, SECRET, SECRET,
+        ],
+        texts: &[""],
+        output: "v1,SWmnEwHTCxM5LOV+bjJ4VJ8UF8MOq1/kZ1YxmYp0p4g= v1,SWmnEwHTCxM5LOV+bjJ4VJ8UF8MOq1/kZ1YxmYp0p4g= v1,SWmnEwHTCxM5LOV+bjJ4VJ8UF8MOq1/kZ1YxmYp0p4g= v1,SWmnEwHTCxM5LOV+bjJ4VJ8UF8MOq1/kZ1YxmYp0p4g=\n",
+        errors: "",
+        status: 0,
+    },
+];
+
+const OTHERS: &[Run] = &[
+    Run {
+        words: EXAMPLE,
+        texts: &[EXAMPLE_BODY],
+        output: "v1,g0hM9SsE+OTPJTGt/tmIKtSyZlE3uFJELVlNIOLJ1OE=\n",
+        errors: "",
+        status: 0,
+    },
+    Run {
+        words: &["relayd", "--version"],
+        texts: &[""],
+        output: "relayd 0.1.0\n",
+        errors: "",
+        status: 0,
+    },
+];
+
+fn walk(host: &HostRuntime, rt: &impl Abort, runs: &[Run]) {
+    for (place, run) in runs.iter().enumerate() {
+        for text in run.texts {
+            let told = tell(host, run.words, text.as_bytes());
+            check(rt, &told, run.output, run.errors, run.status, place);
+        }
+    }
 }
 
-// A signature for each of one to four secrets, and no more.
 #[test]
-fn signs_by_four_secrets(rt: HostRuntime) {
-    let words = [
-        "relayd", "sign", "msg_1", "1000", SECRET, SECRET, SECRET, SECRET, SECRET,
-    ];
-    for count in 1..5 {
-        let told = tell(&rt, &words[..count + 4], b"");
-        assert_eq!(rt; told.status, 0);
-        assert_eq!(rt; told.output.len(), 48 * count);
-    }
-    let told = tell(&rt, &words, b"");
-    check(&rt, &told, "", "relayd: BadSecret\n", 1);
+fn replays_scripts(rt: HostRuntime) {
+    walk(&rt, &rt, SCRIPTS);
+}
+
+#[test]
+fn refuses_bad_lines(rt: HostRuntime) {
+    walk(&rt, &rt, BAD_LINES);
 }
 
 #[test]
 fn refuses_arguments(rt: HostRuntime) {
-    for (id, at, secret, errors) in [
-        ("a.b", "x", "y", "relayd: BadId\n"),
-        ("msg_1", "01", "y", "relayd: BadMoment\n"),
-        ("msg_1", "1099511627777", "y", "relayd: BadMoment\n"),
-        ("msg_1", "1000", "y", "relayd: BadSecret\n"),
-    ] {
-        let told = tell(&rt, &["relayd", "sign", id, at, secret], b"");
-        check(&rt, &told, "", errors, 1);
-    }
-    let told = tell(&rt, &["relayd", "vegas", "1001"], b"");
-    check(&rt, &told, "", "relayd: BadMax\n", 1);
-}
-
-// 65,537 bytes, and one less.
-#[test]
-fn bounds_a_body(rt: HostRuntime) -> Result<(), Fail> {
-    let words = ["relayd", "sign", "msg_1", "1000", SECRET];
-    let body = vec![in rt.alloc(); b'a'; 65_537]?;
-    let told = tell(&rt, &words, body.as_slice());
-    check(&rt, &told, "", "relayd: TooLong\n", 2);
-    let told = tell(&rt, &words, &body.as_slice()[1..]);
-    assert_eq!(rt; told.status, 0);
-    Ok(())
-}
-
-// The same of an event, whose body is written in hexadecimal.
-#[test]
-fn bounds_the_body_of_an_event(rt: HostRuntime) -> Result<(), Fail> {
-    for (count, output, errors, status) in [
-        (65_537, "", "relayd: line 1: bad line\n", 2),
-        (65_536, "refused 2 UnknownEndpoint\n", "", 0),
-    ] {
-        let body = "7b".repeat(rt.alloc(), count)?;
-        let line = format!(in rt.alloc(); "submit 1 a m {body}")?;
-        let told = tell(&rt, &["relayd", "replay"], line.as_bytes());
-        check(&rt, &told, output, errors, status);
-    }
-    Ok(())
+    walk(&rt, &rt, ARGUMENTS);
 }
 
 #[test]
 fn follows_samples(rt: HostRuntime) {
-    let words = ["relayd", "vegas", "1000"];
-    let samples =
-        b"100000 1 ok\n100000 10 ok\n100000 12 ok\n100000 13 ok\n110000 16 ok\n105000 16 ok\n200000 17 ok\n200000 17 drop\n";
-    let limits =
-        "20 100000\n26 100000\n26 100000\n32 100000\n32 100000\n33 100000\n32 100000\n31 100000\n";
-    check(&rt, &tell(&rt, &words, samples), limits, "", 0);
-    for text in [
-        "100000 1 ok\n100000 0 ok\n",
-        "100000 1 ok\n100000 1001 drop\n",
-        "100000 1 ok\n9223372036854775808 1 ok\n",
-        "100000 1 ok\n1 1 okay\n",
-    ] {
-        let told = tell(&rt, &words, text.as_bytes());
-        check(&rt, &told, "20 100000\n", "relayd: line 2: bad line\n", 2);
+    walk(&rt, &rt, SAMPLES);
+}
+
+#[test]
+fn signs_by_four_secrets(rt: HostRuntime) {
+    walk(&rt, &rt, SIGNATURES);
+}
+
+#[test]
+fn signs_the_example_and_tells_its_version(rt: HostRuntime) {
+    walk(&rt, &rt, OTHERS);
+}
+
+/// What the program reads: so many letters, a line of so many, or a line with an event of so many bytes.
+#[derive(Clone, Copy)]
+enum Input {
+    Letters(usize),
+    Line(usize),
+    Event(usize),
+}
+
+/// A text at a bound, or one byte past it.
+#[derive(Clone, Copy)]
+struct Bound {
+    words: &'static [&'static str],
+    input: Input,
+    output: &'static str,
+    errors: &'static str,
+    status: u8,
+}
+
+const SIGN: &[&str] = &["relayd", "sign", "msg_1", "1000", SECRET];
+
+// A line has 140,000 bytes at most, and a body 65,536, that of an event in hexadecimal too. The signature is that of Python's hmac.
+const BOUNDS: &[Bound] = &[
+    Bound {
+        words: REPLAY,
+        input: Input::Line(140_001),
+        output: "",
+        errors: "relayd: TooLong\n",
+        status: 2,
+    },
+    Bound {
+        words: REPLAY,
+        input: Input::Line(140_000),
+        output: "",
+        errors: "relayd: line 1: bad line\n",
+        status: 2,
+    },
+    Bound {
+        words: SIGN,
+        input: Input::Letters(65_537),
+        output: "",
+        errors: "relayd: TooLong\n",
+        status: 2,
+    },
+    Bound {
+        words: SIGN,
+        input: Input::Letters(65_536),
+        output: "v1,GjTZuaVX0LTcCHTBbSXHqPggK0L/cmm9zhn8STp9NEc=\n",
+        errors: "",
+        status: 0,
+    },
+    Bound {
+        words: REPLAY,
+        input: Input::Event(65_537),
+        output: "",
+        errors: "relayd: line 1: bad line\n",
+        status: 2,
+    },
+    Bound {
+        words: REPLAY,
+        input: Input::Event(65_536),
+        output: "refused 2 UnknownEndpoint\n",
+        errors: "",
+        status: 0,
+    },
+];
+
+fn text_of(alloc: Global, input: Input) -> Result<String, Fail> {
+    Ok(match input {
+        Input::Letters(count) => "a".repeat(alloc, count)?,
+        Input::Line(count) => {
+            let letters = "a".repeat(alloc, count)?;
+            format!(in alloc; "{letters}\n")?
+        }
+        Input::Event(count) => {
+            let body = "7b".repeat(alloc, count)?;
+            format!(in alloc; "submit 1 a m {body}")?
+        }
+    })
+}
+
+#[test]
+fn bounds_what_it_reads(rt: HostRuntime) -> Result<(), Fail> {
+    for (place, bound) in BOUNDS.iter().enumerate() {
+        let text = text_of(rt.alloc(), bound.input)?;
+        let told = tell(&rt, bound.words, text.as_bytes());
+        check(&rt, &told, bound.output, bound.errors, bound.status, place);
+    }
+    Ok(())
+}
+
+/// Words that ask for help, and how what is shown ends.
+#[derive(Clone, Copy)]
+struct Help {
+    words: &'static [&'static str],
+    end: &'static str,
+}
+
+const HELP: &[Help] = &[
+    Help {
+        words: &["relayd", "--help"],
+        end: "\nA fault is told on standard error.\n",
+    },
+    Help {
+        words: &["relayd", "replay", "--help"],
+        end: "\nA bad line ends the script with status 2; the replies before it stand.\n",
+    },
+    Help {
+        words: &["relayd", "sign", "--help"],
+        end: "\nstatus 2 tells of a longer one, status 1 and a name of an argument that is refused.\n",
+    },
+    Help {
+        words: &["relayd", "vegas", "--help"],
+        end: "\nA bad line ends the samples with status 2; the limits before it stand.\n",
+    },
+];
+
+// Help stands on standard output.
+#[test]
+fn shows_help(rt: HostRuntime) {
+    for (place, help) in HELP.iter().enumerate() {
+        let told = tell(&rt, help.words, b"");
+        holds(
+            &rt,
+            told.output.ends_with(help.end.as_bytes()),
+            "help",
+            place,
+        );
+        holds(&rt, told.errors.is_empty(), "standard error", place);
+        holds(&rt, told.status == 0, "status", place);
     }
 }
 
-// Help and the version stand on standard output.
-#[test]
-fn shows_help(rt: HostRuntime) {
-    let told = tell(&rt, &["relayd", "--version"], b"");
-    check(&rt, &told, "relayd 0.1.0\n", "", 0);
-    let all: &[(&[&str], &str)] = &[
-        (
-            &["relayd", "--help"],
-            "\nA fault is told on standard error.\n",
-        ),
-        (
-            &["relayd", "replay", "--help"],
-            "\nA bad line ends the script with status 2; the replies before it stand.\n",
-        ),
-        (
-            &["relayd", "sign", "--help"],
-            "\nstatus 2 tells of a longer one, status 1 and a name of an argument that is refused.\n",
-        ),
-        (
-            &["relayd", "vegas", "--help"],
-            "\nA bad line ends the samples with status 2; the limits before it stand.\n",
-        ),
-    ];
-    for (words, help) in all {
-        let told = tell(&rt, words, b"");
-        assert!(rt; told.output.ends_with(help.as_bytes()));
-        assert_eq!(rt; told.errors.len(), 0);
-        assert_eq!(rt; told.status, 0);
-    }
-}
+const BAD_WORDS: &[&[&str]] = &[
+    &[],
+    &["relayd", "fly"],
+    &["relayd", "--fly"],
+    &["relayd", "replay", "more"],
+    &["relayd", "sign", "msg_1", "1000"],
+    &["relayd", "vegas"],
+    &["relayd", "vegas", "1", "2"],
+];
 
 // What is wrong with the words stands on standard error.
 #[test]
 fn refuses_words(rt: HostRuntime) {
-    let all: &[&[&str]] = &[
-        &[],
-        &["relayd", "fly"],
-        &["relayd", "--fly"],
-        &["relayd", "replay", "more"],
-        &["relayd", "sign", "msg_1", "1000"],
-        &["relayd", "vegas"],
-        &["relayd", "vegas", "1", "2"],
-    ];
-    for words in all {
+    for (place, words) in BAD_WORDS.iter().enumerate() {
         let told = tell(&rt, words, b"seal\n");
-        assert!(rt; told.errors.starts_with(b"error: "));
-        assert_eq!(rt; told.output.len(), 0);
-        assert_eq!(rt; told.status, 1);
+        holds(
+            &rt,
+            told.errors.starts_with(b"error: "),
+            "standard error",
+            place,
+        );
+        holds(&rt, told.output.is_empty(), "output", place);
+        holds(&rt, told.status == 1, "status", place);
     }
 }

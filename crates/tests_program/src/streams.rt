@@ -106,6 +106,17 @@ pub(crate) struct Streams {
     pub(crate) errors: Calls,
 }
 
+impl Streams {
+    // Each takes its calls so.
+    pub(crate) fn of(calls: Calls) -> Streams {
+        Streams {
+            input: calls,
+            output: calls,
+            errors: calls,
+        }
+    }
+}
+
 // What a command wrote, and its status.
 #[derive(Drop)]
 pub(crate) struct Told {
@@ -136,16 +147,24 @@ pub(crate) fn tell_through(
 }
 
 pub(crate) fn tell(rt: &HostRuntime, words: &[&str], text: &[u8]) -> Told {
-    let whole = Streams {
-        input: Calls::WHOLE,
-        output: Calls::WHOLE,
-        errors: Calls::WHOLE,
-    };
-    tell_through(rt, whole, words, text)
+    tell_through(rt, Streams::of(Calls::WHOLE), words, text)
 }
 
-pub(crate) fn check(rt: &impl Abort, told: &Told, output: &str, errors: &str, status: u8) {
-    assert_eq!(rt; told.output.as_slice(), output.as_bytes());
-    assert_eq!(rt; told.errors.as_slice(), errors.as_bytes());
-    assert_eq!(rt; told.status, status);
+pub(crate) fn holds(rt: &impl Abort, is: bool, what: &str, place: usize) {
+    assert!(rt; is, "{what} at {place}");
+}
+
+pub(crate) fn check(
+    rt: &impl Abort,
+    told: &Told,
+    output: &str,
+    errors: &str,
+    status: u8,
+    place: usize,
+) {
+    let is_written = told.output.as_slice() == output.as_bytes();
+    holds(rt, is_written, "output", place);
+    let is_told = told.errors.as_slice() == errors.as_bytes();
+    holds(rt, is_told, "standard error", place);
+    holds(rt, told.status == status, "status", place);
 }

@@ -17,10 +17,10 @@ use std::marker::Brand;
 use std::process::Abort;
 use std::sync::ledger::{Blank, Ledger};
 
-type Failing = FileStore<Fuse<Memory>>;
+pub(crate) type Failing = FileStore<Fuse<Memory>>;
 
 /// A store whose log takes so many calls.
-fn opened(alloc: Global, calls: u64) -> Option<Connection<Failing>> {
+pub(crate) fn opened(alloc: Global, calls: u64) -> Option<Connection<Failing>> {
     let files = Files {
         log: Fuse::new(Memory::new(alloc), calls),
         db: Fuse::new(Memory::new(alloc), u64::MAX),

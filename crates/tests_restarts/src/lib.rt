@@ -1,8 +1,10 @@
-//! The tests of `drill::run` and of `recovery`: runs over new stores and over stores that stop taking writes, what a
+//! The tests of `drill::run`, of `drill::audit` and of `recovery`: runs over new stores and over stores that stop taking writes, what a
 //! run leaves, opened again, and what random histories leave, opened again and with one cell changed. Nothing stands on
 //! this crate, and its tests call public items only.
 #![tactic(auto)]
 
+#[cfg(test)]
+mod audits;
 #[cfg(test)]
 mod calls;
 #[cfg(test)]

@@ -260,6 +260,85 @@ fn a_store_without_the_tables_is_not_ours(rt: HostRuntime) {
     check_all(&rt, rt.alloc(), &WITHOUT_THE_TABLES);
 }
 
+const OTHER_TABLES: [File; 4] = [
+    File(
+        Start::Ours,
+        &[
+            ATTEMPTED,
+            "CREATE TABLE notes(seq INTEGER REFERENCES deliveries(seq)); INSERT INTO notes VALUES(1)",
+        ],
+        ROWS,
+        "records 3 enabled pending due 1006 attempts 1",
+        &[("SELECT seq FROM notes", 1)],
+    ),
+    File(
+        Start::Ours,
+        &[
+            ATTEMPTED,
+            "CREATE TABLE notes(a); UPDATE meta SET version = 2",
+        ],
+        ROWS,
+        "NewerVersion",
+        &[("SELECT count(*) FROM notes", 0)],
+    ),
+    File(
+        Start::Ours,
+        &[
+            ATTEMPTED,
+            "DROP TABLE attempts; UPDATE meta SET version = 2",
+        ],
+        SCHEMA,
+        "NewerVersion",
+        &[("SELECT count(*) FROM deliveries", 1)],
+    ),
+    File(
+        Start::Ours,
+        &[ATTEMPTED, "DROP TABLE attempts"],
+        SCHEMA,
+        NOT_OURS,
+        &[("SELECT count(*) FROM deliveries", 1)],
+    ),
+];
+
+#[test]
+fn other_tables_are_passed_over(rt: HostRuntime) {
+    check_all(&rt, rt.alloc(), &OTHER_TABLES);
+}
+
+const WITHOUT_A_KEY: [File; 2] = [
+    File(
+        Start::Ours,
+        &[
+            ATTEMPTED,
+            "DROP TABLE attempts; CREATE TABLE attempts(seq INTEGER PRIMARY KEY, \
+           delivery INTEGER NOT NULL REFERENCES deliveries(seq), number INTEGER NOT NULL, \
+           status INTEGER NOT NULL, at INTEGER NOT NULL) STRICT; \
+           INSERT INTO attempts VALUES(2, 1, 1, 500, 1001)",
+        ],
+        ROWS,
+        DAMAGED,
+        &[("SELECT count(*) FROM attempts", 1)],
+    ),
+    File(
+        Start::Ours,
+        &[
+            ATTEMPTED,
+            "DROP TABLE secrets; CREATE TABLE secrets(endpoint INTEGER NOT NULL, \
+           place INTEGER NOT NULL, secret BLOB NOT NULL, PRIMARY KEY(endpoint, place)) STRICT; \
+           INSERT INTO secrets VALUES(0, 0, x'303132333435363738396162636465663031323334353637'); \
+           INSERT INTO secrets VALUES(7, 0, x'303132333435363738396162636465663031323334353637')",
+        ],
+        ROWS,
+        DAMAGED,
+        &[("SELECT count(*) FROM secrets", 2)],
+    ),
+];
+
+#[test]
+fn tables_without_a_key_are_damaged(rt: HostRuntime) {
+    check_all(&rt, rt.alloc(), &WITHOUT_A_KEY);
+}
+
 const COUNTS: &[&str] = &[
     "SELECT count(*) FROM meta",
     "SELECT count(*) FROM endpoints",

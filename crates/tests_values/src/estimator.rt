@@ -72,7 +72,7 @@ const A_PROBE_TAKES_THE_ROUND_TRIP: [Run; 1] = [Run(
     ],
 )];
 
-const ROUND_TRIPS_ARE_BROUGHT_INTO_THEIR_RANGE: [Run; 2] = [
+const ROUND_TRIPS_ARE_BROUGHT_INTO_THEIR_RANGE: [Run; 4] = [
     Run(
         1000,
         &[
@@ -89,6 +89,9 @@ const ROUND_TRIPS_ARE_BROUGHT_INTO_THEIR_RANGE: [Run; 2] = [
             Step::Sample(3600000001, 26, OK, 32, 3599999999),
         ],
     ),
+    // an hour, and a microsecond more
+    Run(1000, &[Step::Sample(3600000000, 1, OK, 20, 3600000000)]),
+    Run(1000, &[Step::Sample(3600000001, 1, OK, 20, 3600000000)]),
 ];
 
 const START: Step = Step::Sample(100000, 1, OK, 20, 100000);

@@ -168,7 +168,13 @@ const A: &[u8] = b"MDEyMzQ1Njc4OTAxMjM0NTY3ODkwMTIz";
 
 const B: &[u8] = b"MfKQ9r8GKYqrTwjUPD8ILPZIo2LaLaSw";
 
-const VALUES: [Value; 19] = [
+// the longest secret
+const LONG_KEY: &[u8] = b"0123456789abcdefghijklmnopqrstuvwxyzABCDEFGHIJKLMNOPQRSTUVWXYZ-_";
+
+const LONG_WRITTEN: &[u8] =
+    b"whsec_MDEyMzQ1Njc4OWFiY2RlZmdoaWprbG1ub3BxcnN0dXZ3eHl6QUJDREVGR0hJSktMTU5PUFFSU1RVVldYWVotXw==";
+
+const VALUES: [Value; 20] = [
     Value::Name(b"a-9"),
     Value::Id(b"msg_1-Z"),
     Value::Key(&[7; 24]),
@@ -178,6 +184,7 @@ const VALUES: [Value; 19] = [
     Value::Secret(b"whsec_MDEyMzQ1Njc4OTAxMjM0NTY3ODkwMTIzNA", KEY, WRITTEN),
     Value::Secret(b"MDEyMzQ1Njc4OTAxMjM0NTY3ODkwMTIzNA==", KEY, WRITTEN),
     Value::Secret(b"MDEyMzQ1Njc4OTAxMjM0NTY3ODkwMTIzNA", KEY, WRITTEN),
+    Value::Secret(LONG_WRITTEN, LONG_KEY, LONG_WRITTEN),
     Value::Names(b"a", b"a", true),
     Value::Names(b"a", b"b", false),
     Value::Ids(b"a", b"a", true),

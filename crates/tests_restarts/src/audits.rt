@@ -1,0 +1,329 @@
+//! What an audit finds of a desk and a store.
+ghost use Rattle.std.specs.Prelude.{◌≡◌};
+ghost use Rattle.desk.specs.Desks.{HasNothingOut};
+
+use crate::calls::{Call, Path, check_replies, events_of};
+use crate::doubts::{Failing, opened};
+use crate::paths::PUT;
+use crate::runs::begun;
+use crate::stores::{MARK, in_memory};
+use desk::Desk;
+use drill::{AuditFault, Event, World, audit, run};
+use permits::PARTS;
+use recovery::create;
+use relay_types::{Name, Record, Step};
+use spool::{Batch, CommitEnd, Vault};
+use sqlite::{Connection, MemStore};
+use std::alloc::Global;
+use std::marker::Brand;
+use std::process::Abort;
+use std::sync::ledger::{Blank, Ledger};
+
+/// An endpoint and two events, settled.
+const SETTLED: [Call; 6] = [
+    Call::Line(PUT, "staged 0"),
+    Call::Line("submit 1000 a msg_1 7b7d", "staged 1"),
+    Call::Line("submit 1000 a msg_2 -", "staged 2"),
+    Call::Line("seal", "sealed 0..3"),
+    Call::Line("commit", "committed 3"),
+    Call::Line("settle", "settled 3"),
+];
+
+/// One event is delivered and the other failed, settled.
+const ATTEMPTED: [Call; 7] = [
+    Call::Line(
+        "claim 1000",
+        "permit 1 a msg_1 attempt 1 at 1000 inflight 1",
+    ),
+    Call::Line(
+        "spend 1 1001 200 100000",
+        "success limit 20 inflight 0 staged 3",
+    ),
+    Call::Line(
+        "claim 1001",
+        "permit 2 a msg_2 attempt 1 at 1001 inflight 1",
+    ),
+    Call::Line(
+        "spend 2 1002 500 100000",
+        "success limit 20 inflight 0 staged 4",
+    ),
+    Call::Line("seal", "sealed 3..5"),
+    Call::Line("commit", "committed 5"),
+    Call::Line("settle", "settled 5"),
+];
+
+/// What waits isn't told by the rows, nor by the desk.
+const WAITING: [Call; 3] = [
+    Call::Line("disable a", "staged 3"),
+    Call::Line("submit 1000 a msg_3 -", "staged 4"),
+    Call::Line("seal", "sealed 3..5"),
+];
+
+const COMMITTED: [Call; 1] = [Call::Line("commit", "committed 5")];
+
+/// The same totals as of `SETTLED`: of another endpoint, with another id, with another moment, and with another target.
+const OF_ANOTHER_ENDPOINT: [Call; 6] = [
+    Call::Line(
+        "put b http://127.0.0.1:9000/hook 100 whsec_MDEyMzQ1Njc4OTAxMjM0NTY3ODkwMTIz",
+        "staged 0",
+    ),
+    Call::Line("submit 1000 b msg_1 7b7d", "staged 1"),
+    Call::Line("submit 1000 b msg_2 -", "staged 2"),
+    Call::Line("seal", "sealed 0..3"),
+    Call::Line("commit", "committed 3"),
+    Call::Line("settle", "settled 3"),
+];
+
+const WITH_ANOTHER_ID: [Call; 6] = [
+    Call::Line(PUT, "staged 0"),
+    Call::Line("submit 1000 a msg_1 7b7d", "staged 1"),
+    Call::Line("submit 1000 a msg_3 -", "staged 2"),
+    Call::Line("seal", "sealed 0..3"),
+    Call::Line("commit", "committed 3"),
+    Call::Line("settle", "settled 3"),
+];
+
+const WITH_ANOTHER_MOMENT: [Call; 6] = [
+    Call::Line(PUT, "staged 0"),
+    Call::Line("submit 1000 a msg_1 7b7d", "staged 1"),
+    Call::Line("submit 1001 a msg_2 -", "staged 2"),
+    Call::Line("seal", "sealed 0..3"),
+    Call::Line("commit", "committed 3"),
+    Call::Line("settle", "settled 3"),
+];
+
+const WITH_ANOTHER_TARGET: [Call; 6] = [
+    Call::Line(
+        "put a http://127.0.0.1:9000/hooks 100 whsec_MDEyMzQ1Njc4OTAxMjM0NTY3ODkwMTIz",
+        "staged 0",
+    ),
+    Call::Line("submit 1000 a msg_1 7b7d", "staged 1"),
+    Call::Line("submit 1000 a msg_2 -", "staged 2"),
+    Call::Line("seal", "sealed 0..3"),
+    Call::Line("commit", "committed 3"),
+    Call::Line("settle", "settled 3"),
+];
+
+/// The store that a desk is held against.
+#[derive(Clone, Copy)]
+enum Store {
+    Own,
+    /// Its own, in which one more record is committed behind its back.
+    OneMore,
+    /// That of another run.
+    Of(Path),
+}
+
+/// A run, the store against which its desk is held, and what the audit finds.
+#[derive(Clone, Copy)]
+struct Case(&'static [Path], Store, Option<AuditFault>);
+
+const MISMATCH: Option<AuditFault> = Some(AuditFault::Mismatch);
+
+const CASES: [Case; 12] = [
+    Case(&[], Store::Own, None),
+    Case(&[&SETTLED], Store::Own, None),
+    Case(&[&SETTLED, &ATTEMPTED], Store::Own, None),
+    Case(&[&SETTLED, &WAITING], Store::Own, None),
+    Case(&[&SETTLED, &WAITING, &COMMITTED], Store::Own, MISMATCH),
+    Case(&[&SETTLED], Store::OneMore, MISMATCH),
+    Case(&[&SETTLED], Store::Of(&SETTLED), None),
+    Case(&[&SETTLED], Store::Of(&OF_ANOTHER_ENDPOINT), MISMATCH),
+    Case(&[&SETTLED], Store::Of(&WITH_ANOTHER_ID), MISMATCH),
+    Case(&[&SETTLED], Store::Of(&WITH_ANOTHER_MOMENT), MISMATCH),
+    Case(&[&SETTLED], Store::Of(&WITH_ANOTHER_TARGET), MISMATCH),
+    Case(&[], Store::Of(&SETTLED), MISMATCH),
+];
+
+/// Commits a record that disables endpoint `a`.
+fn commit_one_more(rt: &impl Abort, alloc: Global, vault: &mut Vault<MemStore>) {
+    let name = Name::read(b"a").expect(rt, "a name");
+    let mut steps = Vec::new(alloc);
+    steps
+        .push(Step::of(Record::Enabled { name, flag: false }))
+        .expect(rt, "memory");
+    match vault.commit(Batch::of(MARK, 3, steps)) {
+        Ok(receipt) => drop(receipt.into_steps()),
+        Err(CommitEnd::Unchanged(_batch, _)) => panic!(rt; "nothing was committed"),
+        Err(CommitEnd::Doubtful(_doubt, _)) => panic!(rt; "the commit is in doubt"),
+    }
+}
+
+/// The store that the calls leave.
+fn left<L: Ledger>(
+    rt: &impl Abort,
+    alloc: Global,
+    blank: Blank,
+    events: &[Event],
+) -> Vault<MemStore>
+    requires name { blank.name ≡ L.name }
+    requires parts { blank.parts ≡ L.parts }
+    requires enough { blank.parts ≡ PARTS }
+{
+    let conn = in_memory(rt, alloc);
+    match begun::<L, MemStore>(rt, alloc, blank, conn, events) {
+        Some((_pool, vault, _)) => vault,
+        None => panic!(rt; "create was refused"),
+    }
+}
+
+fn left_by(rt: &impl Abort, alloc: Global, path: Path) -> Vault<MemStore> {
+    let events = events_of(rt, alloc, &[path]);
+    left::<Brand>(rt, alloc, Blank::new(PARTS), &events)
+}
+
+/// What the audit finds of the desk, whose own store this is.
+fn found<L: Ledger>(
+    rt: &impl Abort,
+    alloc: Global,
+    desk: &Desk<L>,
+    own: &mut Vault<MemStore>,
+    store: Store,
+) -> Option<AuditFault> {
+    match store {
+        Store::Own => audit(alloc, own, desk).err(),
+        Store::OneMore => {
+            commit_one_more(rt, alloc, own);
+            audit(alloc, own, desk).err()
+        }
+        Store::Of(path) => {
+            let mut other = left_by(rt, alloc, path);
+            audit(alloc, &mut other, desk).err()
+        }
+    }
+}
+
+/// What the audit finds after the calls, which are told what is wanted.
+fn found_after<L: Ledger>(
+    rt: &impl Abort,
+    alloc: Global,
+    desk: Desk<L>,
+    vault: Vault<MemStore>,
+    case: Case,
+) -> Option<AuditFault>
+    requires out { HasNothingOut desk }
+    requires mark { desk.waiting.mark ≡ vault.mark }
+{
+    let Case(paths, store, _) = case;
+    let events = events_of(rt, alloc, paths);
+    match run(alloc, desk, vault, &events) {
+        Ok(world) => {
+            let World {
+                desk,
+                mut vault,
+                permits,
+                receipt,
+                held,
+                replies,
+            } = world;
+            check_replies(rt, alloc, &replies, paths);
+            let found = found(rt, alloc, &desk, &mut vault, store);
+            drop(desk.close(permits, receipt, held));
+            found
+        }
+        Err((_, _, _)) => panic!(rt; "no memory"),
+    }
+}
+
+fn found_in<L: Ledger>(
+    rt: &impl Abort,
+    alloc: Global,
+    blank: Blank,
+    case: Case,
+) -> Option<AuditFault>
+    requires name { blank.name ≡ L.name }
+    requires parts { blank.parts ≡ L.parts }
+    requires enough { blank.parts ≡ PARTS }
+{
+    let conn = in_memory(rt, alloc);
+    assert!(rt; conn.is_autocommit());
+    match create::<L, MemStore>(alloc, blank, conn, MARK) {
+        Ok((desk, vault)) => found_after(rt, alloc, desk, vault, case),
+        Err((_, _)) => panic!(rt; "create was refused"),
+    }
+}
+
+#[test]
+fn finds_what_differs(rt: HostRuntime) {
+    for (place, case) in CASES.iter().enumerate() {
+        let found = found_in::<Brand>(&rt, rt.alloc(), Blank::new(PARTS), *case);
+        assert!(rt; found == case.2, "case {place}");
+    }
+}
+
+/// Whether the vault is closed. Then the audit is refused as the store's.
+fn is_closed<L: Ledger>(
+    rt: &impl Abort,
+    alloc: Global,
+    desk: &Desk<L>,
+    vault: &mut Vault<Failing>,
+) -> bool {
+    let closed = vault.is_closed();
+    if closed {
+        assert!(rt; audit(alloc, vault, desk) == Err(AuditFault::Store));
+    }
+    closed
+}
+
+fn closes<L: Ledger>(
+    rt: &impl Abort,
+    alloc: Global,
+    desk: Desk<L>,
+    vault: Vault<Failing>,
+    events: &[Event],
+) -> bool
+    requires out { HasNothingOut desk }
+    requires mark { desk.waiting.mark ≡ vault.mark }
+{
+    match run(alloc, desk, vault, events) {
+        Ok(world) => {
+            let World {
+                desk,
+                mut vault,
+                permits,
+                receipt,
+                held,
+                replies: _,
+            } = world;
+            let closed = is_closed(rt, alloc, &desk, &mut vault);
+            drop(desk.close(permits, receipt, held));
+            closed
+        }
+        Err((_, _, _)) => panic!(rt; "no memory"),
+    }
+}
+
+fn closes_in<L: Ledger>(
+    rt: &impl Abort,
+    alloc: Global,
+    blank: Blank,
+    conn: Connection<Failing>,
+    events: &[Event],
+) -> bool
+    requires name { blank.name ≡ L.name }
+    requires parts { blank.parts ≡ L.parts }
+    requires enough { blank.parts ≡ PARTS }
+{
+    assert!(rt; conn.is_autocommit());
+    match create::<L, Failing>(alloc, blank, conn, MARK) {
+        Ok((desk, vault)) => closes(rt, alloc, desk, vault, events),
+        Err((_, _)) => false,
+    }
+}
+
+fn closes_after(rt: &impl Abort, alloc: Global, events: &[Event], calls: u64) -> bool {
+    match opened(alloc, calls) {
+        Some(conn) => closes_in::<Brand>(rt, alloc, Blank::new(PARTS), conn, events),
+        None => false,
+    }
+}
+
+#[test]
+fn a_closed_vault_is_a_fault_of_the_store(rt: HostRuntime) {
+    let events = events_of(&rt, rt.alloc(), &[&SETTLED]);
+    let mut has_closed = false;
+    for calls in 0..100 {
+        has_closed |= closes_after(&rt, rt.alloc(), &events, calls);
+    }
+    assert!(rt; has_closed);
+}
