@@ -9,10 +9,12 @@ use Rattle.delivery.specs.declared.worker.Round.{Round}
 use Rattle.delivery.specs.declared.worker.Round.TheVariants.{Posted, Idle, Halted, Closing, NoMemory, WentBack}
 use Rattle.delivery.specs.Requests.{Request, request_of}
 
--- A round that posted sent the request of a job, was answered what the poster may answer to it, and spent the permit by that.
+-- A round that posted sent the request of a job, which it names, was answered what the poster may answer to it, and spent the permit by
+-- that.
 abbrev pub IsPostedBy : (may_answer : Request → PostResult → Type 0) → Round → Type 0
-IsPostedBy may_answer (Posted request result spent) =
-    (job : JobValue) × (request ≡ request_of job) × may_answer request result × (spent.spend ≡ spend_of result)
+IsPostedBy may_answer (Posted endpoint attempt request result spent) =
+    (job : JobValue) × (endpoint ≡ job.row.endpoint) × (attempt ≡ job.attempt) × (request ≡ request_of job)
+    × may_answer request result × (spent.spend ≡ spend_of result)
 IsPostedBy may_answer Idle = Unit {0}
 IsPostedBy may_answer Halted = Unit {0}
 IsPostedBy may_answer Closing = Unit {0}
@@ -21,7 +23,7 @@ IsPostedBy may_answer (WentBack told) = Unit {0}
 
 -- nothing was posted
 abbrev pub HasNotPosted : Round → Type 0
-HasNotPosted (Posted request result spent) = ⊥
+HasNotPosted (Posted endpoint attempt request result spent) = ⊥
 HasNotPosted Idle = Unit {0}
 HasNotPosted Halted = Unit {0}
 HasNotPosted Closing = Unit {0}

@@ -7,6 +7,7 @@ use crate::pass::{Pass, WentBack};
 use crate::roles::{Clock, Poster};
 use crate::shared::Shared;
 use desk::{Job, Spent};
+use relay_types::Name;
 use retry_table::PostResult;
 use std::alloc::Global;
 use std::sync::Wait;
@@ -15,8 +16,10 @@ use std::sync::ledger::Ledger;
 /// How a round ended.
 #[derive(Drop)]
 pub enum Round {
-    /// The request was posted, with this result, and its permit was spent.
+    /// The request of this attempt, from 1, was posted to the endpoint, with this result, and its permit was spent.
     Posted {
+        endpoint: Name,
+        attempt: u64,
         request: Outgoing,
         result: PostResult,
         spent: Spent,
@@ -61,8 +64,11 @@ pub fn worker_round<L: Ledger, P: Poster, C: Clock, R: Wait>(
         return Round::NoMemory;
     };
     let result = poster.post(&request);
+    let (endpoint, attempt) = (job.endpoint(), job.attempt());
     let spent = shared.spend(rt, job.into_permit(), &result, clock.now());
     Round::Posted {
+        endpoint,
+        attempt,
         request,
         result,
         spent,
