@@ -13,6 +13,8 @@ use Rattle.relay_types.specs.Records.{records_of}
 use Rattle.relay_types.specs.Deliveries.{is_in_state}
 use Rattle.relay_types.proofs.KnownLaws.{and_first, and_second, and_both}
 use Rattle.endpoint_book.specs.Entries as endpoint_entries
+use Rattle.endpoint_book.specs.Waiting.{HasChanges}
+use Rattle.endpoint_book.proofs.Waiting.{changes_named, changes_other}
 use Rattle.delivery_book.specs.declared.entry.Entry.{Entry}
 use Rattle.delivery_book.specs.declared.entry.Unsettled.{Unsettled}
 use Rattle.delivery_book.specs.Entries.{BookValue, entry_at, is_open, new_entry, pending_in, state_in, with_event}
@@ -25,13 +27,14 @@ use Rattle.group_commit.specs.Waits.{WaitingValue, record_count, with_step}
 use Rattle.permits.specs.declared.row.Row.{Row}
 use Rattle.permits.specs.Rows.{is_out}
 use Rattle.desk.specs.declared.limiter.Limiter.{Limiter}
-use Rattle.desk.specs.Ties.{AreApart, AreTied, AreUnderWay, HasPlaces, is_entry_of, is_idle, is_own, is_pair_of, is_told, is_under_way, is_unheld, own_pair, rises, waits_as}
+use Rattle.desk.specs.Ties.{AreApart, AreTied, AreUnderWay, HasPlaces, endpoint_at, is_entry_of, is_idle, is_own, is_pair_of, is_told, is_under_way, is_unheld, own_pair, rises, waits_as}
 use Rattle.desk.specs.Desks.{IsDesk}
 use Rattle.desk.proofs.DeskLaws.{deliveries_wait}
 use Rattle.desk.proofs.EndpointTies.{room_requested}
 use Rattle.desk.proofs.PlaceLaws.{count_below}
 use Rattle.desk.proofs.RequestTies.{by_name, found_with, marked_reserved, places_reserved, reserved_free}
 use Rattle.desk.proofs.SettleLaws.{rises_upto, rises_within}
+use Rattle.desk.proofs.WaitLaws.{named_alike, none_tried}
 
 -- Entries, with one more
 
@@ -180,6 +183,10 @@ desk_accept {endpoints} {deliveries} {taken} {waiting} {later} {live} {limiters}
     (deliveries_wait (Accept name id body at) h (ap (λ (b : BookValue). b.next_seq) is ∙ ap (λ n. n + 1) count) (ap (λ (b : BookValue). b.settled_seq) is)
     (subst (λ (b : BookValue). HasWaiting b (records_of waiting.waiting ++ Accept name id body at ∷ [])) (sym (is ∙ ap (λ bytes. with_event deliveries s name id bytes at) shared))
     (waiting_event deliveries (records_of waiting.waiting) s name id body at (omega (arith, count, h.deliveries_settled)) h.deliveries_wait))
+    (subst (λ (b : BookValue). HasChanges (endpoint_at b) endpoints (records_of waiting.waiting ++ Accept name id body at ∷ [])) (sym is)
+    (changes_other (endpoint_at (with_event deliveries s name id kept at)) endpoints (records_of waiting.waiting) (Accept name id body at) refl
+    (changes_named (endpoint_at deliveries) (endpoint_at (with_event deliveries s name id kept at)) endpoints (records_of waiting.waiting)
+    (named_alike deliveries (new_entry s name id kept at) (with_event deliveries s name id kept at) (records_of waiting.waiting) refl (none_tried deliveries (records_of waiting.waiting) h.deliveries_wait)) h.endpoints_wait)))
     (subst (λ b. AreTied endpoints b (with_step waiting (Accept name id body at ∷ [])) live limiters new) (sym is)
     (tied_accept s name id kept body at numbers (omega (arith, count, h.deliveries_staged)) (omega (arith, count, h.deliveries_settled)) same
     (subst (λ n. SetsMark queue new (reserved_mark queue name (n + 1))) few sets) h.tied)))

@@ -16,6 +16,7 @@ use Rattle.relay_types.proofs.KnownLaws.{legal_more}
 use Rattle.endpoint_book.specs.Entries as endpoint_entries
 use Rattle.endpoint_book.specs.declared.entry.Change.{Change}
 use Rattle.endpoint_book.specs.Entries.{entry_of, is_flag, is_known}
+use Rattle.endpoint_book.specs.Waiting.{HasChanges}
 use Rattle.endpoint_book.proofs.Filters.{none_if}
 use Rattle.endpoint_book.proofs.Histories.{known-entry}
 use Rattle.endpoint_book.proofs.Laws.{stands-other}
@@ -40,7 +41,7 @@ use Rattle.permits.specs.declared.row.Row.{Row}
 use Rattle.claim_queue.specs.Queues.{QueueValue}
 use Rattle.desk.specs.declared.limiter.Limiter.{Limiter}
 use Rattle.desk.specs.Claims.{samples_of}
-use Rattle.desk.specs.Ties.{AreTied, StandsAt, StandsBy, is_limiter_of, limiter_of, new_limiter}
+use Rattle.desk.specs.Ties.{AreTied, StandsAt, StandsBy, endpoint_at, is_limiter_of, limiter_of, new_limiter}
 use Rattle.desk.specs.Desks.{AreLimits, DeskValue, IsDesk, AreBooks, StandsFor, IsMove, Checks, OverWorlds, with_entry, with_put, with_secrets, with_enabled, with_accept}
 use Rattle.desk.proofs.DeskLists.{records_of-snoc, records_of-split}
 use Rattle.desk.proofs.MoveLaws.{refuses, passes, makes, makes_or_lacks, becomes, absent}
@@ -85,14 +86,18 @@ one_more waiting entry = omega (arith, length-records_of waiting.waiting ((entry
 pub one_waits : (d : delivery_entries.BookValue) (waiting : WaitingValue) (entry : Record) → HasWaiting d (records_of waiting.waiting ++ entry ∷ []) → HasWaiting d (records_of (with_step waiting (entry ∷ [])).waiting)
 one_waits d waiting entry h = subst (HasWaiting d) (sym (records_of-snoc waiting.waiting entry)) h
 
+pub one_changes : (at : ℕ → Option (List ℕ)) (e : endpoint_entries.BookValue) (waiting : WaitingValue) (entry : Record) → HasChanges at e (records_of waiting.waiting ++ entry ∷ []) → HasChanges at e (records_of (with_step waiting (entry ∷ [])).waiting)
+one_changes at e waiting entry h = subst (HasChanges at e) (sym (records_of-snoc waiting.waiting entry)) h
+
 -- the endpoints and the steps with one more record
 pub endpoints_wait : {e f : endpoint_entries.BookValue} {d : delivery_entries.BookValue} {waiting : WaitingValue} {live : List Row} {limiters more : List Limiter} {queue later : QueueValue} (change : Change) (entry : Record) → IsDesk e d waiting live limiters queue
     → f.changes ≡ e.changes ++ change ∷ [] → f.next_seq ≡ record_count waiting + 1 → f.settled_seq ≡ e.settled_seq → is_other entry ≡ true
-    → AreTied f d (with_step waiting (entry ∷ [])) live more later → IsDesk f d (with_step waiting (entry ∷ [])) live more later
-endpoints_wait {e} {f} {d} {waiting} change entry h changes next settled other tied = record {
+    → HasChanges (endpoint_at d) f (records_of waiting.waiting ++ entry ∷ []) → AreTied f d (with_step waiting (entry ∷ [])) live more later → IsDesk f d (with_step waiting (entry ∷ [])) live more later
+endpoints_wait {e} {f} {d} {waiting} change entry h changes next settled other waits tied = record {
   endpoints_staged = omega (arith, next, one_more waiting entry);
   endpoints_settled = settled ∙ h.endpoints_settled;
   flags_few = omega (arith, ap (count_by is_flag) changes, count_by_snoc is_flag e.changes change, one_most (is_flag change), next, settled, h.flags_few, h.endpoints_staged);
+  endpoints_wait = one_changes (endpoint_at d) f waiting entry waits;
   deliveries_staged = omega (arith, h.deliveries_staged, one_more waiting entry);
   deliveries_settled = h.deliveries_settled;
   deliveries_wait = one_waits d waiting entry (waiting_other d (records_of waiting.waiting) entry other h.deliveries_wait);
@@ -105,11 +110,13 @@ endpoints_wait {e} {f} {d} {waiting} change entry h changes next settled other t
 
 -- the deliveries and the steps with one more record
 pub deliveries_wait : {e : endpoint_entries.BookValue} {d f : delivery_entries.BookValue} {waiting : WaitingValue} {live : List Row} {limiters : List Limiter} {queue later : QueueValue} (entry : Record) → IsDesk e d waiting live limiters queue
-    → f.next_seq ≡ record_count waiting + 1 → f.settled_seq ≡ d.settled_seq → HasWaiting f (records_of waiting.waiting ++ entry ∷ []) → AreTied e f (with_step waiting (entry ∷ [])) live limiters later → IsDesk e f (with_step waiting (entry ∷ [])) live limiters later
-deliveries_wait {e} {d} {f} {waiting} entry h next settled waits tied = record {
+    → f.next_seq ≡ record_count waiting + 1 → f.settled_seq ≡ d.settled_seq → HasWaiting f (records_of waiting.waiting ++ entry ∷ []) → HasChanges (endpoint_at f) e (records_of waiting.waiting ++ entry ∷ [])
+    → AreTied e f (with_step waiting (entry ∷ [])) live limiters later → IsDesk e f (with_step waiting (entry ∷ [])) live limiters later
+deliveries_wait {e} {d} {f} {waiting} entry h next settled waits changes tied = record {
   endpoints_staged = omega (arith, h.endpoints_staged, one_more waiting entry);
   endpoints_settled = h.endpoints_settled;
   flags_few = h.flags_few;
+  endpoints_wait = one_changes (endpoint_at f) e waiting entry changes;
   deliveries_staged = omega (arith, next, one_more waiting entry);
   deliveries_settled = settled ∙ h.deliveries_settled;
   deliveries_wait = one_waits f waiting entry waits;

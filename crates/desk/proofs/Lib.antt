@@ -12,6 +12,7 @@ mod ReadyLaws
 mod TieLaws
 mod PlaceLaws
 mod SettleLaws
+mod WaitLaws
 mod OpeningLaws
 mod JobLaws
 pub mod RowLaws

@@ -41,6 +41,7 @@ pub is_core : {d v : DeskValue} {queue : QueueValue} → d ≡ v → IsDesk d.en
 is_core {d} same h = subst (λ (x : DeskValue). IsCore x) same (record {
   endpoints_settled = h.endpoints_settled;
   endpoints_within = h.endpoints_staged;
+  endpoints_wait = h.endpoints_wait;
   deliveries_settled = h.deliveries_settled;
   deliveries_within = h.deliveries_staged;
   deliveries_wait = h.deliveries_wait;

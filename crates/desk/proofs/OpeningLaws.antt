@@ -25,20 +25,22 @@ use Rattle.spool.specs.declared.load.Books.{Books}
 use Rattle.spool.specs.Books.{AreSettled}
 use Rattle.group_commit.specs.Waits.{WaitingValue}
 use Rattle.endpoint_book.specs.Entries as endpoint_entries
+use Rattle.endpoint_book.specs.Waiting.{IsInStep as AreInStep}
+use Rattle.endpoint_book.proofs.Waiting.{changes_none}
 use Rattle.endpoint_book.specs.declared.entry.Entry.{Entry as EndpointEntry}
 use Rattle.delivery_book.specs.declared.entry.Entry.{Entry}
 use Rattle.delivery_book.specs.declared.row.Row.{Row as DeliveryRow}
 use Rattle.delivery_book.proofs.Waiting.{waiting_none}
-use Rattle.delivery_book.specs.Entries.{BookValue, HasOneEach, IsInStep, entry_at, is_pending_of, latest_row, pending_in, row_in, state_in}
+use Rattle.delivery_book.specs.Entries.{BookValue, HasOneEach, IsInStep, empty_book, entry_at, is_pending_of, latest_row, pending_in, row_in, state_in}
 use Rattle.delivery_book.proofs.Updates.{all_weaker}
 use Rattle.permits.specs.declared.row.Row.{Row}
 use Rattle.permits.specs.Rows.{in_flight_of}
 use Rattle.claim_queue.specs.declared.marks.Mark.{Mark}
 use Rattle.claim_queue.specs.declared.pairs.Pair.{Pair}
-use Rattle.claim_queue.specs.Queues.{QueueValue, ChangesMark, HasSamePairs, IsNew, SetsMark, free_places, has_room_in, is_held, is_reserved, mark_for, mark_in, mark_of, pair_of, place_taken, reserved_mark, with_room}
+use Rattle.claim_queue.specs.Queues.{QueueValue, empty_queue, ChangesMark, HasSamePairs, IsNew, SetsMark, free_places, has_room_in, is_held, is_reserved, mark_for, mark_in, mark_of, pair_of, place_taken, reserved_mark, with_room}
 use Rattle.desk.specs.declared.limiter.Limiter.{Limiter}
 use Rattle.desk.specs.Desks.{IsDesk, Opens}
-use Rattle.desk.specs.Ties.{AreHeld, AreLimiters, AreMarked, AreQueued, HasPlaces, HasSameRooms, Holds, KeepsPlaces, KeepsRooms, StandsAt, StandsBy, bound_by, bound_of, idle_pair, is_idle, is_pair_of, is_unheld, limiter_of, new_limiter, own_pair, room_by, waits_as}
+use Rattle.desk.specs.Ties.{AreHeld, AreLimiters, AreMarked, AreQueued, HasPlaces, HasSameRooms, Holds, KeepsPlaces, KeepsRooms, StandsAt, StandsBy, bound_by, bound_of, endpoint_at, idle_pair, is_idle, is_pair_of, is_unheld, limiter_of, new_limiter, own_pair, room_by, waits_as}
 use Rattle.desk.proofs.PlaceLaws.{count_below}
 use Rattle.desk.proofs.SettleLaws.{held_one, held_other, idle_waits}
 use Rattle.desk.proofs.TieLaws.{mark_keeps, mark_there, room_told}
@@ -514,9 +516,9 @@ abbrev pub none_waiting : (records mark : ℕ) → WaitingValue
 none_waiting records mark = record { mark = mark; settled = records; waiting = []; out = None }
 
 pub is_desk_opened : (books : Books) (endpoints : endpoint_entries.BookValue) (deliveries : BookValue) (waiting : WaitingValue) (live : List Row) (limiters : List Limiter) (queue : QueueValue) (mark : ℕ)
-    → endpoints ≡ books.endpoints → deliveries ≡ books.deliveries → AreSettled books → IsInStep books.deliveries → waiting ≡ none_waiting books.records mark → live ≡ []
+    → endpoints ≡ books.endpoints → deliveries ≡ books.deliveries → AreSettled books → AreInStep books.endpoints → (books.endpoints.next_seq ≡ books.endpoints.settled_seq → books.endpoints.changes ≡ []) → IsInStep books.deliveries → waiting ≡ none_waiting books.records mark → live ≡ []
     → limiters ≡ map (λ e. new_limiter e.name e.max) books.endpoints.entries → AreQueued queue books.deliveries [] → AreMarked queue books.endpoints limiters [] → IsDesk endpoints deliveries waiting live limiters queue
-is_desk_opened books endpoints deliveries waiting live limiters queue mark same_endpoints same_deliveries settled step none nobody are queued marked =
+is_desk_opened books endpoints deliveries waiting live limiters queue mark same_endpoints same_deliveries settled endpoints_step all_settled step none nobody are queued marked =
     subst (λ (e : endpoint_entries.BookValue). IsDesk e deliveries waiting live limiters queue) (sym same_endpoints)
     (subst (λ (d : BookValue). IsDesk books.endpoints d waiting live limiters queue) (sym same_deliveries)
     (subst (λ (w : WaitingValue). IsDesk books.endpoints books.deliveries w live limiters queue) (sym none)
@@ -524,6 +526,7 @@ is_desk_opened books endpoints deliveries waiting live limiters queue mark same_
       endpoints_staged = omega (arith, settled.endpoints_next);
       endpoints_settled = settled.endpoints_settled;
       flags_few = omega (arith, settled.no_flags, settled.endpoints_settled, settled.endpoints_next);
+      endpoints_wait = changes_none (endpoint_at books.deliveries) books.endpoints endpoints_step (all_settled same) same;
       deliveries_staged = omega (arith, settled.deliveries_next);
       deliveries_settled = settled.deliveries_settled;
       deliveries_wait = waiting_none books.deliveries step settled.no_outcomes (settled.deliveries_next ∙ sym settled.deliveries_settled);
@@ -534,6 +537,38 @@ is_desk_opened books endpoints deliveries waiting live limiters queue mark same_
         queued = queued;
       };
     }))))
+  where
+    same : books.endpoints.next_seq ≡ books.endpoints.settled_seq
+    same = settled.endpoints_next ∙ sym settled.endpoints_settled
+
+pub is_desk_new : {endpoints : endpoint_entries.BookValue} {deliveries : BookValue} {waiting : WaitingValue} {live : List Row} {limiters : List Limiter} {queue : QueueValue} (mark : ℕ)
+    → endpoints ≡ endpoint_entries.empty_book → deliveries ≡ empty_book → waiting ≡ none_waiting 0 mark → live ≡ [] → limiters ≡ [] → queue ≡ empty_queue → IsDesk endpoints deliveries waiting live limiters queue
+is_desk_new {endpoints} {deliveries} {waiting} {live} {limiters} {queue} mark no_endpoint no_event none nobody nothing empty =
+    subst (λ (e : endpoint_entries.BookValue). IsDesk e deliveries waiting live limiters queue) (sym no_endpoint)
+    (subst (λ (d : BookValue). IsDesk endpoint_entries.empty_book d waiting live limiters queue) (sym no_event)
+    (subst (λ (w : WaitingValue). IsDesk endpoint_entries.empty_book empty_book w live limiters queue) (sym none)
+    (subst (λ (rows : List Row). IsDesk endpoint_entries.empty_book empty_book (none_waiting 0 mark) rows limiters queue) (sym nobody)
+    (subst (λ (ls : List Limiter). IsDesk endpoint_entries.empty_book empty_book (none_waiting 0 mark) [] ls queue) (sym nothing)
+    (subst (λ (q : QueueValue). IsDesk endpoint_entries.empty_book empty_book (none_waiting 0 mark) [] [] q) (sym empty) (record {
+      endpoints_staged = omega arith;
+      endpoints_settled = refl;
+      flags_few = omega arith;
+      endpoints_wait = changes_none (endpoint_at empty_book) endpoint_entries.empty_book (record { numbered = refl; caught_up = λ name. refl }) refl refl;
+      deliveries_staged = omega arith;
+      deliveries_settled = refl;
+      deliveries_wait = waiting_none empty_book (record { numbered = refl; caught_up = tt }) refl refl;
+      tied = record {
+        limited = refl;
+        room = record { places = omega arith; numbers = omega arith };
+        marked = record { listed = refl; known = λ name known. absurd (let wrong = known in cc); rooms = λ name reserved. absurd (let wrong = reserved in cc) };
+        queued = record {
+          apart = record { in_turn = refl; told = refl; own = refl; once = λ d. omega arith };
+          under_way = record { each = refl; once = λ d. omega arith };
+          held = λ pair. refl;
+          places = λ name. omega arith;
+        };
+      };
+    }))))))
 
 pub stands_opened : (books : Books) (waiting : WaitingValue) (live : List Row) (limiters : List Limiter) (mark : ℕ) → waiting ≡ none_waiting books.records mark → live ≡ []
     → limiters ≡ map (λ e. new_limiter e.name e.max) books.endpoints.entries

@@ -1,11 +1,13 @@
 -- What ties a desk's fields stays so once an attempt is over.
-use Rattle.std.proofs.Common.{◌≡◌, ◌≤◌, ◌+◌, ℕ, Bool, true, false, List, [], ◌∷◌, ◌++◌, Option, Some, None, length, map, take, drop, refl, sym, ◌∙◌, ap, arith, ◌&&◌, ◌||◌, subst, IsTrue, max}
+use Rattle.std.proofs.Common.{◌≡◌, ◌≤◌, ◌+◌, ℕ, Bool, true, false, List, [], ◌∷◌, ◌++◌, Option, Some, None, length, map, take, drop, refl, sym, ◌∙◌, ap, arith, ◌&&◌, ◌||◌, not, subst, IsTrue, max}
 use Rattle.std.specs.Prelude.{find, position, remove, IfNone, IfSome, IsErr, Result, Ok, Err, is_some, nat_eq, nat_lt, option_map, bytes_eq, if◌then◌else◌}
 use Rattle.std.proofs.Math.Seq.{take-append_seam}
 use Rattle.std.proofs.lemmas.Bool.{eq-eqb, ltb-true}
 use Rattle.std.proofs.lemmas.List.{length-map}
+use Rattle.std.proofs.lemmas.Slice.Eq.{bytes_eq-Decides}
 use Rattle.std.specs.List.{list_any}
 use Rattle.std.specs.Option.{option_map_or}
+use Rattle.relay_types.specs.declared.record.Record.{Record}
 use Rattle.relay_types.specs.declared.record.Record.TheVariants.{Outcome}
 use Rattle.relay_types.specs.Judging.{is_gone_status}
 use Rattle.relay_types.specs.Legal.{is_status}
@@ -17,6 +19,8 @@ use Rattle.endpoint_book.specs.Entries as endpoint_entries
 use Rattle.endpoint_book.specs.declared.entry.Change.{Change}
 use Rattle.endpoint_book.specs.declared.entry.Entry.{Entry as EndpointEntry}
 use Rattle.endpoint_book.specs.declared.entry.Kind.TheVariants.{Flag}
+use Rattle.endpoint_book.specs.Waiting.{HasChanges}
+use Rattle.endpoint_book.proofs.Waiting.{changes_gone, changes_other}
 use Rattle.delivery_book.specs.Entries as delivery_entries
 use Rattle.delivery_book.specs.declared.entry.Entry.{Entry}
 use Rattle.delivery_book.proofs.Updates.{all_weaker}
@@ -32,12 +36,13 @@ use Rattle.retry_table.specs.declared.post.PostResult.{PostResult}
 use Rattle.retry_table.specs.declared.post.Spend.{Spend}
 use Rattle.retry_table.specs.Judging.{recorded_status, spend_of}
 use Rattle.desk.specs.declared.limiter.Limiter.{Limiter}
-use Rattle.desk.specs.Ties.{AreLimiters, AreMarked, AreQueued, AreSampled, AreTied, HasPlaces, HasRoomForAll, Holds, KeepsRooms, bound_by, bound_of, idle_pair, limit_by, limiter_of, room_by}
+use Rattle.desk.specs.Ties.{AreLimiters, AreMarked, AreQueued, AreSampled, AreTied, HasPlaces, HasRoomForAll, Holds, KeepsRooms, bound_by, bound_of, endpoint_at, idle_pair, limit_by, limiter_of, room_by}
 use Rattle.desk.specs.declared.spent.Spent.{Spent}
 use Rattle.desk.specs.World.{World}
 use Rattle.desk.specs.Claims.{has_row, spent_by, with_attempt_over}
 use Rattle.desk.specs.Desks.{DeskValue, HasOutcome, IsDesk, OverWorlds, Spends, StandsFor, TakesOutcome, attempt_in}
-use Rattle.desk.proofs.DeskLaws.{one_more, one_waits}
+use Rattle.desk.proofs.DeskLaws.{one_changes, one_more, one_waits}
+use Rattle.desk.proofs.WaitLaws.{names_tried}
 use Rattle.desk.proofs.EndpointTies.{flag_known, flag_limiters, flag_room}
 use Rattle.desk.proofs.RowLaws.{IsReturned, attempts_at, none_found, returned, same_row_is}
 use Rattle.desk.proofs.LookLaws.{stands_as}
@@ -225,6 +230,7 @@ is_desk_over d queue told row rest None at limiters h is tied = record {
   endpoints_staged = h.endpoints_staged;
   endpoints_settled = h.endpoints_settled;
   flags_few = h.flags_few;
+  endpoints_wait = h.endpoints_wait;
   deliveries_staged = h.deliveries_staged;
   deliveries_settled = h.deliveries_settled;
   deliveries_wait = h.deliveries_wait;
@@ -234,6 +240,8 @@ is_desk_over d queue told row rest (Some s) at limiters h is tied = record {
   endpoints_staged = (staged (is_gone_status s)).0;
   endpoints_settled = (staged (is_gone_status s)).1 ∙ h.endpoints_settled;
   flags_few = (staged (is_gone_status s)).2;
+  endpoints_wait = subst (λ name_of. HasChanges name_of (after (is_gone_status s)) (records_of (recorded d row at (Some s)).waiting)) (λ i n. sym (names_tried d.deliveries (record_count d.waiting) row.delivery s at n) i)
+      (one_changes (endpoint_at d.deliveries) (after (is_gone_status s)) d.waiting outcome (changed (is_gone_status s) refl));
   deliveries_staged = omega (arith, one_more d.waiting (Outcome row.delivery (attempt_in d.deliveries row.delivery) s at));
   deliveries_settled = h.deliveries_settled;
   deliveries_wait = one_waits (tried d.deliveries (record_count d.waiting) row.delivery (Some s) at) d.waiting (Outcome row.delivery (attempt_in d.deliveries row.delivery) s at)
@@ -247,6 +255,14 @@ is_desk_over d queue told row rest (Some s) at limiters h is tied = record {
 
     after : Bool → endpoint_entries.BookValue
     after b = if b then endpoint_entries.with_flag d.endpoints (record_count d.waiting) row.endpoint false else d.endpoints
+
+    outcome : Record
+    outcome = Outcome row.delivery (attempt_in d.deliveries row.delivery) s at
+
+    changed : (b : Bool) → is_gone_status s ≡ b → HasChanges (endpoint_at d.deliveries) (after b) (records_of d.waiting.waiting ++ outcome ∷ [])
+    changed true gone = changes_gone (endpoint_at d.deliveries) d.endpoints (records_of d.waiting.waiting) (record_count d.waiting) row.endpoint row.delivery (attempt_in d.deliveries row.delivery) s at (omega (arith, h.endpoints_settled)) is.known gone
+        (ap (option_map (λ (e : Entry). e.name)) is.entry.there ∙ ap Some ((bytes_eq-Decides is.entry.entry.name row.endpoint).0 is.entry.named)) h.endpoints_wait
+    changed false other = changes_other (endpoint_at d.deliveries) d.endpoints (records_of d.waiting.waiting) outcome (ap not other) h.endpoints_wait
 
     staged : (b : Bool) → ((after b).next_seq ≤ record_count (recorded d row at (Some s))) × ((after b).settled_seq ≡ d.endpoints.settled_seq)
         × (endpoint_entries.flags_in (after b) + (after b).settled_seq ≤ (after b).next_seq)

@@ -11,11 +11,14 @@ use Rattle.relay_types.specs.declared.limits.TheConstants.{MAX_RECORDS}
 use Rattle.relay_types.specs.declared.record.Record.{Record}
 use Rattle.relay_types.specs.declared.record.Record.TheVariants.{Put, Secrets, Enabled}
 use Rattle.relay_types.specs.declared.state.State.TheVariants.{Pending}
+use Rattle.relay_types.specs.Records.{records_of}
 use Rattle.relay_types.specs.Deliveries.{is_in_state}
 use Rattle.relay_types.proofs.KnownLaws.{and_first, and_second, and_both}
 use Rattle.endpoint_book.specs.declared.entry.Entry.{Entry}
 use Rattle.endpoint_book.specs.Book.{enabled_in}
 use Rattle.endpoint_book.specs.Entries as endpoint_entries
+use Rattle.endpoint_book.specs.Waiting.{HasChanges}
+use Rattle.endpoint_book.proofs.Waiting.{changes_enabled, changes_put, changes_secrets}
 use Rattle.endpoint_book.specs.Entries.{BookValue, change_at, entry_of, is_known, is_named, with_put}
 use Rattle.delivery_book.specs.Entries as delivery_entries
 use Rattle.delivery_book.specs.declared.entry.Entry.{Entry as DeliveryEntry}
@@ -26,7 +29,7 @@ use Rattle.group_commit.specs.Waits.{WaitingValue, record_count, with_step}
 use Rattle.permits.specs.declared.row.Row.{Row}
 use Rattle.permits.specs.Rows.{in_flight_of}
 use Rattle.desk.specs.declared.limiter.Limiter.{Limiter}
-use Rattle.desk.specs.Ties.{AreLimiters, AreMarked, AreQueued, AreTied, HasPlaces, bound_by, bound_of, is_limiter_of, limit_by, is_unheld, limiter_of, own_pair, room_by}
+use Rattle.desk.specs.Ties.{AreLimiters, AreMarked, AreQueued, AreTied, HasPlaces, bound_by, bound_of, endpoint_at, is_limiter_of, limit_by, is_unheld, limiter_of, own_pair, room_by}
 use Rattle.desk.specs.Desks.{IsDesk}
 use Rattle.desk.proofs.DeskLaws.{endpoints_wait}
 use Rattle.desk.proofs.EndpointTies.{changed_max, changed_name, enabled_same, flag_known, flag_limiters, flag_room, known_same, pairs_same, room_requested}
@@ -301,32 +304,38 @@ tied_put {endpoints} {deliveries} {waiting} {live} {limiters} {queue} {new} rese
 -- The desk with a request that waits
 
 pub desk_secrets : {endpoints more : BookValue} {deliveries : delivery_entries.BookValue} {waiting later : WaitingValue} {live : List Row} {limiters : List Limiter} {queue : QueueValue} (seq : ℕ) (name : List ℕ) (secrets : List (List ℕ)) → seq ≡ record_count waiting
-    → more ≡ endpoint_entries.with_secrets endpoints seq name secrets → later ≡ with_step waiting (Secrets name secrets ∷ []) → record_count waiting + length live < MAX_RECORDS → IsDesk endpoints deliveries waiting live limiters queue
+    → more ≡ endpoint_entries.with_secrets endpoints seq name secrets → later ≡ with_step waiting (Secrets name secrets ∷ []) → record_count waiting + length live < MAX_RECORDS → is_known endpoints name ≡ true → IsDesk endpoints deliveries waiting live limiters queue
     → IsDesk more deliveries later live limiters queue
-desk_secrets {endpoints} {more} {deliveries} {waiting} {later} {live} {limiters} {queue} seq name secrets count is step numbers h =
+desk_secrets {endpoints} {more} {deliveries} {waiting} {later} {live} {limiters} {queue} seq name secrets count is step numbers known h =
     subst (λ w. IsDesk more deliveries w live limiters queue) (sym step)
     (endpoints_wait _ (Secrets name secrets) h (ap (λ (b : BookValue). b.changes) is) (ap (λ (b : BookValue). b.next_seq) is ∙ ap (λ n. n + 1) count) (ap (λ (b : BookValue). b.settled_seq) is) refl
+    (subst (λ (b : BookValue). HasChanges (endpoint_at deliveries) b (records_of waiting.waiting ++ Secrets name secrets ∷ [])) (sym is)
+    (changes_secrets (endpoint_at deliveries) endpoints (records_of waiting.waiting) seq name secrets (omega (arith, count, h.endpoints_settled)) known h.endpoints_wait))
     (subst (λ b. AreTied b deliveries (with_step waiting (Secrets name secrets ∷ [])) live limiters queue) (sym is)
     (tied_request (Secrets name secrets) refl numbers (secrets_limiters endpoints seq name secrets limiters h.tied.limited) (secrets_show endpoints seq name secrets) h.tied)))
 
 pub desk_flag : {endpoints more : BookValue} {deliveries : delivery_entries.BookValue} {waiting later : WaitingValue} {live : List Row} {limiters : List Limiter} {queue new : QueueValue} (seq : ℕ) (name : List ℕ) (flag : Bool) → seq ≡ record_count waiting
-    → more ≡ endpoint_entries.with_flag endpoints seq name flag → later ≡ with_step waiting (Enabled name flag ∷ []) → record_count waiting + length live < MAX_RECORDS → HasSamePairs queue new
+    → more ≡ endpoint_entries.with_flag endpoints seq name flag → later ≡ with_step waiting (Enabled name flag ∷ []) → record_count waiting + length live < MAX_RECORDS → is_known endpoints name ≡ true → HasSamePairs queue new
     → ChangesMark queue new name (with_room (room_by more limiters live name)) → IsDesk endpoints deliveries waiting live limiters queue → IsDesk more deliveries later live limiters new
-desk_flag {endpoints} {more} {deliveries} {waiting} {later} {live} {limiters} {queue} {new} seq name flag count is step numbers same changes h =
+desk_flag {endpoints} {more} {deliveries} {waiting} {later} {live} {limiters} {queue} {new} seq name flag count is step numbers known same changes h =
     subst (λ w. IsDesk more deliveries w live limiters new) (sym step)
     (endpoints_wait _ (Enabled name flag) h (ap (λ (b : BookValue). b.changes) is) (ap (λ (b : BookValue). b.next_seq) is ∙ ap (λ n. n + 1) count) (ap (λ (b : BookValue). b.settled_seq) is) refl
+    (subst (λ (b : BookValue). HasChanges (endpoint_at deliveries) b (records_of waiting.waiting ++ Enabled name flag ∷ [])) (sym is)
+    (changes_enabled (endpoint_at deliveries) endpoints (records_of waiting.waiting) seq name flag (omega (arith, count, h.endpoints_settled)) known h.endpoints_wait))
     (subst (λ b. AreTied b deliveries (with_step waiting (Enabled name flag ∷ [])) live limiters new) (sym is)
     (tied_flag (Enabled name flag) seq name flag refl numbers same (subst (λ b. ChangesMark queue new name (with_room (room_by b limiters live name))) is changes) h.tied)))
 
 pub desk_put : {endpoints more : BookValue} {deliveries : delivery_entries.BookValue} {waiting later : WaitingValue} {live : List Row} {limiters longer : List Limiter} {queue new : QueueValue} (reserved : QueueValue) (seq : ℕ) (name kept target : List ℕ) (max : ℕ) (secrets : List (List ℕ)) (l : Limiter)
     → seq ≡ record_count waiting → more ≡ with_put endpoints (endpoint_entries.new_entry seq name kept max secrets) → later ≡ with_step waiting (Put name target max secrets ∷ []) → longer ≡ limiters ++ l ∷ []
-    → bound_by l ≡ (name, max) → record_count waiting + length live < MAX_RECORDS → HasSamePairs queue reserved → SetsMark queue reserved (reserved_mark queue name 0) → HasSamePairs reserved new
+    → bound_by l ≡ (name, max) → record_count waiting + length live < MAX_RECORDS → kept ≡ target → is_known endpoints name ≡ false → HasSamePairs queue reserved → SetsMark queue reserved (reserved_mark queue name 0) → HasSamePairs reserved new
     → ChangesMark reserved new name (with_room (room_by more longer live name)) → IsDesk endpoints deliveries waiting live limiters queue → IsDesk more deliveries later live longer new
-desk_put {endpoints} {more} {deliveries} {waiting} {later} {live} {limiters} {longer} {queue} {new} reserved seq name kept target max secrets l count is step longer_is bounds numbers same sets again changes h =
+desk_put {endpoints} {more} {deliveries} {waiting} {later} {live} {limiters} {longer} {queue} {new} reserved seq name kept target max secrets l count is step longer_is bounds numbers shared unknown same sets again changes h =
     let x = endpoint_entries.new_entry seq name kept max secrets in
     let told = subst (λ ls. ChangesMark reserved new name (with_room (room_by (with_put endpoints x) ls live name))) longer_is (subst (λ b. ChangesMark reserved new name (with_room (room_by b longer live name))) is changes) in
     subst (λ w. IsDesk more deliveries w live longer new) (sym step)
     (endpoints_wait _ (Put name target max secrets) h (ap (λ (b : BookValue). b.changes) is) (ap (λ (b : BookValue). b.next_seq) is ∙ ap (λ n. n + 1) count) (ap (λ (b : BookValue). b.settled_seq) is) refl
+    (subst (λ (b : BookValue). HasChanges (endpoint_at deliveries) b (records_of waiting.waiting ++ Put name target max secrets ∷ [])) (sym (is ∙ ap (λ t. with_put endpoints (endpoint_entries.new_entry seq name t max secrets)) shared))
+    (changes_put (endpoint_at deliveries) endpoints (records_of waiting.waiting) seq name target max secrets (omega (arith, count, h.endpoints_settled)) unknown h.endpoints_wait))
     (subst (λ b. AreTied b deliveries (with_step waiting (Put name target max secrets ∷ [])) live longer new) (sym is)
     (subst (λ ls. AreTied (with_put endpoints x) deliveries (with_step waiting (Put name target max secrets ∷ [])) live ls new) (sym longer_is)
     (tied_put reserved (Put name target max secrets) x l refl numbers bounds same sets again told h.tied))))
@@ -338,6 +347,7 @@ desk_reserved name more same sets h = record {
   endpoints_staged = h.endpoints_staged;
   endpoints_settled = h.endpoints_settled;
   flags_few = h.flags_few;
+  endpoints_wait = h.endpoints_wait;
   deliveries_staged = h.deliveries_staged;
   deliveries_settled = h.deliveries_settled;
   deliveries_wait = h.deliveries_wait;

@@ -194,6 +194,7 @@ desk_started {d} {queue} gone new name s live h from numbers is lets places same
   endpoints_staged = h.endpoints_staged;
   endpoints_settled = h.endpoints_settled;
   flags_few = h.flags_few;
+  endpoints_wait = h.endpoints_wait;
   deliveries_staged = h.deliveries_staged;
   deliveries_settled = h.deliveries_settled;
   deliveries_wait = h.deliveries_wait;

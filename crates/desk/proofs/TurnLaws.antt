@@ -15,6 +15,8 @@ use Rattle.relay_types.proofs.RowLaws.{find_map}
 use Rattle.endpoint_book.specs.declared.entry.Entry.{Entry as EndpointEntry}
 use Rattle.endpoint_book.specs.Book as endpoint_book
 use Rattle.endpoint_book.specs.Entries as endpoint_entries
+use Rattle.endpoint_book.specs.Waiting.{HasChanges}
+use Rattle.endpoint_book.proofs.Waiting.{changes_settled}
 use Rattle.delivery_book.specs.Book as delivery_book
 use Rattle.delivery_book.specs.Entries as delivery_entries
 use Rattle.delivery_book.specs.Waiting.{HasWaiting}
@@ -36,7 +38,7 @@ use Rattle.permits.specs.declared.row.Row.{Row}
 use Rattle.permits.specs.Rows.{in_flight_of}
 use Rattle.claim_queue.specs.Queues.{QueueValue}
 use Rattle.desk.specs.declared.limiter.Limiter.{Limiter}
-use Rattle.desk.specs.Ties.{AreMarked, AreQueued, KeepsRooms, bound_of, limit_by, room_by}
+use Rattle.desk.specs.Ties.{AreMarked, AreQueued, KeepsRooms, bound_of, endpoint_at, limit_by, room_by}
 use Rattle.desk.specs.Desks.{DeskValue, IsDesk, StandsFor, IsReceiptOf, ArePlacesOf, IsHeldOf, OverWorlds, Turns, IsMove}
 use Rattle.desk.proofs.MoveLaws.{refuses, passes, makes, lacks, becomes, leaves}
 use Rattle.desk.proofs.DeskLists.{records_of-split}
@@ -238,15 +240,20 @@ pub is_desk_settled : {endpoints later : endpoint_entries.BookValue} {deliveries
     → IsDesk endpoints deliveries steps live limiters queue
     → later ≡ endpoint_entries.with_settled endpoints place → moved.settled_seq ≡ place → moved.next_seq ≡ max deliveries.next_seq place → rest ≡ with_settled steps count → place ≡ rest.settled
     → ((records : List Record) → HasWaiting deliveries records → HasWaiting moved (drop (place - deliveries.settled_seq) records))
-    → endpoint_entries.flags_in later + later.settled_seq ≤ later.next_seq → KeepsRooms queue told → ((live : List Row) → AreQueued queue deliveries live → AreQueued told moved live)
+    → ((d : ℕ) → endpoint_at moved d ≡ endpoint_at deliveries d) → endpoint_entries.flags_in later + later.settled_seq ≤ later.next_seq → KeepsRooms queue told → ((live : List Row) → AreQueued queue deliveries live → AreQueued told moved live)
     → IsDesk later moved rest live limiters told
-is_desk_settled {endpoints} {later} {deliveries} {moved} {steps} {rest} {live} {limiters} {queue} {told} count place h e settled next g is waits few rooms queued =
+is_desk_settled {endpoints} {later} {deliveries} {moved} {steps} {rest} {live} {limiters} {queue} {told} count place h e settled next g is waits names few rooms queued =
     let same : record_count rest ≡ record_count steps = ap record_count g ∙ records_settled steps count in
     let within : place ≤ record_count rest = omega (arith, is) in
     record {
       endpoints_staged = omega (arith, ap (λ (b : endpoint_entries.BookValue). b.next_seq) e, h.endpoints_staged, same, within);
       endpoints_settled = ap (λ (b : endpoint_entries.BookValue). b.settled_seq) e ∙ is;
       flags_few = few;
+      endpoints_wait = subst (λ at. HasChanges at later (records_of rest.waiting)) (λ i d. sym (names d) i)
+          (subst (λ (b : endpoint_entries.BookValue). HasChanges (endpoint_at deliveries) b (records_of rest.waiting)) (sym e)
+          (subst (HasChanges (endpoint_at deliveries) (endpoint_entries.with_settled endpoints place))
+          (records_left steps count place endpoints.settled_seq (is ∙ ap (λ (w : WaitingValue). w.settled) g) h.endpoints_settled ∙ ap (λ (w : WaitingValue). records_of w.waiting) (sym g))
+          (changes_settled (endpoint_at deliveries) endpoints (records_of steps.waiting) (place - endpoints.settled_seq) place (omega (arith, is, ap (λ (w : WaitingValue). w.settled) g, h.endpoints_settled)) h.endpoints_wait)));
       deliveries_staged = omega (arith, next, h.deliveries_staged, same, within);
       deliveries_settled = settled ∙ is;
       deliveries_wait = subst (HasWaiting moved) (records_left steps count place deliveries.settled_seq (is ∙ ap (λ (w : WaitingValue). w.settled) g) h.deliveries_settled ∙ ap (λ (w : WaitingValue). records_of w.waiting) (sym g))

@@ -12,6 +12,7 @@ use Rattle.relay_types.specs.Judging.{is_gone_status}
 use Rattle.relay_types.specs.Legal.{IsLegal}
 use Rattle.endpoint_book.specs.Book as endpoint_book
 use Rattle.endpoint_book.specs.Entries as endpoint_entries
+use Rattle.endpoint_book.specs.Waiting.{HasChanges}
 use Rattle.delivery_book.specs.Book as delivery_book
 use Rattle.delivery_book.specs.Entries as delivery_entries
 use Rattle.delivery_book.specs.Waiting.{HasWaiting}
@@ -36,7 +37,7 @@ use Rattle.desk.specs.declared.limiter.Limiter.{Limiter}
 use Rattle.desk.specs.declared.spent.Spent.{Spent}
 use Rattle.desk.specs.Moves.{Answer, MayGive, is_nothing_out, sealed_batch, opened}
 use Rattle.desk.specs.Claims.{JobValue, samples_of, next_attempt, target_in, job_of, with_attempt, has_row, with_attempt_over, spent_by}
-use Rattle.desk.specs.Ties.{AreLimiters, AreTied, AreUnderWay, HasRoomForAll, StandsAt, is_idle, new_limiter, room_by}
+use Rattle.desk.specs.Ties.{AreLimiters, AreTied, AreUnderWay, HasRoomForAll, StandsAt, endpoint_at, is_idle, new_limiter, room_by}
 
 -- The books of all records, the steps that wait, the latest moment, whether nothing is taken any more, the permits that are out
 -- and the limits. What the queue holds follows from these.
@@ -54,18 +55,21 @@ pub record IsDesk (endpoints : endpoint_entries.BookValue) (deliveries : deliver
   pub endpoints_staged : endpoints.next_seq ≤ record_count waiting
   pub endpoints_settled : endpoints.settled_seq ≡ waiting.settled
   pub flags_few : endpoint_entries.flags_in endpoints + endpoints.settled_seq ≤ endpoints.next_seq
+  pub endpoints_wait : HasChanges (endpoint_at deliveries) endpoints (records_of waiting.waiting)
   pub deliveries_staged : deliveries.next_seq ≤ record_count waiting
   pub deliveries_settled : deliveries.settled_seq ≡ waiting.settled
   pub deliveries_wait : HasWaiting deliveries (records_of waiting.waiting)
   pub tied : AreTied endpoints deliveries waiting live limiters queue
 
 -- What is so of a desk whenever its lock is got, whatever its store had. The records that wait stand behind the settled ones, and
--- both books begin to wait where the list does. Of the deliveries just those wait that the list has, each by the same record.
+-- both books begin to wait where the list does. Of the deliveries just those wait that the list has, each by the same record, and
+-- of the changes of endpoints too: what each endpoint shows, or will show once more is settled, is what these records make of it.
 -- Each attempt that is under way is one at a settled delivery that is pending and has no outcome that waits, no two are at one
 -- delivery, and there are a place and a number for the outcome of each. Each endpoint has a limit.
 pub record IsCore (desk : DeskValue) : Type 0 where
   pub endpoints_settled : desk.endpoints.settled_seq ≡ desk.waiting.settled
   pub endpoints_within : desk.endpoints.next_seq ≤ record_count desk.waiting
+  pub endpoints_wait : HasChanges (endpoint_at desk.deliveries) desk.endpoints (records_of desk.waiting.waiting)
   pub deliveries_settled : desk.deliveries.settled_seq ≡ desk.waiting.settled
   pub deliveries_within : desk.deliveries.next_seq ≤ record_count desk.waiting
   pub deliveries_wait : HasWaiting desk.deliveries (records_of desk.waiting.waiting)

@@ -95,6 +95,10 @@ pub record AreMarked (queue : QueueValue) (book : endpoint_entries.BookValue) (l
 
 -- Attempts
 
+-- the endpoint of a delivery
+abbrev pub endpoint_at : delivery_entries.BookValue → (delivery : Seq) → Option Text
+endpoint_at book d = option_map (λ e. e.name) (entry_at book.entries d)
+
 -- whether the delivery of the row is settled, pending and without an outcome that waits
 abbrev pub is_entry_of : Row → Entry → Bool
 is_entry_of row e = is_open e && (is_some e.settled.due && bytes_eq e.name row.endpoint)

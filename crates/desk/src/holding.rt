@@ -1,5 +1,5 @@
 //! What the desk's queue is told.
-ghost use Rattle.std.specs.Prelude.{◌≡◌, ◌<◌, ◌≤◌, ◌+◌, ◌-◌, max, drop, List, IsTrue, IfSome, option_map};
+ghost use Rattle.std.specs.Prelude.{◌≡◌, ◌<◌, ◌≤◌, ◌+◌, ◌-◌, max, drop, ℕ, List, IsTrue, IfSome, option_map};
 ghost use Rattle.relay_types.specs.declared.limits.TheConstants.{MAX_RECORDS};
 ghost use Rattle.relay_types.specs.declared.record.Record.{Record};
 ghost use Rattle.permits.specs.declared.row.Row.{Row};
@@ -7,7 +7,7 @@ ghost use Rattle.claim_queue.specs.Queues.{ChangesMark, HasSamePairs, IsNew, is_
 ghost use Rattle.delivery_book.specs.Book.{Settles};
 ghost use Rattle.delivery_book.specs.Entries.{HasOneEach, with_settled};
 ghost use Rattle.delivery_book.specs.Waiting.{HasWaiting};
-ghost use Rattle.desk.specs.Ties.{AreQueued, HasPlaces, Holds, KeepsRooms, LetsGo, idle_pair, pair_in, room_by};
+ghost use Rattle.desk.specs.Ties.{AreQueued, HasPlaces, Holds, KeepsRooms, LetsGo, endpoint_at, idle_pair, pair_in, room_by};
 
 use crate::limiter::{Limiter, limit_of};
 use claim_queue::ClaimQueue;
@@ -104,6 +104,7 @@ pub(crate) fn settle_to(queue: &mut ClaimQueue, deliveries: &mut DeliveryBook, s
     ensures stands { Settles deliveries.old seq deliveries.new }
     ensures waits { (records : List Record) → HasWaiting deliveries.old records
         → HasWaiting deliveries.new (drop (seq - deliveries.old.settled_seq) records) }
+    ensures names { (delivery : ℕ) → endpoint_at deliveries.new delivery ≡ endpoint_at deliveries.old delivery }
 {
     for _ in deliveries.settled_seq()..seq {
         settle_next(queue, deliveries);

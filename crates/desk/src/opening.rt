@@ -2,6 +2,7 @@
 ghost use Rattle.std.specs.Prelude.{◌≡◌, ℕ, List, [], ◌∷◌, ◌++◌, false, map, option_map, slice_get, IfOk, OnOk};
 ghost use Rattle.claim_queue.specs.declared.pairs.Pair.{Pair};
 ghost use Rattle.claim_queue.specs.Queues.{HasSamePairs, has_room_in, is_held};
+ghost use Rattle.endpoint_book.specs.Waiting.{IsInStep as AreInStep};
 ghost use Rattle.delivery_book.specs.Entries.{IsInStep, row_in};
 ghost use Rattle.desk.specs.Ties.{AreApart, AreHeld, AreLimiters, AreMarked, AreQueued, HasPlaces, HasSameRooms, KeepsPlaces, KeepsRooms, new_limiter};
 
@@ -20,7 +21,10 @@ pub(crate) fn limiters_of(
     alloc: Global,
     endpoints: &EndpointBook,
 ) -> Result<Vec<Limiter>, AllocError>
-    ensures { IfOk result (λ limiters. limiters.items ≡ map (λ e. new_limiter e.name e.max) endpoints.now.entries) }
+    ensures limiters { IfOk result (λ limiters. limiters.items
+        ≡ map (λ e. new_limiter e.name e.max) endpoints.now.entries) }
+    ensures in_step { OnOk result (AreInStep endpoints.now) }
+    ensures all_settled { OnOk result (endpoints.now.next_seq ≡ endpoints.now.settled_seq → endpoints.now.changes ≡ []) }
 {
     let mut limiters = Vec::with_capacity(alloc, endpoints.len())?;
     for name in endpoints.names() {

@@ -1,28 +1,28 @@
 -- What holds of a book's fields stays so, and what a call makes of the book.
-use Rattle.std.proofs.Common.{◌≡◌, ℕ, ◌+◌, ◌≤◌, true, List, [], ◌∷◌, ◌++◌, Some, None, length, refl, sym, ◌∙◌, ap, cond, arith, subst, length-append}
-use Rattle.std.specs.Prelude.{filter, filter_map, count_by, max, option_map}
+use Rattle.std.proofs.Common.{◌≡◌, ℕ, ◌+◌, ◌≤◌, true, List, [], ◌∷◌, ◌++◌, Option, Some, None, length, refl, sym, ◌∙◌, ap, cond, arith, subst, length-append}
+use Rattle.std.specs.Prelude.{filter, filter_map, count_by, is_some, max, option_map}
 use Rattle.endpoint_book.specs.declared.entries.Entries.{Entries}
 use Rattle.endpoint_book.specs.declared.entry.Change.{Change}
 use Rattle.endpoint_book.specs.declared.entry.Entry.{Entry}
 use Rattle.endpoint_book.specs.declared.entry.Kind.TheVariants.{Put}
 use Rattle.endpoint_book.specs.declared.limits.TheConstants.{MAX_FLAGS}
-use Rattle.endpoint_book.specs.Entries.{BookValue, now_of, is_flag, is_put, is_from, settled_at, shown_with, change_at, entry_of, with_put, with_restored, with_change, with_settled}
+use Rattle.endpoint_book.specs.Entries.{BookValue, now_of, is_flag, is_put, is_from, is_known, settled_at, shown_with, change_at, entry_of, with_put, with_restored, with_change, with_settled}
 use Rattle.endpoint_book.specs.Fields.{AreNames, AreChanges, IsBook, Changes, Puts, IsSame, SettlesBelow, entry_in, listed}
+use Rattle.endpoint_book.specs.Book.{endpoint_by_entry}
+use Rattle.endpoint_book.specs.Waiting.{IsInStep}
+use Rattle.endpoint_book.proofs.InStep.{IsWithin, step_changed, step_put, step_restored, step_settled}
 use Rattle.endpoint_book.proofs.Filters.{some_told}
 use Rattle.endpoint_book.proofs.Names.{found, changed-names, changed-listed, put-names, put-listed, change_at-name}
 use Rattle.endpoint_book.proofs.Queues.{changes-push, changes-keep, puts_kept}
 
--- the entry of the change's name is changed
-pub book-change : (entries later : Entries) (names : List (List ℕ)) (cs : List Change) (c : Change) (flags puts capacity next settled more_flags room : ℕ) (change : Entry → Entry)
-    → IsBook entries names cs flags puts capacity next settled → ((e : Entry) → (change e).name ≡ e.name)
-    → Changes entries later c.name change
-    → next ≤ c.seq → puts ≡ puts + cond (is_put c) 1 0 → more_flags ≡ flags + cond (is_flag c) 1 0 → more_flags ≤ MAX_FLAGS → length cs + 1 + MAX_FLAGS ≤ room + more_flags
-    → IsBook later names (cs ++ c ∷ []) more_flags puts room (c.seq + 1) settled
-book-change entries later names cs c flags puts capacity next settled more_flags room change h keeps changed above p f few fits = record {
-  are_names = subst (λ g. AreNames g names) (λ i asked. sym (changed asked) i) (changed-names (entry_in entries) names (change_at c.name change) (change_at-name c.name change keeps) h.are_names);
-  are_changes = changes-push cs c flags puts capacity next settled more_flags puts room h.are_changes above f p few fits;
-  puts_within = h.puts_within;
-}
+-- the book with these fields, and its changes below the next record
+abbrev value_of : Entries → List (List ℕ) → List Change → ℕ → ℕ → BookValue
+value_of entries names cs next settled = record { entries = listed entries names; changes = cs; next_seq = next; settled_seq = settled }
+
+within : {entries : Entries} {names : List (List ℕ)} {cs : List Change} {flags puts capacity next settled : ℕ} → IsBook entries names cs flags puts capacity next settled → IsWithin (value_of entries names cs next settled)
+within {next = next} h = (h.are_changes.parted, h.are_changes.below_next next (omega arith))
+
+-- What a call makes of the book
 
 pub change-value : (book : BookValue) (entries later : Entries) (names : List (List ℕ)) (cs : List Change) (c : Change) (next settled : ℕ) (change : Entry → Entry)
     → AreNames (entry_in entries) names → record { entries = listed entries names; changes = cs; next_seq = next; settled_seq = settled } ≡ book
@@ -38,19 +38,6 @@ change-value book entries later names cs c next settled change h is changed show
     })
     ∙ ap (λ b. with_change b c.seq c.name c.kind change) is
 
--- one more entry, with the change of its Put
-pub book-put : (entries later : Entries) (names : List (List ℕ)) (cs : List Change) (e : Entry) (flags puts capacity next settled room : ℕ)
-    → IsBook entries names cs flags puts capacity next settled → entry_in entries e.name ≡ None
-    → Puts entries later e → next ≤ e.put → length cs + 1 + MAX_FLAGS ≤ room + flags
-    → IsBook later (names ++ e.name ∷ []) (cs ++ record { seq = e.put; name = e.name; kind = Put; shown = now_of e } ∷ []) flags (puts + 1) room (e.put + 1) settled
-book-put entries later names cs e flags puts capacity next settled room h unknown put above fits = record {
-  are_names = subst (λ g. AreNames g (names ++ e.name ∷ [])) (λ i asked. sym (put asked) i) (put-names (entry_in entries) names e unknown h.are_names);
-  are_changes =
-      changes-push cs (record { seq = e.put; name = e.name; kind = Put; shown = now_of e }) flags puts capacity next settled flags (puts + 1) room h.are_changes above
-      (omega arith) refl h.are_changes.few fits;
-  puts_within = omega (arith, h.puts_within, length-append names (e.name ∷ []));
-}
-
 pub put-value : (book : BookValue) (entries later : Entries) (names : List (List ℕ)) (cs : List Change) (e : Entry) (next settled : ℕ)
     → AreNames (entry_in entries) names → record { entries = listed entries names; changes = cs; next_seq = next; settled_seq = settled } ≡ book
     → entry_in entries e.name ≡ None → Puts entries later e
@@ -63,6 +50,66 @@ put-value book entries later names cs e next settled h is unknown put =
       settled_seq = settled;
     })
     ∙ ap (λ b. with_put b e) is
+
+pub settled-value : (book : BookValue) (entries later : Entries) (names : List (List ℕ)) (cs : List Change) (next settled place : ℕ)
+    → AreNames (entry_in entries) names → record { entries = listed entries names; changes = cs; next_seq = next; settled_seq = settled } ≡ book
+    → SettlesBelow place cs entries later
+    → record { entries = listed later names; changes = filter (is_from place) cs; next_seq = max next place; settled_seq = place } ≡ with_settled book place
+settled-value book entries later names cs next settled place h is changed =
+    (λ i. record {
+      entries = (ap (λ g. filter_map g names) (λ j asked. changed asked j) ∙ changed-listed (entry_in entries) names (settled_at place cs) h) i;
+      changes = filter (is_from place) cs;
+      next_seq = max next place;
+      settled_seq = place;
+    })
+    ∙ ap (λ b. with_settled b place) is
+
+pub restored-value : (book : BookValue) (entries later : Entries) (names : List (List ℕ)) (cs : List Change) (e : Entry) (next settled : ℕ)
+    → AreNames (entry_in entries) names → record { entries = listed entries names; changes = cs; next_seq = next; settled_seq = settled } ≡ book
+    → entry_in entries e.name ≡ None → Puts entries later e
+    → record { entries = listed later (names ++ e.name ∷ []); changes = cs; next_seq = e.put + 1; settled_seq = e.put + 1 } ≡ with_restored book e
+restored-value book entries later names cs e next settled h is unknown put =
+    (λ i. record {
+      entries = (ap (λ g. filter_map g (names ++ e.name ∷ [])) (λ j asked. put asked j) ∙ put-listed (entry_in entries) names e unknown h) i;
+      changes = cs;
+      next_seq = e.put + 1;
+      settled_seq = e.put + 1;
+    })
+    ∙ ap (λ b. with_restored b e) is
+
+-- the entry of the change's name is changed
+pub book-change : (entries later : Entries) (names : List (List ℕ)) (cs : List Change) (c : Change) (flags puts capacity next settled more_flags room : ℕ) (change : Entry → Entry)
+    → IsBook entries names cs flags puts capacity next settled → ((e : Entry) → (change e).name ≡ e.name)
+    → Changes entries later c.name change
+    → next ≤ c.seq → puts ≡ puts + cond (is_put c) 1 0 → more_flags ≡ flags + cond (is_flag c) 1 0 → more_flags ≤ MAX_FLAGS → length cs + 1 + MAX_FLAGS ≤ room + more_flags
+    → Some c.shown ≡ option_map (λ e. now_of (change e)) (entry_in entries c.name) → ((e : Entry) → endpoint_by_entry (change e) ≡ endpoint_by_entry e) → ((e : Entry) → (change e).settled ≡ e.settled)
+    → IsBook later names (cs ++ c ∷ []) more_flags puts room (c.seq + 1) settled
+book-change entries later names cs c flags puts capacity next settled more_flags room change h keeps changed above p f few fits shown fields settles = record {
+  are_names = subst (λ g. AreNames g names) (λ i asked. sym (changed asked) i) (changed-names (entry_in entries) names (change_at c.name change) (change_at-name c.name change keeps) h.are_names);
+  are_changes = changes-push cs c flags puts capacity next settled more_flags puts room h.are_changes above f p few fits;
+  puts_within = h.puts_within;
+  in_step = subst IsInStep (sym (change-value (value_of entries names cs next settled) entries later names cs c next settled change h.are_names refl changed shown))
+      (step_changed (value_of entries names cs next settled) c.seq c.name c.kind change h.in_step (within h) above (there (entry_in entries c.name) shown (found (entry_in entries) names c.name h.are_names)) fields settles);
+}
+  where
+    there : (o : Option Entry) → Some c.shown ≡ option_map (λ e. now_of (change e)) o → entry_of (value_of entries names cs next settled) c.name ≡ o → is_known (value_of entries names cs next settled) c.name ≡ true
+    there None is same = absurd (let wrong = is in cc)
+    there (Some e) is same = ap is_some same
+
+-- one more entry, with the change of its Put
+pub book-put : (entries later : Entries) (names : List (List ℕ)) (cs : List Change) (e : Entry) (flags puts capacity next settled room : ℕ)
+    → IsBook entries names cs flags puts capacity next settled → entry_in entries e.name ≡ None
+    → Puts entries later e → next ≤ e.put → length cs + 1 + MAX_FLAGS ≤ room + flags → e.settled ≡ None
+    → IsBook later (names ++ e.name ∷ []) (cs ++ record { seq = e.put; name = e.name; kind = Put; shown = now_of e } ∷ []) flags (puts + 1) room (e.put + 1) settled
+book-put entries later names cs e flags puts capacity next settled room h unknown put above fits none = record {
+  are_names = subst (λ g. AreNames g (names ++ e.name ∷ [])) (λ i asked. sym (put asked) i) (put-names (entry_in entries) names e unknown h.are_names);
+  are_changes =
+      changes-push cs (record { seq = e.put; name = e.name; kind = Put; shown = now_of e }) flags puts capacity next settled flags (puts + 1) room h.are_changes above
+      (omega arith) refl h.are_changes.few fits;
+  puts_within = omega (arith, h.puts_within, length-append names (e.name ∷ []));
+  in_step = subst IsInStep (sym (put-value (value_of entries names cs next settled) entries later names cs e next settled h.are_names refl unknown put))
+      (step_put (value_of entries names cs next settled) e h.in_step (within h) above (found (entry_in entries) names e.name h.are_names ∙ unknown) none);
+}
 
 -- the same entries, with more room
 pub book-same : (entries later : Entries) (names : List (List ℕ)) (cs : List Change) (flags puts capacity next settled room : ℕ)
@@ -82,6 +129,7 @@ book-same entries later names cs flags puts capacity next settled room h same mo
     room = omega (arith, h.are_changes.room, more);
   };
   puts_within = h.puts_within;
+  in_step = subst (λ g. IsInStep (record { entries = filter_map g names; changes = cs; next_seq = next; settled_seq = settled })) (λ i asked. sym (same asked) i) h.in_step;
 }
 
 -- more records are settled
@@ -92,20 +140,9 @@ book-settled entries later names cs flags puts capacity next settled place h lat
   are_names = subst (λ g. AreNames g names) (λ i asked. sym (changed asked) i) (changed-names (entry_in entries) names (settled_at place cs) (λ name e. refl) h.are_names);
   are_changes = changes-keep cs flags puts capacity next settled place h.are_changes later_place;
   puts_within = omega (arith, h.puts_within, h.are_changes.puts_are, puts_kept cs place);
+  in_step = subst IsInStep (sym (settled-value (value_of entries names cs next settled) entries later names cs next settled place h.are_names refl changed))
+      (step_settled (value_of entries names cs next settled) place h.in_step (within h));
 }
-
-pub settled-value : (book : BookValue) (entries later : Entries) (names : List (List ℕ)) (cs : List Change) (next settled place : ℕ)
-    → AreNames (entry_in entries) names → record { entries = listed entries names; changes = cs; next_seq = next; settled_seq = settled } ≡ book
-    → SettlesBelow place cs entries later
-    → record { entries = listed later names; changes = filter (is_from place) cs; next_seq = max next place; settled_seq = place } ≡ with_settled book place
-settled-value book entries later names cs next settled place h is changed =
-    (λ i. record {
-      entries = (ap (λ g. filter_map g names) (λ j asked. changed asked j) ∙ changed-listed (entry_in entries) names (settled_at place cs) h) i;
-      changes = filter (is_from place) cs;
-      next_seq = max next place;
-      settled_seq = place;
-    })
-    ∙ ap (λ b. with_settled b place) is
 
 -- what the book's value has of a name is what a look-up finds
 pub entry-value : (book : BookValue) (entries : Entries) (names : List (List ℕ)) (cs : List Change) (next settled : ℕ) (name : List ℕ)
@@ -129,23 +166,12 @@ changes-none flags puts capacity next settled place h = record {
 
 pub book-restored : (entries later : Entries) (names : List (List ℕ)) (cs : List Change) (e : Entry) (flags puts capacity next settled : ℕ)
     → IsBook entries names cs flags puts capacity next settled → cs ≡ [] → entry_in entries e.name ≡ None → Puts entries later e
-    → IsBook later (names ++ e.name ∷ []) cs flags puts capacity (e.put + 1) (e.put + 1)
-book-restored entries later names cs e flags puts capacity next settled h none unknown put = record {
+    → next ≤ e.put → e.settled ≡ Some (now_of e) → IsBook later (names ++ e.name ∷ []) cs flags puts capacity (e.put + 1) (e.put + 1)
+book-restored entries later names cs e flags puts capacity next settled h none unknown put above shown = record {
   are_names = subst (λ g. AreNames g (names ++ e.name ∷ [])) (λ i asked. sym (put asked) i) (put-names (entry_in entries) names e unknown h.are_names);
   are_changes = subst (λ ds. AreChanges ds flags puts capacity (e.put + 1) (e.put + 1)) (sym none)
       (changes-none flags puts capacity next settled (e.put + 1) (subst (λ ds. AreChanges ds flags puts capacity next settled) none h.are_changes));
   puts_within = omega (arith, h.puts_within, length-append names (e.name ∷ []));
+  in_step = subst IsInStep (sym (restored-value (value_of entries names cs next settled) entries later names cs e next settled h.are_names refl unknown put))
+      (step_restored (value_of entries names cs next settled) e h.in_step none above shown);
 }
-
-pub restored-value : (book : BookValue) (entries later : Entries) (names : List (List ℕ)) (cs : List Change) (e : Entry) (next settled : ℕ)
-    → AreNames (entry_in entries) names → record { entries = listed entries names; changes = cs; next_seq = next; settled_seq = settled } ≡ book
-    → entry_in entries e.name ≡ None → Puts entries later e
-    → record { entries = listed later (names ++ e.name ∷ []); changes = cs; next_seq = e.put + 1; settled_seq = e.put + 1 } ≡ with_restored book e
-restored-value book entries later names cs e next settled h is unknown put =
-    (λ i. record {
-      entries = (ap (λ g. filter_map g (names ++ e.name ∷ [])) (λ j asked. put asked j) ∙ put-listed (entry_in entries) names e unknown h) i;
-      changes = cs;
-      next_seq = e.put + 1;
-      settled_seq = e.put + 1;
-    })
-    ∙ ap (λ b. with_restored b e) is

@@ -1,7 +1,7 @@
 -- What a book that stands for some records says of them.
-use Rattle.std.proofs.Common.{◌≡◌, ℕ, zero, suc, ◌+◌, ◌<◌, ◌≤◌, Bool, true, false, List, [], ◌∷◌, ◌++◌, Option, Some, None, length, take, drop, map, refl, sym, ◌∙◌, ap, arith, add-zero}
+use Rattle.std.proofs.Common.{◌≡◌, ℕ, suc, ◌+◌, Bool, true, false, List, [], ◌∷◌, ◌++◌, Option, Some, None, length, take, drop, map, refl, sym, ◌∙◌, ap, arith, add-zero}
 use Rattle.std.specs.Prelude.{find, filter_map, is_some, bytes_eq, option_map, option_and_then, if◌then◌else◌}
-use Rattle.std.specs.List.{enumerate_from, cons_option}
+use Rattle.std.specs.List.{enumerate_from}
 use Rattle.std.specs.Option.{option_map_or, option_or}
 use Rattle.std.proofs.lemmas.List.{take-append-drop}
 use Rattle.std.proofs.lemmas.List.Elements.{filter_map-append}
@@ -12,8 +12,8 @@ use Rattle.relay_types.specs.Endpoints.{Endpoint, endpoint_by, endpoints, endpoi
 use Rattle.relay_types.proofs.RowLaws.{find_map}
 use Rattle.endpoint_book.specs.declared.entry.Entry.{Entry}
 use Rattle.endpoint_book.specs.declared.entry.Shown.{Shown}
-use Rattle.endpoint_book.specs.Entries.{BookValue, entry_of, is_named, now_of}
-use Rattle.endpoint_book.specs.Book.{Tells, View, endpoint_by_entry, enabled_in, secrets_in, shown_of, secrets_if_known, view_of, view_by}
+use Rattle.endpoint_book.specs.Entries.{BookValue, entry_of, now_of}
+use Rattle.endpoint_book.specs.Book.{Tells, View, endpoint_by_entry, shown_of, secrets_if_known, view_of, view_by}
 
 -- The endpoint of an entry
 

@@ -15,7 +15,6 @@ use Rattle.relay_types.proofs.GrowthLaws.{is_enabled-snoc, secrets_of-snoc}
 use Rattle.relay_types.proofs.KnownLaws.{legal_known, known_below}
 use Rattle.endpoint_book.specs.declared.entry.Change.{Change}
 use Rattle.endpoint_book.specs.declared.entry.Entry.{Entry}
-use Rattle.endpoint_book.specs.declared.entry.Kind.TheVariants.{Put, Secrets}
 use Rattle.endpoint_book.specs.Entries.{BookValue, entry_of, is_flag, is_put, is_from, is_below, shown_at, settled_at, with_settled}
 use Rattle.endpoint_book.specs.Book.{StandsFor, Tells, Shows, endpoint_by_entry, settled_in, count_from, shown_of, sets_flag, is_other, view_of, view_by, settled_view}
 use Rattle.endpoint_book.specs.Laws.{IsIdle}

@@ -7,4 +7,6 @@ pub mod Shown
 pub mod Histories
 pub mod Staged
 pub mod Laws
+pub mod InStep
+pub mod Waiting
 pub mod Restored

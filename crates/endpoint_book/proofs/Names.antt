@@ -1,5 +1,5 @@
 -- The entries of the names, and what a change of one of them makes of the list.
-use Rattle.std.proofs.Common.{◌≡◌, ℕ, Bool, true, false, ◌||◌, ◌&&◌, List, [], ◌∷◌, ◌++◌, Option, Some, None, refl, sym, ◌∙◌, ap, cond, map}
+use Rattle.std.proofs.Common.{◌≡◌, ℕ, Bool, true, false, ◌||◌, List, [], ◌∷◌, ◌++◌, Option, Some, None, refl, sym, ◌∙◌, ap, cond, map}
 use Rattle.std.specs.Prelude.{find, filter_map, is_some, bytes_eq, option_map, if◌then◌else◌}
 use Rattle.std.specs.List.{list_any, list_all, cons_option}
 use Rattle.std.specs.Cmp.Lexicographic.{bytes_decides}

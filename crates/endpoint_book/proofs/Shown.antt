@@ -1,7 +1,7 @@
 -- What an endpoint shows after some changes.
-use Rattle.std.proofs.Common.{◌≡◌, ℕ, ◌<◌, ◌≤◌, Bool, true, false, not, ◌&&◌, List, [], ◌∷◌, ◌++◌, Option, Some, None, refl, sym, ◌∙◌, ap, cond, arith}
+use Rattle.std.proofs.Common.{◌≡◌, ℕ, ◌<◌, ◌≤◌, Bool, true, false, not, ◌&&◌, List, [], ◌∷◌, ◌++◌, Option, Some, refl, sym, ◌∙◌, ap, cond, arith}
 use Rattle.std.specs.Prelude.{filter, nat_lt, bytes_eq, if◌then◌else◌}
-use Rattle.std.proofs.lemmas.Bool.{lt-ltb, le-ltb, ltb-true, ltb-false}
+use Rattle.std.proofs.lemmas.Bool.{lt-ltb, le-ltb, ltb-true}
 use Rattle.endpoint_book.specs.declared.entry.Change.{Change}
 use Rattle.endpoint_book.specs.declared.entry.Shown.{Shown}
 use Rattle.endpoint_book.specs.Entries.{is_below, is_from, shown_at}
@@ -33,7 +33,7 @@ shown_at-below place cs c name o h =
     ∙ ap (λ b. if b then Some c.shown else shown_at place cs name o) (and_true (bytes_eq c.name name))
 
 -- the changes below a place are all that count there
-shown_below : (place later : ℕ) (cs : List Change) (name : List ℕ) (o : Option Shown) → place ≤ later → shown_at later (filter (is_below place) cs) name o ≡ shown_at place cs name o
+pub shown_below : (place later : ℕ) (cs : List Change) (name : List ℕ) (o : Option Shown) → place ≤ later → shown_at later (filter (is_below place) cs) name o ≡ shown_at place cs name o
 shown_below place later [] name o h = refl
 shown_below place later (c ∷ cs) name o h = at (nat_lt c.seq place) refl (λ p. shown_below place later cs name p h)
   where

@@ -1,6 +1,6 @@
 -- The histories for which a book stands with one more record of an endpoint.
 use Rattle.std.proofs.Common.{◌≡◌, ℕ, ◌+◌, ◌<◌, ◌≤◌, Bool, true, false, ◌&&◌, List, [], ◌∷◌, ◌++◌, Option, Some, None, length, take, drop, map, refl, sym, ◌∙◌, ap, cond, arith, ⊎_elim, IsTrue, length-append, append-nil}
-use Rattle.std.specs.Prelude.{filter, find, is_some, bytes_eq, count_by, max, option_map, unwrap_or, if◌then◌else◌}
+use Rattle.std.specs.Prelude.{filter, find, is_some, bytes_eq, count_by, option_map, unwrap_or, if◌then◌else◌}
 use Rattle.std.specs.List.{cons_option}
 use Rattle.std.specs.Option.{option_map_or, option_or}
 use Rattle.std.specs.Cmp.Lexicographic.{bytes_decides}
@@ -134,11 +134,11 @@ stands-more book records settled r c es h legal at_end tells same here elsewhere
 
 -- A record that changes the endpoint of one name
 
-entry-changed : (book : BookValue) (place : ℕ) (name : List ℕ) (kind : Kind) (change : Entry → Entry) → ((e : Entry) → endpoint_by_entry (change e) ≡ endpoint_by_entry e) → (asked : List ℕ)
+pub entry-changed : (book : BookValue) (place : ℕ) (name : List ℕ) (kind : Kind) (change : Entry → Entry) → ((e : Entry) → endpoint_by_entry (change e) ≡ endpoint_by_entry e) → (asked : List ℕ)
     → entry_of (with_change book place name kind change) asked ≡ option_map (change_at name change asked) (entry_of book asked)
 entry-changed book place name kind change keeps asked = found-map (change_at name change) (change_at-name name change (λ e. ap (λ x. x.name) (keeps e))) book.entries asked
 
-known-same : (book : BookValue) (name asked : List ℕ) → is_known book name ≡ true → bytes_eq name asked ≡ true → is_some (entry_of book asked) ≡ true
+pub known-same : (book : BookValue) (name asked : List ℕ) → is_known book name ≡ true → bytes_eq name asked ≡ true → is_some (entry_of book asked) ≡ true
 known-same book name asked known same = ap (is_known book) (sym ((bytes_decides name asked).0 same)) ∙ known
 
 unchanged : (name : List ℕ) (change : Entry → Entry) (asked : List ℕ) (o : Option Entry) → bytes_eq name asked ≡ false → option_map (change_at name change asked) o ≡ o
@@ -146,7 +146,7 @@ unchanged name change asked None other = refl
 unchanged name change asked (Some e) other = ap (λ b. Some (if b then change e else e)) other
 
 -- what the change leaves alone, and what it sets
-field-kept : {X : Type 0} (name : List ℕ) (change : Entry → Entry) (asked : List ℕ) (f : Entry → X) (d : X) → ((e : Entry) → f (change e) ≡ f e) → (o : Option Entry)
+pub field-kept : {X : Type 0} (name : List ℕ) (change : Entry → Entry) (asked : List ℕ) (f : Entry → X) (d : X) → ((e : Entry) → f (change e) ≡ f e) → (o : Option Entry)
     → option_map_or f (option_map (change_at name change asked) o) d ≡ option_map_or f o d
 field-kept name change asked f d keeps None = refl
 field-kept name change asked f d keeps (Some e) = at (bytes_eq name asked)
@@ -165,7 +165,7 @@ field-set name change asked f d x sets o known = at (bytes_eq name asked) o know
     at false (Some e) k = refl
     at false None k = refl
 
-keeps-endpoints : (name : List ℕ) (change : Entry → Entry) → ((e : Entry) → endpoint_by_entry (change e) ≡ endpoint_by_entry e) → (es : List Entry)
+pub keeps-endpoints : (name : List ℕ) (change : Entry → Entry) → ((e : Entry) → endpoint_by_entry (change e) ≡ endpoint_by_entry e) → (es : List Entry)
     → map endpoint_by_entry (map (λ e. change_at name change e.name e) es) ≡ map endpoint_by_entry es
 keeps-endpoints name change keeps [] = refl
 keeps-endpoints name change keeps (e ∷ es) = λ i. at (bytes_eq name e.name) i ∷ keeps-endpoints name change keeps es i

@@ -11,6 +11,7 @@ use Rattle.endpoint_book.specs.declared.entry.Change.{Change}
 use Rattle.endpoint_book.specs.declared.entry.Entry.{Entry}
 use Rattle.endpoint_book.specs.declared.limits.TheConstants.{MAX_FLAGS}
 use Rattle.endpoint_book.specs.declared.key.NameKey.{NameKey}
+use Rattle.endpoint_book.specs.Waiting.{IsInStep}
 use Rattle.endpoint_book.specs.Entries.{is_flag, is_put, is_below, is_from, settled_at, change_at}
 
 -- keys are the same where their characters are, and stand in the order of these
@@ -72,3 +73,9 @@ pub record IsBook (entries : Entries) (names : List Text) (changes : List Change
   pub are_names : AreNames (entry_in entries) names
   pub are_changes : AreChanges changes flags puts capacity next_seq settled_seq
   pub puts_within : puts ≤ length names
+  pub in_step : IsInStep (record {
+    entries = listed entries names;
+    changes = changes;
+    next_seq = next_seq;
+    settled_seq = settled_seq;
+  })

@@ -1,4 +1,5 @@
 pub mod Entries
 pub mod Fields
 pub mod Book
+pub mod Waiting
 pub mod Laws

@@ -6,6 +6,7 @@ ghost use Rattle.relay_types.specs.Endpoints.{endpoints, endpoint_of, has_endpoi
 ghost use Rattle.endpoint_book.specs.Entries.{AreFound, empty_book, new_entry, restored_entry, entry_of, is_known, is_put, flags_in};
 ghost use Rattle.endpoint_book.specs.Entries.{with_put, with_restored, with_flag, with_secrets, with_settled};
 ghost use Rattle.endpoint_book.specs.Book.{StandsFor, Stages, StagesGone, Settles, OfAll, OfSettled, OfWaiting};
+ghost use Rattle.endpoint_book.specs.Waiting.{IsInStep};
 ghost use Rattle.endpoint_book.specs.Book.{secrets_if_known, view_of, settled_view, told, enabled_in, sets_flag};
 
 use crate::changes::{count_flags, count_puts, keep_from, settle_below};
@@ -291,6 +292,8 @@ impl EndpointBook {
     pub fn names(&self) -> &[Name]
         ensures value { result.now ≡ map (λ e. e.name) self.now.entries }
         ensures found { AreFound self.now }
+        ensures in_step { IsInStep self.now }
+        ensures all_settled { self.now.next_seq ≡ self.now.settled_seq → self.now.changes ≡ [] }
         ensures stands { OfAll self.now (λ records. result.now ≡ map (λ e. e.name) (endpoints records)) }
     {
         self.names.as_slice()

@@ -2,6 +2,8 @@ use Rattle.std.proofs.Common.{◌≡◌, ◌+◌, ◌-◌, ◌∙◌, arith, dro
 use Rattle.delivery_book.specs.Book.{Settles}
 use Rattle.delivery_book.specs.Waiting.{HasWaiting}
 use Rattle.delivery_book.specs.Entries.{BookValue}
+use Rattle.desk.specs.Ties.{endpoint_at}
+use Rattle.desk.proofs.WaitLaws.{names_settled}
 use Rattle.desk.proofs.SettleLaws.{next_within, none_left, one_further, settles_more, settles_none}
 use Rattle.desk.proofs.holding.settle_to.Goals as goal
 
@@ -15,6 +17,7 @@ loop-init c = record {
   stands = settles_none c.args.deliveries.now c.settled_seq-counter.result c.settled_seq-counter.ensures;
   above = omega (arith, c.settled_seq-counter.ensures);
   waits = λ records waits. none_left c.args.deliveries.now c.args.deliveries.now.settled_seq c.settled_seq-counter.result records c.settled_seq-counter.ensures waits;
+  names = λ delivery. refl;
 }
 
 pub settle_next-requires : goal.settle_next-requires
@@ -36,6 +39,7 @@ loop-preserved c =
       stands = settles_more c.args.deliveries.now c.loop.deliveries c.settle_next.new.deliveries c.loop.counter c.loop.deliveries.settled_seq was.number was.stands made.stands;
       above = omega (arith, was.above);
       waits = λ records waits. one_further c.settle_next.new.deliveries c.args.deliveries.now.settled_seq c.loop.counter records was.above (made.waits _ (was.waits records waits));
+      names = λ delivery. ap (λ (b : BookValue). endpoint_at b delivery) made.value ∙ names_settled c.loop.deliveries (c.loop.deliveries.settled_seq + 1) delivery ∙ was.names delivery;
     }
 
 pub returns-clause-stands : goal.returns-clause-stands

@@ -1,9 +1,9 @@
-use Rattle.std.proofs.Common.{◌≡◌, ◌≤◌, ◌-◌, List, drop, max}
+use Rattle.std.proofs.Common.{◌≡◌, ◌≤◌, ◌-◌, ℕ, List, drop, max}
 use Rattle.relay_types.specs.declared.record.Record.{Record}
 use Rattle.permits.specs.declared.row.Row.{Row}
 use Rattle.delivery_book.specs.Book.{Settles}
 use Rattle.delivery_book.specs.Waiting.{HasWaiting}
-use Rattle.desk.specs.Ties.{AreQueued, KeepsRooms}
+use Rattle.desk.specs.Ties.{AreQueued, KeepsRooms, endpoint_at}
 use Rattle.desk.proofs.holding.settle_to.Given as goal
 
 abbrev pub invariant-loop : goal.invariant-loop
@@ -16,4 +16,5 @@ invariant-loop l = record {
   stands : Settles l.fn.deliveries l.counter l.deliveries;
   above : l.fn.deliveries.settled_seq ≤ l.counter;
   waits : (records : List Record) → HasWaiting l.fn.deliveries records → HasWaiting l.deliveries (drop (l.counter - l.fn.deliveries.settled_seq) records);
+  names : (delivery : ℕ) → endpoint_at l.deliveries delivery ≡ endpoint_at l.fn.deliveries delivery;
 }

@@ -24,7 +24,7 @@ loop-name-preserved c =
       }
     ]
 
-pub returns : goal.returns
-returns c =
+pub returns-clause-limiters : goal.returns-clause-limiters
+returns-clause-limiters c =
     limiters_all c.args.endpoints.now c.loop-name.name-index c.loop-name.limiters.items c.names-name-items.ensures.found
     (omega (arith, c.loop-name-test.false, ap length c.names-name-items.ensures.value)) c.loop-name.invariant.items

@@ -21,7 +21,7 @@ pub invariant_of-self-2 : goal.invariant_of-self-2
 invariant_of-self-2 g c =
     let walk = c.settle_to-2.ensures in
     is_desk_settled (length c.args.receipt.steps) c.in_ok-settled.settled.records c.self.invariant c.settle_to.ensures.value walk.settled walk.next
-    c.in_ok-settled.ensures.settled c.in_ok-settled.ensures.records walk.waits c.settle_to.ensures.flags walk.rooms walk.queued
+    c.in_ok-settled.ensures.settled c.in_ok-settled.ensures.records walk.waits walk.names c.settle_to.ensures.flags walk.rooms walk.queued
 
 pub returns-clause-moves : goal.returns-clause-moves
 returns-clause-moves g c =

@@ -1,5 +1,6 @@
 use Rattle.std.proofs.Common.{◌≡◌, ◌+◌, ◌∙◌, List, ◌++◌, [], ◌∷◌, ap, arith, length, subst, sym}
 use Rattle.claim_queue.specs.Queues.{ChangesMark, with_room}
+use Rattle.endpoint_book.specs.Entries.{is_known}
 use Rattle.group_commit.specs.Waits.{record_count}
 use Rattle.desk.specs.declared.limiter.Limiter.{Limiter}
 use Rattle.desk.specs.Desks.{DeskValue, IsDesk, with_put}
@@ -15,6 +16,7 @@ invariant_of-self-2 g c =
     (c.push_reserved.ensures.items ∙ ap (λ (ls : List Limiter). ls ++ record { endpoint = c.args.name; estimator = c.in_ok-estimator.estimator } ∷ []) c.in_ok-reserve.ensures.items ∙ ap (λ (l : Limiter). c.self.inside.limiters.items ++ l ∷ []) (limiter_is c.in_ok-estimator.estimator c.args.name c.args.max c.in_ok-estimator.ensures.maximum c.in_ok-estimator.ensures.empty))
     (λ i. (c.args.name, c.args.max))
     (omega (arith, c.requires.room, ap (λ (v : DeskValue). record_count v.waiting + length v.live) c.self.view_is))
+    c.in_ok-kept.ensures (ap (λ (v : DeskValue). is_known v.endpoints c.args.name) c.self.view_is ∙ c.requires.unknown)
     c.in_ok-reserve-2.ensures.pairs c.in_ok-reserve-2.ensures.mark c.tell_room.ensures.pairs
     (subst (λ ls. ChangesMark c.reserve-2.new.self c.tell_room.new.queue c.args.name (with_room (room_by c.stage_put.new.self ls c.self.inside.pool c.args.name))) c.deref.ensures.value c.tell_room.ensures.mark)
     c.self.invariant

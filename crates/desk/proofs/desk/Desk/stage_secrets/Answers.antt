@@ -1,4 +1,5 @@
-use Rattle.std.proofs.Common.{◌+◌, ap, arith, length}
+use Rattle.std.proofs.Common.{◌+◌, ◌∙◌, ap, arith, length}
+use Rattle.endpoint_book.specs.Entries.{is_known}
 use Rattle.group_commit.specs.Waits.{record_count}
 use Rattle.desk.specs.Desks.{DeskValue}
 use Rattle.desk.proofs.RequestTies.{desk_secrets}
@@ -8,4 +9,5 @@ pub invariant_of-self-2 : goal.invariant_of-self-2
 invariant_of-self-2 g c =
     desk_secrets c.records-seq.result c.args.name c.args.secrets c.records-seq.ensures.count c.in_ok-stage_secrets.ensures.given c.push_request.ensures.staged
     (omega (arith, c.requires.room, ap (λ (v : DeskValue). record_count v.waiting + length v.live) c.self.view_is))
+    (ap (λ (v : DeskValue). is_known v.endpoints c.args.name) c.self.view_is ∙ c.requires.known)
     c.self.invariant

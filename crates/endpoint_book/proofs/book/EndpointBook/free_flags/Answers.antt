@@ -1,4 +1,4 @@
-use Rattle.std.proofs.Common.{◌∙◌, ap, arith, sym, subst}
+use Rattle.std.proofs.Common.{ap, arith, sym, subst}
 use Rattle.endpoint_book.specs.Book.{StandsFor}
 use Rattle.endpoint_book.specs.Entries.{flags_in}
 use Rattle.endpoint_book.proofs.Laws.{settled-flags}

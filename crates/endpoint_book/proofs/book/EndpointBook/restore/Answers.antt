@@ -34,7 +34,8 @@ invariant_of-self-2 c =
     let there = entry-value a.self.now b.entries b.names.items b.changes.items b.next_seq b.settled_seq a.name c.self.invariant.are_names c.self.view_is in
     subst (λ ns. IsBook c.put.new.self ns b.changes.items b.flags b.puts (vec_capacity b.changes) (a.seq + 1) (a.seq + 1)) (sym (c.push_reserved.ensures.items ∙ ap (λ ns. ns ++ a.name ∷ []) c.reserve.ensures.items))
     (book-restored b.entries c.put.new.self b.names.items b.changes.items e b.flags b.puts (vec_capacity b.changes) b.next_seq b.settled_seq c.self.invariant
-    (ap (λ (v : BookValue). v.changes) c.self.view_is ∙ c.requires.settled) (there ∙ none_if _ c.requires.unknown) (λ asked. c.in_ok-put.ensures.put asked))
+    (ap (λ (v : BookValue). v.changes) c.self.view_is ∙ c.requires.settled) (there ∙ none_if _ c.requires.unknown) (λ asked. c.in_ok-put.ensures.put asked)
+    (omega (arith, c.requires.above, ap (λ (v : BookValue). v.next_seq) c.self.view_is)) (ap (λ n. Some (record { enabled = a.enabled; secrets = n })) c.count.ensures.count))
 
 pub returns-clause-put : goal.returns-clause-put
 returns-clause-put c =

@@ -18,7 +18,8 @@ invariant_of-self c =
     (λ (e : Entry). record e { enabled = c.args.flag }) c.self.invariant (λ e. refl) (λ asked. c.enable.ensures.entries asked)
     (omega (arith, c.requires.above, ap (λ v. v.next_seq) c.self.view_is)) (omega arith) refl
     (omega (arith, c.requires.free, c.self.invariant.are_changes.flags_are, ap flags_in c.self.view_is))
-    (omega (arith, c.self.invariant.are_changes.room, c.push_reserved.ensures.capacity)))
+    (omega (arith, c.self.invariant.are_changes.room, c.push_reserved.ensures.capacity))
+    c.in-Some.ensures.shown (λ e. refl) (λ e. refl))
 
 pub returns-in-Some : goal.returns-in-Some
 returns-in-Some c =

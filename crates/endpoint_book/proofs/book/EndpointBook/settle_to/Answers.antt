@@ -1,4 +1,4 @@
-use Rattle.std.proofs.Common.{◌∙◌, ◌≡◌, ◌++◌, ap, arith, max, refl, sym, subst, vec_capacity}
+use Rattle.std.proofs.Common.{◌∙◌, ◌≡◌, ◌++◌, ap, arith, sym, subst, vec_capacity}
 use Rattle.std.specs.Prelude.{filter, count_by, option_map}
 use Rattle.endpoint_book.specs.Entries.{is_flag, is_put, is_below, is_from, settled_at}
 use Rattle.endpoint_book.specs.Book.{StandsFor}

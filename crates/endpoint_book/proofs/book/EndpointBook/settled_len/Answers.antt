@@ -1,4 +1,4 @@
-use Rattle.std.proofs.Common.{◌∙◌, ap, arith, sym, subst, length}
+use Rattle.std.proofs.Common.{ap, arith, sym, subst, length}
 use Rattle.std.specs.Prelude.{count_by}
 use Rattle.std.proofs.lemmas.List.{length-map}
 use Rattle.endpoint_book.specs.Entries.{is_put}

@@ -1,10 +1,8 @@
-use Rattle.std.proofs.Common.{◌+◌, ◌++◌, ◌∷◌, [], ◌∙◌, Some, None, true, ap, arith, refl, sym, subst, vec_capacity, length}
+use Rattle.std.proofs.Common.{◌+◌, ◌++◌, ◌∷◌, [], ◌∙◌, None, true, ap, arith, refl, sym, subst, vec_capacity, length}
 use Rattle.std.specs.Prelude.{filter_map}
 use Rattle.relay_types.specs.declared.record.Record.TheVariants as on
-use Rattle.endpoint_book.specs.declared.entry.Change.{Change}
 use Rattle.endpoint_book.specs.declared.entry.Entry.{Entry}
 use Rattle.endpoint_book.specs.declared.entry.Kind.TheVariants.{Put}
-use Rattle.endpoint_book.specs.Entries.{now_of}
 use Rattle.endpoint_book.specs.Book.{StandsFor}
 use Rattle.endpoint_book.specs.Fields.{IsBook, listed}
 use Rattle.endpoint_book.proofs.Filters.{none_if, on_err}
@@ -44,7 +42,7 @@ invariant_of-self-2 c =
     (sym (c.push_reserved-2.ensures.items ∙ λ i. c.reserve-2.ensures.items i ++ record { seq = a.seq; name = a.name; kind = Put; shown = record { enabled = true; secrets = c.count.ensures.count i } } ∷ []))
     (book-put b.entries c.put.new.self b.names.items b.changes.items e b.flags b.puts (vec_capacity b.changes) b.next_seq b.settled_seq room c.self.invariant (there ∙ none_if _ c.requires.unknown) (λ asked. c.in_ok-put.ensures.put asked)
     (omega (arith, c.requires.above, ap (λ v. v.next_seq) c.self.view_is))
-    (omega (arith, c.in_ok-reserve-2.ensures.ok, c.push_reserved-2.ensures.capacity, ap length c.reserve-2.ensures.items))))
+    (omega (arith, c.in_ok-reserve-2.ensures.ok, c.push_reserved-2.ensures.capacity, ap length c.reserve-2.ensures.items)) refl))
 
 pub returns-clause-put : goal.returns-clause-put
 returns-clause-put c =

@@ -21,7 +21,8 @@ invariant_of-self-in-Some c =
     (λ (e : Entry). record e { secrets = c.args.secrets }) c.self.invariant (λ e. refl) (λ asked. c.give.ensures.entries asked)
     (omega (arith, c.requires.above, ap (λ v. v.next_seq) c.self.view_is)) (omega arith) (omega arith)
     c.self.invariant.are_changes.few
-    (omega (arith, c.in_ok-reserve.ensures.ok, c.push_reserved.ensures.capacity, ap length c.in_ok-reserve.ensures.items)))
+    (omega (arith, c.in_ok-reserve.ensures.ok, c.push_reserved.ensures.capacity, ap length c.in_ok-reserve.ensures.items))
+    c.in-Some.ensures.shown (λ e. refl) (λ e. refl))
 
 pub returns-in-Some-clause-given : goal.returns-in-Some-clause-given
 returns-in-Some-clause-given c =
@@ -51,6 +52,12 @@ returns-in_default-clause-given c =
 
 pub returns-in_default-clause-stands : goal.returns-in_default-clause-stands
 returns-in_default-clause-stands c =
+    let b = c.self.inside in
+    absurd (not_there (λ (e : Entry). now_of (record e { secrets = c.args.secrets })) _ _ (sym c.in_default.is ∙ c.give.ensures.shown)
+    (entry-value c.args.self.now b.entries b.names.items b.changes.items b.next_seq b.settled_seq c.args.name c.self.invariant.are_names c.self.view_is) c.requires.known)
+
+pub invariant_of-self-in_default : goal.invariant_of-self-in_default
+invariant_of-self-in_default c =
     let b = c.self.inside in
     absurd (not_there (λ (e : Entry). now_of (record e { secrets = c.args.secrets })) _ _ (sym c.in_default.is ∙ c.give.ensures.shown)
     (entry-value c.args.self.now b.entries b.names.items b.changes.items b.next_seq b.settled_seq c.args.name c.self.invariant.are_names c.self.view_is) c.requires.known)
