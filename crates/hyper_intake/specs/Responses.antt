@@ -24,3 +24,9 @@ pub record IsResponseOf (reply : Reply) (response : Response (Full (List ℕ))) 
 -- the response of a reply, or that memory lacks
 abbrev pub Responds : Reply → Response (Full (List ℕ)) → Type 0
 Responds reply response = IsResponseOf reply response ⊎ IsResponseOf out_of_memory response
+
+-- The response has no field, and no body: the body came in a coding that isn't known (RFC 9110, section 15.6.2).
+pub record IsNotImplemented (response : Response (Full (List ℕ))) : Type 0 where
+  pub status : (head_of response).status ≡ 501
+  pub headers : (head_of response).headers ≡ []
+  pub body : (body_of response).buf ≡ None

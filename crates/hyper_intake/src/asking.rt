@@ -3,6 +3,7 @@ ghost use Rattle.std.specs.Prelude.{◌≡◌, ◌⊎◌, Err, IfOk, codes, map}
 ghost use Rattle.hyper.specs.declared.error.Error.{Error};
 ghost use Rattle.http_body_util.specs.Collected.{collected_bytes};
 ghost use Rattle.http_body_util.specs.declared.limited.LimitedError.TheVariants.{LengthLimit, Body};
+ghost use Rattle.hyper_intake.specs.Asking.{RepliesTo};
 ghost use Rattle.hyper_intake.specs.Shown.{is_chunked, is_coded, path_shown, values_shown};
 ghost use Rattle.hyper_intake.specs.declared.asking.BodyRead.TheVariants.{Whole, TooLong, NoMemory, Cut};
 
@@ -58,6 +59,7 @@ pub(crate) fn reply_to<R, L>(
 where
     R: Wait + Clock + RandomSource + AllocGlobal,
     L: Ledger,
+    ensures { RepliesTo head.now body.entry result }
 {
     let Ok(ids) = ids_of(rt.alloc(), &head.headers) else {
         return AskFault::OutOfMemory.reply();

@@ -1,7 +1,6 @@
 //! The response of a reply.
-ghost use Rattle.std.specs.Prelude.{◌≡◌, [], None, IfOk, OnOk};
-ghost use Rattle.http.specs.Response.{head_of, body_of};
-ghost use Rattle.hyper_intake.specs.Responses.{IsResponseOf, Responds, fields_of};
+ghost use Rattle.std.specs.Prelude.{◌≡◌, [], IfOk, OnOk};
+ghost use Rattle.hyper_intake.specs.Responses.{IsNotImplemented, IsResponseOf, Responds, fields_of};
 
 use bytes::Bytes;
 use http::header::{HeaderMap, HeaderMapError};
@@ -44,9 +43,7 @@ fn bytes_of(body: ReplyText) -> Result<Bytes, AllocError>
 
 // That a body was sent in a coding that isn't known here. Nothing was staged.
 pub(crate) fn not_implemented(alloc: Global) -> Response<Full<Bytes>>
-    ensures status { (head_of result).status ≡ 501 }
-    ensures headers { (head_of result).headers ≡ [] }
-    ensures body { (body_of result).buf ≡ None }
+    ensures { IsNotImplemented result }
 {
     let mut response = Response::new(alloc, Full::new(Bytes::from_static(b"")));
     *response.status_mut() = StatusCode::NOT_IMPLEMENTED;

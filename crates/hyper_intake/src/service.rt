@@ -1,4 +1,7 @@
 //! The service of a connection.
+ghost use Rattle.std.specs.Prelude.{IfOk};
+ghost use Rattle.hyper_intake.specs.Asking.{IsResponseTo};
+
 use crate::asking::{BodyRead, Gathered, is_coded, read_body, reply_to};
 use crate::responding::{not_implemented, response_of};
 use bytes::Bytes;
@@ -137,6 +140,7 @@ fn response_to<R, L>(
 where
     R: Wait + Clock + RandomSource + AllocGlobal,
     L: Ledger,
+    ensures { IfOk result (IsResponseTo head.now gathered) }
 {
     if is_coded(&head.headers) {
         return Ok(not_implemented(rt.alloc()));

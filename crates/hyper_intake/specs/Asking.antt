@@ -1,0 +1,47 @@
+-- The reply to a request, as far as `hyper` shows it.
+use Rattle.std.specs.Prelude.{◌≡◌, ◌⊎◌, ℕ, true, false, List, Result, Ok, Err, map, codes}
+use Rattle.relay_types.specs.Values.{Text}
+use Rattle.hyper.specs.declared.error.Error.{Error}
+use Rattle.http.specs.declared.request.Parts.{Parts}
+use Rattle.http.specs.declared.response.Response.{Response}
+use Rattle.http_body_util.specs.declared.collected.Collected.{Collected}
+use Rattle.http_body_util.specs.Collected.{collected_bytes}
+use Rattle.http_body_util.specs.declared.full.Full.{Full}
+use Rattle.http_body_util.specs.declared.limited.LimitedError.{LimitedError}
+use Rattle.http_body_util.specs.declared.limited.LimitedError.TheVariants.{LengthLimit, Body}
+use Rattle.intake_shed.specs.Answers.{AnswersAsk, OrLacksMemory}
+use Rattle.intake_shed.specs.Requests.{IsRefusal}
+use Rattle.intake_shed.specs.declared.ask.Ask.{Ask}
+use Rattle.intake_shed.specs.declared.ask.AskBody.{AskBody}
+use Rattle.intake_shed.specs.declared.ask.AskBody.TheVariants.{Whole, TooLong}
+use Rattle.intake_shed.specs.declared.reply.Reply.{Reply}
+use Rattle.relay_host.specs.Fresh.{IsMadeId}
+use Rattle.hyper_intake.specs.Responses.{IsNotImplemented, Responds}
+use Rattle.hyper_intake.specs.Shown.{is_coded, path_shown, values_shown}
+
+-- what is asked by this head and this body
+pub record IsShown (head : Parts) (sent : AskBody) (ask : Ask) : Type 0 where
+  pub method : ask.method.now ≡ head.method
+  pub path : ask.path.now ≡ path_shown head.uri
+  pub ids : map (λ id. id.now) ask.ids.now ≡ values_shown head.headers (codes "webhook-id")
+  pub body : ask.body ≡ sent
+
+-- The reply is that to what is asked, where an event without an id is given one that was made for it, or memory is lacking.
+abbrev pub RepliesTo : Parts → AskBody → Reply → Type 0
+RepliesTo head body reply = OrLacksMemory ((ask : Ask) × (fresh : Text) × (seen : ℕ) × IsShown head body ask × IsMadeId fresh
+    × (IsRefusal ask reply ⊎ AnswersAsk ask fresh seen reply)) reply
+
+-- the body that came of it: whole, or longer than it may be; of one that was cut there is none
+abbrev pub IsBodyOf : Result Collected (LimitedError Error) → AskBody → Type 0
+IsBodyOf (Ok collected) (Whole bytes) = bytes.now ≡ collected_bytes collected
+IsBodyOf (Ok collected) TooLong = ⊥
+IsBodyOf (Err LengthLimit) body = body ≡ TooLong
+IsBodyOf (Err (Body error)) body = ⊥
+
+-- The response is that of the reply to this head and the body that came, or memory is lacking; to a coding that isn't known it
+-- is one of its own.
+abbrev pub IsResponseTo : Parts → Result Collected (LimitedError Error) → Response (Full (List ℕ)) → Type 0
+IsResponseTo head gathered response =
+    ((is_coded head.headers ≡ true) × IsNotImplemented response)
+    ⊎ ((is_coded head.headers ≡ false) × (reply : Reply) × Responds reply response
+    × OrLacksMemory ((body : AskBody) × IsBodyOf gathered body × RepliesTo head body reply) reply)
