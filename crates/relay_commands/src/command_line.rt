@@ -1,14 +1,16 @@
 //! The command line: which words name which command, and what help says.
-ghost use Rattle.std.specs.Prelude.{◌≡◌, ◌≤◌, IfErr};
+ghost use Rattle.std.specs.Prelude.{◌≡◌, ◌≤◌, ℕ, IfErr};
 ghost use Rattle.std.specs.Io.KnownBytes.{Keeps};
 ghost use Rattle.text_lines.specs.declared.fault.StreamFault.TheVariants as command;
 ghost use Rattle.clap.specs.Words.{kind_of};
+ghost use Rattle.relay_commands.specs.declared.command_line.Outcome.TheVariants.{Exit};
 ghost use Rattle.relay_commands.specs.declared.ends.CommandFault.TheVariants.{Ended};
 ghost use Rattle.relay_commands.specs.Reports.{IsShownAs};
 
 use crate::check_command::check_file;
 use crate::ends::{CommandFault, USAGE, end};
 use crate::replay_command::replay;
+use crate::serve_words::{ServeWords, read_serve, serve_syntax};
 use crate::sign_command::sign;
 use crate::vegas_command::vegas;
 use clap::error::{Error, ErrorKind};
@@ -47,6 +49,7 @@ const REPLAY_HELP: &str =
   show NAME                   what the settled records say of an endpoint
   show NAME ID                what became of an event
   limits NAME                 how many attempts at an endpoint may be under way, and how many are
+  stop                        what is under way is let go, and the store is opened again
 A bad line ends the script with status 2; the replies before it stand.";
 
 const CHECK_HELP: &str =
@@ -64,11 +67,50 @@ const VEGAS_HELP: &str = "Lines: RTT INFLIGHT ok, or RTT INFLIGHT drop
   INFLIGHT  how many posts were in flight, 1 to 1000
 A bad line ends the samples with status 2; the limits before it stand.";
 
+/// What the words ask for, as far as it is done here.
+#[derive(Clone, Copy, PartialEq, Eq, Debug)]
+pub enum Outcome<'a> {
+    /// The command is done, with this exit status.
+    Exit(u8),
+    /// A relay that serves is asked for, and nothing is done yet.
+    Serve(ServeWords<'a>),
+}
+
 /// Runs the command that the words name, the first of which is the program's own: 0 done, 1 usage, 2 what was read,
-/// 4 a file that the relay doesn't take, 3 every other fault. Help and the version go to the output.
-pub fn run<S: AsStr, R: Read, O: Write, E: Write>(
+/// 4 a file that the relay doesn't take, 3 every other fault. Help and the version go to the output. Of `serve` it reads the words alone.
+pub fn run<'a, S: AsStr, R: Read, O: Write, E: Write>(
     rt: &HostRuntime,
-    words: &[S],
+    words: &'a [S],
+    input: &mut R,
+    output: &mut O,
+    errors: &mut E,
+) -> Outcome<'a>
+    ensures done { result ≡ Exit 0 → Keeps (E.contents errors.old) (E.contents errors.new) }
+    ensures usage { result ≡ Exit 1 → Keeps (O.contents output.old) (O.contents output.new) }
+    ensures most { (status : ℕ) → result ≡ Exit status → status ≤ 4 }
+{
+    let matches = match parse(rt.alloc(), words) {
+        Ok(matches) => matches,
+        Err(error) => return Outcome::Exit(show(&error, output, errors)),
+    };
+    match serve_asked(&matches) {
+        Some(asked) => Outcome::Serve(asked),
+        None => Outcome::Exit(run_command(rt, &matches, input, output, errors)),
+    }
+}
+
+// What a relay that serves is told, where the words ask for one.
+fn serve_asked<'a>(matches: &ArgMatches<'a>) -> Option<ServeWords<'a>> {
+    match matches.subcommand() {
+        Some(("serve", words)) => read_serve(words),
+        _ => None,
+    }
+}
+
+// Runs a command that ends by itself.
+fn run_command<R: Read, O: Write, E: Write>(
+    rt: &HostRuntime,
+    matches: &ArgMatches<'_>,
     input: &mut R,
     output: &mut O,
     errors: &mut E,
@@ -78,10 +120,6 @@ pub fn run<S: AsStr, R: Read, O: Write, E: Write>(
     ensures most { result ≤ 4 }
 {
     let alloc = rt.alloc();
-    let matches = match parse(alloc, words) {
-        Ok(matches) => matches,
-        Err(error) => return show(&error, output, errors),
-    };
     match matches.subcommand() {
         Some(("check", words)) => match words.get_str("file") {
             Some(path) => check_file(rt, path, Unknown, output, errors).1,
@@ -153,12 +191,13 @@ fn relayd<'a>(alloc: Global) -> Result<Command<'a>, AllocError> {
     Command::new(alloc, "relayd")
         .version(VERSION)
         .about(
-            "Checks the file of a webhook relay, and shows its layers: a script of its calls, signatures, the adaptive limit",
+            "Serves a webhook relay, checks its file, and shows its layers: a script of its calls, signatures, the adaptive limit",
         )
         .after_help(EXIT_HELP)
         .subcommand_required(true)
         .subcommand(check_syntax(alloc)?)?
         .subcommand(replay_syntax(alloc))?
+        .subcommand(serve_syntax(alloc)?)?
         .subcommand(sign_syntax(alloc)?)?
         .subcommand(vegas_syntax(alloc)?)
 }

@@ -1,7 +1,8 @@
 //! The relay's program.
 #![tactic(auto)]
 
-use relay_commands::{CommandFault, end, run};
+use relay_commands::{CommandFault, Outcome, end, run};
+use relay_serve::{end_serving, serve};
 use std::alloc::{AllocError, Global};
 use std::io;
 use std::io::ErrorKind;
@@ -9,13 +10,19 @@ use std::process::ExitCode;
 
 fn main(rt: HostRuntime) -> io::Result<ExitCode> {
     let status = match words_of(&rt) {
-        Ok(words) => run(
-            &rt,
-            words.as_slice(),
-            &mut rt.stdin(),
-            &mut rt.stdout(),
-            &mut rt.stderr(),
-        ),
+        Ok(words) => {
+            let outcome = run(
+                &rt,
+                words.as_slice(),
+                &mut rt.stdin(),
+                &mut rt.stdout(),
+                &mut rt.stderr(),
+            );
+            match outcome {
+                Outcome::Exit(status) => status,
+                Outcome::Serve(asked) => end_serving(&mut rt.stderr(), serve(&rt, &rt, &asked)),
+            }
+        }
         Err(error) if error.kind() == ErrorKind::OutOfMemory => end(
             &mut rt.stderr(),
             Err(CommandFault::from(AllocError)),

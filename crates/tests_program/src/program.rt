@@ -1,6 +1,7 @@
 // The commands over readers and writers in memory. Expected texts are those of the rules, worked by hand.
 
-use crate::streams::{check, holds, tell};
+use crate::streams::{ask, check, holds, tell};
+use relay_commands::ServeWords;
 use std::alloc::Global;
 use std::process::Abort;
 use std::test::Fail;
@@ -522,6 +523,10 @@ const HELP: &[Help] = &[
         end: "\nA bad line ends the script with status 2; the replies before it stand.\n",
     },
     Help {
+        words: &["relayd", "serve", "--help"],
+        end: "\nStatus 3 and a name tell of a halt, of an address where nothing can be listened on, and of a file that another relay has.\n",
+    },
+    Help {
         words: &["relayd", "sign", "--help"],
         end: "\nstatus 2 tells of a longer one, status 1 and a name of an argument that is refused.\n",
     },
@@ -543,7 +548,7 @@ fn shows_help(rt: HostRuntime) {
             place,
         );
         holds(&rt, told.errors.is_empty(), "standard error", place);
-        holds(&rt, told.status == 0, "status", place);
+        holds(&rt, told.status == Some(0), "status", place);
     }
 }
 
@@ -555,6 +560,73 @@ const BAD_WORDS: &[&[&str]] = &[
     &["relayd", "sign", "msg_1", "1000"],
     &["relayd", "vegas"],
     &["relayd", "vegas", "1", "2"],
+    &["relayd", "serve"],
+    &["relayd", "serve", "relay.db"],
+    &["relayd", "serve", "relay.db", "127.0.0.1:8080", "more"],
+    &[
+        "relayd",
+        "serve",
+        "relay.db",
+        "127.0.0.1:8080",
+        "--workers",
+        "0",
+    ],
+    &[
+        "relayd",
+        "serve",
+        "relay.db",
+        "127.0.0.1:8080",
+        "--workers",
+        "65",
+    ],
+    &[
+        "relayd",
+        "serve",
+        "relay.db",
+        "127.0.0.1:8080",
+        "--intake",
+        "0",
+    ],
+    &[
+        "relayd",
+        "serve",
+        "relay.db",
+        "127.0.0.1:8080",
+        "--intake",
+        "65",
+    ],
+    &[
+        "relayd",
+        "serve",
+        "relay.db",
+        "127.0.0.1:8080",
+        "--timeout",
+        "0",
+    ],
+    &[
+        "relayd",
+        "serve",
+        "relay.db",
+        "127.0.0.1:8080",
+        "--timeout",
+        "61",
+    ],
+    &[
+        "relayd",
+        "serve",
+        "relay.db",
+        "127.0.0.1:8080",
+        "--requests",
+        "-1",
+    ],
+    &[
+        "relayd",
+        "serve",
+        "relay.db",
+        "127.0.0.1:8080",
+        "--requests",
+        "many",
+    ],
 ];
 
 // What is wrong with the words stands on standard error.
@@ -569,6 +641,80 @@ fn refuses_words(rt: HostRuntime) {
             place,
         );
         holds(&rt, told.output.is_empty(), "output", place);
-        holds(&rt, told.status == 1, "status", place);
+        holds(&rt, told.status == Some(1), "status", place);
+    }
+}
+
+/// Words that ask for a relay, and what it is asked to do.
+#[derive(Clone, Copy)]
+struct Serving {
+    words: &'static [&'static str],
+    asked: ServeWords<'static>,
+}
+
+const USUAL: ServeWords<'static> = ServeWords {
+    file: "relay.db",
+    address: "127.0.0.1:8080",
+    workers: 8,
+    intake: 8,
+    timeout: 15,
+    requests: 0,
+};
+
+const SERVING: &[Serving] = &[
+    Serving {
+        words: &["relayd", "serve", "relay.db", "127.0.0.1:8080"],
+        asked: USUAL,
+    },
+    Serving {
+        words: &[
+            "relayd",
+            "serve",
+            "--workers",
+            "1",
+            "--intake",
+            "64",
+            "--timeout",
+            "60",
+            "--requests",
+            "7",
+            "a",
+            "b",
+        ],
+        asked: ServeWords {
+            file: "a",
+            address: "b",
+            workers: 1,
+            intake: 64,
+            timeout: 60,
+            requests: 7,
+        },
+    },
+    Serving {
+        words: &[
+            "relayd",
+            "serve",
+            "relay.db",
+            "127.0.0.1:8080",
+            "--workers=64",
+            "--intake=1",
+            "--timeout=1",
+        ],
+        asked: ServeWords {
+            workers: 64,
+            intake: 1,
+            timeout: 1,
+            ..USUAL
+        },
+    },
+];
+
+// A relay that serves is asked for as the words say, and nothing is written.
+#[test]
+fn asks_for_a_relay(rt: HostRuntime) {
+    for (place, serving) in SERVING.iter().enumerate() {
+        let (asked, is_quiet) = ask(&rt, serving.words);
+        holds(&rt, asked == Some(serving.asked), "asked", place);
+        holds(&rt, is_quiet, "quiet", place);
     }
 }

@@ -1,6 +1,6 @@
 // A reader and writers in memory that give or take little at a call, are interrupted or fail, and what a command tells through them.
 
-use relay_commands::run;
+use relay_commands::{Outcome, ServeWords, run};
 use std::alloc::Global;
 use std::io::{self, ErrorKind, Read, Write};
 use std::process::Abort;
@@ -117,12 +117,12 @@ impl Streams {
     }
 }
 
-// What a command wrote, and its status.
+// What a command wrote, and its status; none where a relay that serves is asked for.
 #[derive(Drop)]
 pub(crate) struct Told {
     pub(crate) output: Vec<u8>,
     pub(crate) errors: Vec<u8>,
-    pub(crate) status: u8,
+    pub(crate) status: Option<u8>,
 }
 
 pub(crate) fn tell_through(
@@ -138,7 +138,10 @@ pub(crate) fn tell_through(
     };
     let mut output = Writer::new(alloc, streams.output);
     let mut errors = Writer::new(alloc, streams.errors);
-    let status = run(rt, words, &mut input, &mut output, &mut errors);
+    let status = match run(rt, words, &mut input, &mut output, &mut errors) {
+        Outcome::Exit(status) => Some(status),
+        Outcome::Serve(_) => None,
+    };
     Told {
         output: output.bytes,
         errors: errors.bytes,
@@ -148,6 +151,19 @@ pub(crate) fn tell_through(
 
 pub(crate) fn tell(rt: &HostRuntime, words: &[&str], text: &[u8]) -> Told {
     tell_through(rt, Streams::of(Calls::WHOLE), words, text)
+}
+
+// What a relay that serves is asked to do, if the words ask for one, and whether nothing was written.
+pub(crate) fn ask<'a>(rt: &HostRuntime, words: &'a [&str]) -> (Option<ServeWords<'a>>, bool) {
+    let alloc = rt.alloc();
+    let mut input: &[u8] = b"";
+    let mut output = Writer::new(alloc, Calls::WHOLE);
+    let mut errors = Writer::new(alloc, Calls::WHOLE);
+    let asked = match run(rt, words, &mut input, &mut output, &mut errors) {
+        Outcome::Exit(_) => None,
+        Outcome::Serve(asked) => Some(asked),
+    };
+    (asked, output.bytes.is_empty() && errors.bytes.is_empty())
 }
 
 pub(crate) fn holds(rt: &impl Abort, is: bool, what: &str, place: usize) {
@@ -166,5 +182,5 @@ pub(crate) fn check(
     holds(rt, is_written, "output", place);
     let is_told = told.errors.as_slice() == errors.as_bytes();
     holds(rt, is_told, "standard error", place);
-    holds(rt, told.status == status, "status", place);
+    holds(rt, told.status == Some(status), "status", place);
 }

@@ -1,0 +1,15 @@
+//! `relayd serve`: the threads of a relay, from the opening of its file to its end.
+#![tactic(auto)]
+
+mod accept;
+mod fault;
+mod news;
+mod relay;
+mod serving;
+mod settings;
+mod threads;
+mod work;
+
+pub use crate::fault::{ServeFault, end_serving};
+pub use crate::serving::{serve, serve_opened};
+pub use crate::settings::Settings;

@@ -1,0 +1,105 @@
+//! What the operator is told on standard error: a line each, with the moment.
+use delivery::{HaltCause, HeaderName, Outgoing};
+use desk::Totals;
+use relay_host::HostClock;
+use relay_types::{MAX_FAILURES, Name};
+use std::alloc::Global;
+use std::io::Eprint;
+use std::net::SocketAddr;
+use std::time::Clock;
+use std::{fmt, str};
+
+/// What the operator is told.
+#[derive(Drop)]
+pub(crate) enum News<'a> {
+    Started {
+        file: &'a str,
+        address: SocketAddr,
+        totals: Totals,
+    },
+    /// The answer to this request was 410 Gone, which disables the endpoint (RFC 9110, section 15.5.11).
+    Disabled {
+        endpoint: Name,
+        request: &'a Outgoing,
+    },
+    /// This was the last attempt at its event, and it failed.
+    Exhausted {
+        endpoint: Name,
+        request: &'a Outgoing,
+    },
+    Halted(HaltCause),
+}
+
+impl fmt::Display for News<'_> {
+    fn fmt<W: fmt::Write>(&self, f: &mut fmt::Formatter<W>) -> fmt::Result {
+        match self {
+            News::Started {
+                file,
+                address,
+                totals,
+            } => {
+                let Totals {
+                    records,
+                    pending,
+                    ..
+                } = totals;
+                write!(
+                    f,
+                    "started: {file} at {address}, records {records}, pending {pending}"
+                )
+            }
+            News::Disabled { endpoint, request } => {
+                let (name, host) = (text_of(endpoint.as_bytes()), text_of(request.host()));
+                let (port, path) = (request.port(), text_of(request.target()));
+                let id = id_of(request);
+                write!(
+                    f,
+                    "disabled: endpoint {name} at http://{host}:{port}{path}, by a 410 to event {id}"
+                )
+            }
+            News::Exhausted { endpoint, request } => {
+                let (name, id) = (text_of(endpoint.as_bytes()), id_of(request));
+                write!(
+                    f,
+                    "exhausted: event {id} of endpoint {name}, after {MAX_FAILURES} attempts"
+                )
+            }
+            News::Halted(cause) => write!(f, "halted: {}", cause_text(*cause)),
+        }
+    }
+}
+
+// A name, or a part of a request, which are printable ASCII.
+fn text_of(part: &[u8]) -> &str {
+    str::from_utf8(part).unwrap_or("?")
+}
+
+// Under which id the event is posted.
+fn id_of(request: &Outgoing) -> &str {
+    for header in request.headers() {
+        if header.name() == HeaderName::WebhookId {
+            return text_of(header.value());
+        }
+    }
+    "?"
+}
+
+fn cause_text(cause: HaltCause) -> &'static str {
+    match cause {
+        HaltCause::Halted => "the desk was halted before",
+        HaltCause::BatchOut => "another committer has a batch",
+        HaltCause::OutOfMemory => "memory was refused nine times in a row",
+        HaltCause::Closed => "an earlier commit was doubtful",
+        HaltCause::OutOfTurn => "the store is of another opening",
+        HaltCause::Illegal => "a record may not follow those in the store",
+        HaltCause::Store(_) => "the store was at fault",
+    }
+}
+
+/// Tells the operator. Where there is no memory for the line, or standard error takes nothing, it isn't told.
+pub(crate) fn tell<R: Clock + Eprint>(rt: &R, alloc: Global, news: &News<'_>) {
+    let now = delivery::Clock::now(&HostClock::new(rt)).seconds();
+    if let Ok(line) = format!(in alloc; "{now} {news}\n") {
+        let _ = rt.eprint(line);
+    }
+}

@@ -1,0 +1,11 @@
+//! The tests of a relay over loopback, in one process: what it answers and posts, and subscribers that misbehave.
+#![tactic(auto)]
+
+#[cfg(test)]
+mod given;
+#[cfg(test)]
+mod posts;
+#[cfg(test)]
+mod requests;
+#[cfg(test)]
+mod wires;

@@ -1,0 +1,301 @@
+//! Posts to subscribers, of which some misbehave.
+ghost use Rattle.std.specs.Prelude.{◌≡◌};
+ghost use Rattle.permits.specs.declared.pool.TheConstants.{PARTS};
+
+use crate::given::{MARK, begin, holds, moment};
+use crate::wires::take_post;
+use delivery::{Outgoing, Poster};
+use desk::Desk;
+use hyper_poster::HyperPoster;
+use permits::{Foreign, PARTS, Permit};
+use recovery::create;
+use relay_types::Moment;
+use retry_table::PostResult;
+use sqlite::{Alter, Connection, MemStore};
+use std::alloc::{AllocGlobal, Global};
+use std::io::{self, Write};
+use std::marker::Brand;
+use std::net::{Ipv4Addr, Net, TcpListener, TcpStream};
+use std::process::Abort;
+use std::random::RandomSource;
+use std::sync::Wait;
+use std::sync::ledger::{Blank, Ledger};
+use std::test::Fail;
+use std::thread;
+use std::thread::Threads;
+use std::time::{Clock, Duration};
+
+/// What a subscriber does behind what it sends.
+#[derive(Clone, Copy, PartialEq, Eq)]
+enum Then {
+    Closes,
+    /// It keeps the connection open past the poster's time.
+    Stays,
+    /// It closes with the request unread, which resets the connection.
+    Resets,
+}
+
+/// What comes of a post, but for how long it took.
+#[derive(Clone, Copy, PartialEq, Eq)]
+enum Wanted {
+    Status(u16),
+    /// After a second, by its own word.
+    TimedOut,
+    Unreached,
+}
+
+/// A subscriber: what it sends once it has the request, and as many times ten letters, and what it does then.
+#[derive(Clone, Copy)]
+struct Case {
+    sends: &'static str,
+    tens: usize,
+    then: Then,
+    wanted: Wanted,
+}
+
+const CASES: [Case; 17] = [
+    Case {
+        sends: "HTTP/1.1 200 OK\r\ncontent-length: 0\r\n\r\n",
+        tens: 0,
+        then: Then::Closes,
+        wanted: Wanted::Status(200),
+    },
+    Case {
+        sends: "HTTP/1.1 410 Gone\r\n\r\n",
+        tens: 0,
+        then: Then::Closes,
+        wanted: Wanted::Status(410),
+    },
+    Case {
+        sends: "HTTP/1.1 999 X\r\n\r\n",
+        tens: 0,
+        then: Then::Closes,
+        wanted: Wanted::Status(999),
+    },
+    Case {
+        sends: "HTTP/1.0 500 X\r\n\r\n",
+        tens: 0,
+        then: Then::Closes,
+        wanted: Wanted::Status(500),
+    },
+    Case {
+        sends: "HTTP/1.1 103 X\r\n\r\nHTTP/1.1 201 X\r\n\r\n",
+        tens: 0,
+        then: Then::Closes,
+        wanted: Wanted::Status(201),
+    },
+    // A head is an answer, whatever follows it.
+    Case {
+        sends: "HTTP/1.1 200 OK\r\ncontent-length: 100\r\n\r\nabc",
+        tens: 0,
+        then: Then::Closes,
+        wanted: Wanted::Status(200),
+    },
+    Case {
+        sends: "",
+        tens: 0,
+        then: Then::Closes,
+        wanted: Wanted::Unreached,
+    },
+    Case {
+        sends: "",
+        tens: 0,
+        then: Then::Resets,
+        wanted: Wanted::Unreached,
+    },
+    Case {
+        sends: "abc",
+        tens: 0,
+        then: Then::Closes,
+        wanted: Wanted::Unreached,
+    },
+    Case {
+        sends: "HTTP/1.1 200 OK\r\ncontent-le",
+        tens: 0,
+        then: Then::Closes,
+        wanted: Wanted::Unreached,
+    },
+    Case {
+        sends: "HTTP/1.1 099 X\r\n\r\n",
+        tens: 0,
+        then: Then::Closes,
+        wanted: Wanted::Unreached,
+    },
+    Case {
+        sends: "HTTP/1.1 100 Continue\r\n\r\n",
+        tens: 0,
+        then: Then::Closes,
+        wanted: Wanted::Unreached,
+    },
+    Case {
+        sends: "HTTP/1.1 200 OK\r\ncontent-length: 1\r\ncontent-length: 2\r\n\r\n",
+        tens: 0,
+        then: Then::Closes,
+        wanted: Wanted::Unreached,
+    },
+    Case {
+        sends: "HTTP/1.1 200 OK\r\nx: ",
+        tens: 7000,
+        then: Then::Closes,
+        wanted: Wanted::Unreached,
+    },
+    // While it stays it takes no other, so those behind it aren't answered in time either.
+    Case {
+        sends: "HTTP/1.1 204 X\r\ncontent-length: 100\r\n\r\n",
+        tens: 0,
+        then: Then::Stays,
+        wanted: Wanted::Status(204),
+    },
+    Case {
+        sends: "",
+        tens: 0,
+        then: Then::Stays,
+        wanted: Wanted::TimedOut,
+    },
+    Case {
+        sends: "HTTP/1.1 200 OK\r\n",
+        tens: 0,
+        then: Then::Stays,
+        wanted: Wanted::TimedOut,
+    },
+];
+
+const SECOND: u64 = 1_000_000;
+
+fn is_wanted(post: PostResult, wanted: Wanted) -> bool {
+    match post {
+        PostResult::Answered { status, rtt } => {
+            wanted == Wanted::Status(status.get()) && rtt < SECOND
+        }
+        PostResult::TimedOut { rtt } => wanted == Wanted::TimedOut && rtt == SECOND,
+        PostResult::Unreached => wanted == Wanted::Unreached,
+        PostResult::Unsent => false,
+    }
+}
+
+// The subscriber may be told that nobody reads any more.
+fn send(socket: &mut TcpStream, case: &Case) -> io::Result<()> {
+    socket.write_all(case.sends.as_bytes())?;
+    for _ in 0..case.tens {
+        if socket.write_all(b"xxxxxxxxxx").is_err() {
+            return Ok(());
+        }
+    }
+    Ok(())
+}
+
+// Closes a connection whose request came and wasn't read.
+fn reset<R: Clock>(rt: &R, listener: &TcpListener) -> io::Result<()> {
+    let (_socket, _peer) = listener.accept()?;
+    thread::sleep(rt, Duration::from_millis(100));
+    Ok(())
+}
+
+fn answer<R: Clock>(rt: &R, alloc: Global, listener: &TcpListener, case: &Case) -> io::Result<()> {
+    let (mut socket, _) = take_post(alloc, listener, 2)?;
+    send(&mut socket, case)?;
+    if case.then == Then::Stays {
+        thread::sleep(rt, Duration::from_millis(1200));
+    }
+    Ok(())
+}
+
+// Serves all cases, each over a connection of its own. Nobody listens behind them.
+fn subscribe<R: Clock>(rt: &R, alloc: Global, listener: TcpListener) -> io::Result<()> {
+    for case in &CASES {
+        match case.then {
+            Then::Resets => reset(rt, &listener)?,
+            Then::Closes | Then::Stays => answer(rt, alloc, &listener, case)?,
+        }
+    }
+    Ok(())
+}
+
+// Posts the request to each case in turn.
+fn post_all<P: Poster, R: Abort>(rt: &R, poster: &P, request: &Outgoing) {
+    for case in &CASES {
+        holds(rt, is_wanted(poster.post(request), case.wanted), case.sends);
+    }
+}
+
+// The subscriber and its poster, each in a thread of its own.
+fn meet<R>(rt: &R, alloc: Global, listener: TcpListener, request: &Outgoing) -> io::Result<()>
+where
+    R: Wait + Threads + Clock + Net + RandomSource + AllocGlobal + Abort + Copy + Send + Sync,
+{
+    let poster = HyperPoster::new(*rt, Duration::from_secs(1));
+    let (served, ()) = thread::join(
+        rt,
+        move || subscribe(rt, alloc, listener),
+        || post_all(rt, &poster, request),
+    );
+    let unheard = poster.post(request);
+    holds(rt, is_wanted(unheard, Wanted::Unreached), "nobody listens");
+    served
+}
+
+// Claims the event's attempt, and has its request posted to all cases.
+fn claim_and_meet<L, R>(
+    rt: &R,
+    alloc: Global,
+    desk: &mut Desk<L>,
+    listener: TcpListener,
+) -> Result<(), Fail>
+where
+    L: Ledger,
+    R: Wait + Threads + Clock + Net + RandomSource + AllocGlobal + Abort + Copy + Send + Sync,
+{
+    let now = moment()?;
+    let Ok(Some(job)) = desk.claim(now) else {
+        return Err(Fail::from("nothing is due"));
+    };
+    let met = match Outgoing::build(alloc, &job) {
+        Ok(request) => meet(rt, alloc, listener, &request),
+        Err(error) => Err(io::Error::from(error)),
+    };
+    give_back(rt, desk, job.into_permit(), now);
+    Ok(met?)
+}
+
+fn give_back<L: Ledger, R: Abort>(rt: &R, desk: &mut Desk<L>, permit: Permit<L>, now: Moment) {
+    match desk.spend(permit, PostResult::Unsent, now) {
+        Ok(_) => {}
+        Err((_permit, Foreign)) => panic!(rt; "the permit was refused"),
+    }
+}
+
+fn over<L, S, R>(
+    rt: &R,
+    alloc: Global,
+    blank: Blank,
+    conn: Connection<S>,
+    listener: TcpListener,
+) -> Result<(), Fail>
+where
+    L: Ledger,
+    S: Alter + Drop,
+    R: Wait + Threads + Clock + Net + RandomSource + AllocGlobal + Abort + Copy + Send + Sync,
+    requires name { blank.name ≡ L.name }
+    requires parts { blank.parts ≡ L.parts }
+    requires enough { blank.parts ≡ PARTS }
+{
+    let port = listener.local_addr()?.port();
+    let url = format!(in alloc; "http://127.0.0.1:{port}/hook")?;
+    if !conn.is_autocommit() {
+        return Err(Fail::from("the store is in a transaction"));
+    }
+    let Ok((mut desk, mut vault)) = create::<L, S>(alloc, blank, conn, MARK) else {
+        return Err(Fail::from("the store wasn't made"));
+    };
+    match begin(rt, alloc, &mut desk, &mut vault, url.as_str()) {
+        Ok(()) => claim_and_meet(rt, alloc, &mut desk, listener),
+        Err(fail) => Err(fail),
+    }
+}
+
+#[test]
+fn a_subscriber_may_do_what_it_likes(rt: HostRuntime) -> Result<(), Fail> {
+    let listener = TcpListener::bind(&rt, (Ipv4Addr::LOCALHOST, 0))?;
+    let conn = Connection::open_in_memory(rt.alloc())?;
+    over::<Brand, MemStore, HostRuntime>(&rt, rt.alloc(), Blank::new(PARTS), conn, listener)
+}
