@@ -28,4 +28,6 @@ mod runs;
 #[cfg(test)]
 mod sound;
 #[cfg(test)]
+mod stops;
+#[cfg(test)]
 mod stores;

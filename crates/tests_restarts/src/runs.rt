@@ -19,7 +19,7 @@ use std::sync::ledger::{Blank, Ledger};
 pub(crate) type Left<L, S> = (Pool<L>, Vault<S>, Vec<Reply>);
 
 /// Makes the calls, and closes the desk: its pool is empty.
-fn closed<L: Ledger, S: Alter>(
+pub(crate) fn closed<L: Ledger, S: Alter>(
     rt: &impl Abort,
     alloc: Global,
     desk: Desk<L>,

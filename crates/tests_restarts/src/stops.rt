@@ -1,0 +1,203 @@
+//! A machine that stops at a call of one of the store's two files, each call in turn: what is there when it comes back.
+ghost use Rattle.std.specs.Prelude.{◌≡◌, []};
+
+use crate::calls::{Call, Path, events_of, is_line_at};
+use crate::paths::PUT;
+use crate::runs::{begun, closed};
+use crate::stores::MARK;
+use drill::{Event, Reply};
+use permits::{PARTS, Pool};
+use recovery::reopen;
+use spool::Vault;
+use sqlite::{Connection, FileStore, Files, Options};
+use sqlite_disk::{Crash, Fuse, Memory};
+use std::alloc::Global;
+use std::marker::Brand;
+use std::process::Abort;
+use std::sync::ledger::{Blank, Ledger};
+
+type Failing = FileStore<Fuse<Memory>>;
+
+/// An endpoint, three events, and an attempt at the first of them, each settled before the next. The replies are those of a run that
+/// nothing stops.
+const RUN: [Call; 16] = [
+    Call::Line(PUT, "staged 0"),
+    Call::Line("seal", "sealed 0..1"),
+    Call::Line("commit", "committed 1"),
+    Call::Line("settle", "settled 1"),
+    Call::Line("submit 1000 a msg_1 7b7d", "staged 1"),
+    Call::Line("submit 1000 a msg_2 -", "staged 2"),
+    Call::Line("submit 1000 a msg_3 7b7d", "staged 3"),
+    Call::Line("seal", "sealed 1..4"),
+    Call::Line("commit", "committed 4"),
+    Call::Line("settle", "settled 4"),
+    Call::Line(
+        "claim 1000",
+        "permit 1 a msg_1 attempt 1 at 1000 inflight 1",
+    ),
+    Call::Line(
+        "spend 1 1000 500 100000",
+        "success limit 20 inflight 0 staged 4",
+    ),
+    Call::Line("seal", "sealed 4..5"),
+    Call::Line("commit", "committed 5"),
+    Call::Line("settle", "settled 5"),
+    Call::SettledRecords(5),
+];
+
+/// A batch of the run: at which places it is sealed and settled, what is printed there, and how many records there are behind it.
+struct Step {
+    sealed: (usize, &'static str),
+    settled: (usize, &'static str),
+    records: u64,
+}
+
+const STEPS: [Step; 3] = [
+    Step {
+        sealed: (1, "sealed 0..1"),
+        settled: (3, "settled 1"),
+        records: 1,
+    },
+    Step {
+        sealed: (7, "sealed 1..4"),
+        settled: (9, "settled 4"),
+        records: 4,
+    },
+    Step {
+        sealed: (12, "sealed 4..5"),
+        settled: (14, "settled 5"),
+        records: 5,
+    },
+];
+
+const LOOK: [Call; 1] = [Call::Records(0)];
+
+/// Which of the two files stops.
+#[derive(Clone, Copy)]
+enum Stopping {
+    Log,
+    Database,
+}
+
+fn opened(alloc: Global, stopping: Stopping, calls: u64) -> Option<Connection<Failing>> {
+    let (log, db) = match stopping {
+        Stopping::Log => (calls, u64::MAX),
+        Stopping::Database => (u64::MAX, calls),
+    };
+    let files = Files {
+        log: Fuse::new(Memory::new(alloc), log),
+        db: Fuse::new(Memory::new(alloc), db),
+    };
+    Connection::open_files(alloc, files, Options::new(7)).ok()
+}
+
+/// The store that is there once the machine comes back.
+fn come_back(rt: &impl Abort, alloc: Global, conn: Connection<Failing>) -> Connection<Failing> {
+    let mut files = conn.into_store().close();
+    files.log.crash();
+    files.db.crash();
+    match Connection::open_files(alloc, files, Options::new(7)) {
+        Ok(conn) => conn,
+        Err((_, _)) => panic!(rt; "the store was not opened again"),
+    }
+}
+
+/// How many records were settled, and how many were sealed, by what a run was told.
+fn bounds(alloc: Global, replies: &[Reply]) -> (u64, u64) {
+    let (mut settled, mut sealed) = (0, 0);
+    for step in &STEPS {
+        if is_line_at(alloc, replies, step.sealed.0, step.sealed.1) {
+            sealed = step.records;
+        }
+        if is_line_at(alloc, replies, step.settled.0, step.settled.1) {
+            settled = step.records;
+        }
+    }
+    (settled, sealed)
+}
+
+/// How many records the opening of a store has.
+fn records_of<L: Ledger>(
+    rt: &impl Abort,
+    alloc: Global,
+    pool: Pool<L>,
+    conn: Connection<Failing>,
+) -> u64
+    requires { pool ≡ [] }
+{
+    assert!(rt; conn.is_autocommit());
+    let look = events_of(rt, alloc, &[&LOOK]);
+    let replies = match reopen(alloc, pool, conn, MARK + 1) {
+        Ok((desk, vault)) => closed(rt, alloc, desk, vault, &look).2,
+        Err((_, _)) => panic!(rt; "the opening was refused"),
+    };
+    match replies.get(0) {
+        Some(Reply::Count(count)) => *count,
+        _ => panic!(rt; "no count"),
+    }
+}
+
+/// Whether the machine stopped before the end of the run. Behind it stand the records of whole batches: all that were settled, and
+/// none that wasn't sealed.
+fn stops<L: Ledger>(
+    rt: &impl Abort,
+    alloc: Global,
+    blank: Blank,
+    conn: Connection<Failing>,
+    events: &[Event],
+) -> bool
+    requires name { blank.name ≡ L.name }
+    requires parts { blank.parts ≡ L.parts }
+    requires enough { blank.parts ≡ PARTS }
+{
+    let Some((pool, vault, replies)) = begun::<L, Failing>(rt, alloc, blank, conn, events) else {
+        return true;
+    };
+    let (settled, sealed) = bounds(alloc, &replies);
+    let conn = come_back(rt, alloc, vault.release());
+    let records = records_of(rt, alloc, pool, conn);
+    assert!(rt; matches!(records, 0 | 1 | 4 | 5), "{records} records");
+    assert!(rt;
+        settled <= records && records <= sealed,
+        "{settled} {records} {sealed}"
+    );
+    settled < 5
+}
+
+fn stops_at(
+    rt: &impl Abort,
+    alloc: Global,
+    events: &[Event],
+    (stopping, calls): (Stopping, u64),
+) -> bool {
+    match opened(alloc, stopping, calls) {
+        Some(conn) => stops::<Brand>(rt, alloc, Blank::new(PARTS), conn, events),
+        None => true,
+    }
+}
+
+/// How many calls of the file a run has, up to which one of them fails in turn.
+fn stop_each(rt: &impl Abort, alloc: Global, stopping: Stopping) -> u64 {
+    let paths: [Path; 1] = [&RUN];
+    let events = events_of(rt, alloc, &paths);
+    let mut count = 0;
+    for calls in 0..10_000 {
+        if !stops_at(rt, alloc, &events, (stopping, calls)) {
+            break;
+        }
+        count = calls;
+    }
+    count
+}
+
+#[test]
+fn what_was_settled_is_there_after_a_stop_of_the_log(rt: HostRuntime) {
+    let count = stop_each(&rt, rt.alloc(), Stopping::Log);
+    assert!(rt; 50 < count && count < 9_000, "{count}");
+}
+
+#[test]
+fn what_was_settled_is_there_after_a_stop_of_the_database(rt: HostRuntime) {
+    let count = stop_each(&rt, rt.alloc(), Stopping::Database);
+    assert!(rt; 3 < count && count < 9_000, "{count}");
+}
