@@ -4,6 +4,7 @@
 
 mod asking;
 mod books;
+mod crowds;
 mod delivering;
 mod events;
 mod failed;
@@ -15,11 +16,13 @@ mod opening;
 mod relay;
 mod reopening;
 mod running;
+mod sharing;
 mod submitting;
 mod times;
 mod turns;
 
 use crate::books::print_book;
+use crate::failed::Failed;
 use crate::inserting::insert;
 use crate::limits::print_limit;
 use crate::loading::print_loads;
@@ -27,6 +30,7 @@ use crate::opening::print_opening;
 use crate::relay::answer_asks;
 use crate::reopening::print_parts;
 use crate::running::print_runs;
+use crate::sharing::{Sharing, Shown, share_in_memory, share_over_file};
 use crate::submitting::{Plan, post_plan, print_submitting, submit_plan};
 use sqlite::{Alter, Connection};
 use std::io;
@@ -46,6 +50,10 @@ loads PATH         two loads of a store that stands
 parts PATH         a store that stands, reopened part by part
 open PATH          the store in the file, made where none stands
 asks               the requests on standard input, one on a line
+submitters THREADS COUNT        so many threads, which submit as many events in all and wait for each, over a store in memory
+submitters THREADS COUNT PATH   the same over a file
+workers THREADS COUNT           so many threads, which post as many pending events in all
+idle THREADS SECONDS            so many threads, which have nothing to post
 ";
 
 /// The most events of a run over a file.
@@ -160,10 +168,45 @@ fn run_words(rt: &HostRuntime, words: &[&str]) -> io::Result<bool> {
     }
 }
 
+/// The run of threads that the words name.
+fn sharing_of(name: &str, threads: &str, count: &str) -> Option<Sharing> {
+    let (threads, count) = (count_of(threads)?, count_of(count)?);
+    match name {
+        "submitters" => Some(Sharing::Submitters(threads, count)),
+        "workers" => Some(Sharing::Workers(threads, count)),
+        "idle" => Some(Sharing::Idle(threads, count)),
+        _ => None,
+    }
+}
+
+/// Prints what a run of threads took, and how many commits and settled records it had. Whether it ended well.
+fn print_shown(rt: &HostRuntime, shown: Result<Shown, Failed>) -> io::Result<bool> {
+    match shown {
+        Ok(shown) => {
+            println!(rt;
+                "took {}\ncommits {}\nrecords {}",
+                shown.micros, shown.commits, shown.records
+            )?;
+            Ok(true)
+        }
+        Err(Failed) => Ok(false),
+    }
+}
+
 fn main(rt: HostRuntime) -> io::Result<ExitCode> {
     let alloc = rt.alloc();
     let words: Vec<String> = std::env::args(&rt)?.collect(alloc)?;
     let shown: Vec<&str> = words.iter().map(|word| word.as_str()).collect(alloc)?;
-    let is_done = run_words(&rt, shown.as_slice())?;
+    let is_done = match shown.as_slice() {
+        [_, name, threads, count] => match sharing_of(name, threads, count) {
+            Some(run) => print_shown(&rt, share_in_memory(&rt, alloc, run))?,
+            None => run_words(&rt, shown.as_slice())?,
+        },
+        [_, name, threads, count, path] => match sharing_of(name, threads, count) {
+            Some(run) => print_shown(&rt, share_over_file(&rt, &rt, path, run))?,
+            None => false,
+        },
+        words => run_words(&rt, words)?,
+    };
     Ok(ExitCode::from(u8::from(!is_done)))
 }

@@ -1,0 +1,147 @@
+//! Threads that share a desk, with stand-ins for subscribers.
+ghost use Rattle.std.specs.Prelude.{◌≡◌, ⊤};
+ghost use Rattle.permits.specs.declared.pool.TheConstants.{PARTS};
+
+use crate::crowds::{run_idle, run_submitters, run_workers};
+use crate::failed::Failed;
+use crate::turns::{MARK, created};
+use delivery::{Keeper, Outgoing, Poster};
+use desk::Desk;
+use permits::PARTS;
+use relay_types::Moment;
+use retry_table::{PostResult, Status};
+use spool::{Batch, CommitEnd, Receipt, Vault};
+use sqlite::{Alter, Connection, MemStore};
+use std::alloc::Global;
+use std::marker::Brand;
+use std::sync::Wait;
+use std::sync::ledger::{Blank, Ledger};
+use std::thread::Threads;
+use std::time::Clock;
+
+/// What threads do with a desk.
+#[derive(Clone, Copy)]
+pub(crate) enum Sharing {
+    /// So many submitters have so many events acknowledged in all.
+    Submitters(u32, u32),
+    /// So many workers post so many events in all.
+    Workers(u32, u32),
+    /// So many workers have nothing to post for so many seconds.
+    Idle(u32, u32),
+}
+
+/// How many microseconds that took, and how many commits and settled records there were.
+#[derive(Clone, Copy)]
+pub(crate) struct Shown {
+    pub(crate) micros: u128,
+    pub(crate) commits: u64,
+    pub(crate) records: u64,
+}
+
+/// A clock that stands.
+#[derive(Clone, Copy)]
+pub(crate) struct Standing(pub(crate) Moment);
+
+impl delivery::Clock for Standing {
+    fn now(&self) -> Moment {
+        self.0
+    }
+}
+
+/// Answers 200 at once.
+#[derive(Clone, Copy)]
+pub(crate) struct Answering;
+
+impl Poster for Answering {
+    ghost may_answer = { λ _ _ _. ⊤ };
+
+    fn post(&self, _: &Outgoing) -> PostResult {
+        match Status::of(200) {
+            Some(status) => PostResult::Answered {
+                status,
+                rtt: 100_000,
+            },
+            None => PostResult::Unsent,
+        }
+    }
+}
+
+/// Counts the commits.
+#[derive(Drop)]
+pub(crate) struct Counting<K: Keeper + Drop> {
+    pub(crate) keeper: K,
+    pub(crate) commits: u64,
+}
+
+impl<K: Keeper + Drop> Keeper for Counting<K> {
+    ghost is_clean = { λ k. K.is_clean k.keeper };
+
+    ghost holds = { λ k records. K.holds k.keeper records };
+
+    ghost in_doubt = { λ k records more. K.in_doubt k.keeper records more };
+
+    ghost closed = { λ k. K.closed k.keeper };
+
+    fn commit(&mut self, batch: Batch) -> Result<Receipt, CommitEnd> {
+        self.commits = self.commits.saturating_add(1);
+        self.keeper.commit(batch)
+    }
+
+    fn is_closed(&self) -> bool {
+        self.keeper.is_closed()
+    }
+}
+
+/// Runs the threads over a store in memory.
+pub(crate) fn share_in_memory<R: Threads + Wait + Clock + Sync>(
+    rt: &R,
+    alloc: Global,
+    run: Sharing,
+) -> Result<Shown, Failed> {
+    let conn = Connection::open_in_memory(alloc)?;
+    share_over::<MemStore, R>(rt, alloc, conn, run)
+}
+
+/// Runs the threads over the store in the file at the path, which is to have no table.
+pub(crate) fn share_over_file<R: Threads + Wait + Clock + Sync>(
+    host: &HostRuntime,
+    rt: &R,
+    path: &str,
+    run: Sharing,
+) -> Result<Shown, Failed> {
+    match Connection::open(host, path) {
+        Ok(conn) => share_over(rt, host.alloc(), conn, run),
+        Err(_) => Err(Failed),
+    }
+}
+
+fn share_over<S: Alter + Drop, R: Threads + Wait + Clock + Sync>(
+    rt: &R,
+    alloc: Global,
+    conn: Connection<S>,
+    run: Sharing,
+) -> Result<Shown, Failed> {
+    let vault = created(conn)?;
+    share::<Brand, S, R>(rt, alloc, Blank::new(PARTS), vault, run)
+}
+
+fn share<L: Ledger + Send + Sync, S: Alter + Drop, R: Threads + Wait + Clock + Sync>(
+    rt: &R,
+    alloc: Global,
+    blank: Blank,
+    vault: Vault<S>,
+    run: Sharing,
+) -> Result<Shown, Failed>
+    requires name { blank.name ≡ L.name }
+    requires parts { blank.parts ≡ L.parts }
+    requires enough { blank.parts ≡ PARTS }
+{
+    let desk = Desk::<L>::new(alloc, blank, MARK)?;
+    match run {
+        Sharing::Submitters(threads, events) => {
+            run_submitters(rt, alloc, desk, vault, (threads, events))
+        }
+        Sharing::Workers(threads, events) => run_workers(rt, alloc, desk, vault, (threads, events)),
+        Sharing::Idle(threads, seconds) => run_idle(rt, alloc, desk, vault, (threads, seconds)),
+    }
+}
