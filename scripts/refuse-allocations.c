@@ -36,8 +36,9 @@ __attribute__((constructor)) static void start(void) {
 static int is_refused(void) {
     if (asked == NULL)
         return 0;
-    *asked = ++number;
-    if (refuse == 0 || number < refuse || number - refuse >= many)
+    unsigned long this = __atomic_add_fetch(&number, 1, __ATOMIC_RELAXED);
+    *asked = this;
+    if (refuse == 0 || this < refuse || this - refuse >= many)
         return 0;
     errno = ENOMEM;
     return 1;

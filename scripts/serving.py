@@ -1,0 +1,241 @@
+"""A relay that serves, those who submit to it and those who listen for its posts: what check-serve, kill-serve and demo share."""
+import base64
+import hashlib
+import hmac
+import json
+import signal
+import socket
+import subprocess
+import threading
+import time
+
+SECRET = "whsec_MDEyMzQ1Njc4OTAxMjM0NTY3ODkwMTIz"
+
+
+class Relay:
+    """A process of `relayd serve` on a file, at a port of its own."""
+
+    def __init__(self, relayd, file, *options, address="127.0.0.1:0"):
+        words = [relayd, "serve", file, address, *map(str, options)]
+        self.process = subprocess.Popen(words, stdout=subprocess.PIPE, stderr=subprocess.PIPE, text=True)
+        self.told = []
+        self.teller = threading.Thread(target=self.listen, daemon=True)
+        self.teller.start()
+        line = self.process.stdout.readline()
+        if not line.startswith("listening on "):
+            self.process.wait()
+            self.teller.join()
+            raise RuntimeError(f"relayd serve ended with {self.process.returncode}: {''.join(self.told)}")
+        host, _, port = line[len("listening on "):].strip().rpartition(":")
+        self.address = (host, int(port))
+
+    def listen(self):
+        for line in self.process.stderr:
+            self.told.append(line)
+
+    def kill(self):
+        """Ends it by SIGKILL."""
+        self.process.send_signal(signal.SIGKILL)
+        self.process.wait()
+        self.teller.join()
+        self.process.stdout.close()
+        self.process.stderr.close()
+
+    def ended(self, seconds):
+        """The exit status, if it ends by itself within so many seconds."""
+        try:
+            return self.process.wait(seconds)
+        except subprocess.TimeoutExpired:
+            return None
+
+
+def connect(address, seconds=40):
+    sock = socket.create_connection(address, timeout=seconds)
+    sock.setsockopt(socket.IPPROTO_TCP, socket.TCP_NODELAY, 1)
+    return sock
+
+
+def read_all(sock):
+    """What comes until the other side closes, also where it resets the connection then."""
+    parts = []
+    try:
+        while part := sock.recv(65536):
+            parts.append(part)
+    except ConnectionError:
+        pass
+    return b"".join(parts)
+
+
+def exchange(address, *pieces, pause=0.0, shut=False, seconds=40):
+    """Sends the pieces over a connection of their own, and gives what comes back until it is closed."""
+    with connect(address, seconds) as sock:
+        try:
+            for piece in pieces:
+                sock.sendall(piece)
+                if pause:
+                    time.sleep(pause)
+            if shut:
+                sock.shutdown(socket.SHUT_WR)
+        except ConnectionError:
+            pass
+        return read_all(sock)
+
+
+class Answer:
+    """An answer: its status, its headers in their order, and its body."""
+
+    def __init__(self, raw):
+        head, _, self.body = raw.partition(b"\r\n\r\n")
+        lines = head.decode("latin-1").split("\r\n")
+        words = lines[0].split(" ", 2)
+        self.status = int(words[1]) if len(words) > 1 and words[1].isdigit() else None
+        self.headers = [tuple(line.split(": ", 1)) for line in lines[1:] if ": " in line]
+
+    def header(self, name):
+        return next((value for it, value in self.headers if it == name), None)
+
+    def json(self):
+        return json.loads(self.body)
+
+
+def request(method, path, body=b"", headers=()):
+    head = [f"{method} {path} HTTP/1.1", "host: relay", f"content-length: {len(body)}", *headers, "", ""]
+    return "\r\n".join(head).encode() + body
+
+
+def ask(address, method, path, body=b"", headers=()):
+    return Answer(exchange(address, request(method, path, body, headers)))
+
+
+def put(address, name, port, most=100, secrets=(SECRET,), path="/hook"):
+    body = json.dumps({"url": f"http://127.0.0.1:{port}{path}", "max": most, "secrets": list(secrets)}).encode()
+    return ask(address, "PUT", f"/v1/endpoints/{name}", body)
+
+
+def submit(address, name, body, event=None):
+    headers = [f"webhook-id: {event}"] if event else []
+    return ask(address, "POST", f"/v1/endpoints/{name}/events", body, headers)
+
+
+class Post:
+    """A request that a subscriber got."""
+
+    def __init__(self, head, body):
+        lines = head.decode("latin-1").split("\r\n")
+        self.line = lines[0]
+        self.headers = [tuple(line.split(": ", 1)) for line in lines[1:]]
+        self.body = body
+
+    def header(self, name):
+        return next(value for it, value in self.headers if it == name)
+
+    def is_signed_by(self, *secrets):
+        """Whether the signature is that of Standard Webhooks 1.0.0: for each secret, the newest first."""
+        signed = f"{self.header('webhook-id')}.{self.header('webhook-timestamp')}.".encode() + self.body
+        parts = []
+        for secret in secrets:
+            key = base64.b64decode(secret.removeprefix("whsec_"))
+            mac = hmac.new(key, signed, hashlib.sha256).digest()
+            parts.append("v1," + base64.b64encode(mac).decode())
+        return self.header("webhook-signature") == " ".join(parts)
+
+
+def read_post(sock):
+    raw = b""
+    while b"\r\n\r\n" not in raw:
+        part = sock.recv(65536)
+        if not part:
+            return None
+        raw += part
+    head, _, body = raw.partition(b"\r\n\r\n")
+    post = Post(head, body)
+    length = int(post.header("content-length"))
+    while len(post.body) < length:
+        part = sock.recv(65536)
+        if not part:
+            return None
+        post.body += part
+    return post
+
+
+class Subscriber:
+    """Listens at a port, of its own where none is said, and answers each post by what `reply` says of it: a status, or bytes as they are
+    sent."""
+
+    def __init__(self, reply=lambda post: 200, port=0):
+        self.reply = reply
+        self.posts = []
+        self.open = self.most = 0
+        self.lock = threading.Lock()
+        self.listener = socket.create_server(("127.0.0.1", port), backlog=256)
+        self.port = self.listener.getsockname()[1]
+        threading.Thread(target=self.accept, daemon=True).start()
+
+    def accept(self):
+        while True:
+            try:
+                sock, _ = self.listener.accept()
+            except OSError:
+                return
+            threading.Thread(target=self.serve, args=(sock,), daemon=True).start()
+
+    def serve(self, sock):
+        self.count(1)
+        try:
+            post = read_post(sock)
+            told = None
+            if post is not None:
+                with self.lock:
+                    self.posts.append(post)
+                told = self.reply(post)
+            if isinstance(told, int):
+                told = f"HTTP/1.1 {told} X\r\ncontent-length: 0\r\n\r\n".encode()
+        except OSError:
+            told = None
+        self.count(-1)
+        try:
+            if told:
+                sock.sendall(told)
+        except OSError:
+            pass
+        finally:
+            sock.close()
+
+    def count(self, more):
+        with self.lock:
+            self.open += more
+            self.most = max(self.most, self.open)
+
+    def close(self):
+        self.listener.close()
+
+    def wait_for(self, count, seconds=30):
+        return wait_until(lambda: len(self.posts) >= count, seconds)
+
+
+def wait_until(holds, seconds=30):
+    """Whether it holds within so many seconds."""
+    until = time.monotonic() + seconds
+    while not holds():
+        if time.monotonic() > until:
+            return False
+        time.sleep(0.02)
+    return True
+
+
+class Counts:
+    """Checks that passed and failed; each that fails is told."""
+
+    def __init__(self):
+        self.passed = self.failed = 0
+
+    def check(self, name, found, wanted=True):
+        if found == wanted:
+            self.passed += 1
+            return
+        self.failed += 1
+        print(f"FAILED {name}: {found!r}, not {wanted!r}")
+
+    def end(self):
+        print(f"{self.passed} passed, {self.failed} failed")
+        return 1 if self.failed else 0
