@@ -1,12 +1,23 @@
+ENDPOINT = {\"url\":\"http://127.0.0.1:9000/hook\",\"max\":100,\"secrets\":[\"whsec_MDEyMzQ1Njc4OTAxMjM0NTY3ODkwMTIz\"]}
+
 # Lists what can be made.
 help:
 	@awk '/^# /{said=said substr($$0, 2)} /^[a-z]+:/{sub(/:.*/, ""); printf "make %-8s%s\n", $$0, said} !/^# /{said=""}' Makefile
 
-# Builds and runs `relayd replay` on the stored script, all of it proved first: an hour where out/ is empty.
+# Builds the relay, all of it proved first (an hour where out/ is empty), and serves relay.db at 127.0.0.1:8080.
 run:
-	cd crates/relayd && rt run -- replay < ../../vectors/replay/first-path.script
+	cd crates/relayd && rt run -- --version
+	@echo 'Put an endpoint, and submit an event to it:'
+	@echo "  curl -X PUT http://127.0.0.1:8080/v1/endpoints/shop -d '$(ENDPOINT)'"
+	@echo "  curl http://127.0.0.1:8080/v1/endpoints/shop/events -d '{\"order\":1}'"
+	crates/relayd/out/relayd serve relay.db 127.0.0.1:8080
 
-# Runs the same with nothing proved, in some two and a half minutes.
+# Builds the same, and shows step by step what a relay does: events, signatures, a retry, a kill, an answer 410. It ends by itself.
+demo:
+	cd crates/relayd && rt run -- --version
+	scripts/demo crates/relayd/out/relayd
+
+# Runs `relayd replay` on the stored script with nothing proved, in some two and a half minutes.
 try:
 	@echo 'Nothing is proved by this: rt try compiles relayd from its sources and runs it (make run proves it first).'
 	cd crates/relayd && rt try -- replay < ../../vectors/replay/first-path.script
@@ -38,4 +49,16 @@ bench:
 	cd crates/relayd && rt run -- --version
 	./scripts/bench crates/bench/out/bench crates/relayd/out/relayd
 
-.PHONY: help run try test check edits attack fmt bench
+# Installs what `make run` built, below PREFIX: the program, its manual page, its unit and the documents.
+install:
+	./scripts/install crates/relayd/out/relayd $(or $(PREFIX),/usr/local)
+
+# Makes a Debian package of the same.
+deb:
+	./scripts/make-deb crates/relayd/out/relayd relayd.deb
+
+# Measures `relayd serve` beside nginx and a plain relay in Python, where wrk and nginx are at hand.
+load:
+	./scripts/bench-serve crates/relayd/out/relayd
+
+.PHONY: help run demo try test check edits attack fmt bench install deb load
