@@ -190,10 +190,11 @@ fn stop_each(rt: &impl Abort, alloc: Global, stopping: Stopping) -> u64 {
     count
 }
 
+// Each of the four commits writes and syncs the log.
 #[test]
 fn what_was_settled_is_there_after_a_stop_of_the_log(rt: HostRuntime) {
     let count = stop_each(&rt, rt.alloc(), Stopping::Log);
-    assert!(rt; 50 < count && count < 9_000, "{count}");
+    assert!(rt; 8 <= count && count < 9_000, "{count}");
 }
 
 #[test]
