@@ -1,13 +1,18 @@
--- The first of one more pair.
-use Rattle.std.proofs.Common.{◌≡◌, ◌<◌, ◌≤◌, ◌⊎◌, inl, inr, Bool, true, false, ◌&&◌, ◌||◌, List, [], ◌∷◌, ◌++◌, Option, Some, None, refl, sym, ◌∙◌, ap, subst, arith, IsTrue}
-use Rattle.std.specs.Prelude.{nat_eq, nat_lt, bytes_eq, if◌then◌else◌}
-use Rattle.std.specs.List.{list_any}
+-- The first pairs of the endpoints that have room, in order.
+use Rattle.std.proofs.Common.{◌≡◌, ℕ, ◌<◌, ◌≤◌, Bool, true, false, not, ◌&&◌, ◌||◌, List, [], ◌∷◌, length, Option, refl, sym, ◌∙◌, ap, subst, cond, arith, slice_index_or}
+use Rattle.std.specs.Prelude.{filter, nat_eq, bytes_eq}
+use Rattle.std.specs.List.{insert, list_any}
+use Rattle.std.specs.List.Sorted.{IsPartitionPoint}
 use Rattle.std.specs.Cmp.Lexicographic.{bytes_decides}
-use Rattle.std.proofs.lemmas.Bool.{ltb-true, ltb-false, eqb-true, eqb-false, eq-eqb, and_parts, and_from, or_cases}
-use Rattle.std.proofs.lemmas.List.Folds.{list_any-append}
+use Rattle.std.proofs.lemmas.Bool.{eqb-true, eq-eqb, and_parts, and_from}
+use Rattle.std.proofs.lemmas.List.Filters.{length-filter_both}
+use Rattle.std.proofs.lemmas.List.Kept.{AllPairs-filter}
+use Rattle.std.proofs.lemmas.Map.Views.{any-filter_same}
 use Rattle.claim_queue.specs.declared.pairs.Pair.{Pair}
-use Rattle.claim_queue.specs.Queues.{IsNoLater, same_pair}
-use Rattle.claim_queue.specs.Scan.{IsFirst, IsFirstOne, comes_before, first_with}
+use Rattle.claim_queue.specs.declared.pairs.Turn.{Turn}
+use Rattle.claim_queue.specs.Queues.{same_pair}
+use Rattle.claim_queue.specs.Lanes.{AreInOrder, comes_before, is_the, turn_of}
+use Rattle.claim_queue.proofs.OrderLaws.{one_way, all_pairs_insert}
 
 -- the same pair by its parts is the same pair
 pub is_same : (a b : Pair) → same_pair a b ≡ true → b ≡ a
@@ -20,104 +25,76 @@ is_same a b h =
       seq = eqb-true b.seq a.seq first.0 i;
     }
 
-before : (a b : Pair) → comes_before a (Some b) ≡ true → IsNoLater a b
-before a b h = pick (or_cases (nat_lt a.due b.due) (nat_eq a.due b.due && nat_lt a.seq b.seq) h)
-  where
-    pick : (nat_lt a.due b.due ≡ true) ⊎ ((nat_eq a.due b.due && nat_lt a.seq b.seq) ≡ true) → IsNoLater a b
-    pick (inl less) = let below : a.due < b.due = ltb-true a.due b.due less in record { due = omega arith; tie = λ same. omega arith }
-    pick (inr tie) =
-        let parts = and_parts (nat_eq a.due b.due) (nat_lt a.seq b.seq) tie in
-        let same : a.due ≡ b.due = eqb-true a.due b.due parts.0 in
-        let below : a.seq < b.seq = ltb-true a.seq b.seq parts.1 in
-        record { due = omega arith; tie = λ same. omega arith }
-
-not_before : (a b : Pair) → comes_before a (Some b) ≡ false → IsNoLater b a
-not_before a b h = pick (nat_lt a.due b.due) (nat_eq a.due b.due) (nat_lt a.seq b.seq) refl refl refl h
-  where
-    pick : (less same under : Bool) → nat_lt a.due b.due ≡ less → nat_eq a.due b.due ≡ same → nat_lt a.seq b.seq ≡ under → (less || (same && under)) ≡ false → IsNoLater b a
-    pick true same under e f g h = cc
-    pick false true true e f g h = cc
-    pick false true false e f g h =
-        let due : b.due ≤ a.due = ltb-false a.due b.due e in
-        let seq : b.seq ≤ a.seq = ltb-false a.seq b.seq g in
-        record { due = due; tie = λ same. seq }
-    pick false false under e f g h =
-        let due : b.due ≤ a.due = ltb-false a.due b.due e in
-        record { due = due; tie = λ same. absurd (eqb-false a.due b.due f (sym same)) }
-
-through : (a b c : Pair) → IsNoLater a b → IsNoLater b c → IsNoLater a c
-through a b c h g = record { due = omega (arith, h.due, g.due); tie = λ same. omega (arith, h.due, g.due, h.tie, g.tie, same) }
-
-no_later_itself : (a : Pair) → IsNoLater a a
-no_later_itself a = record { due = omega arith; tie = λ same. omega arith }
-
 pub same_itself : (a : Pair) → same_pair a a ≡ true
 same_itself a = and_from (nat_eq a.seq a.seq) (nat_eq a.due a.due && bytes_eq a.endpoint a.endpoint) (eq-eqb a.seq a.seq refl)
     (and_from (nat_eq a.due a.due) (bytes_eq a.endpoint a.endpoint) (eq-eqb a.due a.due refl) ((bytes_decides a.endpoint a.endpoint).1 refl))
 
-held_last : (pairs : List Pair) (pair : Pair) → IsTrue (list_any (same_pair pair) (pairs ++ pair ∷ []))
-held_last pairs pair = list_any-append (same_pair pair) pairs (pair ∷ []) ∙ or_true (list_any (same_pair pair) pairs) (ap (λ b. b || false) (same_itself pair))
+same_both_ways : (a b : Pair) → same_pair a b ≡ same_pair b a
+same_both_ways a b = pick (same_pair a b) (same_pair b a) refl refl
   where
-    or_true : (a : Bool) {b : Bool} → b ≡ true → (a || b) ≡ true
-    or_true true e = refl
-    or_true false e = e
+    pick : (p q : Bool) → same_pair a b ≡ p → same_pair b a ≡ q → p ≡ q
+    pick true true e f = refl
+    pick false false e f = refl
+    pick true false e f = sym e ∙ (λ i. same_pair (sym (is_same a b e) i) (is_same a b e i)) ∙ f
+    pick false true e f = sym e ∙ (λ i. same_pair (is_same b a f i) (sym (is_same b a f) i)) ∙ f
 
--- a pair of the longer list is one of the shorter, or the last
-pub last_or : (pairs : List Pair) (pair other : Pair) → IsTrue (list_any (same_pair other) (pairs ++ pair ∷ [])) → IsTrue (list_any (same_pair other) pairs) ⊎ (pair ≡ other)
-last_or pairs pair other h = pick (or_cases (list_any (same_pair other) pairs) (list_any (same_pair other) (pair ∷ [])) (sym (list_any-append (same_pair other) pairs (pair ∷ [])) ∙ h))
+and_turned : (a b : Bool) → (a && b) ≡ (b && a)
+and_turned true true = refl
+and_turned true false = refl
+and_turned false true = refl
+and_turned false false = refl
+
+-- One less
+
+pub lost : (pairs : List Pair) (pair other : Pair) → list_any (same_pair other) (filter (λ held. not (same_pair pair held)) pairs) ≡ (list_any (same_pair other) pairs && not (same_pair other pair))
+lost pairs pair other =
+    any-filter_same (same_pair other) (λ held. not (same_pair pair held)) (not (same_pair other pair))
+    (λ held same. ap (λ p. not (same_pair pair p)) (is_same other held same) ∙ ap not (same_both_ways pair other)) pairs
+    ∙ and_turned (not (same_pair other pair)) (list_any (same_pair other) pairs)
+
+some_pass : {X : Type 0} (test : X → Bool) (xs : List X) → list_any test xs ≡ true → 0 < length (filter test xs)
+some_pass test [] h = absurd (let no = h in cc)
+some_pass test (x ∷ xs) h = pick (test x) (some_pass test xs) h
   where
-    pick : (list_any (same_pair other) pairs ≡ true) ⊎ (list_any (same_pair other) (pair ∷ []) ≡ true) → IsTrue (list_any (same_pair other) pairs) ⊎ (pair ≡ other)
-    pick (inl held) = inl held
-    pick (inr last) = inr (is_same other pair (only (same_pair other pair) last))
-      where
-        only : (b : Bool) → (b || false) ≡ true → b ≡ true
-        only true e = refl
-        only false e = e
+    pick : (b : Bool) → (list_any test xs ≡ true → 0 < length (filter test xs)) → (b || list_any test xs) ≡ true → 0 < length (cond b (x ∷ filter test xs) (filter test xs))
+    pick true rest e = omega arith
+    pick false rest e = rest e
 
--- one more pair is looked at
-pub first_more : (test : Pair → Bool) (pairs : List Pair) (pair : Pair) (first : Option Pair) → IsFirst test pairs first → IsFirst test (pairs ++ pair ∷ []) (first_with test first pair)
-first_more test pairs pair None h = pick (test pair) refl
+pub fewer : (pairs : List Pair) (pair : Pair) → list_any (same_pair pair) pairs ≡ true → length (filter (λ held. not (same_pair pair held)) pairs) < length pairs
+fewer pairs pair h =
+    omega (arith, some_pass (same_pair pair) pairs h, length-filter_both (same_pair pair) (λ held. not (same_pair pair held)) (λ held. refl) pairs)
+
+pub order_left : (pairs : List Pair) (pair : Pair) → AreInOrder pairs → AreInOrder (filter (λ held. not (same_pair pair held)) pairs)
+order_left pairs pair order = AllPairs-filter (λ a b. comes_before (turn_of b) (turn_of a) ≡ false) (λ held. not (same_pair pair held)) pairs order
+
+-- One more
+
+entered : (pairs : List Pair) (n : ℕ) (pair : Pair) → AreInOrder pairs → n ≤ length pairs
+    → IsPartitionPoint (λ held. comes_before (turn_of held) (turn_of pair) ≡ true) (λ held. comes_before (turn_of held) (turn_of pair) ≡ false) pairs n → AreInOrder (insert pairs n pair)
+entered pairs n pair order le at =
+    all_pairs_insert (λ a b. comes_before (turn_of b) (turn_of a) ≡ false) pairs n pair le order
+    (λ k d below. one_way (turn_of (slice_index_or pairs k d)) (turn_of pair) (at.0 k d (omega arith) below))
+    (λ k d from within. at.1 k d from within)
+
+pub order_entered : (pairs all : List Pair) (n : ℕ) (pair : Pair) (turn : Turn) → all ≡ pairs → turn ≡ turn_of pair → AreInOrder pairs → n ≤ length all
+    → IsPartitionPoint (λ held. comes_before (turn_of held) turn ≡ true) (λ held. comes_before (turn_of held) turn ≡ false) all n → AreInOrder (insert pairs n pair)
+order_entered pairs all n pair turn same is order le point =
+    entered pairs n pair order (subst (λ xs. n ≤ length xs) same le)
+    (subst (λ t. IsPartitionPoint (λ held. comes_before (turn_of held) t ≡ true) (λ held. comes_before (turn_of held) t ≡ false) pairs n) is
+    (subst (λ xs. IsPartitionPoint (λ held. comes_before (turn_of held) turn ≡ true) (λ held. comes_before (turn_of held) turn ≡ false) xs n) same point))
+
+-- One in the place of another
+
+-- the same pair stays
+pub stays : (pairs : List Pair) (old : Option Pair) (other : Pair) → (is_the old other ≡ true → list_any (same_pair other) pairs ≡ true)
+    → list_any (same_pair other) pairs ≡ ((list_any (same_pair other) pairs && not (is_the old other)) || is_the old other)
+stays pairs old other held = pick (list_any (same_pair other) pairs) (is_the old other) held
   where
-    pick : (b : Bool) → test pair ≡ b → IsFirst test (pairs ++ pair ∷ []) (if b then Some pair else None)
-    pick true passes = record {
-      held = held_last pairs pair;
-      passes = passes;
-      least = λ other held ready. at other ready (last_or pairs pair other held);
-    }
-      where
-        at : (other : Pair) → IsTrue (test other) → IsTrue (list_any (same_pair other) pairs) ⊎ (pair ≡ other) → IsNoLater pair other
-        at other ready (inl held) = absurd (let no = h other held in cc)
-        at other ready (inr last) = subst (IsNoLater pair) last (no_later_itself pair)
-    pick false fails = λ other held. at other (last_or pairs pair other held)
-      where
-        at : (other : Pair) → IsTrue (list_any (same_pair other) pairs) ⊎ (pair ≡ other) → test other ≡ false
-        at other (inl held) = h other held
-        at other (inr last) = ap test (sym last) ∙ fails
-first_more test pairs pair (Some first) h = pick (comes_before pair (Some first)) (test pair) refl refl
-  where
-    kept : IsTrue (list_any (same_pair first) (pairs ++ pair ∷ []))
-    kept = list_any-append (same_pair first) pairs (pair ∷ []) ∙ ap (λ b. b || list_any (same_pair first) (pair ∷ [])) h.held
+    pick : (a b : Bool) → (b ≡ true → a ≡ true) → a ≡ ((a && not b) || b)
+    pick true true h = refl
+    pick true false h = refl
+    pick false true h = h refl
+    pick false false h = refl
 
-    at_first : (test pair ≡ true → IsNoLater first pair) → (other : Pair) → IsTrue (test other) → IsTrue (list_any (same_pair other) pairs) ⊎ (pair ≡ other) → IsNoLater first other
-    at_first last_too other ready (inl held) = h.least other held ready
-    at_first last_too other ready (inr last) = subst (IsNoLater first) last (last_too (ap test last ∙ ready))
-
-    stays : (test pair ≡ true → IsNoLater first pair) → IsFirstOne test (pairs ++ pair ∷ []) first
-    stays last_too = record {
-      held = kept;
-      passes = h.passes;
-      least = λ other held ready. at_first last_too other ready (last_or pairs pair other held);
-    }
-
-    pick : (b t : Bool) → comes_before pair (Some first) ≡ b → test pair ≡ t → IsFirst test (pairs ++ pair ∷ []) (if b && t then Some pair else Some first)
-    pick true true is passes = record {
-      held = held_last pairs pair;
-      passes = passes;
-      least = λ other held ready. at other ready (last_or pairs pair other held);
-    }
-      where
-        at : (other : Pair) → IsTrue (test other) → IsTrue (list_any (same_pair other) pairs) ⊎ (pair ≡ other) → IsNoLater pair other
-        at other ready (inl held) = through pair first other (before pair first is) (h.least other held ready)
-        at other ready (inr last) = subst (IsNoLater pair) last (no_later_itself pair)
-    pick true false is fails = stays (λ passes. absurd (let no = passes in cc))
-    pick false t is which = stays (λ passes. not_before pair first is)
+pub is_held_one : (pairs : List Pair) (pair other : Pair) → list_any (same_pair pair) pairs ≡ true → same_pair other pair ≡ true → list_any (same_pair other) pairs ≡ true
+is_held_one pairs pair other held same = subst (λ p. list_any (same_pair p) pairs ≡ true) (is_same other pair same) held

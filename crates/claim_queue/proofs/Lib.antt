@@ -1,3 +1,5 @@
 pub mod FirstLaws
-pub mod MarkLaws
-pub mod PairLaws
+pub mod LaneLaws
+pub mod OrderLaws
+pub mod QueueLaws
+pub mod TurnLaws

@@ -1,2 +1,2 @@
+pub mod Lanes
 pub mod Queues
-pub mod Scan

@@ -2,6 +2,8 @@
 //! the queue is told.
 #![tactic(auto)]
 
+mod firsts;
+mod lanes;
 mod marks;
 mod pairs;
 mod queue;

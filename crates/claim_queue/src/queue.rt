@@ -2,8 +2,9 @@
 ghost use Rattle.std.specs.Prelude.{◌≡◌, ◌<◌, ◌+◌, ◌↔◌, IsTrue, IsOk, IsNone, IfSome, OnOk, OnErr};
 ghost use Rattle.claim_queue.specs.Queues.{ChangesMark, Gains, HasSamePairs, IsNew, IsNext, IsReservedFor, Loses, NothingIsReady, SetsMark, empty_queue, free_places, is_held, is_reserved, pair_of, place_given, place_taken, reserved_mark, with_room};
 
-use crate::marks::{Mark, free_places, mark_of, place_of, reserve};
-use crate::pairs::{Pair, contains, first_ready, has_seq, let_go};
+use crate::firsts::renew;
+use crate::lanes::{Lane, has_seq, lane_of, place_of};
+use crate::pairs::{Pair, Turn};
 use relay_types::Name;
 use std::alloc::{AllocError, Global};
 use std::marker::Model;
@@ -13,21 +14,23 @@ use std::marker::Model;
 /// endpoint has room for one more attempt. Only `reserve` takes memory.
 #[derive(Drop)]
 pub struct ClaimQueue {
-    pairs: Vec<Pair>,
-    marks: Vec<Mark>,
-    free: usize,
+    alloc: Global,
+    // One of each endpoint for which places were reserved.
+    lanes: Vec<Lane>,
+    // The first delivery of each endpoint that has room, in the order of their turns.
+    firsts: Vec<Pair>,
 }
 
 impl Model for ClaimQueue {
     ghost use Rattle.std.specs.Prelude.{vec_len, vec_capacity};
     ghost use Rattle.claim_queue.specs.Queues.{QueueValue};
-    ghost use Rattle.claim_queue.specs.Scan.{IsQueue};
+    ghost use Rattle.claim_queue.specs.Lanes.{IsQueue, queue_of};
 
     ghost Value = { QueueValue };
 
-    ghost view = { λ q. record { pairs = q.pairs.items; marks = q.marks.items } };
+    ghost view = { λ q. queue_of q.lanes.items };
 
-    ghost invariant = { λ q. IsQueue q.pairs.items q.marks.items q.free (vec_len q.pairs) (vec_capacity q.pairs) };
+    ghost invariant = { λ q. IsQueue q.lanes.items q.firsts.items (vec_len q.firsts) (vec_capacity q.firsts) };
 }
 
 impl ClaimQueue {
@@ -36,9 +39,9 @@ impl ClaimQueue {
         ensures { result ≡ empty_queue }
     {
         ClaimQueue {
-            pairs: Vec::new(alloc),
-            marks: Vec::new(alloc),
-            free: 0,
+            alloc,
+            lanes: Vec::new(alloc),
+            firsts: Vec::new(alloc),
         }
     }
 
@@ -50,13 +53,13 @@ impl ClaimQueue {
         ensures enough { IsReservedFor self.old endpoint more → IsOk result }
         ensures err { OnErr result (self.new ≡ self.old) }
     {
-        let grow = more.saturating_sub(self.free_places(endpoint));
-        let Some(free) = self.free.checked_add(grow) else {
-            return Err(AllocError);
-        };
-        self.pairs.reserve(free)?;
-        reserve(&mut self.marks, endpoint, more)?;
-        self.free = free;
+        if let Some(place) = place_of(&self.lanes, endpoint) {
+            return self.lanes[place].reserve(more);
+        }
+        self.firsts.reserve(self.lanes.len() + 1)?;
+        let mut lane = Lane::new(self.alloc, endpoint);
+        lane.reserve(more)?;
+        self.lanes.push(lane)?;
         Ok(())
     }
 
@@ -68,10 +71,12 @@ impl ClaimQueue {
         ensures pairs { Gains self.old self.new (pair_of endpoint due seq) }
         ensures mark { ChangesMark self.old self.new endpoint place_taken }
     {
-        if let Some(place) = place_of(&self.marks, endpoint) {
-            self.marks[place].free -= 1;
-            self.free -= 1;
-            self.pairs.push_reserved(Pair { endpoint, due, seq });
+        if let Some(place) = place_of(&self.lanes, endpoint) {
+            let lane = &mut self.lanes[place];
+            let before = lane.first();
+            lane.insert(Turn { due, seq });
+            let after = lane.first();
+            renew(&mut self.firsts, before, after);
         }
     }
 
@@ -83,10 +88,12 @@ impl ClaimQueue {
         ensures mark { ChangesMark self.old self.new endpoint place_given }
         ensures place { free_places self.new endpoint ≡ free_places self.old endpoint + 1 }
     {
-        let_go(&mut self.pairs, Pair { endpoint, due, seq });
-        if let Some(place) = place_of(&self.marks, endpoint) {
-            self.marks[place].free += 1;
-            self.free += 1;
+        if let Some(place) = place_of(&self.lanes, endpoint) {
+            let lane = &mut self.lanes[place];
+            let before = lane.first();
+            lane.remove(Turn { due, seq });
+            let after = lane.first();
+            renew(&mut self.firsts, before, after);
         }
     }
 
@@ -96,8 +103,12 @@ impl ClaimQueue {
         ensures pairs { HasSamePairs self.old self.new }
         ensures mark { ChangesMark self.old self.new endpoint (with_room room) }
     {
-        if let Some(place) = place_of(&self.marks, endpoint) {
-            self.marks[place].room = room;
+        if let Some(place) = place_of(&self.lanes, endpoint) {
+            let lane = &mut self.lanes[place];
+            let before = lane.first();
+            lane.mark.room = room;
+            let after = lane.first();
+            renew(&mut self.firsts, before, after);
         }
     }
 
@@ -107,9 +118,9 @@ impl ClaimQueue {
         ensures first { IfSome result (λ next. IsNext self.now now next.0 next.1) }
         ensures none { IsNone result ↔ NothingIsReady self.now now }
     {
-        match first_ready(&self.pairs, &self.marks, now) {
-            Some(pair) => Some((pair.endpoint, pair.seq)),
-            None => None,
+        match self.firsts.first() {
+            Some(pair) if pair.due <= now => Some((pair.endpoint, pair.seq)),
+            _ => None,
         }
     }
 
@@ -117,27 +128,33 @@ impl ClaimQueue {
     pub fn free_places(&self, endpoint: Name) -> usize
         ensures { result ≡ free_places self.now endpoint }
     {
-        free_places(&self.marks, endpoint)
+        match lane_of(&self.lanes, endpoint) {
+            Some(lane) => lane.mark.free,
+            None => 0,
+        }
     }
 
     /// Whether places were reserved for the endpoint, so that its room can be set.
     pub fn is_reserved(&self, endpoint: Name) -> bool
         ensures { result ≡ is_reserved self.now endpoint }
     {
-        mark_of(&self.marks, endpoint).is_some()
+        lane_of(&self.lanes, endpoint).is_some()
     }
 
     /// Whether the delivery is held, as due at this moment.
     pub fn contains(&self, endpoint: Name, due: u64, seq: u64) -> bool
         ensures { result ≡ is_held self.now (pair_of endpoint due seq) }
     {
-        contains(&self.pairs, Pair { endpoint, due, seq })
+        match lane_of(&self.lanes, endpoint) {
+            Some(lane) => lane.has_turn(Turn { due, seq }),
+            None => false,
+        }
     }
 
     /// Whether no delivery of this number is held.
     pub fn is_new(&self, seq: u64) -> bool
         ensures { IsTrue result ↔ IsNew self.now seq }
     {
-        !has_seq(&self.pairs, seq)
+        !has_seq(&self.lanes, seq)
     }
 }

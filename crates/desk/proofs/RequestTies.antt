@@ -156,7 +156,7 @@ reserved_named queue name more = at (mark_of queue name) refl
     at (Some m) e = mark_named queue.marks name m e
 
 -- what is kept of the name, and of another one, once places are made
-reserved_own : (queue new : QueueValue) (name : List ℕ) (more : ℕ) → SetsMark queue new (reserved_mark queue name more) → mark_of new name ≡ Some (reserved_mark queue name more)
+pub reserved_own : (queue new : QueueValue) (name : List ℕ) (more : ℕ) → SetsMark queue new (reserved_mark queue name more) → mark_of new name ≡ Some (reserved_mark queue name more)
 reserved_own queue new name more sets =
     sets name ∙ ap (λ b. if b then Some (reserved_mark queue name more) else mark_of queue name) ((bytes_eq-Decides (reserved_mark queue name more).endpoint name).1 (reserved_named queue name more))
 

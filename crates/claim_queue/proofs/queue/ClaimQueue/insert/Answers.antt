@@ -1,57 +1,77 @@
-use Rattle.std.proofs.Common.{◌≡◌, ◌<◌, ◌∙◌, List, ℕ, None, ap, arith, refl, sym, subst, slice_set}
-use Rattle.std.specs.Prelude.{position, bytes_eq, is_some, option_map, if◌then◌else◌}
-use Rattle.claim_queue.specs.Queues.{free_places, is_mark, mark_in, mark_of, place_taken}
-use Rattle.claim_queue.specs.Scan.{AreReserved}
-use Rattle.claim_queue.proofs.MarkLaws.{set_at, mark_set, changed_at, kept_reserved, none_free, some_free, all_at}
-use Rattle.claim_queue.proofs.PairLaws.{reserved_more}
+use Rattle.std.proofs.Common.{◌≡◌, ◌<◌, ◌∙◌, ◌||◌, Bool, ap, arith, false, refl, sym, slice_set, subst, true}
+use Rattle.std.specs.Prelude.{position}
+use Rattle.claim_queue.specs.declared.marks.Mark.{Mark}
+use Rattle.claim_queue.specs.Queues.{ChangesMark, Gains, IsNew, free_places, pair_of, place_taken}
+use Rattle.claim_queue.specs.Lanes.{is_of, queue_of}
+use Rattle.claim_queue.proofs.LaneLaws.{lane_at, none_at, none_has, none_in}
+use Rattle.claim_queue.proofs.QueueLaws.{first_held, free_at, mark_changed, none_free, now_held, renewed}
 use Rattle.claim_queue.proofs.queue.ClaimQueue.insert.Goals as goal
 
-pub overflow_sub-index_mut : goal.overflow_sub-index_mut
-overflow_sub-index_mut c =
-    let at = c.in-Some.ensures ∙ ap (position (is_mark c.args.endpoint)) c.deref.ensures.value in
-    let some = some_free c.self.inside.marks.items c.args.endpoint c.in-Some.place c.index_mut.result.now at c.index_mut.ensures.value (subst (λ q. 0 < free_places q c.args.endpoint) (sym c.self.view_is) c.requires.place) in
-    omega (arith, some.0)
+or_none : (a : Bool) → (a || false) ≡ a
+or_none true = refl
+or_none false = refl
 
-pub overflow_sub-self : goal.overflow_sub-self
-overflow_sub-self c =
-    let at = c.in-Some.ensures ∙ ap (position (is_mark c.args.endpoint)) c.deref.ensures.value in
-    let some = some_free c.self.inside.marks.items c.args.endpoint c.in-Some.place c.index_mut.result.now at c.index_mut.ensures.value (subst (λ q. 0 < free_places q c.args.endpoint) (sym c.self.view_is) c.requires.place) in
-    omega (arith, some.1, c.self.invariant.counted)
+pub insert-requires-clause-sound : goal.insert-requires-clause-sound
+insert-requires-clause-sound c =
+    let lanes = c.self.inside.lanes.items in
+    let held = c.index_mut-lane.result.now in
+    let at = c.in-Some.ensures ∙ ap (position (is_of c.args.endpoint)) c.deref.ensures.value in
+    let is = c.index_mut-lane.ensures.value in
+    c.self.invariant.sound c.args.endpoint held (lane_at lanes c.args.endpoint c.in-Some.place held at is).0
 
-pub push_reserved-requires : goal.push_reserved-requires
-push_reserved-requires c =
-    let at = c.in-Some.ensures ∙ ap (position (is_mark c.args.endpoint)) c.deref.ensures.value in
-    let some = some_free c.self.inside.marks.items c.args.endpoint c.in-Some.place c.index_mut.result.now at c.index_mut.ensures.value (subst (λ q. 0 < free_places q c.args.endpoint) (sym c.self.view_is) c.requires.place) in
-    omega (arith, some.1, c.self.invariant.counted, c.self.invariant.within)
+pub insert-requires-clause-place : goal.insert-requires-clause-place
+insert-requires-clause-place c =
+    let lanes = c.self.inside.lanes.items in
+    let held = c.index_mut-lane.result.now in
+    let at = c.in-Some.ensures ∙ ap (position (is_of c.args.endpoint)) c.deref.ensures.value in
+    let is = c.index_mut-lane.ensures.value in
+    subst (λ n. 0 < n) (free_at lanes c.args.endpoint held (lane_at lanes c.args.endpoint c.in-Some.place held at is).0) (subst (λ q. 0 < free_places q c.args.endpoint) (sym c.self.view_is) c.requires.place)
+
+pub insert-requires-clause-unheld : goal.insert-requires-clause-unheld
+insert-requires-clause-unheld c =
+    let lanes = c.self.inside.lanes.items in
+    let held = c.index_mut-lane.result.now in
+    let at = c.in-Some.ensures ∙ ap (position (is_of c.args.endpoint)) c.deref.ensures.value in
+    let is = c.index_mut-lane.ensures.value in
+    none_in lanes c.in-Some.place held c.args.seq (none_has lanes c.args.seq (subst (λ q. IsNew q c.args.seq) (sym c.self.view_is) c.requires.unheld)) is (lane_at lanes c.args.endpoint c.in-Some.place held at is).1
+
+pub renew-requires-clause-held : goal.renew-requires-clause-held
+renew-requires-clause-held c =
+    let lanes = c.self.inside.lanes.items in
+    let held = c.index_mut-lane.result.now in
+    let at = c.in-Some.ensures ∙ ap (position (is_of c.args.endpoint)) c.deref.ensures.value in
+    let is = c.index_mut-lane.ensures.value in
+    first_held lanes c.self.inside.firsts.items _ _ c.args.endpoint held c.self.invariant (lane_at lanes c.args.endpoint c.in-Some.place held at is).0 c.first-before.result c.first-before.ensures
 
 pub invariant_of-self : goal.invariant_of-self
 invariant_of-self c =
-    let marks = c.self.inside.marks.items in
-    let pairs = c.self.inside.pairs.items in
-    let held = c.index_mut.result.now in
-    let new = slice_set marks c.in-Some.place (place_taken held) in
-    let at = c.in-Some.ensures ∙ ap (position (is_mark c.args.endpoint)) c.deref.ensures.value in
-    let sets = set_at marks c.args.endpoint c.in-Some.place held (place_taken held) at c.index_mut.ensures.value refl in
-    let some = some_free marks c.args.endpoint c.in-Some.place held at c.index_mut.ensures.value (subst (λ q. 0 < free_places q c.args.endpoint) (sym c.self.view_is) c.requires.place) in
-    let all = all_at marks c.args.endpoint c.in-Some.place held (place_taken held) at c.index_mut.ensures.value in
-    record {
-      reserved = subst (λ now. AreReserved now new) (sym c.push_reserved.ensures.items)
-          (reserved_more pairs new _ (kept_reserved pairs marks new c.args.endpoint (place_taken held) sets c.self.invariant.reserved)
-          (ap is_some (mark_set marks c.args.endpoint c.in-Some.place held (place_taken held) at c.index_mut.ensures.value refl)));
-      counted = omega (arith, all, some.0, some.1, c.self.invariant.counted);
-      within = omega (arith, some.1, c.self.invariant.counted, c.self.invariant.within, c.push_reserved.ensures.len, c.push_reserved.ensures.capacity);
-    }
+    let lanes = c.self.inside.lanes.items in
+    let held = c.index_mut-lane.result.now in
+    let at = c.in-Some.ensures ∙ ap (position (is_of c.args.endpoint)) c.deref.ensures.value in
+    let is = c.index_mut-lane.ensures.value in
+    renewed lanes c.self.inside.firsts.items _ _ c.args.endpoint c.in-Some.place held c.insert.new.self c.renew.new.firsts.items _ _ c.first-before.result c.first-after.result
+    c.self.invariant at is (ap (λ (m : Mark). m.endpoint) c.insert.ensures.mark) c.insert.ensures.sound c.first-before.ensures c.first-after.ensures c.renew.ensures.order c.renew.ensures.pairs c.renew.ensures.len c.renew.ensures.capacity
+
+pub returns-in-Some-clause-pairs : goal.returns-in-Some-clause-pairs
+returns-in-Some-clause-pairs c =
+    let lanes = c.self.inside.lanes.items in
+    let held = c.index_mut-lane.result.now in
+    let at = c.in-Some.ensures ∙ ap (position (is_of c.args.endpoint)) c.deref.ensures.value in
+    let is = c.index_mut-lane.ensures.value in
+    subst (λ q. Gains q (queue_of (slice_set lanes c.in-Some.place c.insert.new.self)) (pair_of c.args.endpoint c.args.due c.args.seq)) c.self.view_is
+    (now_held lanes c.args.endpoint c.in-Some.place held c.insert.new.self (record { due = c.args.due; seq = c.args.seq }) (λ a b. a || b) c.self.invariant.apart at is (ap (λ (m : Mark). m.endpoint) c.insert.ensures.mark) or_none c.insert.ensures.turns)
 
 pub returns-in-Some-clause-mark : goal.returns-in-Some-clause-mark
 returns-in-Some-clause-mark c =
-    let marks = c.self.inside.marks.items in
-    let held = c.index_mut.result.now in
-    let at = c.in-Some.ensures ∙ ap (position (is_mark c.args.endpoint)) c.deref.ensures.value in
-    subst (λ q. (other : List ℕ) → mark_in (slice_set marks c.in-Some.place (place_taken held)) other
-    ≡ (if bytes_eq c.args.endpoint other then option_map place_taken (mark_of q other) else mark_of q other)) c.self.view_is
-    (changed_at marks c.args.endpoint c.in-Some.place held place_taken at c.index_mut.ensures.value refl)
+    let lanes = c.self.inside.lanes.items in
+    let held = c.index_mut-lane.result.now in
+    let at = c.in-Some.ensures ∙ ap (position (is_of c.args.endpoint)) c.deref.ensures.value in
+    let is = c.index_mut-lane.ensures.value in
+    subst (λ q. ChangesMark q (queue_of (slice_set lanes c.in-Some.place c.insert.new.self)) c.args.endpoint place_taken) c.self.view_is
+    (mark_changed lanes c.args.endpoint c.in-Some.place held c.insert.new.self place_taken at is (ap (λ (m : Mark). m.endpoint) c.insert.ensures.mark) c.insert.ensures.mark)
 
 pub returns-in_default : goal.returns-in_default
 returns-in_default c =
-    let none : None ≡ position (is_mark c.args.endpoint) c.self.inside.marks.items = sym c.in_default.is ∙ c.place_of.ensures ∙ ap (position (is_mark c.args.endpoint)) c.deref.ensures.value in
-    absurd (omega (arith, c.requires.place, ap (λ q. free_places q c.args.endpoint) c.self.view_is, none_free c.self.inside.marks.items c.args.endpoint none))
+    let lanes = c.self.inside.lanes.items in
+    let none = none_at lanes c.args.endpoint (sym c.in_default.is ∙ c.place_of.ensures ∙ ap (position (is_of c.args.endpoint)) c.deref.ensures.value) in
+    absurd (omega (arith, subst (λ q. 0 < free_places q c.args.endpoint) (sym c.self.view_is) c.requires.place, none_free lanes c.args.endpoint none))

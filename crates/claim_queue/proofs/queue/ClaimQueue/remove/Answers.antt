@@ -1,64 +1,80 @@
-use Rattle.std.proofs.Common.{◌≡◌, ◌+◌, ◌∙◌, List, ℕ, ap, arith, refl, sym, subst, slice_set, length, filter, not, ◌&&◌}
-use Rattle.std.specs.Prelude.{position, bytes_eq, option_map, if◌then◌else◌}
-use Rattle.std.specs.List.{list_any}
-use Rattle.claim_queue.specs.Queues.{free_places, is_held, is_mark, mark_in, mark_of, pair_of, place_given, same_pair}
-use Rattle.claim_queue.specs.Scan.{AreReserved}
-use Rattle.claim_queue.proofs.MarkLaws.{set_at, changed_at, kept_reserved, free_set, free_at, none_marked, all_at}
-use Rattle.claim_queue.proofs.PairLaws.{fewer, lost, reserved_less}
+use Rattle.std.proofs.Common.{◌≡◌, ◌+◌, ◌∙◌, ◌&&◌, Bool, ap, false, not, refl, sym, slice_set, subst, true}
+use Rattle.std.specs.Prelude.{position}
+use Rattle.claim_queue.specs.declared.marks.Mark.{Mark}
+use Rattle.claim_queue.specs.Queues.{ChangesMark, Loses, free_places, is_held, pair_of, place_given}
+use Rattle.claim_queue.specs.Lanes.{is_of, queue_of}
+use Rattle.claim_queue.proofs.LaneLaws.{lane_at, none_at}
+use Rattle.claim_queue.proofs.QueueLaws.{first_held, free_at, free_set, held_in, held_in_none, mark_changed, now_held, renewed}
 use Rattle.claim_queue.proofs.queue.ClaimQueue.remove.Goals as goal
+
+and_all : (a : Bool) → (a && not false) ≡ a
+and_all true = refl
+and_all false = refl
+
+pub remove-requires-clause-sound : goal.remove-requires-clause-sound
+remove-requires-clause-sound c =
+    let lanes = c.self.inside.lanes.items in
+    let held = c.index_mut-lane.result.now in
+    let at = c.in-Some.ensures ∙ ap (position (is_of c.args.endpoint)) c.deref.ensures.value in
+    let is = c.index_mut-lane.ensures.value in
+    c.self.invariant.sound c.args.endpoint held (lane_at lanes c.args.endpoint c.in-Some.place held at is).0
+
+pub remove-requires-clause-held : goal.remove-requires-clause-held
+remove-requires-clause-held c =
+    let lanes = c.self.inside.lanes.items in
+    let held = c.index_mut-lane.result.now in
+    let at = c.in-Some.ensures ∙ ap (position (is_of c.args.endpoint)) c.deref.ensures.value in
+    let is = c.index_mut-lane.ensures.value in
+    sym (held_in lanes held (pair_of c.args.endpoint c.args.due c.args.seq) c.self.invariant.apart (lane_at lanes c.args.endpoint c.in-Some.place held at is).0) ∙ ap (λ q. is_held q (pair_of c.args.endpoint c.args.due c.args.seq)) c.self.view_is ∙ c.requires.held
+
+pub renew-requires-clause-held : goal.renew-requires-clause-held
+renew-requires-clause-held c =
+    let lanes = c.self.inside.lanes.items in
+    let held = c.index_mut-lane.result.now in
+    let at = c.in-Some.ensures ∙ ap (position (is_of c.args.endpoint)) c.deref.ensures.value in
+    let is = c.index_mut-lane.ensures.value in
+    first_held lanes c.self.inside.firsts.items _ _ c.args.endpoint held c.self.invariant (lane_at lanes c.args.endpoint c.in-Some.place held at is).0 c.first-before.result c.first-before.ensures
 
 pub invariant_of-self : goal.invariant_of-self
 invariant_of-self c =
-    let marks = c.self.inside.marks.items in
-    let pairs = c.self.inside.pairs.items in
-    let held = c.index_mut.result.now in
-    let new = slice_set marks c.in-Some.place (place_given held) in
-    let at = c.in-Some.ensures ∙ ap (position (is_mark c.args.endpoint)) c.deref.ensures.value in
-    let sets = set_at marks c.args.endpoint c.in-Some.place held (place_given held) at c.index_mut.ensures.value refl in
-    let all = all_at marks c.args.endpoint c.in-Some.place held (place_given held) at c.index_mut.ensures.value in
-    let gone = pair_of c.args.endpoint c.args.due c.args.seq in
-    let less = fewer pairs gone (ap (λ q. is_held q gone) c.self.view_is ∙ c.requires.held) in
-    record {
-      reserved = subst (λ now. AreReserved now new) (sym c.let_go.ensures.pairs)
-          (kept_reserved (filter (λ pair. not (same_pair gone pair)) pairs) marks new c.args.endpoint (place_given held) sets (reserved_less pairs marks gone c.self.invariant.reserved));
-      counted = omega (arith, all, c.self.invariant.counted);
-      within = omega (arith, less, ap length c.let_go.ensures.pairs, c.let_go.new.pairs.ok.0, c.self.inside.pairs.ok.0, c.self.invariant.within, c.let_go.ensures.capacity);
-    }
+    let lanes = c.self.inside.lanes.items in
+    let held = c.index_mut-lane.result.now in
+    let at = c.in-Some.ensures ∙ ap (position (is_of c.args.endpoint)) c.deref.ensures.value in
+    let is = c.index_mut-lane.ensures.value in
+    renewed lanes c.self.inside.firsts.items _ _ c.args.endpoint c.in-Some.place held c.remove.new.self c.renew.new.firsts.items _ _ c.first-before.result c.first-after.result
+    c.self.invariant at is (ap (λ (m : Mark). m.endpoint) c.remove.ensures.mark) c.remove.ensures.sound c.first-before.ensures c.first-after.ensures c.renew.ensures.order c.renew.ensures.pairs c.renew.ensures.len c.renew.ensures.capacity
 
 pub returns-in-Some-clause-pairs : goal.returns-in-Some-clause-pairs
 returns-in-Some-clause-pairs c =
-    let gone = pair_of c.args.endpoint c.args.due c.args.seq in
-    λ pair. ap (list_any (same_pair pair)) c.let_go.ensures.pairs ∙ lost c.self.inside.pairs.items gone pair
-    ∙ ap (λ q. is_held q pair && not (same_pair pair gone)) c.self.view_is
+    let lanes = c.self.inside.lanes.items in
+    let held = c.index_mut-lane.result.now in
+    let at = c.in-Some.ensures ∙ ap (position (is_of c.args.endpoint)) c.deref.ensures.value in
+    let is = c.index_mut-lane.ensures.value in
+    subst (λ q. Loses q (queue_of (slice_set lanes c.in-Some.place c.remove.new.self)) (pair_of c.args.endpoint c.args.due c.args.seq)) c.self.view_is
+    (now_held lanes c.args.endpoint c.in-Some.place held c.remove.new.self (record { due = c.args.due; seq = c.args.seq }) (λ a b. a && not b) c.self.invariant.apart at is (ap (λ (m : Mark). m.endpoint) c.remove.ensures.mark) and_all c.remove.ensures.turns)
 
 pub returns-in-Some-clause-mark : goal.returns-in-Some-clause-mark
 returns-in-Some-clause-mark c =
-    let marks = c.self.inside.marks.items in
-    let held = c.index_mut.result.now in
-    let at = c.in-Some.ensures ∙ ap (position (is_mark c.args.endpoint)) c.deref.ensures.value in
-    subst (λ q. (other : List ℕ) → mark_in (slice_set marks c.in-Some.place (place_given held)) other
-    ≡ (if bytes_eq c.args.endpoint other then option_map place_given (mark_of q other) else mark_of q other)) c.self.view_is
-    (changed_at marks c.args.endpoint c.in-Some.place held place_given at c.index_mut.ensures.value refl)
+    let lanes = c.self.inside.lanes.items in
+    let held = c.index_mut-lane.result.now in
+    let at = c.in-Some.ensures ∙ ap (position (is_of c.args.endpoint)) c.deref.ensures.value in
+    let is = c.index_mut-lane.ensures.value in
+    subst (λ q. ChangesMark q (queue_of (slice_set lanes c.in-Some.place c.remove.new.self)) c.args.endpoint place_given) c.self.view_is
+    (mark_changed lanes c.args.endpoint c.in-Some.place held c.remove.new.self place_given at is (ap (λ (m : Mark). m.endpoint) c.remove.ensures.mark) c.remove.ensures.mark)
 
 pub returns-in-Some-clause-place : goal.returns-in-Some-clause-place
 returns-in-Some-clause-place c =
-    let marks = c.self.inside.marks.items in
-    let held = c.index_mut.result.now in
-    let at = c.in-Some.ensures ∙ ap (position (is_mark c.args.endpoint)) c.deref.ensures.value in
-    free_set marks c.args.endpoint c.in-Some.place held (place_given held) at c.index_mut.ensures.value refl
-    ∙ ap (λ n. n + 1) (sym (free_at marks c.args.endpoint c.in-Some.place held at c.index_mut.ensures.value))
+    let lanes = c.self.inside.lanes.items in
+    let held = c.index_mut-lane.result.now in
+    let at = c.in-Some.ensures ∙ ap (position (is_of c.args.endpoint)) c.deref.ensures.value in
+    let is = c.index_mut-lane.ensures.value in
+    free_set lanes c.args.endpoint c.in-Some.place held c.remove.new.self at is (ap (λ (m : Mark). m.endpoint) c.remove.ensures.mark)
+    ∙ ap (λ (m : Mark). m.free) c.remove.ensures.mark
+    ∙ ap (λ n. n + 1) (sym (free_at lanes c.args.endpoint held (lane_at lanes c.args.endpoint c.in-Some.place held at is).0))
     ∙ ap (λ q. free_places q c.args.endpoint + 1) c.self.view_is
-
--- a pair that is held has a mark
-
-pub invariant_of-self-in_default : goal.invariant_of-self-in_default
-invariant_of-self-in_default c =
-    let gone = pair_of c.args.endpoint c.args.due c.args.seq in
-    let none = sym c.in_default.is ∙ c.place_of.ensures ∙ ap (position (is_mark c.args.endpoint)) c.deref.ensures.value in
-    absurd (none_marked c.self.inside.marks.items c.args.endpoint none (c.self.invariant.reserved gone (ap (λ q. is_held q gone) c.self.view_is ∙ c.requires.held)))
 
 pub returns-in_default : goal.returns-in_default
 returns-in_default c =
-    let gone = pair_of c.args.endpoint c.args.due c.args.seq in
-    let none = sym c.in_default.is ∙ c.place_of.ensures ∙ ap (position (is_mark c.args.endpoint)) c.deref.ensures.value in
-    absurd (none_marked c.self.inside.marks.items c.args.endpoint none (c.self.invariant.reserved gone (ap (λ q. is_held q gone) c.self.view_is ∙ c.requires.held)))
+    let lanes = c.self.inside.lanes.items in
+    let none = none_at lanes c.args.endpoint (sym c.in_default.is ∙ c.place_of.ensures ∙ ap (position (is_of c.args.endpoint)) c.deref.ensures.value) in
+    absurd (let clash = sym (held_in_none lanes (pair_of c.args.endpoint c.args.due c.args.seq) c.self.invariant.apart none) ∙ ap (λ q. is_held q (pair_of c.args.endpoint c.args.due c.args.seq)) c.self.view_is ∙ c.requires.held in cc)

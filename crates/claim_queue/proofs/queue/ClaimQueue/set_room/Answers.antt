@@ -1,31 +1,53 @@
-use Rattle.std.proofs.Common.{◌≡◌, ◌∙◌, List, ℕ, ap, arith, refl, sym, subst, slice_set}
-use Rattle.std.specs.Prelude.{position, bytes_eq, option_map, if◌then◌else◌}
-use Rattle.claim_queue.specs.Queues.{is_mark, mark_in, mark_of, with_room}
-use Rattle.claim_queue.proofs.MarkLaws.{set_at, changed_at, kept_reserved, none_at, none_changed, all_at}
+use Rattle.std.proofs.Common.{◌∙◌, ap, refl, sym, slice_set, subst}
+use Rattle.std.specs.Prelude.{position}
+use Rattle.claim_queue.specs.declared.lanes.Lane.{Lane}
+use Rattle.claim_queue.specs.Queues.{ChangesMark, HasSamePairs, is_reserved, with_room}
+use Rattle.claim_queue.specs.Lanes.{is_of, queue_of}
+use Rattle.claim_queue.proofs.LaneLaws.{lane_at, none_at}
+use Rattle.claim_queue.proofs.QueueLaws.{first_held, mark_changed, none_reserved, renewed, same_pairs}
 use Rattle.claim_queue.proofs.queue.ClaimQueue.set_room.Goals as goal
+
+pub renew-requires-clause-held : goal.renew-requires-clause-held
+renew-requires-clause-held c =
+    let lanes = c.self.inside.lanes.items in
+    let held = c.index_mut-lane.result.now in
+    let at = c.in-Some.ensures ∙ ap (position (is_of c.args.endpoint)) c.deref.ensures.value in
+    let is = c.index_mut-lane.ensures.value in
+    first_held lanes c.self.inside.firsts.items _ _ c.args.endpoint held c.self.invariant (lane_at lanes c.args.endpoint c.in-Some.place held at is).0 c.first-before.result c.first-before.ensures
 
 pub invariant_of-self : goal.invariant_of-self
 invariant_of-self c =
-    let held = c.index_mut.result.now in
-    let at = c.in-Some.ensures ∙ ap (position (is_mark c.args.endpoint)) c.deref.ensures.value in
-    record {
-      reserved = kept_reserved c.self.inside.pairs.items c.self.inside.marks.items (slice_set c.self.inside.marks.items c.in-Some.place (with_room c.args.room held)) c.args.endpoint (with_room c.args.room held) (set_at c.self.inside.marks.items c.args.endpoint c.in-Some.place held (with_room c.args.room held) at c.index_mut.ensures.value refl) c.self.invariant.reserved;
-      counted = omega (arith, c.self.invariant.counted, all_at c.self.inside.marks.items c.args.endpoint c.in-Some.place held (with_room c.args.room held) at c.index_mut.ensures.value);
-      within = c.self.invariant.within;
-    }
+    let lanes = c.self.inside.lanes.items in
+    let held = c.index_mut-lane.result.now in
+    let at = c.in-Some.ensures ∙ ap (position (is_of c.args.endpoint)) c.deref.ensures.value in
+    let is = c.index_mut-lane.ensures.value in
+    let new : Lane = record held { mark = with_room c.args.room held.mark } in
+    let sound = c.self.invariant.sound c.args.endpoint held (lane_at lanes c.args.endpoint c.in-Some.place held at is).0 in
+    renewed lanes c.self.inside.firsts.items _ _ c.args.endpoint c.in-Some.place held new c.renew.new.firsts.items _ _ c.first-before.result c.first-after.result
+    c.self.invariant at is refl (record { order = sound.order; within = sound.within }) c.first-before.ensures c.first-after.ensures c.renew.ensures.order c.renew.ensures.pairs c.renew.ensures.len c.renew.ensures.capacity
+
+pub returns-in-Some-clause-pairs : goal.returns-in-Some-clause-pairs
+returns-in-Some-clause-pairs c =
+    let lanes = c.self.inside.lanes.items in
+    let held = c.index_mut-lane.result.now in
+    let at = c.in-Some.ensures ∙ ap (position (is_of c.args.endpoint)) c.deref.ensures.value in
+    let is = c.index_mut-lane.ensures.value in
+    let new : Lane = record held { mark = with_room c.args.room held.mark } in
+    subst (λ q. HasSamePairs q (queue_of (slice_set lanes c.in-Some.place new))) c.self.view_is
+    (λ pair. same_pairs lanes c.in-Some.place held new pair is (lane_at lanes c.args.endpoint c.in-Some.place held at is).1 refl refl)
 
 pub returns-in-Some-clause-mark : goal.returns-in-Some-clause-mark
 returns-in-Some-clause-mark c =
-    let marks = c.self.inside.marks.items in
-    let held = c.index_mut.result.now in
-    let at = c.in-Some.ensures ∙ ap (position (is_mark c.args.endpoint)) c.deref.ensures.value in
-    subst (λ q. (other : List ℕ) → mark_in (slice_set marks c.in-Some.place (with_room c.args.room held)) other
-    ≡ (if bytes_eq c.args.endpoint other then option_map (with_room c.args.room) (mark_of q other) else mark_of q other)) c.self.view_is
-    (changed_at marks c.args.endpoint c.in-Some.place held (with_room c.args.room) at c.index_mut.ensures.value refl)
+    let lanes = c.self.inside.lanes.items in
+    let held = c.index_mut-lane.result.now in
+    let at = c.in-Some.ensures ∙ ap (position (is_of c.args.endpoint)) c.deref.ensures.value in
+    let is = c.index_mut-lane.ensures.value in
+    let new : Lane = record held { mark = with_room c.args.room held.mark } in
+    subst (λ q. ChangesMark q (queue_of (slice_set lanes c.in-Some.place new)) c.args.endpoint (with_room c.args.room)) c.self.view_is
+    (mark_changed lanes c.args.endpoint c.in-Some.place held new (with_room c.args.room) at is refl refl)
 
 pub returns-in_default-clause-mark : goal.returns-in_default-clause-mark
 returns-in_default-clause-mark c =
-    let none = sym c.in_default.is ∙ c.place_of.ensures ∙ ap (position (is_mark c.args.endpoint)) c.deref.ensures.value in
-    subst (λ q. (other : List ℕ) → mark_of q other
-    ≡ (if bytes_eq c.args.endpoint other then option_map (with_room c.args.room) (mark_of q other) else mark_of q other)) c.self.view_is
-    (none_changed c.self.inside.marks.items c.args.endpoint (with_room c.args.room) (none_at c.self.inside.marks.items c.args.endpoint none))
+    let lanes = c.self.inside.lanes.items in
+    let none = none_at lanes c.args.endpoint (sym c.in_default.is ∙ c.place_of.ensures ∙ ap (position (is_of c.args.endpoint)) c.deref.ensures.value) in
+    absurd (none_reserved lanes c.args.endpoint none (ap (λ q. is_reserved q c.args.endpoint) c.self.view_is ∙ c.requires.reserved))

@@ -1,0 +1,222 @@
+-- The lanes: which is an endpoint's, what they hold, and what a change of one makes of them.
+use Rattle.std.proofs.Common.{◌≡◌, ℕ, ◌<◌, ◌≤◌, ◌⊎◌, inl, inr, Bool, true, false, ◌&&◌, ◌||◌, List, [], ◌∷◌, ◌++◌, length, map, Option, Some, None, refl, sym, ◌∙◌, ap, subst, cond, arith, slice_index_or, slice_set}
+use Rattle.std.specs.Prelude.{position, bytes_eq, nat_eq, nat_lt, option_map, slice_get, if◌then◌else◌}
+use Rattle.std.specs.List.{flat_map, list_any, position_or_len}
+use Rattle.std.specs.Option.{option_map_or, option_or}
+use Rattle.std.specs.Cmp.Lexicographic.{bytes_decides}
+use Rattle.std.proofs.lemmas.Bool.{both_ways, false_from_ne_true, ltb-true, ltb-false, or_from, or_parts, and_left}
+use Rattle.std.proofs.lemmas.Option.{slice_get-get_or, slice_get_cases}
+use Rattle.std.proofs.lemmas.List.{map-append, map-set, set-get_or, get_or-map}
+use Rattle.std.proofs.lemmas.List.Folds.{find_at, find-set, find_past, find-append, flat_map-map, list_any-append, list_any_at}
+use Rattle.std.proofs.lemmas.List.Quantifiers.{position-Some}
+use Rattle.claim_queue.specs.declared.lanes.Lane.{Lane}
+use Rattle.claim_queue.specs.declared.pairs.Pair.{Pair}
+use Rattle.claim_queue.specs.declared.pairs.Turn.{Turn}
+use Rattle.claim_queue.specs.Queues.{mark_in, pair_of, same_pair}
+use Rattle.claim_queue.specs.Lanes.{AreApart, has_turn, is_of, is_turn_numbered, lane_in, names_of, pair_at, pairs_of, same_turn, turn_of}
+use Rattle.claim_queue.proofs.TurnLaws.{none_numbered, none_of_number}
+
+-- An endpoint's lane
+
+-- the place at which the test passes first
+placed : {X : Type 0} (p : X → Bool) (xs : List X) (i : ℕ) → Some i ≡ position p xs → (i ≡ position_or_len p xs) × (i < length xs)
+placed p xs i at = pick (nat_lt (position_or_len p xs) (length xs)) refl at
+  where
+    pick : (b : Bool) → nat_lt (position_or_len p xs) (length xs) ≡ b → Some i ≡ cond b (Some (position_or_len p xs)) None
+        → (i ≡ position_or_len p xs) × (i < length xs)
+    pick true below e =
+        let same : i ≡ position_or_len p xs = cc in (same, omega (arith, same, ltb-true (position_or_len p xs) (length xs) below))
+    pick false below e = cc
+
+pub lane_at : (lanes : List Lane) (endpoint : List ℕ) (i : ℕ) (held : Lane) → Some i ≡ position (is_of endpoint) lanes → held ≡ slice_index_or lanes i held
+    → (lane_in lanes endpoint ≡ Some held) × (i < length lanes) × (held.mark.endpoint ≡ endpoint)
+lane_at lanes endpoint i held at is =
+    let h = placed (is_of endpoint) lanes i at in
+    let passes = (position-Some (is_of endpoint) lanes i held (sym at)).1 in (
+      find_at (is_of endpoint) lanes ∙ ap (slice_get lanes) (sym h.0) ∙ slice_get-get_or lanes i held h.1 ∙ ap Some (sym is),
+      h.1,
+      (bytes_decides held.mark.endpoint endpoint).0 (ap (is_of endpoint) is ∙ passes),
+    )
+
+pub none_at : (lanes : List Lane) (endpoint : List ℕ) → None ≡ position (is_of endpoint) lanes → lane_in lanes endpoint ≡ None
+none_at lanes endpoint at = pick (nat_lt n (length lanes)) refl at (slice_get_cases lanes n).1
+  where
+    n : ℕ
+    n = position_or_len (is_of endpoint) lanes
+
+    pick : (b : Bool) → nat_lt n (length lanes) ≡ b → None ≡ cond b (Some n) None
+        → ((x : Lane) × (n < length lanes) × (slice_get lanes n ≡ Some x) × (slice_index_or lanes n x ≡ x)) ⊎ ((length lanes ≤ n) × (slice_get lanes n ≡ None)) → lane_in lanes endpoint ≡ None
+    pick true below e cases = cc
+    pick false beyond e (inl within) = absurd (omega (arith, within.1, ltb-false n (length lanes) beyond))
+    pick false beyond e (inr past) = find_at (is_of endpoint) lanes ∙ past.1
+
+-- the lane that is found is the endpoint's
+pub lane_named : (lanes : List Lane) (endpoint : List ℕ) (lane : Lane) → lane_in lanes endpoint ≡ Some lane → lane.mark.endpoint ≡ endpoint
+lane_named [] endpoint lane e = absurd (let no = e in cc)
+lane_named (l ∷ ls) endpoint lane e = pick (is_of endpoint l) refl (lane_named ls endpoint lane) e
+  where
+    pick : (b : Bool) → is_of endpoint l ≡ b → (lane_in ls endpoint ≡ Some lane → lane.mark.endpoint ≡ endpoint) → cond b (Some l) (lane_in ls endpoint) ≡ Some lane → lane.mark.endpoint ≡ endpoint
+    pick true same rest is = let this : l ≡ lane = cc in subst (λ (m : Lane). m.mark.endpoint ≡ endpoint) this ((bytes_decides l.mark.endpoint endpoint).0 same)
+    pick false other rest is = rest is
+
+-- the lane at an endpoint's place is replaced by another one of this endpoint
+pub set_at : (lanes : List Lane) (endpoint : List ℕ) (i : ℕ) (held new : Lane) → Some i ≡ position (is_of endpoint) lanes → held ≡ slice_index_or lanes i held → new.mark.endpoint ≡ held.mark.endpoint
+    → (other : List ℕ) → lane_in (slice_set lanes i new) other ≡ (if bytes_eq endpoint other then Some new else lane_in lanes other)
+set_at lanes endpoint i held new at is keeps other = pick (bytes_eq endpoint other) refl
+  where
+    own : new.mark.endpoint ≡ endpoint
+    own = keeps ∙ (lane_at lanes endpoint i held at is).2
+
+    pick : (b : Bool) → bytes_eq endpoint other ≡ b → lane_in (slice_set lanes i new) other ≡ (if b then Some new else lane_in lanes other)
+    pick true same =
+        subst (λ name. lane_in (slice_set lanes i new) name ≡ Some new) ((bytes_decides endpoint other).0 same)
+        (find-set (is_of endpoint) lanes i new (placed (is_of endpoint) lanes i at).0 (placed (is_of endpoint) lanes i at).1 ((bytes_decides new.mark.endpoint endpoint).1 own))
+    pick false differs =
+        find_past (is_of other) lanes i new held
+        (ap (is_of other) (sym is) ∙ ap (λ name. bytes_eq name other) (lane_at lanes endpoint i held at is).2 ∙ differs)
+        (ap (λ name. bytes_eq name other) own ∙ differs)
+
+-- one more lane, of an endpoint that has none
+pub added : (lanes : List Lane) (new : Lane) → lane_in lanes new.mark.endpoint ≡ None
+    → (other : List ℕ) → lane_in (lanes ++ new ∷ []) other ≡ (if bytes_eq new.mark.endpoint other then Some new else lane_in lanes other)
+added lanes new none other = find-append (is_of other) lanes (new ∷ []) ∙ pick (bytes_eq new.mark.endpoint other) refl
+  where
+    or_none : (o : Option Lane) → option_or o None ≡ o
+    or_none None = refl
+    or_none (Some m) = refl
+
+    pick : (b : Bool) → bytes_eq new.mark.endpoint other ≡ b → option_or (lane_in lanes other) (cond b (Some new) None) ≡ (if b then Some new else lane_in lanes other)
+    pick true same = ap (λ o. option_or o (Some new)) (ap (lane_in lanes) (sym ((bytes_decides new.mark.endpoint other).0 same)) ∙ none)
+    pick false differs = or_none (lane_in lanes other)
+
+-- the mark of an endpoint is its lane's
+pub marked : (lanes : List Lane) (endpoint : List ℕ) → mark_in (map (λ lane. lane.mark) lanes) endpoint ≡ option_map (λ lane. lane.mark) (lane_in lanes endpoint)
+marked [] endpoint = refl
+marked (l ∷ ls) endpoint = pick (is_of endpoint l) (marked ls endpoint)
+  where
+    pick : (b : Bool) → mark_in (map (λ lane. lane.mark) ls) endpoint ≡ option_map (λ lane. lane.mark) (lane_in ls endpoint)
+        → cond b (Some l.mark) (mark_in (map (λ lane. lane.mark) ls) endpoint) ≡ option_map (λ lane. lane.mark) (cond b (Some l) (lane_in ls endpoint))
+    pick true rest = refl
+    pick false rest = rest
+
+-- what does not tell the new lane from the old one
+pub kept_map : {X : Type 0} (f : Lane → X) (lanes : List Lane) (i : ℕ) (held new : Lane) → held ≡ slice_index_or lanes i held → i < length lanes → f new ≡ f held
+    → map f (slice_set lanes i new) ≡ map f lanes
+kept_map f lanes i held new is within same =
+    map-set f lanes i new ∙ ap (slice_set (map f lanes) i) (same ∙ ap f is ∙ sym (get_or-map f lanes i held (f held) within)) ∙ set-get_or (map f lanes) i (f held)
+
+pub kept_flat : {X : Type 0} (f : Lane → List X) (lanes : List Lane) (i : ℕ) (held new : Lane) → held ≡ slice_index_or lanes i held → i < length lanes → f new ≡ f held
+    → flat_map f (slice_set lanes i new) ≡ flat_map f lanes
+kept_flat f lanes i held new is within same =
+    sym (flat_map-map (λ x. x) f (slice_set lanes i new)) ∙ ap (flat_map (λ x. x)) (kept_map f lanes i held new is within same) ∙ flat_map-map (λ x. x) f lanes
+
+-- Names that are apart
+
+none_named : (lanes : List Lane) (name : List ℕ) → list_any (λ other. bytes_eq other name) (names_of lanes) ≡ false → lane_in lanes name ≡ None
+none_named [] name h = refl
+none_named (l ∷ ls) name h =
+    let parts = or_parts (is_of name l) (list_any (λ other. bytes_eq other name) (names_of ls)) h in
+    ap (λ b. cond b (Some l) (lane_in ls name)) parts.0 ∙ none_named ls name parts.1
+
+unnamed : (lanes : List Lane) (name : List ℕ) → lane_in lanes name ≡ None → list_any (λ other. bytes_eq other name) (names_of lanes) ≡ false
+unnamed [] name h = refl
+unnamed (l ∷ ls) name h = pick (is_of name l) (unnamed ls name) h
+  where
+    pick : (b : Bool) → (lane_in ls name ≡ None → list_any (λ other. bytes_eq other name) (names_of ls) ≡ false) → cond b (Some l) (lane_in ls name) ≡ None → (b || list_any (λ other. bytes_eq other name) (names_of ls)) ≡ false
+    pick true rest e = absurd (let no = e in cc)
+    pick false rest e = rest e
+
+differ : (a b : List ℕ) → bytes_eq a b ≡ false → bytes_eq b a ≡ false
+differ a b h = false_from_ne_true (bytes_eq b a) (λ same. both_ways (bytes_eq a b) h ((bytes_decides a b).1 (sym ((bytes_decides b a).0 same))))
+
+apart_push : (names : List (List ℕ)) (name : List ℕ) → AreApart names → list_any (λ other. bytes_eq other name) names ≡ false → AreApart (names ++ name ∷ [])
+apart_push [] name h none = (refl, tt)
+apart_push (n ∷ ns) name h none =
+    let parts = or_parts (bytes_eq n name) (list_any (λ other. bytes_eq other name) ns) none in (
+      list_any-append (λ other. bytes_eq other n) ns (name ∷ [])
+          ∙ or_from (list_any (λ other. bytes_eq other n) ns) (bytes_eq name n || false) h.0 (or_from (bytes_eq name n) false (differ n name parts.0) refl),
+      apart_push ns name h.1 parts.1,
+    )
+
+pub apart_added : (lanes : List Lane) (new : Lane) → AreApart (names_of lanes) → lane_in lanes new.mark.endpoint ≡ None → AreApart (names_of (lanes ++ new ∷ []))
+apart_added lanes new h none =
+    subst AreApart (sym (map-append (λ lane. lane.mark.endpoint) lanes (new ∷ [])))
+    (apart_push (names_of lanes) new.mark.endpoint h (unnamed lanes new.mark.endpoint none))
+
+-- What is held
+
+own_pairs : (endpoint : List ℕ) (turns : List Turn) (pair : Pair) → list_any (same_pair pair) (map (pair_at endpoint) turns) ≡ (list_any (same_turn (turn_of pair)) turns && bytes_eq endpoint pair.endpoint)
+own_pairs endpoint [] pair = refl
+own_pairs endpoint (t ∷ ts) pair =
+    ap (λ rest. same_pair pair (pair_at endpoint t) || rest) (own_pairs endpoint ts pair)
+    ∙ parts (nat_eq t.seq pair.seq) (nat_eq t.due pair.due) (bytes_eq endpoint pair.endpoint) (list_any (same_turn (turn_of pair)) ts)
+  where
+    parts : (s d e rest : Bool) → ((s && (d && e)) || (rest && e)) ≡ (((s && d) || rest) && e)
+    parts true true true rest = refl
+    parts true true false true = refl
+    parts true true false false = refl
+    parts true false e rest = refl
+    parts false d e rest = refl
+
+-- what is held of an endpoint is what its lane holds
+pub held_is : (lanes : List Lane) → AreApart (names_of lanes) → (pair : Pair) → list_any (same_pair pair) (flat_map pairs_of lanes) ≡ option_map_or (λ lane. has_turn lane (turn_of pair)) (lane_in lanes pair.endpoint) false
+held_is [] h pair = refl
+held_is (l ∷ ls) h pair =
+    list_any-append (same_pair pair) (pairs_of l) (flat_map pairs_of ls)
+    ∙ ap (λ own. own || list_any (same_pair pair) (flat_map pairs_of ls)) (own_pairs l.mark.endpoint l.turns.items pair)
+    ∙ pick (is_of pair.endpoint l) refl (held_is ls h.1 pair)
+  where
+    alone : (t : Bool) → ((t && true) || false) ≡ t
+    alone true = refl
+    alone false = refl
+
+    left_out : (t rest : Bool) → ((t && false) || rest) ≡ rest
+    left_out true rest = refl
+    left_out false rest = refl
+
+    pick : (b : Bool) → is_of pair.endpoint l ≡ b → list_any (same_pair pair) (flat_map pairs_of ls) ≡ option_map_or (λ lane. has_turn lane (turn_of pair)) (lane_in ls pair.endpoint) false
+        → ((has_turn l (turn_of pair) && b) || list_any (same_pair pair) (flat_map pairs_of ls))
+        ≡ option_map_or (λ lane. has_turn lane (turn_of pair)) (cond b (Some l) (lane_in ls pair.endpoint)) false
+    pick true same rest =
+        let none : lane_in ls pair.endpoint ≡ None = ap (lane_in ls) (sym ((bytes_decides l.mark.endpoint pair.endpoint).0 same)) ∙ none_named ls l.mark.endpoint h.0 in
+        ap (λ others. (has_turn l (turn_of pair) && true) || others) (rest ∙ ap (λ o. option_map_or (λ lane. has_turn lane (turn_of pair)) o false) none)
+        ∙ alone (has_turn l (turn_of pair))
+    pick false differs rest = left_out (has_turn l (turn_of pair)) (list_any (same_pair pair) (flat_map pairs_of ls)) ∙ rest
+
+-- Numbers that are held
+
+pub is_new : (lanes : List Lane) (seq : ℕ) → list_any (λ lane. list_any (is_turn_numbered seq) lane.turns.items) lanes ≡ false
+    → (endpoint : List ℕ) (due : ℕ) → list_any (same_pair (pair_of endpoint due seq)) (flat_map pairs_of lanes) ≡ false
+is_new [] seq h endpoint due = refl
+is_new (l ∷ ls) seq h endpoint due =
+    let parts = or_parts (list_any (is_turn_numbered seq) l.turns.items) (list_any (λ lane. list_any (is_turn_numbered seq) lane.turns.items) ls) h in
+    let pair = pair_of endpoint due seq in
+    list_any-append (same_pair pair) (pairs_of l) (flat_map pairs_of ls)
+    ∙ or_from (list_any (same_pair pair) (pairs_of l)) (list_any (same_pair pair) (flat_map pairs_of ls))
+    (own_pairs l.mark.endpoint l.turns.items pair ∙ and_left (has_turn l (turn_of pair)) (bytes_eq l.mark.endpoint endpoint) (none_numbered l.turns.items seq due parts.0))
+    (is_new ls seq parts.1 endpoint due)
+
+pub none_has : (lanes : List Lane) (seq : ℕ) → ((endpoint : List ℕ) (due : ℕ) → list_any (same_pair (pair_of endpoint due seq)) (flat_map pairs_of lanes) ≡ false)
+    → list_any (λ lane. list_any (is_turn_numbered seq) lane.turns.items) lanes ≡ false
+none_has [] seq h = refl
+none_has (l ∷ ls) seq h =
+    or_from (list_any (is_turn_numbered seq) l.turns.items) (list_any (λ lane. list_any (is_turn_numbered seq) lane.turns.items) ls)
+    (none_of_number l.turns.items seq (λ due. own (has_turn l (record { due = due; seq = seq })) (sym (own_pairs l.mark.endpoint l.turns.items (pair_of l.mark.endpoint due seq)
+    ∙ ap (λ b. has_turn l (record { due = due; seq = seq }) && b) ((bytes_decides l.mark.endpoint l.mark.endpoint).1 refl)) ∙ (parts l.mark.endpoint due).0)))
+    (none_has ls seq (λ endpoint due. (parts endpoint due).1))
+  where
+    parts : (endpoint : List ℕ) (due : ℕ) → (list_any (same_pair (pair_of endpoint due seq)) (pairs_of l) ≡ false) × (list_any (same_pair (pair_of endpoint due seq)) (flat_map pairs_of ls) ≡ false)
+    parts endpoint due =
+        or_parts (list_any (same_pair (pair_of endpoint due seq)) (pairs_of l)) (list_any (same_pair (pair_of endpoint due seq)) (flat_map pairs_of ls))
+        (sym (list_any-append (same_pair (pair_of endpoint due seq)) (pairs_of l) (flat_map pairs_of ls)) ∙ h endpoint due)
+
+    own : (t : Bool) → (t && true) ≡ false → t ≡ false
+    own true e = e
+    own false e = refl
+
+-- a lane has no delivery of a number that none has
+pub none_in : (lanes : List Lane) (i : ℕ) (held : Lane) (seq : ℕ) → list_any (λ lane. list_any (is_turn_numbered seq) lane.turns.items) lanes ≡ false → held ≡ slice_index_or lanes i held → i < length lanes
+    → list_any (is_turn_numbered seq) held.turns.items ≡ false
+none_in lanes i held seq none is within = false_from_ne_true (list_any (is_turn_numbered seq) held.turns.items) (λ h.
+    both_ways (list_any (λ lane. list_any (is_turn_numbered seq) lane.turns.items) lanes) none
+    (list_any_at (λ lane. list_any (is_turn_numbered seq) lane.turns.items) lanes i held within (ap (λ (lane : Lane). list_any (is_turn_numbered seq) lane.turns.items) (sym is) ∙ h)))

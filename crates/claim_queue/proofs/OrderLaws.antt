@@ -1,0 +1,129 @@
+-- Turns in order: what a search among them finds, and what stays in order.
+use Rattle.std.proofs.Common.{◌≡◌, ℕ, ◌+◌, ◌-◌, ◌<◌, ◌≤◌, ◌⊎◌, inl, inr, Bool, true, false, ◌&&◌, List, length, refl, sym, ◌∙◌, ap, subst, arith, slice_index_or}
+use Rattle.std.specs.Prelude.{nat_eq, nat_lt}
+use Rattle.std.specs.List.{AllPairs, insert}
+use Rattle.std.specs.List.Sorted.{IsPartitionedBy}
+use Rattle.std.proofs.lemmas.Bool.{ltb-true, lt-ltb, eqb-true, eq-eqb, and_from, and_parts, or_cases, or_left, or_right, cases_lt, cases_order, both_ways}
+use Rattle.std.proofs.lemmas.List.Edits.{get_or-insert_below, get_or-insert_at, get_or-insert_above, length-insert}
+use Rattle.claim_queue.specs.declared.pairs.Turn.{Turn}
+use Rattle.claim_queue.specs.Lanes.{comes_before}
+
+-- The order of turns, in numbers
+
+pub record IsBefore (a b : Turn) : Type 0 where
+  pub due : a.due ≤ b.due
+  pub tie : a.due ≡ b.due → a.seq < b.seq
+
+pub before : (a b : Turn) → comes_before a b ≡ true → IsBefore a b
+before a b h = pick (or_cases (nat_lt a.due b.due) (nat_eq a.due b.due && nat_lt a.seq b.seq) h)
+  where
+    pick : (nat_lt a.due b.due ≡ true) ⊎ ((nat_eq a.due b.due && nat_lt a.seq b.seq) ≡ true) → IsBefore a b
+    pick (inl less) = let below : a.due < b.due = ltb-true a.due b.due less in record { due = omega arith; tie = λ same. omega arith }
+    pick (inr tie) =
+        let parts = and_parts (nat_eq a.due b.due) (nat_lt a.seq b.seq) tie in
+        let same : a.due ≡ b.due = eqb-true a.due b.due parts.0 in
+        let below : a.seq < b.seq = ltb-true a.seq b.seq parts.1 in
+        record { due = omega arith; tie = λ same. below }
+
+pub from_before : (a b : Turn) → IsBefore a b → comes_before a b ≡ true
+from_before a b h = pick (cases_lt a.due b.due)
+  where
+    pick : (a.due < b.due) ⊎ (b.due ≤ a.due) → comes_before a b ≡ true
+    pick (inl less) = or_left (nat_lt a.due b.due) (nat_eq a.due b.due && nat_lt a.seq b.seq) (lt-ltb a.due b.due less)
+    pick (inr not_less) =
+        let same : a.due ≡ b.due = omega (arith, not_less, h.due) in
+        or_right (nat_lt a.due b.due) (nat_eq a.due b.due && nat_lt a.seq b.seq)
+        (and_from (nat_eq a.due b.due) (nat_lt a.seq b.seq) (eq-eqb a.due b.due same) (lt-ltb a.seq b.seq (h.tie same)))
+
+pub record IsNotBefore (a b : Turn) : Type 0 where
+  pub due : b.due ≤ a.due
+  pub tie : a.due ≡ b.due → b.seq ≤ a.seq
+
+pub not_before : (a b : Turn) → comes_before a b ≡ false → IsNotBefore a b
+not_before a b h = pick (cases_lt a.due b.due)
+  where
+    pick : (a.due < b.due) ⊎ (b.due ≤ a.due) → IsNotBefore a b
+    pick (inl less) = absurd (both_ways (comes_before a b) h (from_before a b (record { due = omega (arith, less); tie = λ same. omega (arith, less, same) })))
+    pick (inr due) = record { due = due; tie = λ same. tie same (cases_lt a.seq b.seq) }
+      where
+        tie : a.due ≡ b.due → (a.seq < b.seq) ⊎ (b.seq ≤ a.seq) → b.seq ≤ a.seq
+        tie same (inl less) = absurd (both_ways (comes_before a b) h (from_before a b (record { due = omega (arith, same); tie = λ again. less })))
+        tie same (inr seq) = seq
+
+pub from_not_before : (a b : Turn) → IsNotBefore a b → comes_before a b ≡ false
+from_not_before a b h = pick (comes_before a b) refl
+  where
+    pick : (t : Bool) → comes_before a b ≡ t → t ≡ false
+    pick true is =
+        let first = before a b is in
+        let same : a.due ≡ b.due = omega (arith, h.due, first.due) in
+        absurd (omega (arith, h.tie same, first.tie same))
+    pick false is = refl
+
+-- the one that comes before does not come behind
+pub one_way : (a b : Turn) → comes_before a b ≡ true → comes_before b a ≡ false
+one_way a b h =
+    let first = before a b h in from_not_before b a (record { due = first.due; tie = λ same. omega (arith, first.tie (sym same)) })
+
+-- b does not come before a, and comes before c
+pub before_as_well : (a b c : Turn) → comes_before b a ≡ false → comes_before b c ≡ true → comes_before a c ≡ true
+before_as_well a b c h g =
+    let low = not_before b a h in
+    let high = before b c g in
+    from_before a c (record { due = omega (arith, low.due, high.due); tie = λ same. tie low high same })
+  where
+    tie : IsNotBefore b a → IsBefore b c → a.due ≡ c.due → a.seq < c.seq
+    tie low high same =
+        let due : b.due ≡ a.due = omega (arith, low.due, high.due, same) in
+        omega (arith, low.tie due, high.tie (due ∙ same))
+
+-- a does not come before b, and has another number
+pub behind : (a b : Turn) → comes_before a b ≡ false → (a.seq ≡ b.seq → ⊥) → comes_before b a ≡ true
+behind a b h other =
+    let low = not_before a b h in
+    from_before b a (record { due = low.due; tie = λ same. below (low.tie (sym same)) (cases_order b.seq a.seq) })
+  where
+    below : b.seq ≤ a.seq → (b.seq ≡ a.seq) ⊎ ((b.seq < a.seq) ⊎ (a.seq < b.seq)) → b.seq < a.seq
+    below le (inl same) = absurd (other (sym same))
+    below le (inr (inl less)) = less
+    below le (inr (inr more)) = absurd (omega (arith, le, more))
+
+-- where none comes before one that stands before it, those that come before a turn stand first
+pub partitioned : {X : Type 0} (key : X → Turn) (xs : List X) (turn : Turn) → AllPairs (λ a b. comes_before (key b) (key a) ≡ false) xs → IsPartitionedBy (λ x. comes_before (key x) turn) xs
+partitioned {X} key xs turn order i j d le within is = pick (cases_lt i j)
+  where
+    pick : (i < j) ⊎ (j ≤ i) → comes_before (key (slice_index_or xs i d)) turn ≡ true
+    pick (inl less) = before_as_well (key (slice_index_or xs i d)) (key (slice_index_or xs j d)) turn (order i j d less within) is
+    pick (inr more) = let same : j ≡ i = omega (arith, le, more) in subst (λ k. comes_before (key (slice_index_or xs k d)) turn ≡ true) same is
+
+-- one more element at its place
+pub all_pairs_insert : {X : Type 0} (R : X → X → Type 0) (xs : List X) (n : ℕ) (y : X) → n ≤ length xs → AllPairs R xs
+    → ((k : ℕ) (d : X) → k < n → R (slice_index_or xs k d) y) → ((k : ℕ) (d : X) → n ≤ k → k < length xs → R y (slice_index_or xs k d)) → AllPairs R (insert xs n y)
+all_pairs_insert {X} R xs n y le all low high i j d less within = pick (cases_order i n) (cases_order j n)
+  where
+    above : (k : ℕ) → n < k → slice_index_or (insert xs n y) k d ≡ slice_index_or xs (k - 1) d
+    above k h =
+        let step : k ≡ (k - 1) + 1 = omega (arith, h) in
+        ap (λ m. slice_index_or (insert xs n y) m d) step ∙ get_or-insert_above xs n y d (k - 1) (omega (arith, h)) le
+
+    end : j < length xs + 1
+    end = omega (arith, within, length-insert xs n y le)
+
+    both : {a b a' b' : X} → a ≡ a' → b ≡ b' → R a' b' → R a b
+    both {a} {b} {a'} {b'} e f h = subst (λ x. R x b) (sym e) (subst (R a') (sym f) h)
+
+    pick : (i ≡ n) ⊎ ((i < n) ⊎ (n < i)) → (j ≡ n) ⊎ ((j < n) ⊎ (n < j)) → R (slice_index_or (insert xs n y) i d) (slice_index_or (insert xs n y) j d)
+    pick (inl at) (inr (inr over)) =
+        both (ap (λ m. slice_index_or (insert xs n y) m d) at ∙ get_or-insert_at xs n y d le) (above j over) (high (j - 1) d (omega (arith, over)) (omega (arith, over, end)))
+    pick (inr (inl under)) (inl at) =
+        both (get_or-insert_below xs n y d i under le) (ap (λ m. slice_index_or (insert xs n y) m d) at ∙ get_or-insert_at xs n y d le) (low i d under)
+    pick (inr (inl under)) (inr (inl low_too)) =
+        both (get_or-insert_below xs n y d i under le) (get_or-insert_below xs n y d j low_too le) (all i j d less (omega (arith, low_too, le)))
+    pick (inr (inl under)) (inr (inr over)) =
+        both (get_or-insert_below xs n y d i under le) (above j over) (all i (j - 1) d (omega (arith, under, over)) (omega (arith, over, end)))
+    pick (inr (inr over)) (inr (inr over_too)) =
+        both (above i over) (above j over_too) (all (i - 1) (j - 1) d (omega (arith, less, over)) (omega (arith, over_too, end)))
+    pick (inl at) (inl at_too) = absurd (omega (arith, less, at, at_too))
+    pick (inl at) (inr (inl under)) = absurd (omega (arith, less, at, under))
+    pick (inr (inr over)) (inl at) = absurd (omega (arith, less, over, at))
+    pick (inr (inr over)) (inr (inl under)) = absurd (omega (arith, less, over, under))
