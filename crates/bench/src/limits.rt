@@ -47,7 +47,7 @@ pub(crate) fn print_limit(rt: &HostRuntime, count: Option<u64>) -> io::Result<bo
     let (Some(count), Ok(max)) = (count, MaxLimit::of(1000)) else {
         return Ok(false);
     };
-    let estimator = feed(Estimator::new(max)?, count);
+    let estimator = feed(Estimator::new(rt.alloc(), max)?, count);
     println!(rt; "{} {}", estimator.limit(), estimator.noload())?;
     Ok(true)
 }

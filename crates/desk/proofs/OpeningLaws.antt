@@ -16,7 +16,7 @@ use Rattle.relay_types.specs.Records.{records_of}
 use Rattle.relay_types.specs.declared.state.State.TheVariants.{Pending}
 use Rattle.relay_types.specs.Deliveries.{is_in_state}
 use Rattle.relay_types.proofs.KnownLaws.{and_first, and_second, and_both}
-use Rattle.vegas.specs.Estimators.{EstimatorValue, StandsFor as StandsForSamples}
+use Rattle.vegas.specs.Estimators.{EstimatorValue, StandsFor as StandsForSamples, Explains}
 use Rattle.vegas.specs.Vegas.{limit_of, noload_of, probes_of}
 use Rattle.endpoint_book.specs.Book.{enabled_in}
 use Rattle.endpoint_book.specs.Book as endpoint_book
@@ -433,8 +433,9 @@ marked_all queue book limiters limited told = record {
 abbrev pub limiter_in : endpoint_entries.BookValue → (name : List ℕ) → Option Limiter
 limiter_in book name = option_map (λ e. new_limiter name e.max) (endpoint_entries.entry_of book name)
 
-pub limiter_is : (estimator : EstimatorValue) (name : List ℕ) (max : ℕ) → estimator.maximum ≡ max → StandsForSamples estimator [] → record { endpoint = name; estimator = estimator } ≡ new_limiter name max
-limiter_is estimator name max is empty = λ i. record {
+pub limiter_is : (estimator : EstimatorValue) (name : List ℕ) (max : ℕ) → estimator.maximum ≡ max → StandsForSamples estimator [] → Explains estimator []
+    → record { endpoint = name; estimator = estimator } ≡ new_limiter name max
+limiter_is estimator name max is empty explains = λ i. record {
   endpoint = name;
   estimator = record {
     maximum = is i;
@@ -443,6 +444,12 @@ limiter_is estimator name max is empty = λ i. record {
       noload = (empty.noload ∙ ap (λ m. noload_of m []) is) i;
       probes = (empty.probes ∙ ap (λ m. probes_of m []) is) i;
     };
+    base = record {
+      limit = (explains.base.limit ∙ ap (λ m. limit_of m []) is) i;
+      noload = (explains.base.noload ∙ ap (λ m. noload_of m []) is) i;
+      probes = (explains.base.probes ∙ ap (λ m. probes_of m []) is) i;
+    };
+    last = explains.last i;
   };
 }
 
@@ -475,10 +482,10 @@ limiter_next book names i name limiters are within is before =
 
 pub limiter_more : (book : endpoint_entries.BookValue) (names : List (List ℕ)) (i : ℕ) (name : List ℕ) (limiters more : List Limiter) (estimator : EstimatorValue) (max : ℕ) → names ≡ map (λ e. e.name) book.entries → i < length names
     → name ≡ get_or names i name → limiters ≡ filter_map (limiter_in book) (take i (map (λ e. e.name) book.entries)) → Some max ≡ option_map (λ e. e.max) (endpoint_entries.entry_of book name)
-    → estimator.maximum ≡ max → StandsForSamples estimator [] → more ≡ limiters ++ record { endpoint = name; estimator = estimator } ∷ []
+    → estimator.maximum ≡ max → StandsForSamples estimator [] → Explains estimator [] → more ≡ limiters ++ record { endpoint = name; estimator = estimator } ∷ []
     → more ≡ filter_map (limiter_in book) (take (i + 1) (map (λ e. e.name) book.entries))
-limiter_more book names i name limiters more estimator max are within is before there maximum empty pushed =
-    pushed ∙ ap (λ l. limiters ++ l ∷ []) (limiter_is estimator name max maximum empty)
+limiter_more book names i name limiters more estimator max are within is before there maximum empty explains pushed =
+    pushed ∙ ap (λ l. limiters ++ l ∷ []) (limiter_is estimator name max maximum empty explains)
     ∙ ap (λ o. limiters ++ cons_option o []) (by (endpoint_entries.entry_of book name) there)
     ∙ sym (limiter_next book names i name limiters are within is before)
   where

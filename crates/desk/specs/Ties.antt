@@ -58,6 +58,8 @@ new_limiter name max = record {
   estimator = record {
     maximum = max;
     state = record { limit = limit_of max []; noload = noload_of max []; probes = probes_of max [] };
+    base = record { limit = limit_of max []; noload = noload_of max []; probes = probes_of max [] };
+    last = [];
   };
 }
 

@@ -139,7 +139,7 @@ impl<L: Ledger> Desk<L> {
         let seq = self.waiting.records();
         let kept = target.share()?;
         self.limiters.reserve(1)?;
-        let estimator = Estimator::new(max)?;
+        let estimator = Estimator::new(*self.limiters.allocator(), max)?;
         self.queue.reserve(name, 0)?;
         self.endpoints.stage_put(seq, name, kept, max, secrets)?;
         self.limiters.push_reserved(Limiter {

@@ -1,9 +1,11 @@
 //! What the desk tells.
-ghost use Rattle.std.specs.Prelude.{◌≡◌, ◌<◌, length, None, IsSome, option_map, option_copied};
+ghost use Rattle.std.specs.Prelude.{◌≡◌, ◌<◌, length, None, IsSome, IfSome, option_map, option_copied};
 ghost use Rattle.delivery_book.specs.Fields.{settled_counts};
+ghost use Rattle.vegas.specs.Estimators.{IsExplained};
 ghost use Rattle.group_commit.specs.Waits.{record_count};
 ghost use Rattle.desk.specs.World.{all_records, settled_records};
 ghost use Rattle.desk.specs.Claims.{limits};
+ghost use Rattle.desk.specs.Ties.{limiter_of};
 ghost use Rattle.desk.specs.Looks.{is_row_of, has_event, told, told_command, settled_body, event_page, endpoint_page, shown, totals, counts_told};
 ghost use Rattle.desk.specs.Kept as kept;
 ghost use Rattle.desk.specs.Desks.{IsCore, OverWorlds};
@@ -92,6 +94,9 @@ impl<L: Ledger> Desk<L> {
     /// How many attempts of an endpoint may be under way, by all records, and how many are.
     pub fn limits(&self, name: Name) -> Option<Limits>
         ensures value { result ≡ kept.limits self.now name }
+
+        // whatever its store had: the limit is that of the endpoint's last samples behind some earlier ones
+        ensures explained { IfSome (limiter_of self.now.limiters name) (λ l. IsExplained l.estimator) }
         ensures stands { OverWorlds self.now (λ w. result ≡ limits w name) }
     {
         let limiter = limiter_of(&self.limiters, name)?;

@@ -29,7 +29,7 @@ pub(crate) fn limiters_of(
     let mut limiters = Vec::with_capacity(alloc, endpoints.len())?;
     for name in endpoints.names() {
         if let Some(max) = endpoints.max_limit(*name) {
-            let estimator = Estimator::new(max)?;
+            let estimator = Estimator::new(alloc, max)?;
             limiters.push_reserved(Limiter {
                 endpoint: *name,
                 estimator,

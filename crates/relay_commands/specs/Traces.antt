@@ -1,11 +1,16 @@
--- What `relayd vegas` writes: for each line of its reader, the limit and the no-load time after the samples so far.
+-- What `relayd vegas` writes: for each line of its reader, the limit and the no-load time after the samples so far, and what explains them
+-- where that is asked for.
 use Rattle.std.specs.Prelude.{◌≡◌, ℕ, zero, suc, ◌≤◌, Bool, IsTrue, List, [], ◌∷◌, ◌++◌, length, take, Option, Result, Ok, Err, codes, decimal, if◌then◌else◌}
 use Rattle.std.specs.Io.KnownBytes.{Keeps}
+use Rattle.std.specs.Option.{option_map_or}
 use Rattle.relay_types.specs.Values.{is_max_limit}
 use Rattle.relay_types.specs.declared.fault.ReadFault.TheVariants.{BadMax}
 use Rattle.vegas.specs.declared.sample.Sample.{Sample}
-use Rattle.vegas.specs.Vegas.{limit_of, noload_of}
-use Rattle.vegas.specs.Estimators.{StandsFor}
+use Rattle.circular_buffer.specs.Buffer.{keep_last}
+use Rattle.vegas.specs.declared.limits.TheConstants.{LAST_SAMPLES}
+use Rattle.vegas.specs.declared.state.State.{State}
+use Rattle.vegas.specs.Vegas.{limit_of, noload_of, probes_of}
+use Rattle.vegas.specs.Estimators.{EstimatorValue, Explains, StandsFor, before_last}
 use Rattle.text_lines.specs.declared.fault.StreamFault.{StreamFault}
 use Rattle.text_lines.specs.Ends.{Ends}
 use Rattle.text_lines.specs.Parts.{line}
@@ -13,6 +18,7 @@ use Rattle.text_lines.specs.Streams.{with_feed}
 use Rattle.relay_commands.specs.declared.ends.CommandFault.{CommandFault}
 use Rattle.relay_commands.specs.declared.ends.CommandFault.TheVariants.{Argument, Ended, File, Store}
 use Rattle.relay_commands.specs.declared.vegas_command.Follower.{Follower}
+use Rattle.relay_commands.specs.declared.vegas_command.Numbers.{Numbers}
 use Rattle.relay_commands.specs.declared.vegas_command.TheConstants.{MAX_IN_FLIGHT, MAX_ROUND_TRIP}
 use Rattle.relay_commands.specs.Reports.{Reports}
 
@@ -42,25 +48,44 @@ abbrev pub IsNoSample : List ℕ → Type 0
 IsNoSample text = (x : Sample) → ReadsSample text x → ⊥
 
 -- a limit and a no-load time
-abbrev pub numbers_text : ℕ → ℕ → List ℕ
-numbers_text limit noload = line (decimal limit ∷ decimal noload ∷ [])
+abbrev pub numbers_words : (limit noload : ℕ) → List (List ℕ)
+numbers_words limit noload = decimal limit ∷ decimal noload ∷ []
+
+-- the numbers before the last samples, and how many these are
+abbrev pub base_words : State → (count : ℕ) → List (List ℕ)
+base_words base count =
+    codes "from" ∷ decimal base.limit ∷ decimal base.noload ∷ decimal base.probes ∷ codes "by" ∷ decimal count ∷ []
+
+-- what is answered
+abbrev pub answer_words : Numbers → List (List ℕ)
+answer_words n = numbers_words n.limit n.noload ++ option_map_or (λ b. base_words b.state b.count) n.base []
+
+abbrev pub told_words : (explains : Bool) → State → State → (count : ℕ) → List (List ℕ)
+told_words explains now base count =
+    numbers_words now.limit now.noload ++ (if explains then base_words base count else [])
+
+-- the numbers of the samples
+abbrev pub numbers_of : ℕ → List Sample → State
+numbers_of maximum xs = record { limit = limit_of maximum xs; noload = noload_of maximum xs; probes = probes_of maximum xs }
 
 -- the line after these samples
-abbrev pub sampled_text : ℕ → List Sample → List ℕ
-sampled_text maximum xs = with_feed (numbers_text (limit_of maximum xs) (noload_of maximum xs))
+abbrev pub sampled_text : Bool → ℕ → List Sample → List ℕ
+sampled_text explains maximum xs =
+    with_feed (line (told_words explains (numbers_of maximum xs) (numbers_of maximum (before_last xs)) (length (keep_last LAST_SAMPLES xs))))
 
 -- the lines after the first sample, the first two, and so on to the first k
-abbrev pub trace_text : ℕ → List Sample → ℕ → List ℕ
-trace_text maximum xs zero = []
-trace_text maximum xs (suc k) = trace_text maximum xs k ++ sampled_text maximum (take (suc k) xs)
+abbrev pub trace_text : Bool → ℕ → List Sample → ℕ → List ℕ
+trace_text explains maximum xs zero = []
+trace_text explains maximum xs (suc k) = trace_text explains maximum xs k ++ sampled_text explains maximum (take (suc k) xs)
 
--- What is written for the lines: the limit and the no-load time after each of the samples for which they stand.
-abbrev pub Traced : ℕ → List (List ℕ) → List ℕ → Type 0
-Traced maximum lines written = (xs : List Sample) × ReadSamples lines xs × (written ≡ trace_text maximum xs (length xs))
+-- What is written for the lines: what is told after each of the samples for which they stand.
+abbrev pub Traced : Bool → ℕ → List (List ℕ) → List ℕ → Type 0
+Traced explains maximum lines written =
+    (xs : List Sample) × ReadSamples lines xs × (written ≡ trace_text explains maximum xs (length xs))
 
 -- The limits after the samples of the reader's text are written, as far as this end says.
-abbrev pub Traces : ℕ → Option (List ℕ) → Option (List ℕ) → Option (List ℕ) → Result (Unit {0}) StreamFault → Type 0
-Traces maximum input old new end = Ends (Traced maximum) IsNoSample input old new end
+abbrev pub Traces : Bool → ℕ → Option (List ℕ) → Option (List ℕ) → Option (List ℕ) → Result (Unit {0}) StreamFault → Type 0
+Traces explains maximum input old new end = Ends (Traced explains maximum) IsNoSample input old new end
 
 -- a maximum is read from the word, of which this holds
 abbrev pub HasMaximum : List ℕ → (ℕ → Type 0) → Type 0
@@ -70,20 +95,26 @@ abbrev pub HasNoMaximum : List ℕ → Type 0
 HasNoMaximum word = (maximum : ℕ) → IsTrue (is_max_limit maximum) → word ≡ decimal maximum → ⊥
 
 -- What is written at an end. The word is an argument: where it is no maximum, it is refused and nothing is written.
-abbrev pub TracesSo : List ℕ → Option (List ℕ) → Option (List ℕ) → Option (List ℕ) → Result (Unit {0}) CommandFault → Type 0
-TracesSo word input old new (Ok done) = HasMaximum word (λ maximum. Traces maximum input old new (Ok done))
-TracesSo word input old new (Err (Argument fault)) = (fault ≡ BadMax) × HasNoMaximum word × Keeps old new
-TracesSo word input old new (Err (Ended fault)) = HasMaximum word (λ maximum. Traces maximum input old new (Err fault))
-TracesSo word input old new (Err (File fault)) = ⊥
-TracesSo word input old new (Err (Store fault)) = ⊥
+abbrev pub TracesSo : Bool → List ℕ → Option (List ℕ) → Option (List ℕ) → Option (List ℕ) → Result (Unit {0}) CommandFault → Type 0
+TracesSo explains word input old new (Ok done) = HasMaximum word (λ maximum. Traces explains maximum input old new (Ok done))
+TracesSo explains word input old new (Err (Argument fault)) = (fault ≡ BadMax) × HasNoMaximum word × Keeps old new
+TracesSo explains word input old new (Err (Ended fault)) = HasMaximum word (λ maximum. Traces explains maximum input old new (Err fault))
+TracesSo explains word input old new (Err (File fault)) = ⊥
+TracesSo explains word input old new (Err (Store fault)) = ⊥
 
 -- So it is, and the exit status and standard error tell of the same end.
-abbrev pub TracesTo : List ℕ → Option (List ℕ) → Option (List ℕ) → Option (List ℕ)
+abbrev pub TracesTo : Bool → List ℕ → Option (List ℕ) → Option (List ℕ) → Option (List ℕ)
     → Option (List ℕ) → Option (List ℕ) → ℕ → Type 0
-TracesTo word input old new untold told status = Reports (TracesSo word input old new) untold told status
+TracesTo explains word input old new untold told status = Reports (TracesSo explains word input old new) untold told status
 
--- the line's sample is taken, and answered by the numbers after it
+-- what is told of an estimator
+abbrev pub estimator_words : (explains : Bool) → EstimatorValue → List (List ℕ)
+estimator_words explains e = told_words explains e.state e.base (length e.last)
+
+-- the line's sample is taken, and answered by what is told after it
 abbrev pub AnswersSample : Follower → List ℕ → List ℕ → Follower → Type 0
-AnswersSample old text answer new = (x : Sample) × ReadsSample text x × (new.estimator.maximum ≡ old.estimator.maximum)
+AnswersSample old text answer new = (x : Sample) × ReadsSample text x × (new.explains ≡ old.explains)
+    × (new.estimator.maximum ≡ old.estimator.maximum)
     × ((xs : List Sample) → StandsFor old.estimator xs → StandsFor new.estimator (xs ++ x ∷ []))
-    × (answer ≡ numbers_text new.estimator.state.limit new.estimator.state.noload)
+    × ((xs : List Sample) → Explains old.estimator xs → Explains new.estimator (xs ++ x ∷ []))
+    × (answer ≡ line (estimator_words new.explains new.estimator))

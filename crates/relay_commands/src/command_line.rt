@@ -65,6 +65,8 @@ status 2 tells of a longer one, status 1 and a name of an argument that is refus
 const VEGAS_HELP: &str = "Lines: RTT INFLIGHT ok, or RTT INFLIGHT drop
   RTT       the round trip of a post in microseconds
   INFLIGHT  how many posts were in flight, 1 to 1000
+With --explain an answer goes on: from LIMIT NOLOAD PROBES by COUNT
+  the last COUNT samples, 64 at most, led from these numbers to that limit
 A bad line ends the samples with status 2; the limits before it stand.";
 
 /// What the words ask for, as far as it is done here.
@@ -128,7 +130,7 @@ fn run_command<R: Read, O: Write, E: Write>(
         Some(("replay", _)) => replay(alloc, input, output, errors),
         Some(("sign", words)) => sign_words(alloc, words, input, output, errors),
         Some(("vegas", words)) => match words.get_str("max") {
-            Some(max) => vegas(alloc, max, input, output, errors),
+            Some(max) => vegas(alloc, max, words.get_flag("explain"), input, output, errors),
             None => USAGE,
         },
         _ => USAGE,
@@ -233,7 +235,13 @@ fn vegas_syntax<'a>(alloc: Global) -> Result<Command<'a>, AllocError> {
     Command::new(alloc, "vegas")
         .about("Prints the limit and the no-load time after each sample on standard input")
         .after_help(VEGAS_HELP)
-        .arg(text(alloc, "max").help("The greatest limit, 1 to 1000"))
+        .arg(text(alloc, "max").help("The greatest limit, 1 to 1000"))?
+        .arg(
+            Arg::new(alloc, "explain")
+                .long("explain")
+                .action(ArgAction::SetTrue)
+                .help("Tells with each limit from which numbers the last samples led to it"),
+        )
 }
 
 // A required argument of one word.

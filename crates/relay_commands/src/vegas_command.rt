@@ -1,8 +1,9 @@
 //! `relayd vegas`: the limit after each of some samples.
-ghost use Rattle.std.specs.Prelude.{◌≡◌, ◌<◌, ◌≤◌, Bool, [], ◌∷◌, decimal, Some, IfSome, IfOk};
+ghost use Rattle.std.specs.Prelude.{◌≡◌, ◌<◌, ◌≤◌, Bool, [], ◌∷◌, Some, IfSome, IfOk};
+ghost use Rattle.text_lines.specs.Parts.{line};
 ghost use Rattle.vegas.specs.declared.sample.Sample.{Sample as Taken};
 ghost use Rattle.vegas.specs.Estimators.{sample_of};
-ghost use Rattle.relay_commands.specs.Traces.{Traces, TracesSo, TracesTo, AnswersSample, ReadsSample, IsNoSample, IsSample, end_word, numbers_text};
+ghost use Rattle.relay_commands.specs.Traces.{Traces, TracesSo, TracesTo, AnswersSample, ReadsSample, IsNoSample, IsSample, answer_words, end_word, estimator_words};
 
 use crate::ends::{CommandFault, end};
 use relay_types::MaxLimit;
@@ -13,7 +14,7 @@ use text_lines::{
     Answerer, LineFault, StreamFault, WordFault, answer_lines, is_word, read_max, read_number,
     split,
 };
-use vegas::Estimator;
+use vegas::{Estimator, State};
 
 /// The most posts in flight of a sample.
 pub const MAX_IN_FLIGHT: u64 = 1000;
@@ -30,26 +31,70 @@ struct Sample {
     ghost room: { inflight ≤ 1000 },
 }
 
-/// A limit, and a no-load time in microseconds.
+/// The numbers before the last samples, and how many these are.
+#[derive(Clone, Copy)]
+pub struct Base {
+    state: State,
+    count: usize,
+}
+
+/// A limit, and a no-load time in microseconds, with what explains them where that is asked for.
 #[derive(Clone, Copy)]
 pub struct Numbers {
     limit: u32,
     noload: u64,
+    base: Option<Base>,
 }
 
 impl fmt::Display for Numbers {
-    ghost output = { λ numbers. Some (numbers_text numbers.limit numbers.noload) };
+    ghost output = { λ n. Some (line (answer_words n)) };
 
     fn fmt<W: fmt::Write>(&self, f: &mut fmt::Formatter<W>) -> fmt::Result {
-        let Numbers { limit, noload } = self;
-        write!(f, "{limit} {noload}")
+        let Numbers {
+            limit,
+            noload,
+            base,
+        } = self;
+        match base {
+            None => write!(f, "{limit} {noload}"),
+            Some(Base { state, count }) => {
+                let State {
+                    limit: first,
+                    noload: without_load,
+                    probes,
+                } = state;
+                write!(
+                    f,
+                    "{limit} {noload} from {first} {without_load} {probes} by {count}"
+                )
+            }
+        }
     }
 }
 
-/// The limit that follows the samples of lines.
+/// The limit that follows the samples of lines, and whether each answer explains it.
 #[derive(Drop)]
 pub struct Follower {
     estimator: Estimator,
+    explains: bool,
+}
+
+impl Follower {
+    // What is told after the last sample.
+    fn numbers(&self) -> Numbers
+        ensures { estimator_words self.now.explains self.now.estimator ≡ answer_words result }
+    {
+        let (state, last) = self.estimator.explain();
+        let base = Base {
+            state,
+            count: last.len(),
+        };
+        Numbers {
+            limit: self.estimator.limit(),
+            noload: self.estimator.noload(),
+            base: if self.explains { Some(base) } else { None },
+        }
+    }
 }
 
 impl Answerer for Follower {
@@ -67,52 +112,54 @@ impl Answerer for Follower {
         let sample = read_sample(alloc, line)?;
         self.estimator
             .sample(sample.rtt, sample.inflight, sample.dropped);
-        Ok(Numbers {
-            limit: self.estimator.limit(),
-            noload: self.estimator.noload(),
-        })
+        Ok(self.numbers())
     }
 }
 
 /// Takes a sample from each line of the reader, and writes the limit, which is at most the maximum, and the no-load time after
-/// it: 0 done, 1 no maximum, 2 what was read, 3 every other fault.
+/// it: 0 done, 1 no maximum, 2 what was read, 3 every other fault. To explain them it also writes the limit, the no-load time and the probe
+/// count before the last samples, and how many these are.
 pub fn vegas<R: Read, O: Write, E: Write>(
     alloc: Global,
     max: &str,
+    explains: bool,
     input: &mut R,
     output: &mut O,
     errors: &mut E,
 ) -> u8
-    ensures traces { TracesTo max.now (R.remaining input.old) (O.contents output.old) (O.contents output.new)
+    ensures traces { TracesTo explains max.now (R.remaining input.old) (O.contents output.old) (O.contents output.new)
         (E.contents errors.old) (E.contents errors.new) result }
     ensures status { result ≤ 3 }
 {
-    end(errors, follow_samples(alloc, max, input, output))
+    end(errors, follow_samples(alloc, max, explains, input, output))
 }
 
 fn follow_samples<R: Read, O: Write>(
     alloc: Global,
     max: &str,
+    explains: bool,
     input: &mut R,
     output: &mut O,
 ) -> Result<(), CommandFault>
-    ensures { TracesSo max.now (R.remaining input.old) (O.contents output.old) (O.contents output.new) result }
+    ensures { TracesSo explains max.now (R.remaining input.old) (O.contents output.old) (O.contents output.new) result }
 {
     let max = read_max(max.as_bytes())?;
-    Ok(trace(alloc, max, input, output)?)
+    Ok(trace(alloc, max, explains, input, output)?)
 }
 
-// Reads a sample from each line, `RTT INFLIGHT ok` or `RTT INFLIGHT drop`, and writes the limit and the no-load time after it.
+// Reads a sample from each line, `RTT INFLIGHT ok` or `RTT INFLIGHT drop`, and writes what is told after it.
 fn trace<R: Read, O: Write>(
     alloc: Global,
     max: MaxLimit,
+    explains: bool,
     input: &mut R,
     output: &mut O,
 ) -> Result<(), StreamFault>
-    ensures { Traces max (R.remaining input.old) (O.contents output.old) (O.contents output.new) result }
+    ensures { Traces explains max (R.remaining input.old) (O.contents output.old) (O.contents output.new) result }
 {
     let mut follower = Follower {
-        estimator: Estimator::new(max)?,
+        estimator: Estimator::new(alloc, max)?,
+        explains,
     };
     answer_lines(alloc, &mut follower, input, output)
 }

@@ -296,6 +296,14 @@ const ARGUMENTS: &[Run] = &[
 ];
 
 const SAMPLES: &[Run] = &[
+    // The numbers before any sample, and then all samples.
+    Run {
+        words: &["relayd", "vegas", "1000", "--explain"],
+        texts: &["100000 1 ok\n100000 10 ok\n"],
+        output: "20 100000 from 20 0 0 by 1\n26 100000 from 20 0 0 by 2\n",
+        errors: "",
+        status: 0,
+    },
     Run {
         words: VEGAS,
         texts: &[

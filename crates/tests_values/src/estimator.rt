@@ -1,9 +1,9 @@
 //! Worked limits. Each expected number is found from the rules by hand.
 
 use crate::cases::{holds, max_limit};
-use std::alloc::AllocError;
+use std::alloc::{AllocError, Global};
 use std::process::Abort;
-use vegas::Estimator;
+use vegas::{Estimator, Sample, State};
 
 /// What an estimator is told, and what it tells then.
 #[derive(Clone, Copy)]
@@ -17,6 +17,10 @@ enum Step {
     Feed(u32, u64, u32, bool),
     Limit(u32),
     Noload(u64),
+    /// The limit, the no-load time and the count since the last probe before the last samples, and how many these are.
+    Explain(u32, u64, u32, usize),
+    /// The oldest of the last samples, as it was told.
+    Oldest(u64, u32, bool),
 }
 
 /// The maximum of a new estimator, and its steps.
@@ -127,6 +131,52 @@ const A_DROP_AT_THE_MAXIMUM: [Run; 7] = [
     Run(1000, &[GROW, Step::Limit(1000), FALL, Step::Limit(997)]),
 ];
 
+const THE_LAST_SAMPLES_EXPLAIN_THE_LIMIT: [Run; 3] = [
+    // at rest: no probe yet, since 30 * 20 is 600
+    Run(
+        1000,
+        &[
+            Step::Explain(20, 0, 0, 0),
+            Step::Feed(70, 100000, 1, OK),
+            Step::Limit(20),
+            Step::Explain(20, 100000, 6, 64),
+            Step::Feed(64, 100000, 1, OK),
+            Step::Explain(20, 100000, 70, 64),
+        ],
+    ),
+    // a maximum of one: a probe at the 30th sample
+    Run(
+        1,
+        &[
+            Step::Feed(31, 100000, 1, OK),
+            Step::Limit(1),
+            Step::Noload(100000),
+            Step::Explain(1, 0, 0, 31),
+            Step::Feed(33, 100000, 1, OK),
+            Step::Explain(1, 0, 0, 64),
+            Step::Feed(31, 100000, 1, OK),
+            Step::Explain(1, 100000, 1, 64),
+        ],
+    ),
+    // each sample as it was told, a drop among them
+    Run(
+        1000,
+        &[
+            Step::Sample(0, 1, DROP, 20, 1),
+            Step::Sample(100000, 20, DROP, 19, 1),
+            Step::Oldest(0, 1, DROP),
+            Step::Feed(62, 100000, 1, OK),
+            Step::Oldest(0, 1, DROP),
+            Step::Feed(1, 100000, 1, OK),
+            Step::Oldest(100000, 20, DROP),
+            Step::Explain(20, 1, 1, 64),
+            Step::Feed(1, 100000, 1, OK),
+            Step::Oldest(100000, 1, OK),
+            Step::Explain(19, 1, 2, 64),
+        ],
+    ),
+];
+
 fn sample(rt: &impl Abort, estimator: &mut Estimator, rtt: u64, inflight: u32, dropped: bool) {
     assert!(rt; inflight <= 1000);
     estimator.sample(rtt, inflight, dropped);
@@ -147,6 +197,18 @@ fn feed(
 
 fn tells(estimator: &Estimator, limit: u32, noload: u64) -> bool {
     estimator.limit() == limit && estimator.noload() == noload
+}
+
+fn explains(estimator: &Estimator, before: State, count: usize) -> bool {
+    let (base, last) = estimator.explain();
+    base == before && last.len() == count
+}
+
+fn oldest_is(estimator: &Estimator, sample: Sample) -> bool {
+    match estimator.explain().1.front() {
+        Some(oldest) => *oldest == sample,
+        None => false,
+    }
 }
 
 fn steady(
@@ -189,6 +251,22 @@ fn take(rt: &impl Abort, estimator: &mut Estimator, step: Step) -> bool {
         }
         Step::Limit(limit) => estimator.limit() == limit,
         Step::Noload(noload) => estimator.noload() == noload,
+        Step::Explain(limit, noload, probes, count) => {
+            let before = State {
+                limit,
+                noload,
+                probes,
+            };
+            explains(estimator, before, count)
+        }
+        Step::Oldest(rtt, inflight, dropped) => oldest_is(
+            estimator,
+            Sample {
+                rtt,
+                inflight,
+                dropped,
+            },
+        ),
     }
 }
 
@@ -198,51 +276,56 @@ fn follow(rt: &impl Abort, estimator: &mut Estimator, steps: &[Step]) {
     }
 }
 
-fn started(rt: &impl Abort, maximum: u64) -> Estimator {
-    match Estimator::new(max_limit(rt, maximum)) {
+fn started(rt: &impl Abort, alloc: Global, maximum: u64) -> Estimator {
+    match Estimator::new(alloc, max_limit(rt, maximum)) {
         Ok(estimator) => estimator,
         Err(AllocError) => panic!(rt; "no memory"),
     }
 }
 
-fn walk(rt: &impl Abort, runs: &[Run]) {
+fn walk(rt: &impl Abort, alloc: Global, runs: &[Run]) {
     for run in runs.iter() {
         let Run(maximum, steps) = *run;
-        follow(rt, &mut started(rt, maximum), steps);
+        follow(rt, &mut started(rt, alloc, maximum), steps);
     }
 }
 
 #[test]
 fn a_new_estimator_knows_no_noload_time(rt: HostRuntime) {
-    walk(&rt, &NEW);
+    walk(&rt, rt.alloc(), &NEW);
 }
 
 #[test]
 fn the_limit_follows_the_queue(rt: HostRuntime) {
-    walk(&rt, &THE_LIMIT_FOLLOWS_THE_QUEUE);
+    walk(&rt, rt.alloc(), &THE_LIMIT_FOLLOWS_THE_QUEUE);
 }
 
 #[test]
 fn the_step_grows_at_a_hundred(rt: HostRuntime) {
-    walk(&rt, &THE_STEP_GROWS_AT_A_HUNDRED);
+    walk(&rt, rt.alloc(), &THE_STEP_GROWS_AT_A_HUNDRED);
 }
 
 #[test]
 fn a_probe_takes_the_round_trip_as_it_is(rt: HostRuntime) {
-    walk(&rt, &A_PROBE_TAKES_THE_ROUND_TRIP);
+    walk(&rt, rt.alloc(), &A_PROBE_TAKES_THE_ROUND_TRIP);
 }
 
 #[test]
 fn round_trips_are_brought_into_their_range(rt: HostRuntime) {
-    walk(&rt, &ROUND_TRIPS_ARE_BROUGHT_INTO_THEIR_RANGE);
+    walk(&rt, rt.alloc(), &ROUND_TRIPS_ARE_BROUGHT_INTO_THEIR_RANGE);
 }
 
 #[test]
 fn each_threshold_has_its_border(rt: HostRuntime) {
-    walk(&rt, &BORDERS);
+    walk(&rt, rt.alloc(), &BORDERS);
 }
 
 #[test]
 fn a_drop_at_the_maximum_lowers_by_its_step(rt: HostRuntime) {
-    walk(&rt, &A_DROP_AT_THE_MAXIMUM);
+    walk(&rt, rt.alloc(), &A_DROP_AT_THE_MAXIMUM);
+}
+
+#[test]
+fn the_last_samples_explain_the_limit(rt: HostRuntime) {
+    walk(&rt, rt.alloc(), &THE_LAST_SAMPLES_EXPLAIN_THE_LIMIT);
 }

@@ -1,4 +1,5 @@
 pub mod LeastLaws
 pub mod RuleLaws
 pub mod VegasLaws
+pub mod LastLaws
 mod WorkedSamples

@@ -8,7 +8,8 @@ use Rattle.std.proofs.lemmas.Bool.Decides.{nat_tests}
 use Rattle.std.proofs.lemmas.List.{take-append-le, drop-append-le, length-drop}
 use Rattle.vegas.specs.declared.sample.Sample.{Sample}
 use Rattle.vegas.specs.Vegas.{Place, round_trip, least_round_trip, noload_after, limit_at, next_place, place_after, limit_of, noload_of, probes_of}
-use Rattle.vegas.specs.Estimators.{EstimatorValue, StandsFor}
+use Rattle.vegas.specs.declared.state.State.{State}
+use Rattle.vegas.specs.Estimators.{HasNumbers}
 
 -- a sample more leaves the elements before it
 slice_get-before : (xs ys : List Sample) (k : ℕ) → k < length xs → slice_get (xs ++ ys) k ≡ slice_get xs k
@@ -190,7 +191,7 @@ place-moved most xs x h known high =
 -- what a place tells of a list with one more sample
 place-follows : (most : ℕ) (xs : List Sample) (x : Sample) (p : Place) (noload count : ℕ) → last_place most (xs ++ x ∷ []) ≡ p
     → least_round_trip (drop (p.probe - 1) (xs ++ x ∷ [])) ≡ noload → suc (length xs) - p.probe ≡ count
-    → StandsFor (record { maximum = most; state = record { limit = p.limit; noload = noload; probes = count } }) (xs ++ x ∷ [])
+    → HasNumbers most (record { limit = p.limit; noload = noload; probes = count }) (xs ++ x ∷ [])
 unfolding limit_of probes_of
 place-follows most xs x p noload count place least counted = record {
   limit = ap (λ (q : Place). q.limit) (sym place);
@@ -207,33 +208,33 @@ counted-snoc : (most : ℕ) (xs : List Sample) → suc (length xs) - (last_place
 unfolding probes_of
 counted-snoc most xs = omega (arith, last_probe most xs)
 
--- the estimate of a list
-abbrev estimate_of : ℕ → List Sample → EstimatorValue
-estimate_of most xs = record { maximum = most; state = record { limit = limit_of most xs; noload = noload_of most xs; probes = probes_of most xs } }
+-- the numbers of a list
+abbrev numbers_of : ℕ → List Sample → State
+numbers_of most xs = record { limit = limit_of most xs; noload = noload_of most xs; probes = probes_of most xs }
 
-estimate_of-is : (e : EstimatorValue) (xs : List Sample) → StandsFor e xs → estimate_of e.maximum xs ≡ e
-estimate_of-is e xs s i = record { maximum = e.maximum; state = record { limit = sym s.limit i; noload = sym s.noload i; probes = sym s.probes i } }
+numbers_of-are : (most : ℕ) (state : State) (xs : List Sample) → HasNumbers most state xs → numbers_of most xs ≡ state
+numbers_of-are most state xs s i = record { limit = sym s.limit i; noload = sym s.noload i; probes = sym s.probes i }
 
 -- A probe makes the round trip the no-load time, and leaves the limit.
-abbrev Probe : List Sample → Sample → EstimatorValue → Type 0
-Probe xs x e = 30 * e.state.limit ≤ e.state.probes + 1 → StandsFor (record e { state = record e.state { noload = round_trip x; probes = 0 } }) (xs ++ x ∷ [])
+abbrev Probe : ℕ → List Sample → Sample → State → Type 0
+Probe most xs x s = 30 * s.limit ≤ s.probes + 1 → HasNumbers most (record s { noload = round_trip x; probes = 0 }) (xs ++ x ∷ [])
 
-probe-at : (most : ℕ) (xs : List Sample) (x : Sample) → Probe xs x (estimate_of most xs)
+probe-at : (most : ℕ) (xs : List Sample) (x : Sample) → Probe most xs x (numbers_of most xs)
 unfolding limit_of
 probe-at most xs x h = place-follows most xs x _ _ _ (place-probe most xs x h) one (omega arith)
   where
     one : least_round_trip (drop (suc (length xs) - 1) (xs ++ x ∷ [])) ≡ round_trip x
     one = let n : suc (length xs) - 1 ≡ length xs = omega arith in rw (n, drop-append_seam xs (x ∷ [])) refl
 
-pub probe-follows : (e : EstimatorValue) (xs : List Sample) (x : Sample) → StandsFor e xs → Probe xs x e
-probe-follows e xs x s = subst (Probe xs x) (estimate_of-is e xs s) (probe-at e.maximum xs x)
+pub probe-follows : (most : ℕ) (state : State) (xs : List Sample) (x : Sample) → HasNumbers most state xs → Probe most xs x state
+probe-follows most state xs x s = subst (Probe most xs x) (numbers_of-are most state xs s) (probe-at most xs x)
 
 -- The first round trip of all, or a lower one, becomes the no-load time, and the limit stays.
-abbrev Low : List Sample → Sample → EstimatorValue → Type 0
-Low xs x e = e.state.probes + 1 < 30 * e.state.limit → (e.state.noload ≡ 0) ⊎ (round_trip x < e.state.noload)
-    → StandsFor (record e { state = record e.state { noload = round_trip x; probes = e.state.probes + 1 } }) (xs ++ x ∷ [])
+abbrev Low : ℕ → List Sample → Sample → State → Type 0
+Low most xs x s = s.probes + 1 < 30 * s.limit → (s.noload ≡ 0) ⊎ (round_trip x < s.noload)
+    → HasNumbers most (record s { noload = round_trip x; probes = s.probes + 1 }) (xs ++ x ∷ [])
 
-low-at : (most : ℕ) (xs : List Sample) (x : Sample) → Low xs x (estimate_of most xs)
+low-at : (most : ℕ) (xs : List Sample) (x : Sample) → Low most xs x (numbers_of most xs)
 unfolding limit_of
 low-at most xs x h lower = place-follows most xs x _ _ _ (place-low most xs x h lower) least (counted-snoc most xs)
   where
@@ -241,15 +242,15 @@ low-at most xs x h lower = place-follows most xs x _ _ _ (place-low most xs x h 
     least = ap least_round_trip (segment-snoc most xs x)
         ∙ least-low _ x (subst (λ n. (n ≡ 0) ⊎ (round_trip x < n)) (noload_of-segment most xs) lower)
 
-pub low-follows : (e : EstimatorValue) (xs : List Sample) (x : Sample) → StandsFor e xs → Low xs x e
-low-follows e xs x s = subst (Low xs x) (estimate_of-is e xs s) (low-at e.maximum xs x)
+pub low-follows : (most : ℕ) (state : State) (xs : List Sample) (x : Sample) → HasNumbers most state xs → Low most xs x state
+low-follows most state xs x s = subst (Low most xs x) (numbers_of-are most state xs s) (low-at most xs x)
 
 -- Any other sample moves the limit, and leaves the no-load time.
-abbrev Other : List Sample → Sample → EstimatorValue → Type 0
-Other xs x e = e.state.probes + 1 < 30 * e.state.limit → e.state.noload ≢ 0 → e.state.noload ≤ round_trip x
-    → StandsFor (record e { state = record e.state { limit = limit_at e.maximum e.state.limit e.state.noload x; probes = e.state.probes + 1 } }) (xs ++ x ∷ [])
+abbrev Other : ℕ → List Sample → Sample → State → Type 0
+Other most xs x s = s.probes + 1 < 30 * s.limit → s.noload ≢ 0 → s.noload ≤ round_trip x
+    → HasNumbers most (record s { limit = limit_at most s.limit s.noload x; probes = s.probes + 1 }) (xs ++ x ∷ [])
 
-other-at : (most : ℕ) (xs : List Sample) (x : Sample) → Other xs x (estimate_of most xs)
+other-at : (most : ℕ) (xs : List Sample) (x : Sample) → Other most xs x (numbers_of most xs)
 unfolding limit_of
 other-at most xs x h known high = place-follows most xs x _ _ _ (place-moved most xs x h known high) least (counted-snoc most xs)
   where
@@ -261,5 +262,5 @@ other-at most xs x h known high = place-follows most xs x _ _ _ (place-moved mos
         ∙ least-high _ x (λ e. known (segment ∙ e)) (omega (arith, high, segment))
         ∙ sym segment
 
-pub other-follows : (e : EstimatorValue) (xs : List Sample) (x : Sample) → StandsFor e xs → Other xs x e
-other-follows e xs x s = subst (Other xs x) (estimate_of-is e xs s) (other-at e.maximum xs x)
+pub other-follows : (most : ℕ) (state : State) (xs : List Sample) (x : Sample) → HasNumbers most state xs → Other most xs x state
+other-follows most state xs x s = subst (Other most xs x) (numbers_of-are most state xs s) (other-at most xs x)

@@ -1,7 +1,10 @@
 -- Worked limits, computed from the definition.
-use Rattle.std.specs.Prelude.{◌≡◌, ℕ, true, false, List, [], ◌∷◌, ◌++◌, replicate, take, map, refl}
+use Rattle.std.specs.Prelude.{◌≡◌, ℕ, true, false, List, [], ◌∷◌, ◌++◌, length, replicate, take, map, refl}
+use Rattle.circular_buffer.specs.Buffer.{keep_last}
 use Rattle.vegas.specs.declared.sample.Sample.{Sample}
+use Rattle.vegas.specs.declared.limits.TheConstants.{LAST_SAMPLES}
 use Rattle.vegas.specs.Vegas.{place_after, limit_of, noload_of, probes_of, queue, step_size}
+use Rattle.vegas.specs.Estimators.{before_last}
 
 abbrev ok : ℕ → ℕ → Sample
 ok rtt inflight = record { rtt = rtt; inflight = inflight; dropped = false }
@@ -58,3 +61,18 @@ at_rest = refl
 at_rest_probes : probes_of 1000 (replicate 70 (ok 100000 1)) ≡ 70
 unfolding place_after probes_of
 at_rest_probes = refl
+
+-- the three numbers before the last samples, how many these are, and the three numbers of now
+abbrev numbers : ℕ → List Sample → ℕ × ℕ × ℕ
+numbers most xs = (limit_of most xs, noload_of most xs, probes_of most xs)
+
+abbrev explained : ℕ → List Sample → (ℕ × ℕ × ℕ) × ℕ × (ℕ × ℕ × ℕ)
+explained most xs = (numbers most (before_last xs), length (keep_last LAST_SAMPLES xs), numbers most xs)
+
+explained_at_rest : explained 1000 (replicate 70 (ok 100000 1)) ≡ ((20, 100000, 6), 64, (20, 100000, 70))
+unfolding place_after limit_of noload_of probes_of
+explained_at_rest = refl
+
+explained_of_one : explained 1 (replicate 31 (ok 100000 1)) ≡ ((1, 0, 0), 31, (1, 100000, 1))
+unfolding place_after limit_of noload_of probes_of
+explained_of_one = refl

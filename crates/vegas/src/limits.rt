@@ -8,3 +8,6 @@ pub const MAX_ROUND_TRIP: u64 = 3_600_000_000;
 
 /// A probe comes after this many samples for each of the limit.
 pub const SAMPLES_BY_LIMIT: u32 = 30;
+
+/// How many of the last samples an estimator keeps.
+pub const LAST_SAMPLES: usize = 64;

@@ -1,9 +1,13 @@
 //! The rules by which a limit moves.
-ghost use Rattle.std.specs.Prelude.{◌≡◌, ◌≤◌};
+ghost use Rattle.std.specs.Prelude.{◌≡◌, ◌≤◌, List, [], ◌∷◌, ◌++◌};
+ghost use Rattle.vegas.specs.declared.sample.Sample.{Sample};
 ghost use Rattle.vegas.specs.Vegas.{queue, step_size, moved};
+ghost use Rattle.vegas.specs.Estimators.{AreBounded, HasNumbers};
 
-use crate::limits::MAX_ROUND_TRIP;
-use relay_types::MAX_LIMIT;
+use crate::limits::{MAX_ROUND_TRIP, SAMPLES_BY_LIMIT};
+use crate::sample::Sample;
+use crate::state::State;
+use relay_types::{MAX_LIMIT, MaxLimit};
 
 /// By how much a limit moves: the whole part of its decimal logarithm, at least 1.
 pub(crate) fn step_size(limit: u32) -> u32
@@ -50,5 +54,40 @@ pub(crate) fn moved(limit: u32, queue: u32, inflight: u32, dropped: bool) -> u32
         limit - step
     } else {
         limit
+    }
+}
+
+/// The numbers after one more sample.
+pub(crate) fn state_after(maximum: MaxLimit, before: State, sample: Sample) -> State
+    requires bounded { AreBounded maximum before }
+    requires inflight { sample.inflight ≤ MAX_LIMIT }
+    ensures bounded { AreBounded maximum result }
+
+    // for every list whose numbers these were, they are now those of that list and this sample
+    ensures follows { (xs : List Sample) → HasNumbers maximum before xs
+        → HasNumbers maximum result (xs ++ sample ∷ []) }
+{
+    let round_trip = sample.rtt.clamp(1, MAX_ROUND_TRIP);
+    let count = before.probes + 1;
+    if SAMPLES_BY_LIMIT * before.limit <= count {
+        return State {
+            limit: before.limit,
+            noload: round_trip,
+            probes: 0,
+        };
+    }
+    if before.noload == 0 || round_trip < before.noload {
+        return State {
+            limit: before.limit,
+            noload: round_trip,
+            probes: count,
+        };
+    }
+    let waiting = queue(before.limit, round_trip, before.noload);
+    let limit = moved(before.limit, waiting, sample.inflight, sample.dropped);
+    State {
+        limit: limit.clamp(1, maximum.get()),
+        noload: before.noload,
+        probes: count,
     }
 }

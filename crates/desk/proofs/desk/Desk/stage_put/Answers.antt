@@ -1,4 +1,5 @@
 use Rattle.std.proofs.Common.{◌≡◌, ◌+◌, ◌∙◌, List, ◌++◌, [], ◌∷◌, ap, arith, length, subst, sym}
+use Rattle.std.specs.Prelude.{is_some}
 use Rattle.claim_queue.specs.Queues.{ChangesMark, with_room}
 use Rattle.endpoint_book.specs.Entries.{is_known}
 use Rattle.group_commit.specs.Waits.{record_count}
@@ -6,14 +7,17 @@ use Rattle.desk.specs.declared.limiter.Limiter.{Limiter}
 use Rattle.desk.specs.Desks.{DeskValue, IsDesk, with_put}
 use Rattle.desk.specs.Ties.{new_limiter, room_by}
 use Rattle.desk.proofs.OpeningLaws.{limiter_is}
-use Rattle.desk.proofs.RequestTies.{desk_put, desk_reserved}
+use Rattle.desk.proofs.RequestTies.{desk_put, desk_reserved, reserved_own}
 use Rattle.desk.proofs.desk.Desk.stage_put.Goals as goal
+
+pub tell_room-requires : goal.tell_room-requires
+tell_room-requires g c = ap is_some (reserved_own c.self.inside.queue c.reserve-2.new.self c.args.name 0 c.in_ok-reserve-2.ensures.mark)
 
 pub invariant_of-self-2 : goal.invariant_of-self-2
 invariant_of-self-2 g c =
     desk_put c.reserve-2.new.self c.records-seq.result c.args.name _ c.args.target c.args.max c.args.secrets (new_limiter c.args.name c.args.max) c.records-seq.ensures.count
     c.in_ok-stage_put.ensures.put c.push_request.ensures.staged
-    (c.push_reserved.ensures.items ∙ ap (λ (ls : List Limiter). ls ++ record { endpoint = c.args.name; estimator = c.in_ok-estimator.estimator } ∷ []) c.in_ok-reserve.ensures.items ∙ ap (λ (l : Limiter). c.self.inside.limiters.items ++ l ∷ []) (limiter_is c.in_ok-estimator.estimator c.args.name c.args.max c.in_ok-estimator.ensures.maximum c.in_ok-estimator.ensures.empty))
+    (c.push_reserved.ensures.items ∙ ap (λ (ls : List Limiter). ls ++ record { endpoint = c.args.name; estimator = c.in_ok-estimator.estimator } ∷ []) c.in_ok-reserve.ensures.items ∙ ap (λ (l : Limiter). c.self.inside.limiters.items ++ l ∷ []) (limiter_is c.in_ok-estimator.estimator c.args.name c.args.max c.in_ok-estimator.ensures.maximum c.in_ok-estimator.ensures.empty c.in_ok-estimator.ensures.explains))
     (λ i. (c.args.name, c.args.max))
     (omega (arith, c.requires.room, ap (λ (v : DeskValue). record_count v.waiting + length v.live) c.self.view_is))
     c.in_ok-kept.ensures (ap (λ (v : DeskValue). is_known v.endpoints c.args.name) c.self.view_is ∙ c.requires.unknown)
@@ -31,4 +35,4 @@ pub returns-clause-staged : goal.returns-clause-staged
 returns-clause-staged g c = rw (c.push_request.ensures.staged, c.in_ok-stage_put.ensures.put, longer, c.in_ok-kept.ensures, c.records-seq.ensures.count) (ap (λ (v : DeskValue). with_put v c.args.name c.args.target c.args.max c.args.secrets) c.self.view_is)
   where
     longer : c.push_reserved.new.self.items ≡ c.self.inside.limiters.items ++ new_limiter c.args.name c.args.max ∷ []
-    longer = c.push_reserved.ensures.items ∙ ap (λ (ls : List Limiter). ls ++ record { endpoint = c.args.name; estimator = c.in_ok-estimator.estimator } ∷ []) c.in_ok-reserve.ensures.items ∙ ap (λ (l : Limiter). c.self.inside.limiters.items ++ l ∷ []) (limiter_is c.in_ok-estimator.estimator c.args.name c.args.max c.in_ok-estimator.ensures.maximum c.in_ok-estimator.ensures.empty)
+    longer = c.push_reserved.ensures.items ∙ ap (λ (ls : List Limiter). ls ++ record { endpoint = c.args.name; estimator = c.in_ok-estimator.estimator } ∷ []) c.in_ok-reserve.ensures.items ∙ ap (λ (l : Limiter). c.self.inside.limiters.items ++ l ∷ []) (limiter_is c.in_ok-estimator.estimator c.args.name c.args.max c.in_ok-estimator.ensures.maximum c.in_ok-estimator.ensures.empty c.in_ok-estimator.ensures.explains)

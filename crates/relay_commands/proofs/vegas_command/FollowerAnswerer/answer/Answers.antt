@@ -1,11 +1,12 @@
-use Rattle.std.proofs.Common.{◌≡◌, Result, Err, ap, sym, refl, ◌∙◌}
+use Rattle.std.proofs.Common.{◌≡◌, Some, Result, Err, ap, sym, refl, ◌∙◌}
 use Rattle.std.proofs.lemmas.Result.{err_from_is_err_and}
 use Rattle.text_lines.specs.WordFaults.{line_fault}
 use Rattle.text_lines.specs.declared.answering.LineFault.TheVariants as line
 use Rattle.text_lines.specs.declared.words.WordFault.{WordFault}
 use Rattle.text_lines.specs.declared.words.WordFault.TheVariants.{Bad, OutOfMemory}
 use Rattle.vegas.specs.Estimators.{sample_of}
-use Rattle.relay_commands.specs.Traces.{numbers_text}
+use Rattle.text_lines.specs.Parts.{line as line_of}
+use Rattle.relay_commands.specs.Traces.{estimator_words}
 use Rattle.relay_commands.proofs.vegas_command.FollowerAnswerer.answer.Goals as goal
 
 one_fault : {T E : Type 0} (a b : E) → ◌≡◌ {A = Result T E} (Err a) (Err b) → a ≡ b
@@ -23,13 +24,15 @@ returns-in_err-sample-clause-bad c = λ e.
 pub returns-clause-answers : goal.returns-clause-answers
 returns-clause-answers c = λ clean.
     let s = c.in_ok-sample.sample in (
-      numbers_text c.limit.result c.noload.result,
-      refl,
+      line_of (estimator_words c.args.self.now.explains c.sample.new.self),
+      ap (λ words. Some (line_of words)) (sym c.numbers.ensures),
       (
         sample_of s.rtt s.inflight s.dropped,
         c.in_ok-sample.ensures.stands,
+        refl,
         c.sample.ensures.maximum,
         c.sample.ensures.follows,
-        λ i. numbers_text (c.limit.ensures.number i) (c.noload.ensures.number i),
+        c.sample.ensures.explains,
+        refl,
       ),
     )

@@ -1,31 +1,25 @@
-use Rattle.std.proofs.Common.{◌≡◌, ◌≤◌, ◌<◌, inl, inr, sym, subst}
-use Rattle.std.specs.Prelude.{◌⊎◌}
-use Rattle.vegas.specs.Estimators.{StandsFor, sample_of}
-use Rattle.vegas.proofs.VegasLaws.{probe-follows, low-follows, other-follows}
+use Rattle.std.proofs.Common.{sym, subst}
+use Rattle.vegas.specs.Estimators.{Explains}
+use Rattle.vegas.proofs.LastLaws.{holds-room, holds-full, room-explains, full-explains}
 use Rattle.vegas.proofs.estimator.Estimator.sample.Goals as goal
-use Rattle.vegas.proofs.estimator.Estimator.sample.Goals.{then-self-eq0-via-then-self-eq0, then-self-eq0-via-else-self-eq0+then-round_trip-self}
 
-pub returns-then-self-count-clause-follows : goal.returns-then-self-count-clause-follows
-returns-then-self-count-clause-follows c = λ xs s.
-    rw c.clamp-round_trip.ensures
-    (probe-follows _ xs (sample_of c.args.rtt c.args.inflight c.args.dropped)
-    (subst (λ e. StandsFor e xs) (sym c.self.view_is) s) c.if-self-count.true)
+pub invariant_of-self : goal.invariant_of-self
+invariant_of-self c =
+    holds-full c.self.inside.last c.push_back.new.self c.self.invariant (c.push_back.ensures.items, c.in-Some.ensures.value) c.requires
+    c.state_after-self-inside.ensures.bounded c.state_after-self-inside.ensures.follows
+    c.state_after-self-inside-in-Some.ensures.bounded c.state_after-self-inside-in-Some.ensures.follows
 
-pub returns-then-self-eq0-clause-follows : goal.returns-then-self-eq0-clause-follows
-returns-then-self-eq0-clause-follows c = λ xs s.
-    let lower : (c.self.inside.state.noload ≡ 0) ⊎ (c.clamp-round_trip.result < c.self.inside.state.noload) =
-    elim c.then-self-eq0.branch [
-      | then-self-eq0-via-then-self-eq0 w ↦ inl w.if-self-eq0.true
-      | then-self-eq0-via-else-self-eq0+then-round_trip-self w ↦ inr w.if-round_trip-self.true
-    ] in
-    rw c.clamp-round_trip.ensures
-    (low-follows _ xs (sample_of c.args.rtt c.args.inflight c.args.dropped)
-    (subst (λ e. StandsFor e xs) (sym c.self.view_is) s) c.if-self-count.false
-    (subst (λ r. (c.self.inside.state.noload ≡ 0) ⊎ (r < c.self.inside.state.noload)) c.clamp-round_trip.ensures lower))
+pub invariant_of-self-in_default : goal.invariant_of-self-in_default
+invariant_of-self-in_default c =
+    holds-room c.self.inside.last c.push_back.new.self c.self.invariant (c.push_back.ensures.items, c.in_default.ensures.value) c.requires
+    c.state_after-self-inside.ensures.bounded c.state_after-self-inside.ensures.follows
 
-pub returns-clause-follows : goal.returns-clause-follows
-returns-clause-follows c = λ xs s.
-    rw (c.clamp-self-inside.ensures, c.moved-limit.ensures.value, c.queue-waiting.ensures.value, c.clamp-round_trip.ensures, c.get.ensures.number)
-    (other-follows _ xs (sample_of c.args.rtt c.args.inflight c.args.dropped)
-    (subst (λ e. StandsFor e xs) (sym c.self.view_is) s) c.if-self-count.false c.if-self-eq0.false
-    (subst (λ r. c.self.inside.state.noload ≤ r) c.clamp-round_trip.ensures c.if-round_trip-self.false))
+pub returns-in-Some-clause-explains : goal.returns-in-Some-clause-explains
+returns-in-Some-clause-explains c = λ xs s.
+    full-explains c.self.inside.last c.push_back.new.self _ c.in-Some.oldest c.self.invariant (c.push_back.ensures.items, c.in-Some.ensures.value)
+    c.state_after-self-inside-in-Some.ensures.follows xs (subst (λ e. Explains e xs) (sym c.self.view_is) s)
+
+pub returns-in_default-clause-explains : goal.returns-in_default-clause-explains
+returns-in_default-clause-explains c = λ xs s.
+    room-explains c.self.inside.last c.push_back.new.self _ c.self.invariant (c.push_back.ensures.items, c.in_default.ensures.value)
+    xs (subst (λ e. Explains e xs) (sym c.self.view_is) s)
