@@ -40,7 +40,7 @@ use Rattle.desk.specs.Ties.{AreLimiters, AreMarked, AreQueued, AreSampled, AreTi
 use Rattle.desk.specs.declared.spent.Spent.{Spent}
 use Rattle.desk.specs.World.{World}
 use Rattle.desk.specs.Claims.{has_row, spent_by, with_attempt_over}
-use Rattle.desk.specs.Desks.{DeskValue, HasOutcome, IsDesk, OverWorlds, Spends, StandsFor, TakesOutcome, attempt_in}
+use Rattle.desk.specs.Desks.{DeskValue, HasOutcome, IsDesk, OverWorlds, Spends, StandsFor, TakesOutcome, attempt_in, is_exhausted_in}
 use Rattle.desk.proofs.DeskLaws.{one_changes, one_more, one_waits}
 use Rattle.desk.proofs.WaitLaws.{names_tried}
 use Rattle.desk.proofs.EndpointTies.{flag_known, flag_limiters, flag_room}
@@ -403,22 +403,22 @@ foreign_spends {E} {view} {d} same row post now (Err e) rows wrong back none =
 abbrev pub IsSpent : DeskValue → (permit : Row) → (post : PostResult) → (now : ℕ) → Spent → DeskValue → Type 0
 IsSpent d permit post now spent m = OverWorlds d (λ w. (has_row w permit ≡ true) × (spent ≡ spent_by w permit post now) × StandsFor m (with_attempt_over w permit post now))
 
-pub spends : (view d : DeskValue) → view ≡ d → (m : DeskValue) (queue told : QueueValue) (row permit : Row) (rest : List Row) (post : PostResult) (now at : ℕ) (spend : Spend) (staged : Option ℕ) (limit in_flight : ℕ)
+pub spends : (view d : DeskValue) → view ≡ d → (m : DeskValue) (queue told : QueueValue) (row permit : Row) (rest : List Row) (post : PostResult) (now at : ℕ) (spend : Spend) (staged : Option ℕ) (limit in_flight : ℕ) (exhausted : Bool)
     → IsDesk view.endpoints view.deliveries view.waiting view.live view.limiters queue → IsReturned row view.live rest → row ≡ permit → IsOver view m row rest post at staged
     → IsDesk m.endpoints m.deliveries m.waiting m.live m.limiters told → at ≡ max now view.clock → is_moment at ≡ true → ((s : ℕ) → recorded_status post ≡ Some s → is_status s ≡ true)
-    → spend ≡ spend_of post → limit ≡ limit_by m.limiters row.endpoint → in_flight ≡ in_flight_of row.endpoint m.live
-    → IsSpent d permit post now (record { spend = spend; staged = staged; limit = limit; in_flight = in_flight }) m
-spends view d same m queue told row permit rest post now at spend staged limit in_flight h r own over after later moment_is legal_status judged limits flies =
+    → spend ≡ spend_of post → limit ≡ limit_by m.limiters row.endpoint → in_flight ≡ in_flight_of row.endpoint m.live → exhausted ≡ is_exhausted_in m.deliveries row.delivery
+    → IsSpent d permit post now (record { spend = spend; staged = staged; limit = limit; in_flight = in_flight; exhausted = exhausted }) m
+spends view d same m queue told row permit rest post now at spend staged limit in_flight exhausted h r own over after later moment_is legal_status judged limits flies ends =
     subst (λ (v : DeskValue). IsSpent v permit post now spent m) same
     (subst (λ (p : Row). IsSpent view p post now spent m) own (λ w s.
     let stands = stands w s in (
       ap (list_any (same_row row)) (sym s.live) ∙ r.there,
-      tells_spent view m w row post now spend staged limit in_flight s stands after.tied.limited known judged over.numbered limits flies,
+      tells_spent view m w row post now spend staged limit in_flight exhausted s stands after.tied.limited known judged over.numbered limits flies ends,
       stands,
     )))
   where
     spent : Spent
-    spent = record { spend = spend; staged = staged; limit = limit; in_flight = in_flight }
+    spent = record { spend = spend; staged = staged; limit = limit; in_flight = in_flight; exhausted = exhausted }
 
     live : IsLive view row rest
     live = is_live view queue row rest h.tied r

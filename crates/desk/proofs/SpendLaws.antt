@@ -9,7 +9,8 @@ use Rattle.relay_types.specs.declared.record.Record.{Record}
 use Rattle.relay_types.specs.declared.record.Record.TheVariants.{Outcome}
 use Rattle.relay_types.specs.Values.{is_moment}
 use Rattle.relay_types.specs.Records.{Accepted}
-use Rattle.relay_types.specs.Deliveries.{accepted, attempts_of, is_pending}
+use Rattle.relay_types.specs.declared.state.State.TheVariants.{Exhausted}
+use Rattle.relay_types.specs.Deliveries.{accepted, attempts_of, is_in_state, is_pending}
 use Rattle.relay_types.specs.Endpoints.{is_delivery_of}
 use Rattle.relay_types.specs.Judging.{is_gone_status}
 use Rattle.relay_types.specs.Legal.{IsLegal, is_status}
@@ -18,9 +19,11 @@ use Rattle.endpoint_book.specs.Entries as endpoint_entries
 use Rattle.endpoint_book.specs.Book as endpoint_book
 use Rattle.endpoint_book.proofs.Laws.{stands-other}
 use Rattle.endpoint_book.proofs.Staged.{stands-gone}
-use Rattle.delivery_book.specs.Book.{entry_for}
+use Rattle.delivery_book.specs.Book.{entry_for, row_of}
+use Rattle.delivery_book.specs.declared.row.Row.{Row as BookRow}
 use Rattle.delivery_book.specs.declared.entry.Entry.{Entry}
 use Rattle.delivery_book.proofs.Laws.{free_means, stands_outcome}
+use Rattle.delivery_book.proofs.Tellings.{stands_row}
 use Rattle.group_commit.specs.Waits.{WaitingValue, record_count, with_step}
 use Rattle.permits.specs.declared.row.Row.{Row}
 use Rattle.permits.specs.Rows.{in_flight_of}
@@ -31,9 +34,9 @@ use Rattle.retry_table.specs.Judging.{measure_of, recorded_status, spend_of}
 use Rattle.desk.specs.declared.limiter.Limiter.{Limiter}
 use Rattle.desk.specs.World.{World, Measured, all_records, settled_records}
 use Rattle.desk.specs.Moves.{moment, next_seq}
-use Rattle.desk.specs.Claims.{limit_in, next_attempt, sample_by, sampled, samples_of, spent_by, with_attempt_over, without_row}
+use Rattle.desk.specs.Claims.{is_exhausted, limit_in, next_attempt, sample_by, sampled, samples_of, spent_by, with_attempt_over, without_row}
 use Rattle.desk.specs.Ties.{AreLimiters, AreSampled, StandsAt, limit_by, samples_at}
-use Rattle.desk.specs.Desks.{AreLimits, DeskValue, StandsFor, attempt_in, with_gone}
+use Rattle.desk.specs.Desks.{AreLimits, DeskValue, StandsFor, attempt_in, is_exhausted_in, with_gone}
 use Rattle.desk.proofs.ChoiceLaws.{entry_is, limit_is}
 use Rattle.desk.proofs.DeskLaws.{count_is, known_is, legal_with, stands_staged}
 use Rattle.desk.proofs.RowLaws.{others}
@@ -214,16 +217,28 @@ stands_spent d w row post now limiters h told u known room legal_status moment_i
         (subst (λ t. StandsFor (over d row (recorded_status post) (max now d.clock) (max now d.clock) limiters) (went w row post t (recorded_status post))) (ap (max now) h.clock)
         (stands_went d w row post (max now d.clock) (recorded_status post) limiters h sampled u known room legal_status moment_is))
 
+-- whether a delivery is given up, in each world
+exhausted_is : {d : DeskValue} {w : World} (delivery : ℕ) → StandsFor d w → is_exhausted_in d.deliveries delivery ≡ is_exhausted w delivery
+exhausted_is {d} {w} delivery h =
+    ap (λ o. option_map_or (λ (r : BookRow). is_in_state Exhausted r.state) o false) (stands_row d.deliveries (all_records w) (length (settled_records w)) delivery h.books.of_deliveries)
+    ∙ by (accepted (all_records w) delivery) refl
+  where
+    by : (o : Option Accepted) → accepted (all_records w) delivery ≡ o
+        → option_map_or (λ (r : BookRow). is_in_state Exhausted r.state) (row_of (all_records w) delivery) false ≡ is_exhausted w delivery
+    by None e = rw e
+    by (Some a) e = rw e
+
 -- what a spend tells
-pub tells_spent : (d new : DeskValue) (w : World) (row : Row) (post : PostResult) (now : ℕ) (spend : Spend) (staged : Option ℕ) (limit in_flight : ℕ) → StandsFor d w → StandsFor new (with_attempt_over w row post now)
+pub tells_spent : (d new : DeskValue) (w : World) (row : Row) (post : PostResult) (now : ℕ) (spend : Spend) (staged : Option ℕ) (limit in_flight : ℕ) (exhausted : Bool) → StandsFor d w → StandsFor new (with_attempt_over w row post now)
     → AreLimiters new.limiters new.endpoints → IsTrue (endpoint_entries.is_known new.endpoints row.endpoint)
-    → spend ≡ spend_of post → staged ≡ option_map (λ _. record_count d.waiting) (status_of d.halted post) → limit ≡ limit_by new.limiters row.endpoint → in_flight ≡ in_flight_of row.endpoint new.live
-    → record { spend = spend; staged = staged; limit = limit; in_flight = in_flight } ≡ spent_by w row post now
-tells_spent d new w row post now spend staged limit in_flight h after limited known spends stages limits flies =
+    → spend ≡ spend_of post → staged ≡ option_map (λ _. record_count d.waiting) (status_of d.halted post) → limit ≡ limit_by new.limiters row.endpoint → in_flight ≡ in_flight_of row.endpoint new.live → exhausted ≡ is_exhausted_in new.deliveries row.delivery
+    → record { spend = spend; staged = staged; limit = limit; in_flight = in_flight; exhausted = exhausted } ≡ spent_by w row post now
+tells_spent d new w row post now spend staged limit in_flight exhausted h after limited known spends stages limits flies ends =
     let limit_told : limit ≡ limit_in (with_attempt_over w row post now) row.endpoint = limits ∙ limit_is row.endpoint after limited (sym (known_is row.endpoint after) ∙ known) in
     let flying : in_flight ≡ in_flight_of row.endpoint (with_attempt_over w row post now).live = flies ∙ ap (in_flight_of row.endpoint) after.live in
     let numbered : staged ≡ (if w.halted then None else option_map (λ _. next_seq w) (recorded_status post)) = stages ∙ (λ i. option_map (λ _. count_is h i) (status_of (h.halted i) post)) ∙ turned w.halted in
-    λ i. record { spend = spends i; staged = numbered i; limit = limit_told i; in_flight = flying i }
+    let ended : exhausted ≡ is_exhausted (with_attempt_over w row post now) row.delivery = ends ∙ exhausted_is row.delivery after in
+    λ i. record { spend = spends i; staged = numbered i; limit = limit_told i; in_flight = flying i; exhausted = ended i }
   where
     turned : (b : Bool) → option_map (λ _. next_seq w) (status_of b post) ≡ (if b then None else option_map (λ _. next_seq w) (recorded_status post))
     turned true = refl

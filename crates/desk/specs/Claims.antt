@@ -1,11 +1,12 @@
 -- Which delivery is next, what a claim answers, and what the end of an attempt leaves.
-use Rattle.std.specs.Prelude.{ℕ, ◌+◌, Bool, false, ◌&&◌, ◌==◌, not, nat_le, nat_lt, List, [], ◌∷◌, ◌++◌, length, map, filter, drop, Option, Some, None, option_map, bytes_eq, if◌then◌else◌}
+use Rattle.std.specs.Prelude.{ℕ, ◌+◌, Bool, false, ◌&&◌, ◌==◌, not, nat_le, nat_lt, List, [], ◌∷◌, ◌++◌, length, map, filter, drop, Option, Some, None, option_map, is_some, bytes_eq, if◌then◌else◌}
 use Rattle.std.specs.List.{list_any}
 use Rattle.std.specs.Option.{option_map_or}
 use Rattle.relay_types.specs.declared.record.Record.TheVariants.{Outcome}
+use Rattle.relay_types.specs.declared.state.State.TheVariants.{Exhausted}
 use Rattle.relay_types.specs.Values.{Text, Seq, Seconds}
 use Rattle.relay_types.specs.Records.{History, Accepted}
-use Rattle.relay_types.specs.Deliveries.{accepted, deliveries, attempts_of, is_pending, due_of}
+use Rattle.relay_types.specs.Deliveries.{accepted, deliveries, attempts_of, state_of, is_in_state, is_pending, due_of}
 use Rattle.relay_types.specs.Endpoints.{endpoint_of, has_endpoint, is_enabled, secrets_of}
 use Rattle.vegas.specs.declared.sample.Sample.{Sample}
 use Rattle.vegas.specs.Vegas.{limit_of, noload_of}
@@ -194,13 +195,19 @@ with_attempt_over w row post now =
 abbrev pub staged_by : (w : World) (post : PostResult) → Option Seq
 staged_by w post = if w.halted then None else option_map (λ status. next_seq w) (recorded_status post)
 
--- what a spend tells: what the permit is spent as, the outcome's number, and the endpoint's limit and attempts after it
+-- whether the delivery is given up, by all records
+abbrev pub is_exhausted : (w : World) (delivery : Seq) → Bool
+is_exhausted w d = is_some (accepted (all_records w) d) && is_in_state Exhausted (state_of (all_records w) d)
+
+-- what a spend tells: what the permit is spent as, the outcome's number, and, after it, the endpoint's limit and attempts and whether
+-- the event is given up
 abbrev pub spent_in : (w after : World) (row : Row) (post : PostResult) → Spent
 spent_in w after row post = record {
   spend = spend_of post;
   staged = staged_by w post;
   limit = limit_in after row.endpoint;
   in_flight = live_of after row.endpoint;
+  exhausted = is_exhausted after row.delivery;
 }
 
 abbrev pub spent_by : (w : World) (row : Row) (post : PostResult) (now : Seconds) → Spent

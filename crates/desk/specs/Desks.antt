@@ -3,10 +3,11 @@ use Rattle.std.specs.Prelude.{◌≡◌, ℕ, ◌+◌, ◌-◌, ◌≤◌, ◌<�
 use Rattle.std.specs.Option.{option_map_or}
 use Rattle.relay_types.specs.declared.limits.TheConstants.{MAX_RECORDS}
 use Rattle.relay_types.specs.declared.record.Record.{Record}
+use Rattle.relay_types.specs.declared.state.State.TheVariants.{Exhausted}
 use Rattle.relay_types.specs.declared.record.Record.TheVariants.{Put, Secrets, Enabled, Accept, Outcome}
 use Rattle.relay_types.specs.Values.{Text, Seq, Seconds}
 use Rattle.relay_types.specs.Records.{History, Accepted, records_of}
-use Rattle.relay_types.specs.Deliveries.{accepted}
+use Rattle.relay_types.specs.Deliveries.{accepted, is_in_state}
 use Rattle.relay_types.specs.Endpoints.{secrets_of}
 use Rattle.relay_types.specs.Judging.{is_gone_status}
 use Rattle.relay_types.specs.Legal.{IsLegal}
@@ -211,6 +212,10 @@ IsPostOf w at d post = (a : Accepted) × (accepted (all_records w) d ≡ Some a)
 -- the number of the delivery's next attempt, by the book
 abbrev pub attempt_in : delivery_entries.BookValue → (delivery : Seq) → ℕ
 attempt_in book d = option_map_or (λ e. e.latest.attempts) (delivery_entries.entry_at book.entries d) 0 + 1
+
+-- whether the delivery is given up, by the book
+abbrev pub is_exhausted_in : delivery_entries.BookValue → (delivery : Seq) → Bool
+is_exhausted_in book d = option_map_or (λ r. is_in_state Exhausted r.state) (delivery_entries.latest_row book d) false
 
 -- the book once the outcome with this number has this status: a gone endpoint is disabled
 abbrev pub with_gone : endpoint_entries.BookValue → (seq : Seq) (name : Text) (status : ℕ) → endpoint_entries.BookValue

@@ -6,7 +6,7 @@ ghost use Rattle.relay_types.specs.Legal.{is_status};
 ghost use Rattle.permits.specs.Rows.{next_row, same_row};
 ghost use Rattle.retry_table.specs.Judging.{spend_of};
 ghost use Rattle.desk.specs.Claims.{choice, claim};
-ghost use Rattle.desk.specs.Desks.{HasOutcome, IsMove, IsPostOf, OverWorlds, Spends, Starts, TakesOutcome, attempt_in, may_start, may_start_at, with_job, with_live};
+ghost use Rattle.desk.specs.Desks.{HasOutcome, IsMove, IsPostOf, OverWorlds, Spends, Starts, TakesOutcome, attempt_in, is_exhausted_in, may_start, may_start_at, with_job, with_live};
 
 use crate::desk::Desk;
 use crate::holding::{hold, let_go, tell_room};
@@ -18,7 +18,7 @@ use delivery_book::DeliveryBook;
 use endpoint_book::EndpointBook;
 use group_commit::Waiting;
 use permits::{Foreign, Permit, Row};
-use relay_types::{Moment, Name, Record, Step};
+use relay_types::{Moment, Name, Record, State, Step};
 use retry_table::{PostResult, Verdict, judge, verdict_of};
 use std::alloc::AllocError;
 use std::sync::ledger::Ledger;
@@ -135,6 +135,7 @@ impl<L: Ledger> Desk<L> {
     ) -> Result<Spent, (Permit<L>, Foreign)>
         ensures moves { Spends self.old permit post now result self.new }
         ensures judged { IfOk result (λ spent. spent.spend ≡ spend_of post) }
+        ensures exhausted { IfOk result (λ spent. spent.exhausted ≡ is_exhausted_in self.new.deliveries permit.delivery) }
         ensures back { IfErr result (λ back. back.0 ≡ permit) }
         ensures foreign { IsErr result ↔ (position (same_row permit) self.old.live ≡ None) }
         ensures live { (place : ℕ) → position (same_row permit) self.old.live ≡ Some place
@@ -174,6 +175,7 @@ impl<L: Ledger> Desk<L> {
             staged,
             limit,
             in_flight: self.pool.in_flight(row.endpoint),
+            exhausted: is_exhausted(&self.deliveries, row.delivery),
         })
     }
 }
@@ -238,5 +240,15 @@ fn next_attempt(deliveries: &DeliveryBook, delivery: u64) -> u64
     match deliveries.row(delivery) {
         Some(row) => row.attempts + 1,
         None => 1,
+    }
+}
+
+// Whether the delivery is given up.
+fn is_exhausted(deliveries: &DeliveryBook, delivery: u64) -> bool
+    ensures { result ≡ is_exhausted_in deliveries.now delivery }
+{
+    match deliveries.row(delivery) {
+        Some(row) => matches!(row.state, State::Exhausted),
+        None => false,
     }
 }

@@ -11,6 +11,8 @@ pub struct Spent {
     pub limit: u32,
     /// How many are.
     pub in_flight: u32,
+    /// Whether the event is given up, by all records: ten of its attempts failed.
+    pub exhausted: bool,
 }
 
 /// How many attempts of an endpoint may be under way, and how many are.

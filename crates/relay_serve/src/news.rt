@@ -22,7 +22,7 @@ pub(crate) enum News<'a> {
         endpoint: Name,
         request: &'a Outgoing,
     },
-    /// This was the last attempt at its event, and it failed.
+    /// This was the tenth attempt at its event that failed: it is given up.
     Exhausted {
         endpoint: Name,
         request: &'a Outgoing,
@@ -61,7 +61,7 @@ impl fmt::Display for News<'_> {
                 let (name, id) = (text_of(endpoint.as_bytes()), id_of(request));
                 write!(
                     f,
-                    "exhausted: event {id} of endpoint {name}, after {MAX_FAILURES} attempts"
+                    "exhausted: event {id} of endpoint {name}, after {MAX_FAILURES} failures"
                 )
             }
             News::Halted(cause) => write!(f, "halted: {}", cause_text(*cause)),

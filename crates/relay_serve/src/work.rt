@@ -4,7 +4,6 @@ use crate::relay::Relay;
 use delivery::{Pass, Round, worker_round};
 use hyper_poster::HyperPoster;
 use relay_host::HostClock;
-use relay_types::MAX_FAILURES;
 use retry_table::{PostResult, Verdict, judge, verdict_of};
 use std::alloc::AllocGlobal;
 use std::io::Eprint;
@@ -40,40 +39,31 @@ where
     unreachable!()
 }
 
-// Tells of a post that disabled its endpoint, and of one that was its event's last.
+// Tells of a post that disabled its endpoint, and of one behind which its event is given up.
 fn tell_of<R: Clock + AllocGlobal + Eprint>(rt: &R, round: &Round) {
     let Round::Posted {
         endpoint,
-        attempt,
         request,
         result: answer,
+        spent,
         ..
     } = round
     else {
         return;
     };
-    let (_spend, Some(status)) = judge(answer) else {
-        return;
-    };
-    let verdict = verdict_of(status);
-    if verdict == Verdict::Gone {
-        tell(
-            rt,
-            rt.alloc(),
-            &News::Disabled {
-                endpoint: *endpoint,
-                request,
-            },
-        );
+    let endpoint = *endpoint;
+    if is_gone(answer) {
+        tell(rt, rt.alloc(), &News::Disabled { endpoint, request });
     }
-    if verdict != Verdict::Delivered && *attempt >= MAX_FAILURES {
-        tell(
-            rt,
-            rt.alloc(),
-            &News::Exhausted {
-                endpoint: *endpoint,
-                request,
-            },
-        );
+    if spent.exhausted {
+        tell(rt, rt.alloc(), &News::Exhausted { endpoint, request });
+    }
+}
+
+// Whether the subscriber wants no more posts.
+fn is_gone(answer: &PostResult) -> bool {
+    match judge(answer) {
+        (_, Some(status)) => verdict_of(status) == Verdict::Gone,
+        (_, None) => false,
     }
 }

@@ -91,11 +91,12 @@ fn a_failure_is_due_five_seconds_later(rt: HostRuntime) -> Result<(), Fail> {
 const EXHAUSTED: Event = Event {
     state: State::Exhausted,
     due: None,
-    attempts: 10,
+    attempts: 11,
     last_status: Some(500),
 };
 
-const TEN_FAILURES_EXHAUST_AN_EVENT: [Step; 44] = [
+// An attempt that was answered 410 is none of the ten failures.
+const TEN_FAILURES_EXHAUST_AN_EVENT: [Step; 48] = [
     PUT,
     SUBMIT,
     Step::Turn(2),
@@ -136,8 +137,12 @@ const TEN_FAILURES_EXHAUST_AN_EVENT: [Step; 44] = [
     Step::Turn(11),
     Step::Look(273_104, Given::Nothing),
     Step::Claim(273_105, Given::Job(1, 10, 273_105, 1)),
-    Step::Spend(0, Answered(500), 273_105, Spend::Success, Some(11), 20, 0),
-    Step::Turn(12),
+    Step::Spend(0, Answered(410), 273_105, Spend::Success, Some(11), 20, 0),
+    Step::Enable(b"a", true, Answer::Record(12)),
+    Step::Turn(13),
+    Step::Claim(273_106, Given::Job(1, 11, 273_106, 1)),
+    Step::Exhaust(0, Answered(500), 273_106, 13, 20),
+    Step::Turn(14),
     Step::EventPage(b"a", b"msg_1", Some(EXHAUSTED)),
     Step::Look(1_000_000, Given::Nothing),
 ];

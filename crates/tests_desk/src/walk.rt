@@ -11,6 +11,7 @@ use crate::{calls, looks};
 use desk::{Desk, Job, Spent};
 use permits::{PARTS, Pool};
 use relay_types::Moment;
+use retry_table::Spend;
 use spool::{Books, Vault};
 use sqlite::MemStore;
 use std::alloc::Global;
@@ -156,6 +157,17 @@ fn post<L: Ledger>(
                 staged,
                 limit,
                 in_flight,
+                exhausted: false,
+            };
+            calls::spend(rt, desk, jobs, place, went, now, wanted)
+        }
+        Step::Exhaust(place, went, now, staged, limit) => {
+            let wanted = Spent {
+                spend: Spend::Success,
+                staged: Some(staged),
+                limit,
+                in_flight: 0,
+                exhausted: true,
             };
             calls::spend(rt, desk, jobs, place, went, now, wanted)
         }

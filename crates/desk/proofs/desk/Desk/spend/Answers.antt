@@ -113,8 +113,8 @@ returns-clause-moves g c =
     let moment_is : IsTrue (is_moment c.moment-at.result) = search (rules, c.moment-at.type_inv) in
     let at = goal.at.returns-clause-moves g c in
     spends (old g at.In_ok-row) c.args.self.now c.self.view_is (new g at.After-limit_of-limit) c.self.inside.queue c.tell_room.new.queue c.in_ok-row.row c.args.permit c.give_back.new.self c.args.post c.args.now c.moment-at.result
-    c.judge-spend.result.0 c.if-self.staged c.limit_of-limit.result c.in_flight.result
+    c.judge-spend.result.0 c.if-self.staged c.limit_of-limit.result c.in_flight.result c.is_exhausted.result
     c.self.invariant (back g at.In_ok-row) c.in_ok-row.ensures.returned (over g at.After-limit_of-limit) (after g at.After-tell_room)
     (c.moment-at.ensures ∙ ap (λ (v : DeskValue). max c.args.now v.clock) (sym c.self.view_is)) moment_is
     (λ s e. subst (λ (o : Option ℕ). IfSome o (λ x. IsTrue (is_status x))) (c.judge-spend.ensures.status ∙ e) c.judge-spend.ensures.legal)
-    c.judge-spend.ensures.spend (c.limit_of-limit.ensures ∙ ap (λ (ls : List Limiter). limit_by ls c.in_ok-row.row.endpoint) c.deref.ensures.value) c.in_flight.ensures.count
+    c.judge-spend.ensures.spend (c.limit_of-limit.ensures ∙ ap (λ (ls : List Limiter). limit_by ls c.in_ok-row.row.endpoint) c.deref.ensures.value) c.in_flight.ensures.count c.is_exhausted.ensures
