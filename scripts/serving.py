@@ -1,15 +1,50 @@
-"""A relay that serves, those who submit to it and those who listen for its posts: what check-serve, kill-serve and demo share."""
+"""A relay that serves, those who submit to it and those who listen for its posts: what check-serve, kill-serve, demo and others share. A script that
+imports this ends what it started, also where it is ended by SIGTERM."""
+import atexit
 import base64
 import hashlib
 import hmac
 import json
+import os
+import shutil
 import signal
 import socket
 import subprocess
+import sys
 import threading
 import time
 
 SECRET = "whsec_MDEyMzQ1Njc4OTAxMjM0NTY3ODkwMTIz"
+STARTED = []
+
+
+def end_all():
+    """Ends what still runs. SIGTERM comes first, by which nginx ends its workers too."""
+    still = [process for process in STARTED if process.poll() is None]
+    for process in still:
+        process.terminate()
+    for process in still:
+        try:
+            process.wait(5)
+        except subprocess.TimeoutExpired:
+            process.kill()
+
+
+atexit.register(end_all)
+signal.signal(signal.SIGTERM, lambda *_: sys.exit(143))
+
+
+def program_of(doc):
+    """The program that is named first; where none is, the script ends and tells its usage."""
+    if len(sys.argv) < 2 or not os.access(sys.argv[1], os.X_OK) or os.path.isdir(sys.argv[1]):
+        sys.exit(" ".join(doc.rpartition("Usage: ")[2].split()))
+    return os.path.abspath(sys.argv[1])
+
+
+def needs(program, package):
+    """Ends the script where this machine lacks a program, and names Debian's package of it."""
+    if not shutil.which(program):
+        sys.exit(f"{os.path.basename(sys.argv[0])}: there is no {program} (apt-get install {package})")
 
 
 class Relay:
@@ -18,6 +53,7 @@ class Relay:
     def __init__(self, relayd, file, *options, address="127.0.0.1:0"):
         words = [relayd, "serve", file, address, *map(str, options)]
         self.process = subprocess.Popen(words, stdout=subprocess.PIPE, stderr=subprocess.PIPE, text=True)
+        STARTED.append(self.process)
         self.told = []
         self.teller = threading.Thread(target=self.listen, daemon=True)
         self.teller.start()
