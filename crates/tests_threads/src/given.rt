@@ -17,7 +17,7 @@ pub(crate) fn holds(rt: &impl Abort, is: bool, what: &str) {
     assert!(rt; is, "{what}");
 }
 
-fn name() -> Result<Name, Fail> {
+pub(crate) fn name() -> Result<Name, Fail> {
     Ok(Name::read(b"a")?)
 }
 
@@ -43,17 +43,17 @@ pub(crate) fn second(alloc: Global) -> Result<Event, Fail> {
     })
 }
 
-/// The command that puts the endpoint.
-fn put(alloc: Global) -> Result<Command, Fail> {
+/// The command that puts the endpoint of this name.
+pub(crate) fn put(alloc: Global, name: &[u8]) -> Result<Command, Fail> {
     Ok(Command::PutEndpoint {
-        name: name()?,
+        name: Name::read(name)?,
         target: Target::read(alloc, b"http://127.0.0.1:9000/hook")?,
         max: MaxLimit::of(100)?,
         secrets: Secrets::of(&[Secret::read(b"whsec_MDEyMzQ1Njc4OTAxMjM0NTY3ODkwMTIz")?])?,
     })
 }
 
-fn body(alloc: Global) -> Result<Body, Fail> {
+pub(crate) fn body(alloc: Global) -> Result<Body, Fail> {
     let bytes = Vec::from_slice(alloc, b"{}")?;
     Ok(Body::of(Arc::new(alloc, bytes).map_err(AllocError::from)?)?)
 }
@@ -85,7 +85,7 @@ fn written<S: Alter>(vault: &mut Vault<S>, batch: Batch) -> Option<Receipt> {
 }
 
 /// Seals what waits, commits it and settles it, if the store takes it.
-fn turn<L: Ledger, S: Alter>(
+pub(crate) fn turn<L: Ledger, S: Alter>(
     rt: &impl Abort,
     desk: &mut Desk<L>,
     vault: &mut Vault<S>,
@@ -104,7 +104,7 @@ fn turn<L: Ledger, S: Alter>(
 
 /// Puts the endpoint, which waits.
 pub(crate) fn put_endpoint<L: Ledger>(desk: &mut Desk<L>, alloc: Global) -> Result<(), Fail> {
-    match desk.command(put(alloc)?) {
+    match desk.command(put(alloc, b"a")?) {
         Ok(_) => Ok(()),
         Err(_) => Err(Fail::from("the endpoint was refused")),
     }

@@ -82,3 +82,53 @@ impl<K: Keeper + Drop, L: Ledger, R: Wait + Clock> Keeper for Held<'_, K, L, R> 
         self.keeper.is_closed()
     }
 }
+
+/// Refuses each batch for want of memory.
+#[derive(Drop)]
+pub(crate) struct Refusing;
+
+impl Keeper for Refusing {
+    ghost use Rattle.std.specs.Prelude.{false};
+
+    ghost is_clean = { λ _. ⊥ };
+
+    ghost holds = { λ _ _. ⊥ };
+
+    ghost in_doubt = { λ _ _ _. ⊥ };
+
+    ghost closed = { λ _. false };
+
+    fn commit(&mut self, batch: Batch) -> Result<Receipt, CommitEnd> {
+        Err(CommitEnd::Unchanged(batch, Unchanged::OutOfMemory))
+    }
+
+    fn is_closed(&self) -> bool {
+        false
+    }
+}
+
+/// Counts the commits.
+#[derive(Drop)]
+pub(crate) struct Counting<K: Keeper + Drop> {
+    pub(crate) keeper: K,
+    pub(crate) commits: u64,
+}
+
+impl<K: Keeper + Drop> Keeper for Counting<K> {
+    ghost is_clean = { λ k. K.is_clean k.keeper };
+
+    ghost holds = { λ k records. K.holds k.keeper records };
+
+    ghost in_doubt = { λ k records more. K.in_doubt k.keeper records more };
+
+    ghost closed = { λ k. K.closed k.keeper };
+
+    fn commit(&mut self, batch: Batch) -> Result<Receipt, CommitEnd> {
+        self.commits = self.commits.saturating_add(1);
+        self.keeper.commit(batch)
+    }
+
+    fn is_closed(&self) -> bool {
+        self.keeper.is_closed()
+    }
+}

@@ -1,10 +1,13 @@
 //! Subscribers and clocks that stand in.
 ghost use Rattle.std.specs.Prelude.{◌≡◌, ⊤};
 
-use delivery::{Clock, Outgoing, Poster};
+use crate::keepers::Refusing;
+use delivery::{Clock, Outgoing, Poster, Shared, committer_run};
 use relay_types::Moment;
 use retry_table::{PostResult, Status};
+use std::sync::Wait;
 use std::sync::atomic::{AtomicU64, Ordering};
+use std::sync::ledger::Ledger;
 use std::thread;
 use std::time::{Clock as SystemClock, Duration};
 
@@ -71,5 +74,27 @@ impl<R: SystemClock> Poster for Meeting<'_, R> {
         } else {
             PostResult::Unreached
         }
+    }
+}
+
+/// Waits for a while, in which a thread that has begun a wait falls asleep.
+pub(crate) fn pause<R: SystemClock>(rt: &R) {
+    thread::sleep(rt, Duration::from_millis(50));
+}
+
+/// Meanwhile the desk is halted, if it has a step that waits, or the end comes. Then the subscriber answers 200.
+#[derive(Drop)]
+pub(crate) struct Ending<'a, L: Ledger, R> {
+    pub(crate) rt: &'a R,
+    pub(crate) shared: &'a Shared<L>,
+}
+
+impl<L: Ledger, R: Wait> Poster for Ending<'_, L, R> {
+    ghost may_answer = { λ _ _ _. ⊤ };
+
+    fn post(&self, _: &Outgoing) -> PostResult {
+        self.shared.finish(self.rt);
+        let (_, _) = committer_run(self.rt, self.shared, Refusing);
+        answered(200)
     }
 }
