@@ -50,7 +50,7 @@ const ACCEPT_SECOND: Step = Step::Accept(3, b"b", b"msg_1", b"[]", 1001);
 
 const ACCEPT_THIRD: Step = Step::Accept(5, b"a", b"msg_2", b"", 1002);
 
-const EVENTS_ARE_KNOWN: [Step; 9] = [
+static EVENTS_ARE_KNOWN: [Step; 9] = [
     ACCEPT_FIRST,
     ACCEPT_SECOND,
     ACCEPT_THIRD,
@@ -67,7 +67,7 @@ fn events_are_known_by_endpoint_and_id(rt: HostRuntime) {
     walk(&rt, rt.alloc(), &EVENTS_ARE_KNOWN);
 }
 
-const ROWS_AND_BODIES: [Step; 16] = [
+static ROWS_AND_BODIES: [Step; 16] = [
     ACCEPT_FIRST,
     ACCEPT_SECOND,
     ACCEPT_THIRD,
@@ -91,7 +91,7 @@ fn rows_and_bodies_are_those_of_the_events(rt: HostRuntime) {
     walk(&rt, rt.alloc(), &ROWS_AND_BODIES);
 }
 
-const RECORDS_SETTLE_IN_TWO_STEPS: [Step; 43] = [
+static RECORDS_SETTLE_IN_TWO_STEPS: [Step; 43] = [
     ACCEPT_FIRST,
     ACCEPT_SECOND,
     ACCEPT_THIRD,
@@ -142,7 +142,7 @@ fn records_settle_in_two_steps(rt: HostRuntime) {
     walk(&rt, rt.alloc(), &RECORDS_SETTLE_IN_TWO_STEPS);
 }
 
-const A_WAITING_EVENT: [Step; 12] = [
+static A_WAITING_EVENT: [Step; 12] = [
     ACCEPT_FIRST,
     ACCEPT_SECOND,
     ACCEPT_THIRD,
@@ -165,7 +165,7 @@ fn a_waiting_event_is_pending_and_not_settled(rt: HostRuntime) {
 // Whoever chooses the ids can't make the book slow: a search that went through the ids of the endpoint would take
 // minutes here.
 // (`rt try` does, since it tests what a call requires by the definitions: this test needs the proved build.)
-const IDS_THAT_ARE_ALIKE: [Step; 2] = [
+static IDS_THAT_ARE_ALIKE: [Step; 2] = [
     Step::AcceptAlike(b"a", 50_000),
     Step::FindAlike(b"a", 50_000),
 ];
@@ -179,7 +179,7 @@ fn ids_that_are_alike_are_found_fast(rt: HostRuntime) {
 const ACCEPT_ONE: Step = Step::Accept(1, b"a", b"msg_1", b"{}", 1000);
 
 // Record 4 enables the endpoint again, and the book is not told of it.
-const A_GONE_ATTEMPT: [Step; 19] = [
+static A_GONE_ATTEMPT: [Step; 19] = [
     ACCEPT_ONE,
     Step::Settle(2),
     Step::Outcome(2, 1, 500, 1001),
@@ -206,7 +206,7 @@ fn a_gone_attempt_adds_no_failure(rt: HostRuntime) {
     walk(&rt, rt.alloc(), &A_GONE_ATTEMPT);
 }
 
-const TEN_FAILURES: [Step; 34] = [
+static TEN_FAILURES: [Step; 34] = [
     ACCEPT_ONE,
     Step::Settle(2),
     Step::Outcome(2, 1, 503, 1000),
@@ -249,7 +249,7 @@ fn ten_failures_exhaust(rt: HostRuntime) {
 }
 
 // The attempts end 50,000 seconds after each other, and each is settled.
-const GONE_ATTEMPTS_BETWEEN: [Step; 33] = [
+static GONE_ATTEMPTS_BETWEEN: [Step; 33] = [
     ACCEPT_ONE,
     Step::Outcome(2, 1, 500, 1000),
     Step::Settle(3),
@@ -290,7 +290,7 @@ fn gone_attempts_between_ten_failures_add_none(rt: HostRuntime) {
     walk(&rt, rt.alloc(), &GONE_ATTEMPTS_BETWEEN);
 }
 
-const AN_OUTCOME_THAT_WAITS: [Step; 20] = [
+static AN_OUTCOME_THAT_WAITS: [Step; 20] = [
     ACCEPT_ONE,
     Step::Settle(2),
     Step::Outcome(2, 1, 204, 1001),

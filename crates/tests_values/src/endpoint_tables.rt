@@ -17,7 +17,7 @@ const SHORT_PUT: Put = Put {
     secrets: &[1],
 };
 
-const AN_EMPTY_BOOK_HAS_NO_ENDPOINT: [Step; 11] = [
+static AN_EMPTY_BOOK_HAS_NO_ENDPOINT: [Step; 11] = [
     Step::Len(0, 0),
     Step::Names(&[]),
     Step::Next(0),
@@ -36,7 +36,7 @@ fn an_empty_book_has_no_endpoint(rt: HostRuntime) {
     walk(&rt, rt.alloc(), &AN_EMPTY_BOOK_HAS_NO_ENDPOINT);
 }
 
-const A_PUT_WAITS_UNTIL_IT_IS_SETTLED: [Step; 11] = [
+static A_PUT_WAITS_UNTIL_IT_IS_SETTLED: [Step; 11] = [
     Step::Put(3, b"a", HOOK_PUT),
     Step::Next(4),
     Step::Contains(b"a", true),
@@ -55,7 +55,7 @@ fn a_put_waits_until_it_is_settled(rt: HostRuntime) {
     walk(&rt, rt.alloc(), &A_PUT_WAITS_UNTIL_IT_IS_SETTLED);
 }
 
-const AN_ENDPOINT_IS_TOLD_AS_IT_WAS_PUT: [Step; 5] = [
+static AN_ENDPOINT_IS_TOLD_AS_IT_WAS_PUT: [Step; 5] = [
     Step::Put(0, b"a", HOOK_PUT),
     Step::Settle(1),
     Step::HasMax(b"a", Some(100)),
@@ -68,7 +68,7 @@ fn an_endpoint_is_told_as_it_was_put(rt: HostRuntime) {
     walk(&rt, rt.alloc(), &AN_ENDPOINT_IS_TOLD_AS_IT_WAS_PUT);
 }
 
-const SECRETS_ARE_REPLACED: [Step; 11] = [
+static SECRETS_ARE_REPLACED: [Step; 11] = [
     Step::Put(0, b"a", SHORT_PUT),
     Step::Settle(1),
     Step::Give(1, b"a", &[2, 3]),
@@ -93,7 +93,7 @@ const RESTORED: Put = Put {
     secrets: &[2, 3],
 };
 
-const A_RESTORED_ENDPOINT_IS_SETTLED_AS_IT_WAS_LEFT: [Step; 7] = [
+static A_RESTORED_ENDPOINT_IS_SETTLED_AS_IT_WAS_LEFT: [Step; 7] = [
     Step::Restore(3, b"a", RESTORED, false),
     Step::Len(1, 1),
     Step::IsEnabled(b"a", false),
@@ -112,7 +112,7 @@ fn a_restored_endpoint_is_settled_as_it_was_left(rt: HostRuntime) {
     );
 }
 
-const THE_LAST_FLAG_DECIDES: [Step; 9] = [
+static THE_LAST_FLAG_DECIDES: [Step; 9] = [
     Step::Put(0, b"a", SHORT_PUT),
     Step::Enable(1, b"a", true),
     Step::Gone(2, b"a"),
@@ -129,7 +129,7 @@ fn the_last_flag_decides(rt: HostRuntime) {
     walk(&rt, rt.alloc(), &THE_LAST_FLAG_DECIDES);
 }
 
-const A_FLAG_IS_SHOWN_ONCE_IT_IS_SETTLED: [Step; 11] = [
+static A_FLAG_IS_SHOWN_ONCE_IT_IS_SETTLED: [Step; 11] = [
     Step::Put(0, b"a", SHORT_PUT),
     Step::Settle(1),
     Step::Gone(1, b"a"),
@@ -148,7 +148,7 @@ fn a_flag_is_shown_once_it_is_settled(rt: HostRuntime) {
     walk(&rt, rt.alloc(), &A_FLAG_IS_SHOWN_ONCE_IT_IS_SETTLED);
 }
 
-const AS_MANY_FLAGS_WAIT_AS_THERE_IS_ROOM_FOR: [Step; 15] = [
+static AS_MANY_FLAGS_WAIT_AS_THERE_IS_ROOM_FOR: [Step; 15] = [
     Step::Put(0, b"a", SHORT_PUT),
     Step::Flags(1, 1025, b"a"),
     Step::Free(0),
@@ -203,7 +203,7 @@ const PUT_C: Step = Step::Put(
     },
 );
 
-const ALL_RECORDS_ARE_TOLD: [Step; 22] = [
+static ALL_RECORDS_ARE_TOLD: [Step; 22] = [
     PUT_B,
     PUT_A,
     Step::Enable(2, b"a", false),
@@ -233,7 +233,7 @@ fn all_records_are_told(rt: HostRuntime) {
     walk(&rt, rt.alloc(), &ALL_RECORDS_ARE_TOLD);
 }
 
-const NAMES_STAND_IN_THE_ORDER_OF_THEIR_PUTS: [Step; 12] = [
+static NAMES_STAND_IN_THE_ORDER_OF_THEIR_PUTS: [Step; 12] = [
     PUT_B,
     PUT_A,
     Step::Enable(2, b"a", false),
@@ -253,7 +253,7 @@ fn names_stand_in_the_order_of_their_puts(rt: HostRuntime) {
     walk(&rt, rt.alloc(), &NAMES_STAND_IN_THE_ORDER_OF_THEIR_PUTS);
 }
 
-const EACH_SETTLED_RECORD_IS_SHOWN: [Step; 70] = [
+static EACH_SETTLED_RECORD_IS_SHOWN: [Step; 70] = [
     PUT_B,
     PUT_A,
     Step::Enable(2, b"a", false),

@@ -31,7 +31,7 @@ const OK: bool = false;
 
 const DROP: bool = true;
 
-const NEW: [Run; 5] = [
+static NEW: [Run; 5] = [
     Run(1, &[Step::Limit(1), Step::Noload(0)]),
     Run(19, &[Step::Limit(19), Step::Noload(0)]),
     Run(20, &[Step::Limit(20), Step::Noload(0)]),
@@ -39,7 +39,7 @@ const NEW: [Run; 5] = [
     Run(1000, &[Step::Limit(20), Step::Noload(0)]),
 ];
 
-const THE_LIMIT_FOLLOWS_THE_QUEUE: [Run; 1] = [Run(
+static THE_LIMIT_FOLLOWS_THE_QUEUE: [Run; 1] = [Run(
     1000,
     &[
         Step::Sample(100000, 1, OK, 20, 100000),
@@ -53,7 +53,7 @@ const THE_LIMIT_FOLLOWS_THE_QUEUE: [Run; 1] = [Run(
     ],
 )];
 
-const THE_STEP_GROWS_AT_A_HUNDRED: [Run; 1] = [Run(
+static THE_STEP_GROWS_AT_A_HUNDRED: [Run; 1] = [Run(
     1000,
     &[
         Step::Sample(100000, 1, OK, 20, 100000),
@@ -65,7 +65,7 @@ const THE_STEP_GROWS_AT_A_HUNDRED: [Run; 1] = [Run(
     ],
 )];
 
-const A_PROBE_TAKES_THE_ROUND_TRIP: [Run; 1] = [Run(
+static A_PROBE_TAKES_THE_ROUND_TRIP: [Run; 1] = [Run(
     1,
     &[
         Step::Sample(100000, 1, OK, 1, 100000),
@@ -76,7 +76,7 @@ const A_PROBE_TAKES_THE_ROUND_TRIP: [Run; 1] = [Run(
     ],
 )];
 
-const ROUND_TRIPS_ARE_BROUGHT_INTO_THEIR_RANGE: [Run; 4] = [
+static ROUND_TRIPS_ARE_BROUGHT_INTO_THEIR_RANGE: [Run; 4] = [
     Run(
         1000,
         &[
@@ -101,7 +101,7 @@ const ROUND_TRIPS_ARE_BROUGHT_INTO_THEIR_RANGE: [Run; 4] = [
 const START: Step = Step::Sample(100000, 1, OK, 20, 100000);
 
 // From a limit of 20 and a no-load time of 100000.
-const BORDERS: [Run; 10] = [
+static BORDERS: [Run; 10] = [
     // half of the limit in flight, or less
     Run(1000, &[START, Step::Sample(100000, 10, OK, 26, 100000)]),
     Run(1000, &[START, Step::Sample(100000, 9, OK, 20, 100000)]),
@@ -121,7 +121,7 @@ const GROW: Step = Step::Feed(100, 100000, 1000, OK);
 
 const FALL: Step = Step::Feed(1, 100000, 1, DROP);
 
-const A_DROP_AT_THE_MAXIMUM: [Run; 7] = [
+static A_DROP_AT_THE_MAXIMUM: [Run; 7] = [
     Run(1, &[GROW, Step::Limit(1), FALL, Step::Limit(1)]),
     Run(9, &[GROW, Step::Limit(9), FALL, Step::Limit(8)]),
     Run(10, &[GROW, Step::Limit(10), FALL, Step::Limit(9)]),
@@ -131,7 +131,7 @@ const A_DROP_AT_THE_MAXIMUM: [Run; 7] = [
     Run(1000, &[GROW, Step::Limit(1000), FALL, Step::Limit(997)]),
 ];
 
-const THE_LAST_SAMPLES_EXPLAIN_THE_LIMIT: [Run; 3] = [
+static THE_LAST_SAMPLES_EXPLAIN_THE_LIMIT: [Run; 3] = [
     // at rest: no probe yet, since 30 * 20 is 600
     Run(
         1000,

@@ -29,7 +29,7 @@ enum Step {
     Audit(usize, usize),
 }
 
-const PERMITS_TAKE_TURNS: [Step; 17] = [
+static PERMITS_TAKE_TURNS: [Step; 17] = [
     Step::Take(b"a", 1, 2),
     Step::Refuse(b"a", 1, 2, Refused::AlreadyOut),
     Step::Take(b"a", 2, 2),
@@ -49,7 +49,7 @@ const PERMITS_TAKE_TURNS: [Step; 17] = [
     Step::Put(0, b"a", 2, 2),
 ];
 
-const ALL_PLACES_ARE_TAKEN: [Step; 5] = [
+static ALL_PLACES_ARE_TAKEN: [Step; 5] = [
     Step::Fill(b"a", 256, 1000),
     Step::Refuse(b"a", 256, 1000, Refused::TooManyOut),
     Step::Refuse(b"a", 0, 1000, Refused::TooManyOut),
@@ -258,7 +258,7 @@ fn all_places_are_taken(rt: HostRuntime) {
 #[derive(Clone, Copy)]
 struct Refusal(Refused, u8, &'static str);
 
-const REFUSALS: [Refusal; 3] = [
+static REFUSALS: [Refusal; 3] = [
     Refusal(Refused::AtLimit, 1, "AtLimit"),
     Refusal(Refused::TooManyOut, 2, "TooManyOut"),
     Refusal(Refused::AlreadyOut, 3, "AlreadyOut"),

@@ -3,7 +3,7 @@
 use crate::queue::{Step, walk};
 
 // Deliveries 3 and 9 of b and 7 of a are due at 1000, 5 of a at 1005.
-const THE_FIRST_BY_DUE_MOMENT_AND_THEN_BY_NUMBER: [Step; 15] = [
+static THE_FIRST_BY_DUE_MOMENT_AND_THEN_BY_NUMBER: [Step; 15] = [
     Step::Open(b"a", 2),
     Step::Open(b"b", 2),
     Step::Insert(b"a", 1005, 5),
@@ -26,7 +26,7 @@ fn the_first_by_due_moment_and_then_by_number(rt: HostRuntime) {
     walk(&rt, rt.alloc(), &THE_FIRST_BY_DUE_MOMENT_AND_THEN_BY_NUMBER);
 }
 
-const NOTHING_IS_NEXT_BEFORE_IT_IS_DUE: [Step; 10] = [
+static NOTHING_IS_NEXT_BEFORE_IT_IS_DUE: [Step; 10] = [
     Step::Open(b"a", 2),
     Step::NoNext(u64::MAX),
     Step::Insert(b"a", 1006, 1),
@@ -45,7 +45,7 @@ fn nothing_is_next_before_it_is_due(rt: HostRuntime) {
 }
 
 // An endpoint has no room until it is told that it has. One without room hides none of another endpoint's deliveries.
-const AN_ENDPOINT_WITHOUT_ROOM_IS_PASSED_OVER: [Step; 12] = [
+static AN_ENDPOINT_WITHOUT_ROOM_IS_PASSED_OVER: [Step; 12] = [
     Step::Reserve(b"a", 1),
     Step::Reserve(b"b", 1),
     Step::Insert(b"a", 1000, 1),
@@ -65,7 +65,7 @@ fn an_endpoint_without_room_is_passed_over(rt: HostRuntime) {
     walk(&rt, rt.alloc(), &AN_ENDPOINT_WITHOUT_ROOM_IS_PASSED_OVER);
 }
 
-const AS_MANY_ARE_INSERTED_AS_PLACES_ARE_RESERVED: [Step; 6] = [
+static AS_MANY_ARE_INSERTED_AS_PLACES_ARE_RESERVED: [Step; 6] = [
     Step::Open(b"a", 1000),
     Step::InsertMany(b"a", 1000),
     Step::Free(b"a", 0),
@@ -84,7 +84,7 @@ fn as_many_are_inserted_as_places_are_reserved(rt: HostRuntime) {
 }
 
 // A place is one endpoint's own, and a delivery that goes leaves its place to that endpoint. What was reserved stays.
-const EACH_ENDPOINT_HAS_ITS_PLACES: [Step; 20] = [
+static EACH_ENDPOINT_HAS_ITS_PLACES: [Step; 20] = [
     Step::IsReserved(b"a", false),
     Step::Reserve(b"a", 2),
     Step::IsReserved(b"a", true),
@@ -112,7 +112,7 @@ fn each_endpoint_has_its_places(rt: HostRuntime) {
     walk(&rt, rt.alloc(), &EACH_ENDPOINT_HAS_ITS_PLACES);
 }
 
-const AS_MANY_ENDPOINTS_AS_THERE_MAY_BE: [Step; 6] = [
+static AS_MANY_ENDPOINTS_AS_THERE_MAY_BE: [Step; 6] = [
     Step::OpenPairs(b"abcdefghijklmnop"),
     Step::Insert(b"pp", 1000, 255),
     Step::Insert(b"kc", 1000, 162),

@@ -31,7 +31,7 @@ const BAD_MAX: Option<ReadFault> = Some(ReadFault::BadMax);
 
 const BAD_SECRET: Option<ReadFault> = Some(ReadFault::BadSecret);
 
-const NAMES_AND_IDS: [Reading; 13] = [
+static NAMES_AND_IDS: [Reading; 13] = [
     Reading(Input::Name(b"a"), None),
     Reading(Input::Name(&[b'a'; 32]), None),
     Reading(Input::Name(b"a-9"), None),
@@ -47,7 +47,7 @@ const NAMES_AND_IDS: [Reading; 13] = [
     Reading(Input::Id(b"a b"), BAD_ID),
 ];
 
-const LIMITS_MOMENTS_AND_BODIES: [Reading; 9] = [
+static LIMITS_MOMENTS_AND_BODIES: [Reading; 9] = [
     Reading(Input::Max(0), BAD_MAX),
     Reading(Input::Max(1), None),
     Reading(Input::Max(1000), None),
@@ -59,7 +59,7 @@ const LIMITS_MOMENTS_AND_BODIES: [Reading; 9] = [
     Reading(Input::Body(65_537), Some(ReadFault::TooLong)),
 ];
 
-const SECRETS: [Reading; 17] = [
+static SECRETS: [Reading; 17] = [
     Reading(Input::Key(&[7; 23]), BAD_SECRET),
     Reading(Input::Key(&[7; 24]), None),
     Reading(Input::Key(&[7; 64]), None),
@@ -174,7 +174,7 @@ const LONG_KEY: &[u8] = b"0123456789abcdefghijklmnopqrstuvwxyzABCDEFGHIJKLMNOPQR
 const LONG_WRITTEN: &[u8] =
     b"whsec_MDEyMzQ1Njc4OWFiY2RlZmdoaWprbG1ub3BxcnN0dXZ3eHl6QUJDREVGR0hJSktMTU5PUFFSU1RVVldYWVotXw==";
 
-const VALUES: [Value; 20] = [
+static VALUES: [Value; 20] = [
     Value::Name(b"a-9"),
     Value::Id(b"msg_1-Z"),
     Value::Key(&[7; 24]),
@@ -244,7 +244,7 @@ fn values_are_told(rt: HostRuntime) {
 #[derive(Clone, Copy)]
 struct Fault(ReadFault, u8, &'static str);
 
-const FAULTS: [Fault; 8] = [
+static FAULTS: [Fault; 8] = [
     Fault(ReadFault::BadName, 1, "BadName"),
     Fault(ReadFault::BadId, 2, "BadId"),
     Fault(ReadFault::BadSecret, 3, "BadSecret"),

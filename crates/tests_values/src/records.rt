@@ -6,7 +6,7 @@ use std::alloc::Global;
 use std::process::Abort;
 
 // Each of these is the base64 of 24 bytes.
-const KEYS: [&[u8]; 5] = [
+static KEYS: [&[u8]; 5] = [
     b"MDEyMzQ1Njc4OTAxMjM0NTY3ODkwMTIz",
     b"MfKQ9r8GKYqrTwjUPD8ILPZIo2LaLaSw",
     b"AAAAAAAAAAAAAAAAAAAAAAAAAAAAAAAA",
@@ -33,7 +33,7 @@ enum List {
     Same(&'static [usize], &'static [usize], bool),
 }
 
-const LISTS: [List; 9] = [
+static LISTS: [List; 9] = [
     List::Refused(&[]),
     List::Refused(&[0, 1, 2, 3, 4]),
     List::Has(&[0]),
@@ -96,7 +96,7 @@ enum Kind {
 }
 
 // Records of each kind, no two of which are the same.
-const KINDS: [Kind; 7] = [
+static KINDS: [Kind; 7] = [
     Kind::Put(20),
     Kind::Secrets(&[0]),
     Kind::Secrets(&[1, 1]),

@@ -56,7 +56,7 @@ const DISABLED: Endpoint = Endpoint {
     secrets_by: 0,
 };
 
-const A_RECORD_OF_NO_ROW_NEEDS_A_COMMAND: [File; 6] = [
+static A_RECORD_OF_NO_ROW_NEEDS_A_COMMAND: [File; 6] = [
     File::Alone(1, FIRST, true),
     File::Alone(2, RENEWED, true),
     File::Alone(2, FIRST, false),
@@ -65,16 +65,19 @@ const A_RECORD_OF_NO_ROW_NEEDS_A_COMMAND: [File; 6] = [
     File::Alone(1 << 62, RENEWED_BEHIND, false),
 ];
 
-const ROWS_OF_NO_ENDPOINT_HAVE_NO_RECORD: [File; 2] = [File::Empty(0, true), File::Empty(1, false)];
+static ROWS_OF_NO_ENDPOINT_HAVE_NO_RECORD: [File; 2] = [
+    File::Empty(0, true),
+    File::Empty(1, false),
+];
 
-const AN_ANSWER_OF_GONE_DISABLES: [File; 4] = [
+static AN_ANSWER_OF_GONE_DISABLES: [File; 4] = [
     File::Attempted(FIRST, 1, 410, false),
     File::Attempted(DISABLED, 1, 410, true),
     File::Attempted(DISABLED, 1, 500, false),
     File::Attempted(FIRST, 1, 500, true),
 ];
 
-const ATTEMPTS_ARE_NUMBERED_IN_TURN: [File; 4] = [
+static ATTEMPTS_ARE_NUMBERED_IN_TURN: [File; 4] = [
     File::Attempted(FIRST, 1, 200, true),
     File::Attempted(FIRST, 2, 200, false),
     File::Attempted(FIRST, 0, 200, false),

@@ -15,7 +15,7 @@ const RISING: [u8; 25] = [
 ];
 
 // Of the fifth the first 16 bytes are given.
-const VECTORS_OF_RFC_4231: [Mac; 7] = [
+static VECTORS_OF_RFC_4231: [Mac; 7] = [
     Mac(
         &[0x0B; 20],
         &[b"Hi There"],
@@ -57,7 +57,7 @@ The key needs to be hashed before being used by the HMAC algorithm.",
 ];
 
 // Keys about the length of a block, by Python's `hmac`.
-const KEYS_OF_A_BLOCK: [Mac; 3] = [
+static KEYS_OF_A_BLOCK: [Mac; 3] = [
     Mac(
         b"",
         &[b"abc"],
@@ -78,7 +78,7 @@ const KEYS_OF_A_BLOCK: [Mac; 3] = [
 const JEFE: &str = "5bdcc146bf60754e6a042426089575c75a003f089d2739839dec58b964ec3843";
 
 // Any cut of a text gives the same digest: that of the second vector.
-const CUTS: [Mac; 3] = [
+static CUTS: [Mac; 3] = [
     Mac(b"Jefe", &[b"what do ya ", b"want for nothing?"], JEFE),
     Mac(
         b"Jefe",
@@ -141,7 +141,7 @@ struct Header {
     text: &'static str,
 }
 
-const HEADERS: [Header; 2] = [
+static HEADERS: [Header; 2] = [
     // The example of Standard Webhooks 1.0.0.
     Header {
         keys: &[b"whsec_MfKQ9r8GKYqrTwjUPD8ILPZIo2LaLaSw"],

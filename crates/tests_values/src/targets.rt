@@ -15,7 +15,7 @@ struct Parts {
     path: &'static [u8],
 }
 
-const PARTS: [Parts; 6] = [
+static PARTS: [Parts; 6] = [
     Parts {
         text: b"HTTP://h",
         host: b"h",
@@ -104,9 +104,9 @@ fn targets_are_compared(rt: HostRuntime) {
 #[derive(Clone, Copy)]
 struct Text(&'static [u8], usize);
 
-const READ: [Text; 2] = [Text(b"http://", 253), Text(b"http://h/", 2039)];
+static READ: [Text; 2] = [Text(b"http://", 253), Text(b"http://h/", 2039)];
 
-const REFUSED: [Text; 18] = [
+static REFUSED: [Text; 18] = [
     Text(b"http://h:0/", 0),
     Text(b"http://h:65536/", 0),
     Text(b"https://h/", 0),
