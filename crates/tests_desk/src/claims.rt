@@ -28,7 +28,7 @@ const POST: Post = Post {
     body: b"{}",
 };
 
-const A_JOB_SHOWS_WHAT_IS_POSTED: [Step; 9] = [
+static A_JOB_SHOWS_WHAT_IS_POSTED: [Step; 9] = [
     PUT,
     SUBMIT,
     Step::Turn(2),
@@ -60,7 +60,7 @@ const DELIVERED: Event = Event {
     last_status: Some(200),
 };
 
-const A_FAILURE_IS_DUE_FIVE_SECONDS_LATER: [Step; 15] = [
+static A_FAILURE_IS_DUE_FIVE_SECONDS_LATER: [Step; 15] = [
     PUT,
     SUBMIT,
     Step::Turn(2),
@@ -96,7 +96,7 @@ const EXHAUSTED: Event = Event {
 };
 
 // An attempt that was answered 410 is none of the ten failures.
-const TEN_FAILURES_EXHAUST_AN_EVENT: [Step; 48] = [
+static TEN_FAILURES_EXHAUST_AN_EVENT: [Step; 48] = [
     PUT,
     SUBMIT,
     Step::Turn(2),
@@ -157,7 +157,7 @@ fn ten_failures_exhaust_an_event(rt: HostRuntime) -> Result<(), Fail> {
     )
 }
 
-const NOTHING_IS_POSTED_TO_AN_ENDPOINT_THAT_IS_GONE: [Step; 15] = [
+static NOTHING_IS_POSTED_TO_AN_ENDPOINT_THAT_IS_GONE: [Step; 15] = [
     PUT,
     SUBMIT,
     Step::Submit(1000, b"a", b"msg_2", b"{}", Answer::Record(2)),
@@ -195,7 +195,7 @@ const UNKNOWN: Limits = Limits {
 /// The endpoint with a maximum of one.
 const OF_ONE: Endpoint = Endpoint { max: 1, ..HOOK };
 
-const NO_MORE_ARE_UNDER_WAY_THAN_THE_LIMIT: [Step; 10] = [
+static NO_MORE_ARE_UNDER_WAY_THAN_THE_LIMIT: [Step; 10] = [
     Step::Put(b"a", OF_ONE, Answer::Record(0)),
     SUBMIT,
     Step::Submit(1000, b"a", b"msg_2", b"{}", Answer::Record(2)),
@@ -232,7 +232,7 @@ fn no_more_are_under_way_than_the_limit(rt: HostRuntime) -> Result<(), Fail> {
 }
 
 /// Thirteen endpoints, each with twenty events of 1000, which are settled.
-const AT_MOST_256_ARE_UNDER_WAY: [Step; 32] = [
+static AT_MOST_256_ARE_UNDER_WAY: [Step; 32] = [
     Step::Put(b"a", HOOK, Answer::Record(0)),
     Step::Submits(b"a", 1),
     Step::Put(b"b", HOOK, Answer::Record(21)),
@@ -272,7 +272,7 @@ fn at_most_256_are_under_way(rt: HostRuntime) -> Result<(), Fail> {
     take(&rt, rt.alloc(), Start::Empty, &AT_MOST_256_ARE_UNDER_WAY)
 }
 
-const A_SPEND_AFTER_A_HALT_STAGES_NOTHING: [Step; 9] = [
+static A_SPEND_AFTER_A_HALT_STAGES_NOTHING: [Step; 9] = [
     PUT,
     SUBMIT,
     Step::Turn(2),
@@ -295,7 +295,7 @@ fn a_spend_after_a_halt_stages_nothing(rt: HostRuntime) -> Result<(), Fail> {
 }
 
 /// At the desk of as many records as there may be.
-const REFUSALS_COME_IN_THEIR_ORDER: [Step; 6] = [
+static REFUSALS_COME_IN_THEIR_ORDER: [Step; 6] = [
     Step::Claim(999, Given::Nothing),
     Step::Claim(1000, Given::Refused(2, Fault::SeqExhausted)),
     Step::Submit(

@@ -47,7 +47,7 @@ const PAGE: Page = Page {
     exhausted: 0,
 };
 
-const WHAT_IS_KNOWN_ANSWERS_THE_FIRST_TICKET: [Step; 6] = [
+static WHAT_IS_KNOWN_ANSWERS_THE_FIRST_TICKET: [Step; 6] = [
     Step::Submit(
         1000,
         b"a",
@@ -78,7 +78,7 @@ fn what_is_known_answers_the_first_ticket(rt: HostRuntime) -> Result<(), Fail> {
     )
 }
 
-const A_HALTED_DESK_TAKES_NOTHING: [Step; 7] = [
+static A_HALTED_DESK_TAKES_NOTHING: [Step; 7] = [
     Step::Put(b"a", HOOK, Answer::Record(0)),
     Step::Seal(Some((0, 1, 1))),
     Step::HaltByNothing(false),
@@ -99,7 +99,7 @@ fn a_halted_desk_takes_nothing(rt: HostRuntime) -> Result<(), Fail> {
     take(&rt, rt.alloc(), Start::Empty, &A_HALTED_DESK_TAKES_NOTHING)
 }
 
-const NOTHING_THAT_WAITS_IS_SHOWN: [Step; 8] = [
+static NOTHING_THAT_WAITS_IS_SHOWN: [Step; 8] = [
     Step::Put(b"a", HOOK, Answer::Record(0)),
     Step::Submit(1000, b"a", b"msg_1", b"{}", Answer::Record(1)),
     Step::Totals(EMPTY),
@@ -115,7 +115,7 @@ fn nothing_that_waits_is_shown(rt: HostRuntime) -> Result<(), Fail> {
     take(&rt, rt.alloc(), Start::Empty, &NOTHING_THAT_WAITS_IS_SHOWN)
 }
 
-const WHAT_IS_SETTLED_IS_SHOWN: [Step; 7] = [
+static WHAT_IS_SETTLED_IS_SHOWN: [Step; 7] = [
     Step::Put(b"a", HOOK, Answer::Record(0)),
     Step::Submit(1000, b"a", b"msg_1", b"{}", Answer::Record(1)),
     Step::Turn(2),
@@ -130,7 +130,7 @@ fn what_is_settled_is_shown(rt: HostRuntime) -> Result<(), Fail> {
     take(&rt, rt.alloc(), Start::Empty, &WHAT_IS_SETTLED_IS_SHOWN)
 }
 
-const PAGES_HAVE_WHAT_IS_SETTLED: [Step; 5] = [
+static PAGES_HAVE_WHAT_IS_SETTLED: [Step; 5] = [
     Step::Put(b"a", HOOK, Answer::Record(0)),
     Step::Submit(1000, b"a", b"msg_1", b"{}", Answer::Record(1)),
     Step::Turn(2),
@@ -143,13 +143,13 @@ fn pages_have_what_is_settled(rt: HostRuntime) -> Result<(), Fail> {
     take(&rt, rt.alloc(), Start::Empty, &PAGES_HAVE_WHAT_IS_SETTLED)
 }
 
-const FILLED: [Step; 3] = [
+static FILLED: [Step; 3] = [
     Step::Put(b"a", HOOK, Answer::Record(0)),
     Step::Submit(1000, b"a", b"msg_1", b"{}", Answer::Record(1)),
     Step::Turn(2),
 ];
 
-const OPENED_AGAIN: [Step; 2] = [
+static OPENED_AGAIN: [Step; 2] = [
     Step::Totals(BEGUN),
     Step::EventPage(b"a", b"msg_1", Some(NEW)),
 ];

@@ -5,7 +5,7 @@ use crate::steps::{Answer, Endpoint, Given, Request, Step};
 use crate::walk::{Start, take};
 use std::test::Fail;
 
-const THE_EVENT_OF_THE_PAGES: [Step; 5] = [
+static THE_EVENT_OF_THE_PAGES: [Step; 5] = [
     Step::Put(b"a", HOOK, Answer::Record(0)),
     Step::Submit(1000, b"a", b"msg_1", b"{}", Answer::Record(1)),
     Step::Turn(2),
@@ -40,7 +40,7 @@ const AN_ENDPOINT_WITH_A_QUERY_AND_A_PORT: Endpoint = Endpoint {
     ..HOOK
 };
 
-const A_TARGET_WITH_A_QUERY_AND_A_PORT: [Step; 5] = [
+static A_TARGET_WITH_A_QUERY_AND_A_PORT: [Step; 5] = [
     Step::Put(b"a", AN_ENDPOINT_WITH_A_QUERY_AND_A_PORT, Answer::Record(0)),
     Step::Submit(
         1000,
@@ -92,7 +92,7 @@ const AN_ENDPOINT_WITH_FOUR_SECRETS: Endpoint = Endpoint {
     ..HOOK
 };
 
-const EACH_OF_FOUR_SECRETS_SIGNS: [Step; 5] = [
+static EACH_OF_FOUR_SECRETS_SIGNS: [Step; 5] = [
     Step::Put(b"a", AN_ENDPOINT_WITH_FOUR_SECRETS, Answer::Record(0)),
     Step::Submit(1000, b"a", b"msg_1", b"{}", Answer::Record(1)),
     Step::Turn(2),
@@ -130,7 +130,7 @@ const AN_ENDPOINT_WITH_NO_PATH: Endpoint = Endpoint {
     ..HOOK
 };
 
-const NO_BODY_AND_NO_PATH: [Step; 5] = [
+static NO_BODY_AND_NO_PATH: [Step; 5] = [
     Step::Put(b"a", AN_ENDPOINT_WITH_NO_PATH, Answer::Record(0)),
     Step::Submit(1000, b"a", b"msg_1", b"", Answer::Record(1)),
     Step::Turn(2),

@@ -3,7 +3,7 @@
 use crate::waits::{Wait, take_waits};
 use std::test::Fail;
 
-const A_RECEIPT_SETTLES_ITS_STEPS: [Wait; 7] = [
+static A_RECEIPT_SETTLES_ITS_STEPS: [Wait; 7] = [
     Wait::Put(b"a", true),
     Wait::Put(b"b", true),
     Wait::Seal(Some((0, 2, 2))),
@@ -18,7 +18,7 @@ fn a_receipt_settles_its_steps(rt: HostRuntime) -> Result<(), Fail> {
     take_waits(&rt, rt.alloc(), &A_RECEIPT_SETTLES_ITS_STEPS)
 }
 
-const A_RECEIPT_OF_OTHER_STEPS_SETTLES_NOTHING: [Wait; 10] = [
+static A_RECEIPT_OF_OTHER_STEPS_SETTLES_NOTHING: [Wait; 10] = [
     Wait::Put(b"a", true),
     Wait::Seal(Some((0, 1, 1))),
     Wait::Commit(1),
@@ -36,7 +36,7 @@ fn a_receipt_of_other_steps_settles_nothing(rt: HostRuntime) -> Result<(), Fail>
     take_waits(&rt, rt.alloc(), &A_RECEIPT_OF_OTHER_STEPS_SETTLES_NOTHING)
 }
 
-const SEALED_STEPS_ARE_THE_FIRST_THAT_WAIT: [Wait; 10] = [
+static SEALED_STEPS_ARE_THE_FIRST_THAT_WAIT: [Wait; 10] = [
     Wait::Anew(5),
     Wait::Seal(None),
     Wait::Flags(3, true),
@@ -54,7 +54,7 @@ fn sealed_steps_are_the_first_that_wait(rt: HostRuntime) -> Result<(), Fail> {
     take_waits(&rt, rt.alloc(), &SEALED_STEPS_ARE_THE_FIRST_THAT_WAIT)
 }
 
-const EACH_KIND_HAS_ITS_PLACES: [Wait; 9] = [
+static EACH_KIND_HAS_ITS_PLACES: [Wait; 9] = [
     Wait::Flags(768, true),
     Wait::Flags(1, false),
     Wait::Len(768),
@@ -71,7 +71,7 @@ fn each_kind_has_its_places(rt: HostRuntime) -> Result<(), Fail> {
     take_waits(&rt, rt.alloc(), &EACH_KIND_HAS_ITS_PLACES)
 }
 
-const ONLY_WHAT_IS_OUT_IS_GIVEN_UP: [Wait; 7] = [
+static ONLY_WHAT_IS_OUT_IS_GIVEN_UP: [Wait; 7] = [
     Wait::AbandonNothing(true),
     Wait::Flags(2, true),
     Wait::Seal(Some((0, 2, 2))),
