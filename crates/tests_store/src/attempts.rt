@@ -4,7 +4,7 @@ use crate::conditions::{DAMAGED, ENDPOINT, EVENT};
 use crate::openings::{ATTEMPTED, File, ROWS, Start, check_all};
 
 /// Condition 7.
-const ATTEMPTS_ARE_BEHIND_THEIR_EVENT_IN_ORDER: [File; 6] = [
+static ATTEMPTS_ARE_BEHIND_THEIR_EVENT_IN_ORDER: [File; 6] = [
     File(
         Start::Ours,
         &[
@@ -84,7 +84,7 @@ fn attempts_are_behind_their_event_in_order(rt: HostRuntime) {
 }
 
 /// Condition 7.
-const STATUSES_HAVE_THEIR_RANGE: [File; 8] = [
+static STATUSES_HAVE_THEIR_RANGE: [File; 8] = [
     File(
         Start::Ours,
         &[ATTEMPTED, "UPDATE attempts SET status = -1"],
@@ -149,7 +149,7 @@ fn statuses_have_their_range(rt: HostRuntime) {
 }
 
 /// Condition 7.
-const NOTHING_IS_BEHIND_A_DELIVERY: [File; 4] = [
+static NOTHING_IS_BEHIND_A_DELIVERY: [File; 4] = [
     File(
         Start::Ours,
         &[
@@ -206,7 +206,7 @@ fn nothing_is_behind_a_delivery(rt: HostRuntime) {
 }
 
 /// Condition 8.
-const EACH_OTHER_NUMBER_IS_OF_A_COMMAND: [File; 7] = [
+static EACH_OTHER_NUMBER_IS_OF_A_COMMAND: [File; 7] = [
     File(
         Start::Ours,
         &[
@@ -314,7 +314,7 @@ const ELEVENTH: &str = "INSERT INTO attempts VALUES(12, 1, 11, 500, 1001)";
 const TWELFTH: &str = "INSERT INTO attempts VALUES(13, 1, 12, 500, 1001)";
 
 /// Attempts, of which one may be answered 410. That one is no failure.
-const NOTHING_IS_BEHIND_THE_TENTH_FAILURE: [File; 7] = [
+static NOTHING_IS_BEHIND_THE_TENTH_FAILURE: [File; 7] = [
     File(
         Start::Ours,
         &[EVENT, NINE, "UPDATE meta SET records = 11"],

@@ -24,7 +24,7 @@ pub(crate) const EVENT: &str = "INSERT INTO endpoints VALUES(0, 'a', 'http://h/'
 pub(crate) const DAMAGED: &str = "Damaged";
 
 /// Condition 1.
-const EACH_NUMBER_IS_BELOW_THAT_OF_RECORDS: [File; 6] = [
+static EACH_NUMBER_IS_BELOW_THAT_OF_RECORDS: [File; 6] = [
     File(
         Start::Ours,
         &[
@@ -92,7 +92,7 @@ fn each_number_is_below_that_of_records(rt: HostRuntime) {
 }
 
 /// Condition 2.
-const NO_NUMBER_IS_OF_TWO_ROWS: [File; 7] = [
+static NO_NUMBER_IS_OF_TWO_ROWS: [File; 7] = [
     File(
         Start::Ours,
         &[
@@ -182,7 +182,7 @@ fn no_number_is_of_two_rows(rt: HostRuntime) {
 }
 
 /// Condition 4. A flag with the number of the secrets breaks 5 too.
-const SECRETS_ARE_OF_ONE_COMMAND: [File; 9] = [
+static SECRETS_ARE_OF_ONE_COMMAND: [File; 9] = [
     File(
         Start::Ours,
         &[
@@ -284,7 +284,7 @@ fn secrets_are_of_one_command(rt: HostRuntime) {
 }
 
 /// Condition 5.
-const A_FLAG_IS_OF_ONE_RECORD: [File; 9] = [
+static A_FLAG_IS_OF_ONE_RECORD: [File; 9] = [
     File(
         Start::Ours,
         &[
@@ -385,7 +385,7 @@ fn a_flag_is_of_one_record(rt: HostRuntime) {
 }
 
 /// Condition 5.
-const ONLY_ITS_OWN_EVENTS_TELL_THAT_AN_ENDPOINT_IS_GONE: [File; 2] = [
+static ONLY_ITS_OWN_EVENTS_TELL_THAT_AN_ENDPOINT_IS_GONE: [File; 2] = [
     File(
         Start::Ours,
         &[
@@ -424,7 +424,7 @@ fn only_its_own_events_tell_that_an_endpoint_is_gone(rt: HostRuntime) {
 }
 
 /// Condition 6.
-const AN_EVENT_IS_BEHIND_ITS_ENDPOINT: [File; 6] = [
+static AN_EVENT_IS_BEHIND_ITS_ENDPOINT: [File; 6] = [
     File(
         Start::Ours,
         &[

@@ -31,11 +31,11 @@ impl Numbers {
 }
 
 /// The names of endpoints. No record speaks of the last.
-pub(crate) const LETTERS: [u8; 5] = [b'a', b'b', b'c', b'd', b'e'];
+pub(crate) static LETTERS: [u8; 5] = [b'a', b'b', b'c', b'd', b'e'];
 
-pub(crate) const IDS: [&'static [u8]; 2] = [b"msg_1", b"msg_2"];
+pub(crate) static IDS: [&'static [u8]; 2] = [b"msg_1", b"msg_2"];
 
-const STATUSES: [u16; 8] = [0, 204, 302, 404, 410, 500, 503, 600];
+static STATUSES: [u16; 8] = [0, 204, 302, 404, 410, 500, 503, 600];
 
 const BODY: &'static [u8] = b"xxxxxxxx";
 

@@ -3,7 +3,7 @@
 use crate::conditions::ENDPOINT;
 use crate::openings::{ATTEMPTED, File, ROWS, Start, check_all};
 
-const A_NUMBER_WITHOUT_A_ROW_NEEDS_A_COMMAND: [File; 3] = [
+static A_NUMBER_WITHOUT_A_ROW_NEEDS_A_COMMAND: [File; 3] = [
     File(Start::Ours, &[ENDPOINT], ROWS, "records 1 enabled", &[]),
     File(
         Start::Ours,
@@ -29,7 +29,7 @@ fn a_number_without_a_row_needs_a_command(rt: HostRuntime) {
     check_all(&rt, rt.alloc(), &A_NUMBER_WITHOUT_A_ROW_NEEDS_A_COMMAND);
 }
 
-const NO_NUMBER_IS_OF_NO_ROW: [File; 2] = [
+static NO_NUMBER_IS_OF_NO_ROW: [File; 2] = [
     File(
         Start::Ours,
         &["UPDATE meta SET records = 0"],
@@ -51,7 +51,7 @@ fn no_number_is_of_no_row(rt: HostRuntime) {
     check_all(&rt, rt.alloc(), &NO_NUMBER_IS_OF_NO_ROW);
 }
 
-const AN_ANSWER_OF_GONE_DISABLES: [File; 2] = [
+static AN_ANSWER_OF_GONE_DISABLES: [File; 2] = [
     File(
         Start::Ours,
         &[ATTEMPTED, "UPDATE attempts SET status = 410"],
@@ -76,7 +76,7 @@ fn an_answer_of_gone_disables(rt: HostRuntime) {
     check_all(&rt, rt.alloc(), &AN_ANSWER_OF_GONE_DISABLES);
 }
 
-const AN_EVENT_IS_DUE_AFTER_ITS_ATTEMPT: [File; 9] = [
+static AN_EVENT_IS_DUE_AFTER_ITS_ATTEMPT: [File; 9] = [
     File(
         Start::Ours,
         &[ATTEMPTED],

@@ -11,7 +11,7 @@ const PUT: Entry = Entry::Put(b'a', 100, ONE);
 
 const ONE: Keys = Keys::Of([1; 4], 1);
 
-const AN_EMPTY_STORE_GIVES_EMPTY_BOOKS: Story = Story {
+static AN_EMPTY_STORE_GIVES_EMPTY_BOOKS: Story = Story {
     limit: None,
     steps: &[Step::Shows(&[Look::Holds(0, 0, 0), Look::NoEvent(0)])],
     counts: &[],
@@ -22,7 +22,7 @@ fn an_empty_store_gives_empty_books(rt: HostRuntime) -> Result<(), Fail> {
     walk(&rt, rt.alloc(), &AN_EMPTY_STORE_GIVES_EMPTY_BOOKS)
 }
 
-const EVERY_RECORD_IS_READ_BACK: Story = Story {
+static EVERY_RECORD_IS_READ_BACK: Story = Story {
     limit: None,
     steps: &[
         Step::Enter(PUT_A, Told::Written),
@@ -52,7 +52,7 @@ fn every_record_is_read_back(rt: HostRuntime) -> Result<(), Fail> {
 }
 
 /// A page has 256 rows. Each record is committed alone, and later ones have earlier moments.
-const TABLES_OF_MORE_THAN_A_PAGE_ARE_READ_BACK: Story = Story {
+static TABLES_OF_MORE_THAN_A_PAGE_ARE_READ_BACK: Story = Story {
     limit: None,
     steps: &[
         Step::Enter(PUT_A, Told::Written),
@@ -73,7 +73,7 @@ fn tables_of_more_than_a_page_are_read_back(rt: HostRuntime) -> Result<(), Fail>
 }
 
 /// 600 events, which have the numbers 1 to 600, and a failed outcome of each, in batches of 200.
-const MORE_THAN_TWO_PAGES_ARE_LOADED: Story = Story {
+static MORE_THAN_TWO_PAGES_ARE_LOADED: Story = Story {
     limit: None,
     steps: &[
         Step::Enter(PUT, Told::Written),
@@ -96,7 +96,7 @@ fn more_than_two_pages_are_loaded(rt: HostRuntime) -> Result<(), Fail> {
 /// So few that a statement fails which reads 200 events or counts 100 endpoints.
 const FEW: Option<u64> = Some(100);
 
-const A_STORE_THAT_FAILS_IS_TOLD: Story = Story {
+static A_STORE_THAT_FAILS_IS_TOLD: Story = Story {
     limit: FEW,
     steps: &[
         Step::Enter(PUT, Told::Written),
@@ -113,7 +113,7 @@ fn a_store_that_fails_is_told(rt: HostRuntime) -> Result<(), Fail> {
     walk(&rt, rt.alloc(), &A_STORE_THAT_FAILS_IS_TOLD)
 }
 
-const A_CLOSED_VAULT_IS_NOT_LOADED: Story = Story {
+static A_CLOSED_VAULT_IS_NOT_LOADED: Story = Story {
     limit: FEW,
     steps: &[
         Step::Puts(256, ONE, Told::Doubtful),

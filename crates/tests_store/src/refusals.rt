@@ -7,7 +7,7 @@ const NOT_OURS: &str = "NotOurs";
 
 const DAMAGED: &str = "Damaged";
 
-const WRONG_META: [File; 8] = [
+static WRONG_META: [File; 8] = [
     File(
         Start::Ours,
         &[ATTEMPTED, "DELETE FROM meta"],
@@ -86,7 +86,7 @@ fn what_meta_tells_is_refused(rt: HostRuntime) {
     check_all(&rt, rt.alloc(), &WRONG_META);
 }
 
-const WRONG_ROWS: [File; 9] = [
+static WRONG_ROWS: [File; 9] = [
     File(
         Start::Ours,
         &[
@@ -163,7 +163,7 @@ fn rows_are_refused(rt: HostRuntime) {
     check_all(&rt, rt.alloc(), &WRONG_ROWS);
 }
 
-const WRONG_SECRETS: [File; 4] = [
+static WRONG_SECRETS: [File; 4] = [
     File(
         Start::Ours,
         &[ATTEMPTED, "DELETE FROM secrets"],
@@ -214,7 +214,7 @@ fn secrets_are_refused(rt: HostRuntime) {
     check_all(&rt, rt.alloc(), &WRONG_SECRETS);
 }
 
-const A_NEGATIVE_PUT: [File; 1] = [File(
+static A_NEGATIVE_PUT: [File; 1] = [File(
     Start::Ours,
     &[
         "INSERT INTO endpoints VALUES(-1, 'a', 'http://h/', 100, 1, -1, -1); \
@@ -232,7 +232,7 @@ fn a_negative_put_is_refused(rt: HostRuntime) {
 
 const SCHEMA: &[&str] = &["SELECT * FROM sqlite_schema"];
 
-const WITHOUT_THE_TABLES: [File; 2] = [
+static WITHOUT_THE_TABLES: [File; 2] = [
     File(
         Start::Nothing,
         &[],
@@ -260,7 +260,7 @@ fn a_store_without_the_tables_is_not_ours(rt: HostRuntime) {
     check_all(&rt, rt.alloc(), &WITHOUT_THE_TABLES);
 }
 
-const OTHER_TABLES: [File; 4] = [
+static OTHER_TABLES: [File; 4] = [
     File(
         Start::Ours,
         &[
@@ -305,7 +305,7 @@ fn other_tables_are_passed_over(rt: HostRuntime) {
     check_all(&rt, rt.alloc(), &OTHER_TABLES);
 }
 
-const WITHOUT_A_KEY: [File; 2] = [
+static WITHOUT_A_KEY: [File; 2] = [
     File(
         Start::Ours,
         &[
@@ -347,7 +347,7 @@ const COUNTS: &[&str] = &[
     "SELECT count(*) FROM attempts",
 ];
 
-const BODIES: [File; 2] = [
+static BODIES: [File; 2] = [
     File(
         Start::Body(65_536),
         &[],
@@ -375,7 +375,7 @@ fn a_body_has_65536_bytes_at_most(rt: HostRuntime) {
     check_all(&rt, rt.alloc(), &BODIES);
 }
 
-const MANY: [File; 2] = [
+static MANY: [File; 2] = [
     File(
         Start::Endpoints(256),
         &[],
@@ -398,7 +398,7 @@ fn at_most_256_endpoints(rt: HostRuntime) {
 }
 
 /// Its desk refuses an event and a command.
-const FULL: [File; 1] = [File(
+static FULL: [File; 1] = [File(
     Start::Ours,
     &[
         ENDPOINT,

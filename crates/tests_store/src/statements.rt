@@ -217,7 +217,7 @@ fn walk(rt: &impl Abort, alloc: Global, steps: &[Step], counts: &[Count]) -> Res
 }
 
 /// An endpoint, two secrets of it, one event and one attempt at it.
-const FILLED: [Step; 7] = [
+static FILLED: [Step; 7] = [
     Step::Done(Call::Tables),
     Step::Done(Call::Endpoint(3, b"alpha", 10)),
     Step::Done(Call::Secret(3, 0, b"0123456789abcdef01234567")),
@@ -227,9 +227,9 @@ const FILLED: [Step; 7] = [
     Step::Done(Call::Records(6)),
 ];
 
-const NO_STEP: [Step; 0] = [];
+static NO_STEP: [Step; 0] = [];
 
-const ROWS: [Count; 12] = [
+static ROWS: [Count; 12] = [
     ("SELECT count(*) FROM meta", 1),
     (
         "SELECT count(*) FROM meta WHERE k = 1 AND app = 'webhook-relay' AND version = 1 AND records = 6",
@@ -270,7 +270,7 @@ fn rows_are_written(rt: HostRuntime) -> Result<(), Fail> {
     walk(&rt, rt.alloc(), &NO_STEP, &ROWS)
 }
 
-const FOUND: [Step; 6] = [
+static FOUND: [Step; 6] = [
     Step::Put(b"alpha", Some(3)),
     Step::Put(b"alph", None),
     Step::Endpoints(1),
@@ -284,7 +284,7 @@ fn endpoints_and_events_are_found(rt: HostRuntime) -> Result<(), Fail> {
     walk(&rt, rt.alloc(), &FOUND, &ROWS)
 }
 
-const REPEATED: [Step; 6] = [
+static REPEATED: [Step; 6] = [
     Step::Refused(Call::Tables),
     Step::Refused(Call::Endpoint(6, b"alpha", 10)),
     Step::Refused(Call::Secret(3, 1, b"fedcba98fedcba98fedcba98")),
@@ -298,7 +298,7 @@ fn endpoints_and_events_that_repeat_are_refused(rt: HostRuntime) -> Result<(), F
     walk(&rt, rt.alloc(), &REPEATED, &ROWS)
 }
 
-const TABLES: [Count; 6] = [
+static TABLES: [Count; 6] = [
     (
         "SELECT count(*) FROM sqlite_schema WHERE sql = \
          'CREATE TABLE meta(k INTEGER PRIMARY KEY CHECK(k = 1), app TEXT NOT NULL, \
@@ -343,7 +343,7 @@ fn tables_are_kept_as_written(rt: HostRuntime) -> Result<(), Fail> {
     walk(&rt, rt.alloc(), &NO_STEP, &TABLES)
 }
 
-const CAUSES: [(Error, Cause); 11] = [
+static CAUSES: [(Error, Cause); 11] = [
     (Error::SqliteFailure(ErrorCode::OutOfMemory), Cause::Memory),
     (
         Error::SqliteFailure(ErrorCode::SystemIoFailure),

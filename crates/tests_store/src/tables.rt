@@ -26,7 +26,7 @@ const OUT_OF_TURN: Told = Told::Refused(Unchanged::OutOfTurn);
 
 const ILLEGAL: Told = Told::Refused(Unchanged::Illegal);
 
-const ROWS_ARE_COUNTED: Story = Story {
+static ROWS_ARE_COUNTED: Story = Story {
     limit: None,
     steps: &[
         Step::Turn(MARK, 0, PUT_A, Told::Written),
@@ -62,7 +62,7 @@ fn a_store_with_our_tables_is_not_ours(rt: HostRuntime) -> Result<(), Fail> {
     }
 }
 
-const REFUSALS_CHANGE_NOTHING: Story = Story {
+static REFUSALS_CHANGE_NOTHING: Story = Story {
     limit: None,
     steps: &[
         Step::Turn(8, 0, PUT_A, OUT_OF_TURN),
@@ -86,7 +86,7 @@ fn refusals_change_nothing(rt: HostRuntime) -> Result<(), Fail> {
     walk(&rt, rt.alloc(), &REFUSALS_CHANGE_NOTHING)
 }
 
-const AT_MOST_256_ENDPOINTS: Story = Story {
+static AT_MOST_256_ENDPOINTS: Story = Story {
     limit: None,
     steps: &[
         Step::Puts(256, KEYS, Told::Written),
@@ -101,7 +101,7 @@ fn at_most_256_endpoints(rt: HostRuntime) -> Result<(), Fail> {
     walk(&rt, rt.alloc(), &AT_MOST_256_ENDPOINTS)
 }
 
-const A_GONE_ENDPOINT_IS_DISABLED: Story = Story {
+static A_GONE_ENDPOINT_IS_DISABLED: Story = Story {
     limit: None,
     steps: &[
         Step::Enter(PUT_A, Told::Written),
@@ -128,7 +128,7 @@ fn a_gone_endpoint_is_disabled(rt: HostRuntime) -> Result<(), Fail> {
     walk(&rt, rt.alloc(), &A_GONE_ENDPOINT_IS_DISABLED)
 }
 
-const EVERY_RECORD_IS_WRITTEN: Story = Story {
+static EVERY_RECORD_IS_WRITTEN: Story = Story {
     limit: None,
     steps: &[
         Step::Enter(PUT_A, Told::Written),
@@ -182,7 +182,7 @@ fn every_record_is_written(rt: HostRuntime) -> Result<(), Fail> {
 
 const FEWER: Keys = Keys::One(b"whsec_YWFhYWFhYWFhYWFhYWFhYWFhYWFhYWFh");
 
-const SECRETS_ARE_REPLACED_BY_FEWER: Story = Story {
+static SECRETS_ARE_REPLACED_BY_FEWER: Story = Story {
     limit: None,
     steps: &[
         Step::Enter(PUT_A, Told::Written),
@@ -215,7 +215,7 @@ fn secrets_are_replaced_by_fewer(rt: HostRuntime) -> Result<(), Fail> {
 }
 
 /// Nine failures and a gone, and then the tenth failure.
-const TEN_FAILURES_EXHAUST: Story = Story {
+static TEN_FAILURES_EXHAUST: Story = Story {
     limit: None,
     steps: &[
         Step::Enter(PUT_A, Told::Written),
@@ -242,7 +242,7 @@ fn ten_failures_exhaust(rt: HostRuntime) -> Result<(), Fail> {
     walk(&rt, rt.alloc(), &TEN_FAILURES_EXHAUST)
 }
 
-const A_DELIVERED_EVENT_TAKES_NO_OUTCOME: Story = Story {
+static A_DELIVERED_EVENT_TAKES_NO_OUTCOME: Story = Story {
     limit: None,
     steps: &[
         Step::Enter(PUT_A, Told::Written),
