@@ -22,7 +22,7 @@ const TRUE: Answer = Answer::Flag(b"a", true);
 const FALSE: Answer = Answer::Flag(b"a", false);
 
 // The kinds of all members come before what each of them says.
-const OTHER_MEMBERS: [Case; 1] = [Case {
+static OTHER_MEMBERS: [Case; 1] = [Case {
     method: b"PUT",
     paths: ENDPOINT,
     ids: &[],
@@ -52,7 +52,7 @@ fn a_body_has_the_members_of_its_line(rt: HostRuntime) -> Result<(), Fail> {
 }
 
 // The url is checked before the max, and the max before the secrets.
-const FIRST_BAD_MEMBERS: [Case; 3] = [
+static FIRST_BAD_MEMBERS: [Case; 3] = [
     Case {
         method: b"PUT",
         paths: ENDPOINT,
@@ -91,7 +91,7 @@ fn the_first_bad_member_is_told(rt: HostRuntime) -> Result<(), Fail> {
 }
 
 // A number with a point or an exponent is no whole one, nor is -0. One beyond all floats is no JSON that is read.
-const LIMITS: [Case; 5] = [
+static LIMITS: [Case; 5] = [
     Case {
         method: b"PUT",
         paths: ENDPOINT,
@@ -151,7 +151,7 @@ fn a_max_is_a_whole_number_from_1_to_1000(rt: HostRuntime) -> Result<(), Fail> {
 }
 
 // The last of two members counts. Others are ignored, but have to be JSON.
-const FLAGS: [Case; 3] = [
+static FLAGS: [Case; 3] = [
     Case {
         method: b"PUT",
         paths: ENABLED,
@@ -199,7 +199,7 @@ fn a_flag_is_a_bool(rt: HostRuntime) -> Result<(), Fail> {
 }
 
 // The body's own object is counted.
-const NESTED: [Case; 2] = [
+static NESTED: [Case; 2] = [
     Case {
         method: b"PUT",
         paths: ENABLED,
@@ -233,7 +233,7 @@ const FIVE_SECRETS: &[u8] = b"{\"secrets\":[\
     \"whsec_MDAwMDAwMDAwMDAwMDAwMDAwMDAwMDAwMDAwMDAwMDA=\"]}";
 
 // The secrets are 1 to 4.
-const LISTS: [Case; 4] = [
+static LISTS: [Case; 4] = [
     Case {
         method: b"PUT",
         paths: &[Text::Is(b"/v1/endpoints/a?x")],

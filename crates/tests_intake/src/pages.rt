@@ -47,7 +47,7 @@ const ENDPOINT: &[u8] =
     b"{\"delivered\":0,\"enabled\":true,\"exhausted\":0,\"max\":100,\"name\":\"a\",\
     \"pending\":1,\"secrets\":1,\"url\":\"http://127.0.0.1:9000/hook\"}";
 
-const WAITING: [Step; 5] = [
+static WAITING: [Step; 5] = [
     PUT,
     POST,
     Step::Page(
@@ -65,7 +65,7 @@ fn nothing_that_waits_has_a_page(rt: HostRuntime) -> Result<(), Fail> {
 }
 
 // The attempt that ended waits.
-const SETTLED: [Step; 10] = [
+static SETTLED: [Step; 10] = [
     PUT,
     POST,
     Step::Settle,
@@ -92,7 +92,7 @@ fn what_is_settled_has_its_pages(rt: HostRuntime) -> Result<(), Fail> {
     walk(&rt, rt.alloc(), &SETTLED)
 }
 
-const FAILED: [Step; 7] = [
+static FAILED: [Step; 7] = [
     PUT,
     POST,
     Step::Settle,

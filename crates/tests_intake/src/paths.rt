@@ -22,7 +22,7 @@ const OBJECT: &[Text] = &[Text::Is(b"{}")];
 const EVENTS: &[Text] = &[Text::Is(b"/v1/endpoints/a/events")];
 
 // The table has no such line: a method in other letters, a slash more, a part more or less, an escape in a fixed part.
-const NOT_IN_THE_TABLE: [Case; 8] = [
+static NOT_IN_THE_TABLE: [Case; 8] = [
     Case {
         method: b"DELETE",
         paths: &[Text::Is(b"/v1/status")],
@@ -108,7 +108,7 @@ fn what_is_not_in_the_table_is_not_found(rt: HostRuntime) -> Result<(), Fail> {
 }
 
 // A name is what stands between two slashes, before a query, and nothing in it is decoded. It may be empty.
-const BAD_NAMES: [Case; 3] = [
+static BAD_NAMES: [Case; 3] = [
     Case {
         method: b"PUT",
         paths: &[
@@ -148,7 +148,7 @@ fn a_bad_name_is_told(rt: HostRuntime) -> Result<(), Fail> {
 }
 
 // An event is sent with at most one id, and that is one.
-const BAD_IDS: [Case; 5] = [
+static BAD_IDS: [Case; 5] = [
     Case {
         method: b"POST",
         paths: EVENTS,
@@ -197,7 +197,7 @@ fn a_bad_id_is_told(rt: HostRuntime) -> Result<(), Fail> {
 }
 
 // A request for a page has no use for ids or a body, and a query is cut off.
-const PAGES: [Case; 6] = [
+static PAGES: [Case; 6] = [
     Case {
         method: b"GET",
         paths: &[
@@ -251,7 +251,7 @@ fn pages_are_asked_for(rt: HostRuntime) -> Result<(), Fail> {
     walk(&rt, rt.alloc(), &PAGES)
 }
 
-const LONG_PATHS: [Case; 2] = [
+static LONG_PATHS: [Case; 2] = [
     Case {
         method: b"GET",
         paths: &[Text::Long(b"", b'/', 10_000_000)],
@@ -276,7 +276,7 @@ fn a_path_of_10_mb_is_refused(rt: HostRuntime) -> Result<(), Fail> {
 const TOO_MUCH: &[Text] = &[Text::Long(b"", b'x', 65_537)];
 
 // The size is checked after the name and before the ids, of each method.
-const LONG_BODIES: [Case; 5] = [
+static LONG_BODIES: [Case; 5] = [
     Case {
         method: b"DELETE",
         paths: &[Text::Is(b"/v1/status")],
@@ -323,7 +323,7 @@ fn a_body_of_65_537_bytes_is_too_long(rt: HostRuntime) -> Result<(), Fail> {
 }
 
 // An event has the id that is given, or a fresh one, and its body is any 65,536 bytes or fewer.
-const SENT: [Case; 2] = [
+static SENT: [Case; 2] = [
     Case {
         method: b"POST",
         paths: EVENTS,

@@ -20,7 +20,7 @@ struct Case {
 }
 
 // A refused request may be made again later only where the relay is at fault.
-const REFUSALS: [Case; 11] = [
+static REFUSALS: [Case; 11] = [
     Case {
         fault: Fault::UnknownEndpoint,
         status: 404,
@@ -127,14 +127,14 @@ fn what_is_done_is_told_by_its_number(rt: HostRuntime) -> Result<(), Fail> {
     Ok(())
 }
 
-const NOT_KEPT: Ask<'static> = Ask {
+static NOT_KEPT: Ask<'static> = Ask {
     method: b"POST",
     path: b"/v1/endpoints/a/events",
     ids: &[],
     body: AskBody::TooLong,
 };
 
-const NOT_KEPT_OF_NOTHING: Ask<'static> = Ask {
+static NOT_KEPT_OF_NOTHING: Ask<'static> = Ask {
     method: b"POST",
     path: b"/v1/nothing",
     ids: &[],

@@ -21,7 +21,7 @@ struct Event {
     text: &'static str,
 }
 
-const EVENTS: [Event; 5] = [
+static EVENTS: [Event; 5] = [
     // As it was taken in.
     Event {
         endpoint: b"a",
@@ -122,7 +122,7 @@ struct Endpoint {
 }
 
 // Each character that a URL may hold stands in its page as it was given.
-const ENDPOINTS: [Endpoint; 2] = [
+static ENDPOINTS: [Endpoint; 2] = [
     Endpoint {
         delivered: 0,
         enabled: true,
@@ -178,7 +178,7 @@ fn an_endpoint_has_its_page(rt: HostRuntime) -> Result<(), Fail> {
 }
 
 // Before any record, and after many.
-const TOTALS: [(Totals, &str); 2] = [
+static TOTALS: [(Totals, &str); 2] = [
     (
         Totals {
             delivered: 0,
