@@ -120,7 +120,7 @@ struct Case(&'static [Path], Store, Option<AuditFault>);
 
 const MISMATCH: Option<AuditFault> = Some(AuditFault::Mismatch);
 
-const CASES: [Case; 12] = [
+static CASES: [Case; 12] = [
     Case(&[], Store::Own, None),
     Case(&[&SETTLED], Store::Own, None),
     Case(&[&SETTLED, &ATTEMPTED], Store::Own, None),
@@ -318,9 +318,11 @@ fn closes_after(rt: &impl Abort, alloc: Global, events: &[Event], calls: u64) ->
     }
 }
 
+static SETTLED_ALONE: [Path; 1] = [&SETTLED];
+
 #[test]
 fn a_closed_vault_is_a_fault_of_the_store(rt: HostRuntime) {
-    let events = events_of(&rt, rt.alloc(), &[&SETTLED]);
+    let events = events_of(&rt, rt.alloc(), &SETTLED_ALONE);
     let mut has_closed = false;
     for calls in 0..100 {
         has_closed |= closes_after(&rt, rt.alloc(), &events, calls);

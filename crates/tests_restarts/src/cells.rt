@@ -14,7 +14,7 @@ use std::process::Abort;
 #[derive(Clone, Copy)]
 struct Column(&'static str, &'static str);
 
-const COLUMNS: [Column; 24] = [
+static COLUMNS: [Column; 24] = [
     Column("meta", "k"),
     Column("meta", "app"),
     Column("meta", "version"),
@@ -42,10 +42,10 @@ const COLUMNS: [Column; 24] = [
 ];
 
 /// What is put behind the column of another row, or of the same one.
-const NEAR: [&str; 4] = ["", "", " + 1", " - 1"];
+static NEAR: [&str; 4] = ["", "", " + 1", " - 1"];
 
 /// Values of their own.
-const FAR: [&str; 20] = [
+static FAR: [&str; 20] = [
     "0",
     "1",
     "-1",

@@ -53,7 +53,7 @@ const DOUBT: [Call; 16] = [
     Call::Line("halt", "halted"),
 ];
 
-const PATHS: [Path; 4] = [&SEALED, &DOUBTFUL, &MEANWHILE, &DOUBT];
+static PATHS: [Path; 4] = [&SEALED, &DOUBTFUL, &MEANWHILE, &DOUBT];
 
 /// A batch that goes on with the records of the run.
 fn later_batch(rt: &impl Abort, alloc: Global) -> Batch {

@@ -17,7 +17,7 @@ use std::sync::ledger::Ledger;
 const DRAWS: u32 = 100;
 
 /// By how much a call is later than the one before.
-const LATER: [u64; 4] = [0, 7, 400, 90_000];
+static LATER: [u64; 4] = [0, 7, 400, 90_000];
 
 const BYTES: &[u8] = b"xxxxxxxx";
 

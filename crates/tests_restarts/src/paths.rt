@@ -10,7 +10,7 @@ const PUT_OTHER: &str =
     "put b http://127.0.0.1:9000/hook 100 whsec_MDEyMzQ1Njc4OTAxMjM0NTY3ODkwMTIz";
 
 /// An endpoint, and an event for it.
-const FIRST_PATH: [Call; 9] = [
+static FIRST_PATH: [Call; 9] = [
     Call::Line(PUT, "staged 0"),
     Call::Line("seal", "sealed 0..1"),
     Call::Line("commit", "committed 1"),
@@ -23,7 +23,7 @@ const FIRST_PATH: [Call; 9] = [
 ];
 
 /// Nothing is known yet, and nothing is held.
-const NOTHING: [Call; 24] = [
+static NOTHING: [Call; 24] = [
     Call::Line("show a", "absent"),
     Call::Line("show a msg_1", "absent"),
     Call::Line("limits a", "absent"),
@@ -152,14 +152,14 @@ fn makes_each_call_with_nothing_held(rt: HostRuntime) {
     check(&rt, rt.alloc(), &[&NOTHING], &[]);
 }
 
-const WITH_A_BATCH: [Path; 3] = [&SEALED, &MEANWHILE, &BATCH];
+static WITH_A_BATCH: [Path; 3] = [&SEALED, &MEANWHILE, &BATCH];
 
 #[test]
 fn makes_each_call_with_a_batch_held(rt: HostRuntime) {
     check(&rt, rt.alloc(), &WITH_A_BATCH, &[]);
 }
 
-const WITH_A_RECEIPT: [Path; 4] = [&SEALED, &COMMITTED, &MEANWHILE, &RECEIPT];
+static WITH_A_RECEIPT: [Path; 4] = [&SEALED, &COMMITTED, &MEANWHILE, &RECEIPT];
 
 #[test]
 fn makes_each_call_with_a_receipt_held(rt: HostRuntime) {

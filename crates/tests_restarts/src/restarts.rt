@@ -5,7 +5,7 @@ use crate::calls::Call;
 use crate::paths::PUT;
 use crate::runs::check;
 
-const SEALED_ALONE: [Call; 8] = [
+static SEALED_ALONE: [Call; 8] = [
     Call::Line(PUT, "staged 0"),
     Call::Line("seal", "sealed 0..1"),
     Call::Line("commit", "committed 1"),
@@ -16,7 +16,7 @@ const SEALED_ALONE: [Call; 8] = [
     Call::Records(2),
 ];
 
-const AFTER_SEALED_ALONE: [Call; 15] = [
+static AFTER_SEALED_ALONE: [Call; 15] = [
     Call::Line("show a msg_1", "absent"),
     Call::Line("show a", "enabled pending 0 delivered 0 exhausted 0"),
     Call::Totals(1, 0, 1),
@@ -39,7 +39,7 @@ fn what_was_sealed_alone_is_absent(rt: HostRuntime) {
     check(&rt, rt.alloc(), &[&SEALED_ALONE], &[&AFTER_SEALED_ALONE]);
 }
 
-const COMMITTED: [Call; 7] = [
+static COMMITTED: [Call; 7] = [
     Call::Line(PUT, "staged 0"),
     Call::Line("submit 1000 a msg_1 7b7d", "staged 1"),
     Call::Line("seal", "sealed 0..2"),
@@ -49,7 +49,7 @@ const COMMITTED: [Call; 7] = [
     Call::SettledRecords(0),
 ];
 
-const AFTER_COMMITTED: [Call; 17] = [
+static AFTER_COMMITTED: [Call; 17] = [
     Call::Line("show a", "enabled pending 1 delivered 0 exhausted 0"),
     Call::Line("show a msg_1", "pending due 1000 attempts 0"),
     Call::Totals(1, 1, 2),
@@ -77,7 +77,7 @@ fn what_was_committed_is_pending(rt: HostRuntime) {
     check(&rt, rt.alloc(), &[&COMMITTED], &[&AFTER_COMMITTED]);
 }
 
-const NOT_SETTLED: [Call; 13] = [
+static NOT_SETTLED: [Call; 13] = [
     Call::Line(PUT, "staged 0"),
     Call::Line("submit 1000 a msg_1 7b7d", "staged 1"),
     Call::Line("submit 1000 a msg_2 -", "staged 2"),
@@ -108,7 +108,7 @@ const NOT_SETTLED: [Call; 13] = [
     Call::Line("limits a", "limit 19 inflight 1 noload 100000"),
 ];
 
-const AFTER_NOT_SETTLED: [Call; 17] = [
+static AFTER_NOT_SETTLED: [Call; 17] = [
     Call::Line("limits a", "limit 20 inflight 0 noload 0"),
     Call::Records(4),
     Call::Line("show a msg_1", "pending due 1000 attempts 0"),

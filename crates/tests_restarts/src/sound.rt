@@ -7,7 +7,7 @@ use std::process::Abort;
 /// Each counts what breaks a rule of `docs/FORMATS.md`, "Rows that are opened", in rows that were those of a history
 /// with fewer than 1000 records before a cell was changed to a value of `cells`. The version first, then the conditions
 /// in their order.
-const FAULTS: &[&str] = &[
+static FAULTS: &[&str] = &[
     "SELECT count(*) FROM meta WHERE version < 1",
     // 1. The number of records, and those that stand in rows.
     "SELECT count(*) FROM meta WHERE NOT records BETWEEN 0 AND 4611686018427387904",

@@ -45,6 +45,8 @@ const RUN: [Call; 16] = [
     Call::SettledRecords(5),
 ];
 
+static PATHS: [Path; 1] = [&RUN];
+
 /// A batch of the run: at which places it is sealed and settled, what is printed there, and how many records there are behind it.
 struct Step {
     sealed: (usize, &'static str),
@@ -52,7 +54,7 @@ struct Step {
     records: u64,
 }
 
-const STEPS: [Step; 3] = [
+static STEPS: [Step; 3] = [
     Step {
         sealed: (1, "sealed 0..1"),
         settled: (3, "settled 1"),
@@ -70,7 +72,7 @@ const STEPS: [Step; 3] = [
     },
 ];
 
-const LOOK: [Call; 1] = [Call::Records(0)];
+static LOOK: [Path; 1] = [&[Call::Records(0)]];
 
 /// Which of the two files stops.
 #[derive(Clone, Copy)]
@@ -126,7 +128,7 @@ fn records_of<L: Ledger>(
     requires { pool ≡ [] }
 {
     assert!(rt; conn.is_autocommit());
-    let look = events_of(rt, alloc, &[&LOOK]);
+    let look = events_of(rt, alloc, &LOOK);
     let replies = match reopen(alloc, pool, conn, MARK + 1) {
         Ok((desk, vault)) => closed(rt, alloc, desk, vault, &look).2,
         Err((_, _)) => panic!(rt; "the opening was refused"),
@@ -178,8 +180,7 @@ fn stops_at(
 
 /// How many calls of the file a run has, up to which one of them fails in turn.
 fn stop_each(rt: &impl Abort, alloc: Global, stopping: Stopping) -> u64 {
-    let paths: [Path; 1] = [&RUN];
-    let events = events_of(rt, alloc, &paths);
+    let events = events_of(rt, alloc, &PATHS);
     let mut count = 0;
     for calls in 0..10_000 {
         if !stops_at(rt, alloc, &events, (stopping, calls)) {

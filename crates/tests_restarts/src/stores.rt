@@ -35,7 +35,7 @@ pub(crate) fn number(rt: &impl Abort, conn: &mut Connection<MemStore>, sql: &str
     row.get(0).expect(rt, "a number")
 }
 
-const TABLES: [&str; 5] = [
+static TABLES: [&str; 5] = [
     "SELECT rowid, * FROM meta",
     "SELECT rowid, * FROM endpoints",
     "SELECT rowid, * FROM secrets",
