@@ -22,7 +22,7 @@ struct Long {
 }
 
 // Over 1,500 reads of one byte, and a fault that is told byte by byte. The header is that of Python's hmac.
-const LONG: &[Long] = &[
+static LONG: &[Long] = &[
     Long {
         words: &["relayd", "replay"],
         line: "seal\n",
@@ -46,7 +46,7 @@ const LONG: &[Long] = &[
 ];
 
 // Which call is interrupted, if any is.
-const INTERRUPTED: &[u32] = &[1, 2, 40, 100_000];
+static INTERRUPTED: &[u32] = &[1, 2, 40, 100_000];
 
 fn repeated(alloc: Global, text: &str, count: usize, rest: &str) -> Result<String, Fail> {
     let many = text.repeat(alloc, count)?;
@@ -81,7 +81,7 @@ struct Broken {
 
 const WHOLE: (usize, u32) = (usize::MAX, u32::MAX);
 
-const BROKEN: &[Broken] = &[
+static BROKEN: &[Broken] = &[
     Broken {
         words: &["relayd", "replay"],
         text: SCRIPT,
@@ -167,7 +167,7 @@ fn refuses_no_secret(rt: HostRuntime) {
 }
 
 // The longest line.
-const LAST_LINE: StreamFault = StreamFault::BadLine(u64::MAX);
+static LAST_LINE: StreamFault = StreamFault::BadLine(u64::MAX);
 
 fn tells(alloc: Global, rt: &impl Abort, fault: CommandFault, text: &str, status: u8) {
     let mut errors = Writer::new(alloc, Calls::slow(3));

@@ -183,7 +183,7 @@ pub(crate) const EXAMPLE: &[&str] = &[
 
 pub(crate) const EXAMPLE_BODY: &str = "{\"test\": 2432232314}";
 
-const SCRIPTS: &[Run] = &[
+static SCRIPTS: &[Run] = &[
     Run {
         words: REPLAY,
         texts: &[""],
@@ -221,7 +221,7 @@ const SCRIPTS: &[Run] = &[
     },
 ];
 
-const BAD_LINES: &[Run] = &[Run {
+static BAD_LINES: &[Run] = &[Run {
     words: REPLAY,
     texts: &[
         "\n",
@@ -248,7 +248,7 @@ const BAD_LINES: &[Run] = &[Run {
     status: 2,
 }];
 
-const ARGUMENTS: &[Run] = &[
+static ARGUMENTS: &[Run] = &[
     Run {
         words: &["relayd", "sign", "a.b", "x", "y"],
         texts: &[""],
@@ -295,7 +295,7 @@ const ARGUMENTS: &[Run] = &[
     },
 ];
 
-const SAMPLES: &[Run] = &[
+static SAMPLES: &[Run] = &[
     // The numbers before any sample, and then all samples.
     Run {
         words: &["relayd", "vegas", "1000", "--explain"],
@@ -335,7 +335,7 @@ const SAMPLES: &[Run] = &[
 ];
 
 // A signature for each of one to four secrets, each as Python's hmac makes it.
-const SIGNATURES: &[Run] = &[
+static SIGNATURES: &[Run] = &[
     Run {
         words: &["relayd", "sign", "msg_1", "1000", SECRET],
         texts: &[""],
@@ -368,7 +368,7 @@ const SIGNATURES: &[Run] = &[
     },
 ];
 
-const OTHERS: &[Run] = &[
+static OTHERS: &[Run] = &[
     Run {
         words: EXAMPLE,
         texts: &[EXAMPLE_BODY],
@@ -445,7 +445,7 @@ struct Bound {
 const SIGN: &[&str] = &["relayd", "sign", "msg_1", "1000", SECRET];
 
 // A line has 140,000 bytes at most, and a body 65,536, that of an event in hexadecimal too. The signature is that of Python's hmac.
-const BOUNDS: &[Bound] = &[
+static BOUNDS: &[Bound] = &[
     Bound {
         words: REPLAY,
         input: Input::Line(140_001),
@@ -521,7 +521,7 @@ struct Help {
     end: &'static str,
 }
 
-const HELP: &[Help] = &[
+static HELP: &[Help] = &[
     Help {
         words: &["relayd", "--help"],
         end: "\nA fault is told on standard error.\n",
@@ -560,7 +560,7 @@ fn shows_help(rt: HostRuntime) {
     }
 }
 
-const BAD_WORDS: &[&[&str]] = &[
+static BAD_WORDS: &[&[&str]] = &[
     &[],
     &["relayd", "fly"],
     &["relayd", "--fly"],
@@ -669,7 +669,7 @@ const USUAL: ServeWords<'static> = ServeWords {
     requests: 0,
 };
 
-const SERVING: &[Serving] = &[
+static SERVING: &[Serving] = &[
     Serving {
         words: &["relayd", "serve", "relay.db", "127.0.0.1:8080"],
         asked: USUAL,
