@@ -53,7 +53,7 @@ struct Case {
     wanted: Wanted,
 }
 
-const CASES: [Case; 17] = [
+static CASES: [Case; 17] = [
     Case {
         sends: "HTTP/1.1 200 OK\r\ncontent-length: 0\r\n\r\n",
         tens: 0,

@@ -44,7 +44,7 @@ struct Step {
 }
 
 // All but one of these are answered, and so are the pages behind them.
-const STEPS: [Step; 11] = [
+static STEPS: [Step; 11] = [
     Step {
         line: "PUT /v1/endpoints/a HTTP/1.1",
         body: Sent::Put(100),
@@ -121,7 +121,7 @@ const PAGES: u64 = 100;
 const PAGE: &str =
     "GET /v1/endpoints/a/events/msg_1 HTTP/1.1\r\nhost: relay\r\ncontent-length: 0\r\n\r\n";
 
-const SETTINGS: Settings = Settings {
+static SETTINGS: Settings = Settings {
     workers: 2,
     intake: 2,
     timeout: 5,
