@@ -1,5 +1,5 @@
 //! The lines of a script: the calls that they stand for.
-ghost use Rattle.std.specs.Prelude.{◌≡◌, ℕ, [], ◌∷◌, ◌<◌, ◌^◌, IsTrue, IfErr, IfOk, IsErr, decimal};
+ghost use Rattle.std.specs.Prelude.{◌≡◌, ℕ, [], ◌∷◌, ◌<◌, ◌^◌, IsTrue, IfErr, IfOk, IsErr, codes, decimal};
 ghost use Rattle.relay_types.specs.Values.{is_between, is_moment};
 ghost use Rattle.text_lines.specs.Parts.{texts};
 ghost use Rattle.script_lines.specs.Script.{ReadsLine, IsLine, HasOneLineAtMost, IsCall, call_word, AreArguments};
@@ -16,9 +16,10 @@ use text_lines::{
     WordFault, is_word, read_body, read_max, read_moment, read_number, read_secrets, split,
 };
 
-/// What a line stands for.
+/// What a line stands for. A stop takes no memory.
 pub fn read_line(alloc: Global, line: &[u8]) -> Result<Line, WordFault>
     ensures stands { IfOk result (λ read. IsLine line.now read) }
+    ensures stop { line.now ≡ codes "stop" → result ≡ Ok Line.Stop }
     ensures bad { result ≡ Err WordFault.Bad → (other : Line) → ¬ IsLine line.now other }
 {
     if is_word(line, "stop") {

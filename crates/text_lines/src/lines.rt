@@ -246,7 +246,9 @@ pub fn extend_within(bytes: &mut Vec<u8>, piece: &[u8], max: usize) -> Result<()
     ensures bytes { OnOk result (bytes.new.items ≡ bytes.old.items ++ piece.now) }
     ensures most { vec_len bytes.new ≤ max }
     ensures too_long { result ≡ Err StreamFault.TooLong → max < vec_len bytes.old + length piece.now }
+    ensures bound { max < vec_len bytes.old + length piece.now → result ≡ Err StreamFault.TooLong }
     ensures faults { IfErr result (λ fault. (fault ≡ StreamFault.TooLong) ⊎ (fault ≡ StreamFault.OutOfMemory)) }
+    ensures unchanged { OnErr result (bytes.new.items ≡ bytes.old.items) }
 {
     if piece.len() > max - bytes.len() {
         return Err(StreamFault::TooLong);
