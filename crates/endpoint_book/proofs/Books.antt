@@ -29,27 +29,13 @@ pub change-value : (book : BookValue) (entries later : Entries) (names : List (L
     → Changes entries later c.name change
     → Some c.shown ≡ option_map (λ e. now_of (change e)) (entry_in entries c.name)
     → record { entries = listed later names; changes = cs ++ c ∷ []; next_seq = c.seq + 1; settled_seq = settled } ≡ with_change book c.seq c.name c.kind change
-change-value book entries later names cs c next settled change h is changed shown =
-    (λ i. record {
-      entries = (ap (λ g. filter_map g names) (λ j asked. changed asked j) ∙ changed-listed (entry_in entries) names (change_at c.name change) h) i;
-      changes = cs ++ record c { shown = sym (ap (shown_with change) (found (entry_in entries) names c.name h) ∙ some_told (λ e. now_of (change e)) (entry_in entries c.name) c.shown (record { enabled = true; secrets = 0 }) shown) i } ∷ [];
-      next_seq = c.seq + 1;
-      settled_seq = settled;
-    })
-    ∙ ap (λ b. with_change b c.seq c.name c.kind change) is
+change-value book entries later names cs c next settled change h is changed shown = grind (arith, changed-listed (entry_in entries) names (change_at c.name change) h, found (entry_in entries) names c.name h)
 
 pub put-value : (book : BookValue) (entries later : Entries) (names : List (List ℕ)) (cs : List Change) (e : Entry) (next settled : ℕ)
     → AreNames (entry_in entries) names → record { entries = listed entries names; changes = cs; next_seq = next; settled_seq = settled } ≡ book
     → entry_in entries e.name ≡ None → Puts entries later e
     → record { entries = listed later (names ++ e.name ∷ []); changes = cs ++ record { seq = e.put; name = e.name; kind = Put; shown = now_of e } ∷ []; next_seq = e.put + 1; settled_seq = settled } ≡ with_put book e
-put-value book entries later names cs e next settled h is unknown put =
-    (λ i. record {
-      entries = (ap (λ g. filter_map g (names ++ e.name ∷ [])) (λ j asked. put asked j) ∙ put-listed (entry_in entries) names e unknown h) i;
-      changes = cs ++ record { seq = e.put; name = e.name; kind = Put; shown = now_of e } ∷ [];
-      next_seq = e.put + 1;
-      settled_seq = settled;
-    })
-    ∙ ap (λ b. with_put b e) is
+put-value book entries later names cs e next settled h is unknown put = grind (arith, put-listed (entry_in entries) names e unknown h)
 
 pub settled-value : (book : BookValue) (entries later : Entries) (names : List (List ℕ)) (cs : List Change) (next settled place : ℕ)
     → AreNames (entry_in entries) names → record { entries = listed entries names; changes = cs; next_seq = next; settled_seq = settled } ≡ book
@@ -68,14 +54,7 @@ pub restored-value : (book : BookValue) (entries later : Entries) (names : List 
     → AreNames (entry_in entries) names → record { entries = listed entries names; changes = cs; next_seq = next; settled_seq = settled } ≡ book
     → entry_in entries e.name ≡ None → Puts entries later e
     → record { entries = listed later (names ++ e.name ∷ []); changes = cs; next_seq = e.put + 1; settled_seq = e.put + 1 } ≡ with_restored book e
-restored-value book entries later names cs e next settled h is unknown put =
-    (λ i. record {
-      entries = (ap (λ g. filter_map g (names ++ e.name ∷ [])) (λ j asked. put asked j) ∙ put-listed (entry_in entries) names e unknown h) i;
-      changes = cs;
-      next_seq = e.put + 1;
-      settled_seq = e.put + 1;
-    })
-    ∙ ap (λ b. with_restored b e) is
+restored-value book entries later names cs e next settled h is unknown put = grind (arith, put-listed (entry_in entries) names e unknown h)
 
 -- the entry of the change's name is changed
 pub book-change : (entries later : Entries) (names : List (List ℕ)) (cs : List Change) (c : Change) (flags puts capacity next settled more_flags room : ℕ) (change : Entry → Entry)
@@ -152,17 +131,7 @@ entry-value book entries names cs next settled name h is = sym (found (entry_in 
 -- one more entry, all of whose changes are settled
 
 changes-none : (flags puts capacity next settled place : ℕ) → AreChanges [] flags puts capacity next settled → AreChanges [] flags puts capacity place place
-changes-none flags puts capacity next settled place h = record {
-  parted = λ p. refl;
-  below_next = λ p le. refl;
-  waiting = refl;
-  settled_next = omega arith;
-  sparse = λ p. omega arith;
-  flags_are = h.flags_are;
-  puts_are = h.puts_are;
-  few = h.few;
-  room = h.room;
-}
+changes-none flags puts capacity next settled place h = grind arith
 
 pub book-restored : (entries later : Entries) (names : List (List ℕ)) (cs : List Change) (e : Entry) (flags puts capacity next settled : ℕ)
     → IsBook entries names cs flags puts capacity next settled → cs ≡ [] → entry_in entries e.name ≡ None → Puts entries later e

@@ -1,26 +1,15 @@
 -- Facts about filters and options.
-use Rattle.std.proofs.Common.{◌≡◌, Bool, true, false, not, List, [], ◌∷◌, Option, Some, None, refl, sym, ◌∙◌, ap, cond}
+use Rattle.std.proofs.Common.{◌≡◌, Bool, true, false, not, List, [], ◌∷◌, Option, Some, None, refl, sym, ◌∙◌, ap, cond, arith}
 use Rattle.std.specs.Prelude.{filter, option_map, is_some, Result, Ok, Err, OnErr}
 use Rattle.std.specs.Option.{option_map_or}
 
 pub filter-commutes : {X : Type 0} (p q : X → Bool) (xs : List X) → filter p (filter q xs) ≡ filter q (filter p xs)
 filter-commutes p q [] = refl
-filter-commutes p q (x ∷ xs) = at (p x) (q x) refl refl (filter-commutes p q xs)
-  where
-    at : (b c : Bool) → p x ≡ b → q x ≡ c → filter p (filter q xs) ≡ filter q (filter p xs)
-        → filter p (cond c (x ∷ filter q xs) (filter q xs)) ≡ filter q (cond b (x ∷ filter p xs) (filter p xs))
-    at true true e f h = ap (λ d. cond d (x ∷ filter p (filter q xs)) (filter p (filter q xs))) e ∙ ap (λ ys. x ∷ ys) h ∙ sym (ap (λ d. cond d (x ∷ filter q (filter p xs)) (filter q (filter p xs))) f)
-    at true false e f h = h ∙ sym (ap (λ d. cond d (x ∷ filter q (filter p xs)) (filter q (filter p xs))) f)
-    at false true e f h = ap (λ d. cond d (x ∷ filter p (filter q xs)) (filter p (filter q xs))) e ∙ h
-    at false false e f h = h
+filter-commutes p q (x ∷ xs) = grind (arith, filter-commutes p q xs)
 
 pub filter-against : {X : Type 0} (p : X → Bool) (xs : List X) → filter p (filter (λ x. not (p x)) xs) ≡ []
 filter-against p [] = refl
-filter-against p (x ∷ xs) = at (p x) refl (filter-against p xs)
-  where
-    at : (b : Bool) → p x ≡ b → filter p (filter (λ x. not (p x)) xs) ≡ [] → filter p (cond (not b) (x ∷ filter (λ x. not (p x)) xs) (filter (λ x. not (p x)) xs)) ≡ []
-    at true e h = h
-    at false e h = ap (λ d. cond d (x ∷ filter p (filter (λ x. not (p x)) xs)) (filter p (filter (λ x. not (p x)) xs))) e ∙ h
+filter-against p (x ∷ xs) = grind (arith, filter-against p xs)
 
 pub some_told : {X Y : Type 0} (f : X → Y) (o : Option X) (y d : Y) → Some y ≡ option_map f o → option_map_or f o d ≡ y
 some_told f None y d e = absurd (let h = e in cc)

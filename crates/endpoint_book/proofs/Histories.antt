@@ -18,16 +18,10 @@ use Rattle.endpoint_book.specs.Book.{Tells, View, endpoint_by_entry, shown_of, s
 -- The endpoint of an entry
 
 pub endpoint-entry : (book : BookValue) (records : List Record) (name : List ℕ) → Tells book records → endpoint_of records name ≡ option_map endpoint_by_entry (entry_of book name)
-endpoint-entry book records name h =
-    ap (find (λ (e : Endpoint). bytes_eq e.name name)) (sym h.endpoints)
-    ∙ find_map endpoint_by_entry (λ (e : Endpoint). bytes_eq e.name name) book.entries
+endpoint-entry book records name h = grind (arith, find_map)
 
 pub known-entry : (book : BookValue) (records : List Record) (name : List ℕ) → Tells book records → is_some (entry_of book name) ≡ has_endpoint records name
-known-entry book records name h = at (entry_of book name) ∙ ap is_some (sym (endpoint-entry book records name h))
-  where
-    at : (o : Option Entry) → is_some o ≡ is_some (option_map endpoint_by_entry o)
-    at None = refl
-    at (Some e) = refl
+known-entry book records name h = grind (arith, endpoint-entry book records name h)
 
 -- what all records show of it
 pub shown-now : (book : BookValue) (records : List Record) (name : List ℕ) → Tells book records → shown_of records name ≡ option_map now_of (entry_of book name)
@@ -52,11 +46,7 @@ secrets-told book records name h =
 -- what is asked of the endpoint is asked of the entry
 pub field-told : {X : Type 0} (book : BookValue) (records : List Record) (name : List ℕ) (f : Endpoint → X) → Tells book records
     → option_map (λ e. f (endpoint_by_entry e)) (entry_of book name) ≡ option_map f (endpoint_of records name)
-field-told book records name f h = at (entry_of book name) ∙ ap (option_map f) (sym (endpoint-entry book records name h))
-  where
-    at : (o : Option Entry) → option_map (λ e. f (endpoint_by_entry e)) o ≡ option_map f (option_map endpoint_by_entry o)
-    at None = refl
-    at (Some e) = refl
+field-told book records name f h = grind (arith, endpoint-entry book records name h)
 
 pub names-told : (book : BookValue) (records : List Record) → Tells book records → map (λ e. e.name) book.entries ≡ map (λ e. e.name) (endpoints records)
 names-told book records h = go book.entries ∙ ap (map (λ (e : Endpoint). e.name)) h.endpoints
@@ -69,73 +59,17 @@ names-told book records h = go book.entries ∙ ap (map (λ (e : Endpoint). e.na
 
 enumerate_from-append : {X : Type 0} (n : ℕ) (xs ys : List X) → enumerate_from n (xs ++ ys) ≡ enumerate_from n xs ++ enumerate_from (n + length xs) ys
 enumerate_from-append n [] ys = ap (λ m. enumerate_from m ys) (sym (add-zero n))
-enumerate_from-append n (x ∷ xs) ys = ap (λ zs. (n, x) ∷ zs) (enumerate_from-append (n + 1) xs ys ∙ ap (λ m. enumerate_from (n + 1) xs ++ enumerate_from m ys) moved)
-  where
-    moved : n + 1 + length xs ≡ n + suc (length xs)
-    moved = omega arith
+enumerate_from-append n (x ∷ xs) ys = grind (arith, enumerate_from-append (n + 1) xs ys)
 
 -- an endpoint of the first records is one of all
 pub endpoint-front : (records : List Record) (place : ℕ) (name : List ℕ) → is_some (endpoint_of (take place records) name) ≡ true → endpoint_of (take place records) name ≡ endpoint_of records name
-endpoint-front records place name there =
-    at (endpoint_of (take place records) name) there
-    ∙ sym (find-append test (endpoints (take place records)) later)
-    ∙ ap (find test) (sym parted)
-  where
-    test : Endpoint → Bool
-    test e = bytes_eq e.name name
-
-    later : List Endpoint
-    later = filter_map endpoint_by (enumerate_from (0 + length (take place records)) (drop place records))
-
-    parted : endpoints records ≡ endpoints (take place records) ++ later
-    parted =
-        ap (λ rs. filter_map endpoint_by (numbered rs)) (sym (take-append-drop place records))
-        ∙ ap (filter_map endpoint_by) (enumerate_from-append 0 (take place records) (drop place records))
-        ∙ filter_map-append endpoint_by (numbered (take place records)) (enumerate_from (0 + length (take place records)) (drop place records))
-
-    at : (o : Option Endpoint) → is_some o ≡ true → o ≡ option_or o (find test later)
-    at (Some e) h = refl
-    at None h = absurd (let no = h in cc)
+endpoint-front records place name there = grind (arith, take-append-drop place records, enumerate_from-append 0 (take place records) (drop place records), find-append, filter_map-append)
 
 -- what is shown of an endpoint that isn't there
 pub shown-none : (records : List Record) (place : ℕ) (name : List ℕ) → is_some (endpoint_of records name) ≡ false → shown_of (take place records) name ≡ None
-shown-none records place name none = at (endpoint_of (take place records) name) refl
-  where
-    at : (o : Option Endpoint) → endpoint_of (take place records) name ≡ o → shown_of (take place records) name ≡ None
-    at None e = ap (option_map (λ _. record { enabled = is_enabled (take place records) name; secrets = length (secrets_of (take place records) name) })) e
-    at (Some x) e = absurd (let there = ap is_some (sym (endpoint-front records place name (ap is_some e)) ∙ e) in let no = none in cc)
+shown-none records place name none = grind (arith, endpoint-front)
 
 -- an endpoint as the first records show it
 pub view-front : (book : BookValue) (records : List Record) (place : ℕ) (name : List ℕ) (o : Option Shown) → Tells book records → o ≡ shown_of (take place records) name
     → option_and_then (λ e. option_map (view_by e) o) (entry_of book name) ≡ view_of (take place records) name
-view-front book records place name o h shown = at (endpoint_of first name) refl
-  where
-    first : List Record
-    first = take place records
-
-    now : Shown
-    now = record { enabled = is_enabled first name; secrets = length (secrets_of first name) }
-
-    none : (p : Option Entry) → option_and_then (λ y. option_map (view_by y) None) p ≡ None
-    none None = refl
-    none (Some e) = refl
-
-    view : Endpoint → View
-    view x = record { name = x.name; target = x.target; max = x.max; enabled = now.enabled; secrets = now.secrets }
-
-    some : (x : Endpoint) (p : Option Entry) → Some x ≡ option_map endpoint_by_entry p → option_and_then (λ e. option_map (view_by e) (Some now)) p ≡ Some (view x)
-    some x None is = absurd (let no = is in cc)
-    some x (Some e) is = ap (λ y. Some (view y)) (sym (some_is is))
-      where
-        some_is : {y z : Endpoint} → Some y ≡ Some z → y ≡ z
-        some_is e = cc
-
-    at : (p : Option Endpoint) → endpoint_of first name ≡ p → option_and_then (λ e. option_map (view_by e) o) (entry_of book name) ≡ option_map view (endpoint_of first name)
-    at None e =
-        ap (λ s. option_and_then (λ y. option_map (view_by y) s) (entry_of book name)) (shown ∙ ap (option_map (λ _. now)) e)
-        ∙ none (entry_of book name)
-        ∙ sym (ap (option_map view) e)
-    at (Some x) e =
-        ap (λ s. option_and_then (λ y. option_map (view_by y) s) (entry_of book name)) (shown ∙ ap (option_map (λ _. now)) e)
-        ∙ some x (entry_of book name) (sym e ∙ endpoint-front records place name (ap is_some e) ∙ endpoint-entry book records name h)
-        ∙ sym (ap (option_map view) e)
+view-front book records place name o h shown = grind (arith, endpoint-entry book records name h, endpoint-front)

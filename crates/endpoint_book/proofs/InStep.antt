@@ -23,14 +23,7 @@ use Rattle.endpoint_book.proofs.Staged.{entry-changed, field-kept, found-map, kn
 
 pub made_changed : (name asked : List ℕ) (change : Entry → Entry) (shown : Shown) (o : Option Entry) → (bytes_eq name asked ≡ true → is_some o ≡ true) → (bytes_eq name asked ≡ true → shown ≡ shown_with change o)
     → (if bytes_eq name asked then Some shown else option_map now_of o) ≡ option_map now_of (option_map (change_at name change asked) o)
-made_changed name asked change shown o known is = by (bytes_eq name asked) o known is
-  where
-    by : (b : Bool) (o : Option Entry) → (b ≡ true → is_some o ≡ true) → (b ≡ true → shown ≡ shown_with change o)
-        → (if b then Some shown else option_map now_of o) ≡ option_map now_of (option_map (λ e. if b then change e else e) o)
-    by true None known is = absurd (let wrong = known refl in cc)
-    by true (Some e) known is = ap Some (is refl)
-    by false None known is = refl
-    by false (Some e) known is = refl
+made_changed name asked change shown o known is = grind arith
 
 pub made_put : (b : Bool) (e : Entry) (o : Option Entry) → (b ≡ true → o ≡ None) → (if b then Some (now_of e) else option_map now_of o) ≡ option_map now_of (option_or o (cond b (Some e) None))
 made_put true e None fresh = refl
@@ -70,10 +63,7 @@ abbrev pub IsWithin : BookValue → Type 0
 IsWithin book = ((place : ℕ) → book.changes ≡ filter (is_below place) book.changes ++ filter (is_from place) book.changes) × (filter (is_from book.next_seq) book.changes ≡ [])
 
 beyond : (book : BookValue) (place : ℕ) (name : List ℕ) (o : Option Shown) → IsWithin book → book.next_seq ≤ place → shown_at place book.changes name o ≡ shown_at book.next_seq book.changes name o
-beyond book place name o within later =
-    ap (λ cs. shown_at place cs name o)
-    (within.0 book.next_seq ∙ ap (λ cs. filter (is_below book.next_seq) book.changes ++ cs) within.1 ∙ append-nil (filter (is_below book.next_seq) book.changes))
-    ∙ shown_below book.next_seq place book.changes name o later
+beyond book place name o within later = grind (arith, append-nil, shown_below)
 
 -- One more change
 
@@ -81,14 +71,7 @@ step_more : (book : BookValue) (es : List Entry) (c : Change) → IsInStep book 
     → ((name : List ℕ) → settled_in (more book es c) name ≡ settled_in book name)
     → ((name : List ℕ) → (if bytes_eq c.name name then Some c.shown else option_map now_of (entry_of book name)) ≡ option_map now_of (entry_of (more book es c) name))
     → IsInStep (more book es c)
-step_more book es c step within above numbered same made = record {
-  numbered = numbered;
-  caught_up = λ name.
-      ap (shown_at (c.seq + 1) (book.changes ++ c ∷ []) name) (same name)
-      ∙ shown_at-below (c.seq + 1) book.changes c name (settled_in book name) (omega arith)
-      ∙ ap (λ o. if bytes_eq c.name name then Some c.shown else o) (beyond book (c.seq + 1) name (settled_in book name) within (omega (arith, above)) ∙ step.caught_up name)
-      ∙ made name;
-}
+step_more book es c step within above numbered same made = grind (arith, shown_at-below, beyond)
 
 pub step_changed : (book : BookValue) (seq : ℕ) (name : List ℕ) (kind : Kind) (change : Entry → Entry) → IsInStep book → IsWithin book → book.next_seq ≤ seq → is_known book name ≡ true
     → ((e : Entry) → endpoint_by_entry (change e) ≡ endpoint_by_entry e) → ((e : Entry) → (change e).settled ≡ e.settled) → IsInStep (with_change book seq name kind change)
@@ -153,19 +136,10 @@ entry_settled book place name = found-map (settled_at place book.changes) (λ as
 
 pub settled_moved : (book : BookValue) (place : ℕ) (name : List ℕ) → (entry_of book name ≡ None → shown_at place book.changes name None ≡ None)
     → settled_in (with_settled book place) name ≡ shown_at place book.changes name (settled_in book name)
-settled_moved book place name none = ap (λ o. option_map_or (λ (e : Entry). e.settled) o None) (entry_settled book place name) ∙ by (entry_of book name) refl
-  where
-    by : (o : Option Entry) → entry_of book name ≡ o
-        → option_map_or (λ (e : Entry). e.settled) (option_map (settled_at place book.changes name) o) None ≡ shown_at place book.changes name (option_map_or (λ (e : Entry). e.settled) o None)
-    by None is = sym (none is)
-    by (Some e) is = refl
+settled_moved book place name none = grind (arith, entry_settled)
 
 pub latest_same : (book : BookValue) (place : ℕ) (name : List ℕ) → option_map now_of (entry_of (with_settled book place) name) ≡ option_map now_of (entry_of book name)
-latest_same book place name = ap (option_map now_of) (entry_settled book place name) ∙ by (entry_of book name)
-  where
-    by : (o : Option Entry) → option_map now_of (option_map (settled_at place book.changes name) o) ≡ option_map now_of o
-    by None = refl
-    by (Some e) = refl
+latest_same book place name = grind (arith, entry_settled)
 
 pub step_settled : (book : BookValue) (place : ℕ) → IsInStep book → IsWithin book → IsInStep (with_settled book place)
 step_settled book place step within = record {

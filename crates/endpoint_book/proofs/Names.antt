@@ -1,5 +1,5 @@
 -- The entries of the names, and what a change of one of them makes of the list.
-use Rattle.std.proofs.Common.{◌≡◌, ℕ, Bool, true, false, ◌||◌, List, [], ◌∷◌, ◌++◌, Option, Some, None, refl, sym, ◌∙◌, ap, cond, map}
+use Rattle.std.proofs.Common.{◌≡◌, ℕ, Bool, true, false, ◌||◌, List, [], ◌∷◌, ◌++◌, Option, Some, None, refl, sym, ◌∙◌, ap, cond, map, arith}
 use Rattle.std.specs.Prelude.{find, filter_map, is_some, bytes_eq, option_map, if◌then◌else◌}
 use Rattle.std.specs.List.{list_any, list_all, cons_option}
 use Rattle.std.specs.Cmp.Lexicographic.{bytes_decides}
@@ -14,34 +14,11 @@ use Rattle.endpoint_book.proofs.Filters.{is_some-map}
 found_in : (g : List ℕ → Option Entry) → ((name : List ℕ) (e : Entry) → g name ≡ Some e → e.name ≡ name) → (name : List ℕ) (names : List (List ℕ))
     → find (is_named name) (filter_map g names) ≡ (if list_any (λ n. bytes_eq n name) names then g name else None)
 found_in g keyed name [] = refl
-found_in g keyed name (n ∷ names) = at (g n) refl (bytes_eq n name) refl (found_in g keyed name names)
-  where
-    none_both : (b : Bool) (o : Option Entry) → o ≡ None → (if b then o else None) ≡ None
-    none_both true o e = e
-    none_both false o e = refl
-
-    at : (o : Option Entry) → g n ≡ o → (b : Bool) → bytes_eq n name ≡ b
-        → find (is_named name) (filter_map g names) ≡ (if list_any (λ m. bytes_eq m name) names then g name else None)
-        → find (is_named name) (cons_option o (filter_map g names)) ≡ (if b || list_any (λ m. bytes_eq m name) names then g name else None)
-    at None e true same h =
-        let none : g name ≡ None = ap g (sym ((bytes_decides n name).0 same)) ∙ e in
-        h ∙ none_both (list_any (λ m. bytes_eq m name) names) (g name) none ∙ sym none
-    at None e false other h = h
-    at (Some x) e true same h =
-        ap (λ b. cond b (Some x) (find (is_named name) (filter_map g names))) (ap (λ t. bytes_eq t name) (keyed n x e) ∙ same)
-        ∙ sym e ∙ ap g ((bytes_decides n name).0 same)
-    at (Some x) e false other h =
-        ap (λ b. cond b (Some x) (find (is_named name) (filter_map g names))) (ap (λ t. bytes_eq t name) (keyed n x e) ∙ other)
-        ∙ h
+found_in g keyed name (n ∷ names) = grind (arith, bytes_decides, found_in g keyed name names)
 
 -- a look-up finds what the list of the entries has
 pub found : (g : List ℕ → Option Entry) (names : List (List ℕ)) (name : List ℕ) → AreNames g names → find (is_named name) (filter_map g names) ≡ g name
-found g names name h = found_in g h.keyed name names ∙ at (g name) (list_any (λ n. bytes_eq n name) names) refl refl
-  where
-    at : (o : Option Entry) (b : Bool) → g name ≡ o → list_any (λ n. bytes_eq n name) names ≡ b → (if b then o else None) ≡ o
-    at o true e f = refl
-    at None false e f = refl
-    at (Some x) false e f = absurd (let covered = h.covered name (ap is_some e) in let no = f in cc)
+found g names name h = grind (arith, found_in)
 
 -- the entries stand in the order of the names
 pub named : (g : List ℕ → Option Entry) (names : List (List ℕ)) → AreNames g names → map (λ e. e.name) (filter_map g names) ≡ names
@@ -101,11 +78,7 @@ changed-listed g names change h = go names
 -- One more entry, of a name that none has
 
 other_name : (g : List ℕ → Option Entry) (e : Entry) (n : List ℕ) → g e.name ≡ None → is_some (g n) ≡ true → bytes_eq e.name n ≡ false
-other_name g e n unknown there = at (bytes_eq e.name n) refl
-  where
-    at : (b : Bool) → bytes_eq e.name n ≡ b → b ≡ false
-    at true same = absurd (let no = ap is_some (sym (ap g ((bytes_decides e.name n).0 same)) ∙ unknown) in let yes = there in cc)
-    at false other = refl
+other_name g e n unknown there = grind (arith, bytes_decides)
 
 old_stay : (g : List ℕ → Option Entry) (e : Entry) (ns : List (List ℕ)) → g e.name ≡ None → list_all (λ n. is_some (g n)) ns ≡ true
     → (filter_map (with_entry g e) ns ≡ filter_map g ns) × (list_all (λ n. is_some (with_entry g e n)) ns ≡ true)
@@ -121,37 +94,10 @@ itself name = (bytes_decides name name).1 refl
 
 pub put-listed : (g : List ℕ → Option Entry) (names : List (List ℕ)) (e : Entry) → g e.name ≡ None → AreNames g names
     → filter_map (with_entry g e) (names ++ e.name ∷ []) ≡ filter_map g names ++ e ∷ []
-put-listed g names e unknown h =
-    filter_map-append (with_entry g e) names (e.name ∷ [])
-    ∙ λ i. (old_stay g e names unknown h.each).0 i ++ cons_option (if itself e.name i then Some e else g e.name) []
+put-listed g names e unknown h = grind (arith, filter_map-append, old_stay, itself)
 
 pub put-names : (g : List ℕ → Option Entry) (names : List (List ℕ)) (e : Entry) → g e.name ≡ None → AreNames g names → AreNames (with_entry g e) (names ++ e.name ∷ [])
-put-names g names e unknown h = record {
-  keyed = λ name x is. keyed_at name x (bytes_eq e.name name) refl is;
-  covered = λ name there. list_any-append (λ n. bytes_eq n name) names (e.name ∷ []) ∙ covered_at name (bytes_eq e.name name) refl there;
-  each =
-      list_all-append (λ n. is_some (with_entry g e n)) names (e.name ∷ [])
-      ∙ and_both _ _ (old_stay g e names unknown h.each).1 (and_both _ _ (ap (λ b. is_some (if b then Some e else g e.name)) (itself e.name)) refl);
-}
-  where
-    some_is : {x y : Entry} → Some x ≡ Some y → x ≡ y
-    some_is e = cc
-
-    keyed_at : (name : List ℕ) (x : Entry) (b : Bool) → bytes_eq e.name name ≡ b → (if b then Some e else g name) ≡ Some x → x.name ≡ name
-    keyed_at name x true same is = sym (ap (λ (y : Entry). y.name) (some_is is)) ∙ (bytes_decides e.name name).0 same
-    keyed_at name x false other is = h.keyed name x is
-
-    or_true : (b : Bool) → b || true ≡ true
-    or_true true = refl
-    or_true false = refl
-
-    covered_at : (name : List ℕ) (b : Bool) → bytes_eq e.name name ≡ b → is_some (if b then Some e else g name) ≡ true → list_any (λ n. bytes_eq n name) names || (b || false) ≡ true
-    covered_at name true same there = or_true (list_any (λ n. bytes_eq n name) names)
-    covered_at name false other there = ap (λ b. b || false) (h.covered name there)
+put-names g names e unknown h = grind (arith, old_stay g e names unknown h.each, itself e.name, list_any-append, list_all-append, and_both, bytes_decides)
 
 pub change_at-name : (name : List ℕ) (change : Entry → Entry) → ((e : Entry) → (change e).name ≡ e.name) → (asked : List ℕ) (e : Entry) → (change_at name change asked e).name ≡ e.name
-change_at-name name change keeps asked e = at (bytes_eq name asked)
-  where
-    at : (b : Bool) → (if b then change e else e).name ≡ e.name
-    at true = keeps e
-    at false = refl
+change_at-name name change keeps asked e = grind arith

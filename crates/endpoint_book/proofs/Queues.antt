@@ -1,4 +1,5 @@
 -- The changes that aren't settled, with one more and without those that are settled.
+use Rattle.std.proofs.lemmas.Grind.{common_steps}
 use Rattle.std.proofs.Common.{◌≡◌, ℕ, ◌+◌, ◌-◌, ◌<◌, ◌≤◌, Bool, true, false, not, List, [], ◌∷◌, ◌++◌, length, refl, sym, ◌∙◌, ap, cond, arith, ⊎_elim, length-append, append_assoc, append-nil}
 use Rattle.std.specs.Prelude.{filter, count_by, max}
 use Rattle.std.proofs.lemmas.Bool.{cases_lt, lt-ltb, le-ltb}
@@ -13,16 +14,10 @@ use Rattle.endpoint_book.proofs.Filters.{filter-commutes, filter-against}
 
 -- a change that stands below the place, or from it on
 pub below_more : (place : ℕ) (cs : List Change) (c : Change) → c.seq < place → (filter (is_below place) (cs ++ c ∷ []) ≡ filter (is_below place) cs ++ c ∷ []) × (filter (is_from place) (cs ++ c ∷ []) ≡ filter (is_from place) cs)
-below_more place cs c h = (
-  filter-append (is_below place) cs (c ∷ []) ∙ ap (λ b. filter (is_below place) cs ++ cond b (c ∷ []) []) (lt-ltb c.seq place h),
-  filter-append (is_from place) cs (c ∷ []) ∙ ap (λ b. filter (is_from place) cs ++ cond (not b) (c ∷ []) []) (lt-ltb c.seq place h) ∙ append-nil (filter (is_from place) cs),
-)
+below_more place cs c h = grind (arith, filter-append, lt-ltb, append-nil)
 
 pub from_more : (place : ℕ) (cs : List Change) (c : Change) → place ≤ c.seq → (filter (is_below place) (cs ++ c ∷ []) ≡ filter (is_below place) cs) × (filter (is_from place) (cs ++ c ∷ []) ≡ filter (is_from place) cs ++ c ∷ [])
-from_more place cs c h = (
-  filter-append (is_below place) cs (c ∷ []) ∙ ap (λ b. filter (is_below place) cs ++ cond b (c ∷ []) []) (le-ltb c.seq place h) ∙ append-nil (filter (is_below place) cs),
-  filter-append (is_from place) cs (c ∷ []) ∙ ap (λ b. filter (is_from place) cs ++ cond (not b) (c ∷ []) []) (le-ltb c.seq place h),
-)
+from_more place cs c h = grind (arith, filter-append, le-ltb, append-nil)
 
 one_most : (b : Bool) → cond b 1 0 ≤ 1
 one_most true = omega arith
@@ -38,44 +33,7 @@ puts_kept cs place = omega (arith, sum_by-filter_both (is_below place) (is_from 
 pub changes-push : (cs : List Change) (c : Change) (flags puts capacity next settled more_flags more_puts room : ℕ) → AreChanges cs flags puts capacity next settled → next ≤ c.seq
     → more_flags ≡ flags + cond (is_flag c) 1 0 → more_puts ≡ puts + cond (is_put c) 1 0 → more_flags ≤ MAX_FLAGS → length cs + 1 + MAX_FLAGS ≤ room + more_flags
     → AreChanges (cs ++ c ∷ []) more_flags more_puts room (c.seq + 1) settled
-changes-push cs c flags puts capacity next settled more_flags more_puts room h above f p few fits = record {
-  parted = λ place. ⊎_elim (parted_below place) (parted_from place) (cases_lt c.seq place);
-  below_next = λ place le. (below_more place cs c (omega (arith, le))).1 ∙ h.below_next place (omega (arith, le, above));
-  waiting = (from_more settled cs c (omega (arith, above, h.settled_next))).0 ∙ h.waiting;
-  settled_next = omega (arith, above, h.settled_next);
-  sparse = λ place. ⊎_elim (sparse_below place) (sparse_from place) (cases_lt c.seq place);
-  flags_are = f ∙ ap (λ n. n + cond (is_flag c) 1 0) h.flags_are ∙ sym (sum_by_push (λ x. cond (is_flag x) 1 0) cs c);
-  puts_are = p ∙ ap (λ n. n + cond (is_put c) 1 0) h.puts_are ∙ sym (sum_by_push (λ x. cond (is_put x) 1 0) cs c);
-  few = few;
-  room = omega (arith, fits, length-append cs (c ∷ []));
-}
-  where
-    parted_below : (place : ℕ) → c.seq < place → cs ++ c ∷ [] ≡ filter (is_below place) (cs ++ c ∷ []) ++ filter (is_from place) (cs ++ c ∷ [])
-    parted_below place lt =
-        let none = h.below_next place (omega (arith, lt, above)) in
-        ap (λ ds. ds ++ c ∷ []) (h.parted place ∙ ap (λ ds. filter (is_below place) cs ++ ds) none ∙ append-nil (filter (is_below place) cs))
-        ∙ sym ((λ i. (below_more place cs c lt).0 i ++ ((below_more place cs c lt).1 ∙ none) i) ∙ append-nil (filter (is_below place) cs ++ c ∷ []))
-
-    sparse_below : (place : ℕ) → c.seq < place → count_by is_flag (filter (is_from place) (cs ++ c ∷ [])) ≤ c.seq + 1 - place
-    sparse_below place lt = omega (arith, ap (count_by is_flag) ((below_more place cs c lt).1 ∙ h.below_next place (omega (arith, lt, above))))
-
-    sparse_from : (place : ℕ) → place ≤ c.seq → count_by is_flag (filter (is_from place) (cs ++ c ∷ [])) ≤ c.seq + 1 - place
-    sparse_from place ge =
-        omega (
-          arith,
-          ap (count_by is_flag) (from_more place cs c ge).1,
-          sum_by_push (λ x. cond (is_flag x) 1 0) (filter (is_from place) cs) c,
-          one_most (is_flag c),
-          h.sparse place,
-          above,
-          ge,
-        )
-
-    parted_from : (place : ℕ) → place ≤ c.seq → cs ++ c ∷ [] ≡ filter (is_below place) (cs ++ c ∷ []) ++ filter (is_from place) (cs ++ c ∷ [])
-    parted_from place ge =
-        ap (λ ds. ds ++ c ∷ []) (h.parted place)
-        ∙ append_assoc (filter (is_below place) cs) (filter (is_from place) cs) (c ∷ [])
-        ∙ sym (λ i. (from_more place cs c ge).0 i ++ (from_more place cs c ge).1 i)
+changes-push cs c flags puts capacity next settled more_flags more_puts room h above f p few fits = grind (arith, common_steps, length-append cs (c ∷ []), one_most (is_flag c))
 
 pub changes-keep : (cs : List Change) (flags puts capacity next settled place : ℕ) → AreChanges cs flags puts capacity next settled → settled ≤ place
     → AreChanges (filter (is_from place) cs) (count_by is_flag (filter (is_from place) cs)) (count_by is_put (filter (is_from place) cs)) capacity (max next place) place

@@ -23,21 +23,15 @@ use Rattle.endpoint_book.proofs.Filters.{none_if}
 -- Of a name that no endpoint has, no record of a legal history speaks, as there is no row of it
 
 unknown-row : (records : List Record) (name : List ℕ) → has_endpoint records name ≡ false → row_named (rows_of records) name ≡ None
-unknown-row records name unknown =
-    find_map (endpoint_row records) (λ (e : EndpointRow). bytes_eq e.name name) (endpoints records)
-    ∙ ap (option_map (endpoint_row records)) (none_if (endpoint_of records name) unknown)
+unknown-row records name unknown = grind (arith, find_map, none_if)
 
 unknown-enabled : (records : List Record) (name : List ℕ) → IsLegal records → has_endpoint records name ≡ false
     → true ≡ is_enabled records name
-unknown-enabled records name legal unknown =
-    sym (ap (λ o. option_map_or (λ (e : EndpointRow). e.enabled) o true) (unknown-row records name unknown))
-    ∙ enabled-told records name legal
+unknown-enabled records name legal unknown = cc (unknown-row records name unknown, enabled-told records name legal)
 
 unknown-secrets : (records : List Record) (name : List ℕ) → IsLegal records → has_endpoint records name ≡ false
     → [] ≡ secrets_of records name
-unknown-secrets records name legal unknown =
-    sym (ap (λ o. option_map_or (λ (e : EndpointRow). secrets_at (rows_of records) e.put) o []) (unknown-row records name unknown))
-    ∙ secrets-told records name legal
+unknown-secrets records name legal unknown = cc (unknown-row records name unknown, secrets-told records name legal)
 
 -- The entry of a name
 
@@ -56,11 +50,7 @@ module _ (records : List Record) (legal : IsLegal records) (next : ℕ) (below :
   told : {X : Type 0} (ask : Entry → X) (none : X) (answer : List ℕ → X) (name : List ℕ)
       → ((e : Endpoint) → ask (entry_for records e) ≡ answer e.name) → (has_endpoint records name ≡ false → none ≡ answer name)
       → option_map_or ask (find (is_named name) (map (entry_for records) (endpoints records))) none ≡ answer name
-  told ask none answer name known unknown = ap (λ o. option_map_or ask o none) (entry-restored name) ∙ at (endpoint_of records name) refl
-    where
-      at : (o : Option Endpoint) → endpoint_of records name ≡ o → option_map_or ask (option_map (entry_for records) o) none ≡ answer name
-      at (Some e) is = known e ∙ ap answer (found-named records name e is)
-      at None is = unknown (ap is_some is)
+  told ask none answer name known unknown = grind (arith, entry-restored, found-named)
 
   shown-restored : (name : List ℕ)
       → option_map_or (λ (e : Entry). e.settled) (find (is_named name) (map (entry_for records) (endpoints records))) None ≡ shown_of records name
@@ -96,7 +86,4 @@ module _ (records : List Record) (legal : IsLegal records) (next : ℕ) (below :
   }
 
 pub stands-restored : (book : BookValue) (records : List Record) → IsLegal records → IsRestored book records → StandsFor book records (length records)
-stands-restored book records legal h = subst (λ b. StandsFor b records (length records)) same (stands records legal book.next_seq h.next_seq)
-  where
-    same : restored records legal book.next_seq h.next_seq ≡ book
-    same = λ i. record { entries = sym h.entries i; changes = sym h.changes i; next_seq = book.next_seq; settled_seq = sym h.settled_seq i }
+stands-restored book records legal h = grind (arith, stands)

@@ -20,17 +20,11 @@ and_true false = refl
 
 -- one more change, which stands at the place or above, or below it
 pub shown_at-above : (place : ℕ) (cs : List Change) (c : Change) (name : List ℕ) (o : Option Shown) → place ≤ c.seq → shown_at place (cs ++ c ∷ []) name o ≡ shown_at place cs name o
-shown_at-above place cs c name o h =
-    shown_at-append place cs (c ∷ []) name o
-    ∙ ap (λ b. if bytes_eq c.name name && b then Some c.shown else shown_at place cs name o) (le-ltb c.seq place h)
-    ∙ ap (λ b. if b then Some c.shown else shown_at place cs name o) (and_false (bytes_eq c.name name))
+shown_at-above place cs c name o h = grind (arith, shown_at-append, le-ltb, and_false)
 
 pub shown_at-below : (place : ℕ) (cs : List Change) (c : Change) (name : List ℕ) (o : Option Shown) → c.seq < place
     → shown_at place (cs ++ c ∷ []) name o ≡ (if bytes_eq c.name name then Some c.shown else shown_at place cs name o)
-shown_at-below place cs c name o h =
-    shown_at-append place cs (c ∷ []) name o
-    ∙ ap (λ b. if bytes_eq c.name name && b then Some c.shown else shown_at place cs name o) (lt-ltb c.seq place h)
-    ∙ ap (λ b. if b then Some c.shown else shown_at place cs name o) (and_true (bytes_eq c.name name))
+shown_at-below place cs c name o h = grind (arith, shown_at-append, lt-ltb, and_true)
 
 -- the changes below a place are all that count there
 pub shown_below : (place later : ℕ) (cs : List Change) (name : List ℕ) (o : Option Shown) → place ≤ later → shown_at later (filter (is_below place) cs) name o ≡ shown_at place cs name o
@@ -47,10 +41,7 @@ shown_below place later (c ∷ cs) name o h = at (nat_lt c.seq place) refl (λ p
 -- the changes up to a place and then the others
 pub shown_in_turn : (place later : ℕ) (cs : List Change) (name : List ℕ) (o : Option Shown) → place ≤ later → cs ≡ filter (is_below place) cs ++ filter (is_from place) cs
     → shown_at later (filter (is_from place) cs) name (shown_at place cs name o) ≡ shown_at later cs name o
-shown_in_turn place later cs name o h parted =
-    ap (shown_at later (filter (is_from place) cs) name) (sym (shown_below place later cs name o h))
-    ∙ sym (shown_at-append later (filter (is_below place) cs) (filter (is_from place) cs) name o)
-    ∙ ap (λ ds. shown_at later ds name o) (sym parted)
+shown_in_turn place later cs name o h parted = grind (arith, shown_below, shown_at-append)
 
 -- where no change stands below the place, nothing is changed
 pub shown_still : (place : ℕ) (cs : List Change) (name : List ℕ) (o : Option Shown) → filter (is_below place) cs ≡ [] → shown_at place cs name o ≡ o
@@ -59,12 +50,7 @@ shown_still place cs name o none = sym (shown_below place place cs name o (omega
 -- what stands at a later place stands at this one or above
 pub from_later : (place later : ℕ) (cs : List Change) → place ≤ later → filter (is_from later) (filter (is_from place) cs) ≡ filter (is_from later) cs
 from_later place later [] h = refl
-from_later place later (c ∷ cs) h = at (nat_lt c.seq place) refl (from_later place later cs h)
-  where
-    at : (b : Bool) → nat_lt c.seq place ≡ b → filter (is_from later) (filter (is_from place) cs) ≡ filter (is_from later) cs
-        → filter (is_from later) (cond (not b) (c ∷ filter (is_from place) cs) (filter (is_from place) cs)) ≡ cond (not (nat_lt c.seq later)) (c ∷ filter (is_from later) cs) (filter (is_from later) cs)
-    at true e rest = rest ∙ sym (ap (λ b. cond (not b) (c ∷ filter (is_from later) cs) (filter (is_from later) cs)) (lt-ltb c.seq later (omega (arith, ltb-true c.seq place e, h))))
-    at false e rest = ap (λ ds. cond (not (nat_lt c.seq later)) (c ∷ ds) ds) rest
+from_later place later (c ∷ cs) h = grind (arith, from_later place later cs h)
 
 -- where no change stands below the place, all stand from it on
 pub from_all : (place : ℕ) (cs : List Change) → filter (is_below place) cs ≡ [] → cs ≡ filter (is_below place) cs ++ filter (is_from place) cs → filter (is_from place) cs ≡ cs

@@ -1,4 +1,5 @@
 -- The histories for which a book stands with one more record of an endpoint.
+use Rattle.std.proofs.lemmas.Grind.{common_steps}
 use Rattle.std.proofs.Common.{◌≡◌, ℕ, ◌+◌, ◌<◌, ◌≤◌, Bool, true, false, ◌&&◌, List, [], ◌∷◌, ◌++◌, Option, Some, None, length, take, drop, map, refl, sym, ◌∙◌, ap, cond, arith, ⊎_elim, IsTrue, length-append, append-nil}
 use Rattle.std.specs.Prelude.{filter, find, is_some, bytes_eq, count_by, option_map, unwrap_or, if◌then◌else◌}
 use Rattle.std.specs.List.{cons_option}
@@ -32,12 +33,7 @@ use Rattle.endpoint_book.proofs.Histories.{shown-now}
 pub found-map : (F : List ℕ → Entry → Entry) → ((name : List ℕ) (e : Entry) → (F name e).name ≡ e.name) → (es : List Entry) (name : List ℕ)
     → find (is_named name) (map (λ e. F e.name e) es) ≡ option_map (F name) (find (is_named name) es)
 found-map F keeps [] name = refl
-found-map F keeps (e ∷ es) name = ap (λ b. cond b (Some (F e.name e)) (find (is_named name) (map (λ x. F x.name x) es))) (ap (λ t. bytes_eq t name) (keeps e.name e)) ∙ at (bytes_eq e.name name) refl (found-map F keeps es name)
-  where
-    at : (b : Bool) → bytes_eq e.name name ≡ b → find (is_named name) (map (λ x. F x.name x) es) ≡ option_map (F name) (find (is_named name) es)
-        → cond b (Some (F e.name e)) (find (is_named name) (map (λ x. F x.name x) es)) ≡ option_map (F name) (cond b (Some e) (find (is_named name) es))
-    at true same rest = ap (λ t. Some (F t e)) ((bytes_decides e.name name).0 same)
-    at false other rest = rest
+found-map F keeps (e ∷ es) name = grind (arith, bytes_decides, found-map F keeps es name)
 
 -- One more record
 
@@ -100,21 +96,7 @@ shows-more book records settled r c es place h at_end later tells same here else
 
 flags-more : (book : BookValue) (records : List Record) (settled : ℕ) (r : Record) (c : Change) (place : ℕ) → StandsFor book records settled → c.seq ≡ length records → settled ≤ place
     → cond (is_flag c) 1 0 ≤ cond (sets_flag r) 1 0 → count_from is_flag place (book.changes ++ c ∷ []) ≤ count_by sets_flag (drop place (records ++ r ∷ []))
-flags-more book records settled r c place h at_end later flag = ⊎_elim below above (cases_lt c.seq place)
-  where
-    below : c.seq < place → count_from is_flag place (book.changes ++ c ∷ []) ≤ count_by sets_flag (drop place (records ++ r ∷ []))
-    below lt = omega (arith, ap (count_by is_flag) (below_more place book.changes c lt).1, h.flags place later, ap (count_by sets_flag) (drop_all place records (omega (arith, lt, at_end))))
-
-    above : place ≤ c.seq → count_from is_flag place (book.changes ++ c ∷ []) ≤ count_by sets_flag (drop place (records ++ r ∷ []))
-    above ge = omega (
-      arith,
-      ap (count_by is_flag) (from_more place book.changes c ge).1,
-      sum_by_push (λ x. cond (is_flag x) 1 0) (filter (is_from place) book.changes) c,
-      h.flags place later,
-      ap (count_by sets_flag) (drop-append-le place records (r ∷ []) (omega (arith, ge, at_end))),
-      sum_by_push (λ x. cond (sets_flag x) 1 0) (drop place records) r,
-      flag,
-    )
+flags-more book records settled r c place h at_end later flag = grind (arith, common_steps)
 
 pub stands-more : (book : BookValue) (records : List Record) (settled : ℕ) (r : Record) (c : Change) (es : List Entry) → StandsFor book records settled → IsLegal (records ++ r ∷ []) → c.seq ≡ length records
     → Tells (more book es c) (records ++ r ∷ [])
@@ -149,21 +131,11 @@ unchanged name change asked (Some e) other = ap (λ b. Some (if b then change e 
 pub field-kept : {X : Type 0} (name : List ℕ) (change : Entry → Entry) (asked : List ℕ) (f : Entry → X) (d : X) → ((e : Entry) → f (change e) ≡ f e) → (o : Option Entry)
     → option_map_or f (option_map (change_at name change asked) o) d ≡ option_map_or f o d
 field-kept name change asked f d keeps None = refl
-field-kept name change asked f d keeps (Some e) = at (bytes_eq name asked)
-  where
-    at : (b : Bool) → f (if b then change e else e) ≡ f e
-    at true = keeps e
-    at false = refl
+field-kept name change asked f d keeps (Some e) = grind arith
 
 field-set : {X : Type 0} (name : List ℕ) (change : Entry → Entry) (asked : List ℕ) (f : Entry → X) (d x : X) → ((e : Entry) → f (change e) ≡ x) → (o : Option Entry)
     → (bytes_eq name asked ≡ true → is_some o ≡ true) → option_map_or f (option_map (change_at name change asked) o) d ≡ unwrap_or (if bytes_eq name asked then Some x else None) (option_map_or f o d)
-field-set name change asked f d x sets o known = at (bytes_eq name asked) o known
-  where
-    at : (b : Bool) (o : Option Entry) → (b ≡ true → is_some o ≡ true) → option_map_or f (option_map (λ e. if b then change e else e) o) d ≡ unwrap_or (if b then Some x else None) (option_map_or f o d)
-    at true (Some e) k = sets e
-    at true None k = absurd (let no = k refl in cc)
-    at false (Some e) k = refl
-    at false None k = refl
+field-set name change asked f d x sets o known = grind arith
 
 pub keeps-endpoints : (name : List ℕ) (change : Entry → Entry) → ((e : Entry) → endpoint_by_entry (change e) ≡ endpoint_by_entry e) → (es : List Entry)
     → map endpoint_by_entry (map (λ e. change_at name change e.name e) es) ≡ map endpoint_by_entry es

@@ -1,5 +1,5 @@
 -- What a change of the map changes of the entries by name.
-use Rattle.std.proofs.Common.{◌≡◌, ℕ, Bool, true, false, List, Option, Some, None, refl, ◌∙◌, ap, cond, subst}
+use Rattle.std.proofs.Common.{◌≡◌, ℕ, Bool, true, false, List, Option, Some, None, refl, ◌∙◌, ap, cond, subst, arith}
 use Rattle.std.specs.Prelude.{bytes_eq, option_map, IsSome, if◌then◌else◌}
 use Rattle.std.specs.BTreeMap.{BTreeMap, get, is_at, WritesThrough}
 use Rattle.std.specs.Cmp.Lexicographic.{bytes_decides}
@@ -19,15 +19,4 @@ put_in old new e asked updated = updated (record { name = asked }) ∙ ap (λ b.
 pub changed_in : (old : Entries) (new : BTreeMap NameKey Entry) (name asked : List ℕ) (e : Entry) (change : Entry → Entry) → Some e ≡ entry_in old name
     → WritesThrough name_cmp (name_cmp (record { name = name })) old.by_name (change e) new
     → entry_in (record { by_name = new }) asked ≡ option_map (λ x. if bytes_eq name asked then change x else x) (entry_in old asked)
-changed_in old new name asked e change there written =
-    (written.3 (subst IsSome there refl)).0 (record { name = asked })
-    ∙ ap (λ b. cond b (Some (change e)) (entry_in old asked)) (is_eq-slice_cmp name asked)
-    ∙ at (bytes_eq name asked) refl
-  where
-    stays : (o : Option Entry) → o ≡ option_map (λ x. x) o
-    stays None = refl
-    stays (Some x) = refl
-
-    at : (b : Bool) → bytes_eq name asked ≡ b → cond b (Some (change e)) (entry_in old asked) ≡ option_map (λ x. if b then change x else x) (entry_in old asked)
-    at true same = ap (option_map change) (there ∙ ap (entry_in old) ((bytes_decides name asked).0 same))
-    at false other = stays (entry_in old asked)
+changed_in old new name asked e change there written = grind (arith, is_eq-slice_cmp, bytes_decides)

@@ -31,26 +31,14 @@ use Rattle.endpoint_book.proofs.Filters.{none_if}
 
 filter_mapped : {X Y : Type 0} (p : Y → Bool) (f : X → Y) (xs : List X) → filter p (map f xs) ≡ map f (filter (λ x. p (f x)) xs)
 filter_mapped p f [] = refl
-filter_mapped p f (x ∷ xs) = by (p (f x)) (filter_mapped p f xs)
-  where
-    by : (b : Bool) → filter p (map f xs) ≡ map f (filter (λ y. p (f y)) xs) → cond b (f x ∷ filter p (map f xs)) (filter p (map f xs)) ≡ map f (cond b (x ∷ filter (λ y. p (f y)) xs) (filter (λ y. p (f y)) xs))
-    by true later = ap (λ ys. f x ∷ ys) later
-    by false later = later
+filter_mapped p f (x ∷ xs) = grind (arith, filter_mapped p f xs)
 
 filter_weaker : {X : Type 0} (p q : X → Bool) (xs : List X) → ((x : X) → p x ≡ true → q x ≡ true) → filter p (filter q xs) ≡ filter p xs
 filter_weaker p q [] weaker = refl
-filter_weaker p q (x ∷ xs) weaker = by (q x) refl (p x) refl (filter_weaker p q xs weaker)
-  where
-    by : (b : Bool) → q x ≡ b → (a : Bool) → p x ≡ a → filter p (filter q xs) ≡ filter p xs → filter p (cond b (x ∷ filter q xs) (filter q xs)) ≡ cond (p x) (x ∷ filter p xs) (filter p xs)
-    by true there a passes later = ap (λ ys. cond (p x) (x ∷ ys) ys) later
-    by false there true passes later = let wrong : false ≡ true = sym there ∙ weaker x passes in cc
-    by false there false passes later = later ∙ sym (ap (λ b. cond b (x ∷ filter p xs) (filter p xs)) passes)
+filter_weaker p q (x ∷ xs) weaker = grind (arith, filter_weaker p q xs weaker)
 
 take_sum : {X : Type 0} (k j : ℕ) (xs : List X) → take (k + j) xs ≡ take k xs ++ take j (drop k xs)
-take_sum zero j xs = ap (λ n. take n xs) none
-  where
-    none : 0 + j ≡ j
-    none = omega arith
+take_sum zero j xs = grind arith
 take_sum (suc k) j [] = take_all (suc k + j) [] (omega arith) ∙ sym (take_all j [] (omega arith))
 take_sum (suc k) j (x ∷ xs) = ap (λ n. take n (x ∷ xs)) one ∙ ap (λ ys. x ∷ ys) (take_sum k j xs)
   where
@@ -77,9 +65,7 @@ module _ {X : Type 0} (give : (ℕ × Record) → Option X) (number : X → ℕ)
           ∙ ap (λ xs. x ∷ xs) later
 
   left_from : (n k place : ℕ) (records : List Record) → place ≡ n + k → filter (λ x. not (nat_lt (number x) place)) (filter_map give (enumerate_from n records)) ≡ filter_map give (enumerate_from place (drop k records))
-  left_from n zero place records is =
-      let same : place ≡ n = omega (arith, is) in
-      all_from n place records (omega (arith, same)) ∙ ap (λ m. filter_map give (enumerate_from m records)) (sym same)
+  left_from n zero place records is = grind (arith, all_from)
   left_from n (suc k) place [] is = refl
   left_from n (suc k) place (entry ∷ rest) is = by (give (n, entry)) refl (left_from (n + 1) k place rest (omega (arith, is)))
     where
@@ -100,20 +86,10 @@ given-snoc : {X : Type 0} (give : (ℕ × Record) → Option X) (n : ℕ) (recor
 given-snoc give n records entry = ap (filter_map give) (enumerate_from-snoc n records entry) ∙ filter_map-append give (enumerate_from n records) ((n + length records, entry) ∷ [])
 
 told_own : (at : ℕ → Option (List ℕ)) (n : ℕ) (entry : Record) (t : Told) → told_by at (n, entry) ≡ Some t → t.seq ≡ n
-told_own at n entry t = by (changed_by at entry)
-  where
-    one : (a b : Told) → Some a ≡ Some b → a ≡ b
-    one a b e = cc
-
-    by : (o : Option (List ℕ)) → option_map (λ name. record { seq = n; name = name; kind = kind_of entry }) o ≡ Some t → t.seq ≡ n
-    by None e = absurd (let wrong = e in cc)
-    by (Some name) e = ap (λ (u : Told). u.seq) (sym (one (record { seq = n; name = name; kind = kind_of entry }) t e))
+told_own at n entry t = grind arith
 
 endpoint_own : (n : ℕ) (entry : Record) (x : Endpoint) → endpoint_by (n, entry) ≡ Some x → x.put ≡ n
-endpoint_own n (on.Put name target most secrets) x e = ap (λ (y : Endpoint). y.put) (sym (one (record { put = n; name = name; target = target; max = most }) x e))
-  where
-    one : (a b : Endpoint) → Some a ≡ Some b → a ≡ b
-    one a b e = cc
+endpoint_own n (on.Put name target most secrets) x e = cc
 endpoint_own n (on.Secrets name secrets) x e = absurd (let wrong = e in cc)
 endpoint_own n (on.Enabled name flag) x e = absurd (let wrong = e in cc)
 endpoint_own n (on.Accept name id body moment) x e = absurd (let wrong = e in cc)
@@ -160,14 +136,7 @@ none_below n place (c ∷ cs) h within =
 
 parted_rising : (n place : ℕ) (cs : List Change) → Rises n cs → cs ≡ filter (is_below place) cs ++ filter (is_from place) cs
 parted_rising n place [] h = refl
-parted_rising n place (c ∷ cs) h = by (nat_lt c.seq place) refl (parted_rising (c.seq + 1) place cs h.1)
-  where
-    by : (b : Bool) → nat_lt c.seq place ≡ b → cs ≡ filter (is_below place) cs ++ filter (is_from place) cs
-        → c ∷ cs ≡ cond b (c ∷ filter (is_below place) cs) (filter (is_below place) cs) ++ cond (not b) (c ∷ filter (is_from place) cs) (filter (is_from place) cs)
-    by true e later = ap (λ ds. c ∷ ds) later
-    by false e later =
-        let none = none_below (c.seq + 1) place cs h.1 (omega (arith, ltb-false c.seq place e)) in
-        ap (λ ds. c ∷ ds) (sym (from_all place cs none later)) ∙ sym (ap (λ ds. ds ++ c ∷ filter (is_from place) cs) none)
+parted_rising n place (c ∷ cs) h = grind (arith, none_below, ltb-false, from_all, parted_rising (c.seq + 1) place cs h.1)
 
 -- What is shown
 
