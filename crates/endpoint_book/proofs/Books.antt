@@ -142,5 +142,5 @@ book-restored entries later names cs e flags puts capacity next settled h none u
       (changes-none flags puts capacity next settled (e.put + 1) (subst (λ ds. AreChanges ds flags puts capacity next settled) none h.are_changes));
   puts_within = omega (arith, h.puts_within, length-append names (e.name ∷ []));
   in_step = subst IsInStep (sym (restored-value (value_of entries names cs next settled) entries later names cs e next settled h.are_names refl unknown put))
-      (step_restored (value_of entries names cs next settled) e h.in_step none above shown);
+      (step_restored (value_of entries names cs next settled) e h.in_step none above (found (entry_in entries) names e.name h.are_names ∙ unknown) shown);
 }
