@@ -6,12 +6,11 @@ use Rattle.endpoint_book.specs.declared.entry.Change.{Change}
 use Rattle.endpoint_book.specs.declared.entry.Entry.{Entry}
 use Rattle.endpoint_book.specs.declared.entry.Kind.TheVariants.{Put}
 use Rattle.endpoint_book.specs.declared.limits.TheConstants.{MAX_FLAGS}
-use Rattle.endpoint_book.specs.Entries.{BookValue, now_of, is_flag, is_put, is_from, is_known, settled_at, shown_with, change_at, entry_of, with_put, with_restored, with_change, with_settled}
+use Rattle.endpoint_book.specs.Entries.{BookValue, now_of, is_flag, is_put, is_from, is_known, settled_at, change_at, entry_of, with_put, with_restored, with_change, with_settled}
 use Rattle.endpoint_book.specs.Fields.{AreNames, AreChanges, IsBook, Changes, Puts, IsSame, SettlesBelow, entry_in, listed}
 use Rattle.endpoint_book.specs.Book.{endpoint_by_entry}
 use Rattle.endpoint_book.specs.Waiting.{IsInStep}
 use Rattle.endpoint_book.proofs.InStep.{IsWithin, step_changed, step_put, step_restored, step_settled}
-use Rattle.endpoint_book.proofs.Filters.{some_told}
 use Rattle.endpoint_book.proofs.Names.{found, changed-names, changed-listed, put-names, put-listed, change_at-name}
 use Rattle.endpoint_book.proofs.Queues.{changes-push, changes-keep, puts_kept}
 

@@ -1,5 +1,5 @@
 -- Facts about filters and options.
-use Rattle.std.proofs.Common.{◌≡◌, Bool, true, false, not, List, [], ◌∷◌, Option, Some, None, refl, sym, ◌∙◌, ap, cond, arith}
+use Rattle.std.proofs.Common.{◌≡◌, Bool, true, false, not, List, [], ◌∷◌, Option, Some, None, refl, ◌∙◌, ap, arith}
 use Rattle.std.specs.Prelude.{filter, option_map, is_some, Result, Ok, Err, OnErr}
 use Rattle.std.specs.Option.{option_map_or}
 

@@ -1,19 +1,17 @@
 -- What a book that stands for some records says of them.
-use Rattle.std.proofs.Common.{◌≡◌, ℕ, suc, ◌+◌, Bool, true, false, List, [], ◌∷◌, ◌++◌, Option, Some, None, length, take, drop, map, refl, sym, ◌∙◌, ap, arith, add-zero}
-use Rattle.std.specs.Prelude.{find, filter_map, is_some, bytes_eq, option_map, option_and_then, if◌then◌else◌}
+use Rattle.std.proofs.Common.{◌≡◌, ℕ, ◌+◌, true, false, List, [], ◌∷◌, ◌++◌, Option, None, length, take, drop, map, refl, sym, ◌∙◌, ap, arith, add-zero}
+use Rattle.std.specs.Prelude.{is_some, option_map, option_and_then}
 use Rattle.std.specs.List.{enumerate_from}
-use Rattle.std.specs.Option.{option_map_or, option_or}
 use Rattle.std.proofs.lemmas.List.{take-append-drop}
 use Rattle.std.proofs.lemmas.List.Elements.{filter_map-append}
 use Rattle.std.proofs.lemmas.List.Folds.{find-append}
 use Rattle.relay_types.specs.declared.record.Record.{Record}
-use Rattle.relay_types.specs.Records.{numbered}
-use Rattle.relay_types.specs.Endpoints.{Endpoint, endpoint_by, endpoints, endpoint_of, has_endpoint, is_enabled, secrets_of}
+use Rattle.relay_types.specs.Endpoints.{Endpoint, endpoints, endpoint_of, has_endpoint}
 use Rattle.relay_types.proofs.RowLaws.{find_map}
 use Rattle.endpoint_book.specs.declared.entry.Entry.{Entry}
 use Rattle.endpoint_book.specs.declared.entry.Shown.{Shown}
 use Rattle.endpoint_book.specs.Entries.{BookValue, entry_of, now_of}
-use Rattle.endpoint_book.specs.Book.{Tells, View, endpoint_by_entry, shown_of, secrets_if_known, view_of, view_by}
+use Rattle.endpoint_book.specs.Book.{Tells, endpoint_by_entry, shown_of, secrets_if_known, view_of, view_by}
 
 -- The endpoint of an entry
 
@@ -25,35 +23,22 @@ known-entry book records name h = grind (arith, endpoint-entry book records name
 
 -- what all records show of it
 pub shown-now : (book : BookValue) (records : List Record) (name : List ℕ) → Tells book records → shown_of records name ≡ option_map now_of (entry_of book name)
-shown-now book records name h =
-    (λ i. option_map (λ _. record { enabled = sym (h.enabled name) i; secrets = length (sym (h.secrets name) i) }) (endpoint-entry book records name h i))
-    ∙ at (entry_of book name)
-  where
-    at : (o : Option Entry) → option_map (λ (_ : Endpoint). record { enabled = option_map_or (λ (e : Entry). e.enabled) o true; secrets = length (option_map_or (λ (e : Entry). e.secrets) o []) }) (option_map endpoint_by_entry o)
-        ≡ option_map now_of o
-    at None = refl
-    at (Some e) = refl
+shown-now book records name h = grind (arith, endpoint-entry book records name h, h.enabled name, h.secrets name)
 
 pub secrets-told : (book : BookValue) (records : List Record) (name : List ℕ) → Tells book records → option_map (λ e. e.secrets) (entry_of book name) ≡ secrets_if_known records name
-secrets-told book records name h =
-    at (entry_of book name)
-    ∙ sym (λ i. if is_some (endpoint-entry book records name h i) then Some (sym (h.secrets name) i) else None)
-  where
-    at : (o : Option Entry) → option_map (λ (e : Entry). e.secrets) o ≡ (if is_some (option_map endpoint_by_entry o) then Some (option_map_or (λ (e : Entry). e.secrets) o []) else None)
-    at None = refl
-    at (Some e) = refl
+secrets-told book records name h = grind (arith, endpoint-entry book records name h, h.secrets name)
 
 -- what is asked of the endpoint is asked of the entry
 pub field-told : {X : Type 0} (book : BookValue) (records : List Record) (name : List ℕ) (f : Endpoint → X) → Tells book records
     → option_map (λ e. f (endpoint_by_entry e)) (entry_of book name) ≡ option_map f (endpoint_of records name)
 field-told book records name f h = grind (arith, endpoint-entry book records name h)
 
+names_kept : (es : List Entry) → map (λ e. e.name) es ≡ map (λ e. e.name) (map endpoint_by_entry es)
+names_kept [] = refl
+names_kept (e ∷ es) = grind (arith, names_kept es)
+
 pub names-told : (book : BookValue) (records : List Record) → Tells book records → map (λ e. e.name) book.entries ≡ map (λ e. e.name) (endpoints records)
-names-told book records h = go book.entries ∙ ap (map (λ (e : Endpoint). e.name)) h.endpoints
-  where
-    go : (es : List Entry) → map (λ e. e.name) es ≡ map (λ e. e.name) (map endpoint_by_entry es)
-    go [] = refl
-    go (e ∷ es) = ap (λ rest. e.name ∷ rest) (go es)
+names-told book records h = names_kept book.entries ∙ ap (map (λ (e : Endpoint). e.name)) h.endpoints
 
 -- The first records alone
 

@@ -1,21 +1,14 @@
 -- Each endpoint shows by all records what the changes make of what the settled ones show: that stays so.
-use Rattle.std.proofs.Common.{◌≡◌, ℕ, ◌+◌, ◌<◌, ◌≤◌, Bool, true, false, ◌&&◌, List, [], ◌∷◌, ◌++◌, append-nil, Option, Some, None, map, max, refl, sym, ◌∙◌, ap, arith, cond}
-use Rattle.std.specs.Prelude.{filter, find, is_some, bytes_eq, nat_lt, option_map, if◌then◌else◌}
+use Rattle.std.proofs.Common.{◌≡◌, ℕ, ◌+◌, ◌<◌, ◌≤◌, true, List, [], ◌∷◌, ◌++◌, append-nil, Option, Some, None, map, max, refl, ◌∙◌, arith}
+use Rattle.std.specs.Prelude.{filter, is_some, bytes_eq, nat_lt, option_map, if◌then◌else◌}
 use Rattle.std.specs.List.{list_all}
-use Rattle.std.specs.Option.{option_map_or, option_or}
-use Rattle.std.specs.Cmp.Lexicographic.{bytes_decides}
-use Rattle.std.proofs.lemmas.Bool.{lt-ltb, ltb-true}
-use Rattle.std.proofs.lemmas.List.Folds.{find-append}
-use Rattle.relay_types.specs.Endpoints.{Endpoint}
-use Rattle.relay_types.proofs.KnownLaws.{and_both, and_first, and_second}
 use Rattle.endpoint_book.specs.declared.entry.Change.{Change}
 use Rattle.endpoint_book.specs.declared.entry.Entry.{Entry}
 use Rattle.endpoint_book.specs.declared.entry.Kind.{Kind}
 use Rattle.endpoint_book.specs.declared.entry.Shown.{Shown}
-use Rattle.endpoint_book.specs.Entries.{BookValue, change_at, entry_of, is_below, is_from, is_known, is_named, now_of, settled_at, shown_at, shown_with, with_change, with_put, with_restored, with_settled}
+use Rattle.endpoint_book.specs.Entries.{BookValue, change_at, entry_of, is_below, is_from, is_known, now_of, settled_at, shown_at, shown_with, with_change, with_put, with_restored, with_settled}
 use Rattle.endpoint_book.specs.Book.{endpoint_by_entry, settled_in}
 use Rattle.endpoint_book.specs.Waiting.{IsInStep}
-use Rattle.endpoint_book.proofs.Filters.{none_if}
 use Rattle.endpoint_book.proofs.Shown.{shown_at-below, shown_below, shown_in_turn}
 use Rattle.endpoint_book.proofs.Staged.{field-kept, entry_put, found-map, made-changed, made_put, more, put_settled}
 

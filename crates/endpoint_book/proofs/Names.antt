@@ -1,11 +1,11 @@
 -- The entries of the names, and what a change of one of them makes of the list.
-use Rattle.std.proofs.Common.{◌≡◌, ℕ, Bool, true, false, ◌||◌, List, [], ◌∷◌, ◌++◌, Option, Some, None, refl, sym, ◌∙◌, ap, cond, map, arith}
+use Rattle.std.proofs.Common.{◌≡◌, ℕ, true, false, List, [], ◌∷◌, ◌++◌, Option, Some, None, refl, sym, ◌∙◌, ap, map, arith}
 use Rattle.std.specs.Prelude.{find, filter_map, is_some, bytes_eq, option_map, if◌then◌else◌}
-use Rattle.std.specs.List.{list_any, list_all, cons_option}
+use Rattle.std.specs.List.{list_any, list_all}
 use Rattle.std.specs.Cmp.Lexicographic.{bytes_decides}
 use Rattle.std.proofs.lemmas.List.Elements.{filter_map-append}
 use Rattle.std.proofs.lemmas.List.Folds.{list_all-append, list_any-append}
-use Rattle.relay_types.proofs.KnownLaws.{and_first, and_second, and_both}
+use Rattle.relay_types.proofs.KnownLaws.{and_both}
 use Rattle.endpoint_book.specs.declared.entry.Entry.{Entry}
 use Rattle.endpoint_book.specs.Entries.{is_named, change_at}
 use Rattle.endpoint_book.specs.Fields.{AreNames, with_entry}
@@ -21,59 +21,39 @@ pub found : (g : List ℕ → Option Entry) (names : List (List ℕ)) (name : Li
 found g names name h = grind (arith, found_in)
 
 -- the entries stand in the order of the names
+names_of : (g : List ℕ → Option Entry) (ns : List (List ℕ)) → ((name : List ℕ) (e : Entry) → g name ≡ Some e → e.name ≡ name) → list_all (λ n. is_some (g n)) ns ≡ true → map (λ e. e.name) (filter_map g ns) ≡ ns
+names_of g [] keyed each = refl
+names_of g (n ∷ ns) keyed each = grind (arith, keyed n, names_of g ns keyed)
+
 pub named : (g : List ℕ → Option Entry) (names : List (List ℕ)) → AreNames g names → map (λ e. e.name) (filter_map g names) ≡ names
-named g names h = go names h.each
-  where
-    go : (ns : List (List ℕ)) → list_all (λ n. is_some (g n)) ns ≡ true → map (λ e. e.name) (filter_map g ns) ≡ ns
-    go [] each = refl
-    go (n ∷ ns) each = at (g n) refl (and_first (is_some (g n)) (list_all (λ m. is_some (g m)) ns) each) (go ns (and_second (is_some (g n)) (list_all (λ m. is_some (g m)) ns) each))
-      where
-        at : (o : Option Entry) → g n ≡ o → is_some o ≡ true → map (λ e. e.name) (filter_map g ns) ≡ ns → map (λ e. e.name) (cons_option o (filter_map g ns)) ≡ n ∷ ns
-        at None e there rest = absurd (let no = there in cc)
-        at (Some x) e there rest = λ i. h.keyed n x e i ∷ rest i
+named g names h = names_of g names h.keyed h.each
 
 -- each entry is the one that a look-up of its name finds
+found_all : (g : List ℕ → Option Entry) (names ns : List (List ℕ)) → AreNames g names → map (λ e. find (is_named e.name) (filter_map g names)) (filter_map g ns) ≡ map Some (filter_map g ns)
+found_all g names [] h = refl
+found_all g names (n ∷ ns) h = grind (arith, h.keyed n, found g names n h, found_all g names ns h)
+
 pub found_each : (g : List ℕ → Option Entry) (names : List (List ℕ)) → AreNames g names → map (λ e. find (is_named e.name) (filter_map g names)) (filter_map g names) ≡ map Some (filter_map g names)
-found_each g names h = go names
-  where
-    go : (ns : List (List ℕ)) → map (λ e. find (is_named e.name) (filter_map g names)) (filter_map g ns) ≡ map Some (filter_map g ns)
-    go [] = refl
-    go (n ∷ ns) = at (g n) refl (go ns)
-      where
-        at : (o : Option Entry) → g n ≡ o → map (λ e. find (is_named e.name) (filter_map g names)) (filter_map g ns) ≡ map Some (filter_map g ns)
-            → map (λ e. find (is_named e.name) (filter_map g names)) (cons_option o (filter_map g ns)) ≡ map Some (cons_option o (filter_map g ns))
-        at None e rest = rest
-        at (Some x) e rest = λ i. (found g names x.name h ∙ ap g (h.keyed n x e) ∙ e) i ∷ rest i
+found_each g names h = found_all g names names h
 
 -- Entries that are changed, each by its name
 
 pub changed-names : (g : List ℕ → Option Entry) (names : List (List ℕ)) (change : List ℕ → Entry → Entry) → ((name : List ℕ) (e : Entry) → (change name e).name ≡ e.name)
     → AreNames g names → AreNames (λ name. option_map (change name) (g name)) names
 changed-names g names change keeps h = record {
-  keyed = λ name e is. keyed_at name e (g name) refl is;
+  keyed = λ name e is. grind (arith, h.keyed name, keeps name);
   covered = λ name there. h.covered name (sym (is_some-map (change name) (g name)) ∙ there);
   each = ap (λ p. list_all p names) (λ i n. is_some-map (change n) (g n) i) ∙ h.each;
 }
-  where
-    some_is : {x y : Entry} → Some x ≡ Some y → x ≡ y
-    some_is e = cc
 
-    keyed_at : (name : List ℕ) (e : Entry) (o : Option Entry) → g name ≡ o → option_map (change name) o ≡ Some e → e.name ≡ name
-    keyed_at name e None was is = absurd (let no = is in cc)
-    keyed_at name e (Some x) was is = sym (ap (λ (y : Entry). y.name) (some_is is)) ∙ keeps name x ∙ h.keyed name x was
+changed_all : (g : List ℕ → Option Entry) (ns : List (List ℕ)) (change : List ℕ → Entry → Entry) → ((name : List ℕ) (e : Entry) → g name ≡ Some e → e.name ≡ name)
+    → filter_map (λ name. option_map (change name) (g name)) ns ≡ map (λ e. change e.name e) (filter_map g ns)
+changed_all g [] change keyed = refl
+changed_all g (n ∷ ns) change keyed = grind (arith, keyed n, changed_all g ns change keyed)
 
 pub changed-listed : (g : List ℕ → Option Entry) (names : List (List ℕ)) (change : List ℕ → Entry → Entry) → AreNames g names
     → filter_map (λ name. option_map (change name) (g name)) names ≡ map (λ e. change e.name e) (filter_map g names)
-changed-listed g names change h = go names
-  where
-    go : (ns : List (List ℕ)) → filter_map (λ name. option_map (change name) (g name)) ns ≡ map (λ e. change e.name e) (filter_map g ns)
-    go [] = refl
-    go (n ∷ ns) = at (g n) refl (go ns)
-      where
-        at : (o : Option Entry) → g n ≡ o → filter_map (λ name. option_map (change name) (g name)) ns ≡ map (λ e. change e.name e) (filter_map g ns)
-            → cons_option (option_map (change n) o) (filter_map (λ name. option_map (change name) (g name)) ns) ≡ map (λ e. change e.name e) (cons_option o (filter_map g ns))
-        at None e rest = rest
-        at (Some x) e rest = λ i. change (sym (h.keyed n x e) i) x ∷ rest i
+changed-listed g names change h = changed_all g names change h.keyed
 
 -- One more entry, of a name that none has
 
@@ -83,11 +63,7 @@ other_name g e n unknown there = grind (arith, bytes_decides)
 old_stay : (g : List ℕ → Option Entry) (e : Entry) (ns : List (List ℕ)) → g e.name ≡ None → list_all (λ n. is_some (g n)) ns ≡ true
     → (filter_map (with_entry g e) ns ≡ filter_map g ns) × (list_all (λ n. is_some (with_entry g e n)) ns ≡ true)
 old_stay g e [] unknown each = (refl, refl)
-old_stay g e (n ∷ ns) unknown each =
-    let there = and_first (is_some (g n)) (list_all (λ m. is_some (g m)) ns) each in
-    let other = ap (λ b. if b then Some e else g n) (other_name g e n unknown there) in
-    let rest = old_stay g e ns unknown (and_second (is_some (g n)) (list_all (λ m. is_some (g m)) ns) each) in
-    ((λ i. cons_option (other i) (rest.0 i)), and_both _ _ (ap is_some other ∙ there) rest.1)
+old_stay g e (n ∷ ns) unknown each = grind (arith, other_name g e n unknown, old_stay g e ns unknown)
 
 pub itself : (name : List ℕ) → bytes_eq name name ≡ true
 itself name = (bytes_decides name name).1 refl
@@ -101,3 +77,6 @@ put-names g names e unknown h = grind (arith, old_stay g e names unknown h.each,
 
 pub change_at-name : (name : List ℕ) (change : Entry → Entry) → ((e : Entry) → (change e).name ≡ e.name) → (asked : List ℕ) (e : Entry) → (change_at name change asked e).name ≡ e.name
 change_at-name name change keeps asked e = grind arith
+
+-- what a look-up finds
+pub ruleset looks = (found, is_some-map)

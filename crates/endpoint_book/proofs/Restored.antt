@@ -1,14 +1,13 @@
 -- A book in which the endpoints of a legal history were restored stands for it.
-use Rattle.std.proofs.Common.{◌≡◌, ◌∙◌, refl, sym, ap, subst, arith}
+use Rattle.std.proofs.Common.{◌≡◌, ◌∙◌, refl, sym, ap, arith}
 use Rattle.std.proofs.Common.{ℕ, ◌+◌, ◌≤◌, true, false, List, [], ◌∷◌, Option, Some, None, length, map}
-use Rattle.std.specs.Prelude.{find, is_some, bytes_eq, option_map}
+use Rattle.std.specs.Prelude.{find, option_map}
 use Rattle.std.specs.Option.{option_map_or}
 use Rattle.std.proofs.lemmas.List.{take_all, length-map}
 use Rattle.relay_types.specs.declared.record.Record.{Record}
 use Rattle.relay_types.specs.Endpoints.{Endpoint, endpoints, endpoint_of, has_endpoint, is_enabled, secrets_of}
 use Rattle.relay_types.specs.Legal.{IsLegal}
-use Rattle.relay_types.specs.Lookups.{secrets_at}
-use Rattle.relay_types.specs.Rows.{EndpointRow, endpoint_row, rows_of}
+use Rattle.relay_types.specs.Rows.{rows_of}
 use Rattle.relay_types.proofs.FlagLaws.{row_named, enabled-told, secrets-told}
 use Rattle.relay_types.proofs.LookupLaws.{found_by_number}
 use Rattle.relay_types.proofs.OrderLaws.{puts_rise}

@@ -1,7 +1,7 @@
 -- What an endpoint shows after some changes.
-use Rattle.std.proofs.Common.{◌≡◌, ℕ, ◌<◌, ◌≤◌, Bool, true, false, not, ◌&&◌, List, [], ◌∷◌, ◌++◌, Option, Some, refl, sym, ◌∙◌, ap, cond, arith}
+use Rattle.std.proofs.Common.{◌≡◌, ℕ, ◌<◌, ◌≤◌, Bool, true, false, ◌&&◌, List, [], ◌∷◌, ◌++◌, Option, Some, refl, sym, ◌∙◌, ap, arith}
 use Rattle.std.specs.Prelude.{filter, nat_lt, bytes_eq, if◌then◌else◌}
-use Rattle.std.proofs.lemmas.Bool.{lt-ltb, le-ltb, ltb-true}
+use Rattle.std.proofs.lemmas.Bool.{lt-ltb, le-ltb}
 use Rattle.endpoint_book.specs.declared.entry.Change.{Change}
 use Rattle.endpoint_book.specs.declared.entry.Shown.{Shown}
 use Rattle.endpoint_book.specs.Entries.{is_below, is_from, shown_at}
@@ -29,14 +29,7 @@ shown_at-below place cs c name o h = grind (arith, shown_at-append, lt-ltb, and_
 -- the changes below a place are all that count there
 pub shown_below : (place later : ℕ) (cs : List Change) (name : List ℕ) (o : Option Shown) → place ≤ later → shown_at later (filter (is_below place) cs) name o ≡ shown_at place cs name o
 shown_below place later [] name o h = refl
-shown_below place later (c ∷ cs) name o h = at (nat_lt c.seq place) refl (λ p. shown_below place later cs name p h)
-  where
-    at : (b : Bool) → nat_lt c.seq place ≡ b → ((p : Option Shown) → shown_at later (filter (is_below place) cs) name p ≡ shown_at place cs name p)
-        → shown_at later (cond b (c ∷ filter (is_below place) cs) (filter (is_below place) cs)) name o ≡ shown_at place cs name (if bytes_eq c.name name && b then Some c.shown else o)
-    at true e rest =
-        ap (λ b. shown_at later (filter (is_below place) cs) name (if bytes_eq c.name name && b then Some c.shown else o)) (lt-ltb c.seq later (omega (arith, ltb-true c.seq place e, h)))
-        ∙ rest (if bytes_eq c.name name && true then Some c.shown else o)
-    at false e rest = rest o ∙ sym (ap (λ b. shown_at place cs name (if b then Some c.shown else o)) (and_false (bytes_eq c.name name)))
+shown_below place later (c ∷ cs) name o h = grind (arith, shown_below place later cs name o h, shown_below place later cs name (Some c.shown) h)
 
 -- the changes up to a place and then the others
 pub shown_in_turn : (place later : ℕ) (cs : List Change) (name : List ℕ) (o : Option Shown) → place ≤ later → cs ≡ filter (is_below place) cs ++ filter (is_from place) cs

@@ -1,19 +1,17 @@
 -- The histories for which a book stands with one more record of an endpoint.
 use Rattle.std.proofs.lemmas.Grind.{common_steps}
-use Rattle.std.proofs.Common.{◌≡◌, ℕ, ◌+◌, ◌<◌, ◌≤◌, Bool, true, false, ◌&&◌, List, [], ◌∷◌, ◌++◌, Option, Some, None, length, take, drop, map, refl, sym, ◌∙◌, ap, cond, arith, ⊎_elim, IsTrue, length-append, append-nil}
-use Rattle.std.specs.Prelude.{filter, find, is_some, bytes_eq, count_by, option_map, unwrap_or, if◌then◌else◌}
+use Rattle.std.proofs.Common.{◌≡◌, ℕ, ◌+◌, ◌<◌, ◌≤◌, Bool, true, false, List, [], ◌∷◌, ◌++◌, Some, None, length, take, drop, map, refl, sym, ◌∙◌, ap, cond, arith, ⊎_elim, IsTrue, length-append, append-nil}
+use Rattle.std.specs.Prelude.{filter, find, is_some, bytes_eq, count_by, option_map, if◌then◌else◌}
 use Rattle.std.specs.List.{cons_option}
-use Rattle.std.specs.Option.{option_map_or, option_or}
+use Rattle.std.specs.Option.{option_map_or}
 use Rattle.std.specs.Cmp.Lexicographic.{bytes_decides}
 use Rattle.std.proofs.lemmas.Bool.{cases_lt}
-use Rattle.std.proofs.lemmas.List.{take-append-le, take_all, drop-append-le, drop_all, length-map, map-append}
+use Rattle.std.proofs.lemmas.List.{take-append-le, take_all, length-map, map-append}
 use Rattle.std.proofs.lemmas.List.Folds.{find-append}
 use Rattle.std.proofs.lemmas.List.Sums.{sum_by_push}
 use Rattle.relay_types.specs.declared.record.Record.{Record}
 use Rattle.relay_types.specs.declared.record.Record.TheVariants as on
 use Rattle.relay_types.specs.Judging.{is_gone_status}
-use Rattle.relay_types.specs.Records.{Accepted}
-use Rattle.relay_types.specs.Deliveries.{accepted}
 use Rattle.relay_types.specs.Endpoints.{endpoint_by, endpoints, is_delivery_of, enabled_by, is_enabled, secrets_by, secrets_of}
 use Rattle.relay_types.specs.Legal.{IsLegal}
 use Rattle.relay_types.proofs.GrowthLaws.{endpoints-snoc, is_enabled-snoc, secrets_of-snoc, accepted-before}
@@ -22,8 +20,8 @@ use Rattle.endpoint_book.specs.declared.entry.Change.{Change}
 use Rattle.endpoint_book.specs.declared.entry.Entry.{Entry}
 use Rattle.endpoint_book.specs.declared.entry.Kind.{Kind}
 use Rattle.endpoint_book.specs.declared.entry.Kind.TheVariants.{Put, Secrets, Flag}
-use Rattle.endpoint_book.specs.Entries.{BookValue, entry_of, is_known, is_named, now_of, is_flag, is_put, is_flag_kind, is_put_kind, is_from, shown_at, shown_with, change_at, with_put, with_change, with_flag, with_secrets}
-use Rattle.endpoint_book.specs.Book.{StandsFor, Tells, Shows, endpoint_by_entry, enabled_in, secrets_in, settled_in, count_from, shown_of, sets_flag}
+use Rattle.endpoint_book.specs.Entries.{BookValue, entry_of, is_known, is_named, now_of, is_flag, is_put, is_flag_kind, is_put_kind, is_from, shown_with, change_at, with_put, with_change, with_flag, with_secrets}
+use Rattle.endpoint_book.specs.Book.{StandsFor, Tells, Shows, endpoint_by_entry, enabled_in, secrets_in, settled_in, count_from, sets_flag}
 use Rattle.endpoint_book.proofs.Names.{change_at-name}
 use Rattle.endpoint_book.proofs.Queues.{below_more, from_more}
 use Rattle.endpoint_book.proofs.Shown.{shown_at-above, shown_at-below}

@@ -1,6 +1,6 @@
 -- What a change of the map changes of the entries by name.
-use Rattle.std.proofs.Common.{◌≡◌, ℕ, Bool, true, false, List, Option, Some, None, refl, ◌∙◌, ap, cond, subst, arith}
-use Rattle.std.specs.Prelude.{bytes_eq, option_map, IsSome, if◌then◌else◌}
+use Rattle.std.proofs.Common.{◌≡◌, ℕ, List, Some, ◌∙◌, ap, cond, arith}
+use Rattle.std.specs.Prelude.{bytes_eq, option_map, if◌then◌else◌}
 use Rattle.std.specs.BTreeMap.{BTreeMap, get, is_at, WritesThrough}
 use Rattle.std.specs.Cmp.Lexicographic.{bytes_decides}
 use Rattle.std.proofs.lemmas.Map.Text.{is_eq-slice_cmp}

@@ -1,10 +1,8 @@
 -- What a book has of the records that wait, as one more waits and as they are settled.
-use Rattle.std.proofs.Common.{◌≡◌, ℕ, zero, suc, ◌+◌, ◌<◌, ◌≤◌, Bool, true, false, not, List, [], ◌∷◌, ◌++◌, append-nil, Option, Some, None, length, take, drop, map, refl, sym, ◌∙◌, ap, subst, arith, cond, IfSome, length-append, ⊎_elim}
-use Rattle.std.specs.Prelude.{filter, filter_map, find, is_some, bytes_eq, nat_lt, option_map, unwrap_or, if◌then◌else◌}
+use Rattle.std.proofs.Common.{◌≡◌, ℕ, zero, suc, ◌+◌, ◌<◌, ◌≤◌, Bool, true, false, not, List, [], ◌∷◌, ◌++◌, append-nil, Option, Some, None, length, take, drop, map, refl, sym, ◌∙◌, ap, arith, IfSome, length-append, ⊎_elim}
+use Rattle.std.specs.Prelude.{filter, filter_map, is_some, bytes_eq, nat_lt, option_map, unwrap_or, if◌then◌else◌}
 use Rattle.std.specs.List.{cons_option, enumerate_from, list_all}
-use Rattle.std.specs.Option.{option_map_or, option_or}
-use Rattle.std.specs.Cmp.Lexicographic.{bytes_decides}
-use Rattle.std.proofs.lemmas.Bool.{cases_lt, lt-ltb, le-ltb, ltb-false}
+use Rattle.std.proofs.lemmas.Bool.{cases_lt, ltb-false}
 use Rattle.std.proofs.lemmas.List.{take-append-le, take-append-drop, take_all, map-append}
 use Rattle.std.proofs.lemmas.Simd.{map-map}
 use Rattle.std.proofs.Math.Seq.{take-add}
@@ -15,12 +13,11 @@ use Rattle.relay_types.specs.Lists.{last_of}
 use Rattle.relay_types.specs.Judging.{is_gone_status}
 use Rattle.relay_types.specs.Endpoints.{Endpoint, endpoint_by, secrets_by}
 use Rattle.relay_types.proofs.GrowthLaws.{enumerate_from-snoc}
-use Rattle.relay_types.proofs.KnownLaws.{and_first, and_second}
 use Rattle.endpoint_book.specs.declared.entry.Change.{Change}
 use Rattle.endpoint_book.specs.declared.entry.Entry.{Entry}
 use Rattle.endpoint_book.specs.declared.entry.Kind.TheVariants.{Put}
 use Rattle.endpoint_book.specs.declared.entry.Shown.{Shown}
-use Rattle.endpoint_book.specs.Entries.{BookValue, change_at, entry_of, is_below, is_from, is_known, is_named, new_entry, now_of, settled_at, shown_at, shown_with, with_change, with_flag, with_put, with_secrets, with_settled}
+use Rattle.endpoint_book.specs.Entries.{BookValue, change_at, entry_of, is_below, is_from, is_known, new_entry, now_of, settled_at, shown_at, shown_with, with_change, with_flag, with_put, with_secrets, with_settled}
 use Rattle.endpoint_book.specs.Book.{endpoint_by_entry, is_other, secrets_in, settled_in}
 use Rattle.endpoint_book.specs.Waiting.{HasChanges, IsInStep, Told, changed_by, changes_from, endpoints_from, is_changed_by, is_put_from, kind_of, shown_after, shown_behind, told_by, told_of}
 use Rattle.endpoint_book.proofs.Shown.{from_all, shown_at-above, shown_at-below, shown_in_turn}

@@ -265,6 +265,7 @@ impl EndpointBook {
     }
 
     /// Whether there is an endpoint of this name.
+    #[tactic(auto, using(crate::proofs::Names::looks))]
     pub fn contains(&self, name: Name) -> bool
         ensures known { result ≡ is_known self.now name }
         ensures stands { OfAll self.now (λ records. result ≡ has_endpoint records name) }
@@ -300,6 +301,7 @@ impl EndpointBook {
     }
 
     /// The secrets of the endpoint, the newest first.
+    #[tactic(auto, using(crate::proofs::Names::looks))]
     pub fn secrets(&self, name: Name) -> Option<Secrets>
         ensures value { result ≡ option_map (λ e. e.secrets) (entry_of self.now name) }
         ensures stands { OfAll self.now (λ records. result ≡ secrets_if_known records name) }
@@ -311,6 +313,7 @@ impl EndpointBook {
     }
 
     /// Whether the endpoint is enabled. One that isn't there counts as enabled.
+    #[tactic(auto, using(crate::proofs::Names::looks))]
     pub fn is_enabled(&self, name: Name) -> bool
         ensures value { result ≡ enabled_in self.now name }
         ensures stands { OfAll self.now (λ records. result ≡ is_enabled records name) }
@@ -322,6 +325,7 @@ impl EndpointBook {
     }
 
     /// Where the endpoint listens.
+    #[tactic(auto, using(crate::proofs::Names::looks))]
     pub fn target(&self, name: Name) -> Option<&Target>
         ensures value { option_copied result ≡ option_map (λ e. e.target) (entry_of self.now name) }
         ensures stands { OfAll self.now (λ records.
@@ -334,6 +338,7 @@ impl EndpointBook {
     }
 
     /// The greatest concurrency limit of the endpoint.
+    #[tactic(auto, using(crate::proofs::Names::looks))]
     pub fn max_limit(&self, name: Name) -> Option<MaxLimit>
         ensures value { result ≡ option_map (λ e. e.max) (entry_of self.now name) }
         ensures stands { OfAll self.now (λ records. result ≡ option_map (λ e. e.max) (endpoint_of records name)) }
