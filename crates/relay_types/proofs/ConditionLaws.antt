@@ -1,5 +1,5 @@
 -- What the conditions of sound rows say of each row.
-use Rattle.std.proofs.Common.{◌≡◌, ◌≤◌, ◌<◌, ◌^◌, ◌⊎◌, inl, inr, ◌+◌, ◌==◌, Bool, true, false, ◌&&◌, ◌||◌, not, nat_le, nat_lt, length, refl}
+use Rattle.std.proofs.Common.{◌≡◌, ◌≤◌, ◌<◌, ◌^◌, ◌⊎◌, inl, inr, ◌+◌, ◌==◌, Bool, true, false, ◌&&◌, ◌||◌, not, nat_le, nat_lt, length, refl, arith}
 use Rattle.std.specs.Prelude.{bytes_eq, count_by}
 use Rattle.std.specs.List.{list_any, list_all}
 use Rattle.std.proofs.lemmas.Bool.{eq-eqb, eqb-true, lt-ltb, ltb-true, leb-true, or_parts, or_cases, not-true}
@@ -15,14 +15,7 @@ use Rattle.relay_types.proofs.StandLaws.{same_text}
 
 parts : (a b c d e f g h : Bool) → a && (b && (c && (d && (e && (f && (g && h)))))) ≡ true
     → (a ≡ true) × (b ≡ true) × (c ≡ true) × (d ≡ true) × (e ≡ true) × (f ≡ true) × (g ≡ true) × (h ≡ true)
-parts a b c d e f g h all =
-    let from_b = and_second a (b && (c && (d && (e && (f && (g && h)))))) all in
-    let from_c = and_second b (c && (d && (e && (f && (g && h))))) from_b in
-    let from_d = and_second c (d && (e && (f && (g && h)))) from_c in
-    let from_e = and_second d (e && (f && (g && h))) from_d in
-    let from_f = and_second e (f && (g && h)) from_e in
-    let from_g = and_second f (g && h) from_f in
-    (and_first a _ all, and_first b _ from_b, and_first c _ from_c, and_first d _ from_d, and_first e _ from_e, and_first f _ from_f, and_first g _ from_g, and_second g h from_g)
+parts a b c d e f g h all = grind (arith, and_second, and_first)
 
 -- where the secrets of an endpoint were given
 pub data SecretsPlace (rows : Rows) (e : EndpointRow) : Type 0 where
@@ -76,13 +69,7 @@ module _ (rows : Rows) (keyed : AreKeyed rows) (sound : are_sound rows ≡ true)
   behind_endpoints = and_second (list_all is_below rows.endpoints) (list_all delivery_is_below rows.deliveries && list_all attempt_is_below rows.attempts) all_below
 
   pub endpoint_below : (e : EndpointRow) → In e rows.endpoints → (e.put < rows.records) × (e.enabled_by < rows.records) × (e.secrets_by < rows.records)
-  endpoint_below e i =
-      let below = in_all is_below rows.endpoints e (and_first (list_all is_below rows.endpoints) _ all_below) i in
-      let behind = and_second (nat_lt e.put rows.records) (nat_lt e.enabled_by rows.records && nat_lt e.secrets_by rows.records) below in (
-        ltb-true e.put rows.records (and_first (nat_lt e.put rows.records) _ below),
-        ltb-true e.enabled_by rows.records (and_first (nat_lt e.enabled_by rows.records) _ behind),
-        ltb-true e.secrets_by rows.records (and_second (nat_lt e.enabled_by rows.records) (nat_lt e.secrets_by rows.records) behind),
-      )
+  endpoint_below e i = grind (arith, in_all, and_first, all_below, and_second, ltb-true)
 
   pub delivery_below : (d : DeliveryRow) → In d rows.deliveries → d.seq < rows.records
   delivery_below d i = ltb-true d.seq rows.records (in_all delivery_is_below rows.deliveries d (and_first (list_all delivery_is_below rows.deliveries) _ behind_endpoints) i)
@@ -110,18 +97,7 @@ module _ (rows : Rows) (keyed : AreKeyed rows) (sound : are_sound rows ≡ true)
 
   pub endpoint_values : (e : EndpointRow) → In e rows.endpoints
       → (is_name e.name ≡ true) × (is_target e.url ≡ true) × (is_max_limit e.max ≡ true) × (are_secrets (secrets_at rows e.put) ≡ true) × (are_places (secret_rows_at rows e.put) ≡ true)
-  endpoint_values e i =
-      let all = in_all (is_endpoint_row rows) rows.endpoints e (and_second (nat_le (length rows.endpoints) 256) (list_all (is_endpoint_row rows) rows.endpoints) holds.2) i in
-      let lists = are_secrets (secrets_at rows e.put) && are_places (secret_rows_at rows e.put) in
-      let from_target = and_second (is_name e.name) (is_target e.url && (is_max_limit e.max && lists)) all in
-      let from_max = and_second (is_target e.url) (is_max_limit e.max && lists) from_target in
-      let from_lists = and_second (is_max_limit e.max) lists from_max in (
-        and_first (is_name e.name) _ all,
-        and_first (is_target e.url) _ from_target,
-        and_first (is_max_limit e.max) _ from_max,
-        and_first (are_secrets (secrets_at rows e.put)) _ from_lists,
-        and_second (are_secrets (secrets_at rows e.put)) (are_places (secret_rows_at rows e.put)) from_lists,
-      )
+  endpoint_values e i = grind (arith, in_all, and_second, and_first)
 
   pub few_endpoints : length rows.endpoints ≤ 256
   few_endpoints = leb-true (length rows.endpoints) 256 (and_first (nat_le (length rows.endpoints) 256) _ holds.2)
@@ -135,50 +111,14 @@ module _ (rows : Rows) (keyed : AreKeyed rows) (sound : are_sound rows ≡ true)
       → (t.delivery < t.seq) × (t.number == length (attempts_before rows t) + 1 ≡ true) × (is_status t.status ≡ true) × (is_moment t.at ≡ true)
       × (list_any (λ (s : AttemptRow). is_delivered_status s.status) (attempts_before rows t) ≡ false)
       × (count_by (λ (s : AttemptRow). is_failed_status s.status) (attempts_before rows t) < 10)
-  attempt_values t i =
-      let from_number = and_second behind (number && (status && (moment && (undelivered && unexhausted)))) all in
-      let from_status = and_second number (status && (moment && (undelivered && unexhausted))) from_number in
-      let from_moment = and_second status (moment && (undelivered && unexhausted)) from_status in
-      let still = and_second moment (undelivered && unexhausted) from_moment in (
-        ltb-true t.delivery t.seq (and_first behind _ all),
-        and_first number _ from_number,
-        and_first status _ from_status,
-        and_first moment _ from_moment,
-        not-true _ (and_first undelivered _ still),
-        ltb-true _ 10 (and_second undelivered unexhausted still),
-      )
-    where
-      behind : Bool
-      behind = nat_lt t.delivery t.seq
-
-      number : Bool
-      number = t.number == length (attempts_before rows t) + 1
-
-      status : Bool
-      status = is_status t.status
-
-      moment : Bool
-      moment = is_moment t.at
-
-      undelivered : Bool
-      undelivered = not (list_any (λ (s : AttemptRow). is_delivered_status s.status) (attempts_before rows t))
-
-      unexhausted : Bool
-      unexhausted = nat_lt (count_by (λ (s : AttemptRow). is_failed_status s.status) (attempts_before rows t)) 10
-
-      all : is_attempt_row rows t ≡ true
-      all = in_all (is_attempt_row rows) rows.attempts t holds.6 i
+  attempt_values t i = grind (arith, and_second, ltb-true, and_first, not-true, in_all)
 
   -- The places of an endpoint's secrets and flag
 
   -- none but it passes the test
   only_one : (e : EndpointRow) (test : EndpointRow → Bool) → In e rows.endpoints → list_any (λ (f : EndpointRow). test f && not (f.put == e.put)) rows.endpoints ≡ false
       → (f : EndpointRow) → In f rows.endpoints → test f ≡ true → f ≡ e
-  only_one e test i none f j passes = at (f.put == e.put) refl (in_none (λ (f : EndpointRow). test f && not (f.put == e.put)) rows.endpoints f none j)
-    where
-      at : (b : Bool) → f.put == e.put ≡ b → (test f && not (f.put == e.put)) ≡ false → f ≡ e
-      at true is h = same_put f e j i (eqb-true f.put e.put is)
-      at false is h = absurd (let yes : (test f && not (f.put == e.put)) ≡ true = λ k. passes k && not (is k) in let no = h in cc)
+  only_one e test i none f j passes = grind (arith, in_none, same_put, eqb-true)
 
   pub same_named : (e f : EndpointRow) → In e rows.endpoints → In f rows.endpoints → f.name ≡ e.name → f ≡ e
   same_named e f i j same =
@@ -264,14 +204,4 @@ module _ (rows : Rows) (keyed : AreKeyed rows) (sound : are_sound rows ≡ true)
 
   -- no attempt behind the flag was answered gone
   pub none_gone : (e : EndpointRow) → In e rows.endpoints → (t : AttemptRow) → In t rows.attempts → e.enabled_by < t.seq → is_gone_attempt_of rows e t ≡ false
-  none_gone e i t j behind = at (is_gone_attempt_of rows e t) refl
-    where
-      behind_here : AttemptRow → Bool
-      behind_here t = nat_lt e.enabled_by t.seq && is_gone_attempt_of rows e t
-
-      none : behind_here t ≡ false
-      none = in_none behind_here rows.attempts t (not-true (list_any behind_here rows.attempts) (and_second _ (not (list_any behind_here rows.attempts)) (in_all (is_flag_place rows) rows.endpoints e holds.4 i))) j
-
-      at : (b : Bool) → is_gone_attempt_of rows e t ≡ b → b ≡ false
-      at false is = refl
-      at true is = absurd (let yes : behind_here t ≡ true = and_both (nat_lt e.enabled_by t.seq) (is_gone_attempt_of rows e t) (lt-ltb e.enabled_by t.seq behind) is in let no = none in cc)
+  none_gone e i t j behind = grind (arith, in_none, not-true, and_second, in_all, and_both, lt-ltb)

@@ -16,11 +16,7 @@ filter_none test (x ∷ xs) h = ap (λ b. cond b (x ∷ filter test xs) (filter 
 pub in_append : {X : Type 0} (xs ys : List X) (x : X) → In x (xs ++ ys) → In x xs ⊎ In x ys
 in_append [] ys x i = inr i
 in_append (y ∷ xs) ys x (inl same) = inl (inl same)
-in_append (y ∷ xs) ys x (inr i) = at (in_append xs ys x i)
-  where
-    at : In x xs ⊎ In x ys → In x (y ∷ xs) ⊎ In x ys
-    at (inl i) = inl (inr i)
-    at (inr i) = inr i
+in_append (y ∷ xs) ys x (inr i) = grind (arith, In, in_append xs ys x i)
 
 pub rising_map : {X Y : Type 0} (f : X → Y) (number : Y → ℕ) (n : ℕ) (xs : List X) → IsRisingFrom (λ x. number (f x)) n xs → IsRisingFrom number n (map f xs)
 rising_map f number n [] rises = tt
@@ -33,25 +29,7 @@ flat_rows h f g (x ∷ xs) same = λ i. same x (inl refl) i ++ flat_rows h f g x
 -- those below one number that pass are fewer than those below a greater one, if one that passes has the first number
 pub no_fewer : {X : Type 0} (number : X → ℕ) (test : X → Bool) (a b : ℕ) (xs : List X) → a ≤ b → length (filter test (filter (λ x. nat_lt (number x) a) xs)) ≤ length (filter test (filter (λ x. nat_lt (number x) b) xs))
 no_fewer number test a b [] h = omega arith
-no_fewer {X} number test a b (x ∷ xs) h = at (nat_lt (number x) a) refl (nat_lt (number x) b) refl (test x) refl (no_fewer number test a b xs h)
-  where
-    low : ℕ → List X
-    low n = filter (λ x. nat_lt (number x) n) xs
-
-    at : (c : Bool) → nat_lt (number x) a ≡ c → (d : Bool) → nat_lt (number x) b ≡ d → (t : Bool) → test x ≡ t → length (filter test (low a)) ≤ length (filter test (low b))
-        → length (filter test (cond c (x ∷ low a) (low a))) ≤ length (filter test (cond d (x ∷ low b) (low b)))
-    at true e false f t g more = absurd (omega (arith, h, ltb-true (number x) a e, ltb-false (number x) b f))
-    at true e true f t g more = both (test x)
-      where
-        both : (t : Bool) → length (cond t (x ∷ filter test (low a)) (filter test (low a))) ≤ length (cond t (x ∷ filter test (low b)) (filter test (low b)))
-        both true = omega (arith, more)
-        both false = more
-    at false e true f t g more = both (test x)
-      where
-        both : (t : Bool) → length (filter test (low a)) ≤ length (cond t (x ∷ filter test (low b)) (filter test (low b)))
-        both true = omega (arith, more)
-        both false = more
-    at false e false f t g more = more
+no_fewer {X} number test a b (x ∷ xs) h = grind (arith, ltb-true, ltb-false, no_fewer number test a b xs h)
 
 pub fewer : {X : Type 0} (number : X → ℕ) (test : X → Bool) (b : ℕ) (xs : List X) (y : X) → In y xs → test y ≡ true → number y < b → length (filter test (filter (λ x. nat_lt (number x) (number y)) xs)) < length (filter test (filter (λ x. nat_lt (number x) b) xs))
 fewer number test b [] y i passes h = absurd i
@@ -67,22 +45,4 @@ fewer {X} number test b (x ∷ xs) y (inl same) passes h =
     first true e d f t g more = absurd (let no = e in cc)
     first false e false f t g more = absurd (let no = f in cc)
     first false e true f t g more = subst (λ t. length (filter test (low (number x))) < length (cond t (x ∷ filter test (low b)) (filter test (low b)))) (sym (ap test same ∙ passes)) (omega (arith, more))
-fewer {X} number test b (x ∷ xs) y (inr i) passes h = at (nat_lt (number x) (number y)) refl (nat_lt (number x) b) refl (fewer number test b xs y i passes h)
-  where
-    low : ℕ → List X
-    low n = filter (λ x. nat_lt (number x) n) xs
-
-    at : (c : Bool) → nat_lt (number x) (number y) ≡ c → (d : Bool) → nat_lt (number x) b ≡ d → length (filter test (low (number y))) < length (filter test (low b))
-        → length (filter test (cond c (x ∷ low (number y)) (low (number y)))) < length (filter test (cond d (x ∷ low b) (low b)))
-    at true e false f more = absurd (omega (arith, h, ltb-true (number x) (number y) e, ltb-false (number x) b f))
-    at true e true f more = both (test x)
-      where
-        both : (t : Bool) → length (cond t (x ∷ filter test (low (number y))) (filter test (low (number y)))) < length (cond t (x ∷ filter test (low b)) (filter test (low b)))
-        both true = omega (arith, more)
-        both false = more
-    at false e true f more = both (test x)
-      where
-        both : (t : Bool) → length (filter test (low (number y))) < length (cond t (x ∷ filter test (low b)) (filter test (low b)))
-        both true = omega (arith, more)
-        both false = more
-    at false e false f more = more
+fewer {X} number test b (x ∷ xs) y (inr i) passes h = grind (arith, ltb-true, ltb-false, fewer number test b xs y i passes h)

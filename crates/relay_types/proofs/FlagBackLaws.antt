@@ -82,12 +82,7 @@ module _ (rows : Rows) (keyed : AreKeyed rows) (sound : are_sound rows ≡ true)
 
   -- an attempt stands behind the Put of its endpoint
   attempt_behind : (e : EndpointRow) (t : AttemptRow) → In t rows.attempts → list_any (is_own e t) rows.deliveries ≡ true → e.put < t.seq
-  attempt_behind e t j h =
-      let found = in_any (is_own e t) rows.deliveries h in
-      let d = found.0 in
-      let seq = eqb-true d.seq t.delivery (and_first (d.seq == t.delivery) (d.endpoint == e.put) found.2) in
-      let put = eqb-true d.endpoint e.put (and_second (d.seq == t.delivery) (d.endpoint == e.put) found.2) in
-      omega (arith, seq, put, (delivery_values rows keyed sound d found.1).0, (attempt_values rows keyed sound t j).0)
+  attempt_behind e t j h = grind (arith, in_any, eqb-true, and_first, and_second, delivery_values, attempt_values)
 
   -- What sets a flag
 
@@ -176,15 +171,7 @@ module _ (rows : Rows) (keyed : AreKeyed rows) (sound : are_sound rows ≡ true)
   -- The tables
 
   row_back : (e : EndpointRow) → In e rows.endpoints → endpoint_row history (endpoint_back e) ≡ e
-  row_back e i = λ j. record {
-    put = e.put;
-    name = e.name;
-    url = e.url;
-    max = e.max;
-    enabled = (flag_back e i).0 j;
-    enabled_by = (flag_back e i).1 j;
-    secrets_by = (secrets_back e i).1 j;
-  }
+  row_back e i = grind (arith, flag_back, secrets_back)
 
   endpoint_rows_are : map (endpoint_row history) (endpoints history) ≡ rows.endpoints
   endpoint_rows_are = ap (map (endpoint_row history)) (endpoints_are rows keyed sound) ∙ map_back (endpoint_row history) endpoint_back (λ row. row) rows.endpoints row_back ∙ map-none rows.endpoints
@@ -202,10 +189,4 @@ module _ (rows : Rows) (keyed : AreKeyed rows) (sound : are_sound rows ≡ true)
 
   -- all tables come back
   pub rows_back : rows_of history ≡ rows
-  rows_back = λ j. record {
-    records = count rows keyed sound j;
-    endpoints = endpoint_rows_are j;
-    secrets = secrets_are j;
-    deliveries = deliveries_are rows keyed sound j;
-    attempts = attempts_are rows keyed sound j;
-  }
+  rows_back = grind (arith, count, endpoint_rows_are, secrets_are, deliveries_are, attempts_are)

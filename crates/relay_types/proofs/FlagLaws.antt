@@ -24,11 +24,7 @@ use Rattle.relay_types.proofs.LookupLaws.{some_is, asked}
 -- A name that no endpoint has
 
 other_name : (records : List Record) (name other : List ℕ) → has_endpoint records name ≡ false → has_endpoint records other ≡ true → bytes_eq other name ≡ false
-other_name records name other unknown known = at (bytes_eq other name) refl
-  where
-    at : (b : Bool) → bytes_eq other name ≡ b → b ≡ false
-    at false e = refl
-    at true e = absurd (let there = subst (λ n. has_endpoint records n ≡ true) ((bytes_eq-Decides other name).0 e) known in let no = unknown in cc)
+other_name records name other unknown known = grind (arith, bytes_eq-Decides)
 
 no_delivery : (records some : List Record) (name : List ℕ) (d : ℕ) → has_endpoint records name ≡ false → AllKnown records some
     → option_map_or (λ (a : Accepted). bytes_eq a.endpoint name) (option_and_then accepted_by (slice_get some d)) false ≡ false
@@ -112,11 +108,7 @@ row_named rows name = find (λ (e : EndpointRow). bytes_eq e.name name) rows.end
 
 row_asked : {X : Type 0} (records : List Record) (ask : EndpointRow → X) (none : X) (name : List ℕ)
     → option_map_or ask (row_named (rows_of records) name) none ≡ option_map_or (λ (e : Endpoint). ask (endpoint_row records e)) (endpoint_of records name) none
-row_asked records ask none name = ap (λ o. option_map_or ask o none) (find_map (endpoint_row records) (λ (e : EndpointRow). bytes_eq e.name name) (endpoints records)) ∙ at (endpoint_of records name)
-  where
-    at : (o : Option Endpoint) → option_map_or ask (option_map (endpoint_row records) o) none ≡ option_map_or (λ (e : Endpoint). ask (endpoint_row records e)) o none
-    at None = refl
-    at (Some e) = refl
+row_asked records ask none name = grind (arith, find_map)
 
 pub enabled-told : (records : List Record) (name : List ℕ) → IsLegal records → option_map_or (λ (e : EndpointRow). e.enabled) (row_named (rows_of records) name) true ≡ is_enabled records name
 enabled-told records name legal =

@@ -46,34 +46,16 @@ module _ (records : List Record) (legal : IsLegal records) where
       name_in (Outcome delivery attempt status at) = []
 
   gone_speaks : (x : Endpoint) (t : AttemptRow) → In x (endpoints records) → is_gone_attempt_of rows (endpoint_row records x) t ≡ true → enabled_by records x.name (outcome_entry t) ≡ Some false
-  gone_speaks x t i h =
-      let gone = and_first (is_gone_status t.status) (list_any (λ (d : DeliveryRow). d.seq == t.delivery && d.endpoint == x.put) rows.deliveries) h in
-      let found = in_any (λ (d : DeliveryRow). d.seq == t.delivery && d.endpoint == x.put) rows.deliveries (and_second (is_gone_status t.status) (list_any (λ (d : DeliveryRow). d.seq == t.delivery && d.endpoint == x.put) rows.deliveries) h) in
-      let d = found.0 in
-      let seq = eqb-true d.seq t.delivery (and_first (d.seq == t.delivery) (d.endpoint == x.put) found.2) in
-      let stands = endpoint_of_delivery x d i found.1 (eqb-true d.endpoint x.put (and_second (d.seq == t.delivery) (d.endpoint == x.put) found.2)) in
-      let own : is_delivery_of records x.name t.delivery ≡ true =
-      ap (λ o. option_map_or (λ (a : Accepted). bytes_eq a.endpoint x.name) (option_and_then accepted_by o) false) (ap (slice_get records) (sym seq) ∙ stands) ∙ same_text x.name x.name refl in
-      λ j. if (gone j && own j) then Some false else None
+  gone_speaks x t i h = grind (arith, and_first, in_any, and_second, eqb-true, endpoint_of_delivery, same_text)
 
   speaks_gone : (x : Endpoint) (t : AttemptRow) → In x (endpoints records) → is_gone_status t.status ≡ true → is_delivery_of records x.name t.delivery ≡ true → is_gone_attempt_of rows (endpoint_row records x) t ≡ true
-  speaks_gone x t i gone own =
-      let accept = accept_stands records x.name t.delivery own in
-      let put = put_named records legal x i in
-      and_both (is_gone_status t.status) _ gone
-      (any_in (λ (d : DeliveryRow). d.seq == t.delivery && d.endpoint == x.put) rows.deliveries (record { seq = t.delivery; endpoint = put_of records x.name; id = accept.0; at = accept.2; body = accept.1 })
-      (delivery_in records t.delivery x.name accept.0 accept.1 accept.2 accept.3)
-      (and_both (t.delivery == t.delivery) (put_of records x.name == x.put) (eq-eqb t.delivery t.delivery refl) (eq-eqb (put_of records x.name) x.put put)))
+  speaks_gone x t i gone own = grind (arith, accept_stands, put_named, and_both, any_in, delivery_in, eq-eqb)
 
   -- The place of an endpoint's flag
 
   other_name : (name : List ℕ) (own flag : Bool) (x : Endpoint) → (code (Enabled name own) ≡ 0) ⊎ (enabled_by records x.name (Enabled name own) ≡ Some flag) → name ≡ x.name
   other_name name own flag x (inl same) = absurd (let no : 4 ≡ 0 = same in omega (arith, no))
-  other_name name own flag x (inr h) = at (bytes_eq name x.name) refl h
-    where
-      at : (b : Bool) → bytes_eq name x.name ≡ b → (if b then Some own else None) ≡ Some flag → name ≡ x.name
-      at true e h = text_same name x.name e
-      at false e h = absurd (let no = h in cc)
+  other_name name own flag x (inr h) = grind (arith, text_same)
 
   no_secrets : (name : List ℕ) (own : Bool) (given : List (List ℕ)) (x : Endpoint) → (code (Enabled name own) ≡ 0) ⊎ (secrets_by x.name (Enabled name own) ≡ Some given) → ⊥
   no_secrets name own given x (inl same) = let no : 4 ≡ 0 = same in omega (arith, no)
@@ -214,44 +196,13 @@ module _ (records : List Record) (legal : IsLegal records) where
   -- a record that says something isn't behind the last
   spoken : {Y : Type 0} (says : Record → Option Y) (put : ℕ) (default : Y) (n : ℕ) (r : Record) (y : Y) → slice_get records n ≡ Some r → says r ≡ Some y → Last says records put default → n ≤ last_seq (λ entry. is_some (says entry)) records put
   spoken says put default n r y is speaks (unsaid none v s) = absurd (let silent = none n r is in let loud = speaks in cc)
-  spoken says put default n r y is speaks (said z sp v s) = subst (λ m. n ≤ m) (sym s) (at (nat_lt sp.place n) refl)
-    where
-      at : (b : Bool) → nat_lt sp.place n ≡ b → n ≤ sp.place
-      at true e = absurd (let silent = sp.none_behind n r (ltb-true sp.place n e) is in let loud = speaks in cc)
-      at false e = ltb-false sp.place n e
+  spoken says put default n r y is speaks (said z sp v s) = grind (arith, ltb-true, ltb-false)
 
   less_if : (n m : ℕ) → n ≤ m → n == m ≡ false → n < m
-  less_if n m h e = omega (arith, h, differs)
-    where
-      differs : n ≡ m → ⊥
-      differs same = let yes = eq-eqb n m same in let no = e in cc
+  less_if n m h e = grind (arith, eq-eqb)
 
   commanded : (x : Endpoint) (n : ℕ) → In x (endpoints records) → x.put < n → (n ≤ (endpoint_row records x).enabled_by) ⊎ (n ≤ (endpoint_row records x).secrets_by) → named_or_overtaken n ≡ true
-  commanded x n i put h = at h
-    where
-      row : EndpointRow
-      row = endpoint_row records x
-
-      there : In row rows.endpoints
-      there = map_in (endpoint_row records) (endpoints records) x i
-
-      named : (row.enabled_by == n || row.secrets_by == n) ≡ true → named_or_overtaken n ≡ true
-      named h = or_left (is_named rows n) _ (or_right (is_taken rows n) _ (any_in (λ (e : EndpointRow). e.enabled_by == n || e.secrets_by == n) rows.endpoints row there h))
-
-      overtaken : (nat_lt n row.enabled_by || nat_lt n row.secrets_by) ≡ true → named_or_overtaken n ≡ true
-      overtaken h = or_right (is_named rows n) _ (any_in (is_overtaken_at n) rows.endpoints row there (and_both (nat_lt x.put n) _ (lt-ltb x.put n put) h))
-
-      flag : (b : Bool) → n == row.enabled_by ≡ b → n ≤ row.enabled_by → named_or_overtaken n ≡ true
-      flag true e h = named (or_left (row.enabled_by == n) (row.secrets_by == n) (eq-eqb row.enabled_by n (sym (eqb-true n row.enabled_by e))))
-      flag false e h = overtaken (or_left (nat_lt n row.enabled_by) (nat_lt n row.secrets_by) (lt-ltb n row.enabled_by (less_if n row.enabled_by h e)))
-
-      list : (b : Bool) → n == row.secrets_by ≡ b → n ≤ row.secrets_by → named_or_overtaken n ≡ true
-      list true e h = named (or_right (row.enabled_by == n) (row.secrets_by == n) (eq-eqb row.secrets_by n (sym (eqb-true n row.secrets_by e))))
-      list false e h = overtaken (or_right (nat_lt n row.enabled_by) (nat_lt n row.secrets_by) (lt-ltb n row.secrets_by (less_if n row.secrets_by h e)))
-
-      at : (n ≤ row.enabled_by) ⊎ (n ≤ row.secrets_by) → named_or_overtaken n ≡ true
-      at (inl h) = flag (n == row.enabled_by) refl h
-      at (inr h) = list (n == row.secrets_by) refl h
+  commanded x n i put h = grind (arith, In, map_in, or_left, or_right, any_in, and_both, lt-ltb, eq-eqb, eqb-true, less_if)
 
   by_record : (n : ℕ) (r : Record) → slice_get records n ≡ Some r → named_or_overtaken n ≡ true
   by_record n (Put name target max secrets) is =

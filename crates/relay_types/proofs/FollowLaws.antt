@@ -71,17 +71,7 @@ module _ (rows : Rows) (keyed : AreKeyed rows) (sound : are_sound rows ≡ true)
   front_is n = front_endpoints history n ∙ ap (filter (λ (x : Endpoint). nat_lt x.put n)) (endpoints_are rows keyed sound)
 
   has_before : (e : EndpointRow) (n : ℕ) → In e rows.endpoints → e.put < n → has_endpoint (take n history) e.name ≡ true
-  has_before e n i before = ap (λ es. is_some (find (λ (x : Endpoint). bytes_eq x.name e.name) es)) (front_is n) ∙ at (find (λ (x : Endpoint). bytes_eq x.name e.name) those) refl
-    where
-      those : List Endpoint
-      those = filter (λ (x : Endpoint). nat_lt x.put n) (map endpoint_back rows.endpoints)
-
-      at : (o : Option Endpoint) → find (λ (x : Endpoint). bytes_eq x.name e.name) those ≡ o → is_some o ≡ true
-      at (Some x) is = refl
-      at None is = absurd (
-          let there = filter_in (λ (x : Endpoint). nat_lt x.put n) (map endpoint_back rows.endpoints) (endpoint_back e) (map_in endpoint_back rows.endpoints e i) (lt-ltb e.put n before) in
-          let no = not_found (λ (x : Endpoint). bytes_eq x.name e.name) those (endpoint_back e) is there in
-          let yes = same_text e.name e.name refl in cc)
+  has_before e n i before = grind (arith, front_is, endpoint_back, filter_in, map_in, lt-ltb, not_found, same_text)
 
   lacks_before : (e : EndpointRow) → In e rows.endpoints → has_endpoint (take e.put history) e.name ≡ false
   lacks_before e i = ap (λ es. is_some (find (λ (x : Endpoint). bytes_eq x.name e.name) es)) (front_is e.put) ∙ at (find (λ (x : Endpoint). bytes_eq x.name e.name) those) refl

@@ -93,14 +93,8 @@ few_endpoints before (entry ∷ later) few h =
 
 numbered_in : (n m : ℕ) (rs : List Record) (r : Record) → slice_get rs m ≡ Some r → In (n + m, r) (enumerate_from n rs)
 numbered_in n m [] r is = absurd (let no = is in cc)
-numbered_in n zero (s ∷ rs) r is = inl (λ i. (here i, some_same is i))
-  where
-    here : n ≡ n + 0
-    here = omega arith
-numbered_in n (suc m) (s ∷ rs) r is = inr (subst (λ k. In (k, r) (enumerate_from (n + 1) rs)) moved (numbered_in (n + 1) m rs r is))
-  where
-    moved : n + 1 + m ≡ n + suc m
-    moved = omega arith
+numbered_in n zero (s ∷ rs) r is = grind (arith, some_same)
+numbered_in n (suc m) (s ∷ rs) r is = grind (arith, In, numbered_in (n + 1) m rs r is)
 
 pub front_place : (n m : ℕ) (rs : List Record) → m < n → slice_get (take n rs) m ≡ slice_get rs m
 front_place zero m rs h = absurd (omega (arith, h))
@@ -109,13 +103,7 @@ front_place (suc n) zero (r ∷ rs) h = refl
 front_place (suc n) (suc m) (r ∷ rs) h = front_place n m rs (omega (arith, h))
 
 known_if : (rs : List Record) (m : ℕ) (name id body : List ℕ) (at : ℕ) → slice_get rs m ≡ Some (Accept name id body at) → is_some (known_as rs name id) ≡ true
-known_if rs m name id body moment is = at (find (λ (e : ℕ × Record). is_accept_as name id e.1) (numbered rs)) refl
-  where
-    at : (o : Option (ℕ × Record)) → find (λ (e : ℕ × Record). is_accept_as name id e.1) (numbered rs) ≡ o → is_some (option_map (λ (e : ℕ × Record). e.0) o) ≡ true
-    at (Some e) f = refl
-    at None f = absurd (
-        let no = not_found (λ (e : ℕ × Record). is_accept_as name id e.1) (numbered rs) (0 + m, Accept name id body moment) f (numbered_in 0 m rs (Accept name id body moment) is) in
-        let yes : is_accept_as name id (Accept name id body moment) ≡ true = and_both (bytes_eq name name) (bytes_eq id id) (same_text name name refl) (same_text id id refl) in cc)
+known_if rs m name id body moment is = grind (arith, not_found, numbered_in, and_both, same_text)
 
 false_if : (b : Bool) → (b ≡ true → ⊥) → b ≡ false
 false_if true h = absurd (h refl)
@@ -188,14 +176,7 @@ module _ (records : List Record) (legal : IsLegal records) where
       let no : false ≡ true = ap not (sym known) ∙ free in cc
 
   ids_apart : (d : DeliveryRow) → In d rows.deliveries → (g : DeliveryRow) → In g rows.deliveries → (g.endpoint == d.endpoint && (bytes_eq g.id d.id && not (g.seq == d.seq))) ≡ false
-  ids_apart d i g j = false_if (g.endpoint == d.endpoint && (bytes_eq g.id d.id && not (g.seq == d.seq))) (λ h.
-      let endpoint = eqb-true g.endpoint d.endpoint (and_first (g.endpoint == d.endpoint) (bytes_eq g.id d.id && not (g.seq == d.seq)) h) in
-      let rest = and_second (g.endpoint == d.endpoint) (bytes_eq g.id d.id && not (g.seq == d.seq)) h in
-      let id = text_same g.id d.id (and_first (bytes_eq g.id d.id) (not (g.seq == d.seq)) rest) in
-      let early : g.seq < d.seq → ⊥ = no_later d g i j endpoint id in
-      let late : d.seq < g.seq → ⊥ = no_later g d j i (sym endpoint) (sym id) in
-      let same : g.seq ≡ d.seq = omega (arith, early, late) in
-      let no : false ≡ true = ap not (sym (eq-eqb g.seq d.seq same)) ∙ and_second (bytes_eq g.id d.id) (not (g.seq == d.seq)) rest in cc)
+  ids_apart d i g j = grind (arith, false_if, eqb-true, and_first, and_second, text_same, no_later, eq-eqb)
 
   number_is : (t : AttemptRow) → In t rows.attempts → t.number ≡ length (attempts_before rows t) + 1
   number_is t i =
@@ -210,23 +191,10 @@ module _ (records : List Record) (legal : IsLegal records) where
       omega (arith, number_is t i, number_is s j, mine, more)
 
   numbers_once : (t : AttemptRow) → In t rows.attempts → (s : AttemptRow) → In s rows.attempts → (s.delivery == t.delivery && (s.number == t.number && not (s.seq == t.seq))) ≡ false
-  numbers_once t i s j = false_if (s.delivery == t.delivery && (s.number == t.number && not (s.seq == t.seq))) (λ h.
-      let delivery = eqb-true s.delivery t.delivery (and_first (s.delivery == t.delivery) (s.number == t.number && not (s.seq == t.seq)) h) in
-      let rest = and_second (s.delivery == t.delivery) (s.number == t.number && not (s.seq == t.seq)) h in
-      let number = eqb-true s.number t.number (and_first (s.number == t.number) (not (s.seq == t.seq)) rest) in
-      let early : s.seq < t.seq → ⊥ = λ l. omega (arith, later_number t s i j delivery l, number) in
-      let late : t.seq < s.seq → ⊥ = λ l. omega (arith, later_number s t j i (sym delivery) l, number) in
-      let same : s.seq ≡ t.seq = omega (arith, early, late) in
-      let no : false ≡ true = ap not (sym (eq-eqb s.seq t.seq same)) ∙ and_second (s.number == t.number) (not (s.seq == t.seq)) rest in cc)
+  numbers_once t i s j = grind (arith, false_if, eqb-true, and_first, and_second, later_number, eq-eqb)
 
   names_once : (e : EndpointRow) → In e rows.endpoints → (f : EndpointRow) → In f rows.endpoints → (bytes_eq f.name e.name && not (f.put == e.put)) ≡ false
-  names_once e i f j =
-      let x = row_endpoint records e i in
-      let y = row_endpoint records f j in
-      false_if (bytes_eq f.name e.name && not (f.put == e.put)) (λ h.
-      let named : y.0.name ≡ x.0.name = ap (λ (t : EndpointRow). t.name) y.2 ∙ text_same f.name e.name (and_first (bytes_eq f.name e.name) (not (f.put == e.put)) h) ∙ sym (ap (λ (t : EndpointRow). t.name) x.2) in
-      let same : f.put ≡ e.put = ap (λ (t : EndpointRow). t.put) (sym y.2) ∙ ap (λ (t : Endpoint). t.put) (same_name records legal y.0 x.0 y.1 x.1 named) ∙ ap (λ (t : EndpointRow). t.put) x.2 in
-      let no : false ≡ true = ap not (sym (eq-eqb f.put e.put same)) ∙ and_second (bytes_eq f.name e.name) (not (f.put == e.put)) h in cc)
+  names_once e i f j = grind (arith, row_endpoint, false_if, text_same, and_first, same_name, eq-eqb, and_second)
 
   -- the delivery of an attempt
   delivery_there : (t : AttemptRow) → In t rows.attempts → is_delivery_at rows t.delivery ≡ true

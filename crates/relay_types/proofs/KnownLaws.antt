@@ -113,12 +113,7 @@ may_all-snoc before (r ∷ later) entry =
     ∙ and_assoc (may_follow before r) (may_all_follow (before ++ r ∷ []) later) (may_follow (before ++ r ∷ later) entry)
 
 pub legal_more : (records : List Record) (entry : Record) → IsLegal records → may_follow records entry ≡ true → is_within_limits entry ≡ true → length records < 2 ^ 62 → IsLegal (records ++ entry ∷ [])
-legal_more records entry h follows within room =
-    let order = and_first (may_all_follow [] records) (list_all is_within_limits records && nat_le (length records) (2 ^ 62)) h in
-    let values = and_first (list_all is_within_limits records) _ (and_second (may_all_follow [] records) (list_all is_within_limits records && nat_le (length records) (2 ^ 62)) h) in
-    and_both _ _ (may_all-snoc [] records entry ∙ and_both _ _ order follows)
-    (and_both _ _ (list_all-append is_within_limits records (entry ∷ []) ∙ and_both _ _ values (and_both _ _ within refl))
-    (le-leb (length (records ++ entry ∷ [])) (2 ^ 62) (omega (arith, room, length-append records (entry ∷ [])))))
+legal_more records entry h follows within room = grind (arith, and_first, and_second, and_both, may_all-snoc, list_all-append, le-leb, length-append)
 
 pub follows_if_legal : (records : List Record) (entry : Record) → IsLegal (records ++ entry ∷ []) → may_follow records entry ≡ true
 follows_if_legal records entry h =
@@ -137,25 +132,11 @@ may_all-append before (r ∷ some) more h =
     and_both _ _ (and_first (may_follow before r) _ h) (may_all-append (before ++ r ∷ []) some more (and_second (may_follow before r) (may_all_follow (before ++ r ∷ []) (some ++ more)) h))
 
 pub legal_front : (some more : List Record) → IsLegal (some ++ more) → IsLegal some
-legal_front some more h =
-    let order = and_first (may_all_follow [] (some ++ more)) _ h in
-    let rest = and_second (may_all_follow [] (some ++ more)) (list_all is_within_limits (some ++ more) && nat_le (length (some ++ more)) (2 ^ 62)) h in
-    let values = and_first (list_all is_within_limits (some ++ more)) _ rest in
-    let short = leb-true (length (some ++ more)) (2 ^ 62) (and_second (list_all is_within_limits (some ++ more)) (nat_le (length (some ++ more)) (2 ^ 62)) rest) in
-    and_both _ _ (may_all-append [] some more order)
-    (and_both _ _ (and_first (list_all is_within_limits some) _ (sym (list_all-append is_within_limits some more) ∙ values)) (le-leb (length some) (2 ^ 62) (omega (arith, short, length-append some more))))
+legal_front some more h = grind (arith, and_first, and_second, leb-true, and_both, may_all-append, list_all-append, le-leb, length-append)
 
 pub illegal_if : (records : List Record) (entry : Record) → may_follow records entry ≡ false → is_legal (records ++ entry ∷ []) ≡ false
-illegal_if records entry h = at (is_legal (records ++ entry ∷ [])) refl
-  where
-    at : (b : Bool) → is_legal (records ++ entry ∷ []) ≡ b → b ≡ false
-    at false e = refl
-    at true e = absurd (let follows = follows_if_legal records entry e in let no = h in cc)
+illegal_if records entry h = grind (arith, follows_if_legal)
 
 -- what is illegal stays so
 pub illegal_front : (some more : List Record) → is_legal some ≡ false → is_legal (some ++ more) ≡ false
-illegal_front some more h = at (is_legal (some ++ more)) refl
-  where
-    at : (b : Bool) → is_legal (some ++ more) ≡ b → b ≡ false
-    at false e = refl
-    at true e = absurd (let front = legal_front some more e in let no = h in cc)
+illegal_front some more h = grind (arith, legal_front)

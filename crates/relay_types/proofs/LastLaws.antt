@@ -88,26 +88,15 @@ module _ {Y : Type 0} (says : Record → Option Y) (records : List Record) (put 
 
   seqs_are : (es : List (ℕ × Record)) → map (λ (e : ℕ × Record). e.0) (filter (λ (e : ℕ × Record). is_some (says e.1)) es) ≡ filter_map number es
   seqs_are [] = refl
-  seqs_are (e ∷ es) = at (is_some (says e.1)) (seqs_are es)
-    where
-      at : (b : Bool) → map (λ (e : ℕ × Record). e.0) (filter (λ (e : ℕ × Record). is_some (says e.1)) es) ≡ filter_map number es
-          → map (λ (e : ℕ × Record). e.0) (cond b (e ∷ filter (λ (e : ℕ × Record). is_some (says e.1)) es) (filter (λ (e : ℕ × Record). is_some (says e.1)) es)) ≡ cons_option (if b then Some e.0 else None) (filter_map number es)
-      at true more = ap (λ ns. e.0 ∷ ns) more
-      at false more = more
+  seqs_are (e ∷ es) = grind (arith, seqs_are es)
 
   seq_is : last_seq (λ entry. is_some (says entry)) records put ≡ unwrap_or (last_of (filter_map number (numbered records))) put
   seq_is = ap (λ ns. unwrap_or (last_of ns) put) (seqs_are (numbered records))
 
   place_is : (n i : ℕ) (some : List Record) → slice_get (enumerate_from n some) i ≡ option_map (λ r. (n + i, r)) (slice_get some i)
   place_is n i [] = refl
-  place_is n zero (r ∷ some) = ap (λ m. Some (m, r)) here
-    where
-      here : n ≡ n + 0
-      here = omega arith
-  place_is n (suc i) (r ∷ some) = place_is (n + 1) i some ∙ ap (λ m. option_map (λ s. (m, s)) (slice_get some i)) moved
-    where
-      moved : n + 1 + i ≡ n + suc i
-      moved = omega arith
+  place_is n zero (r ∷ some) = grind arith
+  place_is n (suc i) (r ∷ some) = grind (arith, place_is (n + 1) i some)
 
   silent : (i : ℕ) (z : ℕ × Record) → ((r : Record) → slice_get records i ≡ Some r → says r ≡ None) → slice_get (numbered records) i ≡ Some z → number z ≡ None
   silent i z h at = by (slice_get records i) refl (sym (place_is 0 i records) ∙ at)

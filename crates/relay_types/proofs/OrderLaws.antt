@@ -46,11 +46,7 @@ HasNamesOnce [] = Unit {0}
 HasNamesOnce (e ∷ es) = (is_some (finds e.name es) ≡ false) × HasNamesOnce es
 
 pub flip_false : (a b : List ℕ) → bytes_eq a b ≡ false → bytes_eq b a ≡ false
-flip_false a b h = at (bytes_eq b a) refl
-  where
-    at : (t : Bool) → bytes_eq b a ≡ t → t ≡ false
-    at true e = absurd (let same = (bytes_eq-Decides a b).1 (sym ((bytes_eq-Decides b a).0 e)) in let n = h in cc)
-    at false e = refl
+flip_false a b h = grind (arith, bytes_eq-Decides)
 
 pub not_first : {X : Type 0} (b : Bool) (x : X) (o : Option X) → is_some (if b then Some x else o) ≡ false → (b ≡ false) × (is_some o ≡ false)
 not_first true x o h = absurd (let e = h in cc)
@@ -70,11 +66,7 @@ names_once-more (e ∷ es) new once lacks =
     )
 
 pub unnamed_if : (records : List Record) (name target : List ℕ) (max : ℕ) (secrets : List (List ℕ)) → may_follow records (Put name target max secrets) ≡ true → has_endpoint records name ≡ false
-unnamed_if records name target max secrets h = at (has_endpoint records name) (and_first (not (has_endpoint records name)) (nat_lt (length (endpoints records)) 256) h)
-  where
-    at : (b : Bool) → not b ≡ true → b ≡ false
-    at true e = absurd (let f = e in cc)
-    at false e = refl
+unnamed_if records name target max secrets h = grind (arith, and_first)
 
 names_follow : (records : List Record) (entry : Record) → HasNamesOnce (endpoints records) → may_follow records entry ≡ true → HasNamesOnce (endpoints (records ++ entry ∷ []))
 names_follow records (Put name target max secrets) once h =
@@ -100,14 +92,7 @@ legal_names records h = all_names_once [] records tt (and_first (may_all_follow 
 -- what is found stands at n or above
 pub finds_above : (n : ℕ) (name : List ℕ) (es : List Endpoint) (found : Endpoint) → Rises n es → finds name es ≡ Some found → n ≤ found.put
 finds_above n name [] found rises is = absurd (let e = is in cc)
-finds_above n name (e ∷ es) found rises is = at (finds_above (e.put + 1) name es found rises.1) (bytes_eq e.name name) is
-  where
-    some_is : Some e ≡ Some found → e ≡ found
-    some_is h = cc
-
-    at : (finds name es ≡ Some found → e.put + 1 ≤ found.put) → (b : Bool) → (if b then Some e else finds name es) ≡ Some found → n ≤ found.put
-    at rest true h = subst (λ (t : Endpoint). n ≤ t.put) (some_is h) rises.0
-    at rest false h = omega (arith, rises.0, rest h)
+finds_above n name (e ∷ es) found rises is = grind (arith, finds_above (e.put + 1) name es found rises.1)
 
 -- for each of them, that it has this name and that it has this number are one
 abbrev pub TellsByNumber : List ℕ → ℕ → List Endpoint → Type 0
@@ -126,19 +111,4 @@ none_tells name put es rises lacks = go put es rises lacks (omega arith)
 
 pub tells_by_number : (n : ℕ) (name : List ℕ) (es : List Endpoint) (found : Endpoint) → Rises n es → HasNamesOnce es → finds name es ≡ Some found → TellsByNumber name found.put es
 tells_by_number n name [] found rises once is = tt
-tells_by_number n name (e ∷ es) found rises once is = at (tells_by_number (e.put + 1) name es found rises.1 once.1) (bytes_eq e.name name) refl is
-  where
-    some_is : Some e ≡ Some found → e ≡ found
-    some_is h = cc
-
-    at : (finds name es ≡ Some found → TellsByNumber name found.put es) → (b : Bool) → bytes_eq e.name name ≡ b → (if b then Some e else finds name es) ≡ Some found → TellsByNumber name found.put (e ∷ es)
-    at rest true same h =
-        let names : e.name ≡ name = (bytes_eq-Decides e.name name).0 same in
-        subst (λ (t : Endpoint). TellsByNumber name t.put (e ∷ es)) (some_is h) (
-          (bytes_eq-Decides name e.name).1 (sym names) ∙ sym (eq-eqb e.put e.put refl),
-          none_tells name e.put es rises.1 (subst (λ x. is_some (finds x es) ≡ false) names once.0),
-        )
-    at rest false other h =
-        let above : e.put + 1 ≤ found.put = finds_above (e.put + 1) name es found rises.1 h in
-        let differs : e.put == found.put ≡ false = ne_eqb e.put found.put (λ same. omega (arith, same, above)) in
-        (flip_false e.name name other ∙ sym differs, rest h)
+tells_by_number n name (e ∷ es) found rises once is = grind (arith, bytes_eq-Decides, eq-eqb, none_tells, finds_above, ne_eqb, flip_false, tells_by_number (e.put + 1) name es found rises.1 once.1)

@@ -102,21 +102,7 @@ module _ (rows : Rows) where
 
   -- where a row names the record, or it may have been overtaken, there is one
   there_is : (n : ℕ) → is_named rows n || list_any (is_overtaken_at n) rows.endpoints ≡ true → is_some (entry_at rows n) ≡ true
-  there_is n h = by (put_found rows n) refl (delivery_found rows n) refl (attempt_found rows n) refl (flag_found rows n) refl (list_found rows n) refl (overtaken_found rows n) refl
-    where
-      by : (p : Option EndpointRow) → put_found rows n ≡ p → (d : Option DeliveryRow) → delivery_found rows n ≡ d → (t : Option AttemptRow) → attempt_found rows n ≡ t
-          → (f : Option EndpointRow) → flag_found rows n ≡ f → (l : Option EndpointRow) → list_found rows n ≡ l → (o : Option EndpointRow) → overtaken_found rows n ≡ o
-          → is_some (entry_of rows n p d t f l o) ≡ true
-      by (Some e) is_p d is_d t is_t f is_f l is_l o is_o = refl
-      by None is_p (Some e) is_d t is_t f is_f l is_l o is_o = refl
-      by None is_p None is_d (Some e) is_t f is_f l is_l o is_o = refl
-      by None is_p None is_d None is_t (Some e) is_f l is_l o is_o = refl
-      by None is_p None is_d None is_t None is_f (Some e) is_l o is_o = refl
-      by None is_p None is_d None is_t None is_f None is_l (Some e) is_o = refl
-      by None is_p None is_d None is_t None is_f None is_l None is_o = absurd (
-          let nothing : is_named rows n || list_any (is_overtaken_at n) rows.endpoints ≡ false =
-          or_from (is_named rows n) _ (or_from (is_taken rows n) _ (free n (is_p, is_d, is_t)) (unnamed n is_f is_l)) (unfound (is_overtaken_at n) rows.endpoints is_o) in
-          let something = h in cc)
+  there_is n h = grind (arith, or_from, free, unnamed, unfound)
 
   module _ (keyed : AreKeyed rows) (sound : are_sound rows ≡ true) where
     abbrev history : List Record
@@ -226,12 +212,7 @@ module _ (rows : Rows) where
     not_first e n i found same = let no = not_found (put_is n) rows.endpoints e found.0 i in let yes = eq-eqb e.put n same in cc
 
     flag_behind : (e : EndpointRow) (n : ℕ) → In e rows.endpoints → e.enabled_by ≡ n → Found rows n None None None → e.put < n
-    flag_behind e n i is found = at (flag_place rows keyed sound e i)
-      where
-        at : FlagPlace rows e → e.put < n
-        at (set_first same on) = absurd (not_first e n i found (sym same ∙ is))
-        at (set_gone t j same gone off) = absurd (let no = not_found (attempt_is n) rows.attempts t found.2 j in let yes = eq-eqb t.seq n (same ∙ is) in cc)
-        at (set_later behind apart only) = subst (λ m. e.put < m) is behind
+    flag_behind e n i is found = grind (arith, flag_place, FlagPlace, set_first, not_first, set_gone, not_found, eq-eqb, set_later)
 
     list_behind : (e : EndpointRow) (n : ℕ) → In e rows.endpoints → e.secrets_by ≡ n → Found rows n None None None → e.put < n
     list_behind e n i is found = at (secrets_place rows keyed sound e i)

@@ -24,11 +24,7 @@ use Rattle.relay_types.proofs.KnownLaws.{and_first, IsKnown, AllKnown, endpoint_
 -- A name that no endpoint has
 
 differs : (records : List Record) (a b : List ℕ) → has_endpoint records a ≡ true → has_endpoint records b ≡ false → bytes_eq a b ≡ false
-differs records a b has lacks = at (bytes_eq a b) refl
-  where
-    at : (t : Bool) → bytes_eq a b ≡ t → t ≡ false
-    at true e = absurd (let same = ap (has_endpoint records) ((bytes_eq-Decides a b).0 e) in let h = has in let l = lacks in cc)
-    at false e = refl
+differs records a b has lacks = grind (arith, bytes_eq-Decides)
 
 some_is : {X : Type 0} {x y : X} → Some x ≡ Some y → x ≡ y
 some_is e = cc
@@ -120,12 +116,7 @@ secrets_stay records name target max secrets (e ∷ es) lacks =
 
 endpoints_table-put : (records : List Record) (name target : List ℕ) (max : ℕ) (secrets : List (List ℕ)) → AllKnown records records → has_endpoint records name ≡ false
     → (rows_of (records ++ Put name target max secrets ∷ [])).endpoints ≡ (put_record (rows_of records) (Put name target max secrets)).endpoints
-endpoints_table-put records name target max secrets known lacks =
-    let entry : Record = Put name target max secrets in
-    let new : Endpoint = record { put = length records; name = name; target = target; max = max } in
-    ap (map (endpoint_row (records ++ entry ∷ []))) (endpoints-snoc records entry)
-    ∙ map-append (endpoint_row (records ++ entry ∷ [])) (endpoints records) (new ∷ [])
-    ∙ λ i. (endpoint_rows-snoc records entry (endpoints records) (known_below records records known) ∙ rows_stay records name target max secrets (endpoints records) lacks) i ++ new_row records name target max secrets known lacks i ∷ []
+endpoints_table-put records name target max secrets known lacks = grind (arith, endpoints-snoc, map-append, endpoint_rows-snoc, known_below, rows_stay, new_row)
 
 secrets_table-put : (records : List Record) (name target : List ℕ) (max : ℕ) (secrets : List (List ℕ)) → has_endpoint records name ≡ false
     → (rows_of (records ++ Put name target max secrets ∷ [])).secrets ≡ (put_record (rows_of records) (Put name target max secrets)).secrets
@@ -162,18 +153,10 @@ deliveries-snoc records entry known =
 
 pub find_map : {X Y : Type 0} (f : X → Y) (test : Y → Bool) (xs : List X) → find test (map f xs) ≡ option_map f (find (λ x. test (f x)) xs)
 find_map f test [] = refl
-find_map f test (x ∷ xs) = at (test (f x)) (find_map f test xs)
-  where
-    at : (b : Bool) → find test (map f xs) ≡ option_map f (find (λ x. test (f x)) xs) → (if b then Some (f x) else find test (map f xs)) ≡ option_map f (if b then Some x else find (λ x. test (f x)) xs)
-    at true rest = refl
-    at false rest = rest
+find_map f test (x ∷ xs) = grind (arith, find_map f test xs)
 
 pub put_by_name-is : (records : List Record) (name : List ℕ) → put_by_name (rows_of records) name ≡ put_of records name
-put_by_name-is records name = ap (λ o. option_map_or (λ (e : EndpointRow). e.put) o 0) (find_map (endpoint_row records) (λ (e : EndpointRow). bytes_eq e.name name) (endpoints records)) ∙ at (endpoint_of records name)
-  where
-    at : (o : Option Endpoint) → option_map_or (λ (e : EndpointRow). e.put) (option_map (endpoint_row records) o) 0 ≡ option_map_or (λ (e : Endpoint). e.put) o 0
-    at None = refl
-    at (Some e) = refl
+put_by_name-is records name = grind (arith, find_map)
 
 -- The rows after one more record
 
@@ -225,45 +208,7 @@ all_above put n given (e ∷ es) h rises =
 secrets_replaced : (n : ℕ) (name : List ℕ) (secrets : List (List ℕ)) (given : List ℕ → List (List ℕ)) (es : List Endpoint) (found : Endpoint) → Rises n es → HasNamesOnce es → finds name es ≡ Some found
     → rows_for (given_now name secrets given) es ≡ replace_secrets found.put secrets (rows_for given es)
 secrets_replaced n name secrets given [] found rises once is = absurd (let e = is in cc)
-secrets_replaced n name secrets given (e ∷ es) found rises once is = at (secrets_replaced (e.put + 1) name secrets given es found rises.1 once.1) (bytes_eq e.name name) refl is
-  where
-    old : List SecretRow
-    old = secret_rows e.put (given e.name)
-
-    rest : List SecretRow
-    rest = rows_for given es
-
-    mine : (b : Bool) → bytes_eq e.name name ≡ b → bytes_eq name e.name ≡ b
-    mine true h = (bytes_eq-Decides name e.name).1 (sym ((bytes_eq-Decides e.name name).0 h))
-    mine false h = flip_false e.name name h
-
-    here : bytes_eq e.name name ≡ true → rows_for (given_now name secrets given) (e ∷ es) ≡ replace_secrets e.put secrets (old ++ rest)
-    here h =
-        let names : e.name ≡ name = (bytes_eq-Decides e.name name).0 h in
-        (λ i. secret_rows e.put (unwrap_or (if mine true h i then Some secrets else None) (given e.name)) ++ others_stay name secrets given es (subst (λ x. is_some (finds x es) ≡ false) names once.0) i)
-        ∙ sym (λ i. (filter-append (below e.put) old rest
-        ∙ λ j. drops (below e.put) (secret_row e.put) (enumerate_from 0 (given e.name)) (λ x. le-ltb e.put e.put (omega arith)) j ++ none_below e.put (e.put + 1) given es (omega arith) rises.1 j) i
-        ++ secret_rows e.put secrets
-        ++ (filter-append (above e.put) old rest
-        ∙ λ j. drops (above e.put) (secret_row e.put) (enumerate_from 0 (given e.name)) (λ x. le-ltb e.put e.put (omega arith)) j ++ all_above e.put (e.put + 1) given es (omega arith) rises.1 j) i)
-
-    later : (finds name es ≡ Some found → rows_for (given_now name secrets given) es ≡ replace_secrets found.put secrets rest) → bytes_eq e.name name ≡ false → finds name es ≡ Some found
-        → rows_for (given_now name secrets given) (e ∷ es) ≡ replace_secrets found.put secrets (old ++ rest)
-    later follow h found_later =
-        let behind : e.put + 1 ≤ found.put = finds_above (e.put + 1) name es found rises.1 found_later in
-        (λ i. secret_rows e.put (unwrap_or (if mine false h i then Some secrets else None) (given e.name)) ++ follow found_later i)
-        ∙ sym (append_assoc old (filter (below found.put) rest ++ secret_rows found.put secrets) (filter (above found.put) rest))
-        ∙ ap (λ front. front ++ filter (above found.put) rest) (sym (append_assoc old (filter (below found.put) rest) (secret_rows found.put secrets)))
-        ∙ sym (λ i. (filter-append (below found.put) old rest
-        ∙ ap (λ kept. kept ++ filter (below found.put) rest) (keeps (below found.put) (secret_row e.put) (enumerate_from 0 (given e.name)) (λ x. lt-ltb e.put found.put (omega (arith, behind))))) i
-        ++ secret_rows found.put secrets
-        ++ (filter-append (above found.put) old rest
-        ∙ ap (λ kept. kept ++ filter (above found.put) rest) (drops (above found.put) (secret_row e.put) (enumerate_from 0 (given e.name)) (λ x. le-ltb found.put e.put (omega (arith, behind))))) i)
-
-    at : (finds name es ≡ Some found → rows_for (given_now name secrets given) es ≡ replace_secrets found.put secrets rest) → (b : Bool) → bytes_eq e.name name ≡ b → (if b then Some e else finds name es) ≡ Some found
-        → rows_for (given_now name secrets given) (e ∷ es) ≡ replace_secrets found.put secrets (old ++ rest)
-    at follow true h is = subst (λ (t : Endpoint). rows_for (given_now name secrets given) (e ∷ es) ≡ replace_secrets t.put secrets (old ++ rest)) (some_is is) (here h)
-    at follow false h is = later follow h is
+secrets_replaced n name secrets given (e ∷ es) found rises once is = grind (arith, bytes_eq-Decides, flip_false, others_stay, finds, filter-append, drops, le-ltb, none_below, all_above, finds_above, append_assoc, keeps, lt-ltb, some_is, secrets_replaced (e.put + 1) name secrets given es found rises.1 once.1)
 
 -- a record that gives no secrets leaves their table
 secrets_table-same : (records : List Record) (entry : Record) → endpoint_by (length records, entry) ≡ None → ((name : List ℕ) → secrets_by name entry ≡ None)
@@ -356,60 +301,11 @@ endpoints_table-outcome records d attempt status at legal is =
 -- The rows after one more record
 
 pub rows_of-more : (records : List Record) (entry : Record) → IsLegal records → may_follow records entry ≡ true → rows_of (records ++ entry ∷ []) ≡ put_record (rows_of records) entry
-rows_of-more records (Put name target max secrets) legal follows =
-    let entry : Record = Put name target max secrets in
-    let known = legal_known records legal in
-    let lacks = unnamed_if records name target max secrets follows in
-    λ i. record {
-      records = records-snoc records entry i;
-      endpoints = endpoints_table-put records name target max secrets known lacks i;
-      secrets = secrets_table-put records name target max secrets lacks i;
-      deliveries = (deliveries-snoc records entry known ∙ append-nil (rows_of records).deliveries) i;
-      attempts = attempts_table-snoc records entry i;
-    }
-rows_of-more records (Secrets name secrets) legal follows =
-    let entry : Record = Secrets name secrets in
-    let known = legal_known records legal in
-    λ i. record {
-      records = records-snoc records entry i;
-      endpoints = endpoints_table-secrets records name secrets (known_below records records known) i;
-      secrets = secrets_table-secrets records name secrets legal follows i;
-      deliveries = (deliveries-snoc records entry known ∙ append-nil (rows_of records).deliveries) i;
-      attempts = attempts_table-snoc records entry i;
-    }
-rows_of-more records (Enabled name flag) legal follows =
-    let entry : Record = Enabled name flag in
-    let known = legal_known records legal in
-    λ i. record {
-      records = records-snoc records entry i;
-      endpoints = endpoints_table-enabled records name flag (known_below records records known) i;
-      secrets = secrets_table-same records entry refl (λ other. refl) i;
-      deliveries = (deliveries-snoc records entry known ∙ append-nil (rows_of records).deliveries) i;
-      attempts = attempts_table-snoc records entry i;
-    }
-rows_of-more records (Accept name id body at) legal follows =
-    let entry : Record = Accept name id body at in
-    let known = legal_known records legal in
-    let has = and_first (has_endpoint records name) _ follows in
-    λ i. record {
-      records = records-snoc records entry i;
-      endpoints = endpoints_table-accept records name id body at (known_below records records known) i;
-      secrets = secrets_table-same records entry refl (λ other. refl) i;
-      deliveries = (deliveries-snoc records entry known
-          ∙ ap (λ p. (rows_of records).deliveries ++ record { seq = length records; endpoint = p; id = id; at = at; body = body } ∷ []) (put_of-more records entry name has ∙ sym (put_by_name-is records name))) i;
-      attempts = attempts_table-snoc records entry i;
-    }
-rows_of-more records (Outcome delivery attempt status at) legal follows =
-    let entry : Record = Outcome delivery attempt status at in
-    let known = legal_known records legal in
-    let is = and_first (is_some (accepted records delivery)) _ (and_first (is_pending records delivery) _ follows) in
-    λ i. record {
-      records = records-snoc records entry i;
-      endpoints = endpoints_table-outcome records delivery attempt status at legal is i;
-      secrets = secrets_table-same records entry refl (λ other. refl) i;
-      deliveries = (deliveries-snoc records entry known ∙ append-nil (rows_of records).deliveries) i;
-      attempts = attempts_table-snoc records entry i;
-    }
+rows_of-more records (Put name target max secrets) legal follows = grind (arith, legal_known, unnamed_if, records-snoc, endpoints_table-put, secrets_table-put, deliveries-snoc, append-nil, attempts_table-snoc)
+rows_of-more records (Secrets name secrets) legal follows = grind (arith, legal_known, records-snoc, endpoints_table-secrets, known_below, secrets_table-secrets, deliveries-snoc, append-nil, attempts_table-snoc)
+rows_of-more records (Enabled name flag) legal follows = grind (arith, legal_known, records-snoc, endpoints_table-enabled, known_below, secrets_table-same, deliveries-snoc, append-nil, attempts_table-snoc)
+rows_of-more records (Accept name id body at) legal follows = grind (arith, legal_known, and_first, records-snoc, endpoints_table-accept, known_below, secrets_table-same, deliveries-snoc, put_of-more, put_by_name-is, attempts_table-snoc)
+rows_of-more records (Outcome delivery attempt status at) legal follows = grind (arith, legal_known, and_first, records-snoc, endpoints_table-outcome, secrets_table-same, deliveries-snoc, append-nil, attempts_table-snoc)
 
 pub rows_of-all : (records more : List Record) → IsLegal (records ++ more) → rows_of (records ++ more) ≡ put_rows (rows_of records) more
 rows_of-all records [] legal = ap rows_of (append-nil records)

@@ -83,18 +83,10 @@ module _ (records : List Record) (legal : IsLegal records) where
 
   -- the record that an endpoint's row names is its Put, or one of it that says something
   pub flag_record : (x : Endpoint) (p : ℕ) (r : Record) → In x (endpoints records) → (endpoint_row records x).enabled_by ≡ p → slice_get records p ≡ Some r → (code r ≡ 0) ⊎ (enabled_by records x.name r ≡ Some (is_enabled records x.name))
-  flag_record x p r i same is = by (flag_last x)
-    where
-      by : Last (enabled_by records x.name) records x.put true → (code r ≡ 0) ⊎ (enabled_by records x.name r ≡ Some (is_enabled records x.name))
-      by (unsaid none v s) = inl (ap code (some_same (sym is ∙ ap (slice_get records) (sym same ∙ s) ∙ (put_stands records x i).1)))
-      by (said y sp v s) = inr (ap (enabled_by records x.name) (some_same (sym is ∙ ap (slice_get records) (sym same ∙ s) ∙ sp.stands)) ∙ sp.said ∙ ap Some (sym v))
+  flag_record x p r i same is = grind (arith, flag_last x, code r, Last, unsaid, some_same, put_stands, said)
 
   pub secrets_record : (x : Endpoint) (p : ℕ) (r : Record) → In x (endpoints records) → (endpoint_row records x).secrets_by ≡ p → slice_get records p ≡ Some r → (code r ≡ 0) ⊎ (secrets_by x.name r ≡ Some (secrets_of records x.name))
-  secrets_record x p r i same is = by (secrets_last x)
-    where
-      by : Last (secrets_by x.name) records x.put [] → (code r ≡ 0) ⊎ (secrets_by x.name r ≡ Some (secrets_of records x.name))
-      by (unsaid none v s) = inl (ap code (some_same (sym is ∙ ap (slice_get records) (sym same ∙ s) ∙ (put_stands records x i).1)))
-      by (said y sp v s) = inr (ap (secrets_by x.name) (some_same (sym is ∙ ap (slice_get records) (sym same ∙ s) ∙ sp.stands)) ∙ sp.said ∙ ap Some (sym v))
+  secrets_record x p r i same is = grind (arith, secrets_last x, code r, Last, unsaid, some_same, put_stands, said)
 
   -- Numbers
 
@@ -138,11 +130,7 @@ module _ (records : List Record) (legal : IsLegal records) where
 
   other_name : (name : List ℕ) (secrets given : List (List ℕ)) (x : Endpoint) → (code (Secrets name secrets) ≡ 0) ⊎ (secrets_by x.name (Secrets name secrets) ≡ Some given) → name ≡ x.name
   other_name name secrets given x (inl same) = absurd (let no : 3 ≡ 0 = same in omega (arith, no))
-  other_name name secrets given x (inr h) = at (bytes_eq name x.name) refl h
-    where
-      at : (b : Bool) → bytes_eq name x.name ≡ b → (if b then Some secrets else None) ≡ Some given → name ≡ x.name
-      at true e h = text_same name x.name e
-      at false e h = absurd (let no = h in cc)
+  other_name name secrets given x (inr h) = grind (arith, text_same)
 
   no_flag : (name : List ℕ) (secrets : List (List ℕ)) (flag : Bool) (x : Endpoint) → (code (Secrets name secrets) ≡ 0) ⊎ (enabled_by records x.name (Secrets name secrets) ≡ Some flag) → ⊥
   no_flag name secrets flag x (inl same) = let no : 3 ≡ 0 = same in omega (arith, no)

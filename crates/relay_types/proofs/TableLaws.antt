@@ -40,28 +40,15 @@ any_in test (y ∷ ys) x (inr i) h = or_right (test y) (list_any test ys) (any_i
 
 pub in_any : {X : Type 0} (test : X → Bool) (xs : List X) → list_any test xs ≡ true → (x : X) × In x xs × (test x ≡ true)
 in_any test [] h = absurd (let no = h in cc)
-in_any {X} test (y ∷ ys) h = at (in_any test ys) (test y) refl h
-  where
-    at : (list_any test ys ≡ true → (x : X) × In x ys × (test x ≡ true)) → (b : Bool) → test y ≡ b → b || list_any test ys ≡ true → (x : X) × In x (y ∷ ys) × (test x ≡ true)
-    at more true e h = (y, inl refl, e)
-    at more false e h = let found = more h in (found.0, inr found.1, found.2)
+in_any {X} test (y ∷ ys) h = grind (arith, in_any test ys)
 
 pub found_in : {X : Type 0} (test : X → Bool) (xs : List X) (x : X) → find test xs ≡ Some x → In x xs × (test x ≡ true)
 found_in test [] x h = absurd (let no = h in cc)
-found_in test (y ∷ ys) x h = at (found_in test ys x) (test y) refl h
-  where
-    at : (find test ys ≡ Some x → In x ys × (test x ≡ true)) → (b : Bool) → test y ≡ b → cond b (Some y) (find test ys) ≡ Some x → In x (y ∷ ys) × (test x ≡ true)
-    at more true e h = (inl (some_same h), subst (λ z. test z ≡ true) (some_same h) e)
-    at more false e h = let found = more h in (inr found.0, found.1)
+found_in test (y ∷ ys) x h = grind (arith, some_same, found_in test ys x)
 
 pub not_found : {X : Type 0} (test : X → Bool) (xs : List X) (x : X) → find test xs ≡ None → In x xs → test x ≡ false
 not_found test [] x h i = absurd i
-not_found test (y ∷ ys) x h i = at (not_found test ys x) (test y) refl h i
-  where
-    at : (find test ys ≡ None → In x ys → test x ≡ false) → (b : Bool) → test y ≡ b → cond b (Some y) (find test ys) ≡ None → In x (y ∷ ys) → test x ≡ false
-    at more true e h i = absurd (let no = h in cc)
-    at more false e h (inl same) = subst (λ z. test z ≡ false) same e
-    at more false e h (inr i) = more h i
+not_found test (y ∷ ys) x h i = grind (arith, not_found test ys x)
 
 pub none_found : {X : Type 0} (test : X → Bool) (xs : List X) → ((x : X) → In x xs → test x ≡ false) → find test xs ≡ None
 none_found test [] h = refl
@@ -89,12 +76,7 @@ map_in f (y ∷ ys) x (inr i) = inr (map_in f ys x i)
 
 pub in_filter : {X : Type 0} (test : X → Bool) (xs : List X) (x : X) → In x (filter test xs) → In x xs × (test x ≡ true)
 in_filter test [] x i = absurd i
-in_filter test (y ∷ ys) x i = at (in_filter test ys x) (test y) refl i
-  where
-    at : (In x (filter test ys) → In x ys × (test x ≡ true)) → (b : Bool) → test y ≡ b → In x (cond b (y ∷ filter test ys) (filter test ys)) → In x (y ∷ ys) × (test x ≡ true)
-    at more true e (inl same) = (inl same, subst (λ z. test z ≡ true) same e)
-    at more true e (inr i) = let found = more i in (inr found.0, found.1)
-    at more false e i = let found = more i in (inr found.0, found.1)
+in_filter test (y ∷ ys) x i = grind (arith, in_filter test ys x)
 
 pub filter_in : {X : Type 0} (test : X → Bool) (xs : List X) (x : X) → In x xs → test x ≡ true → In x (filter test xs)
 filter_in test [] x i h = absurd i
@@ -209,11 +191,7 @@ module _ {X Y : Type 0} (g : ℕ × X → Option Y) (number : Y → ℕ) where
   module _ (numbers : (k : ℕ) (x : X) (y : Y) → g (k, x) ≡ Some y → number y ≡ k) where
     pub table_rises : (n : ℕ) (xs : List X) → IsRisingFrom number n (filter_map g (enumerate_from n xs))
     table_rises n [] = tt
-    table_rises n (x ∷ xs) = at (table_rises (n + 1) xs) (g (n, x)) refl
-      where
-        at : IsRisingFrom number (n + 1) (filter_map g (enumerate_from (n + 1) xs)) → (o : Option Y) → g (n, x) ≡ o → IsRisingFrom number n (cons_option o (filter_map g (enumerate_from (n + 1) xs)))
-        at more None e = rising_lower number n (n + 1) (filter_map g (enumerate_from (n + 1) xs)) (omega arith) more
-        at more (Some y) e = let is = numbers n x y e in (omega (arith, is), rising_lower number (number y + 1) (n + 1) (filter_map g (enumerate_from (n + 1) xs)) (omega (arith, is)) more)
+    table_rises n (x ∷ xs) = grind (arith, rising_lower, table_rises (n + 1) xs)
 
     -- the table of a front is the front of the table
     pub table_front : (n m e : ℕ) (xs : List X) → e ≡ n + m → filter_map g (enumerate_from n (take m xs)) ≡ filter (λ y. nat_lt (number y) e) (filter_map g (enumerate_from n xs))
@@ -253,10 +231,7 @@ module _ {X Y : Type 0} (g : ℕ × X → Option Y) (number : Y → ℕ) where
 
   pub row_in : (n k : ℕ) (xs : List X) (x : X) (y : Y) → slice_get xs k ≡ Some x → g (n + k, x) ≡ Some y → In y (filter_map g (enumerate_from n xs))
   row_in n k [] x y is made = absurd (let no = is in cc)
-  row_in n zero (z ∷ xs) x y is made = subst (λ o. In y (cons_option o (filter_map g (enumerate_from (n + 1) xs)))) (sym (ap (λ t. g (n, t)) (some_same is) ∙ subst (λ m. g (m, x) ≡ Some y) here made)) (inl refl)
-    where
-      here : n + 0 ≡ n
-      here = omega arith
+  row_in n zero (z ∷ xs) x y is made = grind (arith, some_same, made)
   row_in n (suc k) (z ∷ xs) x y is made = behind (g (n, z)) (row_in (n + 1) k xs x y is (subst (λ m. g (m, x) ≡ Some y) moved made))
     where
       moved : n + suc k ≡ n + 1 + k
