@@ -38,21 +38,12 @@ first_below entries seq n h below above =
 
 -- a list in ascending order is parted by a seq
 pub parted : (entries : List Entry) (seq : ℕ) → IsAscending entries → IsPartitionedBy (λ e. ltb e.seq seq) entries
-parted entries seq up = IsPartitionedBy-ltb (λ e. e.seq) entries seq rises
-  where
-    rises : (i j : ℕ) (d : Entry) → i ≤ j → j < length entries → (get_or entries i d).seq ≤ (get_or entries j d).seq
-    rises i j d h l = ⊎_elim (λ e. omega (arith, ap (λ k. (get_or entries k d).seq) e)) (λ ne. omega (arith, up i j d (omega (arith, h, ne)) l)) (cases_eq i j)
+parted entries seq up = grind (arith, IsPartitionedBy-ltb, cases_eq)
 
 -- the entry at a seq, where the n entries before it stand below that seq
 pub entry_at-found : (entries : List Entry) (seq n : ℕ) (d : Entry) → n < length entries → ((k : ℕ) (e : Entry) → k < n → (get_or entries k e).seq < seq)
     → (get_or entries n d).seq ≡ seq → entry_at entries seq ≡ Some (get_or entries n d)
-entry_at-found entries seq n d l below e =
-    find_at (λ x. eqb x.seq seq) entries
-    ∙ ap (slice_get entries) (position_or_len_is (λ x. eqb x.seq seq) entries n d (omega (arith, l)) before (λ _. eq-eqb (get_or entries n d).seq seq e))
-    ∙ slice_get-get_or entries n d l
-  where
-    before : (k : ℕ) → k < n → eqb (get_or entries k d).seq seq ≡ false
-    before k h = ne_eqb (get_or entries k d).seq seq (λ same. absurd (omega (arith, below k d h, same)))
+entry_at-found entries seq n d l below e = grind (arith, find_at, position_or_len_is, eq-eqb, slice_get-get_or, ne_eqb)
 
 pub entry_at-none : (entries : List Entry) (seq : ℕ) → ((k : ℕ) (d : Entry) → k < length entries → (get_or entries k d).seq ≢ seq) → entry_at entries seq ≡ None
 entry_at-none [] seq apart = refl
@@ -63,20 +54,11 @@ entry_at-none (x ∷ xs) seq apart =
 -- no entry has a seq that only an entry from n on, which stands above it, or below n could have
 pub apart : (entries : List Entry) (seq n : ℕ) → ((k : ℕ) (e : Entry) → k < n → (get_or entries k e).seq < seq) → ((k : ℕ) (e : Entry) → n ≤ k → k < length entries → seq ≤ (get_or entries k e).seq)
     → IsAscending entries → ((d : Entry) → n < length entries → (get_or entries n d).seq ≢ seq) → (k : ℕ) (d : Entry) → k < length entries → (get_or entries k d).seq ≢ seq
-apart entries seq n below above up other k d h same =
-    ⊎_elim
-    (λ e. other d (omega (arith, h, e)) (ap (λ i. (get_or entries i d).seq) (sym e) ∙ same))
-    (λ ne. ⊎_elim (λ lt. absurd (omega (arith, below k d lt, same))) (λ ge. absurd (omega (arith, above n d (omega arith) (omega (arith, ge, ne, h)), up n k d (omega (arith, ge, ne)) h, same))) (cases_lt k n))
-    (cases_eq k n)
+apart entries seq n below above up other k d h same = grind (arith, cases_eq)
 
 -- the entries between two places of the list are counted once
 pub count-slice : {X : Type 0} (p : X → Bool) (xs : List X) (n m : ℕ) → n ≤ m → count_by p (take n xs) + count_by p (take (m - n) (drop n xs)) ≡ count_by p (take m xs)
-count-slice p xs n m h =
-    sym (sum_by-append (λ x. cond (p x) 1 0) (take n xs) (take (m - n) (drop n xs)))
-    ∙ ap (count_by p) (sym (take-add n (m - n) xs) ∙ ap (λ k. take k xs) sum)
-  where
-    sum : n + (m - n) ≡ m
-    sum = omega (arith, h)
+count-slice p xs n m h = grind (arith, take-add n (m - n) xs, sum_by-append)
 
 -- within a list a read has one value
 pub get_or-any : {X : Type 0} (xs : List X) (i : ℕ) (d e : X) → i < length xs → get_or xs i d ≡ get_or xs i e

@@ -38,12 +38,7 @@ known_step : (latest settled : ℕ → List Attempt) (n : ℕ) (r : Record) (nam
     → option_map (λ (e : ℕ × Record). e.0) (cond (option_map_or (λ a. bytes_eq a.endpoint name && bytes_eq a.id id) o false) (Some (n, r)) (find (λ e. is_accept_as name id e.1) more))
     ≡ option_map (λ (e : Entry). e.seq) (find (is_entry_as name id) (cons_option (option_map (entry_for latest settled n) o) (filter_map (entry_by latest settled) more)))
 known_step latest settled n r name id more None h = h
-known_step latest settled n r name id more (Some a) h = pick (bytes_eq a.endpoint name && bytes_eq a.id id)
-  where
-    pick : (b : Bool) → option_map (λ (e : ℕ × Record). e.0) (cond b (Some (n, r)) (find (λ e. is_accept_as name id e.1) more))
-        ≡ option_map (λ (e : Entry). e.seq) (cond b (Some (entry_for latest settled n a)) (find (is_entry_as name id) (filter_map (entry_by latest settled) more)))
-    pick true = refl
-    pick false = h
+known_step latest settled n r name id more (Some a) h = grind arith
 
 known_from : (latest settled : ℕ → List Attempt) (n : ℕ) (records : List Record) (name id : List ℕ) → option_map (λ (e : ℕ × Record). e.0) (find (λ e. is_accept_as name id e.1) (enumerate_from n records))
     ≡ option_map (λ (e : Entry). e.seq) (find (is_entry_as name id) (filter_map (entry_by latest settled) (enumerate_from n records)))

@@ -42,13 +42,7 @@ entries_of-more records r s h =
 
 unsettled-more : (records : List Record) (r : Record) (s : ℕ) → s ≤ length records
     → outcomes_from s (drop s (records ++ r ∷ [])) ≡ outcomes_from s (drop s records) ++ cons_option (outcome_by (length records, r)) []
-unsettled-more records r s h =
-    ap (outcomes_from s) (drop-more records r s h)
-    ∙ outcomes_from-snoc s (drop s records) r
-    ∙ ap (λ n. outcomes_from s (drop s records) ++ cons_option (outcome_by (n, r)) []) counted
-  where
-    counted : s + length (drop s records) ≡ length records
-    counted = omega (arith, length-drop s records, h)
+unsettled-more records r s h = grind (arith, drop-more, outcomes_from-snoc, length-drop)
 
 -- a record that is no Outcome adds no attempt
 no_attempt : (r : Record) → delivery_by r ≡ None → (d : ℕ) → attempt_by d r ≡ None
@@ -126,20 +120,7 @@ stands_other book records settled r h other =
 -- One more outcome
 
 pub free_means : (book : BookValue) (records : List Record) (settled d : ℕ) → StandsFor book records settled → takes_outcome book d ≡ is_free records settled d
-free_means book records settled d h =
-    ap (λ es. option_map_or is_open (entry_at es d) false) h.entries
-    ∙ ap (λ o. option_map_or is_open o false) (entry_at-entries records settled d)
-    ∙ pick (accepted records d)
-  where
-    fewer : (n m all : ℕ) → all ≡ n + m → eqb all n ≡ eqb m 0
-    fewer n m all e = ⊎_elim (λ z. eq-eqb all n (omega (arith, e, z)) ∙ sym (eq-eqb m 0 z)) (λ nz. ne_eqb all n (λ same. nz (omega (arith, e, same))) ∙ sym (ne_eqb m 0 nz)) (cases_eq m 0)
-
-    pick : (o : Option Accepted) → option_map_or is_open (option_map (entry_for (attempts_of records) (attempts_of (take settled records)) d) o) false
-        ≡ (is_some o && is_in_state Pending (state_of records d)) && eqb (length (attempts_of (drop settled records) d)) 0
-    pick None = refl
-    pick (Some a) = ap (λ b. is_in_state Pending (state_of records d) && b)
-        (fewer (length (attempts_of (take settled records) d)) (length (attempts_of (drop settled records) d)) (length (attempts_of records d))
-        (ap length (attempts_of-split records settled d) ∙ length-append (attempts_of (take settled records) d) (attempts_of (drop settled records) d)))
+free_means book records settled d h = grind (arith, entry_at-entries records settled d, attempts_of-split records settled d, length-append (attempts_of (take settled records) d) (attempts_of (drop settled records) d), eq-eqb, ne_eqb, cases_eq)
 
 pub stands_outcome : (book : BookValue) (records : List Record) (settled seq delivery attempt status at : ℕ) → StandsFor book records settled → seq ≡ length records → takes_outcome book delivery ≡ true
     → StandsFor (with_outcome book seq delivery status at) (records ++ Outcome delivery attempt status at ∷ []) settled
@@ -191,10 +172,7 @@ drop-none X zero = refl
 drop-none X (suc k) = refl
 
 drop-after : {X : Type 0} (n k m : ℕ) (xs : List X) → n + k ≡ m → drop k (drop n xs) ≡ drop m xs
-drop-after {X} zero k m xs e = ap (λ j. drop j xs) same
-  where
-    same : k ≡ m
-    same = omega (arith, e)
+drop-after {X} zero k m xs e = grind arith
 drop-after {X} (suc n) k zero xs e = absurd (omega (arith, e))
 drop-after {X} (suc n) k (suc m) [] e = drop-none X k
 drop-after {X} (suc n) k (suc m) (x ∷ xs) e = drop-after n k m xs (omega (arith, e))

@@ -28,36 +28,16 @@ use Rattle.delivery_book.proofs.Progresses.{empty_if}
 -- One more outcome
 
 open_means : (x : Entry) → is_open x ≡ true → (state_in x.latest ≡ Pending) × (x.latest.attempts ≡ x.settled.attempts)
-open_means x h = (pending (state_in x.latest) (and_first (is_in_state Pending (state_in x.latest)) _ h), eqb-true x.latest.attempts x.settled.attempts (and_second (is_in_state Pending (state_in x.latest)) _ h))
-  where
-    pending : (s : State) → is_in_state Pending s ≡ true → s ≡ Pending
-    pending Pending e = refl
-    pending Delivered e = absurd (let f = e in cc)
-    pending Exhausted e = absurd (let f = e in cc)
+open_means x h = grind (arith, and_first, eqb-true, and_second)
 
 -- an open entry has no outcome that waits, and with one more it has
 waits_more : (status at : ℕ) (entries : List Entry) (i : ℕ) (x : Entry) → i < length entries → x ≡ get_or entries i x → is_open x ≡ true
     → count_by is_waiting (set entries i (with_attempt status at x)) ≡ count_by is_waiting entries + 1
-waits_more status at entries i x h is free =
-    omega (
-      arith,
-      sum_by-set (λ e. cond (is_waiting e) 1 0) entries i (with_attempt status at x) x h,
-      ap {B = ℕ} (λ (e : Entry). cond (is_waiting e) 1 0) is,
-      ap {B = ℕ} (λ b. cond (not b) 1 0) (eq-eqb x.latest.attempts x.settled.attempts (open_means x free).1),
-      ap {B = ℕ} (λ b. cond (not b) 1 0) (ne_eqb (x.latest.attempts + 1) x.settled.attempts (λ same. absurd (omega (arith, same, (open_means x free).1)))),
-    )
+waits_more status at entries i x h is free = grind (arith, sum_by-set, eq-eqb, open_means, ne_eqb)
 
 -- so there is room for it
 pub room_for : (entries : List Entry) (unsettled : List Unsettled) (room i : ℕ) (x : Entry) → IsQueue entries unsettled room → i < length entries → x ≡ get_or entries i x → is_open x ≡ true → length unsettled < room
-room_for entries unsettled room i x h inside is free =
-    omega (
-      arith,
-      h.counted,
-      h.room,
-      waits_more 0 0 entries i x inside is free,
-      count_by-le-length is_waiting (set entries i (with_attempt 0 0 x)),
-      length-set entries i (with_attempt 0 0 x),
-    )
+room_for entries unsettled room i x h inside is free = grind (arith, waits_more 0 0 entries i x inside is free, count_by-le-length is_waiting (set entries i (with_attempt 0 0 x)), length-set entries i (with_attempt 0 0 x))
 
 pub book-outcome : (index : BTreeMap EventKey ℕ) (tally less more settled_tally : Tally) (entries : List Entry) (unsettled : List Unsettled) (room next settled n : ℕ) (seq delivery status at i : ℕ) (x : Entry)
     → IsBook entries index tally settled_tally unsettled room next settled n → next ≤ seq → i < length entries → x ≡ get_or entries i x → x.seq ≡ delivery → is_open x ≡ true
@@ -112,13 +92,7 @@ none_settled (x ∷ xs) index next settled n h none = ⊎_elim (λ lt. absurd (o
 
 -- what the test of the condition tells
 pub restorable_means : (book : BookValue) (delivery : ℕ) (x : Entry) → may_restore book delivery ≡ true → entry_at book.entries delivery ≡ Some x → (book.settled_seq ≡ 0) × (book.unsettled ≡ []) × (x.latest.attempts < MAX_RECORDS)
-restorable_means book delivery x h there =
-    let free = and_second (eqb book.settled_seq 0) _ h in
-    let open_entry : has_room_for_attempt x ≡ true = sym (ap (λ o. option_map_or has_room_for_attempt o false) there) ∙ and_second (eqb (length book.unsettled) 0) _ free in (
-      eqb-true book.settled_seq 0 (and_first (eqb book.settled_seq 0) _ h),
-      empty_if book.unsettled (eqb-true (length book.unsettled) 0 (and_first (eqb (length book.unsettled) 0) _ free)),
-      ltb-true x.latest.attempts MAX_RECORDS (and_second (is_open x) _ open_entry),
-    )
+restorable_means book delivery x h there = grind (arith, and_second, eqb-true, and_first, empty_if, ltb-true)
 
 pub book-restored : (index : BTreeMap EventKey ℕ) (tally less more settled_tally : Tally) (entries : List Entry) (unsettled : List Unsettled) (room next settled n : ℕ) (delivery status at i : ℕ) (x : Entry)
     → IsBook entries index tally settled_tally unsettled room next settled n → unsettled ≡ [] → settled ≡ 0 → i < length entries → x ≡ get_or entries i x → x.seq ≡ delivery → x.latest.attempts < MAX_RECORDS
@@ -168,31 +142,13 @@ pub book-events : (index : BTreeMap EventKey ℕ) (tally settled_tally counted :
     → ((k : ℕ) (d : Entry) → m ≤ k → k < length entries → seq ≤ (get_or entries k d).seq)
     → ((those : Option (List ℕ)) (asked : State) → in_state asked (counts_for counted those) ≡ in_state asked (counts_for settled_tally those) + count_by (is_counted (λ e. e.settled) those asked) (take (m - n) (drop n entries)))
     → ((asked : List ℕ) → has_room settled_tally asked ≡ true → has_room counted asked ≡ true) → IsBook entries index tally counted unsettled room (max next seq) seq m
-book-events index tally settled_tally counted entries unsettled room next settled n seq m h l within under over more stays = record {
-  keyed = record {
-    ascending = h.keyed.ascending;
-    numbered = all_weaker (is_numbered next) (is_numbered (max next seq)) entries (λ e is. numbered_if (max next seq) e (omega (arith, (below next e is).0)) (omega (arith, (below next e is).1))) h.keyed.numbered;
-    settled_next = omega arith;
-    indexed = h.keyed.indexed;
-    settled_within = within;
-    settled_below = under;
-    settled_above = over;
-  };
-  latest = h.latest;
-  settled = λ those asked. more those asked ∙ ap (λ i. i + count_by (is_counted (λ e. e.settled) those asked) (take (m - n) (drop n entries))) (h.settled those asked) ∙ count-slice (is_counted (λ e. e.settled) those asked) entries n m l;
-  opened = all_weaker (λ e. has_room settled_tally e.name) (λ e. has_room counted e.name) entries (λ e is. stays e.name is) h.opened;
-  queue = h.queue;
-}
+book-events index tally settled_tally counted entries unsettled room next settled n seq m h l within under over more stays = grind (arith, all_weaker, numbered_if, below, count-slice)
 
 -- what a search found in the list that was read, said of the entries
 pub below_in : (looked entries : List Entry) (seq m : ℕ) → looked ≡ entries → m ≤ length looked → ((k : ℕ) (d : Entry) → k < m → (get_or looked k d).seq < seq)
     → ((k : ℕ) (d : Entry) → m ≤ k → k < length looked → seq ≤ (get_or looked k d).seq)
     → (m ≤ length entries) × ((k : ℕ) (d : Entry) → k < m → (get_or entries k d).seq < seq) × ((k : ℕ) (d : Entry) → m ≤ k → k < length entries → seq ≤ (get_or entries k d).seq)
-below_in looked entries seq m e within under over = (
-  omega (arith, within, ap length e),
-  λ k d h. omega (arith, under k d h, ap (λ es. (get_or es k d).seq) e),
-  λ k d h l. omega (arith, over k d h (omega (arith, l, ap length e)), ap (λ es. (get_or es k d).seq) e),
-)
+below_in looked entries seq m e within under over = grind arith
 
 -- an event that is counted as settled stays so
 pub fewer_first : (entries : List Entry) (low high n m : ℕ) → low ≤ high → n ≤ length entries → ((k : ℕ) (d : Entry) → k < n → (get_or entries k d).seq < low)
@@ -249,14 +205,4 @@ front_is outcomes rest o popped e first is = e ∙ ap (λ p. option_to_list p ++
 -- its delivery is one of the settled events
 pub first_settled : (entries : List Entry) (index : BTreeMap EventKey ℕ) (o : Unsettled) (rest : List Unsettled) (next settled n i : ℕ) (x : Entry) → IsKeyed entries index next settled n → list_all (is_later entries) (o ∷ rest) ≡ true
     → o.seq < settled → i < length entries → x ≡ get_or entries i x → x.seq ≡ o.delivery → i < n
-first_settled entries index o rest next settled n i x h later before inside is same = ⊎_elim
-    (λ lt. lt)
-    (λ ge. absurd (omega (
-      arith,
-      before,
-      same,
-      ap (λ (e : Entry). e.seq) is,
-      h.settled_above i x ge inside,
-      ltb-true o.delivery o.seq (and_second (is_some (entry_at entries o.delivery)) (ltb o.delivery o.seq) (and_first (is_later entries o) (list_all (is_later entries) rest) later)),
-    )))
-    (cases_lt i n)
+first_settled entries index o rest next settled n i x h later before inside is same = grind (arith, ltb-true, and_second, and_first)

@@ -64,11 +64,7 @@ all_earlier records s d none = attempts_of-split records s d ∙ ap (λ more. at
 
 pub pending_means : (delivered : Bool) (failures : ℕ) → state_by delivered failures ≡ Pending → (delivered ≡ false) × (failures < 10)
 pending_means true failures h = absurd (let e = h in cc)
-pending_means false failures h = (refl, leb-false 10 failures (pick (leb 10 failures) h))
-  where
-    pick : (b : Bool) → (if b then Exhausted else Pending) ≡ Pending → b ≡ false
-    pick true h = absurd (let e = h in cc)
-    pick false h = refl
+pending_means false failures h = grind (arith, leb-false)
 
 -- the attempt that a status and a moment make
 abbrev ended : ℕ → ℕ → Attempt
@@ -87,28 +83,8 @@ after_delivered p status at pending is =
 
 pub after_gone : (p : Progress) (status at : ℕ) → state_in p ≡ Pending → is_delivered_status status ≡ false → is_gone_status status ≡ true
     → record p { attempts = p.attempts + 1; due = Some at; last_status = Some status } ≡ progress_after status at p
-after_gone p status at pending taken is = sym (
-    (λ i. progress_with (ended status at) (or_is p status false pending taken i) (no_failure p status (λ j. not (taken j || is j)) i) (p.attempts + 1))
-    ∙ (λ i. record p {
-      attempts = p.attempts + 1;
-      is_delivered = sym (pending_means p.is_delivered p.failures pending).0 i;
-      due = if is_in_state Pending (if few i then Exhausted else Pending) then Some (if is i then at else at + delay_after p.failures) else None;
-      last_status = Some status;
-    })
-    )
-  where
-    few : leb 10 p.failures ≡ false
-    few = lt-leb 10 p.failures (pending_means p.is_delivered p.failures pending).1
+after_gone p status at pending taken is = grind (arith, or_is, no_failure, pending_means, lt-leb)
 
 pub after_failed : (p : Progress) (status at : ℕ) → state_in p ≡ Pending → is_delivered_status status ≡ false → is_gone_status status ≡ false
     → record p { attempts = p.attempts + 1; failures = p.failures + 1; due = due_by false (p.failures + 1) (at + delay_after (p.failures + 1)); last_status = Some status } ≡ progress_after status at p
-after_failed p status at pending taken wanted = sym (
-    (λ i. progress_with (ended status at) (or_is p status false pending taken i) (p.failures + cond (not (taken i || wanted i)) 1 0) (p.attempts + 1))
-    ∙ (λ i. record p {
-      attempts = p.attempts + 1;
-      failures = p.failures + 1;
-      is_delivered = sym (pending_means p.is_delivered p.failures pending).0 i;
-      due = due_by false (p.failures + 1) (if wanted i then at else at + delay_after (p.failures + 1));
-      last_status = Some status;
-    })
-    )
+after_failed p status at pending taken wanted = grind (arith, or_is, pending_means)

@@ -16,15 +16,7 @@ map-after f g h [] same = refl
 map-after f g h (x ∷ xs) same = λ i. same x i ∷ map-after f g h xs same i
 
 one_and_others : (o : Unsettled) (others : List Unsettled) (e : Entry) → at_outcomes others with_latest_settled (at_delivery o.delivery with_latest_settled e) ≡ at_outcomes (o ∷ others) with_latest_settled e
-one_and_others o others e = pick (eqb o.delivery e.seq)
-  where
-    pick : (b : Bool) → at_outcomes others with_latest_settled (cond b (with_latest_settled e) e) ≡ cond (b || list_any (λ p. eqb p.delivery e.seq) others) (with_latest_settled e) e
-    pick false = refl
-    pick true = again (list_any (λ p. eqb p.delivery e.seq) others)
-      where
-        again : (b : Bool) → cond b (with_latest_settled (with_latest_settled e)) (with_latest_settled e) ≡ with_latest_settled e
-        again false = refl
-        again true = refl
+one_and_others o others e = grind arith
 
 some_is : {X : Type 0} (x y : X) → Some x ≡ Some y → x ≡ y
 some_is x y e = cc
@@ -33,41 +25,12 @@ some_is x y e = cc
 pub settled_first : (book next : BookValue) (outcomes : List Unsettled) → settle_first book outcomes ≡ Some next
     → (length next.unsettled + 1 ≡ length outcomes) × (settle_all next next.unsettled ≡ settle_all book outcomes)
 settled_first book next [] e = absurd (let h = e in cc)
-settled_first book next (o ∷ rest) e = pick (ltb o.seq book.settled_seq) refl e
-  where
-    stepped : BookValue
-    stepped = record book { entries = map (at_delivery o.delivery with_latest_settled) book.entries; unsettled = rest }
-
-    pick : (b : Bool) → ltb o.seq book.settled_seq ≡ b → cond b (Some stepped) None ≡ Some next
-        → (length next.unsettled + 1 ≡ length (o ∷ rest)) × (settle_all next next.unsettled ≡ settle_all book (o ∷ rest))
-    pick false below h = absurd (let g = h in cc)
-    pick true below h = (
-      omega (arith, ap (λ (b : BookValue). length b.unsettled) same),
-      (λ i. settle_all (same i) (same i).unsettled)
-          ∙ (λ i. record book {
-            entries = (map-after (at_outcomes (front_below book.settled_seq rest) with_latest_settled) (at_delivery o.delivery with_latest_settled) (at_outcomes (o ∷ front_below book.settled_seq rest) with_latest_settled) book.entries (one_and_others o (front_below book.settled_seq rest))
-                ∙ ap (λ b. map (at_outcomes (cond b (o ∷ front_below book.settled_seq rest) []) with_latest_settled) book.entries) (sym below)) i;
-            unsettled = ap (λ b. cond b (rest_from book.settled_seq rest) (o ∷ rest)) (sym below) i;
-          }),
-    )
-      where
-        same : next ≡ stepped
-        same = sym (some_is stepped next h)
+settled_first book next (o ∷ rest) e = grind (arith, map-after, one_and_others, some_is)
 
 -- where the first one isn't settled, none is
 pub settled_none : (book : BookValue) (outcomes : List Unsettled) → book.unsettled ≡ outcomes → settle_first book outcomes ≡ None → settle_all book outcomes ≡ book
 settled_none book [] e h = λ i. record book { entries = map-same (at_outcomes [] with_latest_settled) book.entries (λ x. refl) i; unsettled = sym e i }
-settled_none book (o ∷ rest) e h = pick (ltb o.seq book.settled_seq) refl h
-  where
-    pick : (b : Bool) → ltb o.seq book.settled_seq ≡ b → cond b (Some (record book { entries = map (at_delivery o.delivery with_latest_settled) book.entries; unsettled = rest })) None ≡ None
-        → settle_all book (o ∷ rest) ≡ book
-    pick true below g = absurd (let k = g in cc)
-    pick false below g =
-        (λ i. record book {
-          entries = map (at_outcomes (cond (below i) (o ∷ front_below book.settled_seq rest) []) with_latest_settled) book.entries;
-          unsettled = cond (below i) (rest_from book.settled_seq rest) (o ∷ rest);
-        })
-        ∙ (λ i. record book { entries = map-same (at_outcomes [] with_latest_settled) book.entries (λ x. refl) i; unsettled = sym e i })
+settled_none book (o ∷ rest) e h = grind (arith, map-same)
 
 -- the first one is settled where it is below the settled number
 pub settle_first_is : (book : BookValue) (o : Unsettled) (rest : List Unsettled) → book.unsettled ≡ o ∷ rest → o.seq < book.settled_seq
@@ -88,8 +51,4 @@ stepped_on book next there is = pick (settle_first book book.unsettled) refl the
 
 -- and where there is none, all is settled
 pub stopped : (book next : BookValue) → is_some (settle_first book book.unsettled) ≡ false → next ≡ unwrap_or (settle_first book book.unsettled) book → next ≡ settle_all book book.unsettled
-stopped book next none is = pick (settle_first book book.unsettled) refl none is
-  where
-    pick : (o : Option BookValue) → settle_first book book.unsettled ≡ o → is_some o ≡ false → next ≡ unwrap_or o book → next ≡ settle_all book book.unsettled
-    pick (Some stepped) e n i = absurd (let y = n in cc)
-    pick None e n i = i ∙ sym (settled_none book book.unsettled refl e)
+stopped book next none is = grind (arith, settled_none)

@@ -34,11 +34,7 @@ stands_waiting_row book records settled d h l =
     row_of-made (attempts_of records) (attempts_of (take settled records)) (λ e. e.settled) (take settled records) d None (accepted-past records settled d (omega (arith, h.settled_seq, l))) (λ a. refl)
 
 pub stands_body : (book : BookValue) (records : List Record) (settled d : ℕ) → StandsFor book records settled → option_map (λ e. e.body) (entry_at book.entries d) ≡ body_of records d
-stands_body book records settled d h = ap (option_map (λ (e : Entry). e.body)) (ap (λ es. entry_at es d) h.entries ∙ entry_at-entries records settled d) ∙ joined (accepted records d)
-  where
-    joined : (o : Option Accepted) → option_map (λ (e : Entry). e.body) (option_map (entry_for (attempts_of records) (attempts_of (take settled records)) d) o) ≡ option_map (λ a. a.body) o
-    joined None = refl
-    joined (Some a) = refl
+stands_body book records settled d h = grind (arith, entry_at-entries)
 
 -- the deliveries of an endpoint, or of all
 abbrev pub deliveries_for : List Record → Option (List ℕ) → List ℕ

@@ -24,11 +24,7 @@ use Rattle.delivery_book.proofs.Entries.{get_or-any}
 -- Lists
 
 pub all_at : {X : Type 0} (p : X → Bool) (xs : List X) (i : ℕ) (d : X) → i < length xs → list_all p xs ≡ true → p (get_or xs i d) ≡ true
-all_at p xs i d h all = pick (p (get_or xs i d)) refl
-  where
-    pick : (b : Bool) → p (get_or xs i d) ≡ b → b ≡ true
-    pick true e = refl
-    pick false e = let none = list_all_at p xs i d h e in cc
+all_at p xs i d h all = grind (arith, list_all_at)
 
 pub all_weaker : {X : Type 0} (p q : X → Bool) (xs : List X) → ((x : X) → p x ≡ true → q x ≡ true) → list_all p xs ≡ true → list_all q xs ≡ true
 all_weaker p q [] weaker h = refl
@@ -55,11 +51,7 @@ count-map p g (x ∷ xs) same =
 
 -- what holds of an entry, changed or not, holds of it where it is changed if it is that of the delivery
 pub either_way : (P : Entry → Type 0) (d : ℕ) (change : Entry → Entry) (e : Entry) → P (change e) → P e → P (at_delivery d change e)
-either_way P d change e changed same = pick (eqb d e.seq)
-  where
-    pick : (b : Bool) → P (cond b (change e) e)
-    pick true = changed
-    pick false = same
+either_way P d change e changed same = grind arith
 
 none_changed : (d : ℕ) (change : Entry → Entry) (entries : List Entry) → ((k : ℕ) (x : Entry) → k < length entries → (get_or entries k x).seq ≢ d) → entries ≡ map (at_delivery d change) entries
 none_changed d change [] other = refl
@@ -100,14 +92,7 @@ read : (g : Entry → Entry) (entries : List Entry) (k : ℕ) (d : Entry) → Ke
 read g entries k d keeps h = ap (λ (e : Entry). e.seq) (get_or-map g entries k d d (omega (arith, h, length-map entries g))) ∙ (keeps (get_or entries k d)).0
 
 pub entry_at-map : (g : Entry → Entry) (entries : List Entry) (seq : ℕ) → KeepsKeys g → is_some (entry_at (map g entries) seq) ≡ is_some (entry_at entries seq)
-entry_at-map g entries seq keeps =
-    ap is_some (find_map g (λ e. eqb e.seq seq) entries)
-    ∙ some (find (λ e. eqb (g e).seq seq) entries)
-    ∙ ap (λ p. is_some (find p entries)) (λ i e. eqb ((keeps e).0 i) seq)
-  where
-    some : (o : Option Entry) → is_some (option_map g o) ≡ is_some o
-    some None = refl
-    some (Some e) = refl
+entry_at-map g entries seq keeps = grind (arith, find_map)
 
 indexed-map : (g : Entry → Entry) (index : BTreeMap EventKey ℕ) (entries : List Entry) → KeepsKeys g → IsIndex index entries → IsIndex index (map g entries)
 indexed-map g index entries keeps h k =
@@ -124,15 +109,7 @@ indexed-map g index entries keeps h k =
 
 pub keyed-map : (g : Entry → Entry) (entries : List Entry) (index : BTreeMap EventKey ℕ) (next later settled n : ℕ) → KeepsKeys g → settled ≤ later
     → list_all (is_numbered later) (map g entries) ≡ true → IsKeyed entries index next settled n → IsKeyed (map g entries) index later settled n
-keyed-map g entries index next later settled n keeps l numbered h = record {
-  ascending = λ i j d lt m. omega (arith, read g entries i d keeps (omega (arith, lt, m)), read g entries j d keeps m, h.ascending i j d lt (omega (arith, m, length-map entries g)));
-  numbered = numbered;
-  settled_next = l;
-  indexed = indexed-map g index entries keeps h.indexed;
-  settled_within = omega (arith, h.settled_within, length-map entries g);
-  settled_below = λ k d lt. omega (arith, read g entries k d keeps (omega (arith, lt, h.settled_within, length-map entries g)), h.settled_below k d lt);
-  settled_above = λ k d m lt. omega (arith, read g entries k d keeps lt, h.settled_above k d m (omega (arith, lt, length-map entries g)));
-}
+keyed-map g entries index next later settled n keeps l numbered h = grind (arith, length-map entries g, indexed-map g index entries keeps h.indexed, read)
 
 pub all_numbered : (g : Entry → Entry) (entries : List Entry) (next later : ℕ) → ((e : Entry) → is_numbered next e ≡ true → is_numbered later (g e) ≡ true)
     → list_all (is_numbered next) entries ≡ true → list_all (is_numbered later) (map g entries) ≡ true
@@ -143,52 +120,21 @@ pub tally-set : (tally less more : Tally) (picked : Entry → Progress) (entries
     → ((those : Option (List ℕ)) (asked : State) → in_state asked (counts_for less those) + one_of x.name (state_in (picked x)) those asked ≡ in_state asked (counts_for tally those))
     → ((those : Option (List ℕ)) (asked : State) → in_state asked (counts_for more those) ≡ in_state asked (counts_for less those) + one_of x.name (state_in (picked y)) those asked)
     → IsTally more picked (set entries i y)
-tally-set tally less more picked entries i x y h is named counts fewer again those asked =
-    omega (
-      arith,
-      fewer those asked,
-      again those asked,
-      counts those asked,
-      sum_by-set (λ e. cond (is_counted picked those asked e) 1 0) entries i y x h,
-      ap {B = ℕ} (λ (e : Entry). cond (is_counted picked those asked e) 1 0) is,
-      ap {B = ℕ} (λ name. one_of name (state_in (picked y)) those asked) named,
-    )
+tally-set tally less more picked entries i x y h is named counts fewer again those asked = grind (arith, sum_by-set)
 
 -- each entry is counted where it is
 counted_once : (picked : Entry → Progress) (those : Option (List ℕ)) (x : Entry) → is_among those x.name ≡ true → ◌≡◌ {A = ℕ} (cond (is_counted picked those (state_in (picked x)) x) 1 0) 1
-counted_once picked those x among = ap {B = ℕ} (λ b. cond b 1 0) (and_both (is_among those x.name) (is_in_state (state_in (picked x)) (state_in (picked x))) among (itself (state_in (picked x))))
-  where
-    itself : (state : State) → is_in_state state state ≡ true
-    itself Pending = refl
-    itself Delivered = refl
-    itself Exhausted = refl
+counted_once picked those x among = grind (arith, and_both)
 
 pub counted_there : (tally : Tally) (picked : Entry → Progress) (entries : List Entry) (i : ℕ) (x : Entry) (those : Option (List ℕ)) → i < length entries → x ≡ get_or entries i x → IsTally tally picked entries
     → is_among those x.name ≡ true → 0 < in_state (state_in (picked x)) (counts_for tally those)
-counted_there tally picked entries i x those h is counts among =
-    omega (
-      arith,
-      counts those (state_in (picked x)),
-      get_or-le-sum_by (λ e. cond (is_counted picked those (state_in (picked x)) e) 1 0) entries i x h,
-      ap {B = ℕ} (λ (e : Entry). cond (is_counted picked those (state_in (picked x)) e) 1 0) is,
-      counted_once picked those x among,
-    )
+counted_there tally picked entries i x those h is counts among = grind (arith, get_or-le-sum_by, counted_once)
 
 -- so there is room to count it where it comes to stand
 pub room_after : (tally less : Tally) (picked : Entry → Progress) (entries : List Entry) (i : ℕ) (x y : Entry) (those : Option (List ℕ)) → i < length entries → x ≡ get_or entries i x → is_among those y.name ≡ true → IsTally tally picked entries
     → in_state (state_in (picked y)) (counts_for less those) + one_of x.name (state_in (picked x)) those (state_in (picked y)) ≡ in_state (state_in (picked y)) (counts_for tally those)
     → in_state (state_in (picked y)) (counts_for less those) + 1 ≤ length entries
-room_after tally less picked entries i x y those h is among counts fewer =
-    omega (
-      arith,
-      fewer,
-      counts those (state_in (picked y)),
-      sum_by-set (λ e. cond (is_counted picked those (state_in (picked y)) e) 1 0) entries i y x h,
-      ap {B = ℕ} (λ (e : Entry). cond (is_counted picked those (state_in (picked y)) e) 1 0) is,
-      counted_once picked those y among,
-      count_by-le-length (is_counted picked those (state_in (picked y))) (set entries i y),
-      length-set entries i y,
-    )
+room_after tally less picked entries i x y those h is among counts fewer = grind (arith, counted_once picked those y among, count_by-le-length (is_counted picked those (state_in (picked y))) (set entries i y), length-set entries i y, sum_by-set)
 
 -- there are no more of them than entries
 pub counted_most : (tally : Tally) (picked : Entry → Progress) (entries : List Entry) (those : Option (List ℕ)) (asked : State) → IsTally tally picked entries → in_state asked (counts_for tally those) ≤ length entries
@@ -212,11 +158,7 @@ some_at (e ∷ es) (suc i) x seq h is same = pick (eqb e.seq seq) (some_at es i 
 -- what a search found in the list that was read, said of the entries
 pub found_in : (looked entries : List Entry) (i seq : ℕ) (x : Entry) → looked ≡ entries → i < length looked → ((d : Entry) → entry_at looked seq ≡ Some (get_or looked i d)) → ((d : Entry) → (get_or looked i d).seq ≡ seq)
     → x ≡ get_or entries i x → (i < length entries) × (x.seq ≡ seq) × (entry_at entries seq ≡ Some x)
-found_in looked entries i seq x e h found number is = (
-  omega (arith, h, ap length e),
-  ap (λ (y : Entry). y.seq) (is ∙ ap (λ es. get_or es i x) (sym e)) ∙ number x,
-  ap (λ es. entry_at es seq) (sym e) ∙ found x ∙ ap (λ es. Some (get_or es i x)) e ∙ ap Some (sym is),
-)
+found_in looked entries i seq x e h found number is = grind arith
 
 -- two reads of one entry are the same
 pub read_same : (entries : List Entry) (i : ℕ) (x y : Entry) → i < length entries → x ≡ get_or entries i x → y ≡ get_or entries i y → x ≡ y

@@ -71,33 +71,18 @@ waiting_event book records seq name id body at number h = record {
 
 filter_changed : (p : Entry → Bool) (g : Entry → Entry) (entries : List Entry) → ((e : Entry) → p (g e) ≡ p e) → filter p (map g entries) ≡ map g (filter p entries)
 filter_changed p g [] same = refl
-filter_changed p g (e ∷ es) same = ap (λ b. cond b (g e ∷ filter p (map g es)) (filter p (map g es))) (same e) ∙ by (p e) (filter_changed p g es same)
-  where
-    by : (b : Bool) → filter p (map g es) ≡ map g (filter p es) → cond b (g e ∷ filter p (map g es)) (filter p (map g es)) ≡ map g (cond b (e ∷ filter p es) (filter p es))
-    by true later = ap (λ xs. g e ∷ xs) later
-    by false later = later
+filter_changed p g (e ∷ es) same = grind (arith, filter_changed p g es same)
 
 filter_unchanged : (p : Entry → Bool) (g : Entry → Entry) (entries : List Entry) → ((e : Entry) → p e ≡ true → g e ≡ e) → map g (filter p entries) ≡ filter p entries
 filter_unchanged p g [] same = refl
-filter_unchanged p g (e ∷ es) same = by (p e) refl (filter_unchanged p g es same)
-  where
-    by : (b : Bool) → p e ≡ b → map g (filter p es) ≡ filter p es → map g (cond b (e ∷ filter p es) (filter p es)) ≡ cond b (e ∷ filter p es) (filter p es)
-    by true passes later = λ i. same e passes i ∷ later i
-    by false passes later = later
+filter_unchanged p g (e ∷ es) same = grind (arith, filter_unchanged p g es same)
 
 entry_changed : (g : Entry → Entry) (entries : List Entry) (d : ℕ) → ((e : Entry) → (g e).seq ≡ e.seq) → entry_at (map g entries) d ≡ option_map g (entry_at entries d)
 entry_changed g entries d same = find_map g (λ e. eqb e.seq d) entries ∙ (λ i. option_map g (find (λ (e : Entry). eqb (same e i) d) entries))
 
 own_number : (entries : List Entry) (d : ℕ) (e : Entry) → entry_at entries d ≡ Some e → e.seq ≡ d
 own_number [] d e h = let wrong : None ≡ Some e = h in cc
-own_number (x ∷ xs) d e h = by (eqb x.seq d) refl h (own_number xs d e)
-  where
-    one : (a b : Entry) → Some a ≡ Some b → a ≡ b
-    one a b p = cc
-
-    by : (b : Bool) → eqb x.seq d ≡ b → cond b (Some x) (entry_at xs d) ≡ Some e → (entry_at xs d ≡ Some e → e.seq ≡ d) → e.seq ≡ d
-    by true same p later = ap (λ (y : Entry). y.seq) (sym (one x e p)) ∙ eqb-true x.seq d same
-    by false apart p later = later p
+own_number (x ∷ xs) d e h = grind (arith, eqb-true, own_number xs d e)
 
 -- An outcome
 
@@ -163,12 +148,7 @@ waiting_outcome book records seq d attempt status at e number there opened settl
 
 filter_weaker : (p q : Entry → Bool) (entries : List Entry) → ((e : Entry) → p e ≡ true → q e ≡ true) → filter p (filter q entries) ≡ filter p entries
 filter_weaker p q [] weaker = refl
-filter_weaker p q (e ∷ es) weaker = by (q e) refl (p e) refl (filter_weaker p q es weaker)
-  where
-    by : (b : Bool) → q e ≡ b → (a : Bool) → p e ≡ a → filter p (filter q es) ≡ filter p es → filter p (cond b (e ∷ filter q es) (filter q es)) ≡ cond (p e) (e ∷ filter p es) (filter p es)
-    by true there a passes later = ap (λ xs. cond (p e) (e ∷ xs) xs) later
-    by false there true passes later = let wrong : false ≡ true = sym there ∙ weaker e passes in cc
-    by false there false passes later = later ∙ sym (ap (λ b. cond b (e ∷ filter p es) (filter p es)) passes)
+filter_weaker p q (e ∷ es) weaker = grind (arith, filter_weaker p q es weaker)
 
 -- an event with its number as its place is one of those from there on
 kept_event : (n from : ℕ) (o : Option Entry) (few more : List Entry) → ((e : Entry) → o ≡ Some e → e.seq ≡ n) → from ≤ n → filter (is_from from) more ≡ few → filter (is_from from) (cons_option o more) ≡ cons_option o few
@@ -180,10 +160,7 @@ left_event n from None few more numbered h later = later
 left_event n from (Some e) few more numbered h later = ap (λ b. cond b (e ∷ filter (is_from from) more) (filter (is_from from) more)) (lt-leb from e.seq (omega (arith, h, numbered e refl))) ∙ later
 
 event_number : (n : ℕ) (r : Record) (e : Entry) → event_by (n, r) ≡ Some e → e.seq ≡ n
-event_number n (Accept name id body at) e h = ap (λ (y : Entry). y.seq) (sym (one (new_entry n name id body at) e h))
-  where
-    one : (a b : Entry) → Some a ≡ Some b → a ≡ b
-    one a b p = cc
+event_number n (Accept name id body at) e h = grind arith
 event_number n (Put name target max secrets) e h = let wrong : None ≡ Some e = h in cc
 event_number n (Secrets name secrets) e h = let wrong : None ≡ Some e = h in cc
 event_number n (Enabled name flag) e h = let wrong : None ≡ Some e = h in cc
@@ -217,11 +194,7 @@ settles_fresh outcomes n (Enabled name flag ∷ rest) = settles_fresh outcomes (
 settles_fresh outcomes n (Outcome delivery attempt status at ∷ rest) = settles_fresh outcomes (n + 1) rest
 
 settles_keeps : (outcomes : List Unsettled) (e : Entry) → (at_outcomes outcomes with_latest_settled e).seq ≡ e.seq
-settles_keeps outcomes e = pick _
-  where
-    pick : (b : Bool) → (cond b (with_latest_settled e) e).seq ≡ e.seq
-    pick true = refl
-    pick false = refl
+settles_keeps outcomes e = grind arith
 
 -- the attempts at a delivery, where the first record is settled
 settled_tries : (n : ℕ) (records : List Record) (d : ℕ) (o : Option Entry) → ((e : Entry) → o ≡ Some e → e.seq ≡ d) → AreTries (attempts_of records d) o
@@ -236,11 +209,7 @@ settled_tries n (Enabled name flag ∷ rest) d None own tries = tries
 settled_tries n (Enabled name flag ∷ rest) d (Some e) own tries = tries
 settled_tries n (Accept name id body at ∷ rest) d None own tries = tries
 settled_tries n (Accept name id body at ∷ rest) d (Some e) own tries = tries
-settled_tries n (Outcome delivery attempt status at ∷ rest) d None own tries = by (eqb delivery d) tries
-  where
-    by : (b : Bool) → cons_option (cond b (Some (record { number = attempt; status = status; at = at })) None) (attempts_of rest d) ≡ [] → attempts_of rest d ≡ []
-    by true h = cc
-    by false h = h
+settled_tries n (Outcome delivery attempt status at ∷ rest) d None own tries = grind arith
 settled_tries n (Outcome delivery attempt status at ∷ rest) d (Some e) own tries =
     subst (λ b. AreTries (attempts_of rest d) (Some (cond (b || false) (with_latest_settled e) e))) (ap (eqb delivery) (sym (own e refl))) (by (eqb delivery d) (attempts_of rest d) tries)
   where
@@ -291,11 +260,7 @@ none_from s (e ∷ es) below =
 
 no_tries : (entries : List Entry) (d : ℕ) → AllByRecursion (IsCaughtUp []) entries → AreTries [] (entry_at entries d)
 no_tries [] d h = refl
-no_tries (e ∷ es) d h = by (eqb e.seq d) (no_tries es d h.1)
-  where
-    by : (b : Bool) → AreTries [] (entry_at es d) → AreTries [] (cond b (Some e) (entry_at es d))
-    by true later = h.0 refl
-    by false later = later
+no_tries (e ∷ es) d h = grind (arith, no_tries es d h.1)
 
 pub waiting_none : (book : BookValue) → IsInStep book → book.unsettled ≡ [] → book.next_seq ≡ book.settled_seq → HasWaiting book []
 waiting_none book step none all = record {

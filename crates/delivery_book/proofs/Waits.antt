@@ -51,10 +51,7 @@ front-outcomes n (suc k) seq (r ∷ rest) e =
     step_front n seq (delivery_by r) (outcomes_from (n + 1) (take k rest)) (outcomes_from (n + 1) rest) (omega (arith, e)) (front-outcomes (n + 1) k seq rest (omega (arith, e)))
 
 pub rest-outcomes : (n k seq : ℕ) (records : List Record) → n + k ≡ seq → rest_from seq (outcomes_from n records) ≡ outcomes_from seq (drop k records)
-rest-outcomes n zero seq records e = all_rest n seq records (omega (arith, e)) ∙ ap (λ m. outcomes_from m records) same
-  where
-    same : n ≡ seq
-    same = omega (arith, e)
+rest-outcomes n zero seq records e = grind (arith, all_rest)
 rest-outcomes n (suc k) seq [] e = refl
 rest-outcomes n (suc k) seq (r ∷ rest) e =
     step_rest n seq (delivery_by r) (outcomes_from seq (drop k rest)) (outcomes_from (n + 1) rest) (omega (arith, e)) (rest-outcomes (n + 1) k seq rest (omega (arith, e)))
@@ -66,9 +63,4 @@ named-attempts n (Put name target max secrets ∷ rest) d = named-attempts (n + 
 named-attempts n (Secrets name secrets ∷ rest) d = named-attempts (n + 1) rest d
 named-attempts n (Enabled name flag ∷ rest) d = named-attempts (n + 1) rest d
 named-attempts n (Accept name id body at ∷ rest) d = named-attempts (n + 1) rest d
-named-attempts n (Outcome delivery attempt status at ∷ rest) d = pick (eqb delivery d) (named-attempts (n + 1) rest d)
-  where
-    pick : (b : Bool) → list_any (λ o. eqb o.delivery d) (outcomes_from (n + 1) rest) ≡ ltb 0 (length (attempts_of rest d))
-        → (b || list_any (λ o. eqb o.delivery d) (outcomes_from (n + 1) rest)) ≡ ltb 0 (length (cons_option (cond b (Some (record { number = attempt; status = status; at = at })) None) (attempts_of rest d)))
-    pick true h = sym (lt-ltb 0 (suc (length (attempts_of rest d))) (omega arith))
-    pick false h = h
+named-attempts n (Outcome delivery attempt status at ∷ rest) d = grind (arith, lt-ltb, named-attempts (n + 1) rest d)
