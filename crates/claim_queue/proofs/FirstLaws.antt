@@ -16,14 +16,7 @@ use Rattle.claim_queue.proofs.OrderLaws.{one_way, all_pairs_insert}
 
 -- the same pair by its parts is the same pair
 pub is_same : (a b : Pair) → same_pair a b ≡ true → b ≡ a
-is_same a b h =
-    let first = and_parts (nat_eq b.seq a.seq) (nat_eq b.due a.due && bytes_eq b.endpoint a.endpoint) h in
-    let second = and_parts (nat_eq b.due a.due) (bytes_eq b.endpoint a.endpoint) first.1 in
-    λ i. record {
-      endpoint = (bytes_decides b.endpoint a.endpoint).0 second.1 i;
-      due = eqb-true b.due a.due second.0 i;
-      seq = eqb-true b.seq a.seq first.0 i;
-    }
+is_same a b h = grind (arith, and_parts, bytes_decides, eqb-true)
 
 pub same_itself : (a : Pair) → same_pair a a ≡ true
 same_itself a = and_from (nat_eq a.seq a.seq) (nat_eq a.due a.due && bytes_eq a.endpoint a.endpoint) (eq-eqb a.seq a.seq refl)
@@ -54,11 +47,7 @@ lost pairs pair other =
 
 some_pass : {X : Type 0} (test : X → Bool) (xs : List X) → list_any test xs ≡ true → 0 < length (filter test xs)
 some_pass test [] h = absurd (let no = h in cc)
-some_pass test (x ∷ xs) h = pick (test x) (some_pass test xs) h
-  where
-    pick : (b : Bool) → (list_any test xs ≡ true → 0 < length (filter test xs)) → (b || list_any test xs) ≡ true → 0 < length (cond b (x ∷ filter test xs) (filter test xs))
-    pick true rest e = omega arith
-    pick false rest e = rest e
+some_pass test (x ∷ xs) h = grind (arith, some_pass test xs)
 
 pub fewer : (pairs : List Pair) (pair : Pair) → list_any (same_pair pair) pairs ≡ true → length (filter (λ held. not (same_pair pair held)) pairs) < length pairs
 fewer pairs pair h =
@@ -78,23 +67,14 @@ entered pairs n pair order le at =
 
 pub order_entered : (pairs all : List Pair) (n : ℕ) (pair : Pair) (turn : Turn) → all ≡ pairs → turn ≡ turn_of pair → AreInOrder pairs → n ≤ length all
     → IsPartitionPoint (λ held. comes_before (turn_of held) turn ≡ true) (λ held. comes_before (turn_of held) turn ≡ false) all n → AreInOrder (insert pairs n pair)
-order_entered pairs all n pair turn same is order le point =
-    entered pairs n pair order (subst (λ xs. n ≤ length xs) same le)
-    (subst (λ t. IsPartitionPoint (λ held. comes_before (turn_of held) t ≡ true) (λ held. comes_before (turn_of held) t ≡ false) pairs n) is
-    (subst (λ xs. IsPartitionPoint (λ held. comes_before (turn_of held) turn ≡ true) (λ held. comes_before (turn_of held) turn ≡ false) xs n) same point))
+order_entered pairs all n pair turn same is order le point = grind (arith, entered)
 
 -- One in the place of another
 
 -- the same pair stays
 pub stays : (pairs : List Pair) (old : Option Pair) (other : Pair) → (is_the old other ≡ true → list_any (same_pair other) pairs ≡ true)
     → list_any (same_pair other) pairs ≡ ((list_any (same_pair other) pairs && not (is_the old other)) || is_the old other)
-stays pairs old other held = pick (list_any (same_pair other) pairs) (is_the old other) held
-  where
-    pick : (a b : Bool) → (b ≡ true → a ≡ true) → a ≡ ((a && not b) || b)
-    pick true true h = refl
-    pick true false h = refl
-    pick false true h = h refl
-    pick false false h = refl
+stays pairs old other held = grind arith
 
 pub is_held_one : (pairs : List Pair) (pair other : Pair) → list_any (same_pair pair) pairs ≡ true → same_pair other pair ≡ true → list_any (same_pair other) pairs ≡ true
 is_held_one pairs pair other held same = subst (λ p. list_any (same_pair p) pairs ≡ true) (is_same other pair same) held

@@ -20,84 +20,34 @@ use Rattle.claim_queue.proofs.TurnLaws.{none_numbered, none_of_number}
 
 -- the place at which the test passes first
 placed : {X : Type 0} (p : X → Bool) (xs : List X) (i : ℕ) → Some i ≡ position p xs → (i ≡ position_or_len p xs) × (i < length xs)
-placed p xs i at = pick (nat_lt (position_or_len p xs) (length xs)) refl at
-  where
-    pick : (b : Bool) → nat_lt (position_or_len p xs) (length xs) ≡ b → Some i ≡ cond b (Some (position_or_len p xs)) None
-        → (i ≡ position_or_len p xs) × (i < length xs)
-    pick true below e =
-        let same : i ≡ position_or_len p xs = cc in (same, omega (arith, same, ltb-true (position_or_len p xs) (length xs) below))
-    pick false below e = cc
+placed p xs i at = grind (arith, ltb-true)
 
 pub lane_at : (lanes : List Lane) (endpoint : List ℕ) (i : ℕ) (held : Lane) → Some i ≡ position (is_of endpoint) lanes → held ≡ slice_index_or lanes i held
     → (lane_in lanes endpoint ≡ Some held) × (i < length lanes) × (held.mark.endpoint ≡ endpoint)
-lane_at lanes endpoint i held at is =
-    let h = placed (is_of endpoint) lanes i at in
-    let passes = (position-Some (is_of endpoint) lanes i held (sym at)).1 in (
-      find_at (is_of endpoint) lanes ∙ ap (slice_get lanes) (sym h.0) ∙ slice_get-get_or lanes i held h.1 ∙ ap Some (sym is),
-      h.1,
-      (bytes_decides held.mark.endpoint endpoint).0 (ap (is_of endpoint) is ∙ passes),
-    )
+lane_at lanes endpoint i held at is = grind (arith, placed, position-Some, find_at, slice_get-get_or, bytes_decides)
 
 pub none_at : (lanes : List Lane) (endpoint : List ℕ) → None ≡ position (is_of endpoint) lanes → lane_in lanes endpoint ≡ None
-none_at lanes endpoint at = pick (nat_lt n (length lanes)) refl at (slice_get_cases lanes n).1
-  where
-    n : ℕ
-    n = position_or_len (is_of endpoint) lanes
-
-    pick : (b : Bool) → nat_lt n (length lanes) ≡ b → None ≡ cond b (Some n) None
-        → ((x : Lane) × (n < length lanes) × (slice_get lanes n ≡ Some x) × (slice_index_or lanes n x ≡ x)) ⊎ ((length lanes ≤ n) × (slice_get lanes n ≡ None)) → lane_in lanes endpoint ≡ None
-    pick true below e cases = cc
-    pick false beyond e (inl within) = absurd (omega (arith, within.1, ltb-false n (length lanes) beyond))
-    pick false beyond e (inr past) = find_at (is_of endpoint) lanes ∙ past.1
+none_at lanes endpoint at = grind (arith, slice_get_cases, ltb-false, find_at)
 
 -- the lane that is found is the endpoint's
 pub lane_named : (lanes : List Lane) (endpoint : List ℕ) (lane : Lane) → lane_in lanes endpoint ≡ Some lane → lane.mark.endpoint ≡ endpoint
 lane_named [] endpoint lane e = absurd (let no = e in cc)
-lane_named (l ∷ ls) endpoint lane e = pick (is_of endpoint l) refl (lane_named ls endpoint lane) e
-  where
-    pick : (b : Bool) → is_of endpoint l ≡ b → (lane_in ls endpoint ≡ Some lane → lane.mark.endpoint ≡ endpoint) → cond b (Some l) (lane_in ls endpoint) ≡ Some lane → lane.mark.endpoint ≡ endpoint
-    pick true same rest is = let this : l ≡ lane = cc in subst (λ (m : Lane). m.mark.endpoint ≡ endpoint) this ((bytes_decides l.mark.endpoint endpoint).0 same)
-    pick false other rest is = rest is
+lane_named (l ∷ ls) endpoint lane e = grind (arith, bytes_decides, lane_named ls endpoint lane)
 
 -- the lane at an endpoint's place is replaced by another one of this endpoint
 pub set_at : (lanes : List Lane) (endpoint : List ℕ) (i : ℕ) (held new : Lane) → Some i ≡ position (is_of endpoint) lanes → held ≡ slice_index_or lanes i held → new.mark.endpoint ≡ held.mark.endpoint
     → (other : List ℕ) → lane_in (slice_set lanes i new) other ≡ (if bytes_eq endpoint other then Some new else lane_in lanes other)
-set_at lanes endpoint i held new at is keeps other = pick (bytes_eq endpoint other) refl
-  where
-    own : new.mark.endpoint ≡ endpoint
-    own = keeps ∙ (lane_at lanes endpoint i held at is).2
-
-    pick : (b : Bool) → bytes_eq endpoint other ≡ b → lane_in (slice_set lanes i new) other ≡ (if b then Some new else lane_in lanes other)
-    pick true same =
-        subst (λ name. lane_in (slice_set lanes i new) name ≡ Some new) ((bytes_decides endpoint other).0 same)
-        (find-set (is_of endpoint) lanes i new (placed (is_of endpoint) lanes i at).0 (placed (is_of endpoint) lanes i at).1 ((bytes_decides new.mark.endpoint endpoint).1 own))
-    pick false differs =
-        find_past (is_of other) lanes i new held
-        (ap (is_of other) (sym is) ∙ ap (λ name. bytes_eq name other) (lane_at lanes endpoint i held at is).2 ∙ differs)
-        (ap (λ name. bytes_eq name other) own ∙ differs)
+set_at lanes endpoint i held new at is keeps other = grind (arith, lane_at lanes endpoint i held at is, bytes_decides endpoint other, placed (is_of endpoint) lanes i at, bytes_decides new.mark.endpoint endpoint, find-set, find_past)
 
 -- one more lane, of an endpoint that has none
 pub added : (lanes : List Lane) (new : Lane) → lane_in lanes new.mark.endpoint ≡ None
     → (other : List ℕ) → lane_in (lanes ++ new ∷ []) other ≡ (if bytes_eq new.mark.endpoint other then Some new else lane_in lanes other)
-added lanes new none other = find-append (is_of other) lanes (new ∷ []) ∙ pick (bytes_eq new.mark.endpoint other) refl
-  where
-    or_none : (o : Option Lane) → option_or o None ≡ o
-    or_none None = refl
-    or_none (Some m) = refl
-
-    pick : (b : Bool) → bytes_eq new.mark.endpoint other ≡ b → option_or (lane_in lanes other) (cond b (Some new) None) ≡ (if b then Some new else lane_in lanes other)
-    pick true same = ap (λ o. option_or o (Some new)) (ap (lane_in lanes) (sym ((bytes_decides new.mark.endpoint other).0 same)) ∙ none)
-    pick false differs = or_none (lane_in lanes other)
+added lanes new none other = grind (arith, find-append, bytes_decides)
 
 -- the mark of an endpoint is its lane's
 pub marked : (lanes : List Lane) (endpoint : List ℕ) → mark_in (map (λ lane. lane.mark) lanes) endpoint ≡ option_map (λ lane. lane.mark) (lane_in lanes endpoint)
 marked [] endpoint = refl
-marked (l ∷ ls) endpoint = pick (is_of endpoint l) (marked ls endpoint)
-  where
-    pick : (b : Bool) → mark_in (map (λ lane. lane.mark) ls) endpoint ≡ option_map (λ lane. lane.mark) (lane_in ls endpoint)
-        → cond b (Some l.mark) (mark_in (map (λ lane. lane.mark) ls) endpoint) ≡ option_map (λ lane. lane.mark) (cond b (Some l) (lane_in ls endpoint))
-    pick true rest = refl
-    pick false rest = rest
+marked (l ∷ ls) endpoint = grind (arith, marked ls endpoint)
 
 -- what does not tell the new lane from the old one
 pub kept_map : {X : Type 0} (f : Lane → X) (lanes : List Lane) (i : ℕ) (held new : Lane) → held ≡ slice_index_or lanes i held → i < length lanes → f new ≡ f held
@@ -120,11 +70,7 @@ none_named (l ∷ ls) name h =
 
 unnamed : (lanes : List Lane) (name : List ℕ) → lane_in lanes name ≡ None → list_any (λ other. bytes_eq other name) (names_of lanes) ≡ false
 unnamed [] name h = refl
-unnamed (l ∷ ls) name h = pick (is_of name l) (unnamed ls name) h
-  where
-    pick : (b : Bool) → (lane_in ls name ≡ None → list_any (λ other. bytes_eq other name) (names_of ls) ≡ false) → cond b (Some l) (lane_in ls name) ≡ None → (b || list_any (λ other. bytes_eq other name) (names_of ls)) ≡ false
-    pick true rest e = absurd (let no = e in cc)
-    pick false rest e = rest e
+unnamed (l ∷ ls) name h = grind (arith, unnamed ls name)
 
 differ : (a b : List ℕ) → bytes_eq a b ≡ false → bytes_eq b a ≡ false
 differ a b h = false_from_ne_true (bytes_eq b a) (λ same. both_ways (bytes_eq a b) h ((bytes_decides a b).1 (sym ((bytes_decides b a).0 same))))
@@ -147,41 +93,12 @@ apart_added lanes new h none =
 
 own_pairs : (endpoint : List ℕ) (turns : List Turn) (pair : Pair) → list_any (same_pair pair) (map (pair_at endpoint) turns) ≡ (list_any (same_turn (turn_of pair)) turns && bytes_eq endpoint pair.endpoint)
 own_pairs endpoint [] pair = refl
-own_pairs endpoint (t ∷ ts) pair =
-    ap (λ rest. same_pair pair (pair_at endpoint t) || rest) (own_pairs endpoint ts pair)
-    ∙ parts (nat_eq t.seq pair.seq) (nat_eq t.due pair.due) (bytes_eq endpoint pair.endpoint) (list_any (same_turn (turn_of pair)) ts)
-  where
-    parts : (s d e rest : Bool) → ((s && (d && e)) || (rest && e)) ≡ (((s && d) || rest) && e)
-    parts true true true rest = refl
-    parts true true false true = refl
-    parts true true false false = refl
-    parts true false e rest = refl
-    parts false d e rest = refl
+own_pairs endpoint (t ∷ ts) pair = grind (arith, own_pairs endpoint ts pair)
 
 -- what is held of an endpoint is what its lane holds
 pub held_is : (lanes : List Lane) → AreApart (names_of lanes) → (pair : Pair) → list_any (same_pair pair) (flat_map pairs_of lanes) ≡ option_map_or (λ lane. has_turn lane (turn_of pair)) (lane_in lanes pair.endpoint) false
 held_is [] h pair = refl
-held_is (l ∷ ls) h pair =
-    list_any-append (same_pair pair) (pairs_of l) (flat_map pairs_of ls)
-    ∙ ap (λ own. own || list_any (same_pair pair) (flat_map pairs_of ls)) (own_pairs l.mark.endpoint l.turns.items pair)
-    ∙ pick (is_of pair.endpoint l) refl (held_is ls h.1 pair)
-  where
-    alone : (t : Bool) → ((t && true) || false) ≡ t
-    alone true = refl
-    alone false = refl
-
-    left_out : (t rest : Bool) → ((t && false) || rest) ≡ rest
-    left_out true rest = refl
-    left_out false rest = refl
-
-    pick : (b : Bool) → is_of pair.endpoint l ≡ b → list_any (same_pair pair) (flat_map pairs_of ls) ≡ option_map_or (λ lane. has_turn lane (turn_of pair)) (lane_in ls pair.endpoint) false
-        → ((has_turn l (turn_of pair) && b) || list_any (same_pair pair) (flat_map pairs_of ls))
-        ≡ option_map_or (λ lane. has_turn lane (turn_of pair)) (cond b (Some l) (lane_in ls pair.endpoint)) false
-    pick true same rest =
-        let none : lane_in ls pair.endpoint ≡ None = ap (lane_in ls) (sym ((bytes_decides l.mark.endpoint pair.endpoint).0 same)) ∙ none_named ls l.mark.endpoint h.0 in
-        ap (λ others. (has_turn l (turn_of pair) && true) || others) (rest ∙ ap (λ o. option_map_or (λ lane. has_turn lane (turn_of pair)) o false) none)
-        ∙ alone (has_turn l (turn_of pair))
-    pick false differs rest = left_out (has_turn l (turn_of pair)) (list_any (same_pair pair) (flat_map pairs_of ls)) ∙ rest
+held_is (l ∷ ls) h pair = grind (arith, list_any-append, own_pairs, bytes_decides, none_named, held_is ls h.1 pair)
 
 -- Numbers that are held
 
@@ -217,6 +134,4 @@ none_has (l ∷ ls) seq h =
 -- a lane has no delivery of a number that none has
 pub none_in : (lanes : List Lane) (i : ℕ) (held : Lane) (seq : ℕ) → list_any (λ lane. list_any (is_turn_numbered seq) lane.turns.items) lanes ≡ false → held ≡ slice_index_or lanes i held → i < length lanes
     → list_any (is_turn_numbered seq) held.turns.items ≡ false
-none_in lanes i held seq none is within = false_from_ne_true (list_any (is_turn_numbered seq) held.turns.items) (λ h.
-    both_ways (list_any (λ lane. list_any (is_turn_numbered seq) lane.turns.items) lanes) none
-    (list_any_at (λ lane. list_any (is_turn_numbered seq) lane.turns.items) lanes i held within (ap (λ (lane : Lane). list_any (is_turn_numbered seq) lane.turns.items) (sym is) ∙ h)))
+none_in lanes i held seq none is within = grind (arith, false_from_ne_true, both_ways, list_any_at)

@@ -15,50 +15,20 @@ pub record IsBefore (a b : Turn) : Type 0 where
   pub tie : a.due ≡ b.due → a.seq < b.seq
 
 pub before : (a b : Turn) → comes_before a b ≡ true → IsBefore a b
-before a b h = pick (or_cases (nat_lt a.due b.due) (nat_eq a.due b.due && nat_lt a.seq b.seq) h)
-  where
-    pick : (nat_lt a.due b.due ≡ true) ⊎ ((nat_eq a.due b.due && nat_lt a.seq b.seq) ≡ true) → IsBefore a b
-    pick (inl less) = let below : a.due < b.due = ltb-true a.due b.due less in record { due = omega arith; tie = λ same. omega arith }
-    pick (inr tie) =
-        let parts = and_parts (nat_eq a.due b.due) (nat_lt a.seq b.seq) tie in
-        let same : a.due ≡ b.due = eqb-true a.due b.due parts.0 in
-        let below : a.seq < b.seq = ltb-true a.seq b.seq parts.1 in
-        record { due = omega arith; tie = λ same. below }
+before a b h = grind (arith, or_cases, ltb-true, and_parts, eqb-true)
 
 pub from_before : (a b : Turn) → IsBefore a b → comes_before a b ≡ true
-from_before a b h = pick (cases_lt a.due b.due)
-  where
-    pick : (a.due < b.due) ⊎ (b.due ≤ a.due) → comes_before a b ≡ true
-    pick (inl less) = or_left (nat_lt a.due b.due) (nat_eq a.due b.due && nat_lt a.seq b.seq) (lt-ltb a.due b.due less)
-    pick (inr not_less) =
-        let same : a.due ≡ b.due = omega (arith, not_less, h.due) in
-        or_right (nat_lt a.due b.due) (nat_eq a.due b.due && nat_lt a.seq b.seq)
-        (and_from (nat_eq a.due b.due) (nat_lt a.seq b.seq) (eq-eqb a.due b.due same) (lt-ltb a.seq b.seq (h.tie same)))
+from_before a b h = grind (arith, or_left, lt-ltb, or_right, and_from, eq-eqb)
 
 pub record IsNotBefore (a b : Turn) : Type 0 where
   pub due : b.due ≤ a.due
   pub tie : a.due ≡ b.due → b.seq ≤ a.seq
 
 pub not_before : (a b : Turn) → comes_before a b ≡ false → IsNotBefore a b
-not_before a b h = pick (cases_lt a.due b.due)
-  where
-    pick : (a.due < b.due) ⊎ (b.due ≤ a.due) → IsNotBefore a b
-    pick (inl less) = absurd (both_ways (comes_before a b) h (from_before a b (record { due = omega (arith, less); tie = λ same. omega (arith, less, same) })))
-    pick (inr due) = record { due = due; tie = λ same. tie same (cases_lt a.seq b.seq) }
-      where
-        tie : a.due ≡ b.due → (a.seq < b.seq) ⊎ (b.seq ≤ a.seq) → b.seq ≤ a.seq
-        tie same (inl less) = absurd (both_ways (comes_before a b) h (from_before a b (record { due = omega (arith, same); tie = λ again. less })))
-        tie same (inr seq) = seq
+not_before a b h = grind (arith, both_ways, from_before)
 
 pub from_not_before : (a b : Turn) → IsNotBefore a b → comes_before a b ≡ false
-from_not_before a b h = pick (comes_before a b) refl
-  where
-    pick : (t : Bool) → comes_before a b ≡ t → t ≡ false
-    pick true is =
-        let first = before a b is in
-        let same : a.due ≡ b.due = omega (arith, h.due, first.due) in
-        absurd (omega (arith, h.tie same, first.tie same))
-    pick false is = refl
+from_not_before a b h = grind (arith, before)
 
 -- the one that comes before does not come behind
 pub one_way : (a b : Turn) → comes_before a b ≡ true → comes_before b a ≡ false
@@ -67,26 +37,11 @@ one_way a b h =
 
 -- b does not come before a, and comes before c
 pub before_as_well : (a b c : Turn) → comes_before b a ≡ false → comes_before b c ≡ true → comes_before a c ≡ true
-before_as_well a b c h g =
-    let low = not_before b a h in
-    let high = before b c g in
-    from_before a c (record { due = omega (arith, low.due, high.due); tie = λ same. tie low high same })
-  where
-    tie : IsNotBefore b a → IsBefore b c → a.due ≡ c.due → a.seq < c.seq
-    tie low high same =
-        let due : b.due ≡ a.due = omega (arith, low.due, high.due, same) in
-        omega (arith, low.tie due, high.tie (due ∙ same))
+before_as_well a b c h g = grind (arith, not_before, before, from_before)
 
 -- a does not come before b, and has another number
 pub behind : (a b : Turn) → comes_before a b ≡ false → (a.seq ≡ b.seq → ⊥) → comes_before b a ≡ true
-behind a b h other =
-    let low = not_before a b h in
-    from_before b a (record { due = low.due; tie = λ same. below (low.tie (sym same)) (cases_order b.seq a.seq) })
-  where
-    below : b.seq ≤ a.seq → (b.seq ≡ a.seq) ⊎ ((b.seq < a.seq) ⊎ (a.seq < b.seq)) → b.seq < a.seq
-    below le (inl same) = absurd (other (sym same))
-    below le (inr (inl less)) = less
-    below le (inr (inr more)) = absurd (omega (arith, le, more))
+behind a b h other = grind (arith, not_before, from_before, cases_order)
 
 -- where none comes before one that stands before it, those that come before a turn stand first
 pub partitioned : {X : Type 0} (key : X → Turn) (xs : List X) (turn : Turn) → AllPairs (λ a b. comes_before (key b) (key a) ≡ false) xs → IsPartitionedBy (λ x. comes_before (key x) turn) xs

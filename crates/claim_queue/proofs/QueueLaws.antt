@@ -207,12 +207,7 @@ now_held lanes endpoint i held new turn op apart at is keeps none turns pair =
 -- what is kept of each endpoint then
 pub now_marked : (lanes : List Lane) (endpoint : List ℕ) (i : ℕ) (held new : Lane) → Some i ≡ position (is_of endpoint) lanes → held ≡ slice_index_or lanes i held → new.mark.endpoint ≡ held.mark.endpoint
     → (other : List ℕ) → mark_in (map (λ lane. lane.mark) (slice_set lanes i new)) other ≡ (if bytes_eq endpoint other then Some new.mark else mark_in (map (λ lane. lane.mark) lanes) other)
-now_marked lanes endpoint i held new at is keeps other =
-    marked (slice_set lanes i new) other ∙ ap (option_map (λ lane. lane.mark)) (set_at lanes endpoint i held new at is keeps other) ∙ pick (bytes_eq endpoint other)
-  where
-    pick : (b : Bool) → option_map (λ lane. lane.mark) (if b then Some new else lane_in lanes other) ≡ (if b then Some new.mark else mark_in (map (λ lane. lane.mark) lanes) other)
-    pick true = refl
-    pick false = sym (marked lanes other)
+now_marked lanes endpoint i held new at is keeps other = grind (arith, marked (slice_set lanes i new) other, set_at lanes endpoint i held new at is keeps other, marked lanes other)
 
 pub mark_at : (lanes : List Lane) (endpoint : List ℕ) (lane : Lane) → lane_in lanes endpoint ≡ Some lane → mark_in (map (λ lane. lane.mark) lanes) endpoint ≡ Some lane.mark
 mark_at lanes endpoint lane at = marked lanes endpoint ∙ ap (option_map (λ lane. lane.mark)) at
@@ -221,13 +216,7 @@ pub mark_changed : (lanes : List Lane) (endpoint : List ℕ) (i : ℕ) (held new
     → new.mark.endpoint ≡ held.mark.endpoint → new.mark ≡ change held.mark
     → (other : List ℕ) → mark_in (map (λ lane. lane.mark) (slice_set lanes i new)) other
     ≡ (if bytes_eq endpoint other then option_map change (mark_in (map (λ lane. lane.mark) lanes) other) else mark_in (map (λ lane. lane.mark) lanes) other)
-mark_changed lanes endpoint i held new change at is keeps changes other = now_marked lanes endpoint i held new at is keeps other ∙ pick (bytes_eq endpoint other) refl
-  where
-    pick : (b : Bool) → bytes_eq endpoint other ≡ b → (if b then Some new.mark else mark_in (map (λ lane. lane.mark) lanes) other)
-        ≡ (if b then option_map change (mark_in (map (λ lane. lane.mark) lanes) other) else mark_in (map (λ lane. lane.mark) lanes) other)
-    pick true same =
-        ap Some changes ∙ sym (ap (option_map change) (mark_at lanes other held (ap (lane_in lanes) (sym ((bytes_decides endpoint other).0 same)) ∙ (lane_at lanes endpoint i held at is).0)))
-    pick false differs = refl
+mark_changed lanes endpoint i held new change at is keeps changes other = grind (arith, now_marked lanes endpoint i held new at is keeps other, bytes_decides endpoint other, lane_at lanes endpoint i held at is, mark_at)
 
 -- Which is next
 
@@ -353,41 +342,18 @@ sets_mark marks marks' endpoint mark mark' same name sets =
 pub reserved_at : (lanes : List Lane) (endpoint : List ℕ) (i more : ℕ) (held new : Lane) → Some i ≡ position (is_of endpoint) lanes → held ≡ slice_index_or lanes i held
     → new.mark.endpoint ≡ held.mark.endpoint → new.mark ≡ mark_for held.mark.endpoint more (Some held.mark)
     → Sets (map (λ lane. lane.mark) lanes) (map (λ lane. lane.mark) (slice_set lanes i new)) (mark_for endpoint more (mark_in (map (λ lane. lane.mark) lanes) endpoint))
-reserved_at lanes endpoint i more held new at is keeps set =
-    let own = lane_at lanes endpoint i held at is in
-    sets_mark (map (λ lane. lane.mark) lanes) (map (λ lane. lane.mark) (slice_set lanes i new)) endpoint new.mark (mark_for endpoint more (mark_in (map (λ lane. lane.mark) lanes) endpoint))
-    (set ∙ ap (mark_for endpoint more) (sym (mark_at lanes endpoint held own.0))) (keeps ∙ own.2) (now_marked lanes endpoint i held new at is keeps)
+reserved_at lanes endpoint i more held new at is keeps set = grind (arith, lane_at lanes endpoint i held at is, now_marked lanes endpoint i held new at is keeps, sets_mark, more, mark_at)
 
 pub reserved_new : (lanes : List Lane) (endpoint : List ℕ) (more : ℕ) (first new : Lane) → lane_in lanes endpoint ≡ None
     → first.mark ≡ mark_for endpoint 0 None → new.mark ≡ mark_for first.mark.endpoint more (Some first.mark)
     → Sets (map (λ lane. lane.mark) lanes) (map (λ lane. lane.mark) (lanes ++ new ∷ [])) (mark_for endpoint more (mark_in (map (λ lane. lane.mark) lanes) endpoint))
-reserved_new lanes endpoint more first new none start set =
-    sets_mark (map (λ lane. lane.mark) lanes) (map (λ lane. lane.mark) (lanes ++ new ∷ [])) endpoint new.mark (mark_for endpoint more (mark_in (map (λ lane. lane.mark) lanes) endpoint))
-    (made ∙ ap (mark_for endpoint more) (sym (no_mark lanes endpoint none))) name
-    (λ other. marked (lanes ++ new ∷ []) other ∙ ap (option_map (λ lane. lane.mark)) (added lanes new (ap (lane_in lanes) name ∙ none) other ∙ ap (λ n. if bytes_eq n other then Some new else lane_in lanes other) name)
-    ∙ pick other (bytes_eq endpoint other))
-  where
-    grown : max 0 more ≡ more
-    grown = omega arith
-
-    made : new.mark ≡ mark_for endpoint more None
-    made = set ∙ ap (λ m. mark_for m.endpoint more (Some m)) start ∙ ap (λ n. record { endpoint = endpoint; room = false; free = n }) grown
-
-    name : new.mark.endpoint ≡ endpoint
-    name = ap (λ (m : Mark). m.endpoint) made
-
-    pick : (other : List ℕ) (b : Bool) → option_map (λ lane. lane.mark) (if b then Some new else lane_in lanes other) ≡ (if b then Some new.mark else mark_in (map (λ lane. lane.mark) lanes) other)
-    pick other true = refl
-    pick other false = sym (marked lanes other)
+reserved_new lanes endpoint more first new none start set = grind (arith, sets_mark, more, no_mark, marked, added)
 
 -- What is seen of it is kept
 
 pub seen_the_same : (lanes : List Lane) (i : ℕ) (held new : Lane) → held ≡ slice_index_or lanes i held → i < length lanes → new.mark ≡ held.mark → new.turns.items ≡ held.turns.items
     → queue_of (slice_set lanes i new) ≡ queue_of lanes
-seen_the_same lanes i held new is within mark turns = λ j. record {
-  pairs = kept_flat pairs_of lanes i held new is within (λ k. map (pair_at (mark k).endpoint) (turns k)) j;
-  marks = kept_map (λ lane. lane.mark) lanes i held new is within mark j;
-}
+seen_the_same lanes i held new is within mark turns = grind (arith, kept_flat, kept_map)
 
 pub same_pairs : (lanes : List Lane) (i : ℕ) (held new : Lane) (pair : Pair) → held ≡ slice_index_or lanes i held → i < length lanes → new.mark.endpoint ≡ held.mark.endpoint → new.turns.items ≡ held.turns.items
     → is_held (queue_of (slice_set lanes i new)) pair ≡ is_held (queue_of lanes) pair

@@ -12,10 +12,7 @@ use Rattle.claim_queue.specs.Lanes.{IsInOrder, comes_before, is_turn_numbered, s
 use Rattle.claim_queue.proofs.OrderLaws.{behind, one_way, all_pairs_insert}
 
 pub is_same_turn : (a b : Turn) → same_turn a b ≡ true → b ≡ a
-is_same_turn a b h = let parts = and_parts (nat_eq b.seq a.seq) (nat_eq b.due a.due) h in λ i. record {
-  due = eqb-true b.due a.due parts.1 i;
-  seq = eqb-true b.seq a.seq parts.0 i;
-}
+is_same_turn a b h = grind (arith, and_parts, eqb-true)
 
 pub same_turn_itself : (a : Turn) → same_turn a a ≡ true
 same_turn_itself a = and_from (nat_eq a.seq a.seq) (nat_eq a.due a.due) (eq-eqb a.seq a.seq refl) (eq-eqb a.due a.due refl)
@@ -50,27 +47,10 @@ order_inserted turns n turn order le low high unheld =
 pub found : (turns : List Turn) (n : ℕ) (turn : Turn) → IsInOrder turns
     → AllWithin (λ held. IsTrue (comes_before held turn)) turns 0 n → AllWithin (λ held. comes_before held turn ≡ false) turns n (length turns)
     → list_any (same_turn turn) turns ≡ true → (n < length turns) × (turn ≡ slice_index_or turns n turn)
-found turns n turn order low high h = at (Any-from_list_any (same_turn turn) turns h)
-  where
-    at : (k : ℕ) × (x : Turn) × (k < length turns) × (slice_index_or turns k x ≡ x) × (same_turn turn x ≡ true) → (n < length turns) × (turn ≡ slice_index_or turns n turn)
-    at (k, x, within, is, same) = pick (cases_order k n)
-      where
-        here : slice_index_or turns k turn ≡ turn
-        here = subst (λ t. slice_index_or turns k t ≡ t) (is_same_turn turn x same) is
-
-        pick : (k ≡ n) ⊎ ((k < n) ⊎ (n < k)) → (n < length turns) × (turn ≡ slice_index_or turns n turn)
-        pick (inl at) = (subst (λ m. m < length turns) at within, subst (λ m. turn ≡ slice_index_or turns m turn) at (sym here))
-        pick (inr (inl below)) = absurd (not_before_itself turn (subst (λ t. comes_before t turn ≡ true) here (low k turn (omega arith) below)))
-        pick (inr (inr above)) =
-            absurd (both_ways (comes_before (slice_index_or turns n turn) turn) (high n turn (omega arith) (omega (arith, above, within)))
-            (subst (λ t. comes_before (slice_index_or turns n turn) t ≡ true) here (order n k turn above within)))
+found turns n turn order low high h = grind (arith, Any-from_list_any, cases_order, is_same_turn, not_before_itself, both_ways)
 
 not_same : (a b : Turn) → (comes_before a b ≡ true) ⊎ (comes_before b a ≡ true) → same_turn a b ≡ false
-not_same a b h = false_from_ne_true (same_turn a b) (λ same. clash h (is_same_turn a b same))
-  where
-    clash : (comes_before a b ≡ true) ⊎ (comes_before b a ≡ true) → b ≡ a → ⊥
-    clash (inl before) same = not_before_itself a (subst (λ t. comes_before a t ≡ true) same before)
-    clash (inr before) same = not_before_itself a (subst (λ t. comes_before t a ≡ true) same before)
+not_same a b h = grind (arith, false_from_ne_true, is_same_turn, not_before_itself)
 
 pub removed : (turns : List Turn) (n : ℕ) (turn other : Turn) → IsInOrder turns → n < length turns → turn ≡ slice_index_or turns n turn
     → list_any (same_turn other) (remove turns n) ≡ (list_any (same_turn other) turns && not (same_turn other turn))
@@ -103,12 +83,7 @@ abbrev turn_at : (seq due : ℕ) → Turn
 turn_at seq due = record { due = due; seq = seq }
 
 pub none_numbered : (turns : List Turn) (seq due : ℕ) → list_any (is_turn_numbered seq) turns ≡ false → list_any (same_turn (record { due = due; seq = seq })) turns ≡ false
-none_numbered turns seq due none = false_from_ne_true (list_any (same_turn (turn_at seq due)) turns) (λ h. clash (Any-from_list_any (same_turn (turn_at seq due)) turns h))
-  where
-    clash : (k : ℕ) × (x : Turn) × (k < length turns) × (slice_index_or turns k x ≡ x) × (same_turn (turn_at seq due) x ≡ true) → ⊥
-    clash (k, x, within, is, same) =
-        both_ways (list_any (is_turn_numbered seq) turns) none
-        (list_any_at (is_turn_numbered seq) turns k x within (ap (is_turn_numbered seq) is ∙ (and_parts (nat_eq x.seq seq) (nat_eq x.due due) same).0))
+none_numbered turns seq due none = grind (arith, false_from_ne_true, Any-from_list_any, both_ways, list_any_at, and_parts)
 
 pub none_of_number : (turns : List Turn) (seq : ℕ) → ((due : ℕ) → list_any (same_turn (record { due = due; seq = seq })) turns ≡ false) → list_any (is_turn_numbered seq) turns ≡ false
 none_of_number turns seq none = false_from_ne_true (list_any (is_turn_numbered seq) turns) (λ h. clash (Any-from_list_any (is_turn_numbered seq) turns h))
