@@ -1,4 +1,5 @@
 -- Legal histories with the same rows are alike, and stay so.
+use Rattle.std.proofs.Common.{arith}
 use Rattle.std.proofs.Common.{◌≡◌, ◌^◌, ◌<◌, ℕ, ◌+◌, ◌==◌, Bool, true, false, ◌&&◌, not, nat_lt, nat_le, List, [], ◌∷◌, ◌++◌, length, map, refl, sym, ap, subst, ◌∙◌, append-nil, append_assoc}
 use Rattle.std.specs.Prelude.{is_some, find, filter, bytes_eq, option_map}
 use Rattle.std.specs.List.{list_all}
@@ -39,10 +40,7 @@ module _ (a b : List Record) (legal_a : IsLegal a) (legal_b : IsLegal b) (same :
   same_due d = rw (same_attempts d, same_accepted d) refl
 
   same_known : (name id : List ℕ) → known_as a name id ≡ known_as b name id
-  same_known name id =
-      known-told a name id
-      ∙ ap (λ es. option_map (λ (e : ℕ × Accepted). e.0) (find (λ (e : ℕ × Accepted). bytes_eq e.1.endpoint name && bytes_eq e.1.id id) es)) same_events
-      ∙ sym (known-told b name id)
+  same_known name id = grind (arith, known-told, same_events)
 
   same_endpoints : endpoints a ≡ endpoints b
   same_endpoints = endpoints-told a ∙ ap (λ (rows : Rows). map endpoint_back rows.endpoints) same ∙ sym (endpoints-told b)
@@ -58,9 +56,7 @@ module _ (a b : List Record) (legal_a : IsLegal a) (legal_b : IsLegal b) (same :
   same_followers (Outcome delivery attempt status at) i = same_pending delivery i && (attempt == length (same_attempts delivery i) + 1 && is_status status)
 
 within_if_legal : (records : List Record) (entry : Record) → IsLegal (records ++ entry ∷ []) → is_within_limits entry ≡ true
-within_if_legal records entry h =
-    let values = and_first (list_all is_within_limits (records ++ entry ∷ [])) (nat_le (length (records ++ entry ∷ [])) (2 ^ 62)) (and_second (may_all_follow [] (records ++ entry ∷ [])) _ h) in
-    and_first (is_within_limits entry) true (and_second (list_all is_within_limits records) (list_all is_within_limits (entry ∷ [])) (sym (list_all-append is_within_limits records (entry ∷ [])) ∙ values))
+within_if_legal records entry h = grind (arith, and_first, and_second, list_all-append)
 
 more_legal : (a b more : List Record) → IsLegal a → IsLegal b → rows_of a ≡ rows_of b → IsLegal (a ++ more) → IsLegal (b ++ more)
 more_legal a b [] legal_a legal_b same h = subst IsLegal (sym (append-nil b)) legal_b
@@ -75,9 +71,7 @@ more_legal a b (entry ∷ more) legal_a legal_b same h =
     subst IsLegal (append_assoc b (entry ∷ []) more) (more_legal (a ++ entry ∷ []) (b ++ entry ∷ []) more one one_b rows longer)
 
 same_if : (s t : Bool) → (s ≡ true → t ≡ true) → (t ≡ true → s ≡ true) → s ≡ t
-same_if true t there back = sym (there refl)
-same_if false true there back = back refl
-same_if false false there back = refl
+same_if s t there back = grind arith
 
 pub alike : RowsTellAll
 alike a b legal_a legal_b same = record {

@@ -27,12 +27,7 @@ module _ (rows : Rows) (keyed : AreKeyed rows) (sound : are_sound rows ≡ true)
   -- Endpoints
 
   endpoint_is : (n : ℕ) (r : Record) → Stands rows n r → endpoint_by (n, r) ≡ option_map endpoint_back (put_found rows n)
-  endpoint_is n r (of_put e i same found is) =
-      ap (λ r. endpoint_by (n, r)) is ∙ (λ j. Some (record { put = sym same j; name = e.name; target = e.url; max = e.max })) ∙ sym (ap (option_map endpoint_back) found.0)
-  endpoint_is n r (of_delivery d i same found is) = ap (λ r. endpoint_by (n, r)) is ∙ sym (ap (option_map endpoint_back) found.0)
-  endpoint_is n r (of_attempt t i same found is) = ap (λ r. endpoint_by (n, r)) is ∙ sym (ap (option_map endpoint_back) found.0)
-  endpoint_is n r (of_flag e flag i low high found is) = ap (λ r. endpoint_by (n, r)) is ∙ sym (ap (option_map endpoint_back) found.0)
-  endpoint_is n r (of_secrets e i low high found is) = ap (λ r. endpoint_by (n, r)) is ∙ sym (ap (option_map endpoint_back) found.0)
+  endpoint_is n r h1 = grind (arith, endpoint_back)
 
   pub endpoints_are : endpoints history ≡ map endpoint_back rows.endpoints
   endpoints_are = table_is endpoint_by (λ (x : Endpoint). x.put) 0 history (map endpoint_back rows.endpoints) (rising_map endpoint_back (λ (x : Endpoint). x.put) 0 rows.endpoints keyed.puts_rise) below at
@@ -51,24 +46,17 @@ module _ (rows : Rows) (keyed : AreKeyed rows) (sound : are_sound rows ≡ true)
 
   -- the endpoint of a name and the name of an endpoint
   pub endpoint_found : (e : EndpointRow) → In e rows.endpoints → endpoint_of history e.name ≡ Some (endpoint_back e)
-  endpoint_found e i =
-      ap (find (λ (x : Endpoint). bytes_eq x.name e.name)) endpoints_are
-      ∙ find_map endpoint_back (λ (x : Endpoint). bytes_eq x.name e.name) rows.endpoints
-      ∙ ap (option_map endpoint_back) (only_found (λ (f : EndpointRow). bytes_eq f.name e.name) rows.endpoints e i (same_text e.name e.name refl) (λ f j h. same_named rows keyed sound e f i j (text_same f.name e.name h)))
+  endpoint_found e i = grind (arith, endpoints_are, find_map, endpoint_back, only_found, same_text, same_named, text_same)
 
   pub name_is : (e : EndpointRow) (n : ℕ) → In e rows.endpoints → e.put ≡ n → name_at rows n ≡ e.name
   name_is e n i same = ap (λ o. option_map_or (λ (e : EndpointRow). e.name) o []) (found_at (λ (e : EndpointRow). e.put) 0 n rows.endpoints e keyed.puts_rise i same)
 
   -- the endpoint of a delivery, and the delivery of an attempt
   pub endpoint_for : (d : DeliveryRow) → In d rows.deliveries → (e : EndpointRow) × In e rows.endpoints × (e.put ≡ d.endpoint)
-  endpoint_for d i =
-      let found = in_any (λ (e : EndpointRow). e.put == d.endpoint) rows.endpoints (in_all (λ (d : DeliveryRow). is_put_at rows d.endpoint) rows.deliveries d keyed.endpoints i) in
-      (found.0, found.1, eqb-true found.0.put d.endpoint found.2)
+  endpoint_for d i = grind (arith, in_any, in_all, eqb-true)
 
   pub delivery_for : (t : AttemptRow) → In t rows.attempts → (d : DeliveryRow) × In d rows.deliveries × (d.seq ≡ t.delivery)
-  delivery_for t i =
-      let found = in_any (λ (d : DeliveryRow). d.seq == t.delivery) rows.deliveries (in_all (λ (t : AttemptRow). is_delivery_at rows t.delivery) rows.attempts t keyed.deliveries i) in
-      (found.0, found.1, eqb-true found.0.seq t.delivery found.2)
+  delivery_for t i = grind (arith, in_any, in_all, eqb-true)
 
   -- Deliveries
 
@@ -78,12 +66,7 @@ module _ (rows : Rows) (keyed : AreKeyed rows) (sound : are_sound rows ≡ true)
       ap (put_of history) (name_is e.0 d.endpoint e.1 e.2) ∙ ap (λ o. option_map_or (λ (x : Endpoint). x.put) o 0) (endpoint_found e.0 e.1) ∙ e.2
 
   delivery_is : (n : ℕ) (r : Record) → Stands rows n r → delivery_row history (n, r) ≡ delivery_found rows n
-  delivery_is n r (of_put e i same found is) = ap (λ r. delivery_row history (n, r)) is ∙ sym found.1
-  delivery_is n r (of_delivery d i same found is) =
-      ap (λ r. delivery_row history (n, r)) is ∙ (λ j. Some (record { seq = sym same j; endpoint = put_is d i j; id = d.id; at = d.at; body = d.body })) ∙ sym found.1
-  delivery_is n r (of_attempt t i same found is) = ap (λ r. delivery_row history (n, r)) is ∙ sym found.1
-  delivery_is n r (of_flag e flag i low high found is) = ap (λ r. delivery_row history (n, r)) is ∙ sym found.1
-  delivery_is n r (of_secrets e i low high found is) = ap (λ r. delivery_row history (n, r)) is ∙ sym found.1
+  delivery_is n r h1 = grind (arith, put_is)
 
   pub deliveries_are : filter_map (delivery_row history) (numbered history) ≡ rows.deliveries
   deliveries_are = table_is (delivery_row history) (λ (d : DeliveryRow). d.seq) 0 history rows.deliveries keyed.deliveries_rise (λ d i. below_all d.seq (delivery_below rows keyed sound d i)) at
@@ -97,12 +80,7 @@ module _ (rows : Rows) (keyed : AreKeyed rows) (sound : are_sound rows ≡ true)
   -- Attempts
 
   attempt_is : (n : ℕ) (r : Record) → Stands rows n r → attempt_row (n, r) ≡ attempt_found rows n
-  attempt_is n r (of_put e i same found is) = ap (λ r. attempt_row (n, r)) is ∙ sym found.2
-  attempt_is n r (of_delivery d i same found is) = ap (λ r. attempt_row (n, r)) is ∙ sym found.2
-  attempt_is n r (of_attempt t i same found is) =
-      ap (λ r. attempt_row (n, r)) is ∙ (λ j. Some (record { seq = sym same j; delivery = t.delivery; number = t.number; status = t.status; at = t.at })) ∙ sym found.2
-  attempt_is n r (of_flag e flag i low high found is) = ap (λ r. attempt_row (n, r)) is ∙ sym found.2
-  attempt_is n r (of_secrets e i low high found is) = ap (λ r. attempt_row (n, r)) is ∙ sym found.2
+  attempt_is n r h1 = grind arith
 
   pub attempts_are : filter_map attempt_row (numbered history) ≡ rows.attempts
   attempts_are = table_is attempt_row (λ (t : AttemptRow). t.seq) 0 history rows.attempts keyed.attempts_rise (λ t i. below_all t.seq (attempt_below rows keyed sound t i)) at

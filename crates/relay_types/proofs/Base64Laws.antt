@@ -24,34 +24,17 @@ abbrev answer : Option DecodeError → Option DecodeError → ℕ → ℕ → �
 answer lone rest q n room = or_error lone (cond (nat_lt (room / 3) q) (Err OutputSliceTooSmall) (or_error rest (bytes_fit n room)))
 
 answer_ok : (lone rest : Option DecodeError) (q n room : ℕ) → or_else lone rest ≡ None → q ≤ room / 3 → n ≤ room → answer lone rest q n room ≡ Ok n
-answer_ok None None q n room e groups fits = rw (le-ltb (room / 3) q groups, le-ltb room n fits) refl
-answer_ok None (Some x) q n room e groups fits = cc e
-answer_ok (Some x) rest q n room e groups fits = cc e
+answer_ok lone rest q n room e groups fits = grind (arith, le-ltb)
 
 fitted : (n room k : ℕ) → bytes_fit n room ≡ Ok k → (n ≡ k) × (k ≤ room)
-fitted n room k e = elim (cases_Bool (nat_lt room n)) [
-  | inl less ↦ cc (rw less at e)
-  | inr fits ↦
-      let same : n ≡ k = cc (rw fits at e) in
-      (same, omega (arith, ltb-false room n fits))
-]
+fitted n room k e = grind (arith, cases_Bool, ltb-false)
 
 answered : (lone rest : Option DecodeError) (q n room k : ℕ) → answer lone rest q n room ≡ Ok k → (or_else lone rest ≡ None) × (n ≡ k) × (k ≤ room)
-answered (Some x) rest q n room k e = cc e
-answered None rest q n room k e = elim (cases_Bool (nat_lt (room / 3) q)) [
-  | inl less ↦ cc (rw less at e)
-  | inr fits ↦ after rest (rw fits at e)
-]
-  where
-    after : (rest : Option DecodeError) → or_error rest (bytes_fit n room) ≡ Ok k → (rest ≡ None) × (n ≡ k) × (k ≤ room)
-    after None e = let both = fitted n room k e in (refl, both.0, both.1)
-    after (Some x) e = cc e
+answered lone rest q n room k e = grind (arith, cases_Bool, fitted)
 
 -- the encoding of few bytes has few groups
 groups_fit : (t b : List ℕ) (pad : ℕ) (padding : Bool) (room : ℕ) → length b ≤ room → groups_before_last (length (encode t pad padding b)) ≤ room / 3
-groups_fit t b pad true room h =
-    omega (arith, length-append (encode_symbols t b) (replicate (padding_len (length b)) pad), length-replicate (padding_len (length b)) pad, length-encode_symbols t b)
-groups_fit t b pad false room h = omega (arith, length-append (encode_symbols t b) [], length-encode_symbols t b)
+groups_fit t b pad padding room h = grind (arith, length-append, length-replicate, length-encode_symbols)
 
 accepted : (mode : DecodePaddingMode) (padding : Bool) → IsExact mode padding → Accepts mode padding
 accepted Indifferent padding h = absurd h

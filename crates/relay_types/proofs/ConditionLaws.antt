@@ -33,11 +33,39 @@ pub data FlagPlace (rows : Rows) (e : EndpointRow) : Type 0 where
       → ((f : EndpointRow) → In f rows.endpoints → f.enabled_by ≡ e.enabled_by → f ≡ e)
       → FlagPlace rows e
 
+-- where no other row than this one passes a test that none but it may
+abbrev IsAlone : Rows → EndpointRow → Type 0
+IsAlone rows e = (test : EndpointRow → Bool) → list_any (λ (f : EndpointRow). test f && not (f.put == e.put)) rows.endpoints ≡ false → (f : EndpointRow) → In f rows.endpoints → test f ≡ true → f ≡ e
+
+secrets_place_if : (rows : Rows) (e : EndpointRow) → IsAlone rows e → is_secrets_place rows e ≡ true → SecretsPlace rows e
+secrets_place_if rows e alone = by (e.secrets_by == e.put) refl
+  where
+    by : (first : Bool) → (e.secrets_by == e.put) ≡ first → is_secrets_place rows e ≡ true → SecretsPlace rows e
+    by true same set = given_first (eqb-true e.secrets_by e.put same)
+    by false other set =
+        given_later (grind arith) (grind arith)
+        (λ f j same. alone (λ (f : EndpointRow). f.secrets_by == e.secrets_by) (grind arith) f j (eq-eqb f.secrets_by e.secrets_by same))
+        (λ f j same. grind (arith, in_none (λ (f : EndpointRow). f.enabled_by == e.secrets_by) rows.endpoints f))
+
+flag_place_if : (rows : Rows) (e : EndpointRow) → IsAlone rows e → is_flag_place rows e ≡ true → FlagPlace rows e
+flag_place_if rows e alone = by (e.enabled_by == e.put && e.enabled) refl (list_any gone_here rows.attempts && not e.enabled) refl
+  where
+    gone_here : AttemptRow → Bool
+    gone_here t = t.seq == e.enabled_by && is_gone_attempt_of rows e t
+
+    by : (first : Bool) → (e.enabled_by == e.put && e.enabled) ≡ first → (gone : Bool) → (list_any gone_here rows.attempts && not e.enabled) ≡ gone → is_flag_place rows e ≡ true → FlagPlace rows e
+    by true is gone was set = set_first (eqb-true e.enabled_by e.put (and_first (e.enabled_by == e.put) e.enabled is)) (and_second (e.enabled_by == e.put) e.enabled is)
+    by false is true was set =
+        let found = in_any gone_here rows.attempts (and_first (list_any gone_here rows.attempts) _ was) in
+        set_gone found.0 found.1 (eqb-true found.0.seq e.enabled_by (and_first (found.0.seq == e.enabled_by) _ found.2)) (and_second (found.0.seq == e.enabled_by) _ found.2)
+        (not-true e.enabled (and_second (list_any gone_here rows.attempts) _ was))
+    by false is false was set =
+        set_later (grind arith) (grind arith) (λ f j same. alone (λ (f : EndpointRow). f.enabled_by == e.enabled_by) (grind arith) f j (eq-eqb f.enabled_by e.enabled_by same))
+
 module _ (rows : Rows) (keyed : AreKeyed rows) (sound : are_sound rows ≡ true) where
   holds : (are_numbers_below rows ≡ true) × (are_numbers_apart rows ≡ true) × (are_endpoint_rows rows ≡ true) × (list_all (is_secrets_place rows) rows.endpoints ≡ true)
       × (list_all (is_flag_place rows) rows.endpoints ≡ true) × (list_all is_delivery_row rows.deliveries ≡ true) × (list_all (is_attempt_row rows) rows.attempts ≡ true) × (are_others_overtaken rows ≡ true)
-  holds = parts (are_numbers_below rows) (are_numbers_apart rows) (are_endpoint_rows rows) (list_all (is_secrets_place rows) rows.endpoints)
-      (list_all (is_flag_place rows) rows.endpoints) (list_all is_delivery_row rows.deliveries) (list_all (is_attempt_row rows) rows.attempts) (are_others_overtaken rows) sound
+  holds = grind (arith, parts)
 
   pub others : are_others_overtaken rows ≡ true
   others = holds.7
@@ -75,20 +103,14 @@ module _ (rows : Rows) (keyed : AreKeyed rows) (sound : are_sound rows ≡ true)
   delivery_below d i = ltb-true d.seq rows.records (in_all delivery_is_below rows.deliveries d (and_first (list_all delivery_is_below rows.deliveries) _ behind_endpoints) i)
 
   pub attempt_below : (t : AttemptRow) → In t rows.attempts → t.seq < rows.records
-  attempt_below t i =
-      ltb-true t.seq rows.records
-      (in_all attempt_is_below rows.attempts t (and_second (list_all delivery_is_below rows.deliveries) (list_all attempt_is_below rows.attempts) behind_endpoints) i)
+  attempt_below t i = grind (arith, ltb-true, in_all, and_second, behind_endpoints)
 
   -- the numbers of two kinds are apart
   pub put_alone : (e : EndpointRow) → In e rows.endpoints → (is_delivery_at rows e.put ≡ false) × (is_attempt_at rows e.put ≡ false)
-  put_alone e i =
-      or_parts (is_delivery_at rows e.put) (is_attempt_at rows e.put)
-      (not-true (is_delivery_at rows e.put || is_attempt_at rows e.put) (in_all is_alone rows.endpoints e (and_first (list_all is_alone rows.endpoints) _ holds.1) i))
+  put_alone e i = grind (arith, or_parts, not-true, in_all, and_first)
 
   pub delivery_alone : (d : DeliveryRow) → In d rows.deliveries → is_attempt_at rows d.seq ≡ false
-  delivery_alone d i =
-      not-true (is_attempt_at rows d.seq)
-      (in_all delivery_is_alone rows.deliveries d (and_second (list_all is_alone rows.endpoints) (list_all delivery_is_alone rows.deliveries) holds.1) i)
+  delivery_alone d i = grind (arith, not-true, in_all, and_second)
 
   pub same_put : (e f : EndpointRow) → In e rows.endpoints → In f rows.endpoints → e.put ≡ f.put → e ≡ f
   same_put e f i j same = same_number (λ (e : EndpointRow). e.put) 0 rows.endpoints e f keyed.puts_rise i j same
@@ -103,9 +125,7 @@ module _ (rows : Rows) (keyed : AreKeyed rows) (sound : are_sound rows ≡ true)
   few_endpoints = leb-true (length rows.endpoints) 256 (and_first (nat_le (length rows.endpoints) 256) _ holds.2)
 
   pub delivery_values : (d : DeliveryRow) → In d rows.deliveries → (d.endpoint < d.seq) × ((is_msg_id d.id && (is_body d.body && is_moment d.at)) ≡ true)
-  delivery_values d i =
-      let all = in_all is_delivery_row rows.deliveries d holds.5 i in
-      (ltb-true d.endpoint d.seq (and_first (nat_lt d.endpoint d.seq) _ all), and_second (nat_lt d.endpoint d.seq) (is_msg_id d.id && (is_body d.body && is_moment d.at)) all)
+  delivery_values d i = grind (arith, in_all, ltb-true, and_first, and_second)
 
   pub attempt_values : (t : AttemptRow) → In t rows.attempts
       → (t.delivery < t.seq) × (t.number == length (attempts_before rows t) + 1 ≡ true) × (is_status t.status ≡ true) × (is_moment t.at ≡ true)
@@ -127,80 +147,10 @@ module _ (rows : Rows) (keyed : AreKeyed rows) (sound : are_sound rows ≡ true)
       f j (same_text f.name e.name same)
 
   pub secrets_place : (e : EndpointRow) → In e rows.endpoints → SecretsPlace rows e
-  secrets_place e i = by (or_cases (e.secrets_by == e.put) (later && (apart && (alone && quiet))) (in_all (is_secrets_place rows) rows.endpoints e holds.3 i))
-    where
-      later : Bool
-      later = nat_lt e.put e.secrets_by
-
-      apart : Bool
-      apart = not (is_taken rows e.secrets_by)
-
-      alone : Bool
-      alone = not (list_any (λ (f : EndpointRow). f.secrets_by == e.secrets_by && not (f.put == e.put)) rows.endpoints)
-
-      quiet : Bool
-      quiet = not (list_any (λ (f : EndpointRow). f.enabled_by == e.secrets_by) rows.endpoints)
-
-      by : (e.secrets_by == e.put ≡ true) ⊎ (later && (apart && (alone && quiet)) ≡ true) → SecretsPlace rows e
-      by (inl h) = given_first (eqb-true e.secrets_by e.put h)
-      by (inr h) =
-          let from_apart = and_second later (apart && (alone && quiet)) h in
-          let from_alone = and_second apart (alone && quiet) from_apart in
-          given_later (ltb-true e.put e.secrets_by (and_first later _ h)) (not-true (is_taken rows e.secrets_by) (and_first apart _ from_apart))
-          (λ f j same. only_one e (λ (f : EndpointRow). f.secrets_by == e.secrets_by) i (not-true _ (and_first alone _ from_alone)) f j (eq-eqb f.secrets_by e.secrets_by same))
-          (λ f j same. let no = in_none (λ (f : EndpointRow). f.enabled_by == e.secrets_by) rows.endpoints f (not-true _ (and_second alone quiet from_alone)) j in let yes = eq-eqb f.enabled_by e.secrets_by same in cc)
+  secrets_place e i = secrets_place_if rows e (λ test. only_one e test i) (in_all (is_secrets_place rows) rows.endpoints e holds.3 i)
 
   pub flag_place : (e : EndpointRow) → In e rows.endpoints → FlagPlace rows e
-  flag_place e i = by (or_cases first (gone || command) set)
-    where
-      first : Bool
-      first = e.enabled_by == e.put && e.enabled
-
-      gone_here : AttemptRow → Bool
-      gone_here t = t.seq == e.enabled_by && is_gone_attempt_of rows e t
-
-      gone : Bool
-      gone = list_any gone_here rows.attempts && not e.enabled
-
-      later : Bool
-      later = nat_lt e.put e.enabled_by
-
-      apart : Bool
-      apart = not (is_taken rows e.enabled_by)
-
-      alone : Bool
-      alone = not (list_any (λ (f : EndpointRow). f.enabled_by == e.enabled_by && not (f.put == e.put)) rows.endpoints)
-
-      quiet : Bool
-      quiet = not (list_any (λ (f : EndpointRow). f.secrets_by == e.enabled_by) rows.endpoints)
-
-      command : Bool
-      command = later && (apart && (alone && quiet))
-
-      set : first || (gone || command) ≡ true
-      set = and_first (first || (gone || command)) _ (in_all (is_flag_place rows) rows.endpoints e holds.4 i)
-
-      by_command : command ≡ true → FlagPlace rows e
-      by_command h =
-          let from_apart = and_second later (apart && (alone && quiet)) h in
-          let from_alone = and_second apart (alone && quiet) from_apart in
-          set_later (ltb-true e.put e.enabled_by (and_first later _ h)) (not-true (is_taken rows e.enabled_by) (and_first apart _ from_apart))
-          (λ f j same. only_one e (λ (f : EndpointRow). f.enabled_by == e.enabled_by) i (not-true _ (and_first alone _ from_alone)) f j (eq-eqb f.enabled_by e.enabled_by same))
-
-      by_gone : gone ≡ true → FlagPlace rows e
-      by_gone h =
-          let found = in_any gone_here rows.attempts (and_first (list_any gone_here rows.attempts) _ h) in
-          set_gone found.0 found.1 (eqb-true found.0.seq e.enabled_by (and_first (found.0.seq == e.enabled_by) _ found.2))
-          (and_second (found.0.seq == e.enabled_by) (is_gone_attempt_of rows e found.0) found.2)
-          (not-true e.enabled (and_second (list_any gone_here rows.attempts) (not e.enabled) h))
-
-      by : (first ≡ true) ⊎ (gone || command ≡ true) → FlagPlace rows e
-      by (inl h) = set_first (eqb-true e.enabled_by e.put (and_first (e.enabled_by == e.put) e.enabled h)) (and_second (e.enabled_by == e.put) e.enabled h)
-      by (inr h) = either (or_cases gone command h)
-        where
-          either : (gone ≡ true) ⊎ (command ≡ true) → FlagPlace rows e
-          either (inl h) = by_gone h
-          either (inr h) = by_command h
+  flag_place e i = flag_place_if rows e (λ test. only_one e test i) (in_all (is_flag_place rows) rows.endpoints e holds.4 i)
 
   -- no attempt behind the flag was answered gone
   pub none_gone : (e : EndpointRow) → In e rows.endpoints → (t : AttemptRow) → In t rows.attempts → e.enabled_by < t.seq → is_gone_attempt_of rows e t ≡ false

@@ -42,7 +42,5 @@ fewer {X} number test b (x ∷ xs) y (inl same) passes h =
 
     first : (c : Bool) → c ≡ false → (d : Bool) → d ≡ true → (t : Bool) → t ≡ true → length (filter test (low (number x))) ≤ length (filter test (low b))
         → length (filter test (cond c (x ∷ low (number x)) (low (number x)))) < length (filter test (cond d (x ∷ low b) (low b)))
-    first true e d f t g more = absurd (let no = e in cc)
-    first false e false f t g more = absurd (let no = f in cc)
-    first false e true f t g more = subst (λ t. length (filter test (low (number x))) < length (cond t (x ∷ filter test (low b)) (filter test (low b)))) (sym (ap test same ∙ passes)) (omega (arith, more))
+    first c e d f t g more = grind arith
 fewer {X} number test b (x ∷ xs) y (inr i) passes h = grind (arith, ltb-true, ltb-false, fewer number test b xs y i passes h)

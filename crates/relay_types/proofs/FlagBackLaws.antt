@@ -94,25 +94,11 @@ module _ (rows : Rows) (keyed : AreKeyed rows) (sound : are_sound rows ≡ true)
   flag_between e n r i (of_flag f flag j low high found is) out = ap (enabled_by history e.name) is ∙ at (bytes_eq f.name e.name) refl
     where
       at : (b : Bool) → bytes_eq f.name e.name ≡ b → (if b then Some flag else None) ≡ None
-      at false h = refl
-      at true h =
-          let same = same_named rows keyed sound e f i j (text_same f.name e.name h) in
-          absurd (out (subst (λ (g : EndpointRow). g.put < n) same low) (subst (λ (g : EndpointRow). n ≤ g.enabled_by) same high))
+      at b h = grind (arith, same_named, text_same)
   flag_between e n r i (of_attempt t j same found is) out = ap (enabled_by history e.name) is ∙ at (is_gone_status t.status) refl (is_delivery_of history e.name t.delivery) refl
     where
       at : (a : Bool) → is_gone_status t.status ≡ a → (b : Bool) → is_delivery_of history e.name t.delivery ≡ b → (if a && b then Some false else None) ≡ None
-      at false g b h = refl
-      at true g false h = refl
-      at true g true h = absurd (out (omega (arith, attempt_behind e t j own, same)) (upto (nat_lt e.enabled_by t.seq) refl))
-        where
-          own : list_any (is_own e t) rows.deliveries ≡ true
-          own = own_delivery e t i j h
-
-          upto : (b : Bool) → nat_lt e.enabled_by t.seq ≡ b → n ≤ e.enabled_by
-          upto false k = omega (arith, same, ltb-false e.enabled_by t.seq k)
-          upto true k = absurd (
-              let none = none_gone rows keyed sound e i t j (ltb-true e.enabled_by t.seq k) in
-              let gone : is_gone_attempt_of rows e t ≡ true = and_both (is_gone_status t.status) _ g own in cc)
+      at a g b h = grind (arith, attempt_behind, own_delivery, ltb-false, none_gone, ltb-true, and_both)
 
   pub flag_back : (e : EndpointRow) → In e rows.endpoints
       → (is_enabled history e.name ≡ e.enabled) × (last_seq (λ entry. is_some (enabled_by history e.name entry)) history e.put ≡ e.enabled_by)

@@ -37,8 +37,7 @@ no_delivery records (Outcome delivery attempt status at ∷ rest) name zero unkn
 no_delivery records (r ∷ rest) name (suc d) unknown known = no_delivery records rest name d unknown known.1
 
 and_none : (a b : Bool) → b ≡ false → (if a && b then Some false else None) ≡ None
-and_none true b h = ap (λ c. if c then Some false else None) h
-and_none false b h = refl
+and_none a b h = grind arith
 
 none_enables : (records some : List Record) (name : List ℕ) → has_endpoint records name ≡ false → AllKnown records records → AllKnown records some → filter_map (enabled_by records name) some ≡ []
 none_enables records [] name unknown all known = refl
@@ -89,9 +88,7 @@ given_back n name given [] found rises is = absurd (let no = is in cc)
 given_back n name given (e ∷ es) found rises is = at (given_back (e.put + 1) name given es found rises.1) (bytes_eq e.name name) is
   where
     split : (put : ℕ) → own_secrets put (rows_for given (e ∷ es)) ≡ own_secrets put (secret_rows e.put (given e.name)) ++ own_secrets put (rows_for given es)
-    split put =
-        ap (map (λ (s : SecretRow). s.secret)) (filter-append (is_of put) (secret_rows e.put (given e.name)) (rows_for given es))
-        ∙ map-append (λ (s : SecretRow). s.secret) (filter (is_of put) (secret_rows e.put (given e.name))) (filter (is_of put) (rows_for given es))
+    split put = grind (arith, filter-append, rows_for, map-append)
 
     at : (finds name es ≡ Some found → own_secrets found.put (rows_for given es) ≡ given found.name) → (b : Bool) → (if b then Some e else finds name es) ≡ Some found
         → own_secrets found.put (rows_for given (e ∷ es)) ≡ given found.name

@@ -54,12 +54,23 @@ module _ (records : List Record) (legal : IsLegal records) where
   -- The place of an endpoint's flag
 
   other_name : (name : List ℕ) (own flag : Bool) (x : Endpoint) → (code (Enabled name own) ≡ 0) ⊎ (enabled_by records x.name (Enabled name own) ≡ Some flag) → name ≡ x.name
-  other_name name own flag x (inl same) = absurd (let no : 4 ≡ 0 = same in omega (arith, no))
-  other_name name own flag x (inr h) = grind (arith, text_same)
+  other_name name own flag x h1 = grind (arith, text_same)
 
   no_secrets : (name : List ℕ) (own : Bool) (given : List (List ℕ)) (x : Endpoint) → (code (Enabled name own) ≡ 0) ⊎ (secrets_by x.name (Enabled name own) ≡ Some given) → ⊥
-  no_secrets name own given x (inl same) = let no : 4 ≡ 0 = same in omega (arith, no)
-  no_secrets name own given x (inr h) = let no = h in cc
+  no_secrets name own given x h1 = grind arith
+
+  -- no other row has the number of its command
+  alone : (x : Endpoint) (p : ℕ) (flag : Bool) → In x (endpoints records) → slice_get records p ≡ Some (Enabled x.name flag) → (f : EndpointRow) → In f rows.endpoints → f.enabled_by ≡ p → f.put ≡ x.put
+  alone x p flag i is f j same =
+      let y = row_endpoint records f j in
+      let record_of = flag_record records legal y.0 p (Enabled x.name flag) y.1 (ap (λ (t : EndpointRow). t.enabled_by) y.2 ∙ same) is in
+      let own = same_name records legal y.0 x y.1 i (sym (other_name x.name flag (is_enabled records y.0.name) y.0 record_of)) in
+      sym (ap (λ (t : EndpointRow). t.put) y.2) ∙ ap (λ (t : Endpoint). t.put) own
+
+  no_list : (x : Endpoint) (p : ℕ) (flag : Bool) → slice_get records p ≡ Some (Enabled x.name flag) → (f : EndpointRow) → In f rows.endpoints → f.secrets_by ≡ p → ⊥
+  no_list x p flag is f j same =
+      let y = row_endpoint records f j in
+      no_secrets x.name flag (secrets_of records y.0.name) y.0 (secrets_record records legal y.0 p (Enabled x.name flag) y.1 (ap (λ (t : EndpointRow). t.secrets_by) y.2 ∙ same) is)
 
   flag_place : (x : Endpoint) → In x (endpoints records) → is_flag_place rows (endpoint_row records x) ≡ true
   flag_place x i = by (flag_last records legal x)
@@ -81,56 +92,29 @@ module _ (records : List Record) (legal : IsLegal records) where
       stands_so n flag = (n == x.put && flag || (list_any (gone_at n) rows.attempts && not flag || is_command n)) && not (list_any (gone_behind n) rows.attempts)
 
       -- where nothing behind says something, no attempt behind was answered gone
-      quiet : (n : ℕ) → NoneBehind (enabled_by records x.name) n records → not (list_any (gone_behind n) rows.attempts) ≡ true
-      quiet n none = ap not (none_if (gone_behind n) rows.attempts (λ t j. at t j (is_gone_attempt_of rows row t) refl))
-        where
-          at : (t : AttemptRow) → In t rows.attempts → (b : Bool) → is_gone_attempt_of rows row t ≡ b → gone_behind n t ≡ false
-          at t j false e = and_right (nat_lt n t.seq) (is_gone_attempt_of rows row t) e
-          at t j true e = and_left (nat_lt n t.seq) (is_gone_attempt_of rows row t) (before (nat_lt n t.seq) refl)
-            where
-              before : (b : Bool) → nat_lt n t.seq ≡ b → b ≡ false
-              before false f = refl
-              before true f = absurd (let says = gone_speaks x t i e in let not_so = none t.seq (outcome_entry t) (ltb-true n t.seq f) (attempt_stands records t j) in cc)
+      quiet : (n : ℕ) → NoneBehind (enabled_by records x.name) n records → list_any (gone_behind n) rows.attempts ≡ false
+      quiet n none = none_if (gone_behind n) rows.attempts (λ t j. grind (arith, gone_speaks x t i, none t.seq (outcome_entry t), attempt_stands records t j))
 
       command : (p : ℕ) (flag : Bool) → slice_get records p ≡ Some (Enabled x.name flag) → is_command p ≡ true
       command p flag is =
           let before = known_before records p x.name (follows records legal p (Enabled x.name flag) is) in
           let own = same_name records legal before.0 x before.1 i before.3 in
-          let command_code : 3 ≤ 4 = omega arith in
-          and_both (nat_lt x.put p) _ (lt-ltb x.put p (subst (λ (e : Endpoint). e.put < p) own before.2))
-          (and_both (not (is_taken rows p)) _ (ap not (not_taken records p (Enabled x.name flag) is command_code))
-          (and_both (not (list_any (λ (f : EndpointRow). f.enabled_by == p && not (f.put == x.put)) rows.endpoints)) _ (ap not (none_if (λ (f : EndpointRow). f.enabled_by == p && not (f.put == x.put)) rows.endpoints others))
-          (ap not (none_if (λ (f : EndpointRow). f.secrets_by == p) rows.endpoints lists))))
-        where
-          others : (f : EndpointRow) → In f rows.endpoints → (f.enabled_by == p && not (f.put == x.put)) ≡ false
-          others f j = let y = row_endpoint records f j in subst (λ (t : EndpointRow). (t.enabled_by == p && not (t.put == x.put)) ≡ false) y.2 (at y.0 y.1 ((endpoint_row records y.0).enabled_by == p) refl)
-            where
-              at : (y : Endpoint) → In y (endpoints records) → (b : Bool) → (endpoint_row records y).enabled_by == p ≡ b → ((endpoint_row records y).enabled_by == p && not (y.put == x.put)) ≡ false
-              at y j false e = and_left ((endpoint_row records y).enabled_by == p) (not (y.put == x.put)) e
-              at y j true e =
-                  let named = other_name x.name flag (is_enabled records y.name) y (flag_record records legal y p (Enabled x.name flag) j (eqb-true (endpoint_row records y).enabled_by p e) is) in
-                  let same = same_name records legal y x j i (sym named) in
-                  and_right ((endpoint_row records y).enabled_by == p) (not (y.put == x.put)) (ap not (eq-eqb y.put x.put (ap (λ (t : Endpoint). t.put) same)))
-
-          lists : (f : EndpointRow) → In f rows.endpoints → f.secrets_by == p ≡ false
-          lists f j = let y = row_endpoint records f j in subst (λ (t : EndpointRow). t.secrets_by == p ≡ false) y.2
-              (ne_eqb (endpoint_row records y.0).secrets_by p (λ same. no_secrets x.name flag (secrets_of records y.0.name) y.0 (secrets_record records legal y.0 p (Enabled x.name flag) y.1 same is)))
+          let untaken = not_taken records p (Enabled x.name flag) is (let least : 3 ≤ 4 = omega arith in least) in
+          let others = none_if (λ (f : EndpointRow). f.enabled_by == p && not (f.put == x.put)) rows.endpoints (λ f j. grind (arith, alone x p flag i is f j)) in
+          let lists = none_if (λ (f : EndpointRow). f.secrets_by == p) rows.endpoints (λ f j. grind (arith, no_list x p flag is f j)) in
+          grind arith
 
       speaks : (p : ℕ) (r : Record) (flag : Bool) → slice_get records p ≡ Some r → Flags records x.name r flag → (p == x.put && flag || (list_any (gone_at p) rows.attempts && not flag || is_command p)) ≡ true
       speaks p r flag is (by_command same) = or_right (p == x.put && flag) _ (or_right (list_any (gone_at p) rows.attempts && not flag) _ (command p flag (is ∙ ap Some same)))
       speaks p r flag is (by_attempt d attempt status moment same gone own off) =
           let t : AttemptRow = record { seq = p; delivery = d; number = attempt; status = status; at = moment } in
-          let there = attempt_in records p d attempt status moment (is ∙ ap Some same) in
-          or_right (p == x.put && flag) _ (or_left (list_any (gone_at p) rows.attempts && not flag) _
-          (and_both (list_any (gone_at p) rows.attempts) (not flag) (any_in (gone_at p) rows.attempts t there (and_both (p == p) _ (eq-eqb p p refl) (speaks_gone x t i gone own))) (ap not off)))
+          let there = any_in (gone_at p) rows.attempts t (attempt_in records p d attempt status moment (is ∙ ap Some same)) (grind (arith, speaks_gone x t i gone own)) in
+          grind arith
 
       by : Last (enabled_by records x.name) records x.put true → stands_so row.enabled_by row.enabled ≡ true
-      by (unsaid none v s) =
-          and_both (row.enabled_by == x.put && row.enabled || (list_any (gone_at row.enabled_by) rows.attempts && not row.enabled || is_command row.enabled_by)) _
-          (or_left (row.enabled_by == x.put && row.enabled) _ (and_both (row.enabled_by == x.put) row.enabled (eq-eqb row.enabled_by x.put s) v))
-          (quiet row.enabled_by (λ k z l at. none k z at))
+      by (unsaid none v s) = grind (arith, quiet row.enabled_by (λ k z l at. none k z at))
       by (said flag sp v s) = subst (λ n. stands_so n row.enabled ≡ true) (sym s) (subst (λ f. stands_so sp.place f ≡ true) (sym v)
-          (and_both _ _ (speaks sp.place sp.element flag sp.stands (flagged_by records x.name sp.element flag sp.said)) (quiet sp.place sp.none_behind)))
+          (grind (arith, speaks sp.place sp.element flag sp.stands (flagged_by records x.name sp.element flag sp.said), quiet sp.place sp.none_behind)))
 
   pub flag_places : list_all (is_flag_place rows) rows.endpoints ≡ true
   flag_places = all_if (is_flag_place rows) rows.endpoints (λ e i. let x = row_endpoint records e i in subst (λ t. is_flag_place rows t ≡ true) x.2 (flag_place x.0 x.1))
@@ -150,9 +134,7 @@ module _ (records : List Record) (legal : IsLegal records) where
           (and_second (is_name stands.0) (is_msg_id d.id && (is_body d.body && is_moment d.at)) (within records legal d.seq (Accept stands.0 d.id d.body d.at) stands.1))
 
   pending_if : (b c : Bool) → is_in_state Pending (if b then Delivered else (if c then Exhausted else Pending)) ≡ true → (b ≡ false) × (c ≡ false)
-  pending_if true c h = absurd (let no = h in cc)
-  pending_if false true h = absurd (let no = h in cc)
-  pending_if false false h = (refl, refl)
+  pending_if b c h = grind arith
 
   pub attempt_rows : list_all (is_attempt_row rows) rows.attempts ≡ true
   attempt_rows = all_if (is_attempt_row rows) rows.attempts attempt
@@ -195,8 +177,7 @@ module _ (records : List Record) (legal : IsLegal records) where
 
   -- a record that says something isn't behind the last
   spoken : {Y : Type 0} (says : Record → Option Y) (put : ℕ) (default : Y) (n : ℕ) (r : Record) (y : Y) → slice_get records n ≡ Some r → says r ≡ Some y → Last says records put default → n ≤ last_seq (λ entry. is_some (says entry)) records put
-  spoken says put default n r y is speaks (unsaid none v s) = absurd (let silent = none n r is in let loud = speaks in cc)
-  spoken says put default n r y is speaks (said z sp v s) = grind (arith, ltb-true, ltb-false)
+  spoken says put default n r y is speaks h3 = grind (arith, ltb-true, ltb-false)
 
   less_if : (n m : ℕ) → n ≤ m → n == m ≡ false → n < m
   less_if n m h e = grind (arith, eq-eqb)

@@ -101,9 +101,7 @@ module _ (rows : Rows) (keyed : AreKeyed rows) (sound : are_sound rows ≡ true)
       omega (arith, less, low, high, few_endpoints rows keyed sound)
     where
       below : (x : Endpoint) → In x (map endpoint_back rows.endpoints) → nat_lt x.put rows.records ≡ true
-      below x j =
-          let from = in_map endpoint_back rows.endpoints x j in
-          subst (λ (x : Endpoint). nat_lt x.put rows.records ≡ true) from.2 (lt-ltb from.0.put rows.records (endpoint_below rows keyed sound from.0 from.1).0)
+      below x j = grind (arith, in_map, endpoint_back, lt-ltb, endpoint_below)
 
   -- Events
 
@@ -168,13 +166,7 @@ module _ (rows : Rows) (keyed : AreKeyed rows) (sound : are_sound rows ≡ true)
   -- Each record
 
   follow : (n : ℕ) (r : Record) → Stands rows n r → may_follow (take n history) r ≡ true
-  follow n r (of_put e i same found is) =
-      subst (λ m. may_follow (take m history) r ≡ true) same (ap (may_follow (take e.put history)) is
-      ∙ and_both (not (has_endpoint (take e.put history) e.name)) _ (ap not (lacks_before e i)) (lt-ltb (length (endpoints (take e.put history))) 256 (few_before e i)))
-  follow n r (of_delivery d i same found is) = subst (λ m. may_follow (take m history) r ≡ true) same (ap (may_follow (take d.seq history)) is ∙ accept_follows d i)
-  follow n r (of_attempt t i same found is) = subst (λ m. may_follow (take m history) r ≡ true) same (ap (may_follow (take t.seq history)) is ∙ attempt_follows t i)
-  follow n r (of_flag e flag i low high found is) = ap (may_follow (take n history)) is ∙ has_before e n i low
-  follow n r (of_secrets e i low high found is) = ap (may_follow (take n history)) is ∙ has_before e n i low
+  follow n r h1 = grind (arith, and_both, lacks_before, lt-ltb, few_before, accept_follows, attempt_follows, has_before)
 
   within : (n : ℕ) (r : Record) → Stands rows n r → is_within_limits r ≡ true
   within n r (of_put e i same found is) =

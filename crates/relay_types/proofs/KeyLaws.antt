@@ -74,14 +74,7 @@ places_count put n (s ∷ rest) = and_both (n == n) _ (eq-eqb n n refl) (places_
 -- How many endpoints
 
 one_more : (before : List Record) (entry : Record) → length (endpoints before) ≤ 256 → may_follow before entry ≡ true → length (endpoints (before ++ entry ∷ [])) ≤ 256
-one_more before (Put name target max secrets) few follow =
-    let new : Endpoint = record { put = length before; name = name; target = target; max = max } in
-    let longer : endpoints (before ++ Put name target max secrets ∷ []) ≡ endpoints before ++ new ∷ [] = endpoints-snoc before (Put name target max secrets) in
-    omega (arith, ltb-true (length (endpoints before)) 256 (and_second (not (has_endpoint before name)) (nat_lt (length (endpoints before)) 256) follow), ap length longer, length-append (endpoints before) (new ∷ []))
-one_more before (Secrets name secrets) few follow = subst (λ es. length es ≤ 256) (sym (endpoints-snoc before (Secrets name secrets) ∙ append-nil (endpoints before))) few
-one_more before (Enabled name flag) few follow = subst (λ es. length es ≤ 256) (sym (endpoints-snoc before (Enabled name flag) ∙ append-nil (endpoints before))) few
-one_more before (Accept name id body at) few follow = subst (λ es. length es ≤ 256) (sym (endpoints-snoc before (Accept name id body at) ∙ append-nil (endpoints before))) few
-one_more before (Outcome delivery attempt status at) few follow = subst (λ es. length es ≤ 256) (sym (endpoints-snoc before (Outcome delivery attempt status at) ∙ append-nil (endpoints before))) few
+one_more before entry few follow = grind (arith, endpoints-snoc, ltb-true, and_second, length-append, append-nil)
 
 few_endpoints : (before later : List Record) → length (endpoints before) ≤ 256 → may_all_follow before later ≡ true → length (endpoints (before ++ later)) ≤ 256
 few_endpoints before [] few h = subst (λ rs. length (endpoints rs) ≤ 256) (sym (append-nil before)) few
@@ -106,8 +99,7 @@ known_if : (rs : List Record) (m : ℕ) (name id body : List ℕ) (at : ℕ) →
 known_if rs m name id body moment is = grind (arith, not_found, numbered_in, and_both, same_text)
 
 false_if : (b : Bool) → (b ≡ true → ⊥) → b ≡ false
-false_if true h = absurd (h refl)
-false_if false h = refl
+false_if b h = grind arith
 
 module _ (records : List Record) (legal : IsLegal records) where
   abbrev rows : Rows
@@ -123,9 +115,7 @@ module _ (records : List Record) (legal : IsLegal records) where
       put = put_stands records x i
 
       limits : (k : ℕ) (target : List ℕ) (max : ℕ) (given : List (List ℕ)) → slice_get records k ≡ Some (Put x.name target max given) → are_secrets given ≡ true
-      limits k target max given is =
-          and_second (is_max_limit max) (are_secrets given) (and_second (is_target target) (is_max_limit max && are_secrets given)
-          (and_second (is_name x.name) (is_target target && (is_max_limit max && are_secrets given)) (within records legal k (Put x.name target max given) is)))
+      limits k target max given is = grind (arith, and_second (is_max_limit max) (are_secrets given) (and_second (is_target target) (is_max_limit max && are_secrets given) (and_second (is_name x.name) (is_target target && (is_max_limit max && are_secrets given)) (within records legal k (Put x.name target max given) is))), and_second (is_target target) (is_max_limit max && are_secrets given) (and_second (is_name x.name) (is_target target && (is_max_limit max && are_secrets given)) (within records legal k (Put x.name target max given) is)), and_second (is_name x.name) (is_target target && (is_max_limit max && are_secrets given)) (within records legal k (Put x.name target max given) is), within records legal k (Put x.name target max given) is)
 
       speaks : (k : ℕ) (r : Record) (given : List (List ℕ)) → slice_get records k ≡ Some r → ((target : List ℕ) × (max : ℕ) × (r ≡ Put x.name target max given)) ⊎ (r ≡ Secrets x.name given) → are_secrets given ≡ true
       speaks k r given is (inl (target, max, same)) = limits k target max given (is ∙ ap Some same)
@@ -179,9 +169,7 @@ module _ (records : List Record) (legal : IsLegal records) where
   ids_apart d i g j = grind (arith, false_if, eqb-true, and_first, and_second, text_same, no_later, eq-eqb)
 
   number_is : (t : AttemptRow) → In t rows.attempts → t.number ≡ length (attempts_before rows t) + 1
-  number_is t i =
-      eqb-true t.number (length (attempts_before rows t) + 1)
-      (and_first (t.number == length (attempts_before rows t) + 1) _ (and_second (nat_lt t.delivery t.seq) _ (in_all (is_attempt_row rows) rows.attempts t (attempt_rows records legal) i)))
+  number_is t i = grind (arith, eqb-true, and_first, and_second, in_all, attempt_rows)
 
   -- a later attempt of a delivery has a greater number
   later_number : (t s : AttemptRow) → In t rows.attempts → In s rows.attempts → s.delivery ≡ t.delivery → s.seq < t.seq → s.number < t.number
@@ -207,14 +195,7 @@ module _ (records : List Record) (legal : IsLegal records) where
       before = ltb-true t.delivery t.seq (and_first (nat_lt t.delivery t.seq) _ (in_all (is_attempt_row rows) rows.attempts t (attempt_rows records legal) i))
 
       by : (o : Option Record) → slice_get (take t.seq records) t.delivery ≡ o → is_some (option_and_then accepted_by o) ≡ true → is_delivery_at rows t.delivery ≡ true
-      by (Some (Accept name id body at)) e h =
-          any_in (λ (d : DeliveryRow). d.seq == t.delivery) rows.deliveries (record { seq = t.delivery; endpoint = put_of records name; id = id; at = at; body = body })
-          (delivery_in records t.delivery name id body at (sym (front_place t.seq t.delivery records before) ∙ e)) (eq-eqb t.delivery t.delivery refl)
-      by (Some (Put name target max secrets)) e h = absurd (let no = h in cc)
-      by (Some (Secrets name secrets)) e h = absurd (let no = h in cc)
-      by (Some (Enabled name flag)) e h = absurd (let no = h in cc)
-      by (Some (Outcome delivery attempt status at)) e h = absurd (let no = h in cc)
-      by None e h = absurd (let no = h in cc)
+      by o e h = grind (arith, front_place t.seq t.delivery records before, eq-eqb t.delivery t.delivery refl, any_in, delivery_in)
 
   keyed : AreKeyed rows
   keyed = record {

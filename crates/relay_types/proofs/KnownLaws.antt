@@ -13,24 +13,19 @@ use Rattle.relay_types.specs.Legal.{may_follow, may_all_follow, is_within_limits
 use Rattle.relay_types.proofs.GrowthLaws.{endpoints-snoc, accepted-before, AllPointBelow}
 
 pub and_first : (a b : Bool) → a && b ≡ true → a ≡ true
-and_first true b h = refl
-and_first false b h = h
+and_first a b h = grind arith
 
 pub and_second : (a b : Bool) → a && b ≡ true → b ≡ true
-and_second true b h = h
-and_second false b h = absurd (let e = h in cc)
+and_second a b h = grind arith
 
 pub and_both : (a b : Bool) → a ≡ true → b ≡ true → a && b ≡ true
-and_both true b h i = i
-and_both false b h i = h
+and_both a b h i = grind arith
 
 and_assoc : (a b c : Bool) → a && (b && c) ≡ (a && b) && c
-and_assoc true b c = refl
-and_assoc false b c = refl
+and_assoc a b c = grind arith
 
 and_true : (a : Bool) → a && true ≡ a
-and_true true = refl
-and_true false = refl
+and_true a = grind arith
 
 -- the record speaks of what the records have
 abbrev pub IsKnown : List Record → Record → Type 0
@@ -45,15 +40,11 @@ AllKnown records [] = Unit {0}
 AllKnown records (entry ∷ rest) = IsKnown records entry × AllKnown records rest
 
 some_or : {X : Type 0} (o p : Option X) → is_some o ≡ true → option_or o p ≡ o
-some_or (Some x) p h = refl
-some_or None p h = absurd (let e = h in cc)
+some_or o p h = grind arith
 
 -- an endpoint stays as it is
 pub endpoint_of-more : (records : List Record) (entry : Record) (name : List ℕ) → IsTrue (has_endpoint records name) → endpoint_of (records ++ entry ∷ []) name ≡ endpoint_of records name
-endpoint_of-more records entry name h =
-    ap (find (λ (e : Endpoint). bytes_eq e.name name)) (endpoints-snoc records entry)
-    ∙ find-append (λ (e : Endpoint). bytes_eq e.name name) (endpoints records) (cons_option (endpoint_by (length records, entry)) [])
-    ∙ some_or (endpoint_of records name) (find (λ (e : Endpoint). bytes_eq e.name name) (cons_option (endpoint_by (length records, entry)) [])) h
+endpoint_of-more records entry name h = grind (arith, endpoints-snoc, find-append, some_or)
 
 has_endpoint-more : (records : List Record) (entry : Record) (name : List ℕ) → IsTrue (has_endpoint records name) → IsTrue (has_endpoint (records ++ entry ∷ []) name)
 has_endpoint-more records entry name h = ap is_some (endpoint_of-more records entry name h) ∙ h
@@ -64,11 +55,7 @@ below_if_accepted (r ∷ rest) zero h = omega arith
 below_if_accepted (r ∷ rest) (suc d) h = omega (arith, below_if_accepted rest d h)
 
 known-more : (records : List Record) (new entry : Record) → IsKnown records entry → IsKnown (records ++ new ∷ []) entry
-known-more records new (Put name target max secrets) h = tt
-known-more records new (Secrets name secrets) h = has_endpoint-more records new name h
-known-more records new (Enabled name flag) h = has_endpoint-more records new name h
-known-more records new (Accept name id body at) h = has_endpoint-more records new name h
-known-more records new (Outcome delivery attempt status at) h = ap is_some (accepted-before records (new ∷ []) delivery (below_if_accepted records delivery h)) ∙ h
+known-more records new entry h = grind (arith, has_endpoint-more, accepted-before, below_if_accepted)
 
 all_known-more : (records : List Record) (new : Record) (some : List Record) → AllKnown records some → AllKnown (records ++ new ∷ []) some
 all_known-more records new [] h = tt
@@ -79,11 +66,7 @@ all_known-append records [] more h i = i
 all_known-append records (entry ∷ rest) more h i = (h.0, all_known-append records rest more h.1 i)
 
 known_if : (before : List Record) (entry : Record) → may_follow before entry ≡ true → IsKnown before entry
-known_if before (Put name target max secrets) h = tt
-known_if before (Secrets name secrets) h = h
-known_if before (Enabled name flag) h = h
-known_if before (Accept name id body at) h = and_first (has_endpoint before name) _ h
-known_if before (Outcome delivery attempt status at) h = and_first (is_some (accepted before delivery)) _ (and_first (is_pending before delivery) _ h)
+known_if before entry h = grind (arith, and_first)
 
 all_known : (before later : List Record) → AllKnown before before → may_all_follow before later ≡ true → AllKnown (before ++ later) (before ++ later)
 all_known before [] known h = subst (λ r. AllKnown r r) (sym (append-nil before)) known
@@ -120,9 +103,7 @@ follows_if_legal records entry h =
     and_second (may_all_follow [] records) (may_follow records entry) (sym (may_all-snoc [] records entry) ∙ and_first (may_all_follow [] (records ++ entry ∷ [])) _ h)
 
 pub room_if_legal : (records : List Record) (entry : Record) → IsLegal (records ++ entry ∷ []) → length records < 2 ^ 62
-room_if_legal records entry h =
-    let short = and_second (list_all is_within_limits (records ++ entry ∷ [])) (nat_le (length (records ++ entry ∷ [])) (2 ^ 62)) (and_second (may_all_follow [] (records ++ entry ∷ [])) _ h) in
-    omega (arith, leb-true (length (records ++ entry ∷ [])) (2 ^ 62) short, length-append records (entry ∷ []))
+room_if_legal records entry h = grind (arith, and_second, leb-true, length-append)
 
 -- a front of a legal history is legal
 

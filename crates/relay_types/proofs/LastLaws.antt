@@ -9,9 +9,7 @@ use Rattle.relay_types.specs.Rows.{last_seq}
 use Rattle.relay_types.proofs.TableLaws.{some_same}
 
 pub last_behind : {X : Type 0} (o : Option X) (xs : List X) (x : X) → last_of xs ≡ Some x → last_of (cons_option o xs) ≡ Some x
-last_behind None xs x h = h
-last_behind (Some y) [] x h = absurd (let no = h in cc)
-last_behind (Some y) (z ∷ xs) x h = h
+last_behind o xs x h = grind arith
 
 module _ {X Y : Type 0} (says : X → Option Y) where
   -- nothing behind this place says something

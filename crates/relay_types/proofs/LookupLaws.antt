@@ -40,13 +40,7 @@ found_by_number n name (e ∷ es) found rises is = at (λ later. found_by_number
   where
     at : (finds name es ≡ Some found → (find (λ (x : Endpoint). x.put == found.put) es ≡ Some found) × (found.name ≡ name)) → (b : Bool) → bytes_eq e.name name ≡ b
         → (if b then Some e else finds name es) ≡ Some found → (find (λ (x : Endpoint). x.put == found.put) (e ∷ es) ≡ Some found) × (found.name ≡ name)
-    at more true same h =
-        subst (λ (t : Endpoint). (find (λ (x : Endpoint). x.put == t.put) (e ∷ es) ≡ Some t) × (t.name ≡ name)) (some_is h)
-        (ap (λ b. if b then Some e else find (λ (x : Endpoint). x.put == e.put) es) (eq-eqb e.put e.put refl), (bytes_eq-Decides e.name name).0 same)
-    at more false other h =
-        let rest = more h in
-        let above = finds_above (e.put + 1) name es found rises.1 h in
-        (ap (λ b. if b then Some e else find (λ (x : Endpoint). x.put == found.put) es) (ne_eqb e.put found.put (λ same. omega (arith, same, above))) ∙ rest.0, rest.1)
+    at more b same h = grind (arith, some_is, eq-eqb, bytes_eq-Decides, finds_above, ne_eqb)
 
 -- what is asked of the row of an endpoint, or else said of a name that there is no endpoint of
 pub asked : {X : Type 0} (records : List Record) (ask : Endpoint → X) (none : X) (answer : List ℕ → X) (name : List ℕ)
@@ -100,26 +94,12 @@ accepted-told records d = go 0 d d records (omega arith)
   where
     none_before : (n d : ℕ) (some : List Record) → d + 1 ≤ n → event_at d (filter_map event_by (enumerate_from n some)) ≡ None
     none_before n d [] h = refl
-    none_before n d (r ∷ rest) h = at (accepted_by r) (none_before (n + 1) d rest (omega (arith, h)))
-      where
-        at : (o : Option Accepted) → event_at d (filter_map event_by (enumerate_from (n + 1) rest)) ≡ None
-            → event_at d (cons_option (option_map (λ a. (n, a)) o) (filter_map event_by (enumerate_from (n + 1) rest))) ≡ None
-        at None later = later
-        at (Some a) later = ap (λ b. option_map (λ (e : ℕ × Accepted). e.1) (cond b (Some (n, a)) (find (λ (e : ℕ × Accepted). e.0 == d) (filter_map event_by (enumerate_from (n + 1) rest))))) (ne_eqb n d (λ same. omega (arith, same, h))) ∙ later
+    none_before n d (r ∷ rest) h = grind (arith, none_before (n + 1) d rest)
 
     go : (n k d : ℕ) (some : List Record) → d ≡ n + k → option_and_then accepted_by (slice_get some k) ≡ event_at d (filter_map event_by (enumerate_from n some))
     go n k d [] h = refl
-    go n zero d (r ∷ rest) h = at (accepted_by r)
-      where
-        at : (o : Option Accepted) → o ≡ event_at d (cons_option (option_map (λ a. (n, a)) o) (filter_map event_by (enumerate_from (n + 1) rest)))
-        at None = sym (none_before (n + 1) d rest (omega (arith, h)))
-        at (Some a) = sym (ap (λ b. option_map (λ (e : ℕ × Accepted). e.1) (cond b (Some (n, a)) (find (λ (e : ℕ × Accepted). e.0 == d) (filter_map event_by (enumerate_from (n + 1) rest))))) (eq-eqb n d (omega (arith, h))))
-    go n (suc k) d (r ∷ rest) h = at (accepted_by r) (go (n + 1) k d rest (omega (arith, h)))
-      where
-        at : (o : Option Accepted) → option_and_then accepted_by (slice_get rest k) ≡ event_at d (filter_map event_by (enumerate_from (n + 1) rest))
-            → option_and_then accepted_by (slice_get rest k) ≡ event_at d (cons_option (option_map (λ a. (n, a)) o) (filter_map event_by (enumerate_from (n + 1) rest)))
-        at None later = later
-        at (Some a) later = later ∙ sym (ap (λ b. option_map (λ (e : ℕ × Accepted). e.1) (cond b (Some (n, a)) (find (λ (e : ℕ × Accepted). e.0 == d) (filter_map event_by (enumerate_from (n + 1) rest))))) (ne_eqb n d (λ same. omega (arith, same, h))))
+    go n zero d (r ∷ rest) h = grind (arith, none_before (n + 1) d rest)
+    go n (suc k) d (r ∷ rest) h = grind (arith, go (n + 1) k d rest)
 
 -- the numbers of the Accepts of which a test says something
 pub seqs-told : (test : Accepted → Bool) (records : List Record)
@@ -129,30 +109,14 @@ seqs-told test records = go 0 records
     go : (n : ℕ) (some : List Record) → map (λ (e : ℕ × Record). e.0) (filter (λ (e : ℕ × Record). option_map_or test (accepted_by e.1) false) (enumerate_from n some))
         ≡ map (λ (e : ℕ × Accepted). e.0) (filter (λ (e : ℕ × Accepted). test e.1) (filter_map event_by (enumerate_from n some)))
     go n [] = refl
-    go n (r ∷ rest) = at (accepted_by r) (go (n + 1) rest)
-      where
-        at : (o : Option Accepted) → map (λ (e : ℕ × Record). e.0) (filter (λ (e : ℕ × Record). option_map_or test (accepted_by e.1) false) (enumerate_from (n + 1) rest))
-            ≡ map (λ (e : ℕ × Accepted). e.0) (filter (λ (e : ℕ × Accepted). test e.1) (filter_map event_by (enumerate_from (n + 1) rest)))
-            → map (λ (e : ℕ × Record). e.0) (cond (option_map_or test o false) ((n, r) ∷ filter (λ (e : ℕ × Record). option_map_or test (accepted_by e.1) false) (enumerate_from (n + 1) rest)) (filter (λ (e : ℕ × Record). option_map_or test (accepted_by e.1) false) (enumerate_from (n + 1) rest)))
-            ≡ map (λ (e : ℕ × Accepted). e.0) (filter (λ (e : ℕ × Accepted). test e.1) (cons_option (option_map (λ a. (n, a)) o) (filter_map event_by (enumerate_from (n + 1) rest))))
-        at None later = later
-        at (Some a) later = both (test a)
-          where
-            both : (b : Bool) → map (λ (e : ℕ × Record). e.0) (cond b ((n, r) ∷ filter (λ (e : ℕ × Record). option_map_or test (accepted_by e.1) false) (enumerate_from (n + 1) rest)) (filter (λ (e : ℕ × Record). option_map_or test (accepted_by e.1) false) (enumerate_from (n + 1) rest)))
-                ≡ map (λ (e : ℕ × Accepted). e.0) (cond b ((n, a) ∷ filter (λ (e : ℕ × Accepted). test e.1) (filter_map event_by (enumerate_from (n + 1) rest))) (filter (λ (e : ℕ × Accepted). test e.1) (filter_map event_by (enumerate_from (n + 1) rest))))
-            both true = ap (λ ns. n ∷ ns) later
-            both false = later
+    go n (r ∷ rest) = grind (arith, go (n + 1) rest)
 
 pub deliveries-told : (records : List Record) → deliveries records ≡ map (λ (e : ℕ × Accepted). e.0) (events records)
 deliveries-told records = go 0 records
   where
     go : (n : ℕ) (some : List Record) → map (λ (e : ℕ × Record). e.0) (filter (λ (e : ℕ × Record). is_accept e.1) (enumerate_from n some)) ≡ map (λ (e : ℕ × Accepted). e.0) (filter_map event_by (enumerate_from n some))
     go n [] = refl
-    go n (Accept name id body at ∷ rest) = ap (λ ns. n ∷ ns) (go (n + 1) rest)
-    go n (Put name target max secrets ∷ rest) = go (n + 1) rest
-    go n (Secrets name secrets ∷ rest) = go (n + 1) rest
-    go n (Enabled name flag ∷ rest) = go (n + 1) rest
-    go n (Outcome delivery attempt status at ∷ rest) = go (n + 1) rest
+    go n (r ∷ rest) = grind (arith, go (n + 1) rest)
 
 pub known-told : (records : List Record) (name id : List ℕ)
     → known_as records name id ≡ option_map (λ (e : ℕ × Accepted). e.0) (find (λ (e : ℕ × Accepted). bytes_eq e.1.endpoint name && bytes_eq e.1.id id) (events records))
@@ -160,17 +124,7 @@ known-told records name id = go 0 records
   where
     go : (n : ℕ) (some : List Record) → option_map (λ (e : ℕ × Record). e.0) (find (λ (e : ℕ × Record). is_accept_as name id e.1) (enumerate_from n some)) ≡ option_map (λ (e : ℕ × Accepted). e.0) (find (λ (e : ℕ × Accepted). bytes_eq e.1.endpoint name && bytes_eq e.1.id id) (filter_map event_by (enumerate_from n some)))
     go n [] = refl
-    go n (Accept other at_id body at ∷ rest) = both (bytes_eq other name && bytes_eq at_id id) (go (n + 1) rest)
-      where
-        both : (b : Bool) → option_map (λ (e : ℕ × Record). e.0) (find (λ (e : ℕ × Record). is_accept_as name id e.1) (enumerate_from (n + 1) rest)) ≡ option_map (λ (e : ℕ × Accepted). e.0) (find (λ (e : ℕ × Accepted). bytes_eq e.1.endpoint name && bytes_eq e.1.id id) (filter_map event_by (enumerate_from (n + 1) rest)))
-            → option_map (λ (e : ℕ × Record). e.0) (cond b (Some (n, Accept other at_id body at)) (find (λ (e : ℕ × Record). is_accept_as name id e.1) (enumerate_from (n + 1) rest)))
-            ≡ option_map (λ (e : ℕ × Accepted). e.0) (cond b (Some (n, record { endpoint = other; id = at_id; body = body; at = at })) (find (λ (e : ℕ × Accepted). bytes_eq e.1.endpoint name && bytes_eq e.1.id id) (filter_map event_by (enumerate_from (n + 1) rest))))
-        both true later = refl
-        both false later = later
-    go n (Put other target max secrets ∷ rest) = go (n + 1) rest
-    go n (Secrets other secrets ∷ rest) = go (n + 1) rest
-    go n (Enabled other flag ∷ rest) = go (n + 1) rest
-    go n (Outcome delivery attempt status at ∷ rest) = go (n + 1) rest
+    go n (r ∷ rest) = grind (arith, go (n + 1) rest)
 
 -- Attempts
 
@@ -182,14 +136,4 @@ attempts-told records d = go 0 records
   where
     go : (n : ℕ) (some : List Record) → filter_map (attempt_by d) some ≡ map attempt_back (filter (λ (t : AttemptRow). t.delivery == d) (filter_map attempt_row (enumerate_from n some)))
     go n [] = refl
-    go n (Outcome delivery attempt status at ∷ rest) = both (delivery == d) (go (n + 1) rest)
-      where
-        both : (b : Bool) → filter_map (attempt_by d) rest ≡ map attempt_back (filter (λ (t : AttemptRow). t.delivery == d) (filter_map attempt_row (enumerate_from (n + 1) rest)))
-            → cons_option (if b then Some (record { number = attempt; status = status; at = at }) else None) (filter_map (attempt_by d) rest)
-            ≡ map attempt_back (cond b (record { seq = n; delivery = delivery; number = attempt; status = status; at = at } ∷ filter (λ (t : AttemptRow). t.delivery == d) (filter_map attempt_row (enumerate_from (n + 1) rest))) (filter (λ (t : AttemptRow). t.delivery == d) (filter_map attempt_row (enumerate_from (n + 1) rest))))
-        both true later = ap (λ more. record { number = attempt; status = status; at = at } ∷ more) later
-        both false later = later
-    go n (Put name target max secrets ∷ rest) = go (n + 1) rest
-    go n (Secrets name secrets ∷ rest) = go (n + 1) rest
-    go n (Enabled name flag ∷ rest) = go (n + 1) rest
-    go n (Accept name id body at ∷ rest) = go (n + 1) rest
+    go n (r ∷ rest) = grind (arith, go (n + 1) rest)

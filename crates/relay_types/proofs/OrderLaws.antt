@@ -49,12 +49,10 @@ pub flip_false : (a b : List ℕ) → bytes_eq a b ≡ false → bytes_eq b a �
 flip_false a b h = grind (arith, bytes_eq-Decides)
 
 pub not_first : {X : Type 0} (b : Bool) (x : X) (o : Option X) → is_some (if b then Some x else o) ≡ false → (b ≡ false) × (is_some o ≡ false)
-not_first true x o h = absurd (let e = h in cc)
-not_first false x o h = (refl, h)
+not_first b x o h = grind arith
 
 pub or_none : {X : Type 0} (o p : Option X) → is_some o ≡ false → is_some p ≡ false → is_some (option_or o p) ≡ false
-or_none (Some x) p h k = absurd (let e = h in cc)
-or_none None p h k = k
+or_none o p h k = grind arith
 
 names_once-more : (es : List Endpoint) (new : Endpoint) → HasNamesOnce es → is_some (finds new.name es) ≡ false → HasNamesOnce (es ++ new ∷ [])
 names_once-more [] new once lacks = (refl, tt)

@@ -1,5 +1,5 @@
 -- The record at each number of the history that stands for sound rows.
-use Rattle.std.proofs.Common.{◌≡◌, ◌≤◌, ◌<◌, ◌⊎◌, inl, inr, ℕ, zero, suc, ◌+◌, ◌==◌, Bool, true, false, ◌||◌, nat_lt, List, Option, Some, None, length, refl, sym, subst, ◌∙◌, arith}
+use Rattle.std.proofs.Common.{◌&&◌, ◌≡◌, ◌≤◌, ◌<◌, ◌⊎◌, inl, inr, ℕ, zero, suc, ◌+◌, ◌==◌, Bool, true, false, ◌||◌, nat_lt, List, Option, Some, None, length, refl, sym, subst, ◌∙◌, arith}
 use Rattle.std.specs.Prelude.{is_some, find, slice_get, option_map, if◌then◌else◌}
 use Rattle.std.specs.List.{list_any, range_with_len}
 use Rattle.std.specs.Option.{option_or}
@@ -23,11 +23,7 @@ in_range n zero m low high = absurd (omega (arith, low, high))
 in_range n (suc k) m low high = at (λ l. in_range (n + 1) k m l (omega (arith, high))) (n == m) refl
   where
     at : (n + 1 ≤ m → In m (range_with_len (n + 1) k)) → (b : Bool) → n == m ≡ b → In m (range_with_len n (suc k))
-    at more true is = inl (eqb-true n m is)
-    at more false is = inr (more (omega (arith, low, differs)))
-      where
-        differs : n ≡ m → ⊥
-        differs same = let yes = eq-eqb n m same in let no = is in cc
+    at more b is = grind (arith, eqb-true, eq-eqb)
 
 -- What the rows have at a number
 
@@ -82,12 +78,13 @@ pub data Stands (rows : Rows) (n : ℕ) (r : Record) : Type 0 where
   of_flag : (e : EndpointRow) (flag : Bool) → In e rows.endpoints → e.put < n → n ≤ e.enabled_by → Found rows n None None None → r ≡ Enabled e.name flag → Stands rows n r
   of_secrets : (e : EndpointRow) → In e rows.endpoints → e.put < n → n ≤ e.secrets_by → Found rows n None None None → r ≡ secrets_entry rows e → Stands rows n r
 
+overtaken_between : (put flag list n : ℕ) → nat_lt put n && (nat_lt n flag || nat_lt n list) ≡ true → (put < n) × (nat_lt n list ≡ false → n ≤ flag)
+overtaken_between put flag list n h = grind arith
+
 module _ (rows : Rows) where
   -- where no row has the number
   free : (n : ℕ) → Found rows n None None None → is_taken rows n ≡ false
-  free n found =
-      or_from (is_put_at rows n) _ (unfound (put_is n) rows.endpoints found.0)
-      (or_from (is_delivery_at rows n) (is_attempt_at rows n) (unfound (delivery_is n) rows.deliveries found.1) (unfound (attempt_is n) rows.attempts found.2))
+  free n found = grind (arith, or_from, unfound)
 
   untaken : (n : ℕ) → is_taken rows n ≡ false → Found rows n None None None
   untaken n h =
@@ -97,8 +94,7 @@ module _ (rows : Rows) where
 
   -- where no endpoint names the number
   unnamed : (n : ℕ) → flag_found rows n ≡ None → list_found rows n ≡ None → list_any (λ (e : EndpointRow). e.enabled_by == n || e.secrets_by == n) rows.endpoints ≡ false
-  unnamed n flag list = none_if (λ (e : EndpointRow). e.enabled_by == n || e.secrets_by == n) rows.endpoints
-      (λ e i. or_from (e.enabled_by == n) (e.secrets_by == n) (not_found (flag_is n) rows.endpoints e flag i) (not_found (list_is n) rows.endpoints e list i))
+  unnamed n flag list = grind (arith, none_if, or_from, not_found)
 
   -- where a row names the record, or it may have been overtaken, there is one
   there_is : (n : ℕ) → is_named rows n || list_any (is_overtaken_at n) rows.endpoints ≡ true → is_some (entry_at rows n) ≡ true
@@ -122,88 +118,50 @@ module _ (rows : Rows) where
 
     pub put_at : (e : EndpointRow) → In e rows.endpoints → slice_get history e.put ≡ Some (put_entry rows e)
     put_at e i =
+        let is = found_at (λ (e : EndpointRow). e.put) 0 e.put rows.endpoints e keyed.puts_rise i refl in
         place e.put (endpoint_below rows keyed sound e i).0
         ∙ λ j. entry_of rows e.put (is j) (delivery_found rows e.put) (attempt_found rows e.put) (flag_found rows e.put) (list_found rows e.put) (overtaken_found rows e.put)
-      where
-        is : put_found rows e.put ≡ Some e
-        is = found_at (λ (e : EndpointRow). e.put) 0 e.put rows.endpoints e keyed.puts_rise i refl
 
     -- where there is a delivery or an attempt there is no Put
     no_put : (n : ℕ) → is_delivery_at rows n || is_attempt_at rows n ≡ true → put_found rows n ≡ None
-    no_put n h = at (put_found rows n) refl
-      where
-        at : (o : Option EndpointRow) → put_found rows n ≡ o → o ≡ None
-        at None is = refl
-        at (Some e) is = absurd (
-            let found = found_in (put_is n) rows.endpoints e is in
-            let alone = put_alone rows keyed sound e found.0 in
-            let neither = or_from (is_delivery_at rows e.put) (is_attempt_at rows e.put) alone.0 alone.1 in
-            let no : is_delivery_at rows n || is_attempt_at rows n ≡ false = subst (λ m. is_delivery_at rows m || is_attempt_at rows m ≡ false) (eqb-true e.put n found.1) neither in
-            let yes = h in cc)
+    no_put n h = none_found (put_is n) rows.endpoints (λ e i. grind (arith, put_alone rows keyed sound e i))
 
     no_delivery : (n : ℕ) → is_attempt_at rows n ≡ true → delivery_found rows n ≡ None
-    no_delivery n h = at (delivery_found rows n) refl
-      where
-        at : (o : Option DeliveryRow) → delivery_found rows n ≡ o → o ≡ None
-        at None is = refl
-        at (Some d) is = absurd (
-            let found = found_in (delivery_is n) rows.deliveries d is in
-            let no = subst (λ m. is_attempt_at rows m ≡ false) (eqb-true d.seq n found.1) (delivery_alone rows keyed sound d found.0) in
-            let yes = h in cc)
+    no_delivery n h = none_found (delivery_is n) rows.deliveries (λ d i. grind (arith, delivery_alone rows keyed sound d i))
 
     pub delivery_at : (d : DeliveryRow) → In d rows.deliveries → slice_get history d.seq ≡ Some (accept_entry rows d)
     delivery_at d i =
+        let none = no_put d.seq (or_left (is_delivery_at rows d.seq) (is_attempt_at rows d.seq) (any_in (delivery_is d.seq) rows.deliveries d i (eq-eqb d.seq d.seq refl))) in
+        let is = found_at (λ (d : DeliveryRow). d.seq) 0 d.seq rows.deliveries d keyed.deliveries_rise i refl in
         place d.seq (delivery_below rows keyed sound d i)
         ∙ λ j. entry_of rows d.seq (none j) (is j) (attempt_found rows d.seq) (flag_found rows d.seq) (list_found rows d.seq) (overtaken_found rows d.seq)
-      where
-        none : put_found rows d.seq ≡ None
-        none = no_put d.seq (or_left (is_delivery_at rows d.seq) (is_attempt_at rows d.seq) (any_in (delivery_is d.seq) rows.deliveries d i (eq-eqb d.seq d.seq refl)))
-
-        is : delivery_found rows d.seq ≡ Some d
-        is = found_at (λ (d : DeliveryRow). d.seq) 0 d.seq rows.deliveries d keyed.deliveries_rise i refl
 
     pub attempt_at : (t : AttemptRow) → In t rows.attempts → slice_get history t.seq ≡ Some (outcome_entry t)
     attempt_at t i =
+        let there = any_in (attempt_is t.seq) rows.attempts t i (eq-eqb t.seq t.seq refl) in
+        let none = no_put t.seq (or_right (is_delivery_at rows t.seq) (is_attempt_at rows t.seq) there) in
+        let is = found_at (λ (t : AttemptRow). t.seq) 0 t.seq rows.attempts t keyed.attempts_rise i refl in
         place t.seq (attempt_below rows keyed sound t i)
         ∙ λ j. entry_of rows t.seq (none j) (no_delivery t.seq there j) (is j) (flag_found rows t.seq) (list_found rows t.seq) (overtaken_found rows t.seq)
-      where
-        there : is_attempt_at rows t.seq ≡ true
-        there = any_in (attempt_is t.seq) rows.attempts t i (eq-eqb t.seq t.seq refl)
-
-        none : put_found rows t.seq ≡ None
-        none = no_put t.seq (or_right (is_delivery_at rows t.seq) (is_attempt_at rows t.seq) there)
-
-        is : attempt_found rows t.seq ≡ Some t
-        is = found_at (λ (t : AttemptRow). t.seq) 0 t.seq rows.attempts t keyed.attempts_rise i refl
 
     -- the last commands to an endpoint
 
     pub flag_at : (e : EndpointRow) → In e rows.endpoints → is_taken rows e.enabled_by ≡ false → ((f : EndpointRow) → In f rows.endpoints → f.enabled_by ≡ e.enabled_by → f ≡ e)
         → slice_get history e.enabled_by ≡ Some (Enabled e.name e.enabled)
     flag_at e i apart only =
+        let none = untaken e.enabled_by apart in
+        let is = only_found (flag_is e.enabled_by) rows.endpoints e i (eq-eqb e.enabled_by e.enabled_by refl) (λ f j h. only f j (eqb-true f.enabled_by e.enabled_by h)) in
         place e.enabled_by (endpoint_below rows keyed sound e i).1
         ∙ λ j. entry_of rows e.enabled_by (none.0 j) (none.1 j) (none.2 j) (is j) (list_found rows e.enabled_by) (overtaken_found rows e.enabled_by)
-      where
-        none : Found rows e.enabled_by None None None
-        none = untaken e.enabled_by apart
-
-        is : flag_found rows e.enabled_by ≡ Some e
-        is = only_found (flag_is e.enabled_by) rows.endpoints e i (eq-eqb e.enabled_by e.enabled_by refl) (λ f j h. only f j (eqb-true f.enabled_by e.enabled_by h))
 
     pub list_at : (e : EndpointRow) → In e rows.endpoints → is_taken rows e.secrets_by ≡ false → ((f : EndpointRow) → In f rows.endpoints → f.secrets_by ≡ e.secrets_by → f ≡ e)
         → ((f : EndpointRow) → In f rows.endpoints → f.enabled_by ≡ e.secrets_by → ⊥) → slice_get history e.secrets_by ≡ Some (secrets_entry rows e)
     list_at e i apart only quiet =
+        let none = untaken e.secrets_by apart in
+        let no_flag = none_found (flag_is e.secrets_by) rows.endpoints (λ f j. ne_eqb f.enabled_by e.secrets_by (quiet f j)) in
+        let is = only_found (list_is e.secrets_by) rows.endpoints e i (eq-eqb e.secrets_by e.secrets_by refl) (λ f j h. only f j (eqb-true f.secrets_by e.secrets_by h)) in
         place e.secrets_by (endpoint_below rows keyed sound e i).2
         ∙ λ j. entry_of rows e.secrets_by (none.0 j) (none.1 j) (none.2 j) (no_flag j) (is j) (overtaken_found rows e.secrets_by)
-      where
-        none : Found rows e.secrets_by None None None
-        none = untaken e.secrets_by apart
-
-        no_flag : flag_found rows e.secrets_by ≡ None
-        no_flag = none_found (flag_is e.secrets_by) rows.endpoints (λ f j. ne_eqb f.enabled_by e.secrets_by (quiet f j))
-
-        is : list_found rows e.secrets_by ≡ Some e
-        is = only_found (list_is e.secrets_by) rows.endpoints e i (eq-eqb e.secrets_by e.secrets_by refl) (λ f j h. only f j (eqb-true f.secrets_by e.secrets_by h))
 
     -- What a record is of
 
@@ -224,18 +182,12 @@ module _ (rows : Rows) where
     overtaken : (n : ℕ) (r : Record) (e : EndpointRow) → In e rows.endpoints → is_overtaken_at n e ≡ true → Found rows n None None None → overtaken_entry rows n e ≡ r → Stands rows n r
     overtaken n r e i h found same = at (nat_lt n e.secrets_by) refl same
       where
-        behind : e.put < n
-        behind = ltb-true e.put n (and_first (nat_lt e.put n) _ h)
-
-        upto : (nat_lt n e.enabled_by ≡ true) ⊎ (nat_lt n e.secrets_by ≡ true) → nat_lt n e.secrets_by ≡ false → n ≤ e.enabled_by
-        upto (inl flag) given = omega (arith, ltb-true n e.enabled_by flag)
-        upto (inr list) given = absurd (let yes = list in let not_so = given in cc)
+        parts : (e.put < n) × (nat_lt n e.secrets_by ≡ false → n ≤ e.enabled_by)
+        parts = overtaken_between e.put e.enabled_by e.secrets_by n h
 
         at : (b : Bool) → nat_lt n e.secrets_by ≡ b → (if b then secrets_entry rows e else Enabled e.name true) ≡ r → Stands rows n r
-        at true is same = of_secrets e i behind (omega (arith, ltb-true n e.secrets_by is)) found (sym same)
-        at false is same =
-            let either = or_cases (nat_lt n e.enabled_by) (nat_lt n e.secrets_by) (and_second (nat_lt e.put n) (nat_lt n e.enabled_by || nat_lt n e.secrets_by) h) in
-            of_flag e true i behind (upto either is) found (sym same)
+        at true is same = of_secrets e i parts.0 (omega (arith, ltb-true n e.secrets_by is)) found (sym same)
+        at false is same = of_flag e true i parts.0 (parts.1 is) found (sym same)
 
     pub stands : (n : ℕ) (r : Record) → slice_get history n ≡ Some r → Stands rows n r
     stands n r there =

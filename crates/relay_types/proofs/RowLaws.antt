@@ -46,16 +46,10 @@ not_delivered records name d known lacks = at (accepted records d) refl
     at (Some a) e = differs records a.endpoint name (accepted_known records records d a known e) lacks
 
 and_false : (a : Bool) → a && false ≡ false
-and_false true = refl
-and_false false = refl
+and_false a = grind arith
 
 none_enabled : (records : List Record) (name : List ℕ) (entry : Record) → AllKnown records records → has_endpoint records name ≡ false → IsKnown records entry → enabled_by records name entry ≡ None
-none_enabled records name (Enabled other flag) all lacks known = ap (λ b. if b then Some flag else None) (differs records other name known lacks)
-none_enabled records name (Outcome delivery attempt status at) all lacks known =
-    ap (λ b. if (is_gone_status status && b) then Some false else None) (not_delivered records name delivery all lacks) ∙ ap (λ b. if b then Some false else None) (and_false (is_gone_status status))
-none_enabled records name (Put other target max secrets) all lacks known = refl
-none_enabled records name (Secrets other secrets) all lacks known = refl
-none_enabled records name (Accept other id body at) all lacks known = refl
+none_enabled records name entry all lacks known = grind (arith, differs, not_delivered, and_false)
 
 no_enabled : (records : List Record) (name : List ℕ) (some : List Record) → AllKnown records records → has_endpoint records name ≡ false → AllKnown records some → filter_map (enabled_by records name) some ≡ []
 no_enabled records name [] all lacks known = refl
@@ -134,11 +128,7 @@ put_of-more : (records : List Record) (entry : Record) (name : List ℕ) → has
 put_of-more records entry name has = ap (λ o. option_map_or (λ (e : Endpoint). e.put) o 0) (endpoint_of-more records entry name has)
 
 row_before : (records : List Record) (new : Record) (n : ℕ) (entry : Record) → IsKnown records entry → delivery_row (records ++ new ∷ []) (n, entry) ≡ delivery_row records (n, entry)
-row_before records new n (Accept name id body at) known = ap (λ p. Some (record { seq = n; endpoint = p; id = id; at = at; body = body })) (put_of-more records new name known)
-row_before records new n (Put name target max secrets) known = refl
-row_before records new n (Secrets name secrets) known = refl
-row_before records new n (Enabled name flag) known = refl
-row_before records new n (Outcome delivery attempt status at) known = refl
+row_before records new n entry known = grind (arith, put_of-more)
 
 rows_before : (records : List Record) (new : Record) (n : ℕ) (some : List Record) → AllKnown records some → filter_map (delivery_row (records ++ new ∷ [])) (enumerate_from n some) ≡ filter_map (delivery_row records) (enumerate_from n some)
 rows_before records new n [] known = refl
@@ -146,10 +136,7 @@ rows_before records new n (entry ∷ rest) known = λ i. cons_option (row_before
 
 deliveries-snoc : (records : List Record) (entry : Record) → AllKnown records records
     → (rows_of (records ++ entry ∷ [])).deliveries ≡ (rows_of records).deliveries ++ cons_option (delivery_row (records ++ entry ∷ []) (length records, entry)) []
-deliveries-snoc records entry known =
-    ap (filter_map (delivery_row (records ++ entry ∷ []))) (numbered-snoc records entry)
-    ∙ filter_map-append (delivery_row (records ++ entry ∷ [])) (numbered records) ((length records, entry) ∷ [])
-    ∙ ap (λ rows. rows ++ cons_option (delivery_row (records ++ entry ∷ []) (length records, entry)) []) (rows_before records entry 0 records known)
+deliveries-snoc records entry known = grind (arith, numbered-snoc, filter_map-append, rows_before)
 
 pub find_map : {X Y : Type 0} (f : X → Y) (test : Y → Bool) (xs : List X) → find test (map f xs) ≡ option_map f (find (λ x. test (f x)) xs)
 find_map f test [] = refl
@@ -218,8 +205,7 @@ secrets_table-same records entry none given =
     ∙ ap (λ (all : List ℕ → List (List ℕ)). rows_for all (endpoints records)) (λ i other. (secrets_of-snoc records entry other ∙ ap (λ o. unwrap_or o (secrets_of records other)) (given other)) i)
 
 found_if : {X : Type 0} (o : Option X) → is_some o ≡ true → (x : X) × (o ≡ Some x)
-found_if (Some x) h = (x, refl)
-found_if None h = absurd (let e = h in cc)
+found_if o h = grind arith
 
 secrets_table-secrets : (records : List Record) (name : List ℕ) (secrets : List (List ℕ)) → IsLegal records → has_endpoint records name ≡ true
     → (rows_of (records ++ Secrets name secrets ∷ [])).secrets ≡ (put_record (rows_of records) (Secrets name secrets)).secrets
@@ -301,11 +287,7 @@ endpoints_table-outcome records d attempt status at legal is =
 -- The rows after one more record
 
 pub rows_of-more : (records : List Record) (entry : Record) → IsLegal records → may_follow records entry ≡ true → rows_of (records ++ entry ∷ []) ≡ put_record (rows_of records) entry
-rows_of-more records (Put name target max secrets) legal follows = grind (arith, legal_known, unnamed_if, records-snoc, endpoints_table-put, secrets_table-put, deliveries-snoc, append-nil, attempts_table-snoc)
-rows_of-more records (Secrets name secrets) legal follows = grind (arith, legal_known, records-snoc, endpoints_table-secrets, known_below, secrets_table-secrets, deliveries-snoc, append-nil, attempts_table-snoc)
-rows_of-more records (Enabled name flag) legal follows = grind (arith, legal_known, records-snoc, endpoints_table-enabled, known_below, secrets_table-same, deliveries-snoc, append-nil, attempts_table-snoc)
-rows_of-more records (Accept name id body at) legal follows = grind (arith, legal_known, and_first, records-snoc, endpoints_table-accept, known_below, secrets_table-same, deliveries-snoc, put_of-more, put_by_name-is, attempts_table-snoc)
-rows_of-more records (Outcome delivery attempt status at) legal follows = grind (arith, legal_known, and_first, records-snoc, endpoints_table-outcome, secrets_table-same, deliveries-snoc, append-nil, attempts_table-snoc)
+rows_of-more records entry legal follows = grind (arith, legal_known, unnamed_if, records-snoc, endpoints_table-put, secrets_table-put, deliveries-snoc, append-nil, attempts_table-snoc, endpoints_table-secrets, known_below, secrets_table-secrets, endpoints_table-enabled, secrets_table-same, and_first, endpoints_table-accept, put_of-more, put_by_name-is, endpoints_table-outcome)
 
 pub rows_of-all : (records more : List Record) → IsLegal (records ++ more) → rows_of (records ++ more) ≡ put_rows (rows_of records) more
 rows_of-all records [] legal = ap rows_of (append-nil records)

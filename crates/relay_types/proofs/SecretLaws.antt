@@ -52,8 +52,7 @@ pub base64_part : (r : Option (Bor (List ℕ))) (text encoded : Bor (List ℕ))
     → MatchOption r (pointwise eqb (take 6 text.now) (codes "whsec_") ≡ false)
     (λ x. (pointwise eqb (take 6 text.now) (codes "whsec_") ≡ true) × (x.now ≡ drop 6 text.now) × (length x.now + 6 ≡ length text.now))
     → encoded ≡ unwrap_or r text → IsBase64Part text.now encoded.now
-base64_part None text encoded m e = inr (ap (λ b. b.now) (sym e), strip_prefix_is Decides-eqb text.now (codes "whsec_") None m)
-base64_part (Some x) text encoded m e = inl (strip_prefix_is Decides-eqb text.now (codes "whsec_") (Some x) m ∙ ap (λ b. codes "whsec_" ++ b.now) (sym e))
+base64_part r text encoded m e = grind (arith, strip_prefix_is, Decides-eqb)
 
 same : (a b : List ℕ) → a ≡ b → bytes_eq a b ≡ true
 same a b = (bytes_eq-Decides a b).1
@@ -62,11 +61,7 @@ told : (a b : List ℕ) → bytes_eq a b ≡ true → a ≡ b
 told a b = (bytes_eq-Decides a b).0
 
 in_some_form : (text encoded secret : List ℕ) → IsBase64Part text encoded → (encoded ≡ padded secret) ⊎ (encoded ≡ unpadded secret) → is_secret_text text secret ≡ true
-in_some_form text encoded secret (inl p) (inl e) = or_left _ _ (same _ _ (p ∙ ap (λ x. codes "whsec_" ++ x) e))
-in_some_form text encoded secret (inl p) (inr e) = or_right _ _ (or_left _ _ (same _ _ (p ∙ ap (λ x. codes "whsec_" ++ x) e)))
-in_some_form text encoded secret (inr p) (inl e) = or_right _ _ (or_right _ _ (or_left _ _ (same _ _ (p.0 ∙ e))))
-in_some_form text encoded secret (inr p) (inr e) =
-    or_right (bytes_eq text (codes "whsec_" ++ padded secret)) _ (or_right (bytes_eq text (codes "whsec_" ++ unpadded secret)) _ (or_right (bytes_eq text (padded secret)) _ (same _ _ (p.0 ∙ e))))
+in_some_form text encoded secret h1 h2 = grind (arith, or_left, same, or_right)
 
 -- a text is a secret's where its base64 is
 pub reads_secret : (text encoded secret : List ℕ) → IsBase64Part text encoded → IsPaddedOrNot encoded secret → ReadsSecret text secret

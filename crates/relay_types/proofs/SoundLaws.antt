@@ -91,8 +91,7 @@ module _ (records : List Record) (legal : IsLegal records) where
   -- Numbers
 
   last_below : {Y : Type 0} (says : Record → Option Y) (put : ℕ) (default : Y) → put < length records → Last says records put default → last_seq (λ entry. is_some (says entry)) records put < length records
-  last_below says put default h (unsaid none v s) = subst (λ n. n < length records) (sym s) h
-  last_below says put default h (said y sp v s) = subst (λ n. n < length records) (sym s) (place_below records sp.place sp.element sp.stands)
+  last_below says put default h h2 = grind (arith, place_below)
 
   pub numbers_below : are_numbers_below rows ≡ true
   numbers_below =
@@ -120,21 +119,28 @@ module _ (records : List Record) (legal : IsLegal records) where
       (all_if (λ (d : DeliveryRow). not (is_attempt_at rows d.seq)) rows.deliveries (λ d i. ap not (not_attempt_at records d.seq _ (delivery_stands records d i).1 (λ (same : 2 ≡ 1). omega (arith, same)))))
     where
       endpoint : (e : EndpointRow) → In e rows.endpoints → not (is_delivery_at rows e.put || is_attempt_at rows e.put) ≡ true
-      endpoint e i =
-          let x = row_endpoint records e i in
-          let stands = (put_stands records x.0 x.1).1 in
-          subst (λ (t : EndpointRow). not (is_delivery_at rows t.put || is_attempt_at rows t.put) ≡ true) x.2
-          (λ j. not (not_delivery_at records x.0.put _ stands (λ (same : 1 ≡ 0). omega (arith, same)) j || not_attempt_at records x.0.put _ stands (λ (same : 2 ≡ 0). omega (arith, same)) j))
+      endpoint e i = grind (arith, row_endpoint, put_stands, not_delivery_at, not_attempt_at)
 
   -- The place of an endpoint's secrets
 
   other_name : (name : List ℕ) (secrets given : List (List ℕ)) (x : Endpoint) → (code (Secrets name secrets) ≡ 0) ⊎ (secrets_by x.name (Secrets name secrets) ≡ Some given) → name ≡ x.name
-  other_name name secrets given x (inl same) = absurd (let no : 3 ≡ 0 = same in omega (arith, no))
-  other_name name secrets given x (inr h) = grind (arith, text_same)
+  other_name name secrets given x h1 = grind (arith, text_same)
 
   no_flag : (name : List ℕ) (secrets : List (List ℕ)) (flag : Bool) (x : Endpoint) → (code (Secrets name secrets) ≡ 0) ⊎ (enabled_by records x.name (Secrets name secrets) ≡ Some flag) → ⊥
-  no_flag name secrets flag x (inl same) = let no : 3 ≡ 0 = same in omega (arith, no)
-  no_flag name secrets flag x (inr h) = let no = h in cc
+  no_flag name secrets flag x h1 = grind arith
+
+  -- no other row has the number of its list
+  alone : (x : Endpoint) (p : ℕ) (secrets : List (List ℕ)) → In x (endpoints records) → slice_get records p ≡ Some (Secrets x.name secrets) → (f : EndpointRow) → In f rows.endpoints → f.secrets_by ≡ p → f.put ≡ x.put
+  alone x p secrets i is f j same =
+      let y = row_endpoint records f j in
+      let record_of = secrets_record y.0 p (Secrets x.name secrets) y.1 (ap (λ (t : EndpointRow). t.secrets_by) y.2 ∙ same) is in
+      let own = same_name records legal y.0 x y.1 i (sym (other_name x.name secrets (secrets_of records y.0.name) y.0 record_of)) in
+      sym (ap (λ (t : EndpointRow). t.put) y.2) ∙ ap (λ (t : Endpoint). t.put) own
+
+  quiet : (x : Endpoint) (p : ℕ) (secrets : List (List ℕ)) → slice_get records p ≡ Some (Secrets x.name secrets) → (f : EndpointRow) → In f rows.endpoints → f.enabled_by ≡ p → ⊥
+  quiet x p secrets is f j same =
+      let y = row_endpoint records f j in
+      no_flag x.name secrets (is_enabled records y.0.name) y.0 (flag_record y.0 p (Secrets x.name secrets) y.1 (ap (λ (t : EndpointRow). t.enabled_by) y.2 ∙ same) is)
 
   secrets_place : (x : Endpoint) → In x (endpoints records) → is_secrets_place rows (endpoint_row records x) ≡ true
   secrets_place x i = by (secrets_last x)
@@ -147,28 +153,13 @@ module _ (records : List Record) (legal : IsLegal records) where
       command p secrets is =
           let before = known_before records p x.name (follows records legal p (Secrets x.name secrets) is) in
           let own = same_name records legal before.0 x before.1 i before.3 in
-          let command_code : 3 ≤ 3 = omega arith in
-          or_right (p == x.put) _ (and_both (nat_lt x.put p) _ (lt-ltb x.put p (subst (λ (e : Endpoint). e.put < p) own before.2))
-          (and_both (not (is_taken rows p)) _ (ap not (not_taken records p (Secrets x.name secrets) is command_code))
-          (and_both (not (list_any (λ (f : EndpointRow). f.secrets_by == p && not (f.put == x.put)) rows.endpoints)) _ (ap not (none_if (λ (f : EndpointRow). f.secrets_by == p && not (f.put == x.put)) rows.endpoints others))
-          (ap not (none_if (λ (f : EndpointRow). f.enabled_by == p) rows.endpoints flags)))))
-        where
-          others : (f : EndpointRow) → In f rows.endpoints → (f.secrets_by == p && not (f.put == x.put)) ≡ false
-          others f j = let y = row_endpoint records f j in subst (λ (t : EndpointRow). (t.secrets_by == p && not (t.put == x.put)) ≡ false) y.2 (at y.0 y.1 ((endpoint_row records y.0).secrets_by == p) refl)
-            where
-              at : (y : Endpoint) → In y (endpoints records) → (b : Bool) → (endpoint_row records y).secrets_by == p ≡ b → ((endpoint_row records y).secrets_by == p && not (y.put == x.put)) ≡ false
-              at y j false e = and_left ((endpoint_row records y).secrets_by == p) (not (y.put == x.put)) e
-              at y j true e =
-                  let named = other_name x.name secrets (secrets_of records y.name) y (secrets_record y p (Secrets x.name secrets) j (eqb-true (endpoint_row records y).secrets_by p e) is) in
-                  let same = same_name records legal y x j i (sym named) in
-                  and_right ((endpoint_row records y).secrets_by == p) (not (y.put == x.put)) (ap not (eq-eqb y.put x.put (ap (λ (t : Endpoint). t.put) same)))
-
-          flags : (f : EndpointRow) → In f rows.endpoints → f.enabled_by == p ≡ false
-          flags f j = let y = row_endpoint records f j in subst (λ (t : EndpointRow). t.enabled_by == p ≡ false) y.2
-              (ne_eqb (endpoint_row records y.0).enabled_by p (λ same. no_flag x.name secrets (is_enabled records y.0.name) y.0 (flag_record y.0 p (Secrets x.name secrets) y.1 same is)))
+          let untaken = not_taken records p (Secrets x.name secrets) is (let least : 3 ≤ 3 = omega arith in least) in
+          let others = none_if (λ (f : EndpointRow). f.secrets_by == p && not (f.put == x.put)) rows.endpoints (λ f j. grind (arith, alone x p secrets i is f j)) in
+          let flags = none_if (λ (f : EndpointRow). f.enabled_by == p) rows.endpoints (λ f j. grind (arith, quiet x p secrets is f j)) in
+          grind arith
 
       by : Last (secrets_by x.name) records x.put [] → stands_so (endpoint_row records x).secrets_by ≡ true
-      by (unsaid none v s) = or_left ((endpoint_row records x).secrets_by == x.put) _ (eq-eqb (endpoint_row records x).secrets_by x.put s)
+      by (unsaid none v s) = grind arith
       by (said given sp v s) = subst (λ n. stands_so n ≡ true) (sym s) (speaks (given_by x.name sp.element given sp.said))
         where
           speaks : ((target : List ℕ) × (max : ℕ) × (sp.element ≡ Put x.name target max given)) ⊎ (sp.element ≡ Secrets x.name given) → stands_so sp.place ≡ true

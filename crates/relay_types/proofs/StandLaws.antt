@@ -41,20 +41,10 @@ put_made k (Accept name id body at) x h = absurd (let no = h in cc)
 put_made k (Outcome delivery attempt status at) x h = absurd (let no = h in cc)
 
 pub accept_made : (all : List Record) (k : ℕ) (r : Record) (d : DeliveryRow) → delivery_row all (k, r) ≡ Some d → (name : List ℕ) × (r ≡ Accept name d.id d.body d.at) × (d.seq ≡ k) × (d.endpoint ≡ put_of all name)
-accept_made all k (Accept name id body at) d h =
-    let same = some_same h in (name, (λ i. Accept name (same i).id (same i).body (same i).at), ap (λ (e : DeliveryRow). e.seq) (sym same), ap (λ (e : DeliveryRow). e.endpoint) (sym same))
-accept_made all k (Put name target max secrets) d h = absurd (let no = h in cc)
-accept_made all k (Secrets name secrets) d h = absurd (let no = h in cc)
-accept_made all k (Enabled name flag) d h = absurd (let no = h in cc)
-accept_made all k (Outcome delivery attempt status at) d h = absurd (let no = h in cc)
+accept_made all k r d h = grind (arith, some_same)
 
 pub outcome_made : (k : ℕ) (r : Record) (t : AttemptRow) → attempt_row (k, r) ≡ Some t → (r ≡ outcome_entry t) × (t.seq ≡ k)
-outcome_made k (Outcome delivery attempt status at) t h =
-    let same = some_same h in ((λ i. Outcome (same i).delivery (same i).number (same i).status (same i).at), ap (λ (e : AttemptRow). e.seq) (sym same))
-outcome_made k (Put name target max secrets) t h = absurd (let no = h in cc)
-outcome_made k (Secrets name secrets) t h = absurd (let no = h in cc)
-outcome_made k (Enabled name flag) t h = absurd (let no = h in cc)
-outcome_made k (Accept name id body at) t h = absurd (let no = h in cc)
+outcome_made k r t h = grind (arith, some_same)
 
 at_zero : (k : ℕ) → 0 + k ≡ k
 at_zero k = omega arith
@@ -62,8 +52,7 @@ at_zero k = omega arith
 -- Names
 
 some_if : {X : Type 0} (o : Option X) → is_some o ≡ true → (x : X) × (o ≡ Some x)
-some_if (Some x) h = (x, refl)
-some_if None h = absurd (let no = h in cc)
+some_if o h = grind arith
 
 pub same_text : (a b : List ℕ) → a ≡ b → bytes_eq a b ≡ true
 same_text a b h = (bytes_eq-Decides a b).1 h
@@ -107,10 +96,7 @@ module _ (records : List Record) where
   places_apart n m a b is has differs = ne_eqb n m (λ same. differs (ap code (some_same (sym is ∙ ap (slice_get records) same ∙ has))))
 
   pub put_stands : (x : Endpoint) → In x (endpoints records) → (secrets : List (List ℕ)) × (slice_get records x.put ≡ Some (Put x.name x.target x.max secrets))
-  put_stands x i =
-      let row = row_of endpoint_by (λ (e : Endpoint). e.put) 0 records x i in
-      let made = put_made (0 + row.0) row.1 x row.3 in
-      (made.0, ap (slice_get records) (made.2 ∙ at_zero row.0) ∙ row.2 ∙ ap Some made.1)
+  put_stands x i = grind (arith, row_of, put_made, at_zero)
 
   pub put_in : (n : ℕ) (name target : List ℕ) (max : ℕ) (secrets : List (List ℕ)) → slice_get records n ≡ Some (Put name target max secrets) → In (record { put = n; name = name; target = target; max = max }) (endpoints records)
   put_in n name target max secrets is =
@@ -118,10 +104,7 @@ module _ (records : List Record) where
       (ap (λ m. Some (record { put = m; name = name; target = target; max = max })) (at_zero n))
 
   pub delivery_stands : (d : DeliveryRow) → In d (rows_of records).deliveries → (name : List ℕ) × (slice_get records d.seq ≡ Some (Accept name d.id d.body d.at)) × (d.endpoint ≡ put_of records name)
-  delivery_stands d i =
-      let row = row_of (delivery_row records) (λ (e : DeliveryRow). e.seq) 0 records d i in
-      let made = accept_made records (0 + row.0) row.1 d row.3 in
-      (made.0, ap (slice_get records) (made.2 ∙ at_zero row.0) ∙ row.2 ∙ ap Some made.1, made.3)
+  delivery_stands d i = grind (arith, row_of, accept_made, at_zero)
 
   pub delivery_in : (n : ℕ) (name id body : List ℕ) (at : ℕ) → slice_get records n ≡ Some (Accept name id body at)
       → In (record { seq = n; endpoint = put_of records name; id = id; at = at; body = body }) (rows_of records).deliveries
@@ -130,10 +113,7 @@ module _ (records : List Record) where
       (ap (λ m. Some (record { seq = m; endpoint = put_of records name; id = id; at = at; body = body })) (at_zero n))
 
   pub attempt_stands : (t : AttemptRow) → In t (rows_of records).attempts → slice_get records t.seq ≡ Some (outcome_entry t)
-  attempt_stands t i =
-      let row = row_of attempt_row (λ (e : AttemptRow). e.seq) 0 records t i in
-      let made = outcome_made (0 + row.0) row.1 t row.3 in
-      ap (slice_get records) (made.1 ∙ at_zero row.0) ∙ row.2 ∙ ap Some made.0
+  attempt_stands t i = grind (arith, row_of, outcome_made, at_zero)
 
   pub attempt_in : (n delivery attempt status at : ℕ) → slice_get records n ≡ Some (Outcome delivery attempt status at)
       → In (record { seq = n; delivery = delivery; number = attempt; status = status; at = at }) (rows_of records).attempts
@@ -153,26 +133,20 @@ module _ (records : List Record) where
       subst (λ (row : EndpointRow). row.put == n ≡ false) x.2 (places_apart x.0.put n (Put x.0.name x.0.target x.0.max put.0) r put.1 is differs))
 
   pub not_delivery_at : (n : ℕ) (r : Record) → slice_get records n ≡ Some r → (1 ≡ code r → ⊥) → is_delivery_at (rows_of records) n ≡ false
-  not_delivery_at n r is differs = none_if (λ (d : DeliveryRow). d.seq == n) (rows_of records).deliveries (λ d i.
-      let stands = delivery_stands d i in places_apart d.seq n (Accept stands.0 d.id d.body d.at) r stands.1 is differs)
+  not_delivery_at n r is differs = grind (arith, none_if, delivery_stands, places_apart)
 
   pub not_attempt_at : (n : ℕ) (r : Record) → slice_get records n ≡ Some r → (2 ≡ code r → ⊥) → is_attempt_at (rows_of records) n ≡ false
   not_attempt_at n r is differs = none_if (λ (t : AttemptRow). t.seq == n) (rows_of records).attempts (λ t i. places_apart t.seq n (outcome_entry t) r (attempt_stands t i) is differs)
 
   pub not_taken : (n : ℕ) (r : Record) → slice_get records n ≡ Some r → 3 ≤ code r → is_taken (rows_of records) n ≡ false
-  not_taken n r is command = λ i.
-      not_put_at n r is (λ (same : 0 ≡ code r). omega (arith, same, command)) i
-      || (not_delivery_at n r is (λ (same : 1 ≡ code r). omega (arith, same, command)) i || not_attempt_at n r is (λ (same : 2 ≡ code r). omega (arith, same, command)) i)
+  not_taken n r is command = grind (arith, not_put_at, not_delivery_at, not_attempt_at)
 
   -- the endpoints of a front are those that were put there
   pub front_endpoints : (n : ℕ) → endpoints (take n records) ≡ filter (λ (e : Endpoint). nat_lt e.put n) (endpoints records)
   front_endpoints n = table_front endpoint_by (λ (e : Endpoint). e.put) (λ k r x made. (put_made k r x made).2) 0 n n records (sym (at_zero n))
 
   pub known_before : (n : ℕ) (name : List ℕ) → has_endpoint (take n records) name ≡ true → (x : Endpoint) × In x (endpoints records) × (x.put < n) × (x.name ≡ name)
-  known_before n name h =
-      let known = endpoint_named (take n records) name h in
-      let both = in_filter (λ (e : Endpoint). nat_lt e.put n) (endpoints records) known.0 (subst (In known.0) (front_endpoints n) known.1) in
-      (known.0, both.0, ltb-true known.0.put n both.1, known.2)
+  known_before n name h = grind (arith, endpoint_named, in_filter, In, front_endpoints, ltb-true)
 
   module _ (legal : IsLegal records) where
     pub same_name : (x y : Endpoint) → In x (endpoints records) → In y (endpoints records) → x.name ≡ y.name → x ≡ y

@@ -26,8 +26,7 @@ all_if test (y ∷ ys) h = and_both (test y) (list_all test ys) (h y (inl refl))
 
 pub in_none : {X : Type 0} (test : X → Bool) (xs : List X) (x : X) → list_any test xs ≡ false → In x xs → test x ≡ false
 in_none test [] x h i = absurd i
-in_none test (y ∷ ys) x h (inl same) = subst (λ z. test z ≡ false) same (or_parts (test y) (list_any test ys) h).0
-in_none test (y ∷ ys) x h (inr i) = in_none test ys x (or_parts (test y) (list_any test ys) h).1 i
+in_none test (y ∷ ys) x h i = grind (arith, in_none test ys x)
 
 pub none_if : {X : Type 0} (test : X → Bool) (xs : List X) → ((x : X) → In x xs → test x ≡ false) → list_any test xs ≡ false
 none_if test [] h = refl
@@ -35,8 +34,7 @@ none_if test (y ∷ ys) h = ap (λ b. b || list_any test ys) (h y (inl refl)) �
 
 pub any_in : {X : Type 0} (test : X → Bool) (xs : List X) (x : X) → In x xs → test x ≡ true → list_any test xs ≡ true
 any_in test [] x i h = absurd i
-any_in test (y ∷ ys) x (inl same) h = or_left (test y) (list_any test ys) (ap test same ∙ h)
-any_in test (y ∷ ys) x (inr i) h = or_right (test y) (list_any test ys) (any_in test ys x i h)
+any_in test (y ∷ ys) x i h = grind (arith, any_in test ys x)
 
 pub in_any : {X : Type 0} (test : X → Bool) (xs : List X) → list_any test xs ≡ true → (x : X) × In x xs × (test x ≡ true)
 in_any test [] h = absurd (let no = h in cc)
@@ -60,9 +58,7 @@ only_found test [] x i h only = absurd i
 only_found test (y ∷ ys) x i h only = at (λ j. only_found test ys x j h (λ z k. only z (inr k))) (test y) refl i
   where
     at : (In x ys → find test ys ≡ Some x) → (b : Bool) → test y ≡ b → In x (y ∷ ys) → cond b (Some y) (find test ys) ≡ Some x
-    at more true e i = ap Some (only y (inl refl) e)
-    at more false e (inl same) = absurd (let passes = subst (λ z. test z ≡ false) same e in let does = h in cc)
-    at more false e (inr i) = more i
+    at more b e h3 = grind arith
 
 pub in_map : {X Y : Type 0} (f : X → Y) (xs : List X) (y : Y) → In y (map f xs) → (x : X) × In x xs × (f x ≡ y)
 in_map f [] y i = absurd i
@@ -80,13 +76,7 @@ in_filter test (y ∷ ys) x i = grind (arith, in_filter test ys x)
 
 pub filter_in : {X : Type 0} (test : X → Bool) (xs : List X) (x : X) → In x xs → test x ≡ true → In x (filter test xs)
 filter_in test [] x i h = absurd i
-filter_in test (y ∷ ys) x i h = at (λ j. filter_in test ys x j h) (test y) refl i
-  where
-    at : (In x ys → In x (filter test ys)) → (b : Bool) → test y ≡ b → In x (y ∷ ys) → In x (cond b (y ∷ filter test ys) (filter test ys))
-    at more true e (inl same) = inl same
-    at more true e (inr i) = inr (more i)
-    at more false e (inl same) = absurd (let passes = subst (λ z. test z ≡ false) same e in let does = h in cc)
-    at more false e (inr i) = more i
+filter_in test (y ∷ ys) x i h = grind (arith, filter_in test ys x)
 
 -- Elements by their numbers, which rise
 
@@ -143,15 +133,7 @@ made {X} f n (suc k) h = at (f n) refl (h n (omega arith) (omega arith)) (made f
 
     at : (o : Option X) → f n ≡ o → is_some o ≡ true → (length rest ≡ k) × ((i j : ℕ) → j ≡ n + 1 + i → i < k → slice_get rest i ≡ f j)
         → (length (cons_option o rest) ≡ suc k) × ((i j : ℕ) → j ≡ n + i → i < suc k → slice_get (cons_option o rest) i ≡ f j)
-    at None e some more = absurd (let no = some in cc)
-    at (Some x) e some more = (ap suc more.0, places)
-      where
-        places : (i j : ℕ) → j ≡ n + i → i < suc k → slice_get (x ∷ rest) i ≡ f j
-        places zero j same l = sym e ∙ ap f (sym (first same))
-          where
-            first : j ≡ n + 0 → j ≡ n
-            first same = omega (arith, same)
-        places (suc i) j same l = more.1 i j (omega (arith, same)) (omega (arith, l))
+    at o e some more = grind arith
 
 -- Tables: what is made of the numbered elements
 
@@ -169,10 +151,7 @@ module _ {X Y : Type 0} (g : ℕ × X → Option Y) (number : Y → ℕ) where
       first = h 0 n (omega arith) (omega arith)
 
       higher : (m n : ℕ) → n ≤ m → m == n ≡ false → n + 1 ≤ m
-      higher m n l e = omega (arith, l, differs)
-        where
-          differs : m ≡ n → ⊥
-          differs same = let yes = eq-eqb m n same in let no = e in cc
+      higher m n l e = grind (arith, eq-eqb)
 
       at : ((zs : List Y) → IsRisingFrom number (n + 1) zs → ((z : Y) → In z zs → number z < n + 1 + length xs)
           → ((i k : ℕ) → k ≡ n + 1 + i → i < length xs → option_and_then (λ x. g (k, x)) (slice_get xs i) ≡ find (λ z. number z == k) zs) → filter_map g (enumerate_from (n + 1) xs) ≡ zs)

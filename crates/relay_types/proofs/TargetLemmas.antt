@@ -14,11 +14,7 @@ pub position-or_end : {X : Type 0} (p : X → Bool) (xs : List X) → unwrap_or 
 position-or_end p xs = place_or_end (position_or_len p xs) (length xs) (prefix_len-le-length _ xs)
 
 fourth_holds : (a b c d e : Bool) → IsTrue (a && (b && (c && (d && e)))) → IsTrue d
-fourth_holds true true true true e h = refl
-fourth_holds true true true false e h = h
-fourth_holds true true false d e h = absurd (false≢true h)
-fourth_holds true false c d e h = absurd (false≢true h)
-fourth_holds false b c d e h = absurd (false≢true h)
+fourth_holds a b c d e h = grind (arith, false≢true)
 
 -- the port of a target is written as it must be
 pub is_target-port : (text : List ℕ) → IsTrue (is_target text) → IsTrue (is_port_part (port_part_of text))

@@ -82,14 +82,10 @@ takes_lowered c e = grind (arith, nat_tests)
 
 -- in lower case or not
 scheme_taken : (text : List ℕ) → IsTrue (has_scheme text) → IsTrue (is_visible (take 7 text))
-scheme_taken text h =
-    let same = (bytes_eq-Decides (map to_ascii_lowercase (take 7 text)) (map to_ascii_lowercase (codes "http://"))).0 h in
-    let lowered : IsTrue (is_visible (map to_ascii_lowercase (take 7 text))) = rw same refl in
-    all_taken (λ c. is_visible_character (to_ascii_lowercase c)) takes_lowered (take 7 text) (sym (list_all-map is_visible_character to_ascii_lowercase (take 7 text)) ∙ lowered)
+scheme_taken text h = grind (arith, bytes_eq-Decides, all_taken, takes_lowered, list_all-map)
 
 not_false : (b : Bool) → not b ≡ false → b ≡ true
-not_false true h = refl
-not_false false h = sym h
+not_false b h = grind arith
 
 -- what stands behind the front up to a mark is nothing, or begins with it
 begins_passed : (test : ℕ → Bool) (text : List ℕ) (c : ℕ) (rest : List ℕ) → c ∷ rest ≡ drop (length (before_first test text)) text → test c ≡ true
@@ -107,11 +103,7 @@ abbrev is_colon : ℕ → Bool
 is_colon c = c == 58
 
 port_taken : (authority part : List ℕ) → part ≡ drop (length (before_first is_colon authority)) authority → IsTrue (is_port_part part) → IsTrue (is_visible part)
-port_taken authority [] e h = refl
-port_taken authority (c ∷ digits) e h =
-    let colon = eqb-true c 58 (begins_passed is_colon authority c digits e) in
-    let mark : is_visible_character c ≡ true = ap is_visible_character colon in
-    and_from _ _ mark (text_taken 1 5 is_digit takes_digit digits (and_parts (is_text 1 5 is_digit digits) _ h).0)
+port_taken authority part e h = grind (arith, begins_passed, and_from, text_taken, takes_digit, and_parts)
 
 -- a text and its front up to a mark
 front_taken : (test : ℕ → Bool) (text : List ℕ) → IsTrue (is_visible (before_first test text)) → IsTrue (is_visible (drop (length (before_first test text)) text)) → IsTrue (is_visible text)
@@ -142,17 +134,13 @@ visible_parts text h =
     }
 
 pub visible_target : (text : List ℕ) → IsTrue (is_target text) → IsTrue (is_visible text)
-visible_target text h =
-    let parts = visible_parts text h in
-    let behind = front_taken (λ c. c == 47) (behind_scheme text) parts.authority parts.path in
-    subst (λ xs. IsTrue (is_visible xs)) (take-append-drop 7 text) (joined (take 7 text) (drop 7 text) parts.scheme behind)
+visible_target text h = grind (arith, visible_parts, front_taken, joined)
 
 pub visible_authority : (text : List ℕ) → IsTrue (is_target text) → IsTrue (is_visible (authority_of text))
 visible_authority text h = (visible_parts text h).authority
 
 visible_part : (part : List ℕ) → IsTrue (is_visible part) → IsTrue (is_visible (path_of_part part))
-visible_part [] h = refl
-visible_part (c ∷ rest) h = h
+visible_part part h = grind arith
 
 pub visible_path : (text : List ℕ) → IsTrue (is_target text) → IsTrue (is_visible (path_of text))
 visible_path text h = visible_part (path_part_of text) (visible_parts text h).path
