@@ -1,8 +1,8 @@
 -- The lanes: which is an endpoint's, what they hold, and what a change of one makes of them.
-use Rattle.std.proofs.Common.{◌≡◌, ℕ, ◌<◌, ◌≤◌, ◌⊎◌, inl, inr, Bool, true, false, ◌&&◌, ◌||◌, List, [], ◌∷◌, ◌++◌, length, map, Option, Some, None, refl, sym, ◌∙◌, ap, subst, cond, arith, slice_index_or, slice_set}
-use Rattle.std.specs.Prelude.{position, bytes_eq, nat_eq, nat_lt, option_map, slice_get, if◌then◌else◌}
+use Rattle.std.proofs.Common.{◌≡◌, ℕ, ◌<◌, Bool, true, false, ◌&&◌, ◌||◌, List, [], ◌∷◌, ◌++◌, length, map, Some, None, refl, sym, ◌∙◌, ap, subst, cond, arith, slice_index_or, slice_set}
+use Rattle.std.specs.Prelude.{position, bytes_eq, option_map, if◌then◌else◌}
 use Rattle.std.specs.List.{flat_map, list_any, position_or_len}
-use Rattle.std.specs.Option.{option_map_or, option_or}
+use Rattle.std.specs.Option.{option_map_or}
 use Rattle.std.specs.Cmp.Lexicographic.{bytes_decides}
 use Rattle.std.proofs.lemmas.Bool.{both_ways, false_from_ne_true, ltb-true, ltb-false, or_from, or_parts, and_left}
 use Rattle.std.proofs.lemmas.Option.{slice_get-get_or, slice_get_cases}

@@ -1,6 +1,6 @@
 -- The queue after a change of one lane, and which pair is next.
 use Rattle.std.proofs.Common.{◌≡◌, ℕ, zero, suc, ◌+◌, ◌<◌, ◌≤◌, Bool, true, false, not, ◌&&◌, ◌||◌, List, [], ◌∷◌, ◌++◌, length, map, Option, Some, None, refl, sym, ◌∙◌, ap, subst, arith, IsTrue, slice_index_or, slice_set}
-use Rattle.std.specs.Prelude.{IfSome, is_some, position, bytes_eq, nat_eq, nat_le, max, option_map, slice_get, sum_by, if◌then◌else◌}
+use Rattle.std.specs.Prelude.{IfSome, is_some, position, bytes_eq, nat_eq, nat_le, option_map, slice_get, sum_by, if◌then◌else◌}
 use Rattle.std.specs.List.{list_any}
 use Rattle.std.specs.Option.{option_map_or}
 use Rattle.std.specs.Cmp.Lexicographic.{bytes_decides}

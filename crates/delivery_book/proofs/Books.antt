@@ -1,6 +1,6 @@
 -- What ties the index, the counts and the room to the entries stays so with one more event.
-use Rattle.std.proofs.Common.{◌≡◌, ◌&&◌, ℕ, ◌+◌, ◌<◌, ◌≤◌, Bool, true, false, List, [], ◌∷◌, ◌++◌, Option, Some, None, length, get_or, refl, sym, ◌∙◌, ap, eqb, ltb, not, arith, cond, ⊎_elim, length-append}
-use Rattle.std.specs.Prelude.{find, count_by, is_some, option_map, bytes_eq}
+use Rattle.std.proofs.Common.{◌≡◌, ◌&&◌, ℕ, ◌+◌, ◌<◌, ◌≤◌, Bool, true, false, List, [], ◌∷◌, ◌++◌, Option, Some, None, length, get_or, refl, sym, ◌∙◌, ap, ltb, not, arith, cond, length-append}
+use Rattle.std.specs.Prelude.{find, option_map, bytes_eq}
 use Rattle.std.specs.Option.{option_or}
 use Rattle.std.specs.Cmp.{first_so, second_so}
 use Rattle.std.specs.Cmp.Lexicographic.{bytes_decides, slice_cmp}
@@ -8,7 +8,7 @@ use Rattle.std.specs.BTreeMap.{BTreeMap, get, is_at}
 use Rattle.std.specs.declared.cmp.Ordering.{Ordering}
 use Rattle.std.specs.declared.cmp.Ordering.TheVariants.{Less, Equal, Greater}
 use Rattle.std.specs.Ordering.{is_eq, nat_cmp, ordering_then}
-use Rattle.std.proofs.lemmas.Bool.{cases_lt, lt-ltb, ltb-true, le-ltb, ltb-false}
+use Rattle.std.proofs.lemmas.Bool.{lt-ltb, ltb-true, le-ltb, ltb-false}
 use Rattle.std.proofs.lemmas.Map.Text.{is_eq-slice_cmp}
 use Rattle.std.proofs.Math.Seq.{get_or-append_seam}
 use Rattle.std.proofs.lemmas.List.{take-append-le, get_or_append_left}
@@ -23,8 +23,8 @@ use Rattle.delivery_book.specs.declared.entry.Unsettled.{Unsettled}
 use Rattle.delivery_book.specs.declared.keys.EventKey.{EventKey}
 use Rattle.delivery_book.specs.declared.progress.Progress.{Progress}
 use Rattle.delivery_book.specs.declared.tally.Tally.{Tally}
-use Rattle.delivery_book.specs.Entries.{new_entry, is_entry_as, entry_at, state_in}
-use Rattle.delivery_book.specs.Fields.{IsBook, IsKeyed, IsIndex, IsTally, is_numbered, is_waiting, is_later, event_cmp, in_state, counts_for, has_room, one_of, is_counted}
+use Rattle.delivery_book.specs.Entries.{new_entry, is_entry_as, state_in}
+use Rattle.delivery_book.specs.Fields.{IsBook, IsKeyed, IsIndex, IsTally, is_numbered, is_later, event_cmp, in_state, counts_for, has_room, one_of, is_counted}
 use Rattle.delivery_book.proofs.Updates.{all_at, all_weaker, caught-push}
 
 -- Keys

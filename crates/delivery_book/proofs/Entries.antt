@@ -1,6 +1,6 @@
 -- Facts about lists of entries in the order of their numbers.
 use Rattle.std.proofs.Common.{◌≡◌, ◌≢◌, ℕ, zero, suc, ◌+◌, ◌-◌, ◌<◌, ◌≤◌, Bool, true, false, List, [], ◌∷◌, Option, Some, None, length, take, drop, get_or, refl, sym, ◌∙◌, ap, ltb, eqb, arith, cond, ⊎_elim}
-use Rattle.std.specs.Prelude.{slice_get, filter, count_by, is_some}
+use Rattle.std.specs.Prelude.{filter, count_by, is_some}
 use Rattle.std.specs.List.{list_all}
 use Rattle.std.specs.List.Sorted.{IsPartitionedBy}
 use Rattle.std.proofs.Math.Seq.{take-add}

@@ -1,8 +1,7 @@
 -- The histories for which a book stands after a step, and what it then tells of them.
-use Rattle.std.proofs.Common.{◌≡◌, ℕ, zero, suc, ◌+◌, ◌-◌, ◌<◌, ◌≤◌, Bool, true, false, List, [], ◌∷◌, ◌++◌, Option, Some, None, length, take, drop, map, refl, sym, ◌∙◌, ap, subst, arith, cond, ⊎_elim, ◌&&◌, eqb, ltb, length-append, append-nil}
+use Rattle.std.proofs.Common.{◌≡◌, ℕ, zero, suc, ◌+◌, ◌-◌, ◌<◌, ◌≤◌, Bool, true, false, List, [], ◌∷◌, ◌++◌, Some, None, length, take, drop, map, refl, sym, ◌∙◌, ap, subst, arith, cond, eqb, ltb, length-append, append-nil}
 use Rattle.std.specs.Prelude.{filter_map, option_map, is_some, IsTrue, max}
 use Rattle.std.specs.List.{cons_option, list_any}
-use Rattle.std.specs.Option.{option_map_or}
 use Rattle.std.proofs.Math.Seq.{take-add}
 use Rattle.std.proofs.lemmas.Bool.{eq-eqb, ne_eqb, eqb-true, ltb-true, ltb-false, cases_eq}
 use Rattle.std.proofs.lemmas.List.{take-append-le, drop-append-le, length-drop}
@@ -16,7 +15,7 @@ use Rattle.relay_types.proofs.GrowthLaws.{numbered-snoc}
 use Rattle.relay_types.proofs.KnownLaws.{AllKnown, and_first, and_second, below_if_accepted, legal_known}
 use Rattle.relay_types.specs.Legal.{IsLegal}
 use Rattle.delivery_book.specs.declared.entry.Unsettled.{Unsettled}
-use Rattle.delivery_book.specs.Entries.{BookValue, empty_book, with_event, with_outcome, with_attempt, at_delivery, at_outcomes, with_latest_settled, with_settled, front_below, rest_from, is_open, entry_at, takes_outcome, progress_of}
+use Rattle.delivery_book.specs.Entries.{BookValue, empty_book, with_event, with_outcome, with_attempt, at_delivery, at_outcomes, with_latest_settled, with_settled, front_below, rest_from, takes_outcome, progress_of}
 use Rattle.delivery_book.specs.Book.{StandsFor, entry_for, entry_by, entries_of, delivery_by, outcome_by, outcomes_from, is_other, is_free}
 use Rattle.delivery_book.specs.Laws.{IsRestored}
 use Rattle.delivery_book.proofs.Progresses.{progress_of-append, attempts_of-append, attempts_of-split, empty_if, none_earlier, all_earlier}

@@ -1,8 +1,7 @@
 -- What ties the index, the counts and the room to the entries stays so with one more outcome, and with more records settled.
-use Rattle.std.proofs.Common.{◌≡◌, ◌&&◌, ℕ, ◌+◌, ◌-◌, ◌<◌, ◌≤◌, Bool, true, false, List, [], ◌∷◌, ◌++◌, Option, Some, length, take, drop, set, map, get_or, refl, sym, ◌∙◌, ap, subst, eqb, ltb, not, arith, cond, ⊎_elim, length-append}
+use Rattle.std.proofs.Common.{◌≡◌, ◌&&◌, ℕ, ◌+◌, ◌-◌, ◌<◌, ◌≤◌, Bool, true, false, List, [], ◌∷◌, ◌++◌, Option, Some, length, take, drop, set, map, get_or, refl, sym, ◌∙◌, ap, subst, ltb, arith, cond, ⊎_elim, length-append}
 use Rattle.std.specs.Prelude.{count_by, is_some, max, option_to_list}
 use Rattle.std.specs.List.{AllByRecursion, list_all}
-use Rattle.std.specs.Option.{option_map_or}
 use Rattle.std.specs.BTreeMap.{BTreeMap}
 use Rattle.std.proofs.lemmas.Bool.{cases_lt, lt-ltb, ltb-true, eqb-true, eq-eqb, ne_eqb}
 use Rattle.std.proofs.Math.Seq.{take-set-lt}
@@ -11,14 +10,13 @@ use Rattle.std.proofs.lemmas.List.Folds.{list_all-append}
 use Rattle.std.proofs.lemmas.List.Sums.{sum_by-set, count_by-le-length}
 use Rattle.relay_types.specs.declared.limits.TheConstants.{MAX_RECORDS}
 use Rattle.relay_types.specs.declared.state.State.{State}
-use Rattle.relay_types.specs.declared.state.State.TheVariants.{Pending, Delivered, Exhausted}
-use Rattle.relay_types.specs.Deliveries.{is_in_state}
+use Rattle.relay_types.specs.declared.state.State.TheVariants.{Pending}
 use Rattle.relay_types.proofs.KnownLaws.{and_first, and_second, and_both}
 use Rattle.delivery_book.specs.declared.entry.Entry.{Entry}
 use Rattle.delivery_book.specs.declared.entry.Unsettled.{Unsettled}
 use Rattle.delivery_book.specs.declared.keys.EventKey.{EventKey}
 use Rattle.delivery_book.specs.declared.tally.Tally.{Tally}
-use Rattle.delivery_book.specs.Entries.{BookValue, IsCaughtUp, with_attempt, with_attempt_restored, with_latest_settled, at_delivery, is_open, entry_at, state_in, has_room_for_attempt, may_restore}
+use Rattle.delivery_book.specs.Entries.{BookValue, IsCaughtUp, with_attempt, with_attempt_restored, with_latest_settled, at_delivery, is_open, entry_at, state_in, may_restore}
 use Rattle.delivery_book.specs.Fields.{IsBook, IsKeyed, IsQueue, IsTally, is_numbered, is_waiting, is_later, in_state, counts_for, has_room, one_of, is_counted}
 use Rattle.delivery_book.proofs.Entries.{count-slice}
 use Rattle.delivery_book.proofs.Updates.{KeepsKeys, all_at, all_set, all_weaker, count-map, either_way, set_is, keeps_where, entry_at-map, keyed-map, all_numbered, tally-set, opened_still, some_at, caught-outcome, caught-restored, caught-settle}

@@ -1,6 +1,6 @@
 -- How far a delivery has come, with one more attempt, and among the first records.
-use Rattle.std.proofs.Common.{◌≡◌, ℕ, ◌+◌, ◌<◌, Bool, true, false, List, [], ◌∷◌, ◌++◌, Some, None, length, take, drop, refl, sym, ◌∙◌, ap, arith, cond, length-append, append-nil, add-zero, leb}
-use Rattle.std.specs.Prelude.{option_map, ◌||◌, not, if◌then◌else◌}
+use Rattle.std.proofs.Common.{◌≡◌, ℕ, ◌+◌, ◌<◌, Bool, true, false, List, [], ◌∷◌, ◌++◌, Some, None, length, take, drop, refl, sym, ◌∙◌, ap, arith, cond, length-append, append-nil, add-zero}
+use Rattle.std.specs.Prelude.{option_map, ◌||◌, not}
 use Rattle.std.specs.Option.{option_map_or}
 use Rattle.std.proofs.Math.Bool.{or-false}
 use Rattle.std.proofs.lemmas.Bool.{leb-false, lt-leb}
@@ -11,9 +11,9 @@ use Rattle.std.proofs.lemmas.List.Sums.{sum_by_push}
 use Rattle.relay_types.specs.declared.record.Record.{Record}
 use Rattle.relay_types.specs.Lists.{last_of}
 use Rattle.relay_types.specs.Records.{Attempt, attempt_by}
-use Rattle.relay_types.specs.declared.state.State.TheVariants.{Pending, Exhausted}
+use Rattle.relay_types.specs.declared.state.State.TheVariants.{Pending}
 use Rattle.relay_types.specs.Judging.{is_delivered_status, is_gone_status, is_failed_status, delay_after}
-use Rattle.relay_types.specs.Deliveries.{attempts_of, is_in_state, due_after}
+use Rattle.relay_types.specs.Deliveries.{attempts_of, due_after}
 use Rattle.delivery_book.specs.declared.progress.Progress.{Progress}
 use Rattle.delivery_book.specs.Entries.{state_by, state_in, due_by, failed_among, is_delivered_among, progress_of, progress_with, progress_after}
 

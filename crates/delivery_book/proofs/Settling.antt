@@ -1,11 +1,10 @@
 -- What settling an outcome leaves to be settled.
-use Rattle.std.proofs.Common.{◌≡◌, ◌+◌, ◌<◌, Bool, true, false, List, [], ◌∷◌, Option, Some, None, length, map, refl, sym, ◌∙◌, ap, arith, cond, eqb, ltb}
-use Rattle.std.specs.Prelude.{is_some, unwrap_or, ◌||◌}
-use Rattle.std.specs.List.{list_any}
+use Rattle.std.proofs.Common.{◌≡◌, ◌+◌, ◌<◌, true, false, List, [], ◌∷◌, Option, Some, None, length, map, refl, sym, ◌∙◌, ap, arith, cond}
+use Rattle.std.specs.Prelude.{is_some, unwrap_or}
 use Rattle.std.proofs.lemmas.Bool.{lt-ltb}
 use Rattle.delivery_book.specs.declared.entry.Entry.{Entry}
 use Rattle.delivery_book.specs.declared.entry.Unsettled.{Unsettled}
-use Rattle.delivery_book.specs.Entries.{BookValue, with_latest_settled, at_delivery, at_outcomes, front_below, rest_from, settle_first, settle_all}
+use Rattle.delivery_book.specs.Entries.{BookValue, with_latest_settled, at_delivery, at_outcomes, settle_first, settle_all}
 
 pub map-same : {X : Type 0} (f : X → X) (xs : List X) → ((x : X) → f x ≡ x) → map f xs ≡ xs
 map-same f [] h = refl

@@ -4,7 +4,7 @@ use Rattle.std.specs.Prelude.{filter, filter_map, count_by, option_map, is_some,
 use Rattle.std.specs.Option.{option_map_or}
 use Rattle.relay_types.specs.declared.record.Record.{Record}
 use Rattle.relay_types.specs.declared.state.State.{State}
-use Rattle.relay_types.specs.Records.{Accepted, numbered}
+use Rattle.relay_types.specs.Records.{numbered}
 use Rattle.relay_types.specs.Deliveries.{accepted, known_as, deliveries, deliveries_of, attempts_of, state_of, is_in_state}
 use Rattle.delivery_book.specs.declared.entry.Entry.{Entry}
 use Rattle.delivery_book.specs.Entries.{BookValue, entry_at, known_in, row_in}
@@ -12,7 +12,7 @@ use Rattle.delivery_book.specs.declared.row.Counts.{Counts}
 use Rattle.relay_types.specs.declared.state.State.TheVariants.{Pending, Delivered, Exhausted}
 use Rattle.delivery_book.specs.Fields.{in_state, is_counted, settled_among, settled_counts}
 use Rattle.delivery_book.proofs.Entries.{is_below}
-use Rattle.delivery_book.specs.Book.{StandsFor, entry_for, entry_by, row_of, body_of, count_in}
+use Rattle.delivery_book.specs.Book.{StandsFor, entry_by, row_of, body_of, count_in}
 use Rattle.delivery_book.proofs.Histories.{known_as-entries, entry_at-entries, row_of-made, accepted-take, accepted-past, entries-below, counts_from}
 
 pub stands_known : (book : BookValue) (records : List Record) (settled : ℕ) (name id : List ℕ) → StandsFor book records settled → known_in book name id ≡ known_as records name id

@@ -1,5 +1,5 @@
 -- What stays where one entry is changed in place.
-use Rattle.std.proofs.Common.{◌≡◌, ◌≢◌, ℕ, zero, suc, ◌+◌, ◌<◌, ◌≤◌, Bool, true, false, List, [], ◌∷◌, Option, Some, None, ◌++◌, length, take, drop, map, set, get_or, refl, subst, sym, ◌∙◌, ap, eqb, arith, cond, ⊎_elim}
+use Rattle.std.proofs.Common.{◌≡◌, ◌≢◌, ℕ, zero, suc, ◌+◌, ◌<◌, ◌≤◌, Bool, true, false, List, [], ◌∷◌, Option, Some, None, ◌++◌, length, take, drop, map, set, get_or, refl, sym, ◌∙◌, ap, eqb, arith, cond, ⊎_elim}
 use Rattle.std.specs.Prelude.{count_by, find, is_some, option_map, ◌||◌}
 use Rattle.std.specs.List.{AllByRecursion, list_all, list_any}
 use Rattle.std.specs.BTreeMap.{BTreeMap}
@@ -8,8 +8,6 @@ use Rattle.std.proofs.lemmas.List.{get_or-map, length-map, length-set, take-appe
 use Rattle.std.proofs.lemmas.List.Folds.{list_all_at, list_all-append, list_all-map, list_any-append}
 use Rattle.std.proofs.lemmas.List.Sums.{sum_by-set, sum_by-cons, get_or-le-sum_by, count_by-le-length}
 use Rattle.relay_types.specs.declared.state.State.{State}
-use Rattle.relay_types.specs.declared.state.State.TheVariants.{Pending, Delivered, Exhausted}
-use Rattle.relay_types.specs.Deliveries.{is_in_state}
 use Rattle.relay_types.proofs.KnownLaws.{and_first, and_second, and_both}
 use Rattle.relay_types.proofs.RowLaws.{find_map}
 use Rattle.delivery_book.specs.declared.entry.Entry.{Entry}

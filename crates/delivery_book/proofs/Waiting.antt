@@ -1,8 +1,8 @@
 -- What a book has of the records that wait, as one more waits and as they are settled.
-use Rattle.std.proofs.Common.{◌≡◌, ℕ, ◌+◌, ◌<◌, ◌≤◌, Bool, true, false, List, [], ◌∷◌, ◌++◌, Option, Some, None, append-nil, length, take, drop, map, refl, sym, ◌∙◌, ap, subst, arith, cond, eqb, leb, ltb, IsTrue}
-use Rattle.std.specs.Prelude.{filter, filter_map, find, is_some, option_map, nat_lt, ◌||◌}
+use Rattle.std.proofs.Common.{◌≡◌, ℕ, ◌+◌, ◌<◌, ◌≤◌, Bool, true, false, List, [], ◌∷◌, ◌++◌, Option, Some, None, append-nil, length, take, drop, map, refl, sym, ◌∙◌, ap, subst, arith, cond, eqb, leb}
+use Rattle.std.specs.Prelude.{filter, filter_map, find, option_map, nat_lt, ◌||◌}
 use Rattle.std.specs.List.{AllByRecursion, cons_option, enumerate_from, list_all}
-use Rattle.std.specs.Option.{option_map_or, option_or}
+use Rattle.std.specs.Option.{option_or}
 use Rattle.std.proofs.lemmas.Bool.{eq-eqb, eqb-true, ne_eqb, le-leb, leb-true, lt-leb, ltb-true}
 use Rattle.std.proofs.lemmas.List.Elements.{filter-append, filter_map-append}
 use Rattle.std.proofs.lemmas.List.Folds.{find-append}
@@ -19,7 +19,6 @@ use Rattle.delivery_book.specs.declared.progress.Progress.{Progress}
 use Rattle.delivery_book.specs.Book.{is_other, outcome_by, outcomes_from}
 use Rattle.delivery_book.specs.Entries.{BookValue, IsCaughtUp, IsInStep, at_delivery, at_outcomes, entry_at, front_below, is_open, new_entry, progress_after, rest_from, with_attempt, with_event, with_latest_settled, with_outcome, with_settled}
 use Rattle.delivery_book.specs.Waiting.{AreTries, HasWaiting, event_by, events_from, is_from}
-use Rattle.delivery_book.proofs.Settling.{map-same}
 use Rattle.delivery_book.proofs.Waits.{front-outcomes, outcomes_from-snoc, rest-outcomes}
 
 pub events_from-snoc : (n : ℕ) (records : List Record) (entry : Record) → events_from n (records ++ entry ∷ []) ≡ events_from n records ++ cons_option (event_by (n + length records, entry)) []

@@ -1,8 +1,7 @@
 -- Legal histories with the same rows are alike, and stay so.
 use Rattle.std.proofs.Common.{arith}
-use Rattle.std.proofs.Common.{◌≡◌, ◌^◌, ◌<◌, ℕ, ◌+◌, ◌==◌, Bool, true, false, ◌&&◌, not, nat_lt, nat_le, List, [], ◌∷◌, ◌++◌, length, map, refl, sym, ap, subst, ◌∙◌, append-nil, append_assoc}
-use Rattle.std.specs.Prelude.{is_some, find, filter, bytes_eq, option_map}
-use Rattle.std.specs.List.{list_all}
+use Rattle.std.proofs.Common.{◌≡◌, ◌^◌, ◌<◌, ℕ, ◌+◌, ◌==◌, Bool, true, ◌&&◌, not, nat_lt, List, [], ◌∷◌, ◌++◌, length, map, refl, sym, ap, subst, ◌∙◌, append-nil, append_assoc}
+use Rattle.std.specs.Prelude.{is_some, find, filter, bytes_eq}
 use Rattle.std.specs.Option.{option_map_or}
 use Rattle.std.proofs.lemmas.List.Folds.{list_all-append}
 use Rattle.relay_types.specs.declared.record.Record.{Record}
@@ -11,7 +10,7 @@ use Rattle.relay_types.specs.declared.state.State.TheVariants.{Pending}
 use Rattle.relay_types.specs.Records.{Accepted}
 use Rattle.relay_types.specs.Deliveries.{accepted, attempts_of, state_of, is_in_state, is_pending, due_of, known_as}
 use Rattle.relay_types.specs.Endpoints.{Endpoint, endpoints, endpoint_of}
-use Rattle.relay_types.specs.Legal.{may_follow, may_all_follow, is_within_limits, is_status, is_legal, IsLegal}
+use Rattle.relay_types.specs.Legal.{may_follow, is_within_limits, is_status, is_legal, IsLegal}
 use Rattle.relay_types.specs.Rows.{Rows, EndpointRow, rows_of, put_record}
 use Rattle.relay_types.specs.Lookups.{secrets_at, attempts_at}
 use Rattle.relay_types.specs.Alike.{RowsTellAll}

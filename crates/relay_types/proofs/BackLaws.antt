@@ -1,6 +1,6 @@
 -- The tables of endpoints, deliveries and attempts of the history that stands for sound rows are those of the rows, but for flags and secrets.
-use Rattle.std.proofs.Common.{◌≡◌, ◌<◌, ℕ, ◌+◌, ◌==◌, true, List, [], Some, length, map, refl, sym, ap, subst, ◌∙◌, arith}
-use Rattle.std.specs.Prelude.{find, filter_map, bytes_eq, slice_get, option_map, option_and_then}
+use Rattle.std.proofs.Common.{◌≡◌, ◌<◌, ℕ, ◌+◌, ◌==◌, true, List, [], Some, length, map, sym, ap, subst, ◌∙◌, arith}
+use Rattle.std.specs.Prelude.{find, filter_map, slice_get, option_map, option_and_then}
 use Rattle.std.specs.Option.{option_map_or}
 use Rattle.std.proofs.lemmas.Bool.{eqb-true}
 use Rattle.relay_types.specs.declared.record.Record.{Record}
@@ -8,14 +8,14 @@ use Rattle.relay_types.specs.Records.{numbered}
 use Rattle.relay_types.specs.Endpoints.{Endpoint, endpoint_by, endpoints, endpoint_of}
 use Rattle.relay_types.specs.Lookups.{name_at}
 use Rattle.relay_types.specs.Rows.{Rows, EndpointRow, DeliveryRow, AttemptRow, delivery_row, attempt_row, put_of}
-use Rattle.relay_types.specs.Sound.{AreKeyed, are_sound, is_put_at, is_delivery_at, history_from}
+use Rattle.relay_types.specs.Sound.{AreKeyed, are_sound, history_from}
 use Rattle.relay_types.proofs.RowLaws.{find_map}
 use Rattle.relay_types.proofs.LookupLaws.{endpoint_back}
 use Rattle.relay_types.proofs.TableLaws.{In, in_all, in_any, in_map, below_place, only_found, found_at, table_is}
 use Rattle.relay_types.proofs.FilterLaws.{rising_map}
 use Rattle.relay_types.proofs.StandLaws.{same_text, text_same}
 use Rattle.relay_types.proofs.ConditionLaws.{endpoint_below, delivery_below, attempt_below, same_named}
-use Rattle.relay_types.proofs.PlaceLaws.{Stands, of_put, of_delivery, of_attempt, of_flag, of_secrets, put_found, delivery_found, attempt_found, count, stands}
+use Rattle.relay_types.proofs.PlaceLaws.{Stands, put_found, delivery_found, attempt_found, count, stands}
 
 module _ (rows : Rows) (keyed : AreKeyed rows) (sound : are_sound rows ≡ true) where
   abbrev history : List Record

@@ -1,14 +1,14 @@
 -- What decoding into a slice says of a text: under a strict engine, a text that decodes is the encoding of what it
 -- decodes to, and the encoding of bytes for which there is room decodes to them.
-use Rattle.std.proofs.Common.{◌≡◌, ℕ, ◌≤◌, ◌/◌, ◌∙◌, nat_lt, Bool, true, false, List, [], length, replicate, cond, refl, ap, arith, inl, inr}
+use Rattle.std.proofs.Common.{◌≡◌, ℕ, ◌≤◌, ◌/◌, ◌∙◌, nat_lt, Bool, List, length, cond, ap, arith}
 use Rattle.std.specs.declared.option.Option.{Option}
-use Rattle.std.specs.declared.option.Option.TheVariants.{None, Some}
+use Rattle.std.specs.declared.option.Option.TheVariants.{None}
 use Rattle.std.specs.declared.result.Result.{Result}
 use Rattle.std.specs.declared.result.Result.TheVariants.{Ok, Err}
 use Rattle.std.proofs.lemmas.Bool.{cases_Bool, ltb-false, le-ltb}
 use Rattle.std.proofs.lemmas.List.{length-append, length-replicate}
 use Rattle.base64.specs.Decode.{Accepts, IsExact, or_else, or_error, bytes_fit, groups_before_last, decode_outcome}
-use Rattle.base64.specs.Rfc4648.{encode, encode_symbols, padding_len}
+use Rattle.base64.specs.Rfc4648.{encode}
 use Rattle.base64.specs.GeneralPurpose.{IsBytes, IsStrict, decode_slice_of, decoded_bytes_of, encode_of}
 use Rattle.base64.specs.declared.decode.DecodeError.{DecodeError}
 use Rattle.base64.specs.declared.decode.DecodeSliceError.{DecodeSliceError}

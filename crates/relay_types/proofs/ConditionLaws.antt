@@ -1,14 +1,14 @@
 -- What the conditions of sound rows say of each row.
-use Rattle.std.proofs.Common.{◌≡◌, ◌≤◌, ◌<◌, ◌^◌, ◌⊎◌, inl, inr, ◌+◌, ◌==◌, Bool, true, false, ◌&&◌, ◌||◌, not, nat_le, nat_lt, length, refl, arith}
+use Rattle.std.proofs.Common.{◌≡◌, ◌≤◌, ◌<◌, ◌^◌, ◌+◌, ◌==◌, Bool, true, false, ◌&&◌, ◌||◌, not, nat_le, nat_lt, length, refl, arith}
 use Rattle.std.specs.Prelude.{bytes_eq, count_by}
 use Rattle.std.specs.List.{list_any, list_all}
-use Rattle.std.proofs.lemmas.Bool.{eq-eqb, eqb-true, lt-ltb, ltb-true, leb-true, or_parts, or_cases, not-true}
+use Rattle.std.proofs.lemmas.Bool.{eq-eqb, eqb-true, lt-ltb, ltb-true, leb-true, or_parts, not-true}
 use Rattle.relay_types.specs.Values.{is_name, is_msg_id, is_target, is_max_limit, is_body, is_moment, are_secrets}
 use Rattle.relay_types.specs.Judging.{is_delivered_status, is_failed_status}
 use Rattle.relay_types.specs.Legal.{is_status}
 use Rattle.relay_types.specs.Lookups.{secrets_at}
 use Rattle.relay_types.specs.Rows.{Rows, EndpointRow, DeliveryRow, AttemptRow}
-use Rattle.relay_types.specs.Sound.{AreKeyed, are_sound, are_numbers_below, are_numbers_apart, are_endpoint_rows, is_endpoint_row, are_places, secret_rows_at, is_secrets_place, is_flag_place, is_gone_attempt_of, is_delivery_row, is_attempt_row, attempts_before, are_others_overtaken, is_delivery_at, is_attempt_at, is_taken}
+use Rattle.relay_types.specs.Sound.{AreKeyed, are_sound, are_numbers_below, are_numbers_apart, are_endpoint_rows, are_places, secret_rows_at, is_secrets_place, is_flag_place, is_gone_attempt_of, is_delivery_row, is_attempt_row, attempts_before, are_others_overtaken, is_delivery_at, is_attempt_at, is_taken}
 use Rattle.relay_types.proofs.KnownLaws.{and_first, and_second, and_both}
 use Rattle.relay_types.proofs.TableLaws.{In, in_all, in_none, in_any, same_number}
 use Rattle.relay_types.proofs.StandLaws.{same_text}

@@ -1,5 +1,5 @@
 -- The flags and the secrets of the history that stands for sound rows are those of the rows.
-use Rattle.std.proofs.Common.{◌≡◌, ◌≤◌, ◌<◌, inl, inr, ℕ, ◌+◌, ◌==◌, Bool, true, false, ◌&&◌, nat_lt, List, [], ◌∷◌, Option, Some, None, map, refl, sym, ap, subst, ◌∙◌, arith}
+use Rattle.std.proofs.Common.{◌≡◌, ◌≤◌, ◌<◌, inl, inr, ℕ, ◌+◌, ◌==◌, Bool, true, false, ◌&&◌, List, [], ◌∷◌, Option, Some, None, map, refl, sym, ap, ◌∙◌, arith}
 use Rattle.std.specs.Prelude.{is_some, filter_map, flat_map, bytes_eq, slice_get, option_and_then, unwrap_or, if◌then◌else◌}
 use Rattle.std.specs.List.{list_any, list_all, enumerate_from}
 use Rattle.std.specs.Option.{option_map_or}
@@ -12,7 +12,7 @@ use Rattle.relay_types.specs.Judging.{is_gone_status}
 use Rattle.relay_types.specs.Endpoints.{Endpoint, endpoints, is_delivery_of, enabled_by, is_enabled, secrets_by, secrets_of}
 use Rattle.relay_types.specs.Lookups.{name_at, secrets_at}
 use Rattle.relay_types.specs.Rows.{Rows, EndpointRow, SecretRow, DeliveryRow, AttemptRow, endpoint_row, secret_rows, last_seq, rows_of}
-use Rattle.relay_types.specs.Sound.{AreKeyed, are_sound, is_gone_attempt_of, secret_rows_at, put_entry, outcome_entry, secrets_entry, history_from}
+use Rattle.relay_types.specs.Sound.{AreKeyed, are_sound, secret_rows_at, put_entry, outcome_entry, secrets_entry, history_from}
 use Rattle.relay_types.proofs.KnownLaws.{and_first, and_second, and_both}
 use Rattle.relay_types.proofs.GrowthLaws.{map-none}
 use Rattle.relay_types.proofs.LookupLaws.{endpoint_back}

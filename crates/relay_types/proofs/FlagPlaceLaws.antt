@@ -1,13 +1,11 @@
 -- The rows of a legal history are sound: flags, deliveries, attempts, and the records that no row names.
 use Rattle.std.proofs.Common.{◌≡◌, ◌≤◌, ◌<◌, ◌⊎◌, inl, inr, ℕ, zero, suc, ◌+◌, ◌==◌, Bool, true, false, ◌&&◌, ◌||◌, not, nat_le, nat_lt, List, [], ◌∷◌, Option, Some, None, length, take, refl, sym, ap, subst, ◌∙◌, arith}
-use Rattle.std.specs.Prelude.{is_some, bytes_eq, slice_get, option_and_then, count_by, if◌then◌else◌}
+use Rattle.std.specs.Prelude.{is_some, slice_get, count_by, if◌then◌else◌}
 use Rattle.std.specs.List.{list_any, list_all, range_with_len}
-use Rattle.std.specs.Option.{option_map_or}
-use Rattle.std.proofs.lemmas.Bool.{ne_eqb, eq-eqb, eqb-true, lt-ltb, ltb-true, ltb-false, leb-false, and_left, and_right, or_left, or_right}
+use Rattle.std.proofs.lemmas.Bool.{eq-eqb, eqb-true, lt-ltb, ltb-true, ltb-false, leb-false, or_left, or_right}
 use Rattle.relay_types.specs.declared.record.Record.{Record}
 use Rattle.relay_types.specs.declared.record.Record.TheVariants.{Put, Secrets, Enabled, Accept, Outcome}
 use Rattle.relay_types.specs.declared.state.State.TheVariants.{Pending, Delivered, Exhausted}
-use Rattle.relay_types.specs.Records.{Accepted, accepted_by}
 use Rattle.relay_types.specs.Judging.{is_delivered_status, is_gone_status, is_failed_status}
 use Rattle.relay_types.specs.Values.{is_name, is_msg_id, is_body, is_moment}
 use Rattle.relay_types.specs.Deliveries.{accepted, attempts_of, is_in_state, is_delivered, failures_of, state_of, is_pending, known_as}

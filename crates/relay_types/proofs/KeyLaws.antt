@@ -1,15 +1,15 @@
 -- The rows of a legal history keep the schema's keys, and are sound.
 use Rattle.std.proofs.Common.{◌≡◌, ◌≤◌, ◌<◌, ◌⊎◌, inl, inr, ℕ, zero, suc, ◌+◌, ◌==◌, Bool, true, false, ◌&&◌, not, nat_le, nat_lt, List, [], ◌∷◌, ◌++◌, Option, Some, None, length, map, take, refl, sym, ap, subst, ◌∙◌, arith, append-nil, append_assoc, length-append}
-use Rattle.std.specs.Prelude.{is_some, find, filter, bytes_eq, slice_get, option_map, option_and_then, if◌then◌else◌}
+use Rattle.std.specs.Prelude.{is_some, filter, bytes_eq, slice_get, option_and_then, if◌then◌else◌}
 use Rattle.std.specs.List.{list_any, list_all, enumerate_from}
 use Rattle.std.proofs.lemmas.Bool.{ne_eqb, eq-eqb, eqb-true, ltb-true, le-leb}
 use Rattle.std.proofs.lemmas.List.{length-map}
 use Rattle.std.proofs.lemmas.List.Elements.{filter-append}
 use Rattle.relay_types.specs.declared.record.Record.{Record}
-use Rattle.relay_types.specs.declared.record.Record.TheVariants.{Put, Secrets, Enabled, Accept, Outcome}
-use Rattle.relay_types.specs.Records.{accepted_by, numbered}
+use Rattle.relay_types.specs.declared.record.Record.TheVariants.{Put, Secrets, Accept}
+use Rattle.relay_types.specs.Records.{accepted_by}
 use Rattle.relay_types.specs.Values.{is_name, is_target, is_max_limit, are_secrets}
-use Rattle.relay_types.specs.Deliveries.{accepted, attempts_of, is_in_state, state_of, is_pending, is_accept_as, known_as}
+use Rattle.relay_types.specs.Deliveries.{accepted, attempts_of, is_in_state, state_of, is_pending, known_as}
 use Rattle.relay_types.specs.declared.state.State.TheVariants.{Pending}
 use Rattle.relay_types.specs.Endpoints.{Endpoint, endpoint_by, endpoints, has_endpoint, secrets_by, secrets_of}
 use Rattle.relay_types.specs.Legal.{may_follow, may_all_follow, is_status, IsLegal}

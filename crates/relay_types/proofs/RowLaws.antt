@@ -1,5 +1,5 @@
 -- One more record changes the rows of a legal history as the table of changes says.
-use Rattle.std.proofs.Common.{◌≡◌, ◌<◌, ◌≤◌, ℕ, zero, suc, ◌+◌, Bool, true, false, ◌&&◌, nat_lt, List, [], ◌∷◌, ◌++◌, length, map, Option, Some, None, refl, sym, ap, subst, ◌∙◌, arith, append-nil, append_assoc}
+use Rattle.std.proofs.Common.{◌≡◌, ◌<◌, ℕ, zero, suc, ◌+◌, Bool, true, false, ◌&&◌, nat_lt, List, [], ◌∷◌, ◌++◌, length, map, Option, Some, None, refl, sym, ap, subst, ◌∙◌, arith, append-nil, append_assoc}
 use Rattle.std.specs.Prelude.{◌==◌, cond, is_some, find, filter, filter_map, flat_map, bytes_eq, slice_get, option_map, option_and_then, unwrap_or, if◌then◌else◌}
 use Rattle.std.specs.List.{enumerate_from, cons_option}
 use Rattle.std.specs.Option.{option_map_or}
@@ -12,8 +12,8 @@ use Rattle.relay_types.specs.declared.record.Record.{Record}
 use Rattle.relay_types.specs.declared.record.Record.TheVariants.{Put, Secrets, Enabled, Accept, Outcome}
 use Rattle.relay_types.specs.Lists.{last_of}
 use Rattle.relay_types.specs.Judging.{is_gone_status}
-use Rattle.relay_types.specs.Records.{Accepted, accepted_by, numbered}
-use Rattle.relay_types.specs.Deliveries.{accepted, is_pending}
+use Rattle.relay_types.specs.Records.{Accepted, accepted_by}
+use Rattle.relay_types.specs.Deliveries.{accepted}
 use Rattle.relay_types.specs.Endpoints.{Endpoint, endpoint_by, endpoints, endpoint_of, has_endpoint, enabled_by, is_enabled, secrets_by, secrets_of, is_delivery_of}
 use Rattle.relay_types.specs.Legal.{may_follow, IsLegal}
 use Rattle.relay_types.specs.Rows.{EndpointRow, SecretRow, DeliveryRow, endpoint_row, secret_rows, replace_secrets, delivery_row, change_where, put_of, put_by_name, put_by_delivery, last_seq, rows_of, put_record, put_rows}

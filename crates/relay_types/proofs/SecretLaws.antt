@@ -1,5 +1,5 @@
 -- The forms in which a secret is written don't overlap: a text is in one of them for one secret at most.
-use Rattle.std.proofs.Common.{◌≡◌, ℕ, ◌+◌, ◌*◌, ◌/◌, ◌%◌, ◌==◌, ◌<◌, ◌≤◌, ◌∙◌, Bool, true, false, not, List, [], ◌∷◌, ◌++◌, length, replicate, slice_index, codes, refl, sym, ap, arith, IsTrue, inl, inr, ◌⊎◌, ◌≢◌, Option, Some, None, Bor, unwrap_or, MatchOption, eqb, take, drop, bytes_eq}
+use Rattle.std.proofs.Common.{◌≡◌, ℕ, ◌+◌, ◌*◌, ◌/◌, ◌%◌, ◌==◌, ◌<◌, ◌≤◌, ◌∙◌, Bool, true, false, not, List, [], ◌∷◌, ◌++◌, length, replicate, slice_index, codes, refl, sym, ap, arith, IsTrue, inl, inr, ◌⊎◌, ◌≢◌, Option, Bor, unwrap_or, MatchOption, eqb, take, drop, bytes_eq}
 use Rattle.std.proofs.lemmas.Slice.Eq.{strip_prefix_is, bytes_eq-Decides}
 use Rattle.std.specs.Cmp.Lexicographic.{pointwise}
 use Rattle.std.proofs.lemmas.Bool.Decides.{Decides-eqb}

@@ -1,5 +1,5 @@
 -- Names, ids and targets are visible ASCII.
-use Rattle.std.proofs.Common.{◌≡◌, ℕ, ◌==◌, ◌∙◌, Bool, true, false, not, List, [], ◌∷◌, ◌++◌, length, take, drop, get_or, map, codes, IsTrue, refl, sym, ap, subst, take-append-drop, inl, inr, arith, eqb-true}
+use Rattle.std.proofs.Common.{◌≡◌, ℕ, ◌==◌, ◌∙◌, Bool, true, false, not, List, [], ◌∷◌, ◌++◌, length, take, drop, get_or, codes, IsTrue, refl, ap, subst, take-append-drop, inl, inr, arith, eqb-true}
 use Rattle.std.specs.Prelude.{◌&&◌, ◌||◌, nat_le}
 use Rattle.std.specs.Char.{to_ascii_lowercase}
 use Rattle.std.specs.List.{list_all, before_first, position_or_len}
@@ -12,7 +12,7 @@ use Rattle.std.proofs.lemmas.List.Sums.{prefix_len_stops}
 use Rattle.std.proofs.lemmas.Slice.Eq.{bytes_eq-Decides}
 use Rattle.relay_types.specs.declared.limits.TheConstants.{MAX_NAME_LEN, MAX_ID_LEN, MAX_HOST_LEN, MAX_TARGET_BYTES}
 use Rattle.relay_types.specs.Values.{is_visible_character, is_visible, is_between, is_text, is_lower, is_letter, is_digit, is_one_of, is_name, is_name_character, is_msg_id, is_msg_id_character}
-use Rattle.relay_types.specs.Values.{is_host_character, is_path_character, is_port_part, is_host, has_scheme, behind_scheme, authority_of, path_part_of, host_of, port_part_of, is_target, path_of, path_of_part}
+use Rattle.relay_types.specs.Values.{is_host_character, is_path_character, is_port_part, is_host, has_scheme, authority_of, path_part_of, host_of, port_part_of, is_target, path_of, path_of_part}
 
 -- ---- the tests of characters
 
