@@ -37,7 +37,16 @@ lane_named (l ∷ ls) endpoint lane e = grind (arith, bytes_decides, lane_named 
 -- the lane at an endpoint's place is replaced by another one of this endpoint
 pub set_at : (lanes : List Lane) (endpoint : List ℕ) (i : ℕ) (held new : Lane) → Some i ≡ position (is_of endpoint) lanes → held ≡ slice_index_or lanes i held → new.mark.endpoint ≡ held.mark.endpoint
     → (other : List ℕ) → lane_in (slice_set lanes i new) other ≡ (if bytes_eq endpoint other then Some new else lane_in lanes other)
-set_at lanes endpoint i held new at is keeps other = grind (arith, lane_at lanes endpoint i held at is, bytes_decides endpoint other, placed (is_of endpoint) lanes i at, bytes_decides new.mark.endpoint endpoint, find-set, find_past)
+set_at lanes endpoint i held new at is keeps other =
+    grind (
+      arith,
+      lane_at lanes endpoint i held at is,
+      bytes_decides endpoint other,
+      placed (is_of endpoint) lanes i at,
+      bytes_decides new.mark.endpoint endpoint,
+      find-set,
+      find_past,
+    )
 
 -- one more lane, of an endpoint that has none
 pub added : (lanes : List Lane) (new : Lane) → lane_in lanes new.mark.endpoint ≡ None

@@ -216,7 +216,14 @@ pub mark_changed : (lanes : List Lane) (endpoint : List ℕ) (i : ℕ) (held new
     → new.mark.endpoint ≡ held.mark.endpoint → new.mark ≡ change held.mark
     → (other : List ℕ) → mark_in (map (λ lane. lane.mark) (slice_set lanes i new)) other
     ≡ (if bytes_eq endpoint other then option_map change (mark_in (map (λ lane. lane.mark) lanes) other) else mark_in (map (λ lane. lane.mark) lanes) other)
-mark_changed lanes endpoint i held new change at is keeps changes other = grind (arith, now_marked lanes endpoint i held new at is keeps other, bytes_decides endpoint other, lane_at lanes endpoint i held at is, mark_at)
+mark_changed lanes endpoint i held new change at is keeps changes other =
+    grind (
+      arith,
+      now_marked lanes endpoint i held new at is keeps other,
+      bytes_decides endpoint other,
+      lane_at lanes endpoint i held at is,
+      mark_at,
+    )
 
 -- Which is next
 

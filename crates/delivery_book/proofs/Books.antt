@@ -1,6 +1,6 @@
 -- What ties the index, the counts and the room to the entries stays so with one more event.
 use Rattle.std.proofs.Common.{◌≡◌, ◌&&◌, ℕ, ◌+◌, ◌<◌, ◌≤◌, Bool, true, false, List, [], ◌∷◌, ◌++◌, Option, Some, None, length, get_or, refl, sym, ◌∙◌, ap, ltb, not, arith, cond, length-append}
-use Rattle.std.specs.Prelude.{find, option_map, bytes_eq}
+use Rattle.std.specs.Prelude.{find, count_by, option_map, bytes_eq}
 use Rattle.std.specs.Option.{option_or}
 use Rattle.std.specs.Cmp.{first_so, second_so}
 use Rattle.std.specs.Cmp.Lexicographic.{bytes_decides, slice_cmp}
@@ -24,7 +24,7 @@ use Rattle.delivery_book.specs.declared.keys.EventKey.{EventKey}
 use Rattle.delivery_book.specs.declared.progress.Progress.{Progress}
 use Rattle.delivery_book.specs.declared.tally.Tally.{Tally}
 use Rattle.delivery_book.specs.Entries.{new_entry, is_entry_as, state_in}
-use Rattle.delivery_book.specs.Fields.{IsBook, IsKeyed, IsIndex, IsTally, is_numbered, is_later, event_cmp, in_state, counts_for, has_room, one_of, is_counted}
+use Rattle.delivery_book.specs.Fields.{IsBook, IsKeyed, IsIndex, IsTally, is_numbered, is_waiting, is_later, event_cmp, in_state, counts_for, has_room, one_of, is_counted}
 use Rattle.delivery_book.proofs.Updates.{all_at, all_weaker, caught-push}
 
 -- Keys
@@ -74,14 +74,14 @@ read-last entries e k d h = ap (λ (x : Entry). x.seq) (ap (λ i. get_or (entrie
 
 -- what an entry's number and attempts are below
 pub below : (next : ℕ) (e : Entry) → is_numbered next e ≡ true → (e.seq < next) × (e.latest.attempts ≤ next + MAX_RECORDS)
-below next e h = grind (arith, ltb-true, and_first, ltb-false, and_second)
+below next e h = grind arith
 
 pub numbered_if : (next : ℕ) (e : Entry) → e.seq < next → e.latest.attempts ≤ next + MAX_RECORDS → is_numbered next e ≡ true
 numbered_if next e h l = and_both (ltb e.seq next) _ (lt-ltb e.seq next h) (ap not (le-ltb (next + MAX_RECORDS) e.latest.attempts l))
 
 keyed-push : (index later : BTreeMap EventKey ℕ) (entries : List Entry) (next settled n : ℕ) (e : Entry) → IsKeyed entries index next settled n → next ≤ e.seq → e.latest.attempts ≡ 0 → IsIndex later (entries ++ e ∷ [])
     → IsKeyed (entries ++ e ∷ []) later (e.seq + 1) settled n
-keyed-push index later entries next settled n e h l none indexed = grind (arith, read-front, read-last, list_all-append, and_both, all_weaker, numbered_if, below, length-append, all_at)
+keyed-push index later entries next settled n e h l none indexed = grind (arith, read-front, read-last, list_all-append, all_weaker, numbered_if, below, length-append, all_at)
 
 tally-push : (tally more : Tally) (picked : Entry → Progress) (entries : List Entry) (e : Entry) → IsTally tally picked entries
     → ((those : Option (List ℕ)) (asked : State) → in_state asked (counts_for more those) ≡ in_state asked (counts_for tally those) + one_of e.name (state_in (picked e)) those asked) → IsTally more picked (entries ++ e ∷ [])
@@ -89,7 +89,7 @@ tally-push tally more picked entries e counts again those asked =
     again those asked ∙ ap (λ m. m + one_of e.name (state_in (picked e)) those asked) (counts those asked) ∙ sym (sum_by_push (λ x. cond (is_counted picked those asked x) 1 0) entries e)
 
 found_still : (entries : List Entry) (e : Entry) (o : Unsettled) → is_later entries o ≡ true → is_later (entries ++ e ∷ []) o ≡ true
-found_still entries e o h = grind (arith, and_both, find-append, and_first, and_second)
+found_still entries e o h = grind (arith, find-append)
 
 pub book-push : (index later : BTreeMap EventKey ℕ) (tally counted settled_tally opened_tally : Tally) (entries : List Entry) (unsettled : List Unsettled) (room more_room next settled n : ℕ) (seq : ℕ) (name id body : List ℕ) (at : ℕ)
     → IsBook entries index tally settled_tally unsettled room next settled n → next ≤ seq → find (is_entry_as name id) entries ≡ None
@@ -98,7 +98,20 @@ pub book-push : (index later : BTreeMap EventKey ℕ) (tally counted settled_tal
     → ((those : Option (List ℕ)) → counts_for opened_tally those ≡ counts_for settled_tally those) → has_room opened_tally name ≡ true
     → ((asked : List ℕ) → has_room settled_tally asked ≡ true → has_room opened_tally asked ≡ true) → length entries + 1 ≤ more_room
     → IsBook (entries ++ new_entry seq name id body at ∷ []) later counted opened_tally unsettled more_room (seq + 1) settled n
-book-push index later tally counted settled_tally opened_tally entries unsettled room more_room next settled n seq name id body at h l unknown updated again same opened stays enough = grind (arith, keyed-push index later entries next settled n (new_entry seq name id body at) h.keyed l refl (indexed-push index later entries (new_entry seq name id body at) h.keyed.indexed unknown updated), indexed-push index later entries (new_entry seq name id body at) h.keyed.indexed unknown updated, take-append-le n entries (new_entry seq name id body at ∷ []) h.keyed.settled_within, and_both (has_room opened_tally name) true opened refl, caught-push unsettled entries seq name id body at h.queue.caught_up, length-append entries (new_entry seq name id body at ∷ []), tally-push, list_all-append, all_weaker, found_still, sum_by_push)
+book-push index later tally counted settled_tally opened_tally entries unsettled room more_room next settled n seq name id body at h l unknown updated again same opened stays enough = record {
+  keyed = keyed-push index later entries next settled n (new_entry seq name id body at) h.keyed l refl (indexed-push index later entries (new_entry seq name id body at) h.keyed.indexed unknown updated);
+  latest = tally-push tally counted (λ e. e.latest) entries (new_entry seq name id body at) h.latest again;
+  settled = λ those asked. ap (in_state asked) (same those) ∙ h.settled those asked
+      ∙ ap (count_by (is_counted (λ e. e.settled) those asked)) (sym (take-append-le n entries (new_entry seq name id body at ∷ []) h.keyed.settled_within));
+  opened = list_all-append (λ e. has_room opened_tally e.name) entries (new_entry seq name id body at ∷ [])
+      ∙ and_both _ _ (all_weaker (λ e. has_room settled_tally e.name) (λ e. has_room opened_tally e.name) entries (λ e is. stays e.name is) h.opened) (and_both (has_room opened_tally name) true opened refl);
+  queue = record {
+    later = all_weaker (is_later entries) (is_later (entries ++ new_entry seq name id body at ∷ [])) unsettled (λ o is. found_still entries (new_entry seq name id body at) o is) h.queue.later;
+    counted = omega (arith, h.queue.counted, sum_by_push (λ e. cond (is_waiting e) 1 0) entries (new_entry seq name id body at));
+    caught_up = caught-push unsettled entries seq name id body at h.queue.caught_up;
+    room = omega (arith, enough, length-append entries (new_entry seq name id body at ∷ []));
+  };
+}
 
 -- the same keys and counts, with as much room or more
 pub book-same : (index kept : BTreeMap EventKey ℕ) (tally counted settled_tally opened_tally : Tally) (entries : List Entry) (unsettled : List Unsettled) (room more_room next settled n : ℕ)

@@ -38,12 +38,12 @@ first_below entries seq n h below above =
 
 -- a list in ascending order is parted by a seq
 pub parted : (entries : List Entry) (seq : ℕ) → IsAscending entries → IsPartitionedBy (λ e. ltb e.seq seq) entries
-parted entries seq up = grind (arith, IsPartitionedBy-ltb, cases_eq)
+parted entries seq up = grind (arith, IsPartitionedBy-ltb)
 
 -- the entry at a seq, where the n entries before it stand below that seq
 pub entry_at-found : (entries : List Entry) (seq n : ℕ) (d : Entry) → n < length entries → ((k : ℕ) (e : Entry) → k < n → (get_or entries k e).seq < seq)
     → (get_or entries n d).seq ≡ seq → entry_at entries seq ≡ Some (get_or entries n d)
-entry_at-found entries seq n d l below e = grind (arith, find_at, position_or_len_is, eq-eqb, slice_get-get_or, ne_eqb)
+entry_at-found entries seq n d l below e = grind (arith, find_at, position_or_len_is, slice_get-get_or)
 
 pub entry_at-none : (entries : List Entry) (seq : ℕ) → ((k : ℕ) (d : Entry) → k < length entries → (get_or entries k d).seq ≢ seq) → entry_at entries seq ≡ None
 entry_at-none [] seq apart = refl
@@ -54,7 +54,7 @@ entry_at-none (x ∷ xs) seq apart =
 -- no entry has a seq that only an entry from n on, which stands above it, or below n could have
 pub apart : (entries : List Entry) (seq n : ℕ) → ((k : ℕ) (e : Entry) → k < n → (get_or entries k e).seq < seq) → ((k : ℕ) (e : Entry) → n ≤ k → k < length entries → seq ≤ (get_or entries k e).seq)
     → IsAscending entries → ((d : Entry) → n < length entries → (get_or entries n d).seq ≢ seq) → (k : ℕ) (d : Entry) → k < length entries → (get_or entries k d).seq ≢ seq
-apart entries seq n below above up other k d h same = grind (arith, cases_eq)
+apart entries seq n below above up other k d h same = grind arith
 
 -- the entries between two places of the list are counted once
 pub count-slice : {X : Type 0} (p : X → Bool) (xs : List X) (n m : ℕ) → n ≤ m → count_by p (take n xs) + count_by p (take (m - n) (drop n xs)) ≡ count_by p (take m xs)

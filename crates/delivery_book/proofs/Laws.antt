@@ -119,7 +119,16 @@ stands_other book records settled r h other =
 -- One more outcome
 
 pub free_means : (book : BookValue) (records : List Record) (settled d : ℕ) → StandsFor book records settled → takes_outcome book d ≡ is_free records settled d
-free_means book records settled d h = grind (arith, entry_at-entries records settled d, attempts_of-split records settled d, length-append (attempts_of (take settled records) d) (attempts_of (drop settled records) d), eq-eqb, ne_eqb, cases_eq)
+free_means book records settled d h =
+    grind (
+      arith,
+      entry_at-entries records settled d,
+      attempts_of-split records settled d,
+      length-append (attempts_of (take settled records) d) (attempts_of (drop settled records) d),
+      eq-eqb,
+      ne_eqb,
+      cases_eq,
+    )
 
 pub stands_outcome : (book : BookValue) (records : List Record) (settled seq delivery attempt status at : ℕ) → StandsFor book records settled → seq ≡ length records → takes_outcome book delivery ≡ true
     → StandsFor (with_outcome book seq delivery status at) (records ++ Outcome delivery attempt status at ∷ []) settled

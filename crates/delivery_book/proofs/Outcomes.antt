@@ -26,16 +26,22 @@ use Rattle.delivery_book.proofs.Progresses.{empty_if}
 -- One more outcome
 
 open_means : (x : Entry) → is_open x ≡ true → (state_in x.latest ≡ Pending) × (x.latest.attempts ≡ x.settled.attempts)
-open_means x h = grind (arith, and_first, eqb-true, and_second)
+open_means x h = grind arith
 
 -- an open entry has no outcome that waits, and with one more it has
 waits_more : (status at : ℕ) (entries : List Entry) (i : ℕ) (x : Entry) → i < length entries → x ≡ get_or entries i x → is_open x ≡ true
     → count_by is_waiting (set entries i (with_attempt status at x)) ≡ count_by is_waiting entries + 1
-waits_more status at entries i x h is free = grind (arith, sum_by-set, eq-eqb, open_means, ne_eqb)
+waits_more status at entries i x h is free = grind (arith, sum_by-set, open_means)
 
 -- so there is room for it
 pub room_for : (entries : List Entry) (unsettled : List Unsettled) (room i : ℕ) (x : Entry) → IsQueue entries unsettled room → i < length entries → x ≡ get_or entries i x → is_open x ≡ true → length unsettled < room
-room_for entries unsettled room i x h inside is free = grind (arith, waits_more 0 0 entries i x inside is free, count_by-le-length is_waiting (set entries i (with_attempt 0 0 x)), length-set entries i (with_attempt 0 0 x))
+room_for entries unsettled room i x h inside is free =
+    grind (
+      arith,
+      waits_more 0 0 entries i x inside is free,
+      count_by-le-length is_waiting (set entries i (with_attempt 0 0 x)),
+      length-set entries i (with_attempt 0 0 x),
+    )
 
 pub book-outcome : (index : BTreeMap EventKey ℕ) (tally less more settled_tally : Tally) (entries : List Entry) (unsettled : List Unsettled) (room next settled n : ℕ) (seq delivery status at i : ℕ) (x : Entry)
     → IsBook entries index tally settled_tally unsettled room next settled n → next ≤ seq → i < length entries → x ≡ get_or entries i x → x.seq ≡ delivery → is_open x ≡ true
@@ -90,7 +96,7 @@ none_settled (x ∷ xs) index next settled n h none = ⊎_elim (λ lt. absurd (o
 
 -- what the test of the condition tells
 pub restorable_means : (book : BookValue) (delivery : ℕ) (x : Entry) → may_restore book delivery ≡ true → entry_at book.entries delivery ≡ Some x → (book.settled_seq ≡ 0) × (book.unsettled ≡ []) × (x.latest.attempts < MAX_RECORDS)
-restorable_means book delivery x h there = grind (arith, and_second, eqb-true, and_first, empty_if, ltb-true)
+restorable_means book delivery x h there = grind (arith, empty_if)
 
 pub book-restored : (index : BTreeMap EventKey ℕ) (tally less more settled_tally : Tally) (entries : List Entry) (unsettled : List Unsettled) (room next settled n : ℕ) (delivery status at i : ℕ) (x : Entry)
     → IsBook entries index tally settled_tally unsettled room next settled n → unsettled ≡ [] → settled ≡ 0 → i < length entries → x ≡ get_or entries i x → x.seq ≡ delivery → x.latest.attempts < MAX_RECORDS
@@ -203,4 +209,4 @@ front_is outcomes rest o popped e first is = e ∙ ap (λ p. option_to_list p ++
 -- its delivery is one of the settled events
 pub first_settled : (entries : List Entry) (index : BTreeMap EventKey ℕ) (o : Unsettled) (rest : List Unsettled) (next settled n i : ℕ) (x : Entry) → IsKeyed entries index next settled n → list_all (is_later entries) (o ∷ rest) ≡ true
     → o.seq < settled → i < length entries → x ≡ get_or entries i x → x.seq ≡ o.delivery → i < n
-first_settled entries index o rest next settled n i x h later before inside is same = grind (arith, ltb-true, and_second, and_first)
+first_settled entries index o rest next settled n i x h later before inside is same = grind arith

@@ -64,7 +64,7 @@ all_earlier records s d none = attempts_of-split records s d ∙ ap (λ more. at
 
 pub pending_means : (delivered : Bool) (failures : ℕ) → state_by delivered failures ≡ Pending → (delivered ≡ false) × (failures < 10)
 pending_means true failures h = absurd (let e = h in cc)
-pending_means false failures h = grind (arith, leb-false)
+pending_means false failures h = grind arith
 
 -- the attempt that a status and a moment make
 abbrev ended : ℕ → ℕ → Attempt
@@ -83,7 +83,7 @@ after_delivered p status at pending is =
 
 pub after_gone : (p : Progress) (status at : ℕ) → state_in p ≡ Pending → is_delivered_status status ≡ false → is_gone_status status ≡ true
     → record p { attempts = p.attempts + 1; due = Some at; last_status = Some status } ≡ progress_after status at p
-after_gone p status at pending taken is = grind (arith, or_is, no_failure, pending_means, lt-leb)
+after_gone p status at pending taken is = grind (arith, or_is, no_failure, pending_means)
 
 pub after_failed : (p : Progress) (status at : ℕ) → state_in p ≡ Pending → is_delivered_status status ≡ false → is_gone_status status ≡ false
     → record p { attempts = p.attempts + 1; failures = p.failures + 1; due = due_by false (p.failures + 1) (at + delay_after (p.failures + 1)); last_status = Some status } ≡ progress_after status at p

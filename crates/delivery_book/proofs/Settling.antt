@@ -24,7 +24,7 @@ some_is x y e = cc
 pub settled_first : (book next : BookValue) (outcomes : List Unsettled) → settle_first book outcomes ≡ Some next
     → (length next.unsettled + 1 ≡ length outcomes) × (settle_all next next.unsettled ≡ settle_all book outcomes)
 settled_first book next [] e = absurd (let h = e in cc)
-settled_first book next (o ∷ rest) e = grind (arith, map-after, one_and_others, some_is)
+settled_first book next (o ∷ rest) e = grind (arith, map-after, one_and_others)
 
 -- where the first one isn't settled, none is
 pub settled_none : (book : BookValue) (outcomes : List Unsettled) → book.unsettled ≡ outcomes → settle_first book outcomes ≡ None → settle_all book outcomes ≡ book

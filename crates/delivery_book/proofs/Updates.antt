@@ -122,7 +122,7 @@ tally-set tally less more picked entries i x y h is named counts fewer again tho
 
 -- each entry is counted where it is
 counted_once : (picked : Entry → Progress) (those : Option (List ℕ)) (x : Entry) → is_among those x.name ≡ true → ◌≡◌ {A = ℕ} (cond (is_counted picked those (state_in (picked x)) x) 1 0) 1
-counted_once picked those x among = grind (arith, and_both)
+counted_once picked those x among = grind arith
 
 pub counted_there : (tally : Tally) (picked : Entry → Progress) (entries : List Entry) (i : ℕ) (x : Entry) (those : Option (List ℕ)) → i < length entries → x ≡ get_or entries i x → IsTally tally picked entries
     → is_among those x.name ≡ true → 0 < in_state (state_in (picked x)) (counts_for tally those)
@@ -132,7 +132,14 @@ counted_there tally picked entries i x those h is counts among = grind (arith, g
 pub room_after : (tally less : Tally) (picked : Entry → Progress) (entries : List Entry) (i : ℕ) (x y : Entry) (those : Option (List ℕ)) → i < length entries → x ≡ get_or entries i x → is_among those y.name ≡ true → IsTally tally picked entries
     → in_state (state_in (picked y)) (counts_for less those) + one_of x.name (state_in (picked x)) those (state_in (picked y)) ≡ in_state (state_in (picked y)) (counts_for tally those)
     → in_state (state_in (picked y)) (counts_for less those) + 1 ≤ length entries
-room_after tally less picked entries i x y those h is among counts fewer = grind (arith, counted_once picked those y among, count_by-le-length (is_counted picked those (state_in (picked y))) (set entries i y), length-set entries i y, sum_by-set)
+room_after tally less picked entries i x y those h is among counts fewer =
+    grind (
+      arith,
+      counted_once picked those y among,
+      count_by-le-length (is_counted picked those (state_in (picked y))) (set entries i y),
+      length-set entries i y,
+      sum_by-set,
+    )
 
 -- there are no more of them than entries
 pub counted_most : (tally : Tally) (picked : Entry → Progress) (entries : List Entry) (those : Option (List ℕ)) (asked : State) → IsTally tally picked entries → in_state asked (counts_for tally those) ≤ length entries

@@ -81,7 +81,7 @@ entry_changed g entries d same = find_map g (λ e. eqb e.seq d) entries ∙ (λ 
 
 own_number : (entries : List Entry) (d : ℕ) (e : Entry) → entry_at entries d ≡ Some e → e.seq ≡ d
 own_number [] d e h = let wrong : None ≡ Some e = h in cc
-own_number (x ∷ xs) d e h = grind (arith, eqb-true, own_number xs d e)
+own_number (x ∷ xs) d e h = grind (arith, own_number xs d e)
 
 -- An outcome
 

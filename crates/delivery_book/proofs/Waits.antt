@@ -63,4 +63,4 @@ named-attempts n (Put name target max secrets ∷ rest) d = named-attempts (n + 
 named-attempts n (Secrets name secrets ∷ rest) d = named-attempts (n + 1) rest d
 named-attempts n (Enabled name flag ∷ rest) d = named-attempts (n + 1) rest d
 named-attempts n (Accept name id body at ∷ rest) d = named-attempts (n + 1) rest d
-named-attempts n (Outcome delivery attempt status at ∷ rest) d = grind (arith, lt-ltb, named-attempts (n + 1) rest d)
+named-attempts n (Outcome delivery attempt status at ∷ rest) d = grind (arith, named-attempts (n + 1) rest d)

@@ -28,7 +28,12 @@ pub change-value : (book : BookValue) (entries later : Entries) (names : List (L
     → Changes entries later c.name change
     → Some c.shown ≡ option_map (λ e. now_of (change e)) (entry_in entries c.name)
     → record { entries = listed later names; changes = cs ++ c ∷ []; next_seq = c.seq + 1; settled_seq = settled } ≡ with_change book c.seq c.name c.kind change
-change-value book entries later names cs c next settled change h is changed shown = grind (arith, changed-listed (entry_in entries) names (change_at c.name change) h, found (entry_in entries) names c.name h)
+change-value book entries later names cs c next settled change h is changed shown =
+    grind (
+      arith,
+      changed-listed (entry_in entries) names (change_at c.name change) h,
+      found (entry_in entries) names c.name h,
+    )
 
 pub put-value : (book : BookValue) (entries later : Entries) (names : List (List ℕ)) (cs : List Change) (e : Entry) (next settled : ℕ)
     → AreNames (entry_in entries) names → record { entries = listed entries names; changes = cs; next_seq = next; settled_seq = settled } ≡ book

@@ -84,7 +84,13 @@ stands-settled book records settled place h later within parted = record {
     endpoints = kept_endpoints place book.changes book.entries ∙ h.tells.endpoints;
   };
   shows = λ p le. record {
-    shown = λ asked. grind (arith, settled_moved book place asked (unknown asked), shown_in_turn place p book.changes asked (settled_in book asked) le parted, (h.shows p (omega (arith, later, le))).shown asked);
+    shown = λ asked.
+        grind (
+          arith,
+          settled_moved book place asked (unknown asked),
+          shown_in_turn place p book.changes asked (settled_in book asked) le parted,
+          (h.shows p (omega (arith, later, le))).shown asked,
+        );
     puts = omega (arith, (h.shows p (omega (arith, later, le))).puts, ap (count_by is_put) (from_later place p book.changes le), length-map book.entries (λ e. settled_at place book.changes e.name e));
   };
   flags = λ p le. omega (arith, h.flags p (omega (arith, later, le)), ap (count_by is_flag) (from_later place p book.changes le));

@@ -56,7 +56,16 @@ shows-more book records settled r c es place h at_end later tells same made coun
         let whole = take_all place (records ++ r ∷ []) (omega (arith, lt, at_end, length-append records (r ∷ []))) in
         let front = take_all place records (omega (arith, lt, at_end)) in
         record {
-          shown = λ name. grind (arith, same name, shown_at-below place book.changes c name (settled_in book name) lt, old.shown name, shown-now book records name h.tells, made name, shown-now (more book es c) (records ++ r ∷ []) name tells);
+          shown = λ name.
+              grind (
+                arith,
+                same name,
+                shown_at-below place book.changes c name (settled_in book name) lt,
+                old.shown name,
+                shown-now book records name h.tells,
+                made name,
+                shown-now (more book es c) (records ++ r ∷ []) name tells,
+              );
           puts = grind (arith, below_more place book.changes c lt, old.puts, length-map es endpoint_by_entry, length-map book.entries endpoint_by_entry, tells.endpoints, h.tells.endpoints);
         }
 

@@ -136,7 +136,14 @@ module _ (at : ℕ → Option (List ℕ)) (book : BookValue) (records : List Rec
 
   secrets_settled : (name : List ℕ) → IfSome (last_of (filter_map (secrets_by name) (drop k records))) (λ given. secrets_in (with_settled book place) name ≡ given)
   secrets_settled name =
-      grind (arith, entry_settled book place name, h.secrets name, take-append-drop k records, filter_map-append (secrets_by name) (take k records) (drop k records), last_of-append (filter_map (secrets_by name) (take k records)) (filter_map (secrets_by name) (drop k records)))
+      grind (
+        arith,
+        entry_settled book place name,
+        h.secrets name,
+        take-append-drop k records,
+        filter_map-append (secrets_by name) (take k records) (drop k records),
+        last_of-append (filter_map (secrets_by name) (take k records)) (filter_map (secrets_by name) (drop k records)),
+      )
 
 pub changes_settled : (at : ℕ → Option (List ℕ)) (book : BookValue) (records : List Record) (k place : ℕ) → place ≡ book.settled_seq + k → HasChanges at book records → HasChanges at (with_settled book place) (drop k records)
 changes_settled at book records k place is h = record {
@@ -146,9 +153,24 @@ changes_settled at book records k place is h = record {
   puts = puts_settled at book records k place is h;
   shown = λ name j.
       let parted = parted_rising book.settled_seq place book.changes (rises_told at book.settled_seq records book.changes h.changes) in
-      grind (arith, moved at book records k place is h name, first at book records k place is h name, shown_in_turn place (place + j) book.changes name (settled_in book name) (omega arith) parted, h.shown name (k + j), take-add k j records, after-append at name (take k records) (take j (drop k records)) (settled_in book name));
+      grind (
+        arith,
+        moved at book records k place is h name,
+        first at book records k place is h name,
+        shown_in_turn place (place + j) book.changes name (settled_in book name) (omega arith) parted,
+        h.shown name (k + j),
+        take-add k j records,
+        after-append at name (take k records) (take j (drop k records)) (settled_in book name),
+      );
   latest = λ name.
-      grind (arith, latest_same book place name, h.latest name, first at book records k place is h name, take-append-drop k records, after-append at name (take k records) (drop k records) (settled_in book name));
+      grind (
+        arith,
+        latest_same book place name,
+        h.latest name,
+        first at book records k place is h name,
+        take-append-drop k records,
+        after-append at name (take k records) (drop k records) (settled_in book name),
+      );
   secrets = secrets_settled at book records k place is h;
 }
 
@@ -159,12 +181,26 @@ module _ (at : ℕ → Option (List ℕ)) (book : BookValue) (records : List Rec
   secrets_more : (later : BookValue) (name : List ℕ) → secrets_in later name ≡ unwrap_or (secrets_by name entry) (secrets_in book name) → HasChanges at book records
       → IfSome (last_of (filter_map (secrets_by name) (records ++ entry ∷ []))) (λ given. secrets_in later name ≡ given)
   secrets_more later name is h =
-      grind (arith, filter_map-append (secrets_by name) records (entry ∷ []), append-nil (filter_map (secrets_by name) records), h.secrets name, last_of-append (filter_map (secrets_by name) records) (cons_option (secrets_by name entry) []))
+      grind (
+        arith,
+        filter_map-append (secrets_by name) records (entry ∷ []),
+        append-nil (filter_map (secrets_by name) records),
+        h.secrets name,
+        last_of-append (filter_map (secrets_by name) records) (cons_option (secrets_by name entry) []),
+      )
 
   -- one that changes no endpoint
   after_idle : changed_by at entry ≡ None → (name : List ℕ) (k : ℕ) (o : Option Shown) → shown_after at name (take k (records ++ entry ∷ [])) o ≡ shown_after at name (take k records) o
   after_idle none name k o =
-      grind (arith, cases_lt (length records) k, take_all k (records ++ entry ∷ []), take_all k records, take-append-le k records (entry ∷ []), length-append records (entry ∷ []), after-append at name records (entry ∷ []) o)
+      grind (
+        arith,
+        cases_lt (length records) k,
+        take_all k (records ++ entry ∷ []),
+        take_all k records,
+        take-append-le k records (entry ∷ []),
+        length-append records (entry ∷ []),
+        after-append at name records (entry ∷ []) o,
+      )
 
   changes_idle : changed_by at entry ≡ None → ((n : ℕ) → endpoint_by (n, entry) ≡ None) → ((name : List ℕ) → secrets_by name entry ≡ None) → HasChanges at book records → HasChanges at book (records ++ entry ∷ [])
   changes_idle none no_put gives h = record {

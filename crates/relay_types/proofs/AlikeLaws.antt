@@ -55,7 +55,7 @@ module _ (a b : List Record) (legal_a : IsLegal a) (legal_b : IsLegal b) (same :
   same_followers (Outcome delivery attempt status at) i = same_pending delivery i && (attempt == length (same_attempts delivery i) + 1 && is_status status)
 
 within_if_legal : (records : List Record) (entry : Record) → IsLegal (records ++ entry ∷ []) → is_within_limits entry ≡ true
-within_if_legal records entry h = grind (arith, and_first, and_second, list_all-append)
+within_if_legal records entry h = grind (arith, list_all-append)
 
 more_legal : (a b more : List Record) → IsLegal a → IsLegal b → rows_of a ≡ rows_of b → IsLegal (a ++ more) → IsLegal (b ++ more)
 more_legal a b [] legal_a legal_b same h = subst IsLegal (sym (append-nil b)) legal_b

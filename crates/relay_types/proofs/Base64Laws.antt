@@ -24,13 +24,13 @@ abbrev answer : Option DecodeError → Option DecodeError → ℕ → ℕ → �
 answer lone rest q n room = or_error lone (cond (nat_lt (room / 3) q) (Err OutputSliceTooSmall) (or_error rest (bytes_fit n room)))
 
 answer_ok : (lone rest : Option DecodeError) (q n room : ℕ) → or_else lone rest ≡ None → q ≤ room / 3 → n ≤ room → answer lone rest q n room ≡ Ok n
-answer_ok lone rest q n room e groups fits = grind (arith, le-ltb)
+answer_ok lone rest q n room e groups fits = grind arith
 
 fitted : (n room k : ℕ) → bytes_fit n room ≡ Ok k → (n ≡ k) × (k ≤ room)
-fitted n room k e = grind (arith, cases_Bool, ltb-false)
+fitted n room k e = grind arith
 
 answered : (lone rest : Option DecodeError) (q n room k : ℕ) → answer lone rest q n room ≡ Ok k → (or_else lone rest ≡ None) × (n ≡ k) × (k ≤ room)
-answered lone rest q n room k e = grind (arith, cases_Bool, fitted)
+answered lone rest q n room k e = grind (arith, fitted)
 
 -- the encoding of few bytes has few groups
 groups_fit : (t b : List ℕ) (pad : ℕ) (padding : Bool) (room : ℕ) → length b ≤ room → groups_before_last (length (encode t pad padding b)) ≤ room / 3

@@ -15,7 +15,7 @@ use Rattle.relay_types.proofs.StandLaws.{same_text}
 
 parts : (a b c d e f g h : Bool) → a && (b && (c && (d && (e && (f && (g && h)))))) ≡ true
     → (a ≡ true) × (b ≡ true) × (c ≡ true) × (d ≡ true) × (e ≡ true) × (f ≡ true) × (g ≡ true) × (h ≡ true)
-parts a b c d e f g h all = grind (arith, and_second, and_first)
+parts a b c d e f g h all = grind arith
 
 -- where the secrets of an endpoint were given
 pub data SecretsPlace (rows : Rows) (e : EndpointRow) : Type 0 where
@@ -103,14 +103,14 @@ module _ (rows : Rows) (keyed : AreKeyed rows) (sound : are_sound rows ≡ true)
   delivery_below d i = ltb-true d.seq rows.records (in_all delivery_is_below rows.deliveries d (and_first (list_all delivery_is_below rows.deliveries) _ behind_endpoints) i)
 
   pub attempt_below : (t : AttemptRow) → In t rows.attempts → t.seq < rows.records
-  attempt_below t i = grind (arith, ltb-true, in_all, and_second, behind_endpoints)
+  attempt_below t i = grind (arith, in_all, behind_endpoints)
 
   -- the numbers of two kinds are apart
   pub put_alone : (e : EndpointRow) → In e rows.endpoints → (is_delivery_at rows e.put ≡ false) × (is_attempt_at rows e.put ≡ false)
   put_alone e i = grind (arith, or_parts, not-true, in_all, and_first)
 
   pub delivery_alone : (d : DeliveryRow) → In d rows.deliveries → is_attempt_at rows d.seq ≡ false
-  delivery_alone d i = grind (arith, not-true, in_all, and_second)
+  delivery_alone d i = grind (arith, in_all)
 
   pub same_put : (e f : EndpointRow) → In e rows.endpoints → In f rows.endpoints → e.put ≡ f.put → e ≡ f
   same_put e f i j same = same_number (λ (e : EndpointRow). e.put) 0 rows.endpoints e f keyed.puts_rise i j same

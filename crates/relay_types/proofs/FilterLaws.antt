@@ -16,7 +16,7 @@ filter_none test (x ∷ xs) h = ap (λ b. cond b (x ∷ filter test xs) (filter 
 pub in_append : {X : Type 0} (xs ys : List X) (x : X) → In x (xs ++ ys) → In x xs ⊎ In x ys
 in_append [] ys x i = inr i
 in_append (y ∷ xs) ys x (inl same) = inl (inl same)
-in_append (y ∷ xs) ys x (inr i) = grind (arith, In, in_append xs ys x i)
+in_append (y ∷ xs) ys x (inr i) = grind (arith, in_append xs ys x i)
 
 pub rising_map : {X Y : Type 0} (f : X → Y) (number : Y → ℕ) (n : ℕ) (xs : List X) → IsRisingFrom (λ x. number (f x)) n xs → IsRisingFrom number n (map f xs)
 rising_map f number n [] rises = tt
@@ -29,7 +29,7 @@ flat_rows h f g (x ∷ xs) same = λ i. same x (inl refl) i ++ flat_rows h f g x
 -- those below one number that pass are fewer than those below a greater one, if one that passes has the first number
 pub no_fewer : {X : Type 0} (number : X → ℕ) (test : X → Bool) (a b : ℕ) (xs : List X) → a ≤ b → length (filter test (filter (λ x. nat_lt (number x) a) xs)) ≤ length (filter test (filter (λ x. nat_lt (number x) b) xs))
 no_fewer number test a b [] h = omega arith
-no_fewer {X} number test a b (x ∷ xs) h = grind (arith, ltb-true, ltb-false, no_fewer number test a b xs h)
+no_fewer {X} number test a b (x ∷ xs) h = grind (arith, no_fewer number test a b xs h)
 
 pub fewer : {X : Type 0} (number : X → ℕ) (test : X → Bool) (b : ℕ) (xs : List X) (y : X) → In y xs → test y ≡ true → number y < b → length (filter test (filter (λ x. nat_lt (number x) (number y)) xs)) < length (filter test (filter (λ x. nat_lt (number x) b) xs))
 fewer number test b [] y i passes h = absurd i
@@ -43,4 +43,4 @@ fewer {X} number test b (x ∷ xs) y (inl same) passes h =
     first : (c : Bool) → c ≡ false → (d : Bool) → d ≡ true → (t : Bool) → t ≡ true → length (filter test (low (number x))) ≤ length (filter test (low b))
         → length (filter test (cond c (x ∷ low (number x)) (low (number x)))) < length (filter test (cond d (x ∷ low b) (low b)))
     first c e d f t g more = grind arith
-fewer {X} number test b (x ∷ xs) y (inr i) passes h = grind (arith, ltb-true, ltb-false, fewer number test b xs y i passes h)
+fewer {X} number test b (x ∷ xs) y (inr i) passes h = grind (arith, fewer number test b xs y i passes h)

@@ -82,7 +82,7 @@ module _ (rows : Rows) (keyed : AreKeyed rows) (sound : are_sound rows ≡ true)
 
   -- an attempt stands behind the Put of its endpoint
   attempt_behind : (e : EndpointRow) (t : AttemptRow) → In t rows.attempts → list_any (is_own e t) rows.deliveries ≡ true → e.put < t.seq
-  attempt_behind e t j h = grind (arith, in_any, eqb-true, and_first, and_second, delivery_values, attempt_values)
+  attempt_behind e t j h = grind (arith, in_any, delivery_values, attempt_values)
 
   -- What sets a flag
 

@@ -44,10 +44,10 @@ module _ (records : List Record) (legal : IsLegal records) where
       name_in (Outcome delivery attempt status at) = []
 
   gone_speaks : (x : Endpoint) (t : AttemptRow) → In x (endpoints records) → is_gone_attempt_of rows (endpoint_row records x) t ≡ true → enabled_by records x.name (outcome_entry t) ≡ Some false
-  gone_speaks x t i h = grind (arith, and_first, in_any, and_second, eqb-true, endpoint_of_delivery, same_text)
+  gone_speaks x t i h = grind (arith, in_any, endpoint_of_delivery, same_text)
 
   speaks_gone : (x : Endpoint) (t : AttemptRow) → In x (endpoints records) → is_gone_status t.status ≡ true → is_delivery_of records x.name t.delivery ≡ true → is_gone_attempt_of rows (endpoint_row records x) t ≡ true
-  speaks_gone x t i gone own = grind (arith, accept_stands, put_named, and_both, any_in, delivery_in, eq-eqb)
+  speaks_gone x t i gone own = grind (arith, accept_stands, put_named, any_in, delivery_in)
 
   -- The place of an endpoint's flag
 
@@ -175,13 +175,13 @@ module _ (records : List Record) (legal : IsLegal records) where
 
   -- a record that says something isn't behind the last
   spoken : {Y : Type 0} (says : Record → Option Y) (put : ℕ) (default : Y) (n : ℕ) (r : Record) (y : Y) → slice_get records n ≡ Some r → says r ≡ Some y → Last says records put default → n ≤ last_seq (λ entry. is_some (says entry)) records put
-  spoken says put default n r y is speaks h3 = grind (arith, ltb-true, ltb-false)
+  spoken says put default n r y is speaks h3 = grind arith
 
   less_if : (n m : ℕ) → n ≤ m → n == m ≡ false → n < m
-  less_if n m h e = grind (arith, eq-eqb)
+  less_if n m h e = grind arith
 
   commanded : (x : Endpoint) (n : ℕ) → In x (endpoints records) → x.put < n → (n ≤ (endpoint_row records x).enabled_by) ⊎ (n ≤ (endpoint_row records x).secrets_by) → named_or_overtaken n ≡ true
-  commanded x n i put h = grind (arith, In, map_in, or_left, or_right, any_in, and_both, lt-ltb, eq-eqb, eqb-true, less_if)
+  commanded x n i put h = grind (arith, map_in, any_in)
 
   by_record : (n : ℕ) (r : Record) → slice_get records n ≡ Some r → named_or_overtaken n ≡ true
   by_record n (Put name target max secrets) is =

@@ -71,7 +71,7 @@ module _ (rows : Rows) (keyed : AreKeyed rows) (sound : are_sound rows ≡ true)
   front_is n = front_endpoints history n ∙ ap (filter (λ (x : Endpoint). nat_lt x.put n)) (endpoints_are rows keyed sound)
 
   has_before : (e : EndpointRow) (n : ℕ) → In e rows.endpoints → e.put < n → has_endpoint (take n history) e.name ≡ true
-  has_before e n i before = grind (arith, front_is, endpoint_back, filter_in, map_in, lt-ltb, not_found, same_text)
+  has_before e n i before = grind (arith, front_is, endpoint_back, filter_in, map_in, not_found, same_text)
 
   lacks_before : (e : EndpointRow) → In e rows.endpoints → has_endpoint (take e.put history) e.name ≡ false
   lacks_before e i = ap (λ es. is_some (find (λ (x : Endpoint). bytes_eq x.name e.name) es)) (front_is e.put) ∙ at (find (λ (x : Endpoint). bytes_eq x.name e.name) those) refl
@@ -166,7 +166,7 @@ module _ (rows : Rows) (keyed : AreKeyed rows) (sound : are_sound rows ≡ true)
   -- Each record
 
   follow : (n : ℕ) (r : Record) → Stands rows n r → may_follow (take n history) r ≡ true
-  follow n r h1 = grind (arith, and_both, lacks_before, lt-ltb, few_before, accept_follows, attempt_follows, has_before)
+  follow n r h1 = grind (arith, lacks_before, few_before, accept_follows, attempt_follows, has_before)
 
   within : (n : ℕ) (r : Record) → Stands rows n r → is_within_limits r ≡ true
   within n r (of_put e i same found is) =

@@ -74,7 +74,7 @@ places_count put n (s ∷ rest) = and_both (n == n) _ (eq-eqb n n refl) (places_
 -- How many endpoints
 
 one_more : (before : List Record) (entry : Record) → length (endpoints before) ≤ 256 → may_follow before entry ≡ true → length (endpoints (before ++ entry ∷ [])) ≤ 256
-one_more before entry few follow = grind (arith, endpoints-snoc, ltb-true, and_second, length-append, append-nil)
+one_more before entry few follow = grind (arith, endpoints-snoc, length-append, append-nil)
 
 few_endpoints : (before later : List Record) → length (endpoints before) ≤ 256 → may_all_follow before later ≡ true → length (endpoints (before ++ later)) ≤ 256
 few_endpoints before [] few h = subst (λ rs. length (endpoints rs) ≤ 256) (sym (append-nil before)) few
@@ -86,8 +86,8 @@ few_endpoints before (entry ∷ later) few h =
 
 numbered_in : (n m : ℕ) (rs : List Record) (r : Record) → slice_get rs m ≡ Some r → In (n + m, r) (enumerate_from n rs)
 numbered_in n m [] r is = absurd (let no = is in cc)
-numbered_in n zero (s ∷ rs) r is = grind (arith, some_same)
-numbered_in n (suc m) (s ∷ rs) r is = grind (arith, In, numbered_in (n + 1) m rs r is)
+numbered_in n zero (s ∷ rs) r is = grind arith
+numbered_in n (suc m) (s ∷ rs) r is = grind (arith, numbered_in (n + 1) m rs r is)
 
 pub front_place : (n m : ℕ) (rs : List Record) → m < n → slice_get (take n rs) m ≡ slice_get rs m
 front_place zero m rs h = absurd (omega (arith, h))
@@ -96,7 +96,7 @@ front_place (suc n) zero (r ∷ rs) h = refl
 front_place (suc n) (suc m) (r ∷ rs) h = front_place n m rs (omega (arith, h))
 
 known_if : (rs : List Record) (m : ℕ) (name id body : List ℕ) (at : ℕ) → slice_get rs m ≡ Some (Accept name id body at) → is_some (known_as rs name id) ≡ true
-known_if rs m name id body moment is = grind (arith, not_found, numbered_in, and_both, same_text)
+known_if rs m name id body moment is = grind (arith, not_found, numbered_in, same_text)
 
 false_if : (b : Bool) → (b ≡ true → ⊥) → b ≡ false
 false_if b h = grind arith
@@ -115,7 +115,9 @@ module _ (records : List Record) (legal : IsLegal records) where
       put = put_stands records x i
 
       limits : (k : ℕ) (target : List ℕ) (max : ℕ) (given : List (List ℕ)) → slice_get records k ≡ Some (Put x.name target max given) → are_secrets given ≡ true
-      limits k target max given is = grind (arith, and_second (is_max_limit max) (are_secrets given) (and_second (is_target target) (is_max_limit max && are_secrets given) (and_second (is_name x.name) (is_target target && (is_max_limit max && are_secrets given)) (within records legal k (Put x.name target max given) is))), and_second (is_target target) (is_max_limit max && are_secrets given) (and_second (is_name x.name) (is_target target && (is_max_limit max && are_secrets given)) (within records legal k (Put x.name target max given) is)), and_second (is_name x.name) (is_target target && (is_max_limit max && are_secrets given)) (within records legal k (Put x.name target max given) is), within records legal k (Put x.name target max given) is)
+      limits k target max given is =
+          and_second (is_max_limit max) (are_secrets given) (and_second (is_target target) (is_max_limit max && are_secrets given)
+          (and_second (is_name x.name) (is_target target && (is_max_limit max && are_secrets given)) (within records legal k (Put x.name target max given) is)))
 
       speaks : (k : ℕ) (r : Record) (given : List (List ℕ)) → slice_get records k ≡ Some r → ((target : List ℕ) × (max : ℕ) × (r ≡ Put x.name target max given)) ⊎ (r ≡ Secrets x.name given) → are_secrets given ≡ true
       speaks k r given is (inl (target, max, same)) = limits k target max given (is ∙ ap Some same)
@@ -166,10 +168,10 @@ module _ (records : List Record) (legal : IsLegal records) where
       let no : false ≡ true = ap not (sym known) ∙ free in cc
 
   ids_apart : (d : DeliveryRow) → In d rows.deliveries → (g : DeliveryRow) → In g rows.deliveries → (g.endpoint == d.endpoint && (bytes_eq g.id d.id && not (g.seq == d.seq))) ≡ false
-  ids_apart d i g j = grind (arith, false_if, eqb-true, and_first, and_second, text_same, no_later, eq-eqb)
+  ids_apart d i g j = grind (arith, text_same, no_later)
 
   number_is : (t : AttemptRow) → In t rows.attempts → t.number ≡ length (attempts_before rows t) + 1
-  number_is t i = grind (arith, eqb-true, and_first, and_second, in_all, attempt_rows)
+  number_is t i = grind (arith, in_all, attempt_rows)
 
   -- a later attempt of a delivery has a greater number
   later_number : (t s : AttemptRow) → In t rows.attempts → In s rows.attempts → s.delivery ≡ t.delivery → s.seq < t.seq → s.number < t.number
@@ -179,10 +181,10 @@ module _ (records : List Record) (legal : IsLegal records) where
       omega (arith, number_is t i, number_is s j, mine, more)
 
   numbers_once : (t : AttemptRow) → In t rows.attempts → (s : AttemptRow) → In s rows.attempts → (s.delivery == t.delivery && (s.number == t.number && not (s.seq == t.seq))) ≡ false
-  numbers_once t i s j = grind (arith, false_if, eqb-true, and_first, and_second, later_number, eq-eqb)
+  numbers_once t i s j = grind (arith, later_number)
 
   names_once : (e : EndpointRow) → In e rows.endpoints → (f : EndpointRow) → In f rows.endpoints → (bytes_eq f.name e.name && not (f.put == e.put)) ≡ false
-  names_once e i f j = grind (arith, row_endpoint, false_if, text_same, and_first, same_name, eq-eqb, and_second)
+  names_once e i f j = grind (arith, row_endpoint, text_same, same_name)
 
   -- the delivery of an attempt
   delivery_there : (t : AttemptRow) → In t rows.attempts → is_delivery_at rows t.delivery ≡ true

@@ -65,7 +65,7 @@ all_known-append records [] more h i = i
 all_known-append records (entry ∷ rest) more h i = (h.0, all_known-append records rest more h.1 i)
 
 known_if : (before : List Record) (entry : Record) → may_follow before entry ≡ true → IsKnown before entry
-known_if before entry h = grind (arith, and_first)
+known_if before entry h = grind arith
 
 all_known : (before later : List Record) → AllKnown before before → may_all_follow before later ≡ true → AllKnown (before ++ later) (before ++ later)
 all_known before [] known h = subst (λ r. AllKnown r r) (sym (append-nil before)) known
@@ -102,7 +102,7 @@ follows_if_legal records entry h =
     and_second (may_all_follow [] records) (may_follow records entry) (sym (may_all-snoc [] records entry) ∙ and_first (may_all_follow [] (records ++ entry ∷ [])) _ h)
 
 pub room_if_legal : (records : List Record) (entry : Record) → IsLegal (records ++ entry ∷ []) → length records < 2 ^ 62
-room_if_legal records entry h = grind (arith, and_second, leb-true, length-append)
+room_if_legal records entry h = grind (arith, length-append)
 
 -- a front of a legal history is legal
 
@@ -112,7 +112,7 @@ may_all-append before (r ∷ some) more h =
     and_both _ _ (and_first (may_follow before r) _ h) (may_all-append (before ++ r ∷ []) some more (and_second (may_follow before r) (may_all_follow (before ++ r ∷ []) (some ++ more)) h))
 
 pub legal_front : (some more : List Record) → IsLegal (some ++ more) → IsLegal some
-legal_front some more h = grind (arith, and_first, and_second, leb-true, and_both, may_all-append, list_all-append, le-leb, length-append)
+legal_front some more h = grind (arith, may_all-append, list_all-append, length-append)
 
 pub illegal_if : (records : List Record) (entry : Record) → may_follow records entry ≡ false → is_legal (records ++ entry ∷ []) ≡ false
 illegal_if records entry h = grind (arith, follows_if_legal)

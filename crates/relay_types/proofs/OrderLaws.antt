@@ -64,7 +64,7 @@ names_once-more (e ∷ es) new once lacks =
     )
 
 pub unnamed_if : (records : List Record) (name target : List ℕ) (max : ℕ) (secrets : List (List ℕ)) → may_follow records (Put name target max secrets) ≡ true → has_endpoint records name ≡ false
-unnamed_if records name target max secrets h = grind (arith, and_first)
+unnamed_if records name target max secrets h = grind arith
 
 names_follow : (records : List Record) (entry : Record) → HasNamesOnce (endpoints records) → may_follow records entry ≡ true → HasNamesOnce (endpoints (records ++ entry ∷ []))
 names_follow records (Put name target max secrets) once h =
@@ -109,4 +109,4 @@ none_tells name put es rises lacks = go put es rises lacks (omega arith)
 
 pub tells_by_number : (n : ℕ) (name : List ℕ) (es : List Endpoint) (found : Endpoint) → Rises n es → HasNamesOnce es → finds name es ≡ Some found → TellsByNumber name found.put es
 tells_by_number n name [] found rises once is = tt
-tells_by_number n name (e ∷ es) found rises once is = grind (arith, bytes_eq-Decides, eq-eqb, none_tells, finds_above, ne_eqb, flip_false, tells_by_number (e.put + 1) name es found rises.1 once.1)
+tells_by_number n name (e ∷ es) found rises once is = grind (arith, bytes_eq-Decides, none_tells, finds_above, flip_false, tells_by_number (e.put + 1) name es found rises.1 once.1)

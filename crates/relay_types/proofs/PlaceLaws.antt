@@ -83,7 +83,7 @@ overtaken_between put flag list n h = grind arith
 module _ (rows : Rows) where
   -- where no row has the number
   free : (n : ℕ) → Found rows n None None None → is_taken rows n ≡ false
-  free n found = grind (arith, or_from, unfound)
+  free n found = grind (arith, unfound)
 
   untaken : (n : ℕ) → is_taken rows n ≡ false → Found rows n None None None
   untaken n h =
@@ -93,11 +93,11 @@ module _ (rows : Rows) where
 
   -- where no endpoint names the number
   unnamed : (n : ℕ) → flag_found rows n ≡ None → list_found rows n ≡ None → list_any (λ (e : EndpointRow). e.enabled_by == n || e.secrets_by == n) rows.endpoints ≡ false
-  unnamed n flag list = grind (arith, none_if, or_from, not_found)
+  unnamed n flag list = grind (arith, none_if, not_found)
 
   -- where a row names the record, or it may have been overtaken, there is one
   there_is : (n : ℕ) → is_named rows n || list_any (is_overtaken_at n) rows.endpoints ≡ true → is_some (entry_at rows n) ≡ true
-  there_is n h = grind (arith, or_from, free, unnamed, unfound)
+  there_is n h = grind (arith, free, unnamed, unfound)
 
   module _ (keyed : AreKeyed rows) (sound : are_sound rows ≡ true) where
     abbrev history : List Record
@@ -169,7 +169,7 @@ module _ (rows : Rows) where
     not_first e n i found same = let no = not_found (put_is n) rows.endpoints e found.0 i in let yes = eq-eqb e.put n same in cc
 
     flag_behind : (e : EndpointRow) (n : ℕ) → In e rows.endpoints → e.enabled_by ≡ n → Found rows n None None None → e.put < n
-    flag_behind e n i is found = grind (arith, flag_place, FlagPlace, set_first, not_first, set_gone, not_found, eq-eqb, set_later)
+    flag_behind e n i is found = grind (arith, flag_place, set_first, not_first, set_gone, not_found, set_later)
 
     list_behind : (e : EndpointRow) (n : ℕ) → In e rows.endpoints → e.secrets_by ≡ n → Found rows n None None None → e.put < n
     list_behind e n i is found = at (secrets_place rows keyed sound e i)

@@ -49,7 +49,7 @@ and_false : (a : Bool) → a && false ≡ false
 and_false a = grind arith
 
 none_enabled : (records : List Record) (name : List ℕ) (entry : Record) → AllKnown records records → has_endpoint records name ≡ false → IsKnown records entry → enabled_by records name entry ≡ None
-none_enabled records name entry all lacks known = grind (arith, differs, not_delivered, and_false)
+none_enabled records name entry all lacks known = grind (arith, differs, not_delivered)
 
 no_enabled : (records : List Record) (name : List ℕ) (some : List Record) → AllKnown records records → has_endpoint records name ≡ false → AllKnown records some → filter_map (enabled_by records name) some ≡ []
 no_enabled records name [] all lacks known = refl
@@ -195,7 +195,8 @@ all_above put n given (e ∷ es) h rises =
 secrets_replaced : (n : ℕ) (name : List ℕ) (secrets : List (List ℕ)) (given : List ℕ → List (List ℕ)) (es : List Endpoint) (found : Endpoint) → Rises n es → HasNamesOnce es → finds name es ≡ Some found
     → rows_for (given_now name secrets given) es ≡ replace_secrets found.put secrets (rows_for given es)
 secrets_replaced n name secrets given [] found rises once is = absurd (let e = is in cc)
-secrets_replaced n name secrets given (e ∷ es) found rises once is = grind (arith, bytes_eq-Decides, flip_false, others_stay, finds, filter-append, drops, le-ltb, none_below, all_above, finds_above, append_assoc, keeps, lt-ltb, some_is, secrets_replaced (e.put + 1) name secrets given es found rises.1 once.1)
+secrets_replaced n name secrets given (e ∷ es) found rises once is =
+    grind (arith, bytes_eq-Decides, flip_false, others_stay, finds, filter-append, drops, none_below, all_above, finds_above, append_assoc, keeps, secrets_replaced (e.put + 1) name secrets given es found rises.1 once.1)
 
 -- a record that gives no secrets leaves their table
 secrets_table-same : (records : List Record) (entry : Record) → endpoint_by (length records, entry) ≡ None → ((name : List ℕ) → secrets_by name entry ≡ None)
@@ -287,7 +288,8 @@ endpoints_table-outcome records d attempt status at legal is =
 -- The rows after one more record
 
 pub rows_of-more : (records : List Record) (entry : Record) → IsLegal records → may_follow records entry ≡ true → rows_of (records ++ entry ∷ []) ≡ put_record (rows_of records) entry
-rows_of-more records entry legal follows = grind (arith, legal_known, unnamed_if, records-snoc, endpoints_table-put, secrets_table-put, deliveries-snoc, append-nil, attempts_table-snoc, endpoints_table-secrets, known_below, secrets_table-secrets, endpoints_table-enabled, secrets_table-same, and_first, endpoints_table-accept, put_of-more, put_by_name-is, endpoints_table-outcome)
+rows_of-more records entry legal follows =
+    grind (arith, legal_known, unnamed_if, records-snoc, endpoints_table-put, secrets_table-put, deliveries-snoc, append-nil, attempts_table-snoc, endpoints_table-secrets, known_below, secrets_table-secrets, endpoints_table-enabled, secrets_table-same, endpoints_table-accept, put_of-more, put_by_name-is, endpoints_table-outcome)
 
 pub rows_of-all : (records more : List Record) → IsLegal (records ++ more) → rows_of (records ++ more) ≡ put_rows (rows_of records) more
 rows_of-all records [] legal = ap rows_of (append-nil records)

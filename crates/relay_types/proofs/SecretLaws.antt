@@ -25,7 +25,15 @@ secret_bytes secret h = IsBytes-from_all secret (and_parts _ _ h).1
 
 -- base64 that is as long as padded base64 needs no padding
 pub no_padding : (a b : List ℕ) → padded a ≡ unpadded b → unpadded b ≡ padded b
-no_padding a b e = grind (arith, length-append (encode_symbols base64_symbols a) (replicate (padding_len (length a)) 61), length-append (encode_symbols base64_symbols b) [], length-encode_symbols base64_symbols a, length-encode_symbols base64_symbols b, length-replicate)
+no_padding a b e =
+    grind (
+      arith,
+      length-append (encode_symbols base64_symbols a) (replicate (padding_len (length a)) 61),
+      length-append (encode_symbols base64_symbols b) [],
+      length-encode_symbols base64_symbols a,
+      length-encode_symbols base64_symbols b,
+      length-replicate,
+    )
 
 -- `_` is no symbol
 no_underscore : (k : ℕ) → k < 64 → slice_index base64_symbols k ≡ 95 → ⊥

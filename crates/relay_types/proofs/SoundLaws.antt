@@ -83,10 +83,10 @@ module _ (records : List Record) (legal : IsLegal records) where
 
   -- the record that an endpoint's row names is its Put, or one of it that says something
   pub flag_record : (x : Endpoint) (p : ℕ) (r : Record) → In x (endpoints records) → (endpoint_row records x).enabled_by ≡ p → slice_get records p ≡ Some r → (code r ≡ 0) ⊎ (enabled_by records x.name r ≡ Some (is_enabled records x.name))
-  flag_record x p r i same is = grind (arith, flag_last x, code r, Last, unsaid, some_same, put_stands, said)
+  flag_record x p r i same is = grind (arith, flag_last x, put_stands)
 
   pub secrets_record : (x : Endpoint) (p : ℕ) (r : Record) → In x (endpoints records) → (endpoint_row records x).secrets_by ≡ p → slice_get records p ≡ Some r → (code r ≡ 0) ⊎ (secrets_by x.name r ≡ Some (secrets_of records x.name))
-  secrets_record x p r i same is = grind (arith, secrets_last x, code r, Last, unsaid, some_same, put_stands, said)
+  secrets_record x p r i same is = grind (arith, secrets_last x, put_stands)
 
   -- Numbers
 

@@ -41,10 +41,10 @@ put_made k (Accept name id body at) x h = absurd (let no = h in cc)
 put_made k (Outcome delivery attempt status at) x h = absurd (let no = h in cc)
 
 pub accept_made : (all : List Record) (k : ℕ) (r : Record) (d : DeliveryRow) → delivery_row all (k, r) ≡ Some d → (name : List ℕ) × (r ≡ Accept name d.id d.body d.at) × (d.seq ≡ k) × (d.endpoint ≡ put_of all name)
-accept_made all k r d h = grind (arith, some_same)
+accept_made all k r d h = grind arith
 
 pub outcome_made : (k : ℕ) (r : Record) (t : AttemptRow) → attempt_row (k, r) ≡ Some t → (r ≡ outcome_entry t) × (t.seq ≡ k)
-outcome_made k r t h = grind (arith, some_same)
+outcome_made k r t h = grind arith
 
 at_zero : (k : ℕ) → 0 + k ≡ k
 at_zero k = omega arith
@@ -146,7 +146,7 @@ module _ (records : List Record) where
   front_endpoints n = table_front endpoint_by (λ (e : Endpoint). e.put) (λ k r x made. (put_made k r x made).2) 0 n n records (sym (at_zero n))
 
   pub known_before : (n : ℕ) (name : List ℕ) → has_endpoint (take n records) name ≡ true → (x : Endpoint) × In x (endpoints records) × (x.put < n) × (x.name ≡ name)
-  known_before n name h = grind (arith, endpoint_named, in_filter, In, front_endpoints, ltb-true)
+  known_before n name h = grind (arith, endpoint_named, in_filter, front_endpoints)
 
   module _ (legal : IsLegal records) where
     pub same_name : (x y : Endpoint) → In x (endpoints records) → In y (endpoints records) → x.name ≡ y.name → x ≡ y

@@ -42,7 +42,7 @@ in_any {X} test (y ∷ ys) h = grind (arith, in_any test ys)
 
 pub found_in : {X : Type 0} (test : X → Bool) (xs : List X) (x : X) → find test xs ≡ Some x → In x xs × (test x ≡ true)
 found_in test [] x h = absurd (let no = h in cc)
-found_in test (y ∷ ys) x h = grind (arith, some_same, found_in test ys x)
+found_in test (y ∷ ys) x h = grind (arith, found_in test ys x)
 
 pub not_found : {X : Type 0} (test : X → Bool) (xs : List X) (x : X) → find test xs ≡ None → In x xs → test x ≡ false
 not_found test [] x h i = absurd i
@@ -210,7 +210,7 @@ module _ {X Y : Type 0} (g : ℕ × X → Option Y) (number : Y → ℕ) where
 
   pub row_in : (n k : ℕ) (xs : List X) (x : X) (y : Y) → slice_get xs k ≡ Some x → g (n + k, x) ≡ Some y → In y (filter_map g (enumerate_from n xs))
   row_in n k [] x y is made = absurd (let no = is in cc)
-  row_in n zero (z ∷ xs) x y is made = grind (arith, some_same, made)
+  row_in n zero (z ∷ xs) x y is made = grind (arith, made)
   row_in n (suc k) (z ∷ xs) x y is made = behind (g (n, z)) (row_in (n + 1) k xs x y is (subst (λ m. g (m, x) ≡ Some y) moved made))
     where
       moved : n + suc k ≡ n + 1 + k

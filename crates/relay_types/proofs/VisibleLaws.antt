@@ -103,7 +103,7 @@ abbrev is_colon : ℕ → Bool
 is_colon c = c == 58
 
 port_taken : (authority part : List ℕ) → part ≡ drop (length (before_first is_colon authority)) authority → IsTrue (is_port_part part) → IsTrue (is_visible part)
-port_taken authority part e h = grind (arith, begins_passed, and_from, text_taken, takes_digit, and_parts)
+port_taken authority part e h = grind (arith, begins_passed, text_taken, takes_digit)
 
 -- a text and its front up to a mark
 front_taken : (test : ℕ → Bool) (text : List ℕ) → IsTrue (is_visible (before_first test text)) → IsTrue (is_visible (drop (length (before_first test text)) text)) → IsTrue (is_visible text)
