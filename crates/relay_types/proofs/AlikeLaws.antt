@@ -14,7 +14,7 @@ use Rattle.relay_types.specs.Legal.{may_follow, is_within_limits, is_status, is_
 use Rattle.relay_types.specs.Rows.{Rows, EndpointRow, rows_of, put_record}
 use Rattle.relay_types.specs.Lookups.{secrets_at, attempts_at}
 use Rattle.relay_types.specs.Alike.{RowsTellAll}
-use Rattle.relay_types.proofs.KnownLaws.{and_first, and_second, legal_front, follows_if_legal, room_if_legal, legal_more}
+use Rattle.relay_types.proofs.KnownLaws.{legal_front, follows_if_legal, room_if_legal, legal_more}
 use Rattle.relay_types.proofs.RowLaws.{rows_of-more}
 use Rattle.relay_types.proofs.LookupLaws.{endpoint_back, endpoints-told, event_back, event_at, events, events-told, accepted-told, deliveries-told, seqs-told, known-told, attempt_back, attempts-told}
 use Rattle.relay_types.proofs.FlagLaws.{row_named, enabled-told, secrets-told}

@@ -2,7 +2,7 @@
 use Rattle.std.proofs.Common.{◌≡◌, ◌≤◌, ◌<◌, ◌⊎◌, inl, inr, ℕ, zero, suc, ◌+◌, ◌==◌, Bool, true, false, ◌&&◌, not, nat_le, nat_lt, List, [], ◌∷◌, ◌++◌, Option, Some, None, length, map, take, refl, sym, ap, subst, ◌∙◌, arith, append-nil, append_assoc, length-append}
 use Rattle.std.specs.Prelude.{is_some, filter, bytes_eq, slice_get, option_and_then, if◌then◌else◌}
 use Rattle.std.specs.List.{list_any, list_all, enumerate_from}
-use Rattle.std.proofs.lemmas.Bool.{ne_eqb, eq-eqb, eqb-true, ltb-true, le-leb}
+use Rattle.std.proofs.lemmas.Bool.{ne_eqb, eq-eqb, ltb-true, le-leb}
 use Rattle.std.proofs.lemmas.List.{length-map}
 use Rattle.std.proofs.lemmas.List.Elements.{filter-append}
 use Rattle.relay_types.specs.declared.record.Record.{Record}
@@ -20,7 +20,7 @@ use Rattle.relay_types.proofs.GrowthLaws.{endpoints-snoc}
 use Rattle.relay_types.proofs.OrderLaws.{Rises, puts_rise}
 use Rattle.relay_types.proofs.KnownLaws.{and_first, and_second, and_both}
 use Rattle.relay_types.proofs.RowLaws.{rows_for}
-use Rattle.relay_types.proofs.TableLaws.{some_same, In, in_all, all_if, none_if, any_in, in_map, map_in, not_found, table_rises}
+use Rattle.relay_types.proofs.TableLaws.{In, in_all, all_if, none_if, any_in, in_map, map_in, not_found, table_rises}
 use Rattle.relay_types.proofs.FilterLaws.{filter_all, filter_none, in_append, rising_map, flat_rows, fewer}
 use Rattle.relay_types.proofs.LastLaws.{Last, unsaid, said}
 use Rattle.relay_types.proofs.StandLaws.{follows, known_before, put_made, accept_made, outcome_made, put_stands, delivery_stands, delivery_in, attempt_stands, row_endpoint, same_name, put_named, same_text, text_same}

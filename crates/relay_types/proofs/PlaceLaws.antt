@@ -3,13 +3,13 @@ use Rattle.std.proofs.Common.{◌&&◌, ◌≡◌, ◌≤◌, ◌<◌, ℕ, zero
 use Rattle.std.specs.Prelude.{is_some, find, slice_get, option_map, if◌then◌else◌}
 use Rattle.std.specs.List.{list_any, range_with_len}
 use Rattle.std.specs.Option.{option_or}
-use Rattle.std.proofs.lemmas.Bool.{eq-eqb, ne_eqb, eqb-true, ltb-true, or_left, or_right, or_parts, or_from}
+use Rattle.std.proofs.lemmas.Bool.{eq-eqb, ne_eqb, eqb-true, ltb-true, or_left, or_right, or_parts}
 use Rattle.relay_types.specs.declared.record.Record.{Record}
 use Rattle.relay_types.specs.declared.record.Record.TheVariants.{Enabled}
 use Rattle.relay_types.specs.Rows.{Rows, EndpointRow, DeliveryRow, AttemptRow}
 use Rattle.relay_types.specs.Sound.{AreKeyed, are_sound, is_put_at, is_delivery_at, is_attempt_at, is_taken, is_named, is_overtaken_at, put_entry, accept_entry, outcome_entry, secrets_entry, overtaken_entry, entry_at, history_from}
 use Rattle.relay_types.proofs.TableLaws.{some_same, In, in_all, in_none, none_if, any_in, found_in, not_found, none_found, only_found, found_at, place_below, made}
-use Rattle.relay_types.proofs.ConditionLaws.{SecretsPlace, given_first, given_later, FlagPlace, set_first, set_gone, set_later, others, endpoint_below, delivery_below, attempt_below, put_alone, delivery_alone, secrets_place, flag_place}
+use Rattle.relay_types.proofs.ConditionLaws.{SecretsPlace, given_first, given_later, set_first, set_gone, set_later, others, endpoint_below, delivery_below, attempt_below, put_alone, delivery_alone, secrets_place, flag_place}
 
 none_there : {X : Type 0} (test : X → Bool) (xs : List X) → list_any test xs ≡ false → find test xs ≡ None
 none_there test xs h = none_found test xs (λ x i. in_none test xs x h i)

@@ -19,7 +19,7 @@ use Rattle.relay_types.specs.Legal.{may_follow, IsLegal}
 use Rattle.relay_types.specs.Rows.{EndpointRow, SecretRow, DeliveryRow, endpoint_row, secret_rows, replace_secrets, delivery_row, change_where, put_of, put_by_name, put_by_delivery, last_seq, rows_of, put_record, put_rows}
 use Rattle.relay_types.proofs.GrowthLaws.{numbered-snoc, secrets_of-snoc, endpoints-snoc, attempts_table-snoc, records-snoc, later_row, endpoint_row-snoc, endpoint_rows-snoc, accepted-before, endpoints_table-accept, endpoints_table-secrets, endpoints_table-enabled}
 use Rattle.relay_types.proofs.OrderLaws.{finds, flip_false, not_first, unnamed_if, Rises, HasNamesOnce, TellsByNumber, finds_above, tells_by_number, puts_rise, legal_names}
-use Rattle.relay_types.proofs.KnownLaws.{and_first, IsKnown, AllKnown, endpoint_of-more, legal_known, known_below, below_if_accepted, legal_front, follows_if_legal}
+use Rattle.relay_types.proofs.KnownLaws.{IsKnown, AllKnown, endpoint_of-more, legal_known, known_below, below_if_accepted, legal_front, follows_if_legal}
 
 -- A name that no endpoint has
 
