@@ -56,24 +56,23 @@ fn draw_name(rt: &impl Abort, numbers: &mut Numbers) -> Name {
     Name::read(&[letter]).expect(rt, "a name")
 }
 
-fn draw_secret(rt: &impl Abort, numbers: &mut Numbers) -> Secret {
+fn draw_secret(rt: &impl Abort, alloc: Global, numbers: &mut Numbers) -> Secret {
     let byte = numbers.below(256) as u8;
-    Secret::of(&[byte; 24]).expect(rt, "a secret")
+    let mut key = Vec::new(alloc);
+    key.resize(24, byte).expect(rt, "memory");
+    Secret::of(&key).expect(rt, "a secret")
 }
 
 /// One to four secrets.
-fn draw_secrets(rt: &impl Abort, numbers: &mut Numbers) -> Secrets {
-    let first = draw_secret(rt, numbers);
-    let second = draw_secret(rt, numbers);
-    let third = draw_secret(rt, numbers);
-    let fourth = draw_secret(rt, numbers);
-    let secrets = match numbers.below(4) {
-        0 => Secrets::of(&[first]),
-        1 => Secrets::of(&[first, second]),
-        2 => Secrets::of(&[first, second, third]),
-        _ => Secrets::of(&[first, second, third, fourth]),
-    };
-    secrets.expect(rt, "secrets")
+fn draw_secrets(rt: &impl Abort, alloc: Global, numbers: &mut Numbers) -> Secrets {
+    let mut all = Vec::new(alloc);
+    for _ in 0..4 {
+        let secret = draw_secret(rt, alloc, numbers);
+        all.push(secret).expect(rt, "memory");
+    }
+    let count = numbers.below(4) as usize + 1;
+    let list = all.get(..count).expect(rt, "secrets");
+    Secrets::of(list).expect(rt, "secrets")
 }
 
 fn draw_url(numbers: &mut Numbers) -> &'static [u8] {
@@ -101,7 +100,7 @@ fn draw_put(
 
 fn draw_command(rt: &impl Abort, alloc: Global, numbers: &mut Numbers) -> Command {
     let name = draw_name(rt, numbers);
-    let secrets = draw_secrets(rt, numbers);
+    let secrets = draw_secrets(rt, alloc, numbers);
     let url = draw_url(numbers);
     match numbers.below(6) {
         0 | 1 => draw_put(rt, alloc, numbers, (name, url, secrets)),
