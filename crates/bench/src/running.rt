@@ -18,7 +18,7 @@ use std::marker::Brand;
 use std::sync::ledger::{Blank, Ledger};
 
 // The batch is handed back where its commit was refused, and sealed and committed again.
-const LINES: &[&str] = &[
+static LINES: &[&str] = &[
     "put a http://127.0.0.1:9000/hook 100 whsec_MDEyMzQ1Njc4OTAxMjM0NTY3ODkwMTIz",
     "seal",
     "commit",
