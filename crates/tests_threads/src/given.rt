@@ -1,72 +1,83 @@
-//! A desk with an endpoint and events, and the vault that its batches are committed to.
+//! Names and events, and what is done with a desk and a vault before threads share the desk.
 
-use desk::{Command, Desk, Ticket};
+use desk::{Command, Desk};
 use group_commit::WrongTurn;
 use relay_types::{Body, MaxLimit, Moment, MsgId, Name, Secret, Secrets, Target};
 use spool::{Batch, CommitEnd, Receipt, Vault};
 use sqlite::Alter;
-use std::alloc::{AllocError, Global};
+use std::alloc::Global;
 use std::process::Abort;
 use std::sync::Arc;
 use std::sync::ledger::Ledger;
-use std::test::Fail;
 
 pub(crate) const MARK: u64 = 7;
+
+/// What is done before threads share the desk.
+pub(crate) enum Before {
+    /// The endpoint of this name is put.
+    Put(&'static [u8]),
+    /// An event of endpoint `a` is taken, with this id.
+    Submit(&'static [u8]),
+    /// Endpoint `a` is disabled.
+    Disable,
+    /// So many events of endpoint `a` are taken and settled, from `msg_1` on.
+    Fill(u32),
+    /// What waits is settled.
+    Turn,
+}
 
 pub(crate) fn holds(rt: &impl Abort, is: bool, what: &str) {
     assert!(rt; is, "{what}");
 }
 
-pub(crate) fn name() -> Result<Name, Fail> {
-    Ok(Name::read(b"a")?)
+pub(crate) fn name(rt: &impl Abort, text: &[u8]) -> Name {
+    Name::read(text).expect(rt, "a name")
 }
 
-pub(crate) fn moment() -> Result<Moment, Fail> {
-    Ok(Moment::of(1000)?)
+pub(crate) fn id(rt: &impl Abort, text: &[u8]) -> MsgId {
+    MsgId::read(text).expect(rt, "an id")
 }
 
-/// An event for the endpoint.
-#[derive(Drop)]
-pub(crate) struct Event {
-    pub(crate) now: Moment,
-    pub(crate) name: Name,
-    pub(crate) id: MsgId,
-    pub(crate) body: Body,
+pub(crate) fn moment(rt: &impl Abort, seconds: u64) -> Moment {
+    Moment::of(seconds).expect(rt, "a moment")
 }
 
-pub(crate) fn second(alloc: Global) -> Result<Event, Fail> {
-    Ok(Event {
-        now: moment()?,
-        name: name()?,
-        id: MsgId::read(b"msg_2")?,
-        body: body(alloc)?,
-    })
+/// The moment of the events.
+pub(crate) fn now(rt: &impl Abort) -> Moment {
+    moment(rt, 1000)
 }
 
-/// The command that puts the endpoint of this name.
-pub(crate) fn put(alloc: Global, name: &[u8]) -> Result<Command, Fail> {
-    Ok(Command::PutEndpoint {
-        name: Name::read(name)?,
-        target: Target::read(alloc, b"http://127.0.0.1:9000/hook")?,
-        max: MaxLimit::of(100)?,
-        secrets: Secrets::of(&[Secret::read(b"whsec_MDEyMzQ1Njc4OTAxMjM0NTY3ODkwMTIz")?])?,
-    })
+pub(crate) fn body(rt: &impl Abort, alloc: Global) -> Body {
+    let bytes = Vec::from_slice(alloc, b"{}").expect(rt, "memory");
+    let bytes = Arc::new(alloc, bytes).expect(rt, "memory");
+    Body::of(bytes).expect(rt, "a body")
 }
 
-pub(crate) fn body(alloc: Global) -> Result<Body, Fail> {
-    let bytes = Vec::from_slice(alloc, b"{}")?;
-    Ok(Body::of(Arc::new(alloc, bytes).map_err(AllocError::from)?)?)
-}
-
-pub(crate) fn submit<L: Ledger>(
-    desk: &mut Desk<L>,
-    alloc: Global,
-    id: &[u8],
-) -> Result<Ticket, Fail> {
-    match desk.submit(moment()?, name()?, MsgId::read(id)?, body(alloc)?) {
-        Ok(ticket) => Ok(ticket),
-        Err(_) => Err(Fail::from("an event was refused")),
+fn put(rt: &impl Abort, alloc: Global, text: &[u8]) -> Command {
+    let secret = Secret::read(b"whsec_MDEyMzQ1Njc4OTAxMjM0NTY3ODkwMTIz").expect(rt, "a secret");
+    Command::PutEndpoint {
+        name: name(rt, text),
+        target: Target::read(alloc, b"http://127.0.0.1:9000/hook").expect(rt, "a target"),
+        max: MaxLimit::of(100).expect(rt, "a limit"),
+        secrets: Secrets::of(&[secret]).expect(rt, "secrets"),
     }
+}
+
+/// The command that disables endpoint `a`.
+pub(crate) fn disable(rt: &impl Abort) -> Command {
+    Command::SetEnabled {
+        name: name(rt, b"a"),
+        flag: false,
+    }
+}
+
+fn command<L: Ledger>(rt: &impl Abort, desk: &mut Desk<L>, command: Command) {
+    holds(rt, desk.command(command).is_ok(), "the command is taken");
+}
+
+fn submit<L: Ledger>(rt: &impl Abort, alloc: Global, desk: &mut Desk<L>, text: &[u8]) {
+    let staged = desk.submit(now(rt), name(rt, b"a"), id(rt, text), body(rt, alloc));
+    holds(rt, staged.is_ok(), "the event is taken");
 }
 
 // The receipt of the batch, if the store takes it.
@@ -84,43 +95,70 @@ fn written<S: Alter>(vault: &mut Vault<S>, batch: Batch) -> Option<Receipt> {
     }
 }
 
-/// Seals what waits, commits it and settles it, if the store takes it.
-pub(crate) fn turn<L: Ledger, S: Alter>(
-    rt: &impl Abort,
-    desk: &mut Desk<L>,
-    vault: &mut Vault<S>,
-) -> Result<bool, Fail> {
+// Seals what waits, commits it and settles it, if the store takes it.
+fn turn<L: Ledger, S: Alter>(rt: &impl Abort, desk: &mut Desk<L>, vault: &mut Vault<S>) -> bool {
     let Ok(Some(batch)) = desk.seal() else {
-        return Err(Fail::from("nothing was sealed"));
+        panic!(rt; "nothing was sealed");
     };
     let Some(receipt) = written(vault, batch) else {
-        return Ok(false);
+        return false;
     };
     match desk.settle(receipt) {
-        Ok(_) => Ok(true),
+        Ok(_) => true,
         Err((_receipt, WrongTurn)) => panic!(rt; "the receipt was refused"),
     }
 }
 
-/// Puts the endpoint, which waits.
-pub(crate) fn put_endpoint<L: Ledger>(desk: &mut Desk<L>, alloc: Global) -> Result<(), Fail> {
-    match desk.command(put(alloc, b"a")?) {
-        Ok(_) => Ok(()),
-        Err(_) => Err(Fail::from("the endpoint was refused")),
-    }
+fn submit_numbered<L: Ledger>(rt: &impl Abort, alloc: Global, desk: &mut Desk<L>, number: u32) {
+    let text = format!(in alloc; "msg_{number}").expect(rt, "memory");
+    submit(rt, alloc, desk, text.as_bytes());
 }
 
-/// The endpoint and these events, settled if the store takes them.
-pub(crate) fn begin<L: Ledger, S: Alter>(
+fn fill<L: Ledger, S: Alter>(
     rt: &impl Abort,
     alloc: Global,
     desk: &mut Desk<L>,
     vault: &mut Vault<S>,
-    ids: &[&[u8]],
-) -> Result<bool, Fail> {
-    put_endpoint(desk, alloc)?;
-    for id in ids {
-        submit(desk, alloc, id)?;
+    count: u32,
+) {
+    for number in 1..=count {
+        submit_numbered(rt, alloc, desk, number);
+        if number % 256 == 0 || number == count {
+            holds(rt, turn(rt, desk, vault), "the events are settled");
+        }
     }
-    turn(rt, desk, vault)
+}
+
+// Whether the store took what is to be settled.
+fn is_done<L: Ledger, S: Alter>(
+    rt: &impl Abort,
+    alloc: Global,
+    desk: &mut Desk<L>,
+    vault: &mut Vault<S>,
+    step: &Before,
+) -> bool {
+    match step {
+        Before::Put(text) => command(rt, desk, put(rt, alloc, text)),
+        Before::Submit(text) => submit(rt, alloc, desk, text),
+        Before::Disable => command(rt, desk, disable(rt)),
+        Before::Fill(count) => fill(rt, alloc, desk, vault, *count),
+        Before::Turn => return turn(rt, desk, vault),
+    }
+    true
+}
+
+/// Takes the steps one after another, up to one that the store doesn't take. Whether it took all.
+pub(crate) fn are_done<L: Ledger, S: Alter>(
+    rt: &impl Abort,
+    alloc: Global,
+    desk: &mut Desk<L>,
+    vault: &mut Vault<S>,
+    steps: &[Before],
+) -> bool {
+    for step in steps {
+        if !is_done(rt, alloc, desk, vault, step) {
+            return false;
+        }
+    }
+    true
 }

@@ -5,16 +5,20 @@
 #[cfg(test)]
 mod answers;
 #[cfg(test)]
+mod asked;
+#[cfg(test)]
+mod cases;
+#[cfg(test)]
+mod courses;
+#[cfg(test)]
 mod crowd;
 #[cfg(test)]
 mod given;
 #[cfg(test)]
-mod keepers;
+mod seen;
 #[cfg(test)]
-mod opened;
+mod stand_ins;
 #[cfg(test)]
-mod posters;
-#[cfg(test)]
-mod threads;
+mod steps;
 #[cfg(test)]
 mod wakes;

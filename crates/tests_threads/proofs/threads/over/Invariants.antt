@@ -1,4 +1,0 @@
-use Rattle.tests_threads.proofs.threads.over.Given as goal
-
-abbrev pub ghosts-work : goal.ghosts-work
-ghosts-work g a = record { name = a.blank.name; parts = a.blank.parts }

@@ -1,0 +1,44 @@
+//! Requests, and their replies.
+
+use crate::given::{id, now};
+use crate::steps::Place;
+use delivery::Pass;
+use intake_shed::{Ask, AskBody, Reply, answer};
+use std::process::Abort;
+use std::sync::Wait;
+use std::sync::ledger::Ledger;
+use std::time::Clock;
+
+/// A request: the path, the ids of the event and the body.
+pub(crate) enum Request {
+    Put(&'static [u8], &'static [u8]),
+    Post(&'static [u8], &'static [&'static [u8]], &'static [u8]),
+    Get(&'static [u8]),
+}
+
+fn ask_of(request: &Request) -> Ask<'static> {
+    let (method, path, ids, body): (&[u8], &[u8], &[&[u8]], &[u8]) = match *request {
+        Request::Put(path, body) => (b"PUT", path, &[], body),
+        Request::Post(path, ids, body) => (b"POST", path, ids, body),
+        Request::Get(path) => (b"GET", path, &[], b""),
+    };
+    Ask {
+        method,
+        path,
+        ids,
+        body: AskBody::Whole(body),
+    }
+}
+
+impl<L: Ledger, R: Wait + Clock + Abort> Place<'_, L, R> {
+    /// The reply to a request, whose event gets the id `fresh` if it has none.
+    pub(crate) fn reply(&self, request: &Request, pass: &mut Pass) -> Reply {
+        let (fresh, now) = (id(self.rt, b"fresh"), now(self.rt));
+        let ask = ask_of(request);
+        answer(self.rt, self.alloc, self.shared, &ask, fresh, now, pass)
+    }
+}
+
+pub(crate) fn is_answered(reply: &Reply, status: u16, retry: bool, text: &str) -> bool {
+    reply.status == status && reply.retry == retry && reply.body.as_str() == text
+}

@@ -1,0 +1,259 @@
+//! What a thread does with a desk that others share, step for step.
+
+use crate::asked::{Request, is_answered};
+use crate::crowd::{are_each_delivered, submit_each, work};
+use crate::given::{body, disable, id, moment, name, now};
+use crate::seen::{Seen, TURNS, count, have_come, pause, wait_a_turn};
+use crate::stand_ins::{Refusing, Standing, Subscriber, Way};
+use delivery::{CommitterEnd, HaltCause, Pass, Round, Shared, committer_run, worker_round};
+use desk::{CommandTicket, Desk, Ticket, Told};
+use retry_table::Spend;
+use std::alloc::Global;
+use std::process::Abort;
+use std::sync::Wait;
+use std::sync::ledger::Ledger;
+use std::time::{Clock, Duration, Instant};
+
+/// What a round comes to.
+pub(crate) enum Turn {
+    /// It is posted, its spend is a success, and nothing of the endpoint is under way then.
+    Posted,
+    /// It is posted, and its spend is a success.
+    Met,
+    Idle,
+    Closing,
+}
+
+/// What a thread does, and what is so then.
+pub(crate) enum Step {
+    /// The others go on for a while.
+    Pause,
+    /// An event of endpoint `a` is taken with this id and this number.
+    Submit(&'static [u8], u64),
+    /// Endpoint `a` is disabled, with this number.
+    Disable(u64),
+    /// The end is asked for.
+    Finish,
+    /// A committer runs whose keeper refuses each batch for want of memory.
+    Refuse,
+    /// A round at this moment.
+    Round(u64, Way, Turn),
+    /// The pass looks at the desk.
+    Look,
+    /// So many settled records were seen.
+    Saw(u64),
+    /// The thread rests.
+    Rest,
+    /// One more has come to an end.
+    End,
+    /// It waits until the event with this number and this id is settled, or the desk is halted: then nothing is known of it.
+    Told(u64, &'static [u8]),
+    /// The same of a command.
+    ToldCommand(u64),
+    /// It waits until so many records are settled.
+    Settled(u64),
+    /// It waits until so many commits have begun.
+    Begun(u64),
+    /// It waits until so many have come to an end.
+    Ended(u64),
+    /// A request is answered with this status, with `Retry-After: 1` or without it, and with this text.
+    Ask(Request, u16, bool, &'static str),
+    /// The events of this submitter are acknowledged one by one.
+    SubmitEach(u64),
+    /// A worker works until the end.
+    Work,
+    /// It waits until so many events are delivered.
+    Delivered(u64),
+    /// The events of so many submitters are delivered, each at its first attempt.
+    EachDelivered(u64),
+}
+
+/// What a thread has.
+#[derive(Drop)]
+pub(crate) struct Place<'a, L: Ledger, R> {
+    pub(crate) rt: &'a R,
+    pub(crate) alloc: Global,
+    pub(crate) shared: &'a Shared<L>,
+    pub(crate) seen: &'a Seen,
+}
+
+impl<L: Ledger, R: Wait + Clock + Abort> Place<'_, L, R> {
+    /// Takes the steps one after another.
+    pub(crate) fn walk(&self, steps: &[Step]) {
+        let mut pass = Pass::new();
+        for (place, step) in steps.iter().enumerate() {
+            let is = self.does(step, &mut pass)
+                && self.has_come(step)
+                && self.has_served(step, &mut pass);
+            let case = self.seen.case;
+            assert!(self.rt; is, "case {case}, step {place}");
+        }
+    }
+
+    // Makes a change.
+    fn does(&self, step: &Step, pass: &mut Pass) -> bool {
+        match step {
+            Step::Pause => pause(self.rt),
+            Step::Submit(text, seq) => return self.is_submitted(text, *seq),
+            Step::Disable(seq) => return self.is_disabled(*seq),
+            Step::Finish => self.shared.finish(self.rt),
+            Step::Refuse => self.refuse(),
+            Step::Rest => self.rest(pass),
+            Step::Look => return pass.look(self.shared.lock(self.rt).desk()).is_ok(),
+            Step::Saw(seen) => return pass.seen() == *seen,
+            Step::End => {
+                count(&self.seen.ended);
+            }
+            _ => {}
+        }
+        true
+    }
+
+    // Waits until something is so.
+    fn has_come(&self, step: &Step) -> bool {
+        match step {
+            Step::Told(seq, text) => self.is_told(*seq, text),
+            Step::ToldCommand(seq) => self.is_command_told(*seq),
+            Step::Settled(wanted) => self.are_settled(*wanted),
+            Step::Begun(wanted) => have_come(self.rt, &self.seen.commits, *wanted),
+            Step::Ended(wanted) => have_come(self.rt, &self.seen.ended, *wanted),
+            Step::Delivered(wanted) => self.are_delivered(*wanted),
+            _ => true,
+        }
+    }
+
+    // Asks for an answer, or posts.
+    fn has_served(&self, step: &Step, pass: &mut Pass) -> bool {
+        match step {
+            Step::Round(seconds, way, turn) => self.is_round(*seconds, way, turn, pass),
+            Step::Ask(request, status, retry, text) => {
+                let is = is_answered(&self.reply(request, pass), *status, *retry, text);
+                count(&self.seen.ended);
+                is
+            }
+            Step::SubmitEach(submitter) => submit_each(self, *submitter, pass),
+            Step::Work => work(self, pass),
+            Step::EachDelivered(submitters) => are_each_delivered(self, *submitters),
+            _ => true,
+        }
+    }
+
+    fn is_submitted(&self, text: &[u8], seq: u64) -> bool {
+        let (name, id) = (name(self.rt, b"a"), id(self.rt, text));
+        let body = body(self.rt, self.alloc);
+        match self.shared.submit(self.rt, now(self.rt), name, id, body) {
+            Ok(ticket) => ticket.seq == seq,
+            Err(_) => false,
+        }
+    }
+
+    fn is_disabled(&self, seq: u64) -> bool {
+        match self.shared.command(self.rt, disable(self.rt)) {
+            Ok(ticket) => ticket.seq == seq,
+            Err(_) => false,
+        }
+    }
+
+    fn refuse(&self) {
+        let (_, end) = committer_run(self.rt, self.shared, Refusing);
+        match end {
+            CommitterEnd::Halted(HaltCause::OutOfMemory) => count(&self.seen.halting),
+            CommitterEnd::Halted(HaltCause::Halted) => count(&self.seen.halted),
+            _ => 0,
+        };
+        count(&self.seen.ended);
+    }
+
+    // Rests, and counts whether that took less than half a second.
+    fn rest(&self, pass: &Pass) {
+        if self.rests_shortly(pass) {
+            count(&self.seen.short);
+        }
+    }
+
+    fn rests_shortly(&self, pass: &Pass) -> bool {
+        let Ok(began) = Instant::now(self.rt) else {
+            return false;
+        };
+        self.shared.rest(self.rt, pass);
+        match began.elapsed(self.rt) {
+            Ok(taken) => taken < Duration::from_millis(500),
+            Err(_) => false,
+        }
+    }
+
+    fn is_told(&self, seq: u64, text: &[u8]) -> bool {
+        let ticket = Ticket {
+            seq,
+            name: name(self.rt, b"a"),
+            id: id(self.rt, text),
+        };
+        let locked = self.shared.wait_for(self.rt, &ticket);
+        locked.desk().told(&ticket) == wanted_of(locked.desk())
+    }
+
+    fn is_command_told(&self, seq: u64) -> bool {
+        let ticket = CommandTicket { seq };
+        let locked = self.shared.wait_for_command(self.rt, &ticket);
+        locked.desk().told_command(&ticket) == wanted_of(locked.desk())
+    }
+
+    fn are_settled(&self, wanted: u64) -> bool {
+        for _ in 0..TURNS {
+            if self.shared.lock(self.rt).desk().settled_records() >= wanted {
+                return true;
+            }
+            wait_a_turn(self.rt);
+        }
+        false
+    }
+
+    fn are_delivered(&self, wanted: u64) -> bool {
+        for _ in 0..5 * TURNS {
+            if self.shared.lock(self.rt).desk().totals().delivered >= wanted {
+                return true;
+            }
+            wait_a_turn(self.rt);
+        }
+        false
+    }
+
+    /// A round at this moment, of a subscriber that answers in this way.
+    pub(crate) fn round(&self, seconds: u64, way: &Way, pass: &mut Pass) -> Round {
+        let clock = Standing(moment(self.rt, seconds));
+        let subscriber = Subscriber {
+            way,
+            shared: self.shared,
+            seen: self.seen,
+            rt: self.rt,
+        };
+        worker_round(self.rt, self.alloc, self.shared, &subscriber, &clock, pass)
+    }
+
+    fn is_round(&self, seconds: u64, way: &Way, turn: &Turn, pass: &mut Pass) -> bool {
+        let round = self.round(seconds, way, pass);
+        match turn {
+            Turn::Posted => is_success(&round, 0),
+            Turn::Met => is_success(&round, 1),
+            Turn::Idle => matches!(round, Round::Idle),
+            Turn::Closing => matches!(round, Round::Closing),
+        }
+    }
+}
+
+// What is known of what was staged, and is waited for no more.
+fn wanted_of<L: Ledger>(desk: &Desk<L>) -> Told {
+    if desk.is_halted() {
+        Told::Unknown
+    } else {
+        Told::Settled
+    }
+}
+
+// Whether it was posted as a success, and so many at most are under way then.
+fn is_success(round: &Round, most: u32) -> bool {
+    match round {
+        Round::Posted { spent, .. } => spent.spend == Spend::Success && spent.in_flight <= most,
+        _ => false,
+    }
+}
