@@ -13,6 +13,7 @@ mod limits;
 mod loading;
 mod open_desk;
 mod opening;
+mod queues;
 mod relay;
 mod reopening;
 mod running;
@@ -27,6 +28,7 @@ use crate::inserting::insert;
 use crate::limits::print_limit;
 use crate::loading::print_loads;
 use crate::opening::print_opening;
+use crate::queues::{print_calls, print_moves};
 use crate::relay::answer_asks;
 use crate::reopening::print_parts;
 use crate::running::print_runs;
@@ -50,6 +52,8 @@ loads PATH         two loads of a store that stands
 parts PATH         a store that stands, reopened part by part
 open PATH          the store in the file, made where none stands
 asks               the requests on standard input, one on a line
+queue COUNT ENDPOINTS   the claim queue alone, with so many deliveries
+moves SEED COUNT        so many random moves of it
 submitters THREADS COUNT        so many threads, which submit as many events in all and wait for each, over a store in memory
 submitters THREADS COUNT PATH   the same over a file
 workers THREADS COUNT           so many threads, which post as many pending events in all
@@ -160,6 +164,14 @@ fn run_words(rt: &HostRuntime, words: &[&str]) -> io::Result<bool> {
         }
         [_, "asks"] => Ok(answer_asks(rt.alloc(), &mut rt.stdin(), &mut rt.stdout())),
         [_, name, word] => run_one(rt, name, word),
+        [_, "queue", count, endpoints] => match (count_of(count), count_of(endpoints)) {
+            (Some(count), Some(endpoints)) => print_calls(rt, count, endpoints),
+            _ => Ok(false),
+        },
+        [_, "moves", seed, count] => match (number_of(seed), count_of(count)) {
+            (Some(seed), Some(count)) => print_moves(rt, seed, count),
+            _ => Ok(false),
+        },
         [_, name, count, path] => match count_of(count) {
             Some(count) => run_over(rt, counted_run_of(name, count), path),
             None => Ok(false),
