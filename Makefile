@@ -1,21 +1,23 @@
 ENDPOINT = {\"url\":\"http://127.0.0.1:9000/hook\",\"max\":100,\"secrets\":[\"whsec_MDEyMzQ1Njc4OTAxMjM0NTY3ODkwMTIz\"]}
 
+RELAYD = crates/relayd/out/relayd
+BENCH = crates/bench/out/bench
+SOURCES = $(shell find crates -path '*/out' -prune -o -path 'crates/tests_*' -prune -o \( -name '*.rt' -o -name '*.antt' \) -print) crates.txt HANDLES
+
 # Lists what can be made.
 help:
 	@awk '/^# /{said=said substr($$0, 2)} /^[a-z]+:/{sub(/:.*/, ""); printf "make %-8s%s\n", $$0, said} !/^# /{said=""}' Makefile
 
 # Builds the relay, all of it proved first (an hour where out/ is empty), and serves relay.db at 127.0.0.1:8080.
-run:
-	cd crates/relayd && rt run -- --version
+run: $(RELAYD)
 	@echo 'Put an endpoint, and submit an event to it:'
 	@echo "  curl -X PUT http://127.0.0.1:8080/v1/endpoints/shop -d '$(ENDPOINT)'"
 	@echo "  curl http://127.0.0.1:8080/v1/endpoints/shop/events -d '{\"order\":1}'"
-	crates/relayd/out/relayd serve relay.db 127.0.0.1:8080
+	$(RELAYD) serve relay.db 127.0.0.1:8080
 
 # Builds the same, and shows step by step what a relay does: events, signatures, a retry, a kill, an answer 410. It ends by itself.
-demo:
-	cd crates/relayd && rt run -- --version
-	scripts/demo crates/relayd/out/relayd
+demo: $(RELAYD)
+	scripts/demo $(RELAYD)
 
 # Runs `relayd replay` on the stored script with nothing proved, in some two and a half minutes.
 try:
@@ -44,21 +46,28 @@ fmt:
 	for crate in crates/*/; do (cd "$$crate" && rt fmt) || exit 1; done
 
 # Prints one table of measurements, each beside what stands for comparison.
-bench:
-	cd crates/bench && rt run
-	cd crates/relayd && rt run -- --version
-	./scripts/bench crates/bench/out/bench crates/relayd/out/relayd
+bench: $(BENCH) $(RELAYD)
+	./scripts/bench $(BENCH) $(RELAYD)
 
-# Installs what `make run` built, below PREFIX: the program, its manual page, its unit and the documents.
-install:
-	./scripts/install crates/relayd/out/relayd $(or $(PREFIX),/usr/local)
+# Installs the same below PREFIX: the program, its manual page, its unit and the documents.
+install: $(RELAYD)
+	./scripts/install $(RELAYD) $(or $(PREFIX),/usr/local)
 
 # Makes a Debian package of the same.
-deb:
-	./scripts/make-deb crates/relayd/out/relayd relayd.deb
+deb: $(RELAYD)
+	./scripts/make-deb $(RELAYD) relayd.deb
 
 # Measures `relayd serve` beside nginx and a plain relay in Python, where wrk and nginx are at hand.
-load:
-	./scripts/bench-serve crates/relayd/out/relayd
+load: $(RELAYD)
+	./scripts/bench-serve $(RELAYD)
+
+# A program is proved and built where one of its sources is newer. `make test` builds both, too.
+$(RELAYD): $(SOURCES)
+	cd crates/relayd && rt run -- --version
+	touch $@
+
+$(BENCH): $(SOURCES)
+	cd crates/bench && rt run
+	touch $@
 
 .PHONY: help run demo try test check edits attack fmt bench install deb load
