@@ -23,7 +23,7 @@ abbrev pub out_of_memory_at : {A E : Type 0} → ℕ → Result A E → Result A
 out_of_memory_at number (Ok made) = Ok made
 out_of_memory_at number (Err e) = Err (refusal number fault.OutOfMemory)
 
--- Whether a submission, a new endpoint, or another change of an endpoint may be refused by this name.
+-- Whether a submission, a new endpoint, another change of an endpoint, a claim, or a sealing may be refused by this name.
 
 abbrev pub may_refuse_event : Fault → Bool
 may_refuse_event fault.Halted = true
@@ -63,6 +63,32 @@ may_refuse_set fault.WaitingFull = true
 may_refuse_set fault.SeqExhausted = true
 may_refuse_set fault.BatchOut = false
 may_refuse_set fault.OutOfMemory = true
+
+abbrev pub may_refuse_claim : Fault → Bool
+may_refuse_claim fault.Halted = true
+may_refuse_claim fault.UnknownEndpoint = false
+may_refuse_claim fault.Conflict = false
+may_refuse_claim fault.Exists = false
+may_refuse_claim fault.EndpointBacklog = false
+may_refuse_claim fault.Backlog = false
+may_refuse_claim fault.TooManyEndpoints = false
+may_refuse_claim fault.WaitingFull = false
+may_refuse_claim fault.SeqExhausted = true
+may_refuse_claim fault.BatchOut = false
+may_refuse_claim fault.OutOfMemory = true
+
+abbrev pub may_refuse_seal : Fault → Bool
+may_refuse_seal fault.Halted = true
+may_refuse_seal fault.UnknownEndpoint = false
+may_refuse_seal fault.Conflict = false
+may_refuse_seal fault.Exists = false
+may_refuse_seal fault.EndpointBacklog = false
+may_refuse_seal fault.Backlog = false
+may_refuse_seal fault.TooManyEndpoints = false
+may_refuse_seal fault.WaitingFull = false
+may_refuse_seal fault.SeqExhausted = false
+may_refuse_seal fault.BatchOut = true
+may_refuse_seal fault.OutOfMemory = true
 
 abbrev pub may_refuse : Command → Fault → Bool
 may_refuse (PutEndpoint name target max secrets) = may_refuse_put

@@ -5,6 +5,7 @@ ghost use Rattle.group_commit.specs.Waits.{batch_out, record_count};
 ghost use Rattle.relay_types.specs.Legal.{is_status};
 ghost use Rattle.permits.specs.Rows.{next_row, same_row};
 ghost use Rattle.retry_table.specs.Judging.{spend_of};
+ghost use Rattle.desk.specs.Faults.{may_refuse_claim};
 ghost use Rattle.desk.specs.Claims.{choice, claim};
 ghost use Rattle.desk.specs.Desks.{HasOutcome, IsMove, IsPostOf, OverWorlds, Spends, Starts, TakesOutcome, attempt_in, is_exhausted_in, may_start, may_start_at, with_job, with_live};
 
@@ -28,6 +29,7 @@ impl<L: Ledger> Desk<L> {
     /// attempts under way than its limit. `None` where there is none at this moment.
     pub fn claim(&mut self, now: Moment) -> Result<Option<Job<L>>, Refusal>
         ensures moves { IsMove self.old (λ w. claim w now) result self.new }
+        ensures names { IfErr result (λ why. IsTrue (may_refuse_claim why.fault)) }
         ensures mark { self.new.waiting.mark ≡ self.old.waiting.mark }
         ensures live { IfOk result (λ given. self.new.live ≡ with_job self.old.live given) }
         ensures out { batch_out self.new.waiting ≡ batch_out self.old.waiting }

@@ -3,6 +3,7 @@ ghost use Rattle.std.specs.Prelude.{◌≡◌, [], None, Some, length, ◌↔◌
 ghost use Rattle.spool.specs.Batches.{doubt_of};
 ghost use Rattle.group_commit.specs.Waits.{batch_of, batch_out, sealed_count, with_settled};
 ghost use Rattle.group_commit.specs.Turns as waiting;
+ghost use Rattle.desk.specs.Faults.{may_refuse_seal};
 ghost use Rattle.desk.specs.World.{sealed_records};
 ghost use Rattle.desk.specs.Moves.{seal, with_sealed_settled, with_batch_back, with_halt};
 ghost use Rattle.desk.specs.Desks.{IsMove, Turns, IsReceiptOf, ArePlacesOf, IsHeldOf, IsAllOut, OverWorlds};
@@ -19,6 +20,7 @@ impl<L: Ledger> Desk<L> {
     /// Puts the first steps that wait into a batch, 256 at most: `None` where nothing waits.
     pub fn seal(&mut self) -> Result<Option<Batch>, Refusal>
         ensures moves { IsMove self.old (seal self.old.waiting.mark) result self.new }
+        ensures names { IfErr result (λ why. IsTrue (may_refuse_seal why.fault)) }
         ensures batch { IfOk result (λ sealed. IfSome sealed (λ batch.
             batch ≡ batch_of self.old.waiting (sealed_count self.old.waiting))) }
         ensures out { IfOk result (λ sealed. IfSome sealed (λ batch. batch_out self.new.waiting ≡ Some batch)) }
