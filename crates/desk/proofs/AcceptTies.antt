@@ -1,34 +1,16 @@
 -- What ties a desk's fields stays so as a submission waits.
-use Rattle.std.proofs.Common.{◌≡◌, ◌<◌, ◌≤◌, ◌+◌, ℕ, Bool, true, false, List, [], ◌∷◌, ◌++◌, Option, Some, None, length, refl, sym, ◌∙◌, ap, arith, ◌&&◌, not, cond, subst}
-use Rattle.std.specs.Prelude.{count_by, is_some, nat_eq, nat_le, nat_lt, bytes_eq}
-use Rattle.std.specs.List.{list_all}
-use Rattle.std.specs.Option.{option_map_or, option_or}
-use Rattle.std.proofs.lemmas.Bool.{ltb-true, lt-ltb, le-ltb, ne_eqb}
-use Rattle.std.proofs.lemmas.List.Folds.{find-append}
-use Rattle.std.proofs.lemmas.List.Sums.{sum_by_push}
-use Rattle.relay_types.specs.declared.limits.TheConstants.{MAX_RECORDS}
-use Rattle.relay_types.specs.declared.record.Record.TheVariants.{Accept}
-use Rattle.relay_types.specs.declared.state.State.TheVariants.{Pending}
-use Rattle.relay_types.specs.Records.{records_of}
-use Rattle.relay_types.specs.Deliveries.{is_in_state}
-use Rattle.relay_types.proofs.KnownLaws.{and_first, and_second, and_both}
-use Rattle.endpoint_book.specs.Entries as endpoint_entries
-use Rattle.endpoint_book.specs.Waiting.{HasChanges}
-use Rattle.endpoint_book.proofs.Waiting.{changes_named, changes_other}
-use Rattle.delivery_book.specs.declared.entry.Entry.{Entry}
-use Rattle.delivery_book.specs.declared.entry.Unsettled.{Unsettled}
-use Rattle.delivery_book.specs.Entries.{BookValue, entry_at, is_open, new_entry, pending_in, state_in, with_event}
-use Rattle.delivery_book.specs.Waiting.{HasWaiting}
-use Rattle.delivery_book.proofs.Updates.{all_weaker}
+use Rattle.desk.proofs.Words.{◌≡◌, ◌<◌, ◌≤◌, ◌+◌, ℕ, Bool, true, false, List, [], ◌∷◌, ◌++◌, Option, Some, None, length}
+use Rattle.desk.proofs.Words.{refl, sym, ◌∙◌, ap, arith, ◌&&◌, not, cond, subst, count_by, is_some, nat_eq, nat_le}
+use Rattle.desk.proofs.Words.{nat_lt, bytes_eq, list_all, option_map_or, option_or, ltb-true, lt-ltb, le-ltb, ne_eqb}
+use Rattle.desk.proofs.Words.{find-append, sum_by_push, MAX_RECORDS, Accept, Pending, records_of, is_in_state}
+use Rattle.desk.proofs.Words.{and_first, and_second, and_both, HasChanges, changes_named, changes_other, Entry}
+use Rattle.desk.proofs.Words.{Unsettled, BookValue, entry_at, is_open, new_entry, pending_in, state_in, with_event}
+use Rattle.desk.proofs.Words.{HasWaiting, all_weaker, Pair, QueueValue, HasSamePairs, SetsMark, free_places, is_held}
+use Rattle.desk.proofs.Words.{reserved_mark, WaitingValue, record_count, with_step, Row, is_out, Limiter, AreApart}
+use Rattle.desk.proofs.Words.{AreTied, AreUnderWay, HasPlaces, endpoint_at, is_entry_of, is_idle, is_own, is_pair_of}
+use Rattle.desk.proofs.Words.{is_told, is_under_way, is_unheld, own_pair, rises, waits_as, IsDesk}
 use Rattle.delivery_book.proofs.Waiting.{waiting_event}
-use Rattle.claim_queue.specs.declared.pairs.Pair.{Pair}
-use Rattle.claim_queue.specs.Queues.{QueueValue, HasSamePairs, SetsMark, free_places, is_held, reserved_mark}
-use Rattle.group_commit.specs.Waits.{WaitingValue, record_count, with_step}
-use Rattle.permits.specs.declared.row.Row.{Row}
-use Rattle.permits.specs.Rows.{is_out}
-use Rattle.desk.specs.declared.limiter.Limiter.{Limiter}
-use Rattle.desk.specs.Ties.{AreApart, AreTied, AreUnderWay, HasPlaces, endpoint_at, is_entry_of, is_idle, is_own, is_pair_of, is_told, is_under_way, is_unheld, own_pair, rises, waits_as}
-use Rattle.desk.specs.Desks.{IsDesk}
+use Rattle.endpoint_book.specs.Entries as endpoint_entries
 use Rattle.desk.proofs.DeskLaws.{deliveries_wait}
 use Rattle.desk.proofs.EndpointTies.{room_requested}
 use Rattle.desk.proofs.PlaceLaws.{count_below}

@@ -1,21 +1,10 @@
 -- What the desk looks for before a call is what the model does.
-use Rattle.std.proofs.Common.{◌≡◌, ℕ, zero, suc, ◌+◌, Bool, true, false, ◌&&◌, [], ◌∷◌, length, IsTrue, sym, ◌∙◌, ap, subst, arith}
-use Rattle.std.specs.Prelude.{nat_le, nat_eq, Result, Err, IfErr, if◌then◌else◌}
-use Rattle.std.specs.List.{list_all}
-use Rattle.std.proofs.lemmas.Bool.{and_parts}
-use Rattle.std.proofs.Math.Dec.{eqb-suc-zero}
-use Rattle.std.proofs.lemmas.Bool.{le-leb, lt-leb}
-use Rattle.relay_types.specs.declared.limits.TheConstants.{MAX_RECORDS}
-use Rattle.group_commit.specs.declared.limits.TheConstants.{MAX_WAITING_REQUESTS}
-use Rattle.group_commit.specs.Steps.{requests_in}
-use Rattle.group_commit.specs.Waits.{record_count}
-use Rattle.desk.specs.declared.refusal.Fault.{Fault}
+use Rattle.desk.proofs.Words.{◌≡◌, ℕ, zero, suc, ◌+◌, Bool, true, false, ◌&&◌, [], ◌∷◌, length, IsTrue, sym, ◌∙◌, ap}
+use Rattle.desk.proofs.Words.{subst, arith, nat_le, nat_eq, Result, Err, IfErr, if◌then◌else◌, list_all, and_parts}
+use Rattle.desk.proofs.Words.{eqb-suc-zero, le-leb, lt-leb, MAX_RECORDS, MAX_WAITING_REQUESTS, requests_in}
+use Rattle.desk.proofs.Words.{record_count, Fault, Refusal, Faults, refusal, first_fault, World, all_records}
+use Rattle.desk.proofs.Words.{is_waiting_full, are_seqs_spent, DeskValue, StandsFor}
 use Rattle.desk.specs.declared.refusal.Fault.TheVariants as fault
-use Rattle.desk.specs.declared.refusal.Refusal.{Refusal}
-use Rattle.desk.specs.Faults.{Faults, refusal, first_fault}
-use Rattle.desk.specs.World.{World, all_records}
-use Rattle.desk.specs.Moves.{is_waiting_full, are_seqs_spent}
-use Rattle.desk.specs.Desks.{DeskValue, StandsFor}
 use Rattle.desk.proofs.DeskLaws.{count_is}
 
 -- What is looked for

@@ -1,35 +1,21 @@
 -- What the queue has next is the definition's choice.
-use Rattle.std.proofs.Common.{◌≡◌, ◌<◌, ◌+◌, ℕ, zero, suc, Bool, true, false, List, [], ◌∷◌, ◌++◌, Option, Some, None, length, refl, sym, ◌∙◌, ap, arith, subst, eqb, not, ◌&&◌, append-nil, length-append}
-use Rattle.std.specs.Prelude.{is_some, option_map, nat_eq, nat_le, nat_lt, bytes_eq, if◌then◌else◌}
-use Rattle.std.specs.Option.{option_map_or}
-use Rattle.std.proofs.Math.Dec.{eqb-suc-zero}
-use Rattle.std.proofs.lemmas.Bool.{eq-eqb, eqb-true, ne_eqb, lt-ltb, ltb-true}
-use Rattle.std.proofs.lemmas.Option.{same_Some}
-use Rattle.std.proofs.lemmas.Slice.Eq.{bytes_eq-Decides}
-use Rattle.relay_types.specs.declared.record.Record.{Record}
-use Rattle.relay_types.specs.declared.record.Record.TheVariants.{Put, Secrets, Enabled, Accept, Outcome}
-use Rattle.relay_types.specs.declared.state.State.TheVariants.{Pending}
-use Rattle.relay_types.specs.Lists.{last_of}
-use Rattle.relay_types.specs.Records.{Accepted, Attempt}
-use Rattle.relay_types.specs.Deliveries.{accepted, attempts_of, deliveries, due_after, due_of, failures_of, is_accept, is_in_state}
-use Rattle.relay_types.specs.Endpoints.{Endpoint, endpoint_of, has_endpoint}
-use Rattle.relay_types.proofs.KnownLaws.{AllKnown, below_if_accepted, legal_known, and_first, and_second}
+use Rattle.desk.proofs.Words.{◌≡◌, ◌<◌, ◌+◌, ℕ, zero, suc, Bool, true, false, List, [], ◌∷◌, ◌++◌, Option, Some, None}
+use Rattle.desk.proofs.Words.{length, refl, sym, ◌∙◌, ap, arith, subst, eqb, not, ◌&&◌, append-nil, length-append}
+use Rattle.desk.proofs.Words.{is_some, option_map, nat_eq, nat_le, nat_lt, bytes_eq, if◌then◌else◌, option_map_or}
+use Rattle.desk.proofs.Words.{eqb-suc-zero, eq-eqb, eqb-true, ne_eqb, lt-ltb, ltb-true, same_Some, bytes_eq-Decides}
+use Rattle.desk.proofs.Words.{Record, Put, Secrets, Enabled, Accept, Outcome, Pending, last_of, Accepted, Attempt}
+use Rattle.desk.proofs.Words.{accepted, attempts_of, deliveries, due_after, due_of, failures_of, is_accept, is_in_state}
+use Rattle.desk.proofs.Words.{Endpoint, endpoint_of, has_endpoint, AllKnown, below_if_accepted, legal_known, and_first}
+use Rattle.desk.proofs.Words.{and_second, entry_for, entry_at, state_by, is_delivered_among, failed_among, in_flight_of}
+use Rattle.desk.proofs.Words.{is_out, limit_of, Pair, QueueValue, IsNext, NothingIsReady, has_room_in, is_held}
+use Rattle.desk.proofs.Words.{is_ready, pair_of, MAX_WAITING_OUTCOMES, outcomes_in, Limiter, World, all_records}
+use Rattle.desk.proofs.Words.{settled_records, waiting_records, choice, claimables, has_place_in, has_room}
+use Rattle.desk.proofs.Words.{is_claimable, is_claimable_for, is_live, least_by, limit_in, samples_of, waits}
+use Rattle.desk.proofs.Words.{AreLimiters, AreMarked, AreTied, StandsBy, bound_by, is_idle, is_pair_of, limit_by}
+use Rattle.desk.proofs.Words.{limiter_of, waits_as, DeskValue, StandsFor, has_place}
 use Rattle.endpoint_book.proofs.Histories.{field-told}
-use Rattle.delivery_book.specs.Book.{entry_for}
-use Rattle.delivery_book.specs.Entries.{entry_at, state_by, is_delivered_among, failed_among}
 use Rattle.delivery_book.proofs.Histories.{entry_at-entries, accepted-take}
 use Rattle.delivery_book.proofs.Progresses.{attempts_of-append, empty_if}
-use Rattle.permits.specs.Rows.{in_flight_of, is_out}
-use Rattle.vegas.specs.Vegas.{limit_of}
-use Rattle.claim_queue.specs.declared.pairs.Pair.{Pair}
-use Rattle.claim_queue.specs.Queues.{QueueValue, IsNext, NothingIsReady, has_room_in, is_held, is_ready, pair_of}
-use Rattle.group_commit.specs.declared.limits.TheConstants.{MAX_WAITING_OUTCOMES}
-use Rattle.group_commit.specs.Steps.{outcomes_in}
-use Rattle.desk.specs.declared.limiter.Limiter.{Limiter}
-use Rattle.desk.specs.World.{World, all_records, settled_records, waiting_records}
-use Rattle.desk.specs.Claims.{choice, claimables, has_place as has_place_in, has_room, is_claimable, is_claimable_for, is_live, least_by, limit_in, samples_of, waits}
-use Rattle.desk.specs.Ties.{AreLimiters, AreMarked, AreTied, StandsBy, bound_by, is_idle, is_pair_of, limit_by, limiter_of, waits_as}
-use Rattle.desk.specs.Desks.{DeskValue, StandsFor, has_place}
 use Rattle.desk.proofs.DeskLaws.{known_is}
 use Rattle.desk.proofs.LookLaws.{settled_first, settled_front}
 use Rattle.desk.proofs.ReadyLaws.{limiter_entry}

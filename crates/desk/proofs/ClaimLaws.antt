@@ -1,16 +1,11 @@
 -- A claim is the model's, by what the desk finds.
-use Rattle.std.proofs.Common.{◌≡◌, ℕ, Bool, Option, Some, None, [], ◌∷◌, refl, sym, ◌∙◌, ap, subst, max, inl}
-use Rattle.std.specs.Prelude.{Result, Ok, Err, IfOk, OnErr}
-use Rattle.std.specs.Option.{option_map_or}
-use Rattle.relay_types.specs.Records.{Accepted}
-use Rattle.relay_types.specs.Deliveries.{accepted, deliveries, due_of}
+use Rattle.desk.proofs.Words.{◌≡◌, ℕ, Bool, Option, Some, None, [], ◌∷◌, refl, sym, ◌∙◌, ap, subst, max, inl, Result}
+use Rattle.desk.proofs.Words.{Ok, Err, IfOk, OnErr, option_map_or, Accepted, accepted, deliveries, due_of, Refusal}
+use Rattle.desk.proofs.Words.{Faults, refusal, first_fault, out_of_memory_at, World, all_records, settled_records}
+use Rattle.desk.proofs.Words.{Answer, are_seqs_spent, moment, JobValue, choice, claim, claim_chosen, claimables}
+use Rattle.desk.proofs.Words.{is_claimable, rests, starts, with_attempt, Checks, DeskValue, IsMove, OverWorlds}
+use Rattle.desk.proofs.Words.{StandsFor, Starts}
 use Rattle.desk.specs.declared.refusal.Fault.TheVariants as fault
-use Rattle.desk.specs.declared.refusal.Refusal.{Refusal}
-use Rattle.desk.specs.Faults.{Faults, refusal, first_fault, out_of_memory_at}
-use Rattle.desk.specs.World.{World, all_records, settled_records}
-use Rattle.desk.specs.Moves.{Answer, are_seqs_spent, moment}
-use Rattle.desk.specs.Claims.{JobValue, choice, claim, claim_chosen, claimables, is_claimable, rests, starts, with_attempt}
-use Rattle.desk.specs.Desks.{Checks, DeskValue, IsMove, OverWorlds, StandsFor, Starts}
 use Rattle.desk.proofs.MoveLaws.{becomes, lacks, leaves, makes, passes}
 use Rattle.desk.proofs.DeskLaws.{seen, stands_later}
 use Rattle.desk.proofs.LeastLaws as least

@@ -1,11 +1,8 @@
 -- Permits that are all of those that are out, as they are given back one by one.
-use Rattle.std.proofs.Common.{◌≡◌, ℕ, List, [], ◌∷◌, ◌++◌, Option, Some, None, get_or, refl, sym, ap, arith, cond, length, IsPermutation}
-use Rattle.std.specs.Prelude.{count_by, position, remove}
-use Rattle.std.proofs.lemmas.List.Quantifiers.{position-Some}
+use Rattle.desk.proofs.Words.{◌≡◌, ℕ, List, [], ◌∷◌, ◌++◌, Option, Some, None, get_or, refl, sym, ap, arith, cond}
+use Rattle.desk.proofs.Words.{length, IsPermutation, count_by, position, remove, position-Some, sum_by-remove}
+use Rattle.desk.proofs.Words.{sum_by_push, Row, same_row}
 use Rattle.std.proofs.lemmas.List.Sorted.{sum_by-IsPermutation}
-use Rattle.std.proofs.lemmas.List.Sums.{sum_by-remove, sum_by_push}
-use Rattle.permits.specs.declared.row.Row.{Row}
-use Rattle.permits.specs.Rows.{same_row}
 use Rattle.desk.proofs.RowLaws.{none_counted, none_found, same_row_is, same_row_self}
 
 -- each row stands as often in the one list as in the other

@@ -1,21 +1,14 @@
 -- Two sides that tell the same of all that either has tell the same of everything.
-use Rattle.std.proofs.Common.{◌≡◌, ◌<◌, ◌+◌, ℕ, length, get_or, Bool, true, false, List, [], ◌∷◌, ◌++◌, Option, Some, None, map, take, refl, sym, ◌∙◌, ap, subst, ◌&&◌, cond, eqb, IsTrue}
-use Rattle.std.specs.Prelude.{find, is_some, option_map, option_and_then, bytes_eq, slice_get, IsSome}
-use Rattle.std.specs.List.{AllByRecursion}
-use Rattle.std.proofs.lemmas.Bool.{eq-eqb, eqb-true}
-use Rattle.std.proofs.lemmas.Slice.Eq.{bytes_eq-Decides}
-use Rattle.relay_types.proofs.KnownLaws.{and_first, and_second, and_both}
-use Rattle.endpoint_book.specs.Book.{view_by}
-use Rattle.endpoint_book.specs.Entries as endpoint_entries
-use Rattle.endpoint_book.specs.declared.entry.Entry.{Entry as EndpointEntry}
-use Rattle.delivery_book.specs.declared.entry.Entry.{Entry}
+use Rattle.desk.proofs.Words.{◌≡◌, ◌<◌, ◌+◌, ℕ, length, get_or, Bool, true, false, List, [], ◌∷◌, ◌++◌, Option, Some}
+use Rattle.desk.proofs.Words.{None, map, take, refl, sym, ◌∙◌, ap, subst, ◌&&◌, cond, eqb, IsTrue, find, is_some}
+use Rattle.desk.proofs.Words.{option_map, option_and_then, bytes_eq, slice_get, IsSome, AllByRecursion, eq-eqb}
+use Rattle.desk.proofs.Words.{eqb-true, bytes_eq-Decides, and_first, and_second, and_both, view_by, EndpointEntry}
+use Rattle.desk.proofs.Words.{Entry, BookValue, is_entry_as, known_in, row_in, settled_row, Books, DeskValue, AreTold}
+use Rattle.desk.proofs.Words.{endpoint_in, endpoint_page, event_in, event_page, shown_with, totals, totals_in}
 use Rattle.delivery_book.specs.declared.row.Row.{Row}
-use Rattle.delivery_book.specs.Entries.{BookValue, is_entry_as, known_in, row_in, settled_row}
 use Rattle.delivery_book.specs.Fields.{settled_counts}
-use Rattle.spool.specs.declared.load.Books.{Books}
 use Rattle.desk.specs.declared.pages.Totals.{Totals}
-use Rattle.desk.specs.Desks.{DeskValue}
-use Rattle.desk.specs.Kept.{AreTold, endpoint_in, endpoint_page, event_in, event_page, shown_with, totals, totals_in}
+use Rattle.endpoint_book.specs.Entries as endpoint_entries
 use Rattle.desk.proofs.OpeningLaws.{names_next, same_some, take_next}
 
 -- One more element

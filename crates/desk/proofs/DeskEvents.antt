@@ -1,17 +1,11 @@
 -- What the first records of a history say of its events, and which of its deliveries are pending.
-use Rattle.std.proofs.Common.{◌≡◌, ℕ, zero, suc, ◌+◌, ◌≤◌, Bool, true, false, List, [], ◌∷◌, ◌++◌, Option, Some, None, refl, sym, ◌∙◌, ap, arith, cond, ◌&&◌, map, add-zero, IsTrue, ◌↔◌}
-use Rattle.std.specs.Prelude.{slice_get, filter, find, count_by, option_map, option_and_then, is_some, bytes_eq}
-use Rattle.std.specs.List.{enumerate_from}
-use Rattle.std.specs.Option.{option_map_or}
-use Rattle.std.proofs.lemmas.List.Sums.{sum_by-cons}
+use Rattle.desk.proofs.Words.{◌≡◌, ℕ, zero, suc, ◌+◌, ◌≤◌, Bool, true, false, List, [], ◌∷◌, ◌++◌, Option, Some, None}
+use Rattle.desk.proofs.Words.{refl, sym, ◌∙◌, ap, arith, cond, ◌&&◌, map, add-zero, IsTrue, ◌↔◌, slice_get, filter}
+use Rattle.desk.proofs.Words.{find, count_by, option_map, option_and_then, is_some, bytes_eq, enumerate_from}
+use Rattle.desk.proofs.Words.{option_map_or, sum_by-cons, bytes_eq-Decides, Record, Pending, Accepted, accepted_by}
+use Rattle.desk.proofs.Words.{accepted, is_accept, is_accept_of, is_accept_as, deliveries, deliveries_of, known_as}
+use Rattle.desk.proofs.Words.{is_in_state, state_of, row_of, counts_of, counts_of_all, has_body, pending_among}
 use Rattle.std.specs.Bool.{one_answer}
-use Rattle.std.proofs.lemmas.Slice.Eq.{bytes_eq-Decides}
-use Rattle.relay_types.specs.declared.record.Record.{Record}
-use Rattle.relay_types.specs.declared.state.State.TheVariants.{Pending}
-use Rattle.relay_types.specs.Records.{Accepted, accepted_by}
-use Rattle.relay_types.specs.Deliveries.{accepted, is_accept, is_accept_of, is_accept_as, deliveries, deliveries_of, known_as, is_in_state, state_of}
-use Rattle.delivery_book.specs.Book.{row_of, counts_of, counts_of_all}
-use Rattle.desk.specs.Moves.{has_body, pending_among}
 
 -- An event's number among the first records
 

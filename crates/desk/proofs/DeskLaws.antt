@@ -1,48 +1,28 @@
 -- The worlds for which a desk stands once one more record waits, and the moves that make it wait.
-use Rattle.std.proofs.Common.{◌≡◌, ℕ, ◌+◌, ◌<◌, ◌≤◌, Bool, true, false, List, [], ◌∷◌, ◌++◌, Option, Some, None, length, refl, sym, ◌∙◌, ap, arith, ◌&&◌, length-append, subst, max}
-use Rattle.std.specs.Prelude.{bytes_eq, cond, count_by, Result, Ok, Err, IfOk, OnOk, OnErr, is_some, not, IsTrue}
-use Rattle.std.specs.Option.{option_map_or}
+use Rattle.desk.proofs.Words.{◌≡◌, ℕ, ◌+◌, ◌<◌, ◌≤◌, Bool, true, false, List, [], ◌∷◌, ◌++◌, Option, Some, None, length}
+use Rattle.desk.proofs.Words.{refl, sym, ◌∙◌, ap, arith, ◌&&◌, length-append, subst, max, bytes_eq, cond, count_by}
+use Rattle.desk.proofs.Words.{Result, Ok, Err, IfOk, OnOk, OnErr, is_some, not, IsTrue, option_map_or, take-append-le}
+use Rattle.desk.proofs.Words.{drop-append-le, leb-false, lt-ltb, MAX_ENDPOINTS, MAX_RECORDS, Record, Put, Secrets}
+use Rattle.desk.proofs.Words.{Enabled, Accept, records_of, known_as, endpoints, has_endpoint, IsLegal, may_follow}
+use Rattle.desk.proofs.Words.{is_within_limits, legal_more, Change, entry_of, is_flag, is_known, HasChanges}
+use Rattle.desk.proofs.Words.{stands-other, is_other, HasWaiting, WaitingValue, record_count, with_step}
+use Rattle.desk.proofs.Words.{length-records_of, count_by_snoc, PutEndpoint, SetSecrets, SetEnabled, Refusal, Ticket}
+use Rattle.desk.proofs.Words.{out_of_memory_at, World, all_records, settled_records, waiting_records, or_out_of_memory}
+use Rattle.desk.proofs.Words.{stages, moment, at_moment, with_record, next_seq, ticket, accepts, submit, submit_known}
+use Rattle.desk.proofs.Words.{submit_new, submit_faults, new_submit_faults, put_faults, set_faults, repeats, changes}
+use Rattle.desk.proofs.Words.{change, Sample, StandsForSamples, Row, QueueValue, Limiter, samples_of, AreTied, StandsAt}
+use Rattle.desk.proofs.Words.{StandsBy, endpoint_at, is_limiter_of, limiter_of, new_limiter, AreLimits, DeskValue}
+use Rattle.desk.proofs.Words.{IsDesk, AreBooks, StandsFor, IsMove, Checks, OverWorlds, with_entry, with_put}
+use Rattle.desk.proofs.Words.{with_secrets, with_enabled, with_accept}
 use Rattle.std.specs.declared.alloc.AllocError.{AllocError}
-use Rattle.std.proofs.lemmas.List.{take-append-le, drop-append-le}
-use Rattle.std.proofs.lemmas.Bool.{leb-false, lt-ltb}
-use Rattle.relay_types.specs.declared.limits.TheConstants.{MAX_ENDPOINTS, MAX_RECORDS}
-use Rattle.relay_types.specs.declared.record.Record.{Record}
-use Rattle.relay_types.specs.declared.record.Record.TheVariants.{Put, Secrets, Enabled, Accept}
-use Rattle.relay_types.specs.Records.{records_of}
-use Rattle.relay_types.specs.Deliveries.{known_as}
-use Rattle.relay_types.specs.Endpoints.{endpoints, has_endpoint}
-use Rattle.relay_types.specs.Legal.{IsLegal, may_follow, is_within_limits}
-use Rattle.relay_types.proofs.KnownLaws.{legal_more}
-use Rattle.endpoint_book.specs.Entries as endpoint_entries
-use Rattle.endpoint_book.specs.declared.entry.Change.{Change}
-use Rattle.endpoint_book.specs.Entries.{entry_of, is_flag, is_known}
-use Rattle.endpoint_book.specs.Waiting.{HasChanges}
 use Rattle.endpoint_book.proofs.Filters.{none_if}
 use Rattle.endpoint_book.proofs.Histories.{known-entry}
-use Rattle.endpoint_book.proofs.Laws.{stands-other}
 use Rattle.endpoint_book.proofs.Staged.{stands-put, stands-secrets, stands-enabled}
-use Rattle.delivery_book.specs.Entries as delivery_entries
-use Rattle.delivery_book.specs.Book.{is_other}
-use Rattle.delivery_book.specs.Waiting.{HasWaiting}
 use Rattle.delivery_book.proofs.Laws.{stands_accept, stands_other}
 use Rattle.delivery_book.proofs.Waiting.{waiting_other}
-use Rattle.group_commit.specs.Waits.{WaitingValue, record_count, with_step}
-use Rattle.group_commit.proofs.StepLaws.{length-records_of, count_by_snoc}
-use Rattle.desk.specs.declared.command.Command.TheVariants.{PutEndpoint, SetSecrets, SetEnabled}
-use Rattle.desk.specs.declared.refusal.Refusal.{Refusal}
 use Rattle.desk.specs.declared.ticket.CommandTicket.{CommandTicket}
-use Rattle.desk.specs.declared.ticket.Ticket.{Ticket}
-use Rattle.desk.specs.Faults.{out_of_memory_at}
-use Rattle.desk.specs.World.{World, all_records, settled_records, waiting_records}
-use Rattle.desk.specs.Moves.{or_out_of_memory, stages, moment, at_moment, with_record, next_seq, ticket, accepts, submit, submit_known, submit_new, submit_faults, new_submit_faults, put_faults, set_faults, repeats, changes, change}
-use Rattle.vegas.specs.declared.sample.Sample.{Sample}
-use Rattle.vegas.specs.Estimators.{StandsFor as StandsForSamples}
-use Rattle.permits.specs.declared.row.Row.{Row}
-use Rattle.claim_queue.specs.Queues.{QueueValue}
-use Rattle.desk.specs.declared.limiter.Limiter.{Limiter}
-use Rattle.desk.specs.Claims.{samples_of}
-use Rattle.desk.specs.Ties.{AreTied, StandsAt, StandsBy, endpoint_at, is_limiter_of, limiter_of, new_limiter}
-use Rattle.desk.specs.Desks.{AreLimits, DeskValue, IsDesk, AreBooks, StandsFor, IsMove, Checks, OverWorlds, with_entry, with_put, with_secrets, with_enabled, with_accept}
+use Rattle.endpoint_book.specs.Entries as endpoint_entries
+use Rattle.delivery_book.specs.Entries as delivery_entries
 use Rattle.desk.proofs.DeskLists.{records_of-snoc, records_of-split}
 use Rattle.desk.proofs.MoveLaws.{refuses, passes, makes, makes_or_lacks, becomes, absent}
 

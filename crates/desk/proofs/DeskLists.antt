@@ -1,8 +1,6 @@
 -- Facts about lists of steps.
-use Rattle.std.proofs.Common.{◌≡◌, ℕ, [], ◌∷◌, ◌++◌, take, drop, refl, sym, ◌∙◌, ap, append_assoc}
-use Rattle.std.proofs.lemmas.List.{take-append-drop}
-use Rattle.relay_types.specs.declared.record.Record.{Record}
-use Rattle.relay_types.specs.Records.{History, records_of}
+use Rattle.desk.proofs.Words.{◌≡◌, ℕ, [], ◌∷◌, ◌++◌, take, drop, refl, sym, ◌∙◌, ap, append_assoc, take-append-drop}
+use Rattle.desk.proofs.Words.{Record, History, records_of}
 
 -- steps, one list after another
 pub records_of-append : (xs ys : History) → records_of (xs ++ ys) ≡ records_of xs ++ records_of ys

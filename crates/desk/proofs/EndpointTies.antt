@@ -1,20 +1,12 @@
 -- What ties the queue and the limits to the endpoints stays so as these change.
-use Rattle.std.proofs.Common.{◌≡◌, ◌<◌, ◌+◌, ℕ, Bool, true, false, List, [], ◌∷◌, Option, Some, None, length, map, refl, sym, ◌∙◌, ap, arith, ◌&&◌, cond}
-use Rattle.std.specs.Prelude.{find, is_some, nat_lt, option_map, bytes_eq, if◌then◌else◌}
-use Rattle.std.specs.Option.{option_map_or}
-use Rattle.std.proofs.lemmas.Slice.Eq.{bytes_eq-Decides}
-use Rattle.relay_types.specs.declared.limits.TheConstants.{MAX_RECORDS}
-use Rattle.relay_types.specs.declared.record.Record.{Record}
-use Rattle.relay_types.proofs.RowLaws.{find_map}
+use Rattle.desk.proofs.Words.{◌≡◌, ◌<◌, ◌+◌, ℕ, Bool, true, false, List, [], ◌∷◌, Option, Some, None, length, map, refl}
+use Rattle.desk.proofs.Words.{sym, ◌∙◌, ap, arith, ◌&&◌, cond, find, is_some, nat_lt, option_map, bytes_eq}
+use Rattle.desk.proofs.Words.{if◌then◌else◌, option_map_or, bytes_eq-Decides, MAX_RECORDS, Record, find_map, change_at}
+use Rattle.desk.proofs.Words.{is_known, is_named, with_flag, is_outcome, WaitingValue, record_count, with_step}
+use Rattle.desk.proofs.Words.{count_by_snoc, Row, in_flight_of, Limiter, AreLimiters, HasRoomForAll, bound_of, limit_by}
+use Rattle.desk.proofs.Words.{room_by}
 use Rattle.endpoint_book.specs.declared.entry.Entry.{Entry}
-use Rattle.endpoint_book.specs.Entries.{BookValue, change_at, is_known, is_named, with_flag}
-use Rattle.group_commit.specs.Steps.{is_outcome}
-use Rattle.group_commit.specs.Waits.{WaitingValue, record_count, with_step}
-use Rattle.group_commit.proofs.StepLaws.{count_by_snoc}
-use Rattle.permits.specs.declared.row.Row.{Row}
-use Rattle.permits.specs.Rows.{in_flight_of}
-use Rattle.desk.specs.declared.limiter.Limiter.{Limiter}
-use Rattle.desk.specs.Ties.{AreLimiters, HasRoomForAll, bound_of, limit_by, room_by}
+use Rattle.endpoint_book.specs.Entries.{BookValue}
 use Rattle.desk.proofs.DeskLaws.{one_more}
 
 -- A request waits: it takes no outcome's place, and a number.

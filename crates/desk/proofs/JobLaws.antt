@@ -1,22 +1,11 @@
 -- What a job shows is what the records say of its delivery.
-use Rattle.std.proofs.Common.{◌≡◌, ◌+◌, ℕ, Bool, true, false, List, [], ◌∷◌, ◌++◌, Option, Some, None, length, refl, sym, ◌∙◌, ap}
-use Rattle.std.specs.Prelude.{option_map, if◌then◌else◌}
-use Rattle.std.proofs.lemmas.Option.{same_Some}
-use Rattle.relay_types.specs.declared.record.Record.{Record}
-use Rattle.relay_types.specs.Lists.{last_of}
-use Rattle.relay_types.specs.Records.{Accepted}
-use Rattle.relay_types.specs.Deliveries.{accepted, attempts_of, due_if_pending, state_of}
-use Rattle.relay_types.specs.Endpoints.{Endpoint, endpoint_of, has_endpoint, secrets_of}
-use Rattle.endpoint_book.specs.Book.{secrets_if_known}
+use Rattle.desk.proofs.Words.{◌≡◌, ◌+◌, ℕ, Bool, true, false, List, [], ◌∷◌, ◌++◌, Option, Some, None, length, refl}
+use Rattle.desk.proofs.Words.{sym, ◌∙◌, ap, option_map, if◌then◌else◌, same_Some, Record, last_of, Accepted, accepted}
+use Rattle.desk.proofs.Words.{attempts_of, due_if_pending, state_of, Endpoint, endpoint_of, has_endpoint, secrets_of}
+use Rattle.desk.proofs.Words.{secrets_if_known, BookRow, body_of, row_of, Row, next_row, World, all_records, JobValue}
+use Rattle.desk.proofs.Words.{job_of, target_in, with_attempt, DeskValue, IsPostOf, StandsFor, Starts, with_live}
 use Rattle.endpoint_book.proofs.Filters.{some_told}
-use Rattle.delivery_book.specs.declared.row.Row.{Row as BookRow}
-use Rattle.delivery_book.specs.Book.{body_of, row_of}
-use Rattle.permits.specs.declared.row.Row.{Row}
-use Rattle.permits.specs.Rows.{next_row}
 use Rattle.desk.specs.declared.job.Post.{Post}
-use Rattle.desk.specs.World.{World, all_records}
-use Rattle.desk.specs.Claims.{JobValue, job_of, target_in, with_attempt}
-use Rattle.desk.specs.Desks.{DeskValue, IsPostOf, StandsFor, Starts, with_live}
 use Rattle.desk.proofs.LookLaws.{stands_as}
 
 abbrev row_by : (records : List Record) (d : ℕ) → Accepted → BookRow

@@ -1,14 +1,9 @@
 -- The least number of a list of rising numbers.
-use Rattle.std.proofs.Common.{◌≡◌, ◌≤◌, ◌<◌, ◌+◌, ◌⊎◌, inl, inr, ℕ, zero, suc, Bool, true, false, List, [], ◌∷◌, Option, Some, None, refl, sym, ◌∙◌, ap, arith, cond, map, subst}
-use Rattle.std.specs.Prelude.{filter, nat_le, is_some, slice_get, option_and_then, if◌then◌else◌}
-use Rattle.std.specs.List.{enumerate_from}
+use Rattle.desk.proofs.Words.{◌≡◌, ◌≤◌, ◌<◌, ◌+◌, ◌⊎◌, inl, inr, ℕ, zero, suc, Bool, true, false, List, [], ◌∷◌, Option}
+use Rattle.desk.proofs.Words.{Some, None, refl, sym, ◌∙◌, ap, arith, cond, map, subst, filter, nat_le, is_some}
+use Rattle.desk.proofs.Words.{slice_get, option_and_then, if◌then◌else◌, enumerate_from, le-leb, lt-leb, same_Some}
+use Rattle.desk.proofs.Words.{Record, Accepted, accepted_by, is_accept, lesser, least_by}
 use Rattle.std.proofs.Math.Decide.{dec_le}
-use Rattle.std.proofs.lemmas.Bool.{le-leb, lt-leb}
-use Rattle.std.proofs.lemmas.Option.{same_Some}
-use Rattle.relay_types.specs.declared.record.Record.{Record}
-use Rattle.relay_types.specs.Records.{Accepted, accepted_by}
-use Rattle.relay_types.specs.Deliveries.{is_accept}
-use Rattle.desk.specs.Claims.{lesser, least_by}
 
 -- each number is above the one before it, and the first is not below this one
 abbrev pub Rises : ℕ → List ℕ → Type 0

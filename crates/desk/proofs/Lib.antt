@@ -1,3 +1,4 @@
+mod Words
 mod DeskLists
 mod DeskEvents
 mod MoveLaws

@@ -1,16 +1,8 @@
 -- What a desk tells of an endpoint's limit.
-use Rattle.std.proofs.Common.{◌≡◌, ℕ, List, Option, Some, None, refl, ◌∙◌, ap}
-use Rattle.std.specs.Prelude.{is_some, option_map, if◌then◌else◌}
-use Rattle.std.specs.Option.{option_map_or}
-use Rattle.relay_types.specs.Endpoints.{Endpoint, endpoint_of}
-use Rattle.vegas.specs.Vegas.{limit_of, noload_of}
-use Rattle.permits.specs.Rows.{in_flight_of}
-use Rattle.desk.specs.declared.limiter.Limiter.{Limiter}
-use Rattle.desk.specs.World.{World, all_records}
-use Rattle.desk.specs.Claims.{limits, live_of, samples_of}
-use Rattle.desk.specs.Ties.{AreLimiters, StandsBy, bound_by, limiter_of}
-use Rattle.desk.specs.Desks.{DeskValue, StandsFor}
-use Rattle.desk.specs.Kept.{limits_by}
+use Rattle.desk.proofs.Words.{◌≡◌, ℕ, List, Option, Some, None, refl, ◌∙◌, ap, is_some, option_map, if◌then◌else◌}
+use Rattle.desk.proofs.Words.{option_map_or, Endpoint, endpoint_of, limit_of, noload_of, in_flight_of, Limiter, World}
+use Rattle.desk.proofs.Words.{all_records, limits, live_of, samples_of, AreLimiters, StandsBy, bound_by, limiter_of}
+use Rattle.desk.proofs.Words.{DeskValue, StandsFor, limits_by}
 use Rattle.desk.proofs.ChoiceLaws.{bound_in, limiter_is}
 
 pub limits_are : (d : DeskValue) (w : World) (name : List ℕ) → StandsFor d w → AreLimiters d.limiters d.endpoints → option_map (limits_by (in_flight_of name d.live)) (limiter_of d.limiters name) ≡ limits w name

@@ -1,23 +1,13 @@
 -- What a desk tells of each world for which it stands.
-use Rattle.std.proofs.Common.{◌≡◌, ℕ, zero, suc, true, false, List, [], ◌∷◌, ◌++◌, Option, Some, None, length, take, refl, sym, ◌∙◌, ap, arith, ◌&&◌, subst}
-use Rattle.std.specs.Prelude.{option_map, bytes_eq}
-use Rattle.std.specs.Option.{option_map_or}
-use Rattle.std.proofs.Math.Seq.{take-append_seam}
-use Rattle.relay_types.specs.declared.record.Record.{Record}
-use Rattle.relay_types.specs.Records.{Accepted, records_of}
-use Rattle.relay_types.specs.Deliveries.{accepted, known_as}
-use Rattle.relay_types.specs.Endpoints.{endpoints}
-use Rattle.endpoint_book.specs.Book.{View, view_of}
+use Rattle.desk.proofs.Words.{◌≡◌, ℕ, zero, suc, true, false, List, [], ◌∷◌, ◌++◌, Option, Some, None, length, take}
+use Rattle.desk.proofs.Words.{refl, sym, ◌∙◌, ap, arith, ◌&&◌, subst, option_map, bytes_eq, option_map_or}
+use Rattle.desk.proofs.Words.{take-append_seam, Record, Accepted, records_of, accepted, known_as, endpoints, View}
+use Rattle.desk.proofs.Words.{view_of, row_of, body_of, counts_of, counts_of_all, record_count, length-records_of-split}
+use Rattle.desk.proofs.Words.{Ticket, World, all_records, settled_records, waiting_records, is_row_of, has_event}
+use Rattle.desk.proofs.Words.{QueueValue, DeskValue, IsCore, IsDesk, StandsFor}
 use Rattle.delivery_book.specs.declared.row.Counts.{Counts}
 use Rattle.delivery_book.specs.declared.row.Row.{Row}
-use Rattle.delivery_book.specs.Book.{row_of, body_of, counts_of, counts_of_all}
-use Rattle.group_commit.specs.Waits.{record_count}
-use Rattle.group_commit.proofs.StepLaws.{length-records_of-split}
-use Rattle.desk.specs.declared.ticket.Ticket.{Ticket}
-use Rattle.desk.specs.World.{World, all_records, settled_records, waiting_records}
-use Rattle.desk.specs.Looks.{is_row_of, has_event, event_page, endpoint_page, totals}
-use Rattle.claim_queue.specs.Queues.{QueueValue}
-use Rattle.desk.specs.Desks.{DeskValue, IsCore, IsDesk, StandsFor}
+use Rattle.desk.specs.Looks.{event_page, endpoint_page, totals}
 use Rattle.desk.proofs.DeskLists.{records_of-split}
 use Rattle.desk.proofs.DeskEvents.{event_unknown, event_known}
 

@@ -1,14 +1,11 @@
 -- The answer to a call is its move: one law for its refusals, one for want of memory, one for what it makes.
-use Rattle.std.proofs.Common.{◌≡◌, ℕ, Bool, true, false, [], ◌∷◌, Option, Some, refl, sym, ◌∙◌, ap, subst, inl, inr}
-use Rattle.std.specs.Prelude.{Result, Ok, Err, IfOk, OnErr, IsSomeAnd, if◌then◌else◌}
+use Rattle.desk.proofs.Words.{◌≡◌, ℕ, Bool, true, false, [], ◌∷◌, Option, Some, refl, sym, ◌∙◌, ap, subst, inl, inr}
+use Rattle.desk.proofs.Words.{Result, Ok, Err, IfOk, OnErr, IsSomeAnd, if◌then◌else◌, Refusal, Faults, refusal}
+use Rattle.desk.proofs.Words.{first_fault, out_of_memory_at, World, Answer, MayGive, or_out_of_memory, refused, unless}
+use Rattle.desk.proofs.Words.{DeskValue, StandsFor, IsMove, Checks}
 use Rattle.std.specs.Result.{IsErrAnd}
 use Rattle.std.proofs.lemmas.Result.{err_from_is_err_and}
 use Rattle.desk.specs.declared.refusal.Fault.TheVariants as fault
-use Rattle.desk.specs.declared.refusal.Refusal.{Refusal}
-use Rattle.desk.specs.Faults.{Faults, refusal, first_fault, out_of_memory_at}
-use Rattle.desk.specs.World.{World}
-use Rattle.desk.specs.Moves.{Answer, MayGive, or_out_of_memory, refused, unless}
-use Rattle.desk.specs.Desks.{DeskValue, StandsFor, IsMove, Checks}
 
 abbrev refusing : Refusal → Result (Unit {0}) Refusal
 refusing r = Err r

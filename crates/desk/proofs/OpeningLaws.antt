@@ -1,46 +1,27 @@
 -- What a new desk keeps beside the books that it begins with.
-use Rattle.std.proofs.Common.{◌≡◌, ◌⊎◌, inl, inr, ◌<◌, ◌≤◌, ◌+◌, ℕ, zero, suc, Bool, true, false, List, [], ◌∷◌, ◌++◌, Option, Some, None, append-nil, length, map, max, take, get_or, refl, sym, ◌∙◌, ap, arith, not, ◌&&◌, ◌||◌, cond, subst}
-use Rattle.std.specs.Prelude.{count_by, filter_map, find, is_some, option_map, nat_eq, nat_le, nat_lt, bytes_eq, slice_get, if◌then◌else◌}
-use Rattle.std.specs.List.{cons_option, list_all, list_any}
-use Rattle.std.specs.Option.{option_map_or, option_or}
-use Rattle.std.proofs.Math.Bool.{or-false}
-use Rattle.std.proofs.lemmas.Bool.{eq-eqb, eqb-true, le-leb, leb-true}
-use Rattle.std.proofs.lemmas.List.{drop_all, take_more, take_all}
+use Rattle.desk.proofs.Words.{◌≡◌, ◌⊎◌, inl, inr, ◌<◌, ◌≤◌, ◌+◌, ℕ, zero, suc, Bool, true, false, List, [], ◌∷◌, ◌++◌}
+use Rattle.desk.proofs.Words.{Option, Some, None, append-nil, length, map, max, take, get_or, refl, sym, ◌∙◌, ap, arith}
+use Rattle.desk.proofs.Words.{not, ◌&&◌, ◌||◌, cond, subst, count_by, filter_map, find, is_some, option_map, nat_eq}
+use Rattle.desk.proofs.Words.{nat_le, nat_lt, bytes_eq, slice_get, if◌then◌else◌, cons_option, list_all, list_any}
+use Rattle.desk.proofs.Words.{option_map_or, option_or, or-false, eq-eqb, eqb-true, le-leb, leb-true, drop_all}
+use Rattle.desk.proofs.Words.{take_more, take_all, find-append, list_all-append, list_any-append, sum_by-cons}
+use Rattle.desk.proofs.Words.{slice_get_within, slice_get-get_or, map-map, bytes_eq-Decides, records_of, Pending}
+use Rattle.desk.proofs.Words.{is_in_state, and_first, and_second, and_both, EstimatorValue, StandsForSamples, Explains}
+use Rattle.desk.proofs.Words.{limit_of, noload_of, probes_of, enabled_in, Books, WaitingValue, AreInStep, changes_none}
+use Rattle.desk.proofs.Words.{EndpointEntry, Entry, DeliveryRow, BookValue, HasOneEach, IsInStep, empty_book, entry_at}
+use Rattle.desk.proofs.Words.{is_pending_of, latest_row, pending_in, row_in, state_in, all_weaker, Row, in_flight_of}
+use Rattle.desk.proofs.Words.{Mark, Pair, QueueValue, empty_queue, ChangesMark, HasSamePairs, IsNew, SetsMark}
+use Rattle.desk.proofs.Words.{free_places, has_room_in, is_held, is_reserved, mark_for, mark_in, mark_of, pair_of}
+use Rattle.desk.proofs.Words.{place_taken, reserved_mark, with_room, Limiter, IsDesk, Opens, AreHeld, AreLimiters}
+use Rattle.desk.proofs.Words.{AreMarked, AreQueued, HasPlaces, HasSameRooms, Holds, KeepsPlaces, KeepsRooms, StandsAt}
+use Rattle.desk.proofs.Words.{StandsBy, bound_by, bound_of, endpoint_at, idle_pair, is_idle, is_pair_of, is_unheld}
+use Rattle.desk.proofs.Words.{limiter_of, new_limiter, own_pair, room_by, waits_as}
 use Rattle.std.proofs.lemmas.List.Elements.{filter_map-append}
-use Rattle.std.proofs.lemmas.List.Folds.{find-append, list_all-append, list_any-append}
-use Rattle.std.proofs.lemmas.List.Sums.{sum_by-cons}
-use Rattle.std.proofs.lemmas.Option.{slice_get_within, slice_get-get_or}
-use Rattle.std.proofs.lemmas.Simd.{map-map}
-use Rattle.std.proofs.lemmas.Slice.Eq.{bytes_eq-Decides}
-use Rattle.relay_types.specs.Records.{records_of}
-use Rattle.relay_types.specs.declared.state.State.TheVariants.{Pending}
-use Rattle.relay_types.specs.Deliveries.{is_in_state}
-use Rattle.relay_types.proofs.KnownLaws.{and_first, and_second, and_both}
-use Rattle.vegas.specs.Estimators.{EstimatorValue, StandsFor as StandsForSamples, Explains}
-use Rattle.vegas.specs.Vegas.{limit_of, noload_of, probes_of}
-use Rattle.endpoint_book.specs.Book.{enabled_in}
+use Rattle.spool.specs.Books.{AreSettled}
+use Rattle.delivery_book.proofs.Waiting.{waiting_none}
 use Rattle.endpoint_book.specs.Book as endpoint_book
 use Rattle.delivery_book.specs.Book as delivery_book
-use Rattle.spool.specs.declared.load.Books.{Books}
-use Rattle.spool.specs.Books.{AreSettled}
-use Rattle.group_commit.specs.Waits.{WaitingValue}
 use Rattle.endpoint_book.specs.Entries as endpoint_entries
-use Rattle.endpoint_book.specs.Waiting.{IsInStep as AreInStep}
-use Rattle.endpoint_book.proofs.Waiting.{changes_none}
-use Rattle.endpoint_book.specs.declared.entry.Entry.{Entry as EndpointEntry}
-use Rattle.delivery_book.specs.declared.entry.Entry.{Entry}
-use Rattle.delivery_book.specs.declared.row.Row.{Row as DeliveryRow}
-use Rattle.delivery_book.proofs.Waiting.{waiting_none}
-use Rattle.delivery_book.specs.Entries.{BookValue, HasOneEach, IsInStep, empty_book, entry_at, is_pending_of, latest_row, pending_in, row_in, state_in}
-use Rattle.delivery_book.proofs.Updates.{all_weaker}
-use Rattle.permits.specs.declared.row.Row.{Row}
-use Rattle.permits.specs.Rows.{in_flight_of}
-use Rattle.claim_queue.specs.declared.marks.Mark.{Mark}
-use Rattle.claim_queue.specs.declared.pairs.Pair.{Pair}
-use Rattle.claim_queue.specs.Queues.{QueueValue, empty_queue, ChangesMark, HasSamePairs, IsNew, SetsMark, free_places, has_room_in, is_held, is_reserved, mark_for, mark_in, mark_of, pair_of, place_taken, reserved_mark, with_room}
-use Rattle.desk.specs.declared.limiter.Limiter.{Limiter}
-use Rattle.desk.specs.Desks.{IsDesk, Opens}
-use Rattle.desk.specs.Ties.{AreHeld, AreLimiters, AreMarked, AreQueued, HasPlaces, HasSameRooms, Holds, KeepsPlaces, KeepsRooms, StandsAt, StandsBy, bound_by, bound_of, endpoint_at, idle_pair, is_idle, is_pair_of, is_unheld, limiter_of, new_limiter, own_pair, room_by, waits_as}
 use Rattle.desk.proofs.PlaceLaws.{count_below}
 use Rattle.desk.proofs.SettleLaws.{held_one, held_other, idle_waits}
 use Rattle.desk.proofs.TieLaws.{mark_keeps, mark_there, room_told}

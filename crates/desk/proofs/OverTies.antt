@@ -1,46 +1,23 @@
 -- What ties a desk's fields stays so once an attempt is over.
-use Rattle.std.proofs.Common.{◌≡◌, ◌≤◌, ◌+◌, ℕ, Bool, true, false, List, [], ◌∷◌, ◌++◌, Option, Some, None, length, map, take, drop, refl, sym, ◌∙◌, ap, arith, ◌&&◌, ◌||◌, not, subst, IsTrue, max}
-use Rattle.std.specs.Prelude.{find, position, remove, IfNone, IfSome, IsErr, Result, Ok, Err, is_some, nat_eq, nat_lt, option_map, bytes_eq, if◌then◌else◌}
-use Rattle.std.proofs.Math.Seq.{take-append_seam}
-use Rattle.std.proofs.lemmas.Bool.{eq-eqb, ltb-true}
-use Rattle.std.proofs.lemmas.List.{length-map}
-use Rattle.std.proofs.lemmas.Slice.Eq.{bytes_eq-Decides}
-use Rattle.std.specs.List.{list_any}
-use Rattle.std.specs.Option.{option_map_or}
-use Rattle.relay_types.specs.declared.record.Record.{Record}
-use Rattle.relay_types.specs.declared.record.Record.TheVariants.{Outcome}
-use Rattle.relay_types.specs.Judging.{is_gone_status}
-use Rattle.relay_types.specs.Legal.{is_status}
-use Rattle.relay_types.specs.Values.{is_moment}
-use Rattle.relay_types.specs.Records.{records_of}
-use Rattle.relay_types.proofs.RowLaws.{find_map}
-use Rattle.endpoint_book.specs.Book.{enabled_in}
-use Rattle.endpoint_book.specs.Entries as endpoint_entries
-use Rattle.endpoint_book.specs.declared.entry.Change.{Change}
-use Rattle.endpoint_book.specs.declared.entry.Entry.{Entry as EndpointEntry}
+use Rattle.desk.proofs.Words.{◌≡◌, ◌≤◌, ◌+◌, ℕ, Bool, true, false, List, [], ◌∷◌, ◌++◌, Option, Some, None, length, map}
+use Rattle.desk.proofs.Words.{take, drop, refl, sym, ◌∙◌, ap, arith, ◌&&◌, ◌||◌, not, subst, IsTrue, max, find}
+use Rattle.desk.proofs.Words.{position, remove, IfNone, IfSome, IsErr, Result, Ok, Err, is_some, nat_eq, nat_lt}
+use Rattle.desk.proofs.Words.{option_map, bytes_eq, if◌then◌else◌, take-append_seam, eq-eqb, ltb-true, length-map}
+use Rattle.desk.proofs.Words.{bytes_eq-Decides, list_any, option_map_or, Record, Outcome, is_gone_status, is_status}
+use Rattle.desk.proofs.Words.{is_moment, records_of, find_map, enabled_in, Change, EndpointEntry, HasChanges}
+use Rattle.desk.proofs.Words.{changes_gone, changes_other, Entry, all_weaker, Pair, QueueValue, ChangesMark, IsNew}
+use Rattle.desk.proofs.Words.{HasSamePairs, has_room_in, is_reserved, mark_of, place_taken, with_room, is_outcome}
+use Rattle.desk.proofs.Words.{WaitingValue, record_count, count_by_snoc, Row, in_flight_of, is_out, same_row}
+use Rattle.desk.proofs.Words.{PostResult, Spend, recorded_status, spend_of, Limiter, AreLimiters, AreMarked, AreQueued}
+use Rattle.desk.proofs.Words.{AreSampled, AreTied, HasPlaces, HasRoomForAll, Holds, KeepsRooms, bound_by, bound_of}
+use Rattle.desk.proofs.Words.{endpoint_at, idle_pair, limit_by, limiter_of, room_by, World, has_row, spent_by}
+use Rattle.desk.proofs.Words.{with_attempt_over, DeskValue, HasOutcome, IsDesk, OverWorlds, Spends, StandsFor}
+use Rattle.desk.proofs.Words.{TakesOutcome, attempt_in, is_exhausted_in}
 use Rattle.endpoint_book.specs.declared.entry.Kind.TheVariants.{Flag}
-use Rattle.endpoint_book.specs.Waiting.{HasChanges}
-use Rattle.endpoint_book.proofs.Waiting.{changes_gone, changes_other}
-use Rattle.delivery_book.specs.Entries as delivery_entries
-use Rattle.delivery_book.specs.declared.entry.Entry.{Entry}
-use Rattle.delivery_book.proofs.Updates.{all_weaker}
 use Rattle.delivery_book.proofs.Waiting.{waiting_outcome}
-use Rattle.claim_queue.specs.declared.pairs.Pair.{Pair}
-use Rattle.claim_queue.specs.Queues.{QueueValue, ChangesMark, IsNew, HasSamePairs, has_room_in, is_reserved, mark_of, place_taken, with_room}
-use Rattle.group_commit.specs.Steps.{is_outcome}
-use Rattle.group_commit.specs.Waits.{WaitingValue, record_count}
-use Rattle.group_commit.proofs.StepLaws.{count_by_snoc}
-use Rattle.permits.specs.declared.row.Row.{Row}
-use Rattle.permits.specs.Rows.{in_flight_of, is_out, same_row}
-use Rattle.retry_table.specs.declared.post.PostResult.{PostResult}
-use Rattle.retry_table.specs.declared.post.Spend.{Spend}
-use Rattle.retry_table.specs.Judging.{recorded_status, spend_of}
-use Rattle.desk.specs.declared.limiter.Limiter.{Limiter}
-use Rattle.desk.specs.Ties.{AreLimiters, AreMarked, AreQueued, AreSampled, AreTied, HasPlaces, HasRoomForAll, Holds, KeepsRooms, bound_by, bound_of, endpoint_at, idle_pair, limit_by, limiter_of, room_by}
 use Rattle.desk.specs.declared.spent.Spent.{Spent}
-use Rattle.desk.specs.World.{World}
-use Rattle.desk.specs.Claims.{has_row, spent_by, with_attempt_over}
-use Rattle.desk.specs.Desks.{DeskValue, HasOutcome, IsDesk, OverWorlds, Spends, StandsFor, TakesOutcome, attempt_in, is_exhausted_in}
+use Rattle.endpoint_book.specs.Entries as endpoint_entries
+use Rattle.delivery_book.specs.Entries as delivery_entries
 use Rattle.desk.proofs.DeskLaws.{one_changes, one_more, one_waits}
 use Rattle.desk.proofs.WaitLaws.{names_tried}
 use Rattle.desk.proofs.EndpointTies.{flag_known, flag_limiters, flag_room}

@@ -1,20 +1,13 @@
 -- The queue's free places, as deliveries are held and let go.
-use Rattle.std.proofs.Common.{◌≡◌, ◌<◌, ◌≤◌, ◌+◌, ◌-◌, ℕ, Bool, true, false, List, [], ◌∷◌, Option, Some, None, refl, sym, ◌∙◌, ap, arith, not, ◌&&◌, ◌||◌, cond, subst}
-use Rattle.std.specs.Prelude.{count_by, is_some, option_map, option_and_then, unwrap_or, nat_eq, nat_lt, bytes_eq, if◌then◌else◌}
-use Rattle.std.specs.Option.{option_map_or}
-use Rattle.std.proofs.lemmas.Bool.{eq-eqb, eqb-true}
-use Rattle.std.proofs.lemmas.List.Sums.{sum_by-cons}
-use Rattle.std.proofs.lemmas.Slice.Eq.{bytes_eq-Decides}
-use Rattle.relay_types.specs.declared.state.State.TheVariants.{Pending}
-use Rattle.relay_types.specs.Deliveries.{is_in_state}
-use Rattle.relay_types.proofs.KnownLaws.{and_first, and_second, and_both}
-use Rattle.delivery_book.specs.declared.entry.Entry.{Entry}
-use Rattle.delivery_book.specs.Entries.{BookValue, HasOneEach, entry_at, is_open, row_in, state_in, takes_outcome}
-use Rattle.claim_queue.specs.declared.marks.Mark.{Mark}
-use Rattle.claim_queue.specs.declared.pairs.Pair.{Pair}
-use Rattle.claim_queue.specs.Queues.{QueueValue, IsNew, free_places, is_held, mark_of, pair_of, place_given, place_taken, same_pair}
+use Rattle.desk.proofs.Words.{◌≡◌, ◌<◌, ◌≤◌, ◌+◌, ◌-◌, ℕ, Bool, true, false, List, [], ◌∷◌, Option, Some, None, refl}
+use Rattle.desk.proofs.Words.{sym, ◌∙◌, ap, arith, not, ◌&&◌, ◌||◌, cond, subst, count_by, is_some, option_map}
+use Rattle.desk.proofs.Words.{option_and_then, unwrap_or, nat_eq, nat_lt, bytes_eq, if◌then◌else◌, option_map_or}
+use Rattle.desk.proofs.Words.{eq-eqb, eqb-true, sum_by-cons, bytes_eq-Decides, Pending, is_in_state, and_first}
+use Rattle.desk.proofs.Words.{and_second, and_both, Entry, BookValue, HasOneEach, entry_at, is_open, row_in, state_in}
+use Rattle.desk.proofs.Words.{takes_outcome, Mark, Pair, QueueValue, IsNew, free_places, is_held, mark_of, pair_of}
+use Rattle.desk.proofs.Words.{place_given, place_taken, same_pair, HasPlaces, HoldsPair, LetsPairGo, is_unheld}
+use Rattle.desk.proofs.Words.{own_pair, pair_in}
 use Rattle.desk.proofs.ReadyLaws.{found_seq}
-use Rattle.desk.specs.Ties.{HasPlaces, HoldsPair, LetsPairGo, is_unheld, own_pair, pair_in}
 
 -- Counts
 

@@ -1,26 +1,15 @@
 -- What is next may start: it is held, its endpoint has room, and there is a place for its outcome.
-use Rattle.std.proofs.Common.{◌≡◌, ◌<◌, ◌+◌, ℕ, Bool, true, false, List, [], ◌∷◌, Option, Some, None, length, refl, sym, ◌∙◌, ap, arith, not, ◌&&◌, cond, subst}
-use Rattle.std.specs.Prelude.{find, is_some, option_map, option_and_then, nat_eq, nat_le, nat_lt, bytes_eq, if◌then◌else◌}
-use Rattle.std.specs.Option.{option_map_or}
-use Rattle.std.proofs.lemmas.Bool.{eq-eqb, eqb-true, lt-ltb, ltb-true}
-use Rattle.std.proofs.lemmas.Option.{same_Some}
-use Rattle.std.proofs.lemmas.Slice.Eq.{bytes_eq-Decides}
-use Rattle.relay_types.proofs.KnownLaws.{and_first, and_second, and_both}
-use Rattle.relay_types.proofs.RowLaws.{find_map}
-use Rattle.endpoint_book.specs.Book.{enabled_in}
-use Rattle.endpoint_book.specs.Entries as endpoint_entries
-use Rattle.endpoint_book.specs.declared.entry.Entry.{Entry as EndpointEntry}
-use Rattle.delivery_book.specs.declared.entry.Entry.{Entry}
+use Rattle.desk.proofs.Words.{◌≡◌, ◌<◌, ◌+◌, ℕ, Bool, true, false, List, [], ◌∷◌, Option, Some, None, length, refl, sym}
+use Rattle.desk.proofs.Words.{◌∙◌, ap, arith, not, ◌&&◌, cond, subst, find, is_some, option_map, option_and_then}
+use Rattle.desk.proofs.Words.{nat_eq, nat_le, nat_lt, bytes_eq, if◌then◌else◌, option_map_or, eq-eqb, eqb-true, lt-ltb}
+use Rattle.desk.proofs.Words.{ltb-true, same_Some, bytes_eq-Decides, and_first, and_second, and_both, find_map}
+use Rattle.desk.proofs.Words.{enabled_in, EndpointEntry, Entry, entry_at, is_open, latest_row, row_in, in_flight_of}
+use Rattle.desk.proofs.Words.{is_out, Mark, QueueValue, IsNext, has_room_in, is_held, mark_of, pair_of}
+use Rattle.desk.proofs.Words.{MAX_WAITING_OUTCOMES, outcomes_in, Limiter, AreHeld, AreLimiters, AreTied, bound_by}
+use Rattle.desk.proofs.Words.{bound_of, is_idle, is_pair_of, limit_by, limiter_of, pair_in, room_by, DeskValue}
+use Rattle.desk.proofs.Words.{has_place, is_ready_entry, may_start, may_start_at}
 use Rattle.delivery_book.specs.declared.row.Row.{Row}
-use Rattle.delivery_book.specs.Entries.{entry_at, is_open, latest_row, row_in}
-use Rattle.permits.specs.Rows.{in_flight_of, is_out}
-use Rattle.claim_queue.specs.declared.marks.Mark.{Mark}
-use Rattle.claim_queue.specs.Queues.{QueueValue, IsNext, has_room_in, is_held, mark_of, pair_of}
-use Rattle.group_commit.specs.declared.limits.TheConstants.{MAX_WAITING_OUTCOMES}
-use Rattle.group_commit.specs.Steps.{outcomes_in}
-use Rattle.desk.specs.declared.limiter.Limiter.{Limiter}
-use Rattle.desk.specs.Ties.{AreHeld, AreLimiters, AreTied, bound_by, bound_of, is_idle, is_pair_of, limit_by, limiter_of, pair_in, room_by}
-use Rattle.desk.specs.Desks.{DeskValue, has_place, is_ready as is_ready_entry, may_start, may_start_at}
+use Rattle.endpoint_book.specs.Entries as endpoint_entries
 
 pub found_seq : (entries : List Entry) (s : ℕ) (e : Entry) → entry_at entries s ≡ Some e → e.seq ≡ s
 found_seq [] s e h = cc

@@ -1,36 +1,19 @@
 -- What ties a desk's fields stays so as a request waits.
-use Rattle.std.proofs.Common.{◌≡◌, ◌<◌, ◌≤◌, ◌+◌, ℕ, Bool, true, false, List, [], ◌∷◌, ◌++◌, Option, Some, None, length, map, refl, sym, ◌∙◌, ap, arith, ◌&&◌, not, cond, subst, IsTrue}
-use Rattle.std.specs.Prelude.{count_by, find, is_some, nat_lt, max, bytes_eq, if◌then◌else◌}
-use Rattle.std.specs.List.{list_all}
-use Rattle.std.specs.Option.{option_map_or, option_or}
-use Rattle.std.proofs.lemmas.List.{map-append}
-use Rattle.std.proofs.lemmas.List.Folds.{find-append}
-use Rattle.std.proofs.lemmas.Bool.{le-ltb}
-use Rattle.std.proofs.lemmas.Slice.Eq.{bytes_eq-Decides}
-use Rattle.relay_types.specs.declared.limits.TheConstants.{MAX_RECORDS}
-use Rattle.relay_types.specs.declared.record.Record.{Record}
-use Rattle.relay_types.specs.declared.record.Record.TheVariants.{Put, Secrets, Enabled}
-use Rattle.relay_types.specs.declared.state.State.TheVariants.{Pending}
-use Rattle.relay_types.specs.Records.{records_of}
-use Rattle.relay_types.specs.Deliveries.{is_in_state}
-use Rattle.relay_types.proofs.KnownLaws.{and_first, and_second, and_both}
+use Rattle.desk.proofs.Words.{◌≡◌, ◌<◌, ◌≤◌, ◌+◌, ℕ, Bool, true, false, List, [], ◌∷◌, ◌++◌, Option, Some, None, length}
+use Rattle.desk.proofs.Words.{map, refl, sym, ◌∙◌, ap, arith, ◌&&◌, not, cond, subst, IsTrue, count_by, find, is_some}
+use Rattle.desk.proofs.Words.{nat_lt, max, bytes_eq, if◌then◌else◌, list_all, option_map_or, option_or, map-append}
+use Rattle.desk.proofs.Words.{find-append, le-ltb, bytes_eq-Decides, MAX_RECORDS, Record, Put, Secrets, Enabled}
+use Rattle.desk.proofs.Words.{Pending, records_of, is_in_state, and_first, and_second, and_both, enabled_in, HasChanges}
+use Rattle.desk.proofs.Words.{changes_enabled, changes_put, changes_secrets, change_at, entry_of, is_known, is_named}
+use Rattle.desk.proofs.Words.{DeliveryEntry, Mark, QueueValue, ChangesMark, HasSamePairs, SetsMark, free_places}
+use Rattle.desk.proofs.Words.{has_room_in, is_reserved, mark_for, mark_in, mark_of, reserved_mark, with_room}
+use Rattle.desk.proofs.Words.{is_outcome, WaitingValue, record_count, with_step, Row, in_flight_of, Limiter}
+use Rattle.desk.proofs.Words.{AreLimiters, AreMarked, AreQueued, AreTied, HasPlaces, bound_by, bound_of, endpoint_at}
+use Rattle.desk.proofs.Words.{is_limiter_of, limit_by, is_unheld, limiter_of, own_pair, room_by, IsDesk}
 use Rattle.endpoint_book.specs.declared.entry.Entry.{Entry}
-use Rattle.endpoint_book.specs.Book.{enabled_in}
+use Rattle.endpoint_book.specs.Entries.{BookValue, with_put}
 use Rattle.endpoint_book.specs.Entries as endpoint_entries
-use Rattle.endpoint_book.specs.Waiting.{HasChanges}
-use Rattle.endpoint_book.proofs.Waiting.{changes_enabled, changes_put, changes_secrets}
-use Rattle.endpoint_book.specs.Entries.{BookValue, change_at, entry_of, is_known, is_named, with_put}
 use Rattle.delivery_book.specs.Entries as delivery_entries
-use Rattle.delivery_book.specs.declared.entry.Entry.{Entry as DeliveryEntry}
-use Rattle.claim_queue.specs.declared.marks.Mark.{Mark}
-use Rattle.claim_queue.specs.Queues.{QueueValue, ChangesMark, HasSamePairs, SetsMark, free_places, has_room_in, is_reserved, mark_for, mark_in, mark_of, reserved_mark, with_room}
-use Rattle.group_commit.specs.Steps.{is_outcome}
-use Rattle.group_commit.specs.Waits.{WaitingValue, record_count, with_step}
-use Rattle.permits.specs.declared.row.Row.{Row}
-use Rattle.permits.specs.Rows.{in_flight_of}
-use Rattle.desk.specs.declared.limiter.Limiter.{Limiter}
-use Rattle.desk.specs.Ties.{AreLimiters, AreMarked, AreQueued, AreTied, HasPlaces, bound_by, bound_of, endpoint_at, is_limiter_of, limit_by, is_unheld, limiter_of, own_pair, room_by}
-use Rattle.desk.specs.Desks.{IsDesk}
 use Rattle.desk.proofs.DeskLaws.{endpoints_wait}
 use Rattle.desk.proofs.EndpointTies.{changed_max, changed_name, enabled_same, flag_known, flag_limiters, flag_room, known_same, pairs_same, room_requested}
 use Rattle.desk.proofs.TieLaws.{held_told, marked_told, places_told}

@@ -1,16 +1,10 @@
 -- The rows of the permits that are out, without one of them.
-use Rattle.std.proofs.Common.{◌≡◌, ◌<◌, ◌≤◌, ◌+◌, ℕ, zero, suc, Bool, true, false, List, [], ◌∷◌, Option, Some, None, length, refl, sym, ◌∙◌, ap, arith, not, ◌&&◌, ◌||◌, cond, get_or, subst}
-use Rattle.std.specs.Prelude.{count_by, filter, position, remove, nat_eq, nat_lt, sum_by, bytes_eq}
-use Rattle.std.specs.List.{list_all, list_any, position_or_len}
-use Rattle.std.proofs.lemmas.Bool.{eq-eqb, eqb-true, ltb-false}
-use Rattle.std.proofs.lemmas.List.Folds.{list_any_at}
-use Rattle.std.proofs.lemmas.List.Quantifiers.{position-Some}
-use Rattle.std.proofs.lemmas.List.Sums.{sum_by-cons, sum_by-remove}
-use Rattle.std.proofs.lemmas.Slice.Eq.{bytes_eq-Decides}
-use Rattle.relay_types.proofs.KnownLaws.{and_first, and_second, and_both}
-use Rattle.delivery_book.proofs.Updates.{all_at}
-use Rattle.permits.specs.declared.row.Row.{Row}
-use Rattle.permits.specs.Rows.{in_flight_of, is_out, same_row}
+use Rattle.desk.proofs.Words.{◌≡◌, ◌<◌, ◌≤◌, ◌+◌, ℕ, zero, suc, Bool, true, false, List, [], ◌∷◌, Option, Some, None}
+use Rattle.desk.proofs.Words.{length, refl, sym, ◌∙◌, ap, arith, not, ◌&&◌, ◌||◌, cond, get_or, subst, count_by, filter}
+use Rattle.desk.proofs.Words.{position, remove, nat_eq, nat_lt, sum_by, bytes_eq, list_all, list_any, position_or_len}
+use Rattle.desk.proofs.Words.{eq-eqb, eqb-true, ltb-false, list_any_at, position-Some, sum_by-cons, sum_by-remove}
+use Rattle.desk.proofs.Words.{bytes_eq-Decides, and_first, and_second, and_both, all_at, Row, in_flight_of, is_out}
+use Rattle.desk.proofs.Words.{same_row}
 
 -- the attempts at a delivery that are under way
 abbrev pub attempts_at : ℕ → List Row → ℕ

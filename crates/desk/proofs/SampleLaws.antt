@@ -1,22 +1,12 @@
 -- What one more sample makes of the limiters.
-use Rattle.std.proofs.Common.{◌≡◌, ℕ, ◌<◌, Bool, true, false, List, [], ◌∷◌, ◌++◌, length, Option, Some, None, refl, sym, ◌∙◌, ap, subst, arith, slice_index_or, slice_set, append-nil}
-use Rattle.std.specs.Prelude.{position, bytes_eq, slice_get, nat_lt, is_some, cond, if◌then◌else◌}
-use Rattle.std.specs.List.{position_or_len}
-use Rattle.std.specs.Option.{option_map_or}
-use Rattle.std.proofs.Math.Seq.{map-set_same}
-use Rattle.std.proofs.lemmas.Bool.{ltb-true, ltb-false}
-use Rattle.std.proofs.lemmas.List.Folds.{find_at, find-set, find_past}
-use Rattle.std.proofs.lemmas.List.Quantifiers.{position-Some}
-use Rattle.std.proofs.lemmas.Option.{slice_get-get_or, slice_get_past}
-use Rattle.std.proofs.lemmas.Slice.Eq.{bytes_eq-Decides}
-use Rattle.vegas.specs.declared.sample.Sample.{Sample}
-use Rattle.vegas.specs.Estimators.{EstimatorValue, StandsFor as StandsForSamples, sample_of}
+use Rattle.desk.proofs.Words.{◌≡◌, ℕ, ◌<◌, Bool, true, false, List, [], ◌∷◌, ◌++◌, length, Option, Some, None, refl}
+use Rattle.desk.proofs.Words.{sym, ◌∙◌, ap, subst, arith, slice_index_or, slice_set, append-nil, position, bytes_eq}
+use Rattle.desk.proofs.Words.{slice_get, nat_lt, is_some, cond, if◌then◌else◌, position_or_len, option_map_or}
+use Rattle.desk.proofs.Words.{map-set_same, ltb-true, ltb-false, find_at, find-set, find_past, position-Some}
+use Rattle.desk.proofs.Words.{slice_get-get_or, slice_get_past, bytes_eq-Decides, Sample, EstimatorValue}
+use Rattle.desk.proofs.Words.{StandsForSamples, sample_of, PostResult, measure_of, Row, Limiter, AreSampled, StandsAt}
+use Rattle.desk.proofs.Words.{StandsBy, bound_by, is_limiter_of, limiter_of}
 use Rattle.retry_table.specs.declared.post.Measured.{Measured}
-use Rattle.retry_table.specs.declared.post.PostResult.{PostResult}
-use Rattle.retry_table.specs.Judging.{measure_of}
-use Rattle.permits.specs.declared.row.Row.{Row}
-use Rattle.desk.specs.declared.limiter.Limiter.{Limiter}
-use Rattle.desk.specs.Ties.{AreSampled, StandsAt, StandsBy, bound_by, is_limiter_of, limiter_of}
 
 -- the place at which the test passes first
 placed : {X : Type 0} (p : X → Bool) (xs : List X) (i : ℕ) → Some i ≡ position p xs → (i ≡ position_or_len p xs) × (i < length xs)

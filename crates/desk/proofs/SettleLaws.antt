@@ -1,29 +1,17 @@
 -- One more record is settled: what that makes of the book, and of what the queue holds.
-use Rattle.std.proofs.Common.{◌≡◌, ◌≤◌, ◌+◌, ◌-◌, ℕ, Bool, true, false, List, [], ◌∷◌, Option, Some, None, drop, map, max, refl, sym, ◌∙◌, ap, arith, not, ◌&&◌, ◌||◌, cond, subst}
-use Rattle.std.specs.Prelude.{count_by, find, is_some, option_map, option_and_then, unwrap_or, nat_eq, nat_le, nat_lt, bytes_eq, if◌then◌else◌}
-use Rattle.std.specs.List.{list_all, list_any}
-use Rattle.std.specs.Option.{option_map_or}
-use Rattle.std.proofs.Math.Bool.{or-false}
-use Rattle.std.proofs.lemmas.Bool.{eq-eqb, eqb-true, eqb-false, ne_eqb, lt-ltb, ltb-true, le-ltb, ltb-false, le-leb, leb-true}
-use Rattle.std.proofs.lemmas.List.Sums.{sum_by-cons}
-use Rattle.relay_types.specs.declared.record.Record.{Record}
-use Rattle.relay_types.specs.declared.state.State.TheVariants.{Pending}
-use Rattle.relay_types.specs.Deliveries.{is_in_state}
-use Rattle.relay_types.proofs.KnownLaws.{and_first, and_second, and_both}
-use Rattle.relay_types.proofs.RowLaws.{find_map}
-use Rattle.delivery_book.specs.declared.entry.Entry.{Entry}
-use Rattle.delivery_book.specs.declared.entry.Unsettled.{Unsettled}
-use Rattle.delivery_book.specs.Book.{Settles, StandsFor}
-use Rattle.delivery_book.specs.Entries.{BookValue, entry_at, first_outcome, front_below, is_open, next_settled, rest_from, row_in, state_in, takes_outcome, with_latest_settled, with_settled}
-use Rattle.delivery_book.specs.Waiting.{HasWaiting}
-use Rattle.delivery_book.proofs.Updates.{count-map}
+use Rattle.desk.proofs.Words.{◌≡◌, ◌≤◌, ◌+◌, ◌-◌, ℕ, Bool, true, false, List, [], ◌∷◌, Option, Some, None, drop, map}
+use Rattle.desk.proofs.Words.{max, refl, sym, ◌∙◌, ap, arith, not, ◌&&◌, ◌||◌, cond, subst, count_by, find, is_some}
+use Rattle.desk.proofs.Words.{option_map, option_and_then, unwrap_or, nat_eq, nat_le, nat_lt, bytes_eq, if◌then◌else◌}
+use Rattle.desk.proofs.Words.{list_all, list_any, option_map_or, or-false, eq-eqb, eqb-true, eqb-false, ne_eqb, lt-ltb}
+use Rattle.desk.proofs.Words.{ltb-true, le-ltb, ltb-false, le-leb, leb-true, sum_by-cons, Record, Pending, is_in_state}
+use Rattle.desk.proofs.Words.{and_first, and_second, and_both, find_map, Entry, Unsettled, Settles, BookValue, entry_at}
+use Rattle.desk.proofs.Words.{first_outcome, front_below, is_open, next_settled, rest_from, row_in, state_in}
+use Rattle.desk.proofs.Words.{takes_outcome, with_latest_settled, with_settled, HasWaiting, count-map, drop_drop, Row}
+use Rattle.desk.proofs.Words.{is_out, Pair, QueueValue, IsNew, is_held, pair_of, same_pair, AreApart, AreHeld}
+use Rattle.desk.proofs.Words.{AreQueued, AreUnderWay, HasPlaces, Holds, idle_pair, is_entry_of, is_idle, is_own}
+use Rattle.desk.proofs.Words.{is_pair_of, is_told, is_under_way, is_unheld, pair_in, rises, waits_as}
+use Rattle.delivery_book.specs.Book.{StandsFor}
 use Rattle.delivery_book.proofs.Waiting.{waiting_settled}
-use Rattle.group_commit.proofs.StepLaws.{drop_drop}
-use Rattle.permits.specs.declared.row.Row.{Row}
-use Rattle.permits.specs.Rows.{is_out}
-use Rattle.claim_queue.specs.declared.pairs.Pair.{Pair}
-use Rattle.claim_queue.specs.Queues.{QueueValue, IsNew, is_held, pair_of, same_pair}
-use Rattle.desk.specs.Ties.{AreApart, AreHeld, AreQueued, AreUnderWay, HasPlaces, Holds, idle_pair, is_entry_of, is_idle, is_own, is_pair_of, is_told, is_under_way, is_unheld, pair_in, rises, waits_as}
 use Rattle.desk.proofs.ReadyLaws.{found_seq}
 use Rattle.desk.proofs.PlaceLaws.{idle_from}
 

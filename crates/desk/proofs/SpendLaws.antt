@@ -1,42 +1,23 @@
 -- The worlds for which a desk stands once an attempt is over.
-use Rattle.std.proofs.Common.{◌≡◌, ◌<◌, ◌+◌, ℕ, Bool, true, false, List, [], ◌∷◌, ◌++◌, Option, Some, None, length, map, refl, sym, ◌∙◌, ap, not, cond, subst, IsTrue, max, append-nil}
-use Rattle.std.specs.Prelude.{filter, nat_eq, option_map, bytes_eq, if◌then◌else◌}
-use Rattle.std.specs.Option.{option_map_or}
-use Rattle.std.proofs.lemmas.Bool.{eq-eqb}
+use Rattle.desk.proofs.Words.{◌≡◌, ◌<◌, ◌+◌, ℕ, Bool, true, false, List, [], ◌∷◌, ◌++◌, Option, Some, None, length, map}
+use Rattle.desk.proofs.Words.{refl, sym, ◌∙◌, ap, not, cond, subst, IsTrue, max, append-nil, filter, nat_eq, option_map}
+use Rattle.desk.proofs.Words.{bytes_eq, if◌then◌else◌, option_map_or, eq-eqb, MAX_RECORDS, Record, Outcome, is_moment}
+use Rattle.desk.proofs.Words.{Accepted, Exhausted, accepted, attempts_of, is_in_state, is_pending, is_delivery_of}
+use Rattle.desk.proofs.Words.{is_gone_status, IsLegal, is_status, and_first, and_both, stands-other, entry_for, row_of}
+use Rattle.desk.proofs.Words.{BookRow, Entry, WaitingValue, record_count, with_step, Row, in_flight_of, PostResult}
+use Rattle.desk.proofs.Words.{Spend, measure_of, recorded_status, spend_of, Limiter, World, all_records}
+use Rattle.desk.proofs.Words.{settled_records, moment, next_seq, is_exhausted, limit_in, next_attempt, sample_by}
+use Rattle.desk.proofs.Words.{sampled, samples_of, spent_by, with_attempt_over, without_row, AreLimiters, AreSampled}
+use Rattle.desk.proofs.Words.{StandsAt, limit_by, samples_at, AreLimits, DeskValue, StandsFor, attempt_in}
+use Rattle.desk.proofs.Words.{is_exhausted_in, with_gone}
 use Rattle.std.proofs.lemmas.List.Elements.{filter-append}
-use Rattle.relay_types.specs.declared.limits.TheConstants.{MAX_RECORDS}
-use Rattle.relay_types.specs.declared.record.Record.{Record}
-use Rattle.relay_types.specs.declared.record.Record.TheVariants.{Outcome}
-use Rattle.relay_types.specs.Values.{is_moment}
-use Rattle.relay_types.specs.Records.{Accepted}
-use Rattle.relay_types.specs.declared.state.State.TheVariants.{Exhausted}
-use Rattle.relay_types.specs.Deliveries.{accepted, attempts_of, is_in_state, is_pending}
-use Rattle.relay_types.specs.Endpoints.{is_delivery_of}
-use Rattle.relay_types.specs.Judging.{is_gone_status}
-use Rattle.relay_types.specs.Legal.{IsLegal, is_status}
-use Rattle.relay_types.proofs.KnownLaws.{and_first, and_both}
-use Rattle.endpoint_book.specs.Entries as endpoint_entries
-use Rattle.endpoint_book.specs.Book as endpoint_book
-use Rattle.endpoint_book.proofs.Laws.{stands-other}
 use Rattle.endpoint_book.proofs.Staged.{stands-gone}
-use Rattle.delivery_book.specs.Book.{entry_for, row_of}
-use Rattle.delivery_book.specs.declared.row.Row.{Row as BookRow}
-use Rattle.delivery_book.specs.declared.entry.Entry.{Entry}
 use Rattle.delivery_book.proofs.Laws.{free_means, stands_outcome}
 use Rattle.delivery_book.proofs.Tellings.{stands_row}
-use Rattle.group_commit.specs.Waits.{WaitingValue, record_count, with_step}
-use Rattle.permits.specs.declared.row.Row.{Row}
-use Rattle.permits.specs.Rows.{in_flight_of}
 use Rattle.retry_table.specs.declared.post.Measured.{Measured as Told}
-use Rattle.retry_table.specs.declared.post.PostResult.{PostResult}
-use Rattle.retry_table.specs.declared.post.Spend.{Spend}
-use Rattle.retry_table.specs.Judging.{measure_of, recorded_status, spend_of}
-use Rattle.desk.specs.declared.limiter.Limiter.{Limiter}
-use Rattle.desk.specs.World.{World, Measured, all_records, settled_records}
-use Rattle.desk.specs.Moves.{moment, next_seq}
-use Rattle.desk.specs.Claims.{is_exhausted, limit_in, next_attempt, sample_by, sampled, samples_of, spent_by, with_attempt_over, without_row}
-use Rattle.desk.specs.Ties.{AreLimiters, AreSampled, StandsAt, limit_by, samples_at}
-use Rattle.desk.specs.Desks.{AreLimits, DeskValue, StandsFor, attempt_in, is_exhausted_in, with_gone}
+use Rattle.desk.specs.World.{Measured}
+use Rattle.endpoint_book.specs.Entries as endpoint_entries
+use Rattle.endpoint_book.specs.Book as endpoint_book
 use Rattle.desk.proofs.ChoiceLaws.{entry_is, limit_is}
 use Rattle.desk.proofs.DeskLaws.{count_is, known_is, legal_with, stands_staged}
 use Rattle.desk.proofs.RowLaws.{others}

@@ -1,29 +1,16 @@
 -- What ties the queue to a desk's fields stays so at each of the desk's steps.
-use Rattle.std.proofs.Common.{◌≡◌, ◌<◌, ◌≤◌, ◌+◌, ℕ, Bool, true, false, List, [], ◌∷◌, ◌++◌, Option, Some, None, length, refl, sym, ◌∙◌, ap, arith, not, ◌&&◌, ◌||◌, cond, subst, IsTrue, length-append}
-use Rattle.std.specs.Prelude.{count_by, is_some, option_map, nat_eq, nat_lt, bytes_eq, if◌then◌else◌}
-use Rattle.std.specs.List.{list_all}
-use Rattle.std.specs.Option.{option_map_or}
-use Rattle.std.proofs.lemmas.Bool.{eq-eqb, eqb-true, lt-ltb}
-use Rattle.std.proofs.lemmas.List.Folds.{list_any-append}
-use Rattle.std.proofs.lemmas.List.Sums.{sum_by_push, sum_by-cons}
-use Rattle.std.proofs.lemmas.Slice.Eq.{bytes_eq-Decides}
-use Rattle.relay_types.specs.declared.limits.TheConstants.{MAX_RECORDS}
-use Rattle.relay_types.specs.declared.state.State.TheVariants.{Pending}
-use Rattle.relay_types.specs.Deliveries.{is_in_state}
-use Rattle.relay_types.proofs.KnownLaws.{and_first, and_second, and_both}
-use Rattle.endpoint_book.specs.Book.{enabled_in}
+use Rattle.desk.proofs.Words.{◌≡◌, ◌<◌, ◌≤◌, ◌+◌, ℕ, Bool, true, false, List, [], ◌∷◌, ◌++◌, Option, Some, None, length}
+use Rattle.desk.proofs.Words.{refl, sym, ◌∙◌, ap, arith, not, ◌&&◌, ◌||◌, cond, subst, IsTrue, length-append, count_by}
+use Rattle.desk.proofs.Words.{is_some, option_map, nat_eq, nat_lt, bytes_eq, if◌then◌else◌, list_all, option_map_or}
+use Rattle.desk.proofs.Words.{eq-eqb, eqb-true, lt-ltb, list_any-append, sum_by_push, sum_by-cons, bytes_eq-Decides}
+use Rattle.desk.proofs.Words.{MAX_RECORDS, Pending, is_in_state, and_first, and_second, and_both, enabled_in, Entry}
+use Rattle.desk.proofs.Words.{BookValue, entry_at, is_open, state_in, Row, in_flight_of, is_out, next_row, Mark, Pair}
+use Rattle.desk.proofs.Words.{QueueValue, ChangesMark, HasSamePairs, free_places, has_room_in, is_held, is_reserved}
+use Rattle.desk.proofs.Words.{mark_of, pair_of, place_given, same_pair, with_room, record_count, Limiter, AreHeld}
+use Rattle.desk.proofs.Words.{AreMarked, AreTied, AreUnderWay, HasPlaces, HasRoomForAll, LetsGo, LetsPairGo}
+use Rattle.desk.proofs.Words.{is_entry_of, is_idle, is_pair_of, is_under_way, limit_by, own_pair, pair_in, room_by}
+use Rattle.desk.proofs.Words.{waits_as, DeskValue, IsDesk}
 use Rattle.endpoint_book.specs.Entries as endpoint_entries
-use Rattle.delivery_book.specs.declared.entry.Entry.{Entry}
-use Rattle.delivery_book.specs.Entries.{BookValue, entry_at, is_open, state_in}
-use Rattle.permits.specs.declared.row.Row.{Row}
-use Rattle.permits.specs.Rows.{in_flight_of, is_out, next_row}
-use Rattle.claim_queue.specs.declared.marks.Mark.{Mark}
-use Rattle.claim_queue.specs.declared.pairs.Pair.{Pair}
-use Rattle.claim_queue.specs.Queues.{QueueValue, ChangesMark, HasSamePairs, free_places, has_room_in, is_held, is_reserved, mark_of, pair_of, place_given, same_pair, with_room}
-use Rattle.group_commit.specs.Waits.{record_count}
-use Rattle.desk.specs.declared.limiter.Limiter.{Limiter}
-use Rattle.desk.specs.Ties.{AreHeld, AreMarked, AreTied, AreUnderWay, HasPlaces, HasRoomForAll, LetsGo, LetsPairGo, is_entry_of, is_idle, is_pair_of, is_under_way, limit_by, own_pair, pair_in, room_by, waits_as}
-use Rattle.desk.specs.Desks.{DeskValue, IsDesk}
 use Rattle.desk.proofs.ReadyLaws.{StartsFrom, endpoint_known, found_seq, pair_held}
 
 -- Marks

@@ -1,27 +1,17 @@
 -- What ties the deliveries to the queue and the permits, once an attempt is over.
-use Rattle.std.proofs.Common.{◌≡◌, ◌≤◌, ◌+◌, ℕ, Bool, true, false, List, [], ◌∷◌, ◌++◌, Option, Some, None, map, refl, sym, ◌∙◌, ap, arith, not, ◌&&◌, ◌||◌, cond, subst}
-use Rattle.std.specs.Prelude.{count_by, find, is_some, option_map, option_and_then, nat_eq, nat_le, nat_lt, bytes_eq, if◌then◌else◌}
-use Rattle.std.specs.List.{list_all}
-use Rattle.std.specs.Option.{option_map_or}
-use Rattle.std.proofs.lemmas.Bool.{eq-eqb, eqb-true, le-leb, leb-true, ne_eqb}
-use Rattle.std.proofs.lemmas.List.Folds.{list_all-append}
-use Rattle.std.proofs.lemmas.List.Sums.{sum_by-cons, sum_by_push}
-use Rattle.relay_types.specs.declared.limits.TheConstants.{MAX_FAILURES}
-use Rattle.relay_types.specs.declared.state.State.TheVariants.{Pending, Exhausted}
-use Rattle.relay_types.specs.Deliveries.{is_in_state}
-use Rattle.relay_types.specs.Judging.{is_delivered_status, is_failed_status}
-use Rattle.relay_types.proofs.KnownLaws.{and_first, and_second, and_both}
-use Rattle.relay_types.proofs.RowLaws.{find_map}
-use Rattle.delivery_book.specs.declared.entry.Entry.{Entry}
-use Rattle.delivery_book.specs.declared.entry.Unsettled.{Unsettled}
+use Rattle.desk.proofs.Words.{◌≡◌, ◌≤◌, ◌+◌, ℕ, Bool, true, false, List, [], ◌∷◌, ◌++◌, Option, Some, None, map, refl}
+use Rattle.desk.proofs.Words.{sym, ◌∙◌, ap, arith, not, ◌&&◌, ◌||◌, cond, subst, count_by, find, is_some, option_map}
+use Rattle.desk.proofs.Words.{option_and_then, nat_eq, nat_le, nat_lt, bytes_eq, if◌then◌else◌, list_all, option_map_or}
+use Rattle.desk.proofs.Words.{eq-eqb, eqb-true, le-leb, leb-true, ne_eqb, list_all-append, sum_by-cons, sum_by_push}
+use Rattle.desk.proofs.Words.{MAX_FAILURES, Pending, Exhausted, is_in_state, is_delivered_status, is_failed_status}
+use Rattle.desk.proofs.Words.{and_first, and_second, and_both, find_map, Entry, Unsettled, BookValue, at_delivery}
+use Rattle.desk.proofs.Words.{entry_at, is_open, progress_after, row_in, state_by, state_in, takes_outcome}
+use Rattle.desk.proofs.Words.{with_outcome, all_weaker, Row, is_out, Pair, QueueValue, IsNew, is_held, pair_of}
+use Rattle.desk.proofs.Words.{same_pair, AreApart, AreHeld, AreUnderWay, HasPlaces, Holds, idle_pair, is_entry_of}
+use Rattle.desk.proofs.Words.{is_idle, is_own, is_pair_of, is_told, is_under_way, is_unheld, own_pair, pair_in, rises}
+use Rattle.desk.proofs.Words.{waits_as}
 use Rattle.delivery_book.specs.declared.progress.Progress.{Progress}
-use Rattle.delivery_book.specs.Entries.{BookValue, at_delivery, entry_at, is_open, progress_after, row_in, state_by, state_in, takes_outcome, with_attempt, with_outcome}
-use Rattle.delivery_book.proofs.Updates.{all_weaker}
-use Rattle.permits.specs.declared.row.Row.{Row}
-use Rattle.permits.specs.Rows.{is_out}
-use Rattle.claim_queue.specs.declared.pairs.Pair.{Pair}
-use Rattle.claim_queue.specs.Queues.{QueueValue, IsNew, is_held, pair_of, same_pair}
-use Rattle.desk.specs.Ties.{AreApart, AreHeld, AreUnderWay, HasPlaces, Holds, idle_pair, is_entry_of, is_idle, is_own, is_pair_of, is_told, is_under_way, is_unheld, own_pair, pair_in, rises, waits_as}
+use Rattle.delivery_book.specs.Entries.{with_attempt}
 use Rattle.desk.proofs.ReadyLaws.{found_seq, told_of}
 use Rattle.desk.proofs.RowLaws.{IsReturned, all_by}
 

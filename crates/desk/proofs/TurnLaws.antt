@@ -1,45 +1,29 @@
 -- What a desk hands out, and what becomes of it when it comes back.
-use Rattle.std.proofs.Common.{◌≡◌, ℕ, ◌+◌, ◌-◌, ◌≤◌, Bool, true, false, [], ◌∷◌, Option, Some, None, length, take, drop, map, refl, sym, ◌∙◌, ap, arith, cond, subst, eqb, max, List, ◌↔◌}
-use Rattle.std.specs.Prelude.{nat_lt, option_map, ◌&&◌, Result, Ok, Err, OnOk, OnErr, IsOk, IsErr, IfOk, IfSome, IsSome, IsSomeAnd, not, is_some, if◌then◌else◌}
-use Rattle.std.specs.List.{list_all}
-use Rattle.std.specs.Option.{option_map_or}
-use Rattle.std.proofs.Math.Seq.{drop-append_seam, take-add}
-use Rattle.std.proofs.lemmas.Bool.{eq-eqb, ne_eqb}
-use Rattle.std.proofs.lemmas.List.{drop-take, length-drop, length-take, take-append-drop}
-use Rattle.std.proofs.lemmas.List.Sums.{sum_by-append}
-use Rattle.std.proofs.lemmas.Simd.{map-map}
-use Rattle.relay_types.specs.declared.limits.TheConstants.{MAX_RECORDS}
-use Rattle.relay_types.specs.declared.record.Record.{Record}
-use Rattle.relay_types.specs.Records.{History, records_of}
-use Rattle.relay_types.proofs.RowLaws.{find_map}
-use Rattle.endpoint_book.specs.declared.entry.Entry.{Entry as EndpointEntry}
+use Rattle.desk.proofs.Words.{◌≡◌, ℕ, ◌+◌, ◌-◌, ◌≤◌, Bool, true, false, [], ◌∷◌, Option, Some, None, length, take, drop}
+use Rattle.desk.proofs.Words.{map, refl, sym, ◌∙◌, ap, arith, cond, subst, eqb, max, List, ◌↔◌, nat_lt, option_map}
+use Rattle.desk.proofs.Words.{◌&&◌, Result, Ok, Err, OnOk, OnErr, IsOk, IsErr, IfOk, IfSome, IsSome, IsSomeAnd, not}
+use Rattle.desk.proofs.Words.{is_some, if◌then◌else◌, list_all, option_map_or, drop-append_seam, take-add, eq-eqb}
+use Rattle.desk.proofs.Words.{ne_eqb, drop-take, length-drop, length-take, take-append-drop, sum_by-append, map-map}
+use Rattle.desk.proofs.Words.{MAX_RECORDS, Record, History, records_of, find_map, EndpointEntry, HasChanges}
+use Rattle.desk.proofs.Words.{changes_settled, HasWaiting, BatchValue, DoubtValue, doubt_of, upto_of, is_outcome}
+use Rattle.desk.proofs.Words.{outcomes_in, WaitingValue, batch_of, record_count, sealed_count, with_batch_out}
+use Rattle.desk.proofs.Words.{with_nothing_out, length-records_of, length-records_of-split, drop_drop, Refusal, refusal}
+use Rattle.desk.proofs.Words.{first_fault, World, all_records, settled_records, sealed_records, Answer, is_nothing_out}
+use Rattle.desk.proofs.Words.{sealed_batch, seal, seal_faults, seal_waiting, with_batch, with_sealed_settled}
+use Rattle.desk.proofs.Words.{with_batch_back, with_halt, Row, in_flight_of, QueueValue, Limiter, AreMarked, AreQueued}
+use Rattle.desk.proofs.Words.{KeepsRooms, bound_of, endpoint_at, limit_by, room_by, DeskValue, IsDesk, StandsFor}
+use Rattle.desk.proofs.Words.{IsReceiptOf, ArePlacesOf, IsHeldOf, OverWorlds, Turns, IsMove}
+use Rattle.group_commit.specs.declared.fault.SealFault.{SealFault}
+use Rattle.group_commit.specs.declared.held.Held.{Held}
+use Rattle.group_commit.specs.Waits.{with_settled}
 use Rattle.endpoint_book.specs.Book as endpoint_book
 use Rattle.endpoint_book.specs.Entries as endpoint_entries
-use Rattle.endpoint_book.specs.Waiting.{HasChanges}
-use Rattle.endpoint_book.proofs.Waiting.{changes_settled}
 use Rattle.delivery_book.specs.Book as delivery_book
 use Rattle.delivery_book.specs.Entries as delivery_entries
-use Rattle.delivery_book.specs.Waiting.{HasWaiting}
-use Rattle.spool.specs.Batches.{BatchValue, DoubtValue, doubt_of, upto_of}
-use Rattle.group_commit.specs.declared.fault.SealFault.{SealFault}
 use Rattle.group_commit.specs.declared.fault.SealFault.TheVariants as sealing
-use Rattle.group_commit.specs.declared.held.Held.{Held}
 use Rattle.group_commit.specs.declared.held.Held.TheVariants as held
-use Rattle.group_commit.specs.Steps.{is_outcome, outcomes_in}
-use Rattle.group_commit.specs.Waits.{WaitingValue, batch_of, record_count, sealed_count, with_batch_out, with_settled, with_nothing_out}
 use Rattle.group_commit.specs.Turns as waiting
-use Rattle.group_commit.proofs.StepLaws.{length-records_of, length-records_of-split, drop_drop}
 use Rattle.desk.specs.declared.refusal.Fault.TheVariants as fault
-use Rattle.desk.specs.declared.refusal.Refusal.{Refusal}
-use Rattle.desk.specs.Faults.{refusal, first_fault}
-use Rattle.desk.specs.World.{World, all_records, settled_records, sealed_records}
-use Rattle.desk.specs.Moves.{Answer, is_nothing_out, sealed_batch, seal, seal_faults, seal_waiting, with_batch, with_sealed_settled, with_batch_back, with_halt}
-use Rattle.permits.specs.declared.row.Row.{Row}
-use Rattle.permits.specs.Rows.{in_flight_of}
-use Rattle.claim_queue.specs.Queues.{QueueValue}
-use Rattle.desk.specs.declared.limiter.Limiter.{Limiter}
-use Rattle.desk.specs.Ties.{AreMarked, AreQueued, KeepsRooms, bound_of, endpoint_at, limit_by, room_by}
-use Rattle.desk.specs.Desks.{DeskValue, IsDesk, StandsFor, IsReceiptOf, ArePlacesOf, IsHeldOf, OverWorlds, Turns, IsMove}
 use Rattle.desk.proofs.MoveLaws.{refuses, passes, makes, lacks, becomes, leaves}
 use Rattle.desk.proofs.DeskLists.{records_of-split}
 use Rattle.desk.proofs.LookLaws.{stands_as}

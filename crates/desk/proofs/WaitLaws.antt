@@ -1,21 +1,11 @@
 -- The endpoints of deliveries stay what they are, and those of which an outcome waits are known.
-use Rattle.std.proofs.Common.{◌≡◌, ℕ, ◌+◌, Bool, true, false, ◌||◌, List, [], ◌∷◌, ◌++◌, Option, Some, None, map, refl, sym, ◌∙◌, ap, cond, subst}
-use Rattle.std.specs.Prelude.{find, nat_eq, option_map, if◌then◌else◌}
-use Rattle.std.specs.List.{cons_option}
-use Rattle.std.specs.Option.{option_or}
-use Rattle.std.proofs.lemmas.Bool.{eq-eqb}
-use Rattle.std.proofs.lemmas.List.Folds.{find-append}
-use Rattle.relay_types.specs.declared.record.Record.{Record}
-use Rattle.relay_types.specs.declared.record.Record.TheVariants.{Put, Secrets, Enabled, Accept, Outcome}
-use Rattle.relay_types.specs.Deliveries.{attempts_of}
-use Rattle.relay_types.specs.Judging.{is_gone_status}
-use Rattle.relay_types.specs.Records.{Attempt}
-use Rattle.relay_types.proofs.RowLaws.{find_map}
-use Rattle.endpoint_book.proofs.Waiting.{AreNamedAlike}
-use Rattle.delivery_book.specs.declared.entry.Entry.{Entry}
-use Rattle.delivery_book.specs.Entries.{BookValue, at_delivery, at_outcomes, entry_at, front_below, with_attempt, with_latest_settled, with_outcome, with_settled}
-use Rattle.delivery_book.specs.Waiting.{AreTries, HasWaiting}
-use Rattle.desk.specs.Ties.{endpoint_at}
+use Rattle.desk.proofs.Words.{◌≡◌, ℕ, ◌+◌, Bool, true, false, ◌||◌, List, [], ◌∷◌, ◌++◌, Option, Some, None, map, refl}
+use Rattle.desk.proofs.Words.{sym, ◌∙◌, ap, cond, subst, find, nat_eq, option_map, if◌then◌else◌, cons_option}
+use Rattle.desk.proofs.Words.{option_or, eq-eqb, find-append, Record, Put, Secrets, Enabled, Accept, Outcome}
+use Rattle.desk.proofs.Words.{attempts_of, is_gone_status, Attempt, find_map, AreNamedAlike, Entry, BookValue}
+use Rattle.desk.proofs.Words.{at_delivery, at_outcomes, entry_at, front_below, with_latest_settled, with_outcome}
+use Rattle.desk.proofs.Words.{with_settled, AreTries, HasWaiting, endpoint_at}
+use Rattle.delivery_book.specs.Entries.{with_attempt}
 
 -- entries that are changed keep their endpoints
 names_kept : (g : Entry → Entry) (entries : List Entry) (d : ℕ) → ((e : Entry) → (g e).seq ≡ e.seq) → ((e : Entry) → (g e).name ≡ e.name)

@@ -1,4 +1,4 @@
-use Rattle.std.proofs.Common.{sym}
+use Rattle.desk.proofs.Words.{sym}
 use Rattle.desk.proofs.PlaceLaws.{idle_from, idle_held, idle_place}
 use Rattle.desk.proofs.holding.hold.Goals as goal
 

@@ -1,4 +1,4 @@
-use Rattle.claim_queue.specs.Queues.{pair_of}
+use Rattle.desk.proofs.Words.{pair_of}
 use Rattle.desk.proofs.PlaceLaws.{places_let_go}
 use Rattle.desk.proofs.holding.let_go.Goals as goal
 

@@ -1,4 +1,4 @@
-use Rattle.std.proofs.Common.{refl, sym, subst}
+use Rattle.desk.proofs.Words.{refl, sym, subst}
 use Rattle.desk.proofs.SettleLaws.{HoldsNext, new_next, one_settled, places_next, queued_next}
 use Rattle.desk.proofs.holding.settle_next.Goals as goal
 

@@ -1,8 +1,5 @@
-use Rattle.std.proofs.Common.{◌≡◌, ◌+◌, ◌-◌, ◌∙◌, arith, drop, refl, sym, ap, subst}
-use Rattle.delivery_book.specs.Book.{Settles}
-use Rattle.delivery_book.specs.Waiting.{HasWaiting}
-use Rattle.delivery_book.specs.Entries.{BookValue}
-use Rattle.desk.specs.Ties.{endpoint_at}
+use Rattle.desk.proofs.Words.{◌≡◌, ◌+◌, ◌-◌, ◌∙◌, arith, drop, refl, sym, ap, subst, Settles, HasWaiting, BookValue}
+use Rattle.desk.proofs.Words.{endpoint_at}
 use Rattle.desk.proofs.WaitLaws.{names_settled}
 use Rattle.desk.proofs.SettleLaws.{next_within, none_left, one_further, settles_more, settles_none}
 use Rattle.desk.proofs.holding.settle_to.Goals as goal

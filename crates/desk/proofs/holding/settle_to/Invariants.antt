@@ -1,9 +1,5 @@
-use Rattle.std.proofs.Common.{◌≡◌, ◌≤◌, ◌-◌, ℕ, List, drop, max}
-use Rattle.relay_types.specs.declared.record.Record.{Record}
-use Rattle.permits.specs.declared.row.Row.{Row}
-use Rattle.delivery_book.specs.Book.{Settles}
-use Rattle.delivery_book.specs.Waiting.{HasWaiting}
-use Rattle.desk.specs.Ties.{AreQueued, KeepsRooms, endpoint_at}
+use Rattle.desk.proofs.Words.{◌≡◌, ◌≤◌, ◌-◌, ℕ, List, drop, max, Record, Row, Settles, HasWaiting, AreQueued}
+use Rattle.desk.proofs.Words.{KeepsRooms, endpoint_at}
 use Rattle.desk.proofs.holding.settle_to.Given as goal
 
 abbrev pub invariant-loop : goal.invariant-loop

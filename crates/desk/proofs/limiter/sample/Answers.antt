@@ -1,6 +1,4 @@
-use Rattle.std.proofs.Common.{◌∙◌, sym, subst, slice_set}
-use Rattle.desk.specs.declared.limiter.Limiter.{Limiter}
-use Rattle.desk.specs.Ties.{AreSampled}
+use Rattle.desk.proofs.Words.{◌∙◌, sym, subst, slice_set, Limiter, AreSampled}
 use Rattle.desk.proofs.SampleLaws.{sampled_at, has_place, with_estimator}
 use Rattle.desk.proofs.limiter.sample.Goals as goal
 

@@ -1,6 +1,5 @@
-use Rattle.std.proofs.Common.{◌+◌, ◌∙◌, arith, ap, sym, subst, take}
-use Rattle.claim_queue.specs.Queues.{QueueValue, has_room_in, is_reserved}
-use Rattle.desk.specs.Ties.{HasPlaces, idle_pair}
+use Rattle.desk.proofs.Words.{◌+◌, ◌∙◌, arith, ap, sym, subst, take, QueueValue, has_room_in, is_reserved, HasPlaces}
+use Rattle.desk.proofs.Words.{idle_pair}
 use Rattle.desk.proofs.OpeningLaws.{HoldsAmong, held_more, new_among, nothing_there, rooms_held}
 use Rattle.desk.proofs.opening.hold_all.Goals as goal
 use Rattle.desk.proofs.opening.hold_all.Goals.{in-Some, in_default}

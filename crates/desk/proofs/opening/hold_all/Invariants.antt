@@ -1,5 +1,4 @@
-use Rattle.std.proofs.Common.{take}
-use Rattle.desk.specs.Ties.{HasPlaces, KeepsRooms}
+use Rattle.desk.proofs.Words.{take, HasPlaces, KeepsRooms}
 use Rattle.desk.proofs.OpeningLaws.{HoldsAmong}
 use Rattle.desk.proofs.opening.hold_all.Given as goal
 

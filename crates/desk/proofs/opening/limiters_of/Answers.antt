@@ -1,4 +1,4 @@
-use Rattle.std.proofs.Common.{◌∙◌, ap, arith, length, vec_capacity, vec_len}
+use Rattle.desk.proofs.Words.{◌∙◌, ap, arith, length, vec_capacity, vec_len}
 use Rattle.desk.proofs.OpeningLaws.{limiter_more, limiter_none, limiters_all}
 use Rattle.desk.proofs.opening.limiters_of.Goals as goal
 use Rattle.desk.proofs.opening.limiters_of.Goals.{in-Some+in_ok-estimator, in_default}

@@ -1,5 +1,4 @@
-use Rattle.std.proofs.Common.{◌≡◌, ◌≤◌, length, map, take, vec_capacity, vec_len}
-use Rattle.std.specs.Prelude.{filter_map}
+use Rattle.desk.proofs.Words.{◌≡◌, ◌≤◌, length, map, take, vec_capacity, vec_len, filter_map}
 use Rattle.desk.proofs.OpeningLaws.{limiter_in}
 use Rattle.desk.proofs.opening.limiters_of.Given as goal
 

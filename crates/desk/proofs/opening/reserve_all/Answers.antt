@@ -1,7 +1,5 @@
-use Rattle.std.proofs.Common.{◌≡◌, ◌+◌, ◌∙◌, true, arith, ap, sym, subst, take}
-use Rattle.std.specs.List.{list_all}
-use Rattle.claim_queue.specs.Queues.{QueueValue, has_room_in, is_held}
-use Rattle.delivery_book.specs.Entries.{row_in}
+use Rattle.desk.proofs.Words.{◌≡◌, ◌+◌, ◌∙◌, true, arith, ap, sym, subst, take, list_all, QueueValue, has_room_in}
+use Rattle.desk.proofs.Words.{is_held, row_in}
 use Rattle.desk.proofs.OpeningLaws.{all_more, has_all, nothing_there, places_all, reserved_rooms}
 use Rattle.desk.proofs.opening.reserve_all.Goals as goal
 use Rattle.desk.proofs.opening.reserve_all.Goals.{in-Some+in_ok-reserve, in_default}

@@ -1,7 +1,4 @@
-use Rattle.std.proofs.Common.{◌≡◌, true, take}
-use Rattle.std.specs.List.{list_all}
-use Rattle.claim_queue.specs.Queues.{HasSamePairs}
-use Rattle.desk.specs.Ties.{HasSameRooms}
+use Rattle.desk.proofs.Words.{◌≡◌, true, take, list_all, HasSamePairs, HasSameRooms}
 use Rattle.desk.proofs.OpeningLaws.{has_all}
 use Rattle.desk.proofs.opening.reserve_all.Given as goal
 

@@ -1,4 +1,4 @@
-use Rattle.std.proofs.Common.{◌∙◌}
+use Rattle.desk.proofs.Words.{◌∙◌}
 use Rattle.desk.proofs.OpeningLaws.{row_there}
 use Rattle.desk.proofs.opening.row_at.Goals as goal
 

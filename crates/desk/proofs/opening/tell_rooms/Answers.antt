@@ -1,5 +1,4 @@
-use Rattle.std.proofs.Common.{◌∙◌, ap, arith, map, subst, length}
-use Rattle.std.proofs.lemmas.List.{take_all}
+use Rattle.desk.proofs.Words.{◌∙◌, ap, arith, map, subst, length, take_all}
 use Rattle.endpoint_book.specs.declared.entry.Entry.{Entry}
 use Rattle.desk.proofs.OpeningLaws.{AreTold, marked_all, told_next, told_places}
 use Rattle.desk.proofs.opening.tell_rooms.Goals as goal

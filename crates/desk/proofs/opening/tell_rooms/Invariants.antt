@@ -1,6 +1,4 @@
-use Rattle.std.proofs.Common.{map, take}
-use Rattle.claim_queue.specs.Queues.{HasSamePairs}
-use Rattle.desk.specs.Ties.{KeepsPlaces}
+use Rattle.desk.proofs.Words.{map, take, HasSamePairs, KeepsPlaces}
 use Rattle.desk.proofs.OpeningLaws.{AreTold}
 use Rattle.desk.proofs.opening.tell_rooms.Given as goal
 

@@ -1,8 +1,5 @@
-use Rattle.std.proofs.Common.{◌≡◌, ◌∙◌, ◌∷◌, ◌+◌, Bool, ℕ, Err, drop, refl, sym, ap}
-use Rattle.std.specs.Prelude.{if◌then◌else◌}
-use Rattle.std.proofs.lemmas.List.{at_drop_more, drop_all}
-use Rattle.desk.specs.declared.refusal.Fault.{Fault}
-use Rattle.desk.specs.Faults.{Faults, refusal, first_fault}
+use Rattle.desk.proofs.Words.{◌≡◌, ◌∙◌, ◌∷◌, ◌+◌, Bool, ℕ, Err, drop, refl, sym, ap, if◌then◌else◌, at_drop_more}
+use Rattle.desk.proofs.Words.{drop_all, Fault, Faults, refusal, first_fault}
 use Rattle.desk.proofs.refusal.check.Goals as goal
 
 -- what the faults from this one on answer

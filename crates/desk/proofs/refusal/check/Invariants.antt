@@ -1,5 +1,4 @@
-use Rattle.std.proofs.Common.{◌≡◌, drop}
-use Rattle.desk.specs.Faults.{first_fault}
+use Rattle.desk.proofs.Words.{◌≡◌, drop, first_fault}
 use Rattle.desk.proofs.refusal.check.Given as goal
 
 abbrev pub invariant-loop-there : goal.invariant-loop-there

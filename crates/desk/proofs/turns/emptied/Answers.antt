@@ -1,4 +1,4 @@
-use Rattle.std.proofs.Common.{refl, arith}
+use Rattle.desk.proofs.Words.{refl, arith}
 use Rattle.desk.proofs.CloseLaws.{all_out, last_back, last_out, none_left}
 use Rattle.desk.proofs.turns.emptied.Goals as goal
 

@@ -1,8 +1,5 @@
-use Rattle.std.proofs.Common.{refl, ap, arith, length, map, subst}
-use Rattle.std.specs.List.{AllByRecursion}
-use Rattle.std.proofs.lemmas.List.{take_all}
+use Rattle.desk.proofs.Words.{refl, ap, arith, length, map, subst, AllByRecursion, take_all, SameEndpoint}
 use Rattle.endpoint_book.specs.declared.entry.Entry.{Entry}
-use Rattle.desk.specs.Comparing.{SameEndpoint}
 use Rattle.desk.proofs.ComparingLaws.{name_next, named_among}
 use Rattle.desk.proofs.comparing.Told.are_endpoints_in.Goals as goal
 

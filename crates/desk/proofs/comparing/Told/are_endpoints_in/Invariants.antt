@@ -1,6 +1,4 @@
-use Rattle.std.proofs.Common.{map, take}
-use Rattle.std.specs.List.{AllByRecursion}
-use Rattle.desk.specs.Comparing.{SameEndpoint}
+use Rattle.desk.proofs.Words.{map, take, AllByRecursion, SameEndpoint}
 use Rattle.desk.proofs.comparing.Told.are_endpoints_in.Given as goal
 
 abbrev pub invariant-loop-name : goal.invariant-loop-name

@@ -1,10 +1,4 @@
-use Rattle.std.proofs.Common.{refl, arith, subst}
-use Rattle.std.specs.Prelude.{find}
-use Rattle.std.specs.List.{AllByRecursion}
-use Rattle.std.proofs.lemmas.List.{take_all}
-use Rattle.delivery_book.specs.declared.entry.Entry.{Entry}
-use Rattle.delivery_book.specs.Entries.{is_entry_as, row_in}
-use Rattle.desk.specs.Comparing.{SameEvent}
+use Rattle.desk.proofs.Words.{refl, arith, subst, find, AllByRecursion, take_all, Entry, is_entry_as, row_in, SameEvent}
 use Rattle.desk.proofs.ComparingLaws.{event_among, event_next, found_known}
 use Rattle.desk.proofs.OpeningLaws.{nothing_there}
 use Rattle.desk.proofs.comparing.Told.are_events_in.Goals as goal

@@ -1,6 +1,4 @@
-use Rattle.std.proofs.Common.{take}
-use Rattle.std.specs.List.{AllByRecursion}
-use Rattle.desk.specs.Comparing.{SameEvent}
+use Rattle.desk.proofs.Words.{take, AllByRecursion, SameEvent}
 use Rattle.desk.proofs.comparing.Told.are_events_in.Given as goal
 
 abbrev pub invariant-loop-place : goal.invariant-loop-place

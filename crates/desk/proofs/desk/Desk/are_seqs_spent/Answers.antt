@@ -1,4 +1,4 @@
-use Rattle.std.proofs.Common.{arith}
+use Rattle.desk.proofs.Words.{arith}
 use Rattle.desk.proofs.Checks.{is_spent}
 use Rattle.desk.proofs.DeskLaws.{seen}
 use Rattle.desk.proofs.desk.Desk.are_seqs_spent.Goals as goal

@@ -1,7 +1,6 @@
-use Rattle.std.proofs.Common.{◌∙◌, refl, length, nat_le, ap}
+use Rattle.desk.proofs.Words.{◌∙◌, refl, length, nat_le, ap, first_fault, may_refuse_event, all_records}
+use Rattle.desk.proofs.Words.{settled_records}
 use Rattle.desk.specs.declared.limits.TheConstants.{MAX_PENDING, MAX_PENDING_ALL}
-use Rattle.desk.specs.Faults.{first_fault, may_refuse_event}
-use Rattle.desk.specs.World.{all_records, settled_records}
 use Rattle.desk.proofs.Checks.{is_full, refused_by, new_looks}
 use Rattle.desk.proofs.DeskEvents.{pending_is, pending_all_is}
 use Rattle.desk.proofs.DeskLaws.{seen}

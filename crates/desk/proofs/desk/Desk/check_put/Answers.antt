@@ -1,7 +1,5 @@
-use Rattle.std.proofs.Common.{◌∙◌, refl, length, nat_le, ap}
-use Rattle.relay_types.specs.declared.limits.TheConstants.{MAX_ENDPOINTS}
-use Rattle.desk.specs.Faults.{first_fault, may_refuse_put}
-use Rattle.desk.specs.World.{all_records, settled_records}
+use Rattle.desk.proofs.Words.{◌∙◌, refl, length, nat_le, ap, MAX_ENDPOINTS, first_fault, may_refuse_put, all_records}
+use Rattle.desk.proofs.Words.{settled_records}
 use Rattle.desk.proofs.Checks.{is_full, refused_by, put_looks}
 use Rattle.desk.proofs.DeskLaws.{seen}
 use Rattle.desk.proofs.desk.Desk.check_put.Goals as goal

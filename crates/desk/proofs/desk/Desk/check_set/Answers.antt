@@ -1,7 +1,4 @@
-use Rattle.std.proofs.Common.{◌∙◌, refl, length}
-use Rattle.std.specs.Prelude.{not}
-use Rattle.desk.specs.Faults.{first_fault, may_refuse_set}
-use Rattle.desk.specs.World.{all_records, settled_records}
+use Rattle.desk.proofs.Words.{◌∙◌, refl, length, not, first_fault, may_refuse_set, all_records, settled_records}
 use Rattle.desk.proofs.Checks.{is_full, refused_by, set_looks}
 use Rattle.desk.proofs.DeskLaws.{seen}
 use Rattle.desk.proofs.desk.Desk.check_set.Goals as goal

@@ -1,5 +1,4 @@
-use Rattle.std.proofs.Common.{refl}
-use Rattle.desk.specs.Faults.{may_refuse_event}
+use Rattle.desk.proofs.Words.{refl, may_refuse_event}
 use Rattle.desk.proofs.Checks.{refused_by, submit_looks}
 use Rattle.desk.proofs.desk.Desk.check_submit.Goals as goal
 

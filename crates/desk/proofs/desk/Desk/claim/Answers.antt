@@ -1,6 +1,4 @@
-use Rattle.std.proofs.Common.{◌≡◌, Ok, ap}
-use Rattle.desk.specs.Claims.{JobValue, claim}
-use Rattle.desk.specs.Desks.{DeskValue, Starts}
+use Rattle.desk.proofs.Words.{◌≡◌, Ok, ap, JobValue, claim, DeskValue, Starts}
 use Rattle.desk.proofs.MoveLaws.{hands_on, replies}
 use Rattle.desk.proofs.ClaimLaws.{checks_halted, checks_spent, claim_rests, claim_lacks, claim_starts, was_made, was_refused}
 use Rattle.desk.proofs.desk.Desk.claim.Goals as goal

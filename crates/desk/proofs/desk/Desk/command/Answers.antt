@@ -1,7 +1,5 @@
-use Rattle.std.proofs.Common.{sym, subst}
+use Rattle.desk.proofs.Words.{sym, subst, change, IsMove}
 use Rattle.desk.specs.declared.command.Command.{Command}
-use Rattle.desk.specs.Moves.{change}
-use Rattle.desk.specs.Desks.{IsMove}
 use Rattle.desk.proofs.desk.Desk.command.Goals as goal
 
 pub returns-in-PutEndpoint-clause-moves : goal.returns-in-PutEndpoint-clause-moves

@@ -1,5 +1,4 @@
-use Rattle.std.proofs.Common.{length}
-use Rattle.desk.specs.World.{all_records, settled_records}
+use Rattle.desk.proofs.Words.{length, all_records, settled_records}
 use Rattle.desk.proofs.LookLaws.{stands_as, page_is}
 use Rattle.desk.proofs.desk.Desk.endpoint_page.Goals as goal
 

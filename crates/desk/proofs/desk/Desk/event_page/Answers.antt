@@ -1,5 +1,4 @@
-use Rattle.std.proofs.Common.{◌∙◌, length}
-use Rattle.desk.specs.World.{all_records, settled_records}
+use Rattle.desk.proofs.Words.{◌∙◌, length, all_records, settled_records}
 use Rattle.desk.proofs.LookLaws.{stands_as, page_absent, page_found}
 use Rattle.desk.proofs.desk.Desk.event_page.Goals as goal
 

@@ -1,7 +1,5 @@
-use Rattle.std.proofs.Common.{◌≡◌, refl, false, true}
+use Rattle.desk.proofs.Words.{◌≡◌, refl, false, true, with_halt, IsHeldOf}
 use Rattle.group_commit.specs.Turns as waiting
-use Rattle.desk.specs.Moves.{with_halt}
-use Rattle.desk.specs.Desks.{IsHeldOf}
 use Rattle.desk.proofs.TurnLaws.{comes_back, held_is, halt_turns}
 use Rattle.desk.proofs.desk.Desk.halt.Goals as goal
 

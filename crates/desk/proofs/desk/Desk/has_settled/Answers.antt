@@ -1,7 +1,4 @@
-use Rattle.std.proofs.Common.{◌∙◌, ap, length}
-use Rattle.delivery_book.specs.Book.{row_of}
-use Rattle.desk.specs.World.{all_records, settled_records}
-use Rattle.desk.specs.Looks.{is_row_of}
+use Rattle.desk.proofs.Words.{◌∙◌, ap, length, row_of, all_records, settled_records, is_row_of}
 use Rattle.desk.proofs.LookLaws.{stands_as, settled_front, row_is_event}
 use Rattle.desk.proofs.desk.Desk.has_settled.Goals as goal
 

@@ -1,5 +1,4 @@
-use Rattle.std.proofs.Common.{◌≡◌, ◌∙◌, Bool, true, false, refl, sym}
-use Rattle.desk.specs.Kept.{AreTold, totals, totals_in}
+use Rattle.desk.proofs.Words.{◌≡◌, ◌∙◌, Bool, true, false, refl, sym, AreTold, totals, totals_in}
 use Rattle.desk.proofs.ComparingLaws.{IsFound, is_told, not_here, not_there, same_totals, test_same}
 use Rattle.desk.proofs.desk.Desk.is_told_by.Goals.{then-eq, else-eq}
 use Rattle.desk.proofs.desk.Desk.is_told_by.Goals as goal

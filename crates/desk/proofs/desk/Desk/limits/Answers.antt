@@ -1,9 +1,4 @@
-use Rattle.std.proofs.Common.{◌≡◌, ◌∙◌, List, Some, None, ap}
-use Rattle.std.specs.Prelude.{option_map}
-use Rattle.permits.specs.Rows.{in_flight_of}
-use Rattle.desk.specs.declared.limiter.Limiter.{Limiter}
-use Rattle.desk.specs.Ties.{limiter_of}
-use Rattle.desk.specs.Kept.{limits_by}
+use Rattle.desk.proofs.Words.{◌≡◌, ◌∙◌, List, Some, None, ap, option_map, in_flight_of, Limiter, limiter_of, limits_by}
 use Rattle.desk.proofs.LimitLaws.{limits_are}
 use Rattle.desk.proofs.LookLaws.{stands_as}
 use Rattle.desk.proofs.desk.Desk.limits.Goals as goal

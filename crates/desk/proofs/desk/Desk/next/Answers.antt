@@ -1,7 +1,4 @@
-use Rattle.std.proofs.Common.{refl, sym, arith, subst}
-use Rattle.std.proofs.lemmas.Bool.{lt-ltb, le-ltb}
-use Rattle.group_commit.specs.declared.limits.TheConstants.{MAX_WAITING_OUTCOMES}
-use Rattle.claim_queue.specs.Queues.{IsNext, NothingIsReady}
+use Rattle.desk.proofs.Words.{refl, sym, arith, subst, lt-ltb, le-ltb, MAX_WAITING_OUTCOMES, IsNext, NothingIsReady}
 use Rattle.desk.proofs.DeskLaws.{seen}
 use Rattle.desk.proofs.ChoiceLaws.{full_is_choice, next_is_choice, nothing_is_choice}
 use Rattle.desk.proofs.ReadyLaws.{may_start_next}

@@ -1,5 +1,4 @@
-use Rattle.std.proofs.Common.{◌∙◌, [], false, subst}
-use Rattle.desk.specs.Ties.{AreMarked}
+use Rattle.desk.proofs.Words.{◌∙◌, [], false, subst, AreMarked}
 use Rattle.desk.proofs.LookLaws.{stands_as}
 use Rattle.desk.proofs.OpeningLaws.{is_desk_opened, limited_new, stands_opened}
 use Rattle.desk.proofs.desk.Desk.of.Goals as goal

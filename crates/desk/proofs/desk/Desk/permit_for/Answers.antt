@@ -1,14 +1,9 @@
-use Rattle.std.proofs.Common.{◌≡◌, ◌<◌, ◌+◌, ◌∙◌, ℕ, false, true, List, length, sym, refl, ap, arith, subst, IsTrue}
-use Rattle.std.specs.Prelude.{Result, Err, IfSome}
-use Rattle.relay_types.specs.declared.limits.TheConstants.{MAX_RECORDS}
+use Rattle.desk.proofs.Words.{◌≡◌, ◌<◌, ◌+◌, ◌∙◌, ℕ, false, true, List, length, sym, refl, ap, arith, subst, IsTrue}
+use Rattle.desk.proofs.Words.{Result, Err, IfSome, MAX_RECORDS, ChangesMark, is_held, with_room, record_count}
+use Rattle.desk.proofs.Words.{DeskValue, Limiter, limit_by, room_by}
 use Rattle.permits.specs.declared.refusal.Refused.{Refused}
 use Rattle.permits.specs.declared.refusal.Refused.TheVariants.{AtLimit, TooManyOut, AlreadyOut}
 use Rattle.permits.specs.Refusals.{IsAtLimit, IsFull, IsAlreadyOut}
-use Rattle.claim_queue.specs.Queues.{ChangesMark, is_held, with_room}
-use Rattle.group_commit.specs.Waits.{record_count}
-use Rattle.desk.specs.Desks.{DeskValue}
-use Rattle.desk.specs.declared.limiter.Limiter.{Limiter}
-use Rattle.desk.specs.Ties.{limit_by, room_by}
 use Rattle.desk.proofs.ReadyLaws.{StartsFrom, pair_held, starts_from}
 use Rattle.desk.proofs.TieLaws.{desk_started, still_reserved}
 use Rattle.desk.proofs.desk.Desk.permit_for.Goals as goal

@@ -1,8 +1,6 @@
-use Rattle.std.proofs.Common.{◌≡◌, ◌∙◌, Option, Some, None, List, ℕ, true, length, ap}
-use Rattle.std.specs.Prelude.{is_some, option_map}
+use Rattle.desk.proofs.Words.{◌≡◌, ◌∙◌, Option, Some, None, List, ℕ, true, length, ap, is_some, option_map, entry_of}
+use Rattle.desk.proofs.Words.{all_records, settled_records}
 use Rattle.endpoint_book.specs.declared.entry.Entry.{Entry}
-use Rattle.endpoint_book.specs.Entries.{entry_of}
-use Rattle.desk.specs.World.{all_records, settled_records}
 use Rattle.desk.proofs.DeskLaws.{seen}
 use Rattle.desk.proofs.JobLaws.{post_is}
 use Rattle.desk.proofs.ReadyLaws.{endpoint_known, starts_at, starts_from}

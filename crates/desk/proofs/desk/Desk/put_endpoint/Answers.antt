@@ -1,6 +1,4 @@
-use Rattle.std.proofs.Common.{arith}
-use Rattle.desk.specs.declared.command.Command.TheVariants.{PutEndpoint}
-use Rattle.desk.specs.Moves.{put_faults, change, changes}
+use Rattle.desk.proofs.Words.{arith, PutEndpoint, put_faults, change, changes}
 use Rattle.desk.proofs.MoveLaws.{refuses, replies, hands_on}
 use Rattle.desk.proofs.DeskLaws.{put_moves}
 use Rattle.desk.proofs.desk.Desk.put_endpoint.Goals as goal

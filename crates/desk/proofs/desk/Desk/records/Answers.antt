@@ -1,4 +1,4 @@
-use Rattle.std.proofs.Common.{◌∙◌}
+use Rattle.desk.proofs.Words.{◌∙◌}
 use Rattle.desk.proofs.LookLaws.{is_core, stands_as, records_counted}
 use Rattle.desk.proofs.desk.Desk.records.Goals as goal
 

@@ -1,5 +1,4 @@
-use Rattle.std.proofs.Common.{◌≡◌, ◌∙◌, sym, ap, Err}
-use Rattle.desk.specs.Moves.{seal}
+use Rattle.desk.proofs.Words.{◌≡◌, ◌∙◌, sym, ap, Err, seal}
 use Rattle.desk.proofs.MoveLaws.{replies}
 use Rattle.desk.proofs.TurnLaws.{seal_reply, seal_turns}
 use Rattle.desk.proofs.desk.Desk.seal.Goals as goal

@@ -1,4 +1,4 @@
-use Rattle.std.proofs.Common.{arith}
+use Rattle.desk.proofs.Words.{arith}
 use Rattle.desk.proofs.DeskLaws.{enabled_moves}
 use Rattle.desk.proofs.desk.Desk.set_enabled.Goals as goal
 

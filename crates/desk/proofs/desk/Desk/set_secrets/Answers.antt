@@ -1,6 +1,4 @@
-use Rattle.std.proofs.Common.{arith}
-use Rattle.desk.specs.declared.command.Command.TheVariants.{SetSecrets}
-use Rattle.desk.specs.Moves.{set_faults, change, changes}
+use Rattle.desk.proofs.Words.{arith, SetSecrets, set_faults, change, changes}
 use Rattle.desk.proofs.MoveLaws.{refuses, replies, hands_on}
 use Rattle.desk.proofs.DeskLaws.{secrets_move}
 use Rattle.desk.proofs.desk.Desk.set_secrets.Goals as goal

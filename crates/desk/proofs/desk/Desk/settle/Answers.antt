@@ -1,7 +1,5 @@
-use Rattle.std.proofs.Common.{◌≡◌, refl, false, true, length}
+use Rattle.desk.proofs.Words.{◌≡◌, refl, false, true, length, with_sealed_settled, IsReceiptOf}
 use Rattle.group_commit.specs.Turns as waiting
-use Rattle.desk.specs.Moves.{with_sealed_settled}
-use Rattle.desk.specs.Desks.{IsReceiptOf}
 use Rattle.desk.proofs.TurnLaws.{comes_back, receipt_is, is_desk_settled, settles_above, settles_within, settle_turns, settle_counts}
 use Rattle.desk.proofs.desk.Desk.settle.Goals as goal
 

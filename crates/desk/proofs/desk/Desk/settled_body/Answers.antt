@@ -1,8 +1,5 @@
-use Rattle.std.proofs.Common.{◌≡◌, ◌∙◌, sym, ap, true, length, None}
-use Rattle.std.specs.Prelude.{if◌then◌else◌}
-use Rattle.delivery_book.specs.Book.{body_of}
-use Rattle.desk.specs.World.{all_records, settled_records, waiting_records}
-use Rattle.desk.specs.Looks.{has_event}
+use Rattle.desk.proofs.Words.{◌≡◌, ◌∙◌, sym, ap, true, length, None, if◌then◌else◌, body_of, all_records}
+use Rattle.desk.proofs.Words.{settled_records, waiting_records, has_event}
 use Rattle.desk.proofs.LookLaws.{stands_as, settled_first, body_first}
 use Rattle.desk.proofs.desk.Desk.settled_body.Goals as goal
 

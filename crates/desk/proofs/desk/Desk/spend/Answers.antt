@@ -1,13 +1,9 @@
-use Rattle.std.proofs.Common.{◌≡◌, ◌∙◌, ℕ, Option, List, false, true, ap, max, refl, rules, sym, subst}
-use Rattle.std.specs.Prelude.{IfSome, IsTrue, vec_len}
-use Rattle.relay_types.specs.Legal.{is_status}
-use Rattle.relay_types.specs.Values.{is_moment}
-use Rattle.claim_queue.specs.Queues.{QueueValue, ChangesMark, IsNew, with_room}
+use Rattle.desk.proofs.Words.{◌≡◌, ◌∙◌, ℕ, Option, List, false, true, ap, max, refl, rules, sym, subst, IfSome, IsTrue}
+use Rattle.desk.proofs.Words.{vec_len, is_status, is_moment, QueueValue, ChangesMark, IsNew, with_room, Limiter}
+use Rattle.desk.proofs.Words.{DeskValue, IsDesk, AreLimiters, AreSampled, HasPlaces, Holds, idle_pair, limit_by}
+use Rattle.desk.proofs.Words.{room_by}
 use Rattle.desk.specs.declared.desk.Desk.TheInside.{Inside}
-use Rattle.desk.specs.declared.limiter.Limiter.{Limiter}
-use Rattle.desk.specs.Desks.{DeskValue, IsDesk}
 use Rattle.desk.specs.contracts.desk.Desk.{the_view}
-use Rattle.desk.specs.Ties.{AreLimiters, AreSampled, HasPlaces, Holds, idle_pair, limit_by, room_by}
 use denote.Param.{param}
 use Rattle.desk.proofs.RowLaws.{IsReturned}
 use Rattle.desk.proofs.OverTies.{IsLive, IsOver, back_from, foreign_spends, halted_over, is_desk_left, is_live, limiter_known, new_left, places_left, reserved_left, spends, takes_outcome, told_over, written}

@@ -1,6 +1,4 @@
-use Rattle.std.proofs.Common.{◌+◌, ap, arith, length, subst, sym}
-use Rattle.group_commit.specs.Waits.{record_count}
-use Rattle.desk.specs.Desks.{DeskValue, IsDesk}
+use Rattle.desk.proofs.Words.{◌+◌, ap, arith, length, subst, sym, record_count, DeskValue, IsDesk}
 use Rattle.desk.proofs.AcceptTies.{desk_accept}
 use Rattle.desk.proofs.RequestTies.{desk_reserved}
 use Rattle.desk.proofs.desk.Desk.stage_accept.Goals as goal

@@ -1,9 +1,5 @@
-use Rattle.std.proofs.Common.{◌+◌, ◌∙◌, ap, arith, length, subst}
-use Rattle.claim_queue.specs.Queues.{ChangesMark, with_room}
-use Rattle.endpoint_book.specs.Entries.{is_known}
-use Rattle.group_commit.specs.Waits.{record_count}
-use Rattle.desk.specs.Desks.{DeskValue}
-use Rattle.desk.specs.Ties.{room_by}
+use Rattle.desk.proofs.Words.{◌+◌, ◌∙◌, ap, arith, length, subst, ChangesMark, with_room, is_known, record_count}
+use Rattle.desk.proofs.Words.{DeskValue, room_by}
 use Rattle.desk.proofs.RequestTies.{desk_flag}
 use Rattle.desk.proofs.desk.Desk.stage_enabled.Goals as goal
 

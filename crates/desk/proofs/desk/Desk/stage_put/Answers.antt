@@ -1,11 +1,6 @@
-use Rattle.std.proofs.Common.{◌≡◌, ◌+◌, ◌∙◌, List, ◌++◌, [], ◌∷◌, ap, arith, length, subst, sym}
-use Rattle.std.specs.Prelude.{is_some}
-use Rattle.claim_queue.specs.Queues.{ChangesMark, with_room}
-use Rattle.endpoint_book.specs.Entries.{is_known}
-use Rattle.group_commit.specs.Waits.{record_count}
-use Rattle.desk.specs.declared.limiter.Limiter.{Limiter}
-use Rattle.desk.specs.Desks.{DeskValue, IsDesk, with_put}
-use Rattle.desk.specs.Ties.{new_limiter, room_by}
+use Rattle.desk.proofs.Words.{◌≡◌, ◌+◌, ◌∙◌, List, ◌++◌, [], ◌∷◌, ap, arith, length, subst, sym, is_some, ChangesMark}
+use Rattle.desk.proofs.Words.{with_room, is_known, record_count, Limiter, DeskValue, IsDesk, with_put, new_limiter}
+use Rattle.desk.proofs.Words.{room_by}
 use Rattle.desk.proofs.OpeningLaws.{limiter_is}
 use Rattle.desk.proofs.RequestTies.{desk_put, desk_reserved, reserved_own}
 use Rattle.desk.proofs.desk.Desk.stage_put.Goals as goal

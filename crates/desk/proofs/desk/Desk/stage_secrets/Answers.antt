@@ -1,7 +1,4 @@
-use Rattle.std.proofs.Common.{◌+◌, ◌∙◌, ap, arith, length}
-use Rattle.endpoint_book.specs.Entries.{is_known}
-use Rattle.group_commit.specs.Waits.{record_count}
-use Rattle.desk.specs.Desks.{DeskValue}
+use Rattle.desk.proofs.Words.{◌+◌, ◌∙◌, ap, arith, length, is_known, record_count, DeskValue}
 use Rattle.desk.proofs.RequestTies.{desk_secrets}
 use Rattle.desk.proofs.desk.Desk.stage_secrets.Goals as goal
 

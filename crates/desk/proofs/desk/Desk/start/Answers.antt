@@ -1,5 +1,4 @@
-use Rattle.std.proofs.Common.{◌∙◌, sym, ap}
-use Rattle.desk.specs.Desks.{DeskValue, with_live}
+use Rattle.desk.proofs.Words.{◌∙◌, sym, ap, DeskValue, with_live}
 use Rattle.desk.proofs.JobLaws.{job_starts}
 use Rattle.desk.proofs.desk.Desk.start.Goals as goal
 

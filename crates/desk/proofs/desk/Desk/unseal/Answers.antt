@@ -1,4 +1,4 @@
-use Rattle.spool.specs.Batches.{doubt_of}
+use Rattle.desk.proofs.Words.{doubt_of}
 use Rattle.desk.proofs.TurnLaws.{unseal_turns}
 use Rattle.desk.proofs.desk.Desk.unseal.Goals as goal
 
