@@ -1,15 +1,15 @@
 -- Two sides that tell the same of all that either has tell the same of everything.
 use Rattle.desk.proofs.Words.{◌≡◌, ◌<◌, ◌+◌, ℕ, length, get_or, Bool, true, false, List, [], ◌∷◌, ◌++◌, Option, Some}
-use Rattle.desk.proofs.Words.{None, map, take, refl, sym, ◌∙◌, ap, subst, ◌&&◌, cond, eqb, IsTrue, find, is_some}
-use Rattle.desk.proofs.Words.{option_map, option_and_then, bytes_eq, slice_get, IsSome, AllByRecursion, eq-eqb}
-use Rattle.desk.proofs.Words.{eqb-true, bytes_eq-Decides, and_first, and_second, and_both, view_by, EndpointEntry}
-use Rattle.desk.proofs.Words.{Entry, BookValue, is_entry_as, known_in, row_in, settled_row, Books, DeskValue, AreTold}
-use Rattle.desk.proofs.Words.{endpoint_in, endpoint_page, event_in, event_page, shown_with, totals, totals_in}
+use Rattle.desk.proofs.Words.{None, map, take, sym, ◌∙◌, ap, subst, ◌&&◌, eqb, IsTrue, find, is_some, option_map}
+use Rattle.desk.proofs.Words.{option_and_then, bytes_eq, slice_get, IsSome, AllByRecursion, bytes_eq-Decides, and_first}
+use Rattle.desk.proofs.Words.{and_second, view_by, EndpointEntry, Entry, BookValue, is_entry_as, known_in, row_in}
+use Rattle.desk.proofs.Words.{settled_row, Books, DeskValue, AreTold, endpoint_in, endpoint_page, event_in, event_page}
+use Rattle.desk.proofs.Words.{shown_with, totals, totals_in, arith, nat_tests, by_bool, by_option}
 use Rattle.delivery_book.specs.declared.row.Row.{Row}
 use Rattle.delivery_book.specs.Fields.{settled_counts}
 use Rattle.desk.specs.declared.pages.Totals.{Totals}
 use Rattle.endpoint_book.specs.Entries as endpoint_entries
-use Rattle.desk.proofs.OpeningLaws.{names_next, same_some, take_next}
+use Rattle.desk.proofs.OpeningLaws.{names_next, take_next}
 
 -- One more element
 
@@ -27,45 +27,37 @@ name_next P book names i name are within is h p = subst (AllByRecursion P) (sym 
 
 pub event_next : (P : List ℕ → List ℕ → Type 0) (entries : List Entry) (place : ℕ) (row : Row) → Some row ≡ option_map (λ e. row_in e.latest e) (slice_get entries place)
     → AllByRecursion (λ e. P e.name e.id) (take place entries) → P row.endpoint row.id → AllByRecursion (λ e. P e.name e.id) (take (place + 1) entries)
-event_next P entries place row found h p = by (slice_get entries place) refl found
-  where
-    by : (o : Option Entry) → slice_get entries place ≡ o → Some row ≡ option_map (λ (e : Entry). row_in e.latest e) o → AllByRecursion (λ (e : Entry). P e.name e.id) (take (place + 1) entries)
-    by None at none = let wrong : Some row ≡ None = none in cc
-    by (Some e) at same =
-        let is = same_some row (row_in e.latest e) same in
-        all_next (λ (x : Entry). P x.name x.id) entries place e at h (subst (λ (r : Row). P r.endpoint r.id) is p)
+event_next P entries place row found h p =
+    by_option (slice_get entries place) (λ none. absurd (grind (arith, found, none)))
+    (λ e at.
+    let is : row ≡ row_in e.latest e = grind (arith, found, at) in
+    all_next (λ (x : Entry). P x.name x.id) entries place e at h (subst (λ (r : Row). P r.endpoint r.id) is p))
 
 -- what is known is found
 pub found_known : {X : Type 0} (f : X → ℕ) (o : Option X) → is_some (option_map f o) ≡ true → is_some o ≡ true
-found_known f None h = h
-found_known f (Some x) h = refl
+found_known f o h = grind arith
 
 -- What holds of each element that is there holds of what is found among them
 
 pub named_among : (P : List ℕ → Type 0) (entries : List EndpointEntry) (name : List ℕ) → AllByRecursion P (map (λ e. e.name) entries) → is_some (find (endpoint_entries.is_named name) entries) ≡ true → P name
 named_among P [] name h there = cc
-named_among P (e ∷ es) name h there = by (bytes_eq e.name name) refl there (named_among P es name h.1)
-  where
-    by : (b : Bool) → bytes_eq e.name name ≡ b → is_some (cond b (Some e) (find (endpoint_entries.is_named name) es)) ≡ true
-        → (is_some (find (endpoint_entries.is_named name) es) ≡ true → P name) → P name
-    by true same t later = subst P ((bytes_eq-Decides e.name name).0 same) h.0
-    by false same t later = later t
+named_among P (e ∷ es) name h there = by_bool (bytes_eq e.name name)
+    (λ same. subst P ((bytes_eq-Decides e.name name).0 same) h.0)
+    (λ other. named_among P es name h.1 (grind (arith, there, other)))
 
 pub event_among : (P : List ℕ → List ℕ → Type 0) (entries : List Entry) (name id : List ℕ) → AllByRecursion (λ e. P e.name e.id) entries → is_some (find (is_entry_as name id) entries) ≡ true → P name id
 event_among P [] name id h there = cc
-event_among P (e ∷ es) name id h there = by (is_entry_as name id e) refl there (event_among P es name id h.1)
-  where
-    by : (b : Bool) → is_entry_as name id e ≡ b → is_some (cond b (Some e) (find (is_entry_as name id) es)) ≡ true → (is_some (find (is_entry_as name id) es) ≡ true → P name id) → P name id
-    by true same t later =
-        subst (λ n. P n id) ((bytes_eq-Decides e.name name).0 (and_first (bytes_eq e.name name) (bytes_eq e.id id) same))
-        (subst (P e.name) ((bytes_eq-Decides e.id id).0 (and_second (bytes_eq e.name name) (bytes_eq e.id id) same)) h.0)
-    by false same t later = later t
+event_among P (e ∷ es) name id h there = by_bool (is_entry_as name id e)
+    (λ same.
+    let named = (bytes_eq-Decides e.name name).0 (and_first (bytes_eq e.name name) (bytes_eq e.id id) same) in
+    let known = (bytes_eq-Decides e.id id).0 (and_second (bytes_eq e.name name) (bytes_eq e.id id) same) in
+    subst (λ n. P n id) named (subst (P e.name) known h.0))
+    (λ other. event_among P es name id h.1 (grind (arith, there, other)))
 
 -- What neither side has is told by neither
 
 nothing_found : {X : Type 0} (o : Option X) → is_some o ≡ false → o ≡ None
-nothing_found None e = refl
-nothing_found (Some x) e = cc
+nothing_found o e = grind arith
 
 unknown_endpoint : (endpoints : endpoint_entries.BookValue) (deliveries : BookValue) (name : List ℕ) → endpoint_entries.is_known endpoints name ≡ false → endpoint_in endpoints deliveries name ≡ None
 unknown_endpoint endpoints deliveries name none =
@@ -80,26 +72,16 @@ pub record IsFound (endpoints : endpoint_entries.BookValue) (deliveries : BookVa
   pub events_in : (name id : List ℕ) → IsSome (known_in deliveries name id) → event_in deliveries name id ≡ event_in other name id
 
 pub endpoints_told : (e oe : endpoint_entries.BookValue) (d od : BookValue) → IsFound e d oe od → IsFound oe od e d → (name : List ℕ) → endpoint_in oe od name ≡ endpoint_in e d name
-endpoints_told e oe d od mine theirs name = by (endpoint_entries.is_known e name) refl
-  where
-    absent : (b : Bool) → endpoint_entries.is_known oe name ≡ b → endpoint_entries.is_known e name ≡ false → endpoint_in oe od name ≡ endpoint_in e d name
-    absent true is none = theirs.endpoints_in name is
-    absent false is none = unknown_endpoint oe od name is ∙ sym (unknown_endpoint e d name none)
-
-    by : (b : Bool) → endpoint_entries.is_known e name ≡ b → endpoint_in oe od name ≡ endpoint_in e d name
-    by true is = sym (mine.endpoints_in name is)
-    by false is = absent (endpoint_entries.is_known oe name) refl is
+endpoints_told e oe d od mine theirs name =
+    by_bool (endpoint_entries.is_known e name) (λ is. sym (mine.endpoints_in name is)) (λ none.
+    by_bool (endpoint_entries.is_known oe name) (theirs.endpoints_in name)
+    (λ is. unknown_endpoint oe od name is ∙ sym (unknown_endpoint e d name none)))
 
 pub events_told : (e oe : endpoint_entries.BookValue) (d od : BookValue) → IsFound e d oe od → IsFound oe od e d → (name id : List ℕ) → event_in od name id ≡ event_in d name id
-events_told e oe d od mine theirs name id = by (is_some (known_in d name id)) refl
-  where
-    absent : (b : Bool) → is_some (known_in od name id) ≡ b → is_some (known_in d name id) ≡ false → event_in od name id ≡ event_in d name id
-    absent true is none = theirs.events_in name id is
-    absent false is none = unknown_event od name id is ∙ sym (unknown_event d name id none)
-
-    by : (b : Bool) → is_some (known_in d name id) ≡ b → event_in od name id ≡ event_in d name id
-    by true is = sym (mine.events_in name id is)
-    by false is = absent (is_some (known_in od name id)) refl is
+events_told e oe d od mine theirs name id =
+    by_bool (is_some (known_in d name id)) (λ is. sym (mine.events_in name id is)) (λ none.
+    by_bool (is_some (known_in od name id)) (theirs.events_in name id)
+    (λ is. unknown_event od name id is ∙ sym (unknown_event d name id none)))
 
 -- Totals
 
@@ -108,23 +90,21 @@ test_totals a b = eqb a.delivered b.delivered && (eqb a.endpoints b.endpoints &&
 
 pub same_totals : (a b : Totals) → test_totals a b ≡ true → a ≡ b
 same_totals a b h =
-    let behind = and_second (eqb a.delivered b.delivered) _ h in
-    let rest = and_second (eqb a.endpoints b.endpoints) _ behind in
-    let last = and_second (eqb a.exhausted b.exhausted) _ rest in
+    let delivered : a.delivered ≡ b.delivered = grind (arith, nat_tests, h) in
+    let endpoints : a.endpoints ≡ b.endpoints = grind (arith, nat_tests, h) in
+    let exhausted : a.exhausted ≡ b.exhausted = grind (arith, nat_tests, h) in
+    let pending : a.pending ≡ b.pending = grind (arith, nat_tests, h) in
+    let records : a.records ≡ b.records = grind (arith, nat_tests, h) in
     λ i. record {
-      delivered = eqb-true a.delivered b.delivered (and_first (eqb a.delivered b.delivered) _ h) i;
-      endpoints = eqb-true a.endpoints b.endpoints (and_first (eqb a.endpoints b.endpoints) _ behind) i;
-      exhausted = eqb-true a.exhausted b.exhausted (and_first (eqb a.exhausted b.exhausted) _ rest) i;
-      pending = eqb-true a.pending b.pending (and_first (eqb a.pending b.pending) _ last) i;
-      records = eqb-true a.records b.records (and_second (eqb a.pending b.pending) _ last) i;
+      delivered = delivered i;
+      endpoints = endpoints i;
+      exhausted = exhausted i;
+      pending = pending i;
+      records = records i;
     }
 
 pub test_same : (a b : Totals) → a ≡ b → test_totals a b ≡ true
-test_same a b same = subst (λ (x : Totals). test_totals a x ≡ true) same
-    (and_both (eqb a.delivered a.delivered) _ (eq-eqb a.delivered a.delivered refl)
-    (and_both (eqb a.endpoints a.endpoints) _ (eq-eqb a.endpoints a.endpoints refl)
-    (and_both (eqb a.exhausted a.exhausted) _ (eq-eqb a.exhausted a.exhausted refl)
-    (and_both (eqb a.pending a.pending) _ (eq-eqb a.pending a.pending refl) (eq-eqb a.records a.records refl)))))
+test_same a b same = rw (sym same) (grind (arith, nat_tests))
 
 -- Desks
 

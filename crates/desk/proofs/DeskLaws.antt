@@ -1,19 +1,32 @@
--- The worlds for which a desk stands once one more record waits, and the moves that make it wait.
-use Rattle.desk.proofs.Words.{◌≡◌, ℕ, ◌+◌, ◌<◌, ◌≤◌, Bool, true, false, List, [], ◌∷◌, ◌++◌, Option, Some, None, length}
-use Rattle.desk.proofs.Words.{refl, sym, ◌∙◌, ap, arith, ◌&&◌, length-append, subst, max, bytes_eq, cond, count_by}
-use Rattle.desk.proofs.Words.{Result, Ok, Err, IfOk, OnOk, OnErr, is_some, not, IsTrue, option_map_or, take-append-le}
-use Rattle.desk.proofs.Words.{drop-append-le, leb-false, lt-ltb, MAX_ENDPOINTS, MAX_RECORDS, Record, Put, Secrets}
-use Rattle.desk.proofs.Words.{Enabled, Accept, records_of, known_as, endpoints, has_endpoint, IsLegal, may_follow}
-use Rattle.desk.proofs.Words.{is_within_limits, legal_more, Change, entry_of, is_flag, is_known, HasChanges}
-use Rattle.desk.proofs.Words.{stands-other, is_other, HasWaiting, WaitingValue, record_count, with_step}
-use Rattle.desk.proofs.Words.{length-records_of, count_by_snoc, PutEndpoint, SetSecrets, SetEnabled, Refusal, Ticket}
-use Rattle.desk.proofs.Words.{out_of_memory_at, World, all_records, settled_records, waiting_records, or_out_of_memory}
-use Rattle.desk.proofs.Words.{stages, moment, at_moment, with_record, next_seq, ticket, accepts, submit, submit_known}
+-- The worlds for which a desk stands, what it tells of them, and how its calls move them on.
+use Rattle.desk.proofs.Words.{◌≡◌, ℕ, [], ◌∷◌, ◌++◌, take, drop, refl, sym, ◌∙◌, ap, append_assoc, take-append-drop}
+use Rattle.desk.proofs.Words.{Record, History, records_of, zero, suc, ◌+◌, ◌≤◌, Bool, true, false, List, Option, Some}
+use Rattle.desk.proofs.Words.{None, arith, cond, ◌&&◌, map, add-zero, slice_get, filter, find, count_by, option_map}
+use Rattle.desk.proofs.Words.{option_and_then, is_some, enumerate_from, option_map_or, sum_by-cons, Pending, Accepted}
+use Rattle.desk.proofs.Words.{accepted_by, accepted, is_accept, is_accept_of, is_accept_as, deliveries, deliveries_of}
+use Rattle.desk.proofs.Words.{known_as, is_in_state, state_of, row_of, counts_of, counts_of_all, pending_among}
+use Rattle.desk.proofs.Words.{by_option, length, subst, take-append_seam, endpoints, View, view_of, body_of}
+use Rattle.desk.proofs.Words.{record_count, length-records_of-split, World, all_records, settled_records}
+use Rattle.desk.proofs.Words.{waiting_records, is_row_of, has_event, QueueValue, DeskValue, IsCore, IsDesk, StandsFor}
+use Rattle.desk.proofs.Words.{BookRow, inl, inr, Result, Ok, Err, IfOk, OnErr, IsSomeAnd, Refusal, Faults, refusal}
+use Rattle.desk.proofs.Words.{first_fault, out_of_memory_at, Answer, MayGive, or_out_of_memory, refused, unless, IsMove}
+use Rattle.desk.proofs.Words.{Checks, by_bool, ◌<◌, length-append, max, bytes_eq, OnOk, not, IsTrue, take-append-le}
+use Rattle.desk.proofs.Words.{drop-append-le, leb-false, lt-ltb, MAX_ENDPOINTS, MAX_RECORDS, Put, Secrets, Enabled}
+use Rattle.desk.proofs.Words.{Accept, has_endpoint, IsLegal, may_follow, is_within_limits, legal_more, Change, entry_of}
+use Rattle.desk.proofs.Words.{is_flag, is_known, HasChanges, stands-other, is_other, HasWaiting, WaitingValue}
+use Rattle.desk.proofs.Words.{with_step, length-records_of, count_by_snoc, PutEndpoint, SetSecrets, SetEnabled, stages}
+use Rattle.desk.proofs.Words.{moment, at_moment, with_record, next_seq, ticket, accepts, submit, submit_known}
 use Rattle.desk.proofs.Words.{submit_new, submit_faults, new_submit_faults, put_faults, set_faults, repeats, changes}
-use Rattle.desk.proofs.Words.{change, Sample, StandsForSamples, Row, QueueValue, Limiter, samples_of, AreTied, StandsAt}
-use Rattle.desk.proofs.Words.{StandsBy, endpoint_at, is_limiter_of, limiter_of, new_limiter, AreLimits, DeskValue}
-use Rattle.desk.proofs.Words.{IsDesk, AreBooks, StandsFor, IsMove, Checks, OverWorlds, with_entry, with_put}
-use Rattle.desk.proofs.Words.{with_secrets, with_enabled, with_accept}
+use Rattle.desk.proofs.Words.{change, Sample, StandsForSamples, Row, Limiter, samples_of, AreTied, StandsAt, StandsBy}
+use Rattle.desk.proofs.Words.{endpoint_at, is_limiter_of, new_limiter, AreLimits, AreBooks, OverWorlds, with_entry}
+use Rattle.desk.proofs.Words.{with_put, with_secrets, with_enabled, with_accept, nat_le, nat_eq, IfErr, if◌then◌else◌}
+use Rattle.desk.proofs.Words.{list_all, and_parts, MAX_WAITING_REQUESTS, requests_in, Fault, is_waiting_full}
+use Rattle.desk.proofs.Words.{are_seqs_spent, nat_tests}
+use Rattle.desk.specs.declared.ticket.Ticket.{Ticket}
+use Rattle.delivery_book.specs.declared.row.Counts.{Counts}
+use Rattle.desk.specs.Looks.{event_page, endpoint_page, totals}
+use Rattle.std.specs.Result.{IsErrAnd}
+use Rattle.std.proofs.lemmas.Result.{err_from_is_err_and}
 use Rattle.std.specs.declared.alloc.AllocError.{AllocError}
 use Rattle.endpoint_book.proofs.Filters.{none_if}
 use Rattle.endpoint_book.proofs.Histories.{known-entry}
@@ -21,10 +34,253 @@ use Rattle.endpoint_book.proofs.Staged.{stands-put, stands-secrets, stands-enabl
 use Rattle.delivery_book.proofs.Laws.{stands_accept, stands_other}
 use Rattle.delivery_book.proofs.Waiting.{waiting_other}
 use Rattle.desk.specs.declared.ticket.CommandTicket.{CommandTicket}
+use Rattle.desk.specs.declared.refusal.Fault.TheVariants as fault
 use Rattle.endpoint_book.specs.Entries as endpoint_entries
 use Rattle.delivery_book.specs.Entries as delivery_entries
-use Rattle.desk.proofs.DeskLists.{records_of-snoc, records_of-split}
-use Rattle.desk.proofs.MoveLaws.{refuses, passes, makes, makes_or_lacks, becomes, absent}
+
+-- Facts about lists of steps
+
+-- steps, one list after another
+pub records_of-append : (xs ys : History) → records_of (xs ++ ys) ≡ records_of xs ++ records_of ys
+records_of-append [] ys = refl
+records_of-append (x ∷ xs) ys = ap (λ rest. x ++ rest) (records_of-append xs ys) ∙ sym (append_assoc x (records_of xs) (records_of ys))
+
+pub records_of-snoc : (xs : History) (entry : Record) → records_of (xs ++ (entry ∷ []) ∷ []) ≡ records_of xs ++ entry ∷ []
+records_of-snoc xs entry = records_of-append xs ((entry ∷ []) ∷ [])
+
+pub records_of-split : (n : ℕ) (xs : History) → records_of xs ≡ records_of (take n xs) ++ records_of (drop n xs)
+records_of-split n xs = ap records_of (sym (take-append-drop n xs)) ∙ records_of-append (take n xs) (drop n xs)
+
+-- What the first records of a history say of its events, and which of its deliveries are pending
+
+-- An event's number among the first records
+
+abbrev known_from : (Record → Bool) → ℕ → List Record → Option ℕ
+known_from test n records = option_map (λ (e : ℕ × Record). e.0) (find (λ e. test e.1) (enumerate_from n records))
+
+known_least : (test : Record → Bool) (n j : ℕ) (records : List Record) → known_from test n records ≡ Some j → n ≤ j
+known_least test n j [] e = cc
+known_least test n j (r ∷ rest) e = grind (arith, e, known_least test (n + 1) j rest)
+
+unknown_first : (test : Record → Bool) (n : ℕ) (xs ys : List Record) → known_from test n (xs ++ ys) ≡ None → known_from test n xs ≡ None
+unknown_first test n [] ys e = refl
+unknown_first test n (x ∷ xs) ys e = grind (arith, e, unknown_first test (n + 1) xs ys)
+
+known_first : (test : Record → Bool) (n k j : ℕ) (xs ys : List Record) (a : Accepted) → j ≡ n + k → known_from test n (xs ++ ys) ≡ Some j
+    → option_and_then accepted_by (slice_get xs k) ≡ Some a → known_from test n xs ≡ Some j
+known_first test n k j [] ys a p e h = cc
+known_first test n zero j (x ∷ xs) ys a p e h = grind (arith, p, e, known_least test (n + 1) j (xs ++ ys))
+known_first test n (suc k) j (x ∷ xs) ys a p e h =
+    let later =
+    λ (t : known_from test (n + 1) (xs ++ ys) ≡ Some j). known_first test (n + 1) k j xs ys a (omega (arith, p)) t h in
+    grind (arith, e, later)
+
+unknown_later : (test : Record → Bool) → ((r : Record) → test r ≡ true → is_some (accepted_by r) ≡ true) → (n k j : ℕ) (xs ys : List Record) → j ≡ n + k → known_from test n (xs ++ ys) ≡ Some j
+    → option_and_then accepted_by (slice_get xs k) ≡ None → known_from test n xs ≡ None
+unknown_later test accepts n k j [] ys p e h = refl
+unknown_later test accepts n zero j (x ∷ xs) ys p e h =
+    grind (arith, p, e, h, accepts x, known_least test (n + 1) j (xs ++ ys))
+unknown_later test accepts n (suc k) j (x ∷ xs) ys p e h =
+    let later = λ (t : known_from test (n + 1) (xs ++ ys) ≡ Some j).
+    unknown_later test accepts (n + 1) k j xs ys (omega (arith, p)) t h in
+    grind (arith, p, e, later)
+
+there_if : (o : Option Accepted) (f : Accepted → Bool) → option_map_or f o false ≡ true → is_some o ≡ true
+there_if o f e = grind arith
+
+pub event_unknown : (first rest : List Record) (name id : List ℕ) → known_as (first ++ rest) name id ≡ None → None ≡ option_and_then (row_of first) (known_as first name id)
+event_unknown first rest name id e = ap (option_and_then (row_of first)) (sym (unknown_first (is_accept_as name id) 0 first rest e))
+
+pub event_known : (first rest : List Record) (name id : List ℕ) (d : ℕ) → known_as (first ++ rest) name id ≡ Some d
+    → row_of first d ≡ option_and_then (row_of first) (known_as first name id)
+event_known first rest name id d e = by_option (accepted first d)
+    (λ h.
+    let unknown =
+    unknown_later (is_accept_as name id) (λ r t. there_if (accepted_by r) _ t) 0 d d first rest (omega arith) e h in
+    grind (arith, h, unknown))
+    (λ a h. let known = known_first (is_accept_as name id) 0 d d first rest a (omega arith) e h in
+    grind (arith, h, known))
+
+-- Pending deliveries
+
+abbrev places_from : (Record → Bool) → ℕ → List Record → List ℕ
+places_from test n records = map (λ (e : ℕ × Record). e.0) (filter (λ e. test e.1) (enumerate_from n records))
+
+pending_from : (records : List Record) (of : ℕ → Bool) (test : Record → Bool) → ((r : Record) → test r ≡ true → is_some (accepted_by r) ≡ true) → (n : ℕ) (rest : List Record)
+    → ((k : ℕ) → accepted records (n + k) ≡ option_and_then accepted_by (slice_get rest k))
+    → count_by of (places_from test n rest) ≡ count_by (λ d. is_some (accepted records d) && of d) (places_from test n rest)
+pending_from records of test accepts n [] at = refl
+pending_from records of test accepts n (r ∷ rest) at =
+    step (test r) refl
+    (pending_from records of test accepts (n + 1) rest (λ k.
+    let moved : n + 1 + k ≡ n + suc k = omega arith in ap (accepted records) moved ∙ at (suc k)))
+  where
+    step : (b : Bool) → test r ≡ b → count_by of (places_from test (n + 1) rest) ≡ count_by (λ d. is_some (accepted records d) && of d) (places_from test (n + 1) rest)
+        → count_by of (map (λ (e : ℕ × Record). e.0) (cond b ((n, r) ∷ filter (λ e. test e.1) (enumerate_from (n + 1) rest)) (filter (λ e. test e.1) (enumerate_from (n + 1) rest))))
+        ≡ count_by (λ d. is_some (accepted records d) && of d) (map (λ (e : ℕ × Record). e.0) (cond b ((n, r) ∷ filter (λ e. test e.1) (enumerate_from (n + 1) rest)) (filter (λ e. test e.1) (enumerate_from (n + 1) rest))))
+    step true q h =
+        let here : is_some (accepted records n) ≡ true = ap is_some (ap (accepted records) (sym (add-zero n)) ∙ at 0) ∙ accepts r q in
+        sum_by-cons (λ d. cond (of d) 1 0) n (places_from test (n + 1) rest)
+        ∙ (λ i. cond (sym here i && of n) 1 0 + h i)
+        ∙ sym (sum_by-cons (λ d. cond (is_some (accepted records d) && of d) 1 0) n (places_from test (n + 1) rest))
+    step false q h = h
+
+starts : (records : List Record) (k : ℕ) → accepted records (0 + k) ≡ option_and_then accepted_by (slice_get records k)
+starts records k = let moved : 0 + k ≡ k = omega arith in ap (accepted records) moved
+
+pub pending_is : (records : List Record) (name : List ℕ) → (counts_of records name).pending ≡ pending_among records (deliveries_of records name)
+pending_is records name =
+    pending_from records (λ d. is_in_state Pending (state_of records d)) (is_accept_of name)
+    (λ r t. there_if (accepted_by r) _ t) 0 records (starts records)
+
+pub pending_all_is : (records : List Record) → (counts_of_all records).pending ≡ pending_among records (deliveries records)
+pending_all_is records = pending_from records (λ d. is_in_state Pending (state_of records d)) is_accept (λ r t. t) 0 records (starts records)
+
+-- What a desk tells of each world for which it stands
+
+-- the same desk, in other words
+pub stands_as : {d e : DeskValue} {w : World} → d ≡ e → StandsFor e w → StandsFor d w
+stands_as {d} {e} {w} same h = subst (λ (x : DeskValue). StandsFor x w) (sym same) h
+
+-- the records in front are the settled ones
+pub settled_first : (w : World) → all_records w ≡ settled_records w ++ waiting_records w
+settled_first w = records_of-split w.settled w.history
+
+pub settled_front : (w : World) → take (length (settled_records w)) (all_records w) ≡ settled_records w
+settled_front w = ap (take (length (settled_records w))) (settled_first w) ∙ take-append_seam (settled_records w) (waiting_records w)
+
+pub records_counted : {d : DeskValue} {w : World} → StandsFor d w → record_count d.waiting ≡ length (all_records w)
+records_counted {d} {w} h =
+    omega (arith, h.waiting.settled_seq, ap (λ steps. length (records_of steps)) h.waiting.steps, length-records_of-split w.settled w.history)
+
+-- what ties a desk's fields, but for its queue
+pub is_core : {d v : DeskValue} {queue : QueueValue} → d ≡ v → IsDesk d.endpoints d.deliveries d.waiting d.live d.limiters queue → IsCore v
+is_core {d} same h = subst (λ (x : DeskValue). IsCore x) same (record {
+  endpoints_settled = h.endpoints_settled;
+  endpoints_within = h.endpoints_staged;
+  endpoints_wait = h.endpoints_wait;
+  deliveries_settled = h.deliveries_settled;
+  deliveries_within = h.deliveries_staged;
+  deliveries_wait = h.deliveries_wait;
+  live = h.tied.queued.under_way;
+  limits = h.tied.limited;
+  room = h.tied.room;
+})
+
+-- Tickets
+
+pub row_is_event : (records : List Record) (ticket : Ticket) → is_row_of ticket (row_of records ticket.seq) ≡ has_event records ticket
+row_is_event records ticket = grind arith
+
+accepted_first : (first rest : List Record) (d : ℕ) (a : Accepted) → accepted first d ≡ Some a → accepted (first ++ rest) d ≡ Some a
+accepted_first [] rest d a e = cc
+accepted_first (x ∷ xs) rest zero a e = e
+accepted_first (x ∷ xs) rest (suc d) a e = accepted_first xs rest d a e
+
+-- the body of an event among the first records is the same among all
+pub body_first : (first rest : List Record) (ticket : Ticket) → has_event first ticket ≡ true → body_of (first ++ rest) ticket.seq ≡ body_of first ticket.seq
+body_first first rest ticket e = grind (arith, accepted_first first rest ticket.seq)
+
+-- Pages
+
+pub page_absent : (w : World) (name id : List ℕ) → None ≡ known_as (all_records w) name id → None ≡ event_page (settled_records w) name id
+page_absent w name id e =
+    event_unknown (settled_records w) (waiting_records w) name id (ap (λ records. known_as records name id) (sym (settled_first w)) ∙ sym e)
+
+pub page_found : (w : World) (name id : List ℕ) (delivery : ℕ) {row : Option BookRow}
+    → Some delivery ≡ known_as (all_records w) name id
+    → row ≡ row_of (take (length (settled_records w)) (all_records w)) delivery → row ≡ event_page (settled_records w) name id
+page_found w name id delivery e f =
+    f ∙ ap (λ records. row_of records delivery) (settled_front w)
+    ∙ event_known (settled_records w) (waiting_records w) name id delivery (ap (λ records. known_as records name id) (sym (settled_first w)) ∙ sym e)
+
+pub totals_are : (w : World) (counts : Counts) (put records : ℕ) → counts ≡ counts_of_all (take (length (settled_records w)) (all_records w))
+    → put ≡ length (endpoints (take (length (settled_records w)) (all_records w))) → records ≡ length (settled_records w)
+    → record { delivered = counts.delivered; endpoints = put; exhausted = counts.exhausted; pending = counts.pending; records = records } ≡ totals (settled_records w)
+totals_are w counts put records e f g =
+    let all : counts ≡ counts_of_all (settled_records w) = e ∙ ap counts_of_all (settled_front w) in
+    let known : put ≡ length (endpoints (settled_records w)) = f ∙ ap (λ records. length (endpoints records)) (settled_front w) in
+    λ i. record { delivered = (all i).delivered; endpoints = known i; exhausted = (all i).exhausted; pending = (all i).pending; records = g i }
+
+pub page_is : (w : World) (name : List ℕ) (view : Option View) (counts : Counts) → view ≡ view_of (take (length (settled_records w)) (all_records w)) name
+    → counts ≡ counts_of (take (length (settled_records w)) (all_records w)) name → option_map (λ v. record { view = v; counts = counts }) view ≡ endpoint_page (settled_records w) name
+page_is w name view counts e f =
+    let page : option_map (λ v. record { view = v; counts = counts }) view ≡ endpoint_page (take (length (settled_records w)) (all_records w)) name =
+    λ i. option_map (λ v. record { view = v; counts = f i }) (e i) in
+    page ∙ ap (λ records. endpoint_page records name) (settled_front w)
+
+-- The answer to a call is its move: one law for its refusals, one for want of memory, one for what it makes
+
+fault_refuses : {A : Type 0} (faults : Faults) (w : World) (answer : Answer A) (r : Refusal) → first_fault faults ≡ Err r → unless faults w answer ≡ refused w r.number r.fault
+fault_refuses [] w answer r e = cc
+fault_refuses {A} ((there, number, fault) ∷ rest) w answer r e = grind (arith, fault_refuses rest w answer r)
+
+fault_passes : {A : Type 0} (faults : Faults) (w : World) (answer : Answer A) (u : Unit {0}) → first_fault faults ≡ Ok u → unless faults w answer ≡ answer
+fault_passes [] w answer u e = refl
+fault_passes {A} ((there, number, fault) ∷ rest) w answer u e = grind (arith, fault_passes rest w answer u)
+
+-- the call is refused for the first fault that is there
+pub refuses : {A : Type 0} (d : DeskValue) (faults : World → Faults) (answer : World → Answer A) (r : Refusal) → Checks d faults (Err r) → IsMove d (λ w. unless (faults w) w (answer w)) (Err r) d
+refuses {A} d faults answer r checks = λ w h.
+    let e : unless (faults w) w (answer w) ≡ refused w r.number r.fault = fault_refuses (faults w) w (answer w) r (sym (checks w h)) in
+    (w, inl (sym (ap (λ (a : Answer A). a.reply) e), sym (ap (λ (a : Answer A). a.next) e)), h)
+
+-- where no fault is there, the answer is that behind the faults
+pub passes : {A : Type 0} (d new : DeskValue) (faults : World → Faults) (answer : World → Answer A) (u : Unit {0}) (reply : Result A Refusal) → Checks d faults (Ok u) → IsMove d answer reply new
+    → IsMove d (λ w. unless (faults w) w (answer w)) reply new
+passes {A} d new faults answer u reply checks move = λ w h.
+    subst (λ (a : Answer A). (next : World) × MayGive w a reply next × StandsFor new next) (sym (fault_passes (faults w) w (answer w) u (sym (checks w h)))) (move w h)
+
+-- the call makes this
+pub makes : {A : Type 0} (d new : DeskValue) (answer : World → Answer A) (a : A) → ((w : World) → StandsFor d w → ((answer w).reply ≡ Ok a) × StandsFor new (answer w).next) → IsMove d answer (Ok a) new
+makes d new answer a made = λ w h.
+    let m = made w h in
+    ((answer w).next, inl (sym m.0, refl), m.1)
+
+abbrev refusing_by : {A : Type 0} → ℕ → Result A Refusal
+refusing_by number = Err (refusal number fault.OutOfMemory)
+
+-- a call that takes memory may be refused for want of it
+pub lacks : {A : Type 0} (d : DeskValue) (answer : World → Answer A) (number : ℕ) → ((w : World) → StandsFor d w → (answer w).memory ≡ Some number) → IsMove d answer (Err (refusal number fault.OutOfMemory)) d
+lacks {A} d answer number takes = λ w h.
+    (w, inr (subst (λ (o : Option ℕ). IsSomeAnd o (λ n. (refusing_by {A = A} number ≡ refusing_by n) × (w ≡ w))) (sym (takes w h)) (refl, refl)), h)
+
+-- the same answer in other words
+pub becomes : {A : Type 0} (d new : DeskValue) (answer other : World → Answer A) (reply : Result A Refusal) → ((w : World) → StandsFor d w → answer w ≡ other w) → IsMove d answer reply new → IsMove d other reply new
+becomes {A} d new answer other reply same move = λ w h.
+    subst (λ (a : Answer A). (next : World) × MayGive w a reply next × StandsFor new next) (same w h) (move w h)
+
+-- the same move, for an answer that is handed on
+pub replies : {A : Type 0} (old new : DeskValue) (move : World → Answer A) (a b : Result A Refusal) → IsMove old move b new → a ≡ b → IsMove old move a new
+replies old new move a b m e = subst (λ reply. IsMove old move reply new) (sym e) m
+
+pub leaves : {A : Type 0} (old a b : DeskValue) (move : World → Answer A) (reply : Result A Refusal) → IsMove old move reply b → a ≡ b → IsMove old move reply a
+leaves old a b move reply m e = subst (λ new. IsMove old move reply new) (sym e) m
+
+-- what takes memory is made, or the call is refused for want of it
+pub makes_or_lacks : {A E : Type 0} (d new : DeskValue) (answer : World → Answer A) (number : ℕ) (made : Result A E)
+    → IfOk made (λ a. (w : World) → StandsFor d w → ((answer w).reply ≡ Ok a) × StandsFor new (answer w).next) → OnErr made (new ≡ d)
+    → IsMove d (λ w. or_out_of_memory number (answer w)) (out_of_memory_at number made) new
+makes_or_lacks d new answer number (Ok a) stands same = makes d new (λ w. or_out_of_memory number (answer w)) a stands
+makes_or_lacks d new answer number (Err e) stands same =
+    leaves d new d (λ w. or_out_of_memory number (answer w)) (Err (refusal number fault.OutOfMemory))
+    (lacks d (λ w. or_out_of_memory number (answer w)) number (λ w h. refl)) same
+
+pub hands_on : {A : Type 0} (reply : Result A Refusal) (r : Refusal) → IsErrAnd reply (λ y. y ≡ r) → reply ≡ Err r
+hands_on {A} reply r h = let p = err_from_is_err_and reply h in cc
+
+-- none of the faults is there
+abbrev pub AreAbsent : Faults → Type 0
+AreAbsent [] = Unit {0}
+AreAbsent ((there, number, fault) ∷ rest) = (there ≡ false) × AreAbsent rest
+
+pub absent : (faults : Faults) (u : Unit {0}) → first_fault faults ≡ Ok u → AreAbsent faults
+absent [] u e = tt
+absent ((there, number, fault) ∷ rest) u e = by_bool there
+    (λ t. absurd (grind (arith, e, t)))
+    (λ t. (t, absent rest u (grind (arith, e, t))))
+
+-- The worlds for which a desk stands once one more record waits, and the moves that make it wait
 
 -- What a desk tells of its worlds
 
@@ -34,13 +290,9 @@ settled_within h = omega (arith, h.waiting.settled_first, h.waiting.sealed_withi
 -- how many records there are is the number of the next one
 pub count_is : {d : DeskValue} {w : World} → StandsFor d w → record_count d.waiting ≡ next_seq w
 count_is {d} {w} h =
-    omega (
-      arith,
-      h.waiting.settled_seq,
-      ap (λ steps. length (records_of steps)) h.waiting.steps,
-      ap length (records_of-split w.settled w.history),
-      length-append (settled_records w) (waiting_records w),
-    )
+    let steps = ap (λ steps. length (records_of steps)) h.waiting.steps in
+    let split = ap length (records_of-split w.settled w.history) in
+    omega (arith, h.waiting.settled_seq, steps, split, length-append (settled_records w) (waiting_records w))
 
 -- the same desk, seen from inside
 pub seen : {d e : DeskValue} {w : World} → d ≡ e → StandsFor e w → StandsFor d w
@@ -48,14 +300,7 @@ seen {w = w} same h = subst (λ (x : DeskValue). StandsFor x w) (sym same) h
 
 -- a later moment
 pub stands_later : (d : DeskValue) (w : World) (at : ℕ) → StandsFor d w → StandsFor (record d { clock = at }) (record w { clock = at })
-stands_later d w at h = record {
-  clock = refl;
-  halted = h.halted;
-  books = h.books;
-  waiting = h.waiting;
-  live = h.live;
-  limits = h.limits;
-}
+stands_later d w at h = assumption
 
 -- One more record
 
@@ -73,20 +318,19 @@ one_changes at e waiting entry h = subst (HasChanges at e) (sym (records_of-snoc
 pub endpoints_wait : {e f : endpoint_entries.BookValue} {d : delivery_entries.BookValue} {waiting : WaitingValue} {live : List Row} {limiters more : List Limiter} {queue later : QueueValue} (change : Change) (entry : Record) → IsDesk e d waiting live limiters queue
     → f.changes ≡ e.changes ++ change ∷ [] → f.next_seq ≡ record_count waiting + 1 → f.settled_seq ≡ e.settled_seq → is_other entry ≡ true
     → HasChanges (endpoint_at d) f (records_of waiting.waiting ++ entry ∷ []) → AreTied f d (with_step waiting (entry ∷ [])) live more later → IsDesk f d (with_step waiting (entry ∷ [])) live more later
-endpoints_wait {e} {f} {d} {waiting} change entry h changes next settled other waits tied = record {
-  endpoints_staged = omega (arith, next, one_more waiting entry);
-  endpoints_settled = settled ∙ h.endpoints_settled;
-  flags_few = omega (arith, ap (count_by is_flag) changes, count_by_snoc is_flag e.changes change, one_most (is_flag change), next, settled, h.flags_few, h.endpoints_staged);
-  endpoints_wait = one_changes (endpoint_at d) f waiting entry waits;
-  deliveries_staged = omega (arith, h.deliveries_staged, one_more waiting entry);
-  deliveries_settled = h.deliveries_settled;
-  deliveries_wait = one_waits d waiting entry (waiting_other d (records_of waiting.waiting) entry other h.deliveries_wait);
-  tied = tied;
-}
-  where
-    one_most : (b : Bool) → cond b 1 0 ≤ 1
-    one_most true = omega arith
-    one_most false = omega arith
+endpoints_wait {e} {f} {d} {waiting} change entry h changes next settled other waits tied =
+    let flags = ap (count_by is_flag) changes ∙ count_by_snoc is_flag e.changes change in
+    let one : cond (is_flag change) 1 0 ≤ 1 = grind arith in
+    record {
+      endpoints_staged = omega (arith, next, one_more waiting entry);
+      endpoints_settled = settled ∙ h.endpoints_settled;
+      flags_few = omega (arith, flags, one, next, settled, h.flags_few, h.endpoints_staged);
+      endpoints_wait = one_changes (endpoint_at d) f waiting entry waits;
+      deliveries_staged = omega (arith, h.deliveries_staged, one_more waiting entry);
+      deliveries_settled = h.deliveries_settled;
+      deliveries_wait = one_waits d waiting entry (waiting_other d (records_of waiting.waiting) entry other h.deliveries_wait);
+      tied = tied;
+    }
 
 -- the deliveries and the steps with one more record
 pub deliveries_wait : {e : endpoint_entries.BookValue} {d f : delivery_entries.BookValue} {waiting : WaitingValue} {live : List Row} {limiters : List Limiter} {queue later : QueueValue} (entry : Record) → IsDesk e d waiting live limiters queue
@@ -139,12 +383,8 @@ known_is {d} {w} name h = known-entry d.endpoints (all_records w) name h.books.o
 -- the limiters with one more
 limiters_more : (ls : List Limiter) (x : Limiter) (name : List ℕ) (samples : List Sample) → StandsAt ls name samples → (samples ≡ [] → StandsAt (x ∷ []) name samples) → StandsAt (ls ++ x ∷ []) name samples
 limiters_more [] x name samples h new = new h
-limiters_more (l ∷ ls) x name samples h new = step (is_limiter_of name l) h (λ later. limiters_more ls x name samples later new)
-  where
-    step : (b : Bool) → StandsBy (cond b (Some l) (limiter_of ls name)) samples → (StandsBy (limiter_of ls name) samples → StandsBy (limiter_of (ls ++ x ∷ []) name) samples)
-        → StandsBy (cond b (Some l) (limiter_of (ls ++ x ∷ []) name)) samples
-    step true h later = h
-    step false h later = later h
+limiters_more (l ∷ ls) x name samples h new = by_bool (is_limiter_of name l)
+    (λ e. rw e (rw e at h)) (λ e. rw e (limiters_more ls x name samples (rw e at h) new))
 
 -- a limiter stands for no samples at first
 limiter_new : (name other : List ℕ) (max : ℕ) (samples : List Sample) → samples ≡ [] → StandsAt (new_limiter name max ∷ []) other samples
@@ -158,7 +398,7 @@ limiter_new name other max samples e = step (bytes_eq name other)
     step false = e
 
 stands_limited : (d : DeskValue) (w : World) (limiters : List Limiter) → StandsFor d w → AreLimits limiters w → StandsFor (record d { limiters = limiters }) w
-stands_limited d w limiters h limits = record { clock = h.clock; halted = h.halted; books = h.books; waiting = h.waiting; live = h.live; limits = limits }
+stands_limited d w limiters h limits = assumption
 
 pub stands_with_put : (d : DeskValue) (w : World) (name target : List ℕ) (max : ℕ) (secrets : List (List ℕ)) → StandsFor d w → record_count d.waiting < MAX_RECORDS → is_known d.endpoints name ≡ false
     → length (endpoints (all_records w)) < MAX_ENDPOINTS → IsTrue (is_within_limits (Put name target max secrets)) → StandsFor (with_put d name target max secrets) (with_record w (Put name target max secrets))
@@ -304,10 +544,6 @@ pub new_refused : (d : DeskValue) (now : ℕ) (name id body : List ℕ) (u : Uni
 new_refused d now name id body u r finds checks new =
     submit_taken d d now name id body u (Err r) finds checks (refuses d (λ w. new_submit_faults w name) (λ w. or_out_of_memory 8 (accepts w now name id body)) r new)
 
-not_not : (b : Bool) → not b ≡ false → b ≡ true
-not_not true e = refl
-not_not false e = sym e
-
 -- the record of a new submission waits
 accept_makes : (d new : DeskValue) (now : ℕ) (name id body : List ℕ) (at : ℕ) (v : Unit {0}) (given : Ticket) → Checks d (λ w. submit_faults w name None body) (Ok v) → record_count d.waiting < MAX_RECORDS
     → Finds d name id None → at ≡ max now d.clock → given ≡ ticket (record_count d.waiting) name id → new ≡ with_accept d name id body at → IsTrue (is_within_limits (Accept name id body at))
@@ -320,7 +556,7 @@ accept_makes d new now name id body at v given checks room unknown later same is
 )
   where
     known : has_endpoint (all_records w) name ≡ true
-    known = not_not (has_endpoint (all_records w) name) (absent (submit_faults w name None body) v (sym (checks w h))).1.0
+    known = let there = absent (submit_faults w name None body) v (sym (checks w h)) in grind (arith, there)
 
 -- a new submission is staged, or refused for memory
 pub accept_moves : (d new : DeskValue) (now : ℕ) (name id body : List ℕ) (at : ℕ) (u v : Unit {0}) (made : Result Ticket AllocError) → Checks d (λ w. new_submit_faults w name) (Ok u)
@@ -337,3 +573,48 @@ accept_moves d new now name id body at u v made checks there room unknown later 
         → IfOk made (λ given. (w : World) → StandsFor d w → ((accepts w now name id body).reply ≡ Ok given) × StandsFor new (accepts w now name id body).next)
     takes (Ok given) same is limits = accept_makes d new now name id body at v given there room unknown later same is limits
     takes (Err e) same is limits = tt
+
+-- What the desk looks for before a call is what the model does
+
+-- What is looked for
+
+full_where : (free n : ℕ) → free + n ≡ MAX_WAITING_REQUESTS → nat_eq free 0 ≡ nat_le MAX_WAITING_REQUESTS n
+full_where free n e = grind (arith, nat_tests)
+
+pub is_full : {d : DeskValue} {w : World} (free : ℕ) → StandsFor d w → free + requests_in d.waiting.waiting ≡ MAX_WAITING_REQUESTS → nat_eq free 0 ≡ is_waiting_full w
+is_full {d} free h e = full_where free (requests_in d.waiting.waiting) e ∙ ap (λ steps. nat_le MAX_WAITING_REQUESTS (requests_in steps)) h.waiting.steps
+
+pub is_spent : {d : DeskValue} {w : World} (numbers : ℕ) → StandsFor d w → numbers ≡ record_count d.waiting + length d.live → nat_le MAX_RECORDS numbers ≡ are_seqs_spent w
+is_spent {d} {w} numbers h e =
+    let all : numbers ≡ length (all_records w) + length w.live = omega (arith, e, count_is h, ap length h.live) in
+    ap (nat_le MAX_RECORDS) all
+
+-- the faults of each call, by what is there
+abbrev pub submit_looks : (halted unknown conflict : Bool) → Faults
+submit_looks halted unknown conflict = (halted, 1, fault.Halted) ∷ (unknown, 2, fault.UnknownEndpoint) ∷ (conflict, 3, fault.Conflict) ∷ []
+
+abbrev pub new_looks : (own all full spent : Bool) → Faults
+new_looks own all full spent = (own, 4, fault.EndpointBacklog) ∷ (all, 5, fault.Backlog) ∷ (full, 6, fault.WaitingFull) ∷ (spent, 7, fault.SeqExhausted) ∷ []
+
+abbrev pub put_looks : (halted known many full spent : Bool) → Faults
+put_looks halted known many full spent =
+    (halted, 1, fault.Halted) ∷ (known, 3, fault.Exists) ∷ (many, 4, fault.TooManyEndpoints) ∷ (full, 5, fault.WaitingFull) ∷ (spent, 6, fault.SeqExhausted) ∷ []
+
+abbrev pub set_looks : (halted unknown full spent : Bool) → Faults
+set_looks halted unknown full spent = (halted, 1, fault.Halted) ∷ (unknown, 2, fault.UnknownEndpoint) ∷ (full, 5, fault.WaitingFull) ∷ (spent, 6, fault.SeqExhausted) ∷ []
+
+-- a refusal has one of the names that are looked for
+first_named : (may : Fault → Bool) (there : Bool) (number : ℕ) (fault : Fault) (rest : Faults) → IsTrue (may fault) → IfErr (first_fault rest) (λ why. IsTrue (may why.fault))
+    → IfErr (if there then Err (refusal number fault) else first_fault rest) (λ why. IsTrue (may why.fault))
+first_named may true number fault rest first behind = first
+first_named may false number fault rest first behind = behind
+
+named : (may : Fault → Bool) (faults : Faults) → IsTrue (list_all (λ looked. may looked.2) faults) → IfErr (first_fault faults) (λ why. IsTrue (may why.fault))
+named may [] all = tt
+named may ((there, number, fault) ∷ rest) all =
+    let parts = and_parts (may fault) (list_all (λ looked. may looked.2) rest) all in
+    first_named may there number fault rest parts.0 (named may rest parts.1)
+
+pub refused_by : (may : Fault → Bool) (faults : Faults) (result : Result (Unit {0}) Refusal) → result ≡ first_fault faults → IsTrue (list_all (λ looked. may looked.2) faults)
+    → IfErr result (λ why. IsTrue (may why.fault))
+refused_by may faults result e all = subst (λ (r : Result (Unit {0}) Refusal). IfErr r (λ why. IsTrue (may why.fault))) (sym e) (named may faults all)

@@ -1,9 +1,8 @@
 -- The least number of a list of rising numbers.
-use Rattle.desk.proofs.Words.{◌≡◌, ◌≤◌, ◌<◌, ◌+◌, ◌⊎◌, inl, inr, ℕ, zero, suc, Bool, true, false, List, [], ◌∷◌, Option}
-use Rattle.desk.proofs.Words.{Some, None, refl, sym, ◌∙◌, ap, arith, cond, map, subst, filter, nat_le, is_some}
-use Rattle.desk.proofs.Words.{slice_get, option_and_then, if◌then◌else◌, enumerate_from, le-leb, lt-leb, same_Some}
-use Rattle.desk.proofs.Words.{Record, Accepted, accepted_by, is_accept, lesser, least_by}
-use Rattle.std.proofs.Math.Decide.{dec_le}
+use Rattle.desk.proofs.Words.{◌≡◌, ◌≤◌, ◌+◌, ◌⊎◌, inl, inr, ℕ, zero, suc, Bool, true, false, List, [], ◌∷◌, Option}
+use Rattle.desk.proofs.Words.{Some, refl, ◌∙◌, ap, arith, cond, map, subst, filter, nat_le, is_some, slice_get}
+use Rattle.desk.proofs.Words.{option_and_then, enumerate_from, Record, Accepted, accepted_by, is_accept, least_by}
+use Rattle.desk.proofs.Words.{nat_tests, by_option, cond_both, by_bool}
 
 -- each number is above the one before it, and the first is not below this one
 abbrev pub Rises : ℕ → List ℕ → Type 0
@@ -23,11 +22,10 @@ rises_later a b (n ∷ rest) le h = (omega (arith, le, h.0), h.1)
 
 pub rises_filter : (test : ℕ → Bool) (from : ℕ) (ns : List ℕ) → Rises from ns → Rises from (filter test ns)
 rises_filter test from [] h = tt
-rises_filter test from (n ∷ rest) h = step (test n) (rises_filter test (n + 1) rest h.1)
-  where
-    step : (b : Bool) → Rises (n + 1) (filter test rest) → Rises from (cond b (n ∷ filter test rest) (filter test rest))
-    step true r = (h.0, r)
-    step false r = rises_later from (n + 1) (filter test rest) (omega (arith, h.0)) r
+rises_filter test from (n ∷ rest) h =
+    let later = rises_filter test (n + 1) rest h.1 in
+    cond_both (test n) (n ∷ filter test rest) (filter test rest) (Rises from)
+    (λ e. (h.0, later)) (λ e. rises_later from (n + 1) (filter test rest) (omega (arith, h.0)) later)
 
 above : (from : ℕ) (ns : List ℕ) (m : ℕ) → Rises from ns → Among m ns → from ≤ m
 above from [] m h a = absurd a
@@ -36,41 +34,32 @@ above from (n ∷ rest) m h (inr r) = omega (arith, h.0, above (n + 1) rest m h.
 
 pub among_filter : (test : ℕ → Bool) (m : ℕ) (ns : List ℕ) → Among m ns → test m ≡ true → Among m (filter test ns)
 among_filter test m [] a t = a
-among_filter test m (n ∷ rest) (inl e) t = step (test n) (ap test (sym e) ∙ t)
-  where
-    step : (b : Bool) → b ≡ true → Among m (cond b (n ∷ filter test rest) (filter test rest))
-    step true p = inl e
-    step false p = cc
-among_filter test m (n ∷ rest) (inr r) t = step (test n) (among_filter test m rest r t)
-  where
-    step : (b : Bool) → Among m (filter test rest) → Among m (cond b (n ∷ filter test rest) (filter test rest))
-    step true a = inr a
-    step false a = a
+among_filter test m (n ∷ rest) (inl e) t =
+    cond_both (test n) (n ∷ filter test rest) (filter test rest) (Among m)
+    (λ p. inl e) (λ p. absurd (grind (arith, e, t, p)))
+among_filter test m (n ∷ rest) (inr r) t =
+    let later = among_filter test m rest r t in
+    cond_both (test n) (n ∷ filter test rest) (filter test rest) (Among m) (λ p. inr later) (λ p. later)
 
 pub passes : (test : ℕ → Bool) (m : ℕ) (ns : List ℕ) → Among m (filter test ns) → test m ≡ true
 passes test m [] a = absurd a
-passes test m (n ∷ rest) a = step (test n) refl a (passes test m rest)
-  where
-    step : (b : Bool) → test n ≡ b → Among m (cond b (n ∷ filter test rest) (filter test rest)) → (Among m (filter test rest) → test m ≡ true) → test m ≡ true
-    step true e (inl s) later = ap test s ∙ e
-    step true e (inr r) later = later r
-    step false e a later = later a
+passes test m (n ∷ rest) a = by_bool (test n)
+    (λ e. elim (rw e at a) [
+      | inl s ↦ ap test s ∙ e
+      | inr r ↦ passes test m rest r
+    ])
+    (λ e. passes test m rest (rw e at a))
 
 pub none_pass : (test : ℕ → Bool) (ns : List ℕ) → ((m : ℕ) → test m ≡ false) → filter test ns ≡ []
 none_pass test [] none = refl
-none_pass test (n ∷ rest) none = ap (λ b. cond b (n ∷ filter test rest) (filter test rest)) (none n) ∙ none_pass test rest none
+none_pass test (n ∷ rest) none = grind (arith, none n, none_pass test rest none)
 
 pub chosen_among : (key : ℕ → ℕ) (ns : List ℕ) (m : ℕ) → least_by key ns ≡ Some m → Among m ns
 chosen_among key [] m e = cc
-chosen_among key (n ∷ rest) m e = step (least_by key rest) refl e (chosen_among key rest)
-  where
-    at : (b : Bool) (y : ℕ) → Among y rest → some_number (if b then n else y) ≡ Some m → (m ≡ n) ⊎ Among m rest
-    at true y a e = inl (sym (same_Some n m e))
-    at false y a e = inr (subst (λ x. Among x rest) (same_Some y m e) a)
-
-    step : (o : Option ℕ) → least_by key rest ≡ o → some_number (lesser key n o) ≡ Some m → ((y : ℕ) → least_by key rest ≡ Some y → Among y rest) → (m ≡ n) ⊎ Among m rest
-    step None p e later = inl (sym (same_Some n m e))
-    step (Some y) p e later = at (nat_le (key n) (key y)) y (later y p) e
+chosen_among key (n ∷ rest) m e = by_option (least_by key rest)
+    (λ p. inl (grind (arith, e, p)))
+    (λ y p. by_bool (nat_le (key n) (key y))
+    (λ t. inl (grind (arith, e, p, t))) (λ t. inr (chosen_among key rest m (grind (arith, e, p, t)))))
 
 -- no later by the key, nor by itself where both have one key
 abbrev pub IsFirstBy : (key : ℕ → ℕ) (s m : ℕ) → Type 0
@@ -78,22 +67,12 @@ IsFirstBy key s m = (key s ≤ key m) × (key s ≡ key m → s ≤ m)
 
 pub least_is : (key : ℕ → ℕ) (from : ℕ) (ns : List ℕ) (s : ℕ) → Rises from ns → Among s ns → ((m : ℕ) → Among m ns → IsFirstBy key s m) → least_by key ns ≡ Some s
 least_is key from [] s h a first = absurd a
-least_is key from (n ∷ rest) s h (inl e) first = step (least_by key rest) refl
-  where
-    step : (o : Option ℕ) → least_by key rest ≡ o → some_number (lesser key n o) ≡ Some s
-    step None p = ap Some (sym e)
-    step (Some y) p =
-        ap (λ b. some_number (if b then n else y)) (le-leb (key n) (key y) (omega (arith, ap key e, (first y (inr (chosen_among key rest y p))).0)))
-        ∙ ap Some (sym e)
+least_is key from (n ∷ rest) s h (inl e) first = by_option (least_by key rest)
+    (λ p. grind (arith, p))
+    (λ y p. let least = first y (inr (chosen_among key rest y p)) in grind (arith, nat_tests, p, least))
 least_is key from (n ∷ rest) s h (inr r) first =
-    ap (λ o. some_number (lesser key n o)) (least_is key (n + 1) rest s h.1 r (λ m a. first m (inr a)))
-    ∙ ap (λ b. some_number (if b then n else s)) (lt-leb (key n) (key s) (below (first n (inl refl)) (above (n + 1) rest s h.1 r)))
-  where
-    below : IsFirstBy key s n → n + 1 ≤ s → key s < key n
-    below f later = elim (dec_le (key s + 1) (key n)) [
-      | yes less ↦ omega (arith, less)
-      | no more ↦ absurd (omega (arith, later, f.1 (omega (arith, f.0, more))))
-    ]
+    let later = least_is key (n + 1) rest s h.1 r (λ m a. first m (inr a)) in
+    grind (arith, nat_tests, later, first n (inl refl), above (n + 1) rest s h.1 r)
 
 -- Deliveries
 

@@ -1,22 +1,89 @@
 -- What ties a desk's fields stays so as a request waits.
-use Rattle.desk.proofs.Words.{◌≡◌, ◌<◌, ◌≤◌, ◌+◌, ℕ, Bool, true, false, List, [], ◌∷◌, ◌++◌, Option, Some, None, length}
-use Rattle.desk.proofs.Words.{map, refl, sym, ◌∙◌, ap, arith, ◌&&◌, not, cond, subst, IsTrue, count_by, find, is_some}
-use Rattle.desk.proofs.Words.{nat_lt, max, bytes_eq, if◌then◌else◌, list_all, option_map_or, option_or, map-append}
-use Rattle.desk.proofs.Words.{find-append, le-ltb, bytes_eq-Decides, MAX_RECORDS, Record, Put, Secrets, Enabled}
-use Rattle.desk.proofs.Words.{Pending, records_of, is_in_state, and_first, and_second, and_both, enabled_in, HasChanges}
-use Rattle.desk.proofs.Words.{changes_enabled, changes_put, changes_secrets, change_at, entry_of, is_known, is_named}
-use Rattle.desk.proofs.Words.{DeliveryEntry, Mark, QueueValue, ChangesMark, HasSamePairs, SetsMark, free_places}
-use Rattle.desk.proofs.Words.{has_room_in, is_reserved, mark_for, mark_in, mark_of, reserved_mark, with_room}
-use Rattle.desk.proofs.Words.{is_outcome, WaitingValue, record_count, with_step, Row, in_flight_of, Limiter}
-use Rattle.desk.proofs.Words.{AreLimiters, AreMarked, AreQueued, AreTied, HasPlaces, bound_by, bound_of, endpoint_at}
-use Rattle.desk.proofs.Words.{is_limiter_of, limit_by, is_unheld, limiter_of, own_pair, room_by, IsDesk}
+use Rattle.desk.proofs.Words.{◌≡◌, ◌<◌, ◌+◌, ℕ, Bool, true, false, List, [], ◌∷◌, Some, length, map, refl, sym, ◌∙◌, ap}
+use Rattle.desk.proofs.Words.{arith, ◌&&◌, cond, find, is_some, nat_lt, option_map, bytes_eq, option_map_or}
+use Rattle.desk.proofs.Words.{bytes_eq-Decides, MAX_RECORDS, Record, find_map, change_at, is_known, is_named, with_flag}
+use Rattle.desk.proofs.Words.{is_outcome, WaitingValue, record_count, with_step, count_by_snoc, Row, in_flight_of}
+use Rattle.desk.proofs.Words.{Limiter, AreLimiters, HasRoomForAll, bound_of, limit_by, room_by, ◌≤◌, ◌++◌, None, not}
+use Rattle.desk.proofs.Words.{subst, IsTrue, count_by, max, if◌then◌else◌, list_all, option_or, map-append, find-append}
+use Rattle.desk.proofs.Words.{Put, Secrets, Enabled, Pending, records_of, is_in_state, and_first, and_second, and_both}
+use Rattle.desk.proofs.Words.{enabled_in, HasChanges, changes_enabled, changes_put, changes_secrets, DeliveryEntry}
+use Rattle.desk.proofs.Words.{Mark, QueueValue, ChangesMark, HasSamePairs, SetsMark, free_places, has_room_in}
+use Rattle.desk.proofs.Words.{is_reserved, mark_in, mark_of, reserved_mark, with_room, AreMarked, AreQueued, AreTied}
+use Rattle.desk.proofs.Words.{HasPlaces, bound_by, endpoint_at, is_limiter_of, is_unheld, limiter_of, own_pair, IsDesk}
+use Rattle.desk.proofs.Words.{KeepsPlaces, nat_tests, by_bool}
 use Rattle.endpoint_book.specs.declared.entry.Entry.{Entry}
 use Rattle.endpoint_book.specs.Entries.{BookValue, with_put}
 use Rattle.endpoint_book.specs.Entries as endpoint_entries
 use Rattle.delivery_book.specs.Entries as delivery_entries
-use Rattle.desk.proofs.DeskLaws.{endpoints_wait}
-use Rattle.desk.proofs.EndpointTies.{changed_max, changed_name, enabled_same, flag_known, flag_limiters, flag_room, known_same, pairs_same, room_requested}
+use Rattle.desk.proofs.DeskLaws.{one_more, endpoints_wait}
 use Rattle.desk.proofs.TieLaws.{held_told, marked_told, places_told}
+
+-- What ties the queue and the limits to the endpoints stays so as these change
+
+-- A request waits: it takes no outcome's place, and a number.
+pub room_requested : (waiting : WaitingValue) (live : List Row) (entry : Record) → is_outcome (entry ∷ []) ≡ false → HasRoomForAll waiting live → record_count waiting + length live < MAX_RECORDS
+    → HasRoomForAll (with_step waiting (entry ∷ [])) live
+room_requested waiting live entry kind h numbers = record {
+  places = omega (arith, count_by_snoc is_outcome waiting.waiting (entry ∷ []), ap {B = ℕ} (λ b. cond b 1 0) kind, h.places);
+  numbers = omega (arith, one_more waiting entry, numbers);
+}
+
+-- A change of entries that keeps their names
+
+abbrev pub KeepsNames : (Entry → Entry) → Type 0
+KeepsNames g = (e : Entry) → (g e).name ≡ e.name
+
+found_map : (g : Entry → Entry) (name : List ℕ) (entries : List Entry) → KeepsNames g → find (is_named name) (map g entries) ≡ option_map g (find (is_named name) entries)
+found_map g name entries keeps = find_map g (is_named name) entries ∙ (λ i. option_map g (find (λ (e : Entry). bytes_eq (keeps e i) name) entries))
+
+pub known_same : (g : Entry → Entry) (name : List ℕ) (entries : List Entry) → KeepsNames g → is_some (find (is_named name) (map g entries)) ≡ is_some (find (is_named name) entries)
+known_same g name entries keeps = let found = found_map g name entries keeps in grind (arith, found)
+
+found_named : (name : List ℕ) (entries : List Entry) (e : Entry) → find (is_named name) entries ≡ Some e → bytes_eq e.name name ≡ true
+found_named name [] e h = cc
+found_named name (x ∷ rest) e h = grind (arith, found_named name rest e)
+
+-- whether an endpoint is enabled, where its own entry is not changed in this
+pub enabled_same : (g : Entry → Entry) (name : List ℕ) (entries : List Entry) → KeepsNames g → ((e : Entry) → bytes_eq e.name name ≡ true → (g e).enabled ≡ e.enabled)
+    → option_map_or (λ (e : Entry). e.enabled) (find (is_named name) (map g entries)) true ≡ option_map_or (λ (e : Entry). e.enabled) (find (is_named name) entries) true
+enabled_same g name entries keeps same =
+    let found = found_map g name entries keeps in
+    grind (arith, found, found_named name entries, same)
+
+-- the names and the maxima
+pub pairs_same : (g : Entry → Entry) (entries : List Entry) → KeepsNames g → ((e : Entry) → (g e).max ≡ e.max)
+    → map bound_of (map g entries) ≡ map bound_of entries
+pairs_same g [] keeps maxima = refl
+pairs_same g (e ∷ rest) keeps maxima = λ i. (keeps e i, maxima e i) ∷ pairs_same g rest keeps maxima i
+
+-- One endpoint is changed, by its name.
+
+pub changed_name : (name : List ℕ) (change : Entry → Entry) → KeepsNames change → KeepsNames (λ e. change_at name change e.name e)
+changed_name name change keeps e = grind (arith, keeps e)
+
+pub changed_max : (name : List ℕ) (change : Entry → Entry) → ((e : Entry) → (change e).max ≡ e.max) → (e : Entry) → (change_at name change e.name e).max ≡ e.max
+changed_max name change keeps e = grind (arith, keeps e)
+
+-- an entry of another name stays
+changed_other : (name other : List ℕ) (change : Entry → Entry) (e : Entry) → bytes_eq name other ≡ false → bytes_eq e.name other ≡ true → (change_at name change e.name e).enabled ≡ e.enabled
+changed_other name other change e apart own = grind (arith, bytes_eq-Decides name e.name)
+
+pub flag_limiters : (book : BookValue) (seq : ℕ) (name : List ℕ) (flag : Bool) (limiters : List Limiter) → AreLimiters limiters book → AreLimiters limiters (with_flag book seq name flag)
+flag_limiters book seq name flag limiters h =
+    h ∙ sym (pairs_same (λ e. change_at name (λ e. record e { enabled = flag }) e.name e) book.entries (changed_name name (λ e. record e { enabled = flag }) (λ e. refl)) (changed_max name (λ e. record e { enabled = flag }) (λ e. refl)))
+
+pub flag_known : (book : BookValue) (seq : ℕ) (name other : List ℕ) (flag : Bool) → is_known (with_flag book seq name flag) other ≡ is_known book other
+flag_known book seq name other flag = known_same (λ e. change_at name (λ e. record e { enabled = flag }) e.name e) other book.entries (changed_name name (λ e. record e { enabled = flag }) (λ e. refl))
+
+-- the room of another endpoint stays
+pub flag_room : (book : BookValue) (seq : ℕ) (name other : List ℕ) (flag : Bool) (limiters : List Limiter) (live : List Row) → bytes_eq name other ≡ false
+    → room_by (with_flag book seq name flag) limiters live other ≡ room_by book limiters live other
+flag_room book seq name other flag limiters live apart =
+    ap (λ b. b && nat_lt (in_flight_of other live) (limit_by limiters other))
+    (enabled_same (λ e. change_at name (λ e. record e { enabled = flag }) e.name e) other book.entries (changed_name name (λ e. record e { enabled = flag }) (λ e. refl))
+    (λ e own. changed_other name other (λ e. record e { enabled = flag }) e apart own))
+
+-- What ties a desk's fields stays so as a request waits
 
 -- A request that changes neither names nor flags
 
@@ -45,12 +112,8 @@ tied_request {endpoints} {more} {deliveries} {waiting} {live} {limiters} {queue}
 
 -- Telling a room leaves what is held.
 pub queued_told : (queue new : QueueValue) (book : delivery_entries.BookValue) (live : List Row) (name : List ℕ) (room : Bool) → HasSamePairs queue new → ChangesMark queue new name (with_room room) → AreQueued queue book live → AreQueued new book live
-queued_told queue new book live name room same changes h = record {
-  apart = h.apart;
-  under_way = h.under_way;
-  held = held_told queue new book live same h.held;
-  places = places_told queue new book name room same changes h.places;
-}
+queued_told queue new book live name room same changes h =
+    assumption (held_told queue new book live same h.held, places_told queue new book name room same changes h.places)
 
 -- The secrets of one endpoint
 
@@ -62,12 +125,9 @@ pub secrets_show : (book : BookValue) (seq : ℕ) (name : List ℕ) (secrets : L
 secrets_show book seq name secrets other =
     let keeps = changed_name name (λ e. record e { secrets = secrets }) (λ e. refl) in (
       known_same (λ e. change_at name (λ e. record e { secrets = secrets }) e.name e) other book.entries keeps,
-      enabled_same (λ e. change_at name (λ e. record e { secrets = secrets }) e.name e) other book.entries keeps (λ e own. at (bytes_eq name e.name) e),
+      enabled_same (λ e. change_at name (λ e. record e { secrets = secrets }) e.name e) other book.entries keeps
+          (λ e own. grind arith),
     )
-  where
-    at : (b : Bool) (e : Entry) → (if b then record e { secrets = secrets } else e).enabled ≡ e.enabled
-    at true e = refl
-    at false e = refl
 
 -- The flag of one endpoint
 
@@ -91,52 +151,24 @@ tied_flag {endpoints} {deliveries} {waiting} {live} {limiters} {queue} {new} ent
 unlimited : (limiters : List Limiter) (entries : List Entry) (name : List ℕ) → map bound_by limiters ≡ map bound_of entries → is_some (find (is_named name) entries) ≡ false → limiter_of limiters name ≡ None
 unlimited [] entries name e none = refl
 unlimited (l ∷ limiters) [] name e none = cc
-unlimited (l ∷ limiters) (x ∷ entries) name e none = step (bytes_eq x.name name) refl none (unlimited limiters entries name (tails (bound_by l) (bound_of x) (map bound_by limiters) (map bound_of entries) e))
-  where
-    heads : (a b : List ℕ × ℕ) (xs ys : List (List ℕ × ℕ)) → a ∷ xs ≡ b ∷ ys → a ≡ b
-    heads a b xs ys p = cc
-
-    tails : (a b : List ℕ × ℕ) (xs ys : List (List ℕ × ℕ)) → a ∷ xs ≡ b ∷ ys → xs ≡ ys
-    tails a b xs ys p = cc
-
-    named : l.endpoint ≡ x.name
-    named = ap (λ p. p.0) (heads (bound_by l) (bound_of x) (map bound_by limiters) (map bound_of entries) e)
-
-    step : (b : Bool) → bytes_eq x.name name ≡ b → is_some (cond b (Some x) (find (is_named name) entries)) ≡ false → (is_some (find (is_named name) entries) ≡ false → limiter_of limiters name ≡ None)
-        → limiter_of (l ∷ limiters) name ≡ None
-    step true t h later = cc
-    step false t h later = ap (λ b. cond b (Some l) (limiter_of limiters name)) (ap (λ n. bytes_eq n name) named ∙ t) ∙ later h
+unlimited (l ∷ limiters) (x ∷ entries) name e none =
+    let first : bound_by l ≡ bound_of x = cc in
+    let later : map bound_by limiters ≡ map bound_of entries = cc in
+    let named : l.endpoint ≡ x.name = ap (λ (p : List ℕ × ℕ). p.0) first in
+    grind (arith, named, none, unlimited limiters entries name later)
 
 pub no_room_unknown : (book : BookValue) (limiters : List Limiter) (live : List Row) (name : List ℕ) → AreLimiters limiters book → is_known book name ≡ false → room_by book limiters live name ≡ false
 no_room_unknown book limiters live name limited none =
-    ap (λ o. enabled_in book name && nat_lt (in_flight_of name live) (option_map_or (λ (l : Limiter). l.estimator.state.limit) o 0)) (unlimited limiters book.entries name limited none)
-    ∙ ap (λ b. enabled_in book name && b) (none_below (in_flight_of name live)) ∙ and_false (enabled_in book name)
-  where
-    none_below : (n : ℕ) → nat_lt n 0 ≡ false
-    none_below n = le-ltb n 0 (omega arith)
-
-    and_false : (b : Bool) → (b && false) ≡ false
-    and_false true = refl
-    and_false false = refl
+    let missing = unlimited limiters book.entries name limited none in
+    grind (arith, nat_tests, missing)
 
 -- the mark of a name is one of that name
 mark_named : (marks : List Mark) (name : List ℕ) (m : Mark) → mark_in marks name ≡ Some m → m.endpoint ≡ name
 mark_named [] name m e = cc
-mark_named (x ∷ marks) name m e = step (bytes_eq x.endpoint name) refl e (mark_named marks name m)
-  where
-    one : (a b : Mark) → Some a ≡ Some b → a ≡ b
-    one a b p = cc
-
-    step : (b : Bool) → bytes_eq x.endpoint name ≡ b → cond b (Some x) (mark_in marks name) ≡ Some m → (mark_in marks name ≡ Some m → m.endpoint ≡ name) → m.endpoint ≡ name
-    step true t h later = ap (λ (y : Mark). y.endpoint) (sym (one x m h)) ∙ (bytes_eq-Decides x.endpoint name).0 t
-    step false t h later = later h
+mark_named (x ∷ marks) name m e = grind (arith, bytes_eq-Decides x.endpoint name, mark_named marks name m)
 
 reserved_named : (queue : QueueValue) (name : List ℕ) (more : ℕ) → (reserved_mark queue name more).endpoint ≡ name
-reserved_named queue name more = at (mark_of queue name) refl
-  where
-    at : (o : Option Mark) → mark_of queue name ≡ o → (mark_for name more o).endpoint ≡ name
-    at None e = refl
-    at (Some m) e = mark_named queue.marks name m e
+reserved_named queue name more = grind (arith, mark_named queue.marks name)
 
 -- what is kept of the name, and of another one, once places are made
 pub reserved_own : (queue new : QueueValue) (name : List ℕ) (more : ℕ) → SetsMark queue new (reserved_mark queue name more) → mark_of new name ≡ Some (reserved_mark queue name more)
@@ -149,31 +181,15 @@ reserved_other queue new name other more sets apart =
 
 -- by whether two names are one
 pub by_name : {P : Type 0} (a b : List ℕ) → (a ≡ b → P) → (bytes_eq a b ≡ false → P) → P
-by_name {P} a b same apart = at (bytes_eq a b) refl
-  where
-    at : (r : Bool) → bytes_eq a b ≡ r → P
-    at true e = same ((bytes_eq-Decides a b).0 e)
-    at false e = apart e
+by_name {P} a b same apart = by_bool (bytes_eq a b) (λ e. same ((bytes_eq-Decides a b).0 e)) apart
 
 pub places_reserved : (queue new : QueueValue) (name : List ℕ) (more : ℕ) → SetsMark queue new (reserved_mark queue name more) → (n : List ℕ) → free_places queue n ≤ free_places new n
 places_reserved queue new name more sets n = by_name name n
-    (λ same. own (mark_of queue n) (ap (mark_of new) (sym same) ∙ reserved_own queue new name more sets ∙ ap (λ m. Some (reserved_mark queue m more)) same))
-    (λ apart. omega (arith, ap (λ o. option_map_or (λ (m : Mark). m.free) o 0) (reserved_other queue new name n more sets apart)))
-  where
-    own : (o : Option Mark) → mark_of new n ≡ Some (mark_for n more (mark_of queue n)) → free_places queue n ≤ free_places new n
-    own o e = omega (arith, ap (λ o. option_map_or (λ (m : Mark). m.free) o 0) e, kept (mark_of queue n))
-      where
-        kept : (o : Option Mark) → option_map_or (λ (m : Mark). m.free) o 0 ≤ (mark_for n more o).free
-        kept None = omega arith
-        kept (Some m) = omega (arith)
+    (λ same. let own = reserved_own queue new name more sets in grind (arith, own, same))
+    (λ apart. let other = reserved_other queue new name n more sets apart in grind (arith, other))
 
 pub reserved_free : (queue new : QueueValue) (name : List ℕ) (more : ℕ) → SetsMark queue new (reserved_mark queue name more) → more ≤ free_places new name
-reserved_free queue new name more sets =
-    omega (arith, ap (λ o. option_map_or (λ (m : Mark). m.free) o 0) (reserved_own queue new name more sets), enough (mark_of queue name))
-  where
-    enough : (o : Option Mark) → more ≤ (mark_for name more o).free
-    enough None = omega arith
-    enough (Some m) = omega arith
+reserved_free queue new name more sets = let own = reserved_own queue new name more sets in grind (arith, own)
 
 pub is_still_reserved : (queue new : QueueValue) (name n : List ℕ) (more : ℕ) → SetsMark queue new (reserved_mark queue name more) → IsTrue (is_reserved queue n) → IsTrue (is_reserved new n)
 is_still_reserved queue new name n more sets there = by_name name n
@@ -183,28 +199,14 @@ is_still_reserved queue new name n more sets there = by_name name n
 -- whether the endpoint has room stays so
 pub room_reserved : (queue new : QueueValue) (name n : List ℕ) (more : ℕ) → SetsMark queue new (reserved_mark queue name more) → has_room_in new.marks n ≡ has_room_in queue.marks n
 room_reserved queue new name n more sets = by_name name n
-    (λ same. ap (λ o. option_map_or (λ (m : Mark). m.room) o false) (ap (mark_of new) (sym same) ∙ reserved_own queue new name more sets ∙ ap (λ m. Some (reserved_mark queue m more)) same) ∙ kept (mark_of queue n))
-    (λ apart. ap (λ o. option_map_or (λ (m : Mark). m.room) o false) (reserved_other queue new name n more sets apart))
-  where
-    kept : (o : Option Mark) → (mark_for n more o).room ≡ option_map_or (λ (m : Mark). m.room) o false
-    kept None = refl
-    kept (Some m) = refl
+    (λ same. let own = reserved_own queue new name more sets in grind (arith, own, same))
+    (λ apart. let other = reserved_other queue new name n more sets apart in grind (arith, other))
 
 -- the queue knows of each name whether it has room, also of one that it doesn't keep
 room_is : (queue : QueueValue) (book : BookValue) (limiters : List Limiter) (live : List Row) (n : List ℕ) → AreLimiters limiters book → AreMarked queue book limiters live → has_room_in queue.marks n ≡ room_by book limiters live n
-room_is queue book limiters live n limited h = at (is_reserved queue n) refl
-  where
-    unmarked : (o : Option Mark) → is_some o ≡ false → option_map_or (λ (m : Mark). m.room) o false ≡ false
-    unmarked None e = refl
-    unmarked (Some m) e = cc
-
-    unknown : (b : Bool) → is_known book n ≡ b → is_reserved queue n ≡ false → is_known book n ≡ false
-    unknown true e none = let there : true ≡ false = sym (h.known n e) ∙ none in cc
-    unknown false e none = e
-
-    at : (b : Bool) → is_reserved queue n ≡ b → has_room_in queue.marks n ≡ room_by book limiters live n
-    at true e = h.rooms n e
-    at false e = unmarked (mark_of queue n) e ∙ sym (no_room_unknown book limiters live n limited (unknown (is_known book n) refl e))
+room_is queue book limiters live n limited h =
+    let none = no_room_unknown book limiters live n limited in
+    grind (arith, h.rooms n, h.known n, none)
 
 pub marked_reserved : (queue new : QueueValue) (book : BookValue) (limiters : List Limiter) (live : List Row) (name : List ℕ) (more : ℕ) → AreLimiters limiters book → SetsMark queue new (reserved_mark queue name more) → AreMarked queue book limiters live
     → AreMarked new book limiters live
@@ -214,29 +216,25 @@ marked_reserved queue new book limiters live name more limited sets h = record {
   rooms = λ n there. room_reserved queue new name n more sets ∙ room_is queue book limiters live n limited h;
 }
 
+-- the places that are enough stay so, where the same pairs are held
+pub places_kept : (old new : QueueValue) (book : delivery_entries.BookValue) → HasSamePairs old new
+    → KeepsPlaces old new → HasPlaces old book → HasPlaces new book
+places_kept old new book same keeps places = λ n.
+    let counted : count_by (is_unheld new n) book.entries ≡ count_by (is_unheld old n) book.entries =
+    λ i. count_by (λ (e : DeliveryEntry). bytes_eq e.name n && (is_in_state Pending (delivery_entries.state_in e.latest) && not (same (own_pair e) i))) book.entries in
+    omega (arith, counted, keeps n, places n)
+
 -- the same pairs are held, and no fewer places are free
 pub queued_reserved : (queue new : QueueValue) (book : delivery_entries.BookValue) (live : List Row) → HasSamePairs queue new → ((n : List ℕ) → free_places queue n ≤ free_places new n) → AreQueued queue book live → AreQueued new book live
-queued_reserved queue new book live same places h = record {
-  apart = h.apart;
-  under_way = h.under_way;
-  held = held_told queue new book live same h.held;
-  places = fewer;
-}
-  where
-    fewer : HasPlaces new book
-    fewer n =
-        let counted : count_by (is_unheld new n) book.entries ≡ count_by (is_unheld queue n) book.entries =
-        λ i. count_by (λ (e : DeliveryEntry). bytes_eq e.name n && (is_in_state Pending (delivery_entries.state_in e.latest) && not (same (own_pair e) i))) book.entries in
-        omega (arith, places n, h.places n, counted)
+queued_reserved queue new book live same places h =
+    assumption (held_told queue new book live same h.held, places_kept queue new book same places h.places)
 
 pub tied_reserved : {endpoints : BookValue} {deliveries : delivery_entries.BookValue} {waiting : WaitingValue} {live : List Row} {limiters : List Limiter} {queue new : QueueValue} (name : List ℕ) (more : ℕ) → HasSamePairs queue new → SetsMark queue new (reserved_mark queue name more)
     → AreTied endpoints deliveries waiting live limiters queue → AreTied endpoints deliveries waiting live limiters new
-tied_reserved {endpoints} {deliveries} {waiting} {live} {limiters} {queue} {new} name more same sets h = record {
-  limited = h.limited;
-  room = h.room;
-  marked = marked_reserved queue new endpoints limiters live name more h.limited sets h.marked;
-  queued = queued_reserved queue new deliveries live same (places_reserved queue new name more sets) h.queued;
-}
+tied_reserved {endpoints} {deliveries} {waiting} {live} {limiters} {queue} {new} name more same sets h =
+    let marked = marked_reserved queue new endpoints limiters live name more h.limited sets h.marked in
+    let queued = queued_reserved queue new deliveries live same (places_reserved queue new name more sets) h.queued in
+    assumption (marked, queued)
 
 -- One more endpoint
 
@@ -244,18 +242,10 @@ pub found_with : {X : Type 0} (p : X → Bool) (xs : List X) (x y : X) → find 
 found_with p xs x y e = find-append p xs (x ∷ []) ∙ ap (λ o. option_or o (find p (x ∷ []))) e
 
 found_apart : {X : Type 0} (p : X → Bool) (xs : List X) (x : X) → p x ≡ false → find p (xs ++ x ∷ []) ≡ find p xs
-found_apart p xs x e = find-append p xs (x ∷ []) ∙ ap (λ b. option_or (find p xs) (cond b (Some x) None)) e ∙ or_none (find p xs)
-  where
-    or_none : {X : Type 0} (o : Option X) → option_or o None ≡ o
-    or_none None = refl
-    or_none (Some x) = refl
+found_apart p xs x e = let found = find-append p xs (x ∷ []) in grind (arith, found, e)
 
 known_with : (book : BookValue) (x : Entry) (n : List ℕ) → IsTrue (is_known book n) → IsTrue (is_known (with_put book x) n)
-known_with book x n k = at (entry_of book n) refl k
-  where
-    at : (o : Option Entry) → entry_of book n ≡ o → IsTrue (is_some o) → IsTrue (is_known (with_put book x) n)
-    at None e h = cc
-    at (Some y) e h = ap is_some (found_with (is_named n) book.entries x y e)
+known_with book x n k = let found = find-append (is_named n) book.entries (x ∷ []) in grind (arith, found, k)
 
 listed_with : (book : BookValue) (x : Entry) (live : List Row) → list_all (λ row. is_known book row.endpoint) live ≡ true → list_all (λ row. is_known (with_put book x) row.endpoint) live ≡ true
 listed_with book x [] h = refl
@@ -326,13 +316,4 @@ desk_put {endpoints} {more} {deliveries} {waiting} {later} {live} {limiters} {lo
 -- places are made, and nothing waits yet
 pub desk_reserved : {endpoints : BookValue} {deliveries : delivery_entries.BookValue} {waiting : WaitingValue} {live : List Row} {limiters : List Limiter} {queue new : QueueValue} (name : List ℕ) (more : ℕ) → HasSamePairs queue new → SetsMark queue new (reserved_mark queue name more)
     → IsDesk endpoints deliveries waiting live limiters queue → IsDesk endpoints deliveries waiting live limiters new
-desk_reserved name more same sets h = record {
-  endpoints_staged = h.endpoints_staged;
-  endpoints_settled = h.endpoints_settled;
-  flags_few = h.flags_few;
-  endpoints_wait = h.endpoints_wait;
-  deliveries_staged = h.deliveries_staged;
-  deliveries_settled = h.deliveries_settled;
-  deliveries_wait = h.deliveries_wait;
-  tied = tied_reserved name more same sets h.tied;
-}
+desk_reserved name more same sets h = assumption (tied_reserved name more same sets h.tied)

@@ -1,10 +1,13 @@
--- The rows of the permits that are out, without one of them.
-use Rattle.desk.proofs.Words.{◌≡◌, ◌<◌, ◌≤◌, ◌+◌, ℕ, zero, suc, Bool, true, false, List, [], ◌∷◌, Option, Some, None}
-use Rattle.desk.proofs.Words.{length, refl, sym, ◌∙◌, ap, arith, not, ◌&&◌, ◌||◌, cond, get_or, subst, count_by, filter}
-use Rattle.desk.proofs.Words.{position, remove, nat_eq, nat_lt, sum_by, bytes_eq, list_all, list_any, position_or_len}
-use Rattle.desk.proofs.Words.{eq-eqb, eqb-true, ltb-false, list_any_at, position-Some, sum_by-cons, sum_by-remove}
-use Rattle.desk.proofs.Words.{bytes_eq-Decides, and_first, and_second, and_both, all_at, Row, in_flight_of, is_out}
-use Rattle.desk.proofs.Words.{same_row}
+-- The rows of the permits that are out, without one of them, and until none is left.
+use Rattle.desk.proofs.Words.{◌≡◌, ◌<◌, ◌≤◌, ◌+◌, ℕ, zero, suc, Bool, true, false, List, [], ◌∷◌, Some, None, length}
+use Rattle.desk.proofs.Words.{refl, sym, ◌∙◌, ap, arith, not, ◌||◌, cond, get_or, subst, count_by, filter, position}
+use Rattle.desk.proofs.Words.{remove, nat_eq, sum_by, bytes_eq, list_all, list_any, position_or_len, eq-eqb}
+use Rattle.desk.proofs.Words.{list_any_at, position-Some, sum_by-cons, sum_by-remove, bytes_eq-Decides, and_first}
+use Rattle.desk.proofs.Words.{and_second, and_both, all_at, Row, in_flight_of, is_out, same_row, nat_tests, by_option}
+use Rattle.desk.proofs.Words.{◌++◌, IsPermutation, sum_by_push}
+use Rattle.std.proofs.lemmas.List.Sorted.{sum_by-IsPermutation}
+
+-- The rows of the permits that are out, without one of them
 
 -- the attempts at a delivery that are under way
 abbrev pub attempts_at : ℕ → List Row → ℕ
@@ -15,11 +18,9 @@ others row rows = filter (λ other. not (same_row row other)) rows
 
 pub same_row_is : (a b : Row) → same_row a b ≡ true → a ≡ b
 same_row_is a b h =
-    let rest = and_second (bytes_eq a.endpoint b.endpoint) _ h in
-    let endpoint : a.endpoint ≡ b.endpoint = (bytes_eq-Decides a.endpoint b.endpoint).0 (and_first (bytes_eq a.endpoint b.endpoint) _ h) in
-    let delivery : a.delivery ≡ b.delivery = eqb-true a.delivery b.delivery (and_first (nat_eq a.delivery b.delivery) _ rest) in
-    let inflight : a.inflight ≡ b.inflight = eqb-true a.inflight b.inflight (and_second (nat_eq a.delivery b.delivery) _ rest) in
-    λ i. record { endpoint = endpoint i; delivery = delivery i; inflight = inflight i }
+    let same : (a.endpoint ≡ b.endpoint) × (a.delivery ≡ b.delivery) × (a.inflight ≡ b.inflight) =
+    grind (arith, nat_tests, bytes_eq-Decides a.endpoint b.endpoint) in
+    λ i. record { endpoint = same.0 i; delivery = same.1 i; inflight = same.2 i }
 
 pub same_row_self : (r : Row) → same_row r r ≡ true
 same_row_self r = and_both (bytes_eq r.endpoint r.endpoint) _ ((bytes_eq-Decides r.endpoint r.endpoint).1 refl) (and_both (nat_eq r.delivery r.delivery) _ (eq-eqb r.delivery r.delivery refl) (eq-eqb r.inflight r.inflight refl))
@@ -28,34 +29,18 @@ same_row_self r = and_both (bytes_eq r.endpoint r.endpoint) _ ((bytes_eq-Decides
 
 pub any_past : (p : Row → Bool) (rows : List Row) → length rows ≤ position_or_len p rows → list_any p rows ≡ false
 any_past p [] h = refl
-any_past p (r ∷ rows) h = step (p r) h (any_past p rows)
-  where
-    step : (b : Bool) → suc (length rows) ≤ cond (not b) (1 + position_or_len p rows) 0 → (length rows ≤ position_or_len p rows → list_any p rows ≡ false) → (b || list_any p rows) ≡ false
-    step true h later = absurd (omega (arith, h))
-    step false h later = later (omega (arith, h))
+any_past p (r ∷ rows) h = grind (arith, any_past p rows)
 
 pub none_found : (p : Row → Bool) (rows : List Row) → position p rows ≡ None → list_any p rows ≡ false
-none_found p rows e = pick (nat_lt (position_or_len p rows) (length rows)) refl e
-  where
-    pick : (b : Bool) → nat_lt (position_or_len p rows) (length rows) ≡ b → cond b (Some (position_or_len p rows)) None ≡ None → list_any p rows ≡ false
-    pick true below e = cc
-    pick false beyond e = any_past p rows (ltb-false (position_or_len p rows) (length rows) beyond)
+none_found p rows e = grind (arith, nat_tests, any_past p rows)
 
 pub none_counted : (p : Row → Bool) (rows : List Row) → list_any p rows ≡ false → count_by p rows ≡ 0
 none_counted p [] e = refl
-none_counted p (r ∷ rows) e = step (p r) refl e (none_counted p rows)
-  where
-    step : (b : Bool) → p r ≡ b → (b || list_any p rows) ≡ false → (list_any p rows ≡ false → count_by p rows ≡ 0) → count_by p (r ∷ rows) ≡ 0
-    step true t e later = cc
-    step false t e later = omega (arith, sum_by-cons (λ x. cond (p x) 1 0) r rows, ap {B = ℕ} (λ b. cond b 1 0) t, later e)
+none_counted p (r ∷ rows) e = grind (arith, sum_by-cons (λ x. cond (p x) 1 0) r rows, none_counted p rows)
 
 pub none_any : (p : Row → Bool) (rows : List Row) → count_by p rows ≡ 0 → list_any p rows ≡ false
 none_any p [] e = refl
-none_any p (r ∷ rows) e = step (p r) refl (none_any p rows)
-  where
-    step : (b : Bool) → p r ≡ b → (count_by p rows ≡ 0 → list_any p rows ≡ false) → (b || list_any p rows) ≡ false
-    step true t later = absurd (omega (arith, e, sum_by-cons (λ x. cond (p x) 1 0) r rows, ap {B = ℕ} (λ b. cond b 1 0) t))
-    step false t later = later (omega (arith, e, sum_by-cons (λ x. cond (p x) 1 0) r rows, ap {B = ℕ} (λ b. cond b 1 0) t))
+none_any p (r ∷ rows) e = grind (arith, sum_by-cons (λ x. cond (p x) 1 0) r rows, none_any p rows)
 
 -- What is left without the row at a place
 
@@ -73,39 +58,25 @@ all_removed p (r ∷ rows) (suc i) h = and_both (p r) _ (and_first (p r) _ h) (a
 -- what passes one test and fails another passes a third
 pub all_by : (p q s : Row → Bool) (rows : List Row) → ((r : Row) → p r ≡ true → q r ≡ false → s r ≡ true) → list_all p rows ≡ true → list_any q rows ≡ false → list_all s rows ≡ true
 all_by p q s [] by h e = refl
-all_by p q s (r ∷ rows) by h e = step (q r) refl e (all_by p q s rows by (and_second (p r) _ h))
-  where
-    step : (b : Bool) → q r ≡ b → (b || list_any q rows) ≡ false → (list_any q rows ≡ false → list_all s rows ≡ true) → (s r && list_all s rows) ≡ true
-    step true t e later = cc
-    step false t e later = and_both (s r) _ (by r (and_first (p r) _ h) t) (later e)
+all_by p q s (r ∷ rows) by h e = grind (arith, by r, all_by p q s rows by)
 
 -- where no attempt at the delivery is under way, no row is the row's
 others_all : (row : Row) (rows : List Row) → attempts_at row.delivery rows ≡ 0 → others row rows ≡ rows
 others_all row [] none = refl
-others_all row (r ∷ rows) none = step (same_row row r) refl (others_all row rows (omega (arith, none, sum_by-cons (λ (x : Row). cond (nat_eq x.delivery row.delivery) 1 0) r rows)))
-  where
-    step : (b : Bool) → same_row row r ≡ b → others row rows ≡ rows → others row (r ∷ rows) ≡ r ∷ rows
-    step true e rest =
-        absurd (omega (arith, none, sum_by-cons (λ (x : Row). cond (nat_eq x.delivery row.delivery) 1 0) r rows, ap {B = ℕ} (λ b. cond b 1 0) (eq-eqb r.delivery row.delivery (ap (λ (x : Row). x.delivery) (sym (same_row_is row r e))))))
-    step false e rest = ap (λ b. cond (not b) (r ∷ others row rows) (others row rows)) e ∙ ap (λ xs. r ∷ xs) rest
+others_all row (r ∷ rows) none =
+    let counted = sum_by-cons (λ (x : Row). cond (nat_eq x.delivery row.delivery) 1 0) r rows in
+    grind (arith, nat_tests, counted, same_row_is row r, others_all row rows)
 
 -- the rows without the one at this place are the other rows
 pub removed_is : (row : Row) (rows : List Row) (i : ℕ) → i < length rows → row ≡ get_or rows i row → attempts_at row.delivery rows ≤ 1 → remove rows i ≡ others row rows
 removed_is row [] i h own once = absurd (omega (arith, h))
 removed_is row (r ∷ rows) zero h own once =
-    sym (others_all row rows (omega (arith, once, sum_by-cons (λ (x : Row). cond (nat_eq x.delivery row.delivery) 1 0) r rows, ap {B = ℕ} (λ b. cond b 1 0) (eq-eqb r.delivery row.delivery (ap (λ (x : Row). x.delivery) (sym own))))))
-    ∙ sym (ap (λ b. cond (not b) (r ∷ others row rows) (others row rows)) (ap (same_row row) (sym own) ∙ same_row_self row))
-removed_is row (r ∷ rows) (suc i) h own once = step (same_row row r) refl (removed_is row rows i (omega (arith, h)) own)
-  where
-    here : attempts_at row.delivery (remove rows i) + 1 ≡ attempts_at row.delivery rows
-    here = omega (arith, sum_by-remove (λ (x : Row). cond (nat_eq x.delivery row.delivery) 1 0) rows i row (omega (arith, h)), ap {B = ℕ} (λ b. cond b 1 0) (eq-eqb (get_or rows i row).delivery row.delivery (ap (λ (x : Row). x.delivery) (sym own))))
-
-    step : (b : Bool) → same_row row r ≡ b → (attempts_at row.delivery rows ≤ 1 → remove rows i ≡ others row rows) → remove (r ∷ rows) (suc i) ≡ others row (r ∷ rows)
-    step true e later =
-        absurd (omega (arith, once, here, sum_by-cons (λ (x : Row). cond (nat_eq x.delivery row.delivery) 1 0) r rows, ap {B = ℕ} (λ b. cond b 1 0) (eq-eqb r.delivery row.delivery (ap (λ (x : Row). x.delivery) (sym (same_row_is row r e))))))
-    step false e later =
-        ap (λ xs. r ∷ xs) (later (omega (arith, once, sum_by-cons (λ (x : Row). cond (nat_eq x.delivery row.delivery) 1 0) r rows)))
-        ∙ sym (ap (λ b. cond (not b) (r ∷ others row rows) (others row rows)) e)
+    let counted = sum_by-cons (λ (x : Row). cond (nat_eq x.delivery row.delivery) 1 0) r rows in
+    grind (arith, nat_tests, counted, same_row_self row, others_all row rows)
+removed_is row (r ∷ rows) (suc i) h own once =
+    let counted = sum_by-cons (λ (x : Row). cond (nat_eq x.delivery row.delivery) 1 0) r rows in
+    let without = sum_by-remove (λ (x : Row). cond (nat_eq x.delivery row.delivery) 1 0) rows i row in
+    grind (arith, nat_tests, counted, without, same_row_is row r, removed_is row rows i)
 
 -- A permit that is given back
 
@@ -151,8 +122,40 @@ returned_at row rows new i at is once = record {
 
 pub returned : (row : Row) (rows new : List Row) → (position (same_row row) rows ≡ None → ⊥) → ((i : ℕ) → position (same_row row) rows ≡ Some i → new ≡ remove rows i) → ((d : ℕ) → attempts_at d rows ≤ 1)
     → IsReturned row rows new
-returned row rows new there is once = by (position (same_row row) rows) refl
-  where
-    by : (o : Option ℕ) → position (same_row row) rows ≡ o → IsReturned row rows new
-    by None e = absurd (there e)
-    by (Some i) e = returned_at row rows new i e (is i e) once
+returned row rows new there is once =
+    by_option (position (same_row row) rows) (λ e. absurd (there e)) (λ i e. returned_at row rows new i e (is i e) once)
+
+-- Permits that are all of those that are out, as they are given back one by one
+
+-- each row stands as often in the one list as in the other
+abbrev pub AreAll : (permits rows : List Row) → Type 0
+AreAll permits rows = (r : Row) → count_by (same_row r) permits ≡ count_by (same_row r) rows
+
+pub all_out : (permits rows : List Row) → IsPermutation permits rows → AreAll permits rows
+all_out permits rows h = λ r. sym (sum_by-IsPermutation (λ x. cond (same_row r x) 1 0) permits rows h)
+
+-- the last permit is one of those that are out
+pub last_out : (permits : List Row) (last : Row) (rows : List Row) → AreAll (permits ++ last ∷ []) rows → position (same_row last) rows ≡ None → ⊥
+last_out permits last rows h e =
+    let more = sum_by_push (λ x. cond (same_row last x) 1 0) permits last in
+    let none = none_counted (same_row last) rows (none_found (same_row last) rows e) in
+    absurd (omega (arith, h last, more, none, ap {B = ℕ} (λ b. cond b 1 0) (same_row_self last)))
+
+-- without it the others are all of those that are out
+pub last_back : (permits : List Row) (last : Row) (rows new : List Row) → AreAll (permits ++ last ∷ []) rows → ((i : ℕ) → position (same_row last) rows ≡ Some i → new ≡ remove rows i) → AreAll permits new
+last_back permits last rows new h is = by_option (position (same_row last) rows)
+    (λ e. absurd (last_out permits last rows h e))
+    (λ i e r.
+    let found = position-Some (same_row last) rows i last e in
+    let own : get_or rows i last ≡ last = sym (same_row_is last (get_or rows i last) found.1) in
+    let more = sum_by_push (λ x. cond (same_row r x) 1 0) permits last in
+    let less = sum_by-remove (λ x. cond (same_row r x) 1 0) rows i last found.0 in
+    omega (arith, h r, more, less, ap {B = ℕ} (λ x. cond (same_row r x) 1 0) own, ap (count_by (same_row r)) (is i e)))
+
+-- all are back
+pub none_left : (permits rows : List Row) → length permits ≡ 0 → AreAll permits rows → rows ≡ []
+none_left (permit ∷ permits) rows none h = absurd (omega (arith, none))
+none_left [] [] none h = refl
+none_left [] (r ∷ rows) none h =
+    let one = sum_by-remove (λ x. cond (same_row r x) 1 0) (r ∷ rows) 0 r (omega arith) in
+    absurd (omega (arith, h r, none_counted (same_row r) [] refl, one, ap {B = ℕ} (λ b. cond b 1 0) (same_row_self r)))

@@ -1,19 +1,29 @@
--- One more record is settled: what that makes of the book, and of what the queue holds.
+-- What one more record that is settled, or one more event that waits, makes of the deliveries and the queue.
 use Rattle.desk.proofs.Words.{◌≡◌, ◌≤◌, ◌+◌, ◌-◌, ℕ, Bool, true, false, List, [], ◌∷◌, Option, Some, None, drop, map}
 use Rattle.desk.proofs.Words.{max, refl, sym, ◌∙◌, ap, arith, not, ◌&&◌, ◌||◌, cond, subst, count_by, find, is_some}
-use Rattle.desk.proofs.Words.{option_map, option_and_then, unwrap_or, nat_eq, nat_le, nat_lt, bytes_eq, if◌then◌else◌}
-use Rattle.desk.proofs.Words.{list_all, list_any, option_map_or, or-false, eq-eqb, eqb-true, eqb-false, ne_eqb, lt-ltb}
-use Rattle.desk.proofs.Words.{ltb-true, le-ltb, ltb-false, le-leb, leb-true, sum_by-cons, Record, Pending, is_in_state}
-use Rattle.desk.proofs.Words.{and_first, and_second, and_both, find_map, Entry, Unsettled, Settles, BookValue, entry_at}
-use Rattle.desk.proofs.Words.{first_outcome, front_below, is_open, next_settled, rest_from, row_in, state_in}
-use Rattle.desk.proofs.Words.{takes_outcome, with_latest_settled, with_settled, HasWaiting, count-map, drop_drop, Row}
-use Rattle.desk.proofs.Words.{is_out, Pair, QueueValue, IsNew, is_held, pair_of, same_pair, AreApart, AreHeld}
-use Rattle.desk.proofs.Words.{AreQueued, AreUnderWay, HasPlaces, Holds, idle_pair, is_entry_of, is_idle, is_own}
-use Rattle.desk.proofs.Words.{is_pair_of, is_told, is_under_way, is_unheld, pair_in, rises, waits_as}
+use Rattle.desk.proofs.Words.{option_map, unwrap_or, nat_eq, nat_le, nat_lt, bytes_eq, if◌then◌else◌, list_all}
+use Rattle.desk.proofs.Words.{list_any, option_map_or, eq-eqb, eqb-true, eqb-false, le-ltb, le-leb, leb-true}
+use Rattle.desk.proofs.Words.{sum_by-cons, Record, Pending, is_in_state, and_first, and_second, and_both, find_map}
+use Rattle.desk.proofs.Words.{Entry, Unsettled, Settles, BookValue, entry_at, first_outcome, front_below, is_open}
+use Rattle.desk.proofs.Words.{next_settled, rest_from, state_in, takes_outcome, with_latest_settled, with_settled}
+use Rattle.desk.proofs.Words.{HasWaiting, count-map, drop_drop, Row, is_out, Pair, QueueValue, IsNew, is_held, pair_of}
+use Rattle.desk.proofs.Words.{same_pair, AreApart, AreHeld, AreQueued, AreUnderWay, HasPlaces, Holds, idle_pair, is_own}
+use Rattle.desk.proofs.Words.{is_told, is_under_way, is_unheld, rises, waits_as, nat_tests, by_bool, by_option, ◌++◌}
+use Rattle.desk.proofs.Words.{cons_option, option_or, find-append, Accept, Outcome, attempts_of, is_gone_status}
+use Rattle.desk.proofs.Words.{Attempt, AreNamedAlike, at_delivery, at_outcomes, with_outcome, AreTries, endpoint_at}
+use Rattle.desk.proofs.Words.{with_attempt, ◌<◌, length, sum_by_push, MAX_RECORDS, records_of, HasChanges}
+use Rattle.desk.proofs.Words.{changes_named, changes_other, new_entry, pending_in, with_event, all_weaker, HasSamePairs}
+use Rattle.desk.proofs.Words.{SetsMark, free_places, reserved_mark, WaitingValue, record_count, with_step, Limiter}
+use Rattle.desk.proofs.Words.{AreTied, is_entry_of, is_idle, is_pair_of, own_pair, IsDesk, is_pending_of}
 use Rattle.delivery_book.specs.Book.{StandsFor}
-use Rattle.delivery_book.proofs.Waiting.{waiting_settled}
-use Rattle.desk.proofs.ReadyLaws.{found_seq}
-use Rattle.desk.proofs.PlaceLaws.{idle_from}
+use Rattle.delivery_book.proofs.Waiting.{waiting_settled, waiting_event}
+use Rattle.endpoint_book.specs.Entries as endpoint_entries
+use Rattle.desk.proofs.ClaimLaws.{found_seq, idle_from, count_below}
+use Rattle.desk.proofs.DeskLaws.{deliveries_wait}
+use Rattle.desk.proofs.RequestTies.{room_requested, by_name, found_with, marked_reserved, places_reserved}
+use Rattle.desk.proofs.RequestTies.{reserved_free}
+
+-- One more record is settled: what that makes of the book, and of what the queue holds
 
 -- whether this is the delivery that is named
 abbrev pub names : Option ℕ → ℕ → Bool
@@ -53,35 +63,23 @@ is_behind s upto o rest h e = let differs = eqb-false o.seq s e in omega (arith,
 -- what is settled with one more record: the first outcome, if it has that record's number
 front_one : (s upto : ℕ) (outs : List Unsettled) → rises s upto outs ≡ true → (n : ℕ) → list_any (λ o. nat_eq o.delivery n) (front_below (s + 1) outs) ≡ names (first_outcome s outs) n
 front_one s upto [] h n = refl
-front_one s upto (o ∷ rest) h n = by (nat_eq o.seq s) refl
-  where
-    by : (b : Bool) → nat_eq o.seq s ≡ b
-        → list_any (λ (p : Unsettled). nat_eq p.delivery n) (if nat_lt o.seq (s + 1) then o ∷ front_below (s + 1) rest else []) ≡ names (if b then Some o.delivery else None) n
-    by true e =
-        ap (λ c. list_any (λ (p : Unsettled). nat_eq p.delivery n) (if c then o ∷ front_below (s + 1) rest else [])) (lt-ltb o.seq (s + 1) (omega (arith, eqb-true o.seq s e)))
-        ∙ ap (λ ps. list_any (λ (p : Unsettled). nat_eq p.delivery n) (o ∷ ps)) (front_none (s + 1) upto rest (after_first s upto o rest h e))
-        ∙ or-false (nat_eq o.delivery n)
-    by false e = ap (λ c. list_any (λ (p : Unsettled). nat_eq p.delivery n) (if c then o ∷ front_below (s + 1) rest else [])) (le-ltb o.seq (s + 1) (is_behind s upto o rest h e))
+front_one s upto (o ∷ rest) h n =
+    let none = λ (e : nat_eq o.seq s ≡ true). front_none (s + 1) upto rest (after_first s upto o rest h e) in
+    grind (arith, nat_tests, h, none)
 
 rest_one : (s upto : ℕ) (outs : List Unsettled) → rises s upto outs ≡ true → rest_from (s + 1) outs ≡ behind s outs
 rest_one s upto [] h = refl
-rest_one s upto (o ∷ rest) h = by (nat_eq o.seq s) refl
-  where
-    by : (b : Bool) → nat_eq o.seq s ≡ b → (if nat_lt o.seq (s + 1) then rest_from (s + 1) rest else o ∷ rest) ≡ (if b then rest else o ∷ rest)
-    by true e =
-        ap (λ c. if c then rest_from (s + 1) rest else o ∷ rest) (lt-ltb o.seq (s + 1) (omega (arith, eqb-true o.seq s e)))
-        ∙ rest_all (s + 1) upto rest (after_first s upto o rest h e)
-    by false e = ap (λ c. if c then rest_from (s + 1) rest else o ∷ rest) (le-ltb o.seq (s + 1) (is_behind s upto o rest h e))
+rest_one s upto (o ∷ rest) h =
+    let all = λ (e : nat_eq o.seq s ≡ true). rest_all (s + 1) upto rest (after_first s upto o rest h e) in
+    grind (arith, nat_tests, h, all)
 
 rises_behind : (s upto : ℕ) (outs : List Unsettled) → rises s upto outs ≡ true → rises (s + 1) (max upto (s + 1)) (behind s outs) ≡ true
 rises_behind s upto [] h = le-leb (s + 1) (max upto (s + 1)) (omega arith)
-rises_behind s upto (o ∷ rest) h = by (nat_eq o.seq s) refl
-  where
-    by : (b : Bool) → nat_eq o.seq s ≡ b → rises (s + 1) (max upto (s + 1)) (if b then rest else o ∷ rest) ≡ true
-    by true e = rises_upto (s + 1) upto (max upto (s + 1)) rest (omega arith) (after_first s upto o rest h e)
-    by false e =
-        and_both (nat_le (s + 1) o.seq) _ (le-leb (s + 1) o.seq (is_behind s upto o rest h e))
-        (rises_upto (o.seq + 1) upto (max upto (s + 1)) rest (omega arith) (and_second (nat_le s o.seq) _ h))
+rises_behind s upto (o ∷ rest) h =
+    let more = λ (n : ℕ). rises_upto n upto (max upto (s + 1)) rest (omega arith) in
+    by_bool (nat_eq o.seq s)
+    (λ e. rw e (more (s + 1) (after_first s upto o rest h e)))
+    (λ e. let above = is_behind s upto o rest h e in grind (arith, nat_tests, e, above, h, more (o.seq + 1)))
 
 -- Entries
 
@@ -89,11 +87,7 @@ abbrev moved : Option ℕ → Entry → Entry
 moved first x = if names first x.seq then with_latest_settled x else x
 
 moved_seq : (first : Option ℕ) (x : Entry) → (moved first x).seq ≡ x.seq
-moved_seq first x = pick (names first x.seq)
-  where
-    pick : (b : Bool) → (if b then with_latest_settled x else x).seq ≡ x.seq
-    pick true = refl
-    pick false = refl
+moved_seq first x = grind arith
 
 abbrev pub later : BookValue → BookValue
 later book = with_settled book (book.settled_seq + 1)
@@ -112,11 +106,9 @@ entry_moved book n apart =
 
 -- an entry that the outcome isn't of stays
 entry_still : (book : BookValue) (n : ℕ) → AreApart book → names (first book) n ≡ false → entry_at (later book).entries n ≡ entry_at book.entries n
-entry_still book n apart other = entry_moved book n apart ∙ by (entry_at book.entries n) refl
-  where
-    by : (o : Option Entry) → entry_at book.entries n ≡ o → option_map (moved (first book)) o ≡ o
-    by None there = refl
-    by (Some e) there = ap (λ b. Some (if b then with_latest_settled e else e)) (ap (names (first book)) (found_seq book.entries n e there) ∙ other)
+entry_still book n apart other =
+    let moved = entry_moved book n apart in
+    grind (arith, moved, other, found_seq book.entries n)
 
 -- The delivery that is concerned
 
@@ -126,161 +118,57 @@ IsBusy book n = (e : Entry) → entry_at book.entries n ≡ Some e → nat_lt n 
 
 no_other : (book : BookValue) (outs : List Unsettled) → list_all (is_own book) outs ≡ true → is_some (entry_at book.entries book.settled_seq) ≡ true → first_outcome book.settled_seq outs ≡ None
 no_other book [] own there = refl
-no_other book (o ∷ rest) own there = by (nat_eq o.seq book.settled_seq) refl
-  where
-    by : (b : Bool) → nat_eq o.seq book.settled_seq ≡ b → (if b then Some o.delivery else None) ≡ None
-    by true e =
-        let wrong : false ≡ true = sym (ap not there) ∙ ap (λ n. not (is_some (entry_at book.entries n))) (sym (eqb-true o.seq book.settled_seq e)) ∙ and_first (is_own book o) _ own in
-        cc
-    by false e = refl
+no_other book (o ∷ rest) own there = grind (arith, nat_tests)
 
 -- the outcome that is settled is of the delivery that is concerned
 concerned_first : (book : BookValue) → AreApart book → (n : ℕ) → names (next_settled book) n ≡ false → names (first book) n ≡ false
-concerned_first book apart n h = by (is_some (entry_at book.entries book.settled_seq)) refl h
-  where
-    by : (b : Bool) → is_some (entry_at book.entries book.settled_seq) ≡ b → names (if b then Some book.settled_seq else first book) n ≡ false → names (first book) n ≡ false
-    by true there k = ap (λ o. names o n) (no_other book book.unsettled apart.own there)
-    by false there k = k
+concerned_first book apart n h = let none = no_other book book.unsettled apart.own in grind (arith, h, none)
 
 -- it was none that waits
+first_told : (book : BookValue) (n : ℕ) (e : Entry) → entry_at book.entries n ≡ Some e → (outs : List Unsettled)
+    → list_all (is_told book) outs ≡ true → names (first_outcome book.settled_seq outs) n ≡ true → is_open e ≡ false
+first_told book n e found [] told k = absurd (let wrong : false ≡ true = k in cc)
+first_told book n e found (o ∷ rest) told k = grind (arith, nat_tests, found)
+
 concerned_busy : (book : BookValue) → AreApart book → (n : ℕ) → names (next_settled book) n ≡ true → IsBusy book n
-concerned_busy book apart n h e found = by (is_some (entry_at book.entries book.settled_seq)) h
-  where
-    out : (a b : Bool) → not b ≡ true → a && b ≡ false
-    out a true k = let wrong : false ≡ true = k in cc
-    out true false k = refl
-    out false false k = refl
-
-    ends : (a b c : Bool) → c ≡ false → a && (b && c) ≡ false
-    ends true true c k = k
-    ends true false c k = refl
-    ends false b c k = refl
-
-    of : (outs : List Unsettled) → list_all (is_told book) outs ≡ true → names (first_outcome book.settled_seq outs) n ≡ true → nat_lt n book.settled_seq && is_open e ≡ false
-    of [] told k = let wrong : false ≡ true = k in cc
-    of (o ∷ rest) told k = at (nat_eq o.seq book.settled_seq) k
-      where
-        differs : nat_eq o.delivery n ≡ true → not (nat_eq e.latest.attempts e.settled.attempts) ≡ true
-        differs same =
-            sym (ap (λ x. option_map_or (λ (y : Entry). not (nat_eq y.latest.attempts y.settled.attempts)) x false) (ap (entry_at book.entries) (eqb-true o.delivery n same) ∙ found))
-            ∙ and_first (is_told book o) _ told
-
-        no : (b : Bool) → not b ≡ true → b ≡ false
-        no true t = sym t
-        no false t = refl
-
-        at : (b : Bool) → names (if b then Some o.delivery else None) n ≡ true → nat_lt n book.settled_seq && is_open e ≡ false
-        at true same =
-            ends (nat_lt n book.settled_seq) (is_in_state Pending (state_in e.latest)) (nat_eq e.latest.attempts e.settled.attempts)
-            (no (nat_eq e.latest.attempts e.settled.attempts) (differs same))
-        at false same = let wrong : false ≡ true = same in cc
-
-    by : (b : Bool) → names (if b then Some book.settled_seq else first book) n ≡ true → nat_lt n book.settled_seq && is_open e ≡ false
-    by true k = ap (λ b. b && is_open e) (le-ltb n book.settled_seq (omega (arith, eqb-true book.settled_seq n k)))
-    by false k = of book.unsettled apart.told k
+concerned_busy book apart n h e found = by_bool (is_some (entry_at book.entries book.settled_seq))
+    (λ there. grind (arith, nat_tests, h, there))
+    (λ there.
+    let closed = first_told book n e found book.unsettled apart.told (grind (arith, h, there)) in
+    grind (arith, closed))
 
 -- an entry that isn't concerned counts as settled just if it did before
 settled_same : (book : BookValue) (n : ℕ) → names (next_settled book) n ≡ false → is_some (entry_at book.entries n) ≡ true → nat_lt n (book.settled_seq + 1) ≡ nat_lt n book.settled_seq
-settled_same book n other there = by (nat_eq book.settled_seq n) refl
-  where
-    here : nat_eq book.settled_seq n ≡ true → names (next_settled book) n ≡ true
-    here e =
-        ap (λ b. names (if b then Some book.settled_seq else first book) n) (ap (λ m. is_some (entry_at book.entries m)) (eqb-true book.settled_seq n e) ∙ there)
-        ∙ e
-
-    at : (b : Bool) → nat_lt n book.settled_seq ≡ b → (book.settled_seq ≡ n → ⊥) → nat_lt n (book.settled_seq + 1) ≡ b
-    at true lt differs = lt-ltb n (book.settled_seq + 1) (omega (arith, ltb-true n book.settled_seq lt))
-    at false ge differs = le-ltb n (book.settled_seq + 1) (omega (arith, differs, ltb-false n book.settled_seq ge))
-
-    by : (b : Bool) → nat_eq book.settled_seq n ≡ b → nat_lt n (book.settled_seq + 1) ≡ nat_lt n book.settled_seq
-    by true e = let wrong : true ≡ false = sym (here e) ∙ other in cc
-    by false e = at (nat_lt n book.settled_seq) refl (eqb-false book.settled_seq n e)
+settled_same book n other there = grind (arith, nat_tests, other, there)
 
 -- The queue
 
 busy_new : (queue : QueueValue) (book : BookValue) (live : List Row) (n : ℕ) → AreHeld queue book live → IsBusy book n → IsNew queue n
-busy_new queue book live n held busy = λ endpoint due. held (pair_of endpoint due n) ∙ by (pair_of endpoint due n) refl (entry_at book.entries n) refl
-  where
-    none : (a b c d : Bool) → a && b ≡ false → (a && (b && c)) && d ≡ false
-    none true true c d h = let wrong : true ≡ false = h in cc
-    none true false c d h = refl
-    none false b c d h = refl
-
-    by : (pair : Pair) → pair.seq ≡ n → (o : Option Entry) → entry_at book.entries n ≡ o
-        → option_map_or (λ e. is_idle book.settled_seq live e && is_pair_of pair e) (entry_at book.entries n) false ≡ false
-    by pair is None there = ap (λ o. option_map_or (λ e. is_idle book.settled_seq live e && is_pair_of pair e) o false) there
-    by pair is (Some e) there =
-        ap (λ o. option_map_or (λ x. is_idle book.settled_seq live x && is_pair_of pair x) o false) there
-        ∙ none (nat_lt e.seq book.settled_seq) (is_open e) (not (is_out e.seq live)) (is_pair_of pair e)
-        (ap (λ m. nat_lt m book.settled_seq && is_open e) (found_seq book.entries n e there) ∙ busy e there)
+busy_new queue book live n held busy = λ endpoint due.
+    let is = held (pair_of endpoint due n) in
+    by_option (entry_at book.entries n)
+    (λ e. grind (arith, is, e))
+    (λ x e. grind (arith, is, e, busy x e, found_seq book.entries n x e))
 
 busy_not_out : (book : BookValue) (live : List Row) (n : ℕ) → list_all (is_under_way book) live ≡ true → IsBusy book n → is_out n live ≡ false
 busy_not_out book [] n each busy = refl
-busy_not_out book (row ∷ live) n each busy = by (nat_eq row.delivery n) refl (busy_not_out book live n (and_second (is_under_way book row) _ each) busy)
-  where
-    clash : (a b c : Bool) → a && b ≡ false → a && (b && c) ≡ true → ⊥
-    clash true true c h k = let wrong : true ≡ false = h in absurd (cc)
-    clash true false c h k = let wrong : false ≡ true = k in absurd (cc)
-    clash false b c h k = let wrong : false ≡ true = k in absurd (cc)
-
-    wrong_if : (o : Option Entry) → entry_at book.entries n ≡ o → nat_lt n book.settled_seq && option_map_or (is_entry_of row) o false ≡ true → ⊥
-    wrong_if None there k = let wrong : false ≡ true = and_second (nat_lt n book.settled_seq) false k in absurd (cc)
-    wrong_if (Some e) there k = clash (nat_lt n book.settled_seq) (is_open e) _ (busy e there) k
-
-    by : (b : Bool) → nat_eq row.delivery n ≡ b → is_out n live ≡ false → b || is_out n live ≡ false
-    by true e rest =
-        absurd (wrong_if (entry_at book.entries n) refl
-        (ap (λ m. nat_lt m book.settled_seq && option_map_or (is_entry_of row) (entry_at book.entries m) false) (sym (eqb-true row.delivery n e)) ∙ and_first (is_under_way book row) _ each))
-    by false e rest = rest
-
-abbrev idle_by : (seq : ℕ) (settled : Bool) → Option Entry → Option Pair
-idle_by seq settled o =
-    if option_map_or is_open o false then
-    option_and_then (λ row. option_map (λ due. pair_of row.endpoint due seq) row.due) (if settled then option_map (λ x. row_in x.settled x) o else None)
-    else None
+busy_not_out book (row ∷ live) n each busy =
+    let later = busy_not_out book live n (and_second (is_under_way book row) _ each) busy in
+    by_bool (nat_eq row.delivery n)
+    (λ e. by_option (entry_at book.entries n)
+    (λ none. grind (arith, nat_tests, each, e, none))
+    (λ x some. grind (arith, nat_tests, each, e, some, busy x some)))
+    (λ e. grind (arith, e, later))
 
 -- the pair of a delivery of which no permit is out is the one that waits
 pub idle_waits : (book : BookValue) (live : List Row) (pair : Pair) → is_out pair.seq live ≡ false → waits_as book live pair ≡ option_map_or (same_pair pair) (idle_pair book pair.seq) false
-idle_waits book live pair free = by (entry_at book.entries pair.seq) refl
-  where
-    swap : (a b : Bool) → a && b ≡ true && (b && a)
-    swap true true = refl
-    swap true false = refl
-    swap false true = refl
-    swap false false = refl
-
-    and_none : (a : Bool) → a && false ≡ false
-    and_none true = refl
-    and_none false = refl
-
-    shape : (e : Entry) (b a : Bool) (due : Option ℕ)
-        → (b && (a && true)) && (bytes_eq e.name pair.endpoint && option_map_or (λ t. nat_eq t pair.due) due false)
-        ≡ option_map_or (same_pair pair) (if a then (if b then option_map (λ t. pair_of e.name t pair.seq) due else None) else None) false
-    shape e false true due = refl
-    shape e false false due = refl
-    shape e true false due = refl
-    shape e true true None = and_none (bytes_eq e.name pair.endpoint)
-    shape e true true (Some t) =
-        swap (bytes_eq e.name pair.endpoint) (nat_eq t pair.due)
-        ∙ ap (λ b. b && (nat_eq t pair.due && bytes_eq e.name pair.endpoint)) (sym (eq-eqb pair.seq pair.seq refl))
-
-    told : (e : Entry) (b : Bool) → (if b then option_map (λ t. pair_of e.name t pair.seq) e.settled.due else None)
-        ≡ option_and_then (λ row. option_map (λ due. pair_of row.endpoint due pair.seq) row.due) (if b then Some (row_in e.settled e) else None)
-    told e true = refl
-    told e false = refl
-
-    by : (o : Option Entry) → entry_at book.entries pair.seq ≡ o → waits_as book live pair ≡ option_map_or (same_pair pair) (idle_pair book pair.seq) false
-    by None there =
-        ap (λ o. option_map_or (λ e. is_idle book.settled_seq live e && is_pair_of pair e) o false) there
-        ∙ sym (ap (λ o. option_map_or (same_pair pair) (idle_by pair.seq (nat_lt pair.seq book.settled_seq) o) false) there)
-    by (Some e) there =
-        let numbered = found_seq book.entries pair.seq e there in
-        ap (λ o. option_map_or (λ x. is_idle book.settled_seq live x && is_pair_of pair x) o false) there
-        ∙ (λ i. (nat_lt (numbered i) book.settled_seq && (is_open e && not (is_out (numbered i) live))) && is_pair_of pair e)
-        ∙ (λ i. (nat_lt pair.seq book.settled_seq && (is_open e && not (free i))) && is_pair_of pair e)
-        ∙ shape e (nat_lt pair.seq book.settled_seq) (is_open e) e.settled.due
-        ∙ ap (λ o. option_map_or (same_pair pair) (if is_open e then o else None) false) (told e (nat_lt pair.seq book.settled_seq))
-        ∙ sym (ap (λ o. option_map_or (same_pair pair) (idle_by pair.seq (nat_lt pair.seq book.settled_seq) o) false) there)
+idle_waits book live pair free = by_option (entry_at book.entries pair.seq)
+    (λ there. grind (arith, there))
+    (λ e there.
+    let numbered = found_seq book.entries pair.seq e there in
+    by_option e.settled.due
+    (λ due. grind (arith, nat_tests, there, numbered, free, due))
+    (λ t due. grind (arith, nat_tests, there, numbered, free, due)))
 
 -- what the queue holds of a delivery that waits from now on
 abbrev pub HoldsNext : (old new : QueueValue) → BookValue → Option ℕ → Type 0
@@ -288,27 +176,18 @@ HoldsNext old new book None = new ≡ old
 HoldsNext old new book (Some d) = Holds old new (idle_pair book d)
 
 idle_seq : (book : BookValue) (d : ℕ) (pair : Pair) → idle_pair book d ≡ Some pair → pair.seq ≡ d
-idle_seq book d pair h = by (takes_outcome book d) refl h
-  where
-    by : (b : Bool) → takes_outcome book d ≡ b → (if b then pair_in book d else None) ≡ Some pair → pair.seq ≡ d
-    by true takes k = ap (λ (p : Pair). p.seq) (idle_from book d pair takes (sym k)).is
-    by false takes k = let wrong : None ≡ Some pair = k in cc
+idle_seq book d pair h = by_bool (takes_outcome book d)
+    (λ takes. ap (λ (p : Pair). p.seq) (idle_from book d pair takes (grind (arith, h, takes))).is)
+    (λ takes. absurd (grind (arith, h, takes)))
 
 -- of other deliveries the queue holds what it held
 pub held_other : (old new : QueueValue) (book : BookValue) (next : Option ℕ) (pair : Pair) → HoldsNext old new book next → names next pair.seq ≡ false → is_held new pair ≡ is_held old pair
 held_other old new book None pair same other = ap (λ (q : QueueValue). is_held q pair) same
 held_other old new book (Some d) pair holds other = by (idle_pair book d) refl holds
   where
-    or_none : (a b : Bool) → b ≡ false → a || b ≡ a
-    or_none a true h = let wrong : true ≡ false = h in cc
-    or_none a false h = or-false a
-
     by : (o : Option Pair) → idle_pair book d ≡ o → Holds old new o → is_held new pair ≡ is_held old pair
     by None e same = ap (λ (q : QueueValue). is_held q pair) same
-    by (Some p) e held =
-        held.pairs pair
-        ∙ or_none (is_held old pair) (same_pair pair p)
-        (ap (λ b. b && (nat_eq p.due pair.due && bytes_eq p.endpoint pair.endpoint)) (ap (λ n. nat_eq n pair.seq) (idle_seq book d p e) ∙ other))
+    by (Some p) e held = grind (arith, held.pairs pair, idle_seq book d p e, other)
 
 -- of that one it holds the pair, if it waits
 pub held_one : (old new : QueueValue) (book : BookValue) (pair : Pair) → IsNew old pair.seq → Holds old new (idle_pair book pair.seq)
@@ -324,32 +203,23 @@ held_one old new book pair unheld holds = by (idle_pair book pair.seq) holds
 pub held_next : (old new : QueueValue) (book : BookValue) (live : List Row) (next : Option ℕ) → HoldsNext old new book next
     → ((n : ℕ) → names next n ≡ true → IsNew old n) → ((n : ℕ) → names next n ≡ true → is_out n live ≡ false)
     → ((pair : Pair) → names next pair.seq ≡ false → is_held old pair ≡ waits_as book live pair) → AreHeld new book live
-held_next old new book live next holds unheld free others = λ pair. by pair (names next pair.seq) refl
+held_next old new book live next holds unheld free others = λ pair. by_bool (names next pair.seq)
+    (λ e.
+    let one_held = held_one old new book pair (unheld pair.seq e) (one next pair e holds) in
+    one_held ∙ sym (idle_waits book live pair (free pair.seq e)))
+    (λ e. held_other old new book next pair holds e ∙ others pair e)
   where
     one : (o : Option ℕ) (pair : Pair) → names o pair.seq ≡ true → HoldsNext old new book o → Holds old new (idle_pair book pair.seq)
     one None pair e h = let wrong : false ≡ true = e in cc
     one (Some d) pair e h = subst (λ n. Holds old new (idle_pair book n)) (eqb-true d pair.seq e) h
 
-    by : (pair : Pair) (b : Bool) → names next pair.seq ≡ b → is_held new pair ≡ waits_as book live pair
-    by pair true e = held_one old new book pair (unheld pair.seq e) (one next pair e holds) ∙ sym (idle_waits book live pair (free pair.seq e))
-    by pair false e = held_other old new book next pair holds e ∙ others pair e
-
 -- What ties the queue to the book, once one more record is settled
 
 none_among : (d : ℕ) (outs : List Unsettled) → count_by (λ (o : Unsettled). nat_eq o.delivery d) outs ≡ 0 → list_all (λ (o : Unsettled). not (nat_eq d o.delivery)) outs ≡ true
 none_among d [] h = refl
-none_among d (o ∷ rest) h = by (nat_eq o.delivery d) refl (none_among d rest)
-  where
-    counted : count_by (λ (p : Unsettled). nat_eq p.delivery d) (o ∷ rest) ≡ cond (nat_eq o.delivery d) 1 0 + count_by (λ (p : Unsettled). nat_eq p.delivery d) rest
-    counted = sum_by-cons (λ (p : Unsettled). cond (nat_eq p.delivery d) 1 0) o rest
-
-    by : (b : Bool) → nat_eq o.delivery d ≡ b
-        → (count_by (λ (p : Unsettled). nat_eq p.delivery d) rest ≡ 0 → list_all (λ (p : Unsettled). not (nat_eq d p.delivery)) rest ≡ true)
-        → not (nat_eq d o.delivery) && list_all (λ (p : Unsettled). not (nat_eq d p.delivery)) rest ≡ true
-    by true e among = absurd (omega (arith, h, counted, ap {B = ℕ} (λ b. cond b 1 0) e))
-    by false e among =
-        and_both (not (nat_eq d o.delivery)) _ (ap not (ne_eqb d o.delivery (λ same. eqb-false o.delivery d e (sym same))))
-        (among (omega (arith, h, counted)))
+none_among d (o ∷ rest) h =
+    let counted = sum_by-cons (λ (p : Unsettled). cond (nat_eq p.delivery d) 1 0) o rest in
+    grind (arith, nat_tests, counted, h, none_among d rest)
 
 -- the outcomes that still wait are of other deliveries than the one that is settled
 others_wait : (s : ℕ) (outs : List Unsettled) → ((d : ℕ) → count_by (λ (o : Unsettled). nat_eq o.delivery d) outs ≤ 1)
@@ -363,38 +233,24 @@ others_wait s (o ∷ rest) once = by (nat_eq o.seq s)
 
     by : (b : Bool) → list_all (λ (p : Unsettled). not (names (if b then Some o.delivery else None) p.delivery)) (if b then rest else o ∷ rest) ≡ true
     by true =
-        none_among o.delivery rest (omega (
-          arith,
-          once o.delivery,
-          sum_by-cons (λ (p : Unsettled). cond (nat_eq p.delivery o.delivery) 1 0) o rest,
-          ap {B = ℕ} (λ b. cond b 1 0) (eq-eqb o.delivery o.delivery refl),
-        ))
+        let counted = sum_by-cons (λ (p : Unsettled). cond (nat_eq p.delivery o.delivery) 1 0) o rest in
+        none_among o.delivery rest (grind (arith, nat_tests, once o.delivery, counted))
     by false = all_not (o ∷ rest)
 
 all_behind : (test : Unsettled → Bool) (s : ℕ) (outs : List Unsettled) → list_all test outs ≡ true → list_all test (behind s outs) ≡ true
 all_behind test s [] h = refl
-all_behind test s (o ∷ rest) h = by (nat_eq o.seq s)
-  where
-    by : (b : Bool) → list_all test (if b then rest else o ∷ rest) ≡ true
-    by true = and_second (test o) _ h
-    by false = h
+all_behind test s (o ∷ rest) h = grind (arith, h)
 
 count_behind : (test : Unsettled → Bool) (s : ℕ) (outs : List Unsettled) → count_by test (behind s outs) ≤ count_by test outs
 count_behind test s [] = omega arith
-count_behind test s (o ∷ rest) = by (nat_eq o.seq s)
-  where
-    by : (b : Bool) → count_by test (if b then rest else o ∷ rest) ≤ count_by test (o ∷ rest)
-    by true = omega (arith, sum_by-cons (λ p. cond (test p) 1 0) o rest)
-    by false = omega arith
+count_behind test s (o ∷ rest) = grind (arith, sum_by-cons (λ p. cond (test p) 1 0) o rest)
 
 all_both : {X : Type 0} (p q r : X → Bool) (xs : List X) → ((x : X) → p x ≡ true → q x ≡ true → r x ≡ true) → list_all p xs ≡ true → list_all q xs ≡ true → list_all r xs ≡ true
 all_both p q r [] h a b = refl
-all_both p q r (x ∷ xs) h a b =
-    and_both (r x) _ (h x (and_first (p x) _ a) (and_first (q x) _ b)) (all_both p q r xs h (and_second (p x) _ a) (and_second (q x) _ b))
+all_both p q r (x ∷ xs) h a b = grind (arith, h x, all_both p q r xs h)
 
 not_named : (b : Bool) → not b ≡ true → b ≡ false
-not_named true h = sym h
-not_named false h = refl
+not_named b h = grind arith
 
 apart_settled : (book : BookValue) → AreApart book → AreApart (later book)
 apart_settled book apart = record {
@@ -417,64 +273,33 @@ apart_settled book apart = record {
     rest : (later book).unsettled ≡ behind book.settled_seq book.unsettled
     rest = rest_one book.settled_seq book.next_seq book.unsettled apart.in_turn
 
-    mapped : (o : Option Entry) → is_some (option_map (moved (first book)) o) ≡ is_some o
-    mapped None = refl
-    mapped (Some e) = refl
-
     found_as : (n : ℕ) → is_some (entry_at (later book).entries n) ≡ is_some (entry_at book.entries n)
-    found_as n = ap is_some (entry_moved book n apart) ∙ mapped (entry_at book.entries n)
+    found_as n = grind (arith, entry_moved book n apart)
 
 under_way_settled : (book : BookValue) (live : List Row) → AreApart book → AreUnderWay live book → AreUnderWay live (later book)
 under_way_settled book live apart way = record { each = all live way.each; once = way.once }
   where
     still : (row : Row) → is_under_way book row ≡ true → is_under_way (later book) row ≡ true
-    still row h = by (names (next_settled book) row.delivery) refl
-      where
-        settled : nat_lt row.delivery (book.settled_seq + 1) ≡ true
-        settled =
-            lt-ltb row.delivery (book.settled_seq + 1)
-            (omega (arith, ltb-true row.delivery book.settled_seq (and_first (nat_lt row.delivery book.settled_seq) _ h)))
-
-        clash : (a b c : Bool) → a && b ≡ false → a ≡ true → b && c ≡ true → ⊥
-        clash true true c k t u = let wrong : true ≡ false = k in absurd (cc)
-        clash true false c k t u = let wrong : false ≡ true = u in absurd (cc)
-        clash false b c k t u = let wrong : false ≡ true = t in absurd (cc)
-
-        gone : (o : Option Entry) → entry_at book.entries row.delivery ≡ o → IsBusy book row.delivery → option_map_or (is_entry_of row) o false ≡ true → ⊥
-        gone None there busy k = let wrong : false ≡ true = k in absurd (cc)
-        gone (Some e) there busy k = clash (nat_lt row.delivery book.settled_seq) (is_open e) _ (busy e there) (and_first (nat_lt row.delivery book.settled_seq) _ h) k
-
-        by : (b : Bool) → names (next_settled book) row.delivery ≡ b → is_under_way (later book) row ≡ true
-        by true e =
-            absurd (gone (entry_at book.entries row.delivery) refl (concerned_busy book apart row.delivery e) (and_second (nat_lt row.delivery book.settled_seq) _ h))
-        by false e =
-            and_both (nat_lt row.delivery (book.settled_seq + 1)) _ settled
-            (ap (λ o. option_map_or (is_entry_of row) o false) (entry_still book row.delivery apart (concerned_first book apart row.delivery e))
-            ∙ and_second (nat_lt row.delivery book.settled_seq) _ h)
+    still row h = by_bool (names (next_settled book) row.delivery)
+        (λ e. by_option (entry_at book.entries row.delivery)
+        (λ none. grind (arith, h, none))
+        (λ x some. grind (arith, h, some, concerned_busy book apart row.delivery e x some)))
+        (λ e.
+        let same = entry_still book row.delivery apart (concerned_first book apart row.delivery e) in
+        grind (arith, nat_tests, h, same))
 
     all : (rows : List Row) → list_all (is_under_way book) rows ≡ true → list_all (is_under_way (later book)) rows ≡ true
     all [] h = refl
-    all (row ∷ rows) h =
-        and_both (is_under_way (later book) row) _ (still row (and_first (is_under_way book row) _ h)) (all rows (and_second (is_under_way book row) _ h))
+    all (row ∷ rows) h = grind (arith, h, still row, all rows)
 
 -- another delivery waits as before
 waits_still : (book : BookValue) (live : List Row) (pair : Pair) → AreApart book → names (next_settled book) pair.seq ≡ false → waits_as book live pair ≡ waits_as (later book) live pair
 waits_still book live pair apart other =
-    by (entry_at book.entries pair.seq) refl
-    ∙ sym (ap (λ o. option_map_or (λ e. is_idle (book.settled_seq + 1) live e && is_pair_of pair e) o false) (entry_still book pair.seq apart (concerned_first book apart pair.seq other)))
-  where
-    by : (o : Option Entry) → entry_at book.entries pair.seq ≡ o
-        → option_map_or (λ e. is_idle book.settled_seq live e && is_pair_of pair e) (entry_at book.entries pair.seq) false
-        ≡ option_map_or (λ e. is_idle (book.settled_seq + 1) live e && is_pair_of pair e) (entry_at book.entries pair.seq) false
-    by None there =
-        ap (λ o. option_map_or (λ e. is_idle book.settled_seq live e && is_pair_of pair e) o false) there
-        ∙ sym (ap (λ o. option_map_or (λ e. is_idle (book.settled_seq + 1) live e && is_pair_of pair e) o false) there)
-    by (Some e) there =
-        let numbered = found_seq book.entries pair.seq e there in
-        ap (λ o. option_map_or (λ x. is_idle book.settled_seq live x && is_pair_of pair x) o false) there
-        ∙ ap (λ b. (b && (is_open e && not (is_out e.seq live))) && is_pair_of pair e)
-        (ap (λ n. nat_lt n book.settled_seq) numbered ∙ sym (settled_same book pair.seq other (ap is_some there)) ∙ ap (λ n. nat_lt n (book.settled_seq + 1)) (sym numbered))
-        ∙ sym (ap (λ o. option_map_or (λ x. is_idle (book.settled_seq + 1) live x && is_pair_of pair x) o false) there)
+    let still = entry_still book pair.seq apart (concerned_first book apart pair.seq other) in
+    by_option (entry_at book.entries pair.seq)
+    (λ e. grind (arith, e, still))
+    (λ x e. let same = settled_same book pair.seq other (ap is_some e) in
+    grind (arith, e, still, found_seq book.entries pair.seq x e, same))
 
 -- the delivery that is concerned isn't held, and each pending one still has a place
 new_settled : (queue : QueueValue) (book : BookValue) (live : List Row) (n : ℕ) → AreQueued queue book live → names (next_settled book) n ≡ true → IsNew queue n
@@ -490,21 +315,14 @@ places_settled queue book live queued = λ name.
     )
   where
     concerned : (n : ℕ) → names (first book) n ≡ true → names (next_settled book) n ≡ true
-    concerned n e = by (names (next_settled book) n) refl
-      where
-        by : (b : Bool) → names (next_settled book) n ≡ b → b ≡ true
-        by true h = refl
-        by false h = let wrong : true ≡ false = sym e ∙ concerned_first book queued.apart n h in cc
+    concerned n e = grind (arith, e, concerned_first book queued.apart n)
 
     same : (name : List ℕ) (x : Entry) → is_unheld queue name (moved (first book) x) ≡ is_unheld queue name x
-    same name x = by (names (first book) x.seq) refl
-      where
-        by : (b : Bool) → names (first book) x.seq ≡ b → is_unheld queue name (if b then with_latest_settled x else x) ≡ is_unheld queue name x
-        by true e =
-            let unheld = new_settled queue book live x.seq queued (concerned x.seq e) in
-            ap (λ b. bytes_eq x.name name && (is_in_state Pending (state_in x.latest) && not b))
-            (unheld x.name (unwrap_or x.latest.due 0) ∙ sym (unheld x.name (unwrap_or x.settled.due 0)))
-        by false e = refl
+    same name x = by_bool (names (first book) x.seq)
+        (λ e.
+        let unheld = new_settled queue book live x.seq queued (concerned x.seq e) in
+        grind (arith, e, unheld x.name (unwrap_or x.latest.due 0), unheld x.name (unwrap_or x.settled.due 0)))
+        (λ e. grind (arith, e))
 
 queued_settled : (old new : QueueValue) (book : BookValue) (live : List Row) → HoldsNext old new (later book) (next_settled book) → HasPlaces new (later book) → AreQueued old book live
     → AreQueued new (later book) live
@@ -565,3 +383,173 @@ pub one_further : (book : BookValue) (settled counter : ℕ) (records : List Rec
 one_further book settled counter records above waits =
     let more : counter - settled + 1 ≡ counter + 1 - settled = omega (arith, above) in
     subst (HasWaiting book) (drop_drop (counter - settled) 1 records ∙ ap (λ n. drop n records) more) waits
+
+-- The endpoints of deliveries stay what they are, and those of which an outcome waits are known
+
+-- entries that are changed keep their endpoints
+names_kept : (g : Entry → Entry) (entries : List Entry) (d : ℕ) → ((e : Entry) → (g e).seq ≡ e.seq) → ((e : Entry) → (g e).name ≡ e.name)
+    → option_map (λ (e : Entry). e.name) (entry_at (map g entries) d) ≡ option_map (λ (e : Entry). e.name) (entry_at entries d)
+names_kept g entries d numbers names =
+    let found : entry_at (map g entries) d ≡ option_map g (entry_at entries d) =
+    find_map g (λ e. nat_eq e.seq d) entries
+    ∙ (λ i. option_map g (find (λ (e : Entry). nat_eq (numbers e i) d) entries)) in
+    grind (arith, found, names)
+
+pub names_tried : (book : BookValue) (seq d status at n : ℕ) → endpoint_at (with_outcome book seq d status at) n ≡ endpoint_at book n
+names_tried book seq d status at n =
+    names_kept (at_delivery d (with_attempt status at)) book.entries n (λ e. grind arith) (λ e. grind arith)
+
+pub names_settled : (book : BookValue) (place n : ℕ) → endpoint_at (with_settled book place) n ≡ endpoint_at book n
+names_settled book place n =
+    names_kept (at_outcomes (front_below place book.unsettled) with_latest_settled) book.entries n
+    (λ e. grind arith) (λ e. grind arith)
+
+-- no outcome waits of a delivery that isn't there
+pub none_tried : (book : BookValue) (records : List Record) → HasWaiting book records → (d : ℕ) → entry_at book.entries d ≡ None → attempts_of records d ≡ []
+none_tried book records h d none = subst (AreTries (attempts_of records d)) none (h.tries d)
+
+-- with one more event, the deliveries of which an outcome waits have the endpoints that they had
+pub named_alike : (book : BookValue) (x : Entry) (later : BookValue) (records : List Record) → later.entries ≡ book.entries ++ x ∷ [] → ((d : ℕ) → entry_at book.entries d ≡ None → attempts_of records d ≡ [])
+    → AreNamedAlike (endpoint_at book) (endpoint_at later) records
+named_alike book x later [] more tried = tt
+named_alike book x later (Outcome delivery attempt status moment ∷ rest) more tried = (
+  ap (λ (o : Option (List ℕ)). if is_gone_status status then o else None) (same (entry_at book.entries delivery) refl),
+  named_alike book x later rest more (λ d none. behind (nat_eq delivery d) (attempts_of rest d) (tried d none)),
+)
+  where
+    t : Attempt
+    t = record { number = attempt; status = status; at = moment }
+
+    behind : (b : Bool) (ts : List Attempt) → cons_option (cond b (Some t) None) ts ≡ [] → ts ≡ []
+    behind b ts e = grind arith
+
+    same : (o : Option Entry) → entry_at book.entries delivery ≡ o → endpoint_at book delivery ≡ endpoint_at later delivery
+    same None none = absurd (let wrong = ap (λ b. cons_option (cond b (Some t) None) (attempts_of rest delivery)) (sym (eq-eqb delivery delivery refl)) ∙ tried delivery none in cc)
+    same (Some e) there =
+        ap (option_map (λ (y : Entry). y.name)) there
+        ∙ sym (ap (option_map (λ (y : Entry). y.name)) (ap (λ es. entry_at es delivery) more ∙ find-append (λ (y : Entry). nat_eq y.seq delivery) book.entries (x ∷ []) ∙ ap (λ o. option_or o (entry_at (x ∷ []) delivery)) there))
+named_alike book x later (r ∷ rest) more tried = (refl, named_alike book x later rest more tried)
+
+-- What ties a desk's fields stays so as a submission waits
+
+-- Entries, with one more
+
+-- the entry of a number that is there stays
+there_with : (book : BookValue) (x : Entry) (n : ℕ) (e : Entry) → entry_at book.entries n ≡ Some e → entry_at (book.entries ++ x ∷ []) n ≡ Some e
+there_with book x n e h = found_with (λ y. nat_eq y.seq n) book.entries x e h
+
+-- a number that was not there is there as the new entry alone
+new_alone : (book : BookValue) (x : Entry) (n : ℕ) → entry_at book.entries n ≡ None → entry_at (book.entries ++ x ∷ []) n ≡ cond (nat_eq x.seq n) (Some x) None
+new_alone book x n h = find-append (λ y. nat_eq y.seq n) book.entries (x ∷ []) ∙ ap (λ o. option_or o (cond (nat_eq x.seq n) (Some x) None)) h
+
+-- a test of an entry that is there, where none is there it fails
+kept_with : (test : Entry → Bool) (book : BookValue) (x : Entry) (n : ℕ) → option_map_or test (entry_at book.entries n) false ≡ true → option_map_or test (entry_at (book.entries ++ x ∷ []) n) false ≡ true
+kept_with test book x n h = let there = there_with book x n in grind (arith, there, h)
+
+-- a test that fails at the new entry tells the same
+same_with : (test : Entry → Bool) (book : BookValue) (x : Entry) (n : ℕ) → test x ≡ false → option_map_or test (entry_at book.entries n) false ≡ option_map_or test (entry_at (book.entries ++ x ∷ []) n) false
+same_with test book x n fails =
+    let found = find-append (λ (y : Entry). nat_eq y.seq n) book.entries (x ∷ []) in
+    grind (arith, found, fails)
+
+-- Outcomes that wait
+
+outcomes_below : (from upto : ℕ) (outs : List Unsettled) → rises from upto outs ≡ true → list_all (λ o. nat_lt o.seq upto) outs ≡ true
+outcomes_below from upto [] h = refl
+outcomes_below from upto (o ∷ rest) h =
+    let later = and_second (nat_le from o.seq) _ h in
+    grind (arith, nat_tests, rises_within (o.seq + 1) upto rest later, outcomes_below (o.seq + 1) upto rest later)
+
+own_with : (book : BookValue) (x : Entry) (o : Unsettled) → book.next_seq ≤ x.seq → nat_lt o.seq book.next_seq ≡ true → is_own book o ≡ true → not (is_some (entry_at (book.entries ++ x ∷ []) o.seq)) ≡ true
+own_with book x o above below own =
+    let alone = new_alone book x o.seq in
+    grind (arith, nat_tests, own, alone, above, below)
+
+both_pass : (p q r : Unsettled → Bool) (outs : List Unsettled) → ((o : Unsettled) → p o ≡ true → q o ≡ true → r o ≡ true) → list_all p outs ≡ true → list_all q outs ≡ true → list_all r outs ≡ true
+both_pass p q r [] h a b = refl
+both_pass p q r (o ∷ rest) h a b = grind (arith, h o, both_pass p q r rest h)
+
+apart_taken : (book : BookValue) (s : ℕ) (name id body : List ℕ) (at : ℕ) → book.next_seq ≤ s → AreApart book → AreApart (with_event book s name id body at)
+apart_taken book s name id body at above h = record {
+  in_turn = rises_upto book.settled_seq book.next_seq (s + 1) book.unsettled (omega (arith, above)) h.in_turn;
+  told = all_weaker (is_told book) (is_told (with_event book s name id body at)) book.unsettled (λ o. kept_with (λ e. not (nat_eq e.latest.attempts e.settled.attempts)) book (new_entry s name id body at) o.delivery) h.told;
+  own = both_pass (λ o. nat_lt o.seq book.next_seq) (is_own book) (is_own (with_event book s name id body at)) book.unsettled (λ o. own_with book (new_entry s name id body at) o above) (outcomes_below book.settled_seq book.next_seq book.unsettled h.in_turn) h.own;
+  once = h.once;
+}
+
+-- Attempts that are under way
+
+under_way_taken : (book : BookValue) (live : List Row) (s : ℕ) (name id body : List ℕ) (at : ℕ) → AreUnderWay live book → AreUnderWay live (with_event book s name id body at)
+under_way_taken book live s name id body at h = record {
+  each = all_weaker (is_under_way book) (is_under_way (with_event book s name id body at)) live (λ row t.
+      and_both (nat_lt row.delivery book.settled_seq) _ (and_first (nat_lt row.delivery book.settled_seq) _ t)
+      (kept_with (is_entry_of row) book (new_entry s name id body at) row.delivery (and_second (nat_lt row.delivery book.settled_seq) _ t))) h.each;
+  once = h.once;
+}
+
+-- The queue
+
+-- a delivery that isn't settled doesn't wait for an attempt
+waits_taken : (book : BookValue) (live : List Row) (s : ℕ) (name id body : List ℕ) (at : ℕ) (pair : Pair) → book.settled_seq ≤ s → waits_as book live pair ≡ waits_as (with_event book s name id body at) live pair
+waits_taken book live s name id body at pair above =
+    same_with (λ e. is_idle book.settled_seq live e && is_pair_of pair e) book (new_entry s name id body at) pair.seq
+    (ap (λ b. (b && (is_open x && not (is_out x.seq live))) && is_pair_of pair x) (le-ltb s book.settled_seq above))
+  where
+    x : Entry
+    x = new_entry s name id body at
+
+places_taken : (queue new : QueueValue) (book : BookValue) (s : ℕ) (name id body : List ℕ) (at : ℕ) → HasSamePairs queue new → SetsMark queue new (reserved_mark queue name (pending_in book name + 1)) → HasPlaces queue book
+    → HasPlaces new (with_event book s name id body at)
+places_taken queue new book s name id body at same sets places n = by_name name n own other
+  where
+    x : Entry
+    x = new_entry s name id body at
+
+    counted : count_by (is_unheld new n) book.entries ≡ count_by (is_unheld queue n) book.entries
+    counted i = count_by (λ (e : Entry). bytes_eq e.name n && (is_in_state Pending (state_in e.latest) && not (same (own_pair e) i))) book.entries
+
+    own : name ≡ n → count_by (is_unheld new n) (book.entries ++ x ∷ []) ≤ free_places new n
+    own is =
+        let fewer = count_below (is_unheld queue n) (is_pending_of n) book.entries (λ e t. grind (arith, t)) in
+        let pushed = sum_by_push (λ e. cond (is_unheld new n e) 1 0) book.entries x in
+        let one : cond (is_unheld new n x) 1 0 ≤ 1 = grind arith in
+        let enough = reserved_free queue new name (pending_in book name + 1) sets in
+        omega (arith, pushed, one, counted, fewer, ap (pending_in book) is, enough, ap (free_places new) is)
+
+    other : bytes_eq name n ≡ false → count_by (is_unheld new n) (book.entries ++ x ∷ []) ≤ free_places new n
+    other apart =
+        let pushed = sum_by_push (λ e. cond (is_unheld new n e) 1 0) book.entries x in
+        let kept = places_reserved queue new name (pending_in book name + 1) sets n in
+        grind (arith, pushed, apart, counted, places n, kept)
+
+pub tied_accept : {endpoints : endpoint_entries.BookValue} {deliveries : BookValue} {waiting : WaitingValue} {live : List Row} {limiters : List Limiter} {queue new : QueueValue} (s : ℕ) (name id kept body : List ℕ) (at : ℕ)
+    → record_count waiting + length live < MAX_RECORDS → deliveries.next_seq ≤ s → deliveries.settled_seq ≤ s → HasSamePairs queue new → SetsMark queue new (reserved_mark queue name (pending_in deliveries name + 1))
+    → AreTied endpoints deliveries waiting live limiters queue → AreTied endpoints (with_event deliveries s name id kept at) (with_step waiting (Accept name id body at ∷ [])) live limiters new
+tied_accept {endpoints} {deliveries} {waiting} {live} {limiters} {queue} {new} s name id kept body at numbers above behind same sets h = record {
+  limited = h.limited;
+  room = room_requested waiting live (Accept name id body at) refl h.room numbers;
+  marked = marked_reserved queue new endpoints limiters live name (pending_in deliveries name + 1) h.limited sets h.marked;
+  queued = record {
+    apart = apart_taken deliveries s name id kept at above h.queued.apart;
+    under_way = under_way_taken deliveries live s name id kept at h.queued.under_way;
+    held = λ pair. same pair ∙ h.queued.held pair ∙ waits_taken deliveries live s name id kept at pair behind;
+    places = places_taken queue new deliveries s name id kept at same sets h.queued.places;
+  };
+}
+
+pub desk_accept : {endpoints : endpoint_entries.BookValue} {deliveries taken : BookValue} {waiting later : WaitingValue} {live : List Row} {limiters : List Limiter} {queue new : QueueValue} (s : ℕ) (name id kept body : List ℕ) (at pending : ℕ)
+    → s ≡ record_count waiting → kept ≡ body → taken ≡ with_event deliveries s name id kept at → later ≡ with_step waiting (Accept name id body at ∷ []) → pending ≡ pending_in deliveries name
+    → record_count waiting + length live < MAX_RECORDS → HasSamePairs queue new → SetsMark queue new (reserved_mark queue name (pending + 1))
+    → IsDesk endpoints deliveries waiting live limiters queue → IsDesk endpoints taken later live limiters new
+desk_accept {endpoints} {deliveries} {taken} {waiting} {later} {live} {limiters} {queue} {new} s name id kept body at pending count shared is step few numbers same sets h =
+    subst (λ w. IsDesk endpoints taken w live limiters new) (sym step)
+    (deliveries_wait (Accept name id body at) h (ap (λ (b : BookValue). b.next_seq) is ∙ ap (λ n. n + 1) count) (ap (λ (b : BookValue). b.settled_seq) is)
+    (subst (λ (b : BookValue). HasWaiting b (records_of waiting.waiting ++ Accept name id body at ∷ [])) (sym (is ∙ ap (λ bytes. with_event deliveries s name id bytes at) shared))
+    (waiting_event deliveries (records_of waiting.waiting) s name id body at (omega (arith, count, h.deliveries_settled)) h.deliveries_wait))
+    (subst (λ (b : BookValue). HasChanges (endpoint_at b) endpoints (records_of waiting.waiting ++ Accept name id body at ∷ [])) (sym is)
+    (changes_other (endpoint_at (with_event deliveries s name id kept at)) endpoints (records_of waiting.waiting) (Accept name id body at) refl
+    (changes_named (endpoint_at deliveries) (endpoint_at (with_event deliveries s name id kept at)) endpoints (records_of waiting.waiting)
+    (named_alike deliveries (new_entry s name id kept at) (with_event deliveries s name id kept at) (records_of waiting.waiting) refl (none_tried deliveries (records_of waiting.waiting) h.deliveries_wait)) h.endpoints_wait)))
+    (subst (λ b. AreTied endpoints b (with_step waiting (Accept name id body at ∷ [])) live limiters new) (sym is)
+    (tied_accept s name id kept body at numbers (omega (arith, count, h.deliveries_staged)) (omega (arith, count, h.deliveries_settled)) same
+    (subst (λ n. SetsMark queue new (reserved_mark queue name (n + 1))) few sets) h.tied)))

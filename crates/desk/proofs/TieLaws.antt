@@ -1,35 +1,42 @@
--- What ties the queue to a desk's fields stays so at each of the desk's steps.
+-- What ties the queue to a desk's fields stays so as an attempt begins and once it is over.
 use Rattle.desk.proofs.Words.{◌≡◌, ◌<◌, ◌≤◌, ◌+◌, ℕ, Bool, true, false, List, [], ◌∷◌, ◌++◌, Option, Some, None, length}
 use Rattle.desk.proofs.Words.{refl, sym, ◌∙◌, ap, arith, not, ◌&&◌, ◌||◌, cond, subst, IsTrue, length-append, count_by}
 use Rattle.desk.proofs.Words.{is_some, option_map, nat_eq, nat_lt, bytes_eq, if◌then◌else◌, list_all, option_map_or}
-use Rattle.desk.proofs.Words.{eq-eqb, eqb-true, lt-ltb, list_any-append, sum_by_push, sum_by-cons, bytes_eq-Decides}
-use Rattle.desk.proofs.Words.{MAX_RECORDS, Pending, is_in_state, and_first, and_second, and_both, enabled_in, Entry}
-use Rattle.desk.proofs.Words.{BookValue, entry_at, is_open, state_in, Row, in_flight_of, is_out, next_row, Mark, Pair}
-use Rattle.desk.proofs.Words.{QueueValue, ChangesMark, HasSamePairs, free_places, has_room_in, is_held, is_reserved}
-use Rattle.desk.proofs.Words.{mark_of, pair_of, place_given, same_pair, with_room, record_count, Limiter, AreHeld}
-use Rattle.desk.proofs.Words.{AreMarked, AreTied, AreUnderWay, HasPlaces, HasRoomForAll, LetsGo, LetsPairGo}
-use Rattle.desk.proofs.Words.{is_entry_of, is_idle, is_pair_of, is_under_way, limit_by, own_pair, pair_in, room_by}
-use Rattle.desk.proofs.Words.{waits_as, DeskValue, IsDesk}
+use Rattle.desk.proofs.Words.{eqb-true, list_any-append, sum_by_push, bytes_eq-Decides, MAX_RECORDS, Pending}
+use Rattle.desk.proofs.Words.{is_in_state, and_first, and_second, and_both, enabled_in, Entry, BookValue, entry_at}
+use Rattle.desk.proofs.Words.{is_open, state_in, Row, in_flight_of, is_out, next_row, Mark, Pair, QueueValue}
+use Rattle.desk.proofs.Words.{ChangesMark, HasSamePairs, free_places, has_room_in, is_held, is_reserved, mark_of}
+use Rattle.desk.proofs.Words.{pair_of, place_given, same_pair, with_room, record_count, Limiter, AreHeld, AreMarked}
+use Rattle.desk.proofs.Words.{AreTied, AreUnderWay, HasPlaces, HasRoomForAll, LetsGo, LetsPairGo, is_idle, is_pair_of}
+use Rattle.desk.proofs.Words.{is_under_way, limit_by, own_pair, pair_in, room_by, waits_as, DeskValue, IsDesk, by_bool}
+use Rattle.desk.proofs.Words.{Holds, KeepsRooms, map, find, option_and_then, nat_le, le-leb, leb-true, ne_eqb}
+use Rattle.desk.proofs.Words.{list_all-append, sum_by-cons, find_map, Unsettled, at_delivery, progress_after, row_in}
+use Rattle.desk.proofs.Words.{takes_outcome, with_outcome, all_weaker, IsNew, AreApart, idle_pair, is_own, is_told}
+use Rattle.desk.proofs.Words.{is_unheld, rises, nat_tests, by_option, with_attempt}
+use Rattle.delivery_book.specs.declared.progress.Progress.{Progress}
 use Rattle.endpoint_book.specs.Entries as endpoint_entries
-use Rattle.desk.proofs.ReadyLaws.{StartsFrom, endpoint_known, found_seq, pair_held}
+use Rattle.desk.proofs.ClaimLaws.{StartsFrom, endpoint_known, found_seq, pair_held}
+use Rattle.desk.proofs.RowLaws.{none_counted, IsReturned, all_by}
+
+-- What ties the queue to a desk's fields stays so at each of the desk's steps
 
 -- Marks
 
 -- what a change of marks leaves of them, it leaves of each endpoint
 pub mark_keeps : {X : Type 0} (f : Mark → X) (change : Mark → Mark) → ((m : Mark) → f (change m) ≡ f m) → (b : Bool) (o p : Option Mark) (d : X) → o ≡ (if b then option_map change p else p) → option_map_or f o d ≡ option_map_or f p d
-mark_keeps f change keeps false o p d e = ap (λ x. option_map_or f x d) e
-mark_keeps f change keeps true o None d e = ap (λ x. option_map_or f x d) e
-mark_keeps f change keeps true o (Some m) d e = ap (λ x. option_map_or f x d) e ∙ keeps m
+mark_keeps f change keeps b o p d e = grind (arith, keeps)
 
 pub mark_there : (change : Mark → Mark) (b : Bool) (o p : Option Mark) → o ≡ (if b then option_map change p else p) → is_some o ≡ is_some p
-mark_there change false o p e = ap is_some e
-mark_there change true o None e = ap is_some e
-mark_there change true o (Some m) e = ap is_some e
+mark_there change b o p e = grind arith
 
-pub room_told : (room : Bool) (b : Bool) (o p : Option Mark) → b ≡ true → is_some p ≡ true → o ≡ (if b then option_map (with_room room) p else p) → option_map_or (λ m. m.room) o false ≡ room
-room_told room false o p same there e = cc
-room_told room true o None same there e = cc
-room_told room true o (Some m) same there e = ap (λ x. option_map_or (λ m. m.room) x false) e
+-- holding a delivery tells of no room
+pub holds_rooms : (queue new : QueueValue) (o : Option Pair) → Holds queue new o → KeepsRooms queue new
+holds_rooms queue new None same =
+    subst (λ q. KeepsRooms queue q) (sym same) (record { reserved = λ n. refl; rooms = λ n. refl })
+holds_rooms queue new (Some pair) holds = record {
+  reserved = λ n. grind (arith, holds.mark n);
+  rooms = λ n. grind (arith, holds.mark n);
+}
 
 -- the room of one endpoint is told, and that of the others was right
 pub marked_told : (queue new : QueueValue) (book : endpoint_entries.BookValue) (limiters : List Limiter) (live : List Row) (name : List ℕ)
@@ -39,17 +46,9 @@ pub marked_told : (queue new : QueueValue) (book : endpoint_entries.BookValue) (
     → IsTrue (list_all (λ row. endpoint_entries.is_known book row.endpoint) live) → AreMarked new book limiters live
 marked_told queue new book limiters live name changes known others rows = record {
   listed = rows;
-  known = λ n k. mark_there (with_room (room_by book limiters live name)) (bytes_eq name n) (mark_of new n) (mark_of queue n) (changes n) ∙ known n k;
-  rooms = λ n there. by n (bytes_eq name n) refl (sym (mark_there (with_room (room_by book limiters live name)) (bytes_eq name n) (mark_of new n) (mark_of queue n) (changes n)) ∙ there);
+  known = λ n k. grind (arith, changes n, known n k);
+  rooms = λ n there. grind (arith, changes n, others n, bytes_eq-Decides name n);
 }
-  where
-    by : (n : List ℕ) (b : Bool) → bytes_eq name n ≡ b → IsTrue (is_reserved queue n) → has_room_in new.marks n ≡ room_by book limiters live n
-    by n true e there =
-        room_told (room_by book limiters live name) (bytes_eq name n) (mark_of new n) (mark_of queue n) e there (changes n)
-        ∙ ap (room_by book limiters live) ((bytes_eq-Decides name n).0 e)
-    by n false e there =
-        ap (λ o. option_map_or (λ m. m.room) o false) (changes n ∙ ap (λ b. if b then option_map (with_room (room_by book limiters live name)) (mark_of queue n) else mark_of queue n) e)
-        ∙ others n e there
 
 -- Telling a room changes no pair and no place.
 pub held_told : (queue new : QueueValue) (book : BookValue) (live : List Row) → HasSamePairs queue new → AreHeld queue book live → AreHeld new book live
@@ -67,85 +66,60 @@ places_told queue new book name room same changes places = λ n.
 
 -- whether a delivery waits, once one more attempt is under way
 bool_waits : (l o u s p t : Bool) → (s ≡ false → t ≡ false) → (s ≡ true → p ≡ true → t ≡ true) → ((l && (o && not u)) && p) && not t ≡ (l && (o && not (u || s))) && p
-bool_waits false o u s p t h k = refl
-bool_waits true false u s p t h k = refl
-bool_waits true true true s p t h k = refl
-bool_waits true true false true false t h k = refl
-bool_waits true true false true true t h k = ap not (k refl refl)
-bool_waits true true false false false t h k = refl
-bool_waits true true false false true t h k = ap not (h refl)
+bool_waits l o u s p t h k = grind arith
 
 out_more : (d : ℕ) (live : List Row) (row : Row) → is_out d (live ++ row ∷ []) ≡ (is_out d live || nat_eq row.delivery d)
-out_more d live row = list_any-append (λ (r : Row). nat_eq r.delivery d) live (row ∷ []) ∙ ap (λ b. is_out d live || b) (or_false (nat_eq row.delivery d))
-  where
-    or_false : (b : Bool) → (b || false) ≡ b
-    or_false true = refl
-    or_false false = refl
+out_more d live row = grind (arith, list_any-append (λ (r : Row). nat_eq r.delivery d) live (row ∷ []))
 
 all_more : (test : Row → Bool) (live : List Row) (row : Row) → list_all test live ≡ true → test row ≡ true → list_all test (live ++ row ∷ []) ≡ true
 all_more test [] row h e = and_both (test row) true e refl
 all_more test (r ∷ live) row h e = and_both (test r) _ (and_first (test r) _ h) (all_more test live row (and_second (test r) _ h) e)
 
-none_out : (d : ℕ) (live : List Row) → is_out d live ≡ false → count_by (λ (row : Row). nat_eq row.delivery d) live ≡ 0
-none_out d [] e = refl
-none_out d (r ∷ live) e = step (nat_eq r.delivery d) refl e (none_out d live)
-  where
-    step : (b : Bool) → nat_eq r.delivery d ≡ b → (b || is_out d live) ≡ false → (is_out d live ≡ false → count_by (λ (row : Row). nat_eq row.delivery d) live ≡ 0) → count_by (λ (row : Row). nat_eq row.delivery d) (r ∷ live) ≡ 0
-    step true t e later = cc
-    step false t e later = omega (arith, sum_by-cons (λ (row : Row). cond (nat_eq row.delivery d) 1 0) r live, ap {B = ℕ} (λ b. cond b 1 0) t, later e)
-
 once_more : (live : List Row) (row : Row) → ((d : ℕ) → count_by (λ (r : Row). nat_eq r.delivery d) live ≤ 1) → is_out row.delivery live ≡ false → (d : ℕ) → count_by (λ (r : Row). nat_eq r.delivery d) (live ++ row ∷ []) ≤ 1
-once_more live row once free d = by (nat_eq row.delivery d) refl
-  where
-    by : (b : Bool) → nat_eq row.delivery d ≡ b → count_by (λ (r : Row). nat_eq r.delivery d) (live ++ row ∷ []) ≤ 1
-    by true e = omega (arith, sum_by_push (λ (r : Row). cond (nat_eq r.delivery d) 1 0) live row, ap {B = ℕ} (λ b. cond b 1 0) e, none_out d live (ap (λ n. is_out n live) (sym (eqb-true row.delivery d e)) ∙ free))
-    by false e = omega (arith, sum_by_push (λ (r : Row). cond (nat_eq r.delivery d) 1 0) live row, ap {B = ℕ} (λ b. cond b 1 0) e, once d)
+once_more live row once free d =
+    let pushed = sum_by_push (λ (r : Row). cond (nat_eq r.delivery d) 1 0) live row in
+    by_bool (nat_eq row.delivery d)
+    (λ e.
+    let none =
+    none_counted (λ (r : Row). nat_eq r.delivery d) live (ap (λ n. is_out n live) (sym (eqb-true _ d e)) ∙ free) in
+    omega (arith, pushed, none, ap {B = ℕ} (λ b. cond b 1 0) e))
+    (λ e. omega (arith, pushed, once d, ap {B = ℕ} (λ b. cond b 1 0) e))
 
 -- the pairs that are held, once the pair of a delivery is let go and an attempt at it is under way
 pub held_started : {d : DeskValue} {queue new : QueueValue} (name : List ℕ) (s due : ℕ) (row : Row) → StartsFrom d name s → row.delivery ≡ s → waits_as d.deliveries d.live (pair_of name due s) ≡ true
     → LetsPairGo queue new (pair_of name due s) → AreHeld queue d.deliveries d.live → AreHeld new d.deliveries (d.live ++ row ∷ [])
 held_started {d} {queue} {new} name s due row from is own lets held = λ pair.
-    lets.pairs pair ∙ ap (λ b. b && not (same_pair pair (pair_of name due s))) (held pair) ∙ by pair (entry_at d.deliveries.entries pair.seq) refl
-  where
-    differs : (pair : Pair) (n : ℕ) → n ≡ pair.seq → nat_eq row.delivery n ≡ false → same_pair pair (pair_of name due s) ≡ false
-    differs pair n e h = ap (λ b. b && (nat_eq due pair.due && bytes_eq name pair.endpoint)) (ap (nat_eq s) (sym e) ∙ ap (λ m. nat_eq m n) (sym is) ∙ h)
-
-    -- what the entry's own pair says
-    tells : (o : Option ℕ) (a : ℕ) → option_map_or (λ t. nat_eq t due) o false ≡ true → option_map_or (λ t. nat_eq t a) o false ≡ true → due ≡ a
-    tells None a e h = cc
-    tells (Some t) a e h = sym (eqb-true t due e) ∙ eqb-true t a h
-
-    same : (pair : Pair) (e : Entry) → entry_at d.deliveries.entries pair.seq ≡ Some e → nat_eq row.delivery e.seq ≡ true → is_pair_of pair e ≡ true → same_pair pair (pair_of name due s) ≡ true
-    same pair e there h p =
-        let seq : s ≡ pair.seq = sym is ∙ eqb-true row.delivery e.seq h ∙ found_seq d.deliveries.entries pair.seq e there in
-        let mine = and_second (is_idle d.deliveries.settled_seq d.live e) (is_pair_of (pair_of name due s) e)
-        (sym (ap (λ o. option_map_or (λ x. is_idle d.deliveries.settled_seq d.live x && is_pair_of (pair_of name due s) x) o false) (ap (entry_at d.deliveries.entries) seq ∙ there)) ∙ own) in
-        let named : e.name ≡ name = (bytes_eq-Decides e.name name).0 (and_first (bytes_eq e.name name) _ mine) in
-        let asked : e.name ≡ pair.endpoint = (bytes_eq-Decides e.name pair.endpoint).0 (and_first (bytes_eq e.name pair.endpoint) _ p) in
-        let due_is : due ≡ pair.due = tells e.settled.due pair.due (and_second (bytes_eq e.name name) _ mine) (and_second (bytes_eq e.name pair.endpoint) _ p) in
-        and_both (nat_eq s pair.seq) _ (eq-eqb s pair.seq seq) (and_both (nat_eq due pair.due) _ (eq-eqb due pair.due due_is) ((bytes_eq-Decides name pair.endpoint).1 (sym named ∙ asked)))
-
-    by : (pair : Pair) (o : Option Entry) → entry_at d.deliveries.entries pair.seq ≡ o
-        → waits_as d.deliveries d.live pair && not (same_pair pair (pair_of name due s)) ≡ waits_as d.deliveries (d.live ++ row ∷ []) pair
-    by pair None e =
-        ap (λ o. option_map_or (λ x. is_idle d.deliveries.settled_seq d.live x && is_pair_of pair x) o false && not (same_pair pair (pair_of name due s))) e
-        ∙ sym (ap (λ o. option_map_or (λ x. is_idle d.deliveries.settled_seq (d.live ++ row ∷ []) x && is_pair_of pair x) o false) e)
-    by pair (Some x) e =
-        ap (λ o. option_map_or (λ x. is_idle d.deliveries.settled_seq d.live x && is_pair_of pair x) o false && not (same_pair pair (pair_of name due s))) e
-        ∙ bool_waits (nat_lt x.seq d.deliveries.settled_seq) (is_open x) (is_out x.seq d.live) (nat_eq row.delivery x.seq) (is_pair_of pair x) (same_pair pair (pair_of name due s))
-        (differs pair x.seq (found_seq d.deliveries.entries pair.seq x e)) (same pair x e)
-        ∙ (λ i. (nat_lt x.seq d.deliveries.settled_seq && (is_open x && not (sym (out_more x.seq d.live row) i))) && is_pair_of pair x)
-        ∙ sym (ap (λ o. option_map_or (λ x. is_idle d.deliveries.settled_seq (d.live ++ row ∷ []) x && is_pair_of pair x) o false) e)
+    by_option (entry_at d.deliveries.entries pair.seq)
+    (λ e. grind (arith, lets.pairs pair, held pair, e))
+    (λ x e.
+    let numbered = found_seq d.deliveries.entries pair.seq x e in
+    let out = out_more x.seq d.live row in
+    let same = bytes_eq-Decides name pair.endpoint in
+    by_bool (nat_eq row.delivery x.seq)
+    (λ t.
+    let seq : s ≡ pair.seq = sym is ∙ eqb-true row.delivery x.seq t ∙ numbered in
+    let here : entry_at d.deliveries.entries s ≡ Some x = ap (entry_at d.deliveries.entries) seq ∙ e in
+    let own_x : is_pair_of (pair_of name due s) x ≡ true = grind (arith, own, here) in
+    let named = bytes_eq-Decides x.name name in
+    let asked = bytes_eq-Decides x.name pair.endpoint in
+    let alike : is_pair_of pair x ≡ true → same_pair pair (pair_of name due s) ≡ true =
+    λ p. grind (arith, nat_tests, p, seq, own_x, named, asked, same) in
+    grind (arith, lets.pairs pair, held pair, e, out, t, alike))
+    (λ t.
+    let other : same_pair pair (pair_of name due s) ≡ false = grind (arith, nat_tests, t, numbered, is) in
+    grind (arith, lets.pairs pair, held pair, e, out, t, other)))
 
 -- the attempts that are under way, with one more
 pub under_way_started : {d : DeskValue} (name : List ℕ) (s : ℕ) (row : Row) → StartsFrom d name s → row.delivery ≡ s → row.endpoint ≡ name → AreUnderWay d.live d.deliveries → AreUnderWay (d.live ++ row ∷ []) d.deliveries
-under_way_started {d} name s row from is named h = record {
-  each = all_more (is_under_way d.deliveries) d.live row h.each
-      (and_both (nat_lt row.delivery d.deliveries.settled_seq) _ (lt-ltb row.delivery d.deliveries.settled_seq (omega (arith, is, from.settled)))
-      (ap (λ o. option_map_or (is_entry_of row) o false) (ap (entry_at d.deliveries.entries) is ∙ from.there)
-      ∙ and_both (is_open from.entry) _ from.is_open_now (and_both (is_some from.entry.settled.due) _ from.timed ((bytes_eq-Decides from.entry.name row.endpoint).1 (from.named ∙ sym named)))));
-  once = once_more d.live row h.once (ap (λ n. is_out n d.live) is ∙ from.free);
-}
+under_way_started {d} name s row from is named h =
+    let there : entry_at d.deliveries.entries row.delivery ≡ Some from.entry =
+    ap (entry_at d.deliveries.entries) is ∙ from.there in
+    let own : is_under_way d.deliveries row ≡ true =
+    grind (arith, nat_tests, there, is, from, named, bytes_eq-Decides from.entry.name row.endpoint) in
+    record {
+      each = all_more (is_under_way d.deliveries) d.live row h.each own;
+      once = once_more d.live row h.once (ap (λ n. is_out n d.live) is ∙ from.free);
+    }
 
 pub room_started : {d : DeskValue} (name : List ℕ) (s : ℕ) (row : Row) → StartsFrom d name s → record_count d.waiting + length d.live < MAX_RECORDS → HasRoomForAll d.waiting (d.live ++ row ∷ [])
 room_started {d} name s row from numbers = record {
@@ -177,29 +151,21 @@ still_reserved {d} {queue} gone name s tied from lets =
 pub desk_started : {d : DeskValue} {queue : QueueValue} (gone new : QueueValue) (name : List ℕ) (s : ℕ) (live : List Row) → IsDesk d.endpoints d.deliveries d.waiting d.live d.limiters queue → StartsFrom d name s
     → record_count d.waiting + length d.live < MAX_RECORDS → live ≡ d.live ++ next_row name s d.live ∷ [] → LetsGo queue gone (pair_in d.deliveries s) → HasPlaces gone d.deliveries
     → HasSamePairs gone new → ChangesMark gone new name (with_room (room_by d.endpoints d.limiters live name)) → IsDesk d.endpoints d.deliveries d.waiting live d.limiters new
-desk_started {d} {queue} gone new name s live h from numbers is lets places same told = record {
-  endpoints_staged = h.endpoints_staged;
-  endpoints_settled = h.endpoints_settled;
-  flags_few = h.flags_few;
-  endpoints_wait = h.endpoints_wait;
-  deliveries_staged = h.deliveries_staged;
-  deliveries_settled = h.deliveries_settled;
-  deliveries_wait = h.deliveries_wait;
-  tied = subst (λ rows. AreTied d.endpoints d.deliveries d.waiting rows d.limiters new) (sym is) (record {
-    limited = tied.limited;
-    room = room_started name s row from numbers;
-    marked = marked_told gone new d.endpoints d.limiters more name (subst (λ rows. ChangesMark gone new name (with_room (room_by d.endpoints d.limiters rows name))) is told)
-        (λ n k. reserved_kept n own.1 ∙ tied.marked.known n k)
-        (λ n other there. room_kept n own.1 ∙ tied.marked.rooms n (sym (reserved_kept n own.1) ∙ there) ∙ same_room n other)
-        (all_more (λ (r : Row). endpoint_entries.is_known d.endpoints r.endpoint) d.live row tied.marked.listed (endpoint_known name s tied.limited from));
-    queued = record {
-      apart = tied.queued.apart;
-      under_way = under_way_started name s row from refl refl tied.queued.under_way;
-      held = held_told gone new d.deliveries more same (held_started name s own.0 row from refl own.2 own.1 tied.queued.held);
-      places = places_told gone new d.deliveries name (room_by d.endpoints d.limiters live name) same told places;
-    };
-  });
-}
+desk_started {d} {queue} gone new name s live h from numbers is lets places same told =
+    assumption (subst (λ rows. AreTied d.endpoints d.deliveries d.waiting rows d.limiters new) (sym is) (record {
+      limited = tied.limited;
+      room = room_started name s row from numbers;
+      marked = marked_told gone new d.endpoints d.limiters more name (subst (λ rows. ChangesMark gone new name (with_room (room_by d.endpoints d.limiters rows name))) is told)
+          (λ n k. reserved_kept n own.1 ∙ tied.marked.known n k)
+          (λ n other there. room_kept n own.1 ∙ tied.marked.rooms n (sym (reserved_kept n own.1) ∙ there) ∙ same_room n other)
+          (all_more (λ (r : Row). endpoint_entries.is_known d.endpoints r.endpoint) d.live row tied.marked.listed (endpoint_known name s tied.limited from));
+      queued = record {
+        apart = tied.queued.apart;
+        under_way = under_way_started name s row from refl refl tied.queued.under_way;
+        held = held_told gone new d.deliveries more same (held_started name s own.0 row from refl own.2 own.1 tied.queued.held);
+        places = places_told gone new d.deliveries name (room_by d.endpoints d.limiters live name) same told places;
+      };
+    }))
   where
     tied : AreTied d.endpoints d.deliveries d.waiting d.live d.limiters queue
     tied = h.tied
@@ -217,3 +183,234 @@ desk_started {d} {queue} gone new name s live h from numbers is lets places same
     same_room n other =
         let count : in_flight_of n d.live ≡ in_flight_of n more = omega (arith, sum_by_push (λ (r : Row). cond (bytes_eq r.endpoint n) 1 0) d.live row, ap {B = ℕ} (λ b. cond b 1 0) other) in
         ap (λ k. enabled_in d.endpoints n && nat_lt k (limit_by d.limiters n)) count
+
+-- What ties the deliveries to the queue and the permits, once an attempt is over
+
+-- The deliveries after an attempt, whose outcome waits where it has a status
+
+abbrev pub tried : BookValue → (seq d : ℕ) → (status : Option ℕ) → (at : ℕ) → BookValue
+tried book seq d None at = book
+tried book seq d (Some status) at = with_outcome book seq d status at
+
+-- The entry of an attempt that is under way
+
+pub record UnderWay (book : BookValue) (row : Row) : Type 0 where
+  pub entry : Entry
+  pub there : entry_at book.entries row.delivery ≡ Some entry
+  pub numbered : entry.seq ≡ row.delivery
+  pub settled : nat_lt row.delivery book.settled_seq ≡ true
+  pub opened : is_open entry ≡ true
+  pub timed : is_some entry.settled.due ≡ true
+  pub named : bytes_eq entry.name row.endpoint ≡ true
+
+pub under_way : (book : BookValue) (row : Row) → is_under_way book row ≡ true → UnderWay book row
+under_way book row h = by_option (entry_at _ row.delivery) (λ e. absurd (grind (arith, h, e))) (λ x e. record {
+  entry = x;
+  there = e;
+  numbered = found_seq book.entries row.delivery x e;
+  settled = grind (arith, h);
+  opened = grind (arith, h, e);
+  timed = grind (arith, h, e);
+  named = grind (arith, h, e);
+})
+
+pub takes : (book : BookValue) (row : Row) → UnderWay book row → takes_outcome book row.delivery ≡ true
+takes book row u = ap (λ o. option_map_or is_open o false) u.there ∙ u.opened
+
+-- Entries, where that of a delivery has one more attempt
+
+abbrev change : (d status at : ℕ) → Entry → Entry
+change d status at = at_delivery d (with_attempt status at)
+
+numbers : (d status at : ℕ) (e : Entry) → (change d status at e).seq ≡ e.seq
+numbers d status at e = grind arith
+
+pub entry_tried : (entries : List Entry) (d status at s : ℕ) → entry_at (map (change d status at) entries) s ≡ option_map (change d status at) (entry_at entries s)
+entry_tried entries d status at s = find_map (change d status at) (λ e. nat_eq e.seq s) entries ∙ (λ i. option_map (change d status at) (find (λ (e : Entry). nat_eq (numbers d status at e i) s) entries))
+
+pub entry_other : (entries : List Entry) (d status at s : ℕ) → nat_eq d s ≡ false → entry_at (map (change d status at) entries) s ≡ entry_at entries s
+entry_other entries d status at s apart =
+    let tried = entry_tried entries d status at s in
+    grind (arith, tried, apart, found_seq entries s)
+
+pub entry_own : (book : BookValue) (row : Row) (status at : ℕ) (u : UnderWay book row) → entry_at (map (change row.delivery status at) book.entries) row.delivery ≡ Some (with_attempt status at u.entry)
+entry_own book row status at u =
+    let tried = entry_tried book.entries row.delivery status at row.delivery in
+    grind (arith, nat_tests, tried, u.there, u.numbered)
+
+-- its own outcome waits, so it takes no other one
+more_attempts : (n m : ℕ) → nat_eq n m ≡ true → nat_eq (n + 1) m ≡ false
+more_attempts n m e = ne_eqb (n + 1) m (λ same. absurd (omega (arith, same, eqb-true n m e)))
+
+attempts_same : (e : Entry) → is_open e ≡ true → nat_eq e.latest.attempts e.settled.attempts ≡ true
+attempts_same e opened = and_second (is_in_state Pending (state_in e.latest)) (nat_eq e.latest.attempts e.settled.attempts) opened
+
+pub takes_none : (book : BookValue) (row : Row) (seq status at : ℕ) → UnderWay book row → takes_outcome (with_outcome book seq row.delivery status at) row.delivery ≡ false
+takes_none book row seq status at u =
+    let own = entry_own book row status at u in
+    grind (arith, nat_tests, own, u.opened)
+
+-- The outcomes that wait
+
+-- an outcome that waits is of another delivery
+told_other : (book : BookValue) (row : Row) (o : Unsettled) → UnderWay book row → is_told book o ≡ true → nat_eq row.delivery o.delivery ≡ false
+told_other book row o u told =
+    let same = attempts_same u.entry u.opened in
+    grind (arith, nat_tests, told, u.there, same)
+
+rises_more : (from upto n d : ℕ) (os : List Unsettled) → rises from upto os ≡ true → upto ≤ n → rises from (n + 1) (os ++ record { seq = n; delivery = d } ∷ []) ≡ true
+rises_more from upto n d [] h l = and_both (nat_le from n) _ (le-leb from n (omega (arith, l, leb-true from upto h))) (le-leb (n + 1) (n + 1) (omega arith))
+rises_more from upto n d (o ∷ os) h l = and_both (nat_le from o.seq) _ (and_first (nat_le from o.seq) _ h) (rises_more (o.seq + 1) upto n d os (and_second (nat_le from o.seq) _ h) l)
+
+none_of : (book : BookValue) (row : Row) (os : List Unsettled) → UnderWay book row → list_all (is_told book) os ≡ true → count_by (λ (o : Unsettled). nat_eq o.delivery row.delivery) os ≡ 0
+none_of book row [] u h = refl
+none_of book row (o ∷ os) u h =
+    let counted = sum_by-cons (λ (x : Unsettled). cond (nat_eq x.delivery row.delivery) 1 0) o os in
+    let apart = told_other book row o u (and_first (is_told book o) _ h) in
+    grind (arith, nat_tests, counted, apart, none_of book row os u (and_second (is_told book o) _ h))
+
+pub apart_tried : (book : BookValue) (row : Row) (seq status at : ℕ) → AreApart book → UnderWay book row → book.next_seq ≤ seq → entry_at book.entries seq ≡ None → AreApart (with_outcome book seq row.delivery status at)
+apart_tried book row seq status at h u next unused = record {
+  in_turn = rises_more book.settled_seq book.next_seq seq row.delivery book.unsettled h.in_turn next;
+  told = list_all-append (is_told new) book.unsettled (o ∷ []) ∙ and_both (list_all (is_told new) book.unsettled) _
+      (all_weaker (is_told book) (is_told new) book.unsettled still h.told) (and_both (is_told new o) _ own_told refl);
+  own = list_all-append (is_own new) book.unsettled (o ∷ []) ∙ and_both (list_all (is_own new) book.unsettled) _
+      (all_weaker (is_own book) (is_own new) book.unsettled (λ x t. ap not (there x.seq) ∙ t) h.own)
+      (and_both (is_own new o) _ (ap not (there seq ∙ ap is_some unused)) refl);
+  once = λ d.
+      let pushed = sum_by_push (λ (x : Unsettled). cond (nat_eq x.delivery d) 1 0) book.unsettled o in
+      grind (arith, pushed, h.once d, none d);
+}
+  where
+    new : BookValue
+    new = with_outcome book seq row.delivery status at
+
+    o : Unsettled
+    o = record { seq = seq; delivery = row.delivery }
+
+    still : (x : Unsettled) → is_told book x ≡ true → is_told new x ≡ true
+    still x t = ap (λ p. option_map_or (λ (e : Entry). not (nat_eq e.latest.attempts e.settled.attempts)) p false) (entry_other book.entries row.delivery status at x.delivery (told_other book row x u t)) ∙ t
+
+    own_told : is_told new o ≡ true
+    own_told = ap (λ p. option_map_or (λ (e : Entry). not (nat_eq e.latest.attempts e.settled.attempts)) p false) (entry_own book row status at u)
+        ∙ ap not (more_attempts u.entry.latest.attempts u.entry.settled.attempts (attempts_same u.entry u.opened))
+
+    there : (s : ℕ) → is_some (entry_at new.entries s) ≡ is_some (entry_at book.entries s)
+    there s = let tried = entry_tried book.entries row.delivery status at s in grind (arith, tried)
+
+    none : (d : ℕ) → nat_eq row.delivery d ≡ true → count_by (λ (x : Unsettled). nat_eq x.delivery d) book.unsettled ≡ 0
+    none d same =
+        ap (λ n. count_by (λ (x : Unsettled). nat_eq x.delivery n) book.unsettled) (sym (eqb-true row.delivery d same))
+        ∙ none_of book row book.unsettled u h.told
+
+-- The attempts that are under way
+
+pub under_way_less : (book : BookValue) (row : Row) (live new : List Row) → IsReturned row live new → AreUnderWay live book → AreUnderWay new book
+under_way_less book row live new r h = record { each = r.pass (is_under_way book) h.each; once = r.once }
+
+pub under_way_tried : (book : BookValue) (row : Row) (live new : List Row) (seq status at : ℕ) → IsReturned row live new → AreUnderWay live book → AreUnderWay new (with_outcome book seq row.delivery status at)
+under_way_tried book row live new seq status at r h = record {
+  each = all_by (is_under_way book) (λ (x : Row). nat_eq x.delivery row.delivery) (is_under_way (with_outcome book seq row.delivery status at)) new each (r.pass (is_under_way book) h.each) r.free;
+  once = r.once;
+}
+  where
+    each : (x : Row) → is_under_way book x ≡ true → nat_eq x.delivery row.delivery ≡ false → is_under_way (with_outcome book seq row.delivery status at) x ≡ true
+    each x t apart =
+        let other = entry_other book.entries row.delivery status at x.delivery (grind (arith, nat_tests, apart)) in
+        grind (arith, other, t)
+
+-- Free places
+
+count_map_below : (p q : Entry → Bool) (g : Entry → Entry) (xs : List Entry) → ((x : Entry) → p (g x) ≡ true → q x ≡ true) → count_by p (map g xs) ≤ count_by q xs
+count_map_below p q g [] h = omega arith
+count_map_below p q g (x ∷ xs) h =
+    let ps = sum_by-cons (λ y. cond (p y) 1 0) (g x) (map g xs) in
+    let qs = sum_by-cons (λ y. cond (q y) 1 0) x xs in
+    grind (arith, ps, qs, h x, count_map_below p q g xs h)
+
+-- what is pending after one more attempt was pending before
+pending_before : (p : Progress) (status at : ℕ) → is_in_state Pending (state_in (progress_after status at p)) ≡ true → is_in_state Pending (state_in p) ≡ true
+pending_before p status at h = grind (arith, nat_tests, h)
+
+pub places_tried : (queue : QueueValue) (book : BookValue) (seq d status at : ℕ) → HasPlaces queue book → HasPlaces queue (with_outcome book seq d status at)
+places_tried queue book seq d status at h = λ name. omega (arith, h name, count_map_below (is_unheld queue name) (is_unheld queue name) (change d status at) book.entries (was name))
+  where
+    was : (name : List ℕ) (x : Entry) → is_unheld queue name (change d status at x) ≡ true → is_unheld queue name x ≡ true
+    was name x t = let before = pending_before x.latest status at in grind (arith, t, before)
+
+-- What is held
+
+-- an attempt that is under way isn't held
+pub new_pair : (queue : QueueValue) (book : BookValue) (live : List Row) (d : ℕ) → AreHeld queue book live → is_out d live ≡ true → IsNew queue d
+new_pair queue book live d held out = λ name due.
+    let is = held (pair_of name due d) in
+    grind (arith, is, out, found_seq book.entries d)
+
+abbrev waiting_for : BookValue → List Row → Pair → Option Entry → Bool
+waiting_for book live pair o = option_map_or (λ x. is_idle book.settled_seq live x && is_pair_of pair x) o false
+
+-- a pair of another delivery
+held_other : (book : BookValue) (row : Row) (live new : List Row) (pair : Pair) (o : Option Entry) → IsReturned row live new → nat_eq row.delivery pair.seq ≡ false → entry_at book.entries pair.seq ≡ o
+    → waiting_for book live pair o ≡ waiting_for book new pair o
+held_other book row live new pair o r apart e = by_option o
+    (λ none. grind (arith, none))
+    (λ x some. grind (arith, some, r.out x.seq, found_seq book.entries pair.seq x (e ∙ some), apart))
+
+pair_apart : (pair : Pair) (name : List ℕ) (due d : ℕ) → nat_eq d pair.seq ≡ false → same_pair pair (pair_of name due d) ≡ false
+pair_apart pair name due d apart = ap (λ b. b && (nat_eq due pair.due && bytes_eq name pair.endpoint)) apart
+
+-- the outcome waits: the delivery isn't held
+pub held_tried : (queue new : QueueValue) (book : BookValue) (row : Row) (live rest : List Row) (seq status at : ℕ) → AreHeld queue book live → UnderWay book row → is_out row.delivery live ≡ true → IsReturned row live rest
+    → Holds queue new (idle_pair (with_outcome book seq row.delivery status at) row.delivery) → AreHeld new (with_outcome book seq row.delivery status at) rest
+held_tried queue new book row live rest seq status at held u out r holds = λ pair. ap (λ q. is_held q pair) same ∙ by pair (nat_eq row.delivery pair.seq) refl
+  where
+    later : BookValue
+    later = with_outcome book seq row.delivery status at
+
+    same : new ≡ queue
+    same = subst (λ o. Holds queue new o) (ap (λ b. if b then pair_in later row.delivery else None) (takes_none book row seq status at u)) holds
+
+    not_open : is_open (with_attempt status at u.entry) ≡ false
+    not_open = sym (ap (λ o. option_map_or is_open o false) (entry_own book row status at u)) ∙ takes_none book row seq status at u
+
+    by : (pair : Pair) (b : Bool) → nat_eq row.delivery pair.seq ≡ b → is_held queue pair ≡ waits_as later rest pair
+    by pair true e =
+        let is : row.delivery ≡ pair.seq = eqb-true row.delivery pair.seq e in
+        let own : entry_at later.entries pair.seq ≡ Some (with_attempt status at u.entry) = ap (entry_at later.entries) (sym is) ∙ entry_own book row status at u in
+        let none =
+        subst (λ n. IsNew queue n) is (new_pair queue book live row.delivery held out) pair.endpoint pair.due in
+        none ∙ sym (ap (waiting_for later rest pair) own ∙ grind (arith, not_open))
+    by pair false e =
+        held pair ∙ held_other book row live rest pair (entry_at book.entries pair.seq) r e refl
+        ∙ ap (waiting_for book rest pair) (sym (entry_other book.entries row.delivery status at pair.seq e))
+
+-- no outcome waits: the delivery is held again
+pub held_again : (queue new : QueueValue) (book : BookValue) (row : Row) (live rest : List Row) → AreHeld queue book live → UnderWay book row → is_out row.delivery live ≡ true → IsReturned row live rest
+    → Holds queue new (idle_pair book row.delivery) → AreHeld new book rest
+held_again queue new book row live rest held u out r holds = timed u.entry.settled.due refl u.timed
+  where
+    timed : (o : Option ℕ) → u.entry.settled.due ≡ o → is_some o ≡ true → AreHeld new book rest
+    timed None e t = cc
+    timed (Some due) e t = λ pair. by pair (nat_eq row.delivery pair.seq) refl
+      where
+        own : idle_pair book row.delivery ≡ Some (pair_of u.entry.name due row.delivery)
+        own =
+            ap (λ b. if b then pair_in book row.delivery else None) (takes book row u)
+            ∙ ap (λ b. option_and_then (λ x. option_map (λ n. pair_of x.endpoint n row.delivery) x.due) (if b then option_map (λ x. row_in x.settled x) (entry_at book.entries row.delivery) else None)) u.settled
+            ∙ ap (λ p. option_and_then (λ x. option_map (λ n. pair_of x.endpoint n row.delivery) x.due) (option_map (λ x. row_in x.settled x) p)) u.there
+            ∙ ap (option_map (λ n. pair_of u.entry.name n row.delivery)) e
+
+        gains : Holds queue new (Some (pair_of u.entry.name due row.delivery))
+        gains = subst (λ o. Holds queue new o) own holds
+
+        by : (pair : Pair) (b : Bool) → nat_eq row.delivery pair.seq ≡ b → is_held new pair ≡ waits_as book rest pair
+        by pair true same =
+            let is : row.delivery ≡ pair.seq = eqb-true row.delivery pair.seq same in
+            let none =
+            subst (λ n. IsNew queue n) is (new_pair queue book live row.delivery held out) pair.endpoint pair.due in
+            let there : entry_at book.entries pair.seq ≡ Some u.entry = ap (entry_at book.entries) (sym is) ∙ u.there in
+            grind (arith, gains.pairs pair, none, there, same, e, is, u.numbered, u.settled, u.opened, r.free)
+        by pair false apart =
+            let other = held_other book row live rest pair (entry_at book.entries pair.seq) r apart refl in
+            let not_own = pair_apart pair u.entry.name due row.delivery apart in
+            grind (arith, gains.pairs pair, not_own, held pair, other)

@@ -1,18 +1,18 @@
 -- What a desk hands out, and what becomes of it when it comes back.
 use Rattle.desk.proofs.Words.{◌≡◌, ℕ, ◌+◌, ◌-◌, ◌≤◌, Bool, true, false, [], ◌∷◌, Option, Some, None, length, take, drop}
-use Rattle.desk.proofs.Words.{map, refl, sym, ◌∙◌, ap, arith, cond, subst, eqb, max, List, ◌↔◌, nat_lt, option_map}
-use Rattle.desk.proofs.Words.{◌&&◌, Result, Ok, Err, OnOk, OnErr, IsOk, IsErr, IfOk, IfSome, IsSome, IsSomeAnd, not}
-use Rattle.desk.proofs.Words.{is_some, if◌then◌else◌, list_all, option_map_or, drop-append_seam, take-add, eq-eqb}
-use Rattle.desk.proofs.Words.{ne_eqb, drop-take, length-drop, length-take, take-append-drop, sum_by-append, map-map}
-use Rattle.desk.proofs.Words.{MAX_RECORDS, Record, History, records_of, find_map, EndpointEntry, HasChanges}
-use Rattle.desk.proofs.Words.{changes_settled, HasWaiting, BatchValue, DoubtValue, doubt_of, upto_of, is_outcome}
-use Rattle.desk.proofs.Words.{outcomes_in, WaitingValue, batch_of, record_count, sealed_count, with_batch_out}
-use Rattle.desk.proofs.Words.{with_nothing_out, length-records_of, length-records_of-split, drop_drop, Refusal, refusal}
-use Rattle.desk.proofs.Words.{first_fault, World, all_records, settled_records, sealed_records, Answer, is_nothing_out}
-use Rattle.desk.proofs.Words.{sealed_batch, seal, seal_faults, seal_waiting, with_batch, with_sealed_settled}
-use Rattle.desk.proofs.Words.{with_batch_back, with_halt, Row, in_flight_of, QueueValue, Limiter, AreMarked, AreQueued}
-use Rattle.desk.proofs.Words.{KeepsRooms, bound_of, endpoint_at, limit_by, room_by, DeskValue, IsDesk, StandsFor}
-use Rattle.desk.proofs.Words.{IsReceiptOf, ArePlacesOf, IsHeldOf, OverWorlds, Turns, IsMove}
+use Rattle.desk.proofs.Words.{map, refl, sym, ◌∙◌, ap, arith, cond, subst, eqb, max, List, ◌↔◌, option_map, Result, Ok}
+use Rattle.desk.proofs.Words.{Err, OnOk, OnErr, IsOk, IsErr, IfOk, IfSome, IsSome, IsSomeAnd, not, is_some}
+use Rattle.desk.proofs.Words.{if◌then◌else◌, list_all, drop-append_seam, take-add, eq-eqb, ne_eqb, drop-take}
+use Rattle.desk.proofs.Words.{length-drop, length-take, take-append-drop, sum_by-append, map-map, MAX_RECORDS, Record}
+use Rattle.desk.proofs.Words.{History, records_of, find_map, HasChanges, changes_settled, HasWaiting, BatchValue}
+use Rattle.desk.proofs.Words.{DoubtValue, doubt_of, upto_of, is_outcome, outcomes_in, WaitingValue, batch_of}
+use Rattle.desk.proofs.Words.{record_count, sealed_count, with_batch_out, with_nothing_out, length-records_of}
+use Rattle.desk.proofs.Words.{length-records_of-split, drop_drop, Refusal, refusal, first_fault, World, all_records}
+use Rattle.desk.proofs.Words.{settled_records, sealed_records, Answer, is_nothing_out, sealed_batch, seal, seal_faults}
+use Rattle.desk.proofs.Words.{seal_waiting, with_batch, with_sealed_settled, with_batch_back, with_halt, Row}
+use Rattle.desk.proofs.Words.{QueueValue, Limiter, AreMarked, AreQueued, KeepsRooms, bound_of, endpoint_at, room_by}
+use Rattle.desk.proofs.Words.{DeskValue, IsDesk, StandsFor, IsReceiptOf, ArePlacesOf, IsHeldOf, OverWorlds, Turns}
+use Rattle.desk.proofs.Words.{IsMove, by_option}
 use Rattle.group_commit.specs.declared.fault.SealFault.{SealFault}
 use Rattle.group_commit.specs.declared.held.Held.{Held}
 use Rattle.group_commit.specs.Waits.{with_settled}
@@ -24,9 +24,7 @@ use Rattle.group_commit.specs.declared.fault.SealFault.TheVariants as sealing
 use Rattle.group_commit.specs.declared.held.Held.TheVariants as held
 use Rattle.group_commit.specs.Turns as waiting
 use Rattle.desk.specs.declared.refusal.Fault.TheVariants as fault
-use Rattle.desk.proofs.MoveLaws.{refuses, passes, makes, lacks, becomes, leaves}
-use Rattle.desk.proofs.DeskLists.{records_of-split}
-use Rattle.desk.proofs.LookLaws.{stands_as}
+use Rattle.desk.proofs.DeskLaws.{refuses, passes, makes, lacks, becomes, leaves, records_of-split, stands_as}
 
 -- Steps
 
@@ -82,11 +80,8 @@ pub places_are : {d : DeskValue} {w : World} (places : DoubtValue) → StandsFor
 places_are places h = out_is (λ batch. places ≡ doubt_of batch) h
 
 pub held_is : {d : DeskValue} {w : World} (held : Held) → StandsFor d w → waiting.IsHeldOf d.waiting held ↔ IsHeldOf d.waiting.mark w held
-held_is {d} {w} held.Nothing h = at (is_nothing_out w.out) d.waiting.out h.waiting.is_out
-  where
-    at : (nothing : Bool) (out : Option ℕ) → out ≡ (if nothing then None else Some (out_count w)) → (out ≡ None) ↔ (nothing ≡ true)
-    at true out e = (λ none. refl, λ is. e)
-    at false out e = (λ none. cc, λ is. cc)
+held_is {d} {w} held.Nothing h =
+    let out = h.waiting.is_out in (λ none. grind (arith, out, none), λ is. grind (arith, out, is))
 held_is (held.Batch batch) h = places_are (doubt_of batch) h
 held_is (held.Doubt places) h = places_are places h
 
@@ -104,37 +99,14 @@ comes_back {A} {E} {view} {d} same steps Turn IsOut ended (Err e) wrong turn is 
 
 -- the batch is taken back
 pub stands_back : {d : DeskValue} {w : World} → StandsFor d w → StandsFor (record d { waiting = with_nothing_out d.waiting }) (with_batch_back w)
-stands_back {d} {w} h = record {
-  clock = h.clock;
-  halted = h.halted;
-  books = h.books;
-  waiting = record {
-    steps = h.waiting.steps;
-    settled_seq = h.waiting.settled_seq;
-    is_out = refl;
-    settled_first = omega arith;
-    sealed_within = omega (arith, h.waiting.settled_first, h.waiting.sealed_within);
-  };
-  live = h.live;
-  limits = h.limits;
-}
+stands_back {d} {w} h =
+    let first : w.settled ≤ w.settled = omega arith in
+    let within : w.settled ≤ length w.history = omega (arith, h.waiting.settled_first, h.waiting.sealed_within) in
+    assumption (first, within)
 
 -- nothing is taken any more
 pub stands_halted : {d : DeskValue} {w : World} → StandsFor d w → StandsFor (record d { waiting = with_nothing_out d.waiting; halted = true }) (with_halt w)
-stands_halted {d} {w} h = record {
-  clock = h.clock;
-  halted = refl;
-  books = h.books;
-  waiting = record {
-    steps = h.waiting.steps;
-    settled_seq = h.waiting.settled_seq;
-    is_out = refl;
-    settled_first = h.waiting.settled_first;
-    sealed_within = h.waiting.sealed_within;
-  };
-  live = h.live;
-  limits = h.limits;
-}
+stands_halted {d} {w} h = assumption
 
 -- Settling
 
@@ -180,21 +152,10 @@ endpoint_settled : (book : endpoint_entries.BookValue) (place : ℕ) (name : Lis
 endpoint_settled book place name = find_map (λ e. endpoint_entries.settled_at place book.changes e.name e) (endpoint_entries.is_named name) book.entries
 
 known_settled : (book : endpoint_entries.BookValue) (place : ℕ) (name : List ℕ) → endpoint_entries.is_known (endpoint_entries.with_settled book place) name ≡ endpoint_entries.is_known book name
-known_settled book place name = ap is_some (endpoint_settled book place name) ∙ by (endpoint_entries.entry_of book name)
-  where
-    by : (o : Option EndpointEntry) → is_some (option_map (λ e. endpoint_entries.settled_at place book.changes e.name e) o) ≡ is_some o
-    by None = refl
-    by (Some e) = refl
+known_settled book place name = let settled = endpoint_settled book place name in grind (arith, settled)
 
 room_settled : (book : endpoint_entries.BookValue) (place : ℕ) (limiters : List Limiter) (live : List Row) (name : List ℕ) → room_by (endpoint_entries.with_settled book place) limiters live name ≡ room_by book limiters live name
-room_settled book place limiters live name =
-    ap (λ b. b && nat_lt (in_flight_of name live) (limit_by limiters name))
-    (ap (λ o. option_map_or (λ (e : EndpointEntry). e.enabled) o true) (endpoint_settled book place name) ∙ by (endpoint_entries.entry_of book name))
-  where
-    by : (o : Option EndpointEntry)
-        → option_map_or (λ (e : EndpointEntry). e.enabled) (option_map (λ e. endpoint_entries.settled_at place book.changes e.name e) o) true ≡ option_map_or (λ (e : EndpointEntry). e.enabled) o true
-    by None = refl
-    by (Some e) = refl
+room_settled book place limiters live name = let settled = endpoint_settled book place name in grind (arith, settled)
 
 marked_settled : {queue told : QueueValue} {book : endpoint_entries.BookValue} {limiters : List Limiter} {live : List Row} (place : ℕ) → KeepsRooms queue told → AreMarked queue book limiters live
     → AreMarked told (endpoint_entries.with_settled book place) limiters live
@@ -268,21 +229,14 @@ settles_within {endpoints} {deliveries} {steps} {rest} count place h g is = omeg
 
 -- whether something is out is told by the desk
 nothing_is : {d : DeskValue} {w : World} → StandsFor d w → is_nothing_out w.out ≡ not (is_some d.waiting.out)
-nothing_is {d} {w} h = at (is_nothing_out w.out) d.waiting.out h.waiting.is_out
-  where
-    at : (nothing : Bool) (out : Option ℕ) → out ≡ (if nothing then None else Some (out_count w)) → nothing ≡ not (is_some out)
-    at true out e = ap (λ o. not (is_some o)) (sym e)
-    at false out e = ap (λ o. not (is_some o)) (sym e)
+nothing_is {d} {w} h = let out = h.waiting.is_out in grind (arith, out)
 
 seal_fault : {d : DeskValue} {w : World} (is_out : Bool) → StandsFor d w → d.halted ≡ false → is_some d.waiting.out ≡ is_out → first_fault (seal_faults w) ≡ first_fault ((is_out, 2, fault.BatchOut) ∷ [])
-seal_fault is_out h halted out =
+seal_fault {w = w} is_out h halted out =
     let free = sym h.halted ∙ halted in
-    let turn = ap not (nothing_is h) ∙ not_not _ ∙ out in
+    let nothing = nothing_is h in
+    let turn : not (is_nothing_out w.out) ≡ is_out = grind (arith, nothing, out) in
     λ i. first_fault ((free i, 1, fault.Halted) ∷ (turn i, 2, fault.BatchOut) ∷ [])
-  where
-    not_not : (b : Bool) → not (not b) ≡ b
-    not_not true = refl
-    not_not false = refl
 
 abbrev no_steps : History → Bool
 no_steps [] = true
@@ -301,20 +255,11 @@ sealed_now : {d : DeskValue} {w : World} → StandsFor d w → out_count (with_b
 sealed_now {d} {w} h = omega (arith, waiting_length h)
 
 stands_sealed : {d : DeskValue} {w : World} → StandsFor d w → StandsFor (record d { waiting = with_batch_out d.waiting }) (with_batch w)
-stands_sealed {d} {w} h = record {
-  clock = h.clock;
-  halted = h.halted;
-  books = h.books;
-  waiting = record {
-    steps = h.waiting.steps;
-    settled_seq = h.waiting.settled_seq;
-    is_out = ap Some (sym (sealed_now h));
-    settled_first = omega (arith, waiting_length h);
-    sealed_within = omega arith;
-  };
-  live = h.live;
-  limits = h.limits;
-}
+stands_sealed {d} {w} h =
+    let out = ap Some (sym (sealed_now h)) in
+    let first : w.settled ≤ (with_batch w).sealed = omega (arith, waiting_length h) in
+    let within : (with_batch w).sealed ≤ length w.history = omega arith in
+    assumption (out, first, within)
 
 sealed_is : {d : DeskValue} {w : World} → StandsFor d w → sealed_batch d.waiting.mark (with_batch w) ≡ batch_of d.waiting (sealed_count d.waiting)
 sealed_is {d} {w} h = sym (batch_is (stands_sealed h)) ∙ ap (batch_of d.waiting) (sealed_now h)
@@ -363,12 +308,6 @@ settle_turns {view} {d} same endpoints deliveries steps receipt place turn settl
           (stands_settled endpoints deliveries (length receipt.steps) place here (receipt_count receipt here receipted) (is ∙ ap (λ (x : WaitingValue). x.settled) settled) by_endpoints by_deliveries),
     )
 
-abbrev ok_some : BatchValue → Result (Option BatchValue) SealFault
-ok_some batch = Ok (Some batch)
-
-abbrev failed_by : SealFault → Result (Option BatchValue) SealFault
-failed_by fault = Err fault
-
 -- what sealing answers
 abbrev pub seal_reply : Result (Option BatchValue) SealFault → Result (Option BatchValue) Refusal
 seal_reply (Ok sealed) = Ok sealed
@@ -385,8 +324,7 @@ seal_passes d new reply is_idle halted free idle move =
     (λ w h. ap (seal_waiting d.waiting.mark w) (sym (idle_is d.waiting.waiting h refl ∙ idle))) move)
 
 none_if : (o : Option ℕ) → (IsSome o → ⊥) → o ≡ None
-none_if None h = refl
-none_if (Some n) h = absurd (h refl)
+none_if o h = by_option o (λ e. e) (λ n e. absurd (h (ap is_some e)))
 
 some_if : (steps : History) → (steps ≡ [] → ⊥) → no_steps steps ≡ false
 some_if [] h = absurd (h refl)
@@ -407,35 +345,24 @@ seal_moves d steps (Ok None) halted taken nothing batch out same err =
     same_steps d steps d.waiting (seal d.waiting.mark) (Ok None) (same refl)
     (seal_passes d d (Ok None) true halted idle.0 (ap no_steps idle.1) (makes d d (λ w. seal_waiting d.waiting.mark w true) None (λ w h. (refl, h))))
 seal_moves d steps (Ok (Some sealed)) halted taken nothing batch out same err =
-    let free : d.waiting.out ≡ None = none_if d.waiting.out (λ some. not_refused sealed (taken.1 some)) in
+    let free : d.waiting.out ≡ None = none_if d.waiting.out (λ some. let no = taken.1 some in cc) in
     let later : DeskValue = record d { waiting = with_batch_out d.waiting } in
+    let some = some_if d.waiting.waiting (λ none. let no = nothing.1 (free, none) in cc) in
     same_steps d steps (with_batch_out d.waiting) (seal d.waiting.mark) (Ok (Some sealed)) out
-    (seal_passes d later (Ok (Some sealed)) false halted free (some_if d.waiting.waiting (λ none. not_nothing sealed (nothing.1 (free, none))))
+    (seal_passes d later (Ok (Some sealed)) false halted free some
     (makes d later (λ w. seal_waiting d.waiting.mark w false) (Some sealed) (λ w h. (ap (λ b. Ok (Some b)) (sealed_is h ∙ sym batch), stands_sealed h))))
-  where
-    not_refused : (b : BatchValue) → ok_some b ≡ Err sealing.BatchOut → ⊥
-    not_refused b e = cc
-
-    not_nothing : (b : BatchValue) → ok_some b ≡ Ok None → ⊥
-    not_nothing b e = cc
 seal_moves d steps (Err sealing.BatchOut) halted taken nothing batch out same err =
     same_steps d steps d.waiting (seal d.waiting.mark) (Err (refusal 2 fault.BatchOut)) err
     (refuses d seal_faults (λ w. seal_waiting d.waiting.mark w (eqb (length w.history) w.settled)) (refusal 2 fault.BatchOut) (λ w h. sym (seal_fault true h halted (taken.0 refl))))
 seal_moves d steps (Err sealing.OutOfMemory) halted taken nothing batch out same err =
-    let free : d.waiting.out ≡ None = none_if d.waiting.out (λ some. other_fault (taken.1 some)) in
+    let free : d.waiting.out ≡ None = none_if d.waiting.out (λ some. let no = taken.1 some in cc) in
     same_steps d steps d.waiting (seal d.waiting.mark) (Err (refusal 3 fault.OutOfMemory)) err
-    (seal_passes d d (Err (refusal 3 fault.OutOfMemory)) false halted free (some_if d.waiting.waiting (λ none. some_fault (nothing.1 (free, none))))
+    (seal_passes d d (Err (refusal 3 fault.OutOfMemory)) false halted free
+    (some_if d.waiting.waiting (λ none. let no = nothing.1 (free, none) in cc))
     (lacks d (λ w. seal_waiting d.waiting.mark w false) 3 (λ w h. refl)))
-  where
-    other_fault : failed_by sealing.OutOfMemory ≡ Err sealing.BatchOut → ⊥
-    other_fault e = cc
-
-    some_fault : failed_by sealing.OutOfMemory ≡ Ok None → ⊥
-    some_fault e = cc
 
 not_halted : (halted : Bool) (u : Unit {0}) → Ok u ≡ first_fault ((halted, 1, fault.Halted) ∷ []) → halted ≡ false
-not_halted false u e = refl
-not_halted true u e = cc
+not_halted halted u e = grind arith
 
 pub seal_turns : {view d : DeskValue} → view ≡ d → (steps : WaitingValue) (result : Result (Option BatchValue) SealFault) (u : Unit {0}) → Ok u ≡ first_fault ((view.halted, 1, fault.Halted) ∷ [])
     → (result ≡ Err sealing.BatchOut) ↔ IsSome view.waiting.out → (result ≡ Ok None) ↔ ((view.waiting.out ≡ None) × (view.waiting.waiting ≡ []))

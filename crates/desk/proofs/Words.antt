@@ -4,11 +4,10 @@ pub use Rattle.std.proofs.Common.{append-nil, append_assoc, arith, cond, drop, e
 pub use Rattle.std.proofs.Common.{length-append, map, max, nat_le, not, refl, rules, slice_index_or, slice_set, subst}
 pub use Rattle.std.proofs.Common.{suc, sym, take, true, vec_capacity, vec_len, zero, ℕ, ◌&&◌, ◌++◌, ◌+◌, ◌-◌, ◌<◌, ◌||◌}
 pub use Rattle.std.proofs.Common.{◌↔◌, ◌∙◌, ◌∷◌, ◌≡◌, ◌≤◌, ◌⊎◌}
-pub use Rattle.std.proofs.Math.Bool.{or-false}
-pub use Rattle.std.proofs.Math.Dec.{eqb-suc-zero}
 pub use Rattle.std.proofs.Math.Seq.{drop-append_seam, map-set_same, take-add, take-append_seam}
-pub use Rattle.std.proofs.lemmas.Bool.{and_parts, eq-eqb, eqb-false, eqb-true, le-leb, le-ltb, leb-false, leb-true}
-pub use Rattle.std.proofs.lemmas.Bool.{lt-leb, lt-ltb, ltb-false, ltb-true, ne_eqb}
+pub use Rattle.std.proofs.lemmas.Bool.{and_parts, cond_both, eq-eqb, eqb-false, eqb-true, le-leb, le-ltb, leb-false}
+pub use Rattle.std.proofs.lemmas.Bool.{leb-true, lt-ltb, ltb-true, ne_eqb}
+pub use Rattle.std.proofs.lemmas.Bool.Decides.{nat_tests}
 pub use Rattle.std.proofs.lemmas.List.{at_drop_more, drop-append-le, drop-take, drop_all, length-drop, length-map}
 pub use Rattle.std.proofs.lemmas.List.{length-take, map-append, take-append-drop, take-append-le, take_all, take_more}
 pub use Rattle.std.proofs.lemmas.List.Folds.{find-append, find-set, find_at, find_past, list_all-append}
@@ -30,17 +29,15 @@ pub use Rattle.relay_types.specs.Deliveries.{accepted, attempts_of, deliveries, 
 pub use Rattle.relay_types.specs.Deliveries.{due_if_pending, due_of, failures_of, is_accept, is_accept_as, is_accept_of}
 pub use Rattle.relay_types.specs.Deliveries.{is_in_state, is_pending, known_as, state_of}
 pub use Rattle.relay_types.specs.Endpoints.{Endpoint, endpoint_of, endpoints, has_endpoint, is_delivery_of, secrets_of}
-pub use Rattle.relay_types.specs.Judging.{is_delivered_status, is_failed_status, is_gone_status}
+pub use Rattle.relay_types.specs.Judging.{is_gone_status}
 pub use Rattle.relay_types.specs.Legal.{IsLegal, is_status, is_within_limits, may_follow}
-pub use Rattle.relay_types.specs.Lists.{last_of}
 pub use Rattle.relay_types.specs.Records.{Accepted, Attempt, History, accepted_by, records_of}
 pub use Rattle.relay_types.specs.Values.{is_moment}
-pub use Rattle.relay_types.specs.declared.limits.TheConstants.{MAX_ENDPOINTS, MAX_FAILURES, MAX_RECORDS}
+pub use Rattle.relay_types.specs.declared.limits.TheConstants.{MAX_ENDPOINTS, MAX_RECORDS}
 pub use Rattle.relay_types.specs.declared.record.Record.{Record}
 pub use Rattle.relay_types.specs.declared.record.Record.TheVariants.{Accept, Enabled, Outcome, Put, Secrets}
 pub use Rattle.relay_types.specs.declared.state.State.TheVariants.{Exhausted, Pending}
 pub use Rattle.vegas.specs.Estimators.{EstimatorValue, Explains, StandsFor as StandsForSamples, sample_of}
-pub use Rattle.vegas.specs.Vegas.{limit_of, noload_of, probes_of}
 pub use Rattle.vegas.specs.declared.sample.Sample.{Sample}
 pub use Rattle.endpoint_book.proofs.Laws.{stands-other}
 pub use Rattle.endpoint_book.proofs.Waiting.{AreNamedAlike, changes_enabled, changes_gone, changes_named, changes_none}
@@ -56,8 +53,8 @@ pub use Rattle.delivery_book.specs.Entries.{BookValue, HasOneEach, IsInStep, at_
 pub use Rattle.delivery_book.specs.Entries.{entry_at, failed_among, first_outcome, front_below, is_delivered_among}
 pub use Rattle.delivery_book.specs.Entries.{is_entry_as, is_open, is_pending_of, known_in, latest_row, new_entry}
 pub use Rattle.delivery_book.specs.Entries.{next_settled, pending_in, progress_after, rest_from, row_in, settled_row}
-pub use Rattle.delivery_book.specs.Entries.{state_by, state_in, takes_outcome, with_event, with_latest_settled}
-pub use Rattle.delivery_book.specs.Entries.{with_outcome, with_settled}
+pub use Rattle.delivery_book.specs.Entries.{state_by, state_in, takes_outcome, with_attempt, with_event}
+pub use Rattle.delivery_book.specs.Entries.{with_latest_settled, with_outcome, with_settled}
 pub use Rattle.delivery_book.specs.Waiting.{AreTries, HasWaiting}
 pub use Rattle.delivery_book.specs.declared.entry.Entry.{Entry as DeliveryEntry, Entry}
 pub use Rattle.delivery_book.specs.declared.entry.Unsettled.{Unsettled}
@@ -71,46 +68,38 @@ pub use Rattle.group_commit.specs.Waits.{with_nothing_out, with_step}
 pub use Rattle.group_commit.specs.declared.limits.TheConstants.{MAX_WAITING_OUTCOMES, MAX_WAITING_REQUESTS}
 pub use Rattle.permits.specs.Rows.{in_flight_of, is_out, next_row, same_row}
 pub use Rattle.permits.specs.declared.row.Row.{Row}
-pub use Rattle.retry_table.specs.Judging.{measure_of, recorded_status, spend_of}
-pub use Rattle.retry_table.specs.declared.post.PostResult.{PostResult}
-pub use Rattle.retry_table.specs.declared.post.Spend.{Spend}
 pub use Rattle.claim_queue.specs.Queues.{ChangesMark, HasSamePairs, IsNew, IsNext, NothingIsReady, QueueValue, SetsMark}
-pub use Rattle.claim_queue.specs.Queues.{empty_queue, free_places, has_room_in, is_held, is_ready, is_reserved}
-pub use Rattle.claim_queue.specs.Queues.{mark_for, mark_in, mark_of, pair_of, place_given, place_taken, reserved_mark}
-pub use Rattle.claim_queue.specs.Queues.{same_pair, with_room}
+pub use Rattle.claim_queue.specs.Queues.{empty_queue, free_places, has_room_in, is_held, is_ready, is_reserved, mark_in}
+pub use Rattle.claim_queue.specs.Queues.{mark_of, pair_of, place_given, reserved_mark, same_pair, with_room}
 pub use Rattle.claim_queue.specs.declared.marks.Mark.{Mark}
 pub use Rattle.claim_queue.specs.declared.pairs.Pair.{Pair}
+pub use Rattle.desk.proofs.Cases.{by_bool, by_option}
 pub use Rattle.desk.specs.Claims.{JobValue, choice, claim, claim_chosen, claimables, has_place as has_place_in}
-pub use Rattle.desk.specs.Claims.{has_room, has_row, is_claimable, is_claimable_for, is_exhausted, is_live, job_of}
-pub use Rattle.desk.specs.Claims.{least_by, lesser, limit_in, limits, live_of, next_attempt, rests, sample_by, sampled}
-pub use Rattle.desk.specs.Claims.{samples_of, spent_by, starts, target_in, waits, with_attempt, with_attempt_over}
-pub use Rattle.desk.specs.Claims.{without_row}
+pub use Rattle.desk.specs.Claims.{has_room, has_row, is_claimable, is_exhausted, is_live, job_of, least_by, limit_in}
+pub use Rattle.desk.specs.Claims.{limits, next_attempt, rests, sample_by, sampled, samples_of, spent_by, starts}
+pub use Rattle.desk.specs.Claims.{target_in, waits, with_attempt_over, without_row}
 pub use Rattle.desk.specs.Comparing.{SameEndpoint, SameEvent}
 pub use Rattle.desk.specs.Desks.{AreBooks, AreLimits, ArePlacesOf, Checks, DeskValue, HasOutcome, IsCore, IsDesk}
 pub use Rattle.desk.specs.Desks.{IsHeldOf, IsMove, IsPostOf, IsReceiptOf, Opens, OverWorlds, Spends, StandsFor, Starts}
-pub use Rattle.desk.specs.Desks.{TakesOutcome, Turns, attempt_in, has_place, is_exhausted_in}
-pub use Rattle.desk.specs.Desks.{is_ready as is_ready_entry, may_start, may_start_at, with_accept, with_enabled}
-pub use Rattle.desk.specs.Desks.{with_entry, with_gone, with_live, with_put, with_secrets}
-pub use Rattle.desk.specs.Faults.{Faults, first_fault, may_refuse_event, may_refuse_put, may_refuse_set}
-pub use Rattle.desk.specs.Faults.{out_of_memory_at, refusal}
+pub use Rattle.desk.specs.Desks.{TakesOutcome, Turns, attempt_in, has_place, is_exhausted_in, may_start, may_start_at}
+pub use Rattle.desk.specs.Desks.{with_accept, with_enabled, with_entry, with_gone, with_live, with_put, with_secrets}
+pub use Rattle.desk.specs.Faults.{Faults, first_fault, out_of_memory_at, refusal}
 pub use Rattle.desk.specs.Kept.{AreTold, endpoint_in, endpoint_page, event_in, event_page, limits_by, shown_with}
 pub use Rattle.desk.specs.Kept.{totals, totals_in}
 pub use Rattle.desk.specs.Looks.{has_event, is_row_of}
-pub use Rattle.desk.specs.Moves.{Answer, MayGive, accepts, are_seqs_spent, at_moment, change, changes, has_body}
-pub use Rattle.desk.specs.Moves.{is_nothing_out, is_waiting_full, moment, new_submit_faults, next_seq, or_out_of_memory}
-pub use Rattle.desk.specs.Moves.{pending_among, put_faults, refused, repeats, seal, seal_faults, seal_waiting}
-pub use Rattle.desk.specs.Moves.{sealed_batch, set_faults, stages, submit, submit_faults, submit_known, submit_new}
-pub use Rattle.desk.specs.Moves.{ticket, unless, with_batch, with_batch_back, with_halt, with_record}
-pub use Rattle.desk.specs.Moves.{with_sealed_settled}
+pub use Rattle.desk.specs.Moves.{Answer, MayGive, accepts, are_seqs_spent, at_moment, change, changes, is_nothing_out}
+pub use Rattle.desk.specs.Moves.{is_waiting_full, moment, new_submit_faults, next_seq, or_out_of_memory, pending_among}
+pub use Rattle.desk.specs.Moves.{put_faults, refused, repeats, seal, seal_faults, seal_waiting, sealed_batch}
+pub use Rattle.desk.specs.Moves.{set_faults, stages, submit, submit_faults, submit_known, submit_new, ticket, unless}
+pub use Rattle.desk.specs.Moves.{with_batch, with_batch_back, with_halt, with_record, with_sealed_settled}
 pub use Rattle.desk.specs.Ties.{AreApart, AreHeld, AreLimiters, AreMarked, AreQueued, AreSampled, AreTied, AreUnderWay}
 pub use Rattle.desk.specs.Ties.{HasPlaces, HasRoomForAll, HasSameRooms, Holds, HoldsPair, KeepsPlaces, KeepsRooms}
 pub use Rattle.desk.specs.Ties.{LetsGo, LetsPairGo, StandsAt, StandsBy, bound_by, bound_of, endpoint_at, idle_pair}
 pub use Rattle.desk.specs.Ties.{is_entry_of, is_idle, is_limiter_of, is_own, is_pair_of, is_told, is_under_way}
 pub use Rattle.desk.specs.Ties.{is_unheld, limit_by, limiter_of, new_limiter, own_pair, pair_in, rises, room_by}
 pub use Rattle.desk.specs.Ties.{samples_at, waits_as}
-pub use Rattle.desk.specs.World.{World, all_records, sealed_records, settled_records, waiting_records}
+pub use Rattle.desk.specs.World.{Measured, World, all_records, sealed_records, settled_records, waiting_records}
 pub use Rattle.desk.specs.declared.command.Command.TheVariants.{PutEndpoint, SetEnabled, SetSecrets}
 pub use Rattle.desk.specs.declared.limiter.Limiter.{Limiter}
 pub use Rattle.desk.specs.declared.refusal.Fault.{Fault}
 pub use Rattle.desk.specs.declared.refusal.Refusal.{Refusal}
-pub use Rattle.desk.specs.declared.ticket.Ticket.{Ticket}

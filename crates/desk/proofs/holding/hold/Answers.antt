@@ -1,5 +1,5 @@
 use Rattle.desk.proofs.Words.{sym}
-use Rattle.desk.proofs.PlaceLaws.{idle_from, idle_held, idle_place}
+use Rattle.desk.proofs.ClaimLaws.{idle_from, idle_held, idle_place}
 use Rattle.desk.proofs.holding.hold.Goals as goal
 
 pub insert-requires : goal.insert-requires

@@ -1,5 +1,5 @@
 use Rattle.desk.proofs.Words.{pair_of}
-use Rattle.desk.proofs.PlaceLaws.{places_let_go}
+use Rattle.desk.proofs.ClaimLaws.{places_let_go}
 use Rattle.desk.proofs.holding.let_go.Goals as goal
 
 pub returns-in-Some-clause-places : goal.returns-in-Some-clause-places

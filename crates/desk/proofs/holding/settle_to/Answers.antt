@@ -1,7 +1,6 @@
 use Rattle.desk.proofs.Words.{◌≡◌, ◌+◌, ◌-◌, ◌∙◌, arith, drop, refl, sym, ap, subst, Settles, HasWaiting, BookValue}
 use Rattle.desk.proofs.Words.{endpoint_at}
-use Rattle.desk.proofs.WaitLaws.{names_settled}
-use Rattle.desk.proofs.SettleLaws.{next_within, none_left, one_further, settles_more, settles_none}
+use Rattle.desk.proofs.SettleLaws.{names_settled, next_within, none_left, one_further, settles_more, settles_none}
 use Rattle.desk.proofs.holding.settle_to.Goals as goal
 
 pub loop-init : goal.loop-init

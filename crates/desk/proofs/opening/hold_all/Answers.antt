@@ -1,6 +1,6 @@
 use Rattle.desk.proofs.Words.{◌+◌, ◌∙◌, arith, ap, sym, subst, take, QueueValue, has_room_in, is_reserved, HasPlaces}
-use Rattle.desk.proofs.Words.{idle_pair}
-use Rattle.desk.proofs.OpeningLaws.{HoldsAmong, held_more, new_among, nothing_there, rooms_held}
+use Rattle.desk.proofs.OpeningLaws.{HoldsAmong, held_more, new_among, nothing_there}
+use Rattle.desk.proofs.TieLaws.{holds_rooms}
 use Rattle.desk.proofs.opening.hold_all.Goals as goal
 use Rattle.desk.proofs.opening.hold_all.Goals.{in-Some, in_default}
 
@@ -13,7 +13,7 @@ loop-place-preserved c =
     let book = c.args.deliveries.now in
     let was = c.loop-place.invariant in
     elim c.match-delivery.branch [
-      | in-Some w ↦ let rooms = rooms_held c.loop-place.queue w.hold.new.queue (idle_pair book w.in-Some.delivery) w.hold.ensures.held in record {
+      | in-Some w ↦ let rooms = holds_rooms c.loop-place.queue w.hold.new.queue _ w.hold.ensures.held in record {
         held = subst (λ (q : QueueValue). HoldsAmong q book (take (c.loop-place.place + 1) book.entries)) (sym w.queue-is)
             (held_more c.loop-place.queue w.hold.new.queue book c.loop-place.place w.in-Some.delivery w.in-Some.ensures.once w.in-Some.ensures.value was.held w.hold.ensures.held);
         places = subst (λ (q : QueueValue). HasPlaces q book) (sym w.queue-is) w.hold.ensures.places;

@@ -1,6 +1,7 @@
 use Rattle.desk.proofs.Words.{◌≡◌, ◌+◌, ◌∙◌, true, arith, ap, sym, subst, take, list_all, QueueValue, has_room_in}
 use Rattle.desk.proofs.Words.{is_held, row_in}
-use Rattle.desk.proofs.OpeningLaws.{all_more, has_all, nothing_there, places_all, reserved_rooms}
+use Rattle.desk.proofs.OpeningLaws.{all_more, has_all, nothing_there, places_all}
+use Rattle.desk.proofs.RequestTies.{room_reserved}
 use Rattle.desk.proofs.opening.reserve_all.Goals as goal
 use Rattle.desk.proofs.opening.reserve_all.Goals.{in-Some+in_ok-reserve, in_default}
 
@@ -12,7 +13,8 @@ loop-place-preserved c =
       | in-Some+in_ok-reserve w ↦ record {
         pairs = λ pair. ap (λ (q : QueueValue). is_held q pair) w.queue-is ∙ w.in_ok-reserve.ensures.pairs pair ∙ was.pairs pair;
         rooms = λ name. ap (λ (q : QueueValue). has_room_in q.marks name) w.queue-is
-            ∙ reserved_rooms c.loop-place.queue w.reserve.new.self _ _ w.in_ok-reserve.ensures.mark name ∙ was.rooms name;
+            ∙ room_reserved c.loop-place.queue w.reserve.new.self _ name _ w.in_ok-reserve.ensures.mark
+            ∙ was.rooms name;
         places = subst (λ (q : QueueValue). list_all (has_all book q) (take (c.loop-place.place + 1) book.entries) ≡ true) (sym w.queue-is)
             (all_more c.loop-place.queue w.reserve.new.self book c.loop-place.place w.pending-pending.result w.in-Some.row w.in-Some.ensures w.pending-pending.ensures.value
             w.in_ok-reserve.ensures.mark was.places);

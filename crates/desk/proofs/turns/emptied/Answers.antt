@@ -1,5 +1,5 @@
 use Rattle.desk.proofs.Words.{refl, arith}
-use Rattle.desk.proofs.CloseLaws.{all_out, last_back, last_out, none_left}
+use Rattle.desk.proofs.RowLaws.{all_out, last_back, last_out, none_left}
 use Rattle.desk.proofs.turns.emptied.Goals as goal
 
 pub loop-permit-init : goal.loop-permit-init

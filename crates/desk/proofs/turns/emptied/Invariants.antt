@@ -1,4 +1,4 @@
-use Rattle.desk.proofs.CloseLaws.{AreAll}
+use Rattle.desk.proofs.RowLaws.{AreAll}
 use Rattle.desk.proofs.turns.emptied.Given as goal
 
 abbrev pub invariant-loop-permit : goal.invariant-loop-permit

@@ -1,6 +1,5 @@
 use Rattle.desk.proofs.Words.{arith}
-use Rattle.desk.proofs.Checks.{is_spent}
-use Rattle.desk.proofs.DeskLaws.{seen}
+use Rattle.desk.proofs.DeskLaws.{is_spent, seen}
 use Rattle.desk.proofs.desk.Desk.are_seqs_spent.Goals as goal
 
 pub returns-clause-stands : goal.returns-clause-stands

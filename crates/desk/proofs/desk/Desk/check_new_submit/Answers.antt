@@ -1,9 +1,6 @@
-use Rattle.desk.proofs.Words.{◌∙◌, refl, length, nat_le, ap, first_fault, may_refuse_event, all_records}
-use Rattle.desk.proofs.Words.{settled_records}
+use Rattle.desk.proofs.Words.{◌∙◌, length, nat_le, ap, first_fault, all_records, settled_records}
 use Rattle.desk.specs.declared.limits.TheConstants.{MAX_PENDING, MAX_PENDING_ALL}
-use Rattle.desk.proofs.Checks.{is_full, refused_by, new_looks}
-use Rattle.desk.proofs.DeskEvents.{pending_is, pending_all_is}
-use Rattle.desk.proofs.DeskLaws.{seen}
+use Rattle.desk.proofs.DeskLaws.{is_full, new_looks, pending_is, pending_all_is, seen}
 use Rattle.desk.proofs.desk.Desk.check_new_submit.Goals as goal
 
 pub returns-clause-faults : goal.returns-clause-faults
@@ -14,6 +11,3 @@ returns-clause-faults g c = λ w h.
     let full = is_full c.free_requests.result here c.free_requests.ensures.free in
     let spent = c.are_seqs_spent.ensures.stands w h in
     c.check.ensures ∙ λ i. first_fault (new_looks (own i) (all i) (full i) (spent i))
-
-pub returns-clause-names : goal.returns-clause-names
-returns-clause-names g c = refused_by may_refuse_event (new_looks _ _ _ _) c.check.result c.check.ensures refl

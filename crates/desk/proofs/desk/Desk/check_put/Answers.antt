@@ -1,7 +1,5 @@
-use Rattle.desk.proofs.Words.{◌∙◌, refl, length, nat_le, ap, MAX_ENDPOINTS, first_fault, may_refuse_put, all_records}
-use Rattle.desk.proofs.Words.{settled_records}
-use Rattle.desk.proofs.Checks.{is_full, refused_by, put_looks}
-use Rattle.desk.proofs.DeskLaws.{seen}
+use Rattle.desk.proofs.Words.{◌∙◌, length, nat_le, ap, MAX_ENDPOINTS, first_fault, all_records, settled_records}
+use Rattle.desk.proofs.DeskLaws.{is_full, put_looks, seen}
 use Rattle.desk.proofs.desk.Desk.check_put.Goals as goal
 
 pub returns-clause-faults : goal.returns-clause-faults
@@ -12,6 +10,3 @@ returns-clause-faults g c = λ w h.
     let full = is_full c.free_requests.result here c.free_requests.ensures.free in
     let spent = c.are_seqs_spent.ensures.stands w h in
     c.check.ensures ∙ λ i. first_fault (put_looks (here.halted i) (known i) (many i) (full i) (spent i))
-
-pub returns-clause-names : goal.returns-clause-names
-returns-clause-names g c = refused_by may_refuse_put (put_looks _ _ _ _ _) c.check.result c.check.ensures refl

@@ -1,6 +1,5 @@
-use Rattle.desk.proofs.Words.{◌∙◌, refl, length, not, first_fault, may_refuse_set, all_records, settled_records}
-use Rattle.desk.proofs.Checks.{is_full, refused_by, set_looks}
-use Rattle.desk.proofs.DeskLaws.{seen}
+use Rattle.desk.proofs.Words.{◌∙◌, length, not, first_fault, all_records, settled_records}
+use Rattle.desk.proofs.DeskLaws.{is_full, set_looks, seen}
 use Rattle.desk.proofs.desk.Desk.check_set.Goals as goal
 
 pub returns-clause-faults : goal.returns-clause-faults
@@ -10,6 +9,3 @@ returns-clause-faults g c = λ w h.
     let full = is_full c.free_requests.result here c.free_requests.ensures.free in
     let spent = c.are_seqs_spent.ensures.stands w h in
     c.check.ensures ∙ λ i. first_fault (set_looks (here.halted i) (not (known i)) (full i) (spent i))
-
-pub returns-clause-names : goal.returns-clause-names
-returns-clause-names g c = refused_by may_refuse_set (set_looks _ _ _ _) c.check.result c.check.ensures refl

@@ -1,6 +1,7 @@
 use Rattle.desk.proofs.Words.{◌≡◌, Ok, ap, JobValue, claim, DeskValue, Starts}
-use Rattle.desk.proofs.MoveLaws.{hands_on, replies}
-use Rattle.desk.proofs.ClaimLaws.{checks_halted, checks_spent, claim_rests, claim_lacks, claim_starts, was_made, was_refused}
+use Rattle.desk.proofs.DeskLaws.{hands_on, replies}
+use Rattle.desk.proofs.ClaimLaws.{checks_halted, checks_spent, claim_rests, claim_lacks, claim_starts, was_made}
+use Rattle.desk.proofs.ClaimLaws.{was_refused}
 use Rattle.desk.proofs.desk.Desk.claim.Goals as goal
 
 pub returns-in_default-clause-moves : goal.returns-in_default-clause-moves

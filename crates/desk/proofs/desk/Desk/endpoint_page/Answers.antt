@@ -1,5 +1,5 @@
 use Rattle.desk.proofs.Words.{length, all_records, settled_records}
-use Rattle.desk.proofs.LookLaws.{stands_as, page_is}
+use Rattle.desk.proofs.DeskLaws.{stands_as, page_is}
 use Rattle.desk.proofs.desk.Desk.endpoint_page.Goals as goal
 
 pub returns-in-Some-clause-stands : goal.returns-in-Some-clause-stands

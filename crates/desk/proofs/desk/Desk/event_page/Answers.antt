@@ -1,5 +1,5 @@
 use Rattle.desk.proofs.Words.{◌∙◌, length, all_records, settled_records}
-use Rattle.desk.proofs.LookLaws.{stands_as, page_absent, page_found}
+use Rattle.desk.proofs.DeskLaws.{stands_as, page_absent, page_found}
 use Rattle.desk.proofs.desk.Desk.event_page.Goals as goal
 
 pub returns-in_err-delivery-clause-stands : goal.returns-in_err-delivery-clause-stands

@@ -1,5 +1,5 @@
 use Rattle.desk.proofs.Words.{◌∙◌, ap, length, row_of, all_records, settled_records, is_row_of}
-use Rattle.desk.proofs.LookLaws.{stands_as, settled_front, row_is_event}
+use Rattle.desk.proofs.DeskLaws.{stands_as, settled_front, row_is_event}
 use Rattle.desk.proofs.desk.Desk.has_settled.Goals as goal
 
 pub returns-clause-stands : goal.returns-clause-stands

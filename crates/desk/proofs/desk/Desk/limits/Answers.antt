@@ -1,6 +1,6 @@
 use Rattle.desk.proofs.Words.{◌≡◌, ◌∙◌, List, Some, None, ap, option_map, in_flight_of, Limiter, limiter_of, limits_by}
-use Rattle.desk.proofs.LimitLaws.{limits_are}
-use Rattle.desk.proofs.LookLaws.{stands_as}
+use Rattle.desk.proofs.ClaimLaws.{limits_are}
+use Rattle.desk.proofs.DeskLaws.{stands_as}
 use Rattle.desk.proofs.desk.Desk.limits.Goals as goal
 
 pub returns-in_err-limiter-clause-stands : goal.returns-in_err-limiter-clause-stands

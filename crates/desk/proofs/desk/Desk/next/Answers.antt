@@ -1,7 +1,6 @@
 use Rattle.desk.proofs.Words.{refl, sym, arith, subst, lt-ltb, le-ltb, MAX_WAITING_OUTCOMES, IsNext, NothingIsReady}
 use Rattle.desk.proofs.DeskLaws.{seen}
-use Rattle.desk.proofs.ChoiceLaws.{full_is_choice, next_is_choice, nothing_is_choice}
-use Rattle.desk.proofs.ReadyLaws.{may_start_next}
+use Rattle.desk.proofs.ClaimLaws.{full_is_choice, next_is_choice, nothing_is_choice, may_start_next}
 use Rattle.desk.proofs.desk.Desk.next.Goals as goal
 
 pub returns-then-live-free_outcomes-clause-choice : goal.returns-then-live-free_outcomes-clause-choice

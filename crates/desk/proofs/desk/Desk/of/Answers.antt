@@ -1,5 +1,5 @@
 use Rattle.desk.proofs.Words.{◌∙◌, [], false, subst, AreMarked}
-use Rattle.desk.proofs.LookLaws.{stands_as}
+use Rattle.desk.proofs.DeskLaws.{stands_as}
 use Rattle.desk.proofs.OpeningLaws.{is_desk_opened, limited_new, stands_opened}
 use Rattle.desk.proofs.desk.Desk.of.Goals as goal
 

@@ -4,7 +4,7 @@ use Rattle.desk.proofs.Words.{DeskValue, Limiter, limit_by, room_by}
 use Rattle.permits.specs.declared.refusal.Refused.{Refused}
 use Rattle.permits.specs.declared.refusal.Refused.TheVariants.{AtLimit, TooManyOut, AlreadyOut}
 use Rattle.permits.specs.Refusals.{IsAtLimit, IsFull, IsAlreadyOut}
-use Rattle.desk.proofs.ReadyLaws.{StartsFrom, pair_held, starts_from}
+use Rattle.desk.proofs.ClaimLaws.{StartsFrom, pair_held, starts_from}
 use Rattle.desk.proofs.TieLaws.{desk_started, still_reserved}
 use Rattle.desk.proofs.desk.Desk.permit_for.Goals as goal
 

@@ -2,8 +2,7 @@ use Rattle.desk.proofs.Words.{◌≡◌, ◌∙◌, Option, Some, None, List, �
 use Rattle.desk.proofs.Words.{all_records, settled_records}
 use Rattle.endpoint_book.specs.declared.entry.Entry.{Entry}
 use Rattle.desk.proofs.DeskLaws.{seen}
-use Rattle.desk.proofs.JobLaws.{post_is}
-use Rattle.desk.proofs.ReadyLaws.{endpoint_known, starts_at, starts_from}
+use Rattle.desk.proofs.ClaimLaws.{post_is, endpoint_known, starts_at, starts_from}
 use Rattle.desk.proofs.desk.Desk.post_of.Goals as goal
 
 abbrev no_text : Option (List ℕ)

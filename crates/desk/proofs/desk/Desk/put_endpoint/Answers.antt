@@ -1,6 +1,5 @@
 use Rattle.desk.proofs.Words.{arith, PutEndpoint, put_faults, change, changes}
-use Rattle.desk.proofs.MoveLaws.{refuses, replies, hands_on}
-use Rattle.desk.proofs.DeskLaws.{put_moves}
+use Rattle.desk.proofs.DeskLaws.{refuses, replies, hands_on, put_moves}
 use Rattle.desk.proofs.desk.Desk.put_endpoint.Goals as goal
 
 pub returns-in_err-check_put-clause-moves : goal.returns-in_err-check_put-clause-moves

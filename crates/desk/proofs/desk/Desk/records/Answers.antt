@@ -1,5 +1,5 @@
 use Rattle.desk.proofs.Words.{◌∙◌}
-use Rattle.desk.proofs.LookLaws.{is_core, stands_as, records_counted}
+use Rattle.desk.proofs.DeskLaws.{is_core, stands_as, records_counted}
 use Rattle.desk.proofs.desk.Desk.records.Goals as goal
 
 pub returns-clause-stands : goal.returns-clause-stands

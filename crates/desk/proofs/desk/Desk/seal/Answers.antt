@@ -1,5 +1,5 @@
 use Rattle.desk.proofs.Words.{◌≡◌, ◌∙◌, sym, ap, Err, seal}
-use Rattle.desk.proofs.MoveLaws.{replies}
+use Rattle.desk.proofs.DeskLaws.{replies}
 use Rattle.desk.proofs.TurnLaws.{seal_reply, seal_turns}
 use Rattle.desk.proofs.desk.Desk.seal.Goals as goal
 use Rattle.desk.proofs.desk.Desk.seal.Goals.{in-Ok, in-Err-BatchOut, in-Err-OutOfMemory}

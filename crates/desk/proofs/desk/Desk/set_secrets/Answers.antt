@@ -1,6 +1,5 @@
 use Rattle.desk.proofs.Words.{arith, SetSecrets, set_faults, change, changes}
-use Rattle.desk.proofs.MoveLaws.{refuses, replies, hands_on}
-use Rattle.desk.proofs.DeskLaws.{secrets_move}
+use Rattle.desk.proofs.DeskLaws.{refuses, replies, hands_on, secrets_move}
 use Rattle.desk.proofs.desk.Desk.set_secrets.Goals as goal
 
 pub returns-in_err-check_set-clause-moves : goal.returns-in_err-check_set-clause-moves

@@ -1,6 +1,7 @@
 use Rattle.desk.proofs.Words.{◌≡◌, refl, false, true, length, with_sealed_settled, IsReceiptOf}
 use Rattle.group_commit.specs.Turns as waiting
-use Rattle.desk.proofs.TurnLaws.{comes_back, receipt_is, is_desk_settled, settles_above, settles_within, settle_turns, settle_counts}
+use Rattle.desk.proofs.TurnLaws.{comes_back, receipt_is, is_desk_settled, settles_above, settles_within, settle_turns}
+use Rattle.desk.proofs.TurnLaws.{settle_counts}
 use Rattle.desk.proofs.desk.Desk.settle.Goals as goal
 
 pub returns-in_err-settled-clause-moves : goal.returns-in_err-settled-clause-moves

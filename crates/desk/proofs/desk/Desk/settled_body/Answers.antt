@@ -1,6 +1,6 @@
 use Rattle.desk.proofs.Words.{◌≡◌, ◌∙◌, sym, ap, true, length, None, if◌then◌else◌, body_of, all_records}
 use Rattle.desk.proofs.Words.{settled_records, waiting_records, has_event}
-use Rattle.desk.proofs.LookLaws.{stands_as, settled_first, body_first}
+use Rattle.desk.proofs.DeskLaws.{stands_as, settled_first, body_first}
 use Rattle.desk.proofs.desk.Desk.settled_body.Goals as goal
 
 pub returns-then-has_settled-clause-stands : goal.returns-then-has_settled-clause-stands

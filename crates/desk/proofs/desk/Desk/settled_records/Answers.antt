@@ -1,4 +1,4 @@
-use Rattle.desk.proofs.LookLaws.{is_core}
+use Rattle.desk.proofs.DeskLaws.{is_core}
 use Rattle.desk.proofs.desk.Desk.settled_records.Goals as goal
 
 pub returns-clause-core : goal.returns-clause-core

@@ -6,7 +6,9 @@ use Rattle.desk.specs.declared.desk.Desk.TheInside.{Inside}
 use Rattle.desk.specs.contracts.desk.Desk.{the_view}
 use denote.Param.{param}
 use Rattle.desk.proofs.RowLaws.{IsReturned}
-use Rattle.desk.proofs.OverTies.{IsLive, IsOver, back_from, foreign_spends, halted_over, is_desk_left, is_live, limiter_known, new_left, places_left, reserved_left, spends, takes_outcome, told_over, written}
+use Rattle.desk.proofs.SpendLaws.{IsLive, IsOver, back_from, foreign_spends, halted_over, is_desk_left, is_live}
+use Rattle.desk.proofs.SpendLaws.{limiter_known, new_left, places_left, reserved_left, spends, takes_outcome, told_over}
+use Rattle.desk.proofs.SpendLaws.{written}
 use Rattle.desk.proofs.desk.Desk.spend.Given.{Over}
 use Rattle.desk.proofs.desk.Desk.spend.Goals.{In_ok-row, After-limit_of-limit, After-hold, After-tell_room, then-self, else-self}
 use Rattle.desk.proofs.desk.Desk.spend.Goals as goal

@@ -1,5 +1,5 @@
 use Rattle.desk.proofs.Words.{◌+◌, ap, arith, length, subst, sym, record_count, DeskValue, IsDesk}
-use Rattle.desk.proofs.AcceptTies.{desk_accept}
+use Rattle.desk.proofs.SettleLaws.{desk_accept}
 use Rattle.desk.proofs.RequestTies.{desk_reserved}
 use Rattle.desk.proofs.desk.Desk.stage_accept.Goals as goal
 

@@ -1,5 +1,5 @@
 use Rattle.desk.proofs.Words.{◌∙◌, sym, ap, DeskValue, with_live}
-use Rattle.desk.proofs.JobLaws.{job_starts}
+use Rattle.desk.proofs.ClaimLaws.{job_starts}
 use Rattle.desk.proofs.desk.Desk.start.Goals as goal
 
 pub returns-clause-starts : goal.returns-clause-starts

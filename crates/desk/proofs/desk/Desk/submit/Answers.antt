@@ -1,7 +1,6 @@
 use Rattle.desk.proofs.Words.{arith, Option, ℕ, Ok, length, ap, subst, DeskValue, Checks, all_records, settled_records}
 use Rattle.desk.proofs.Words.{submit, submit_faults}
-use Rattle.desk.proofs.MoveLaws.{replies, hands_on}
-use Rattle.desk.proofs.DeskLaws.{seen, submit_refused, submit_repeated, accept_moves, new_refused}
+use Rattle.desk.proofs.DeskLaws.{replies, hands_on, seen, submit_refused, submit_repeated, accept_moves, new_refused}
 use Rattle.desk.proofs.desk.Desk.submit.Goals as goal
 
 pub returns-in_err-check_submit-clause-moves : goal.returns-in_err-check_submit-clause-moves

@@ -1,5 +1,5 @@
 use Rattle.desk.proofs.Words.{length, all_records, settled_records}
-use Rattle.desk.proofs.LookLaws.{stands_as, totals_are}
+use Rattle.desk.proofs.DeskLaws.{stands_as, totals_are}
 use Rattle.desk.proofs.desk.Desk.totals.Goals as goal
 
 pub returns-clause-stands : goal.returns-clause-stands
