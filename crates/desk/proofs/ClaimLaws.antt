@@ -35,16 +35,9 @@ use Rattle.desk.proofs.DeskLaws.{stands_later, stands_as}
 use Rattle.desk.proofs.LeastLaws.{Among, IsFirstBy, among_filter, accepted_among, least_is, none_pass, places_rise}
 use Rattle.desk.proofs.LeastLaws.{rises_filter}
 
--- What is next may start: it is held, its endpoint has room, and there is a place for its outcome
-
 pub found_seq : (entries : List Entry) (s : ℕ) (e : Entry) → entry_at entries s ≡ Some e → e.seq ≡ s
 found_seq [] s e h = cc
 found_seq (x ∷ rest) s e h = grind (arith, nat_tests, found_seq rest s e)
-
--- what is said of an entry that is there
-pub told_of : (P : Entry → Bool) (o : Option Entry) → option_map_or P o false ≡ true → (e : Entry) × (o ≡ Some e) × (P e ≡ true)
-told_of P None t = cc
-told_of P (Some e) t = (e, refl, t)
 
 pub may_start_next : {d e : DeskValue} {queue : QueueValue} (now : ℕ) (name : List ℕ) (s : ℕ) → d ≡ e → AreTied d.endpoints d.deliveries d.waiting d.live d.limiters queue → has_place d ≡ true → IsNext queue now name s
     → may_start e s ≡ true
@@ -255,11 +248,6 @@ places_let_go queue new book pair places once lets = λ n.
 
 -- What the queue has next is the definition's choice
 
--- Tests
-
-same_length : (x y z : ℕ) → x ≡ y + z → eqb z 0 ≡ eqb x y
-same_length x y z e = grind (arith, nat_tests)
-
 due_told : (p : Bool) (x y : ℕ) → x ≡ y → option_map_or (λ due. nat_eq due y) (if p then Some x else None) false ≡ p
 due_told p x y e = grind (arith, nat_tests)
 
@@ -293,29 +281,24 @@ waits_is {d} {w} s a h e =
     let all = attempts_of (all_records w) s in
     let settled = attempts_of (settled_records w) s in
     let waiting = attempts_of (waiting_records w) s in
+    let split = attempts_split w s in
+    let counts = ap length split ∙ length-append settled waiting in
     let pair = pair_of a.endpoint (due_of (settled_records w) s) s in
     let entry = entry_is s h ∙ ap (option_map (entry_for (attempts_of (all_records w)) (attempts_of (settled_records w)) s)) there.1 in
     let first : nat_lt s d.deliveries.settled_seq ≡ true = lt-ltb s d.deliveries.settled_seq (omega (arith, there.0, h.books.of_deliveries.settled_seq)) in
     let named : bytes_eq a.endpoint a.endpoint ≡ true = (bytes_eq-Decides a.endpoint a.endpoint).1 refl in
     let due = due_is w s a e in
-    let none : eqb (length waiting) 0 ≡ eqb (length all) (length settled) = same_length (length all) (length settled) (length waiting) (counts w s) in
+    let none : eqb (length waiting) 0 ≡ eqb (length all) (length settled) = grind (arith, nat_tests, counts) in
     let out : is_out s d.live ≡ is_live w s = ap (is_out s) h.live in
-    let same = pending_same w s in
+    let same : eqb (length all) (length settled) ≡ true → is_pending_after all ≡ is_pending_after settled = λ t.
+    let nothing : waiting ≡ [] = empty_if waiting (omega (arith, counts, eqb-true (length all) (length settled) t)) in
+    ap is_pending_after (split ∙ ap (λ more. settled ++ more) nothing ∙ append-nil settled) in
     grind (arith, entry, first, named, due, same, none, out, e)
   where
     due_is : (w : World) (s : ℕ) (a : Accepted) → accepted (settled_records w) s ≡ Some a
         → option_map_or (λ due. nat_eq due (due_of (settled_records w) s)) (entry_for (attempts_of (all_records w)) (attempts_of (settled_records w)) s a).settled.due false ≡ is_pending_after (attempts_of (settled_records w) s)
     due_is w s a e = due_told (is_pending_after (attempts_of (settled_records w) s)) _ _
         (ap (λ o. option_map_or (λ last. due_after last (failures_of (settled_records w) s)) (last_of (attempts_of (settled_records w) s)) (option_map_or (λ (t : Accepted). t.at) o 0)) (sym e))
-
-    counts : (w : World) (s : ℕ) → length (attempts_of (all_records w) s) ≡ length (attempts_of (settled_records w) s) + length (attempts_of (waiting_records w) s)
-    counts w s = ap length (attempts_split w s) ∙ length-append (attempts_of (settled_records w) s) (attempts_of (waiting_records w) s)
-
-    pending_same : (w : World) (s : ℕ) → eqb (length (attempts_of (all_records w) s)) (length (attempts_of (settled_records w) s)) ≡ true
-        → is_pending_after (attempts_of (all_records w) s) ≡ is_pending_after (attempts_of (settled_records w) s)
-    pending_same w s same =
-        let none : attempts_of (waiting_records w) s ≡ [] = empty_if (attempts_of (waiting_records w) s) (omega (arith, counts w s, eqb-true (length (attempts_of (all_records w) s)) (length (attempts_of (settled_records w) s)) same)) in
-        ap is_pending_after (attempts_split w s ∙ ap (λ more. attempts_of (settled_records w) s ++ more) none ∙ append-nil (attempts_of (settled_records w) s))
 
 -- a delivery that is held, by its pair
 record IsOwn (w : World) (name : List ℕ) (due s : ℕ) (a : Accepted) : Type 0 where
@@ -339,8 +322,7 @@ held_is_own {d} {w} name due s h held =
       record {
         there = there;
         named = sym ((bytes_eq-Decides a.endpoint name).0 (and_first (bytes_eq a.endpoint name) _ own.1));
-        timed = sym (told _ _ (and_second (bytes_eq a.endpoint name) _ own.1))
-            ∙ ap (λ o. option_map_or (λ last. due_after last (failures_of (settled_records w) s)) (last_of (attempts_of (settled_records w) s)) (option_map_or (λ (t : Accepted). t.at) o 0)) (sym there);
+        timed = rw there (sym (told _ _ (and_second (bytes_eq a.endpoint name) _ own.1)));
       },
     ))
   where
@@ -411,14 +393,12 @@ next_is_choice {d} {w} {queue} now name s h tied place next =
     let ready : is_ready queue now (pair_of a.endpoint (due_of (settled_records w) s) s) ≡ true =
     ap (λ (p : List ℕ × ℕ). is_ready queue now (pair_of p.0 p.1 s)) (λ i. (sym own.named i, sym own.timed i)) ∙ next.ready in
     let claimable = claimable_is now s a h tied place own.there ∙ ready in
+    let first_place : 0 + s ≡ s = omega arith in
     least_is (due_of (settled_records w)) 0 (claimables w now) s
     (rises_filter (is_claimable w now) 0 (deliveries (settled_records w)) (places_rise is_accept 0 (settled_records w)))
     (among_filter (is_claimable w now) s (deliveries (settled_records w)) (subst (λ k. Among k (deliveries (settled_records w))) first_place (accepted_among 0 s (settled_records w) a own.there)) claimable)
     (λ m among. first own.timed m (least.passes (is_claimable w now) m (deliveries (settled_records w)) among))
   where
-    first_place : 0 + s ≡ s
-    first_place = omega arith
-
     first : next.due ≡ due_of (settled_records w) s → (m : ℕ) → is_claimable w now m ≡ true → IsFirstBy (due_of (settled_records w)) s m
     first due m c =
         let there = claimable_there w now m c in

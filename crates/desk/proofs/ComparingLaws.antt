@@ -90,18 +90,12 @@ test_totals a b = eqb a.delivered b.delivered && (eqb a.endpoints b.endpoints &&
 
 pub same_totals : (a b : Totals) → test_totals a b ≡ true → a ≡ b
 same_totals a b h =
-    let delivered : a.delivered ≡ b.delivered = grind (arith, nat_tests, h) in
-    let endpoints : a.endpoints ≡ b.endpoints = grind (arith, nat_tests, h) in
-    let exhausted : a.exhausted ≡ b.exhausted = grind (arith, nat_tests, h) in
-    let pending : a.pending ≡ b.pending = grind (arith, nat_tests, h) in
-    let records : a.records ≡ b.records = grind (arith, nat_tests, h) in
-    λ i. record {
-      delivered = delivered i;
-      endpoints = endpoints i;
-      exhausted = exhausted i;
-      pending = pending i;
-      records = records i;
-    }
+    let d : a.delivered ≡ b.delivered = grind (arith, nat_tests, h) in
+    let e : a.endpoints ≡ b.endpoints = grind (arith, nat_tests, h) in
+    let x : a.exhausted ≡ b.exhausted = grind (arith, nat_tests, h) in
+    let p : a.pending ≡ b.pending = grind (arith, nat_tests, h) in
+    let r : a.records ≡ b.records = grind (arith, nat_tests, h) in
+    λ i. record { delivered = d i; endpoints = e i; exhausted = x i; pending = p i; records = r i }
 
 pub test_same : (a b : Totals) → a ≡ b → test_totals a b ≡ true
 test_same a b same = rw (sym same) (grind (arith, nat_tests))

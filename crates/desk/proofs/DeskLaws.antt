@@ -11,16 +11,15 @@ use Rattle.desk.proofs.Words.{waiting_records, is_row_of, has_event, QueueValue,
 use Rattle.desk.proofs.Words.{BookRow, inl, inr, Result, Ok, Err, IfOk, OnErr, IsSomeAnd, Refusal, Faults, refusal}
 use Rattle.desk.proofs.Words.{first_fault, out_of_memory_at, Answer, MayGive, or_out_of_memory, refused, unless, IsMove}
 use Rattle.desk.proofs.Words.{Checks, by_bool, ◌<◌, length-append, max, bytes_eq, OnOk, not, IsTrue, take-append-le}
-use Rattle.desk.proofs.Words.{drop-append-le, leb-false, lt-ltb, MAX_ENDPOINTS, MAX_RECORDS, Put, Secrets, Enabled}
-use Rattle.desk.proofs.Words.{Accept, has_endpoint, IsLegal, may_follow, is_within_limits, legal_more, Change, entry_of}
+use Rattle.desk.proofs.Words.{drop-append-le, lt-ltb, MAX_ENDPOINTS, MAX_RECORDS, Put, Secrets, Enabled, Accept}
+use Rattle.desk.proofs.Words.{has_endpoint, IsLegal, may_follow, is_within_limits, legal_more, Change, entry_of}
 use Rattle.desk.proofs.Words.{is_flag, is_known, HasChanges, stands-other, is_other, HasWaiting, WaitingValue}
-use Rattle.desk.proofs.Words.{with_step, length-records_of, count_by_snoc, PutEndpoint, SetSecrets, SetEnabled, stages}
-use Rattle.desk.proofs.Words.{moment, at_moment, with_record, next_seq, ticket, accepts, submit, submit_known}
-use Rattle.desk.proofs.Words.{submit_new, submit_faults, new_submit_faults, put_faults, set_faults, repeats, changes}
-use Rattle.desk.proofs.Words.{change, Sample, StandsForSamples, Row, Limiter, samples_of, AreTied, StandsAt, StandsBy}
-use Rattle.desk.proofs.Words.{endpoint_at, is_limiter_of, new_limiter, AreLimits, AreBooks, OverWorlds, with_entry}
-use Rattle.desk.proofs.Words.{with_put, with_secrets, with_enabled, with_accept, nat_le, nat_eq, IfErr, if◌then◌else◌}
-use Rattle.desk.proofs.Words.{list_all, and_parts, MAX_WAITING_REQUESTS, requests_in, Fault, is_waiting_full}
+use Rattle.desk.proofs.Words.{with_step, length-records_of, count_by_snoc, stages, moment, at_moment, with_record}
+use Rattle.desk.proofs.Words.{next_seq, ticket, accepts, submit, submit_known, submit_new, submit_faults}
+use Rattle.desk.proofs.Words.{new_submit_faults, repeats, changes, change, Sample, StandsForSamples, Row, Limiter}
+use Rattle.desk.proofs.Words.{samples_of, AreTied, StandsAt, StandsBy, endpoint_at, is_limiter_of, new_limiter}
+use Rattle.desk.proofs.Words.{AreLimits, AreBooks, OverWorlds, with_entry, with_put, with_secrets, with_enabled}
+use Rattle.desk.proofs.Words.{with_accept, nat_le, nat_eq, MAX_WAITING_REQUESTS, requests_in, is_waiting_full}
 use Rattle.desk.proofs.Words.{are_seqs_spent, nat_tests}
 use Rattle.desk.specs.declared.ticket.Ticket.{Ticket}
 use Rattle.delivery_book.specs.declared.row.Counts.{Counts}
@@ -37,8 +36,6 @@ use Rattle.desk.specs.declared.ticket.CommandTicket.{CommandTicket}
 use Rattle.desk.specs.declared.refusal.Fault.TheVariants as fault
 use Rattle.endpoint_book.specs.Entries as endpoint_entries
 use Rattle.delivery_book.specs.Entries as delivery_entries
-
--- Facts about lists of steps
 
 -- steps, one list after another
 pub records_of-append : (xs ys : History) → records_of (xs ++ ys) ≡ records_of xs ++ records_of ys
@@ -111,19 +108,16 @@ pending_from : (records : List Record) (of : ℕ → Bool) (test : Record → Bo
     → count_by of (places_from test n rest) ≡ count_by (λ d. is_some (accepted records d) && of d) (places_from test n rest)
 pending_from records of test accepts n [] at = refl
 pending_from records of test accepts n (r ∷ rest) at =
-    step (test r) refl
-    (pending_from records of test accepts (n + 1) rest (λ k.
-    let moved : n + 1 + k ≡ n + suc k = omega arith in ap (accepted records) moved ∙ at (suc k)))
-  where
-    step : (b : Bool) → test r ≡ b → count_by of (places_from test (n + 1) rest) ≡ count_by (λ d. is_some (accepted records d) && of d) (places_from test (n + 1) rest)
-        → count_by of (map (λ (e : ℕ × Record). e.0) (cond b ((n, r) ∷ filter (λ e. test e.1) (enumerate_from (n + 1) rest)) (filter (λ e. test e.1) (enumerate_from (n + 1) rest))))
-        ≡ count_by (λ d. is_some (accepted records d) && of d) (map (λ (e : ℕ × Record). e.0) (cond b ((n, r) ∷ filter (λ e. test e.1) (enumerate_from (n + 1) rest)) (filter (λ e. test e.1) (enumerate_from (n + 1) rest))))
-    step true q h =
-        let here : is_some (accepted records n) ≡ true = ap is_some (ap (accepted records) (sym (add-zero n)) ∙ at 0) ∙ accepts r q in
-        sum_by-cons (λ d. cond (of d) 1 0) n (places_from test (n + 1) rest)
-        ∙ (λ i. cond (sym here i && of n) 1 0 + h i)
-        ∙ sym (sum_by-cons (λ d. cond (is_some (accepted records d) && of d) 1 0) n (places_from test (n + 1) rest))
-    step false q h = h
+    let later = pending_from records of test accepts (n + 1) rest (λ k.
+    let moved : n + 1 + k ≡ n + suc k = omega arith in ap (accepted records) moved ∙ at (suc k)) in
+    let places = places_from test (n + 1) rest in
+    let ofs = sum_by-cons (λ d. cond (of d) 1 0) n places in
+    let both = sum_by-cons (λ d. cond (is_some (accepted records d) && of d) 1 0) n places in
+    by_bool (test r) (λ q.
+    let here : is_some (accepted records n) ≡ true =
+    ap is_some (ap (accepted records) (sym (add-zero n)) ∙ at 0) ∙ accepts r q in
+    rw q (ofs ∙ (λ i. cond (sym here i && of n) 1 0 + later i) ∙ sym both))
+    (λ q. rw q later)
 
 starts : (records : List Record) (k : ℕ) → accepted records (0 + k) ≡ option_and_then accepted_by (slice_get records k)
 starts records k = let moved : 0 + k ≡ k = omega arith in ap (accepted records) moved
@@ -155,17 +149,7 @@ records_counted {d} {w} h =
 
 -- what ties a desk's fields, but for its queue
 pub is_core : {d v : DeskValue} {queue : QueueValue} → d ≡ v → IsDesk d.endpoints d.deliveries d.waiting d.live d.limiters queue → IsCore v
-is_core {d} same h = subst (λ (x : DeskValue). IsCore x) same (record {
-  endpoints_settled = h.endpoints_settled;
-  endpoints_within = h.endpoints_staged;
-  endpoints_wait = h.endpoints_wait;
-  deliveries_settled = h.deliveries_settled;
-  deliveries_within = h.deliveries_staged;
-  deliveries_wait = h.deliveries_wait;
-  live = h.tied.queued.under_way;
-  limits = h.tied.limited;
-  room = h.tied.room;
-})
+is_core {d} same h = subst (λ (x : DeskValue). IsCore x) same (assumption)
 
 -- Tickets
 
@@ -321,6 +305,7 @@ pub endpoints_wait : {e f : endpoint_entries.BookValue} {d : delivery_entries.Bo
 endpoints_wait {e} {f} {d} {waiting} change entry h changes next settled other waits tied =
     let flags = ap (count_by is_flag) changes ∙ count_by_snoc is_flag e.changes change in
     let one : cond (is_flag change) 1 0 ≤ 1 = grind arith in
+    let others = waiting_other d (records_of waiting.waiting) entry other h.deliveries_wait in
     record {
       endpoints_staged = omega (arith, next, one_more waiting entry);
       endpoints_settled = settled ∙ h.endpoints_settled;
@@ -328,7 +313,7 @@ endpoints_wait {e} {f} {d} {waiting} change entry h changes next settled other w
       endpoints_wait = one_changes (endpoint_at d) f waiting entry waits;
       deliveries_staged = omega (arith, h.deliveries_staged, one_more waiting entry);
       deliveries_settled = h.deliveries_settled;
-      deliveries_wait = one_waits d waiting entry (waiting_other d (records_of waiting.waiting) entry other h.deliveries_wait);
+      deliveries_wait = one_waits d waiting entry others;
       tied = tied;
     }
 
@@ -336,16 +321,14 @@ endpoints_wait {e} {f} {d} {waiting} change entry h changes next settled other w
 pub deliveries_wait : {e : endpoint_entries.BookValue} {d f : delivery_entries.BookValue} {waiting : WaitingValue} {live : List Row} {limiters : List Limiter} {queue later : QueueValue} (entry : Record) → IsDesk e d waiting live limiters queue
     → f.next_seq ≡ record_count waiting + 1 → f.settled_seq ≡ d.settled_seq → HasWaiting f (records_of waiting.waiting ++ entry ∷ []) → HasChanges (endpoint_at f) e (records_of waiting.waiting ++ entry ∷ [])
     → AreTied e f (with_step waiting (entry ∷ [])) live limiters later → IsDesk e f (with_step waiting (entry ∷ [])) live limiters later
-deliveries_wait {e} {d} {f} {waiting} entry h next settled waits changes tied = record {
-  endpoints_staged = omega (arith, h.endpoints_staged, one_more waiting entry);
-  endpoints_settled = h.endpoints_settled;
-  flags_few = h.flags_few;
-  endpoints_wait = one_changes (endpoint_at f) e waiting entry changes;
-  deliveries_staged = omega (arith, next, one_more waiting entry);
-  deliveries_settled = settled ∙ h.deliveries_settled;
-  deliveries_wait = one_waits f waiting entry waits;
-  tied = tied;
-}
+deliveries_wait {e} {d} {f} {waiting} entry h next settled waits changes tied =
+    let more = one_more waiting entry in
+    let endpoints_staged : e.next_seq ≤ record_count (with_step waiting (entry ∷ [])) =
+    omega (arith, h.endpoints_staged, more) in
+    let deliveries_staged : f.next_seq ≤ record_count (with_step waiting (entry ∷ [])) = omega (arith, next, more) in
+    let changed = one_changes (endpoint_at f) e waiting entry changes in
+    let deliveries_settled = settled ∙ h.deliveries_settled in
+    assumption (endpoints_staged, deliveries_staged, changed, deliveries_settled, one_waits f waiting entry waits)
 
 -- the longer history is legal
 pub legal_with : {d : DeskValue} {w : World} (entry : Record) → StandsFor d w → record_count d.waiting < MAX_RECORDS → IsTrue (may_follow (all_records w) entry) → IsTrue (is_within_limits entry)
@@ -356,24 +339,18 @@ legal_with {d} {w} entry h room follows limits = legal_more (all_records w) entr
 pub stands_staged : (d : DeskValue) (w : World) (entry : Record) (endpoints : endpoint_entries.BookValue) (deliveries : delivery_entries.BookValue) → StandsFor d w
     → AreBooks endpoints deliveries (all_records w ++ entry ∷ []) (length (settled_records w))
     → StandsFor (record (with_entry d entry) { endpoints = endpoints; deliveries = deliveries }) (with_record w entry)
-stands_staged d w entry endpoints deliveries h books = record {
-  clock = h.clock;
-  halted = h.halted;
-  books = subst (λ records. AreBooks endpoints deliveries records (length (settled_records (with_record w entry)))) (sym (records_of-snoc w.history entry))
-      (subst (λ n. AreBooks endpoints deliveries (all_records w ++ entry ∷ []) n) (ap length (sym settled)) books);
-  waiting = record {
-    steps = ap (λ steps. steps ++ (entry ∷ []) ∷ []) h.waiting.steps ∙ sym (drop-append-le w.settled w.history ((entry ∷ []) ∷ []) (settled_within h));
-    settled_seq = h.waiting.settled_seq ∙ ap length (sym settled);
-    is_out = h.waiting.is_out;
-    settled_first = h.waiting.settled_first;
-    sealed_within = omega (arith, h.waiting.sealed_within, length-append w.history ((entry ∷ []) ∷ []));
-  };
-  live = h.live;
-  limits = h.limits;
-}
-  where
-    settled : settled_records (with_record w entry) ≡ settled_records w
-    settled = ap records_of (take-append-le w.settled w.history ((entry ∷ []) ∷ []) (settled_within h))
+stands_staged d w entry endpoints deliveries h books =
+    let more = (entry ∷ []) ∷ [] in
+    let settled : settled_records (with_record w entry) ≡ settled_records w =
+    ap records_of (take-append-le w.settled w.history more (settled_within h)) in
+    let counted = subst (AreBooks endpoints deliveries (all_records w ++ entry ∷ [])) (ap length (sym settled)) books in
+    let now = length (settled_records (with_record w entry)) in
+    let recorded = subst (λ xs. AreBooks endpoints deliveries xs now) (sym (records_of-snoc w.history entry)) counted in
+    let steps =
+    ap (λ steps. steps ++ more) h.waiting.steps ∙ sym (drop-append-le w.settled w.history more (settled_within h)) in
+    let within : w.sealed ≤ length (w.history ++ more) =
+    omega (arith, h.waiting.sealed_within, length-append w.history more) in
+    assumption (recorded, steps, h.waiting.settled_seq ∙ ap length (sym settled), within)
 
 pub known_is : {d : DeskValue} {w : World} (name : List ℕ) → StandsFor d w → is_known d.endpoints name ≡ has_endpoint (all_records w) name
 known_is {d} {w} name h = known-entry d.endpoints (all_records w) name h.books.of_endpoints.tells
@@ -469,38 +446,6 @@ stages_or_lacks d new staged entry made waits same is limits err = makes_or_lack
       subst (λ (v : DeskValue). StandsFor v (with_record w entry)) (sym is) (waits w h limits),
     )
 
-pub put_moves : (d new : DeskValue) (name target : List ℕ) (max : ℕ) (secrets : List (List ℕ)) (u : Unit {0}) (made : Result CommandTicket AllocError) → Checks d (λ w. put_faults w name) (Ok u)
-    → record_count d.waiting < MAX_RECORDS → is_known d.endpoints name ≡ false
-    → IfOk made (λ t. t.seq ≡ record_count d.waiting) → OnOk made (new ≡ with_put d name target max secrets) → OnOk made (IsTrue (is_within_limits (Put name target max secrets))) → OnErr made (new ≡ d)
-    → IsMove d (λ w. change w (PutEndpoint name target max secrets)) (out_of_memory_at 7 made) new
-put_moves d new name target max secrets u made checks room unknown same is limits err =
-    passes d new (λ w. put_faults w name) (λ w. changes w (PutEndpoint name target max secrets)) u (out_of_memory_at 7 made) checks
-    (stages_or_lacks d new (with_put d name target max secrets) (Put name target max secrets) made
-    (λ w h. stands_with_put d w name target max secrets h room unknown (few w h)) same is limits err)
-  where
-    few : (w : World) → StandsFor d w → length (endpoints (all_records w)) < MAX_ENDPOINTS
-    few w h = leb-false MAX_ENDPOINTS (length (endpoints (all_records w))) (absent (put_faults w name) u (sym (checks w h))).1.1.0
-
-pub secrets_move : (d new : DeskValue) (name : List ℕ) (secrets : List (List ℕ)) (u : Unit {0}) (made : Result CommandTicket AllocError) → Checks d (λ w. set_faults w name) (Ok u)
-    → record_count d.waiting < MAX_RECORDS → IsTrue (is_known d.endpoints name)
-    → IfOk made (λ t. t.seq ≡ record_count d.waiting) → OnOk made (new ≡ with_secrets d name secrets) → OnOk made (IsTrue (is_within_limits (Secrets name secrets))) → OnErr made (new ≡ d)
-    → IsMove d (λ w. change w (SetSecrets name secrets)) (out_of_memory_at 7 made) new
-secrets_move d new name secrets u made checks room known same is limits err =
-    passes d new (λ w. set_faults w name) (λ w. changes w (SetSecrets name secrets)) u (out_of_memory_at 7 made) checks
-    (stages_or_lacks d new (with_secrets d name secrets) (Secrets name secrets) made
-    (λ w h. stands_with_secrets d w name secrets h room known) same is limits err)
-
-pub enabled_moves : (d new : DeskValue) (name : List ℕ) (flag : Bool) (u : Unit {0}) (t : CommandTicket) → Checks d (λ w. set_faults w name) (Ok u)
-    → record_count d.waiting < MAX_RECORDS → IsTrue (is_known d.endpoints name)
-    → t.seq ≡ record_count d.waiting → new ≡ with_enabled d name flag → IsTrue (is_within_limits (Enabled name flag))
-    → IsMove d (λ w. change w (SetEnabled name flag)) (Ok t) new
-enabled_moves d new name flag u t checks room known same is limits =
-    passes d new (λ w. set_faults w name) (λ w. changes w (SetEnabled name flag)) u (Ok t) checks
-    (makes d new (λ w. stages w (Enabled name flag)) t (λ w h. (
-      ap Ok (λ i. record { seq = (sym (count_is h) ∙ sym same) i }),
-      subst (λ (v : DeskValue). StandsFor v (with_record w (Enabled name flag))) (sym is) (stands_with_enabled d w name flag h room known limits),
-    )))
-
 -- Submissions
 
 -- what the desk finds of an event, in each world for which it stands
@@ -588,33 +533,3 @@ pub is_spent : {d : DeskValue} {w : World} (numbers : ℕ) → StandsFor d w →
 is_spent {d} {w} numbers h e =
     let all : numbers ≡ length (all_records w) + length w.live = omega (arith, e, count_is h, ap length h.live) in
     ap (nat_le MAX_RECORDS) all
-
--- the faults of each call, by what is there
-abbrev pub submit_looks : (halted unknown conflict : Bool) → Faults
-submit_looks halted unknown conflict = (halted, 1, fault.Halted) ∷ (unknown, 2, fault.UnknownEndpoint) ∷ (conflict, 3, fault.Conflict) ∷ []
-
-abbrev pub new_looks : (own all full spent : Bool) → Faults
-new_looks own all full spent = (own, 4, fault.EndpointBacklog) ∷ (all, 5, fault.Backlog) ∷ (full, 6, fault.WaitingFull) ∷ (spent, 7, fault.SeqExhausted) ∷ []
-
-abbrev pub put_looks : (halted known many full spent : Bool) → Faults
-put_looks halted known many full spent =
-    (halted, 1, fault.Halted) ∷ (known, 3, fault.Exists) ∷ (many, 4, fault.TooManyEndpoints) ∷ (full, 5, fault.WaitingFull) ∷ (spent, 6, fault.SeqExhausted) ∷ []
-
-abbrev pub set_looks : (halted unknown full spent : Bool) → Faults
-set_looks halted unknown full spent = (halted, 1, fault.Halted) ∷ (unknown, 2, fault.UnknownEndpoint) ∷ (full, 5, fault.WaitingFull) ∷ (spent, 6, fault.SeqExhausted) ∷ []
-
--- a refusal has one of the names that are looked for
-first_named : (may : Fault → Bool) (there : Bool) (number : ℕ) (fault : Fault) (rest : Faults) → IsTrue (may fault) → IfErr (first_fault rest) (λ why. IsTrue (may why.fault))
-    → IfErr (if there then Err (refusal number fault) else first_fault rest) (λ why. IsTrue (may why.fault))
-first_named may true number fault rest first behind = first
-first_named may false number fault rest first behind = behind
-
-named : (may : Fault → Bool) (faults : Faults) → IsTrue (list_all (λ looked. may looked.2) faults) → IfErr (first_fault faults) (λ why. IsTrue (may why.fault))
-named may [] all = tt
-named may ((there, number, fault) ∷ rest) all =
-    let parts = and_parts (may fault) (list_all (λ looked. may looked.2) rest) all in
-    first_named may there number fault rest parts.0 (named may rest parts.1)
-
-pub refused_by : (may : Fault → Bool) (faults : Faults) (result : Result (Unit {0}) Refusal) → result ≡ first_fault faults → IsTrue (list_all (λ looked. may looked.2) faults)
-    → IfErr result (λ why. IsTrue (may why.fault))
-refused_by may faults result e all = subst (λ (r : Result (Unit {0}) Refusal). IfErr r (λ why. IsTrue (may why.fault))) (sym e) (named may faults all)

@@ -1,8 +1,8 @@
 -- The least number of a list of rising numbers.
-use Rattle.desk.proofs.Words.{◌≡◌, ◌≤◌, ◌+◌, ◌⊎◌, inl, inr, ℕ, zero, suc, Bool, true, false, List, [], ◌∷◌, Option}
-use Rattle.desk.proofs.Words.{Some, refl, ◌∙◌, ap, arith, cond, map, subst, filter, nat_le, is_some, slice_get}
-use Rattle.desk.proofs.Words.{option_and_then, enumerate_from, Record, Accepted, accepted_by, is_accept, least_by}
-use Rattle.desk.proofs.Words.{nat_tests, by_option, cond_both, by_bool}
+use Rattle.desk.proofs.Words.{◌≡◌, ◌≤◌, ◌+◌, ◌⊎◌, inl, inr, ℕ, zero, suc, Bool, true, false, List, [], ◌∷◌, Some, refl}
+use Rattle.desk.proofs.Words.{◌∙◌, ap, arith, map, subst, filter, nat_le, is_some, slice_get, option_and_then}
+use Rattle.desk.proofs.Words.{enumerate_from, Record, Accepted, accepted_by, is_accept, least_by, nat_tests, by_option}
+use Rattle.desk.proofs.Words.{cond_both, by_bool}
 
 -- each number is above the one before it, and the first is not below this one
 abbrev pub Rises : ℕ → List ℕ → Type 0
@@ -12,9 +12,6 @@ Rises from (n ∷ rest) = (from ≤ n) × Rises (n + 1) rest
 abbrev pub Among : ℕ → List ℕ → Type 0
 Among m [] = ⊥
 Among m (n ∷ rest) = (m ≡ n) ⊎ Among m rest
-
-abbrev some_number : ℕ → Option ℕ
-some_number n = Some n
 
 rises_later : (a b : ℕ) (ns : List ℕ) → a ≤ b → Rises b ns → Rises a ns
 rises_later a b [] le h = tt
@@ -81,27 +78,15 @@ places_from test n records = map (λ (e : ℕ × Record). e.0) (filter (λ e. te
 
 pub places_rise : (test : Record → Bool) (n : ℕ) (records : List Record) → Rises n (places_from test n records)
 places_rise test n [] = tt
-places_rise test n (r ∷ rest) = step (test r) (places_rise test (n + 1) rest)
-  where
-    step : (b : Bool) → Rises (n + 1) (places_from test (n + 1) rest)
-        → Rises n (map (λ (e : ℕ × Record). e.0) (cond b ((n, r) ∷ filter (λ e. test e.1) (enumerate_from (n + 1) rest)) (filter (λ e. test e.1) (enumerate_from (n + 1) rest))))
-    step true h = (omega arith, h)
-    step false h = rises_later n (n + 1) (places_from test (n + 1) rest) (omega arith) h
+places_rise test n (r ∷ rest) =
+    let later = places_rise test (n + 1) rest in
+    let behind = rises_later n (n + 1) (places_from test (n + 1) rest) (omega arith) later in
+    by_bool (test r) (λ e. rw e (omega arith, later)) (λ e. rw e behind)
 
 pub accepted_among : (n k : ℕ) (records : List Record) (a : Accepted) → option_and_then accepted_by (slice_get records k) ≡ Some a → Among (n + k) (places_from is_accept n records)
 accepted_among n k [] a e = cc
-accepted_among n zero (r ∷ rest) a e = step (is_accept r) (ap is_some e)
-  where
-    step : (b : Bool) → b ≡ true
-        → Among (n + zero) (map (λ (e : ℕ × Record). e.0) (cond b ((n, r) ∷ filter (λ e. is_accept e.1) (enumerate_from (n + 1) rest)) (filter (λ e. is_accept e.1) (enumerate_from (n + 1) rest))))
-    step true p = inl (omega arith)
-    step false p = cc
-accepted_among n (suc k) (r ∷ rest) a e = step (is_accept r) (subst (λ m. Among m (places_from is_accept (n + 1) rest)) moved (accepted_among (n + 1) k rest a e))
-  where
-    moved : n + 1 + k ≡ n + suc k
-    moved = omega arith
-
-    step : (b : Bool) → Among (n + suc k) (places_from is_accept (n + 1) rest)
-        → Among (n + suc k) (map (λ (e : ℕ × Record). e.0) (cond b ((n, r) ∷ filter (λ e. is_accept e.1) (enumerate_from (n + 1) rest)) (filter (λ e. is_accept e.1) (enumerate_from (n + 1) rest))))
-    step true h = inr h
-    step false h = h
+accepted_among n zero (r ∷ rest) a e = let accepts : is_accept r ≡ true = ap is_some e in rw accepts (inl (omega arith))
+accepted_among n (suc k) (r ∷ rest) a e =
+    let moved : n + 1 + k ≡ n + suc k = omega arith in
+    let later = subst (λ m. Among m (places_from is_accept (n + 1) rest)) moved (accepted_among (n + 1) k rest a e) in
+    by_bool (is_accept r) (λ t. rw t (inr later)) (λ t. rw t later)

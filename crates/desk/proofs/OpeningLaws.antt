@@ -252,12 +252,11 @@ pub limiter_more : (book : endpoint_entries.BookValue) (names : List (List ℕ))
     → estimator.maximum ≡ max → StandsForSamples estimator [] → Explains estimator [] → more ≡ limiters ++ record { endpoint = name; estimator = estimator } ∷ []
     → more ≡ filter_map (limiter_in book) (take (i + 1) (map (λ e. e.name) book.entries))
 limiter_more book names i name limiters more estimator max are within is before there maximum empty explains pushed =
+    let own : Some (new_limiter name max) ≡ limiter_in book name =
+    by_option (entry_of book name) (λ e. grind (arith, there, e)) (λ x e. grind (arith, there, e)) in
     pushed ∙ ap (λ l. limiters ++ l ∷ []) (limiter_is estimator name max maximum empty explains)
     ∙ ap (λ o. limiters ++ cons_option o []) own
     ∙ sym (limiter_next book names i name limiters are within is before)
-  where
-    own : Some (new_limiter name max) ≡ limiter_in book name
-    own = by_option (entry_of book name) (λ e. grind (arith, there, e)) (λ x e. grind (arith, there, e))
 
 pub limiter_none : (book : endpoint_entries.BookValue) (names : List (List ℕ)) (i : ℕ) (name : List ℕ) (limiters : List Limiter) → names ≡ map (λ e. e.name) book.entries → i < length names → name ≡ get_or names i name
     → limiters ≡ filter_map (limiter_in book) (take i (map (λ e. e.name) book.entries)) → None ≡ option_map (λ e. e.max) (endpoint_entries.entry_of book name)
@@ -285,6 +284,7 @@ pub is_desk_opened : (books : Books) (endpoints : endpoint_entries.BookValue) (d
     → endpoints ≡ books.endpoints → deliveries ≡ books.deliveries → AreSettled books → AreInStep books.endpoints → (books.endpoints.next_seq ≡ books.endpoints.settled_seq → books.endpoints.changes ≡ []) → IsInStep books.deliveries → waiting ≡ none_waiting books.records mark → live ≡ []
     → limiters ≡ map (λ e. new_limiter e.name e.max) books.endpoints.entries → AreQueued queue books.deliveries [] → AreMarked queue books.endpoints limiters [] → IsDesk endpoints deliveries waiting live limiters queue
 is_desk_opened books endpoints deliveries waiting live limiters queue mark same_endpoints same_deliveries settled endpoints_step all_settled step none nobody are queued marked =
+    let same = settled.endpoints_next ∙ sym settled.endpoints_settled in
     rw (same_endpoints, same_deliveries, none, nobody) (record {
       endpoints_staged = omega (arith, settled.endpoints_next);
       endpoints_settled = settled.endpoints_settled;
@@ -300,9 +300,6 @@ is_desk_opened books endpoints deliveries waiting live limiters queue mark same_
         queued = queued;
       };
     })
-  where
-    same : books.endpoints.next_seq ≡ books.endpoints.settled_seq
-    same = settled.endpoints_next ∙ sym settled.endpoints_settled
 
 pub is_desk_new : {endpoints : endpoint_entries.BookValue} {deliveries : BookValue} {waiting : WaitingValue} {live : List Row} {limiters : List Limiter} {queue : QueueValue} (mark : ℕ)
     → endpoints ≡ endpoint_entries.empty_book → deliveries ≡ empty_book → waiting ≡ none_waiting 0 mark → live ≡ [] → limiters ≡ [] → queue ≡ empty_queue → IsDesk endpoints deliveries waiting live limiters queue

@@ -18,8 +18,6 @@ use Rattle.delivery_book.specs.Entries as delivery_entries
 use Rattle.desk.proofs.DeskLaws.{one_more, endpoints_wait}
 use Rattle.desk.proofs.TieLaws.{held_told, marked_told, places_told}
 
--- What ties the queue and the limits to the endpoints stays so as these change
-
 -- A request waits: it takes no outcome's place, and a number.
 pub room_requested : (waiting : WaitingValue) (live : List Row) (entry : Record) → is_outcome (entry ∷ []) ≡ false → HasRoomForAll waiting live → record_count waiting + length live < MAX_RECORDS
     → HasRoomForAll (with_step waiting (entry ∷ [])) live
@@ -221,7 +219,8 @@ pub places_kept : (old new : QueueValue) (book : delivery_entries.BookValue) →
     → KeepsPlaces old new → HasPlaces old book → HasPlaces new book
 places_kept old new book same keeps places = λ n.
     let counted : count_by (is_unheld new n) book.entries ≡ count_by (is_unheld old n) book.entries =
-    λ i. count_by (λ (e : DeliveryEntry). bytes_eq e.name n && (is_in_state Pending (delivery_entries.state_in e.latest) && not (same (own_pair e) i))) book.entries in
+    λ i. count_by (λ (e : DeliveryEntry). bytes_eq e.name n
+    && (is_in_state Pending (delivery_entries.state_in e.latest) && not (same (own_pair e) i))) book.entries in
     omega (arith, counted, keeps n, places n)
 
 -- the same pairs are held, and no fewer places are free

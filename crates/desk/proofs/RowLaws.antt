@@ -7,8 +7,6 @@ use Rattle.desk.proofs.Words.{and_second, and_both, all_at, Row, in_flight_of, i
 use Rattle.desk.proofs.Words.{◌++◌, IsPermutation, sum_by_push}
 use Rattle.std.proofs.lemmas.List.Sorted.{sum_by-IsPermutation}
 
--- The rows of the permits that are out, without one of them
-
 -- the attempts at a delivery that are under way
 abbrev pub attempts_at : ℕ → List Row → ℕ
 attempts_at d rows = count_by (λ row. nat_eq row.delivery d) rows
@@ -93,29 +91,29 @@ pub record IsReturned (row : Row) (rows new : List Row) : Type 0 where
   pub in_flight : (name : List ℕ) → bytes_eq row.endpoint name ≡ false → in_flight_of name new ≡ in_flight_of name rows
 
 returned_at : (row : Row) (rows new : List Row) (i : ℕ) → position (same_row row) rows ≡ Some i → new ≡ remove rows i → ((d : ℕ) → attempts_at d rows ≤ 1) → IsReturned row rows new
-returned_at row rows new i at is once = record {
-  there = list_any_at (same_row row) rows i row (found.0) (found.1);
-  rest = is ∙ removed_is row rows i found.0 own (once row.delivery);
-  fewer = omega (arith, ap length is, sum_by-remove (λ (x : Row). 1) rows i row found.0, counted rows, counted (remove rows i));
-  free = ap (is_out row.delivery) is ∙ none_any (λ (x : Row). nat_eq x.delivery row.delivery) (remove rows i)
-      (omega (arith, once row.delivery, less row.delivery, ap {B = ℕ} (λ b. cond b 1 0) (eq-eqb (get_or rows i row).delivery row.delivery (ap (λ (x : Row). x.delivery) (sym own)))));
-  out = λ d apart. ap (is_out d) is ∙ any_removed (λ (x : Row). nat_eq x.delivery d) rows i row found.0 (ap (λ (x : Row). nat_eq x.delivery d) (sym own) ∙ apart);
-  once = λ d. subst (λ xs. attempts_at d xs ≤ 1) (sym is) (omega (arith, once d, less d));
-  passes = λ p h. ap p own ∙ all_at p rows i row found.0 h;
-  pass = λ p h. ap (list_all p) is ∙ all_removed p rows i h;
-  in_flight = λ name apart. ap (in_flight_of name) is
-      ∙ omega (arith, sum_by-remove (λ (x : Row). cond (bytes_eq x.endpoint name) 1 0) rows i row found.0, ap {B = ℕ} (λ b. cond b 1 0) (ap (λ (x : Row). bytes_eq x.endpoint name) (sym own) ∙ apart));
-}
+returned_at row rows new i at is once =
+    let found = position-Some (same_row row) rows i row at in
+    let own : row ≡ get_or rows i row = same_row_is row (get_or rows i row) found.1 in
+    let less = λ (d : ℕ). sum_by-remove (λ (x : Row). cond (nat_eq x.delivery d) 1 0) rows i row found.0 in
+    let one = sum_by-remove (λ (x : Row). 1) rows i row found.0 in
+    let none : attempts_at row.delivery (remove rows i) ≡ 0 =
+    grind (arith, nat_tests, once row.delivery, less row.delivery, own) in
+    record {
+      there = list_any_at (same_row row) rows i row found.0 found.1;
+      rest = is ∙ removed_is row rows i found.0 own (once row.delivery);
+      fewer = omega (arith, ap length is, one, counted rows, counted (remove rows i));
+      free = ap (is_out row.delivery) is ∙ none_any (λ (x : Row). nat_eq x.delivery row.delivery) (remove rows i) none;
+      out = λ d apart.
+          let same = any_removed (λ (x : Row). nat_eq x.delivery d) rows i row found.0 in
+          grind (arith, is, same, own, apart);
+      once = λ d. subst (λ xs. attempts_at d xs ≤ 1) (sym is) (omega (arith, once d, less d));
+      passes = λ p h. ap p own ∙ all_at p rows i row found.0 h;
+      pass = λ p h. ap (list_all p) is ∙ all_removed p rows i h;
+      in_flight = λ name apart.
+          let left = sum_by-remove (λ (x : Row). cond (bytes_eq x.endpoint name) 1 0) rows i row found.0 in
+          grind (arith, is, left, own, apart);
+    }
   where
-    found : (i < length rows) × (same_row row (get_or rows i row) ≡ true) × ((k : ℕ) → k < i → same_row row (get_or rows k row) ≡ false)
-    found = position-Some (same_row row) rows i row at
-
-    own : row ≡ get_or rows i row
-    own = same_row_is row (get_or rows i row) found.1
-
-    less : (d : ℕ) → attempts_at d (remove rows i) + cond (nat_eq (get_or rows i row).delivery d) 1 0 ≡ attempts_at d rows
-    less d = sum_by-remove (λ (x : Row). cond (nat_eq x.delivery d) 1 0) rows i row found.0
-
     counted : (xs : List Row) → sum_by (λ (x : Row). 1) xs ≡ length xs
     counted [] = refl
     counted (x ∷ xs) = omega (arith, sum_by-cons (λ (y : Row). 1) x xs, counted xs)

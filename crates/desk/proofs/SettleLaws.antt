@@ -23,8 +23,6 @@ use Rattle.desk.proofs.DeskLaws.{deliveries_wait}
 use Rattle.desk.proofs.RequestTies.{room_requested, by_name, found_with, marked_reserved, places_reserved}
 use Rattle.desk.proofs.RequestTies.{reserved_free}
 
--- One more record is settled: what that makes of the book, and of what the queue holds
-
 -- whether this is the delivery that is named
 abbrev pub names : Option ℕ → ℕ → Bool
 names o n = option_map_or (λ d. nat_eq d n) o false
@@ -314,13 +312,11 @@ places_settled queue book live queued = λ name.
       queued.places name,
     )
   where
-    concerned : (n : ℕ) → names (first book) n ≡ true → names (next_settled book) n ≡ true
-    concerned n e = grind (arith, e, concerned_first book queued.apart n)
-
     same : (name : List ℕ) (x : Entry) → is_unheld queue name (moved (first book) x) ≡ is_unheld queue name x
     same name x = by_bool (names (first book) x.seq)
         (λ e.
-        let unheld = new_settled queue book live x.seq queued (concerned x.seq e) in
+        let unheld =
+        new_settled queue book live x.seq queued (grind (arith, e, concerned_first book queued.apart x.seq)) in
         grind (arith, e, unheld x.name (unwrap_or x.latest.due 0), unheld x.name (unwrap_or x.settled.due 0)))
         (λ e. grind (arith, e))
 
@@ -492,11 +488,9 @@ under_way_taken book live s name id body at h = record {
 -- a delivery that isn't settled doesn't wait for an attempt
 waits_taken : (book : BookValue) (live : List Row) (s : ℕ) (name id body : List ℕ) (at : ℕ) (pair : Pair) → book.settled_seq ≤ s → waits_as book live pair ≡ waits_as (with_event book s name id body at) live pair
 waits_taken book live s name id body at pair above =
+    let x = new_entry s name id body at in
     same_with (λ e. is_idle book.settled_seq live e && is_pair_of pair e) book (new_entry s name id body at) pair.seq
     (ap (λ b. (b && (is_open x && not (is_out x.seq live))) && is_pair_of pair x) (le-ltb s book.settled_seq above))
-  where
-    x : Entry
-    x = new_entry s name id body at
 
 places_taken : (queue new : QueueValue) (book : BookValue) (s : ℕ) (name id body : List ℕ) (at : ℕ) → HasSamePairs queue new → SetsMark queue new (reserved_mark queue name (pending_in book name + 1)) → HasPlaces queue book
     → HasPlaces new (with_event book s name id body at)

@@ -36,12 +36,11 @@ use Rattle.desk.proofs.ClaimLaws.{entry_is, limit_is, limiter_entry}
 use Rattle.desk.proofs.DeskLaws.{count_is, known_is, legal_with, stands_staged, one_changes, one_more, one_waits}
 use Rattle.desk.proofs.DeskLaws.{stands_as}
 use Rattle.desk.proofs.RowLaws.{others, IsReturned, attempts_at, none_found, returned, same_row_is}
-use Rattle.desk.proofs.TieLaws.{UnderWay, takes, tried, marked_told, places_told, apart_tried, held_again, held_tried}
+use Rattle.desk.proofs.TieLaws.{UnderWay, takes, tried, marked_told, apart_tried, held_again, held_tried}
 use Rattle.desk.proofs.TieLaws.{new_pair, places_tried, under_way, under_way_less, under_way_tried, holds_rooms}
 use Rattle.desk.proofs.SettleLaws.{names_tried}
 use Rattle.desk.proofs.RequestTies.{flag_known, flag_limiters, flag_room}
-
--- What one more sample makes of the limiters
+use Rattle.desk.proofs.RequestTies.{queued_told}
 
 -- the place at which the test passes first
 placed : {X : Type 0} (p : X → Bool) (xs : List X) (i : ℕ) → Some i ≡ position p xs → (i ≡ position_or_len p xs) × (i < length xs)
@@ -407,12 +406,7 @@ tied_over d queue held told row rest status at limiters h is unused kept holds p
       limited = limited_over d row status limiters h.tied.limited kept;
       room = room_over d row rest status at h.tied.room is.gone.fewer;
       marked = marked_over d queue held told row rest status limiters h.tied.marked is kept (holds_rooms queue held _ holds) changes;
-      queued = record {
-        apart = queued.apart;
-        under_way = queued.under_way;
-        held = λ pair. same pair ∙ queued.held pair;
-        places = places_told held told (tried d.deliveries (record_count d.waiting) row.delivery status at) row.endpoint _ same changes queued.places;
-      };
+      queued = queued_told held told _ rest row.endpoint _ same changes queued;
     }
 
 pub is_desk_over : (d : DeskValue) (queue told : QueueValue) (row : Row) (rest : List Row) (status : Option ℕ) (at : ℕ) (limiters : List Limiter) → IsDesk d.endpoints d.deliveries d.waiting d.live d.limiters queue → IsLive d row rest
@@ -520,6 +514,7 @@ pub is_desk_left : (d m : DeskValue) (queue held told : QueueValue) (row : Row) 
     → IsReturned row d.live rest → IsOver d m row rest post at staged → Holds queue held (idle_pair m.deliveries row.delivery) → HasPlaces held m.deliveries
     → HasSamePairs held told → ChangesMark held told row.endpoint (with_room (room_by m.endpoints m.limiters m.live row.endpoint)) → IsDesk m.endpoints m.deliveries m.waiting m.live m.limiters told
 is_desk_left d m queue held told row rest post at staged h r over holds places same changes =
+    let status = status_of d.halted post in
     subst (λ (live : List Row). IsDesk m.endpoints m.deliveries m.waiting live m.limiters told) (sym over.live)
     (subst (λ waiting. IsDesk m.endpoints m.deliveries waiting rest m.limiters told) (sym over.waiting)
     (subst (λ deliveries. IsDesk m.endpoints deliveries (recorded d row at status) rest m.limiters told) (sym over.deliveries)
@@ -531,9 +526,6 @@ is_desk_left d m queue held told row rest post at staged h r over holds places s
     same
     (subst (λ endpoints. ChangesMark held told row.endpoint (with_room (room_by endpoints m.limiters rest row.endpoint))) over.endpoints
     (subst (λ live. ChangesMark held told row.endpoint (with_room (room_by m.endpoints m.limiters live row.endpoint))) over.live changes)))))))
-  where
-    status : Option ℕ
-    status = status_of d.halted post
 
 -- the queue may hold the delivery again
 pub places_left : (d m : DeskValue) (queue : QueueValue) (row : Row) (rest : List Row) (post : PostResult) (at : ℕ) (staged : Option ℕ) → IsDesk d.endpoints d.deliveries d.waiting d.live d.limiters queue

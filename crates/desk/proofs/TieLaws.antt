@@ -6,19 +6,17 @@ use Rattle.desk.proofs.Words.{eqb-true, list_any-append, sum_by_push, bytes_eq-D
 use Rattle.desk.proofs.Words.{is_in_state, and_first, and_second, and_both, enabled_in, Entry, BookValue, entry_at}
 use Rattle.desk.proofs.Words.{is_open, state_in, Row, in_flight_of, is_out, next_row, Mark, Pair, QueueValue}
 use Rattle.desk.proofs.Words.{ChangesMark, HasSamePairs, free_places, has_room_in, is_held, is_reserved, mark_of}
-use Rattle.desk.proofs.Words.{pair_of, place_given, same_pair, with_room, record_count, Limiter, AreHeld, AreMarked}
-use Rattle.desk.proofs.Words.{AreTied, AreUnderWay, HasPlaces, HasRoomForAll, LetsGo, LetsPairGo, is_idle, is_pair_of}
+use Rattle.desk.proofs.Words.{pair_of, same_pair, with_room, record_count, Limiter, AreHeld, AreMarked, AreTied}
+use Rattle.desk.proofs.Words.{AreUnderWay, HasPlaces, HasRoomForAll, LetsGo, LetsPairGo, is_idle, is_pair_of}
 use Rattle.desk.proofs.Words.{is_under_way, limit_by, own_pair, pair_in, room_by, waits_as, DeskValue, IsDesk, by_bool}
-use Rattle.desk.proofs.Words.{Holds, KeepsRooms, map, find, option_and_then, nat_le, le-leb, leb-true, ne_eqb}
-use Rattle.desk.proofs.Words.{list_all-append, sum_by-cons, find_map, Unsettled, at_delivery, progress_after, row_in}
-use Rattle.desk.proofs.Words.{takes_outcome, with_outcome, all_weaker, IsNew, AreApart, idle_pair, is_own, is_told}
-use Rattle.desk.proofs.Words.{is_unheld, rises, nat_tests, by_option, with_attempt}
+use Rattle.desk.proofs.Words.{Holds, KeepsRooms, map, find, nat_le, le-leb, leb-true, ne_eqb, list_all-append}
+use Rattle.desk.proofs.Words.{sum_by-cons, find_map, Unsettled, at_delivery, progress_after, takes_outcome}
+use Rattle.desk.proofs.Words.{with_outcome, all_weaker, IsNew, AreApart, idle_pair, is_own, is_told, is_unheld, rises}
+use Rattle.desk.proofs.Words.{nat_tests, by_option, with_attempt}
 use Rattle.delivery_book.specs.declared.progress.Progress.{Progress}
 use Rattle.endpoint_book.specs.Entries as endpoint_entries
 use Rattle.desk.proofs.ClaimLaws.{StartsFrom, endpoint_known, found_seq, pair_held}
 use Rattle.desk.proofs.RowLaws.{none_counted, IsReturned, all_by}
-
--- What ties the queue to a desk's fields stays so at each of the desk's steps
 
 -- Marks
 
@@ -63,10 +61,6 @@ places_told queue new book name room same changes places = λ n.
     omega (arith, counted, free, places n)
 
 -- An attempt begins
-
--- whether a delivery waits, once one more attempt is under way
-bool_waits : (l o u s p t : Bool) → (s ≡ false → t ≡ false) → (s ≡ true → p ≡ true → t ≡ true) → ((l && (o && not u)) && p) && not t ≡ (l && (o && not (u || s))) && p
-bool_waits l o u s p t h k = grind arith
 
 out_more : (d : ℕ) (live : List Row) (row : Row) → is_out d (live ++ row ∷ []) ≡ (is_out d live || nat_eq row.delivery d)
 out_more d live row = grind (arith, list_any-append (λ (r : Row). nat_eq r.delivery d) live (row ∷ []))
@@ -127,13 +121,6 @@ room_started {d} name s row from numbers = record {
   numbers = omega (arith, length-append d.live (row ∷ []), numbers);
 }
 
--- a pair that is let go leaves which endpoints have marks and room
-reserved_kept : {queue gone : QueueValue} {pair : Pair} (n : List ℕ) → LetsPairGo queue gone pair → is_reserved gone n ≡ is_reserved queue n
-reserved_kept {queue} {gone} {pair} n lets = mark_there place_given (bytes_eq pair.endpoint n) (mark_of gone n) (mark_of queue n) (lets.mark n)
-
-room_kept : {queue gone : QueueValue} {pair : Pair} (n : List ℕ) → LetsPairGo queue gone pair → has_room_in gone.marks n ≡ has_room_in queue.marks n
-room_kept {queue} {gone} {pair} n lets = mark_keeps (λ m. m.room) place_given (λ m. refl) (bytes_eq pair.endpoint n) (mark_of gone n) (mark_of queue n) false (lets.mark n)
-
 -- the pair of the delivery is let go
 lets_own : {d : DeskValue} (queue gone : QueueValue) (name : List ℕ) (s : ℕ) → AreHeld queue d.deliveries d.live → StartsFrom d name s → LetsGo queue gone (pair_in d.deliveries s) → (due : ℕ)
     × LetsPairGo queue gone (pair_of name due s)
@@ -145,24 +132,33 @@ lets_own {d} queue gone name s held from lets =
 pub still_reserved : {d : DeskValue} {queue : QueueValue} (gone : QueueValue) (name : List ℕ) (s : ℕ) → AreTied d.endpoints d.deliveries d.waiting d.live d.limiters queue → StartsFrom d name s
     → LetsGo queue gone (pair_in d.deliveries s) → is_reserved gone name ≡ true
 still_reserved {d} {queue} gone name s tied from lets =
-    reserved_kept name (lets_own queue gone name s tied.queued.held from lets).1 ∙ tied.marked.known name (endpoint_known name s tied.limited from)
+    let own = lets_own queue gone name s tied.queued.held from lets in
+    let known = tied.marked.known name (endpoint_known name s tied.limited from) in
+    grind (arith, own.1.mark name, known)
 
 -- the desk once an attempt at the delivery is under way
 pub desk_started : {d : DeskValue} {queue : QueueValue} (gone new : QueueValue) (name : List ℕ) (s : ℕ) (live : List Row) → IsDesk d.endpoints d.deliveries d.waiting d.live d.limiters queue → StartsFrom d name s
     → record_count d.waiting + length d.live < MAX_RECORDS → live ≡ d.live ++ next_row name s d.live ∷ [] → LetsGo queue gone (pair_in d.deliveries s) → HasPlaces gone d.deliveries
     → HasSamePairs gone new → ChangesMark gone new name (with_room (room_by d.endpoints d.limiters live name)) → IsDesk d.endpoints d.deliveries d.waiting live d.limiters new
 desk_started {d} {queue} gone new name s live h from numbers is lets places same told =
+    let known = endpoint_known name s tied.limited from in
+    let listed =
+    all_more (λ (r : Row). endpoint_entries.is_known d.endpoints r.endpoint) d.live row tied.marked.listed known in
+    let told_room =
+    subst (λ rows. ChangesMark gone new name (with_room (room_by d.endpoints d.limiters rows name))) is told in
+    let held = held_started name s own.0 row from refl own.2 own.1 tied.queued.held in
     assumption (subst (λ rows. AreTied d.endpoints d.deliveries d.waiting rows d.limiters new) (sym is) (record {
       limited = tied.limited;
       room = room_started name s row from numbers;
-      marked = marked_told gone new d.endpoints d.limiters more name (subst (λ rows. ChangesMark gone new name (with_room (room_by d.endpoints d.limiters rows name))) is told)
-          (λ n k. reserved_kept n own.1 ∙ tied.marked.known n k)
-          (λ n other there. room_kept n own.1 ∙ tied.marked.rooms n (sym (reserved_kept n own.1) ∙ there) ∙ same_room n other)
-          (all_more (λ (r : Row). endpoint_entries.is_known d.endpoints r.endpoint) d.live row tied.marked.listed (endpoint_known name s tied.limited from));
+      marked = marked_told gone new d.endpoints d.limiters more name told_room
+          (λ n k. grind (arith, own.1.mark n, tied.marked.known n k))
+          (λ n other there.
+          let as_before = same_room n other in
+          grind (arith, own.1.mark n, tied.marked.rooms n, there, as_before)) listed;
       queued = record {
         apart = tied.queued.apart;
         under_way = under_way_started name s row from refl refl tied.queued.under_way;
-        held = held_told gone new d.deliveries more same (held_started name s own.0 row from refl own.2 own.1 tied.queued.held);
+        held = held_told gone new d.deliveries more same held;
         places = places_told gone new d.deliveries name (room_by d.endpoints d.limiters live name) same told places;
       };
     }))
@@ -333,10 +329,10 @@ pending_before : (p : Progress) (status at : ℕ) → is_in_state Pending (state
 pending_before p status at h = grind (arith, nat_tests, h)
 
 pub places_tried : (queue : QueueValue) (book : BookValue) (seq d status at : ℕ) → HasPlaces queue book → HasPlaces queue (with_outcome book seq d status at)
-places_tried queue book seq d status at h = λ name. omega (arith, h name, count_map_below (is_unheld queue name) (is_unheld queue name) (change d status at) book.entries (was name))
-  where
-    was : (name : List ℕ) (x : Entry) → is_unheld queue name (change d status at x) ≡ true → is_unheld queue name x ≡ true
-    was name x t = let before = pending_before x.latest status at in grind (arith, t, before)
+places_tried queue book seq d status at h = λ name.
+    let fewer = count_map_below (is_unheld queue name) (is_unheld queue name) (change d status at) book.entries (λ x t.
+    let before = pending_before x.latest status at in grind (arith, t, before)) in
+    omega (arith, h name, fewer)
 
 -- What is held
 
@@ -362,55 +358,44 @@ pair_apart pair name due d apart = ap (λ b. b && (nat_eq due pair.due && bytes_
 -- the outcome waits: the delivery isn't held
 pub held_tried : (queue new : QueueValue) (book : BookValue) (row : Row) (live rest : List Row) (seq status at : ℕ) → AreHeld queue book live → UnderWay book row → is_out row.delivery live ≡ true → IsReturned row live rest
     → Holds queue new (idle_pair (with_outcome book seq row.delivery status at) row.delivery) → AreHeld new (with_outcome book seq row.delivery status at) rest
-held_tried queue new book row live rest seq status at held u out r holds = λ pair. ap (λ q. is_held q pair) same ∙ by pair (nat_eq row.delivery pair.seq) refl
-  where
-    later : BookValue
-    later = with_outcome book seq row.delivery status at
-
-    same : new ≡ queue
-    same = subst (λ o. Holds queue new o) (ap (λ b. if b then pair_in later row.delivery else None) (takes_none book row seq status at u)) holds
-
-    not_open : is_open (with_attempt status at u.entry) ≡ false
-    not_open = sym (ap (λ o. option_map_or is_open o false) (entry_own book row status at u)) ∙ takes_none book row seq status at u
-
-    by : (pair : Pair) (b : Bool) → nat_eq row.delivery pair.seq ≡ b → is_held queue pair ≡ waits_as later rest pair
-    by pair true e =
-        let is : row.delivery ≡ pair.seq = eqb-true row.delivery pair.seq e in
-        let own : entry_at later.entries pair.seq ≡ Some (with_attempt status at u.entry) = ap (entry_at later.entries) (sym is) ∙ entry_own book row status at u in
-        let none =
-        subst (λ n. IsNew queue n) is (new_pair queue book live row.delivery held out) pair.endpoint pair.due in
-        none ∙ sym (ap (waiting_for later rest pair) own ∙ grind (arith, not_open))
-    by pair false e =
-        held pair ∙ held_other book row live rest pair (entry_at book.entries pair.seq) r e refl
-        ∙ ap (waiting_for book rest pair) (sym (entry_other book.entries row.delivery status at pair.seq e))
+held_tried queue new book row live rest seq status at held u out r holds =
+    let later = with_outcome book seq row.delivery status at in
+    let closed = takes_none book row seq status at u in
+    let own = entry_own book row status at u in
+    let same : new ≡ queue =
+    subst (λ o. Holds queue new o) (ap (λ b. if b then pair_in later row.delivery else None) closed) holds in
+    λ pair. ap (λ q. is_held q pair) same ∙ by_bool (nat_eq row.delivery pair.seq)
+    (λ e.
+    let is : row.delivery ≡ pair.seq = eqb-true row.delivery pair.seq e in
+    let new_one = subst (λ n. IsNew queue n) is (new_pair queue book live row.delivery held out) in
+    let none = new_one pair.endpoint pair.due in
+    let not_open : is_open (with_attempt status at u.entry) ≡ false =
+    sym (ap (λ o. option_map_or is_open o false) own) ∙ closed in
+    let there : entry_at later.entries pair.seq ≡ Some (with_attempt status at u.entry) =
+    ap (entry_at later.entries) (sym is) ∙ own in
+    none ∙ sym (ap (waiting_for later rest pair) there ∙ grind (arith, not_open)))
+    (λ e.
+    held pair ∙ held_other book row live rest pair (entry_at book.entries pair.seq) r e refl
+    ∙ ap (waiting_for book rest pair) (sym (entry_other book.entries row.delivery status at pair.seq e)))
 
 -- no outcome waits: the delivery is held again
 pub held_again : (queue new : QueueValue) (book : BookValue) (row : Row) (live rest : List Row) → AreHeld queue book live → UnderWay book row → is_out row.delivery live ≡ true → IsReturned row live rest
     → Holds queue new (idle_pair book row.delivery) → AreHeld new book rest
-held_again queue new book row live rest held u out r holds = timed u.entry.settled.due refl u.timed
-  where
-    timed : (o : Option ℕ) → u.entry.settled.due ≡ o → is_some o ≡ true → AreHeld new book rest
-    timed None e t = cc
-    timed (Some due) e t = λ pair. by pair (nat_eq row.delivery pair.seq) refl
-      where
-        own : idle_pair book row.delivery ≡ Some (pair_of u.entry.name due row.delivery)
-        own =
-            ap (λ b. if b then pair_in book row.delivery else None) (takes book row u)
-            ∙ ap (λ b. option_and_then (λ x. option_map (λ n. pair_of x.endpoint n row.delivery) x.due) (if b then option_map (λ x. row_in x.settled x) (entry_at book.entries row.delivery) else None)) u.settled
-            ∙ ap (λ p. option_and_then (λ x. option_map (λ n. pair_of x.endpoint n row.delivery) x.due) (option_map (λ x. row_in x.settled x) p)) u.there
-            ∙ ap (option_map (λ n. pair_of u.entry.name n row.delivery)) e
-
-        gains : Holds queue new (Some (pair_of u.entry.name due row.delivery))
-        gains = subst (λ o. Holds queue new o) own holds
-
-        by : (pair : Pair) (b : Bool) → nat_eq row.delivery pair.seq ≡ b → is_held new pair ≡ waits_as book rest pair
-        by pair true same =
-            let is : row.delivery ≡ pair.seq = eqb-true row.delivery pair.seq same in
-            let none =
-            subst (λ n. IsNew queue n) is (new_pair queue book live row.delivery held out) pair.endpoint pair.due in
-            let there : entry_at book.entries pair.seq ≡ Some u.entry = ap (entry_at book.entries) (sym is) ∙ u.there in
-            grind (arith, gains.pairs pair, none, there, same, e, is, u.numbered, u.settled, u.opened, r.free)
-        by pair false apart =
-            let other = held_other book row live rest pair (entry_at book.entries pair.seq) r apart refl in
-            let not_own = pair_apart pair u.entry.name due row.delivery apart in
-            grind (arith, gains.pairs pair, not_own, held pair, other)
+held_again queue new book row live rest held u out r holds =
+    by_option u.entry.settled.due (λ e. absurd (grind (arith, e, u.timed))) (λ due e pair.
+    let own : idle_pair book row.delivery ≡ Some (pair_of u.entry.name due row.delivery) =
+    grind (arith, takes book row u, u.settled, u.there, e) in
+    let gains : Holds queue new (Some (pair_of u.entry.name due row.delivery)) =
+    subst (λ o. Holds queue new o) own holds in
+    let gained = gains.pairs pair in
+    by_bool (nat_eq row.delivery pair.seq)
+    (λ same.
+    let is : row.delivery ≡ pair.seq = eqb-true row.delivery pair.seq same in
+    let new_one = subst (λ n. IsNew queue n) is (new_pair queue book live row.delivery held out) in
+    let none = new_one pair.endpoint pair.due in
+    let there : entry_at book.entries pair.seq ≡ Some u.entry = ap (entry_at book.entries) (sym is) ∙ u.there in
+    grind (arith, gained, none, there, same, e, is, u.numbered, u.settled, u.opened, r.free))
+    (λ apart.
+    let other = held_other book row live rest pair (entry_at book.entries pair.seq) r apart refl in
+    let not_own = pair_apart pair u.entry.name due row.delivery apart in
+    grind (arith, gained, not_own, held pair, other)))

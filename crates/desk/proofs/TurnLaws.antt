@@ -3,10 +3,10 @@ use Rattle.desk.proofs.Words.{◌≡◌, ℕ, ◌+◌, ◌-◌, ◌≤◌, Bool,
 use Rattle.desk.proofs.Words.{map, refl, sym, ◌∙◌, ap, arith, cond, subst, eqb, max, List, ◌↔◌, option_map, Result, Ok}
 use Rattle.desk.proofs.Words.{Err, OnOk, OnErr, IsOk, IsErr, IfOk, IfSome, IsSome, IsSomeAnd, not, is_some}
 use Rattle.desk.proofs.Words.{if◌then◌else◌, list_all, drop-append_seam, take-add, eq-eqb, ne_eqb, drop-take}
-use Rattle.desk.proofs.Words.{length-drop, length-take, take-append-drop, sum_by-append, map-map, MAX_RECORDS, Record}
-use Rattle.desk.proofs.Words.{History, records_of, find_map, HasChanges, changes_settled, HasWaiting, BatchValue}
-use Rattle.desk.proofs.Words.{DoubtValue, doubt_of, upto_of, is_outcome, outcomes_in, WaitingValue, batch_of}
-use Rattle.desk.proofs.Words.{record_count, sealed_count, with_batch_out, with_nothing_out, length-records_of}
+use Rattle.desk.proofs.Words.{length-drop, length-take, take-append-drop, sum_by-append, map-map, Record, History}
+use Rattle.desk.proofs.Words.{records_of, find_map, HasChanges, changes_settled, HasWaiting, BatchValue, DoubtValue}
+use Rattle.desk.proofs.Words.{doubt_of, upto_of, is_outcome, outcomes_in, WaitingValue, batch_of, record_count}
+use Rattle.desk.proofs.Words.{sealed_count, with_batch_out, with_nothing_out, length-records_of}
 use Rattle.desk.proofs.Words.{length-records_of-split, drop_drop, Refusal, refusal, first_fault, World, all_records}
 use Rattle.desk.proofs.Words.{settled_records, sealed_records, Answer, is_nothing_out, sealed_batch, seal, seal_faults}
 use Rattle.desk.proofs.Words.{seal_waiting, with_batch, with_sealed_settled, with_batch_back, with_halt, Row}
@@ -127,24 +127,15 @@ pub stands_settled : {d : DeskValue} {w : World} (endpoints : endpoint_entries.B
 stands_settled {d} {w} endpoints deliveries count place h same upto by_endpoints by_deliveries =
     let is : place ≡ length (sealed_records w) = upto ∙ sealed_place count h same in
     let within : place ≤ length (all_records w) = omega (arith, is, length-records_of-split w.sealed w.history) in
-    record {
-      clock = h.clock;
-      halted = h.halted;
-      books = record {
-        of_endpoints = subst (λ n. endpoint_book.StandsFor endpoints (all_records w) n) is (by_endpoints (all_records w) (length (settled_records w)) h.books.of_endpoints within);
-        of_deliveries = subst (λ n. delivery_book.StandsFor deliveries (all_records w) n) is (by_deliveries (all_records w) (length (settled_records w)) h.books.of_deliveries within);
-        legal = h.books.legal;
-      };
-      waiting = record {
-        steps = ap (λ n. drop n d.waiting.waiting) same ∙ ap (drop (out_count w)) h.waiting.steps ∙ rest_steps w.history w.settled w.sealed h.waiting.settled_first;
-        settled_seq = sealed_place count h same;
-        is_out = refl;
-        settled_first = omega arith;
-        sealed_within = h.waiting.sealed_within;
-      };
-      live = h.live;
-      limits = h.limits;
-    }
+    let were = length (settled_records w) in
+    let endpoints_stand = by_endpoints (all_records w) were h.books.of_endpoints within in
+    let deliveries_stand = by_deliveries (all_records w) were h.books.of_deliveries within in
+    let of_endpoints = subst (λ n. endpoint_book.StandsFor endpoints (all_records w) n) is endpoints_stand in
+    let of_deliveries = subst (λ n. delivery_book.StandsFor deliveries (all_records w) n) is deliveries_stand in
+    let left = ap (λ n. drop n d.waiting.waiting) same ∙ ap (drop (out_count w)) h.waiting.steps in
+    let steps = left ∙ rest_steps w.history w.settled w.sealed h.waiting.settled_first in
+    let first : w.sealed ≤ w.sealed = omega arith in
+    assumption (of_endpoints, of_deliveries, steps, sealed_place count h same, first)
 
 -- Settling changes no name, maximum or flag of an endpoint, and lets no endpoint go.
 endpoint_settled : (book : endpoint_entries.BookValue) (place : ℕ) (name : List ℕ)
@@ -169,7 +160,7 @@ outcomes_left : (count : ℕ) (steps : History) → outcomes_in (drop count step
 outcomes_left count steps =
     omega (arith, ap outcomes_in (take-append-drop count steps), sum_by-append (λ step. cond (is_outcome step) 1 0) (take count steps) (drop count steps))
 
-records_settled : (steps : WaitingValue) (count : ℕ) → record_count (with_settled steps count) ≡ record_count steps
+pub records_settled : (steps : WaitingValue) (count : ℕ) → record_count (with_settled steps count) ≡ record_count steps
 records_settled steps count = omega (arith, length-records_of-split count steps.waiting)
 
 -- the records that are left behind those of the first steps
@@ -215,15 +206,6 @@ is_desk_settled {endpoints} {later} {deliveries} {moved} {steps} {rest} {live} {
         queued = queued live h.tied.queued;
       };
     }
-
--- what the walk over the records that are settled needs
-pub settles_above : {endpoints : endpoint_entries.BookValue} {deliveries : delivery_entries.BookValue} {steps rest : WaitingValue} {live : List Row} {limiters : List Limiter} {queue : QueueValue} (count place : ℕ)
-    → IsDesk endpoints deliveries steps live limiters queue → rest ≡ with_settled steps count → place ≡ rest.settled → deliveries.settled_seq ≤ place
-settles_above {endpoints} {deliveries} {steps} {rest} count place h g is = omega (arith, is, ap (λ (w : WaitingValue). w.settled) g, h.deliveries_settled)
-
-pub settles_within : {endpoints : endpoint_entries.BookValue} {deliveries : delivery_entries.BookValue} {steps rest : WaitingValue} {live : List Row} {limiters : List Limiter} {queue : QueueValue} (count place : ℕ)
-    → IsDesk endpoints deliveries steps live limiters queue → rest ≡ with_settled steps count → place ≡ rest.settled → place ≤ MAX_RECORDS
-settles_within {endpoints} {deliveries} {steps} {rest} count place h g is = omega (arith, is, ap record_count g ∙ records_settled steps count, h.tied.room.numbers)
 
 -- Seals
 
@@ -276,11 +258,9 @@ unseal_turns {A} {E} {view} {d} same steps places (Ok a) turn waits back = λ w 
       stands_as (ap (λ (x : WaitingValue). record view { waiting = x }) waits) (stands_back here),
     )
 unseal_turns {A} {E} {view} {d} same steps places (Err e) turn waits back =
+    let failed : E → Result A E = λ x. Err x in
     comes_back same steps (waiting.ArePlacesOf view.waiting places) (λ v w. ArePlacesOf v.waiting.mark w places) with_batch_back (failed e) refl (λ w h. places_are places h)
     (λ is. let wrong : false ≡ true = turn.1 is in cc) back
-  where
-    failed : E → Result A E
-    failed e = Err e
 
 pub halt_turns : {view d : DeskValue} → view ≡ d → (steps : WaitingValue) (held : Held) → waiting.IsHeldOf view.waiting held → steps ≡ with_nothing_out view.waiting
     → OverWorlds d (λ w. IsHeldOf d.waiting.mark w held × StandsFor (record view { waiting = steps; halted = true }) (with_halt w))

@@ -5,8 +5,8 @@ pub use Rattle.std.proofs.Common.{length-append, map, max, nat_le, not, refl, ru
 pub use Rattle.std.proofs.Common.{suc, sym, take, true, vec_capacity, vec_len, zero, ℕ, ◌&&◌, ◌++◌, ◌+◌, ◌-◌, ◌<◌, ◌||◌}
 pub use Rattle.std.proofs.Common.{◌↔◌, ◌∙◌, ◌∷◌, ◌≡◌, ◌≤◌, ◌⊎◌}
 pub use Rattle.std.proofs.Math.Seq.{drop-append_seam, map-set_same, take-add, take-append_seam}
-pub use Rattle.std.proofs.lemmas.Bool.{and_parts, cond_both, eq-eqb, eqb-false, eqb-true, le-leb, le-ltb, leb-false}
-pub use Rattle.std.proofs.lemmas.Bool.{leb-true, lt-ltb, ltb-true, ne_eqb}
+pub use Rattle.std.proofs.lemmas.Bool.{cond_both, eq-eqb, eqb-false, eqb-true, le-leb, le-ltb, leb-false, leb-true}
+pub use Rattle.std.proofs.lemmas.Bool.{lt-ltb, ltb-true, ne_eqb}
 pub use Rattle.std.proofs.lemmas.Bool.Decides.{nat_tests}
 pub use Rattle.std.proofs.lemmas.List.{at_drop_more, drop-append-le, drop-take, drop_all, length-drop, length-map}
 pub use Rattle.std.proofs.lemmas.List.{length-take, map-append, take-append-drop, take-append-le, take_all, take_more}
@@ -19,8 +19,8 @@ pub use Rattle.std.proofs.lemmas.Simd.{map-map}
 pub use Rattle.std.proofs.lemmas.Slice.Eq.{bytes_eq-Decides}
 pub use Rattle.std.specs.List.{AllByRecursion, cons_option, enumerate_from, list_all, list_any, position_or_len}
 pub use Rattle.std.specs.Option.{option_map_or, option_or}
-pub use Rattle.std.specs.Prelude.{IfErr, IfNone, IfOk, IfSome, IsErr, IsOk, IsSome, IsSomeAnd, OnErr, OnOk, Result}
-pub use Rattle.std.specs.Prelude.{bytes_eq, count_by, filter, filter_map, find, if◌then◌else◌, is_some, nat_eq, nat_lt}
+pub use Rattle.std.specs.Prelude.{IfNone, IfOk, IfSome, IsErr, IsOk, IsSome, IsSomeAnd, OnErr, OnOk, Result, bytes_eq}
+pub use Rattle.std.specs.Prelude.{count_by, filter, filter_map, find, if◌then◌else◌, is_some, nat_eq, nat_lt}
 pub use Rattle.std.specs.Prelude.{option_and_then, option_map, position, remove, slice_get, sum_by, unwrap_or}
 pub use Rattle.relay_types.proofs.KnownLaws.{AllKnown, and_both, and_first, and_second, below_if_accepted, legal_known}
 pub use Rattle.relay_types.proofs.KnownLaws.{legal_more}
@@ -70,7 +70,7 @@ pub use Rattle.permits.specs.Rows.{in_flight_of, is_out, next_row, same_row}
 pub use Rattle.permits.specs.declared.row.Row.{Row}
 pub use Rattle.claim_queue.specs.Queues.{ChangesMark, HasSamePairs, IsNew, IsNext, NothingIsReady, QueueValue, SetsMark}
 pub use Rattle.claim_queue.specs.Queues.{empty_queue, free_places, has_room_in, is_held, is_ready, is_reserved, mark_in}
-pub use Rattle.claim_queue.specs.Queues.{mark_of, pair_of, place_given, reserved_mark, same_pair, with_room}
+pub use Rattle.claim_queue.specs.Queues.{mark_of, pair_of, reserved_mark, same_pair, with_room}
 pub use Rattle.claim_queue.specs.declared.marks.Mark.{Mark}
 pub use Rattle.claim_queue.specs.declared.pairs.Pair.{Pair}
 pub use Rattle.desk.proofs.Cases.{by_bool, by_option}
@@ -99,7 +99,5 @@ pub use Rattle.desk.specs.Ties.{is_entry_of, is_idle, is_limiter_of, is_own, is_
 pub use Rattle.desk.specs.Ties.{is_unheld, limit_by, limiter_of, new_limiter, own_pair, pair_in, rises, room_by}
 pub use Rattle.desk.specs.Ties.{samples_at, waits_as}
 pub use Rattle.desk.specs.World.{Measured, World, all_records, sealed_records, settled_records, waiting_records}
-pub use Rattle.desk.specs.declared.command.Command.TheVariants.{PutEndpoint, SetEnabled, SetSecrets}
 pub use Rattle.desk.specs.declared.limiter.Limiter.{Limiter}
-pub use Rattle.desk.specs.declared.refusal.Fault.{Fault}
 pub use Rattle.desk.specs.declared.refusal.Refusal.{Refusal}

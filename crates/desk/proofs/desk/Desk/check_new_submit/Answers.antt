@@ -1,6 +1,6 @@
-use Rattle.desk.proofs.Words.{◌∙◌, length, nat_le, ap, first_fault, all_records, settled_records}
+use Rattle.desk.proofs.Words.{◌∙◌, length, nat_le, ap, all_records, settled_records}
 use Rattle.desk.specs.declared.limits.TheConstants.{MAX_PENDING, MAX_PENDING_ALL}
-use Rattle.desk.proofs.DeskLaws.{is_full, new_looks, pending_is, pending_all_is, seen}
+use Rattle.desk.proofs.DeskLaws.{is_full, pending_is, pending_all_is, seen}
 use Rattle.desk.proofs.desk.Desk.check_new_submit.Goals as goal
 
 pub returns-clause-faults : goal.returns-clause-faults
@@ -10,4 +10,4 @@ returns-clause-faults g c = λ w h.
     let all = ap (nat_le MAX_PENDING_ALL) (c.pending_all.ensures (all_records w) (length (settled_records w)) here.books.of_deliveries ∙ pending_all_is (all_records w)) in
     let full = is_full c.free_requests.result here c.free_requests.ensures.free in
     let spent = c.are_seqs_spent.ensures.stands w h in
-    c.check.ensures ∙ λ i. first_fault (new_looks (own i) (all i) (full i) (spent i))
+    cc (c.check.ensures, own, all, full, spent)

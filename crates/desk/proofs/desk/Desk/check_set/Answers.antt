@@ -1,5 +1,5 @@
-use Rattle.desk.proofs.Words.{◌∙◌, length, not, first_fault, all_records, settled_records}
-use Rattle.desk.proofs.DeskLaws.{is_full, set_looks, seen}
+use Rattle.desk.proofs.Words.{length, all_records, settled_records}
+use Rattle.desk.proofs.DeskLaws.{is_full, seen}
 use Rattle.desk.proofs.desk.Desk.check_set.Goals as goal
 
 pub returns-clause-faults : goal.returns-clause-faults
@@ -8,4 +8,4 @@ returns-clause-faults g c = λ w h.
     let known = c.contains.ensures.stands (all_records w) (length (settled_records w)) here.books.of_endpoints in
     let full = is_full c.free_requests.result here c.free_requests.ensures.free in
     let spent = c.are_seqs_spent.ensures.stands w h in
-    c.check.ensures ∙ λ i. first_fault (set_looks (here.halted i) (not (known i)) (full i) (spent i))
+    let halted = here.halted in cc (c.check.ensures, halted, known, full, spent)

@@ -1,4 +1,4 @@
-use Rattle.desk.proofs.Words.{◌≡◌, ◌∙◌, Bool, true, false, refl, sym, AreTold, totals, totals_in}
+use Rattle.desk.proofs.Words.{◌≡◌, ◌∙◌, true, false, sym, AreTold, totals, totals_in, by_bool}
 use Rattle.desk.proofs.ComparingLaws.{IsFound, is_told, not_here, not_there, same_totals, test_same}
 use Rattle.desk.proofs.desk.Desk.is_told_by.Goals.{then-eq, else-eq}
 use Rattle.desk.proofs.desk.Desk.is_told_by.Goals as goal
@@ -13,12 +13,9 @@ returns-then-is_in g c =
     ] in (
       λ is. is_told c.self.view_is books (sym c.totals-2.ensures ∙ sym (same_totals c.totals.result c.totals-2.result (sym c.eq.ensures ∙ found.0)) ∙ mine) found.1
           (record { endpoints_in = c.is_in-then-is_in.ensures.endpoints is; events_in = c.is_in-then-is_in.ensures.events is }),
-      λ told. by c.is_in-then-is_in.result c.is_in-then-is_in.result refl (λ no. not_there c.self.view_is books (c.is_in-then-is_in.ensures.differs no) told),
+      λ told. by_bool c.is_in-then-is_in.result (λ is. is)
+          (λ no. absurd (not_there c.self.view_is books (c.is_in-then-is_in.ensures.differs no) told)),
     )
-  where
-    by : (b r : Bool) → r ≡ b → (r ≡ false → ⊥) → r ≡ true
-    by true r is differs = is
-    by false r is differs = absurd (differs is)
 
 pub returns-else-is_in : goal.returns-else-is_in
 returns-else-is_in g c =

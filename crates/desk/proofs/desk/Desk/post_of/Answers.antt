@@ -1,22 +1,14 @@
-use Rattle.desk.proofs.Words.{◌≡◌, ◌∙◌, Option, Some, None, List, ℕ, true, length, ap, is_some, option_map, entry_of}
-use Rattle.desk.proofs.Words.{all_records, settled_records}
-use Rattle.endpoint_book.specs.declared.entry.Entry.{Entry}
+use Rattle.desk.proofs.Words.{◌∙◌, Some, length, ap, all_records, settled_records, arith}
 use Rattle.desk.proofs.DeskLaws.{seen}
 use Rattle.desk.proofs.ClaimLaws.{post_is, endpoint_known, starts_at, starts_from}
 use Rattle.desk.proofs.desk.Desk.post_of.Goals as goal
-
-abbrev no_text : Option (List ℕ)
-no_text = None
-
-there : (o : Option Entry) → no_text ≡ option_map (λ e. e.target) o → is_some o ≡ true → ⊥
-there None e known = cc
-there (Some x) e known = cc
 
 pub unreachable-requires-in_default-target : goal.unreachable-requires-in_default-target
 unreachable-requires-in_default-target g c =
     let row = c.in-Some.row in
     let from = starts_from row.endpoint c.args.delivery c.self.view_is (starts_at c.args.delivery row c.self.view_is c.requires c.in-Some.ensures.value) in
-    there (entry_of c.self.inside.endpoints row.endpoint) c.in_default-target.ensures.value (endpoint_known row.endpoint c.args.delivery c.self.invariant.tied.limited from)
+    let known = endpoint_known row.endpoint c.args.delivery c.self.invariant.tied.limited from in
+    let none = c.in_default-target.ensures.value in grind (arith, known, none)
 
 pub returns-clause-endpoint : goal.returns-clause-endpoint
 returns-clause-endpoint g c = starts_at c.args.delivery c.in-Some.row c.self.view_is c.requires c.in-Some.ensures.value

@@ -1,7 +1,9 @@
-use Rattle.desk.proofs.Words.{◌≡◌, refl, false, true, length, with_sealed_settled, IsReceiptOf}
+use Rattle.desk.proofs.Words.{WaitingValue, ap, arith, record_count, ◌∙◌, ◌≡◌, refl, false, true, length}
+use Rattle.desk.proofs.Words.{with_sealed_settled, IsReceiptOf}
 use Rattle.group_commit.specs.Turns as waiting
-use Rattle.desk.proofs.TurnLaws.{comes_back, receipt_is, is_desk_settled, settles_above, settles_within, settle_turns}
+use Rattle.desk.proofs.TurnLaws.{comes_back, receipt_is, is_desk_settled, settle_turns}
 use Rattle.desk.proofs.TurnLaws.{settle_counts}
+use Rattle.desk.proofs.TurnLaws.{records_settled}
 use Rattle.desk.proofs.desk.Desk.settle.Goals as goal
 
 pub returns-in_err-settled-clause-moves : goal.returns-in_err-settled-clause-moves
@@ -10,11 +12,15 @@ returns-in_err-settled-clause-moves g c =
     (λ w h. receipt_is c.args.receipt h) (λ is. let wrong : false ≡ true = c.in_err-settled.ensures.turn.1 is in cc) c.in_err-settled.ensures.err
 
 pub settle_to-requires-2 : goal.settle_to-requires-2
-settle_to-requires-2 g c = record {
-  above = settles_above (length c.args.receipt.steps) c.in_ok-settled.settled.records c.self.invariant c.in_ok-settled.ensures.settled c.in_ok-settled.ensures.records;
-  within = settles_within (length c.args.receipt.steps) c.in_ok-settled.settled.records c.self.invariant c.in_ok-settled.ensures.settled c.in_ok-settled.ensures.records;
-  queued = (c.self.inside.pool, c.self.invariant.tied.queued);
-}
+settle_to-requires-2 g c =
+    let is = c.in_ok-settled.ensures.records in
+    let settled = c.in_ok-settled.ensures.settled in
+    let counted = ap record_count settled ∙ records_settled c.self.inside.waiting (length c.args.receipt.steps) in
+    record {
+      above = omega (arith, is, ap (λ (w : WaitingValue). w.settled) settled, c.self.invariant.deliveries_settled);
+      within = omega (arith, is, counted, c.self.invariant.tied.room.numbers);
+      queued = (c.self.inside.pool, c.self.invariant.tied.queued);
+    }
 
 pub invariant_of-self-2 : goal.invariant_of-self-2
 invariant_of-self-2 g c =
