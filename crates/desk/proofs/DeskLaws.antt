@@ -521,8 +521,6 @@ accept_moves d new now name id body at u v made checks there room unknown later 
 
 -- What the desk looks for before a call is what the model does
 
--- What is looked for
-
 full_where : (free n : ℕ) → free + n ≡ MAX_WAITING_REQUESTS → nat_eq free 0 ≡ nat_le MAX_WAITING_REQUESTS n
 full_where free n e = grind (arith, nat_tests)
 

@@ -3,20 +3,21 @@ use Rattle.desk.proofs.Words.{◌≡◌, ◌<◌, ◌+◌, ℕ, Bool, true, fals
 use Rattle.desk.proofs.Words.{arith, ◌&&◌, cond, find, is_some, nat_lt, option_map, bytes_eq, option_map_or}
 use Rattle.desk.proofs.Words.{bytes_eq-Decides, MAX_RECORDS, Record, find_map, change_at, is_known, is_named, with_flag}
 use Rattle.desk.proofs.Words.{is_outcome, WaitingValue, record_count, with_step, count_by_snoc, Row, in_flight_of}
-use Rattle.desk.proofs.Words.{Limiter, AreLimiters, HasRoomForAll, bound_of, limit_by, room_by, ◌≤◌, ◌++◌, None, not}
-use Rattle.desk.proofs.Words.{subst, IsTrue, count_by, max, if◌then◌else◌, list_all, option_or, map-append, find-append}
-use Rattle.desk.proofs.Words.{Put, Secrets, Enabled, Pending, records_of, is_in_state, and_first, and_second, and_both}
-use Rattle.desk.proofs.Words.{enabled_in, HasChanges, changes_enabled, changes_put, changes_secrets, DeliveryEntry}
-use Rattle.desk.proofs.Words.{Mark, QueueValue, ChangesMark, HasSamePairs, SetsMark, free_places, has_room_in}
-use Rattle.desk.proofs.Words.{is_reserved, mark_in, mark_of, reserved_mark, with_room, AreMarked, AreQueued, AreTied}
-use Rattle.desk.proofs.Words.{HasPlaces, bound_by, endpoint_at, is_limiter_of, is_unheld, limiter_of, own_pair, IsDesk}
-use Rattle.desk.proofs.Words.{KeepsPlaces, nat_tests, by_bool}
+use Rattle.desk.proofs.Words.{Limiter, AreLimiters, HasRoomForAll, bound_of, limit_by, room_by, ◌≤◌, ◌++◌, None, subst}
+use Rattle.desk.proofs.Words.{IsTrue, max, if◌then◌else◌, list_all, option_or, map-append, find-append, Put, Secrets}
+use Rattle.desk.proofs.Words.{Enabled, records_of, and_first, and_second, and_both, enabled_in, HasChanges}
+use Rattle.desk.proofs.Words.{changes_enabled, changes_put, changes_secrets, QueueValue, ChangesMark, HasSamePairs}
+use Rattle.desk.proofs.Words.{SetsMark, free_places, has_room_in, is_reserved, mark_in, mark_of, reserved_mark}
+use Rattle.desk.proofs.Words.{with_room, AreMarked, AreQueued, AreTied, bound_by, endpoint_at, is_limiter_of}
+use Rattle.desk.proofs.Words.{limiter_of, IsDesk, nat_tests, by_bool}
+use Rattle.claim_queue.specs.declared.marks.Mark.{Mark}
 use Rattle.endpoint_book.specs.declared.entry.Entry.{Entry}
 use Rattle.endpoint_book.specs.Entries.{BookValue, with_put}
 use Rattle.endpoint_book.specs.Entries as endpoint_entries
 use Rattle.delivery_book.specs.Entries as delivery_entries
 use Rattle.desk.proofs.DeskLaws.{one_more, endpoints_wait}
 use Rattle.desk.proofs.TieLaws.{held_told, marked_told, places_told}
+use Rattle.desk.proofs.TieLaws.{places_kept}
 
 -- A request waits: it takes no outcome's place, and a number.
 pub room_requested : (waiting : WaitingValue) (live : List Row) (entry : Record) → is_outcome (entry ∷ []) ≡ false → HasRoomForAll waiting live → record_count waiting + length live < MAX_RECORDS
@@ -213,15 +214,6 @@ marked_reserved queue new book limiters live name more limited sets h = record {
   known = λ n k. is_still_reserved queue new name n more sets (h.known n k);
   rooms = λ n there. room_reserved queue new name n more sets ∙ room_is queue book limiters live n limited h;
 }
-
--- the places that are enough stay so, where the same pairs are held
-pub places_kept : (old new : QueueValue) (book : delivery_entries.BookValue) → HasSamePairs old new
-    → KeepsPlaces old new → HasPlaces old book → HasPlaces new book
-places_kept old new book same keeps places = λ n.
-    let counted : count_by (is_unheld new n) book.entries ≡ count_by (is_unheld old n) book.entries =
-    λ i. count_by (λ (e : DeliveryEntry). bytes_eq e.name n
-    && (is_in_state Pending (delivery_entries.state_in e.latest) && not (same (own_pair e) i))) book.entries in
-    omega (arith, counted, keeps n, places n)
 
 -- the same pairs are held, and no fewer places are free
 pub queued_reserved : (queue new : QueueValue) (book : delivery_entries.BookValue) (live : List Row) → HasSamePairs queue new → ((n : List ℕ) → free_places queue n ≤ free_places new n) → AreQueued queue book live → AreQueued new book live

@@ -4,28 +4,18 @@ use Rattle.desk.proofs.Words.{refl, sym, ◌∙◌, ap, arith, not, ◌&&◌, �
 use Rattle.desk.proofs.Words.{is_some, option_map, nat_eq, nat_lt, bytes_eq, if◌then◌else◌, list_all, option_map_or}
 use Rattle.desk.proofs.Words.{eqb-true, list_any-append, sum_by_push, bytes_eq-Decides, MAX_RECORDS, Pending}
 use Rattle.desk.proofs.Words.{is_in_state, and_first, and_second, and_both, enabled_in, Entry, BookValue, entry_at}
-use Rattle.desk.proofs.Words.{is_open, state_in, Row, in_flight_of, is_out, next_row, Mark, Pair, QueueValue}
-use Rattle.desk.proofs.Words.{ChangesMark, HasSamePairs, free_places, has_room_in, is_held, is_reserved, mark_of}
-use Rattle.desk.proofs.Words.{pair_of, same_pair, with_room, record_count, Limiter, AreHeld, AreMarked, AreTied}
-use Rattle.desk.proofs.Words.{AreUnderWay, HasPlaces, HasRoomForAll, LetsGo, LetsPairGo, is_idle, is_pair_of}
-use Rattle.desk.proofs.Words.{is_under_way, limit_by, own_pair, pair_in, room_by, waits_as, DeskValue, IsDesk, by_bool}
-use Rattle.desk.proofs.Words.{Holds, KeepsRooms, map, find, nat_le, le-leb, leb-true, ne_eqb, list_all-append}
-use Rattle.desk.proofs.Words.{sum_by-cons, find_map, Unsettled, at_delivery, progress_after, takes_outcome}
-use Rattle.desk.proofs.Words.{with_outcome, all_weaker, IsNew, AreApart, idle_pair, is_own, is_told, is_unheld, rises}
-use Rattle.desk.proofs.Words.{nat_tests, by_option, with_attempt}
+use Rattle.desk.proofs.Words.{is_open, state_in, Row, in_flight_of, is_out, next_row, Pair, QueueValue, ChangesMark}
+use Rattle.desk.proofs.Words.{HasSamePairs, has_room_in, is_held, is_reserved, pair_of, same_pair, with_room}
+use Rattle.desk.proofs.Words.{record_count, Limiter, AreHeld, AreMarked, AreTied, AreUnderWay, HasPlaces, HasRoomForAll}
+use Rattle.desk.proofs.Words.{LetsGo, LetsPairGo, is_idle, is_pair_of, is_under_way, limit_by, own_pair, pair_in}
+use Rattle.desk.proofs.Words.{room_by, waits_as, DeskValue, IsDesk, by_bool, Holds, KeepsRooms, map, find, nat_le}
+use Rattle.desk.proofs.Words.{le-leb, leb-true, ne_eqb, list_all-append, sum_by-cons, find_map, Unsettled, at_delivery}
+use Rattle.desk.proofs.Words.{progress_after, takes_outcome, with_outcome, all_weaker, IsNew, AreApart, idle_pair}
+use Rattle.desk.proofs.Words.{is_own, is_told, is_unheld, rises, nat_tests, by_option, with_attempt, KeepsPlaces}
 use Rattle.delivery_book.specs.declared.progress.Progress.{Progress}
 use Rattle.endpoint_book.specs.Entries as endpoint_entries
 use Rattle.desk.proofs.ClaimLaws.{StartsFrom, endpoint_known, found_seq, pair_held}
 use Rattle.desk.proofs.RowLaws.{none_counted, IsReturned, all_by}
-
--- Marks
-
--- what a change of marks leaves of them, it leaves of each endpoint
-pub mark_keeps : {X : Type 0} (f : Mark → X) (change : Mark → Mark) → ((m : Mark) → f (change m) ≡ f m) → (b : Bool) (o p : Option Mark) (d : X) → o ≡ (if b then option_map change p else p) → option_map_or f o d ≡ option_map_or f p d
-mark_keeps f change keeps b o p d e = grind (arith, keeps)
-
-pub mark_there : (change : Mark → Mark) (b : Bool) (o p : Option Mark) → o ≡ (if b then option_map change p else p) → is_some o ≡ is_some p
-mark_there change b o p e = grind arith
 
 -- holding a delivery tells of no room
 pub holds_rooms : (queue new : QueueValue) (o : Option Pair) → Holds queue new o → KeepsRooms queue new
@@ -52,13 +42,17 @@ marked_told queue new book limiters live name changes known others rows = record
 pub held_told : (queue new : QueueValue) (book : BookValue) (live : List Row) → HasSamePairs queue new → AreHeld queue book live → AreHeld new book live
 held_told queue new book live same held = λ pair. same pair ∙ held pair
 
-pub places_told : (queue new : QueueValue) (book : BookValue) (name : List ℕ) (room : Bool) → HasSamePairs queue new → ChangesMark queue new name (with_room room) → HasPlaces queue book → HasPlaces new book
-places_told queue new book name room same changes places = λ n.
-    let counted : count_by (λ (e : Entry). bytes_eq e.name n && (is_in_state Pending (state_in e.latest) && not (is_held new (own_pair e)))) book.entries
-    ≡ count_by (λ (e : Entry). bytes_eq e.name n && (is_in_state Pending (state_in e.latest) && not (is_held queue (own_pair e)))) book.entries =
+-- the places that are enough stay so, where the same pairs are held
+pub places_kept : (queue new : QueueValue) (book : BookValue) → HasSamePairs queue new → KeepsPlaces queue new
+    → HasPlaces queue book → HasPlaces new book
+places_kept queue new book same keeps places = λ n.
+    let counted : count_by (is_unheld new n) book.entries ≡ count_by (is_unheld queue n) book.entries =
     λ i. count_by (λ (e : Entry). bytes_eq e.name n && (is_in_state Pending (state_in e.latest) && not (same (own_pair e) i))) book.entries in
-    let free : free_places new n ≡ free_places queue n = mark_keeps (λ m. m.free) (with_room room) (λ m. refl) (bytes_eq name n) (mark_of new n) (mark_of queue n) 0 (changes n) in
-    omega (arith, counted, free, places n)
+    omega (arith, counted, keeps n, places n)
+
+pub places_told : (queue new : QueueValue) (book : BookValue) (name : List ℕ) (room : Bool) → HasSamePairs queue new → ChangesMark queue new name (with_room room) → HasPlaces queue book → HasPlaces new book
+places_told queue new book name room same changes places =
+    places_kept queue new book same (λ n. grind (arith, changes n)) places
 
 -- An attempt begins
 

@@ -56,7 +56,7 @@ pub use Rattle.delivery_book.specs.Entries.{next_settled, pending_in, progress_a
 pub use Rattle.delivery_book.specs.Entries.{state_by, state_in, takes_outcome, with_attempt, with_event}
 pub use Rattle.delivery_book.specs.Entries.{with_latest_settled, with_outcome, with_settled}
 pub use Rattle.delivery_book.specs.Waiting.{AreTries, HasWaiting}
-pub use Rattle.delivery_book.specs.declared.entry.Entry.{Entry as DeliveryEntry, Entry}
+pub use Rattle.delivery_book.specs.declared.entry.Entry.{Entry}
 pub use Rattle.delivery_book.specs.declared.entry.Unsettled.{Unsettled}
 pub use Rattle.delivery_book.specs.declared.row.Row.{Row as BookRow, Row as DeliveryRow}
 pub use Rattle.spool.specs.Batches.{BatchValue, DoubtValue, doubt_of, upto_of}
@@ -71,7 +71,6 @@ pub use Rattle.permits.specs.declared.row.Row.{Row}
 pub use Rattle.claim_queue.specs.Queues.{ChangesMark, HasSamePairs, IsNew, IsNext, NothingIsReady, QueueValue, SetsMark}
 pub use Rattle.claim_queue.specs.Queues.{empty_queue, free_places, has_room_in, is_held, is_ready, is_reserved, mark_in}
 pub use Rattle.claim_queue.specs.Queues.{mark_of, pair_of, reserved_mark, same_pair, with_room}
-pub use Rattle.claim_queue.specs.declared.marks.Mark.{Mark}
 pub use Rattle.claim_queue.specs.declared.pairs.Pair.{Pair}
 pub use Rattle.desk.proofs.Cases.{by_bool, by_option}
 pub use Rattle.desk.specs.Claims.{JobValue, choice, claim, claim_chosen, claimables, has_place as has_place_in}
