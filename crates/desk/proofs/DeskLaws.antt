@@ -258,7 +258,7 @@ abbrev pub AreAbsent : Faults → Type 0
 AreAbsent [] = Unit {0}
 AreAbsent ((there, number, fault) ∷ rest) = (there ≡ false) × AreAbsent rest
 
-pub absent : (faults : Faults) (u : Unit {0}) → first_fault faults ≡ Ok u → AreAbsent faults
+pub absent : (faults : Faults) (u : Unit {0}) → Ok u ≡ first_fault faults → AreAbsent faults
 absent [] u e = tt
 absent ((there, number, fault) ∷ rest) u e = by_bool there
     (λ t. absurd (grind (arith, e, t)))
@@ -501,7 +501,7 @@ accept_makes d new now name id body at v given checks room unknown later same is
 )
   where
     known : has_endpoint (all_records w) name ≡ true
-    known = let there = absent (submit_faults w name None body) v (sym (checks w h)) in grind (arith, there)
+    known = let there = absent (submit_faults w name None body) v (checks w h) in grind (arith, there)
 
 -- a new submission is staged, or refused for memory
 pub accept_moves : (d new : DeskValue) (now : ℕ) (name id body : List ℕ) (at : ℕ) (u v : Unit {0}) (made : Result Ticket AllocError) → Checks d (λ w. new_submit_faults w name) (Ok u)

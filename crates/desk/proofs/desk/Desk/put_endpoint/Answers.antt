@@ -1,4 +1,4 @@
-use Rattle.desk.proofs.Words.{Put, arith, leb-false, sym, with_put, put_faults, change, changes}
+use Rattle.desk.proofs.Words.{Put, arith, leb-false, with_put, put_faults, change, changes}
 use Rattle.desk.specs.declared.command.Command.TheVariants.{PutEndpoint}
 use Rattle.desk.proofs.DeskLaws.{absent, refuses, passes, replies, hands_on, stages_or_lacks, stands_with_put}
 use Rattle.desk.proofs.desk.Desk.put_endpoint.Goals as goal
@@ -21,6 +21,6 @@ returns-clause-moves g c =
     (stages_or_lacks a.self.now _ (with_put a.self.now a.name a.target a.max a.secrets)
     (Put a.name a.target a.max a.secrets) c.stage_put.result
     (λ w h. stands_with_put a.self.now w a.name a.target a.max a.secrets h (omega (arith, checked.room)) checked.unknown
-    (leb-false _ _ (absent (put_faults w a.name) _ (sym (checked.faults w h))).1.1.0))
+    (leb-false _ _ (absent (put_faults w a.name) _ (checked.faults w h)).1.1.0))
     made.ticket made.staged made.limits made.err))
     c.or_out_of_memory.ensures
