@@ -57,30 +57,22 @@ pairs_same g (e ∷ rest) keeps maxima = λ i. (keeps e i, maxima e i) ∷ pairs
 
 -- One endpoint is changed, by its name.
 
-pub changed_name : (name : List ℕ) (change : Entry → Entry) → KeepsNames change → KeepsNames (λ e. change_at name change e.name e)
-changed_name name change keeps e = grind (arith, keeps e)
-
-pub changed_max : (name : List ℕ) (change : Entry → Entry) → ((e : Entry) → (change e).max ≡ e.max) → (e : Entry) → (change_at name change e.name e).max ≡ e.max
-changed_max name change keeps e = grind (arith, keeps e)
-
--- an entry of another name stays
-changed_other : (name other : List ℕ) (change : Entry → Entry) (e : Entry) → bytes_eq name other ≡ false → bytes_eq e.name other ≡ true → (change_at name change e.name e).enabled ≡ e.enabled
-changed_other name other change e apart own = grind (arith, bytes_eq-Decides name e.name)
-
 pub flag_limiters : (book : BookValue) (seq : ℕ) (name : List ℕ) (flag : Bool) (limiters : List Limiter) → AreLimiters limiters book → AreLimiters limiters (with_flag book seq name flag)
 flag_limiters book seq name flag limiters h =
-    h ∙ sym (pairs_same (λ e. change_at name (λ e. record e { enabled = flag }) e.name e) book.entries (changed_name name (λ e. record e { enabled = flag }) (λ e. refl)) (changed_max name (λ e. record e { enabled = flag }) (λ e. refl)))
+    h ∙ sym (pairs_same (λ e. change_at name (λ e. record e { enabled = flag }) e.name e) book.entries
+    (λ e. grind arith) (λ e. grind arith))
 
 pub flag_known : (book : BookValue) (seq : ℕ) (name other : List ℕ) (flag : Bool) → is_known (with_flag book seq name flag) other ≡ is_known book other
-flag_known book seq name other flag = known_same (λ e. change_at name (λ e. record e { enabled = flag }) e.name e) other book.entries (changed_name name (λ e. record e { enabled = flag }) (λ e. refl))
+flag_known book seq name other flag =
+    known_same (λ e. change_at name (λ e. record e { enabled = flag }) e.name e) other book.entries (λ e. grind arith)
 
 -- the room of another endpoint stays
 pub flag_room : (book : BookValue) (seq : ℕ) (name other : List ℕ) (flag : Bool) (limiters : List Limiter) (live : List Row) → bytes_eq name other ≡ false
     → room_by (with_flag book seq name flag) limiters live other ≡ room_by book limiters live other
 flag_room book seq name other flag limiters live apart =
     ap (λ b. b && nat_lt (in_flight_of other live) (limit_by limiters other))
-    (enabled_same (λ e. change_at name (λ e. record e { enabled = flag }) e.name e) other book.entries (changed_name name (λ e. record e { enabled = flag }) (λ e. refl))
-    (λ e own. changed_other name other (λ e. record e { enabled = flag }) e apart own))
+    (enabled_same (λ e. change_at name (λ e. record e { enabled = flag }) e.name e) other book.entries
+    (λ e. grind arith) (λ e own. grind (arith, own, apart, bytes_eq-Decides name e.name)))
 
 -- What ties a desk's fields stays so as a request waits
 
@@ -118,15 +110,15 @@ queued_told queue new book live name room same changes h =
 
 pub secrets_limiters : (book : BookValue) (seq : ℕ) (name : List ℕ) (secrets : List (List ℕ)) (limiters : List Limiter) → AreLimiters limiters book → AreLimiters limiters (endpoint_entries.with_secrets book seq name secrets)
 secrets_limiters book seq name secrets limiters h =
-    h ∙ sym (pairs_same (λ e. change_at name (λ e. record e { secrets = secrets }) e.name e) book.entries (changed_name name (λ e. record e { secrets = secrets }) (λ e. refl)) (changed_max name (λ e. record e { secrets = secrets }) (λ e. refl)))
+    h ∙ sym (pairs_same (λ e. change_at name (λ e. record e { secrets = secrets }) e.name e) book.entries
+    (λ e. grind arith) (λ e. grind arith))
 
 pub secrets_show : (book : BookValue) (seq : ℕ) (name : List ℕ) (secrets : List (List ℕ)) → ShowsSame book (endpoint_entries.with_secrets book seq name secrets)
-secrets_show book seq name secrets other =
-    let keeps = changed_name name (λ e. record e { secrets = secrets }) (λ e. refl) in (
-      known_same (λ e. change_at name (λ e. record e { secrets = secrets }) e.name e) other book.entries keeps,
-      enabled_same (λ e. change_at name (λ e. record e { secrets = secrets }) e.name e) other book.entries keeps
-          (λ e own. grind arith),
-    )
+secrets_show book seq name secrets other = (
+  known_same (λ e. change_at name (λ e. record e { secrets = secrets }) e.name e) other book.entries (λ e. grind arith),
+  enabled_same (λ e. change_at name (λ e. record e { secrets = secrets }) e.name e) other book.entries
+      (λ e. grind arith) (λ e own. grind arith),
+)
 
 -- The flag of one endpoint
 

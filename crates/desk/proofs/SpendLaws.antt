@@ -17,7 +17,7 @@ use Rattle.desk.proofs.Words.{length-map, list_any, records_of, enabled_in, Chan
 use Rattle.desk.proofs.Words.{changes_other, all_weaker, QueueValue, ChangesMark, IsNew, HasSamePairs, is_reserved}
 use Rattle.desk.proofs.Words.{with_room, is_outcome, count_by_snoc, is_out, same_row, AreMarked, AreQueued, AreTied}
 use Rattle.desk.proofs.Words.{HasPlaces, HasRoomForAll, Holds, KeepsRooms, endpoint_at, idle_pair, room_by, has_row}
-use Rattle.desk.proofs.Words.{HasOutcome, IsDesk, OverWorlds, Spends, TakesOutcome}
+use Rattle.desk.proofs.Words.{HasOutcome, IsDesk, OverWorlds, Spends, TakesOutcome, map-append}
 use Rattle.retry_table.specs.declared.post.PostResult.{PostResult}
 use Rattle.retry_table.specs.Judging.{measure_of, recorded_status, spend_of}
 use Rattle.retry_table.specs.declared.post.Measured.{Measured as Told}
@@ -135,10 +135,6 @@ left_over = over
 
 -- Samples
 
-map_more : (xs ys : List Measured) → map (λ (m : Measured). m.sample) (xs ++ ys) ≡ map (λ (m : Measured). m.sample) xs ++ map (λ (m : Measured). m.sample) ys
-map_more [] ys = refl
-map_more (x ∷ xs) ys = ap (λ rest. x.sample ∷ rest) (map_more xs ys)
-
 sample_at : (row : Row) (post : PostResult) (name : List ℕ) → map (λ (m : Measured). m.sample) (filter (λ (m : Measured). bytes_eq m.endpoint name) (sample_by row post)) ≡ samples_at name row post
 sample_at row post name = grind arith
 
@@ -146,7 +142,7 @@ samples_more : (w : World) (row : Row) (post : PostResult) (name : List ℕ)
     → samples_of (record w { measured = w.measured ++ sample_by row post }) name ≡ samples_of w name ++ samples_at name row post
 samples_more w row post name =
     ap (map (λ (m : Measured). m.sample)) (filter-append (λ (m : Measured). bytes_eq m.endpoint name) w.measured (sample_by row post))
-    ∙ map_more (filter (λ (m : Measured). bytes_eq m.endpoint name) w.measured) (filter (λ (m : Measured). bytes_eq m.endpoint name) (sample_by row post))
+    ∙ map-append (λ (m : Measured). m.sample) _ _
     ∙ ap (λ more. samples_of w name ++ more) (sample_at row post name)
 
 pub limits_sampled : (d : DeskValue) (w : World) (limiters : List Limiter) (row : Row) (post : PostResult) → AreLimits d.limiters w → AreSampled d.limiters limiters row post

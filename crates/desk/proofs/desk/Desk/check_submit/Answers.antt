@@ -1,1 +1,0 @@
-use Rattle.desk.proofs.desk.Desk.check_submit.Goals as goal
