@@ -436,15 +436,13 @@ Waits d entry new = OverWorlds d (λ w. IsTrue (is_within_limits entry) → Stan
 pub stages_or_lacks : (d new staged : DeskValue) (entry : Record) (made : Result CommandTicket AllocError) → Waits d entry staged
     → IfOk made (λ t. t.seq ≡ record_count d.waiting) → OnOk made (new ≡ staged) → OnOk made (IsTrue (is_within_limits entry)) → OnErr made (new ≡ d)
     → IsMove d (λ w. or_out_of_memory 7 (stages w entry)) (out_of_memory_at 7 made) new
-stages_or_lacks d new staged entry made waits same is limits err = makes_or_lacks d new (λ w. stages w entry) 7 made (made_so made same is limits) err
-  where
-    made_so : (made : Result CommandTicket AllocError) → IfOk made (λ t. t.seq ≡ record_count d.waiting) → OnOk made (new ≡ staged) → OnOk made (IsTrue (is_within_limits entry))
-        → IfOk made (λ t. (w : World) → StandsFor d w → ((stages w entry).reply ≡ Ok t) × StandsFor new (with_record w entry))
-    made_so (Err e) same is limits = tt
-    made_so (Ok t) same is limits = λ w h. (
+stages_or_lacks d new staged entry (Err e) waits same is limits err =
+    makes_or_lacks d new (λ w. stages w entry) 7 (Err e) tt err
+stages_or_lacks d new staged entry (Ok t) waits same is limits err =
+    makes_or_lacks {E = AllocError} d new (λ w. stages w entry) 7 (Ok t) (λ w h. (
       ap Ok (λ i. record { seq = (sym (count_is h) ∙ sym same) i }),
       subst (λ (v : DeskValue). StandsFor v (with_record w entry)) (sym is) (waits w h limits),
-    )
+    )) err
 
 -- Submissions
 

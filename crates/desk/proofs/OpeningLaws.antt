@@ -330,21 +330,15 @@ pub stands_opened : (books : Books) (waiting : WaitingValue) (live : List Row) (
     → Opens books (record { clock = books.clock; endpoints = books.endpoints; deliveries = books.deliveries; waiting = waiting; halted = false; live = live; limiters = limiters })
 stands_opened books waiting live limiters mark none nobody limited history are =
     let all : records_of (take (length history) history) ≡ records_of history = ap records_of (take_all (length history) history (omega arith)) in
-    record {
-      clock = refl;
-      halted = refl;
-      books = record {
-        of_endpoints = subst (λ n. endpoint_book.StandsFor books.endpoints (records_of history) n) (sym (ap length all)) are.endpoints;
-        of_deliveries = subst (λ n. delivery_book.StandsFor books.deliveries (records_of history) n) (sym (ap length all)) are.deliveries;
-        legal = are.endpoints.legal;
-      };
-      waiting = record {
-        steps = ap (λ (w : WaitingValue). w.waiting) none ∙ sym (drop_all (length history) history (omega arith));
-        settled_seq = ap (λ (w : WaitingValue). w.settled) none ∙ are.records ∙ sym (ap length all);
-        is_out = ap (λ (w : WaitingValue). w.out) none;
-        settled_first = omega arith;
-        sealed_within = omega arith;
-      };
-      live = nobody;
-      limits = λ name. subst (λ ls. StandsAt ls name []) (sym limited) (unsampled name books.endpoints.entries);
-    }
+    let counted = sym (ap length all) in
+    let of_endpoints =
+    subst (λ n. endpoint_book.StandsFor books.endpoints (records_of history) n) counted are.endpoints in
+    let of_deliveries =
+    subst (λ n. delivery_book.StandsFor books.deliveries (records_of history) n) counted are.deliveries in
+    let steps = ap (λ (w : WaitingValue). w.waiting) none ∙ sym (drop_all (length history) history (omega arith)) in
+    let settled = ap (λ (w : WaitingValue). w.settled) none ∙ are.records ∙ counted in
+    let out = ap (λ (w : WaitingValue). w.out) none in
+    let first : length history ≤ length history = omega arith in
+    let limits : (name : List ℕ) → StandsAt limiters name [] =
+    λ name. subst (λ ls. StandsAt ls name []) (sym limited) (unsampled name books.endpoints.entries) in
+    assumption (of_endpoints, of_deliveries, are.endpoints.legal, steps, settled, out, first, nobody, limits)

@@ -2,19 +2,19 @@
 use Rattle.desk.proofs.Words.{◌≡◌, ◌≤◌, ◌+◌, ◌-◌, ℕ, Bool, true, false, List, [], ◌∷◌, Option, Some, None, drop, map}
 use Rattle.desk.proofs.Words.{max, refl, sym, ◌∙◌, ap, arith, not, ◌&&◌, ◌||◌, cond, subst, count_by, find, is_some}
 use Rattle.desk.proofs.Words.{option_map, unwrap_or, nat_eq, nat_le, nat_lt, bytes_eq, if◌then◌else◌, list_all}
-use Rattle.desk.proofs.Words.{list_any, option_map_or, eq-eqb, eqb-true, eqb-false, le-ltb, le-leb, leb-true}
-use Rattle.desk.proofs.Words.{sum_by-cons, Record, Pending, is_in_state, and_first, and_second, and_both, find_map}
-use Rattle.desk.proofs.Words.{Entry, Unsettled, Settles, BookValue, entry_at, first_outcome, front_below, is_open}
-use Rattle.desk.proofs.Words.{next_settled, rest_from, state_in, takes_outcome, with_latest_settled, with_settled}
-use Rattle.desk.proofs.Words.{HasWaiting, count-map, drop_drop, Row, is_out, Pair, QueueValue, IsNew, is_held, pair_of}
-use Rattle.desk.proofs.Words.{same_pair, AreApart, AreHeld, AreQueued, AreUnderWay, HasPlaces, Holds, idle_pair, is_own}
-use Rattle.desk.proofs.Words.{is_told, is_under_way, is_unheld, rises, waits_as, nat_tests, by_bool, by_option, ◌++◌}
-use Rattle.desk.proofs.Words.{cons_option, option_or, find-append, Accept, Outcome, attempts_of, is_gone_status}
-use Rattle.desk.proofs.Words.{Attempt, AreNamedAlike, at_delivery, at_outcomes, with_outcome, AreTries, endpoint_at}
-use Rattle.desk.proofs.Words.{with_attempt, ◌<◌, length, sum_by_push, MAX_RECORDS, records_of, HasChanges}
-use Rattle.desk.proofs.Words.{changes_named, changes_other, new_entry, pending_in, with_event, all_weaker, HasSamePairs}
-use Rattle.desk.proofs.Words.{SetsMark, free_places, reserved_mark, WaitingValue, record_count, with_step, Limiter}
-use Rattle.desk.proofs.Words.{AreTied, is_entry_of, is_idle, is_pair_of, own_pair, IsDesk, is_pending_of}
+use Rattle.desk.proofs.Words.{list_any, option_map_or, eq-eqb, eqb-true, le-ltb, le-leb, leb-true, sum_by-cons, Record}
+use Rattle.desk.proofs.Words.{Pending, is_in_state, and_first, and_second, and_both, find_map, Entry, Unsettled}
+use Rattle.desk.proofs.Words.{Settles, BookValue, entry_at, first_outcome, front_below, is_open, next_settled}
+use Rattle.desk.proofs.Words.{rest_from, state_in, takes_outcome, with_latest_settled, with_settled, HasWaiting}
+use Rattle.desk.proofs.Words.{count-map, drop_drop, Row, is_out, Pair, QueueValue, IsNew, is_held, pair_of, same_pair}
+use Rattle.desk.proofs.Words.{AreApart, AreHeld, AreQueued, AreUnderWay, HasPlaces, Holds, idle_pair, is_own, is_told}
+use Rattle.desk.proofs.Words.{is_under_way, is_unheld, rises, waits_as, nat_tests, by_bool, by_option, ◌++◌, option_or}
+use Rattle.desk.proofs.Words.{find-append, Accept, Outcome, attempts_of, is_gone_status, AreNamedAlike, at_delivery}
+use Rattle.desk.proofs.Words.{at_outcomes, with_outcome, AreTries, endpoint_at, with_attempt, ◌<◌, length, sum_by_push}
+use Rattle.desk.proofs.Words.{MAX_RECORDS, records_of, HasChanges, changes_named, changes_other, new_entry, pending_in}
+use Rattle.desk.proofs.Words.{with_event, all_weaker, HasSamePairs, SetsMark, free_places, reserved_mark, WaitingValue}
+use Rattle.desk.proofs.Words.{record_count, with_step, Limiter, AreTied, is_entry_of, is_idle, is_pair_of, own_pair}
+use Rattle.desk.proofs.Words.{IsDesk, is_pending_of}
 use Rattle.delivery_book.specs.Book.{StandsFor}
 use Rattle.delivery_book.proofs.Waiting.{waiting_settled, waiting_event}
 use Rattle.endpoint_book.specs.Entries as endpoint_entries
@@ -52,32 +52,20 @@ abbrev behind : (s : ℕ) → List Unsettled → List Unsettled
 behind s [] = []
 behind s (o ∷ rest) = if nat_eq o.seq s then rest else o ∷ rest
 
-after_first : (s upto : ℕ) (o : Unsettled) (rest : List Unsettled) → rises s upto (o ∷ rest) ≡ true → nat_eq o.seq s ≡ true → rises (s + 1) upto rest ≡ true
-after_first s upto o rest h e = ap (λ n. rises (n + 1) upto rest) (sym (eqb-true o.seq s e)) ∙ and_second (nat_le s o.seq) _ h
-
-is_behind : (s upto : ℕ) (o : Unsettled) (rest : List Unsettled) → rises s upto (o ∷ rest) ≡ true → nat_eq o.seq s ≡ false → s + 1 ≤ o.seq
-is_behind s upto o rest h e = let differs = eqb-false o.seq s e in omega (arith, differs, leb-true s o.seq (and_first (nat_le s o.seq) _ h))
-
 -- what is settled with one more record: the first outcome, if it has that record's number
 front_one : (s upto : ℕ) (outs : List Unsettled) → rises s upto outs ≡ true → (n : ℕ) → list_any (λ o. nat_eq o.delivery n) (front_below (s + 1) outs) ≡ names (first_outcome s outs) n
 front_one s upto [] h n = refl
-front_one s upto (o ∷ rest) h n =
-    let none = λ (e : nat_eq o.seq s ≡ true). front_none (s + 1) upto rest (after_first s upto o rest h e) in
-    grind (arith, nat_tests, h, none)
+front_one s upto (o ∷ rest) h n = grind (arith, nat_tests, h, front_none (s + 1) upto rest)
 
 rest_one : (s upto : ℕ) (outs : List Unsettled) → rises s upto outs ≡ true → rest_from (s + 1) outs ≡ behind s outs
 rest_one s upto [] h = refl
-rest_one s upto (o ∷ rest) h =
-    let all = λ (e : nat_eq o.seq s ≡ true). rest_all (s + 1) upto rest (after_first s upto o rest h e) in
-    grind (arith, nat_tests, h, all)
+rest_one s upto (o ∷ rest) h = grind (arith, nat_tests, h, rest_all (s + 1) upto rest)
 
 rises_behind : (s upto : ℕ) (outs : List Unsettled) → rises s upto outs ≡ true → rises (s + 1) (max upto (s + 1)) (behind s outs) ≡ true
 rises_behind s upto [] h = le-leb (s + 1) (max upto (s + 1)) (omega arith)
 rises_behind s upto (o ∷ rest) h =
     let more = λ (n : ℕ). rises_upto n upto (max upto (s + 1)) rest (omega arith) in
-    by_bool (nat_eq o.seq s)
-    (λ e. rw e (more (s + 1) (after_first s upto o rest h e)))
-    (λ e. let above = is_behind s upto o rest h e in grind (arith, nat_tests, e, above, h, more (o.seq + 1)))
+    grind (arith, nat_tests, h, more (s + 1), more (o.seq + 1))
 
 -- Entries
 
@@ -409,21 +397,15 @@ pub named_alike : (book : BookValue) (x : Entry) (later : BookValue) (records : 
     → AreNamedAlike (endpoint_at book) (endpoint_at later) records
 named_alike book x later [] more tried = tt
 named_alike book x later (Outcome delivery attempt status moment ∷ rest) more tried = (
-  ap (λ (o : Option (List ℕ)). if is_gone_status status then o else None) (same (entry_at book.entries delivery) refl),
-  named_alike book x later rest more (λ d none. behind (nat_eq delivery d) (attempts_of rest d) (tried d none)),
+  ap (λ (o : Option (List ℕ)). if is_gone_status status then o else None) same,
+  named_alike book x later rest more (λ d none. let all = tried d none in grind (arith, all)),
 )
   where
-    t : Attempt
-    t = record { number = attempt; status = status; at = moment }
-
-    behind : (b : Bool) (ts : List Attempt) → cons_option (cond b (Some t) None) ts ≡ [] → ts ≡ []
-    behind b ts e = grind arith
-
-    same : (o : Option Entry) → entry_at book.entries delivery ≡ o → endpoint_at book delivery ≡ endpoint_at later delivery
-    same None none = absurd (let wrong = ap (λ b. cons_option (cond b (Some t) None) (attempts_of rest delivery)) (sym (eq-eqb delivery delivery refl)) ∙ tried delivery none in cc)
-    same (Some e) there =
-        ap (option_map (λ (y : Entry). y.name)) there
-        ∙ sym (ap (option_map (λ (y : Entry). y.name)) (ap (λ es. entry_at es delivery) more ∙ find-append (λ (y : Entry). nat_eq y.seq delivery) book.entries (x ∷ []) ∙ ap (λ o. option_or o (entry_at (x ∷ []) delivery)) there))
+    same : endpoint_at book delivery ≡ endpoint_at later delivery
+    same =
+        let found = find-append (λ (y : Entry). nat_eq y.seq delivery) book.entries (x ∷ []) in
+        let none = tried delivery in
+        grind (arith, nat_tests, more, found, none)
 named_alike book x later (r ∷ rest) more tried = (refl, named_alike book x later rest more tried)
 
 -- What ties a desk's fields stays so as a submission waits

@@ -17,7 +17,8 @@ use Rattle.desk.proofs.Words.{length-map, list_any, records_of, enabled_in, Chan
 use Rattle.desk.proofs.Words.{changes_other, all_weaker, QueueValue, ChangesMark, IsNew, HasSamePairs, is_reserved}
 use Rattle.desk.proofs.Words.{with_room, is_outcome, count_by_snoc, is_out, same_row, AreMarked, AreQueued, AreTied}
 use Rattle.desk.proofs.Words.{HasPlaces, HasRoomForAll, Holds, KeepsRooms, endpoint_at, idle_pair, room_by, has_row}
-use Rattle.desk.proofs.Words.{HasOutcome, IsDesk, OverWorlds, Spends, TakesOutcome, map-append}
+use Rattle.desk.proofs.Words.{HasOutcome, IsDesk, OverWorlds, Spends, TakesOutcome, map-append, MAX_WAITING_OUTCOMES}
+use Rattle.desk.proofs.Words.{outcomes_in}
 use Rattle.retry_table.specs.declared.post.PostResult.{PostResult}
 use Rattle.retry_table.specs.Judging.{measure_of, recorded_status, spend_of}
 use Rattle.retry_table.specs.declared.post.Measured.{Measured as Told}
@@ -320,15 +321,13 @@ is_live d queue row rest tied r = record {
 }
 
 pub takes_outcome : (d : DeskValue) (queue : QueueValue) (row : Row) (rest : List Row) → IsDesk d.endpoints d.deliveries d.waiting d.live d.limiters queue → IsLive d row rest → TakesOutcome d.waiting d.endpoints d.deliveries row
-takes_outcome d queue row rest h is = record {
-  place = omega (arith, h.tied.room.places, is.gone.fewer);
-  room = omega (arith, h.tied.room.numbers, is.gone.fewer);
-  endpoints_staged = h.endpoints_staged;
-  deliveries_staged = h.deliveries_staged;
-  known = is.known;
-  free_delivery = takes d.deliveries row is.entry;
-  flags = omega (arith, h.flags_few, h.endpoints_settled);
-}
+takes_outcome d queue row rest h is =
+    let place : outcomes_in d.waiting.waiting < MAX_WAITING_OUTCOMES =
+    omega (arith, h.tied.room.places, is.gone.fewer) in
+    let room : record_count d.waiting < MAX_RECORDS = omega (arith, h.tied.room.numbers, is.gone.fewer) in
+    let flags : endpoint_entries.flags_in d.endpoints + d.waiting.settled ≤ d.endpoints.next_seq =
+    omega (arith, h.flags_few, h.endpoints_settled) in
+    assumption (place, room, flags, takes d.deliveries row is.entry)
 
 -- the number of the outcome is that of no delivery
 abbrev pub IsUnused : DeskValue → Option ℕ → Type 0
@@ -344,12 +343,10 @@ places_over d queue row (Some s) at tied = places_tried queue d.deliveries (reco
 queued_over : (d : DeskValue) (queue held : QueueValue) (row : Row) (rest : List Row) (status : Option ℕ) (at : ℕ) → IsDesk d.endpoints d.deliveries d.waiting d.live d.limiters queue → IsLive d row rest → IsUnused d status
     → Holds queue held (idle_pair (tried d.deliveries (record_count d.waiting) row.delivery status at) row.delivery) → HasPlaces held (tried d.deliveries (record_count d.waiting) row.delivery status at)
     → AreQueued held (tried d.deliveries (record_count d.waiting) row.delivery status at) rest
-queued_over d queue held row rest None at h is unused holds places = record {
-  apart = h.tied.queued.apart;
-  under_way = under_way_less d.deliveries row d.live rest is.gone h.tied.queued.under_way;
-  held = held_again queue held d.deliveries row d.live rest h.tied.queued.held is.entry is.out is.gone holds;
-  places = places;
-}
+queued_over d queue held row rest None at h is unused holds places =
+    let way = under_way_less d.deliveries row d.live rest is.gone h.tied.queued.under_way in
+    let again = held_again queue held d.deliveries row d.live rest h.tied.queued.held is.entry is.out is.gone holds in
+    assumption (way, again)
 queued_over d queue held row rest (Some s) at h is unused holds places = record {
   apart = apart_tried d.deliveries row (record_count d.waiting) s at h.tied.queued.apart is.entry h.deliveries_staged (unused s refl);
   under_way = under_way_tried d.deliveries row d.live rest (record_count d.waiting) s at is.gone h.tied.queued.under_way;

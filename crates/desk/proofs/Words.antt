@@ -5,8 +5,8 @@ pub use Rattle.std.proofs.Common.{length-append, map, max, nat_le, not, refl, ru
 pub use Rattle.std.proofs.Common.{suc, sym, take, true, vec_capacity, vec_len, zero, ℕ, ◌&&◌, ◌++◌, ◌+◌, ◌-◌, ◌<◌, ◌||◌}
 pub use Rattle.std.proofs.Common.{◌↔◌, ◌∙◌, ◌∷◌, ◌≡◌, ◌≤◌, ◌⊎◌}
 pub use Rattle.std.proofs.Math.Seq.{drop-append_seam, map-set_same, take-add, take-append_seam}
-pub use Rattle.std.proofs.lemmas.Bool.{cond_both, eq-eqb, eqb-false, eqb-true, le-leb, le-ltb, leb-false, leb-true}
-pub use Rattle.std.proofs.lemmas.Bool.{lt-ltb, ltb-true, ne_eqb}
+pub use Rattle.std.proofs.lemmas.Bool.{cond_both, eq-eqb, eqb-true, le-leb, le-ltb, leb-false, leb-true, lt-ltb}
+pub use Rattle.std.proofs.lemmas.Bool.{ltb-true, ne_eqb}
 pub use Rattle.std.proofs.lemmas.Bool.Decides.{nat_tests}
 pub use Rattle.std.proofs.lemmas.List.{at_drop_more, drop-append-le, drop-take, drop_all, length-drop, length-map}
 pub use Rattle.std.proofs.lemmas.List.{length-take, map-append, take-append-drop, take-append-le, take_all, take_more}
