@@ -9,7 +9,7 @@ use desk::Desk;
 use drill::{Event, Reply, World, run};
 use permits::PARTS;
 use recovery::create;
-use script_lines::read_event;
+use script_lines::read_call;
 use spool::Vault;
 use sqlite::{Alter, Connection};
 use std::alloc::{AllocError, Global};
@@ -64,7 +64,7 @@ fn told_over<S: Alter + Drop>(alloc: Global, conn: Connection<S>) -> Option<Told
 fn events_of(alloc: Global) -> Result<Vec<Event>, Failed> {
     let mut events = Vec::new(alloc);
     for line in LINES {
-        let Ok(event) = read_event(alloc, line.as_bytes()) else {
+        let Ok(event) = read_call(alloc, line.as_bytes()) else {
             return Err(Failed);
         };
         events.push(Event::Line(event)).map_err(AllocError::from)?;

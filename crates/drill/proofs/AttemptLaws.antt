@@ -21,7 +21,7 @@ use Rattle.delivery_book.proofs.Progresses.{attempts_of-append, empty_if}
 use Rattle.permits.specs.declared.row.Row.{Row}
 use Rattle.retry_table.specs.declared.post.PostResult.{PostResult}
 use Rattle.retry_table.specs.Judging.{recorded_status}
-use Rattle.script_lines.specs.declared.event.Event as line
+use Rattle.script_lines.specs.declared.call.Call as line
 use Rattle.script_lines.specs.declared.reply.Reply as line_reply
 use Rattle.desk.specs.declared.refusal.Refusal.{Refusal}
 use Rattle.desk.specs.World.{World, Receipt, settled_records, waiting_records}
@@ -227,7 +227,7 @@ tracked_settles w h e = record {
   pending = λ d some. (pending_at w w.sealed d h h.below h.within some).pending;
 }
 
-desk_tracked : (s next : Session) (event : line.Event) (told : line_reply.Reply) → IsTracked s.world → is_commit event ≡ false → Move s event told next → IsTracked next.world
+desk_tracked : (s next : Session) (event : line.Call) (told : line_reply.Reply) → IsTracked s.world → is_commit event ≡ false → Move s event told next → IsTracked next.world
 desk_tracked s next event told h own move = follows_each IsTracked s next event told own (record {
   stays = h;
   stages = λ other staged. tracked_stages s.world other h staged;
@@ -245,7 +245,7 @@ desk_tracked s next event told h own move = follows_each IsTracked s next event 
   halts = λ other. record { below = h.below; within = h.within; leaves = left_on_halt s.world s.world.out other h.leaves; once = h.once; pending = h.pending };
 }) move
 
-pub line_tracked : (s next : Session) (event : line.Event) (told : line_reply.Reply) → IsTracked s.world → Move s event told next → IsTracked next.world
+pub line_tracked : (s next : Session) (event : line.Call) (told : line_reply.Reply) → IsTracked s.world → Move s event told next → IsTracked next.world
 line_tracked s next event told h move = by_call IsTracked s next event told (λ own. desk_tracked s next event told h own move)
     (commits_follow IsTracked s next told s.world.out refl h
     (λ e. record { below = h.below; within = h.within; leaves = refl; once = h.once; pending = h.pending })

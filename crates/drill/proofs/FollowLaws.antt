@@ -2,8 +2,8 @@
 use Rattle.std.proofs.Common.{◌≡◌, ℕ, ◌==◌, Bool, true, false, [], length, Option, Some, None, Result, inl, inr, refl, sym, subst, ◌∙◌}
 use Rattle.permits.specs.declared.row.Row.{Row}
 use Rattle.retry_table.specs.declared.post.PostResult.{PostResult}
-use Rattle.script_lines.specs.declared.event.Event.{Event}
-use Rattle.script_lines.specs.declared.event.Event.TheVariants as on
+use Rattle.script_lines.specs.declared.call.Call.{Call}
+use Rattle.script_lines.specs.declared.call.Call.TheVariants as on
 use Rattle.script_lines.specs.declared.reply.Reply.{Reply}
 use Rattle.desk.specs.declared.command.Command.{Command}
 use Rattle.desk.specs.declared.command.Command.TheVariants.{PutEndpoint, SetSecrets, SetEnabled}
@@ -88,13 +88,13 @@ follows_spend : (P : World → Type 0) (s next : Session) (reply : Reply) (deliv
 follows_spend P s next reply delivery now post h None found = moved P next s reply _ h.stays
 follows_spend P s next reply delivery now post h (Some row) found = moved P next (record s { world = with_attempt_over s.world row post now }) reply _ (h.spends delivery now row post found)
 
-pub follows_each : (P : World → Type 0) (s next : Session) (event : Event) (reply : Reply) → is_commit event ≡ false → FollowsEach P s.world → MayTell (answer_to s event) reply next → P next.world
+pub follows_each : (P : World → Type 0) (s next : Session) (event : Call) (reply : Reply) → is_commit event ≡ false → FollowsEach P s.world → MayTell (answer_to s event) reply next → P next.world
 follows_each P s next event reply own h = at event own
   where
     changed : (command : Command) → MayTell (commands s command) reply next → P next.world
     changed command = told P s next _ reply _ _ h.stays (h.stages (change s.world command).next (goes_change s.world command))
 
-    at : (event : Event) → is_commit event ≡ false → MayTell (answer_to s event) reply next → P next.world
+    at : (event : Call) → is_commit event ≡ false → MayTell (answer_to s event) reply next → P next.world
     at (on.Put name target max secrets) own = changed (PutEndpoint name target max secrets)
     at (on.Secrets name secrets) own = changed (SetSecrets name secrets)
     at (on.Enabled name flag) own = changed (SetEnabled name flag)
@@ -111,7 +111,7 @@ follows_each P s next event reply own h = at event own
     at (on.ShowEndpoint name) own = moved P next s reply _ h.stays
     at (on.Show name id) own = moved P next s reply _ h.stays
 
-pub follows : (P : World → Type 0) (s next : Session) (event : Event) (reply : Reply) → is_commit event ≡ false → Follows P s.world → MayTell (answer_to s event) reply next → P next.world
+pub follows : (P : World → Type 0) (s next : Session) (event : Call) (reply : Reply) → is_commit event ≡ false → Follows P s.world → MayTell (answer_to s event) reply next → P next.world
 follows P s next event reply own h = follows_each P s next event reply own (record {
   stays = h.stays;
   stages = λ other staged. h.goes other staged.goes;
@@ -135,14 +135,14 @@ commits_follow P s next reply Receipt e stays kept doubt move = moved P next s r
 commits_follow P s next reply Doubt e stays kept doubt move = moved P next s reply _ stays move
 
 -- each call is one of the desk, or a commit
-pub by_call : (P : World → Type 0) (s next : Session) (event : Event) (reply : Reply) → (is_commit event ≡ false → P next.world) → (MayTell (commits s s.world.out) reply next → P next.world)
+pub by_call : (P : World → Type 0) (s next : Session) (event : Call) (reply : Reply) → (is_commit event ≡ false → P next.world) → (MayTell (commits s s.world.out) reply next → P next.world)
     → MayTell (answer_to s event) reply next → P next.world
 by_call P s next event reply desk store = at event desk
   where
-    at : (event : Event) → (is_commit event ≡ false → P next.world) → MayTell (answer_to s event) reply next → P next.world
+    at : (event : Call) → (is_commit event ≡ false → P next.world) → MayTell (answer_to s event) reply next → P next.world
     at on.Commit own move = store move
     at event own move = own refl
 
-pub is_of_desk : (event : Event) → (event ≡ on.Commit → ⊥) → is_commit event ≡ false
+pub is_of_desk : (event : Call) → (event ≡ on.Commit → ⊥) → is_commit event ≡ false
 is_of_desk on.Commit other = absurd (other refl)
 is_of_desk event other = refl

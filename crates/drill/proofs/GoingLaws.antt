@@ -4,7 +4,7 @@ use Rattle.std.proofs.lemmas.List.{take-append-le}
 use Rattle.std.proofs.Math.Seq.{take-append-add}
 use Rattle.relay_types.specs.declared.record.Record.{Record}
 use Rattle.relay_types.specs.Records.{records_of}
-use Rattle.script_lines.specs.declared.event.Event as line
+use Rattle.script_lines.specs.declared.call.Call as line
 use Rattle.script_lines.specs.declared.reply.Reply as line_reply
 use Rattle.desk.specs.World.{World, all_records}
 use Rattle.recovery.specs.Left.{LeavesBy, records_of_first}
@@ -42,7 +42,7 @@ marks_go w next g marks = (omega (arith, marks.0, g.settled, g.sealed), omega (a
 abbrev GoesInOrder : World → World → Type 0
 GoesInOrder w next = GoesOn w next × HasMarksInOrder next
 
-pub line_goes_on : (s next : Session) (event : line.Event) (told : line_reply.Reply) → HasMarksInOrder s.world → Move s event told next → GoesInOrder s.world next.world
+pub line_goes_on : (s next : Session) (event : line.Call) (told : line_reply.Reply) → HasMarksInOrder s.world → Move s event told next → GoesInOrder s.world next.world
 line_goes_on s next event told marks move = by_call (GoesInOrder s.world) s next event told desk
     (commits_follow (GoesInOrder s.world) s next told s.world.out refl stays (λ e. (stays_on s.world _ refl (omega arith), marks)) (λ e. (stays_on s.world _ refl (omega arith), marks))) move
   where

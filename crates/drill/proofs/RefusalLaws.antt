@@ -2,8 +2,8 @@
 use Rattle.std.proofs.Common.{◌≡◌, ℕ, List, [], ◌∷◌, Option, Some, None, Result, Ok, Err, inl, inr, refl, sym, ap, subst}
 use Rattle.permits.specs.declared.row.Row.{Row}
 use Rattle.retry_table.specs.declared.post.PostResult.{PostResult}
-use Rattle.script_lines.specs.declared.event.Event as line
-use Rattle.script_lines.specs.declared.event.Event.TheVariants as on_line
+use Rattle.script_lines.specs.declared.call.Call as line
+use Rattle.script_lines.specs.declared.call.Call.TheVariants as on_line
 use Rattle.script_lines.specs.declared.reply.Fault.{Fault}
 use Rattle.script_lines.specs.declared.reply.Reply as line_reply
 use Rattle.script_lines.specs.declared.reply.Reply.TheVariants as says
@@ -34,15 +34,15 @@ use Rattle.drill.specs.Runs.{Move}
 use Rattle.drill.specs.Tickets.{find_ticket}
 
 -- if the call is refused, then by a fault that can be
-abbrev IsAllowed : World → line.Event → line_reply.Reply → Type 0
+abbrev IsAllowed : World → line.Call → line_reply.Reply → Type 0
 IsAllowed w event (says.Refused number fault) = CanRefuse w (on.Line event) fault
 IsAllowed w event other = Unit {0}
 
-abbrev AreAllowed : World → line.Event → List (line_reply.Reply × Session) → Type 0
+abbrev AreAllowed : World → line.Call → List (line_reply.Reply × Session) → Type 0
 AreAllowed w event [] = Unit {0}
 AreAllowed w event (one ∷ others) = IsAllowed w event one.0 × AreAllowed w event others
 
-by_unserved : (w : World) (event : line.Event) (unserved : List (line_reply.Reply × Session)) (told : line_reply.Reply) (next : Session) → AreAllowed w event unserved → IsOneOf unserved told next → IsAllowed w event told
+by_unserved : (w : World) (event : line.Call) (unserved : List (line_reply.Reply × Session)) (told : line_reply.Reply) (next : Session) → AreAllowed w event unserved → IsOneOf unserved told next → IsAllowed w event told
 by_unserved w event [] told next h none = absurd none
 by_unserved w event (one ∷ others) told next h (inl given) = subst (IsAllowed w event) (sym given.0) h.0
 by_unserved w event (one ∷ others) told next h (inr more) = by_unserved w event others told next h.1 more
@@ -62,11 +62,11 @@ by_desk w event desk_fault.SeqExhausted = tt
 by_desk w event desk_fault.BatchOut = tt
 by_desk w event desk_fault.OutOfMemory = tt
 
-by_lack : (s : Session) (event : line.Event) (memory : Option ℕ) → AreAllowed s.world event (lacks s memory)
+by_lack : (s : Session) (event : line.Call) (memory : Option ℕ) → AreAllowed s.world event (lacks s memory)
 by_lack s event None = tt
 by_lack s event (Some number) = (tt, tt)
 
-by_staged : {A : Type 0} (of : A → Given) (w : World) (event : line.Event) (result : Result A Refusal) → IsAllowed w event (staged_reply of result)
+by_staged : {A : Type 0} (of : A → Given) (w : World) (event : line.Call) (result : Result A Refusal) → IsAllowed w event (staged_reply of result)
 by_staged of w event (Ok ticket) = tt
 by_staged of w event (Err refusal) = by_desk w (on.Line event) refusal.fault
 
@@ -80,28 +80,28 @@ by_claim w now (Ok None) = tt
 by_claim w now (Ok (Some job)) = tt
 by_claim w now (Err refusal) = by_desk w (on.Line (on_line.Claim now)) refusal.fault
 
-by_told : (w : World) (event : line.Event) (given : Option Given) → IsAllowed w event (told_reply w given)
+by_told : (w : World) (event : line.Call) (given : Option Given) → IsAllowed w event (told_reply w given)
 by_told w event None = tt
 by_told w event (Some (Submission ticket)) = tt
 by_told w event (Some (OfCommand ticket)) = tt
 
-by_limits : (w : World) (event : line.Event) (shown : Option Limits) → IsAllowed w event (limits_reply shown)
+by_limits : (w : World) (event : line.Call) (shown : Option Limits) → IsAllowed w event (limits_reply shown)
 by_limits w event None = tt
 by_limits w event (Some shown) = tt
 
-by_endpoint : (w : World) (event : line.Event) (shown : Option EndpointShown) → IsAllowed w event (endpoint_reply shown)
+by_endpoint : (w : World) (event : line.Call) (shown : Option EndpointShown) → IsAllowed w event (endpoint_reply shown)
 by_endpoint w event None = tt
 by_endpoint w event (Some shown) = tt
 
-by_event : (w : World) (event : line.Event) (shown : Option delivery.Row) → IsAllowed w event (event_reply shown)
+by_event : (w : World) (event : line.Call) (shown : Option delivery.Row) → IsAllowed w event (event_reply shown)
 by_event w event None = tt
 by_event w event (Some row) = tt
 
 -- what a call is told is allowed, and so is each of what it may be told where it isn't served
-abbrev MayBeTold : World → line.Event → Answer → Type 0
+abbrev MayBeTold : World → line.Call → Answer → Type 0
 MayBeTold w event answer = IsAllowed w event answer.reply × AreAllowed w event answer.unserved
 
-by_spend : (s : Session) (event : line.Event) (post : PostResult) (now : ℕ) (permit : Option Row) → MayBeTold s.world event (spends s permit post now)
+by_spend : (s : Session) (event : line.Call) (post : PostResult) (now : ℕ) (permit : Option Row) → MayBeTold s.world event (spends s permit post now)
 by_spend s event post now None = (tt, tt)
 by_spend s event post now (Some row) = (tt, tt)
 
@@ -129,17 +129,17 @@ by_halt s Batch is = (tt, tt)
 by_halt s Receipt is = ((refl, is), tt)
 by_halt s Doubt is = (tt, tt)
 
-may_be_told : (s : Session) (event : line.Event) → MayBeTold s.world event (answer_to s event)
+may_be_told : (s : Session) (event : line.Call) → MayBeTold s.world event (answer_to s event)
 may_be_told s event = at event
   where
-    changed : (event : line.Event) (command : Command) → MayBeTold s.world event (record {
+    changed : (event : line.Call) (command : Command) → MayBeTold s.world event (record {
       reply = staged_reply OfCommand (change s.world command).reply;
       next = s;
       unserved = lacks s (change s.world command).memory;
     })
     changed event command = (by_staged OfCommand s.world event (change s.world command).reply, by_lack s event (change s.world command).memory)
 
-    at : (event : line.Event) → MayBeTold s.world event (answer_to s event)
+    at : (event : line.Call) → MayBeTold s.world event (answer_to s event)
     at (on_line.Put name target max secrets) = changed _ (PutEndpoint name target max secrets)
     at (on_line.Secrets name secrets) = changed _ (SetSecrets name secrets)
     at (on_line.Enabled name flag) = changed _ (SetEnabled name flag)
@@ -156,7 +156,7 @@ may_be_told s event = at event
     at (on_line.ShowEndpoint name) = (by_endpoint s.world _ (endpoint_page (settled_records s.world) name), tt)
     at (on_line.Show name id) = (by_event s.world _ (event_page (settled_records s.world) name id), tt)
 
-line_allowed : (s next : Session) (event : line.Event) (told : line_reply.Reply) → Move s event told next → IsAllowed s.world event told
+line_allowed : (s next : Session) (event : line.Call) (told : line_reply.Reply) → Move s event told next → IsAllowed s.world event told
 line_allowed s next event told (inl given) = subst (IsAllowed s.world event) (sym given.0) (may_be_told s event).0
 line_allowed s next event told (inr one) = by_unserved s.world event (answer_to s event).unserved told next (may_be_told s event).1 one
 

@@ -2,7 +2,7 @@
 use Rattle.std.proofs.Common.{◌≡◌, ℕ, List, [], ◌∷◌, ◌++◌, max, Option, Result, refl, sym, ap, subst, ◌∙◌}
 use Rattle.sqlite.specs.Store.{Ghosts}
 use Rattle.sqlite.specs.Held as store
-use Rattle.script_lines.specs.declared.event.Line.{Line}
+use Rattle.script_lines.specs.declared.call.Line.{Line}
 use Rattle.script_lines.specs.declared.reply.Reply.{Reply}
 use Rattle.script_lines.specs.Replies.{reply_text}
 use Rattle.text_lines.specs.Answers.{AnswersEach, AnswersFrom, AnswersTo}

@@ -5,8 +5,8 @@ use Rattle.std.proofs.lemmas.List.{take-take}
 use Rattle.std.specs.List.{AllByRecursion}
 use Rattle.relay_types.specs.declared.record.Record.{Record}
 use Rattle.relay_types.specs.Records.{History, records_of}
-use Rattle.script_lines.specs.declared.event.Line.{Line}
-use Rattle.script_lines.specs.declared.event.Line.TheVariants.{Call, Stop}
+use Rattle.script_lines.specs.declared.call.Line.{Line}
+use Rattle.script_lines.specs.declared.call.Line.TheVariants.{Call, Stop}
 use Rattle.script_lines.specs.declared.reply.Reply.{Reply}
 use Rattle.desk.specs.World.{World, all_records, settled_records, waiting_records}
 use Rattle.recovery.specs.Left.{records_of_first}

@@ -2,8 +2,8 @@
 use Rattle.std.proofs.Common.{◌≡◌, ℕ, true, false, List, [], ◌∷◌, Option, Some, None, inl, inr, refl, sym, ap, ◌∙◌}
 use Rattle.std.specs.List.{list_all}
 use Rattle.std.proofs.lemmas.Bool.{and_parts}
-use Rattle.script_lines.specs.declared.event.Event.{Event}
-use Rattle.script_lines.specs.declared.event.Event.TheVariants as on
+use Rattle.script_lines.specs.declared.call.Call.{Call}
+use Rattle.script_lines.specs.declared.call.Call.TheVariants as on
 use Rattle.script_lines.specs.declared.reply.Reply.{Reply}
 use Rattle.desk.specs.World.{Out, Nothing, Batch, Receipt, Doubt}
 use Rattle.permits.specs.declared.row.Row.{Row}
@@ -53,7 +53,7 @@ spends_wants : (s : Session) (post : PostResult) (now : ℕ) (permit : Option Ro
 spends_wants s post now None = tt
 spends_wants s post now (Some row) = tt
 
-wants : (s : Session) (event : Event) → AreWants (answer_to s event).unserved
+wants : (s : Session) (event : Call) → AreWants (answer_to s event).unserved
 wants s (on.Put name target max secrets) = lacks_wants s _
 wants s (on.Secrets name secrets) = lacks_wants s _
 wants s (on.Enabled name flag) = lacks_wants s _
@@ -70,7 +70,7 @@ wants s on.Halt = halts_wants s s.world.out
 wants s (on.ShowEndpoint name) = tt
 wants s (on.Show name id) = tt
 
-served_move : (s : Session) (event : Event) (reply : Reply) (next : Session) → Move s event reply next → is_served reply ≡ true → (reply ≡ (answer_to s event).reply) × (next ≡ (answer_to s event).next)
+served_move : (s : Session) (event : Call) (reply : Reply) (next : Session) → Move s event reply next → is_served reply ≡ true → (reply ≡ (answer_to s event).reply) × (next ≡ (answer_to s event).next)
 served_move s event reply next (inl given) served = given
 served_move s event reply next (inr one) served = absurd (not_wanted (answer_to s event).unserved reply next (wants s event) one served)
 

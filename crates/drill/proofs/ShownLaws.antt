@@ -11,8 +11,8 @@ use Rattle.relay_types.specs.declared.record.Record.{Record}
 use Rattle.relay_types.specs.Records.{Accepted, records_of}
 use Rattle.relay_types.specs.Deliveries.{accepted, deliveries, due_of}
 use Rattle.relay_types.proofs.KnownLaws.{below_if_accepted}
-use Rattle.script_lines.specs.declared.event.Event as line
-use Rattle.script_lines.specs.declared.event.Event.TheVariants as on_line
+use Rattle.script_lines.specs.declared.call.Call as line
+use Rattle.script_lines.specs.declared.call.Call.TheVariants as on_line
 use Rattle.script_lines.specs.declared.reply.Reply as line_reply
 use Rattle.script_lines.specs.declared.reply.Reply.TheVariants as says
 use Rattle.script_lines.specs.declared.reply.Told as script_told
@@ -69,7 +69,7 @@ settled_in_sealed w h = omega (arith, ap length (sealed_is 0 w h.below), length-
 
 -- What is settled stays settled
 
-pub line_keeps : (s next : Session) (event : line.Event) (told : line_reply.Reply) → IsOrdered s.world → Move s event told next → settled_count s.world ≤ settled_count next.world
+pub line_keeps : (s next : Session) (event : line.Call) (told : line_reply.Reply) → IsOrdered s.world → Move s event told next → settled_count s.world ≤ settled_count next.world
 line_keeps s next event told h move = by_call keeps s next event told desk (commits_follow keeps s next told s.world.out refl (omega arith) (λ e. omega arith) (λ e. omega arith)) move
   where
     keeps : World → Type 0
@@ -199,10 +199,10 @@ by_event : (w : World) (name id : List ℕ) (told : line_reply.Reply) → shown_
 by_event w name id (says.Event state due attempts) = omega arith
 by_event w name id other = omega arith
 
-pub line_shown : (s next : Session) (event : line.Event) (told : line_reply.Reply) → IsOrdered s.world → Move s event told next → shown_by_line s.world event told ≤ settled_count next.world
+pub line_shown : (s next : Session) (event : line.Call) (told : line_reply.Reply) → IsOrdered s.world → Move s event told next → shown_by_line s.world event told ≤ settled_count next.world
 line_shown s next event told h move = at event move (line_keeps s next event told h move)
   where
-    at : (event : line.Event) → Move s event told next → settled_count s.world ≤ settled_count next.world → shown_by_line s.world event told ≤ settled_count next.world
+    at : (event : line.Call) → Move s event told next → settled_count s.world ≤ settled_count next.world → shown_by_line s.world event told ≤ settled_count next.world
     at (on_line.Told seq) (inl (e, f)) keeps = omega (arith, keeps, by_told s seq told e)
     at (on_line.Told seq) (inr none) keeps = absurd none
     at (on_line.Claim now) (inl (e, f)) keeps = omega (arith, keeps, by_claim s.world now told e)

@@ -7,8 +7,8 @@ use Rattle.sqlite.specs.Held.{Held, state}
 use Rattle.relay_types.specs.Records.{History, records_of}
 use Rattle.spool.specs.Adopting.{IsReadOpen}
 use Rattle.spool.specs.Vaults.{VaultValue}
-use Rattle.script_lines.specs.declared.event.Event.{Event}
-use Rattle.script_lines.specs.declared.event.Line.TheVariants.{Call, Stop}
+use Rattle.script_lines.specs.declared.call.Call.{Call}
+use Rattle.script_lines.specs.declared.call.Line.TheVariants as as_line
 use Rattle.script_lines.specs.declared.reply.Reply.{Reply}
 use Rattle.script_lines.specs.declared.reply.Reply.TheVariants as says
 use Rattle.desk.specs.World.{World, Nothing}
@@ -60,12 +60,12 @@ module _ {L S : Type 0} (g : Ghosts S) (old new : State L S g) (runner after : R
   stood : (s : Session) (first : Runner L S g) → old ≡ Open runner → old ≡ Open first → RunStandsFor g first.core first.vault s → RunStandsFor g runner.core runner.vault s
   stood s first was is on = subst (λ (r : Runner L S g). RunStandsFor g r.core r.vault s) (one_runner (sym is ∙ was)) on
 
-  pub call_taken : (event : Event) (reply : Reply) → old ≡ Open runner → new ≡ Open after → Answers g runner.core runner.vault (λ s. answer_to s event) reply after.core after.vault → TakesLine g old (Call event) reply new
+  pub call_taken : (event : Call) (reply : Reply) → old ≡ Open runner → new ≡ Open after → Answers g runner.core runner.vault (λ s. answer_to s event) reply after.core after.vault → TakesLine g old (as_line.Call event) reply new
   call_taken event reply was is answers s (first, same, on) =
       let (next, told, stands) = answers s (stood s first was same on) in (next, told, (after, is, stands))
 
   pub reopening_taken : (reply : Reply) → old ≡ Open runner → new ≡ Open after
-      → ((s : Session) → RunStandsFor g runner.core runner.vault s → (next : Session) × OpensAgain s s.world.left reply next × RunStandsFor g after.core after.vault next) → TakesLine g old Stop reply new
+      → ((s : Session) → RunStandsFor g runner.core runner.vault s → (next : Session) × OpensAgain s s.world.left reply next × RunStandsFor g after.core after.vault next) → TakesLine g old as_line.Stop reply new
   reopening_taken reply was is opens s (first, same, on) =
       let (next, leads, stands) = opens s (stood s first was same on) in (next, leads, (after, is, stands))
 

@@ -6,7 +6,7 @@ use Rattle.sqlite.specs.Held.{state}
 use Rattle.relay_types.specs.Rows.{Rows, rows_of}
 use Rattle.spool_sql.specs.Steps.{Stands}
 use Rattle.spool.specs.Vaults.{VaultValue}
-use Rattle.script_lines.specs.declared.event.Event.{Event}
+use Rattle.script_lines.specs.declared.call.Call.{Call}
 use Rattle.script_lines.specs.declared.reply.Reply.{Reply}
 use Rattle.desk.specs.World.{World, Out, Nothing, Batch, Receipt, Doubt}
 use Rattle.desk.specs.Moves.{with_halt}
@@ -64,7 +64,7 @@ left_on_halt w Batch other left = inl left
 left_on_halt w Receipt other left = absurd (other refl)
 left_on_halt w Doubt other left = inr (refl, left)
 
-pub vault_follows : {S : Type 0} (g : Ghosts S) (vault : VaultValue S) (s next : Session) (event : Event) (reply : Reply) → is_commit event ≡ false → s.world.settled ≤ s.world.sealed → s.world.sealed ≤ length s.world.history
+pub vault_follows : {S : Type 0} (g : Ghosts S) (vault : VaultValue S) (s next : Session) (event : Call) (reply : Reply) → is_commit event ≡ false → s.world.settled ≤ s.world.sealed → s.world.sealed ≤ length s.world.history
     → VaultStandsFor g vault s.world → MayTell (answer_to s event) reply next → VaultStandsFor g vault next.world
 vault_follows g vault s next event reply own below within h = follows (VaultStandsFor g vault) s next event reply own (record {
   stays = h;

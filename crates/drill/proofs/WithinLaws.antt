@@ -8,8 +8,8 @@ use Rattle.relay_types.specs.Records.{Accepted, records_of}
 use Rattle.relay_types.specs.Deliveries.{accepted, known_as}
 use Rattle.permits.specs.declared.row.Row.{Row}
 use Rattle.retry_table.specs.declared.post.PostResult.{PostResult}
-use Rattle.script_lines.specs.declared.event.Event as line
-use Rattle.script_lines.specs.declared.event.Event.TheVariants as on_line
+use Rattle.script_lines.specs.declared.call.Call as line
+use Rattle.script_lines.specs.declared.call.Call.TheVariants as on_line
 use Rattle.script_lines.specs.declared.reply.Fault.TheVariants as fault
 use Rattle.script_lines.specs.declared.reply.Reply as line_reply
 use Rattle.script_lines.specs.declared.reply.Reply.TheVariants as says
@@ -163,13 +163,13 @@ sealed s = at s.world.halted
       is = λ o left out. ap (λ b. tells seal_reply (session_with o left s) (answer_by 0 (with_out o left s.world) false b (length s.world.history == s.world.settled))) out;
     }
 
-stands : (s : Session) (event : line.Event) → is_line_within event ≡ true → Stands s (λ o left. answer_to (session_with o left s) event)
+stands : (s : Session) (event : line.Call) → is_line_within event ≡ true → Stands s (λ o left. answer_to (session_with o left s) event)
 stands s event within = at event within
   where
     changed : (command : Command) → Stands s (λ o left. stages OfCommand (session_with o left s) (change (with_out o left s.world) command))
     changed command = staged OfCommand s (λ w. change w command) (goes_change s.world command).goes (change_with command s.world)
 
-    at : (event : line.Event) → is_line_within event ≡ true → Stands s (λ o left. answer_to (session_with o left s) event)
+    at : (event : line.Call) → is_line_within event ≡ true → Stands s (λ o left. answer_to (session_with o left s) event)
     at (on_line.Put name target max secrets) within = changed (PutEndpoint name target max secrets)
     at (on_line.Secrets name secrets) within = changed (SetSecrets name secrets)
     at (on_line.Enabled name flag) within = changed (SetEnabled name flag)
@@ -202,7 +202,7 @@ goes_told s next after said told None goes (inr none) = absurd none
 goes_told s next after said told (Some number) goes (inr (inl given)) = subst (λ (t : Session). Goes s.world t.world) (sym given.1) (stays_so s.world).goes
 goes_told s next after said told (Some number) goes (inr (inr none)) = absurd none
 
-line_with : (s next : Session) (event : line.Event) (told : line_reply.Reply) (o other : Out) (left more : List ℕ) → is_line_within event ≡ true → is_nothing_out o ≡ false → is_nothing_out other ≡ false
+line_with : (s next : Session) (event : line.Call) (told : line_reply.Reply) (o other : Out) (left more : List ℕ) → is_line_within event ≡ true → is_nothing_out o ≡ false → is_nothing_out other ≡ false
     → Move (session_with o left s) event told next → Goes (with_out o left s.world) next.world × Move (session_with other more s) event told (session_with other more next)
 line_with s next event told o other left more within out some move =
     let h = stands s event within in
@@ -304,7 +304,7 @@ commit_ahead s next last event told committed out marks within makes commits =
 
 -- What is shown
 
-line_shows : (w : World) (event : line.Event) (told : line_reply.Reply) (o : Out) (left : List ℕ) → shown_by_line (with_out o left w) event told ≡ shown_by_line w event told
+line_shows : (w : World) (event : line.Call) (told : line_reply.Reply) (o : Out) (left : List ℕ) → shown_by_line (with_out o left w) event told ≡ shown_by_line w event told
 line_shows w (on_line.Told seq) (says.ToldAs as_told.Settled) o left = refl
 line_shows w (on_line.Claim now) (says.Permit delivery endpoint id attempt at inflight) o left = refl
 line_shows w on_line.Settle (says.SettledTo to) o left = refl

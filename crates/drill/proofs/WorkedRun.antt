@@ -8,8 +8,8 @@ use Rattle.relay_types.specs.declared.record.Record.TheVariants.{Put, Accept, Ou
 use Rattle.relay_types.specs.declared.state.State.TheVariants.{Pending}
 use Rattle.permits.specs.declared.row.Row.{Row}
 use Rattle.retry_table.specs.declared.post.PostResult.TheVariants.{Unreached}
-use Rattle.script_lines.specs.declared.event.Event.{Event}
-use Rattle.script_lines.specs.declared.event.Event.TheVariants as on
+use Rattle.script_lines.specs.declared.call.Call.{Call}
+use Rattle.script_lines.specs.declared.call.Call.TheVariants as on
 use Rattle.script_lines.specs.declared.reply.Fault.TheVariants.{Store}
 use Rattle.script_lines.specs.declared.reply.Reply.{Reply}
 use Rattle.script_lines.specs.declared.reply.Reply.TheVariants as says
@@ -24,7 +24,7 @@ use Rattle.drill.specs.Runs.{Run, replies_of}
 use Rattle.drill.specs.Restarts.{replies_text}
 use Rattle.drill.specs.Unrecorded.{unrecorded}
 
-events : List Event
+events : List Call
 events =
     on.Put (codes "a") (codes "http://127.0.0.1:9000/hook") 100 (codes "012345678901234567890123" ∷ [])
     ∷ on.Seal ∷ on.Unseal
@@ -134,7 +134,7 @@ three_steps = both_steps ++ (Outcome 1 1 0 1002 ∷ []) ∷ []
 abbrev doubted : World
 doubted = record (world three_steps 2 3 Doubt 2 1002) { left = 2 ∷ 3 ∷ [] }
 
-more : List Event
+more : List Call
 more = on.Spend 1 1002 Unreached ∷ on.Seal ∷ on.Commit ∷ []
 
 told_more : List Reply

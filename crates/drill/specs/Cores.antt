@@ -7,8 +7,8 @@ use Rattle.spool.specs.Batches.{BatchValue, doubt_of}
 use Rattle.group_commit.specs.Waits.{batch_out}
 use Rattle.group_commit.specs.declared.held.Held as waiting
 use Rattle.group_commit.specs.declared.held.Held.TheVariants as waiting_held
-use Rattle.script_lines.specs.declared.event.Event.{Event}
-use Rattle.script_lines.specs.declared.event.Event.TheVariants as on
+use Rattle.script_lines.specs.declared.call.Call.{Call}
+use Rattle.script_lines.specs.declared.call.Call.TheVariants as on
 use Rattle.script_lines.specs.declared.reply.Reply.{Reply}
 use Rattle.script_lines.specs.declared.reply.Reply.TheVariants as says
 use Rattle.drill.specs.declared.held.Held.{Held}
@@ -79,7 +79,7 @@ pub record CoreAnswers {L : Type 0} (old : Core L) (answer : Session → Answer)
   pub keeps : IsCore old → IsCore new
 
 -- whether the call is one of the store
-abbrev pub is_commit : Event → Bool
+abbrev pub is_commit : Call → Bool
 is_commit on.Commit = true
 is_commit event = false
 

@@ -2,8 +2,8 @@
 use Rattle.std.specs.Prelude.{◌≡◌, ℕ, ◌+◌, ◌≤◌, max, true, List, [], ◌∷◌, length, take, is_some}
 use Rattle.std.specs.List.{AllByRecursion}
 use Rattle.relay_types.specs.declared.record.Record.{Record}
-use Rattle.script_lines.specs.declared.event.Event as line
-use Rattle.script_lines.specs.declared.event.Event.TheVariants as on_line
+use Rattle.script_lines.specs.declared.call.Call as line
+use Rattle.script_lines.specs.declared.call.Call.TheVariants as on_line
 use Rattle.script_lines.specs.declared.reply.Reply as line_reply
 use Rattle.script_lines.specs.declared.reply.Reply.TheVariants as says
 use Rattle.script_lines.specs.declared.reply.Told.TheVariants.{Settled}
@@ -36,7 +36,7 @@ Makes s (on.Look asked) told next = (told ≡ look_reply s.world asked) × (next
 
 -- The reply shows that the records below this number are settled. A ticket that is told Settled and a job show a record, and with it those
 -- before it; a settlement shows all that it settled; a page, a body and a settled count show all that was settled.
-abbrev pub shown_by_line : World → line.Event → line_reply.Reply → ℕ
+abbrev pub shown_by_line : World → line.Call → line_reply.Reply → ℕ
 shown_by_line w (on_line.Told seq) (says.ToldAs Settled) = seq + 1
 shown_by_line w (on_line.Claim now) (says.Permit delivery endpoint id attempt at inflight) = delivery + 1
 shown_by_line w on_line.Settle (says.SettledTo to) = to

@@ -2,7 +2,7 @@
 use Rattle.std.specs.Prelude.{◌≡◌, ◌⊎◌, ℕ, List, [], ◌∷◌}
 use Rattle.sqlite.specs.Store.{Ghosts}
 use Rattle.spool.specs.Vaults.{VaultValue}
-use Rattle.script_lines.specs.declared.event.Line.{Line}
+use Rattle.script_lines.specs.declared.call.Line.{Line}
 use Rattle.script_lines.specs.declared.reply.Reply as line
 use Rattle.desk.specs.World.{World, all_records}
 use Rattle.desk.specs.Desks.{DeskValue, StandsFor}

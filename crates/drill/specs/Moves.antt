@@ -6,8 +6,8 @@ use Rattle.delivery_book.specs.declared.row.Row.{Row}
 use Rattle.permits.specs.declared.row.Row as under_way
 use Rattle.retry_table.specs.declared.post.PostResult.{PostResult}
 use Rattle.spool.specs.Batches.{BatchValue}
-use Rattle.script_lines.specs.declared.event.Event.{Event}
-use Rattle.script_lines.specs.declared.event.Event.TheVariants as on
+use Rattle.script_lines.specs.declared.call.Call.{Call}
+use Rattle.script_lines.specs.declared.call.Call.TheVariants as on
 use Rattle.script_lines.specs.declared.reply.Fault.{Fault}
 use Rattle.script_lines.specs.declared.reply.Fault.TheVariants as fault
 use Rattle.script_lines.specs.declared.reply.Told.{Told}
@@ -221,7 +221,7 @@ halts s Receipt = stays s wrong_turn
 halts s Doubt = moves s says.Halted (desk.with_halt s.world)
 
 -- What a call is told in a session.
-abbrev pub answer_to : Session → Event → Answer
+abbrev pub answer_to : Session → Call → Answer
 answer_to s (on.Put name target max secrets) = commands s (PutEndpoint name target max secrets)
 answer_to s (on.Secrets name secrets) = commands s (SetSecrets name secrets)
 answer_to s (on.Enabled name flag) = commands s (SetEnabled name flag)

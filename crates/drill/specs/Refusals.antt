@@ -1,6 +1,6 @@
 -- Which faults can refuse a call of a run.
 use Rattle.std.specs.Prelude.{◌≡◌, ℕ}
-use Rattle.script_lines.specs.declared.event.Event.TheVariants as on_line
+use Rattle.script_lines.specs.declared.call.Call.TheVariants as on_line
 use Rattle.script_lines.specs.declared.reply.Fault.{Fault}
 use Rattle.script_lines.specs.declared.reply.Fault.TheVariants as fault
 use Rattle.script_lines.specs.declared.reply.Reply.TheVariants as says

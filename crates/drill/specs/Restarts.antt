@@ -1,8 +1,8 @@
 -- A script's run: its calls, with stops between them, what they are told, and what is written for its lines.
 use Rattle.std.specs.Prelude.{◌≡◌, ◌⊎◌, ℕ, ◌+◌, ◌%◌, ◌^◌, List, [], ◌∷◌, ◌++◌, length, max, take}
 use Rattle.relay_types.specs.Records.{records_of}
-use Rattle.script_lines.specs.declared.event.Line.{Line}
-use Rattle.script_lines.specs.declared.event.Line.TheVariants.{Call, Stop}
+use Rattle.script_lines.specs.declared.call.Line.{Line}
+use Rattle.script_lines.specs.declared.call.Line.TheVariants.{Call, Stop}
 use Rattle.script_lines.specs.declared.reply.Reply.{Reply}
 use Rattle.script_lines.specs.declared.reply.Reply.TheVariants as says
 use Rattle.script_lines.specs.Replies.{reply_text}

@@ -1,8 +1,8 @@
 -- The calls that other threads may make while the batch is committed, and that it is all one when the commit ends among them.
 use Rattle.std.specs.Prelude.{◌≡◌, ℕ, ◌≤◌, ◌↔◌, Bool, true, false, List, [], ◌∷◌, ◌++◌, length, IsTrue}
 use Rattle.std.specs.List.{list_all}
-use Rattle.script_lines.specs.declared.event.Event as line
-use Rattle.script_lines.specs.declared.event.Event.TheVariants as on_line
+use Rattle.script_lines.specs.declared.call.Call as line
+use Rattle.script_lines.specs.declared.call.Call.TheVariants as on_line
 use Rattle.desk.specs.World.{World, Batch, settled_records}
 use Rattle.drill.specs.declared.events.Event.{Event}
 use Rattle.drill.specs.declared.events.Event.TheVariants as on
@@ -16,7 +16,7 @@ abbrev pub commit : Event
 commit = on.Line on_line.Commit
 
 -- whether the call may be made while another thread commits: what is out is the committer's, to settle, hand back or give up
-abbrev pub is_line_within : line.Event → Bool
+abbrev pub is_line_within : line.Call → Bool
 is_line_within on_line.Commit = false
 is_line_within on_line.Settle = false
 is_line_within on_line.Unseal = false

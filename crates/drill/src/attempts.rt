@@ -1,6 +1,6 @@
 //! Attempts: which begins, and what came of one.
 ghost use Rattle.std.specs.Prelude.{◌≡◌, ◌==◌, position};
-ghost use Rattle.script_lines.specs.declared.event.Event.TheVariants as on;
+ghost use Rattle.script_lines.specs.declared.call.Call.TheVariants as on;
 ghost use Rattle.drill.specs.Moves.{answer_to};
 ghost use Rattle.drill.specs.Cores.{CoreAnswers, HasRoom, IsCore, TakesRoom};
 

@@ -1,6 +1,6 @@
 //! The desk, with all that it has handed out.
 ghost use Rattle.std.specs.Prelude.{◌≡◌, [], ◌≤◌, ◌+◌, false, IsPermutation, OnOk, vec_capacity, vec_len};
-ghost use Rattle.script_lines.specs.declared.event.Event.TheVariants as on;
+ghost use Rattle.script_lines.specs.declared.call.Call.TheVariants as on;
 ghost use Rattle.desk.specs.World.{World, Nothing};
 ghost use Rattle.desk.specs.Desks.{HasNothingOut, StandsFor};
 ghost use Rattle.drill.specs.Moves.{answer_to};
@@ -15,7 +15,7 @@ use crate::looking::look_at;
 use crate::tickets::Tickets;
 use desk::{Command, Desk};
 use permits::{Permit, Pool};
-use script_lines::{Event, Reply};
+use script_lines::{Call, Reply};
 use spool::Vault;
 use sqlite::Alter;
 use std::alloc::{AllocError, Global};
@@ -57,7 +57,7 @@ impl<L: Ledger> Core<L> {
     }
 
     // Gives the call to the desk or the store. There is room for what it hands out.
-    pub(crate) fn carry_out<S: Alter>(&mut self, vault: &mut Vault<S>, event: Event) -> Reply
+    pub(crate) fn carry_out<S: Alter>(&mut self, vault: &mut Vault<S>, event: Call) -> Reply
         requires room { HasRoom self.old 1 }
         requires core { IsCore self.old }
         ensures answers { IsCleanAt S.Store vault.new.conn
@@ -67,7 +67,7 @@ impl<L: Ledger> Core<L> {
         ensures clean { IsCleanAt S.Store vault.new.conn → IsCleanAt S.Store vault.old.conn }
     {
         match event {
-            Event::Commit => self.commit(vault),
+            Call::Commit => self.commit(vault),
             other => self.call(other),
         }
     }
@@ -93,7 +93,7 @@ impl<L: Ledger> Core<L> {
     }
 
     // Gives the call to the desk.
-    fn call(&mut self, event: Event) -> Reply
+    fn call(&mut self, event: Call) -> Reply
         requires room { HasRoom self.old 1 }
         requires core { IsCore self.old }
         requires desk { is_commit event ≡ false }
@@ -101,7 +101,7 @@ impl<L: Ledger> Core<L> {
         ensures room { TakesRoom self.old self.new }
     {
         match event {
-            Event::Put {
+            Call::Put {
                 name,
                 target,
                 max,
@@ -112,29 +112,29 @@ impl<L: Ledger> Core<L> {
                 max,
                 secrets,
             }),
-            Event::Secrets { name, secrets } => self.command(Command::SetSecrets { name, secrets }),
-            Event::Enabled { name, flag } => self.command(Command::SetEnabled { name, flag }),
-            Event::Submit {
+            Call::Secrets { name, secrets } => self.command(Command::SetSecrets { name, secrets }),
+            Call::Enabled { name, flag } => self.command(Command::SetEnabled { name, flag }),
+            Call::Submit {
                 now,
                 name,
                 id,
                 body,
             } => self.submit(now, name, id, body),
-            Event::Told { seq } => self.told(seq),
-            Event::Claim { now } => self.claim(now),
-            Event::Spend {
+            Call::Told { seq } => self.told(seq),
+            Call::Claim { now } => self.claim(now),
+            Call::Spend {
                 delivery,
                 now,
                 post,
             } => self.spend(delivery, now, post),
-            Event::Limits { name } => self.limits(name),
-            Event::Seal => self.seal(),
-            Event::Commit => unreachable!(),
-            Event::Settle => self.settle(),
-            Event::Unseal => self.unseal(),
-            Event::Halt => self.halt(),
-            Event::ShowEndpoint { name } => self.show_endpoint(name),
-            Event::Show { name, id } => self.show(name, &id),
+            Call::Limits { name } => self.limits(name),
+            Call::Seal => self.seal(),
+            Call::Commit => unreachable!(),
+            Call::Settle => self.settle(),
+            Call::Unseal => self.unseal(),
+            Call::Halt => self.halt(),
+            Call::ShowEndpoint { name } => self.show_endpoint(name),
+            Call::Show { name, id } => self.show(name, &id),
         }
     }
 

@@ -8,7 +8,7 @@ use std::alloc::AllocError;
 #[derive(Drop)]
 pub enum Event {
     /// A call that has a line in scripts.
-    Line(script_lines::Event),
+    Line(script_lines::Call),
     /// A look at the desk that has no line.
     Look(Look),
 }

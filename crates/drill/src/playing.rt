@@ -1,13 +1,13 @@
 //! The lines of a script, as the player takes them.
 ghost use Rattle.std.specs.Prelude.{◌≡◌, ◌≢◌, false, Err, IfOk};
-ghost use Rattle.script_lines.specs.declared.event.Line.TheVariants.{Call, Stop};
+ghost use Rattle.script_lines.specs.declared.call.Line.TheVariants as as_line;
 ghost use Rattle.recovery.specs.Left.{IsCleanAt};
 ghost use Rattle.drill.specs.Replays.{IsConnOf, IsStateClean, TakesLine};
 ghost use Rattle.drill.specs.declared.player.State.TheVariants.{Open};
 
 use crate::player::{Player, State};
 use crate::runner::Runner;
-use script_lines::{Event, Reply};
+use script_lines::{Call, Reply};
 use sqlite::{Alter, Connection};
 use std::alloc::Global;
 use std::mem;
@@ -24,9 +24,9 @@ impl<L: Ledger, S: Alter> Player<L, S> {
     }
 
     // Makes one call.
-    pub(crate) fn call(&mut self, event: Event) -> Result<Reply, LineFault>
+    pub(crate) fn call(&mut self, event: Call) -> Result<Reply, LineFault>
         ensures takes { IsStateClean S.Store self.new.state
-            → IfOk result (λ reply. TakesLine S.Store self.old.state (Call event) reply self.new.state) }
+            → IfOk result (λ reply. TakesLine S.Store self.old.state (as_line.Call event) reply self.new.state) }
         ensures fault { result ≢ Err LineFault.Bad }
         ensures clean { IsStateClean S.Store self.new.state → IsStateClean S.Store self.old.state }
     {
@@ -39,7 +39,7 @@ impl<L: Ledger, S: Alter> Player<L, S> {
     // Closes the desk with all that is out, and opens the store again.
     pub(crate) fn stop(&mut self, alloc: Global) -> Result<Reply, LineFault>
         ensures takes { IsStateClean S.Store self.new.state
-            → IfOk result (λ reply. TakesLine S.Store self.old.state Stop reply self.new.state) }
+            → IfOk result (λ reply. TakesLine S.Store self.old.state as_line.Stop reply self.new.state) }
         ensures fault { result ≢ Err LineFault.Bad }
         ensures clean { IsStateClean S.Store self.new.state → IsStateClean S.Store self.old.state }
     {

@@ -1,6 +1,6 @@
 //! What is asked of the desk: events, commands, and looks.
 ghost use Rattle.std.specs.Prelude.{◌≡◌, List, ◌∷◌};
-ghost use Rattle.script_lines.specs.declared.event.Event.TheVariants as on;
+ghost use Rattle.script_lines.specs.declared.call.Call.TheVariants as on;
 ghost use Rattle.script_lines.specs.declared.reply.Reply.TheVariants as says;
 ghost use Rattle.drill.specs.declared.tickets.Given as given;
 ghost use Rattle.drill.specs.Moves.{answer_to, commands};

@@ -12,7 +12,7 @@ ghost use Rattle.recovery.specs.Left.{IsCleanAt, HasNoTable};
 use crate::calls::Core;
 use permits::{PARTS, Pool};
 use recovery::{create, reopen};
-use script_lines::{Event, Reply};
+use script_lines::{Call, Reply};
 use spool::Vault;
 use sqlite::{Alter, Connection};
 use std::alloc::{AllocError, Global};
@@ -29,7 +29,7 @@ pub(crate) struct Runner<L: Ledger, S: Alter> {
 
 impl<L: Ledger, S: Alter> Runner<L, S> {
     // Makes one call.
-    pub(crate) fn call(&mut self, event: Event) -> Result<Reply, AllocError>
+    pub(crate) fn call(&mut self, event: Call) -> Result<Reply, AllocError>
         ensures answers { IsCleanAt S.Store self.new.vault.conn → IfOk result (λ reply.
             Answers S.Store self.old.core self.old.vault (λ s. answer_to s event) reply self.new.core self.new.vault) }
         ensures clean { IsCleanAt S.Store self.new.vault.conn → IsCleanAt S.Store self.old.vault.conn }

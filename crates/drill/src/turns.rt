@@ -1,7 +1,7 @@
 //! The turns of a batch.
 ghost use Rattle.std.specs.Prelude.{◌≡◌, ℕ, None};
 ghost use Rattle.group_commit.specs.Turns.{IsHeldOf};
-ghost use Rattle.script_lines.specs.declared.event.Event.TheVariants as on;
+ghost use Rattle.script_lines.specs.declared.call.Call.TheVariants as on;
 ghost use Rattle.script_lines.specs.declared.reply.Fault.{Fault};
 ghost use Rattle.script_lines.specs.declared.reply.Reply.TheVariants as says;
 ghost use Rattle.drill.specs.Moves.{answer_to, wrong_turn};

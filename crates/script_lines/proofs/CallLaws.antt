@@ -5,8 +5,8 @@ use Rattle.std.specs.Borrow.{Bor}
 use Rattle.std.proofs.lemmas.List.{length-map}
 use Rattle.std.proofs.Math.Seq.{take-length}
 use Rattle.text_lines.specs.Parts.{texts}
-use Rattle.script_lines.specs.declared.event.Event.{Event}
-use Rattle.script_lines.specs.declared.event.Event.TheVariants as on
+use Rattle.script_lines.specs.declared.call.Call.{Call}
+use Rattle.script_lines.specs.declared.call.Call.TheVariants as on
 use Rattle.retry_table.specs.declared.post.PostResult.{PostResult}
 use Rattle.text_lines.specs.Words.{IsSecretsWord}
 use Rattle.script_lines.specs.Script.{IsPut, IsSecrets, IsNamed, IsTold, IsSubmit, IsClaim, IsSpend, IsShow, call_word, AreArguments}
@@ -16,111 +16,111 @@ use Rattle.text_lines.proofs.NumberLaws.{bytes_equal, true_not_false}
 apart : (a b word : List ℕ) → bytes_eq a b ≡ false → word ≡ a → word ≡ b → ⊥
 apart a b word different h k = true_not_false (sym (bytes_equal a b (sym h ∙ k)) ∙ different)
 
--- ---- what holds of each event of a first word
+-- ---- what holds of each call of a first word
 
-pub only_put : (P : Event → Type 0) (call : List ℕ) (words : List (List ℕ)) → call ≡ codes "put" → ((name target : List ℕ) (max : ℕ) (secrets : List (List ℕ)) → IsPut words name target max secrets → P (on.Put name target max secrets))
-    → (event : Event) → call ≡ call_word event → AreArguments words event → P event
-only_put P call words is own (on.Put name target max secrets) e h = own name target max secrets h
-only_put P call words is own (on.Enabled name true) e h = absurd (apart (codes "put") (codes "enable") call refl is e)
-only_put P call words is own (on.Enabled name false) e h = absurd (apart (codes "put") (codes "disable") call refl is e)
-only_put P call words is own event e h = absurd (apart (codes "put") (call_word event) call refl is e)
+pub only_put : (P : Call → Type 0) (word : List ℕ) (words : List (List ℕ)) → word ≡ codes "put" → ((name target : List ℕ) (max : ℕ) (secrets : List (List ℕ)) → IsPut words name target max secrets → P (on.Put name target max secrets))
+    → (call : Call) → word ≡ call_word call → AreArguments words call → P call
+only_put P word words is own (on.Put name target max secrets) e h = own name target max secrets h
+only_put P word words is own (on.Enabled name true) e h = absurd (apart (codes "put") (codes "enable") word refl is e)
+only_put P word words is own (on.Enabled name false) e h = absurd (apart (codes "put") (codes "disable") word refl is e)
+only_put P word words is own call e h = absurd (apart (codes "put") (call_word call) word refl is e)
 
-pub only_secrets : (P : Event → Type 0) (call : List ℕ) (words : List (List ℕ)) → call ≡ codes "secrets" → ((name : List ℕ) (secrets : List (List ℕ)) → IsSecrets words name secrets → P (on.Secrets name secrets))
-    → (event : Event) → call ≡ call_word event → AreArguments words event → P event
-only_secrets P call words is own (on.Secrets name secrets) e h = own name secrets h
-only_secrets P call words is own (on.Enabled name true) e h = absurd (apart (codes "secrets") (codes "enable") call refl is e)
-only_secrets P call words is own (on.Enabled name false) e h = absurd (apart (codes "secrets") (codes "disable") call refl is e)
-only_secrets P call words is own event e h = absurd (apart (codes "secrets") (call_word event) call refl is e)
+pub only_secrets : (P : Call → Type 0) (word : List ℕ) (words : List (List ℕ)) → word ≡ codes "secrets" → ((name : List ℕ) (secrets : List (List ℕ)) → IsSecrets words name secrets → P (on.Secrets name secrets))
+    → (call : Call) → word ≡ call_word call → AreArguments words call → P call
+only_secrets P word words is own (on.Secrets name secrets) e h = own name secrets h
+only_secrets P word words is own (on.Enabled name true) e h = absurd (apart (codes "secrets") (codes "enable") word refl is e)
+only_secrets P word words is own (on.Enabled name false) e h = absurd (apart (codes "secrets") (codes "disable") word refl is e)
+only_secrets P word words is own call e h = absurd (apart (codes "secrets") (call_word call) word refl is e)
 
-pub only_enable : (P : Event → Type 0) (call : List ℕ) (words : List (List ℕ)) → call ≡ codes "enable" → ((name : List ℕ) → IsNamed words name → P (on.Enabled name true))
-    → (event : Event) → call ≡ call_word event → AreArguments words event → P event
-only_enable P call words is own (on.Enabled name true) e h = own name h
-only_enable P call words is own (on.Enabled name false) e h = absurd (apart (codes "enable") (codes "disable") call refl is e)
-only_enable P call words is own event e h = absurd (apart (codes "enable") (call_word event) call refl is e)
+pub only_enable : (P : Call → Type 0) (word : List ℕ) (words : List (List ℕ)) → word ≡ codes "enable" → ((name : List ℕ) → IsNamed words name → P (on.Enabled name true))
+    → (call : Call) → word ≡ call_word call → AreArguments words call → P call
+only_enable P word words is own (on.Enabled name true) e h = own name h
+only_enable P word words is own (on.Enabled name false) e h = absurd (apart (codes "enable") (codes "disable") word refl is e)
+only_enable P word words is own call e h = absurd (apart (codes "enable") (call_word call) word refl is e)
 
-pub only_disable : (P : Event → Type 0) (call : List ℕ) (words : List (List ℕ)) → call ≡ codes "disable" → ((name : List ℕ) → IsNamed words name → P (on.Enabled name false))
-    → (event : Event) → call ≡ call_word event → AreArguments words event → P event
-only_disable P call words is own (on.Enabled name false) e h = own name h
-only_disable P call words is own (on.Enabled name true) e h = absurd (apart (codes "disable") (codes "enable") call refl is e)
-only_disable P call words is own event e h = absurd (apart (codes "disable") (call_word event) call refl is e)
+pub only_disable : (P : Call → Type 0) (word : List ℕ) (words : List (List ℕ)) → word ≡ codes "disable" → ((name : List ℕ) → IsNamed words name → P (on.Enabled name false))
+    → (call : Call) → word ≡ call_word call → AreArguments words call → P call
+only_disable P word words is own (on.Enabled name false) e h = own name h
+only_disable P word words is own (on.Enabled name true) e h = absurd (apart (codes "disable") (codes "enable") word refl is e)
+only_disable P word words is own call e h = absurd (apart (codes "disable") (call_word call) word refl is e)
 
-pub only_submit : (P : Event → Type 0) (call : List ℕ) (words : List (List ℕ)) → call ≡ codes "submit" → ((now : ℕ) (name id body : List ℕ) → IsSubmit words now name id body → P (on.Submit now name id body))
-    → (event : Event) → call ≡ call_word event → AreArguments words event → P event
-only_submit P call words is own (on.Submit now name id body) e h = own now name id body h
-only_submit P call words is own (on.Enabled name true) e h = absurd (apart (codes "submit") (codes "enable") call refl is e)
-only_submit P call words is own (on.Enabled name false) e h = absurd (apart (codes "submit") (codes "disable") call refl is e)
-only_submit P call words is own event e h = absurd (apart (codes "submit") (call_word event) call refl is e)
+pub only_submit : (P : Call → Type 0) (word : List ℕ) (words : List (List ℕ)) → word ≡ codes "submit" → ((now : ℕ) (name id body : List ℕ) → IsSubmit words now name id body → P (on.Submit now name id body))
+    → (call : Call) → word ≡ call_word call → AreArguments words call → P call
+only_submit P word words is own (on.Submit now name id body) e h = own now name id body h
+only_submit P word words is own (on.Enabled name true) e h = absurd (apart (codes "submit") (codes "enable") word refl is e)
+only_submit P word words is own (on.Enabled name false) e h = absurd (apart (codes "submit") (codes "disable") word refl is e)
+only_submit P word words is own call e h = absurd (apart (codes "submit") (call_word call) word refl is e)
 
-pub only_told : (P : Event → Type 0) (call : List ℕ) (words : List (List ℕ)) → call ≡ codes "told" → ((seq : ℕ) → IsTold words seq → P (on.Told seq))
-    → (event : Event) → call ≡ call_word event → AreArguments words event → P event
-only_told P call words is own (on.Told seq) e h = own seq h
-only_told P call words is own (on.Enabled name true) e h = absurd (apart (codes "told") (codes "enable") call refl is e)
-only_told P call words is own (on.Enabled name false) e h = absurd (apart (codes "told") (codes "disable") call refl is e)
-only_told P call words is own event e h = absurd (apart (codes "told") (call_word event) call refl is e)
+pub only_told : (P : Call → Type 0) (word : List ℕ) (words : List (List ℕ)) → word ≡ codes "told" → ((seq : ℕ) → IsTold words seq → P (on.Told seq))
+    → (call : Call) → word ≡ call_word call → AreArguments words call → P call
+only_told P word words is own (on.Told seq) e h = own seq h
+only_told P word words is own (on.Enabled name true) e h = absurd (apart (codes "told") (codes "enable") word refl is e)
+only_told P word words is own (on.Enabled name false) e h = absurd (apart (codes "told") (codes "disable") word refl is e)
+only_told P word words is own call e h = absurd (apart (codes "told") (call_word call) word refl is e)
 
-pub only_claim : (P : Event → Type 0) (call : List ℕ) (words : List (List ℕ)) → call ≡ codes "claim" → ((now : ℕ) → IsClaim words now → P (on.Claim now))
-    → (event : Event) → call ≡ call_word event → AreArguments words event → P event
-only_claim P call words is own (on.Claim now) e h = own now h
-only_claim P call words is own (on.Enabled name true) e h = absurd (apart (codes "claim") (codes "enable") call refl is e)
-only_claim P call words is own (on.Enabled name false) e h = absurd (apart (codes "claim") (codes "disable") call refl is e)
-only_claim P call words is own event e h = absurd (apart (codes "claim") (call_word event) call refl is e)
+pub only_claim : (P : Call → Type 0) (word : List ℕ) (words : List (List ℕ)) → word ≡ codes "claim" → ((now : ℕ) → IsClaim words now → P (on.Claim now))
+    → (call : Call) → word ≡ call_word call → AreArguments words call → P call
+only_claim P word words is own (on.Claim now) e h = own now h
+only_claim P word words is own (on.Enabled name true) e h = absurd (apart (codes "claim") (codes "enable") word refl is e)
+only_claim P word words is own (on.Enabled name false) e h = absurd (apart (codes "claim") (codes "disable") word refl is e)
+only_claim P word words is own call e h = absurd (apart (codes "claim") (call_word call) word refl is e)
 
-pub only_spend : (P : Event → Type 0) (call : List ℕ) (words : List (List ℕ)) → call ≡ codes "spend" → ((delivery now : ℕ) (post : PostResult) → IsSpend words delivery now post → P (on.Spend delivery now post))
-    → (event : Event) → call ≡ call_word event → AreArguments words event → P event
-only_spend P call words is own (on.Spend delivery now post) e h = own delivery now post h
-only_spend P call words is own (on.Enabled name true) e h = absurd (apart (codes "spend") (codes "enable") call refl is e)
-only_spend P call words is own (on.Enabled name false) e h = absurd (apart (codes "spend") (codes "disable") call refl is e)
-only_spend P call words is own event e h = absurd (apart (codes "spend") (call_word event) call refl is e)
+pub only_spend : (P : Call → Type 0) (word : List ℕ) (words : List (List ℕ)) → word ≡ codes "spend" → ((delivery now : ℕ) (post : PostResult) → IsSpend words delivery now post → P (on.Spend delivery now post))
+    → (call : Call) → word ≡ call_word call → AreArguments words call → P call
+only_spend P word words is own (on.Spend delivery now post) e h = own delivery now post h
+only_spend P word words is own (on.Enabled name true) e h = absurd (apart (codes "spend") (codes "enable") word refl is e)
+only_spend P word words is own (on.Enabled name false) e h = absurd (apart (codes "spend") (codes "disable") word refl is e)
+only_spend P word words is own call e h = absurd (apart (codes "spend") (call_word call) word refl is e)
 
-pub only_limits : (P : Event → Type 0) (call : List ℕ) (words : List (List ℕ)) → call ≡ codes "limits" → ((name : List ℕ) → IsNamed words name → P (on.Limits name))
-    → (event : Event) → call ≡ call_word event → AreArguments words event → P event
-only_limits P call words is own (on.Limits name) e h = own name h
-only_limits P call words is own (on.Enabled name true) e h = absurd (apart (codes "limits") (codes "enable") call refl is e)
-only_limits P call words is own (on.Enabled name false) e h = absurd (apart (codes "limits") (codes "disable") call refl is e)
-only_limits P call words is own event e h = absurd (apart (codes "limits") (call_word event) call refl is e)
+pub only_limits : (P : Call → Type 0) (word : List ℕ) (words : List (List ℕ)) → word ≡ codes "limits" → ((name : List ℕ) → IsNamed words name → P (on.Limits name))
+    → (call : Call) → word ≡ call_word call → AreArguments words call → P call
+only_limits P word words is own (on.Limits name) e h = own name h
+only_limits P word words is own (on.Enabled name true) e h = absurd (apart (codes "limits") (codes "enable") word refl is e)
+only_limits P word words is own (on.Enabled name false) e h = absurd (apart (codes "limits") (codes "disable") word refl is e)
+only_limits P word words is own call e h = absurd (apart (codes "limits") (call_word call) word refl is e)
 
-pub only_show : (P : Event → Type 0) (call : List ℕ) (words : List (List ℕ)) → call ≡ codes "show" → ((name : List ℕ) → IsNamed words name → P (on.ShowEndpoint name)) → ((name id : List ℕ) → IsShow words name id → P (on.Show name id))
-    → (event : Event) → call ≡ call_word event → AreArguments words event → P event
-only_show P call words is endpoint own (on.ShowEndpoint name) e h = endpoint name h
-only_show P call words is endpoint own (on.Show name id) e h = own name id h
-only_show P call words is endpoint own (on.Enabled name true) e h = absurd (apart (codes "show") (codes "enable") call refl is e)
-only_show P call words is endpoint own (on.Enabled name false) e h = absurd (apart (codes "show") (codes "disable") call refl is e)
-only_show P call words is endpoint own event e h = absurd (apart (codes "show") (call_word event) call refl is e)
+pub only_show : (P : Call → Type 0) (word : List ℕ) (words : List (List ℕ)) → word ≡ codes "show" → ((name : List ℕ) → IsNamed words name → P (on.ShowEndpoint name)) → ((name id : List ℕ) → IsShow words name id → P (on.Show name id))
+    → (call : Call) → word ≡ call_word call → AreArguments words call → P call
+only_show P word words is endpoint own (on.ShowEndpoint name) e h = endpoint name h
+only_show P word words is endpoint own (on.Show name id) e h = own name id h
+only_show P word words is endpoint own (on.Enabled name true) e h = absurd (apart (codes "show") (codes "enable") word refl is e)
+only_show P word words is endpoint own (on.Enabled name false) e h = absurd (apart (codes "show") (codes "disable") word refl is e)
+only_show P word words is endpoint own call e h = absurd (apart (codes "show") (call_word call) word refl is e)
 
-pub only_seal : (P : Event → Type 0) (call : List ℕ) (words : List (List ℕ)) → call ≡ codes "seal" → (words ≡ [] → P on.Seal)
-    → (event : Event) → call ≡ call_word event → AreArguments words event → P event
-only_seal P call words is own on.Seal e h = own h
-only_seal P call words is own (on.Enabled name true) e h = absurd (apart (codes "seal") (codes "enable") call refl is e)
-only_seal P call words is own (on.Enabled name false) e h = absurd (apart (codes "seal") (codes "disable") call refl is e)
-only_seal P call words is own event e h = absurd (apart (codes "seal") (call_word event) call refl is e)
+pub only_seal : (P : Call → Type 0) (word : List ℕ) (words : List (List ℕ)) → word ≡ codes "seal" → (words ≡ [] → P on.Seal)
+    → (call : Call) → word ≡ call_word call → AreArguments words call → P call
+only_seal P word words is own on.Seal e h = own h
+only_seal P word words is own (on.Enabled name true) e h = absurd (apart (codes "seal") (codes "enable") word refl is e)
+only_seal P word words is own (on.Enabled name false) e h = absurd (apart (codes "seal") (codes "disable") word refl is e)
+only_seal P word words is own call e h = absurd (apart (codes "seal") (call_word call) word refl is e)
 
-pub only_commit : (P : Event → Type 0) (call : List ℕ) (words : List (List ℕ)) → call ≡ codes "commit" → (words ≡ [] → P on.Commit)
-    → (event : Event) → call ≡ call_word event → AreArguments words event → P event
-only_commit P call words is own on.Commit e h = own h
-only_commit P call words is own (on.Enabled name true) e h = absurd (apart (codes "commit") (codes "enable") call refl is e)
-only_commit P call words is own (on.Enabled name false) e h = absurd (apart (codes "commit") (codes "disable") call refl is e)
-only_commit P call words is own event e h = absurd (apart (codes "commit") (call_word event) call refl is e)
+pub only_commit : (P : Call → Type 0) (word : List ℕ) (words : List (List ℕ)) → word ≡ codes "commit" → (words ≡ [] → P on.Commit)
+    → (call : Call) → word ≡ call_word call → AreArguments words call → P call
+only_commit P word words is own on.Commit e h = own h
+only_commit P word words is own (on.Enabled name true) e h = absurd (apart (codes "commit") (codes "enable") word refl is e)
+only_commit P word words is own (on.Enabled name false) e h = absurd (apart (codes "commit") (codes "disable") word refl is e)
+only_commit P word words is own call e h = absurd (apart (codes "commit") (call_word call) word refl is e)
 
-pub only_settle : (P : Event → Type 0) (call : List ℕ) (words : List (List ℕ)) → call ≡ codes "settle" → (words ≡ [] → P on.Settle)
-    → (event : Event) → call ≡ call_word event → AreArguments words event → P event
-only_settle P call words is own on.Settle e h = own h
-only_settle P call words is own (on.Enabled name true) e h = absurd (apart (codes "settle") (codes "enable") call refl is e)
-only_settle P call words is own (on.Enabled name false) e h = absurd (apart (codes "settle") (codes "disable") call refl is e)
-only_settle P call words is own event e h = absurd (apart (codes "settle") (call_word event) call refl is e)
+pub only_settle : (P : Call → Type 0) (word : List ℕ) (words : List (List ℕ)) → word ≡ codes "settle" → (words ≡ [] → P on.Settle)
+    → (call : Call) → word ≡ call_word call → AreArguments words call → P call
+only_settle P word words is own on.Settle e h = own h
+only_settle P word words is own (on.Enabled name true) e h = absurd (apart (codes "settle") (codes "enable") word refl is e)
+only_settle P word words is own (on.Enabled name false) e h = absurd (apart (codes "settle") (codes "disable") word refl is e)
+only_settle P word words is own call e h = absurd (apart (codes "settle") (call_word call) word refl is e)
 
-pub only_unseal : (P : Event → Type 0) (call : List ℕ) (words : List (List ℕ)) → call ≡ codes "unseal" → (words ≡ [] → P on.Unseal)
-    → (event : Event) → call ≡ call_word event → AreArguments words event → P event
-only_unseal P call words is own on.Unseal e h = own h
-only_unseal P call words is own (on.Enabled name true) e h = absurd (apart (codes "unseal") (codes "enable") call refl is e)
-only_unseal P call words is own (on.Enabled name false) e h = absurd (apart (codes "unseal") (codes "disable") call refl is e)
-only_unseal P call words is own event e h = absurd (apart (codes "unseal") (call_word event) call refl is e)
+pub only_unseal : (P : Call → Type 0) (word : List ℕ) (words : List (List ℕ)) → word ≡ codes "unseal" → (words ≡ [] → P on.Unseal)
+    → (call : Call) → word ≡ call_word call → AreArguments words call → P call
+only_unseal P word words is own on.Unseal e h = own h
+only_unseal P word words is own (on.Enabled name true) e h = absurd (apart (codes "unseal") (codes "enable") word refl is e)
+only_unseal P word words is own (on.Enabled name false) e h = absurd (apart (codes "unseal") (codes "disable") word refl is e)
+only_unseal P word words is own call e h = absurd (apart (codes "unseal") (call_word call) word refl is e)
 
-pub only_halt : (P : Event → Type 0) (call : List ℕ) (words : List (List ℕ)) → call ≡ codes "halt" → (words ≡ [] → P on.Halt)
-    → (event : Event) → call ≡ call_word event → AreArguments words event → P event
-only_halt P call words is own on.Halt e h = own h
-only_halt P call words is own (on.Enabled name true) e h = absurd (apart (codes "halt") (codes "enable") call refl is e)
-only_halt P call words is own (on.Enabled name false) e h = absurd (apart (codes "halt") (codes "disable") call refl is e)
-only_halt P call words is own event e h = absurd (apart (codes "halt") (call_word event) call refl is e)
+pub only_halt : (P : Call → Type 0) (word : List ℕ) (words : List (List ℕ)) → word ≡ codes "halt" → (words ≡ [] → P on.Halt)
+    → (call : Call) → word ≡ call_word call → AreArguments words call → P call
+only_halt P word words is own on.Halt e h = own h
+only_halt P word words is own (on.Enabled name true) e h = absurd (apart (codes "halt") (codes "enable") word refl is e)
+only_halt P word words is own (on.Enabled name false) e h = absurd (apart (codes "halt") (codes "disable") word refl is e)
+only_halt P word words is own call e h = absurd (apart (codes "halt") (call_word call) word refl is e)
 
 -- ---- the words behind the first one
 

@@ -7,8 +7,8 @@ use Rattle.relay_types.specs.Values.{is_name, is_msg_id, is_target, is_max_limit
 use Rattle.text_lines.specs.Parts.{line, has_no, HasParts}
 use Rattle.text_lines.proofs.CleanWords.{clean-name, clean-id, clean-target, clean-decimal, clean-body, clean-secrets_word, at_most}
 use Rattle.text_lines.proofs.PartLaws.{parts_equal}
-use Rattle.script_lines.specs.declared.event.Event.{Event}
-use Rattle.script_lines.specs.declared.event.Event.TheVariants as on
+use Rattle.script_lines.specs.declared.call.Call.{Call}
+use Rattle.script_lines.specs.declared.call.Call.TheVariants as on
 use Rattle.retry_table.specs.declared.post.PostResult.{PostResult}
 use Rattle.retry_table.specs.declared.post.PostResult.TheVariants.{Answered, TimedOut, Unreached, Unsent}
 use Rattle.script_lines.specs.Script.{IsNamed, IsResult, call_word, AreArguments, IsCall, ReadsLine}
@@ -45,7 +45,7 @@ clean-result words (TimedOut rtt) (e, small) = subst (λ xs. IsTrue (list_all (h
 clean-result words Unreached e = subst (λ xs. IsTrue (list_all (has_no 32) xs)) (sym e) refl
 clean-result words Unsent e = subst (λ xs. IsTrue (list_all (has_no 32) xs)) (sym e) refl
 
-clean-arguments : (words : List (List ℕ)) (event : Event) → AreArguments words event → IsTrue (list_all (has_no 32) words)
+clean-arguments : (words : List (List ℕ)) (call : Call) → AreArguments words call → IsTrue (list_all (has_no 32) words)
 clean-arguments words (on.Put name target max secrets) (word, reads, e, valid) =
     let one = and_parts (is_name name) (is_target target && is_max_limit max) valid in
     let two = and_parts (is_target target) (is_max_limit max) one.1 in
@@ -78,20 +78,20 @@ clean-arguments words (on.Show name id) (e, valid) =
     let both = and_parts (is_name name) (is_msg_id id) valid in
     subst (λ xs. IsTrue (list_all (has_no 32) xs)) (sym e) (two_clean name id (clean-name name both.0) (clean-id id both.1))
 
-clean-word : (event : Event) → IsTrue (has_no 32 (call_word event))
+clean-word : (call : Call) → IsTrue (has_no 32 (call_word call))
 clean-word (on.Enabled name true) = refl
 clean-word (on.Enabled name false) = refl
-clean-word event = refl
+clean-word call = refl
 
 some_word : (words rest : List (List ℕ)) (word : List ℕ) → words ≡ word ∷ rest → words ≢ []
 some_word words rest word e none = cc
 
 -- the words of a call are the parts of its line
-pub parts_of_call : (text : List ℕ) (words : List (List ℕ)) (event : Event) → text ≡ line words → IsCall words event → HasParts 32 text words
-parts_of_call text words event e (arguments, is, told) =
-    let clean : IsTrue (list_all (has_no 32) words) = rw (is, clean-word event) (clean-arguments arguments event told) in
-    (e, some_word words arguments (call_word event) is, clean)
+pub parts_of_call : (text : List ℕ) (words : List (List ℕ)) (call : Call) → text ≡ line words → IsCall words call → HasParts 32 text words
+parts_of_call text words call e (arguments, is, told) =
+    let clean : IsTrue (list_all (has_no 32) words) = rw (is, clean-word call) (clean-arguments arguments call told) in
+    (e, some_word words arguments (call_word call) is, clean)
 
-pub the_call : (text : List ℕ) (parts : List (List ℕ)) (event : Event) → HasParts 32 text parts → ReadsLine text event → IsCall parts event
-the_call text parts event h (words, e, call) =
-    subst (λ xs. IsCall xs event) (parts_equal 32 text words parts (parts_of_call text words event e call) h) call
+pub the_call : (text : List ℕ) (parts : List (List ℕ)) (call : Call) → HasParts 32 text parts → ReadsLine text call → IsCall parts call
+the_call text parts call h (words, e, is) =
+    subst (λ xs. IsCall xs call) (parts_equal 32 text words parts (parts_of_call text words call e is) h) is

@@ -14,10 +14,10 @@ use Rattle.std.proofs.lemmas.Str.Parse.{numerals_by_value, tells_all_ascii_digit
 use Rattle.text_lines.proofs.NumberLaws.{true_not_false}
 use Rattle.retry_table.specs.declared.post.PostResult.{PostResult}
 use Rattle.retry_table.specs.declared.post.PostResult.TheVariants.{Answered, TimedOut, Unreached, Unsent}
-use Rattle.script_lines.specs.declared.event.Event.{Event}
-use Rattle.script_lines.specs.declared.event.Event.TheVariants as on
-use Rattle.script_lines.specs.declared.event.Line.{Line}
-use Rattle.script_lines.specs.declared.event.Line.TheVariants as as_line
+use Rattle.script_lines.specs.declared.call.Call.{Call}
+use Rattle.script_lines.specs.declared.call.Call.TheVariants as on
+use Rattle.script_lines.specs.declared.call.Line.{Line}
+use Rattle.script_lines.specs.declared.call.Line.TheVariants as as_line
 use Rattle.script_lines.specs.Script.{IsPut, IsSecrets, IsNamed, IsTold, IsSubmit, IsClaim, IsResult, IsSpend, IsShow, call_word, AreArguments, IsCall, ReadsLine, IsLine, HasOneLineAtMost}
 use Rattle.script_lines.proofs.CallLaws.{only_put, only_secrets, only_enable, only_disable, only_submit, only_told, only_claim, only_spend, only_limits, only_show, only_seal, only_commit, only_settle, only_unseal, only_halt}
 use Rattle.script_lines.proofs.CleanCalls.{the_call, parts_of_call}
@@ -129,60 +129,60 @@ name_or_event : (words : List (List ℕ)) (name name' id : List ℕ) → IsNamed
 name_or_event words name name' id (e, valid) (e', valid') = cc
 
 -- one word and the words behind it are those of one call at most
-same_event : (words : List (List ℕ)) (a b : Event) → call_word a ≡ call_word b → AreArguments words a → AreArguments words b → a ≡ b
-same_event words (on.Put name target max secrets) b e h =
-    only_put (λ event. on.Put name target max secrets ≡ event) (codes "put") words refl (λ name' target' max' secrets' k. same_put words name target max secrets name' target' max' secrets' h k) b e
-same_event words (on.Secrets name secrets) b e h =
-    only_secrets (λ event. on.Secrets name secrets ≡ event) (codes "secrets") words refl (λ name' secrets' k. same_secrets words name secrets name' secrets' h k) b e
-same_event words (on.Enabled name true) b e h =
-    only_enable (λ event. on.Enabled name true ≡ event) (codes "enable") words refl (λ name' k. ap (λ n. on.Enabled n true) (same_name words name name' h k)) b e
-same_event words (on.Enabled name false) b e h =
-    only_disable (λ event. on.Enabled name false ≡ event) (codes "disable") words refl (λ name' k. ap (λ n. on.Enabled n false) (same_name words name name' h k)) b e
-same_event words (on.Submit now name id body) b e h =
-    only_submit (λ event. on.Submit now name id body ≡ event) (codes "submit") words refl (λ now' name' id' body' k. same_submit words now name id body now' name' id' body' h k) b e
-same_event words (on.Told seq) b e h =
-    only_told (λ event. on.Told seq ≡ event) (codes "told") words refl (λ seq' k. ap on.Told (same_seq words seq seq' h k)) b e
-same_event words on.Seal b e h = only_seal (λ event. on.Seal ≡ event) (codes "seal") words refl (λ none. refl) b e
-same_event words on.Commit b e h = only_commit (λ event. on.Commit ≡ event) (codes "commit") words refl (λ none. refl) b e
-same_event words on.Settle b e h = only_settle (λ event. on.Settle ≡ event) (codes "settle") words refl (λ none. refl) b e
-same_event words on.Unseal b e h = only_unseal (λ event. on.Unseal ≡ event) (codes "unseal") words refl (λ none. refl) b e
-same_event words on.Halt b e h = only_halt (λ event. on.Halt ≡ event) (codes "halt") words refl (λ none. refl) b e
-same_event words (on.Claim now) b e h =
-    only_claim (λ event. on.Claim now ≡ event) (codes "claim") words refl (λ now' k. ap on.Claim (same_moment words now now' h k)) b e
-same_event words (on.Spend delivery now post) b e h =
-    only_spend (λ event. on.Spend delivery now post ≡ event) (codes "spend") words refl (λ delivery' now' post' k. same_spend words delivery now post delivery' now' post' h k) b e
-same_event words (on.Limits name) b e h =
-    only_limits (λ event. on.Limits name ≡ event) (codes "limits") words refl (λ name' k. ap on.Limits (same_name words name name' h k)) b e
-same_event words (on.ShowEndpoint name) b e h =
-    only_show (λ event. on.ShowEndpoint name ≡ event) (codes "show") words refl (λ name' k. ap on.ShowEndpoint (same_name words name name' h k))
+same_arguments_of : (words : List (List ℕ)) (a b : Call) → call_word a ≡ call_word b → AreArguments words a → AreArguments words b → a ≡ b
+same_arguments_of words (on.Put name target max secrets) b e h =
+    only_put (λ call. on.Put name target max secrets ≡ call) (codes "put") words refl (λ name' target' max' secrets' k. same_put words name target max secrets name' target' max' secrets' h k) b e
+same_arguments_of words (on.Secrets name secrets) b e h =
+    only_secrets (λ call. on.Secrets name secrets ≡ call) (codes "secrets") words refl (λ name' secrets' k. same_secrets words name secrets name' secrets' h k) b e
+same_arguments_of words (on.Enabled name true) b e h =
+    only_enable (λ call. on.Enabled name true ≡ call) (codes "enable") words refl (λ name' k. ap (λ n. on.Enabled n true) (same_name words name name' h k)) b e
+same_arguments_of words (on.Enabled name false) b e h =
+    only_disable (λ call. on.Enabled name false ≡ call) (codes "disable") words refl (λ name' k. ap (λ n. on.Enabled n false) (same_name words name name' h k)) b e
+same_arguments_of words (on.Submit now name id body) b e h =
+    only_submit (λ call. on.Submit now name id body ≡ call) (codes "submit") words refl (λ now' name' id' body' k. same_submit words now name id body now' name' id' body' h k) b e
+same_arguments_of words (on.Told seq) b e h =
+    only_told (λ call. on.Told seq ≡ call) (codes "told") words refl (λ seq' k. ap on.Told (same_seq words seq seq' h k)) b e
+same_arguments_of words on.Seal b e h = only_seal (λ call. on.Seal ≡ call) (codes "seal") words refl (λ none. refl) b e
+same_arguments_of words on.Commit b e h = only_commit (λ call. on.Commit ≡ call) (codes "commit") words refl (λ none. refl) b e
+same_arguments_of words on.Settle b e h = only_settle (λ call. on.Settle ≡ call) (codes "settle") words refl (λ none. refl) b e
+same_arguments_of words on.Unseal b e h = only_unseal (λ call. on.Unseal ≡ call) (codes "unseal") words refl (λ none. refl) b e
+same_arguments_of words on.Halt b e h = only_halt (λ call. on.Halt ≡ call) (codes "halt") words refl (λ none. refl) b e
+same_arguments_of words (on.Claim now) b e h =
+    only_claim (λ call. on.Claim now ≡ call) (codes "claim") words refl (λ now' k. ap on.Claim (same_moment words now now' h k)) b e
+same_arguments_of words (on.Spend delivery now post) b e h =
+    only_spend (λ call. on.Spend delivery now post ≡ call) (codes "spend") words refl (λ delivery' now' post' k. same_spend words delivery now post delivery' now' post' h k) b e
+same_arguments_of words (on.Limits name) b e h =
+    only_limits (λ call. on.Limits name ≡ call) (codes "limits") words refl (λ name' k. ap on.Limits (same_name words name name' h k)) b e
+same_arguments_of words (on.ShowEndpoint name) b e h =
+    only_show (λ call. on.ShowEndpoint name ≡ call) (codes "show") words refl (λ name' k. ap on.ShowEndpoint (same_name words name name' h k))
     (λ name' id k. absurd (name_or_event words name name' id h k)) b e
-same_event words (on.Show name id) b e h =
-    only_show (λ event. on.Show name id ≡ event) (codes "show") words refl (λ name' k. absurd (name_or_event words name' name id k h))
+same_arguments_of words (on.Show name id) b e h =
+    only_show (λ call. on.Show name id ≡ call) (codes "show") words refl (λ name' k. absurd (name_or_event words name' name id k h))
     (λ name' id' k. same_show words name id name' id' h k) b e
 
-same_call : (words : List (List ℕ)) (a b : Event) → IsCall words a → IsCall words b → a ≡ b
+same_call : (words : List (List ℕ)) (a b : Call) → IsCall words a → IsCall words b → a ≡ b
 same_call words a b (behind, e, h) (behind', e', h') =
     let first : call_word a ≡ call_word b = cc in
     let others : behind' ≡ behind = cc in
-    same_event behind a b first h (subst (λ xs. AreArguments xs b) others h')
+    same_arguments_of behind a b first h (subst (λ xs. AreArguments xs b) others h')
 
-one_call : (text : List ℕ) (a b : Event) → ReadsLine text a → ReadsLine text b → a ≡ b
+one_call : (text : List ℕ) (a b : Call) → ReadsLine text a → ReadsLine text b → a ≡ b
 one_call text a b (words, e, call) other = same_call words a b call (the_call text words b (parts_of_call text words a e call) other)
 
 -- no call has the word of a stop
-other_word : (event : Event) → bytes_eq (call_word event) (codes "stop") ≡ false
+other_word : (call : Call) → bytes_eq (call_word call) (codes "stop") ≡ false
 other_word (on.Enabled name true) = refl
 other_word (on.Enabled name false) = refl
-other_word event = refl
+other_word call = refl
 
-pub stop_is_no_call : (event : Event) → ReadsLine (codes "stop") event → ⊥
-stop_is_no_call event reads =
-    let (arguments, is, told) = the_call (codes "stop") (codes "stop" ∷ []) event (refl, (λ none. cc), refl) reads in
-    let word : codes "stop" ≡ call_word event = ap (λ (ws : List (List ℕ)). get_or ws 0 []) is in
-    absurd (let no : true ≡ false = ap (λ w. bytes_eq w (codes "stop")) word ∙ other_word event in cc)
+pub stop_is_no_call : (call : Call) → ReadsLine (codes "stop") call → ⊥
+stop_is_no_call call reads =
+    let (arguments, is, told) = the_call (codes "stop") (codes "stop" ∷ []) call (refl, (λ none. cc), refl) reads in
+    let word : codes "stop" ≡ call_word call = ap (λ (ws : List (List ℕ)). get_or ws 0 []) is in
+    absurd (let no : true ≡ false = ap (λ w. bytes_eq w (codes "stop")) word ∙ other_word call in cc)
 
-pub no_line : (text : List ℕ) → ((event : Event) → ReadsLine text event → ⊥) → (text ≡ codes "stop" → ⊥) → (line : Line) → IsLine text line → ⊥
-no_line text calls stop (as_line.Call event) h = calls event h
+pub no_line : (text : List ℕ) → ((call : Call) → ReadsLine text call → ⊥) → (text ≡ codes "stop" → ⊥) → (line : Line) → IsLine text line → ⊥
+no_line text calls stop (as_line.Call call) h = calls call h
 no_line text calls stop as_line.Stop h = stop h
 
 pub one_line_at_most : HasOneLineAtMost

@@ -1,7 +1,7 @@
 -- Worked rows of a script's lines.
 use Rattle.std.proofs.Common.{[], ◌∷◌, false, codes, refl, lit<}
 use Rattle.std.specs.Fmt.{digits}
-use Rattle.script_lines.specs.declared.event.Event.TheVariants as on
+use Rattle.script_lines.specs.declared.call.Call.TheVariants as on
 use Rattle.script_lines.specs.Script.{ReadsLine}
 
 show_row : ReadsLine (codes "show a msg_1") (on.Show (codes "a") (codes "msg_1"))

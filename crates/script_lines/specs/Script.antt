@@ -6,10 +6,10 @@ use Rattle.retry_table.specs.declared.post.PostResult.{PostResult}
 use Rattle.retry_table.specs.declared.post.PostResult.TheVariants.{Answered, TimedOut, Unreached, Unsent}
 use Rattle.text_lines.specs.Parts.{line}
 use Rattle.text_lines.specs.Words.{IsSecretsWord, IsBodyWord}
-use Rattle.script_lines.specs.declared.event.Event.{Event}
-use Rattle.script_lines.specs.declared.event.Event.TheVariants as on
-use Rattle.script_lines.specs.declared.event.Line.{Line}
-use Rattle.script_lines.specs.declared.event.Line.TheVariants as as_line
+use Rattle.script_lines.specs.declared.call.Call.{Call}
+use Rattle.script_lines.specs.declared.call.Call.TheVariants as on
+use Rattle.script_lines.specs.declared.call.Line.{Line}
+use Rattle.script_lines.specs.declared.call.Line.TheVariants as as_line
 
 -- the words behind the first one of a call
 abbrev pub IsPut : (words : List Text) (name target : Text) (max : ℕ) (secrets : List Text) → Type 0
@@ -70,29 +70,29 @@ abbrev pub AreOfNoEvent : List (List ℕ) → Type 0
 AreOfNoEvent words = (name id : List ℕ) → ¬ IsShow words name id
 
 -- the words behind the first one of these calls
-abbrev pub AreOfPut : List (List ℕ) → Event → Type 0
+abbrev pub AreOfPut : List (List ℕ) → Call → Type 0
 AreOfPut words (on.Put name target max secrets) = IsPut words name target max secrets
-AreOfPut words event = ⊥
+AreOfPut words call = ⊥
 
-abbrev pub AreOfSecrets : List (List ℕ) → Event → Type 0
+abbrev pub AreOfSecrets : List (List ℕ) → Call → Type 0
 AreOfSecrets words (on.Secrets name secrets) = IsSecrets words name secrets
-AreOfSecrets words event = ⊥
+AreOfSecrets words call = ⊥
 
-abbrev pub AreOfSubmit : List (List ℕ) → Event → Type 0
+abbrev pub AreOfSubmit : List (List ℕ) → Call → Type 0
 AreOfSubmit words (on.Submit now name id body) = IsSubmit words now name id body
-AreOfSubmit words event = ⊥
+AreOfSubmit words call = ⊥
 
-abbrev pub AreOfSpend : List (List ℕ) → Event → Type 0
+abbrev pub AreOfSpend : List (List ℕ) → Call → Type 0
 AreOfSpend words (on.Spend delivery now post) = IsSpend words delivery now post
-AreOfSpend words event = ⊥
+AreOfSpend words call = ⊥
 
-abbrev pub AreOfShow : List (List ℕ) → Event → Type 0
+abbrev pub AreOfShow : List (List ℕ) → Call → Type 0
 AreOfShow words (on.ShowEndpoint name) = IsNamed words name
 AreOfShow words (on.Show name id) = IsShow words name id
-AreOfShow words event = ⊥
+AreOfShow words call = ⊥
 
 -- the first word of a call, and what is told by the words behind it
-abbrev pub call_word : Event → List ℕ
+abbrev pub call_word : Call → List ℕ
 call_word (on.Put name target max secrets) = codes "put"
 call_word (on.Secrets name secrets) = codes "secrets"
 call_word (on.Enabled name true) = codes "enable"
@@ -110,7 +110,7 @@ call_word (on.Limits name) = codes "limits"
 call_word (on.ShowEndpoint name) = codes "show"
 call_word (on.Show name id) = codes "show"
 
-abbrev pub AreArguments : List (List ℕ) → Event → Type 0
+abbrev pub AreArguments : List (List ℕ) → Call → Type 0
 AreArguments words (on.Put name target max secrets) = IsPut words name target max secrets
 AreArguments words (on.Secrets name secrets) = IsSecrets words name secrets
 AreArguments words (on.Enabled name flag) = IsNamed words name
@@ -128,16 +128,16 @@ AreArguments words (on.ShowEndpoint name) = IsNamed words name
 AreArguments words (on.Show name id) = IsShow words name id
 
 -- the words of a call
-abbrev pub IsCall : List (List ℕ) → Event → Type 0
-IsCall words event = (arguments : List (List ℕ)) × (words ≡ call_word event ∷ arguments) × AreArguments arguments event
+abbrev pub IsCall : List (List ℕ) → Call → Type 0
+IsCall words call = (arguments : List (List ℕ)) × (words ≡ call_word call ∷ arguments) × AreArguments arguments call
 
 -- a text stands for the call whose words it has
-abbrev pub ReadsLine : List ℕ → Event → Type 0
-ReadsLine text event = (words : List (List ℕ)) × (text ≡ line words) × IsCall words event
+abbrev pub ReadsLine : List ℕ → Call → Type 0
+ReadsLine text call = (words : List (List ℕ)) × (text ≡ line words) × IsCall words call
 
 -- the text stands for this line
 abbrev pub IsLine : List ℕ → Line → Type 0
-IsLine text (as_line.Call event) = ReadsLine text event
+IsLine text (as_line.Call call) = ReadsLine text call
 IsLine text as_line.Stop = text ≡ codes "stop"
 
 -- a law: one text stands for one line at most

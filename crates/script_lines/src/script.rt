@@ -5,10 +5,10 @@ ghost use Rattle.text_lines.specs.Parts.{texts};
 ghost use Rattle.script_lines.specs.Script.{ReadsLine, IsLine, HasOneLineAtMost, IsCall, call_word, AreArguments};
 ghost use Rattle.script_lines.specs.Script.{AreOfPut, AreOfSecrets, AreOfSubmit, AreOfSpend, AreOfShow, IsNamed, IsTold, IsClaim, IsResult};
 ghost use Rattle.script_lines.specs.Script.{AreOfNoPut, AreOfNoSecrets, AreOfNoSubmit, AreOfNoSpend, AreOfNoResult, AreOfNoName, AreOfNoEvent};
-ghost use Rattle.script_lines.specs.declared.event.Event.{Event};
-ghost use Rattle.script_lines.specs.declared.event.Line.{Line};
+ghost use Rattle.script_lines.specs.declared.call.Call.{Call};
+ghost use Rattle.script_lines.specs.declared.call.Line.{Line};
 
-use crate::event::{Event, Line};
+use crate::call::{Call, Line};
 use relay_types::{Moment, MsgId, Name, Target};
 use retry_table::{PostResult, Status};
 use std::alloc::Global;
@@ -25,7 +25,7 @@ pub fn read_line(alloc: Global, line: &[u8]) -> Result<Line, WordFault>
     if is_word(line, "stop") {
         return Ok(Line::Stop);
     }
-    Ok(Line::Call(read_event(alloc, line)?))
+    Ok(Line::Call(read_call(alloc, line)?))
 }
 
 /// A law of scripts: a line stands for one thing at most.
@@ -34,93 +34,93 @@ pub fn one_line_at_most()
 {}
 
 /// The call that a line stands for.
-pub fn read_event(alloc: Global, line: &[u8]) -> Result<Event, WordFault>
-    ensures stands { IfOk result (λ event. ReadsLine line.now event) }
-    ensures bad { result ≡ Err WordFault.Bad → (event : Event) → ¬ ReadsLine line.now event }
+pub fn read_call(alloc: Global, line: &[u8]) -> Result<Call, WordFault>
+    ensures stands { IfOk result (λ call. ReadsLine line.now call) }
+    ensures bad { result ≡ Err WordFault.Bad → (call : Call) → ¬ ReadsLine line.now call }
 {
     let words = split(alloc, line)?;
     read_words(alloc, words.as_slice())
 }
 
 // The call that has these words.
-fn read_words(alloc: Global, words: &[&[u8]]) -> Result<Event, WordFault>
-    ensures stands { IfOk result (λ event. IsCall (texts words.now) event) }
-    ensures bad { result ≡ Err WordFault.Bad → (event : Event) → ¬ IsCall (texts words.now) event }
+fn read_words(alloc: Global, words: &[&[u8]]) -> Result<Call, WordFault>
+    ensures stands { IfOk result (λ call. IsCall (texts words.now) call) }
+    ensures bad { result ≡ Err WordFault.Bad → (call : Call) → ¬ IsCall (texts words.now) call }
 {
     match words.split_first() {
-        Some((call, arguments)) => read_call(alloc, call, arguments),
+        Some((word, arguments)) => read_worded(alloc, word, arguments),
         None => Err(WordFault::Bad),
     }
 }
 
 // The call of this word and the words behind it.
-fn read_call(alloc: Global, call: &[u8], arguments: &[&[u8]]) -> Result<Event, WordFault>
-    ensures stands { IfOk result (λ event. (call.now ≡ call_word event) × AreArguments (texts arguments.now) event) }
+fn read_worded(alloc: Global, word: &[u8], arguments: &[&[u8]]) -> Result<Call, WordFault>
+    ensures stands { IfOk result (λ call. (word.now ≡ call_word call) × AreArguments (texts arguments.now) call) }
     ensures bad { result ≡ Err WordFault.Bad
-        → (event : Event) → call.now ≡ call_word event → ¬ AreArguments (texts arguments.now) event }
+        → (call : Call) → word.now ≡ call_word call → ¬ AreArguments (texts arguments.now) call }
 {
-    if is_word(call, "put") {
+    if is_word(word, "put") {
         read_put(alloc, arguments)
-    } else if is_word(call, "secrets") {
+    } else if is_word(word, "secrets") {
         read_new_secrets(alloc, arguments)
-    } else if is_word(call, "enable") {
-        Ok(Event::Enabled {
+    } else if is_word(word, "enable") {
+        Ok(Call::Enabled {
             name: read_name(arguments)?,
             flag: true,
         })
-    } else if is_word(call, "disable") {
-        Ok(Event::Enabled {
+    } else if is_word(word, "disable") {
+        Ok(Call::Enabled {
             name: read_name(arguments)?,
             flag: false,
         })
-    } else if is_word(call, "submit") {
+    } else if is_word(word, "submit") {
         read_submit(alloc, arguments)
-    } else if is_word(call, "told") {
-        Ok(Event::Told {
+    } else if is_word(word, "told") {
+        Ok(Call::Told {
             seq: read_seq(arguments)?,
         })
-    } else if is_word(call, "claim") {
-        Ok(Event::Claim {
+    } else if is_word(word, "claim") {
+        Ok(Call::Claim {
             now: read_now(arguments)?,
         })
-    } else if is_word(call, "spend") {
+    } else if is_word(word, "spend") {
         read_spend(arguments)
-    } else if is_word(call, "limits") {
-        Ok(Event::Limits {
+    } else if is_word(word, "limits") {
+        Ok(Call::Limits {
             name: read_name(arguments)?,
         })
-    } else if is_word(call, "show") {
+    } else if is_word(word, "show") {
         read_show(arguments)
-    } else if is_word(call, "seal") {
-        read_alone(arguments, Event::Seal)
-    } else if is_word(call, "commit") {
-        read_alone(arguments, Event::Commit)
-    } else if is_word(call, "settle") {
-        read_alone(arguments, Event::Settle)
-    } else if is_word(call, "unseal") {
-        read_alone(arguments, Event::Unseal)
-    } else if is_word(call, "halt") {
-        read_alone(arguments, Event::Halt)
+    } else if is_word(word, "seal") {
+        read_alone(arguments, Call::Seal)
+    } else if is_word(word, "commit") {
+        read_alone(arguments, Call::Commit)
+    } else if is_word(word, "settle") {
+        read_alone(arguments, Call::Settle)
+    } else if is_word(word, "unseal") {
+        read_alone(arguments, Call::Unseal)
+    } else if is_word(word, "halt") {
+        read_alone(arguments, Call::Halt)
     } else {
         Err(WordFault::Bad)
     }
 }
 
-// The event of a call that has no arguments.
-fn read_alone(arguments: &[&[u8]], event: Event) -> Result<Event, WordFault>
-    ensures stands { IfOk result (λ same. (same ≡ event) × (texts arguments.now ≡ [])) }
+// The call of a word behind which none stands.
+fn read_alone(arguments: &[&[u8]], call: Call) -> Result<Call, WordFault>
+    ensures stands { IfOk result (λ same. (same ≡ call) × (texts arguments.now ≡ [])) }
     ensures bad { IsErr result → texts arguments.now ≡ [] → ⊥ }
     ensures fault { IfErr result (λ fault. fault ≡ WordFault.Bad) }
 {
     if arguments.is_empty() {
-        Ok(event)
+        Ok(call)
     } else {
         Err(WordFault::Bad)
     }
 }
 
-fn read_put(alloc: Global, arguments: &[&[u8]]) -> Result<Event, WordFault>
-    ensures stands { IfOk result (λ event. AreOfPut (texts arguments.now) event) }
+fn read_put(alloc: Global, arguments: &[&[u8]]) -> Result<Call, WordFault>
+    ensures stands { IfOk result (λ call. AreOfPut (texts arguments.now) call) }
     ensures bad { result ≡ Err WordFault.Bad → AreOfNoPut (texts arguments.now) }
 {
     match arguments {
@@ -135,11 +135,11 @@ fn read_put_words(
     url: &[u8],
     max: &[u8],
     secrets: &[u8],
-) -> Result<Event, WordFault>
-    ensures stands { IfOk result (λ event. AreOfPut (name.now ∷ url.now ∷ max.now ∷ secrets.now ∷ []) event) }
+) -> Result<Call, WordFault>
+    ensures stands { IfOk result (λ call. AreOfPut (name.now ∷ url.now ∷ max.now ∷ secrets.now ∷ []) call) }
     ensures bad { result ≡ Err WordFault.Bad → AreOfNoPut (name.now ∷ url.now ∷ max.now ∷ secrets.now ∷ []) }
 {
-    Ok(Event::Put {
+    Ok(Call::Put {
         name: Name::read(name)?,
         target: Target::read(alloc, url)?,
         max: read_max(max)?,
@@ -147,8 +147,8 @@ fn read_put_words(
     })
 }
 
-fn read_new_secrets(alloc: Global, arguments: &[&[u8]]) -> Result<Event, WordFault>
-    ensures stands { IfOk result (λ event. AreOfSecrets (texts arguments.now) event) }
+fn read_new_secrets(alloc: Global, arguments: &[&[u8]]) -> Result<Call, WordFault>
+    ensures stands { IfOk result (λ call. AreOfSecrets (texts arguments.now) call) }
     ensures bad { result ≡ Err WordFault.Bad → AreOfNoSecrets (texts arguments.now) }
 {
     match arguments {
@@ -157,11 +157,11 @@ fn read_new_secrets(alloc: Global, arguments: &[&[u8]]) -> Result<Event, WordFau
     }
 }
 
-fn read_new_secrets_words(alloc: Global, name: &[u8], secrets: &[u8]) -> Result<Event, WordFault>
-    ensures stands { IfOk result (λ event. AreOfSecrets (name.now ∷ secrets.now ∷ []) event) }
+fn read_new_secrets_words(alloc: Global, name: &[u8], secrets: &[u8]) -> Result<Call, WordFault>
+    ensures stands { IfOk result (λ call. AreOfSecrets (name.now ∷ secrets.now ∷ []) call) }
     ensures bad { result ≡ Err WordFault.Bad → AreOfNoSecrets (name.now ∷ secrets.now ∷ []) }
 {
-    Ok(Event::Secrets {
+    Ok(Call::Secrets {
         name: Name::read(name)?,
         secrets: read_secrets(alloc, secrets)?,
     })
@@ -191,8 +191,8 @@ fn read_seq(arguments: &[&[u8]]) -> Result<u64, WordFault>
     }
 }
 
-fn read_submit(alloc: Global, arguments: &[&[u8]]) -> Result<Event, WordFault>
-    ensures stands { IfOk result (λ event. AreOfSubmit (texts arguments.now) event) }
+fn read_submit(alloc: Global, arguments: &[&[u8]]) -> Result<Call, WordFault>
+    ensures stands { IfOk result (λ call. AreOfSubmit (texts arguments.now) call) }
     ensures bad { result ≡ Err WordFault.Bad → AreOfNoSubmit (texts arguments.now) }
 {
     match arguments {
@@ -207,11 +207,11 @@ fn read_submit_words(
     name: &[u8],
     id: &[u8],
     body: &[u8],
-) -> Result<Event, WordFault>
-    ensures stands { IfOk result (λ event. AreOfSubmit (now.now ∷ name.now ∷ id.now ∷ body.now ∷ []) event) }
+) -> Result<Call, WordFault>
+    ensures stands { IfOk result (λ call. AreOfSubmit (now.now ∷ name.now ∷ id.now ∷ body.now ∷ []) call) }
     ensures bad { result ≡ Err WordFault.Bad → AreOfNoSubmit (now.now ∷ name.now ∷ id.now ∷ body.now ∷ []) }
 {
-    Ok(Event::Submit {
+    Ok(Call::Submit {
         now: read_moment(now)?,
         name: Name::read(name)?,
         id: MsgId::read(id)?,
@@ -231,8 +231,8 @@ fn read_now(arguments: &[&[u8]]) -> Result<Moment, WordFault>
     }
 }
 
-fn read_spend(arguments: &[&[u8]]) -> Result<Event, WordFault>
-    ensures stands { IfOk result (λ event. AreOfSpend (texts arguments.now) event) }
+fn read_spend(arguments: &[&[u8]]) -> Result<Call, WordFault>
+    ensures stands { IfOk result (λ call. AreOfSpend (texts arguments.now) call) }
     ensures bad { IsErr result → AreOfNoSpend (texts arguments.now) }
     ensures fault { IfErr result (λ fault. fault ≡ WordFault.Bad) }
 {
@@ -242,12 +242,12 @@ fn read_spend(arguments: &[&[u8]]) -> Result<Event, WordFault>
     }
 }
 
-fn read_spend_words(delivery: &[u8], now: &[u8], post: &[&[u8]]) -> Result<Event, WordFault>
-    ensures stands { IfOk result (λ event. AreOfSpend (delivery.now ∷ now.now ∷ texts post.now) event) }
+fn read_spend_words(delivery: &[u8], now: &[u8], post: &[&[u8]]) -> Result<Call, WordFault>
+    ensures stands { IfOk result (λ call. AreOfSpend (delivery.now ∷ now.now ∷ texts post.now) call) }
     ensures bad { IsErr result → AreOfNoSpend (delivery.now ∷ now.now ∷ texts post.now) }
     ensures fault { IfErr result (λ fault. fault ≡ WordFault.Bad) }
 {
-    Ok(Event::Spend {
+    Ok(Call::Spend {
         delivery: read_number(delivery).ok_or(WordFault::Bad)?,
         now: read_moment(now)?,
         post: read_post(post)?,
@@ -321,26 +321,26 @@ fn read_status(word: &[u8]) -> Result<Status, WordFault>
 }
 
 // The endpoint or the event that is shown.
-fn read_show(arguments: &[&[u8]]) -> Result<Event, WordFault>
-    ensures stands { IfOk result (λ event. AreOfShow (texts arguments.now) event) }
+fn read_show(arguments: &[&[u8]]) -> Result<Call, WordFault>
+    ensures stands { IfOk result (λ call. AreOfShow (texts arguments.now) call) }
     ensures endpoint { IsErr result → AreOfNoName (texts arguments.now) }
     ensures bad { IsErr result → AreOfNoEvent (texts arguments.now) }
     ensures fault { IfErr result (λ fault. fault ≡ WordFault.Bad) }
 {
     match arguments {
         [name, id] => read_show_words(name, id),
-        _ => Ok(Event::ShowEndpoint {
+        _ => Ok(Call::ShowEndpoint {
             name: read_name(arguments)?,
         }),
     }
 }
 
-fn read_show_words(name: &[u8], id: &[u8]) -> Result<Event, WordFault>
-    ensures stands { IfOk result (λ event. AreOfShow (name.now ∷ id.now ∷ []) event) }
+fn read_show_words(name: &[u8], id: &[u8]) -> Result<Call, WordFault>
+    ensures stands { IfOk result (λ call. AreOfShow (name.now ∷ id.now ∷ []) call) }
     ensures bad { IsErr result → AreOfNoEvent (name.now ∷ id.now ∷ []) }
     ensures fault { IfErr result (λ fault. fault ≡ WordFault.Bad) }
 {
-    Ok(Event::Show {
+    Ok(Call::Show {
         name: Name::read(name)?,
         id: MsgId::read(id)?,
     })

@@ -3,7 +3,7 @@
 use desk::{CommandTicket, Ticket};
 use drill::{Event, Look, Reply};
 use relay_types::{MsgId, Name};
-use script_lines::read_event;
+use script_lines::read_call;
 use std::alloc::Global;
 use std::process::Abort;
 
@@ -35,7 +35,7 @@ fn ticket(rt: &impl Abort, seq: u64, id: &[u8]) -> Ticket {
 }
 
 fn line_event(rt: &impl Abort, alloc: Global, line: &str) -> Event {
-    Event::Line(read_event(alloc, line.as_bytes()).expect(rt, "a line"))
+    Event::Line(read_call(alloc, line.as_bytes()).expect(rt, "a line"))
 }
 
 fn event_of(rt: &impl Abort, alloc: Global, call: Call) -> Event {

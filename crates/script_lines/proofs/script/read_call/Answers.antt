@@ -1,17 +1,7 @@
-use Rattle.std.proofs.Common.{refl}
 use Rattle.text_lines.specs.Parts.{texts}
-use Rattle.script_lines.proofs.CallLaws.{only_put, only_secrets, only_submit, only_spend}
+use Rattle.script_lines.proofs.CleanCalls.{the_call}
 use Rattle.script_lines.proofs.script.read_call.Goals as goal
 
-pub returns-then-is_word-clause-bad : goal.returns-then-is_word-clause-bad
-returns-then-is_word-clause-bad c = λ e. only_put (λ event. ⊥) c.args.call.now (texts c.args.arguments.now) (c.if-is_word.ensures.0 refl) (c.read_put.ensures.bad e)
-
-pub returns-then-is_word-2-clause-bad : goal.returns-then-is_word-2-clause-bad
-returns-then-is_word-2-clause-bad c = λ e. only_secrets (λ event. ⊥) c.args.call.now (texts c.args.arguments.now) (c.if-is_word-2.ensures.0 refl) (c.read_new_secrets.ensures.bad e)
-
-pub returns-then-is_word-5-clause-bad : goal.returns-then-is_word-5-clause-bad
-returns-then-is_word-5-clause-bad c = λ e. only_submit (λ event. ⊥) c.args.call.now (texts c.args.arguments.now) (c.if-is_word-5.ensures.0 refl) (c.read_submit.ensures.bad e)
-
-pub returns-then-is_word-8-clause-bad : goal.returns-then-is_word-8-clause-bad
-returns-then-is_word-8-clause-bad c = λ e.
-    only_spend (λ event. ⊥) c.args.call.now (texts c.args.arguments.now) (c.if-is_word-8.ensures.0 refl) (c.read_spend.ensures.bad (rw e refl))
+pub returns-clause-bad : goal.returns-clause-bad
+returns-clause-bad c = λ e call h.
+    c.read_words.ensures.bad e call (rw c.as_slice.ensures.value (the_call c.args.line.now (texts c.in_ok-words.words.items) call c.in_ok-words.ensures h))

@@ -1,5 +1,5 @@
 use Rattle.std.proofs.Common.{refl, subst}
-use Rattle.script_lines.specs.declared.event.Line.TheVariants.{Call, Stop}
+use Rattle.script_lines.specs.declared.call.Line.TheVariants.{Call, Stop}
 use Rattle.script_lines.specs.Replies.{reply_text}
 use Rattle.script_lines.specs.Script.{IsLine}
 use Rattle.drill.proofs.StopLaws.{on_ok}

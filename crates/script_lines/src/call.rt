@@ -7,7 +7,7 @@ use std::alloc::AllocError;
 
 /// One call of the core.
 #[derive(Drop)]
-pub enum Event {
+pub enum Call {
     /// An event for an endpoint.
     Submit {
         now: Moment,
@@ -75,66 +75,66 @@ pub enum Event {
 #[derive(Drop)]
 pub enum Line {
     /// A call of the core.
-    Call(Event),
+    Call(Call),
     /// The desk is closed with all that is out, and its store is opened again.
     Stop,
 }
 
-impl Event {
+impl Call {
     /// The same call for another holder. It copies no text and no body.
-    pub fn share(&self) -> Result<Event, AllocError>
+    pub fn share(&self) -> Result<Call, AllocError>
         ensures { IfOk result (λ same. same ≡ self.now) }
     {
         match self {
-            Event::Submit {
+            Call::Submit {
                 now,
                 name,
                 id,
                 body,
-            } => Ok(Event::Submit {
+            } => Ok(Call::Submit {
                 now: *now,
                 name: *name,
                 id: *id,
                 body: body.share()?,
             }),
-            Event::Put {
+            Call::Put {
                 name,
                 target,
                 max,
                 secrets,
-            } => Ok(Event::Put {
+            } => Ok(Call::Put {
                 name: *name,
                 target: target.share()?,
                 max: *max,
                 secrets: *secrets,
             }),
-            Event::Secrets { name, secrets } => Ok(Event::Secrets {
+            Call::Secrets { name, secrets } => Ok(Call::Secrets {
                 name: *name,
                 secrets: *secrets,
             }),
-            Event::Enabled { name, flag } => Ok(Event::Enabled {
+            Call::Enabled { name, flag } => Ok(Call::Enabled {
                 name: *name,
                 flag: *flag,
             }),
-            Event::Told { seq } => Ok(Event::Told { seq: *seq }),
-            Event::Seal => Ok(Event::Seal),
-            Event::Commit => Ok(Event::Commit),
-            Event::Settle => Ok(Event::Settle),
-            Event::Unseal => Ok(Event::Unseal),
-            Event::Halt => Ok(Event::Halt),
-            Event::Claim { now } => Ok(Event::Claim { now: *now }),
-            Event::Spend {
+            Call::Told { seq } => Ok(Call::Told { seq: *seq }),
+            Call::Seal => Ok(Call::Seal),
+            Call::Commit => Ok(Call::Commit),
+            Call::Settle => Ok(Call::Settle),
+            Call::Unseal => Ok(Call::Unseal),
+            Call::Halt => Ok(Call::Halt),
+            Call::Claim { now } => Ok(Call::Claim { now: *now }),
+            Call::Spend {
                 delivery,
                 now,
                 post,
-            } => Ok(Event::Spend {
+            } => Ok(Call::Spend {
                 delivery: *delivery,
                 now: *now,
                 post: *post,
             }),
-            Event::Limits { name } => Ok(Event::Limits { name: *name }),
-            Event::ShowEndpoint { name } => Ok(Event::ShowEndpoint { name: *name }),
-            Event::Show { name, id } => Ok(Event::Show {
+            Call::Limits { name } => Ok(Call::Limits { name: *name }),
+            Call::ShowEndpoint { name } => Ok(Call::ShowEndpoint { name: *name }),
+            Call::Show { name, id } => Ok(Call::Show {
                 name: *name,
                 id: *id,
             }),
