@@ -3,12 +3,12 @@ use Rattle.std.proofs.Common.{◌≡◌, ◌≢◌, ℕ, ◌⊎◌, inl, inr, Li
 use Rattle.std.specs.Io.KnownBytes.{Keeps}
 use Rattle.text_lines.specs.declared.fault.StreamFault.{StreamFault}
 use Rattle.text_lines.specs.declared.fault.StreamFault.TheVariants.{TooLong, Read, Write, OutOfMemory}
-use Rattle.relay_commands.specs.declared.sign_command.Asked.{Asked}
+use Rattle.relay_commands.specs.declared.sign_command.SignWords.{SignWords}
 use Rattle.relay_commands.specs.declared.ends.CommandFault.TheVariants.{Ended}
 use Rattle.relay_commands.specs.Signs.{AreAsked, SignsFront, IsNoBody, SignsSo}
 
 -- a fault after the arguments were read
-pub failed : (id at : List ℕ) (texts : List (List ℕ)) (asked : Asked) (input old new : Option (List ℕ)) (fault : StreamFault) → AreAsked id at texts asked
+pub failed : (id at : List ℕ) (texts : List (List ℕ)) (asked : SignWords) (input old new : Option (List ℕ)) (fault : StreamFault) → AreAsked id at texts asked
     → (fault ≡ TooLong → IsNoBody input) → (fault ≡ Write → SignsFront input old new asked) → (fault ≡ Write) ⊎ Keeps old new
     → (fault ≡ TooLong) ⊎ ((fault ≡ Read) ⊎ ((fault ≡ Write) ⊎ (fault ≡ OutOfMemory)))
     → SignsSo id at texts input old new (Err (Ended fault))

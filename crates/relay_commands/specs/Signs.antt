@@ -11,7 +11,7 @@ use Rattle.text_lines.specs.Words.{AreSecretTexts}
 use Rattle.text_lines.specs.Streams.{AppendsFront, with_feed}
 use Rattle.relay_commands.specs.declared.ends.CommandFault.{CommandFault}
 use Rattle.relay_commands.specs.declared.ends.CommandFault.TheVariants.{Argument, Ended, File, Store}
-use Rattle.relay_commands.specs.declared.sign_command.Asked.{Asked}
+use Rattle.relay_commands.specs.declared.sign_command.SignWords.{SignWords}
 use Rattle.relay_commands.specs.Reports.{Reports}
 
 -- the text of a moment, in whole seconds
@@ -19,16 +19,16 @@ abbrev pub IsMomentText : List ℕ → ℕ → Type 0
 IsMomentText text moment = IsTrue (is_moment moment) × (text ≡ decimal moment)
 
 -- the arguments read as this id, this moment and these secrets
-abbrev pub AreAsked : List ℕ → List ℕ → List (List ℕ) → Asked → Type 0
+abbrev pub AreAsked : List ℕ → List ℕ → List (List ℕ) → SignWords → Type 0
 AreAsked id at texts asked = IsTrue (is_msg_id id) × (asked.id ≡ id) × IsMomentText at asked.at × AreSecretTexts texts asked.secrets
 
 -- the header of the body, and a line feed
-abbrev pub signed_line : Asked → List ℕ → List ℕ
+abbrev pub signed_line : SignWords → List ℕ → List ℕ
 signed_line asked body = with_feed (signature_header asked.secrets asked.id asked.at body)
 
 -- an id, a moment and secrets are read from the arguments, of which this holds
-abbrev pub Asks : List ℕ → List ℕ → List (List ℕ) → (Asked → Type 0) → Type 0
-Asks id at texts Holds = (asked : Asked) × AreAsked id at texts asked × Holds asked
+abbrev pub Asks : List ℕ → List ℕ → List (List ℕ) → (SignWords → Type 0) → Type 0
+Asks id at texts Holds = (asked : SignWords) × AreAsked id at texts asked × Holds asked
 
 -- the first two arguments, which are read before the secrets
 abbrev pub HasIdAndMoment : List ℕ → List ℕ → Type 0
@@ -42,11 +42,11 @@ Refuses id at texts BadSecret = HasIdAndMoment id at × ((secrets : List (List �
 Refuses id at texts fault = ⊥
 
 -- Known bytes of a reader are a body within its bound, and those of a writer grew by its line.
-abbrev pub Signs : Option (List ℕ) → Option (List ℕ) → Option (List ℕ) → Asked → Type 0
+abbrev pub Signs : Option (List ℕ) → Option (List ℕ) → Option (List ℕ) → SignWords → Type 0
 Signs input old new asked = IfSome input (λ body. (length body ≤ MAX_BODY_BYTES) × Appends old new (signed_line asked body))
 
 -- the same with a front of the line
-abbrev pub SignsFront : Option (List ℕ) → Option (List ℕ) → Option (List ℕ) → Asked → Type 0
+abbrev pub SignsFront : Option (List ℕ) → Option (List ℕ) → Option (List ℕ) → SignWords → Type 0
 SignsFront input old new asked = IfSome input (λ body. (length body ≤ MAX_BODY_BYTES) × AppendsFront old new (signed_line asked body))
 
 -- known bytes of a reader are more than a body has room for

@@ -18,7 +18,7 @@ use Rattle.text_lines.specs.Streams.{with_feed}
 use Rattle.relay_commands.specs.declared.ends.CommandFault.{CommandFault}
 use Rattle.relay_commands.specs.declared.ends.CommandFault.TheVariants.{Argument, Ended, File, Store}
 use Rattle.relay_commands.specs.declared.vegas_command.Follower.{Follower}
-use Rattle.relay_commands.specs.declared.vegas_command.Numbers.{Numbers}
+use Rattle.relay_commands.specs.declared.vegas_command.LimitLine.{LimitLine}
 use Rattle.relay_commands.specs.declared.vegas_command.TheConstants.{MAX_IN_FLIGHT, MAX_ROUND_TRIP}
 use Rattle.relay_commands.specs.Reports.{Reports}
 
@@ -57,7 +57,7 @@ base_words base count =
     codes "from" ∷ decimal base.limit ∷ decimal base.noload ∷ decimal base.probes ∷ codes "by" ∷ decimal count ∷ []
 
 -- what is answered
-abbrev pub answer_words : Numbers → List (List ℕ)
+abbrev pub answer_words : LimitLine → List (List ℕ)
 answer_words n = numbers_words n.limit n.noload ++ option_map_or (λ b. base_words b.state b.count) n.base []
 
 abbrev pub told_words : (explains : Bool) → State → State → (count : ℕ) → List (List ℕ)

@@ -23,11 +23,11 @@ use text_lines::write_line;
 
 /// How much a store holds.
 #[derive(Clone, Copy)]
-pub struct Counts {
+pub struct Checked {
     totals: Totals,
 }
 
-impl fmt::Display for Counts {
+impl fmt::Display for Checked {
     ghost output = { λ counts. Some (counts_text counts.totals) };
 
     fn fmt<W: fmt::Write>(&self, f: &mut fmt::Formatter<W>) -> fmt::Result {
@@ -121,5 +121,5 @@ fn write_counts<O: Write>(
     ensures { ChecksSo counted (O.contents output.old) (O.contents output.new) result }
 {
     let totals = counted?;
-    Ok(write_line(alloc, output, &Counts { totals })?)
+    Ok(write_line(alloc, output, &Checked { totals })?)
 }

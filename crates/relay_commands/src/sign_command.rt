@@ -21,7 +21,7 @@ const CHUNK: usize = 4096;
 
 /// What is signed beside the body, and by which secrets.
 #[derive(Clone, Copy)]
-pub struct Asked {
+pub struct SignWords {
     pub id: MsgId,
     pub at: Moment,
     pub secrets: Secrets,
@@ -61,7 +61,7 @@ fn sign_body<R: Read, O: Write>(
 }
 
 // Reads the arguments in their order.
-fn read_asked(alloc: Global, id: &str, at: &str, secrets: &[&str]) -> Result<Asked, ReadFault>
+fn read_asked(alloc: Global, id: &str, at: &str, secrets: &[&str]) -> Result<SignWords, ReadFault>
     ensures asked { IfOk result (λ asked. AreAsked id.now at.now (texts secrets.now) asked) }
     ensures bad_id { (result ≡ Err ReadFault.BadId) ↔ (is_msg_id id.now ≡ false) }
     ensures bad_moment { (result ≡ Err ReadFault.BadMoment)
@@ -72,7 +72,7 @@ fn read_asked(alloc: Global, id: &str, at: &str, secrets: &[&str]) -> Result<Ask
     ensures refusal { IfErr result (λ fault. (fault ≡ ReadFault.BadId) ⊎ ((fault ≡ ReadFault.BadMoment)
         ⊎ ((fault ≡ ReadFault.BadSecret) ⊎ (fault ≡ ReadFault.OutOfMemory)))) }
 {
-    Ok(Asked {
+    Ok(SignWords {
         id: MsgId::read(id.as_bytes())?,
         at: read_moment(at.as_bytes())?,
         secrets: secrets_of(alloc, secrets)?,
@@ -82,7 +82,7 @@ fn read_asked(alloc: Global, id: &str, at: &str, secrets: &[&str]) -> Result<Ask
 // Signs the body that the reader gives, and writes the header's value.
 fn sign_asked<R: Read, O: Write>(
     alloc: Global,
-    asked: &Asked,
+    asked: &SignWords,
     input: &mut R,
     output: &mut O,
 ) -> Result<(), StreamFault>
@@ -103,7 +103,7 @@ fn sign_asked<R: Read, O: Write>(
 // Writes the header of the body and a line feed.
 fn write_header<O: Write>(
     alloc: Global,
-    asked: &Asked,
+    asked: &SignWords,
     body: &Body,
     output: &mut O,
 ) -> Result<(), StreamFault>

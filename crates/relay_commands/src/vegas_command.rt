@@ -40,17 +40,17 @@ pub struct Base {
 
 /// A limit, and a no-load time in microseconds, with what explains them where that is asked for.
 #[derive(Clone, Copy)]
-pub struct Numbers {
+pub struct LimitLine {
     limit: u32,
     noload: u64,
     base: Option<Base>,
 }
 
-impl fmt::Display for Numbers {
+impl fmt::Display for LimitLine {
     ghost output = { λ n. Some (line (answer_words n)) };
 
     fn fmt<W: fmt::Write>(&self, f: &mut fmt::Formatter<W>) -> fmt::Result {
-        let Numbers {
+        let LimitLine {
             limit,
             noload,
             base,
@@ -81,7 +81,7 @@ pub struct Follower {
 
 impl Follower {
     // What is told after the last sample.
-    fn numbers(&self) -> Numbers
+    fn numbers(&self) -> LimitLine
         ensures { estimator_words self.now.explains self.now.estimator ≡ answer_words result }
     {
         let (state, last) = self.estimator.explain();
@@ -89,7 +89,7 @@ impl Follower {
             state,
             count: last.len(),
         };
-        Numbers {
+        LimitLine {
             limit: self.estimator.limit(),
             noload: self.estimator.noload(),
             base: if self.explains { Some(base) } else { None },
@@ -98,7 +98,7 @@ impl Follower {
 }
 
 impl Answerer for Follower {
-    type Reply = Numbers;
+    type Reply = LimitLine;
 
     ghost Answers = { AnswersSample };
 
@@ -108,7 +108,7 @@ impl Answerer for Follower {
 
     ghost MayLose = { ⊥ };
 
-    fn answer(&mut self, alloc: Global, line: &[u8]) -> Result<Numbers, LineFault> {
+    fn answer(&mut self, alloc: Global, line: &[u8]) -> Result<LimitLine, LineFault> {
         let sample = read_sample(alloc, line)?;
         self.estimator
             .sample(sample.rtt, sample.inflight, sample.dropped);
