@@ -90,7 +90,7 @@ fn cause_text(cause: HaltCause) -> &'static str {
         HaltCause::BatchOut => "another committer has a batch",
         HaltCause::OutOfMemory => "memory was refused nine times in a row",
         HaltCause::Closed => "an earlier commit was doubtful",
-        HaltCause::OutOfTurn => "the store is of another opening",
+        HaltCause::OutOfTurn => "the file isn't the one that was opened",
         HaltCause::Illegal => "a record may not follow those in the store",
         HaltCause::Store(_) => "the store was at fault",
     }

@@ -13,6 +13,7 @@ use drill::audit;
 use permits::PARTS;
 use recovery::open_path;
 use relay_commands::ServeWords;
+use relay_host::{FilePlace, Place, Placed};
 use spool::Vault;
 use sqlite::{Alter, Unknown};
 use std::alloc::AllocGlobal;
@@ -80,7 +81,9 @@ where
     requires parts { blank.parts ≡ L.parts }
     requires enough { blank.parts ≡ PARTS }
 {
+    let mut place = FilePlace::new(host, rt.alloc(), asked.file)?;
     let (desk, vault) = open_path::<L, Unknown>(host, blank, asked.file, Unknown, MARK)?;
+    place.remember();
     let totals = desk.totals();
     if println!(rt; "listening on {bound}").is_err() {
         return Err(ServeFault::Write);
@@ -94,22 +97,24 @@ where
             totals,
         },
     );
-    serve_opened(rt, listener, bound, desk, vault, Settings::of(asked))
+    let keeper = Placed::new(vault, place);
+    serve_opened(rt, listener, bound, desk, keeper, Settings::of(asked))
 }
 
-/// Serves a desk and its vault on the listener, until so many requests are answered as the settings say, or the committer gives up. Where it
-/// ends as it was asked to, the rows have to tell what the desk tells.
-pub fn serve_opened<L, S, R>(
+/// Serves a desk and its vault, which commits only where its place stands, on the listener, until so many requests are answered as the
+/// settings say, or the committer gives up. Where it ends as it was asked to, the rows have to tell what the desk tells.
+pub fn serve_opened<L, S, P, R>(
     rt: &R,
     listener: &TcpListener,
     bound: SocketAddr,
     desk: Desk<L>,
-    vault: Vault<S>,
+    keeper: Placed<Vault<S>, P>,
     settings: Settings,
 ) -> Result<(), ServeFault>
 where
     L: Ledger + Send + Sync,
     S: Alter + Drop,
+    P: Place + Drop,
     R: Wait
         + Threads
         + Clock
@@ -122,14 +127,14 @@ where
         + Sync,
 {
     let relay = Relay::new(rt.alloc(), Shared::new(desk))?;
-    let (mut vault, end) = run_threads(rt, listener, bound, &relay, vault, settings);
+    let (keeper, end) = run_threads(rt, listener, bound, &relay, keeper, settings);
     match end {
         CommitterEnd::Halted(cause) => {
             tell(rt, rt.alloc(), &News::Halted(cause));
             Err(ServeFault::Halted(cause))
         }
         CommitterEnd::Finished if relay.lacks_thread() => Err(ServeFault::NoThread),
-        CommitterEnd::Finished => look_back(rt, &relay, &mut vault),
+        CommitterEnd::Finished => look_back(rt, &relay, &mut keeper.into_keeper()),
     }
 }
 

@@ -6,6 +6,7 @@ use crate::given::{MARK, SECRET, holds};
 use crate::wires::{exchange, take_post};
 use permits::PARTS;
 use recovery::create;
+use relay_host::{Place, Placed, Sight};
 use relay_serve::{Settings, serve_opened};
 use sqlite::{Alter, Connection, MemStore};
 use std::alloc::{AllocGlobal, Global};
@@ -20,6 +21,16 @@ use std::test::Fail;
 use std::thread;
 use std::thread::Threads;
 use std::time::{Clock, Duration};
+
+/// A store in memory, which nobody removes.
+#[derive(Drop)]
+struct InMemory;
+
+impl Place for InMemory {
+    fn look(&mut self) -> Sight {
+        Sight::Stands
+    }
+}
 
 /// The body of a request.
 #[derive(Clone, Copy)]
@@ -242,9 +253,10 @@ where
     let Ok((desk, vault)) = create::<L, S>(alloc, blank, conn, MARK) else {
         return Err(Fail::from("the store wasn't made"));
     };
+    let keeper = Placed::new(vault, InMemory);
     let (served, (told, posted)) = thread::join(
         rt,
-        move || serve_opened(rt, listener, relay, desk, vault, SETTINGS).is_ok(),
+        move || serve_opened(rt, listener, relay, desk, keeper, SETTINGS).is_ok(),
         move || {
             thread::join(
                 rt,

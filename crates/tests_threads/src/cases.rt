@@ -4,12 +4,13 @@ ghost use Rattle.std.specs.Prelude.{◌≡◌};
 use crate::crowd::NAMES;
 use crate::given::{Before, MARK, are_done, holds, name};
 use crate::seen::{Seen, count, pause, so_far};
-use crate::stand_ins::Watched;
+use crate::stand_ins::{Spot, Watched};
 use crate::steps::{Place, Step};
 use delivery::{CommitterEnd, HaltCause, Keeper, Shared, committer_run};
 use desk::Desk;
 use drill::audit;
 use permits::PARTS;
+use relay_host::Placed;
 use spool::Vault;
 use sqlite::{Alter, Connection, FileStore, Files, MemStore, Options};
 use sqlite_disk::{Fuse, Memory};
@@ -34,6 +35,8 @@ pub(crate) enum Committer {
     Held,
     /// The end is asked for before it begins, and so many commits are refused for want of memory.
     Lacking(u32),
+    /// What its vault has open doesn't stand at its place any more.
+    TakenAway,
 }
 
 /// How the committer of the vault came to its end.
@@ -42,6 +45,7 @@ pub(crate) enum Ending {
     Without,
     Finished,
     OutOfMemory,
+    OutOfTurn,
     Store,
     Otherwise,
 }
@@ -83,6 +87,7 @@ fn ending_of(end: CommitterEnd) -> Ending {
     match end {
         CommitterEnd::Finished => Ending::Finished,
         CommitterEnd::Halted(HaltCause::OutOfMemory) => Ending::OutOfMemory,
+        CommitterEnd::Halted(HaltCause::OutOfTurn) => Ending::OutOfTurn,
         CommitterEnd::Halted(HaltCause::Store(_)) => Ending::Store,
         CommitterEnd::Halted(_) => Ending::Otherwise,
     }
@@ -94,10 +99,10 @@ fn commit<L: Ledger, S: Alter + Drop, R: Wait + Clock>(
     shared: &Shared<L>,
     seen: &Seen,
     vault: Vault<S>,
-    (holds_first, refusals): (bool, u32),
+    (holds_first, refusals, is_gone): (bool, u32, bool),
 ) -> (Vault<S>, Ending) {
     let watched = Watched {
-        keeper: vault,
+        keeper: Placed::new(vault, Spot { is_gone }),
         refusals,
         holds_first,
         shared,
@@ -106,7 +111,7 @@ fn commit<L: Ledger, S: Alter + Drop, R: Wait + Clock>(
     };
     let (watched, end) = committer_run(rt, shared, watched);
     count(&seen.ended);
-    (watched.keeper, ending_of(end))
+    (watched.keeper.into_keeper(), ending_of(end))
 }
 
 fn run_committer<L: Ledger, S: Alter + Drop, R: Wait + Clock>(
@@ -116,20 +121,21 @@ fn run_committer<L: Ledger, S: Alter + Drop, R: Wait + Clock>(
     vault: Vault<S>,
     committer: &Committer,
 ) -> (Vault<S>, Ending) {
-    let (holds_first, refusals) = match committer {
+    let ways = match committer {
         Committer::Without => return (vault, Ending::Without),
-        Committer::Runs => (false, 0),
+        Committer::Runs => (false, 0, false),
         Committer::Late => {
             pause(rt);
-            (false, 0)
+            (false, 0, false)
         }
-        Committer::Held => (true, 0),
+        Committer::Held => (true, 0, false),
         Committer::Lacking(refusals) => {
             shared.finish(rt);
-            (false, *refusals)
+            (false, *refusals, false)
         }
+        Committer::TakenAway => (false, 0, true),
     };
-    commit(rt, shared, seen, vault, (holds_first, refusals))
+    commit(rt, shared, seen, vault, ways)
 }
 
 // Runs a thread for each table of steps, and the committer on this one.

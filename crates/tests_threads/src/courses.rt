@@ -108,6 +108,28 @@ fn the_ninth_refusal_for_memory_halts(rt: HostRuntime) {
     );
 }
 
+/// The store was taken away from its place: nothing is committed to it any more, and who waits is told so.
+static TAKEN_AWAY: Course = Course {
+    before: &[
+        Before::Put(b"a"),
+        Before::Submit(b"msg_1"),
+        Before::Turn,
+        Before::Submit(b"msg_2"),
+    ],
+    committer: Committer::TakenAway,
+    threads: &[&[Step::Told(2, b"msg_2")]],
+};
+
+#[test]
+fn a_store_that_is_taken_away_halts(rt: HostRuntime) {
+    check(
+        &rt,
+        rt.alloc(),
+        &TAKEN_AWAY,
+        &End(Ending::OutOfTurn, 2, 3, true),
+    );
+}
+
 static POSTS_MEET: Course = Course {
     before: &[
         Before::Put(b"a"),

@@ -15,7 +15,7 @@ use std::sync::ledger::Ledger;
 use std::time::Clock;
 
 /// How many events each submitter has.
-pub(crate) const EACH: u64 = 250;
+pub(crate) const EACH: u64 = 2_500;
 
 /// The endpoints that they are for, in turn.
 pub(crate) const NAMES: [&[u8]; 4] = [b"a", b"b", b"c", b"d"];

@@ -5,7 +5,7 @@ use std::thread;
 use std::time::{Clock, Duration};
 
 /// After so many turns of a millisecond a thread gives up.
-pub(crate) const TURNS: u64 = 10_000;
+pub(crate) const TURNS: u64 = 60_000;
 
 /// What the threads of a case count.
 #[derive(Drop)]

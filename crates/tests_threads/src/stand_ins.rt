@@ -3,6 +3,7 @@ ghost use Rattle.std.specs.Prelude.{◌≡◌, ⊤};
 
 use crate::seen::{Seen, TURNS, count, have_come, wait_a_turn};
 use delivery::{Clock, Keeper, Outgoing, Poster, Shared, committer_run};
+use relay_host::{Place, Sight};
 use relay_types::Moment;
 use retry_table::{PostResult, Status};
 use spool::{Batch, CommitEnd, Receipt, Unchanged};
@@ -61,6 +62,22 @@ impl<K: Keeper + Drop, L: Ledger, R: Wait + SystemClock> Keeper for Watched<'_, 
 
     fn is_closed(&self) -> bool {
         self.keeper.is_closed()
+    }
+}
+
+/// Where a store stands, or stood.
+#[derive(Drop)]
+pub(crate) struct Spot {
+    pub(crate) is_gone: bool,
+}
+
+impl Place for Spot {
+    fn look(&mut self) -> Sight {
+        if self.is_gone {
+            Sight::Gone
+        } else {
+            Sight::Stands
+        }
     }
 }
 
