@@ -8,6 +8,11 @@ mod crowds;
 mod delivering;
 mod events;
 mod failed;
+mod growing;
+mod growing_books;
+mod growing_desks;
+mod growing_stores;
+mod growing_values;
 mod inserting;
 mod limits;
 mod loading;
@@ -24,6 +29,7 @@ mod turns;
 
 use crate::books::print_book;
 use crate::failed::Failed;
+use crate::growing::print_growths;
 use crate::inserting::insert;
 use crate::limits::print_limit;
 use crate::loading::print_loads;
@@ -51,6 +57,7 @@ runs PATH          a run of calls, and a second one where the first had no memor
 loads PATH         two loads of a store that stands
 parts PATH         a store that stands, reopened part by part
 open PATH          the store in the file, made where none stands
+growths CALL       a call that takes memory, twice, each time at a byte of standard input; or the opening of the file at a path
 asks               the requests on standard input, one on a line
 queue COUNT ENDPOINTS   the claim queue alone, with so many deliveries
 moves SEED COUNT        so many random moves of it
@@ -210,6 +217,7 @@ fn main(rt: HostRuntime) -> io::Result<ExitCode> {
     let words: Vec<String> = std::env::args(&rt)?.collect(alloc)?;
     let shown: Vec<&str> = words.iter().map(|word| word.as_str()).collect(alloc)?;
     let is_done = match shown.as_slice() {
+        [_, "growths", word] => print_growths(&rt, &rt, word)?,
         [_, name, threads, count] => match sharing_of(name, threads, count) {
             Some(run) => print_shown(&rt, share_in_memory(&rt, alloc, run))?,
             None => run_words(&rt, shown.as_slice())?,

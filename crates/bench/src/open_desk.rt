@@ -87,6 +87,10 @@ impl<L: Ledger> OpenDesk<L> {
         }
     }
 
+    pub(crate) fn into_desk(self) -> Desk<L> {
+        self.desk
+    }
+
     pub(crate) fn settled_records(&self) -> u64 {
         self.desk.settled_records()
     }

@@ -1,0 +1,235 @@
+//! Calls that open a store, or load its books.
+ghost use Rattle.std.specs.Prelude.{◌≡◌, false, IfErr};
+ghost use Rattle.permits.specs.declared.pool.TheConstants.{PARTS};
+
+use crate::growing::{Attempt, Told, told_of, try_twice};
+use crate::turns::{MARK, created};
+use permits::{PARTS, Pool};
+use recovery::{create, open, open_path, reopen};
+use spool::{OpenFault, Vault};
+use sqlite::{Connection, MemStore, Start, Unknown};
+use std::alloc::Global;
+use std::io;
+use std::marker::Brand;
+use std::sync::ledger::{Blank, Ledger};
+
+/// A call that opens a store, or loads its books.
+#[derive(Clone, Copy)]
+pub(crate) enum StoreCall {
+    Adopt,
+    Create,
+    CreateDesk,
+    Load,
+    Open,
+    Reopen,
+}
+
+impl StoreCall {
+    /// The call of this name.
+    pub(crate) fn of(word: &str) -> Option<StoreCall> {
+        match word {
+            "Vault::adopt" => Some(StoreCall::Adopt),
+            "Vault::create" => Some(StoreCall::Create),
+            "Vault::load" => Some(StoreCall::Load),
+            "recovery::create" => Some(StoreCall::CreateDesk),
+            "recovery::open" => Some(StoreCall::Open),
+            "recovery::reopen" => Some(StoreCall::Reopen),
+            _ => None,
+        }
+    }
+
+    // Whether the store is to have no table yet.
+    fn is_of_new(self) -> bool {
+        matches!(self, StoreCall::Create | StoreCall::CreateDesk)
+    }
+}
+
+/// A call, and the connection that it opens, until it was opened.
+#[derive(Drop)]
+struct Opening {
+    call: StoreCall,
+    conn: Option<Connection<MemStore>>,
+}
+
+impl Attempt for Opening {
+    fn attempt(&mut self, rt: &HostRuntime) -> Told {
+        let Some(conn) = self.conn.take() else {
+            return Told::Other;
+        };
+        if !conn.is_autocommit() {
+            return Told::Other;
+        }
+        match opened(rt.alloc(), self.call, conn) {
+            Ok(records) => Told::Done(records),
+            Err((conn, fault)) => {
+                self.conn = Some(conn);
+                fault.into()
+            }
+        }
+    }
+
+    fn state(&self, _: &HostRuntime) -> u64 {
+        u64::from(self.conn.is_none())
+    }
+}
+
+type Back = (Connection<MemStore>, OpenFault);
+
+// How many records the store has that is opened so.
+fn opened(alloc: Global, call: StoreCall, conn: Connection<MemStore>) -> Result<u64, Back>
+    requires { conn.in_transaction ≡ false }
+{
+    match call {
+        StoreCall::Adopt | StoreCall::Load => Ok(Vault::adopt(conn, MARK, alloc)?.next()),
+        StoreCall::Create => Ok(Vault::create(conn, MARK)?.next()),
+        StoreCall::CreateDesk => created_desk::<Brand>(alloc, Blank::new(PARTS), conn),
+        StoreCall::Open => opened_desk::<Brand>(alloc, Blank::new(PARTS), conn),
+        StoreCall::Reopen => reopened_desk::<Brand>(alloc, Blank::new(PARTS), conn),
+    }
+}
+
+fn created_desk<L: Ledger>(
+    alloc: Global,
+    blank: Blank,
+    conn: Connection<MemStore>,
+) -> Result<u64, Back>
+    requires name { blank.name ≡ L.name }
+    requires parts { blank.parts ≡ L.parts }
+    requires enough { blank.parts ≡ PARTS }
+    requires mode { conn.in_transaction ≡ false }
+{
+    let (desk, _vault) = create::<L, MemStore>(alloc, blank, conn, MARK)?;
+    Ok(desk.records())
+}
+
+fn opened_desk<L: Ledger>(
+    alloc: Global,
+    blank: Blank,
+    conn: Connection<MemStore>,
+) -> Result<u64, Back>
+    requires name { blank.name ≡ L.name }
+    requires parts { blank.parts ≡ L.parts }
+    requires enough { blank.parts ≡ PARTS }
+    requires mode { conn.in_transaction ≡ false }
+{
+    let (desk, _vault) = open::<L, MemStore>(alloc, blank, conn, false, MARK)?;
+    Ok(desk.records())
+}
+
+fn reopened_desk<L: Ledger>(
+    alloc: Global,
+    blank: Blank,
+    conn: Connection<MemStore>,
+) -> Result<u64, Back>
+    requires name { blank.name ≡ L.name }
+    requires parts { blank.parts ≡ L.parts }
+    requires enough { blank.parts ≡ PARTS }
+    requires mode { conn.in_transaction ≡ false }
+{
+    let Ok(pool) = Pool::<L>::new(alloc, blank) else {
+        return Err((conn, OpenFault::OutOfMemory));
+    };
+    let (desk, _vault) = reopen::<L, MemStore>(alloc, pool, conn, MARK)?;
+    Ok(desk.records())
+}
+
+/// A vault whose books are loaded.
+#[derive(Drop)]
+struct Loading {
+    vault: Vault<MemStore>,
+}
+
+impl Attempt for Loading {
+    fn attempt(&mut self, rt: &HostRuntime) -> Told {
+        match self.vault.load(rt.alloc()) {
+            Ok(books) => Told::Done(books.records),
+            Err(fault) => fault.into(),
+        }
+    }
+
+    fn state(&self, _: &HostRuntime) -> u64 {
+        self.vault.next()
+    }
+}
+
+// A connection to a store, with the tables of the empty history if it isn't to be a new one.
+fn connected(alloc: Global, is_new: bool) -> Option<Connection<MemStore>> {
+    let Ok(conn) = Connection::open_in_memory(alloc) else {
+        return None;
+    };
+    if is_new {
+        return Some(conn);
+    }
+    match created(conn) {
+        Ok(vault) => Some(vault.release()),
+        Err(_) => None,
+    }
+}
+
+/// Makes the call over a store in memory. Whether it was made.
+pub(crate) fn print_store_calls(rt: &HostRuntime, call: StoreCall) -> io::Result<bool> {
+    let Some(conn) = connected(rt.alloc(), call.is_of_new()) else {
+        return Ok(false);
+    };
+    if !matches!(call, StoreCall::Load) {
+        return try_twice(
+            rt,
+            &mut Opening {
+                call,
+                conn: Some(conn),
+            },
+        );
+    }
+    if !conn.is_autocommit() {
+        return Ok(false);
+    }
+    match Vault::adopt(conn, MARK, rt.alloc()) {
+        Ok(vault) => try_twice(rt, &mut Loading { vault }),
+        Err(_) => Ok(false),
+    }
+}
+
+/// The path of a file that is opened.
+#[derive(Drop)]
+struct Path {
+    path: String,
+}
+
+impl Attempt for Path {
+    fn attempt(&mut self, rt: &HostRuntime) -> Told {
+        match self.path.clone() {
+            Ok(path) => told_of(opened_file::<Brand, Unknown>(
+                rt,
+                Blank::new(PARTS),
+                path,
+                Unknown,
+            )),
+            Err(_) => Told::NoMemory,
+        }
+    }
+
+    fn state(&self, _: &HostRuntime) -> u64 {
+        0
+    }
+}
+
+// A ledger can't be picked at a call that hands a `&str` on.
+fn opened_file<L: Ledger, T: Start>(
+    rt: &HostRuntime,
+    blank: Blank,
+    path: String,
+    start: T,
+) -> Result<u64, Told>
+    requires name { blank.name ≡ L.name }
+    requires parts { blank.parts ≡ L.parts }
+    requires enough { blank.parts ≡ PARTS }
+{
+    let (desk, _vault) = open_path::<L, T>(rt, blank, &path, start, MARK)?;
+    Ok(desk.records())
+}
+
+/// Opens the file at this path, and again.
+pub(crate) fn print_path_calls(rt: &HostRuntime, path: &str) -> io::Result<bool> {
+    let path = path.to_string(rt.alloc())?;
+    try_twice(rt, &mut Path { path })
+}
