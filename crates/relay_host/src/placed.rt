@@ -32,6 +32,7 @@ pub struct FilePlace<'a, F: Files> {
     files: &'a F,
     path: &'a str,
     log_path: String,
+    is_known: bool,
     file: Option<Node>,
     log: Option<Node>,
 }
@@ -51,20 +52,20 @@ impl<'a, F: Files> FilePlace<'a, F> {
             files,
             path,
             log_path,
+            is_known: false,
             file: None,
             log: None,
         })
     }
 
-    /// Takes what stands there now for what was opened.
+    /// Takes what stands there now for what was opened. Where memory is refused, the next look does.
     pub fn remember(&mut self) {
-        self.file = node_at(self.files, self.path).unwrap_or(None);
-        self.log = node_at(self.files, self.log_path.as_str()).unwrap_or(None);
+        let _seen = self.look();
     }
 }
 
 impl<F: Files> Place for FilePlace<'_, F> {
-    /// A log that wasn't there before is the file's own from now on.
+    /// The first look takes what stands there for what was opened. A log that wasn't there before is the file's own from then on.
     fn look(&mut self) -> Sight {
         let (Ok(file), Ok(log)) = (
             node_at(self.files, self.path),
@@ -72,6 +73,10 @@ impl<F: Files> Place for FilePlace<'_, F> {
         ) else {
             return Sight::OutOfMemory;
         };
+        if !self.is_known {
+            self.is_known = true;
+            self.file = file;
+        }
         if self.log.is_none() {
             self.log = log;
         }
