@@ -61,7 +61,6 @@ where
     let mut http = http1::Builder::new(rt.alloc(), keys).timer(TokioTimer::new(*rt, timers));
     http.keep_alive(false)
         .half_close(true)
-        .auto_date_header(false)
         .header_read_timeout(Some(Duration::from_secs(HEAD_SECONDS)));
     Ok(http)
 }

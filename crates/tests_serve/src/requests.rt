@@ -59,8 +59,8 @@ static STEPS: [Step; 11] = [
     Step {
         line: "PUT /v1/endpoints/a HTTP/1.1",
         body: Sent::Put(100),
-        begins: "HTTP/1.1 201 Created\r\ncontent-type: application/json\r\nconnection: close\r\n",
-        ends: "\r\n\r\n{\"seq\":0}",
+        begins: "HTTP/1.1 201 Created\r\ncontent-type: application/json\r\ndate: ",
+        ends: " GMT\r\nconnection: close\r\ncontent-length: 9\r\n\r\n{\"seq\":0}",
     },
     Step {
         line: "POST /v1/endpoints/a/events HTTP/1.1\r\nwebhook-id: msg_1",
