@@ -63,7 +63,7 @@ load: $(RELAYD)
 
 # A program is proved and built where one of its sources is newer. `make test` builds both, too.
 $(RELAYD): $(SOURCES)
-	@echo 'Proving each crate, the lowest first, and then building relayd: half an hour to an hour where out/ is empty, else what changed.'
+	@echo 'Proving each crate, the lowest first, and then building relayd: about an hour where out/ is empty, else what changed.'
 	cd crates/relayd && rt run -- --version
 	touch $@
 
