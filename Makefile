@@ -19,7 +19,7 @@ run: $(RELAYD)
 demo: $(RELAYD)
 	scripts/demo $(RELAYD)
 
-# Runs `relayd replay` on the stored script with nothing proved, in some two and a half minutes.
+# Runs `relayd replay` on the stored script with nothing proved, in some three minutes.
 try:
 	@echo 'Nothing is proved by this: rt try compiles relayd from its sources and runs it (make run proves it first).'
 	cd crates/relayd && rt try -- replay < ../../vectors/replay/first-path.script
