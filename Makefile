@@ -8,7 +8,7 @@ SOURCES = $(shell find crates -path '*/out' -prune -o -path 'crates/tests_*' -pr
 help:
 	@awk '/^# /{said=said substr($$0, 2)} /^[a-z]+:/{sub(/:.*/, ""); printf "make %-8s%s\n", $$0, said} !/^# /{said=""}' Makefile
 
-# Builds the relay, all of it proved first (an hour where out/ is empty), and serves relay.db at 127.0.0.1:8080.
+# Builds the relay, all of it proved first (one to two hours where out/ is empty), and serves relay.db at 127.0.0.1:8080.
 run: $(RELAYD)
 	@echo 'Put an endpoint, and submit an event to it:'
 	@echo "  curl -X PUT http://127.0.0.1:8080/v1/endpoints/shop -d '$(ENDPOINT)'"
@@ -19,7 +19,7 @@ run: $(RELAYD)
 demo: $(RELAYD)
 	scripts/demo $(RELAYD)
 
-# Runs `relayd replay` on the stored script with nothing proved, in some three minutes.
+# Runs `relayd replay` on the stored script with nothing proved, in three to four minutes.
 try:
 	@echo 'Nothing is proved by this: rt try compiles relayd from its sources and runs it (make run proves it first).'
 	cd crates/relayd && rt try -- replay < ../../vectors/replay/first-path.script
@@ -63,7 +63,7 @@ load: $(RELAYD)
 
 # A program is proved and built where one of its sources is newer. `make test` builds both, too.
 $(RELAYD): $(SOURCES)
-	@echo 'Proving each crate, the lowest first, and then building relayd: about an hour where out/ is empty, else what changed.'
+	@echo 'Proving each crate, the lowest first, and then building relayd: one to two hours where out/ is empty, else what changed.'
 	cd crates/relayd && rt run -- --version
 	touch $@
 
