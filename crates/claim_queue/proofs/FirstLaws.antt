@@ -1,18 +1,18 @@
 -- The first pairs of the endpoints that have room, in order.
-use Rattle.std.proofs.Common.{◌≡◌, ℕ, ◌<◌, ◌≤◌, Bool, true, false, not, ◌&&◌, ◌||◌, List, [], ◌∷◌, length, Option, refl, sym, ◌∙◌, ap, subst, arith, slice_index_or}
-use Rattle.std.specs.Prelude.{filter, nat_eq, bytes_eq}
-use Rattle.std.specs.List.{insert, list_any}
+use Rattle.std.proofs.Common.{◌≡◌, ℕ, ◌<◌, ◌≤◌, Bool, true, false, not, ◌&&◌, ◌||◌, List, length, Option, Some, None, refl, sym, ◌∙◌, subst, arith, slice_index_or}
+use Rattle.std.specs.Prelude.{nat_eq, bytes_eq, position}
+use Rattle.std.specs.List.{AllPairs, insert, list_any, remove}
 use Rattle.std.specs.List.Sorted.{IsPartitionPoint}
 use Rattle.std.specs.Cmp.Lexicographic.{bytes_decides}
-use Rattle.std.proofs.lemmas.Bool.{eqb-true, eq-eqb, and_parts, and_from}
-use Rattle.std.proofs.lemmas.List.Filters.{length-filter_both}
-use Rattle.std.proofs.lemmas.List.Kept.{AllPairs-filter}
-use Rattle.std.proofs.lemmas.Map.Views.{any-filter_same}
+use Rattle.std.proofs.lemmas.Bool.{eqb-true, eq-eqb, and_parts, and_from, both_ways, false_from_ne_true, ltb-false}
+use Rattle.std.proofs.lemmas.List.Folds.{Any-from_list_any, list_any_at}
+use Rattle.std.proofs.lemmas.List.Quantifiers.{position-Some}
+use Rattle.std.proofs.lemmas.List.Sums.{fails_before_first}
 use Rattle.claim_queue.specs.declared.pairs.Pair.{Pair}
 use Rattle.claim_queue.specs.declared.pairs.Turn.{Turn}
 use Rattle.claim_queue.specs.Queues.{same_pair}
 use Rattle.claim_queue.specs.Lanes.{AreInOrder, comes_before, is_the, turn_of}
-use Rattle.claim_queue.proofs.OrderLaws.{one_way, all_pairs_insert}
+use Rattle.claim_queue.proofs.OrderLaws.{one_way, all_pairs_insert, taken_out}
 
 -- the same pair by its parts is the same pair
 pub is_same : (a b : Pair) → same_pair a b ≡ true → b ≡ a
@@ -31,43 +31,47 @@ same_both_ways a b = pick (same_pair a b) (same_pair b a) refl refl
     pick true false e f = sym e ∙ (λ i. same_pair (sym (is_same a b e) i) (is_same a b e i)) ∙ f
     pick false true e f = sym e ∙ (λ i. same_pair (is_same b a f i) (sym (is_same b a f) i)) ∙ f
 
-and_turned : (a b : Bool) → (a && b) ≡ (b && a)
-and_turned true true = refl
-and_turned true false = refl
-and_turned false true = refl
-and_turned false false = refl
-
 -- One less
 
-pub lost : (pairs : List Pair) (pair other : Pair) → list_any (same_pair other) (filter (λ held. not (same_pair pair held)) pairs) ≡ (list_any (same_pair other) pairs && not (same_pair other pair))
-lost pairs pair other =
-    any-filter_same (same_pair other) (λ held. not (same_pair pair held)) (not (same_pair other pair))
-    (λ held same. ap (λ p. not (same_pair pair p)) (is_same other held same) ∙ ap not (same_both_ways pair other)) pairs
-    ∙ and_turned (not (same_pair other pair)) (list_any (same_pair other) pairs)
+pub lost : (pairs : List Pair) (n : ℕ) (pair other : Pair) → AreInOrder pairs → n < length pairs → pair ≡ slice_index_or pairs n pair
+    → list_any (same_pair other) (remove pairs n) ≡ (list_any (same_pair other) pairs && not (same_pair other pair))
+lost pairs n pair other order within is = taken_out same_pair pairs n pair other is_same apart within is
+  where
+    apart : AllPairs (λ a b. (same_pair a b ≡ false) × (same_pair b a ≡ false)) pairs
+    apart i j d less end =
+        let differ = (order i j d less end).1 in (differ, same_both_ways (slice_index_or pairs j d) (slice_index_or pairs i d) ∙ differ)
 
-some_pass : {X : Type 0} (test : X → Bool) (xs : List X) → list_any test xs ≡ true → 0 < length (filter test xs)
-some_pass test [] h = absurd (let no = h in cc)
-some_pass test (x ∷ xs) h = grind (arith, some_pass test xs)
+-- the pair stands at the place where it is found
+pub found : (pairs : List Pair) (n : ℕ) (pair : Pair) → Some n ≡ position (same_pair pair) pairs → (n < length pairs) × (pair ≡ slice_index_or pairs n pair)
+found pairs n pair at =
+    let there = position-Some (same_pair pair) pairs n pair (sym at) in (there.0, sym (is_same pair (slice_index_or pairs n pair) there.1))
 
-pub fewer : (pairs : List Pair) (pair : Pair) → list_any (same_pair pair) pairs ≡ true → length (filter (λ held. not (same_pair pair held)) pairs) < length pairs
-fewer pairs pair h =
-    omega (arith, some_pass (same_pair pair) pairs h, length-filter_both (same_pair pair) (λ held. not (same_pair pair held)) (λ held. refl) pairs)
-
-pub order_left : (pairs : List Pair) (pair : Pair) → AreInOrder pairs → AreInOrder (filter (λ held. not (same_pair pair held)) pairs)
-order_left pairs pair order = AllPairs-filter (λ a b. comes_before (turn_of b) (turn_of a) ≡ false) (λ held. not (same_pair pair held)) pairs order
+pub is_found : (pairs : List Pair) (pair : Pair) → list_any (same_pair pair) pairs ≡ true → None ≡ position (same_pair pair) pairs → ⊥
+is_found pairs pair held none = grind (arith, Any-from_list_any, fails_before_first, ltb-false, both_ways)
 
 -- One more
 
-entered : (pairs : List Pair) (n : ℕ) (pair : Pair) → AreInOrder pairs → n ≤ length pairs
-    → IsPartitionPoint (λ held. comes_before (turn_of held) (turn_of pair) ≡ true) (λ held. comes_before (turn_of held) (turn_of pair) ≡ false) pairs n → AreInOrder (insert pairs n pair)
-entered pairs n pair order le at =
-    all_pairs_insert (λ a b. comes_before (turn_of b) (turn_of a) ≡ false) pairs n pair le order
-    (λ k d below. one_way (turn_of (slice_index_or pairs k d)) (turn_of pair) (at.0 k d (omega arith) below))
-    (λ k d from within. at.1 k d from within)
+other_pair : (pairs : List Pair) (pair : Pair) (k : ℕ) (d : Pair) → list_any (same_pair pair) pairs ≡ false → k < length pairs → same_pair pair (slice_index_or pairs k d) ≡ false
+other_pair pairs pair k d unheld within =
+    false_from_ne_true (same_pair pair (slice_index_or pairs k d)) (λ h. both_ways (list_any (same_pair pair) pairs) unheld (list_any_at (same_pair pair) pairs k d within h))
 
-pub order_entered : (pairs all : List Pair) (n : ℕ) (pair : Pair) (turn : Turn) → all ≡ pairs → turn ≡ turn_of pair → AreInOrder pairs → n ≤ length all
+entered : (pairs : List Pair) (n : ℕ) (pair : Pair) → AreInOrder pairs → list_any (same_pair pair) pairs ≡ false → n ≤ length pairs
+    → IsPartitionPoint (λ held. comes_before (turn_of held) (turn_of pair) ≡ true) (λ held. comes_before (turn_of held) (turn_of pair) ≡ false) pairs n → AreInOrder (insert pairs n pair)
+entered pairs n pair order unheld le at =
+    all_pairs_insert (λ a b. (comes_before (turn_of b) (turn_of a) ≡ false) × (same_pair a b ≡ false)) pairs n pair le order
+    (λ k d below. (
+      one_way (turn_of (slice_index_or pairs k d)) (turn_of pair) (at.0 k d (omega arith) below),
+      same_both_ways (slice_index_or pairs k d) pair ∙ other_pair pairs pair k d unheld (omega (arith, below, le)),
+    ))
+    (λ k d from within. (at.1 k d from within, other_pair pairs pair k d unheld within))
+
+pub order_entered : (pairs all : List Pair) (n : ℕ) (pair : Pair) (turn : Turn) → all ≡ pairs → turn ≡ turn_of pair → AreInOrder pairs → list_any (same_pair pair) pairs ≡ false → n ≤ length all
     → IsPartitionPoint (λ held. comes_before (turn_of held) turn ≡ true) (λ held. comes_before (turn_of held) turn ≡ false) all n → AreInOrder (insert pairs n pair)
-order_entered pairs all n pair turn same is order le point = grind (arith, entered)
+order_entered pairs all n pair turn same is order unheld le point =
+    entered pairs n pair order unheld (subst (λ xs. n ≤ length xs) same le) (subst (IsPoint (turn_of pair)) same (subst (λ t. IsPoint t all) is point))
+  where
+    IsPoint : Turn → List Pair → Type 0
+    IsPoint t xs = IsPartitionPoint (λ held. comes_before (turn_of held) t ≡ true) (λ held. comes_before (turn_of held) t ≡ false) xs n
 
 -- One in the place of another
 

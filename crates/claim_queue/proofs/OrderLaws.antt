@@ -1,9 +1,12 @@
 -- Turns in order: what a search among them finds, and what stays in order.
-use Rattle.std.proofs.Common.{◌≡◌, ℕ, ◌+◌, ◌-◌, ◌<◌, ◌≤◌, ◌⊎◌, inl, inr, true, false, List, length, sym, ◌∙◌, ap, subst, arith, slice_index_or}
-use Rattle.std.specs.List.{AllPairs, insert}
+use Rattle.std.proofs.Common.{◌≡◌, ℕ, ◌+◌, ◌-◌, ◌<◌, ◌≤◌, ◌⊎◌, inl, inr, Bool, true, false, not, ◌&&◌, ◌||◌, List, ◌∷◌, length, refl, sym, ◌∙◌, ap, subst, arith, slice_index_or}
+use Rattle.std.specs.List.{AllPairs, insert, list_any, remove}
 use Rattle.std.specs.List.Sorted.{IsPartitionedBy}
 use Rattle.std.proofs.lemmas.Bool.{ltb-true, lt-ltb, eqb-true, eq-eqb, and_from, and_parts, or_cases, or_left, or_right, cases_lt, cases_order, both_ways}
-use Rattle.std.proofs.lemmas.List.Edits.{get_or-insert_below, get_or-insert_at, get_or-insert_above, length-insert}
+use Rattle.std.proofs.lemmas.List.{get_or_default}
+use Rattle.std.proofs.lemmas.List.Edits.{get_or-insert_below, get_or-insert_at, get_or-insert_above, get_or-remove_below, get_or-remove_above, length-insert, length-remove}
+use Rattle.std.proofs.lemmas.List.Folds.{list_any_none}
+use Rattle.std.proofs.lemmas.List.Sorted.{IsPermutation-remove, list_any-IsPermutation}
 use Rattle.claim_queue.specs.declared.pairs.Turn.{Turn}
 use Rattle.claim_queue.specs.Lanes.{comes_before}
 
@@ -49,6 +52,32 @@ partitioned {X} key xs turn order i j d le within is = pick (cases_lt i j)
     pick : (i < j) ⊎ (j ≤ i) → comes_before (key (slice_index_or xs i d)) turn ≡ true
     pick (inl less) = before_as_well (key (slice_index_or xs i d)) (key (slice_index_or xs j d)) turn (order i j d less within) is
     pick (inr more) = let same : j ≡ i = omega (arith, le, more) in subst (λ k. comes_before (key (slice_index_or xs k d)) turn ≡ true) same is
+
+-- what is held once the only one of its kind was taken out
+pub taken_out : {X : Type 0} (same : X → X → Bool) (xs : List X) (n : ℕ) (x other : X) → ((a b : X) → same a b ≡ true → b ≡ a)
+    → AllPairs (λ a b. (same a b ≡ false) × (same b a ≡ false)) xs → n < length xs → x ≡ slice_index_or xs n x
+    → list_any (same other) (remove xs n) ≡ (list_any (same other) xs && not (same other x))
+taken_out {X} same xs n x other is_same apart within is =
+    pick (same other x) (list_any (same other) (remove xs n)) refl refl
+    ∙ ap (λ b. b && not (same other x)) (sym (list_any-IsPermutation (same other) xs (x ∷ remove xs n) (IsPermutation-remove xs n x within is)))
+  where
+    at : (d : X) → slice_index_or xs n d ≡ x
+    at d = get_or_default xs n d x within ∙ sym is
+
+    gone : (k : ℕ) (d : X) → k < length (remove xs n) → (k < n) ⊎ (n ≤ k) → same x (slice_index_or (remove xs n) k d) ≡ false
+    gone k d less (inl below) =
+        subst (λ t. same x t ≡ false) (sym (get_or-remove_below xs n d k below within)) (subst (λ t. same t (slice_index_or xs k d) ≡ false) (at d) (apart k n d below within).1)
+    gone k d less (inr from) =
+        subst (λ t. same x t ≡ false) (sym (get_or-remove_above xs n d k from within))
+        (subst (λ t. same t (slice_index_or xs (k + 1) d) ≡ false) (at d) (apart n (k + 1) d (omega (arith, from)) (omega (arith, less, length-remove xs n within))).0)
+
+    pick : (alike rest : Bool) → same other x ≡ alike → list_any (same other) (remove xs n) ≡ rest → rest ≡ ((alike || rest) && not alike)
+    pick true rest e f = sym f ∙ subst (λ t. list_any (same t) (remove xs n) ≡ false) (is_same other x e) (list_any_none (same x) (remove xs n) none)
+      where
+        none : (k : ℕ) (d : X) → k < length (remove xs n) → same x (slice_index_or (remove xs n) k d) ≡ false
+        none k d less = gone k d less (cases_lt k n)
+    pick false true e f = refl
+    pick false false e f = refl
 
 -- one more element at its place
 pub all_pairs_insert : {X : Type 0} (R : X → X → Type 0) (xs : List X) (n : ℕ) (y : X) → n ≤ length xs → AllPairs R xs

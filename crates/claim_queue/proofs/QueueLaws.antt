@@ -55,6 +55,14 @@ first_held lanes firsts len capacity endpoint lane q at None is = tt
 first_held lanes firsts len capacity endpoint lane q at (Some pair) is =
     is_among lanes firsts len capacity endpoint lane q at pair (ap (λ o. is_the o pair) (sym is) ∙ same_itself pair)
 
+-- of the pairs of an endpoint none but its lane's first one is among the first ones
+pub own_held : (lanes : List Lane) (firsts : List Pair) (len capacity : ℕ) (endpoint : List ℕ) (lane new : Lane) → IsQueue lanes firsts len capacity → lane_in lanes endpoint ≡ Some lane
+    → new.mark.endpoint ≡ lane.mark.endpoint → (before after : Option Pair) → before ≡ first_of lane → after ≡ first_of new → IfSome after (λ pair. list_any (same_pair pair) firsts ≡ is_the before pair)
+own_held lanes firsts len capacity endpoint lane new q at keeps before None b a = tt
+own_held lanes firsts len capacity endpoint lane new q at keeps before (Some pair) b a =
+    let name : endpoint ≡ pair.endpoint = sym (lane_named lanes endpoint lane at) ∙ sym keeps ∙ (the_first new pair (ap (λ o. is_the o pair) (sym a) ∙ same_itself pair)).0 in
+    q.firsts pair ∙ ap (λ o. option_map_or (λ l. is_the (first_of l) pair) o false) (ap (lane_in lanes) (sym name) ∙ at) ∙ ap (λ o. is_the o pair) (sym b)
+
 -- One lane is changed, and the first pair of it is renewed
 
 changed : (lanes : List Lane) (firsts : List Pair) (len capacity : ℕ) (endpoint : List ℕ) (i : ℕ) (held new : Lane) (firsts' : List Pair) (len' capacity' : ℕ)
@@ -251,7 +259,7 @@ none_before (p ∷ ps) pair order h = at (Any-from_list_any (same_pair pair) (p 
     at : (k : ℕ) × (x : Pair) × (k < length (p ∷ ps)) × (slice_index_or (p ∷ ps) k x ≡ x) × (same_pair pair x ≡ true) → (first : Pair) × (slice_get (p ∷ ps) 0 ≡ Some first) × (comes_before (turn_of pair) (turn_of first) ≡ false)
     at (zero, x, within, is, same) = (p, refl, subst (λ a. comes_before (turn_of a) (turn_of p) ≡ false) (is ∙ is_same pair x same) (itself (turn_of p)))
     at (suc k, x, within, is, same) =
-        (p, refl, subst (λ a. comes_before (turn_of a) (turn_of p) ≡ false) (is ∙ is_same pair x same) (order 0 (suc k) x (omega arith) within))
+        (p, refl, subst (λ a. comes_before (turn_of a) (turn_of p) ≡ false) (is ∙ is_same pair x same) (order 0 (suc k) x (omega arith) within).0)
 
 -- a mark is found where its lane is
 lane_of_mark : (lanes : List Lane) (endpoint : List ℕ) → has_room_in (map (λ lane. lane.mark) lanes) endpoint ≡ true → (lane : Lane) × (lane_in lanes endpoint ≡ Some lane) × (lane.mark.room ≡ true)

@@ -1,15 +1,13 @@
 -- Which turns are held once one was put in its place or taken out.
-use Rattle.std.proofs.Common.{◌≡◌, ℕ, ◌+◌, ◌<◌, ◌≤◌, ◌⊎◌, inl, inr, Bool, true, false, not, ◌&&◌, ◌||◌, List, ◌∷◌, length, refl, sym, ◌∙◌, ap, subst, arith, IsTrue, slice_index_or}
+use Rattle.std.proofs.Common.{◌≡◌, ℕ, ◌<◌, ◌≤◌, ◌⊎◌, inl, inr, Bool, true, false, not, ◌&&◌, ◌||◌, List, ◌∷◌, length, refl, sym, ◌∙◌, ap, arith, IsTrue, slice_index_or}
 use Rattle.std.specs.Prelude.{nat_eq}
-use Rattle.std.specs.List.{AllWithin, insert, list_any, remove}
-use Rattle.std.proofs.lemmas.Bool.{and_parts, and_from, both_ways, cases_lt, cases_order, eqb-true, eq-eqb, false_from_ne_true}
-use Rattle.std.proofs.lemmas.List.{get_or_default}
-use Rattle.std.proofs.lemmas.List.Edits.{get_or-remove_below, get_or-remove_above, length-remove}
-use Rattle.std.proofs.lemmas.List.Folds.{Any-from_list_any, list_any_at, list_any_none}
-use Rattle.std.proofs.lemmas.List.Sorted.{IsPermutation-insert, IsPermutation-remove, list_any-IsPermutation}
+use Rattle.std.specs.List.{AllPairs, AllWithin, insert, list_any, remove}
+use Rattle.std.proofs.lemmas.Bool.{and_parts, and_from, both_ways, cases_order, eqb-true, eq-eqb, false_from_ne_true}
+use Rattle.std.proofs.lemmas.List.Folds.{Any-from_list_any, list_any_at}
+use Rattle.std.proofs.lemmas.List.Sorted.{IsPermutation-insert, list_any-IsPermutation}
 use Rattle.claim_queue.specs.declared.pairs.Turn.{Turn}
 use Rattle.claim_queue.specs.Lanes.{IsInOrder, comes_before, is_turn_numbered, same_turn}
-use Rattle.claim_queue.proofs.OrderLaws.{behind, one_way, all_pairs_insert}
+use Rattle.claim_queue.proofs.OrderLaws.{behind, one_way, all_pairs_insert, taken_out}
 
 pub is_same_turn : (a b : Turn) → same_turn a b ≡ true → b ≡ a
 is_same_turn a b h = grind (arith, and_parts, eqb-true)
@@ -54,28 +52,12 @@ not_same a b h = grind (arith, false_from_ne_true, is_same_turn, not_before_itse
 
 pub removed : (turns : List Turn) (n : ℕ) (turn other : Turn) → IsInOrder turns → n < length turns → turn ≡ slice_index_or turns n turn
     → list_any (same_turn other) (remove turns n) ≡ (list_any (same_turn other) turns && not (same_turn other turn))
-removed turns n turn other order within is =
-    pick (same_turn other turn) (list_any (same_turn other) (remove turns n)) refl refl
-    ∙ ap (λ b. b && not (same_turn other turn)) (sym (list_any-IsPermutation (same_turn other) turns (turn ∷ remove turns n) (IsPermutation-remove turns n turn within is)))
+removed turns n turn other order within is = taken_out same_turn turns n turn other is_same_turn apart within is
   where
-    at : (d : Turn) → slice_index_or turns n d ≡ turn
-    at d = get_or_default turns n d turn within ∙ sym is
-
-    apart : (k : ℕ) (d : Turn) → k < length (remove turns n) → (k < n) ⊎ (n ≤ k) → same_turn turn (slice_index_or (remove turns n) k d) ≡ false
-    apart k d less (inl below) =
-        subst (λ t. same_turn turn t ≡ false) (sym (get_or-remove_below turns n d k below within))
-        (not_same turn (slice_index_or turns k d) (inr (subst (λ t. comes_before (slice_index_or turns k d) t ≡ true) (at d) (order k n d below within))))
-    apart k d less (inr from) =
-        subst (λ t. same_turn turn t ≡ false) (sym (get_or-remove_above turns n d k from within))
-        (not_same turn (slice_index_or turns (k + 1) d) (inl (subst (λ t. comes_before t (slice_index_or turns (k + 1) d) ≡ true) (at d) (order n (k + 1) d (omega (arith, from)) (omega (arith, less, length-remove turns n within))))))
-
-    pick : (same rest : Bool) → same_turn other turn ≡ same → list_any (same_turn other) (remove turns n) ≡ rest → rest ≡ ((same || rest) && not same)
-    pick true rest e f = sym f ∙ subst (λ t. list_any (same_turn t) (remove turns n) ≡ false) (is_same_turn other turn e) (list_any_none (same_turn turn) (remove turns n) none)
-      where
-        none : (k : ℕ) (d : Turn) → k < length (remove turns n) → same_turn turn (slice_index_or (remove turns n) k d) ≡ false
-        none k d less = apart k d less (cases_lt k n)
-    pick false true e f = refl
-    pick false false e f = refl
+    apart : AllPairs (λ a b. (same_turn a b ≡ false) × (same_turn b a ≡ false)) turns
+    apart i j d less end =
+        let first = order i j d less end in
+        (not_same (slice_index_or turns i d) (slice_index_or turns j d) (inl first), not_same (slice_index_or turns j d) (slice_index_or turns i d) (inr first))
 
 -- The numbers of turns
 

@@ -79,9 +79,9 @@ is_first lanes pair = option_map_or (λ lane. is_the (first_of lane) pair) (lane
 abbrev pub absent : Option Pair → ℕ
 absent first = if is_some first then 0 else 1
 
--- none comes before one that stands before it
+-- none comes before one that stands before it, and none stands twice
 abbrev pub AreInOrder : List Pair → Type 0
-AreInOrder firsts = AllPairs (λ a b. comes_before (turn_of b) (turn_of a) ≡ false) firsts
+AreInOrder firsts = AllPairs (λ a b. (comes_before (turn_of b) (turn_of a) ≡ false) × (same_pair a b ≡ false)) firsts
 
 -- of the pairs the old first one of an endpoint is gone, and the new one is held
 abbrev pub Renews : (old new : Option Pair) (before after : List Pair) → Type 0

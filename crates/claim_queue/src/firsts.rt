@@ -1,5 +1,5 @@
 //! The first deliveries of the endpoints that have room, in the order of their turns.
-ghost use Rattle.std.specs.Prelude.{◌≡◌, ◌+◌, ◌<◌, ◌≤◌, ◌||◌, ◌&&◌, not, true, false, filter, length, vec_len, vec_capacity, IsTrue, IfSome};
+ghost use Rattle.std.specs.Prelude.{◌≡◌, ◌+◌, ◌<◌, ◌≤◌, ◌||◌, ◌&&◌, not, true, false, length, position, vec_len, vec_capacity, IsTrue, IfSome};
 ghost use Rattle.std.specs.List.{list_any};
 ghost use Rattle.std.specs.List.Sorted.{IsPartitionPoint};
 ghost use Rattle.claim_queue.specs.Queues.{same_pair};
@@ -7,12 +7,26 @@ ghost use Rattle.claim_queue.specs.Lanes.{AreInOrder, Renews, absent, comes_befo
 
 use crate::pairs::{Pair, Turn};
 
+// The place of the pair.
+fn position_of(firsts: &[Pair], pair: &Pair) -> Option<usize>
+    ensures { result ≡ position (same_pair pair.now) firsts.now }
+{
+    firsts.iter().position(|held| held.is(pair))
+}
+
 // Lets the pair go.
 fn let_go(firsts: &mut Vec<Pair>, pair: Pair)
-    ensures pairs { firsts.new.items ≡ filter (λ held. not (same_pair pair held)) firsts.old.items }
+    requires held { IsTrue (list_any (same_pair pair) firsts.old.items) }
+    requires order { AreInOrder firsts.old.items }
+    ensures order { AreInOrder firsts.new.items }
+    ensures pairs { (other : Pair) → list_any (same_pair other) firsts.new.items
+        ≡ (list_any (same_pair other) firsts.old.items && not (same_pair other pair)) }
+    ensures len { vec_len firsts.new + 1 ≡ vec_len firsts.old }
     ensures capacity { vec_capacity firsts.new ≡ vec_capacity firsts.old }
 {
-    firsts.retain(|held| !held.is(&pair));
+    if let Some(place) = position_of(firsts, &pair) {
+        firsts.remove(place);
+    }
 }
 
 // Lets the pair go that was the first of an endpoint.
@@ -42,6 +56,7 @@ fn place_of(firsts: &[Pair], turn: Turn) -> usize
 
 // Holds the pair from now on, at the place of its turn.
 fn hold(firsts: &mut Vec<Pair>, pair: Pair)
+    requires unheld { list_any (same_pair pair) firsts.old.items ≡ false }
     requires place { vec_len firsts.old < vec_capacity firsts.old }
     requires order { AreInOrder firsts.old.items }
     ensures order { AreInOrder firsts.new.items }
@@ -56,6 +71,7 @@ fn hold(firsts: &mut Vec<Pair>, pair: Pair)
 
 // Holds the pair that is the first of an endpoint.
 fn enter(firsts: &mut Vec<Pair>, new: Option<Pair>)
+    requires unheld { IfSome new (λ pair. list_any (same_pair pair) firsts.old.items ≡ false) }
     requires place { vec_len firsts.old < vec_capacity firsts.old }
     requires order { AreInOrder firsts.old.items }
     ensures order { AreInOrder firsts.new.items }
@@ -82,6 +98,7 @@ fn is_same(old: &Option<Pair>, new: &Option<Pair>) -> bool
 // Holds the pair that is the first of an endpoint now, in place of the one that was. It takes no memory.
 pub(crate) fn renew(firsts: &mut Vec<Pair>, old: Option<Pair>, new: Option<Pair>)
     requires held { IfSome old (λ pair. IsTrue (list_any (same_pair pair) firsts.old.items)) }
+    requires unheld { IfSome new (λ pair. list_any (same_pair pair) firsts.old.items ≡ is_the old pair) }
     requires place { vec_len firsts.old + absent old ≤ vec_capacity firsts.old }
     requires order { AreInOrder firsts.old.items }
     ensures order { AreInOrder firsts.new.items }

@@ -52,6 +52,7 @@ impl Name {
     }
 
     /// Whether two names are the same.
+    #[inline]
     pub fn is(self, other: Name) -> bool
         ensures same { IsTrue result ↔ (self ≡ other) }
         ensures bytes { result ≡ bytes_eq self other }

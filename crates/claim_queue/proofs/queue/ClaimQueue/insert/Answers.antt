@@ -4,7 +4,7 @@ use Rattle.claim_queue.specs.declared.marks.Mark.{Mark}
 use Rattle.claim_queue.specs.Queues.{ChangesMark, Gains, IsNew, free_places, pair_of, place_taken}
 use Rattle.claim_queue.specs.Lanes.{is_of, queue_of}
 use Rattle.claim_queue.proofs.LaneLaws.{lane_at, none_at, none_has, none_in}
-use Rattle.claim_queue.proofs.QueueLaws.{first_held, free_at, mark_changed, none_free, now_held, renewed}
+use Rattle.claim_queue.proofs.QueueLaws.{first_held, free_at, mark_changed, none_free, now_held, own_held, renewed}
 use Rattle.claim_queue.proofs.queue.ClaimQueue.insert.Goals as goal
 
 or_none : (a : Bool) → (a || false) ≡ a
@@ -42,6 +42,14 @@ renew-requires-clause-held c =
     let at = c.in-Some.ensures ∙ ap (position (is_of c.args.endpoint)) c.deref.ensures.value in
     let is = c.index_mut-lane.ensures.value in
     first_held lanes c.self.inside.firsts.items _ _ c.args.endpoint held c.self.invariant (lane_at lanes c.args.endpoint c.in-Some.place held at is).0 c.first-before.result c.first-before.ensures
+
+pub renew-requires-clause-unheld : goal.renew-requires-clause-unheld
+renew-requires-clause-unheld c =
+    let lanes = c.self.inside.lanes.items in
+    let held = c.index_mut-lane.result.now in
+    let at = c.in-Some.ensures ∙ ap (position (is_of c.args.endpoint)) c.deref.ensures.value in
+    let is = c.index_mut-lane.ensures.value in
+    own_held lanes c.self.inside.firsts.items _ _ c.args.endpoint held c.insert.new.self c.self.invariant (lane_at lanes c.args.endpoint c.in-Some.place held at is).0 (ap (λ (m : Mark). m.endpoint) c.insert.ensures.mark) c.first-before.result c.first-after.result c.first-before.ensures c.first-after.ensures
 
 pub invariant_of-self : goal.invariant_of-self
 invariant_of-self c =

@@ -4,7 +4,7 @@ use Rattle.claim_queue.specs.declared.marks.Mark.{Mark}
 use Rattle.claim_queue.specs.Queues.{ChangesMark, Loses, free_places, is_held, pair_of, place_given}
 use Rattle.claim_queue.specs.Lanes.{is_of, queue_of}
 use Rattle.claim_queue.proofs.LaneLaws.{lane_at, none_at}
-use Rattle.claim_queue.proofs.QueueLaws.{first_held, free_at, free_set, held_in, held_in_none, mark_changed, now_held, renewed}
+use Rattle.claim_queue.proofs.QueueLaws.{first_held, free_at, free_set, held_in, held_in_none, mark_changed, now_held, own_held, renewed}
 use Rattle.claim_queue.proofs.queue.ClaimQueue.remove.Goals as goal
 
 and_all : (a : Bool) → (a && not false) ≡ a
@@ -34,6 +34,14 @@ renew-requires-clause-held c =
     let at = c.in-Some.ensures ∙ ap (position (is_of c.args.endpoint)) c.deref.ensures.value in
     let is = c.index_mut-lane.ensures.value in
     first_held lanes c.self.inside.firsts.items _ _ c.args.endpoint held c.self.invariant (lane_at lanes c.args.endpoint c.in-Some.place held at is).0 c.first-before.result c.first-before.ensures
+
+pub renew-requires-clause-unheld : goal.renew-requires-clause-unheld
+renew-requires-clause-unheld c =
+    let lanes = c.self.inside.lanes.items in
+    let held = c.index_mut-lane.result.now in
+    let at = c.in-Some.ensures ∙ ap (position (is_of c.args.endpoint)) c.deref.ensures.value in
+    let is = c.index_mut-lane.ensures.value in
+    own_held lanes c.self.inside.firsts.items _ _ c.args.endpoint held c.remove.new.self c.self.invariant (lane_at lanes c.args.endpoint c.in-Some.place held at is).0 (ap (λ (m : Mark). m.endpoint) c.remove.ensures.mark) c.first-before.result c.first-after.result c.first-before.ensures c.first-after.ensures
 
 pub invariant_of-self : goal.invariant_of-self
 invariant_of-self c =

@@ -4,7 +4,7 @@ use Rattle.claim_queue.specs.declared.lanes.Lane.{Lane}
 use Rattle.claim_queue.specs.Queues.{ChangesMark, HasSamePairs, is_reserved, with_room}
 use Rattle.claim_queue.specs.Lanes.{is_of, queue_of}
 use Rattle.claim_queue.proofs.LaneLaws.{lane_at, none_at}
-use Rattle.claim_queue.proofs.QueueLaws.{first_held, mark_changed, none_reserved, renewed, same_pairs}
+use Rattle.claim_queue.proofs.QueueLaws.{first_held, mark_changed, none_reserved, own_held, renewed, same_pairs}
 use Rattle.claim_queue.proofs.queue.ClaimQueue.set_room.Goals as goal
 
 pub renew-requires-clause-held : goal.renew-requires-clause-held
@@ -14,6 +14,14 @@ renew-requires-clause-held c =
     let at = c.in-Some.ensures ∙ ap (position (is_of c.args.endpoint)) c.deref.ensures.value in
     let is = c.index_mut-lane.ensures.value in
     first_held lanes c.self.inside.firsts.items _ _ c.args.endpoint held c.self.invariant (lane_at lanes c.args.endpoint c.in-Some.place held at is).0 c.first-before.result c.first-before.ensures
+
+pub renew-requires-clause-unheld : goal.renew-requires-clause-unheld
+renew-requires-clause-unheld c =
+    let lanes = c.self.inside.lanes.items in
+    let held = c.index_mut-lane.result.now in
+    let at = c.in-Some.ensures ∙ ap (position (is_of c.args.endpoint)) c.deref.ensures.value in
+    let is = c.index_mut-lane.ensures.value in
+    own_held lanes c.self.inside.firsts.items _ _ c.args.endpoint held (record held { mark = with_room c.args.room held.mark }) c.self.invariant (lane_at lanes c.args.endpoint c.in-Some.place held at is).0 refl c.first-before.result c.first-after.result c.first-before.ensures c.first-after.ensures
 
 pub invariant_of-self : goal.invariant_of-self
 invariant_of-self c =
