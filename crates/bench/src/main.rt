@@ -50,7 +50,7 @@ const LIST: &str = "limit COUNT        the adaptive limit after as many samples
 events COUNT       a book of as many events
 outcomes COUNT     the same, and then one outcome of each, settled 256 at a time
 submit COUNT PATH  submissions to 100 endpoints, 256 in a commit, and their posts, in rounds of 10,240
-post COUNT PATH    as many pending events of 50 endpoints, and then their posts
+post COUNT ENDPOINTS PATH   as many pending events of so many endpoints, every second of which is then disabled, and half as many posts
 insert COUNT PATH  the rows of as many events, by bare statements
 replay PATH        the script on standard input
 runs PATH          a run of calls, and a second one where the first had no memory
@@ -107,7 +107,6 @@ fn run_of(name: &str) -> Option<Run> {
 fn counted_run_of(name: &str, count: u32) -> Option<Run> {
     match name {
         "insert" => Some(Run::Insert(count)),
-        "post" => Some(Run::Submit(post_plan(count))),
         "submit" => Some(Run::Submit(submit_plan(count))),
         _ => None,
     }
@@ -221,6 +220,12 @@ fn main(rt: HostRuntime) -> io::Result<ExitCode> {
         [_, name, threads, count] => match sharing_of(name, threads, count) {
             Some(run) => print_shown(&rt, share_in_memory(&rt, alloc, run))?,
             None => run_words(&rt, shown.as_slice())?,
+        },
+        [_, "post", count, endpoints, path] => match (count_of(count), count_of(endpoints)) {
+            (Some(count), Some(endpoints)) => {
+                run_over(&rt, Some(Run::Submit(post_plan(count, endpoints))), path)?
+            }
+            _ => false,
         },
         [_, name, threads, count, path] => match sharing_of(name, threads, count) {
             Some(run) => print_shown(&rt, share_over_file(&rt, &rt, path, run))?,

@@ -8,6 +8,7 @@ use crate::failed::Failed;
 use crate::open_desk::OpenDesk;
 use crate::times::{Times, add, print_times, since};
 use crate::turns::{BATCH, MARK, created, turn};
+use desk::Command;
 use permits::PARTS;
 use relay_types::Moment;
 use spool::Vault;
@@ -21,13 +22,16 @@ use std::time::Instant;
 /// How many submissions are pending before they are posted, so that what one commit leaves to the next weighs little.
 const ROUND: u32 = 40 * BATCH;
 
-/// What a run does: so many events, in rounds of so many that are pending before they are posted.
+/// What a run does: so many events, in rounds of so many that are pending before so many are posted.
 #[derive(Clone, Copy)]
 pub(crate) struct Plan {
     endpoints: u32,
     events: u32,
     rounds: u32,
     pending: u32,
+    /// How many endpoints are disabled before events are posted.
+    disabled: u32,
+    posts: u32,
 }
 
 /// As many submissions, which are posted in rounds, as a desk takes only so many pending events.
@@ -37,16 +41,21 @@ pub(crate) fn submit_plan(events: u32) -> Plan {
         events,
         rounds: events.div_ceil(ROUND),
         pending: ROUND,
+        disabled: 0,
+        posts: ROUND,
     }
 }
 
-/// As many submissions, which are posted once all are pending.
-pub(crate) fn post_plan(events: u32) -> Plan {
+/// As many submissions to so many endpoints. Once all are pending, every second endpoint is disabled, and half as many are posted to
+/// the others.
+pub(crate) fn post_plan(events: u32, endpoints: u32) -> Plan {
     Plan {
-        endpoints: 50,
+        endpoints,
         events,
         rounds: 1,
         pending: events,
+        disabled: endpoints / 2,
+        posts: events / 2,
     }
 }
 
@@ -109,7 +118,10 @@ fn submit_all<L: Ledger, S: Alter>(
         let from = round.saturating_mul(plan.pending);
         let upto = plan.events.min(from.saturating_add(plan.pending));
         take_in(rt, began, desk, vault, plan.endpoints, (from, upto), times)?;
-        deliver(rt, began, desk, vault, upto.saturating_sub(from), times)?;
+        disable_each(rt.alloc(), desk, plan.disabled)?;
+        turn(rt, began, desk, vault, &mut Times::ZERO.submissions)?;
+        let posts = upto.saturating_sub(from).min(plan.posts);
+        deliver(rt, began, desk, vault, posts, times)?;
     }
     Ok(desk.settled_records())
 }
@@ -117,6 +129,21 @@ fn submit_all<L: Ledger, S: Alter>(
 fn put_each<L: Ledger>(alloc: Global, desk: &mut OpenDesk<L>, count: u32) -> Result<(), Failed> {
     for number in 0..count {
         desk.command(put_of(alloc, number)?)?;
+    }
+    Ok(())
+}
+
+/// Disables so many endpoints, every second one.
+fn disable_each<L: Ledger>(
+    alloc: Global,
+    desk: &mut OpenDesk<L>,
+    count: u32,
+) -> Result<(), Failed> {
+    for number in 0..count {
+        desk.command(Command::SetEnabled {
+            name: name_of(alloc, number.saturating_mul(2))?,
+            flag: false,
+        })?;
     }
     Ok(())
 }
