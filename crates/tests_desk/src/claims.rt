@@ -91,12 +91,16 @@ fn a_failure_is_due_five_seconds_later(rt: HostRuntime) -> Result<(), Fail> {
 const EXHAUSTED: Event = Event {
     state: State::Exhausted,
     due: None,
-    attempts: 11,
+    attempts: 10,
     last_status: Some(500),
 };
 
-// An attempt that was answered 410 is none of the ten failures.
-static TEN_FAILURES_EXHAUST_AN_EVENT: [Step; 48] = [
+const EXHAUSTED_BY_THE_ELEVENTH: Event = Event {
+    attempts: 11,
+    ..EXHAUSTED
+};
+
+static TEN_FAILURES_EXHAUST_AN_EVENT: [Step; 82] = [
     PUT,
     SUBMIT,
     Step::Turn(2),
@@ -137,14 +141,49 @@ static TEN_FAILURES_EXHAUST_AN_EVENT: [Step; 48] = [
     Step::Turn(11),
     Step::Look(273_104, Given::Nothing),
     Step::Claim(273_105, Given::Job(1, 10, 273_105, 1)),
-    Step::Spend(0, Answered(410), 273_105, Spend::Success, Some(11), 20, 0),
-    Step::Enable(b"a", true, Answer::Record(12)),
-    Step::Turn(13),
-    Step::Claim(273_106, Given::Job(1, 11, 273_106, 1)),
-    Step::Exhaust(0, Answered(500), 273_106, 13, 20),
-    Step::Turn(14),
+    Step::Exhaust(0, Answered(500), 273_105, 11, 20),
+    Step::Turn(12),
     Step::EventPage(b"a", b"msg_1", Some(EXHAUSTED)),
     Step::Look(1_000_000, Given::Nothing),
+    // An attempt that was answered 410 is none of the ten failures.
+    Step::Submit(1_000_000, b"a", b"msg_2", b"{}", Answer::Record(12)),
+    Step::Turn(13),
+    Step::Claim(1_000_000, Given::Job(12, 1, 1_000_000, 1)),
+    Step::Spend(0, Answered(410), 1_000_000, Spend::Success, Some(13), 20, 0),
+    Step::Enable(b"a", true, Answer::Record(14)),
+    Step::Turn(15),
+    Step::Claim(1_000_000, Given::Job(12, 2, 1_000_000, 1)),
+    Step::Spend(0, Answered(500), 1_000_000, Spend::Success, Some(15), 20, 0),
+    Step::Turn(16),
+    Step::Claim(1_000_005, Given::Job(12, 3, 1_000_005, 1)),
+    Step::Spend(0, Answered(500), 1_000_005, Spend::Success, Some(16), 20, 0),
+    Step::Turn(17),
+    Step::Claim(1_000_305, Given::Job(12, 4, 1_000_305, 1)),
+    Step::Spend(0, Answered(500), 1_000_305, Spend::Success, Some(17), 20, 0),
+    Step::Turn(18),
+    Step::Claim(1_002_105, Given::Job(12, 5, 1_002_105, 1)),
+    Step::Spend(0, Answered(500), 1_002_105, Spend::Success, Some(18), 20, 0),
+    Step::Turn(19),
+    Step::Claim(1_009_305, Given::Job(12, 6, 1_009_305, 1)),
+    Step::Spend(0, Answered(500), 1_009_305, Spend::Success, Some(19), 20, 0),
+    Step::Turn(20),
+    Step::Claim(1_027_305, Given::Job(12, 7, 1_027_305, 1)),
+    Step::Spend(0, Answered(500), 1_027_305, Spend::Success, Some(20), 20, 0),
+    Step::Turn(21),
+    Step::Claim(1_063_305, Given::Job(12, 8, 1_063_305, 1)),
+    Step::Spend(0, Answered(500), 1_063_305, Spend::Success, Some(21), 20, 0),
+    Step::Turn(22),
+    Step::Claim(1_113_705, Given::Job(12, 9, 1_113_705, 1)),
+    Step::Spend(0, Answered(500), 1_113_705, Spend::Success, Some(22), 20, 0),
+    Step::Turn(23),
+    Step::Claim(1_185_705, Given::Job(12, 10, 1_185_705, 1)),
+    Step::Spend(0, Answered(500), 1_185_705, Spend::Success, Some(23), 20, 0),
+    Step::Turn(24),
+    Step::Claim(1_272_105, Given::Job(12, 11, 1_272_105, 1)),
+    Step::Exhaust(0, Answered(500), 1_272_105, 24, 20),
+    Step::Turn(25),
+    Step::EventPage(b"a", b"msg_2", Some(EXHAUSTED_BY_THE_ELEVENTH)),
+    Step::Look(2_000_000, Given::Nothing),
 ];
 
 #[test]

@@ -15,7 +15,14 @@ struct Parts {
     path: &'static [u8],
 }
 
-static PARTS: [Parts; 6] = [
+static PARTS: [Parts; 7] = [
+    Parts {
+        text: b"http://h/",
+        host: b"h",
+        port: 80,
+        authority: b"h",
+        path: b"/",
+    },
     Parts {
         text: b"HTTP://h",
         host: b"h",
