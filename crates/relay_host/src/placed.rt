@@ -1,4 +1,6 @@
 //! A keeper whose file has to stand where it was opened.
+ghost use Rattle.std.specs.Prelude.{◌≡◌};
+ghost use Rattle.relay_host.specs.Placing.{keeper_of};
 
 use delivery::Keeper;
 use spool::{Batch, CommitEnd, Receipt, Unchanged};
@@ -111,12 +113,16 @@ pub struct Placed<K: Keeper + Drop, P: Place + Drop> {
 
 impl<K: Keeper + Drop, P: Place + Drop> Placed<K, P> {
     /// The keeper of what was opened at the place.
-    pub fn new(keeper: K, place: P) -> Placed<K, P> {
+    pub fn new(keeper: K, place: P) -> Placed<K, P>
+        ensures { keeper_of result ≡ keeper }
+    {
         Placed { keeper, place }
     }
 
     /// The keeper, wherever its place is.
-    pub fn into_keeper(self) -> K {
+    pub fn into_keeper(self) -> K
+        ensures { result ≡ keeper_of self }
+    {
         self.keeper
     }
 }
