@@ -68,9 +68,13 @@ told_text (Ended fault) = fault_text fault
 told_text (File fault) = file_fault_name fault
 told_text (Store fault) = store_fault_name fault
 
+-- the line that tells a fault of this text
+abbrev pub fault_line : List ℕ → List ℕ
+fault_line text = with_feed (codes "relayd: " ++ text)
+
 -- the line that tells it
 abbrev pub told_line : CommandFault → List ℕ
-told_line fault = with_feed (codes "relayd: " ++ told_text fault)
+told_line fault = fault_line (told_text fault)
 
 -- What standard error gets: nothing where the command is done, and else a front of the fault's line (all of it where the
 -- writer takes it).

@@ -1,10 +1,10 @@
 //! How a command ends: its exit status, and what it tells on standard error.
-ghost use Rattle.std.specs.Prelude.{◌≡◌, ◌≤◌, Err, Some, OnOk};
+ghost use Rattle.std.specs.Prelude.{◌≡◌, ◌≤◌, Err, Some, IfSome, OnOk};
 ghost use Rattle.std.specs.Io.KnownBytes.{Appends};
 ghost use Rattle.text_lines.specs.Streams.{AppendsFront};
 ghost use Rattle.text_lines.specs.declared.fault.StreamFault.TheVariants as command;
 ghost use Rattle.relay_commands.specs.declared.ends.CommandFault.TheVariants.{Ended};
-ghost use Rattle.relay_commands.specs.Reports.{argument_fault, open_fault, store_fault, file_fault_name, store_fault_name, exit_status, told_text, told_line, Tells};
+ghost use Rattle.relay_commands.specs.Reports.{argument_fault, open_fault, store_fault, file_fault_name, store_fault_name, exit_status, told_text, fault_line, Tells};
 
 use arrayvec::ArrayString;
 use relay_types::ReadFault;
@@ -184,18 +184,20 @@ pub fn end<E: Write>(errors: &mut E, end: Result<(), CommandFault>) -> u8
     match end {
         Ok(()) => DONE,
         Err(fault) => {
-            let _ = tell(errors, fault);
+            let _ = tell_fault(errors, &fault);
             fault.status()
         }
     }
 }
 
-// Tells the fault. No memory is taken, since there may be none.
-fn tell<E: Write>(errors: &mut E, fault: CommandFault) -> Result<(), StreamFault>
-    ensures told { OnOk result (Appends (E.contents errors.old) (E.contents errors.new) (told_line fault)) }
-    ensures front { AppendsFront (E.contents errors.old) (E.contents errors.new) (told_line fault) }
+/// Tells what is at fault: `relayd: `, its text and a line feed, 64 bytes at most. No memory is taken, since there may be none.
+pub fn tell_fault<F: fmt::Display, E: Write>(errors: &mut E, fault: &F) -> Result<(), StreamFault>
+    ensures told { OnOk result (IfSome (F.output fault.now)
+        (λ text. Appends (E.contents errors.old) (E.contents errors.new) (fault_line text))) }
+    ensures front { IfSome (F.output fault.now)
+        (λ text. AppendsFront (E.contents errors.old) (E.contents errors.new) (fault_line text)) }
 {
-    // A line has at most 44 bytes: `relayd: line 18446744073709551615: bad line`.
+    // The longest fault of a command takes 44: `relayd: line 18446744073709551615: bad line`.
     let mut line = ArrayString::<64>::new();
     match writeln!(line, "relayd: {fault}") {
         Ok(()) => write_bytes(errors, line.as_str().as_bytes()),

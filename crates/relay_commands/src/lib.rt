@@ -11,7 +11,9 @@ mod vegas_command;
 
 pub use crate::check_command::check_file;
 pub use crate::command_line::{Outcome, VERSION, run};
-pub use crate::ends::{CommandFault, DONE, FAILED, FileFault, StoreFault, UNFIT, USAGE, end};
+pub use crate::ends::{
+    CommandFault, DONE, FAILED, FileFault, StoreFault, UNFIT, USAGE, end, tell_fault,
+};
 pub use crate::replay_command::replay;
 pub use crate::serve_words::ServeWords;
 pub use crate::sign_command::sign;
