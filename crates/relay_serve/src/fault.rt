@@ -1,17 +1,16 @@
 //! Why a relay doesn't serve, or ended.
-use arrayvec::ArrayString;
+ghost use Rattle.std.specs.Prelude.{◌≡◌, ◌≤◌, Some};
+ghost use Rattle.relay_commands.specs.Reports.{open_fault};
+ghost use Rattle.relay_serve.specs.Ends.{serving_status, serving_text, TellsEnd};
+ghost use Rattle.relay_serve.specs.declared.fault.ServeFault.TheVariants.{File, OutOfMemory};
+
 use delivery::HaltCause;
 use drill::AuditFault;
-use relay_commands::{CommandFault, DONE, USAGE, end};
+use relay_commands::{CommandFault, DONE, FAILED, USAGE, end, tell_fault};
 use spool::OpenFault;
 use std::alloc::AllocError;
 use std::fmt;
-use std::fmt::Write as _;
 use std::io::Write;
-use text_lines::write_bytes;
-
-/// The exit status of a relay that ended by a fault of its own.
-const FAILED: u8 = 3;
 
 /// Why a relay doesn't serve, or ended.
 #[derive(Clone, Copy)]
@@ -34,6 +33,8 @@ pub enum ServeFault {
 }
 
 impl fmt::Display for ServeFault {
+    ghost output = { λ fault. Some (serving_text fault) };
+
     fn fmt<W: fmt::Write>(&self, f: &mut fmt::Formatter<W>) -> fmt::Result {
         match self {
             ServeFault::BadAddress => f.write_str("BadAddress"),
@@ -49,12 +50,16 @@ impl fmt::Display for ServeFault {
 }
 
 impl From<OpenFault> for ServeFault {
+    ghost from_gives = { λ refusal fault. fault ≡ File (open_fault refusal) };
+
     fn from(fault: OpenFault) -> ServeFault {
         ServeFault::File(CommandFault::from(fault))
     }
 }
 
 impl From<AllocError> for ServeFault {
+    ghost from_gives = { λ _ fault. fault ≡ OutOfMemory };
+
     fn from(_: AllocError) -> ServeFault {
         ServeFault::OutOfMemory
     }
@@ -62,24 +67,20 @@ impl From<AllocError> for ServeFault {
 
 /// Tells the fault of a relay's end, and gives the exit status: 0 where it was asked to end, 1 a bad address, 4 a file that isn't the
 /// relay's, 3 the rest.
-pub fn end_serving<E: Write>(errors: &mut E, ended: Result<(), ServeFault>) -> u8 {
+pub fn end_serving<E: Write>(errors: &mut E, ended: Result<(), ServeFault>) -> u8
+    ensures status { result ≡ serving_status ended }
+    ensures tells { TellsEnd ended (E.contents errors.old) (E.contents errors.new) }
+    ensures most { result ≤ 4 }
+{
     match ended {
         Ok(()) => DONE,
         Err(ServeFault::File(fault)) => end(errors, Err(fault)),
         Err(fault) => {
-            tell_fault(errors, fault);
+            let _ = tell_fault(errors, &fault);
             match fault {
                 ServeFault::BadAddress => USAGE,
                 _ => FAILED,
             }
         }
-    }
-}
-
-// Tells the fault. No memory is taken, since there may be none.
-fn tell_fault<E: Write>(errors: &mut E, fault: ServeFault) {
-    let mut line = ArrayString::<64>::new();
-    if let Ok(()) = writeln!(line, "relayd: {fault}") {
-        let _ = write_bytes(errors, line.as_str().as_bytes());
     }
 }

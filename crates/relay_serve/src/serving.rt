@@ -1,6 +1,12 @@
 //! From the opening of a file to the end of its relay.
-ghost use Rattle.std.specs.Prelude.{◌≡◌};
+ghost use Rattle.std.specs.Prelude.{◌≡◌, IsTrue};
+ghost use Rattle.sqlite.specs.State.{HasCleanDisk};
+ghost use Rattle.spool_sql.specs.Steps.{IfClean};
 ghost use Rattle.permits.specs.declared.pool.TheConstants.{PARTS};
+ghost use Rattle.spool.specs.Adopting.{IsOnlyRead};
+ghost use Rattle.delivery.specs.Keepers.{IsOfKeeper};
+ghost use Rattle.delivery.specs.declared.committer.CommitterEnd.TheVariants.{Finished};
+ghost use Rattle.relay_serve.specs.Serving.{KeepsHistory, committer_end};
 
 use crate::fault::ServeFault;
 use crate::news::{News, tell};
@@ -97,20 +103,23 @@ where
             totals,
         },
     );
-    let keeper = Placed::new(vault, place);
-    serve_opened(rt, listener, bound, desk, keeper, Settings::of(asked))
+    let settings = Settings::of(asked);
+    let (_vault, ended) = serve_opened(rt, listener, bound, desk, vault, place, settings);
+    ended
 }
 
 /// Serves a desk and its vault, which commits only where its place stands, on the listener, until so many requests are answered as the
-/// settings say, or the committer gives up. Where it ends as it was asked to, the rows have to tell what the desk tells.
+/// settings say, or the committer gives up. All threads have ended then, and the vault comes back. Where the relay ended as it was asked to,
+/// the rows have to tell what the desk tells.
 pub fn serve_opened<L, S, P, R>(
     rt: &R,
     listener: &TcpListener,
     bound: SocketAddr,
     desk: Desk<L>,
-    keeper: Placed<Vault<S>, P>,
+    vault: Vault<S>,
+    place: P,
     settings: Settings,
-) -> Result<(), ServeFault>
+) -> (Vault<S>, Result<(), ServeFault>)
 where
     L: Ledger + Send + Sync,
     S: Alter + Drop,
@@ -125,16 +134,44 @@ where
         + Copy
         + Send
         + Sync,
+    ensures rows { KeepsHistory S.Store vault result.0 result.1 }
+    ensures clean { IfClean S.Store vault.conn result.0.conn (λ old _. HasCleanDisk old) }
+    ensures closed { IsOfKeeper (committer_end result.1) → IsTrue result.0.closed }
 {
-    let relay = Relay::new(rt.alloc(), Shared::new(desk))?;
+    let relay = match Relay::new(rt.alloc(), Shared::new(desk)) {
+        Ok(relay) => relay,
+        Err(refused) => return (vault, Err(ServeFault::from(refused))),
+    };
+    let keeper = Placed::new(vault, place);
     let (keeper, end) = run_threads(rt, listener, bound, &relay, keeper, settings);
+    let mut vault = keeper.into_keeper();
+    let ended = told_end(rt, &relay, end, &mut vault);
+    (vault, ended)
+}
+
+// Tells how the committer ended. Where the end was asked for, the rows have to tell what the desk tells.
+fn told_end<L, S, R>(
+    rt: &R,
+    relay: &Relay<L>,
+    end: CommitterEnd,
+    vault: &mut Vault<S>,
+) -> Result<(), ServeFault>
+where
+    L: Ledger,
+    S: Alter,
+    R: Wait + Clock + AllocGlobal + Eprint,
+    ensures end { committer_end result ≡ end }
+    ensures read { IfClean S.Store vault.old.conn vault.new.conn IsOnlyRead }
+    ensures clean { IfClean S.Store vault.old.conn vault.new.conn (λ old _. HasCleanDisk old) }
+    ensures closed { vault.new.closed ≡ vault.old.closed }
+{
     match end {
         CommitterEnd::Halted(cause) => {
             tell(rt, rt.alloc(), &News::Halted(cause));
             Err(ServeFault::Halted(cause))
         }
         CommitterEnd::Finished if relay.lacks_thread() => Err(ServeFault::NoThread),
-        CommitterEnd::Finished => look_back(rt, &relay, &mut keeper.into_keeper()),
+        CommitterEnd::Finished => look_back(rt, relay, vault),
     }
 }
 
@@ -143,7 +180,12 @@ fn look_back<L: Ledger, S: Alter, R: Wait + AllocGlobal>(
     rt: &R,
     relay: &Relay<L>,
     vault: &mut Vault<S>,
-) -> Result<(), ServeFault> {
+) -> Result<(), ServeFault>
+    ensures end { committer_end result ≡ Finished }
+    ensures read { IfClean S.Store vault.old.conn vault.new.conn IsOnlyRead }
+    ensures clean { IfClean S.Store vault.old.conn vault.new.conn (λ old _. HasCleanDisk old) }
+    ensures closed { vault.new.closed ≡ vault.old.closed }
+{
     match audit(rt.alloc(), vault, relay.shared.lock(rt).desk()) {
         Ok(()) => Ok(()),
         Err(fault) => Err(ServeFault::Audit(fault)),

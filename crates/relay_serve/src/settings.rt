@@ -1,4 +1,6 @@
 //! How a relay serves.
+ghost use Rattle.std.specs.Prelude.{◌≡◌};
+
 use relay_commands::ServeWords;
 
 /// How a relay serves.
@@ -16,7 +18,12 @@ pub struct Settings {
 
 impl Settings {
     /// As the words of the command say.
-    pub fn of(asked: &ServeWords<'_>) -> Settings {
+    pub fn of(asked: &ServeWords<'_>) -> Settings
+        ensures workers { result.workers ≡ asked.now.workers }
+        ensures intake { result.intake ≡ asked.now.intake }
+        ensures timeout { result.timeout ≡ asked.now.timeout }
+        ensures requests { result.requests ≡ asked.now.requests }
+    {
         Settings {
             workers: asked.workers,
             intake: asked.intake,

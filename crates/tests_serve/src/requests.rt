@@ -6,7 +6,7 @@ use crate::given::{MARK, SECRET, holds};
 use crate::wires::{exchange, take_post};
 use permits::PARTS;
 use recovery::create;
-use relay_host::{Place, Placed, Sight};
+use relay_host::{Place, Sight};
 use relay_serve::{Settings, serve_opened};
 use sqlite::{Alter, Connection, MemStore};
 use std::alloc::{AllocGlobal, Global};
@@ -253,10 +253,14 @@ where
     let Ok((desk, vault)) = create::<L, S>(alloc, blank, conn, MARK) else {
         return Err(Fail::from("the store wasn't made"));
     };
-    let keeper = Placed::new(vault, InMemory);
     let (served, (told, posted)) = thread::join(
         rt,
-        move || serve_opened(rt, listener, relay, desk, keeper, SETTINGS).is_ok(),
+        move || {
+            let (_vault, ended) = serve_opened(
+                rt, listener, relay, desk, vault, InMemory, SETTINGS,
+            );
+            ended.is_ok()
+        },
         move || {
             thread::join(
                 rt,

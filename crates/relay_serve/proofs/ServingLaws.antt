@@ -1,0 +1,66 @@
+-- What a committer's run, and a look at the rows behind it, leave of the histories that a vault held.
+use Rattle.std.proofs.Common.{sym, subst, List, [], ◌++◌}
+use Rattle.std.proofs.lemmas.List.{append-nil}
+use Rattle.sqlite.specs.Held.{state}
+use Rattle.sqlite.specs.State.{State}
+use Rattle.sqlite.specs.Store.{Ghosts}
+use Rattle.relay_types.specs.declared.record.Record.{Record}
+use Rattle.spool.specs.Adopting.{IsOnlyRead}
+use Rattle.spool.specs.Commits.{HoldsOnDisk}
+use Rattle.spool.specs.Entering.{RestsInDoubt}
+use Rattle.spool.specs.Vaults.{VaultValue}
+use Rattle.delivery.specs.Keepers.{Adds, Stands, records_in}
+use Rattle.delivery.specs.declared.committer.CommitterEnd.{CommitterEnd}
+use Rattle.delivery.specs.declared.committer.CommitterEnd.TheVariants.{Finished, Halted}
+use Rattle.delivery.specs.declared.committer.HaltCause.TheVariants as cause
+use Rattle.relay_serve.specs.Serving.{AddsBatches, LeavesDoubt, LeavesRows}
+
+-- what stands of one thing stands of another that has as much
+module _ {A B : Type 0} (holds : A → List Record → Type 0) (in_doubt : A → List Record → List Record → Type 0)
+    (holds' : B → List Record → Type 0) (in_doubt' : B → List Record → List Record → Type 0) (a : A) (b : B)
+    (held : (records : List Record) → holds a records → holds' b records)
+    (doubted : (records more : List Record) → in_doubt a records more → in_doubt' b records more) where
+  stands_so : (records : List Record) (end : CommitterEnd) → Stands holds in_doubt a records end → Stands holds' in_doubt' b records end
+  stands_so records Finished stands = held records stands
+  stands_so records (Halted (cause.Store error)) (last, doubt) = (last, doubted records _ doubt)
+  stands_so records (Halted cause.Closed) stands = held records stands
+  stands_so records (Halted cause.OutOfTurn) stands = held records stands
+  stands_so records (Halted cause.Illegal) stands = held records stands
+  stands_so records (Halted cause.OutOfMemory) stands = held records stands
+  stands_so records (Halted cause.Halted) stands = held records stands
+  stands_so records (Halted cause.BatchOut) stands = held records stands
+
+-- a doubt stays while the store is only read
+still_doubted : (old new : State) → IsOnlyRead old new → (records more : List Record) → RestsInDoubt old records more → RestsInDoubt new records more
+still_doubted old new read records more doubt = record {
+  leaves = λ db may. doubt.leaves db (read.leaves db may);
+  stands = λ is_open. let before = read.stays is_open in before.1 _ (doubt.stands before.0);
+}
+
+module _ {S : Type 0} (g : Ghosts S) where
+  module _ {K : Type 0} (vault_of : K → VaultValue S) where
+    abbrev holds : K → List Record → Type 0
+    holds k records = HoldsOnDisk g (vault_of k) records
+
+    abbrev in_doubt : K → List Record → List Record → Type 0
+    in_doubt k records more = RestsInDoubt (state g (vault_of k).conn) records more
+
+    -- what a run of commits adds to the vault that a keeper has
+    pub added : (old new : K) (end : CommitterEnd) → Adds holds in_doubt old new end → AddsBatches g (vault_of old) (vault_of new) end
+    added old new end adds records held =
+        let more = adds records held in
+        (more.0, stands_so holds in_doubt (LeavesRows g) (LeavesDoubt g) new (vault_of new) (λ _ held. held.1) (λ _ _ doubt. doubt) (records ++ records_in more.0) end more.1)
+
+  -- a look at the rows takes nothing away
+  pub added_still : (old mid new : VaultValue S) (end : CommitterEnd) → AddsBatches g old mid end → IsOnlyRead (state g mid.conn) (state g new.conn)
+      → AddsBatches g old new end
+  added_still old mid new end adds read records held =
+      let more = adds records held in (
+        more.0,
+        stands_so (LeavesRows g) (LeavesDoubt g) (LeavesRows g) (LeavesDoubt g) mid new (λ _ leaves db may. leaves db (read.leaves db may))
+            (still_doubted (state g mid.conn) (state g new.conn) read) (records ++ records_in more.0) end more.1,
+      )
+
+  -- nothing is added where nobody touched the vault
+  pub nothing_added : (v : VaultValue S) → AddsBatches g v v Finished
+  nothing_added v records held = ([], subst (LeavesRows g v) (sym (append-nil records)) held.1)

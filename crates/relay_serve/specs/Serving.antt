@@ -1,0 +1,47 @@
+-- What stands in the store behind a relay that served.
+use Rattle.std.specs.Prelude.{◌≡◌, List, ◌++◌, Result, Ok, Err}
+use Rattle.sqlite.specs.Held.{state}
+use Rattle.sqlite.specs.Store.{Ghosts}
+use Rattle.relay_types.specs.declared.record.Record.{Record}
+use Rattle.relay_types.specs.Records.{History}
+use Rattle.relay_types.specs.Rows.{rows_of}
+use Rattle.spool_sql.specs.Steps.{IfClean, MayLeave}
+use Rattle.spool.specs.Commits.{HoldsOnDisk}
+use Rattle.spool.specs.Entering.{RestsInDoubt}
+use Rattle.spool.specs.Vaults.{VaultValue}
+use Rattle.delivery.specs.Keepers.{Stands, records_in}
+use Rattle.delivery.specs.declared.committer.CommitterEnd.{CommitterEnd}
+use Rattle.delivery.specs.declared.committer.CommitterEnd.TheVariants as committer
+use Rattle.relay_serve.specs.declared.fault.ServeFault.{ServeFault}
+use Rattle.relay_serve.specs.declared.fault.ServeFault.TheVariants.{BadAddress, File, CannotListen, NoThread, Halted, Audit, Write, OutOfMemory}
+
+-- how the committer ended, as the relay's end tells: it finished, unless it is told to be halted
+abbrev pub committer_end : Result (Unit {0}) ServeFault → CommitterEnd
+committer_end (Ok done) = committer.Finished
+committer_end (Err BadAddress) = committer.Finished
+committer_end (Err (File fault)) = committer.Finished
+committer_end (Err CannotListen) = committer.Finished
+committer_end (Err NoThread) = committer.Finished
+committer_end (Err (Halted cause)) = committer.Halted cause
+committer_end (Err (Audit fault)) = committer.Finished
+committer_end (Err Write) = committer.Finished
+committer_end (Err OutOfMemory) = committer.Finished
+
+module _ {S : Type 0} (g : Ghosts S) where
+  -- a stop leaves the rows of these records
+  abbrev pub LeavesRows : VaultValue S → List Record → Type 0
+  LeavesRows v records = MayLeave (state g v.conn) (λ r. r ≡ rows_of records)
+
+  -- a stop leaves these, or these and the rows of more records
+  abbrev pub LeavesDoubt : VaultValue S → List Record → List Record → Type 0
+  LeavesDoubt v records more = RestsInDoubt (state g v.conn) records more
+
+  -- Of each history that the vault held, a stop leaves the rows, with those of whole batches behind them, in their order; where the store
+  -- was at fault it leaves these, or these and the last batch.
+  abbrev pub AddsBatches : (old new : VaultValue S) → CommitterEnd → Type 0
+  AddsBatches old new end = (records : List Record) → HoldsOnDisk g old records
+      → (batches : List History) × Stands LeavesRows LeavesDoubt new (records ++ records_in batches) end
+
+  -- so it is at this end, if the disk has returned what was written
+  abbrev pub KeepsHistory : (old new : VaultValue S) → Result (Unit {0}) ServeFault → Type 0
+  KeepsHistory old new ended = IfClean g old.conn new.conn (λ _ _. AddsBatches old new (committer_end ended))
