@@ -13,7 +13,7 @@ use permits::PARTS;
 use recovery::create;
 use relay_types::{Name, Record, Step};
 use spool::{Batch, CommitEnd, Vault};
-use sqlite::{Connection, MemStore};
+use sqlite::{Alter, Connection, MemStore};
 use std::alloc::Global;
 use std::marker::Brand;
 use std::process::Abort;
@@ -252,11 +252,11 @@ fn finds_what_differs(rt: HostRuntime) {
 }
 
 /// Whether the vault is closed. Then the audit is refused as the store's.
-fn is_closed<L: Ledger>(
+fn is_closed<L: Ledger, S: Alter>(
     rt: &impl Abort,
     alloc: Global,
     desk: &Desk<L>,
-    vault: &mut Vault<Failing>,
+    vault: &mut Vault<S>,
 ) -> bool {
     let closed = vault.is_closed();
     if closed {
@@ -265,11 +265,11 @@ fn is_closed<L: Ledger>(
     closed
 }
 
-fn closes<L: Ledger>(
+fn closes<L: Ledger, S: Alter + Drop>(
     rt: &impl Abort,
     alloc: Global,
     desk: Desk<L>,
-    vault: Vault<Failing>,
+    vault: Vault<S>,
     events: &[Event],
 ) -> bool
     requires out { HasNothingOut desk }
@@ -293,11 +293,11 @@ fn closes<L: Ledger>(
     }
 }
 
-fn closes_in<L: Ledger>(
+fn closes_in<L: Ledger, S: Alter + Drop>(
     rt: &impl Abort,
     alloc: Global,
     blank: Blank,
-    conn: Connection<Failing>,
+    conn: Connection<S>,
     events: &[Event],
 ) -> bool
     requires name { blank.name ≡ L.name }
@@ -305,7 +305,7 @@ fn closes_in<L: Ledger>(
     requires enough { blank.parts ≡ PARTS }
 {
     assert!(rt; conn.is_autocommit());
-    match create::<L, Failing>(alloc, blank, conn, MARK) {
+    match create::<L, S>(alloc, blank, conn, MARK) {
         Ok((desk, vault)) => closes(rt, alloc, desk, vault, events),
         Err((_, _)) => false,
     }
@@ -313,7 +313,7 @@ fn closes_in<L: Ledger>(
 
 fn closes_after(rt: &impl Abort, alloc: Global, events: &[Event], calls: u64) -> bool {
     match opened(alloc, calls) {
-        Some(conn) => closes_in::<Brand>(rt, alloc, Blank::new(PARTS), conn, events),
+        Some(conn) => closes_in::<Brand, Failing>(rt, alloc, Blank::new(PARTS), conn, events),
         None => false,
     }
 }

@@ -10,7 +10,7 @@ use drill::{Event, Reply};
 use permits::PARTS;
 use relay_types::{Name, Record, Step};
 use spool::{Batch, CommitEnd, Unchanged, Vault};
-use sqlite::{Connection, FileStore, Files, Options};
+use sqlite::{Alter, Connection, FileStore, Files, Options};
 use sqlite_disk::{Fuse, Memory};
 use std::alloc::Global;
 use std::marker::Brand;
@@ -66,7 +66,7 @@ fn later_batch(rt: &impl Abort, alloc: Global) -> Batch {
 }
 
 /// Whether the vault hands back a batch that goes on with its records, as Closed.
-fn is_closed_to(rt: &impl Abort, alloc: Global, vault: &mut Vault<Failing>) -> bool {
+fn is_closed_to<S: Alter>(rt: &impl Abort, alloc: Global, vault: &mut Vault<S>) -> bool {
     match vault.commit(later_batch(rt, alloc)) {
         Ok(receipt) => {
             drop(receipt.into_steps());
@@ -106,7 +106,12 @@ fn told_end(rt: &impl Abort, alloc: Global, replies: &[Reply]) -> End {
 }
 
 /// How the run ended that left this vault. It is closed after a doubt.
-fn check_end(rt: &impl Abort, alloc: Global, vault: &mut Vault<Failing>, replies: &[Reply]) -> End {
+fn check_end<S: Alter>(
+    rt: &impl Abort,
+    alloc: Global,
+    vault: &mut Vault<S>,
+    replies: &[Reply],
+) -> End {
     let end = told_end(rt, alloc, replies);
     if matches!(end, End::InDoubt) {
         assert!(rt; is_closed_to(rt, alloc, vault));
@@ -114,18 +119,18 @@ fn check_end(rt: &impl Abort, alloc: Global, vault: &mut Vault<Failing>, replies
     end
 }
 
-fn end_of<L: Ledger>(
+fn end_of<L: Ledger, S: Alter + Drop>(
     rt: &impl Abort,
     alloc: Global,
     blank: Blank,
-    conn: Connection<Failing>,
+    conn: Connection<S>,
     events: &[Event],
 ) -> End
     requires name { blank.name ≡ L.name }
     requires parts { blank.parts ≡ L.parts }
     requires enough { blank.parts ≡ PARTS }
 {
-    match begun::<L, Failing>(rt, alloc, blank, conn, events) {
+    match begun::<L, S>(rt, alloc, blank, conn, events) {
         Some((_pool, vault, replies)) => {
             let mut vault = vault;
             check_end(rt, alloc, &mut vault, &replies)
@@ -136,7 +141,7 @@ fn end_of<L: Ledger>(
 
 fn end_after(rt: &impl Abort, alloc: Global, events: &[Event], calls: u64) -> End {
     match opened(alloc, calls) {
-        Some(conn) => end_of::<Brand>(rt, alloc, Blank::new(PARTS), conn, events),
+        Some(conn) => end_of::<Brand, Failing>(rt, alloc, Blank::new(PARTS), conn, events),
         None => End::Early,
     }
 }

@@ -1,5 +1,5 @@
 //! A machine that stops at a call of one of the store's two files, each call in turn: what is there when it comes back.
-ghost use Rattle.std.specs.Prelude.{◌≡◌, []};
+ghost use Rattle.std.specs.Prelude.{◌≡◌, [], IfSome};
 
 use crate::calls::{Call, Path, events_of, is_line_at};
 use crate::paths::PUT;
@@ -8,8 +8,7 @@ use crate::stores::MARK;
 use drill::{Event, Reply};
 use permits::{PARTS, Pool};
 use recovery::reopen;
-use spool::Vault;
-use sqlite::{Connection, FileStore, Files, Options};
+use sqlite::{Alter, Connection, FileStore, Files, Options};
 use sqlite_disk::{Crash, Fuse, Memory};
 use std::alloc::Global;
 use std::marker::Brand;
@@ -119,11 +118,11 @@ fn bounds(alloc: Global, replies: &[Reply]) -> (u64, u64) {
 }
 
 /// How many records the opening of a store has.
-fn records_of<L: Ledger>(
+fn records_of<L: Ledger, S: Alter + Drop>(
     rt: &impl Abort,
     alloc: Global,
     pool: Pool<L>,
-    conn: Connection<Failing>,
+    conn: Connection<S>,
 ) -> u64
     requires { pool ≡ [] }
 {
@@ -139,8 +138,35 @@ fn records_of<L: Ledger>(
     }
 }
 
-/// Whether the machine stopped before the end of the run. Behind it stand the records of whole batches: all that were settled, and
-/// none that wasn't sealed.
+/// What a run leaves: a pool, its store, and how many records it was told to be settled, and to be sealed.
+fn left<L: Ledger, S: Alter + Drop>(
+    rt: &impl Abort,
+    alloc: Global,
+    blank: Blank,
+    conn: Connection<S>,
+    events: &[Event],
+) -> Option<(Pool<L>, Connection<S>, (u64, u64))>
+    requires name { blank.name ≡ L.name }
+    requires parts { blank.parts ≡ L.parts }
+    requires enough { blank.parts ≡ PARTS }
+    ensures empty { IfSome result (λ left. left.0 ≡ []) }
+{
+    match begun::<L, S>(rt, alloc, blank, conn, events) {
+        Some((pool, vault, replies)) => Some((pool, vault.release(), bounds(alloc, &replies))),
+        None => None,
+    }
+}
+
+/// Behind a run stand the records of whole batches: all that were settled, and none that wasn't sealed.
+fn check_records(rt: &impl Abort, records: u64, (settled, sealed): (u64, u64)) {
+    assert!(rt; matches!(records, 0 | 1 | 4 | 5), "{records} records");
+    assert!(rt;
+        settled <= records && records <= sealed,
+        "{settled} {records} {sealed}"
+    );
+}
+
+/// Whether the machine stopped before the end of the run.
 fn stops<L: Ledger>(
     rt: &impl Abort,
     alloc: Global,
@@ -152,18 +178,14 @@ fn stops<L: Ledger>(
     requires parts { blank.parts ≡ L.parts }
     requires enough { blank.parts ≡ PARTS }
 {
-    let Some((pool, vault, replies)) = begun::<L, Failing>(rt, alloc, blank, conn, events) else {
-        return true;
-    };
-    let (settled, sealed) = bounds(alloc, &replies);
-    let conn = come_back(rt, alloc, vault.release());
-    let records = records_of(rt, alloc, pool, conn);
-    assert!(rt; matches!(records, 0 | 1 | 4 | 5), "{records} records");
-    assert!(rt;
-        settled <= records && records <= sealed,
-        "{settled} {records} {sealed}"
-    );
-    settled < 5
+    match left::<L, Failing>(rt, alloc, blank, conn, events) {
+        Some((pool, conn, told)) => {
+            let records = records_of(rt, alloc, pool, come_back(rt, alloc, conn));
+            check_records(rt, records, told);
+            told.0 < 5
+        }
+        None => true,
+    }
 }
 
 fn stops_at(
