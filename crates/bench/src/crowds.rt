@@ -1,7 +1,7 @@
 //! Submitters, workers and the committer of a run, which is on the thread that starts them.
 use crate::events::{body_of, id_of, name_of, put_of};
 use crate::failed::Failed;
-use crate::sharing::{Answering, Counting, Shown, Standing};
+use crate::sharing::{Answering, Counting, Sharing, Shown, Standing};
 use crate::turns::{BATCH, written};
 use delivery::{CommitterEnd, Pass, Round, Shared, committer_run, worker_round};
 use desk::Desk;
@@ -31,13 +31,13 @@ struct Run<L: Ledger> {
 }
 
 impl<L: Ledger> Run<L> {
-    fn new(desk: Desk<L>, events: u32) -> Result<Run<L>, Failed> {
-        Ok(Run {
+    fn new(desk: Desk<L>, now: Moment, events: u32) -> Run<L> {
+        Run {
             shared: Shared::new(desk),
-            now: Moment::of(1000)?,
+            now,
             left: AtomicU64::new(u64::from(events)),
             failed: AtomicU64::new(0),
-        })
+        }
     }
 
     // One event less is left. Where none is, the end is asked for.
@@ -164,54 +164,6 @@ fn with_workers<L: Ledger + Send + Sync, S: Alter + Drop, R: Threads + Wait + Cl
     })
 }
 
-// What a run shows that ended well.
-fn shown<L: Ledger, R: Clock>(
-    rt: &R,
-    began: Instant,
-    run: Run<L>,
-    commits: Option<u64>,
-) -> Result<Shown, Failed> {
-    let Ok(taken) = began.elapsed(rt) else {
-        return Err(Failed);
-    };
-    let failed = run.failed.load(Ordering::SeqCst);
-    let Run { shared, .. } = run;
-    match commits {
-        Some(commits) if failed == 0 => Ok(Shown {
-            micros: taken.as_micros(),
-            commits,
-            records: shared.into_desk().settled_records(),
-        }),
-        _ => Err(Failed),
-    }
-}
-
-fn began<R: Clock>(rt: &R) -> Result<Instant, Failed> {
-    match Instant::now(rt) {
-        Ok(now) => Ok(now),
-        Err(_) => Err(Failed),
-    }
-}
-
-/// Submitters of events over 100 endpoints, with a body of 1,024 bytes each, which nobody posts.
-pub(crate) fn run_submitters<
-    L: Ledger + Send + Sync,
-    S: Alter + Drop,
-    R: Threads + Wait + Clock + Sync,
->(
-    rt: &R,
-    alloc: Global,
-    mut desk: Desk<L>,
-    vault: Vault<S>,
-    (threads, events): (u32, u32),
-) -> Result<Shown, Failed> {
-    put_each(alloc, &mut desk)?;
-    let run = Run::new(desk, events)?;
-    let began = began(rt)?;
-    let commits = with_submitters(rt, alloc, &run, vault, (threads, events));
-    shown(rt, began, run, commits)
-}
-
 // Takes the events with these numbers, and settles what waits.
 fn take_in<L: Ledger, S: Alter>(
     alloc: Global,
@@ -263,8 +215,74 @@ fn fill<L: Ledger, S: Alter>(
     Ok(())
 }
 
-/// Workers that post pending events over 100 endpoints, each answered at once.
-pub(crate) fn run_workers<
+// Puts the endpoints, and the events that are to be posted, and gives how many events the threads are to see, and the moment.
+fn prepare<L: Ledger, S: Alter>(
+    alloc: Global,
+    desk: &mut Desk<L>,
+    vault: &mut Vault<S>,
+    sharing: Sharing,
+) -> Result<(u32, Moment), Failed> {
+    let now = Moment::of(1000)?;
+    match sharing {
+        Sharing::Submitters(_, events) => {
+            put_each(alloc, desk)?;
+            Ok((events, now))
+        }
+        Sharing::Workers(_, events) => {
+            fill(alloc, desk, vault, events)?;
+            Ok((events, now))
+        }
+        Sharing::Idle(_, _) => {
+            put_each(alloc, desk)?;
+            Ok((0, now))
+        }
+    }
+}
+
+fn with_threads<L: Ledger + Send + Sync, S: Alter + Drop, R: Threads + Wait + Clock + Sync>(
+    rt: &R,
+    alloc: Global,
+    run: &Run<L>,
+    vault: Vault<S>,
+    sharing: Sharing,
+) -> Option<u64> {
+    match sharing {
+        Sharing::Submitters(threads, events) => {
+            with_submitters(rt, alloc, run, vault, (threads, events))
+        }
+        Sharing::Workers(threads, _) => with_workers(rt, alloc, run, vault, (threads, 0)),
+        Sharing::Idle(threads, seconds) => {
+            with_workers(rt, alloc, run, vault, (threads, seconds.max(1)))
+        }
+    }
+}
+
+// What a run shows that began then and ended well.
+fn shown<L: Ledger, R: Clock>(
+    rt: &R,
+    began: Option<Instant>,
+    run: Run<L>,
+    commits: Option<u64>,
+) -> Result<Shown, Failed> {
+    let failed = run.failed.load(Ordering::SeqCst);
+    let Run { shared, .. } = run;
+    let records = shared.into_desk().settled_records();
+    match (began, commits) {
+        (Some(began), Some(commits)) if failed == 0 => match began.elapsed(rt) {
+            Ok(taken) => Ok(Shown {
+                micros: taken.as_micros(),
+                commits,
+                records,
+            }),
+            Err(_) => Err(Failed),
+        },
+        _ => Err(Failed),
+    }
+}
+
+/// Runs the threads over 100 endpoints: submitters of events with a body of 1,024 bytes each, which nobody posts; workers that post pending
+/// events, each answered at once; or workers that have nothing to post.
+pub(crate) fn run_threads<
     L: Ledger + Send + Sync,
     S: Alter + Drop,
     R: Threads + Wait + Clock + Sync,
@@ -273,26 +291,11 @@ pub(crate) fn run_workers<
     alloc: Global,
     mut desk: Desk<L>,
     mut vault: Vault<S>,
-    (threads, events): (u32, u32),
+    sharing: Sharing,
 ) -> Result<Shown, Failed> {
-    fill(alloc, &mut desk, &mut vault, events)?;
-    let run = Run::new(desk, events)?;
-    let began = began(rt)?;
-    let commits = with_workers(rt, alloc, &run, vault, (threads, 0));
-    shown(rt, began, run, commits)
-}
-
-/// Workers that have nothing to post.
-pub(crate) fn run_idle<L: Ledger + Send + Sync, S: Alter + Drop, R: Threads + Wait + Clock + Sync>(
-    rt: &R,
-    alloc: Global,
-    mut desk: Desk<L>,
-    vault: Vault<S>,
-    (threads, seconds): (u32, u32),
-) -> Result<Shown, Failed> {
-    put_each(alloc, &mut desk)?;
-    let run = Run::new(desk, 0)?;
-    let began = began(rt)?;
-    let commits = with_workers(rt, alloc, &run, vault, (threads, seconds.max(1)));
+    let (events, now) = prepare(alloc, &mut desk, &mut vault, sharing)?;
+    let run = Run::new(desk, now, events);
+    let began = Instant::now(rt).ok();
+    let commits = with_threads(rt, alloc, &run, vault, sharing);
     shown(rt, began, run, commits)
 }

@@ -16,7 +16,7 @@ use permits::PARTS;
 use relay_types::{MaxLimit, Moment, MsgId, Name, Secret, Secrets, Target};
 use retry_table::PostResult;
 use spool::Vault;
-use sqlite::{Connection, MemStore};
+use sqlite::{Alter, Connection, MemStore};
 use status::{endpoint_text, event_text, totals_text};
 use std::alloc::Global;
 use std::io;
@@ -273,10 +273,10 @@ impl<L: Ledger> Attempt for Building<'_, L> {
 }
 
 // An endpoint and an event, which are committed and settled.
-fn fill<L: Ledger>(
+fn fill<L: Ledger, S: Alter>(
     alloc: Global,
     desk: &mut OpenDesk<L>,
-    vault: &mut Vault<MemStore>,
+    vault: &mut Vault<S>,
 ) -> Result<(), Failed> {
     let given = given_names()?;
     desk.command(put(alloc, given)?)?;
@@ -339,44 +339,20 @@ fn over_desk<L: Ledger, R: Wait>(
     }
 }
 
-// Makes the request of the attempt that the desk gives.
-fn build_over<L: Ledger>(
-    rt: &HostRuntime,
-    mut desk: OpenDesk<L>,
-    vault: &mut Vault<MemStore>,
-    given: Given,
-) -> io::Result<bool> {
-    if fill(rt.alloc(), &mut desk, vault).is_err() {
-        return Ok(false);
-    }
-    build(rt, &mut desk, given)
-}
-
-fn make_over<L: Ledger, R: Wait>(
-    rt: &HostRuntime,
-    wait: &R,
-    call: DeskCall,
-    mut desk: OpenDesk<L>,
-    vault: &mut Vault<MemStore>,
-    given: Given,
-) -> io::Result<bool> {
-    if fill(rt.alloc(), &mut desk, vault).is_err() {
-        return Ok(false);
-    }
-    over_desk(rt, wait, call, desk.into_desk(), vault, given)
-}
-
 fn with_desk<L: Ledger, R: Wait>(
     rt: &HostRuntime,
     wait: &R,
     call: DeskCall,
-    desk: OpenDesk<L>,
+    mut desk: OpenDesk<L>,
     vault: &mut Vault<MemStore>,
     given: Given,
 ) -> io::Result<bool> {
+    if fill(rt.alloc(), &mut desk, vault).is_err() {
+        return Ok(false);
+    }
     match call {
-        DeskCall::Build => build_over(rt, desk, vault, given),
-        _ => make_over(rt, wait, call, desk, vault, given),
+        DeskCall::Build => build(rt, &mut desk, given),
+        _ => over_desk(rt, wait, call, desk.into_desk(), vault, given),
     }
 }
 

@@ -2,12 +2,13 @@
 ghost use Rattle.std.specs.Prelude.{◌≡◌, false, IfErr};
 ghost use Rattle.permits.specs.declared.pool.TheConstants.{PARTS};
 
-use crate::growing::{Attempt, Told, told_of, try_twice};
+use crate::growing::{Attempt, Told, try_twice};
+use crate::opening::opened_file;
 use crate::turns::{MARK, created};
 use permits::{PARTS, Pool};
-use recovery::{create, open, open_path, reopen};
+use recovery::{create, open, reopen};
 use spool::{OpenFault, Vault};
-use sqlite::{Connection, MemStore, Start, Unknown};
+use sqlite::{Alter, Connection, MemStore, Unknown};
 use std::alloc::Global;
 use std::io;
 use std::marker::Brand;
@@ -73,54 +74,54 @@ impl Attempt for Opening {
     }
 }
 
-type Back = (Connection<MemStore>, OpenFault);
+type Back<S> = (Connection<S>, OpenFault);
 
 // How many records the store has that is opened so.
-fn opened(alloc: Global, call: StoreCall, conn: Connection<MemStore>) -> Result<u64, Back>
+fn opened(alloc: Global, call: StoreCall, conn: Connection<MemStore>) -> Result<u64, Back<MemStore>>
     requires { conn.in_transaction ≡ false }
 {
     match call {
         StoreCall::Adopt | StoreCall::Load => Ok(Vault::adopt(conn, MARK, alloc)?.next()),
         StoreCall::Create => Ok(Vault::create(conn, MARK)?.next()),
-        StoreCall::CreateDesk => created_desk::<Brand>(alloc, Blank::new(PARTS), conn),
-        StoreCall::Open => opened_desk::<Brand>(alloc, Blank::new(PARTS), conn),
-        StoreCall::Reopen => reopened_desk::<Brand>(alloc, Blank::new(PARTS), conn),
+        StoreCall::CreateDesk => created_desk::<Brand, MemStore>(alloc, Blank::new(PARTS), conn),
+        StoreCall::Open => opened_desk::<Brand, MemStore>(alloc, Blank::new(PARTS), conn),
+        StoreCall::Reopen => reopened_desk::<Brand, MemStore>(alloc, Blank::new(PARTS), conn),
     }
 }
 
-fn created_desk<L: Ledger>(
+fn created_desk<L: Ledger, S: Alter + Drop>(
     alloc: Global,
     blank: Blank,
-    conn: Connection<MemStore>,
-) -> Result<u64, Back>
+    conn: Connection<S>,
+) -> Result<u64, Back<S>>
     requires name { blank.name ≡ L.name }
     requires parts { blank.parts ≡ L.parts }
     requires enough { blank.parts ≡ PARTS }
     requires mode { conn.in_transaction ≡ false }
 {
-    let (desk, _vault) = create::<L, MemStore>(alloc, blank, conn, MARK)?;
+    let (desk, _vault) = create::<L, S>(alloc, blank, conn, MARK)?;
     Ok(desk.records())
 }
 
-fn opened_desk<L: Ledger>(
+fn opened_desk<L: Ledger, S: Alter + Drop>(
     alloc: Global,
     blank: Blank,
-    conn: Connection<MemStore>,
-) -> Result<u64, Back>
+    conn: Connection<S>,
+) -> Result<u64, Back<S>>
     requires name { blank.name ≡ L.name }
     requires parts { blank.parts ≡ L.parts }
     requires enough { blank.parts ≡ PARTS }
     requires mode { conn.in_transaction ≡ false }
 {
-    let (desk, _vault) = open::<L, MemStore>(alloc, blank, conn, false, MARK)?;
+    let (desk, _vault) = open::<L, S>(alloc, blank, conn, false, MARK)?;
     Ok(desk.records())
 }
 
-fn reopened_desk<L: Ledger>(
+fn reopened_desk<L: Ledger, S: Alter + Drop>(
     alloc: Global,
     blank: Blank,
-    conn: Connection<MemStore>,
-) -> Result<u64, Back>
+    conn: Connection<S>,
+) -> Result<u64, Back<S>>
     requires name { blank.name ≡ L.name }
     requires parts { blank.parts ≡ L.parts }
     requires enough { blank.parts ≡ PARTS }
@@ -129,7 +130,7 @@ fn reopened_desk<L: Ledger>(
     let Ok(pool) = Pool::<L>::new(alloc, blank) else {
         return Err((conn, OpenFault::OutOfMemory));
     };
-    let (desk, _vault) = reopen::<L, MemStore>(alloc, pool, conn, MARK)?;
+    let (desk, _vault) = reopen::<L, S>(alloc, pool, conn, MARK)?;
     Ok(desk.records())
 }
 
@@ -198,12 +199,10 @@ struct Path {
 impl Attempt for Path {
     fn attempt(&mut self, rt: &HostRuntime) -> Told {
         match self.path.clone() {
-            Ok(path) => told_of(opened_file::<Brand, Unknown>(
-                rt,
-                Blank::new(PARTS),
-                path,
-                Unknown,
-            )),
+            Ok(path) => match opened_file::<Brand, Unknown>(rt, Blank::new(PARTS), path, Unknown) {
+                Ok(totals) => Told::Done(totals.records),
+                Err(fault) => fault.into(),
+            },
             Err(_) => Told::NoMemory,
         }
     }
@@ -211,21 +210,6 @@ impl Attempt for Path {
     fn state(&self, _: &HostRuntime) -> u64 {
         0
     }
-}
-
-// A ledger can't be picked at a call that hands a `&str` on.
-fn opened_file<L: Ledger, T: Start>(
-    rt: &HostRuntime,
-    blank: Blank,
-    path: String,
-    start: T,
-) -> Result<u64, Told>
-    requires name { blank.name ≡ L.name }
-    requires parts { blank.parts ≡ L.parts }
-    requires enough { blank.parts ≡ PARTS }
-{
-    let (desk, _vault) = open_path::<L, T>(rt, blank, &path, start, MARK)?;
-    Ok(desk.records())
 }
 
 /// Opens the file at this path, and again.

@@ -16,7 +16,7 @@ use std::sync::ledger::{Blank, Ledger};
 /// Opens the file at the path, and prints what it holds, or why it isn't opened. Whether it was.
 pub(crate) fn print_opening(rt: &HostRuntime, path: &str) -> io::Result<bool> {
     let path = path.to_string(rt.alloc())?;
-    match opened::<Brand, Unknown>(rt, Blank::new(PARTS), path, Unknown) {
+    match opened_file::<Brand, Unknown>(rt, Blank::new(PARTS), path, Unknown) {
         Ok(totals) => {
             print_totals(rt, &totals)?;
             Ok(true)
@@ -28,8 +28,8 @@ pub(crate) fn print_opening(rt: &HostRuntime, path: &str) -> io::Result<bool> {
     }
 }
 
-// A ledger can't be picked at a call that hands a `&str` on.
-fn opened<L: Ledger, T: Start>(
+/// What the file at the path holds. A ledger can't be picked at a call that hands a `&str` on, so the path is taken whole.
+pub(crate) fn opened_file<L: Ledger, T: Start>(
     rt: &HostRuntime,
     blank: Blank,
     path: String,

@@ -2,7 +2,7 @@
 ghost use Rattle.std.specs.Prelude.{◌≡◌, ⊤};
 ghost use Rattle.permits.specs.declared.pool.TheConstants.{PARTS};
 
-use crate::crowds::{run_idle, run_submitters, run_workers};
+use crate::crowds::run_threads;
 use crate::failed::Failed;
 use crate::turns::{MARK, created};
 use delivery::{Keeper, Outgoing, Poster};
@@ -137,11 +137,5 @@ fn share<L: Ledger + Send + Sync, S: Alter + Drop, R: Threads + Wait + Clock + S
     requires enough { blank.parts ≡ PARTS }
 {
     let desk = Desk::<L>::new(alloc, blank, MARK)?;
-    match run {
-        Sharing::Submitters(threads, events) => {
-            run_submitters(rt, alloc, desk, vault, (threads, events))
-        }
-        Sharing::Workers(threads, events) => run_workers(rt, alloc, desk, vault, (threads, events)),
-        Sharing::Idle(threads, seconds) => run_idle(rt, alloc, desk, vault, (threads, seconds)),
-    }
+    run_threads(rt, alloc, desk, vault, run)
 }
