@@ -1,5 +1,6 @@
 -- The SELECT statements of one event.
-use Rattle.std.proofs.Common.{◌≡◌, ◌==◌, ℕ, pos, List, [], ◌∷◌, map, codes, Option, slice_get, option_map, refl, sym, subst, ◌∙◌}
+use Rattle.std.proofs.Common.{◌≡◌, ◌==◌, ◌^◌, ℕ, pos, List, [], ◌∷◌, map, filter, codes, Option, slice_get, option_map, refl, sym, subst, ◌∙◌}
+use Rattle.std.specs.List.{AllByRecursion}
 use Rattle.std.specs.List.Sorted.{IsPermutation}
 use Rattle.std.proofs.lemmas.List.Sorted.{IsPermutation-map}
 use Rattle.sqlite.specs.Collation.TheVariants.{Binary}
@@ -15,9 +16,11 @@ use Rattle.sqlite_tied.specs.Compute.{everything}
 use Rattle.relay_types.specs.Rows.{Rows, DeliveryRow, AttemptRow}
 use Rattle.spool_sql.specs.Tables.{relay_schema}
 use Rattle.spool_sql.specs.Stored.{IsTablesOf, IsEndpointOf, AreStatusesOf, number_of, delivery_stored, attempt_stored}
+use Rattle.relay_types.specs.declared.limits.TheConstants.{MAX_RECORDS}
+use Rattle.spool_sql.specs.Readable.{IsReadableDelivery, IsReadableAttempt, ShowsBelow}
 use Rattle.spool_sql.proofs.BareLemmas.{IsBare}
-use Rattle.spool_sql.proofs.SelectLemmas.{Asks, finds, found_in, map_map, equal_numbers, and_true, first_number}
-use Rattle.spool_sql.proofs.UpdateLemmas.{scan}
+use Rattle.spool_sql.proofs.SelectLemmas.{Asks, finds, finds_all, found_in, map_map, equal_numbers, and_true, first_number}
+use Rattle.spool_sql.proofs.UpdateLemmas.{scan, shows}
 
 abbrev pub endpoint_select : List ℕ
 endpoint_select = codes "SELECT endpoint FROM deliveries WHERE seq = ?1"
@@ -52,16 +55,36 @@ numbers_of : {X : Type 0} (n : X → ℕ) (xs : List X) (found : List Row) → I
 numbers_of n xs found same = subst (λ l. IsPermutation l (map number_of found)) (map_map (λ x. Int (pos (n x)) ∷ []) number_of xs) (IsPermutation-map number_of _ _ same)
 
 module _ (schema : Schema) (version : ℕ) (old new : State) (found : List Row) (rows : Rows) (t : IsTablesOf schema version old.now rows) (delivery : ℕ) where
-  pub tells_endpoint : Asks schema endpoint_select (scan 5 by_seq (col 1 2 ∷ [])) (codes "endpoint" ∷ []) → Shown endpoint_select (Int (pos delivery) ∷ []) old new found
+  abbrev params : Row
+  params = Int (pos delivery) ∷ []
+
+  endpoint_found : Asks schema endpoint_select (scan 5 by_seq (col 1 2 ∷ [])) (codes "endpoint" ∷ []) → Shown endpoint_select params old new found
+      → IsPermutation (map (λ (d : DeliveryRow). shows params (col 1 2 ∷ []) (delivery_stored d)) (filter (λ (d : DeliveryRow). d.seq == delivery) rows.deliveries)) found
+  endpoint_found asks h =
+      finds delivery_stored params by_seq (col 1 2 ∷ []) (λ (d : DeliveryRow). d.seq == delivery) (λ d. and_true _ ∙ equal_numbers d.seq delivery) (old.now.trees 5) rows.deliveries found t.tables.deliveries
+      (found_in schema endpoint_select 5 by_seq (col 1 2 ∷ []) _ asks params old new found t.schema_is h)
+
+  statuses_found : Asks schema statuses_select (scan 7 by_delivery (col 1 4 ∷ [])) (codes "status" ∷ []) → Shown statuses_select params old new found
+      → IsPermutation (map (λ (a : AttemptRow). shows params (col 1 4 ∷ []) (attempt_stored a)) (filter (λ (a : AttemptRow). a.delivery == delivery) rows.attempts)) found
+  statuses_found asks h =
+      finds attempt_stored params by_delivery (col 1 4 ∷ []) (λ (a : AttemptRow). a.delivery == delivery) (λ a. and_true _ ∙ equal_numbers a.delivery delivery) (old.now.trees 7) rows.attempts found t.tables.attempts
+      (found_in schema statuses_select 7 by_delivery (col 1 4 ∷ []) _ asks params old new found t.schema_is h)
+
+  pub tells_endpoint : Asks schema endpoint_select (scan 5 by_seq (col 1 2 ∷ [])) (codes "endpoint" ∷ []) → Shown endpoint_select params old new found
       → (put : Option ℕ) → put ≡ option_map number_of (slice_get found 0) → IsEndpointOf delivery rows put
   tells_endpoint asks h put is =
-      let same = finds delivery_stored (Int (pos delivery) ∷ []) by_seq (col 1 2 ∷ []) (λ (d : DeliveryRow). d.seq == delivery) (λ d. and_true _ ∙ equal_numbers d.seq delivery) (old.now.trees 5) rows.deliveries found t.tables.deliveries
-      (found_in schema endpoint_select 5 by_seq (col 1 2 ∷ []) _ asks (Int (pos delivery) ∷ []) old new found t.schema_is h) in
-      (map number_of found, numbers_of (λ (d : DeliveryRow). d.endpoint) _ found same, is ∙ sym (first_number found))
+      (map number_of found, numbers_of (λ (d : DeliveryRow). d.endpoint) _ found (endpoint_found asks h), is ∙ sym (first_number found))
 
-  pub tells_statuses : Asks schema statuses_select (scan 7 by_delivery (col 1 4 ∷ [])) (codes "status" ∷ []) → Shown statuses_select (Int (pos delivery) ∷ []) old new found
+  pub shows_endpoint : Asks schema endpoint_select (scan 5 by_seq (col 1 2 ∷ [])) (codes "endpoint" ∷ []) → Shown endpoint_select params old new found → AllByRecursion IsReadableDelivery rows.deliveries
+      → AllByRecursion (ShowsBelow MAX_RECORDS) found
+  shows_endpoint asks h good =
+      finds_all delivery_stored params (col 1 2 ∷ []) (λ (d : DeliveryRow). d.seq == delivery) IsReadableDelivery (ShowsBelow MAX_RECORDS) (λ d is. (d.endpoint, refl, is.endpoint)) rows.deliveries found (endpoint_found asks h) good
+
+  pub tells_statuses : Asks schema statuses_select (scan 7 by_delivery (col 1 4 ∷ [])) (codes "status" ∷ []) → Shown statuses_select params old new found
       → AreStatusesOf delivery rows (map number_of found)
-  tells_statuses asks h =
-      let same = finds attempt_stored (Int (pos delivery) ∷ []) by_delivery (col 1 4 ∷ []) (λ (a : AttemptRow). a.delivery == delivery) (λ a. and_true _ ∙ equal_numbers a.delivery delivery) (old.now.trees 7) rows.attempts found t.tables.attempts
-      (found_in schema statuses_select 7 by_delivery (col 1 4 ∷ []) _ asks (Int (pos delivery) ∷ []) old new found t.schema_is h) in
-      numbers_of (λ (a : AttemptRow). a.status) _ found same
+  tells_statuses asks h = numbers_of (λ (a : AttemptRow). a.status) _ found (statuses_found asks h)
+
+  pub shows_statuses : Asks schema statuses_select (scan 7 by_delivery (col 1 4 ∷ [])) (codes "status" ∷ []) → Shown statuses_select params old new found → AllByRecursion IsReadableAttempt rows.attempts
+      → AllByRecursion (ShowsBelow (2 ^ 16)) found
+  shows_statuses asks h good =
+      finds_all attempt_stored params (col 1 4 ∷ []) (λ (a : AttemptRow). a.delivery == delivery) IsReadableAttempt (ShowsBelow (2 ^ 16)) (λ a is. (a.status, refl, is.status)) rows.attempts found (statuses_found asks h) good

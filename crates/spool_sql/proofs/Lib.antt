@@ -13,6 +13,9 @@ pub mod ChangeLemmas
 pub mod Changes
 pub mod DeliverySelects
 pub mod PageLemmas
+pub mod ReadableLemmas
 pub mod Pages
+pub mod RefusalLemmas
 pub mod SecretSelects
 pub mod MetaSelects
+pub mod Refusals

@@ -32,10 +32,13 @@ records_select_bare schema base = refl
 same_some : {m n : ℕ} → Some m ≡ Some n → m ≡ n
 same_some e = cc
 
+-- the answer is the number of records
+pub record_shown : (old new : State) (found : List Row) (rows : Rows) → IsTablesOf relay_schema 1 old.now rows → Shown records_select [] old new found → found ≡ (Int (pos rows.records) ∷ []) ∷ []
+record_shown old new found rows t h =
+    one_permutation _ found (subst (λ tree. IsPermutation (map (shows [] counted) (filter (passes [] []) tree)) found) t.tables.meta
+    (found_in relay_schema records_select 0 [] counted _ records_select_asks [] old new found t.schema_is h))
+
 pub tells_records : (old new : State) (found : List Row) (rows : Rows) → IsTablesOf relay_schema 1 old.now rows → Shown records_select [] old new found
     → (count : ℕ) → option_map number_of (slice_get found 0) ≡ Some count → count ≡ rows.records
 tells_records old new found rows t h count is =
-    let shown = subst (λ tree. IsPermutation (map (shows [] counted) (filter (passes [] []) tree)) found) t.tables.meta
-    (found_in relay_schema records_select 0 [] counted _ records_select_asks [] old new found t.schema_is h) in
-    let one : found ≡ (Int (pos rows.records) ∷ []) ∷ [] = one_permutation _ found shown in
-    same_some (sym is ∙ ap (λ l. option_map number_of (slice_get l 0)) one)
+    same_some (sym is ∙ ap (λ l. option_map number_of (slice_get l 0)) (record_shown old new found rows t h))

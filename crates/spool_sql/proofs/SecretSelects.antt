@@ -3,7 +3,8 @@ use Rattle.std.proofs.Common.{◌≡◌, ◌==◌, ℕ, pos, negsuc, List, [], �
 use Rattle.std.specs.List.Sorted.{IsPermutation, IsNonDecreasingBy}
 use Rattle.std.proofs.lemmas.List.{length-map, get_or-map}
 use Rattle.std.proofs.lemmas.List.Sorted.{IsPermutation-map}
-use Rattle.sqlite_trees.proofs.ListLemmas.{pull_back}
+use Rattle.std.specs.List.{AllByRecursion}
+use Rattle.sqlite_trees.proofs.ListLemmas.{pull_back, all_weaker, all_from_map, all-filter, all-map, all-permutation}
 use Rattle.sqlite.specs.Collation.TheVariants.{Binary}
 use Rattle.sqlite_sql.specs.declared.ops.BinaryOp.TheVariants.{Compare}
 use Rattle.sqlite_sql.specs.declared.ops.CompareOp.TheVariants.{Eq}
@@ -19,6 +20,7 @@ use Rattle.sqlite_tied.specs.Compute.{everything}
 use Rattle.relay_types.specs.Rows.{Rows, SecretRow}
 use Rattle.spool_sql.specs.Tables.{relay_schema}
 use Rattle.spool_sql.specs.Stored.{IsTablesOf, AreSecretsOf, secret_stored}
+use Rattle.spool_sql.specs.Readable.{AreReadable, IsReadableSecret, ShowsSecret}
 use Rattle.spool_sql.proofs.BareLemmas.{IsBare}
 use Rattle.spool_sql.proofs.SelectLemmas.{Asks, map_map, equal_numbers, and_true}
 use Rattle.spool_sql.proofs.UpdateLemmas.{shows}
@@ -72,9 +74,14 @@ rises_through f n (x ∷ xs) up i j d low high =
     let here = up i j x low (omega (arith, long, high)) in
     subst₂ (λ a b. n a ≤ n b) (sym (get_or-map f (x ∷ xs) i x d (omega (arith, long, low, high)))) (sym (get_or-map f (x ∷ xs) j x d (omega (arith, long, high)))) here
 
-pub tells_secrets : (old new : State) (found : List Row) (rows : Rows) → IsTablesOf relay_schema 1 old.now rows → (endpoint : ℕ) → Shown secrets_select (Int (pos endpoint) ∷ []) old new found
-    → AreSecretsOf endpoint rows (map (λ (row : Row). bytes (column row 0)) found)
-tells_secrets old new found rows t endpoint h =
+abbrev secret_shown : ℕ → Hidden → Row
+secret_shown endpoint x = shows (Int (pos endpoint) ∷ []) (col 1 3 ∷ []) (hidden_row x)
+
+-- the secrets of an endpoint that the answer shows, in their order
+secrets_found : (old new : State) (found : List Row) (rows : Rows) → IsTablesOf relay_schema 1 old.now rows → (endpoint : ℕ) → Shown secrets_select (Int (pos endpoint) ∷ []) old new found
+    → (seen : List Hidden) × (map (λ (x : Hidden). x.1) seen ≡ rows.secrets) × (all : List Hidden) × IsPermutation (filter (λ (x : Hidden). x.1.endpoint == endpoint) seen) all × IsNonDecreasingBy (λ (x : Hidden). x.1.place) all
+    × (found ≡ map (secret_shown endpoint) all)
+secrets_found old new found rows t endpoint h =
     let params : Row = Int (pos endpoint) ∷ [] in
     let read = reads_as secrets_select params old new relay_schema t.schema_is _ secrets_select_asks.means.is secrets_select_asks.means.plain secrets_select_asks.unlisted found h in
     let from = pull_back (drop 1) (map (drop 1) (old.now.trees 3)) (map secret_stored rows.secrets) t.tables.secrets (old.now.trees 3) refl in
@@ -82,13 +89,27 @@ tells_secrets old new found rows t endpoint h =
     let are : IsPermutation (old.now.trees 3) (map hidden_row seen.0) = subst (IsPermutation (old.now.trees 3)) seen.1 from.1 in
     let all = ordered_rows hidden_row (λ (x : Hidden). x.1.place) 3 2 of_endpoint (col 1 3 ∷ []) params (Int (negsuc 0)) (λ (x : Hidden). x.1.endpoint == endpoint) (λ x. and_true _ ∙ equal_numbers x.1.endpoint endpoint) (λ x. refl)
     old.now.schema old.now.trees seen.0 found are read in
-    let kept : map (λ (x : Hidden). x.1) (filter (λ (x : Hidden). x.1.endpoint == endpoint) seen.0) ≡ filter (λ (s : SecretRow). s.endpoint == endpoint) rows.secrets =
-    kept_through (λ (x : Hidden). x.1) (λ (s : SecretRow). s.endpoint == endpoint) seen.0 ∙ ap (filter (λ (s : SecretRow). s.endpoint == endpoint)) seen.2 in
-    let back : map (λ (row : Row). bytes (column row 0)) found ≡ map (λ (s : SecretRow). s.secret) (map (λ (x : Hidden). x.1) all.0) =
-    ap (map (λ (row : Row). bytes (column row 0))) all.3 ∙ map_map (λ (x : Hidden). shows params (col 1 3 ∷ []) (hidden_row x)) (λ (row : Row). bytes (column row 0)) all.0
-    ∙ sym (map_map (λ (x : Hidden). x.1) (λ (s : SecretRow). s.secret) all.0) in (
-      map (λ (x : Hidden). x.1) all.0,
-      subst (λ l. IsPermutation l (map (λ (x : Hidden). x.1) all.0)) kept (IsPermutation-map (λ (x : Hidden). x.1) _ _ all.1),
-      rises_through (λ (x : Hidden). x.1) (λ (s : SecretRow). s.place) all.0 all.2,
+    (seen.0, seen.2, all.0, all.1, all.2, all.3)
+
+pub tells_secrets : (old new : State) (found : List Row) (rows : Rows) → IsTablesOf relay_schema 1 old.now rows → (endpoint : ℕ) → Shown secrets_select (Int (pos endpoint) ∷ []) old new found
+    → AreSecretsOf endpoint rows (map (λ (row : Row). bytes (column row 0)) found)
+tells_secrets old new found rows t endpoint h =
+    let (seen, seen_is, all, same, up, found_is) = secrets_found old new found rows t endpoint h in
+    let kept : map (λ (x : Hidden). x.1) (filter (λ (x : Hidden). x.1.endpoint == endpoint) seen) ≡ filter (λ (s : SecretRow). s.endpoint == endpoint) rows.secrets =
+    kept_through (λ (x : Hidden). x.1) (λ (s : SecretRow). s.endpoint == endpoint) seen ∙ ap (filter (λ (s : SecretRow). s.endpoint == endpoint)) seen_is in
+    let back : map (λ (row : Row). bytes (column row 0)) found ≡ map (λ (s : SecretRow). s.secret) (map (λ (x : Hidden). x.1) all) =
+    ap (map (λ (row : Row). bytes (column row 0))) found_is ∙ map_map (secret_shown endpoint) (λ (row : Row). bytes (column row 0)) all
+    ∙ sym (map_map (λ (x : Hidden). x.1) (λ (s : SecretRow). s.secret) all) in (
+      map (λ (x : Hidden). x.1) all,
+      subst (λ l. IsPermutation l (map (λ (x : Hidden). x.1) all)) kept (IsPermutation-map (λ (x : Hidden). x.1) _ _ same),
+      rises_through (λ (x : Hidden). x.1) (λ (s : SecretRow). s.place) all up,
       back,
     )
+
+pub shows_secrets : (old new : State) (found : List Row) (rows : Rows) → IsTablesOf relay_schema 1 old.now rows → (endpoint : ℕ) → Shown secrets_select (Int (pos endpoint) ∷ []) old new found → AreReadable rows
+    → AllByRecursion ShowsSecret found
+shows_secrets old new found rows t endpoint h readable =
+    let (seen, seen_is, all, same, up, found_is) = secrets_found old new found rows t endpoint h in
+    let good = all_from_map IsReadableSecret (λ (x : Hidden). x.1) seen (subst (AllByRecursion IsReadableSecret) (sym seen_is) readable.secrets) in
+    let these = all-permutation (λ (x : Hidden). IsReadableSecret x.1) _ _ same (all-filter (λ (x : Hidden). IsReadableSecret x.1) (λ (x : Hidden). x.1.endpoint == endpoint) seen good) in
+    subst (AllByRecursion ShowsSecret) (sym found_is) (all-map ShowsSecret (secret_shown endpoint) all (all_weaker (λ (x : Hidden). IsReadableSecret x.1) (λ (x : Hidden). ShowsSecret (secret_shown endpoint x)) (λ x is. (x.1.secret, refl, is)) all these))

@@ -1,11 +1,11 @@
 -- The SELECT statements.
 use Rattle.std.proofs.Common.{◌≡◌, ◌==◌, ◌&&◌, ◌||◌, ℕ, pos, List, [], ◌∷◌, map, filter, length, codes, bytes_eq, Bool, true, false, cond, Some, not, Option, slice_get, option_map, find, ◌≤◌, refl, sym, ap, subst, ◌∙◌, arith}
 use Rattle.std.proofs.lemmas.Bool.Decides.{nat_tests}
-use Rattle.std.specs.List.{list_any}
+use Rattle.std.specs.List.{AllByRecursion, list_any}
 use Rattle.std.specs.List.Sorted.{IsPermutation}
 use Rattle.std.specs.Ordering.{is_eq, int_cmp}
 use Rattle.sqlite_value.proofs.OrderLemmas.{value_cmp-Int, value_cmp-Text}
-use Rattle.sqlite_trees.proofs.ListLemmas.{IsPermutation-filter}
+use Rattle.sqlite_trees.proofs.ListLemmas.{IsPermutation-filter, all_weaker, all-filter, all-map, all-permutation}
 use Rattle.std.proofs.lemmas.List.Sorted.{IsPermutation-map, IsPermutation-sym, IsPermutation-trans, length_permutation}
 use Rattle.std.proofs.lemmas.List.{length-map}
 use Rattle.std.proofs.lemmas.Map.Text.{is_eq-slice_cmp}
@@ -26,6 +26,8 @@ use Rattle.sqlite_tied.specs.Compute.{everything}
 use Rattle.relay_types.specs.Rows.{Rows, EndpointRow}
 use Rattle.spool_sql.specs.Tables.{relay_schema}
 use Rattle.spool_sql.specs.Stored.{IsTablesOf, IsPutOf, is_delivery, has_id, number_of, endpoints_named, endpoint_stored, delivery_stored}
+use Rattle.relay_types.specs.declared.limits.TheConstants.{MAX_RECORDS}
+use Rattle.spool_sql.specs.Readable.{IsReadableEndpoint, ShowsBelow}
 use Rattle.spool_sql.proofs.BareLemmas.{IsBare}
 use Rattle.spool_sql.proofs.InsertLemmas.{Means}
 use Rattle.spool_sql.proofs.UpdateLemmas.{scan, shows, passes, scanned}
@@ -118,6 +120,12 @@ finds row params tests shown q same tree xs found are all =
     let these = ap (map (shows params shown)) (filtered row (passes params tests) q same xs) ∙ map_map row (shows params shown) (filter q xs) in
     subst (λ l. IsPermutation l found) these (IsPermutation-trans _ _ _ typed all)
 
+-- each row of the answer shows a typed row, and what is so of all typed rows
+pub finds_all : {X : Type 0} (row : X → Row) (params : Row) (shown : List Term) (q : X → Bool) (Good : X → Type 0) (Shows : Row → Type 0) → ((x : X) → Good x → Shows (shows params shown (row x)))
+    → (xs : List X) (found : List Row) → IsPermutation (map (λ x. shows params shown (row x)) (filter q xs)) found → AllByRecursion Good xs → AllByRecursion Shows found
+finds_all row params shown q Good Shows shows_good xs found same good =
+    all-permutation Shows _ found same (all-map Shows (λ x. shows params shown (row x)) (filter q xs) (all_weaker Good (λ x. Shows (shows params shown (row x))) shows_good (filter q xs) (all-filter Good q xs good)))
+
 -- ---- a query over one table, whatever the version of the tables
 
 module _ (schema : Schema) (sql : List ℕ) (tree : ℕ) (tests shown : List Term) (names : List (List ℕ)) (asks : Asks schema sql (scan tree tests shown) names) (params : Row) where
@@ -168,12 +176,21 @@ module _ (schema : Schema) (version : ℕ) (old new : State) (found : List Row) 
       let many = length_permutation _ found same ∙ length-map (filter (is_delivery endpoint id) rows.deliveries) _ in
       ap (λ n. not (n == 0)) many ∙ any_kept (is_delivery endpoint id) rows.deliveries
 
+  puts_found : Asks schema named_select (scan 1 by_name (col 1 0 ∷ [])) (codes "put" ∷ []) → (name : List ℕ) → Shown named_select (Text name ∷ []) old new found
+      → IsPermutation (map (λ (e : EndpointRow). shows (Text name ∷ []) (col 1 0 ∷ []) (endpoint_stored e)) (endpoints_named name rows)) found
+  puts_found asks name h =
+      finds endpoint_stored (Text name ∷ []) by_name (col 1 0 ∷ []) (λ (e : EndpointRow). bytes_eq e.name name) (λ e. and_true _ ∙ equal_texts e.name name) (old.now.trees 1) rows.endpoints found t.tables.endpoints
+      (found_in schema named_select 1 by_name (col 1 0 ∷ []) _ asks (Text name ∷ []) old new found t.schema_is h)
+
+  pub shows_puts : Asks schema named_select (scan 1 by_name (col 1 0 ∷ [])) (codes "put" ∷ []) → (name : List ℕ) → Shown named_select (Text name ∷ []) old new found → AllByRecursion IsReadableEndpoint rows.endpoints
+      → AllByRecursion (ShowsBelow MAX_RECORDS) found
+  shows_puts asks name h good =
+      finds_all endpoint_stored (Text name ∷ []) (col 1 0 ∷ []) (λ (e : EndpointRow). bytes_eq e.name name) IsReadableEndpoint (ShowsBelow MAX_RECORDS) (λ e is. (e.put, refl, is.put)) rows.endpoints found (puts_found asks name h) good
+
   pub tells_put : Asks schema named_select (scan 1 by_name (col 1 0 ∷ [])) (codes "put" ∷ []) → (name : List ℕ) → Shown named_select (Text name ∷ []) old new found
       → (put : Option ℕ) → put ≡ option_map number_of (slice_get found 0) → IsPutOf name rows put
   tells_put asks name h put is =
-      let same = finds endpoint_stored (Text name ∷ []) by_name (col 1 0 ∷ []) (λ (e : EndpointRow). bytes_eq e.name name) (λ e. and_true _ ∙ equal_texts e.name name) (old.now.trees 1) rows.endpoints found t.tables.endpoints
-      (found_in schema named_select 1 by_name (col 1 0 ∷ []) _ asks (Text name ∷ []) old new found t.schema_is h) in
-      (map number_of found, puts_of name rows found same, is ∙ sym (first_number found))
+      (map number_of found, puts_of name rows found (puts_found asks name h), is ∙ sym (first_number found))
 
 -- ---- for callers, where a name is that of at most one endpoint
 

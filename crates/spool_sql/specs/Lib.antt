@@ -2,3 +2,4 @@ pub mod Tables
 pub mod Stored
 pub mod Steps
 pub mod Causes
+pub mod Readable

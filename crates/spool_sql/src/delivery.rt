@@ -1,5 +1,7 @@
 //! What is looked up of one event.
-ghost use Rattle.std.specs.Prelude.{◌≡◌, map, IfOk};
+ghost use Rattle.std.specs.Prelude.{◌≡◌, ◌^◌, map, IfOk, IfErr};
+ghost use Rattle.std.specs.List.{AllByRecursion};
+ghost use Rattle.spool_sql.specs.Readable.{IsMemory, IsRefusedFor, ShowsBelow};
 ghost use Rattle.spool_sql.specs.Stored.{IsEndpointOf, AreStatusesOf, number_of};
 ghost use Rattle.spool_sql.specs.Steps.{LeavesAll, LooksUp, IsOfSame, SparesCommit};
 
@@ -17,6 +19,7 @@ pub fn select_endpoint<S: Alter>(
     ensures unchanged { LeavesAll S.Store tx.old.conn.now tx.new.conn.now result }
     ensures found { LooksUp S.Store tx.old.conn.now tx.new.conn.now result
         (λ found rows. IsEndpointOf delivery rows found) }
+    ensures refused { IsRefusedFor S.Store tx.old.conn.now tx.new.conn.now result }
     ensures spares { SparesCommit S.Store tx.old.conn.now tx.new.conn.now }
 {
     let rows = tx.query_all(
@@ -35,6 +38,7 @@ pub fn select_statuses<S: Alter>(
     ensures unchanged { LeavesAll S.Store tx.old.conn.now tx.new.conn.now result }
     ensures found { LooksUp S.Store tx.old.conn.now tx.new.conn.now result
         (λ found rows. AreStatusesOf delivery rows found.items) }
+    ensures refused { IsRefusedFor S.Store tx.old.conn.now tx.new.conn.now result }
     ensures spares { SparesCommit S.Store tx.old.conn.now tx.new.conn.now }
 {
     let rows = tx.query_all(
@@ -46,15 +50,21 @@ pub fn select_statuses<S: Alter>(
 
 // The status that each row shows.
 fn read_statuses(rows: &[Row], alloc: Global) -> Result<Vec<u16>, Error>
-    ensures { IfOk result (λ found. found.items ≡ map number_of rows.now) }
+    ensures value { IfOk result (λ found. found.items ≡ map number_of rows.now) }
+    ensures refused { IfErr result (λ error. AllByRecursion (ShowsBelow (2 ^ 16)) rows.now → IsMemory error) }
 {
     let mut found = Vec::with_capacity(alloc, rows.len())?;
     for row in rows {
-        let number: u32 = row.get(0)?;
-        let Ok(status) = u16::try_from(number) else {
-            return Err(Error::IntegralValueOutOfRange(0));
-        };
-        found.push(status)?;
+        found.push(read_status(row)?)?;
     }
     Ok(found)
+}
+
+// The status that the row shows.
+fn read_status(row: &Row) -> Result<u16, Error>
+    ensures value { IfOk result (λ status. status ≡ number_of row.now) }
+    ensures refused { IfErr result (λ error. ShowsBelow (2 ^ 16) row.now → IsMemory error) }
+{
+    let number: u64 = row.get(0)?;
+    u16::try_from(number).map_err(|_| Error::IntegralValueOutOfRange(0))
 }

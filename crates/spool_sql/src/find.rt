@@ -1,6 +1,9 @@
 //! What is looked up in the tables.
-ghost use Rattle.std.specs.Prelude.{◌≡◌, length, option_map, slice_get, IsTrue, IfOk};
+ghost use Rattle.std.specs.Prelude.{◌≡◌, length, option_map, slice_get, IsTrue, IfOk, IfErr};
+ghost use Rattle.std.specs.List.{AllByRecursion};
 ghost use Rattle.relay_types.specs.Values.{is_name};
+ghost use Rattle.relay_types.specs.declared.limits.TheConstants.{MAX_RECORDS};
+ghost use Rattle.spool_sql.specs.Readable.{IsMemory, IsRefusedFor, ShowsBelow};
 ghost use Rattle.spool_sql.specs.Stored.{IsPutOf, has_id, number_of};
 ghost use Rattle.spool_sql.specs.Steps.{LeavesAll, LooksUp, IsOfSame, SparesCommit};
 
@@ -15,6 +18,7 @@ pub fn select_put<S: Alter>(tx: &mut Transaction<'_, S>, name: &Name) -> Result<
     ensures unchanged { LeavesAll S.Store tx.old.conn.now tx.new.conn.now result }
     ensures found { LooksUp S.Store tx.old.conn.now tx.new.conn.now result (λ found rows. IsPutOf name.now rows found) }
     ensures named { IsTrue (is_name name.now) }
+    ensures refused { IsRefusedFor S.Store tx.old.conn.now tx.new.conn.now result }
     ensures spares { SparesCommit S.Store tx.old.conn.now tx.new.conn.now }
 {
     let rows = tx.query_all(
@@ -26,7 +30,8 @@ pub fn select_put<S: Alter>(tx: &mut Transaction<'_, S>, name: &Name) -> Result<
 
 // The number that the first row shows.
 pub(crate) fn first_seq(rows: &[Row]) -> Result<Option<Seq>, Error>
-    ensures { IfOk result (λ found. found ≡ option_map number_of (slice_get rows.now 0)) }
+    ensures value { IfOk result (λ found. found ≡ option_map number_of (slice_get rows.now 0)) }
+    ensures refused { IfErr result (λ error. AllByRecursion (ShowsBelow MAX_RECORDS) rows.now → IsMemory error) }
 {
     let Some(row) = rows.first() else {
         return Ok(None);
@@ -44,6 +49,7 @@ pub fn count_endpoints<S: Alter>(tx: &mut Transaction<'_, S>) -> Result<usize, E
     ensures unchanged { LeavesAll S.Store tx.old.conn.now tx.new.conn.now result }
     ensures counted { LooksUp S.Store tx.old.conn.now tx.new.conn.now result
         (λ count rows. count ≡ length rows.endpoints) }
+    ensures refused { IsRefusedFor S.Store tx.old.conn.now tx.new.conn.now result }
     ensures spares { SparesCommit S.Store tx.old.conn.now tx.new.conn.now }
 {
     let rows = tx.query_all("SELECT put FROM endpoints", &[])?;
@@ -60,6 +66,7 @@ pub fn has_delivery<S: Alter>(
     ensures unchanged { LeavesAll S.Store tx.old.conn.now tx.new.conn.now result }
     ensures found { LooksUp S.Store tx.old.conn.now tx.new.conn.now result
         (λ found rows. found ≡ has_id rows endpoint id.now) }
+    ensures refused { IsRefusedFor S.Store tx.old.conn.now tx.new.conn.now result }
     ensures spares { SparesCommit S.Store tx.old.conn.now tx.new.conn.now }
 {
     let rows = tx.query_all(

@@ -1,6 +1,9 @@
 //! The rows of a table, page by page.
-ghost use Rattle.std.specs.Prelude.{◌≡◌, map, option_map, slice_get, Some, IfOk};
+ghost use Rattle.std.specs.Prelude.{◌≡◌, ℕ, pos, [], ◌∷◌, map, option_map, slice_get, Some, IfOk, IfErr};
+ghost use Rattle.std.specs.List.{AllByRecursion};
+ghost use Rattle.sqlite.specs.declared.types.Value.TheVariants.{Int};
 ghost use Rattle.sqlite_value.specs.Order.{column, bytes};
+ghost use Rattle.spool_sql.specs.Readable.{AreRowsRefusedFor, IsMemory, IsMemoryFault, IsRefusedFor, ShowsAttempt, ShowsDelivery, ShowsEndpoint, ShowsSecret};
 ghost use Rattle.spool_sql.specs.Stored.{IsPage, AreSecretsOf, number_of, endpoint_in, endpoint_of, delivery_in, delivery_of, attempt_in, attempt_of};
 ghost use Rattle.spool_sql.specs.Steps.{LeavesAll, LooksUp, IsOfSame, SparesCommit};
 
@@ -18,6 +21,7 @@ pub fn select_records<S: Alter>(tx: &mut Transaction<'_, S>) -> Result<u64, Erro
     ensures same_reference { IsOfSame tx.old.conn tx.new.conn }
     ensures unchanged { LeavesAll S.Store tx.old.conn.now tx.new.conn.now result }
     ensures found { LooksUp S.Store tx.old.conn.now tx.new.conn.now result (λ count rows. count ≡ rows.records) }
+    ensures refused { IsRefusedFor S.Store tx.old.conn.now tx.new.conn.now result }
     ensures spares { SparesCommit S.Store tx.old.conn.now tx.new.conn.now }
 {
     let rows = tx.query_all("SELECT records FROM meta", &[])?;
@@ -26,7 +30,8 @@ pub fn select_records<S: Alter>(tx: &mut Transaction<'_, S>) -> Result<u64, Erro
 
 // The number that the first row shows.
 fn first_number(rows: &[Row]) -> Result<u64, Error>
-    ensures { IfOk result (λ number. option_map number_of (slice_get rows.now 0) ≡ Some number) }
+    ensures value { IfOk result (λ number. option_map number_of (slice_get rows.now 0) ≡ Some number) }
+    ensures refused { IfErr result (λ error. (n : ℕ) → rows.now ≡ (Int (pos n) ∷ []) ∷ [] → IsMemory error) }
 {
     match rows.first() {
         Some(row) => row.get(0),
@@ -44,6 +49,7 @@ pub fn select_endpoints<S: Alter>(
     ensures unchanged { LeavesAll S.Store tx.old.conn.now tx.new.conn.now result }
     ensures found { LooksUp S.Store tx.old.conn.now tx.new.conn.now result
         (λ page rows. IsPage (λ e. e.put) from rows.endpoints (map endpoint_of page.items)) }
+    ensures refused { AreRowsRefusedFor S.Store tx.old.conn.now tx.new.conn.now result }
     ensures spares { SparesCommit S.Store tx.old.conn.now tx.new.conn.now }
 {
     let rows = tx.query_all(
@@ -56,7 +62,8 @@ pub fn select_endpoints<S: Alter>(
 
 // The endpoints that the rows show.
 fn read_endpoints(rows: &[Row], alloc: Global) -> Result<Vec<EndpointRow>, RowFault>
-    ensures { IfOk result (λ found. map endpoint_of found.items ≡ map endpoint_in rows.now) }
+    ensures value { IfOk result (λ found. map endpoint_of found.items ≡ map endpoint_in rows.now) }
+    ensures refused { IfErr result (λ fault. AllByRecursion ShowsEndpoint rows.now → IsMemoryFault fault) }
 {
     let mut found = Vec::with_capacity(alloc, rows.len()).map_err(Error::from)?;
     for row in rows {
@@ -75,6 +82,7 @@ pub fn select_secrets<S: Alter>(
     ensures unchanged { LeavesAll S.Store tx.old.conn.now tx.new.conn.now result }
     ensures found { LooksUp S.Store tx.old.conn.now tx.new.conn.now result
         (λ found rows. AreSecretsOf endpoint rows found.items) }
+    ensures refused { AreRowsRefusedFor S.Store tx.old.conn.now tx.new.conn.now result }
     ensures spares { SparesCommit S.Store tx.old.conn.now tx.new.conn.now }
 {
     let rows = tx.query_all(
@@ -86,7 +94,8 @@ pub fn select_secrets<S: Alter>(
 
 // The secrets that the rows show.
 fn read_secrets(rows: &[Row], alloc: Global) -> Result<Vec<Secret>, RowFault>
-    ensures { IfOk result (λ found. found.items ≡ map (λ row. bytes (column row 0)) rows.now) }
+    ensures value { IfOk result (λ found. found.items ≡ map (λ row. bytes (column row 0)) rows.now) }
+    ensures refused { IfErr result (λ fault. AllByRecursion ShowsSecret rows.now → IsMemoryFault fault) }
 {
     let mut found = Vec::with_capacity(alloc, rows.len()).map_err(Error::from)?;
     for row in rows {
@@ -105,6 +114,7 @@ pub fn select_deliveries<S: Alter>(
     ensures unchanged { LeavesAll S.Store tx.old.conn.now tx.new.conn.now result }
     ensures found { LooksUp S.Store tx.old.conn.now tx.new.conn.now result
         (λ page rows. IsPage (λ d. d.seq) from rows.deliveries (map delivery_of page.items)) }
+    ensures refused { AreRowsRefusedFor S.Store tx.old.conn.now tx.new.conn.now result }
     ensures spares { SparesCommit S.Store tx.old.conn.now tx.new.conn.now }
 {
     let rows = tx.query_all(
@@ -116,7 +126,8 @@ pub fn select_deliveries<S: Alter>(
 
 // The events that the rows show.
 fn read_deliveries(rows: &[Row], alloc: Global) -> Result<Vec<DeliveryRow>, RowFault>
-    ensures { IfOk result (λ found. map delivery_of found.items ≡ map delivery_in rows.now) }
+    ensures value { IfOk result (λ found. map delivery_of found.items ≡ map delivery_in rows.now) }
+    ensures refused { IfErr result (λ fault. AllByRecursion ShowsDelivery rows.now → IsMemoryFault fault) }
 {
     let mut found = Vec::with_capacity(alloc, rows.len()).map_err(Error::from)?;
     for row in rows {
@@ -135,6 +146,7 @@ pub fn select_attempts<S: Alter>(
     ensures unchanged { LeavesAll S.Store tx.old.conn.now tx.new.conn.now result }
     ensures found { LooksUp S.Store tx.old.conn.now tx.new.conn.now result
         (λ page rows. IsPage (λ a. a.seq) from rows.attempts (map attempt_of page.items)) }
+    ensures refused { AreRowsRefusedFor S.Store tx.old.conn.now tx.new.conn.now result }
     ensures spares { SparesCommit S.Store tx.old.conn.now tx.new.conn.now }
 {
     let rows = tx.query_all(
@@ -146,7 +158,8 @@ pub fn select_attempts<S: Alter>(
 
 // The attempts that the rows show.
 fn read_attempts(rows: &[Row], alloc: Global) -> Result<Vec<AttemptRow>, RowFault>
-    ensures { IfOk result (λ found. map attempt_of found.items ≡ map attempt_in rows.now) }
+    ensures value { IfOk result (λ found. map attempt_of found.items ≡ map attempt_in rows.now) }
+    ensures refused { IfErr result (λ fault. AllByRecursion ShowsAttempt rows.now → IsMemoryFault fault) }
 {
     let mut found = Vec::with_capacity(alloc, rows.len()).map_err(Error::from)?;
     for row in rows {

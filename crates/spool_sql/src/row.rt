@@ -1,9 +1,11 @@
 //! The rows of the tables, as they are read.
-ghost use Rattle.std.specs.Prelude.{◌≡◌, ◌⊎◌, ◌==◌, not, false, [], Err, IfOk};
+ghost use Rattle.std.specs.Prelude.{◌≡◌, ◌≢◌, ◌==◌, ◌<◌, ℕ, Bool, List, pos, not, IfOk, IfErr, IsTrue};
+ghost use Rattle.sqlite.specs.declared.types.Value.TheVariants.{Int, Text, Blob};
 ghost use Rattle.sqlite_value.specs.Order.{column, bytes};
 ghost use Rattle.sqlite_trees.specs.Objects.{number_in};
-ghost use Rattle.relay_types.specs.Values.{is_body, is_target};
-ghost use Rattle.spool_sql.specs.Stored.{endpoint_in, endpoint_of, delivery_in, delivery_of, attempt_in, attempt_of};
+ghost use Rattle.relay_types.specs.Values.{is_body, is_max_limit, is_moment, is_msg_id, is_name, is_secret, is_target};
+ghost use Rattle.spool_sql.specs.Readable.{IsAt, IsMemoryFault, IsSeq, ShowsAttempt, ShowsDelivery, ShowsEndpoint, ShowsSecret};
+ghost use Rattle.spool_sql.specs.Stored.{endpoint_in, endpoint_of, delivery_in, delivery_of, attempt_in, attempt_of, flag_number};
 
 use crate::seq::Seq;
 use relay_types::{Body, MAX_RECORDS, MaxLimit, Moment, MsgId, Name, ReadFault, Secret, Target};
@@ -67,7 +69,8 @@ pub struct AttemptRow {
 }
 
 fn read_seq(row: &Row, at: usize) -> Result<Seq, RowFault>
-    ensures { IfOk result (λ seq. seq ≡ number_in (column row.now at)) }
+    ensures value { IfOk result (λ seq. seq ≡ number_in (column row.now at)) }
+    ensures refused { IfErr result (λ fault. (n : ℕ) → IsAt row.now at (Int (pos n)) → IsSeq n → IsMemoryFault fault) }
 {
     let number: u64 = row.get(at)?;
     if number >= MAX_RECORDS {
@@ -77,7 +80,8 @@ fn read_seq(row: &Row, at: usize) -> Result<Seq, RowFault>
 }
 
 fn read_moment(row: &Row, at: usize) -> Result<Moment, RowFault>
-    ensures { IfOk result (λ moment. moment ≡ number_in (column row.now at)) }
+    ensures value { IfOk result (λ moment. moment ≡ number_in (column row.now at)) }
+    ensures refused { IfErr result (λ fault. (n : ℕ) → IsAt row.now at (Int (pos n)) → IsTrue (is_moment n) → IsMemoryFault fault) }
 {
     let seconds: u64 = row.get(at)?;
     match Moment::of(seconds) {
@@ -89,7 +93,8 @@ fn read_moment(row: &Row, at: usize) -> Result<Moment, RowFault>
 // The bytes of a text or a blob.
 fn read_bytes(row: &Row, at: usize) -> Result<&[u8], RowFault>
     ensures value { IfOk result (λ text. text.now ≡ bytes (column row.now at)) }
-    ensures unreadable { result ≡ Err RowFault.Unreadable → bytes (column row.now at) ≡ [] }
+    ensures of_text { IfErr result (λ fault. (text : List ℕ) → IsAt row.now at (Text text) → IsMemoryFault fault) }
+    ensures of_blob { IfErr result (λ fault. (blob : List ℕ) → IsAt row.now at (Blob blob) → IsMemoryFault fault) }
 {
     match row.get_ref(at)? {
         ValueRef::Text(text) | ValueRef::Blob(text) => Ok(text),
@@ -98,7 +103,8 @@ fn read_bytes(row: &Row, at: usize) -> Result<&[u8], RowFault>
 }
 
 fn read_id(row: &Row, at: usize) -> Result<MsgId, RowFault>
-    ensures { IfOk result (λ id. id ≡ bytes (column row.now at)) }
+    ensures value { IfOk result (λ id. id ≡ bytes (column row.now at)) }
+    ensures refused { IfErr result (λ fault. (text : List ℕ) → IsAt row.now at (Text text) → IsTrue (is_msg_id text) → IsMemoryFault fault) }
 {
     match MsgId::read(read_bytes(row, at)?) {
         Ok(id) => Ok(id),
@@ -108,8 +114,7 @@ fn read_id(row: &Row, at: usize) -> Result<MsgId, RowFault>
 
 fn read_body(row: &Row, at: usize, alloc: Global) -> Result<Body, RowFault>
     ensures value { IfOk result (λ body. body ≡ bytes (column row.now at)) }
-    ensures unreadable { result ≡ Err RowFault.Unreadable
-        → (bytes (column row.now at) ≡ []) ⊎ (is_body (bytes (column row.now at)) ≡ false) }
+    ensures refused { IfErr result (λ fault. (blob : List ℕ) → IsAt row.now at (Blob blob) → IsTrue (is_body blob) → IsMemoryFault fault) }
 {
     let bytes = Vec::from_slice(alloc, read_bytes(row, at)?).map_err(Error::from)?;
     let shared = Arc::new(alloc, bytes).map_err(Error::from)?;
@@ -120,7 +125,8 @@ fn read_body(row: &Row, at: usize, alloc: Global) -> Result<Body, RowFault>
 }
 
 fn read_name(row: &Row, at: usize) -> Result<Name, RowFault>
-    ensures { IfOk result (λ name. name ≡ bytes (column row.now at)) }
+    ensures value { IfOk result (λ name. name ≡ bytes (column row.now at)) }
+    ensures refused { IfErr result (λ fault. (text : List ℕ) → IsAt row.now at (Text text) → IsTrue (is_name text) → IsMemoryFault fault) }
 {
     match Name::read(read_bytes(row, at)?) {
         Ok(name) => Ok(name),
@@ -130,7 +136,7 @@ fn read_name(row: &Row, at: usize) -> Result<Name, RowFault>
 
 fn read_target(row: &Row, at: usize, alloc: Global) -> Result<Target, RowFault>
     ensures value { IfOk result (λ target. target ≡ bytes (column row.now at)) }
-    ensures unreadable { result ≡ Err RowFault.Unreadable → is_target (bytes (column row.now at)) ≡ false }
+    ensures refused { IfErr result (λ fault. (text : List ℕ) → IsAt row.now at (Text text) → IsTrue (is_target text) → IsMemoryFault fault) }
 {
     match Target::read(alloc, read_bytes(row, at)?) {
         Ok(target) => Ok(target),
@@ -142,7 +148,8 @@ fn read_target(row: &Row, at: usize, alloc: Global) -> Result<Target, RowFault>
 }
 
 fn read_max(row: &Row, at: usize) -> Result<MaxLimit, RowFault>
-    ensures { IfOk result (λ max. max ≡ number_in (column row.now at)) }
+    ensures value { IfOk result (λ max. max ≡ number_in (column row.now at)) }
+    ensures refused { IfErr result (λ fault. (n : ℕ) → IsAt row.now at (Int (pos n)) → IsTrue (is_max_limit n) → IsMemoryFault fault) }
 {
     let limit: u64 = row.get(at)?;
     match MaxLimit::of(limit) {
@@ -152,7 +159,8 @@ fn read_max(row: &Row, at: usize) -> Result<MaxLimit, RowFault>
 }
 
 fn read_flag(row: &Row, at: usize) -> Result<bool, RowFault>
-    ensures { IfOk result (λ flag. flag ≡ not (number_in (column row.now at) == 0)) }
+    ensures value { IfOk result (λ flag. flag ≡ not (number_in (column row.now at) == 0)) }
+    ensures refused { IfErr result (λ fault. (flag : Bool) → IsAt row.now at (Int (pos (flag_number flag))) → IsMemoryFault fault) }
 {
     let number: u64 = row.get(at)?;
     match number {
@@ -164,7 +172,8 @@ fn read_flag(row: &Row, at: usize) -> Result<bool, RowFault>
 
 // The secret that the row shows first.
 pub(crate) fn read_secret(row: &Row) -> Result<Secret, RowFault>
-    ensures { IfOk result (λ secret. secret ≡ bytes (column row.now 0)) }
+    ensures value { IfOk result (λ secret. secret ≡ bytes (column row.now 0)) }
+    ensures refused { IfErr result (λ fault. ShowsSecret row.now → IsMemoryFault fault) }
 {
     match Secret::of(read_bytes(row, 0)?) {
         Ok(secret) => Ok(secret),
@@ -174,7 +183,8 @@ pub(crate) fn read_secret(row: &Row) -> Result<Secret, RowFault>
 
 // The endpoint that the row shows.
 pub(crate) fn read_endpoint(row: &Row, alloc: Global) -> Result<EndpointRow, RowFault>
-    ensures { IfOk result (λ endpoint. endpoint_of endpoint ≡ endpoint_in row.now) }
+    ensures value { IfOk result (λ endpoint. endpoint_of endpoint ≡ endpoint_in row.now) }
+    ensures refused { IfErr result (λ fault. ShowsEndpoint row.now → IsMemoryFault fault) }
 {
     Ok(EndpointRow {
         put: read_seq(row, 0)?,
@@ -189,7 +199,8 @@ pub(crate) fn read_endpoint(row: &Row, alloc: Global) -> Result<EndpointRow, Row
 
 // The event that the row shows.
 pub(crate) fn read_delivery(row: &Row, alloc: Global) -> Result<DeliveryRow, RowFault>
-    ensures { IfOk result (λ delivery. delivery_of delivery ≡ delivery_in row.now) }
+    ensures value { IfOk result (λ delivery. delivery_of delivery ≡ delivery_in row.now) }
+    ensures refused { IfErr result (λ fault. ShowsDelivery row.now → IsMemoryFault fault) }
 {
     Ok(DeliveryRow {
         seq: read_seq(row, 0)?,
@@ -202,7 +213,8 @@ pub(crate) fn read_delivery(row: &Row, alloc: Global) -> Result<DeliveryRow, Row
 
 // The attempt that the row shows.
 pub(crate) fn read_attempt(row: &Row) -> Result<AttemptRow, RowFault>
-    ensures { IfOk result (λ attempt. attempt_of attempt ≡ attempt_in row.now) }
+    ensures value { IfOk result (λ attempt. attempt_of attempt ≡ attempt_in row.now) }
+    ensures refused { IfErr result (λ fault. ShowsAttempt row.now → IsMemoryFault fault) }
 {
     let status: u32 = row.get(3)?;
     let Ok(status) = u16::try_from(status) else {

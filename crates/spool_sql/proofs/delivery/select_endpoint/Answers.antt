@@ -1,7 +1,13 @@
+use Rattle.std.proofs.Common.{inl}
 use Rattle.sqlite.specs.Held.{state}
+use Rattle.relay_types.specs.Rows.{Rows}
+use Rattle.spool_sql.specs.Stored.{IsTables}
+use Rattle.spool_sql.specs.Readable.{AreReadable, IsRefusal}
+use Rattle.spool_sql.proofs.ReadableLemmas.{handed_on, err_then}
+use Rattle.spool_sql.proofs.Refusals.{endpoint_of_refused}
 use Rattle.spool_sql.specs.Tables.{relay_schema}
 use Rattle.spool_sql.proofs.BareLemmas.{unchanged_by, spares_found, spares_failed}
-use Rattle.spool_sql.proofs.DeliverySelects.{endpoint_select, endpoint_select_asks, endpoint_select_bare, tells_endpoint}
+use Rattle.spool_sql.proofs.DeliverySelects.{shows_endpoint, endpoint_select, endpoint_select_asks, endpoint_select_bare, tells_endpoint}
 use Rattle.spool_sql.proofs.StepLemmas.{ok_then, ok_always}
 use Rattle.spool_sql.proofs.delivery.select_endpoint.Goals as goal
 
@@ -11,7 +17,7 @@ returns-clause-unchanged g c clean =
 
 pub returns-clause-found : goal.returns-clause-found
 returns-clause-found g c clean =
-    ok_then c.first_seq.result _ _ c.first_seq.ensures (λ put is rows t.
+    ok_then c.first_seq.result _ _ c.first_seq.ensures.value (λ put is rows t.
     tells_endpoint relay_schema 1 (state g.S.Store c.args.tx.now.conn.now) (state g.S.Store c.query_all.new.self.conn.now) c.in_ok-rows.rows.items rows t c.args.delivery endpoint_select_asks (rw c.value.ensures.value at (c.in_ok-rows.ensures.ok clean)) put (rw c.deref.ensures.value at is))
 
 pub returns-clause-spares : goal.returns-clause-spares
@@ -21,3 +27,17 @@ returns-clause-spares g c =
 pub returns-in_err-rows-clause-spares : goal.returns-in_err-rows-clause-spares
 returns-in_err-rows-clause-spares g c =
     spares_failed endpoint_select endpoint_select_bare _ (state g.S.Store c.args.tx.now.conn.now) (state g.S.Store c.query_all.new.self.conn.now) _ (λ clean. c.in_err-rows.ensures.err clean) c.query_all.ensures.survives
+
+pub returns-in_err-rows-clause-refused : goal.returns-in_err-rows-clause-refused
+returns-in_err-rows-clause-refused g c clean =
+    let a = state g.S.Store c.args.tx.now.conn.now in
+    let b = state g.S.Store c.query_all.new.self.conn.now in
+    handed_on c.from_residual.result c.in_err-rows.field-0.0 (λ e. (rows : Rows) → IsTables a.now rows → AreReadable rows → IsRefusal a b e) c.from_residual.ensures.1
+    (λ rows t readable. endpoint_of_refused c.args.delivery a b _ rows t (rw c.value.ensures.value at (c.in_err-rows.ensures.err clean)))
+
+pub returns-clause-refused : goal.returns-clause-refused
+returns-clause-refused g c clean =
+    let a = state g.S.Store c.args.tx.now.conn.now in
+    let b = state g.S.Store c.query_all.new.self.conn.now in
+    err_then c.first_seq.result _ (λ e. (rows : Rows) → IsTables a.now rows → AreReadable rows → IsRefusal a b e) c.first_seq.ensures.refused
+    (λ e memory rows t readable. inl (memory (rw c.deref.ensures.value (shows_endpoint relay_schema 1 a b _ rows t c.args.delivery endpoint_select_asks (rw c.value.ensures.value at (c.in_ok-rows.ensures.ok clean)) readable.deliveries))))

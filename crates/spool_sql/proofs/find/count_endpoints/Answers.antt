@@ -1,5 +1,10 @@
 use Rattle.std.proofs.Common.{◌≡◌, ◌∙◌, length, vec_len, arith}
 use Rattle.sqlite.specs.Held.{state}
+use Rattle.relay_types.specs.Rows.{Rows}
+use Rattle.spool_sql.specs.Stored.{IsTables}
+use Rattle.spool_sql.specs.Readable.{AreReadable, IsRefusal}
+use Rattle.spool_sql.proofs.ReadableLemmas.{handed_on}
+use Rattle.spool_sql.proofs.Refusals.{count_refused}
 use Rattle.spool_sql.specs.Tables.{relay_schema}
 use Rattle.spool_sql.proofs.BareLemmas.{unchanged_by, spares_found, spares_failed}
 use Rattle.spool_sql.proofs.SelectLemmas.{endpoints_select, endpoints_select_asks, endpoints_select_bare, counts_endpoints}
@@ -21,3 +26,10 @@ returns-clause-spares g c =
 pub returns-in_err-rows-clause-spares : goal.returns-in_err-rows-clause-spares
 returns-in_err-rows-clause-spares g c =
     spares_failed endpoints_select endpoints_select_bare _ (state g.S.Store c.args.tx.now.conn.now) (state g.S.Store c.query_all.new.self.conn.now) _ (λ clean. c.in_err-rows.ensures.err clean) c.query_all.ensures.survives
+
+pub returns-in_err-rows-clause-refused : goal.returns-in_err-rows-clause-refused
+returns-in_err-rows-clause-refused g c clean =
+    let a = state g.S.Store c.args.tx.now.conn.now in
+    let b = state g.S.Store c.query_all.new.self.conn.now in
+    handed_on c.from_residual.result c.in_err-rows.field-0.0 (λ e. (rows : Rows) → IsTables a.now rows → AreReadable rows → IsRefusal a b e) c.from_residual.ensures.1
+    (λ rows t readable. count_refused a b _ rows t (c.in_err-rows.ensures.err clean))
