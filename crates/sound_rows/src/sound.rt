@@ -1,8 +1,8 @@
 //! The check of all rows.
-ghost use Rattle.std.specs.Prelude.{◌≡◌, IfOk};
+ghost use Rattle.std.specs.Prelude.{◌≡◌, false, IfOk};
 ghost use Rattle.relay_types.specs.Rows.{Rows};
 ghost use Rattle.relay_types.specs.Sound.{AreKeyed, are_sound};
-ghost use Rattle.sound_rows.specs.Numbers.{AreNumbersOf, AreValues};
+ghost use Rattle.sound_rows.specs.Numbers.{AreAscending, AreNumbersOf, AreValues, kept};
 
 use crate::numbers::Numbers;
 use crate::turns::are_in_turn;
@@ -13,7 +13,8 @@ impl Numbers {
     /// tables keep their keys. It takes memory for what came of each event, and time in proportion to `n log n`, for the
     /// endpoints are few. An error is want of memory.
     pub fn are_sound(&self, alloc: Global) -> Result<bool, AllocError>
-        ensures { IfOk result (λ answer. (rows : Rows)
+        ensures order { IfOk result (λ answer. ¬ AreAscending (kept self.now) → answer ≡ false) }
+        ensures sound { IfOk result (λ answer. (rows : Rows)
             → AreNumbersOf self.now rows → AreKeyed rows → AreValues rows → answer ≡ are_sound rows) }
     {
         if !self.are_below() {

@@ -12,3 +12,4 @@ pub mod LackLemmas
 pub mod LookLemmas
 pub mod MetaLemmas
 pub mod UnsoundLemmas
+pub mod RefusedLemmas

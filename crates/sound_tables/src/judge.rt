@@ -1,5 +1,5 @@
 //! Whether the rows that were read are such as a legal history has.
-ghost use Rattle.std.specs.Prelude.{IfOk, MatchBool, MatchResult};
+ghost use Rattle.std.specs.Prelude.{◌≡◌, ◌⊎◌, IfOk, IfErr, MatchBool, MatchResult};
 ghost use Rattle.sqlite.specs.Effect.{Database};
 ghost use Rattle.relay_types.specs.Rows.{Rows};
 ghost use Rattle.sound_tables.specs.Checks.{AreInOrder, AreRead, AreSoundTables, HasSound, IsRefusedAt};
@@ -13,7 +13,9 @@ use std::alloc::{AllocError, Global};
 
 /// How many records the rows tell of, where they are such as a legal history has.
 pub(crate) fn judge(records: u64, rows: StoredRows, alloc: Global) -> Result<u64, TableFault>
-    ensures { (db : Database) → AreRead db records rows → MatchResult result (HasSound db) (IsRefusedAt db) }
+    ensures judged { (db : Database) → AreRead db records rows → MatchResult result (HasSound db) (IsRefusedAt db) }
+    ensures told { AreInOrder rows → IfErr result (λ why. (why ≡ TableFault.Damaged)
+        ⊎ (why ≡ TableFault.Failed (Error.SqliteFailure ErrorCode.OutOfMemory))) }
 {
     // The statements ask for this order.
     if !rows.are_in_order() {

@@ -3,6 +3,7 @@ ghost use Rattle.std.specs.Prelude.{◌≡◌, ◌≢◌, ◌+◌, ◌<◌, ℕ,
 ghost use Rattle.sqlite_value.specs.declared.value.Value.TheVariants.{Int};
 ghost use Rattle.sqlite_value.specs.Order.{column};
 ghost use Rattle.sqlite_value.specs.Value.{owned};
+ghost use Rattle.sqlite.specs.State.{store_error};
 ghost use Rattle.sqlite_trees.specs.View.{IsClean};
 ghost use Rattle.sound_tables.specs.Reading.{IsReadAs};
 ghost use Rattle.sound_tables.specs.Shown.{ShowsMeta};
@@ -126,7 +127,9 @@ fn int_of(value: ValueRef<'_>) -> Option<i64>
 }
 
 // As what a failure of the store is told.
-fn error_of(error: StoreError) -> Error {
+fn error_of(error: StoreError) -> Error
+    ensures { result ≡ store_error error }
+{
     Error::SqliteFailure(match error {
         StoreError::OutOfMemory => ErrorCode::OutOfMemory,
         StoreError::Io => ErrorCode::SystemIoFailure,

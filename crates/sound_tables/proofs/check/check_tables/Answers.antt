@@ -25,7 +25,7 @@ judged g c clean has =
     let still = schema_still g.S.Store a m b first.looks first.same later.looks clean has in
     let shown = subst (TellsStored (state g.S.Store m).now) c.in-Ok-Some.field-0-is (later.found clean still) in
     let meta = first.found (clean_early g.S.Store a m b first.looks first.same later.looks clean) has in
-    c.judge.ensures (state g.S.Store a).now (are_read g.S.Store a m b first.looks first.same later.looks c.in_ok-records.records c.in-Ok-Some.rows c.has_meta.ensures.live clean has meta shown)
+    c.judge.ensures.judged (state g.S.Store a).now (are_read g.S.Store a m b first.looks first.same later.looks c.in_ok-records.records c.in-Ok-Some.rows c.has_meta.ensures.live clean has meta shown)
 
 pub returns-in-Ok-Some-clause-found : goal.returns-in-Ok-Some-clause-found
 returns-in-Ok-Some-clause-found g c clean has = told_ok c.judge.result _ _ (judged g (goal.at.returns-in-Ok-Some-clause-found g c).After-judge clean has)

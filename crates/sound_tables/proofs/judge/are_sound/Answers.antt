@@ -1,4 +1,4 @@
-use Rattle.std.proofs.Common.{refl, rules, IsPermutation, ◌≡◌}
+use Rattle.std.proofs.Common.{refl, rules, IsPermutation, ◌≡◌, ap, ◌∙◌}
 use Rattle.std.specs.List.{list_all}
 use Rattle.sound_rows.specs.declared.numbers.Endpoint.{Endpoint}
 use Rattle.sound_rows.specs.declared.numbers.Numbers.{Numbers}
@@ -13,7 +13,8 @@ returns c db read =
     elim c.if-branch.branch [
       | then-branch w ↦
           let moved : IsPermutation c.args.rows.secrets.items w.are_in_places.new.secrets = search rules in
-          let placed : w.are_in_places.result ≡ list_all (λ (e : Endpoint). are_places (places_of e.put w.are_in_places.new.secrets)) c.args.rows.endpoints.items = search rules in
-          rw w.result-is (judged db c.args.records c.args.rows read c.requires numbers refl refl refl refl _ _ w.are_in_places.result moved w.are_in_places.ensures.sorted c.in_ok-are_sound.ensures placed w.if-branch.true)
-      | else-branch w ↦ rw (w.result-is, w.if-branch.false) (none_sound db c.args.records c.args.rows read c.requires numbers refl refl refl refl _ c.in_ok-are_sound.ensures w.if-branch.false)
+          let placed : w.are_in_places.result ≡ list_all (λ (e : Endpoint). are_places (places_of e.put w.are_in_places.new.secrets)) c.args.rows.endpoints.items =
+          w.are_in_places.ensures.placed ∙ ap (list_all (λ (e : Endpoint). are_places (places_of e.put w.are_in_places.new.secrets))) w.deref.ensures.value in
+          rw w.result-is (judged db c.args.records c.args.rows read c.requires numbers refl refl refl refl _ _ w.are_in_places.result moved w.are_in_places.ensures.sorted c.in_ok-are_sound.ensures.sound placed w.if-branch.true)
+      | else-branch w ↦ rw (w.result-is, w.if-branch.false) (none_sound db c.args.records c.args.rows read c.requires numbers refl refl refl refl _ c.in_ok-are_sound.ensures.sound w.if-branch.false)
     ]

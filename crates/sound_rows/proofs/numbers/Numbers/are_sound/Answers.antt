@@ -6,27 +6,27 @@ use Rattle.sound_rows.specs.Checks.{are_below, are_numbers_sound, are_others_ove
 use Rattle.sound_rows.proofs.SoundLaws.{sound_same, keyed_ascends}
 use Rattle.sound_rows.proofs.numbers.Numbers.are_sound.Goals as goal
 
-pub returns-then-not-are_below : goal.returns-then-not-are_below
-returns-then-not-are_below c rows numbers keyed values =
+pub returns-then-not-are_below-clause-sound : goal.returns-then-not-are_below-clause-sound
+returns-then-not-are_below-clause-sound c rows numbers keyed values =
     let k = kept c.args.self.now in
     sym (and_left (are_below k) (have_places k && (list_all (is_turn k.attempts) k.attempts && are_others_overtaken k)) (sym c.are_below.ensures ∙ c.if-not-are_below.true))
     ∙ (ap are_numbers_sound numbers ∙ sound_same rows values)
 
-pub returns-then-not-are_ascending : goal.returns-then-not-are_ascending
-returns-then-not-are_ascending c rows numbers keyed values =
+pub returns-then-not-are_ascending-clause-sound : goal.returns-then-not-are_ascending-clause-sound
+returns-then-not-are_ascending-clause-sound c rows numbers keyed values =
     let ascending = c.are_ascending.ensures.1 (subst AreAscending (sym numbers) (keyed_ascends rows keyed)) in
     let never : false ≡ true = sym c.if-not-are_ascending.true ∙ ascending in
     absurd (cc never)
 
-pub returns-then-not-have_places : goal.returns-then-not-have_places
-returns-then-not-have_places c rows numbers keyed values =
+pub returns-then-not-have_places-clause-sound : goal.returns-then-not-have_places-clause-sound
+returns-then-not-have_places-clause-sound c rows numbers keyed values =
     let k = kept c.args.self.now in
     sym (and_right (are_below k) (have_places k && (list_all (is_turn k.attempts) k.attempts && are_others_overtaken k))
     (and_left (have_places k) (list_all (is_turn k.attempts) k.attempts && are_others_overtaken k) (sym c.have_places.ensures ∙ c.if-not-have_places.true)))
     ∙ (ap are_numbers_sound numbers ∙ sound_same rows values)
 
-pub returns-then-are_in_turn : goal.returns-then-are_in_turn
-returns-then-are_in_turn c rows numbers keyed values =
+pub returns-then-are_in_turn-clause-sound : goal.returns-then-are_in_turn-clause-sound
+returns-then-are_in_turn-clause-sound c rows numbers keyed values =
     let k = kept c.args.self.now in
     let below : are_below k ≡ true = sym c.are_below.ensures ∙ c.if-not-are_below.false in
     let places : have_places k ≡ true = sym c.have_places.ensures ∙ c.if-not-have_places.false in
@@ -35,8 +35,8 @@ returns-then-are_in_turn c rows numbers keyed values =
     let whole : are_numbers_sound k ≡ are_others_overtaken k = (λ i. below i && (places i && (turns i && are_others_overtaken k))) in
     c.are_others_overtaken.ensures ∙ sym whole ∙ (ap are_numbers_sound numbers ∙ sound_same rows values)
 
-pub returns-else-are_in_turn : goal.returns-else-are_in_turn
-returns-else-are_in_turn c rows numbers keyed values =
+pub returns-else-are_in_turn-clause-sound : goal.returns-else-are_in_turn-clause-sound
+returns-else-are_in_turn-clause-sound c rows numbers keyed values =
     let k = kept c.args.self.now in
     let told = rw c.deref.ensures.value at c.in_ok-are_in_turn.ensures in
     c.if-are_in_turn.false
