@@ -15,14 +15,14 @@ use Rattle.relay_types.proofs.HistoryLaws.{of_a_history}
 use Rattle.relay_types.proofs.KnownLaws.{legal_front}
 use Rattle.spool_sql.specs.Stored.{IsTables}
 use Rattle.spool_sql.specs.Tables.{relay_schema}
-use Rattle.spool.specs.Adopting.{IsAdopted, IsOnlyRead, LeavesRead}
+use Rattle.spool.specs.Adopting.{IsAdopted, IsOnlyRead, LeavesRead, IsOfStore}
 use Rattle.spool.specs.declared.ends.OpenFault.{OpenFault}
 use Rattle.spool.specs.declared.ends.OpenFault.TheVariants.{NotOurs, NewerVersion, Damaged, Store, OutOfMemory}
 use Rattle.spool.specs.Vaults.{VaultValue}
 use Rattle.desk.specs.World.{World, all_records}
 use Rattle.desk.specs.Desks.{DeskValue}
 use Rattle.recovery.specs.Left.{AreLeft, AreOfSteps}
-use Rattle.recovery.specs.Reopenings.{AreOpenedAt, AreOpenedAtOne, IsReopened, OpensHeld, ReopensLeft, steps_from}
+use Rattle.recovery.specs.Reopenings.{AreOpenedAt, AreOpenedAtOne, IsReopened, OpensHeld, ReopensLeft, steps_from, IsOfReading}
 
 records_of_each : (records : List Record) → records_of (map (λ entry. entry ∷ []) records) ≡ records
 records_of_each [] = refl
@@ -96,3 +96,10 @@ leaves_read_then a b c NewerVersion first (second, is_open) = (only_read_then a 
 leaves_read_then a b c Damaged first (second, is_open) = (only_read_then a b c first second, is_open)
 leaves_read_then a b c (Store cause) first second = only_read_then a b c first second
 leaves_read_then a b c OutOfMemory first second = only_read_then a b c first second
+
+pub of_reading : (fault : OpenFault) → IsOfStore fault → IsOfReading fault
+of_reading NotOurs none = none
+of_reading NewerVersion none = none
+of_reading Damaged none = none
+of_reading (Store cause) h = tt
+of_reading OutOfMemory h = tt

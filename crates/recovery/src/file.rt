@@ -24,11 +24,16 @@ use spool_sql::is_empty;
 use sqlite::{Alter, Connection, Error, ErrorCode, FileFrom, FileStore, Leftover, Start};
 use std::alloc::Global;
 use std::fs;
+use std::fs::OpenOptions;
 use std::io::ErrorKind;
+use std::os::unix::fs::OpenOptionsExt;
 use std::sync::ledger::{Blank, Ledger};
 
 // What a file of SQLite begins with has so many bytes. A shorter one isn't opened: of one byte an open would make a store.
 const HEADER_LENGTH: u64 = 16;
+
+// The rights of a file that its owner alone reads and writes (POSIX.1-2017).
+const OWNER_ALONE: u32 = 0o600;
 
 const CANNOT_OPEN: OpenFault = OpenFault::Store(Error::SqliteFailure(ErrorCode::CannotOpen));
 
@@ -75,6 +80,9 @@ pub fn connect<T: Start>(
     if 0 < length && length < HEADER_LENGTH {
         return Err(OpenFault::NotOurs);
     }
+    if length == 0 {
+        make_private(rt, path)?;
+    }
     match Connection::open_from(rt, path, false, start) {
         Ok(conn) => Ok((conn, length == 0)),
         Err((error, mut left)) => Err(refusal_of(rt.alloc(), error, left.as_mut())),
@@ -116,6 +124,23 @@ pub fn open<L: Ledger, S: Alter>(
     match Pool::<L>::new(alloc, blank) {
         Ok(pool) => reopen(alloc, pool, conn, mark),
         Err(_) => Err((conn, OpenFault::OutOfMemory)),
+    }
+}
+
+// Makes the file where nothing stands at the path. It will hold secrets, so nobody but its owner may read it, and its log gets the same rights.
+fn make_private(rt: &HostRuntime, path: &str) -> Result<(), OpenFault> {
+    match OpenOptions::new()
+        .write(true)
+        .create_new(true)
+        .mode(OWNER_ALONE)
+        .open(rt, path)
+    {
+        Ok(_empty) => Ok(()),
+        Err(error) => match error.kind() {
+            ErrorKind::AlreadyExists => Ok(()),
+            ErrorKind::OutOfMemory => Err(OpenFault::OutOfMemory),
+            _ => Err(CANNOT_OPEN),
+        },
     }
 }
 

@@ -14,3 +14,4 @@ pub mod EndpointLoads
 pub mod DeliveryLoads
 pub mod AttemptLoads
 pub mod BookLoads
+pub mod HistoryLemmas

@@ -1,7 +1,9 @@
 -- What the vault of tables that stand holds, and why there is none.
 use Rattle.std.specs.Prelude.{◌≡◌, ◌⊎◌, ℕ, List, Result, Ok, Err, IsTrue}
 use Rattle.sqlite.specs.declared.error.Error.{Error}
-use Rattle.sqlite.specs.State.{State, Fails, IsUnchanged}
+use Rattle.sqlite.specs.State.{State, Fails, IsUnchanged, store_error}
+use Rattle.sqlite_trees.specs.View.{Tells}
+use Rattle.sqlite_trees.specs.declared.error.StoreError.{StoreError}
 use Rattle.sqlite.specs.Effect.{Database}
 use Rattle.sqlite.specs.Tree.{Trees}
 use Rattle.sqlite_trees.specs.declared.store.Store.{Ghosts}
@@ -49,6 +51,18 @@ IsUnadopted old new Damaged = tables.IsRefusedAt old.now table.Damaged
 IsUnadopted old new (Store error) = cause error ≡ of.Store
 IsUnadopted old new OutOfMemory = Unit {0}
 
+-- they have the rows of a legal history
+abbrev pub HaveHistory : Database → Type 0
+HaveHistory db = (records : List Record) × IsLegal records × IsTables db (rows_of records)
+
+-- Tables that have the rows of a legal history are refused only for memory, or because a call of the store was.
+abbrev pub IsOfStore : OpenFault → Type 0
+IsOfStore NotOurs = ⊥
+IsOfStore NewerVersion = ⊥
+IsOfStore Damaged = ⊥
+IsOfStore (Store error) = cause error ≡ of.Store
+IsOfStore OutOfMemory = Unit {0}
+
 -- As what a store without a table `meta` is told: as none of the relay's, or the look at it was refused.
 abbrev pub IsForeign : OpenFault → Type 0
 IsForeign NotOurs = Unit {0}
@@ -56,6 +70,14 @@ IsForeign NewerVersion = ⊥
 IsForeign Damaged = ⊥
 IsForeign (Store error) = Unit {0}
 IsForeign OutOfMemory = Unit {0}
+
+-- a fault of the store that is told is one that was met at it
+abbrev pub FailsIfOfStore : State → OpenFault → Type 0
+FailsIfOfStore new NotOurs = Unit {0}
+FailsIfOfStore new NewerVersion = Unit {0}
+FailsIfOfStore new Damaged = Unit {0}
+FailsIfOfStore new (Store error) = (why : StoreError) × (error ≡ store_error why) × Tells new.blamed why
+FailsIfOfStore new OutOfMemory = Unit {0}
 
 -- what each refusal leaves: where it is of the tables, the store was seen to be open
 abbrev pub LeavesRead : State → State → OpenFault → Type 0

@@ -5,7 +5,7 @@ ghost use Rattle.sqlite.specs.State.{HasCleanDisk};
 ghost use Rattle.spool_sql.specs.Steps.{IfClean, SurvivesAs};
 ghost use Rattle.spool_sql.specs.Tables.{relay_schema};
 ghost use Rattle.sound_tables.specs.Keys.{has_meta, has_tables};
-ghost use Rattle.spool.specs.Adopting.{AreAdopted, IsForeign, IsOnlyRead, IsUnadopted, LeavesRead, TellsCheck};
+ghost use Rattle.spool.specs.Adopting.{AreAdopted, FailsIfOfStore, IsForeign, IsOnlyRead, IsUnadopted, LeavesRead, TellsCheck};
 
 use crate::ends::OpenFault;
 use sound_tables::{TableFault, check_tables};
@@ -20,6 +20,8 @@ pub(crate) fn adopt_tables<S: Alter>(
 ) -> Result<u64, OpenFault>
     requires { conn.old.in_transaction ≡ false }
     ensures ours { has_meta (state S.Store conn.old).now.schema ≡ false → MatchResult result (λ _. ⊥) IsForeign }
+    ensures foreign { has_meta (state S.Store conn.old).now.schema ≡ false
+        → IfClean S.Store conn.old conn.new (λ _ b. IfErr result (FailsIfOfStore b)) }
     ensures whole { has_tables (state S.Store conn.old).now.schema ≡ false → IsErr result }
     ensures adopted { IfClean S.Store conn.old conn.new
         (λ a b. a.now.schema ≡ relay_schema → IfOk result (AreAdopted a b)) }
@@ -44,6 +46,8 @@ fn end_check<S: Alter>(
     requires { conn.old.in_transaction ≡ false }
     ensures ours { checked ≡ Err TableFault.NotOurs → MatchResult result (λ _. ⊥) IsForeign }
     ensures refused { IsErr checked → IsErr result }
+    ensures foreign { checked ≡ Err TableFault.NotOurs
+        → IfClean S.Store conn.old conn.new (λ _ b. IfErr result (FailsIfOfStore b)) }
     ensures told { IfClean S.Store conn.old conn.new (λ a b. TellsCheck a b checked result) }
     ensures mode { conn.new.in_transaction ≡ false }
     ensures survives { SurvivesAs S.Store conn.old conn.new (λ _ _. ⊥) }

@@ -6,7 +6,7 @@ ghost use Rattle.relay_types.specs.Records.{records_of};
 ghost use Rattle.spool_sql.specs.Steps.{IfClean, IsBegun};
 ghost use Rattle.spool_sql.specs.Tables.{no_schema, relay_schema};
 ghost use Rattle.sound_tables.specs.Keys.{has_meta, has_tables};
-ghost use Rattle.spool.specs.Adopting.{IsAdopted, IsForeign, IsOnlyRead, IsUnadopted, LeavesRead};
+ghost use Rattle.spool.specs.Adopting.{FailsIfOfStore, HaveHistory, IsAdopted, IsForeign, IsOfStore, IsOnlyRead, IsUnadopted, LeavesRead};
 ghost use Rattle.spool.specs.Opening.{has_ours, IsRefusedFor, LeavesAt};
 ghost use Rattle.spool.specs.Books.{AreBooksOf, AreSettled, IsSeen, LeavesHeld};
 ghost use Rattle.spool.specs.Commits.{HoldsOnDisk, IsNext, HandsBack, IsDoubt, IsRefused, answer_of, LeavesRows, LeavesHistory, IsIllegal};
@@ -86,11 +86,14 @@ impl<S: Alter> Vault<S> {
         ensures opened { IfOk result (λ v. (v.mark ≡ mark) × (v.closed ≡ false)) }
         ensures ours { has_meta (state S.Store conn).now.schema ≡ false
             → MatchResult result (λ _. ⊥) (λ e. IsForeign e.1) }
+        ensures foreign { has_meta (state S.Store conn).now.schema ≡ false
+            → IfErr result (λ e. IfClean S.Store conn e.0 (λ _ b. FailsIfOfStore b e.1)) }
         ensures whole { has_tables (state S.Store conn).now.schema ≡ false → IsErr result }
         ensures adopted { IfOk result (λ v. IfClean S.Store conn v.conn
             (λ a _. a.now.schema ≡ relay_schema → IsAdopted S.Store a.now v)) }
         ensures refused { IfErr result (λ e. IfClean S.Store conn e.0
             (λ a b. a.now.schema ≡ relay_schema → IsUnadopted a b e.1)) }
+        ensures sound { IfErr result (λ e. IfClean S.Store conn e.0 (λ a _. HaveHistory a.now → IsOfStore e.1)) }
         ensures read { MatchResult result (λ v. IfClean S.Store conn v.conn IsOnlyRead)
             (λ e. IfClean S.Store conn e.0 (λ a b. LeavesRead a b e.1)) }
         ensures clean { MatchResult result (λ v. IfClean S.Store conn v.conn (λ a _. HasCleanDisk a))

@@ -1,7 +1,7 @@
 use Rattle.std.proofs.Common.{inl, inr}
 use Rattle.std.proofs.lemmas.Result.{err_from_is_err_and}
 use Rattle.sqlite.specs.Held.{state}
-use Rattle.recovery.proofs.ReopeningLaws.{is_reopened, reopens_left, of_answer, of_refusal, of_both, only_read_then, leaves_read_then}
+use Rattle.recovery.proofs.ReopeningLaws.{is_reopened, reopens_left, of_answer, of_refusal, of_both, only_read_then, leaves_read_then, of_reading}
 use Rattle.recovery.proofs.reopening.reopen.Goals as goal
 
 pub returns-clause-opened : goal.returns-clause-opened
@@ -30,3 +30,11 @@ pub returns-in_err-vault-clause-refused : goal.returns-in_err-vault-clause-refus
 returns-in_err-vault-clause-refused g c =
     let p = err_from_is_err_and c.from_residual.result c.from_residual.ensures.1 in
     rw (p.1, p.2) (λ clean schema. inl (c.in_err-vault.ensures.refused clean schema))
+
+pub returns-clause-sound : goal.returns-clause-sound
+returns-clause-sound g c = of_refusal _ _ _ _ c.with_desk.result (λ back reading clean new history. reading) c.with_desk.ensures.cause c.with_desk.ensures.clean
+
+pub returns-in_err-vault-clause-sound : goal.returns-in_err-vault-clause-sound
+returns-in_err-vault-clause-sound g c =
+    let p = err_from_is_err_and c.from_residual.result c.from_residual.ensures.1 in
+    rw (p.1, p.2) (λ clean history. of_reading _ (c.in_err-vault.ensures.sound clean history))
