@@ -1,5 +1,9 @@
 //! One request and the head of its answer, over a connection of its own, against one deadline.
+ghost use Rattle.std.specs.Prelude.{◌≡◌, Ok, Err, IfOk, IfErr};
+ghost use Rattle.http.specs.Response.{head_of};
+
 use crate::failure::Failure;
+use crate::look_up::Resolver;
 use crate::request::http_request;
 use bytes::Bytes;
 use delivery::Outgoing;
@@ -10,7 +14,7 @@ use hyper::body::Incoming;
 use hyper::client::conn::http1::handshake;
 use std::alloc::AllocGlobal;
 use std::hash::RandomState;
-use std::net::{HostAddrs, Net, SocketAddr, ToSocketAddrs};
+use std::net::{HostAddrs, Net, SocketAddr};
 use std::random::RandomSource;
 use std::str;
 use std::sync::Wait;
@@ -18,9 +22,11 @@ use std::time::{Clock, Duration, Instant};
 use tokio::net::TcpStream;
 use tokio::runtime::LocalRuntime;
 
-// Sends the request and waits for the head of its answer: its status, and the time from before the connection until it was read.
+// Looks the subscriber up, sends the request and waits for the head of its answer, all within the timeout: its status, and the time from before
+// the connection until it was read.
 pub(crate) fn exchange<R>(
     rt: &R,
+    resolver: &Resolver,
     outgoing: &Outgoing,
     timeout: Duration,
 ) -> Result<(StatusCode, Duration), Failure>
@@ -29,24 +35,18 @@ where
 {
     let request = http_request(rt.alloc(), outgoing)?;
     let mut runtime = LocalRuntime::new(rt).map_err(Failure::before)?;
-    let addresses = look_up(rt, outgoing)?;
-    let start = Instant::now(rt).map_err(Failure::before)?;
-    let Some(deadline) = start.checked_add(timeout) else {
+    let begun = Instant::now(rt).map_err(Failure::before)?;
+    let Some(deadline) = begun.checked_add(timeout) else {
         return Err(Failure::Late);
     };
-    let socket = connect(rt, &mut runtime, addresses, deadline)?;
-    let status = send(rt, &mut runtime, socket, request, deadline)?;
-    Ok((status, start.elapsed(rt).unwrap_or(timeout)))
-}
-
-// The subscriber's addresses. The look-up has no limit of time.
-fn look_up<R: Net>(rt: &R, outgoing: &Outgoing) -> Result<HostAddrs, Failure> {
     let Ok(host) = str::from_utf8(outgoing.host()) else {
         return Err(Failure::Unreached);
     };
-    (host, outgoing.port())
-        .to_socket_addrs(rt)
-        .map_err(Failure::of)
+    let addresses = resolver.addresses(rt, host, outgoing.port(), left(rt, deadline))?;
+    let start = Instant::now(rt).map_err(Failure::before)?;
+    let socket = connect(rt, &mut runtime, addresses, deadline)?;
+    let status = send(rt, &mut runtime, socket, request, deadline)?;
+    Ok((status, start.elapsed(rt).unwrap_or(timeout)))
 }
 
 // What is left until the deadline.
@@ -132,7 +132,11 @@ where
     }
 }
 
-fn status_of(answered: hyper::Result<Response<Incoming>>) -> Result<StatusCode, Failure> {
+// The status of an answer.
+fn status_of(answered: hyper::Result<Response<Incoming>>) -> Result<StatusCode, Failure>
+    ensures answered { IfOk answered (λ response. result ≡ Ok (head_of response).status) }
+    ensures unreached { IfErr answered (λ _. result ≡ Err Failure.Unreached) }
+{
     match answered {
         Ok(response) => Ok(response.status()),
         Err(_) => Err(Failure::Unreached),

@@ -3,6 +3,7 @@
 
 mod exchange;
 mod failure;
+mod look_up;
 mod poster;
 mod request;
 

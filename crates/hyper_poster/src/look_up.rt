@@ -1,0 +1,189 @@
+//! The addresses of hosts. The system looks a name up for as long as it likes, so each name is looked up on a thread of its own.
+use crate::failure::Failure;
+use std::alloc::{AllocError, AllocGlobal, Global};
+use std::net::{HostAddrs, IpAddr, Net, TcpListener, TcpStream, ToSocketAddrs};
+use std::sync::atomic::{AtomicBool, Ordering};
+use std::sync::{Arc, Condvar, CondvarTimeouts, Mutex, Wait};
+use std::thread;
+use std::thread::Threads;
+use std::time::{Clock, Duration};
+
+/// So many look-ups of one poster may be under way, those that it gave up among them.
+const MOST_LOOK_UPS: usize = 32;
+
+/// Looks names up. One thread waits for them, and starts another for each.
+pub(crate) struct Resolver {
+    asked: Arc<Asked>,
+    under_way: Mutex<Vec<Arc<LookUp>>>,
+}
+
+// The look-ups that wait for a thread.
+#[derive(Drop)]
+struct Asked {
+    waiting: Mutex<Vec<Arc<LookUp>>>,
+    came: Condvar,
+    is_over: AtomicBool,
+}
+
+// A name, and what came of its look-up once it has ended.
+#[derive(Drop)]
+struct LookUp {
+    host: String,
+    port: u16,
+    found: Mutex<Option<Result<HostAddrs, Failure>>>,
+    ended: Condvar,
+}
+
+// The thread that waits ends; no look-up is waited for.
+impl Drop for Resolver {
+    fn drop(self) {
+        self.asked.is_over.store(true, Ordering::SeqCst);
+        self.asked.came.notify_all();
+        let Resolver {
+            asked: _,
+            under_way: _,
+        } = self;
+    }
+}
+
+impl Resolver {
+    pub(crate) fn start<R>(rt: R) -> Result<Resolver, AllocError>
+    where
+        R: Wait
+            + Threads
+            + Net<Listener = TcpListener, Stream = TcpStream>
+            + AllocGlobal
+            + Copy
+            + Send
+            + 'static,
+    {
+        let alloc = rt.alloc();
+        let asked = Arc::new(alloc, Asked::new(alloc)).map_err(AllocError::from)?;
+        let theirs = Arc::try_clone(&asked)?;
+        let _running = thread::spawn(&rt, move || begin_all(&rt, &theirs))?;
+        Ok(Resolver {
+            asked,
+            under_way: Mutex::new(Vec::new(alloc)),
+        })
+    }
+
+    // The addresses of the host, if they are found in so long.
+    pub(crate) fn addresses<R>(
+        &self,
+        rt: &R,
+        host: &str,
+        port: u16,
+        limit: Duration,
+    ) -> Result<HostAddrs, Failure>
+    where
+        R: Wait + Clock + Net + AllocGlobal,
+    {
+        if host.parse::<IpAddr>().is_ok() {
+            return addresses_of(rt, host, port);
+        }
+        let host = String::from_str(rt.alloc(), host)?;
+        let look_up = self.ask(rt, LookUp::new(host, port))?;
+        look_up.found_within(rt, limit)
+    }
+
+    // A look-up that is asked for. None is where too many are under way.
+    fn ask<R: Wait + AllocGlobal>(&self, rt: &R, look_up: LookUp) -> Result<Arc<LookUp>, Failure> {
+        let mut under_way = self.under_way.lock(rt);
+        under_way.retain(|it| Arc::strong_count(it) > 1);
+        if under_way.len() >= MOST_LOOK_UPS {
+            return Err(Failure::Unsent);
+        }
+        let look_up = Arc::new(rt.alloc(), look_up).map_err(AllocError::from)?;
+        under_way
+            .push(Arc::try_clone(&look_up)?)
+            .map_err(AllocError::from)?;
+        self.asked.add(rt, Arc::try_clone(&look_up)?)?;
+        Ok(look_up)
+    }
+}
+
+impl Asked {
+    fn new(alloc: Global) -> Asked {
+        Asked {
+            waiting: Mutex::new(Vec::new(alloc)),
+            came: Condvar::new(),
+            is_over: AtomicBool::new(false),
+        }
+    }
+
+    fn add<R: Wait>(&self, rt: &R, look_up: Arc<LookUp>) -> Result<(), AllocError> {
+        self.waiting
+            .lock(rt)
+            .push(look_up)
+            .map_err(AllocError::from)?;
+        self.came.notify_all();
+        Ok(())
+    }
+
+    // The next look-up, or none once the resolver is gone.
+    fn next<R: Wait>(&self, rt: &R) -> Option<Arc<LookUp>> {
+        let waiting = self.waiting.lock(rt);
+        let mut waiting = self.came.wait_while(rt, waiting, |waiting| {
+            waiting.is_empty() && !self.is_over.load(Ordering::SeqCst)
+        });
+        waiting.pop()
+    }
+}
+
+impl LookUp {
+    fn new(host: String, port: u16) -> LookUp {
+        LookUp {
+            host,
+            port,
+            found: Mutex::new(None),
+            ended: Condvar::new(),
+        }
+    }
+
+    fn run<R: Wait + Net>(&self, rt: &R) {
+        self.end(rt, addresses_of(rt, self.host.as_str(), self.port));
+    }
+
+    fn end<R: Wait>(&self, rt: &R, found: Result<HostAddrs, Failure>) {
+        *self.found.lock(rt) = Some(found);
+        self.ended.notify_all();
+    }
+
+    // What comes of it in so long.
+    fn found_within<R: Wait + Clock>(&self, rt: &R, limit: Duration) -> Result<HostAddrs, Failure> {
+        let found = self.found.lock(rt);
+        let (mut found, _timed) = self
+            .ended
+            .wait_timeout_while(rt, found, limit, |found| found.is_none());
+        found.take().unwrap_or(Err(Failure::Late))
+    }
+}
+
+// Begins all look-ups that are asked for.
+fn begin_all<R>(rt: &R, asked: &Asked)
+where
+    R: Wait + Threads + Net<Listener = TcpListener, Stream = TcpStream> + Copy + Send + 'static,
+{
+    for _ in rt.forever() {
+        let Some(look_up) = asked.next(rt) else {
+            return;
+        };
+        if begin(*rt, &look_up).is_err() {
+            look_up.end(rt, Err(Failure::Unsent));
+        }
+    }
+}
+
+// Begins a look-up on a thread that nobody joins: it ends when the system has an answer.
+fn begin<R>(rt: R, look_up: &Arc<LookUp>) -> Result<(), AllocError>
+where
+    R: Wait + Threads + Net<Listener = TcpListener, Stream = TcpStream> + Copy + Send + 'static,
+{
+    let theirs = Arc::try_clone(look_up)?;
+    let _running = thread::spawn(&rt, move || theirs.run(&rt))?;
+    Ok(())
+}
+
+fn addresses_of<R: Net>(rt: &R, host: &str, port: u16) -> Result<HostAddrs, Failure> {
+    (host, port).to_socket_addrs(rt).map_err(Failure::of)
+}
