@@ -1,15 +1,22 @@
 //! Submitters, workers and the committer of a run, which is on the thread that starts them.
+ghost use Rattle.std.specs.Prelude.{◌≡◌, List};
+ghost use Rattle.relay_types.specs.declared.record.Record.{Record};
+
 use crate::events::{body_of, id_of, name_of, put_of};
 use crate::failed::Failed;
 use crate::sharing::{Answering, Counting, Sharing, Shown, Standing};
 use crate::turns::{BATCH, written};
-use delivery::{CommitterEnd, Pass, Round, Shared, committer_run, worker_round};
+use delivery::{
+    CommitterEnd, Keeper, LoggedKeeper, Pass, Round, Shared, begin_run, committer_run, worker_round,
+};
 use desk::Desk;
 use intake_shed::submit_and_wait;
 use relay_types::Moment;
+use run_log::{LogId, NewLog};
 use spool::Vault;
 use sqlite::Alter;
 use std::alloc::Global;
+use std::marker::Brand;
 use std::sync::Wait;
 use std::sync::atomic::{AtomicU64, Ordering};
 use std::sync::ledger::Ledger;
@@ -21,8 +28,8 @@ const ENDPOINTS: u32 = 100;
 
 /// What the threads of a run share.
 #[derive(Drop)]
-struct Run<L: Ledger> {
-    shared: Shared<L>,
+struct Run<L: Ledger, I: LogId> {
+    shared: Shared<L, I>,
     now: Moment,
     /// How many events are still to be acknowledged or posted.
     left: AtomicU64,
@@ -30,10 +37,10 @@ struct Run<L: Ledger> {
     failed: AtomicU64,
 }
 
-impl<L: Ledger> Run<L> {
-    fn new(desk: Desk<L>, now: Moment, events: u32) -> Run<L> {
+impl<L: Ledger, I: LogId> Run<L, I> {
+    fn new(shared: Shared<L, I>, now: Moment, events: u32) -> Run<L, I> {
         Run {
-            shared: Shared::new(desk),
+            shared,
             now,
             left: AtomicU64::new(u64::from(events)),
             failed: AtomicU64::new(0),
@@ -61,10 +68,10 @@ fn put_each<L: Ledger>(alloc: Global, desk: &mut Desk<L>) -> Result<(), Failed> 
 }
 
 // Submits an event, and waits until it is acknowledged.
-fn submit<L: Ledger, R: Wait>(
+fn submit<L: Ledger, I: LogId, R: Wait>(
     rt: &R,
     alloc: Global,
-    run: &Run<L>,
+    run: &Run<L, I>,
     number: u32,
     pass: &mut Pass,
 ) -> Result<(), Failed> {
@@ -76,7 +83,12 @@ fn submit<L: Ledger, R: Wait>(
     }
 }
 
-fn submit_each<L: Ledger, R: Wait>(rt: &R, alloc: Global, run: &Run<L>, (from, upto): (u32, u32)) {
+fn submit_each<L: Ledger, I: LogId, R: Wait>(
+    rt: &R,
+    alloc: Global,
+    run: &Run<L, I>,
+    (from, upto): (u32, u32),
+) {
     let mut pass = Pass::new();
     for number in from..upto {
         match submit(rt, alloc, run, number, &mut pass) {
@@ -87,7 +99,7 @@ fn submit_each<L: Ledger, R: Wait>(rt: &R, alloc: Global, run: &Run<L>, (from, u
 }
 
 // Posts until the end. Where every event is to be posted once, each post counts.
-fn work<L: Ledger, R: Wait + Clock>(rt: &R, alloc: Global, run: &Run<L>) {
+fn work<L: Ledger, I: LogId, R: Wait + Clock>(rt: &R, alloc: Global, run: &Run<L, I>) {
     let clock = Standing(run.now);
     let mut pass = Pass::new();
     for _ in rt.forever() {
@@ -99,34 +111,35 @@ fn work<L: Ledger, R: Wait + Clock>(rt: &R, alloc: Global, run: &Run<L>) {
     }
 }
 
-fn end_after<L: Ledger, R: Wait + Clock>(rt: &R, run: &Run<L>, seconds: u32) {
+fn end_after<L: Ledger, I: LogId, R: Wait + Clock>(rt: &R, run: &Run<L, I>, seconds: u32) {
     thread::sleep(rt, Duration::from_secs(u64::from(seconds)));
     run.shared.finish(rt);
 }
 
 // Runs the committer until the end: how many commits it made, if it finished.
-fn commit<L: Ledger, S: Alter + Drop, R: Wait>(
+fn commit<L: Ledger, I: LogId, K: Keeper + Drop, R: Wait + Clock>(
     rt: &R,
-    run: &Run<L>,
-    vault: Vault<S>,
+    run: &Run<L, I>,
+    logged: LoggedKeeper<I, Counting<K>>,
 ) -> Option<u64> {
-    let counting = Counting {
-        keeper: vault,
-        commits: 0,
-    };
-    let (counting, end) = committer_run(rt, &run.shared, counting);
+    let (logged, end) = committer_run(rt, &run.shared, logged);
     run.shared.finish(rt);
     match end {
-        CommitterEnd::Finished => Some(counting.commits),
+        CommitterEnd::Finished => Some(logged.into_keeper().commits),
         CommitterEnd::Halted(_) => None,
     }
 }
 
-fn with_submitters<L: Ledger + Send + Sync, S: Alter + Drop, R: Threads + Wait + Clock + Sync>(
+fn with_submitters<
+    L: Ledger + Send + Sync,
+    I: LogId + Send + Sync,
+    K: Keeper + Drop,
+    R: Threads + Wait + Clock + Sync,
+>(
     rt: &R,
     alloc: Global,
-    run: &Run<L>,
-    vault: Vault<S>,
+    run: &Run<L, I>,
+    logged: LoggedKeeper<I, Counting<K>>,
     (threads, events): (u32, u32),
 ) -> Option<u64> {
     let each = events.div_ceil(threads.max(1));
@@ -139,15 +152,20 @@ fn with_submitters<L: Ledger + Send + Sync, S: Alter + Drop, R: Threads + Wait +
                 run.fail(rt);
             }
         }
-        commit(rt, run, vault)
+        commit(rt, run, logged)
     })
 }
 
-fn with_workers<L: Ledger + Send + Sync, S: Alter + Drop, R: Threads + Wait + Clock + Sync>(
+fn with_workers<
+    L: Ledger + Send + Sync,
+    I: LogId + Send + Sync,
+    K: Keeper + Drop,
+    R: Threads + Wait + Clock + Sync,
+>(
     rt: &R,
     alloc: Global,
-    run: &Run<L>,
-    vault: Vault<S>,
+    run: &Run<L, I>,
+    logged: LoggedKeeper<I, Counting<K>>,
     (threads, seconds): (u32, u32),
 ) -> Option<u64> {
     thread::scope(thread::scope_env(), rt, move |scope| {
@@ -160,7 +178,7 @@ fn with_workers<L: Ledger + Send + Sync, S: Alter + Drop, R: Threads + Wait + Cl
         if seconds > 0 && scope.spawn(move || end_after(rt, run, seconds)).is_err() {
             run.fail(rt);
         }
-        commit(rt, run, vault)
+        commit(rt, run, logged)
     })
 }
 
@@ -239,29 +257,34 @@ fn prepare<L: Ledger, S: Alter>(
     }
 }
 
-fn with_threads<L: Ledger + Send + Sync, S: Alter + Drop, R: Threads + Wait + Clock + Sync>(
+fn with_threads<
+    L: Ledger + Send + Sync,
+    I: LogId + Send + Sync,
+    K: Keeper + Drop,
+    R: Threads + Wait + Clock + Sync,
+>(
     rt: &R,
     alloc: Global,
-    run: &Run<L>,
-    vault: Vault<S>,
+    run: &Run<L, I>,
+    logged: LoggedKeeper<I, Counting<K>>,
     sharing: Sharing,
 ) -> Option<u64> {
     match sharing {
         Sharing::Submitters(threads, events) => {
-            with_submitters(rt, alloc, run, vault, (threads, events))
+            with_submitters(rt, alloc, run, logged, (threads, events))
         }
-        Sharing::Workers(threads, _) => with_workers(rt, alloc, run, vault, (threads, 0)),
+        Sharing::Workers(threads, _) => with_workers(rt, alloc, run, logged, (threads, 0)),
         Sharing::Idle(threads, seconds) => {
-            with_workers(rt, alloc, run, vault, (threads, seconds.max(1)))
+            with_workers(rt, alloc, run, logged, (threads, seconds.max(1)))
         }
     }
 }
 
 // What a run shows that began then and ended well.
-fn shown<L: Ledger, R: Clock>(
+fn shown<L: Ledger, I: LogId, R: Clock>(
     rt: &R,
     began: Option<Instant>,
-    run: Run<L>,
+    run: Run<L, I>,
     commits: Option<u64>,
 ) -> Result<Shown, Failed> {
     let failed = run.failed.load(Ordering::SeqCst);
@@ -294,8 +317,41 @@ pub(crate) fn run_threads<
     sharing: Sharing,
 ) -> Result<Shown, Failed> {
     let (events, now) = prepare(alloc, &mut desk, &mut vault, sharing)?;
-    let run = Run::new(desk, now, events);
+    let (new_log, new_staged) = (NewLog::new(alloc)?, NewLog::new(alloc)?);
+    run_named::<L, Brand, S, R>(
+        rt, alloc, new_log, new_staged, desk, vault, sharing, events, now,
+    )
+}
+
+// The same with a log of this id, of which nothing is proved.
+fn run_named<
+    L: Ledger + Send + Sync,
+    I: LogId + Send + Sync,
+    S: Alter + Drop,
+    R: Threads + Wait + Clock + Sync,
+>(
+    rt: &R,
+    alloc: Global,
+    new_log: NewLog,
+    new_staged: NewLog,
+    desk: Desk<L>,
+    vault: Vault<S>,
+    sharing: Sharing,
+    events: u32,
+    now: Moment,
+) -> Result<Shown, Failed>
+    requires table { new_log ≡ I.table }
+    requires staged { new_staged ≡ I.staged }
+    requires start { I.start ≡ vault.next }
+    requires no_base { (base : List Record) → I.is_base base → ⊥ }
+{
+    let counting = Counting {
+        keeper: vault,
+        commits: 0,
+    };
+    let (shared, logged) = begin_run::<L, I, _>(new_log, new_staged, desk, counting);
+    let run = Run::new(shared, now, events);
     let began = Instant::now(rt).ok();
-    let commits = with_threads(rt, alloc, &run, vault, sharing);
+    let commits = with_threads(rt, alloc, &run, logged, sharing);
     shown(rt, began, run, commits)
 }

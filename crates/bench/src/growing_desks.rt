@@ -1,6 +1,7 @@
 //! Calls over a desk with an endpoint and an event that is settled and due.
-ghost use Rattle.std.specs.Prelude.{◌≡◌};
+ghost use Rattle.std.specs.Prelude.{◌≡◌, List};
 ghost use Rattle.permits.specs.declared.pool.TheConstants.{PARTS};
+ghost use Rattle.relay_types.specs.declared.record.Record.{Record};
 
 use crate::failed::Failed;
 use crate::growing::{Attempt, Told, told_of, try_twice};
@@ -15,6 +16,7 @@ use intake_shed::{Ask, AskBody, Asked, answer, page_reply};
 use permits::PARTS;
 use relay_types::{MaxLimit, Moment, MsgId, Name, Secret, Secrets, Target};
 use retry_table::PostResult;
+use run_log::{LogId, NewLog};
 use spool::Vault;
 use sqlite::{Alter, Connection, MemStore};
 use status::{endpoint_text, event_text, totals_text};
@@ -174,15 +176,15 @@ impl<L: Ledger> Attempt for Audit<'_, L> {
 
 /// A call of a thread that shares the desk.
 #[derive(Drop)]
-struct Sharer<'a, L: Ledger, R: Wait> {
+struct Sharer<'a, L: Ledger, I: LogId, R: Wait> {
     wait: &'a R,
     call: DeskCall,
-    shared: &'a Shared<L>,
+    shared: &'a Shared<L, I>,
     given: Given,
     pass: Pass,
 }
 
-impl<L: Ledger, R: Wait> Attempt for Sharer<'_, L, R> {
+impl<L: Ledger, I: LogId, R: Wait> Attempt for Sharer<'_, L, I, R> {
     fn attempt(&mut self, rt: &HostRuntime) -> Told {
         match self.call {
             DeskCall::AnswerEndpoint => self.ask(rt, b"GET", b"/v1/endpoints/a", &[]),
@@ -208,7 +210,7 @@ impl<L: Ledger, R: Wait> Attempt for Sharer<'_, L, R> {
     }
 }
 
-impl<L: Ledger, R: Wait> Sharer<'_, L, R> {
+impl<L: Ledger, I: LogId, R: Wait> Sharer<'_, L, I, R> {
     fn ask<'x>(
         &mut self,
         rt: &HostRuntime,
@@ -223,7 +225,7 @@ impl<L: Ledger, R: Wait> Sharer<'_, L, R> {
             body: AskBody::Whole(b"{}"),
         };
         let Given { id, now, .. } = self.given;
-        let reply = answer(
+        let answered = answer(
             self.wait,
             rt.alloc(),
             self.shared,
@@ -232,7 +234,7 @@ impl<L: Ledger, R: Wait> Sharer<'_, L, R> {
             now,
             &mut self.pass,
         );
-        told_of(reply_told(&reply))
+        told_of(reply_told(&answered.reply))
     }
 
     fn work(&mut self, rt: &HostRuntime) -> Told {
@@ -300,6 +302,51 @@ fn build<L: Ledger>(rt: &HostRuntime, desk: &mut OpenDesk<L>, given: Given) -> i
     ended
 }
 
+// A call of a thread that shares the desk, in a run without a committer.
+fn share<L: Ledger, R: Wait>(
+    rt: &HostRuntime,
+    wait: &R,
+    call: DeskCall,
+    desk: Desk<L>,
+    given: Given,
+) -> io::Result<bool> {
+    match (NewLog::new(rt.alloc()), NewLog::new(rt.alloc())) {
+        (Ok(new_log), Ok(new_staged)) => {
+            share_named::<L, Brand, R>(rt, wait, call, new_log, new_staged, desk, given)
+        }
+        _ => Ok(false),
+    }
+}
+
+// The same with a log of this id, of which nothing is proved.
+fn share_named<L: Ledger, I: LogId, R: Wait>(
+    rt: &HostRuntime,
+    wait: &R,
+    call: DeskCall,
+    new_log: NewLog,
+    new_staged: NewLog,
+    desk: Desk<L>,
+    given: Given,
+) -> io::Result<bool>
+    requires table { new_log ≡ I.table }
+    requires staged { new_staged ≡ I.staged }
+    requires no_base { (base : List Record) → I.is_base base → ⊥ }
+{
+    let (log, mut writer) = new_log.named::<I>();
+    let prefix = writer.prefix(&log);
+    let shared = Shared::new(log, new_staged, desk, prefix);
+    try_twice(
+        rt,
+        &mut Sharer {
+            wait,
+            call,
+            shared: &shared,
+            given,
+            pass: Pass::new(),
+        },
+    )
+}
+
 fn over_desk<L: Ledger, R: Wait>(
     rt: &HostRuntime,
     wait: &R,
@@ -314,20 +361,7 @@ fn over_desk<L: Ledger, R: Wait>(
         | DeskCall::AnswerEvent
         | DeskCall::AnswerPost
         | DeskCall::AnswerStatus
-        | DeskCall::Round => {
-            let shared = Shared::new(desk);
-            let pass = Pass::new();
-            try_twice(
-                rt,
-                &mut Sharer {
-                    wait,
-                    call,
-                    shared: &shared,
-                    given,
-                    pass,
-                },
-            )
-        }
+        | DeskCall::Round => { share(rt, wait, call, desk, given) }
         _ => try_twice(
             rt,
             &mut Pages {

@@ -1,4 +1,6 @@
 //! Calls that make or read values.
+ghost use Rattle.std.specs.Prelude.{◌≡◌};
+
 use crate::failed::Failed;
 use crate::growing::{Attempt, Told, told_of, try_twice};
 use hmac_signer::signature_header;
@@ -6,10 +8,12 @@ use intake_shed::{Ask, AskBody, Asked, Reply, accepted_reply, change_reply, read
 use relay_types::{
     Body, MaxLimit, Moment, MsgId, Name, ReadFault, Record, Secret, Secrets, Step, Target,
 };
+use run_log::{LogId, NewLog};
 use script_lines::{Call, read_call, read_line};
 use sound_rows::{Attempt as AttemptRow, Delivery, Endpoint, Numbers};
 use std::alloc::{AllocError, Global};
 use std::io;
+use std::marker::Brand;
 use std::sync::Arc;
 use text_lines::{
     Lines, read_body, read_max, read_moment, read_secrets, secrets_of, split, write_line,
@@ -43,6 +47,7 @@ pub(crate) enum ValueCall {
     Line,
     LinesAdvance,
     LinesNew,
+    NewLog,
     ReadBody,
     Readers,
     ReadCall,
@@ -94,6 +99,7 @@ impl ValueCall {
         match word {
             "Body::share" => Some(ValueCall::BodyShare),
             "Estimator::new" => Some(ValueCall::Estimator),
+            "NewLog::new" => Some(ValueCall::NewLog),
             "script_lines Call::share" => Some(ValueCall::CallShare),
             "drill Event::share" => Some(ValueCall::EventShare),
             "Record::share" => Some(ValueCall::RecordShare),
@@ -212,6 +218,7 @@ impl Values {
         match self.call {
             ValueCall::BodyShare => Ok(self.body.share()?.as_bytes().len() as u64),
             ValueCall::Estimator => Ok(u64::from(Estimator::new(alloc, self.max)?.limit())),
+            ValueCall::NewLog => log_told(alloc),
             ValueCall::CallShare => done(self.line.share()),
             ValueCall::RecordShare => done(self.step.record().share()),
             ValueCall::EventShare => done(self.event.share()),
@@ -312,6 +319,23 @@ fn line_told(alloc: Global) -> Result<u64, Told> {
 fn call_told(alloc: Global) -> Result<u64, Told> {
     let _call = read_call(alloc, PUT)?;
     Ok(0)
+}
+
+fn log_told(alloc: Global) -> Result<u64, Told> {
+    match NewLog::new(alloc) {
+        Ok(new_log) => {
+            end_log::<Brand>(new_log);
+            Ok(0)
+        }
+        Err(refused) => Err(Told::from(refused)),
+    }
+}
+
+// Ends a log that nothing is appended to.
+fn end_log<I: LogId>(new_log: NewLog)
+    requires { new_log ≡ I.table }
+{
+    let (_log, _writer) = new_log.named::<I>();
 }
 
 // Each reader that takes no memory: how many secrets were read.

@@ -82,6 +82,8 @@ impl<K: Keeper + Drop> Keeper for Counting<K> {
 
     ghost closed = { λ k. K.closed k.keeper };
 
+    ghost next = { λ k. K.next k.keeper };
+
     fn commit(&mut self, batch: Batch) -> Result<Receipt, CommitEnd> {
         self.commits = self.commits.saturating_add(1);
         self.keeper.commit(batch)

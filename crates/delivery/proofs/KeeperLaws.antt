@@ -1,6 +1,6 @@
 -- What a run of commits leaves of a history.
-use Rattle.std.proofs.Common.{◌≡◌, sym, ◌∙◌, ap, subst, List, [], ◌∷◌, ◌++◌}
-use Rattle.std.specs.Prelude.{Option, Some, None, Result, Ok, Err}
+use Rattle.std.proofs.Common.{◌≡◌, sym, ◌∙◌, ap, subst, ⊎_elim, List, [], ◌∷◌, ◌++◌}
+use Rattle.std.specs.Prelude.{Option, Some, None, Result, Ok, Err, IfOk, IfErr}
 use Rattle.std.proofs.lemmas.List.{append_assoc, append-nil}
 use Rattle.sqlite.specs.Held.{state}
 use Rattle.sqlite.specs.Store.{Ghosts}
@@ -13,7 +13,11 @@ use Rattle.spool.specs.Batches.{BatchValue}
 use Rattle.spool.specs.Commits.{HoldsOnDisk, LeavesHistory}
 use Rattle.spool.specs.Entering.{RestsInDoubt}
 use Rattle.spool.specs.Vaults.{VaultValue}
-use Rattle.delivery.specs.Keepers.{EndsBy, Leaves, records_in}
+use Rattle.delivery.specs.declared.committer.CommitterEnd.{CommitterEnd}
+use Rattle.delivery.specs.declared.committer.CommitterEnd.TheVariants.{Halted}
+use Rattle.delivery.specs.declared.committer.HaltCause.TheVariants as cause
+use Rattle.delivery.specs.Keepers.{AppendsBatches, EndsBy, Leaves, Stands, records_in}
+use Rattle.delivery.specs.Logs.{CommittedValue, receipt_of}
 
 -- what a vault's commit leaves, as a keeper says it
 pub vault_leaves : {S : Type 0} (g : Ghosts S) (old new : VaultValue S) (batch : BatchValue) (result : Result BatchValue CommitEnd) → LeavesHistory g old new batch result
@@ -40,3 +44,53 @@ goes_on holds in_doubt old new batch (Err (ends.Unchanged back why.Closed)) e h 
 goes_on holds in_doubt old new batch (Err (ends.Unchanged back why.OutOfTurn)) e h records batches held = cc
 goes_on holds in_doubt old new batch (Err (ends.Unchanged back why.Illegal)) e h records batches held = cc
 goes_on holds in_doubt old new batch (Err (ends.Doubtful doubt reason)) e h records batches held = cc
+
+-- after a commit with which the committer goes on, the keeper holds the same records and the log
+module _ {K : Type 0} (holds : K → List Record → Type 0) (in_doubt : K → List Record → List Record → Type 0) (old new : K)
+    (batch : BatchValue) where
+  pub keeps_log : (ended : Result CommittedValue CommitEnd) (log now : List Record)
+      → EndsBy (receipt_of ended) None → Leaves holds in_doubt old new batch (receipt_of ended)
+      → IfOk ended (λ committed. (now ≡ log ++ records_of batch.steps) × (committed.prefix ≡ now))
+      → IfErr ended (λ _. now ≡ log)
+      → (records : List Record) → holds old (records ++ log) → holds new (records ++ now)
+  keeps_log (Ok committed) log now e leaves logged same records held =
+      let all = append_assoc records log (records_of batch.steps) ∙ ap (λ more. records ++ more) (sym logged.0) in
+      subst (holds new) all (leaves (records ++ log) held)
+  keeps_log (Err (ends.Unchanged back why.OutOfMemory)) log now e leaves logged same records held =
+      subst (λ more. holds new (records ++ more)) (sym same) (leaves (records ++ log) held)
+  keeps_log (Err (ends.Unchanged back why.Closed)) log now e leaves logged same records held = cc
+  keeps_log (Err (ends.Unchanged back why.OutOfTurn)) log now e leaves logged same records held = cc
+  keeps_log (Err (ends.Unchanged back why.Illegal)) log now e leaves logged same records held = cc
+  keeps_log (Err (ends.Doubtful doubt reason)) log now e leaves logged same records held = cc
+
+-- what is at the end of a run whose last commit ended it
+module _ {K : Type 0} (holds : K → List Record → Type 0) (in_doubt : K → List Record → List Record → Type 0) (old new : K)
+    (batch : BatchValue) where
+  pub ends_so : (ended : Result BatchValue CommitEnd) (end : CommitterEnd) → EndsBy ended (Some end)
+      → Leaves holds in_doubt old new batch ended → (records : List Record) → holds old records → Stands holds in_doubt new records end
+  ends_so (Ok receipt) end e leaves records held = absurd cc
+  ends_so (Err (ends.Unchanged back why.OutOfMemory)) end e leaves records held =
+      ⊎_elim (λ no. absurd cc) (λ (is : Some end ≡ Some (Halted cause.OutOfMemory)). stands (cc is)) e
+    where
+      stands : end ≡ Halted cause.OutOfMemory → Stands holds in_doubt new records end
+      stands is = subst (Stands holds in_doubt new records) (sym is) (leaves records held)
+  ends_so (Err (ends.Unchanged back why.Closed)) end e leaves records held =
+      let is : end ≡ Halted cause.Closed = cc e in subst (Stands holds in_doubt new records) (sym is) (leaves records held)
+  ends_so (Err (ends.Unchanged back why.OutOfTurn)) end e leaves records held =
+      let is : end ≡ Halted cause.OutOfTurn = cc e in subst (Stands holds in_doubt new records) (sym is) (leaves records held)
+  ends_so (Err (ends.Unchanged back why.Illegal)) end e leaves records held =
+      let is : end ≡ Halted cause.Illegal = cc e in subst (Stands holds in_doubt new records) (sym is) (leaves records held)
+  ends_so (Err (ends.Doubtful doubt reason)) end e leaves records held =
+      let is : end ≡ Halted (cause.Store reason) = cc e in
+      subst (Stands holds in_doubt new records) (sym is) (batch.steps, leaves records held)
+
+-- a commit appends its batch, or nothing
+pub appends_on : (ended : Result CommittedValue CommitEnd) (batch : BatchValue) (begun log now : List Record)
+    → IfOk ended (λ committed. (now ≡ log ++ records_of batch.steps) × (committed.prefix ≡ now)) → IfErr ended (λ _. now ≡ log)
+    → AppendsBatches begun log → AppendsBatches begun now
+appends_on (Ok committed) batch begun log now logged same (batches, is) = (
+  batches ++ batch.steps ∷ [],
+  logged.0 ∙ ap (λ l. l ++ records_of batch.steps) is ∙ append_assoc begun (records_in batches) (records_of batch.steps)
+      ∙ ap (λ more. begun ++ more) (sym (records_in-last batches batch.steps)),
+)
+appends_on (Err end) batch begun log now logged same (batches, is) = (batches, same ∙ is)

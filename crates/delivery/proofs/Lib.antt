@@ -1,3 +1,4 @@
 pub mod Printable
 pub mod KeeperLaws
 pub mod UrlLaws
+pub mod SettledLaws

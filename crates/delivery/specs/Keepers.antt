@@ -1,5 +1,5 @@
 -- What a commit leaves of the histories that a keeper holds, and what a run of commits leaves.
-use Rattle.std.specs.Prelude.{◌≡◌, ◌⊎◌, List, [], ◌∷◌, ◌++◌, Option, Some, None, Result, Ok, Err}
+use Rattle.std.specs.Prelude.{◌≡◌, ◌⊎◌, ℕ, ◌+◌, length, List, [], ◌∷◌, ◌++◌, Option, Some, None, Result, Ok, Err}
 use Rattle.relay_types.specs.declared.record.Record.{Record}
 use Rattle.relay_types.specs.Records.{History, records_of}
 use Rattle.spool.specs.declared.ends.CommitEnd.{CommitEnd}
@@ -33,6 +33,12 @@ module _ {K : Type 0} (holds : K → List Record → Type 0) (in_doubt : K → L
   Stands new records (Halted cause.Halted) = holds new records
   Stands new records (Halted cause.BatchOut) = holds new records
 
+-- the number of the next record: a batch that is committed begins with it
+module _ {K : Type 0} (next : K → ℕ) where
+  abbrev pub Counts : (old new : K) → BatchValue → Result BatchValue CommitEnd → Type 0
+  Counts old new batch (Ok receipt) = (batch.from ≡ next old) × (next new ≡ next old + length (records_of batch.steps))
+  Counts old new batch (Err end) = next new ≡ next old
+
 -- the records of batches, one batch behind another
 abbrev pub records_in : (batches : List History) → List Record
 records_in [] = []
@@ -43,6 +49,16 @@ module _ {K : Type 0} (holds : K → List Record → Type 0) (in_doubt : K → L
   abbrev pub Adds : (old new : K) → CommitterEnd → Type 0
   Adds old new end = (records : List Record) → holds old records
       → (batches : List History) × Stands holds in_doubt new (records ++ records_in batches) end
+
+-- whole batches were appended to the log
+abbrev pub AppendsBatches : (log now : List Record) → Type 0
+AppendsBatches log now = (batches : List History) × (now ≡ log ++ records_in batches)
+
+module _ {K : Type 0} (holds : K → List Record → Type 0) (in_doubt : K → List Record → List Record → Type 0) where
+  -- If the keeper held some records and the log before, it holds these and the log now.
+  abbrev pub KeepsLog : (old : K) (log : List Record) (new : K) (now : List Record) → CommitterEnd → Type 0
+  KeepsLog old log new now end =
+      (records : List Record) → holds old (records ++ log) → Stands holds in_doubt new (records ++ now) end
 
 -- As what a commit that changed nothing ends a committer.
 abbrev pub cause_of : Unchanged → HaltCause

@@ -1,4 +1,5 @@
 pub mod Requests
+pub mod Logs
 pub mod Keepers
 pub mod Shares
 pub mod Rounds

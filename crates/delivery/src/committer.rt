@@ -1,17 +1,25 @@
 //! The committer, who alone has the keeper, and moves batches between the lock and the keeper.
 ghost use Rattle.std.specs.Prelude.{◌≡◌, IsTrue};
-ghost use Rattle.delivery.specs.Keepers.{Adds, EndsBy, IsOfKeeper, cause_of};
+ghost use Rattle.delivery.specs.Logs.{receipt_of};
+ghost use Rattle.delivery.specs.Keepers.{Adds, AppendsBatches, EndsBy, IsOfKeeper, KeepsLog, cause_of};
 
 use crate::keeper::Keeper;
+use crate::logged_keeper::{Committed, LoggedKeeper};
 use crate::shared::Shared;
 use group_commit::Held;
-use spool::{Batch, CommitEnd, Receipt, Unchanged};
+use run_log::LogId;
+use spool::{Batch, CommitEnd, Unchanged};
 use sqlite::Error;
 use std::sync::Wait;
 use std::sync::ledger::Ledger;
+use std::thread;
+use std::time::{Clock, Duration};
 
 /// So many refusals for memory, one after another, end a committer.
 pub const MAX_REFUSALS: u32 = 9;
+
+/// The pause after such a refusal, in milliseconds.
+pub const PAUSE_MILLIS: u64 = 10;
 
 /// Why a committer gave up.
 #[derive(Clone, Copy)]
@@ -51,33 +59,37 @@ pub(crate) enum Next {
 
 /// Commits what waits, with the lock free during each commit, until the end was asked for and nothing waits, or until a commit fails. Want of
 /// memory is tried again, and the ninth in a row ends it. It gives the keeper back.
-pub fn committer_run<L: Ledger, K: Keeper, R: Wait>(
+pub fn committer_run<L: Ledger, I: LogId, K: Keeper + Drop, R: Wait + Clock>(
     rt: &R,
-    shared: &Shared<L>,
-    keeper: K,
-) -> (K, CommitterEnd)
-    ensures rows { K.is_clean result.0 → Adds K.holds K.in_doubt keeper result.0 result.1 }
-    ensures clean { K.is_clean result.0 → K.is_clean keeper }
-    ensures closed { IsOfKeeper result.1 → IsTrue (K.closed result.0) }
+    shared: &Shared<L, I>,
+    logged: LoggedKeeper<I, K>,
+) -> (LoggedKeeper<I, K>, CommitterEnd)
+    ensures rows { K.is_clean result.0.keeper → Adds K.holds K.in_doubt logged.keeper result.0.keeper result.1 }
+    ensures logged { K.is_clean result.0.keeper
+        → KeepsLog K.holds K.in_doubt logged.keeper logged.writer result.0.keeper result.0.writer result.1 }
+    ensures appended { AppendsBatches logged.writer result.0.writer }
+    ensures clean { K.is_clean result.0.keeper → K.is_clean logged.keeper }
+    ensures closed { IsOfKeeper result.1 → IsTrue (K.closed result.0.keeper) }
 {
-    let mut keeper = keeper;
+    let mut logged = logged;
     let mut refusals = 0;
     for _ in rt.forever() {
         match shared.next_batch(rt) {
             Next::Commit(batch) => {
-                let ended = keeper.commit(batch);
+                let ended = logged.commit(shared.log(), batch);
                 if let Some(end) = hand_in(rt, shared, ended, &mut refusals) {
-                    return (keeper, end);
+                    return (logged, end);
                 }
             }
             Next::Wait => {}
             Next::Refused => {
                 if is_last(&mut refusals) {
                     shared.halt(rt, Held::Nothing);
-                    return (keeper, CommitterEnd::Halted(HaltCause::OutOfMemory));
+                    return (logged, CommitterEnd::Halted(HaltCause::OutOfMemory));
                 }
+                pause(rt);
             }
-            Next::End(end) => return (keeper, end),
+            Next::End(end) => return (logged, end),
         }
     }
     unreachable!()
@@ -89,23 +101,29 @@ fn is_last(refusals: &mut u32) -> bool {
     *refusals >= MAX_REFUSALS
 }
 
+// Memory may be free again after a moment.
+fn pause<R: Clock>(rt: &R) {
+    thread::sleep(rt, Duration::from_millis(PAUSE_MILLIS));
+}
+
 // Hands in what came of a commit. `None` where the committer goes on.
-fn hand_in<L: Ledger, R: Wait>(
+fn hand_in<L: Ledger, I: LogId, R: Wait + Clock>(
     rt: &R,
-    shared: &Shared<L>,
-    ended: Result<Receipt, CommitEnd>,
+    shared: &Shared<L, I>,
+    ended: Result<Committed<I>, CommitEnd>,
     refusals: &mut u32,
 ) -> Option<CommitterEnd>
-    ensures { EndsBy ended result }
+    ensures { EndsBy (receipt_of ended) result }
 {
     match ended {
-        Ok(receipt) => {
-            shared.settle(rt, receipt);
+        Ok(committed) => {
+            shared.settle(rt, committed);
             *refusals = 0;
             None
         }
         Err(CommitEnd::Unchanged(batch, Unchanged::OutOfMemory)) if !is_last(refusals) => {
             shared.unseal(rt, batch);
+            pause(rt);
             None
         }
         Err(CommitEnd::Unchanged(batch, why)) => {

@@ -1,5 +1,6 @@
 //! What lies under the lock. Each call is one of the desk's, or leaves the desk as it was.
-ghost use Rattle.std.specs.Prelude.{◌≡◌, ◌≤◌, ◌<◌, ◌↔◌, true, false, None, IfOk, IfErr, IfSome, IsOk, IsTrue, OnErr, OnOk, Result, Option, length};
+ghost use Rattle.std.specs.Prelude.{◌≡◌, ◌≤◌, ◌<◌, ◌↔◌, ◌∷◌, ◌++◌, [], true, false, None, IfOk, IfErr, IfSome, IsOk, IsTrue, OnErr, OnOk, Result, Option, length};
+ghost use Rattle.relay_types.specs.Records.{records_of};
 ghost use Rattle.spool.specs.Batches.{BatchValue, doubt_of};
 ghost use Rattle.group_commit.specs.Turns as waiting;
 ghost use Rattle.group_commit.specs.Waits.{record_count, with_settled};
@@ -10,35 +11,44 @@ ghost use Rattle.desk.specs.Moves.{change, seal, submit, with_sealed_settled, wi
 ghost use Rattle.desk.specs.Claims.{JobValue, claim};
 ghost use Rattle.desk.specs.declared.refusal.Refusal.{Refusal};
 ghost use Rattle.retry_table.specs.Judging.{spend_of};
+ghost use Rattle.delivery.specs.Logs.{HasChange, HasSettled, IsOfCommand, entry_of, ticket_of};
 ghost use Rattle.delivery.specs.Keepers.{EndsByDesk};
 ghost use Rattle.delivery.specs.Rounds.{EndsUnposted};
 ghost use Rattle.delivery.specs.Turns.{claimed_by, halted, next_by, refused, round_of, went_back};
 
 use crate::committer::{CommitterEnd, HaltCause, Next};
+use crate::logged_keeper::Committed;
 use crate::pass::Pass;
+use crate::staged::{StagedChange, StagedLog};
 use crate::worker::{Claimed, Round};
 use desk::{Command, CommandTicket, Desk, Fault, Job, Refusal, Spent, Ticket, Told};
 use group_commit::{Held, Settled, WrongTurn};
 use permits::{Foreign, Permit};
 use relay_types::{Body, Moment, MsgId, Name};
 use retry_table::PostResult;
-use spool::{Batch, Receipt};
-use std::marker::Model;
+use run_log::{Appending, Log, LogId, NewLog, Prefix};
+use spool::Batch;
+use std::marker::{Brand, Model};
 use std::sync::ledger::Ledger;
 
-/// The desk, and whether the end was asked for.
+/// The desk, whether the end was asked for, the prefix of the log that the desk has settled, and the log of the staged records.
 #[derive(Drop)]
-pub struct Locked<L: Ledger> {
+pub struct Locked<L: Ledger, I: LogId> {
     desk: Desk<L>,
     is_closing: bool,
+    prefix: Prefix<I>,
+    staged: StagedLog<I>,
 }
 
-impl<L: Ledger> Model for Locked<L> {
+impl<L: Ledger, I: LogId> Model for Locked<L, I> {
+    ghost use Rattle.delivery.specs.Logs.{HasRecords};
     ghost use Rattle.delivery.specs.Shares.{LockedValue};
 
     ghost Value = { LockedValue };
 
-    ghost view = { λ l. record { desk = l.desk; closing = l.is_closing } };
+    ghost view = { λ l. record { desk = l.desk; closing = l.is_closing; prefix = l.prefix; staged = l.staged } };
+
+    ghost invariant = { λ l. HasRecords I.is_base I.start l.desk l.prefix l.staged };
 }
 
 // What a call is told once the end was asked for.
@@ -47,13 +57,19 @@ const CLOSING: Refusal = Refusal {
     fault: Fault::Halted,
 };
 
-impl<L: Ledger> Locked<L> {
-    pub(crate) fn new(desk: Desk<L>) -> Locked<L>
-        ensures { result ≡ record { desk = desk; closing = false } }
+impl<L: Ledger, I: LogId> Locked<L, I> {
+    pub(crate) fn new(new_log: NewLog, desk: Desk<L>, prefix: Prefix<I>) -> Locked<L, I>
+        requires table { new_log ≡ I.staged }
+        requires settled { HasSettled I.is_base I.start desk prefix }
+        ensures { result ≡ record { desk = desk; closing = false; prefix = prefix; staged = prefix ++ records_of desk.waiting.waiting } }
     {
+        let mut staged = StagedLog::new(new_log);
+        staged.follow(&prefix, &desk);
         Locked {
             desk,
             is_closing: false,
+            prefix,
+            staged,
         }
     }
 
@@ -102,12 +118,19 @@ impl<L: Ledger> Locked<L> {
         if self.is_closing {
             return Err(CLOSING);
         }
-        self.desk.submit(now, name, id, body)
+        match self.desk.submit(now, name, id, body) {
+            Ok(ticket) => {
+                self.staged.follow(&self.prefix, &self.desk);
+                Ok(ticket)
+            }
+            Err(refusal) => Err(refusal),
+        }
     }
 
-    pub(crate) fn command(&mut self, command: Command) -> Result<CommandTicket, Refusal>
+    pub(crate) fn command(&mut self, command: Command) -> Result<StagedChange<I>, Refusal>
         ensures moves { self.old.closing ≡ false
-            → IsMove self.old.desk (λ w. change w command) result self.new.desk }
+            → IsMove self.old.desk (λ w. change w command) (ticket_of result) self.new.desk }
+        ensures change { IfOk result (λ change. IsOfCommand change command) }
         ensures names { IfErr result (λ why. IsTrue (may_refuse command why.fault)) }
         ensures closing { IsTrue self.old.closing → result ≡ Err halted }
         ensures flag { self.new.closing ≡ self.old.closing }
@@ -116,7 +139,25 @@ impl<L: Ledger> Locked<L> {
         if self.is_closing {
             return Err(CLOSING);
         }
-        self.desk.command(command)
+        self.command_as::<Brand>(command)
+    }
+
+    // The same before the end was asked for. The call picks the command's record.
+    fn command_as<N: Appending>(&mut self, command: Command) -> Result<StagedChange<I>, Refusal>
+        requires { N.records ≡ entry_of command ∷ [] }
+        ensures moves { IsMove self.old.desk (λ w. change w command) (ticket_of result) self.new.desk }
+        ensures change { IfOk result (λ change. IsOfCommand change command) }
+        ensures names { IfErr result (λ why. IsTrue (may_refuse command why.fault)) }
+        ensures flag { self.new.closing ≡ self.old.closing }
+        ensures err { OnErr result (self.new ≡ self.old) }
+    {
+        match self.desk.command(command) {
+            Ok(ticket) => {
+                let prefix = self.staged.append_as::<N>();
+                Ok(StagedChange::new(ticket, prefix))
+            }
+            Err(refusal) => Err(refusal),
+        }
     }
 
     // The pass is compared first.
@@ -152,7 +193,13 @@ impl<L: Ledger> Locked<L> {
         ensures back { IfErr result (λ back. back.0 ≡ permit) }
         ensures flag { self.new.closing ≡ self.old.closing }
     {
-        self.desk.spend(permit, post, now)
+        match self.desk.spend(permit, post, now) {
+            Ok(spent) => {
+                self.staged.follow(&self.prefix, &self.desk);
+                Ok(spent)
+            }
+            Err(back) => Err(back),
+        }
     }
 
     pub(crate) fn is_waiting(&self, ticket: &Ticket) -> bool
@@ -171,6 +218,8 @@ impl<L: Ledger> Locked<L> {
     pub(crate) fn is_idle(&self) -> bool
         ensures sealed { IsTrue result → record_count self.now.desk.waiting ≡ self.now.desk.waiting.settled }
         ensures going { IsTrue result → (self.now.closing ≡ false) × (self.now.desk.halted ≡ false) }
+        ensures idle { record_count self.now.desk.waiting ≡ self.now.desk.waiting.settled
+            → self.now.closing ≡ false → self.now.desk.halted ≡ false → IsTrue result }
     {
         self.desk.records() == self.desk.settled_records()
             && !self.is_closing
@@ -181,6 +230,8 @@ impl<L: Ledger> Locked<L> {
     pub(crate) fn may_rest(&self, seen: u64) -> bool
         ensures settled { IsTrue result → self.now.desk.waiting.settled ≤ seen }
         ensures going { IsTrue result → (self.now.closing ≡ false) × (self.now.desk.halted ≡ false) }
+        ensures rests { self.now.desk.waiting.settled ≤ seen
+            → self.now.closing ≡ false → self.now.desk.halted ≡ false → IsTrue result }
     {
         self.desk.settled_records() <= seen && !self.is_closing && !self.desk.is_halted()
     }
@@ -194,17 +245,52 @@ impl<L: Ledger> Locked<L> {
         next_by(self.is_closing, self.desk.seal())
     }
 
-    pub(crate) fn settle(&mut self, receipt: Receipt) -> Result<Settled, (Receipt, WrongTurn)>
-        ensures moves { Turns self.old.desk (λ w. IsReceiptOf self.old.desk.waiting.mark w receipt) with_sealed_settled
+    pub(crate) fn settle(
+        &mut self,
+        log: &Log<I>,
+        committed: Committed<I>,
+    ) -> Result<Settled, (Committed<I>, WrongTurn)>
+        ensures moves { Turns self.old.desk (λ w. IsReceiptOf self.old.desk.waiting.mark w committed.receipt) with_sealed_settled
             result self.new.desk }
-        ensures turn { IsOk result ↔ waiting.IsReceiptOf self.old.desk.waiting receipt }
+        ensures turn { IsOk result ↔ waiting.IsReceiptOf self.old.desk.waiting committed.receipt }
         ensures waiting { OnOk result
-            (self.new.desk.waiting ≡ with_settled self.old.desk.waiting (length receipt.steps)) }
-        ensures back { IfErr result (λ back. back.0 ≡ receipt) }
+            (self.new.desk.waiting ≡ with_settled self.old.desk.waiting (length committed.receipt.steps)) }
+        ensures prefix { OnOk result (self.new.prefix ≡ committed.prefix) }
+        ensures back { IfErr result (λ back. back.0 ≡ committed) }
         ensures flag { self.new.closing ≡ self.old.closing }
         ensures err { OnErr result (self.new ≡ self.old) }
     {
-        self.desk.settle(receipt)
+        let Committed {
+            receipt,
+            mut prefix,
+        } = committed;
+        let seen = self.prefix.copy(log);
+        match self.desk.settle(receipt) {
+            Ok(settled) => {
+                prefix.compare(log, seen);
+                self.prefix = prefix;
+                Ok(settled)
+            }
+            Err((receipt, wrong)) => Err((Committed { receipt, prefix }, wrong)),
+        }
+    }
+
+    /// The prefix of the log that the desk has settled.
+    pub fn settled_prefix(&mut self, log: &Log<I>) -> Prefix<I>
+        ensures prefix { result ≡ self.old.prefix }
+        ensures settled { HasSettled I.is_base I.start self.old.desk self.old.prefix }
+        ensures same { self.new ≡ self.old }
+    {
+        self.prefix.copy(log)
+    }
+
+    /// If the change is settled, the settled prefix of the log has its record.
+    pub fn compare(&mut self, change: &mut StagedChange<I>)
+        ensures logged { change.old.seq < self.old.desk.waiting.settled → HasChange I.is_base change.old self.old.prefix }
+        ensures change { change.new ≡ change.old }
+        ensures same { self.new ≡ self.old }
+    {
+        self.staged.compare(change);
     }
 
     pub(crate) fn unseal(&mut self, batch: Batch) -> Result<(), (Batch, WrongTurn)>

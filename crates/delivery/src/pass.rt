@@ -1,5 +1,6 @@
 //! How far its holder has seen records settled.
 ghost use Rattle.std.specs.Prelude.{◌≡◌, ◌<◌, ◌≤◌, ◌↔◌, max, IfErr, IsOk, OnErr, OnOk};
+ghost use Rattle.desk.specs.Desks.{IsCore};
 
 use desk::Desk;
 use std::marker::Model;
@@ -47,6 +48,7 @@ impl Pass {
         ensures seen { OnOk result (self.new ≡ desk.now.waiting.settled) }
         ensures told { IfErr result (λ told. (told.seen ≡ self.old) × (told.found ≡ desk.now.waiting.settled)) }
         ensures same { OnErr result (self.new ≡ self.old) }
+        ensures core { IsCore desk.now }
     {
         let found = desk.settled_records();
         if found < self.seen {

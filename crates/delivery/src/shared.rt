@@ -7,19 +7,23 @@ ghost use Rattle.desk.specs.Faults.{may_refuse, may_refuse_event};
 ghost use Rattle.desk.specs.Kept as kept;
 ghost use Rattle.desk.specs.declared.ticket.Told.TheVariants.{Waiting};
 ghost use Rattle.retry_table.specs.Judging.{spend_of};
+ghost use Rattle.delivery.specs.Logs.{HasSettled, IsOfCommand};
 ghost use Rattle.delivery.specs.Keepers.{EndsByDesk};
 ghost use Rattle.delivery.specs.Rounds.{EndsUnposted};
 
 use crate::committer::Next;
 use crate::locked::Locked;
+use crate::logged_keeper::Committed;
 use crate::pass::Pass;
+use crate::staged::StagedChange;
 use crate::worker::Claimed;
 use desk::{Command, CommandTicket, Desk, Refusal, Spent, Ticket};
 use group_commit::{Held, WrongTurn};
 use permits::{Foreign, Permit};
 use relay_types::{Body, Moment, MsgId, Name};
 use retry_table::PostResult;
-use spool::{Batch, Receipt};
+use run_log::{Log, LogId, NewLog, Prefix};
+use spool::Batch;
 use std::sync::ledger::Ledger;
 use std::sync::{Condvar, Mutex, MutexGuard, Wait};
 use std::time::Duration;
@@ -29,19 +33,30 @@ pub const REST_SECONDS: u64 = 1;
 
 /// The desk that threads share.
 #[derive(Drop)]
-pub struct Shared<L: Ledger> {
-    locked: Mutex<Locked<L>>,
+pub struct Shared<L: Ledger, I: LogId> {
+    locked: Mutex<Locked<L, I>>,
     staged: Condvar,
     changed: Condvar,
+    log: Log<I>,
 }
 
-impl<L: Ledger> Shared<L> {
-    pub fn new(desk: Desk<L>) -> Shared<L> {
+impl<L: Ledger, I: LogId> Shared<L, I> {
+    /// The desk of a run that begins, with its log, of which the desk has settled this prefix, and an empty log for what is staged.
+    pub fn new(log: Log<I>, new_log: NewLog, desk: Desk<L>, prefix: Prefix<I>) -> Shared<L, I>
+        requires table { new_log ≡ I.staged }
+        requires settled { HasSettled I.is_base I.start desk prefix }
+    {
         Shared {
-            locked: Mutex::new(Locked::new(desk)),
+            locked: Mutex::new(Locked::new(new_log, desk, prefix)),
             staged: Condvar::new(),
             changed: Condvar::new(),
+            log,
         }
+    }
+
+    /// The log of the run.
+    pub fn log(&self) -> &Log<I> {
+        &self.log
     }
 
     /// The desk, once no other thread has it.
@@ -75,7 +90,8 @@ impl<L: Ledger> Shared<L> {
     }
 
     /// Changes an endpoint, and wakes the committer.
-    pub fn command<R: Wait>(&self, rt: &R, command: Command) -> Result<CommandTicket, Refusal>
+    pub fn command<R: Wait>(&self, rt: &R, command: Command) -> Result<StagedChange<I>, Refusal>
+        ensures change { IfOk result (λ change. IsOfCommand change command) }
         ensures names { IfErr result (λ why. IsTrue (may_refuse command why.fault)) }
     {
         let staged = self.locked.lock(rt).command(command);
@@ -84,7 +100,7 @@ impl<L: Ledger> Shared<L> {
     }
 
     /// Waits until the submission is settled, or won't be.
-    pub fn wait_for<R: Wait>(&self, rt: &R, ticket: &Ticket) -> MutexGuard<'_, Locked<L>>
+    pub fn wait_for<R: Wait>(&self, rt: &R, ticket: &Ticket) -> MutexGuard<'_, Locked<L, I>>
         ensures over { kept.told (mutex_guard_value result).desk ticket.now ≢ Waiting }
     {
         let locked = self.locked.lock(rt);
@@ -97,7 +113,7 @@ impl<L: Ledger> Shared<L> {
         &self,
         rt: &R,
         ticket: &CommandTicket,
-    ) -> MutexGuard<'_, Locked<L>>
+    ) -> MutexGuard<'_, Locked<L, I>>
         ensures over { kept.told_command (mutex_guard_value result).desk ticket.now ≢ Waiting }
     {
         let locked = self.locked.lock(rt);
@@ -106,7 +122,7 @@ impl<L: Ledger> Shared<L> {
     }
 
     /// The desk, to be looked at.
-    pub fn lock<R: Wait>(&self, rt: &R) -> MutexGuard<'_, Locked<L>> {
+    pub fn lock<R: Wait>(&self, rt: &R) -> MutexGuard<'_, Locked<L, I>> {
         self.locked.lock(rt)
     }
 
@@ -163,10 +179,10 @@ impl<L: Ledger> Shared<L> {
     }
 
     // Hands the receipt in until it is taken, and wakes all that wait for what is settled.
-    pub(crate) fn settle<R: Wait>(&self, rt: &R, receipt: Receipt) {
-        let mut held = receipt;
+    pub(crate) fn settle<R: Wait>(&self, rt: &R, committed: Committed<I>) {
+        let mut held = committed;
         for _ in rt.forever() {
-            let taken = self.locked.lock(rt).settle(held);
+            let taken = self.locked.lock(rt).settle(&self.log, held);
             match taken {
                 Ok(_) => {
                     self.changed.notify_all();

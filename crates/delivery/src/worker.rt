@@ -9,6 +9,7 @@ use crate::shared::Shared;
 use desk::{Job, Spent};
 use relay_types::Name;
 use retry_table::PostResult;
+use run_log::LogId;
 use std::alloc::Global;
 use std::sync::Wait;
 use std::sync::ledger::Ledger;
@@ -44,10 +45,10 @@ pub(crate) enum Claimed<L: Ledger> {
 
 /// Claims the attempt that is due first, posts it with the lock free, and spends its permit by the result. A job whose request lacks memory
 /// is spent as unsent.
-pub fn worker_round<L: Ledger, P: Poster, C: Clock, R: Wait>(
+pub fn worker_round<L: Ledger, I: LogId, P: Poster, C: Clock, R: Wait>(
     rt: &R,
     alloc: Global,
-    shared: &Shared<L>,
+    shared: &Shared<L, I>,
     poster: &P,
     clock: &C,
     pass: &mut Pass,

@@ -12,8 +12,9 @@ use delivery::{Pass, Shared};
 use http::header::HeaderMap;
 use http::{Uri, request};
 use http_body_util::{Collected, LimitedError};
-use intake_shed::{Ask, AskBody, AskFault, Reply, answer};
+use intake_shed::{Answered, Ask, AskBody, AskFault, LatestAck, Reply, answer};
 use relay_host::{HostClock, fresh_id};
+use run_log::LogId;
 use std::alloc::{AllocError, AllocGlobal, Global};
 use std::random::RandomSource;
 use std::sync::Wait;
@@ -49,16 +50,18 @@ pub(crate) fn read_body(gathered: Gathered) -> BodyRead
     }
 }
 
-// The reply to the request.
-pub(crate) fn reply_to<R, L>(
+// The reply to the request. Its acknowledgement, if it has one, is handed in.
+pub(crate) fn reply_to<R, L, I>(
     rt: &R,
-    shared: &Shared<L>,
+    shared: &Shared<L, I>,
+    latest: &LatestAck<I>,
     head: &request::Parts,
     body: AskBody<'_>,
 ) -> Reply
 where
     R: Wait + Clock + RandomSource + AllocGlobal,
     L: Ledger,
+    I: LogId,
     ensures { RepliesTo head.now body.entry result }
 {
     let Ok(ids) = ids_of(rt.alloc(), &head.headers) else {
@@ -74,7 +77,13 @@ where
         body,
     };
     let now = delivery::Clock::now(&HostClock::new(rt));
-    answer(rt, rt.alloc(), shared, &ask, fresh, now, &mut Pass::new())
+    let Answered {
+        reply,
+        ack,
+        confirmed: _,
+    } = answer(rt, rt.alloc(), shared, &ask, fresh, now, &mut Pass::new());
+    latest.keep(rt, ack);
+    reply
 }
 
 // The path with its query, as it was sent up to a `#`. Of a target in absolute form it is what follows the authority, and a target that

@@ -14,8 +14,9 @@ use http_body_util::combinators::Collect;
 use http_body_util::{BodyExt, Full, Limited};
 use hyper::body::Incoming;
 use hyper::service::Service;
-use intake_shed::{AskBody, AskFault};
+use intake_shed::{AskBody, AskFault, LatestAck};
 use relay_types::MAX_BODY_BYTES;
+use run_log::LogId;
 use std::alloc::AllocGlobal;
 use std::fmt;
 use std::random::RandomSource;
@@ -26,17 +27,34 @@ use std::time::Clock;
 
 /// Answers the requests of a connection over the desk that threads share, and counts them. A call waits until what it stages is settled.
 #[derive(Drop)]
-pub struct Intake<R, L: Ledger> {
+pub struct Intake<R, L: Ledger, I: LogId> {
     rt: R,
-    shared: Arc<Shared<L>>,
+    owners: Owners<L, I>,
+}
+
+// What the threads of the intake share.
+#[derive(Drop)]
+struct Owners<L: Ledger, I: LogId> {
+    shared: Arc<Shared<L, I>>,
+    latest: Arc<LatestAck<I>>,
     answered: Arc<AtomicU64>,
+}
+
+impl<L: Ledger, I: LogId> Owners<L, I> {
+    fn again(&self) -> Option<Owners<L, I>> {
+        Some(Owners {
+            shared: Arc::try_clone(&self.shared).ok()?,
+            latest: Arc::try_clone(&self.latest).ok()?,
+            answered: Arc::try_clone(&self.answered).ok()?,
+        })
+    }
 }
 
 /// The future of a response.
 #[derive(Drop)]
-pub struct Answering<R, L: Ledger, C> {
+pub struct Answering<R, L: Ledger, I: LogId, C> {
     rt: R,
-    shared: Option<(Arc<Shared<L>>, Arc<AtomicU64>)>,
+    owners: Option<Owners<L, I>>,
     head: Option<request::Parts>,
     body: C,
 }
@@ -66,49 +84,53 @@ impl From<HeaderMapError> for Unanswered {
     }
 }
 
-impl<R, L: Ledger> Intake<R, L> {
-    /// A service of one connection, which adds to the count of answered requests.
-    pub fn new(rt: R, shared: Arc<Shared<L>>, answered: Arc<AtomicU64>) -> Intake<R, L> {
+impl<R, L: Ledger, I: LogId> Intake<R, L, I> {
+    /// A service of one connection. It hands in what it acknowledges, and adds to the count of answered requests.
+    pub fn new(
+        rt: R,
+        shared: Arc<Shared<L, I>>,
+        latest: Arc<LatestAck<I>>,
+        answered: Arc<AtomicU64>,
+    ) -> Intake<R, L, I> {
         Intake {
             rt,
-            shared,
-            answered,
+            owners: Owners {
+                shared,
+                latest,
+                answered,
+            },
         }
-    }
-
-    fn owners(&self) -> Option<(Arc<Shared<L>>, Arc<AtomicU64>)> {
-        let shared = Arc::try_clone(&self.shared).ok()?;
-        let answered = Arc::try_clone(&self.answered).ok()?;
-        Some((shared, answered))
     }
 }
 
-impl<R, L> Service<Request<Incoming>> for Intake<R, L>
+impl<R, L, I> Service<Request<Incoming>> for Intake<R, L, I>
 where
     R: Wait + Clock + RandomSource + AllocGlobal + Copy,
     L: Ledger,
+    I: LogId,
 {
     type Response = Response<Full<Bytes>>;
 
     type Error = Unanswered;
 
-    type Future = Answering<R, L, Collect<Limited<Incoming>>>;
+    type Future = Answering<R, L, I, Collect<Limited<Incoming>>>;
 
-    fn call(&self, request: Request<Incoming>) -> Answering<R, L, Collect<Limited<Incoming>>> {
+    fn call(&self, request: Request<Incoming>) -> Answering<R, L, I, Collect<Limited<Incoming>>> {
         let (head, body) = request.into_parts();
         Answering {
             rt: self.rt,
-            shared: self.owners(),
+            owners: self.owners.again(),
             head: Some(head),
             body: Limited::new(body, MAX_BODY_BYTES).collect(self.rt.alloc()),
         }
     }
 }
 
-impl<R, L, C> Future for Answering<R, L, C>
+impl<R, L, I, C> Future for Answering<R, L, I, C>
 where
     R: Wait + Clock + RandomSource + AllocGlobal + Copy,
     L: Ledger,
+    I: LogId,
     C: Future<Output = Gathered>,
 {
     type Output = Result<Response<Full<Bytes>>, Unanswered>;
@@ -119,35 +141,39 @@ where
 
     fn poll(&mut self, cx: &mut Context<'_>) -> Poll<Self::Output> {
         let gathered = ready!(self.body.poll(cx));
-        let (Some(head), Some((shared, answered))) = (self.head.take(), self.shared.take()) else {
+        let (Some(head), Some(owners)) = (self.head.take(), self.owners.take()) else {
             return Poll::Ready(Err(Unanswered::OutOfMemory));
         };
-        let response = response_to(&self.rt, &shared, &head, gathered);
+        let response = response_to(&self.rt, &owners, &head, gathered);
         if response.is_ok() {
-            answered.fetch_add(1, Ordering::SeqCst);
+            owners.answered.fetch_add(1, Ordering::SeqCst);
         }
         Poll::Ready(response)
     }
 }
 
 // The response to a request whose body came to an end.
-fn response_to<R, L>(
+fn response_to<R, L, I>(
     rt: &R,
-    shared: &Shared<L>,
+    owners: &Owners<L, I>,
     head: &request::Parts,
     gathered: Gathered,
 ) -> Result<Response<Full<Bytes>>, Unanswered>
 where
     R: Wait + Clock + RandomSource + AllocGlobal,
     L: Ledger,
+    I: LogId,
     ensures { IfOk result (IsResponseTo head.now gathered) }
 {
     if is_coded(&head.headers) {
         return Ok(not_implemented(rt.alloc()));
     }
+    let (shared, latest) = (&*owners.shared, &*owners.latest);
     let reply = match read_body(gathered) {
-        BodyRead::Whole(bytes) => reply_to(rt, shared, head, AskBody::Whole(bytes.as_slice())),
-        BodyRead::TooLong => reply_to(rt, shared, head, AskBody::TooLong),
+        BodyRead::Whole(bytes) => {
+            reply_to(rt, shared, latest, head, AskBody::Whole(bytes.as_slice()))
+        }
+        BodyRead::TooLong => reply_to(rt, shared, latest, head, AskBody::TooLong),
         BodyRead::NoMemory => AskFault::OutOfMemory.reply(),
         BodyRead::Cut => return Err(Unanswered::Body),
     };

@@ -1,8 +1,9 @@
 -- The answer to what is asked for is that to the request.
 use Rattle.std.proofs.Common.{◌≡◌, ◌<◌, ℕ, Bool, true, false, Ok, Err, IsTrue, ◌⊎◌, inl, inr, refl, subst}
-use Rattle.std.specs.Prelude.{Result, IfOk, IfErr}
+use Rattle.std.specs.Prelude.{Option, Some, Result, IfOk, IfErr}
 use Rattle.relay_types.specs.Values.{Text}
 use Rattle.desk.specs.declared.command.Command.{Command}
+use Rattle.delivery.specs.Logs.{ChangeValue}
 use Rattle.intake_shed.specs.Acks.{AckValue, IsOfEvent}
 use Rattle.intake_shed.specs.Answers.{Answers, AcceptsEvent, FailsBy, GivesPageAt, IsNoRefusal, IsTold, OrLacksMemory, may_fail, may_fail_event}
 use Rattle.intake_shed.specs.Pages.{asks_for_page}
@@ -27,18 +28,21 @@ change_may_fail command wait.Unknown h = refl
 change_may_fail command wait.WentBack h = refl
 
 -- an event that was waited for is acknowledged, or isn't
-pub told_event : (name id body : Text) (seen : ℕ) (waited : Result AckValue WaitFault) (reply : Reply) → IfOk waited (λ ack. IsOfEvent ack name id body) → IfOk waited (λ ack. ack.seq < seen)
-    → IfErr waited (λ why. IsTrue (may_fail_event why)) → IsTold waited reply → AcceptsEvent name id body seen reply ⊎ FailsBy may_fail_event reply
-told_event name id body seen (Ok ack) reply event below may told = inl (ack, event, below, told)
-told_event name id body seen (Err why) reply event below may told = inr (why, may, told)
+pub told_event : (name id body : Text) (seen : ℕ) (waited : Result AckValue WaitFault) (reply : Reply) (given : Option AckValue)
+    → IfOk waited (λ ack. IsOfEvent ack name id body) → IfOk waited (λ ack. ack.seq < seen)
+    → IfErr waited (λ why. IsTrue (may_fail_event why)) → IsTold waited reply → IfOk waited (λ ack. given ≡ Some ack)
+    → AcceptsEvent name id body seen reply given ⊎ FailsBy may_fail_event reply
+told_event name id body seen (Ok ack) reply given event below may told is = inl (ack, is, event, below, told)
+told_event name id body seen (Err why) reply given event below may told is = inr (why, may, told)
 
 -- a page that is asked for
-pub page_answers : (what : Asked) (seen : ℕ) (reply : Reply) → IsTrue (asks_for_page what) → GivesPageAt what seen reply → Answers what seen reply
-page_answers (asked.Change command) seen reply asks given = cc
-page_answers (asked.Post name id body) seen reply asks given = cc
-page_answers asked.Totals seen reply asks given = given
-page_answers (asked.Endpoint name) seen reply asks given = given
-page_answers (asked.Event name id) seen reply asks given = given
+pub page_answers : (what : Asked) (seen : ℕ) (reply : Reply) (given : Option AckValue) (confirmed : Option ChangeValue)
+    → IsTrue (asks_for_page what) → GivesPageAt what seen reply → Answers what seen reply given confirmed
+page_answers (asked.Change command) seen reply given confirmed asks page = cc
+page_answers (asked.Post name id body) seen reply given confirmed asks page = cc
+page_answers asked.Totals seen reply given confirmed asks page = page
+page_answers (asked.Endpoint name) seen reply given confirmed asks page = page
+page_answers (asked.Event name id) seen reply given confirmed asks page = page
 
 abbrev was_read : Asked → Result Asked Reply
 was_read what = Ok what
@@ -53,9 +57,12 @@ same_reply : (a b : Reply) → was_refused a ≡ was_refused b → a ≡ b
 same_reply a b e = cc
 
 -- what is asked for is the one thing that the request asks for
-pub answers_what : (read what : Asked) (seen : ℕ) (reply : Reply) → Gives (Ok read) what → Answers read seen reply → OrLacksMemory (Answers what seen reply) reply
-answers_what read what seen reply (inl e) h = inl (subst (λ (a : Asked). Answers a seen reply) (same_asked read what e) h)
-answers_what read what seen reply (inr e) h = cc
+pub answers_what : (read what : Asked) (seen : ℕ) (reply : Reply) (given : Option AckValue) (confirmed : Option ChangeValue)
+    → Gives (Ok read) what → Answers read seen reply given confirmed
+    → OrLacksMemory (Answers what seen reply given confirmed) reply
+answers_what read what seen reply given confirmed (inl e) h =
+    inl (subst (λ (a : Asked). Answers a seen reply given confirmed) (same_asked read what e) h)
+answers_what read what seen reply given confirmed (inr e) h = cc
 
 -- what isn't read though it asks for something lacks memory
 pub not_read_lacks : (what : Asked) (P : Type 0) (reply : Reply) → Gives (Err reply) what → OrLacksMemory P reply

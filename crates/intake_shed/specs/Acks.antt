@@ -1,18 +1,36 @@
--- What an acknowledged event is shown by.
-use Rattle.std.specs.Prelude.{◌≡◌}
+-- Acknowledged events, and confirmed changes.
+use Rattle.std.specs.Prelude.{◌≡◌, List, ◌++◌, Some}
+use Rattle.relay_types.specs.declared.record.Record.{Record}
+use Rattle.relay_types.specs.Records.{Accepted}
+use Rattle.relay_types.specs.Deliveries.{accepted}
 use Rattle.relay_types.specs.Values.{Text, Seq}
 use Rattle.desk.specs.declared.ticket.Ticket.{Ticket}
+use Rattle.delivery.specs.Logs.{ChangeValue}
 
--- the number of the event's record, its endpoint, its id and its body
+-- the number of the event's record, its endpoint, its id and its body, and a prefix of the run's log
 pub record AckValue : Type 0 where
   pub seq : Seq
   pub name : Text
   pub id : Text
   pub body : Text
+  pub prefix : List Record
 
--- the event of this ticket, which has this body
-abbrev pub ack_of : Ticket → (body : Text) → AckValue
-ack_of ticket body = record { seq = ticket.seq; name = ticket.name; id = ticket.id; body = body }
+-- the event of this ticket, which has this body, and this prefix of the log
+abbrev pub ack_of : Ticket → (body : Text) → (prefix : List Record) → AckValue
+ack_of ticket body prefix = record { seq = ticket.seq; name = ticket.name; id = ticket.id; body = body; prefix = prefix }
+
+-- the change, with this prefix of the log
+abbrev pub confirmed_of : ChangeValue → (prefix : List Record) → ChangeValue
+confirmed_of change prefix = record { seq = change.seq; entry = change.entry; prefix = prefix }
+
+-- the record of this number is an event of this endpoint, with this id and this body
+abbrev pub HasEvent : List Record → (seq : Seq) → (name id body : Text) → Type 0
+HasEvent records seq name id body =
+    (a : Accepted) × (accepted records seq ≡ Some a) × (a.endpoint ≡ name) × (a.id ≡ id) × (a.body ≡ body)
+
+-- Of each history that the log of the run goes on from: the event is in that history and the log, at its number.
+abbrev pub IsLogged : (is_base : List Record → Type 0) → AckValue → (log : List Record) → Type 0
+IsLogged is_base ack log = (base : List Record) → is_base base → HasEvent (base ++ log) ack.seq ack.name ack.id ack.body
 
 -- the acknowledged event is that of this endpoint and id, and has this body
 pub record IsOfEvent (ack : AckValue) (name id body : Text) : Type 0 where

@@ -1,9 +1,10 @@
 -- What the answer to a request is, once its caller has seen so many records settled.
-use Rattle.std.specs.Prelude.{◌≡◌, ◌<◌, ◌⊎◌, ℕ, Bool, true, Result, Ok, Err, IsTrue}
-use Rattle.relay_types.specs.Values.{Text, Seq}
+use Rattle.std.specs.Prelude.{◌≡◌, ◌<◌, ◌⊎◌, ℕ, Bool, true, Option, Some, Result, Ok, Err, IsTrue}
+use Rattle.relay_types.specs.Values.{Text}
 use Rattle.desk.specs.declared.command.Command.{Command}
-use Rattle.desk.specs.Desks.{DeskValue}
+use Rattle.desk.specs.Desks.{DeskValue, IsCore}
 use Rattle.desk.specs.Faults as desk
+use Rattle.delivery.specs.Logs.{ChangeValue, IsOfCommand}
 use Rattle.intake_shed.specs.Acks.{AckValue, IsOfEvent}
 use Rattle.intake_shed.specs.Done.{IsDone, change_status, change_text, accepted_text}
 use Rattle.intake_shed.specs.Pages.{RepliesBy}
@@ -43,31 +44,36 @@ abbrev pub IsTold : Result AckValue WaitFault → Reply → Type 0
 IsTold (Ok ack) reply = IsDone 202 (accepted_text ack.id ack.seq) reply
 IsTold (Err why) reply = reply ≡ refusal_reply why
 
--- the event is acknowledged, and was seen to be settled
-abbrev pub AcceptsEvent : (name id body : Text) (seen : ℕ) → Reply → Type 0
-AcceptsEvent name id body seen reply =
-    (ack : AckValue) × IsOfEvent ack name id body × (ack.seq < seen) × IsDone 202 (accepted_text ack.id ack.seq) reply
+-- An acknowledgement of the event comes with the reply, and was seen to be settled. The reply has its id and its number.
+abbrev pub AcceptsEvent : (name id body : Text) (seen : ℕ) → Reply → Option AckValue → Type 0
+AcceptsEvent name id body seen reply given = (ack : AckValue) × (given ≡ Some ack)
+    × IsOfEvent ack name id body × (ack.seq < seen) × IsDone 202 (accepted_text ack.id ack.seq) reply
 
--- the change is told by its record's number, and was seen to be settled
-abbrev pub TakesChange : Command → (seen : ℕ) → Reply → Type 0
-TakesChange command seen reply = (seq : Seq) × (seq < seen) × IsDone (change_status command) (change_text seq) reply
+-- A confirmation of the change comes with the reply, and was seen to be settled. The reply has its record's number.
+abbrev pub TakesChange : Command → (seen : ℕ) → Reply → Option ChangeValue → Type 0
+TakesChange command seen reply confirmed = (change : ChangeValue) × (confirmed ≡ Some change)
+    × IsOfCommand change command × (change.seq < seen) × IsDone (change_status command) (change_text change.seq) reply
 
--- the page of a desk that has so many records settled, or no page of it
+-- the page of a state of the core that has so many records settled, or no page of it
 abbrev pub GivesPageAt : Asked → (seen : ℕ) → Reply → Type 0
 GivesPageAt what seen reply =
-    ((desk : DeskValue) × (desk.waiting.settled ≡ seen) × RepliesBy desk what reply) ⊎ (reply ≡ refusal_reply wait.WentBack)
+    ((desk : DeskValue) × IsCore desk × (desk.waiting.settled ≡ seen) × RepliesBy desk what reply)
+    ⊎ (reply ≡ refusal_reply wait.WentBack)
 
 -- The answer to what is asked for, where so many records were then seen as settled.
-abbrev pub Answers : Asked → (seen : ℕ) → Reply → Type 0
-Answers (asked.Change command) seen reply = TakesChange command seen reply ⊎ FailsBy (may_fail command) reply
-Answers (asked.Post name id body) seen reply = AcceptsEvent name id body seen reply ⊎ FailsBy may_fail_event reply
-Answers asked.Totals seen reply = GivesPageAt asked.Totals seen reply
-Answers (asked.Endpoint name) seen reply = GivesPageAt (asked.Endpoint name) seen reply
-Answers (asked.Event name id) seen reply = GivesPageAt (asked.Event name id) seen reply
+abbrev pub Answers : Asked → (seen : ℕ) → Reply → Option AckValue → Option ChangeValue → Type 0
+Answers (asked.Change command) seen reply given confirmed =
+    TakesChange command seen reply confirmed ⊎ FailsBy (may_fail command) reply
+Answers (asked.Post name id body) seen reply given confirmed =
+    AcceptsEvent name id body seen reply given ⊎ FailsBy may_fail_event reply
+Answers asked.Totals seen reply given confirmed = GivesPageAt asked.Totals seen reply
+Answers (asked.Endpoint name) seen reply given confirmed = GivesPageAt (asked.Endpoint name) seen reply
+Answers (asked.Event name id) seen reply given confirmed = GivesPageAt (asked.Event name id) seen reply
 
 -- the same to a request
-abbrev pub AnswersAsk : Ask → (fresh : Text) (seen : ℕ) → Reply → Type 0
-AnswersAsk ask fresh seen reply = (what : Asked) × AsksFor ask fresh what × Answers what seen reply
+abbrev pub AnswersAsk : Ask → (fresh : Text) (seen : ℕ) → Reply → Option AckValue → Option ChangeValue → Type 0
+AnswersAsk ask fresh seen reply given confirmed =
+    (what : Asked) × AsksFor ask fresh what × Answers what seen reply given confirmed
 
 -- it is so, or memory is lacking
 abbrev pub OrLacksMemory : Type 0 → Reply → Type 0

@@ -44,9 +44,9 @@ RepliesTo records (asked.Event name id) reply =
     GivesEvent (endpoint_page records name) (event_page records name id) reply
 RepliesTo records what reply = ⊥
 
--- The same by what a desk keeps, whether or not it stands for a world. The totals tell as many records as are settled.
+-- The same by what a desk keeps, whether or not it stands for a world.
 abbrev pub RepliesBy : DeskValue → Asked → Reply → Type 0
-RepliesBy desk asked.Totals reply = (t : Totals) × (t.records ≡ desk.waiting.settled) × GivesPage (totals_text t) reply
+RepliesBy desk asked.Totals reply = GivesPage (totals_text (kept.totals desk)) reply
 RepliesBy desk (asked.Endpoint name) reply = GivesEndpoint (kept.endpoint_page desk name) reply
 RepliesBy desk (asked.Event name id) reply = GivesEvent (kept.endpoint_page desk name) (kept.event_page desk name id) reply
 RepliesBy desk what reply = ⊥

@@ -3,41 +3,90 @@ ghost use Rattle.std.specs.Prelude.{◌≡◌, ◌<◌, ◌↔◌, Some, IsOk, I
 ghost use Rattle.desk.specs.Desks.{OverWorlds};
 ghost use Rattle.desk.specs.Kept as kept;
 ghost use Rattle.desk.specs.Looks.{settled_body};
-ghost use Rattle.intake_shed.specs.Acks.{ack_of};
+ghost use Rattle.intake_shed.specs.Acks.{IsLogged, ack_of};
 
+use delivery::{Keeper, Locked, LoggedKeeper};
 use desk::{Desk, Ticket};
 use relay_types::{Body, MsgId, Name};
+use run_log::{Log, LogId, Prefix};
 use std::marker::Model;
 use std::sync::ledger::Ledger;
 
-/// Shows that an event is settled: `Ack::of` alone makes it.
+/// An event that was acknowledged: the number of its record, its endpoint, its id and its body.
 #[derive(Drop)]
-pub struct Ack {
-    ticket: Ticket,
-    body: Body,
+pub struct Acknowledged {
+    pub seq: u64,
+    pub name: Name,
+    pub id: MsgId,
+    pub body: Body,
 }
 
-impl Model for Ack {
-    ghost use Rattle.intake_shed.specs.Acks.{AckValue, ack_of};
+/// Shows that an event is settled, and that it is in the log of the run. `Ack::of` alone makes it.
+#[derive(Drop)]
+pub struct Ack<I: LogId> {
+    ticket: Ticket,
+    body: Body,
+    prefix: Prefix<I>,
+}
+
+impl<I: LogId> Model for Ack<I> {
+    ghost use Rattle.intake_shed.specs.Acks.{AckValue, IsLogged, ack_of};
 
     ghost Value = { AckValue };
 
-    ghost view = { λ a. ack_of a.ticket a.body };
+    ghost view = { λ a. ack_of a.ticket a.body a.prefix };
+
+    ghost invariant = { λ a. IsLogged I.is_base (ack_of a.ticket a.body a.prefix) a.prefix };
 }
 
-impl Ack {
+impl<I: LogId> Ack<I> {
     /// The acknowledgement of a submission that is settled with this body, or the body back.
-    pub fn of<L: Ledger>(desk: &Desk<L>, ticket: Ticket, body: Body) -> Result<Ack, Body>
-        ensures settled { IsOk result ↔ (kept.settled_body desk.now ticket ≡ Some body) }
-        ensures stands { OverWorlds desk.now (λ w. IsOk result ↔ (settled_body w ticket ≡ Some body)) }
-        ensures value { IfOk result (λ ack. ack ≡ ack_of ticket body) }
-        ensures below { IfOk result (λ ack. ack.seq < desk.now.waiting.settled) }
+    pub fn of<L: Ledger>(
+        log: &Log<I>,
+        locked: &mut Locked<L, I>,
+        ticket: Ticket,
+        body: Body,
+    ) -> Result<Ack<I>, Body>
+        ensures settled { IsOk result ↔ (kept.settled_body locked.old.desk ticket ≡ Some body) }
+        ensures stands { OverWorlds locked.old.desk (λ w. IsOk result ↔ (settled_body w ticket ≡ Some body)) }
+        ensures value { IfOk result (λ ack. ack ≡ ack_of ticket body locked.old.prefix) }
+        ensures below { IfOk result (λ ack. ack.seq < locked.old.desk.waiting.settled) }
         ensures back { IfErr result (λ back. back ≡ body) }
+        ensures same { locked.new ≡ locked.old }
     {
-        if is_settled(desk, &ticket, &body) {
-            Ok(Ack { ticket, body })
+        if is_settled(locked.desk(), &ticket, &body) {
+            Ok(Ack {
+                ticket,
+                body,
+                prefix: locked.settled_prefix(log),
+            })
         } else {
             Err(body)
+        }
+    }
+
+    /// The event, which is in the log that the keeper committed, at its number.
+    pub fn compare<K: Keeper + Drop>(
+        self,
+        log: &Log<I>,
+        logged: &mut LoggedKeeper<I, K>,
+    ) -> Acknowledged
+        ensures logged { IsLogged I.is_base self logged.old.writer }
+        ensures event { result ≡ record { seq = self.seq; name = self.name; id = self.id; body = self.body } }
+        ensures keeper { logged.new.keeper ≡ logged.old.keeper }
+        ensures writer { logged.new.writer ≡ logged.old.writer }
+    {
+        let Ack {
+            ticket,
+            body,
+            prefix,
+        } = self;
+        logged.compare(log, prefix);
+        Acknowledged {
+            seq: ticket.seq,
+            name: ticket.name,
+            id: ticket.id,
+            body,
         }
     }
 

@@ -1,12 +1,14 @@
 //! The answer to a request.
-ghost use Rattle.std.specs.Prelude.{◌≡◌, ◌≤◌, ◌⊎◌, IsTrue};
+ghost use Rattle.std.specs.Prelude.{◌≡◌, ◌≤◌, ◌⊎◌, Some, IfOk, IsTrue};
 ghost use Rattle.intake_shed.specs.Pages.{asks_for_page};
 ghost use Rattle.intake_shed.specs.Replies.{ask_reply};
 ghost use Rattle.intake_shed.specs.Requests.{AsksFor, IsRefusal, IsRefusedFor};
-ghost use Rattle.intake_shed.specs.Answers.{Answers, AnswersAsk, FailsBy, GivesPageAt, IsTold, OrLacksMemory, TakesChange, may_fail};
+ghost use Rattle.intake_shed.specs.Answers.{Answers, AnswersAsk, FailsBy, GivesPageAt, IsTold, OrLacksMemory};
+ghost use Rattle.intake_shed.specs.Answers.{TakesChange, may_fail};
 ghost use Rattle.intake_shed.specs.declared.fault.AskFault.{AskFault};
 
 use crate::ack::Ack;
+use crate::answered::Answered;
 use crate::ask::{Ask, Asked};
 use crate::done::{accepted_reply, change_reply, change_status};
 use crate::pages::page_reply;
@@ -17,77 +19,105 @@ use crate::waits::{command_and_wait, submit_and_wait};
 use delivery::{Pass, Shared};
 use desk::{Command, Desk};
 use relay_types::{Moment, MsgId};
+use run_log::LogId;
 use std::alloc::Global;
 use std::sync::Wait;
 use std::sync::ledger::Ledger;
 
 /// Answers a request. An event or a change is answered once it is settled, or won't be; a page is one of what is settled then. An
 /// event that isn't given an id gets the fresh one. Where memory is refused for the reply, what was done stays done.
-pub fn answer<L: Ledger, R: Wait>(
+pub fn answer<L: Ledger, I: LogId, R: Wait>(
     rt: &R,
     alloc: Global,
-    shared: &Shared<L>,
+    shared: &Shared<L, I>,
     ask: &Ask<'_>,
     fresh: MsgId,
     now: Moment,
     pass: &mut Pass,
-) -> Reply
-    ensures answers { IsRefusal ask.now result ⊎ AnswersAsk ask.now fresh pass.new result }
-    ensures asks { (what : Asked) → AsksFor ask.now fresh what → OrLacksMemory (Answers what pass.new result) result }
-    ensures refuses { (why : AskFault) → IsRefusedFor ask.now why → OrLacksMemory (result ≡ ask_reply why) result }
+) -> Answered<I>
+    ensures answers { IsRefusal ask.now result.reply ⊎ AnswersAsk ask.now fresh pass.new result.reply result.ack result.confirmed }
+    ensures asks { (what : Asked) → AsksFor ask.now fresh what
+        → OrLacksMemory (Answers what pass.new result.reply result.ack result.confirmed) result.reply }
+    ensures refuses { (why : AskFault) → IsRefusedFor ask.now why
+        → OrLacksMemory (result.reply ≡ ask_reply why) result.reply }
     ensures pass { pass.old ≤ pass.new }
 {
     match read_ask(alloc, ask, fresh) {
         Ok(asked) => answer_asked(rt, alloc, shared, asked, now, pass),
-        Err(reply) => reply,
+        Err(reply) => Answered {
+            reply,
+            ack: None,
+            confirmed: None,
+        },
     }
 }
 
-fn answer_asked<L: Ledger, R: Wait>(
+fn answer_asked<L: Ledger, I: LogId, R: Wait>(
     rt: &R,
     alloc: Global,
-    shared: &Shared<L>,
+    shared: &Shared<L, I>,
     asked: Asked,
     now: Moment,
     pass: &mut Pass,
-) -> Reply
-    ensures answers { Answers asked pass.new result }
+) -> Answered<I>
+    ensures answers { Answers asked pass.new result.reply result.ack result.confirmed }
     ensures pass { pass.old ≤ pass.new }
 {
     match asked {
         Asked::Change(command) => answer_change(rt, alloc, shared, command, pass),
         Asked::Post { name, id, body } => {
             let waited = submit_and_wait(rt, shared, now, name, id, body, pass);
-            event_reply(alloc, waited)
+            answer_event(alloc, waited)
         }
-        page => answer_page(alloc, shared.lock(rt).desk(), &page, pass),
+        page => Answered {
+            reply: answer_page(alloc, shared.lock(rt).desk(), &page, pass),
+            ack: None,
+            confirmed: None,
+        },
     }
 }
 
-fn answer_change<L: Ledger, R: Wait>(
+fn answer_change<L: Ledger, I: LogId, R: Wait>(
     rt: &R,
     alloc: Global,
-    shared: &Shared<L>,
+    shared: &Shared<L, I>,
     command: Command,
     pass: &mut Pass,
-) -> Reply
-    ensures answers { TakesChange command pass.new result ⊎ FailsBy (may_fail command) result }
+) -> Answered<I>
+    ensures answers { TakesChange command pass.new result.reply result.confirmed ⊎ FailsBy (may_fail command) result.reply }
     ensures pass { pass.old ≤ pass.new }
 {
     let status = change_status(&command);
     match command_and_wait(rt, shared, command, pass) {
-        Ok(ticket) => change_reply(alloc, status, ticket.seq),
-        Err(fault) => refusal_reply(&fault),
+        Ok(confirmed) => Answered {
+            reply: change_reply(alloc, status, confirmed.seq()),
+            ack: None,
+            confirmed: Some(confirmed),
+        },
+        Err(fault) => Answered {
+            reply: refusal_reply(&fault),
+            ack: None,
+            confirmed: None,
+        },
     }
 }
 
-// The reply to an event that was waited for.
-fn event_reply(alloc: Global, waited: Result<Ack, WaitFault>) -> Reply
-    ensures { IsTold waited result }
+// The answer to an event that was waited for.
+fn answer_event<I: LogId>(alloc: Global, waited: Result<Ack<I>, WaitFault>) -> Answered<I>
+    ensures told { IsTold waited result.reply }
+    ensures given { IfOk waited (λ ack. result.ack ≡ Some ack) }
 {
     match waited {
-        Ok(ack) => accepted_reply(alloc, &ack.id(), ack.seq()),
-        Err(why) => refusal_reply(&why),
+        Ok(ack) => Answered {
+            reply: accepted_reply(alloc, &ack.id(), ack.seq()),
+            ack: Some(ack),
+            confirmed: None,
+        },
+        Err(why) => Answered {
+            reply: refusal_reply(&why),
+            ack: None,
+            confirmed: None,
+        },
     }
 }
 

@@ -3,11 +3,14 @@
 #![tactic(auto)]
 
 mod ack;
+mod answered;
 mod answering;
 mod ask;
 mod changes;
+mod confirmed;
 mod done;
 mod fault;
+mod latest;
 mod members;
 mod pages;
 mod reading;
@@ -16,11 +19,14 @@ mod reply;
 mod routes;
 mod waits;
 
-pub use crate::ack::Ack;
+pub use crate::ack::{Ack, Acknowledged};
+pub use crate::answered::Answered;
 pub use crate::answering::answer;
 pub use crate::ask::{Ask, AskBody, Asked};
+pub use crate::confirmed::Confirmed;
 pub use crate::done::{accepted_reply, change_reply, change_status};
 pub use crate::fault::AskFault;
+pub use crate::latest::LatestAck;
 pub use crate::pages::page_reply;
 pub use crate::reading::read_ask;
 pub use crate::refusals::{WaitFault, refusal_reply};

@@ -1,14 +1,17 @@
 //! Changes and events that are waited for. The lock is free while their callers wait.
 ghost use Rattle.std.specs.Prelude.{◌≡◌, ◌≢◌, ◌<◌, ◌≤◌, ◌↔◌, Some, IsTrue, IfOk, IfErr};
 ghost use Rattle.desk.specs.Kept as kept;
-ghost use Rattle.intake_shed.specs.Acks.{IsOfEvent, ack_of};
+ghost use Rattle.delivery.specs.Logs.{IsOfCommand};
+ghost use Rattle.intake_shed.specs.Acks.{IsOfEvent, ack_of, confirmed_of};
 ghost use Rattle.intake_shed.specs.Answers.{IsNoRefusal, may_fail, may_fail_event};
 
 use crate::ack::Ack;
+use crate::confirmed::Confirmed;
 use crate::refusals::WaitFault;
-use delivery::{Pass, Shared};
-use desk::{Command, CommandTicket, Desk, Fault, Refusal, Ticket, Told};
+use delivery::{Locked, Pass, Shared, StagedChange};
+use desk::{Command, Fault, Refusal, Ticket};
 use relay_types::{Body, Moment, MsgId, Name};
+use run_log::{Log, LogId};
 use std::sync::Wait;
 use std::sync::ledger::Ledger;
 
@@ -20,15 +23,15 @@ const NO_MEMORY: Refusal = Refusal {
 
 /// Submits an event, and waits until it is settled or won't be. The body is shared first, and only memory may be refused
 /// there; once the end was asked for nothing is taken.
-pub fn submit_and_wait<L: Ledger, R: Wait>(
+pub fn submit_and_wait<L: Ledger, I: LogId, R: Wait>(
     rt: &R,
-    shared: &Shared<L>,
+    shared: &Shared<L, I>,
     now: Moment,
     name: Name,
     id: MsgId,
     body: Body,
     pass: &mut Pass,
-) -> Result<Ack, WaitFault>
+) -> Result<Ack<I>, WaitFault>
     ensures event { IfOk result (λ ack. IsOfEvent ack name id body) }
     ensures seen { IfOk result (λ ack. ack.seq < pass.new) }
     ensures names { IfErr result (λ why. IsTrue (may_fail_event why)) }
@@ -38,59 +41,64 @@ pub fn submit_and_wait<L: Ledger, R: Wait>(
         return Err(WaitFault::Refused(NO_MEMORY));
     };
     let ticket = shared.submit(rt, now, name, id, copy)?;
-    acknowledge(shared.wait_for(rt, &ticket).desk(), ticket, body, pass)
+    let mut locked = shared.wait_for(rt, &ticket);
+    acknowledge(shared.log(), &mut *locked, ticket, body, pass)
 }
 
 // Acknowledges a submission that is waited for no more: it is settled, or the desk halted.
-fn acknowledge<L: Ledger>(
-    desk: &Desk<L>,
+fn acknowledge<L: Ledger, I: LogId>(
+    log: &Log<I>,
+    locked: &mut Locked<L, I>,
     ticket: Ticket,
     body: Body,
     pass: &mut Pass,
-) -> Result<Ack, WaitFault>
-    ensures ack { IfOk result (λ ack. ack ≡ ack_of ticket body) }
+) -> Result<Ack<I>, WaitFault>
+    ensures ack { IfOk result (λ ack. ack ≡ ack_of ticket body locked.old.prefix) }
     ensures seen { IfOk result (λ ack. ack.seq < pass.new) }
-    ensures unknown { (result ≡ Err WaitFault.Unknown) ↔ (kept.settled_body desk.now ticket ≢ Some body) }
+    ensures unknown { (result ≡ Err WaitFault.Unknown) ↔ (kept.settled_body locked.old.desk ticket ≢ Some body) }
     ensures refused { IfErr result IsNoRefusal }
     ensures pass { pass.old ≤ pass.new }
 {
-    let Ok(ack) = Ack::of(desk, ticket, body) else {
+    let Ok(ack) = Ack::of(log, locked, ticket, body) else {
         return Err(WaitFault::Unknown);
     };
-    pass.look(desk)?;
+    pass.look(locked.desk())?;
     Ok(ack)
 }
 
 /// Changes an endpoint, and waits until the change is settled or won't be. Once the end was asked for nothing is taken.
-pub fn command_and_wait<L: Ledger, R: Wait>(
+pub fn command_and_wait<L: Ledger, I: LogId, R: Wait>(
     rt: &R,
-    shared: &Shared<L>,
+    shared: &Shared<L, I>,
     command: Command,
     pass: &mut Pass,
-) -> Result<CommandTicket, WaitFault>
-    ensures seen { IfOk result (λ ticket. ticket.seq < pass.new) }
+) -> Result<Confirmed<I>, WaitFault>
+    ensures change { IfOk result (λ confirmed. IsOfCommand confirmed command) }
+    ensures seen { IfOk result (λ confirmed. confirmed.seq < pass.new) }
     ensures names { IfErr result (λ why. IsTrue (may_fail command why)) }
     ensures pass { pass.old ≤ pass.new }
 {
-    let ticket = shared.command(rt, command)?;
-    confirm(shared.wait_for_command(rt, &ticket).desk(), ticket, pass)
+    let change = shared.command(rt, command)?;
+    let mut locked = shared.wait_for_command(rt, &change.ticket());
+    confirm(shared.log(), &mut *locked, change, pass)
 }
 
 // Confirms a change that is waited for no more: it is settled, or the desk halted.
-fn confirm<L: Ledger>(
-    desk: &Desk<L>,
-    ticket: CommandTicket,
+fn confirm<L: Ledger, I: LogId>(
+    log: &Log<I>,
+    locked: &mut Locked<L, I>,
+    change: StagedChange<I>,
     pass: &mut Pass,
-) -> Result<CommandTicket, WaitFault>
-    ensures ticket { IfOk result (λ confirmed. confirmed ≡ ticket) }
+) -> Result<Confirmed<I>, WaitFault>
+    ensures change { IfOk result (λ confirmed. confirmed ≡ confirmed_of change locked.old.prefix) }
     ensures seen { IfOk result (λ confirmed. confirmed.seq < pass.new) }
-    ensures unknown { (result ≡ Err WaitFault.Unknown) ↔ (desk.now.waiting.settled ≤ ticket.seq) }
+    ensures unknown { (result ≡ Err WaitFault.Unknown) ↔ (locked.old.desk.waiting.settled ≤ change.seq) }
     ensures refused { IfErr result IsNoRefusal }
     ensures pass { pass.old ≤ pass.new }
 {
-    if desk.told_command(&ticket) != Told::Settled {
+    let Some(confirmed) = Confirmed::of(log, locked, change) else {
         return Err(WaitFault::Unknown);
-    }
-    pass.look(desk)?;
-    Ok(ticket)
+    };
+    pass.look(locked.desk())?;
+    Ok(confirmed)
 }

@@ -1,6 +1,41 @@
--- What a keeper at a place keeps.
+-- What a look at a place finds, and what a keeper there keeps.
+use Rattle.std.specs.Prelude.{◌≡◌, ◌⊎◌, IsSome, IsTrue, Option, Some, None}
+use Rattle.spool.specs.declared.ends.Unchanged.{Unchanged}
+use Rattle.spool.specs.declared.ends.Unchanged.TheVariants as why
+use Rattle.relay_host.specs.declared.place.FilePlace.{FilePlace}
+use Rattle.relay_host.specs.declared.place.Sight.{Sight}
+use Rattle.relay_host.specs.declared.place.Sight.TheVariants.{Stands, Gone, Unseen, OutOfMemory}
 use Rattle.relay_host.specs.declared.placed.Placed.{Placed}
 
--- the keeper, wherever its place is
-abbrev pub keeper_of : {K P : Type 0} → Placed K P → K
-keeper_of placed = placed.keeper
+-- the look told nothing of what stands there
+abbrev pub IsBlind : Sight → Type 0
+IsBlind Stands = ⊥
+IsBlind Gone = ⊥
+IsBlind Unseen = Unit {0}
+IsBlind OutOfMemory = Unit {0}
+
+-- What is known of the file and of its log stays known, and a look that told nothing changes nothing.
+pub record IsSightOf {F File Dir : Type 0} (old new : FilePlace F File Dir) (sight : Sight) : Type 0 where
+  pub file : IsTrue old.is_known → new.file ≡ old.file
+  pub log : IsSome old.log → new.log ≡ old.log
+  pub stands : sight ≡ Stands → IsTrue new.is_known × IsSome new.file
+  pub blind : IsBlind sight → new ≡ old
+
+-- As what a batch is handed back where a look finds this; none is where the place stands.
+abbrev pub refusal_at : Sight → Option Unchanged
+refusal_at Stands = None
+refusal_at Gone = Some why.OutOfTurn
+refusal_at Unseen = Some why.OutOfTurn
+refusal_at OutOfMemory = Some why.OutOfMemory
+
+module _ {K P : Type 0} where
+  -- the keeper, wherever its place is
+  abbrev pub keeper_of : Placed K P → K
+  keeper_of placed = placed.keeper
+
+  abbrev pub place_of : Placed K P → P
+  place_of placed = placed.place
+
+  -- what the last look found
+  abbrev pub sight_of : Placed K P → Sight
+  sight_of placed = placed.sight

@@ -1,6 +1,6 @@
 //! Ids of events whose submitters name none.
 ghost use Rattle.std.specs.Prelude.{◌≡◌, IfOk, IfSome};
-ghost use Rattle.relay_host.specs.Fresh.{IsMadeId, made_id};
+ghost use Rattle.relay_host.specs.Fresh.{IsMadeId, IsMadeOf, made_id};
 
 use arrayvec::ArrayString;
 use relay_types::MsgId;
@@ -9,13 +9,50 @@ use std::io::ErrorKind;
 use std::random::RandomSource;
 use uuid::{Builder, Uuid};
 
+/// Gives random bytes. It names those that it may give.
+pub trait RandomBytes {
+    ghost use Rattle.std.specs.Prelude.{ℕ, List, ⊤};
+
+    ghost gives: { Self → List ℕ → Type 0 } = { λ _ _. ⊤ };
+
+    /// Sixteen bytes, each time others.
+    fn sixteen(&self) -> io::Result<[u8; 16]>
+        ensures { IfOk result (gives self.now) };
+}
+
+/// The system's source of random bytes.
+#[derive(Clone, Copy)]
+pub struct HostRandom<'a, R> {
+    rt: &'a R,
+}
+
+impl<'a, R> HostRandom<'a, R> {
+    pub fn new(rt: &'a R) -> HostRandom<'a, R> {
+        HostRandom { rt }
+    }
+}
+
+impl<R: RandomSource> RandomBytes for HostRandom<'_, R> {
+    fn sixteen(&self) -> io::Result<[u8; 16]> {
+        let mut bytes = [0; 16];
+        self.rt.fill_bytes(&mut bytes)?;
+        Ok(bytes)
+    }
+}
+
 /// An id that nobody used before, as far as chance goes: `msg_` and a UUID of version 4 (RFC 9562, section 5.4), with hyphens and in lower
 /// case. It fails where the system's source of random bytes does.
 pub fn fresh_id<R: RandomSource>(rt: &R) -> io::Result<MsgId>
     ensures { IfOk result IsMadeId }
 {
-    let mut bytes = [0; 16];
-    rt.fill_bytes(&mut bytes)?;
+    fresh_id_from(&HostRandom::new(rt))
+}
+
+/// The same of a source's bytes: all of them, but for the six bits that tell the version and the variant.
+pub fn fresh_id_from<S: RandomBytes>(source: &S) -> io::Result<MsgId>
+    ensures { IfOk result (IsMadeOf (S.gives source.now)) }
+{
+    let bytes = source.sixteen()?;
     match id_of(Builder::from_random_bytes(bytes).into_uuid()) {
         Some(id) => Ok(id),
         None => Err(ErrorKind::InvalidData.into()),

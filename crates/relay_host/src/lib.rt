@@ -3,8 +3,10 @@
 
 mod fresh;
 mod moment;
+mod place;
 mod placed;
 
-pub use crate::fresh::fresh_id;
+pub use crate::fresh::{HostRandom, RandomBytes, fresh_id, fresh_id_from};
 pub use crate::moment::{HostClock, moment_of};
-pub use crate::placed::{FilePlace, Place, Placed, Sight};
+pub use crate::place::{FilePlace, Place, Sight};
+pub use crate::placed::Placed;

@@ -1,114 +1,20 @@
 //! A keeper whose file has to stand where it was opened.
-ghost use Rattle.std.specs.Prelude.{◌≡◌};
-ghost use Rattle.relay_host.specs.Placing.{keeper_of};
+ghost use Rattle.std.specs.Prelude.{◌≡◌, ◌⊎◌, ◌↔◌, false, Some, IsTrue, IfOk, IfErr, Err};
+ghost use Rattle.spool.specs.Commits.{HandsBack, IsDoubt};
+ghost use Rattle.spool.specs.declared.ends.Unchanged.{Unchanged};
+ghost use Rattle.delivery.specs.Keepers.{Counts, Leaves};
+ghost use Rattle.relay_host.specs.Placing.{keeper_of, place_of, refusal_at, sight_of};
 
+use crate::place::{Place, Sight};
 use delivery::Keeper;
 use spool::{Batch, CommitEnd, Receipt, Unchanged};
-use std::alloc::{AllocError, Global};
-use std::fs;
-use std::fs::Files;
-use std::io::ErrorKind;
-use std::os::unix::fs::MetadataExt;
 
-/// What a look at a place finds.
-#[derive(Clone, Copy, PartialEq, Eq, Debug)]
-pub enum Sight {
-    /// What was opened stands there.
-    Stands,
-    /// Nothing stands there, or something else.
-    Gone,
-    /// Memory was refused.
-    OutOfMemory,
-}
-
-/// A place at which something was opened.
-pub trait Place {
-    /// Looks what stands there now.
-    fn look(&mut self) -> Sight;
-}
-
-/// A file and its log at their paths. Both are told from others by device and number, as `stat` gives them (POSIX.1-2017). The log of a file
-/// to which the path leads by a link isn't looked at.
-#[derive(Drop)]
-pub struct FilePlace<'a, F: Files> {
-    files: &'a F,
-    path: &'a str,
-    log_path: String,
-    is_known: bool,
-    file: Option<Node>,
-    log: Option<Node>,
-}
-
-// Which file something is: its device, and its number there.
-#[derive(Clone, Copy, PartialEq, Eq)]
-struct Node {
-    device: u64,
-    number: u64,
-}
-
-impl<'a, F: Files> FilePlace<'a, F> {
-    /// The place of a file that isn't opened yet.
-    pub fn new(files: &'a F, alloc: Global, path: &'a str) -> Result<FilePlace<'a, F>, AllocError> {
-        let log_path = format!(in alloc; "{path}-wal")?;
-        Ok(FilePlace {
-            files,
-            path,
-            log_path,
-            is_known: false,
-            file: None,
-            log: None,
-        })
-    }
-
-    /// Takes what stands there now for what was opened. Where memory is refused, the next look does.
-    pub fn remember(&mut self) {
-        let _seen = self.look();
-    }
-}
-
-impl<F: Files> Place for FilePlace<'_, F> {
-    /// The first look takes what stands there for what was opened. A log that wasn't there before is the file's own from then on.
-    fn look(&mut self) -> Sight {
-        let (Ok(file), Ok(log)) = (
-            node_at(self.files, self.path),
-            node_at(self.files, self.log_path.as_str()),
-        ) else {
-            return Sight::OutOfMemory;
-        };
-        if !self.is_known {
-            self.is_known = true;
-            self.file = file;
-        }
-        if self.log.is_none() {
-            self.log = log;
-        }
-        if self.file.is_some() && self.file == file && self.log == log {
-            Sight::Stands
-        } else {
-            Sight::Gone
-        }
-    }
-}
-
-// Which file stands at the path, if one does that can be looked at. It fails where memory is refused.
-fn node_at<F: Files>(files: &F, path: &str) -> Result<Option<Node>, AllocError> {
-    match fs::metadata(files, path) {
-        Ok(found) => Ok(Some(Node {
-            device: found.dev(),
-            number: found.ino(),
-        })),
-        Err(error) => match error.kind() {
-            ErrorKind::OutOfMemory => Err(AllocError),
-            _ => Ok(None),
-        },
-    }
-}
-
-/// A keeper that commits where its place stands, and else hands the batch back as out of turn.
+/// A keeper that commits where its place stands, and else hands the batch back: as out of turn, or for want of memory.
 #[derive(Drop)]
 pub struct Placed<K: Keeper + Drop, P: Place + Drop> {
     keeper: K,
     place: P,
+    sight: Sight,
 }
 
 impl<K: Keeper + Drop, P: Place + Drop> Placed<K, P> {
@@ -116,7 +22,11 @@ impl<K: Keeper + Drop, P: Place + Drop> Placed<K, P> {
     pub fn new(keeper: K, place: P) -> Placed<K, P>
         ensures { keeper_of result ≡ keeper }
     {
-        Placed { keeper, place }
+        Placed {
+            keeper,
+            place,
+            sight: Sight::Stands,
+        }
     }
 
     /// The keeper, wherever its place is.
@@ -124,6 +34,24 @@ impl<K: Keeper + Drop, P: Place + Drop> Placed<K, P> {
         ensures { result ≡ keeper_of self }
     {
         self.keeper
+    }
+
+    /// What the last look found; before the first one, that it stands.
+    pub fn sight(&self) -> Sight
+        ensures { result ≡ sight_of self.now }
+    {
+        self.sight
+    }
+}
+
+// As what a batch is handed back where a look finds this.
+fn refusal_at(sight: Sight) -> Option<Unchanged>
+    ensures { result ≡ refusal_at sight }
+{
+    match sight {
+        Sight::Stands => None,
+        Sight::Gone | Sight::Unseen => Some(Unchanged::OutOfTurn),
+        Sight::OutOfMemory => Some(Unchanged::OutOfMemory),
     }
 }
 
@@ -136,14 +64,29 @@ impl<K: Keeper + Drop, P: Place + Drop> Keeper for Placed<K, P> {
 
     ghost closed = { λ k. K.closed k.keeper };
 
-    fn commit(&mut self, batch: Batch) -> Result<Receipt, CommitEnd> {
+    ghost next = { λ k. K.next k.keeper };
+
+    fn commit(&mut self, batch: Batch) -> Result<Receipt, CommitEnd>
+        ensures receipt { IfOk result (λ receipt. receipt ≡ batch) }
+        ensures handed_back { IfErr result (HandsBack batch) }
+        ensures closed { (result ≡ Err (CommitEnd.Unchanged batch Unchanged.Closed)) ↔ IsTrue (K.closed (keeper_of self.old)) }
+        ensures doubt { IsTrue (K.closed (keeper_of self.new)) ↔ (IsTrue (K.closed (keeper_of self.old)) ⊎ IsDoubt result) }
+        ensures counts { Counts K.next (keeper_of self.old) (keeper_of self.new) batch result }
+        ensures clean { K.is_clean (keeper_of self.new) → K.is_clean (keeper_of self.old) }
+        ensures history { K.is_clean (keeper_of self.new)
+            → Leaves K.holds K.in_doubt (keeper_of self.old) (keeper_of self.new) batch result }
+        ensures looked { K.closed (keeper_of self.old) ≡ false
+            → P.finds (place_of self.old) (place_of self.new) (sight_of self.new) }
+        ensures refused { K.closed (keeper_of self.old) ≡ false → (why : Unchanged)
+            → refusal_at (sight_of self.new) ≡ Some why → result ≡ Err (CommitEnd.Unchanged batch why) }
+    {
         if self.keeper.is_closed() {
             return self.keeper.commit(batch);
         }
-        match self.place.look() {
-            Sight::Stands => self.keeper.commit(batch),
-            Sight::Gone => Err(CommitEnd::Unchanged(batch, Unchanged::OutOfTurn)),
-            Sight::OutOfMemory => Err(CommitEnd::Unchanged(batch, Unchanged::OutOfMemory)),
+        self.sight = self.place.look();
+        match refusal_at(self.sight) {
+            Some(why) => Err(CommitEnd::Unchanged(batch, why)),
+            None => self.keeper.commit(batch),
         }
     }
 

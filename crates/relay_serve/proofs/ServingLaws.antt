@@ -1,5 +1,6 @@
 -- What a committer's run, and a look at the rows behind it, leave of the histories that a vault held.
 use Rattle.std.proofs.Common.{sym, subst, List, [], ◌++◌}
+use Rattle.std.specs.Prelude.{Option, Some, None, IfSome}
 use Rattle.std.proofs.lemmas.List.{append-nil}
 use Rattle.sqlite.specs.Held.{state}
 use Rattle.sqlite.specs.State.{State}
@@ -9,11 +10,13 @@ use Rattle.spool.specs.Adopting.{IsOnlyRead}
 use Rattle.spool.specs.Commits.{HoldsOnDisk}
 use Rattle.spool.specs.Entering.{RestsInDoubt}
 use Rattle.spool.specs.Vaults.{VaultValue}
-use Rattle.delivery.specs.Keepers.{Adds, Stands, records_in}
+use Rattle.delivery.specs.Keepers.{Adds, AppendsBatches, KeepsLog, Stands, records_in}
 use Rattle.delivery.specs.declared.committer.CommitterEnd.{CommitterEnd}
 use Rattle.delivery.specs.declared.committer.CommitterEnd.TheVariants.{Finished, Halted}
 use Rattle.delivery.specs.declared.committer.HaltCause.TheVariants as cause
-use Rattle.relay_serve.specs.Serving.{AddsBatches, LeavesDoubt, LeavesRows}
+use Rattle.intake_shed.specs.Acks.{HasEvent}
+use Rattle.intake_shed.specs.declared.ack.Acknowledged.{Acknowledged}
+use Rattle.relay_serve.specs.Serving.{AddsBatches, AddsEvent, LeavesDoubt, LeavesRows}
 
 -- what stands of one thing stands of another that has as much
 module _ {A B : Type 0} (holds : A → List Record → Type 0) (in_doubt : A → List Record → List Record → Type 0)
@@ -29,6 +32,13 @@ module _ {A B : Type 0} (holds : A → List Record → Type 0) (in_doubt : A →
   stands_so records (Halted cause.OutOfMemory) stands = held records stands
   stands_so records (Halted cause.Halted) stands = held records stands
   stands_so records (Halted cause.BatchOut) stands = held records stands
+
+-- an event that the log has after each history that it goes on from, after this one
+pub event_of_base : (is_base : List Record → Type 0) (log : List Record) (acknowledged : Option Acknowledged) (base : List Record) → is_base base
+    → IfSome acknowledged (λ event. (base : List Record) → is_base base → HasEvent (base ++ log) event.seq event.name event.id event.body)
+    → IfSome acknowledged (λ event. HasEvent (base ++ log) event.seq event.name event.id event.body)
+event_of_base is_base log None base is has = has
+event_of_base is_base log (Some event) base is has = has base is
 
 -- a doubt stays while the store is only read
 still_doubted : (old new : State) → IsOnlyRead old new → (records more : List Record) → RestsInDoubt old records more → RestsInDoubt new records more
@@ -51,6 +61,19 @@ module _ {S : Type 0} (g : Ghosts S) where
         let more = adds records held in
         (more.0, stands_so holds in_doubt (LeavesRows g) (LeavesDoubt g) new (vault_of new) (λ _ held. held.1) (λ _ _ doubt. doubt) (records ++ records_in more.0) end more.1)
 
+    -- a keeper that held these records holds them and the log, which is whole batches, and the event is in these
+    pub logged_event : (old new : K) (log : List Record) (end : CommitterEnd) (acknowledged : Option Acknowledged) (records : List Record)
+        → KeepsLog holds in_doubt old [] new log end → AppendsBatches [] log
+        → IfSome acknowledged (λ event. HasEvent (records ++ log) event.seq event.name event.id event.body)
+        → AddsEvent g (vault_of old) (vault_of new) end acknowledged records
+    logged_event old new log end acknowledged records keeps (batches, are) has held =
+        let held_all = keeps records (subst (holds old) (sym (append-nil records)) held) in
+        let left = stands_so holds in_doubt (LeavesRows g) (LeavesDoubt g) new (vault_of new) (λ _ held. held.1)
+        (λ _ _ doubt. doubt) (records ++ log) end held_all in
+        let Has = λ (more : List Record). Stands (LeavesRows g) (LeavesDoubt g) (vault_of new) (records ++ more) end
+        × IfSome acknowledged (λ event. HasEvent (records ++ more) event.seq event.name event.id event.body) in
+        let both = subst Has are (left, has) in (batches, both.0, both.1)
+
   -- a look at the rows takes nothing away
   pub added_still : (old mid new : VaultValue S) (end : CommitterEnd) → AddsBatches g old mid end → IsOnlyRead (state g mid.conn) (state g new.conn)
       → AddsBatches g old new end
@@ -64,3 +87,17 @@ module _ {S : Type 0} (g : Ghosts S) where
   -- nothing is added where nobody touched the vault
   pub nothing_added : (v : VaultValue S) → AddsBatches g v v Finished
   nothing_added v records held = ([], subst (LeavesRows g v) (sym (append-nil records)) held.1)
+
+  pub event_still : (old mid new : VaultValue S) (end : CommitterEnd) (acknowledged : Option Acknowledged) (records : List Record)
+      → AddsEvent g old mid end acknowledged records → IsOnlyRead (state g mid.conn) (state g new.conn)
+      → AddsEvent g old new end acknowledged records
+  event_still old mid new end acknowledged records adds read held =
+      let more = adds held in (
+        more.0,
+        stands_so (LeavesRows g) (LeavesDoubt g) (LeavesRows g) (LeavesDoubt g) mid new (λ _ leaves db may. leaves db (read.leaves db may))
+            (still_doubted (state g mid.conn) (state g new.conn) read) (records ++ records_in more.0) end more.1,
+        more.2,
+      )
+
+  pub no_event : (v : VaultValue S) (records : List Record) → AddsEvent g v v Finished None records
+  no_event v records held = ([], subst (LeavesRows g v) (sym (append-nil records)) held.1, tt)

@@ -1,5 +1,5 @@
--- What stands in the store behind a relay that served.
-use Rattle.std.specs.Prelude.{◌≡◌, List, ◌++◌, Result, Ok, Err}
+-- What is in the store after a relay that served.
+use Rattle.std.specs.Prelude.{◌≡◌, List, ◌++◌, Option, Result, Ok, Err, IfSome}
 use Rattle.sqlite.specs.Held.{state}
 use Rattle.sqlite.specs.Store.{Ghosts}
 use Rattle.relay_types.specs.declared.record.Record.{Record}
@@ -9,9 +9,13 @@ use Rattle.spool_sql.specs.Steps.{IfClean, MayLeave}
 use Rattle.spool.specs.Commits.{HoldsOnDisk}
 use Rattle.spool.specs.Entering.{RestsInDoubt}
 use Rattle.spool.specs.Vaults.{VaultValue}
+use Rattle.desk.specs.Desks.{DeskValue, StandsFor}
+use Rattle.desk.specs.World.{World, settled_records}
 use Rattle.delivery.specs.Keepers.{Stands, records_in}
 use Rattle.delivery.specs.declared.committer.CommitterEnd.{CommitterEnd}
 use Rattle.delivery.specs.declared.committer.CommitterEnd.TheVariants as committer
+use Rattle.intake_shed.specs.Acks.{HasEvent}
+use Rattle.intake_shed.specs.declared.ack.Acknowledged.{Acknowledged}
 use Rattle.relay_serve.specs.declared.fault.ServeFault.{ServeFault}
 use Rattle.relay_serve.specs.declared.fault.ServeFault.TheVariants.{BadAddress, File, CannotListen, NoThread, Halted, Audit, Write, OutOfMemory}
 
@@ -45,3 +49,15 @@ module _ {S : Type 0} (g : Ghosts S) where
   -- so it is at this end, if the disk has returned what was written
   abbrev pub KeepsHistory : (old new : VaultValue S) → Result (Unit {0}) ServeFault → Type 0
   KeepsHistory old new ended = IfClean g old.conn new.conn (λ _ _. AddsBatches old new (committer_end ended))
+
+  -- If the vault held these records, a crash now leaves them and those of whole batches after them, and the event is one of these records:
+  -- at its number, with its endpoint, its id and its body. If the store was at fault, a crash leaves these, or these and one batch more.
+  abbrev pub AddsEvent : (old new : VaultValue S) → CommitterEnd → Option Acknowledged → List Record → Type 0
+  AddsEvent old new end acknowledged records = HoldsOnDisk g old records → (batches : List History)
+      × Stands LeavesRows LeavesDoubt new (records ++ records_in batches) end
+      × IfSome acknowledged (λ event. HasEvent (records ++ records_in batches) event.seq event.name event.id event.body)
+
+  -- It is so of the settled records of each state that the desk represented, if the disk has returned what was written.
+  abbrev pub KeepsAcknowledged : DeskValue → (old new : VaultValue S) → Result (Unit {0}) ServeFault → Option Acknowledged → Type 0
+  KeepsAcknowledged desk old new ended acknowledged = IfClean g old.conn new.conn (λ _ _.
+      (w : World) → StandsFor desk w → AddsEvent old new (committer_end ended) acknowledged (settled_records w))

@@ -3,6 +3,7 @@ use crate::relay::Relay;
 use hyper::rt::TokioTimer;
 use hyper::server::conn::http1;
 use hyper_intake::Intake;
+use run_log::LogId;
 use std::alloc::AllocGlobal;
 use std::hash::RandomState;
 use std::net::{Net, SocketAddr, TcpListener, TcpStream};
@@ -22,15 +23,16 @@ const REQUEST_SECONDS: u64 = 30;
 const PAUSE_MILLIS: u64 = 10;
 
 /// Takes one connection after another, until the end was asked for. Where the system refuses one it goes on after a moment.
-pub(crate) fn take_requests<R, L>(
+pub(crate) fn take_requests<R, L, I>(
     rt: &R,
     listener: &TcpListener,
-    relay: &Relay<L>,
+    relay: &Relay<L, I>,
     requests: u64,
 ) -> io::Result<()>
 where
     R: Wait + Clock + Net + RandomSource + AllocGlobal + Copy,
     L: Ledger,
+    I: LogId,
 {
     let mut runtime = LocalRuntime::new(rt)?;
     let http = settings(rt, &runtime)?;
@@ -66,30 +68,45 @@ where
 }
 
 // Serves the request of a connection.
-fn serve_one<R, L>(
+fn serve_one<R, L, I>(
     rt: &R,
     runtime: &mut LocalRuntime,
     http: &http1::Builder<TokioTimer<R>>,
-    relay: &Relay<L>,
+    relay: &Relay<L, I>,
     socket: TcpStream,
 ) -> io::Result<()>
 where
     R: Wait + Clock + RandomSource + AllocGlobal + Copy,
     L: Ledger,
+    I: LogId,
 {
     let socket = tokio::net::TcpStream::from_std(socket, runtime.handle().reactor())?;
     let shared = Arc::try_clone(&relay.shared)?;
+    let latest = Arc::try_clone(&relay.latest)?;
     let answered = Arc::try_clone(&relay.answered)?;
-    let connection = http.serve_connection(socket, Intake::new(*rt, shared, answered));
+    let connection = http.serve_connection(socket, Intake::new(*rt, shared, latest, answered));
     let limit = Duration::from_secs(REQUEST_SECONDS);
     let timed = runtime.handle().time().timeout(rt, limit, connection)?;
     let _ended = runtime.block_on(rt, timed)?;
     Ok(())
 }
 
-/// Makes so many threads that wait for a connection look whether the end was asked for.
-pub(crate) fn wake<R: Net>(rt: &R, bound: SocketAddr, threads: u64) {
-    for _ in 0..threads {
-        drop(TcpStream::connect_timeout(rt, &bound, Duration::from_secs(1)));
+/// Makes the threads that wait for a connection look whether the end was asked for, until all of them have ended. If the system has no
+/// socket for that, it tries again after a moment.
+pub(crate) fn wake<L: Ledger, I: LogId, R: Wait + Clock + Net>(
+    rt: &R,
+    bound: SocketAddr,
+    relay: &Relay<L, I>,
+) {
+    for _ in rt.forever() {
+        let running = relay.running();
+        if running == 0 {
+            return;
+        }
+        for _ in 0..running {
+            drop(TcpStream::connect_timeout(rt, &bound, Duration::from_secs(1)));
+        }
+        thread::sleep(rt, Duration::from_millis(PAUSE_MILLIS));
     }
+    unreachable!()
 }

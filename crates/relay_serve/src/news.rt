@@ -1,7 +1,7 @@
 //! What the operator is told on standard error: a line each, with the moment.
 use delivery::{HaltCause, HeaderName, Outgoing};
 use desk::Totals;
-use relay_host::HostClock;
+use relay_host::{HostClock, Sight};
 use relay_types::{MAX_FAILURES, Name};
 use std::alloc::Global;
 use std::io::Eprint;
@@ -27,7 +27,13 @@ pub(crate) enum News<'a> {
         endpoint: Name,
         request: &'a Outgoing,
     },
-    Halted(HaltCause),
+    /// What the last look at the file found tells a file that is gone from one that can't be looked at.
+    Halted {
+        cause: HaltCause,
+        sight: Sight,
+    },
+    /// The greatest number of an event that was acknowledged while it served.
+    Acknowledged(u64),
 }
 
 impl fmt::Display for News<'_> {
@@ -64,7 +70,8 @@ impl fmt::Display for News<'_> {
                     "exhausted: event {id} of endpoint {name}, after {MAX_FAILURES} failures"
                 )
             }
-            News::Halted(cause) => write!(f, "halted: {}", cause_text(*cause)),
+            News::Halted { cause, sight } => { write!(f, "halted: {}", cause_text(*cause, *sight)) }
+            News::Acknowledged(seq) => write!(f, "acknowledged: up to record {seq}"),
         }
     }
 }
@@ -84,15 +91,16 @@ fn id_of(request: &Outgoing) -> &str {
     "?"
 }
 
-fn cause_text(cause: HaltCause) -> &'static str {
+fn cause_text(cause: HaltCause, sight: Sight) -> &'static str {
     match cause {
-        HaltCause::Halted => "the desk was halted before",
+        HaltCause::Halted => "the relay had halted before",
         HaltCause::BatchOut => "another committer has a batch",
-        HaltCause::OutOfMemory => "memory was refused nine times in a row",
-        HaltCause::Closed => "an earlier commit was doubtful",
+        HaltCause::OutOfMemory => "out of memory nine times in a row",
+        HaltCause::Closed => "the result of an earlier commit is unknown",
+        HaltCause::OutOfTurn if sight == Sight::Unseen => "the file can't be looked at",
         HaltCause::OutOfTurn => "the file isn't the one that was opened",
-        HaltCause::Illegal => "a record may not follow those in the store",
-        HaltCause::Store(_) => "the store was at fault",
+        HaltCause::Illegal => "a record is invalid after those in the store",
+        HaltCause::Store(_) => "the store failed",
     }
 }
 

@@ -1,5 +1,7 @@
 //! What the threads of a relay share.
 use delivery::Shared;
+use intake_shed::LatestAck;
+use run_log::LogId;
 use std::alloc::{AllocError, Global};
 use std::sync::atomic::{AtomicBool, AtomicU64, Ordering};
 use std::sync::ledger::Ledger;
@@ -7,19 +9,25 @@ use std::sync::{Arc, Wait};
 
 /// What the threads of a relay share.
 #[derive(Drop)]
-pub(crate) struct Relay<L: Ledger> {
-    pub(crate) shared: Arc<Shared<L>>,
+pub(crate) struct Relay<L: Ledger, I: LogId> {
+    pub(crate) shared: Arc<Shared<L, I>>,
+    /// The acknowledged event with the greatest number.
+    pub(crate) latest: Arc<LatestAck<I>>,
     /// How many requests were answered.
     pub(crate) answered: Arc<AtomicU64>,
     lacks_thread: AtomicBool,
+    // How many threads take requests.
+    running: AtomicU64,
 }
 
-impl<L: Ledger> Relay<L> {
-    pub(crate) fn new(alloc: Global, shared: Shared<L>) -> Result<Relay<L>, AllocError> {
+impl<L: Ledger, I: LogId> Relay<L, I> {
+    pub(crate) fn new(alloc: Global, shared: Shared<L, I>) -> Result<Relay<L, I>, AllocError> {
         Ok(Relay {
             shared: Arc::new(alloc, shared)?,
+            latest: Arc::new(alloc, LatestAck::new())?,
             answered: Arc::new(alloc, AtomicU64::new(0))?,
             lacks_thread: AtomicBool::new(false),
+            running: AtomicU64::new(0),
         })
     }
 
@@ -27,6 +35,21 @@ impl<L: Ledger> Relay<L> {
     pub(crate) fn lack_thread<R: Wait>(&self, rt: &R) {
         self.lacks_thread.store(true, Ordering::SeqCst);
         self.shared.finish(rt);
+    }
+
+    // A thread is about to take requests.
+    pub(crate) fn start(&self) {
+        self.running.fetch_add(1, Ordering::SeqCst);
+    }
+
+    // It takes none any more.
+    pub(crate) fn stop(&self) {
+        self.running.fetch_sub(1, Ordering::SeqCst);
+    }
+
+    // How many threads take requests.
+    pub(crate) fn running(&self) -> u64 {
+        self.running.load(Ordering::SeqCst)
     }
 
     pub(crate) fn lacks_thread(&self) -> bool {

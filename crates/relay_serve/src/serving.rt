@@ -1,28 +1,34 @@
 //! From the opening of a file to the end of its relay.
-ghost use Rattle.std.specs.Prelude.{◌≡◌, IsTrue};
+ghost use Rattle.std.specs.Prelude.{◌≡◌, ◌++◌, IfSome, IsTrue, List, length};
+ghost use Rattle.relay_types.specs.declared.record.Record.{Record};
+ghost use Rattle.desk.specs.Desks.{StandsFor};
+ghost use Rattle.desk.specs.World.{World, settled_records};
 ghost use Rattle.sqlite.specs.State.{HasCleanDisk};
 ghost use Rattle.spool_sql.specs.Steps.{IfClean};
 ghost use Rattle.permits.specs.declared.pool.TheConstants.{PARTS};
 ghost use Rattle.spool.specs.Adopting.{IsOnlyRead};
 ghost use Rattle.delivery.specs.Keepers.{IsOfKeeper};
 ghost use Rattle.delivery.specs.declared.committer.CommitterEnd.TheVariants.{Finished};
-ghost use Rattle.relay_serve.specs.Serving.{KeepsHistory, committer_end};
+ghost use Rattle.intake_shed.specs.Acks.{HasEvent};
+ghost use Rattle.relay_serve.specs.Serving.{AddsEvent, KeepsAcknowledged, KeepsHistory, committer_end};
 
 use crate::fault::ServeFault;
 use crate::news::{News, tell};
 use crate::relay::Relay;
 use crate::settings::Settings;
 use crate::threads::run_threads;
-use delivery::{CommitterEnd, Shared};
+use delivery::{CommitterEnd, Keeper, LoggedKeeper, begin_run};
 use desk::Desk;
 use drill::audit;
+use intake_shed::Acknowledged;
 use permits::PARTS;
 use recovery::open_path;
 use relay_commands::ServeWords;
-use relay_host::{FilePlace, Place, Placed};
+use relay_host::{FilePlace, Place, Placed, Sight};
+use run_log::{LogId, NewLog};
 use spool::Vault;
 use sqlite::{Alter, Unknown};
-use std::alloc::AllocGlobal;
+use std::alloc::{AllocError, AllocGlobal, Global};
 use std::io::{Eprint, Print};
 use std::marker::Brand;
 use std::net::{Net, SocketAddr, TcpListener, TcpStream};
@@ -47,7 +53,8 @@ where
         + Eprint
         + Copy
         + Send
-        + Sync,
+        + Sync
+        + 'static,
 {
     let Ok(address) = asked.address.parse::<SocketAddr>() else {
         return Err(ServeFault::BadAddress);
@@ -82,7 +89,8 @@ where
         + Eprint
         + Copy
         + Send
-        + Sync,
+        + Sync
+        + 'static,
     requires name { blank.name ≡ L.name }
     requires parts { blank.parts ≡ L.parts }
     requires enough { blank.parts ≡ PARTS }
@@ -104,13 +112,18 @@ where
         },
     );
     let settings = Settings::of(asked);
-    let (_vault, ended) = serve_opened(rt, listener, bound, desk, vault, place, settings);
+    let (_vault, ended, acknowledged) = serve_opened(
+        rt, listener, bound, desk, vault, place, settings,
+    );
+    if let Some(event) = acknowledged {
+        tell(rt, rt.alloc(), &News::Acknowledged(event.seq));
+    }
     ended
 }
 
 /// Serves a desk and its vault, which commits only where its place stands, on the listener, until so many requests are answered as the
-/// settings say, or the committer gives up. All threads have ended then, and the vault comes back. Where the relay ended as it was asked to,
-/// the rows have to tell what the desk tells.
+/// settings say, or the committer gives up. All threads have ended then, and the vault comes back, with the acknowledged event that has the
+/// greatest number. If the relay ended as it was asked to, the rows have to say what the desk says.
 pub fn serve_opened<L, S, P, R>(
     rt: &R,
     listener: &TcpListener,
@@ -119,7 +132,7 @@ pub fn serve_opened<L, S, P, R>(
     vault: Vault<S>,
     place: P,
     settings: Settings,
-) -> (Vault<S>, Result<(), ServeFault>)
+) -> (Vault<S>, Result<(), ServeFault>, Option<Acknowledged>)
 where
     L: Ledger + Send + Sync,
     S: Alter + Drop,
@@ -133,31 +146,117 @@ where
         + Eprint
         + Copy
         + Send
-        + Sync,
+        + Sync
+        + 'static,
     ensures rows { KeepsHistory S.Store vault result.0 result.1 }
+    ensures acknowledged { KeepsAcknowledged S.Store desk vault result.0 result.1 result.2 }
     ensures clean { IfClean S.Store vault.conn result.0.conn (λ old _. HasCleanDisk old) }
     ensures closed { IsOfKeeper (committer_end result.1) → IsTrue result.0.closed }
 {
-    let relay = match Relay::new(rt.alloc(), Shared::new(desk)) {
-        Ok(relay) => relay,
-        Err(refused) => return (vault, Err(ServeFault::from(refused))),
+    let (new_log, new_staged) = match new_logs(rt.alloc()) {
+        Ok(new_logs) => new_logs,
+        Err(refused) => return (vault, Err(ServeFault::from(refused)), None),
     };
+    serve_named::<L, Brand, S, P, R>(
+        rt, listener, bound, new_log, new_staged, desk, vault, place, settings,
+    )
+}
+
+// The logs of a run: of what is committed, and of what is staged.
+fn new_logs(alloc: Global) -> Result<(NewLog, NewLog), AllocError> {
+    Ok((NewLog::new(alloc)?, NewLog::new(alloc)?))
+}
+
+// The same, with logs of this id.
+fn serve_named<L, I, S, P, R>(
+    rt: &R,
+    listener: &TcpListener,
+    bound: SocketAddr,
+    new_log: NewLog,
+    new_staged: NewLog,
+    desk: Desk<L>,
+    vault: Vault<S>,
+    place: P,
+    settings: Settings,
+) -> (Vault<S>, Result<(), ServeFault>, Option<Acknowledged>)
+where
+    L: Ledger + Send + Sync,
+    I: LogId + Send + Sync,
+    S: Alter + Drop,
+    P: Place + Drop,
+    R: Wait
+        + Threads
+        + Clock
+        + Net<Listener = TcpListener, Stream = TcpStream>
+        + RandomSource
+        + AllocGlobal
+        + Eprint
+        + Copy
+        + Send
+        + Sync
+        + 'static,
+    requires table { new_log ≡ I.table }
+    requires staged { new_staged ≡ I.staged }
+    requires start { I.start ≡ vault.next }
+    requires is_base { (base : List Record) → I.is_base base
+        → (length base ≡ I.start) × (w : World) × StandsFor desk w × (settled_records w ≡ base) }
+    ensures rows { KeepsHistory S.Store vault result.0 result.1 }
+    ensures acknowledged { IfClean S.Store vault.conn result.0.conn (λ _ _. (base : List Record) → I.is_base base
+        → AddsEvent S.Store vault result.0 (committer_end result.1) result.2 base) }
+    ensures clean { IfClean S.Store vault.conn result.0.conn (λ old _. HasCleanDisk old) }
+    ensures closed { IsOfKeeper (committer_end result.1) → IsTrue result.0.closed }
+{
     let keeper = Placed::new(vault, place);
-    let (keeper, end) = run_threads(rt, listener, bound, &relay, keeper, settings);
+    let (shared, logged) = begin_run::<L, I, Placed<Vault<S>, P>>(
+        new_log, new_staged, desk, keeper,
+    );
+    let relay = match Relay::new(rt.alloc(), shared) {
+        Ok(relay) => relay,
+        Err(refused) => {
+            let keeper = logged.into_keeper();
+            return (keeper.into_keeper(), Err(ServeFault::from(refused)), None);
+        }
+    };
+    let (mut logged, end) = run_threads(rt, listener, bound, &relay, logged, settings);
+    let acknowledged = last_acknowledged(rt, &relay, &mut logged);
+    let keeper = logged.into_keeper();
+    let sight = keeper.sight();
     let mut vault = keeper.into_keeper();
-    let ended = told_end(rt, &relay, end, &mut vault);
-    (vault, ended)
+    let ended = told_end(rt, &relay, end, sight, &mut vault);
+    (vault, ended, acknowledged)
+}
+
+// The acknowledged event that has the greatest number. The log of the keeper has it.
+fn last_acknowledged<L, I, K, R>(
+    rt: &R,
+    relay: &Relay<L, I>,
+    logged: &mut LoggedKeeper<I, K>,
+) -> Option<Acknowledged>
+where
+    L: Ledger,
+    I: LogId,
+    K: Keeper + Drop,
+    R: Wait,
+    ensures event { IfSome result (λ event. (base : List Record) → I.is_base base
+        → HasEvent (base ++ logged.old.writer) event.seq event.name event.id event.body) }
+    ensures keeper { logged.new.keeper ≡ logged.old.keeper }
+    ensures writer { logged.new.writer ≡ logged.old.writer }
+{
+    let ack = relay.latest.take(rt)?;
+    Some(ack.compare(relay.shared.log(), logged))
 }
 
 // Tells how the committer ended. Where the end was asked for, the rows have to tell what the desk tells.
-fn told_end<L, S, R>(
+fn told_end<L, I, S, R>(
     rt: &R,
-    relay: &Relay<L>,
+    relay: &Relay<L, I>,
     end: CommitterEnd,
+    sight: Sight,
     vault: &mut Vault<S>,
 ) -> Result<(), ServeFault>
 where
     L: Ledger,
+    I: LogId,
     S: Alter,
     R: Wait + Clock + AllocGlobal + Eprint,
     ensures end { committer_end result ≡ end }
@@ -167,7 +266,7 @@ where
 {
     match end {
         CommitterEnd::Halted(cause) => {
-            tell(rt, rt.alloc(), &News::Halted(cause));
+            tell(rt, rt.alloc(), &News::Halted { cause, sight });
             Err(ServeFault::Halted(cause))
         }
         CommitterEnd::Finished if relay.lacks_thread() => Err(ServeFault::NoThread),
@@ -176,9 +275,9 @@ where
 }
 
 // Whether the rows tell what the desk tells, once all other threads have ended.
-fn look_back<L: Ledger, S: Alter, R: Wait + AllocGlobal>(
+fn look_back<L: Ledger, I: LogId, S: Alter, R: Wait + AllocGlobal>(
     rt: &R,
-    relay: &Relay<L>,
+    relay: &Relay<L, I>,
     vault: &mut Vault<S>,
 ) -> Result<(), ServeFault>
     ensures end { committer_end result ≡ Finished }

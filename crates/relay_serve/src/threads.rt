@@ -1,12 +1,13 @@
 //! The threads of a relay.
 ghost use Rattle.std.specs.Prelude.{IsTrue};
-ghost use Rattle.delivery.specs.Keepers.{Adds, IsOfKeeper};
+ghost use Rattle.delivery.specs.Keepers.{Adds, AppendsBatches, IsOfKeeper, KeepsLog};
 
 use crate::accept::{take_requests, wake};
 use crate::relay::Relay;
 use crate::settings::Settings;
 use crate::work::work;
-use delivery::{CommitterEnd, Keeper, committer_run};
+use delivery::{CommitterEnd, Keeper, LoggedKeeper, committer_run};
+use run_log::LogId;
 use std::alloc::AllocGlobal;
 use std::io::Eprint;
 use std::net::{Net, SocketAddr, TcpListener, TcpStream};
@@ -18,17 +19,19 @@ use std::thread::Threads;
 use std::time::Clock;
 
 /// Runs the threads of the intake and the workers, and the committer on this one, until the end was asked for or the committer gives up.
-/// All other threads have ended then. It gives the keeper back, as the committer does.
-pub(crate) fn run_threads<L, K, R>(
+/// All other threads have ended then. If the end was asked for, the committer runs once more, and commits what posts under way came to
+/// meanwhile. It gives the keeper back, as the committer does.
+pub(crate) fn run_threads<L, I, K, R>(
     rt: &R,
     listener: &TcpListener,
     bound: SocketAddr,
-    relay: &Relay<L>,
-    keeper: K,
+    relay: &Relay<L, I>,
+    logged: LoggedKeeper<I, K>,
     settings: Settings,
-) -> (K, CommitterEnd)
+) -> (LoggedKeeper<I, K>, CommitterEnd)
 where
     L: Ledger + Send + Sync,
+    I: LogId + Send + Sync,
     K: Keeper + Drop,
     R: Wait
         + Threads
@@ -39,22 +42,69 @@ where
         + Eprint
         + Copy
         + Send
-        + Sync,
-    ensures rows { K.is_clean result.0 → Adds K.holds K.in_doubt keeper result.0 result.1 }
-    ensures clean { K.is_clean result.0 → K.is_clean keeper }
-    ensures closed { IsOfKeeper result.1 → IsTrue (K.closed result.0) }
+        + Sync
+        + 'static,
+    ensures rows { K.is_clean result.0.keeper → Adds K.holds K.in_doubt logged.keeper result.0.keeper result.1 }
+    ensures logged { K.is_clean result.0.keeper
+        → KeepsLog K.holds K.in_doubt logged.keeper logged.writer result.0.keeper result.0.writer result.1 }
+    ensures appended { AppendsBatches logged.writer result.0.writer }
+    ensures clean { K.is_clean result.0.keeper → K.is_clean logged.keeper }
+    ensures closed { IsOfKeeper result.1 → IsTrue (K.closed result.0.keeper) }
+{
+    let (logged, end) = run_together(rt, listener, bound, relay, logged, settings);
+    match end {
+        CommitterEnd::Finished => committer_run(rt, &relay.shared, logged),
+        CommitterEnd::Halted(cause) => (logged, CommitterEnd::Halted(cause)),
+    }
+}
+
+// The same, without what the posts under way came to.
+fn run_together<L, I, K, R>(
+    rt: &R,
+    listener: &TcpListener,
+    bound: SocketAddr,
+    relay: &Relay<L, I>,
+    logged: LoggedKeeper<I, K>,
+    settings: Settings,
+) -> (LoggedKeeper<I, K>, CommitterEnd)
+where
+    L: Ledger + Send + Sync,
+    I: LogId + Send + Sync,
+    K: Keeper + Drop,
+    R: Wait
+        + Threads
+        + Clock
+        + Net<Listener = TcpListener, Stream = TcpStream>
+        + RandomSource
+        + AllocGlobal
+        + Eprint
+        + Copy
+        + Send
+        + Sync
+        + 'static,
+    ensures rows { K.is_clean result.0.keeper → Adds K.holds K.in_doubt logged.keeper result.0.keeper result.1 }
+    ensures logged { K.is_clean result.0.keeper
+        → KeepsLog K.holds K.in_doubt logged.keeper logged.writer result.0.keeper result.0.writer result.1 }
+    ensures appended { AppendsBatches logged.writer result.0.writer }
+    ensures clean { K.is_clean result.0.keeper → K.is_clean logged.keeper }
+    ensures closed { IsOfKeeper result.1 → IsTrue (K.closed result.0.keeper) }
 {
     thread::scope(
         thread::scope_env(),
         rt,
         move |scope|
-            ensures rows { K.is_clean result.0 → Adds K.holds K.in_doubt keeper result.0 result.1 }
-            ensures clean { K.is_clean result.0 → K.is_clean keeper }
-            ensures closed { IsOfKeeper result.1 → IsTrue (K.closed result.0) }
+            ensures rows { K.is_clean result.0.keeper → Adds K.holds K.in_doubt logged.keeper result.0.keeper result.1 }
+            ensures logged { K.is_clean result.0.keeper
+                → KeepsLog K.holds K.in_doubt logged.keeper logged.writer result.0.keeper result.0.writer result.1 }
+            ensures appended { AppendsBatches logged.writer result.0.writer }
+            ensures clean { K.is_clean result.0.keeper → K.is_clean logged.keeper }
+            ensures closed { IsOfKeeper result.1 → IsTrue (K.closed result.0.keeper) }
         {
             for _ in 0..settings.intake {
+                relay.start();
                 let started = scope.spawn(move || take_in(rt, listener, relay, settings.requests));
                 if started.is_err() {
+                    relay.stop();
                     relay.lack_thread(rt);
                 }
             }
@@ -64,21 +114,23 @@ where
                     relay.lack_thread(rt);
                 }
             }
-            let ended = committer_run(rt, &relay.shared, keeper);
+            let ended = committer_run(rt, &relay.shared, logged);
             relay.shared.finish(rt);
-            wake(rt, bound, settings.intake);
+            wake(rt, bound, relay);
             ended
         },
     )
 }
 
 // A thread of the intake.
-fn take_in<L, R>(rt: &R, listener: &TcpListener, relay: &Relay<L>, requests: u64)
+fn take_in<L, I, R>(rt: &R, listener: &TcpListener, relay: &Relay<L, I>, requests: u64)
 where
     L: Ledger,
+    I: LogId,
     R: Wait + Clock + Net + RandomSource + AllocGlobal + Copy,
 {
     if take_requests(rt, listener, relay, requests).is_err() {
         relay.lack_thread(rt);
     }
+    relay.stop();
 }

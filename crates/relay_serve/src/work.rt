@@ -5,21 +5,36 @@ use delivery::{Pass, Round, worker_round};
 use hyper_poster::HyperPoster;
 use relay_host::HostClock;
 use retry_table::{PostResult, Verdict, judge, verdict_of};
+use run_log::LogId;
 use std::alloc::AllocGlobal;
 use std::io::Eprint;
-use std::net::Net;
+use std::net::{Net, TcpListener, TcpStream};
 use std::random::RandomSource;
 use std::sync::Wait;
 use std::sync::ledger::Ledger;
+use std::thread::Threads;
 use std::time::{Clock, Duration};
 
 /// Posts what is due, until the end was asked for or the desk is halted. It rests where nothing is due, and where memory was refused.
-pub(crate) fn work<L, R>(rt: &R, relay: &Relay<L>, timeout: u64)
+pub(crate) fn work<L, I, R>(rt: &R, relay: &Relay<L, I>, timeout: u64)
 where
     L: Ledger,
-    R: Wait + Clock + Net + RandomSource + AllocGlobal + Eprint + Copy,
+    I: LogId,
+    R: Wait
+        + Threads
+        + Clock
+        + Net<Listener = TcpListener, Stream = TcpStream>
+        + RandomSource
+        + AllocGlobal
+        + Eprint
+        + Copy
+        + Send
+        + 'static,
 {
-    let poster = HyperPoster::new(*rt, Duration::from_secs(timeout));
+    let Ok(poster) = HyperPoster::new(*rt, Duration::from_secs(timeout)) else {
+        relay.lack_thread(rt);
+        return;
+    };
     let clock = HostClock::new(rt);
     let mut pass = Pass::new();
     for _ in rt.forever() {

@@ -4,6 +4,12 @@
 #[cfg(test)]
 mod given;
 #[cfg(test)]
+mod names;
+#[cfg(test)]
+mod outgoing;
+#[cfg(test)]
+mod places;
+#[cfg(test)]
 mod posts;
 #[cfg(test)]
 mod requests;

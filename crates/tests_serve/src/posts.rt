@@ -1,25 +1,17 @@
 //! Posts to subscribers, of which some misbehave.
-ghost use Rattle.std.specs.Prelude.{◌≡◌};
-ghost use Rattle.permits.specs.declared.pool.TheConstants.{PARTS};
 
-use crate::given::{MARK, begin, holds, moment};
+use crate::given::holds;
+use crate::outgoing::request_to;
 use crate::wires::take_post;
 use delivery::{Outgoing, Poster};
-use desk::Desk;
 use hyper_poster::HyperPoster;
-use permits::{Foreign, PARTS, Permit};
-use recovery::create;
-use relay_types::Moment;
 use retry_table::PostResult;
-use sqlite::{Alter, Connection, MemStore};
 use std::alloc::{AllocGlobal, Global};
 use std::io::{self, Write};
-use std::marker::Brand;
 use std::net::{Ipv4Addr, Net, TcpListener, TcpStream};
 use std::process::Abort;
 use std::random::RandomSource;
 use std::sync::Wait;
-use std::sync::ledger::{Blank, Ledger};
 use std::test::Fail;
 use std::thread;
 use std::thread::Threads;
@@ -33,12 +25,16 @@ enum Then {
     Stays,
     /// It closes with the request unread, which resets the connection.
     Resets,
+    /// It closes, and waits 300 milliseconds before it sends.
+    SendsLate,
 }
 
 /// What comes of a post, but for how long it took.
 #[derive(Clone, Copy, PartialEq, Eq)]
 enum Wanted {
     Status(u16),
+    /// A status, after 300 milliseconds by its own word.
+    LateStatus(u16),
     /// After a second, by its own word.
     TimedOut,
     Unreached,
@@ -53,7 +49,7 @@ struct Case {
     wanted: Wanted,
 }
 
-static CASES: [Case; 17] = [
+static CASES: [Case; 18] = [
     Case {
         sends: "HTTP/1.1 200 OK\r\ncontent-length: 0\r\n\r\n",
         tens: 0,
@@ -83,6 +79,12 @@ static CASES: [Case; 17] = [
         tens: 0,
         then: Then::Closes,
         wanted: Wanted::Status(201),
+    },
+    Case {
+        sends: "HTTP/1.1 202 X\r\n\r\n",
+        tens: 0,
+        then: Then::SendsLate,
+        wanted: Wanted::LateStatus(202),
     },
     // A head is an answer, whatever follows it.
     Case {
@@ -162,10 +164,22 @@ static CASES: [Case; 17] = [
 
 const SECOND: u64 = 1_000_000;
 
+/// In milliseconds.
+const LATE: u64 = 300;
+
+// The status that is wanted after so many microseconds.
+fn status_after(rtt: u64, status: u16) -> Wanted {
+    if rtt < LATE * 1000 {
+        Wanted::Status(status)
+    } else {
+        Wanted::LateStatus(status)
+    }
+}
+
 fn is_wanted(post: PostResult, wanted: Wanted) -> bool {
     match post {
         PostResult::Answered { status, rtt } => {
-            wanted == Wanted::Status(status.get()) && rtt < SECOND
+            wanted == status_after(rtt, status.get()) && rtt < SECOND
         }
         PostResult::TimedOut { rtt } => wanted == Wanted::TimedOut && rtt == SECOND,
         PostResult::Unreached => wanted == Wanted::Unreached,
@@ -193,6 +207,9 @@ fn reset<R: Clock>(rt: &R, listener: &TcpListener) -> io::Result<()> {
 
 fn answer<R: Clock>(rt: &R, alloc: Global, listener: &TcpListener, case: &Case) -> io::Result<()> {
     let (mut socket, _) = take_post(alloc, listener, 2)?;
+    if case.then == Then::SendsLate {
+        thread::sleep(rt, Duration::from_millis(LATE));
+    }
     send(&mut socket, case)?;
     if case.then == Then::Stays {
         thread::sleep(rt, Duration::from_millis(1200));
@@ -205,7 +222,7 @@ fn subscribe<R: Clock>(rt: &R, alloc: Global, listener: TcpListener) -> io::Resu
     for case in &CASES {
         match case.then {
             Then::Resets => reset(rt, &listener)?,
-            Then::Closes | Then::Stays => answer(rt, alloc, &listener, case)?,
+            Then::Closes | Then::Stays | Then::SendsLate => answer(rt, alloc, &listener, case)?,
         }
     }
     Ok(())
@@ -221,9 +238,19 @@ fn post_all<P: Poster, R: Abort>(rt: &R, poster: &P, request: &Outgoing) {
 // The subscriber and its poster, each in a thread of its own.
 fn meet<R>(rt: &R, alloc: Global, listener: TcpListener, request: &Outgoing) -> io::Result<()>
 where
-    R: Wait + Threads + Clock + Net + RandomSource + AllocGlobal + Abort + Copy + Send + Sync,
+    R: Wait
+        + Threads
+        + Clock
+        + Net<Listener = TcpListener, Stream = TcpStream>
+        + RandomSource
+        + AllocGlobal
+        + Abort
+        + Copy
+        + Send
+        + Sync
+        + 'static,
 {
-    let poster = HyperPoster::new(*rt, Duration::from_secs(1));
+    let poster = HyperPoster::new(*rt, Duration::from_secs(1))?;
     let (served, ()) = thread::join(
         rt,
         move || subscribe(rt, alloc, listener),
@@ -234,68 +261,10 @@ where
     served
 }
 
-// Claims the event's attempt, and has its request posted to all cases.
-fn claim_and_meet<L, R>(
-    rt: &R,
-    alloc: Global,
-    desk: &mut Desk<L>,
-    listener: TcpListener,
-) -> Result<(), Fail>
-where
-    L: Ledger,
-    R: Wait + Threads + Clock + Net + RandomSource + AllocGlobal + Abort + Copy + Send + Sync,
-{
-    let now = moment()?;
-    let Ok(Some(job)) = desk.claim(now) else {
-        return Err(Fail::from("nothing is due"));
-    };
-    let met = match Outgoing::build(alloc, &job) {
-        Ok(request) => meet(rt, alloc, listener, &request),
-        Err(error) => Err(io::Error::from(error)),
-    };
-    give_back(rt, desk, job.into_permit(), now);
-    Ok(met?)
-}
-
-fn give_back<L: Ledger, R: Abort>(rt: &R, desk: &mut Desk<L>, permit: Permit<L>, now: Moment) {
-    match desk.spend(permit, PostResult::Unsent, now) {
-        Ok(_) => {}
-        Err((_permit, Foreign)) => panic!(rt; "the permit was refused"),
-    }
-}
-
-fn over<L, S, R>(
-    rt: &R,
-    alloc: Global,
-    blank: Blank,
-    conn: Connection<S>,
-    listener: TcpListener,
-) -> Result<(), Fail>
-where
-    L: Ledger,
-    S: Alter + Drop,
-    R: Wait + Threads + Clock + Net + RandomSource + AllocGlobal + Abort + Copy + Send + Sync,
-    requires name { blank.name ≡ L.name }
-    requires parts { blank.parts ≡ L.parts }
-    requires enough { blank.parts ≡ PARTS }
-{
-    let port = listener.local_addr()?.port();
-    let url = format!(in alloc; "http://127.0.0.1:{port}/hook")?;
-    if !conn.is_autocommit() {
-        return Err(Fail::from("the store is in a transaction"));
-    }
-    let Ok((mut desk, mut vault)) = create::<L, S>(alloc, blank, conn, MARK) else {
-        return Err(Fail::from("the store wasn't made"));
-    };
-    match begin(rt, alloc, &mut desk, &mut vault, url.as_str()) {
-        Ok(()) => claim_and_meet(rt, alloc, &mut desk, listener),
-        Err(fail) => Err(fail),
-    }
-}
-
 #[test]
 fn a_subscriber_may_do_what_it_likes(rt: HostRuntime) -> Result<(), Fail> {
     let listener = TcpListener::bind(&rt, (Ipv4Addr::LOCALHOST, 0))?;
-    let conn = Connection::open_in_memory(rt.alloc())?;
-    over::<Brand, MemStore, HostRuntime>(&rt, rt.alloc(), Blank::new(PARTS), conn, listener)
+    let port = listener.local_addr()?.port();
+    let request = request_to(&rt, "127.0.0.1", port)?;
+    Ok(meet(&rt, rt.alloc(), listener, &request)?)
 }

@@ -4,10 +4,12 @@ ghost use Rattle.permits.specs.declared.pool.TheConstants.{PARTS};
 
 use crate::given::{MARK, SECRET, holds};
 use crate::wires::{exchange, take_post};
+use intake_shed::Acknowledged;
 use permits::PARTS;
 use recovery::create;
 use relay_host::{Place, Sight};
 use relay_serve::{Settings, serve_opened};
+use relay_types::Name;
 use sqlite::{Alter, Connection, MemStore};
 use std::alloc::{AllocGlobal, Global};
 use std::io::{self, Eprint, Write};
@@ -55,7 +57,7 @@ struct Step {
 }
 
 // All but one of these are answered, and so are the pages behind them.
-static STEPS: [Step; 11] = [
+static STEPS: [Step; 13] = [
     Step {
         line: "PUT /v1/endpoints/a HTTP/1.1",
         body: Sent::Put(100),
@@ -118,6 +120,19 @@ static STEPS: [Step; 11] = [
         begins: "HTTP/1.1 200 ",
         ends: "\r\n\r\n{\"delivered\":0,\"enabled\":true,\"exhausted\":0,\"max\":7,\"name\":\"b\",\"pending\":0,\"secrets\":1,\"url\":\"http://127.0.0.1:9000/hook\"}",
     },
+    // Events without ids are given different ones. Nobody listens where they are posted to.
+    Step {
+        line: "POST /v1/endpoints/b/events HTTP/1.1",
+        body: Sent::Bytes("[1]"),
+        begins: "HTTP/1.1 202 ",
+        ends: "}",
+    },
+    Step {
+        line: "POST /v1/endpoints/b/events HTTP/1.1",
+        body: Sent::Bytes("[2]"),
+        begins: "HTTP/1.1 202 ",
+        ends: "}",
+    },
     Step {
         line: "GET /v1/endpoints/a/events/msg_2 HTTP/1.1",
         body: Sent::Bytes(""),
@@ -136,7 +151,7 @@ static SETTINGS: Settings = Settings {
     workers: 2,
     intake: 2,
     timeout: 5,
-    requests: 10 + PAGES,
+    requests: 12 + PAGES,
 };
 
 fn body_of(alloc: Global, body: Sent, port: u16) -> io::Result<Vec<u8>> {
@@ -219,6 +234,15 @@ fn subscribe(alloc: Global, listener: &TcpListener, port: u16) -> io::Result<boo
     Ok(came.as_slice().starts_with(wanted.as_bytes()))
 }
 
+// Whether it is the last event of the steps.
+fn is_last_event(event: &Acknowledged) -> bool {
+    let wanted: &[u8] = b"[2]";
+    match Name::read(b"b") {
+        Ok(name) => event.name == name && event.body.as_bytes() == wanted,
+        Err(_) => false,
+    }
+}
+
 // A relay over this store, those who submit to it and their subscriber, each in a thread of its own.
 fn over<L, S, R>(
     rt: &R,
@@ -241,7 +265,8 @@ where
         + Abort
         + Copy
         + Send
-        + Sync,
+        + Sync
+        + 'static,
     requires name { blank.name ≡ L.name }
     requires parts { blank.parts ≡ L.parts }
     requires enough { blank.parts ≡ PARTS }
@@ -253,13 +278,16 @@ where
     let Ok((desk, vault)) = create::<L, S>(alloc, blank, conn, MARK) else {
         return Err(Fail::from("the store wasn't made"));
     };
-    let (served, (told, posted)) = thread::join(
+    let ((served, acknowledged), (told, posted)) = thread::join(
         rt,
         move || {
-            let (_vault, ended) = serve_opened(
+            let (_vault, ended, acknowledged) = serve_opened(
                 rt, listener, relay, desk, vault, InMemory, SETTINGS,
             );
-            ended.is_ok()
+            (
+                ended.is_ok(),
+                acknowledged.is_some_and(|event| is_last_event(&event)),
+            )
         },
         move || {
             thread::join(
@@ -270,6 +298,11 @@ where
         },
     );
     holds(rt, served, "the relay ends by itself");
+    holds(
+        rt,
+        acknowledged,
+        "the last event is the one acknowledged last",
+    );
     holds(rt, told?, "the event's page says that it is delivered");
     holds(rt, posted?, "the event is posted");
     Ok(())

@@ -3,7 +3,8 @@
 use crate::given::{id, now};
 use crate::steps::Place;
 use delivery::Pass;
-use intake_shed::{Ask, AskBody, Reply, answer};
+use intake_shed::{Answered, Ask, AskBody, answer};
+use run_log::LogId;
 use std::process::Abort;
 use std::sync::Wait;
 use std::sync::ledger::Ledger;
@@ -30,15 +31,25 @@ fn ask_of(request: &Request) -> Ask<'static> {
     }
 }
 
-impl<L: Ledger, R: Wait + Clock + Abort> Place<'_, L, R> {
-    /// The reply to a request, whose event gets the id `fresh` if it has none.
-    pub(crate) fn reply(&self, request: &Request, pass: &mut Pass) -> Reply {
+impl<L: Ledger, I: LogId, R: Wait + Clock + Abort> Place<'_, L, I, R> {
+    /// The answer to a request, whose event gets the id `fresh` if it has none.
+    pub(crate) fn answer_to(&self, request: &Request, pass: &mut Pass) -> Answered<I> {
         let (fresh, now) = (id(self.rt, b"fresh"), now(self.rt));
         let ask = ask_of(request);
         answer(self.rt, self.alloc, self.shared, &ask, fresh, now, pass)
     }
 }
 
-pub(crate) fn is_answered(reply: &Reply, status: u16, retry: bool, text: &str) -> bool {
-    reply.status == status && reply.retry == retry && reply.body.as_str() == text
+/// Whether the reply has this status, `Retry-After: 1` or not, and this text. An acknowledgement comes with a 202 alone.
+pub(crate) fn is_answered<I: LogId>(
+    answered: &Answered<I>,
+    status: u16,
+    retry: bool,
+    text: &str,
+) -> bool {
+    let reply = &answered.reply;
+    reply.status == status
+        && reply.retry == retry
+        && reply.body.as_str() == text
+        && answered.ack.is_some() == (status == 202)
 }

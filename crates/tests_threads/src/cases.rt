@@ -1,24 +1,26 @@
 //! A case: a desk and a vault over a new store, threads that share the desk, and what is so behind their end.
-ghost use Rattle.std.specs.Prelude.{◌≡◌};
+ghost use Rattle.std.specs.Prelude.{◌≡◌, List};
+ghost use Rattle.relay_types.specs.declared.record.Record.{Record};
 
 use crate::crowd::NAMES;
 use crate::given::{Before, MARK, are_done, holds, name};
-use crate::seen::{Seen, count, pause, so_far};
+use crate::seen::{Seen, TURNS, count, pause, so_far, wait_a_turn};
 use crate::stand_ins::{Spot, Watched};
 use crate::steps::{Place, Step};
-use delivery::{CommitterEnd, HaltCause, Keeper, Shared, committer_run};
+use delivery::{CommitterEnd, HaltCause, Keeper, LoggedKeeper, begin_run, committer_run};
 use desk::Desk;
 use drill::audit;
 use permits::PARTS;
 use relay_host::Placed;
+use run_log::{LogId, NewLog};
 use spool::Vault;
 use sqlite::{Alter, Connection, FileStore, Files, MemStore, Options};
 use sqlite_disk::{Fuse, Memory};
 use std::alloc::Global;
 use std::marker::Brand;
 use std::process::Abort;
-use std::sync::Wait;
 use std::sync::ledger::{Blank, Ledger};
+use std::sync::{Arc, Wait};
 use std::thread;
 use std::thread::Threads;
 use std::time::Clock;
@@ -37,6 +39,21 @@ pub(crate) enum Committer {
     Lacking(u32),
     /// What its vault has open doesn't stand at its place any more.
     TakenAway,
+    /// It begins a while later, and each of its commits is refused for want of memory.
+    Refused,
+    /// It begins once the end was asked for, and each of its commits is refused for want of memory.
+    RefusedAtEnd,
+}
+
+impl Committer {
+    // How many of its commits are refused for want of memory.
+    fn refusals(&self) -> u32 {
+        match self {
+            Committer::Lacking(refusals) => *refusals,
+            Committer::Refused | Committer::RefusedAtEnd => u32::MAX,
+            _ => 0,
+        }
+    }
 }
 
 /// How the committer of the vault came to its end.
@@ -44,6 +61,7 @@ pub(crate) enum Committer {
 pub(crate) enum Ending {
     Without,
     Finished,
+    Halted,
     OutOfMemory,
     OutOfTurn,
     Store,
@@ -71,9 +89,6 @@ pub(crate) struct Found {
     pub(crate) meetings: u64,
     /// How many rests were short.
     pub(crate) short: u64,
-    /// How many other committers gave up for want of memory, and how many found the desk halted.
-    pub(crate) halting: u64,
-    pub(crate) halted: u64,
 }
 
 /// What is done before threads share the desk, which committer the vault has, and what each thread does.
@@ -86,6 +101,7 @@ pub(crate) struct Course {
 fn ending_of(end: CommitterEnd) -> Ending {
     match end {
         CommitterEnd::Finished => Ending::Finished,
+        CommitterEnd::Halted(HaltCause::Halted) => Ending::Halted,
         CommitterEnd::Halted(HaltCause::OutOfMemory) => Ending::OutOfMemory,
         CommitterEnd::Halted(HaltCause::OutOfTurn) => Ending::OutOfTurn,
         CommitterEnd::Halted(HaltCause::Store(_)) => Ending::Store,
@@ -93,64 +109,52 @@ fn ending_of(end: CommitterEnd) -> Ending {
     }
 }
 
-// Runs a committer of the vault to its end.
-fn commit<L: Ledger, S: Alter + Drop, R: Wait + Clock>(
-    rt: &R,
-    shared: &Shared<L>,
-    seen: &Seen,
-    vault: Vault<S>,
-    (holds_first, refusals, is_gone): (bool, u32, bool),
-) -> (Vault<S>, Ending) {
-    let watched = Watched {
-        keeper: Placed::new(vault, Spot { is_gone }),
-        refusals,
-        holds_first,
-        shared,
-        seen,
-        rt,
-    };
-    let (watched, end) = committer_run(rt, shared, watched);
-    count(&seen.ended);
-    (watched.keeper.into_keeper(), ending_of(end))
+// Waits until the end was asked for.
+fn wait_for_end<L: Ledger, I: LogId, R: Wait + Clock>(place: &Place<'_, L, I, R>) {
+    for _ in 0..TURNS {
+        if place.shared.lock(place.rt).is_closing() {
+            return;
+        }
+        wait_a_turn(place.rt);
+    }
 }
 
-fn run_committer<L: Ledger, S: Alter + Drop, R: Wait + Clock>(
-    rt: &R,
-    shared: &Shared<L>,
-    seen: &Seen,
-    vault: Vault<S>,
+// Runs the committer of the vault to its end, if one runs.
+fn run_committer<L: Ledger, I: LogId, K: Keeper + Drop, R: Wait + Clock>(
+    place: &Place<'_, L, I, R>,
+    logged: LoggedKeeper<I, K>,
     committer: &Committer,
-) -> (Vault<S>, Ending) {
-    let ways = match committer {
-        Committer::Without => return (vault, Ending::Without),
-        Committer::Runs => (false, 0, false),
-        Committer::Late => {
-            pause(rt);
-            (false, 0, false)
-        }
-        Committer::Held => (true, 0, false),
-        Committer::Lacking(refusals) => {
-            shared.finish(rt);
-            (false, *refusals, false)
-        }
-        Committer::TakenAway => (false, 0, true),
-    };
-    commit(rt, shared, seen, vault, ways)
+) -> (LoggedKeeper<I, K>, Ending) {
+    match committer {
+        Committer::Without => return (logged, Ending::Without),
+        Committer::Late | Committer::Refused => pause(place.rt),
+        Committer::Lacking(_) => place.shared.finish(place.rt),
+        Committer::RefusedAtEnd => wait_for_end(place),
+        Committer::Runs | Committer::Held | Committer::TakenAway => {}
+    }
+    let (logged, end) = committer_run(place.rt, place.shared, logged);
+    count(&place.seen.ended);
+    (logged, ending_of(end))
 }
 
 // Runs a thread for each table of steps, and the committer on this one.
-fn run_all<L: Ledger + Send + Sync, S: Alter + Drop, R: Threads + Wait + Clock + Abort + Sync>(
-    place: &Place<'_, L, R>,
-    vault: Vault<S>,
+fn run_all<
+    L: Ledger + Send + Sync,
+    I: LogId + Send + Sync,
+    K: Keeper + Drop,
+    R: Threads + Wait + Clock + Abort + Copy + Sync,
+>(
+    place: &Place<'_, L, I, R>,
+    logged: LoggedKeeper<I, K>,
     course: &Course,
-) -> (Vault<S>, Ending) {
+) -> (LoggedKeeper<I, K>, Ending) {
     let rt = place.rt;
     thread::scope(thread::scope_env(), rt, move |scope| {
         for steps in course.threads {
             let started = scope.spawn(move || place.walk(steps));
             holds(rt, started.is_ok(), "a thread starts");
         }
-        run_committer(rt, place.shared, place.seen, vault, &course.committer)
+        run_committer(place, logged, &course.committer)
     })
 }
 
@@ -187,8 +191,6 @@ fn find<L: Ledger, S: Alter>(
         commits: so_far(&seen.commits),
         meetings: so_far(&seen.meetings),
         short: so_far(&seen.short),
-        halting: so_far(&seen.halting),
-        halted: so_far(&seen.halted),
     }
 }
 
@@ -204,11 +206,41 @@ const NOTHING: Found = Found {
     commits: 0,
     meetings: 0,
     short: 0,
-    halting: 0,
-    halted: 0,
 };
 
-fn run<L: Ledger + Send + Sync, S: Alter + Drop, R: Threads + Wait + Clock + Abort + Sync>(
+// A run with logs of this id, of which nothing is proved.
+fn run_named<
+    L: Ledger + Send + Sync,
+    I: LogId + Send + Sync,
+    K: Keeper + Drop,
+    R: Threads + Wait + Clock + Abort + Copy + Sync,
+>(
+    rt: &R,
+    alloc: Global,
+    new_log: NewLog,
+    new_staged: NewLog,
+    desk: Desk<L>,
+    keeper: K,
+    course: &Course,
+    seen: &Seen,
+) -> (Desk<L>, K, Ending)
+    requires table { new_log ≡ I.table }
+    requires staged { new_staged ≡ I.staged }
+    requires start { I.start ≡ K.next keeper }
+    requires no_base { (base : List Record) → I.is_base base → ⊥ }
+{
+    let (shared, logged) = begin_run::<L, I, K>(new_log, new_staged, desk, keeper);
+    let place = Place {
+        rt,
+        alloc,
+        shared: &shared,
+        seen,
+    };
+    let (logged, ending) = run_all(&place, logged, course);
+    (shared.into_desk(), logged.into_keeper(), ending)
+}
+
+fn run<L: Ledger + Send + Sync, S: Alter + Drop, R: Threads + Wait + Clock + Abort + Copy + Sync>(
     rt: &R,
     alloc: Global,
     desk: Desk<L>,
@@ -216,19 +248,26 @@ fn run<L: Ledger + Send + Sync, S: Alter + Drop, R: Threads + Wait + Clock + Abo
     course: &Course,
     case: usize,
 ) -> Found {
-    let (shared, seen) = (Shared::new(desk), Seen::new(case));
-    let place = Place {
-        rt,
-        alloc,
-        shared: &shared,
-        seen: &seen,
+    let new_log = NewLog::new(alloc).expect(rt, "memory");
+    let new_staged = NewLog::new(alloc).expect(rt, "memory");
+    let seen = Arc::new(alloc, Seen::new(case)).expect(rt, "memory");
+    let is_gone = matches!(course.committer, Committer::TakenAway);
+    let watched = Watched {
+        keeper: Placed::new(vault, Spot { is_gone }),
+        refusals: course.committer.refusals(),
+        holds_first: matches!(course.committer, Committer::Held),
+        seen: seen.clone().expect(rt, "a count of owners"),
+        rt: *rt,
     };
-    let (mut vault, ending) = run_all(&place, vault, course);
-    let found = find(rt, alloc, &shared.into_desk(), &mut vault, &seen);
+    let (desk, watched, ending) = run_named::<L, Brand, _, R>(
+        rt, alloc, new_log, new_staged, desk, watched, course, &seen,
+    );
+    let mut vault = watched.keeper.into_keeper();
+    let found = find(rt, alloc, &desk, &mut vault, &seen);
     Found { ending, ..found }
 }
 
-fn begin<L: Ledger + Send + Sync, S: Alter + Drop, R: Threads + Wait + Clock + Abort + Sync>(
+fn begin<L: Ledger + Send + Sync, S: Alter + Drop, R: Threads + Wait + Clock + Abort + Copy + Sync>(
     rt: &R,
     alloc: Global,
     desk: Desk<L>,
@@ -244,7 +283,7 @@ fn begin<L: Ledger + Send + Sync, S: Alter + Drop, R: Threads + Wait + Clock + A
     }
 }
 
-fn open<L: Ledger + Send + Sync, S: Alter + Drop, R: Threads + Wait + Clock + Abort + Sync>(
+fn open<L: Ledger + Send + Sync, S: Alter + Drop, R: Threads + Wait + Clock + Abort + Copy + Sync>(
     rt: &R,
     alloc: Global,
     blank: Blank,
@@ -264,7 +303,7 @@ fn open<L: Ledger + Send + Sync, S: Alter + Drop, R: Threads + Wait + Clock + Ab
     begin(rt, alloc, desk, vault, course, case)
 }
 
-fn over<S: Alter + Drop, R: Threads + Wait + Clock + Abort + Sync>(
+fn over<S: Alter + Drop, R: Threads + Wait + Clock + Abort + Copy + Sync>(
     rt: &R,
     alloc: Global,
     conn: Connection<S>,
@@ -275,7 +314,7 @@ fn over<S: Alter + Drop, R: Threads + Wait + Clock + Abort + Sync>(
 }
 
 /// The course over a store in memory.
-pub(crate) fn in_memory<R: Threads + Wait + Clock + Abort + Sync>(
+pub(crate) fn in_memory<R: Threads + Wait + Clock + Abort + Copy + Sync>(
     rt: &R,
     alloc: Global,
     course: &Course,
@@ -288,7 +327,7 @@ pub(crate) fn in_memory<R: Threads + Wait + Clock + Abort + Sync>(
 }
 
 /// The course over the store of files, whose bytes are kept in memory. Its log takes so many calls.
-pub(crate) fn in_files<R: Threads + Wait + Clock + Abort + Sync>(
+pub(crate) fn in_files<R: Threads + Wait + Clock + Abort + Copy + Sync>(
     rt: &R,
     alloc: Global,
     calls: u64,

@@ -32,7 +32,7 @@ pub(crate) fn is_ended(found: &Found, end: &End) -> bool {
 }
 
 /// Takes the course over a store in memory, and checks its end.
-pub(crate) fn check<R: Threads + Wait + Clock + Abort + Sync>(
+pub(crate) fn check<R: Threads + Wait + Clock + Abort + Copy + Sync>(
     rt: &R,
     alloc: Global,
     course: &Course,
@@ -130,6 +130,28 @@ fn a_store_that_is_taken_away_halts(rt: HostRuntime) {
     );
 }
 
+/// A committer that finds the desk halted ends with that, and who waits is told so.
+static HALTED_BEFORE: Course = Course {
+    before: &[
+        Before::Put(b"a"),
+        Before::Turn,
+        Before::Submit(b"msg_1"),
+        Before::Halt,
+    ],
+    committer: Committer::Runs,
+    threads: &[&[Step::Told(1, b"msg_1")]],
+};
+
+#[test]
+fn a_desk_that_is_halted_ends_its_committer(rt: HostRuntime) {
+    check(
+        &rt,
+        rt.alloc(),
+        &HALTED_BEFORE,
+        &End(Ending::Halted, 1, 2, true),
+    );
+}
+
 static POSTS_MEET: Course = Course {
     before: &[
         Before::Put(b"a"),
@@ -193,7 +215,11 @@ static STORE_FAILS: Course = Course {
 };
 
 // Whether the second batch failed. All are told then.
-fn has_failed<R: Threads + Wait + Clock + Abort + Sync>(rt: &R, alloc: Global, calls: u64) -> bool {
+fn has_failed<R: Threads + Wait + Clock + Abort + Copy + Sync>(
+    rt: &R,
+    alloc: Global,
+    calls: u64,
+) -> bool {
     let found = in_files(rt, alloc, calls, &STORE_FAILS);
     let is_over = !found.has_begun || found.ending == Ending::Finished;
     let is_told = found.ending == Ending::Store

@@ -8,6 +8,7 @@ use delivery::{Pass, Round};
 use desk::Desk;
 use intake_shed::submit_and_wait;
 use relay_types::{MsgId, Name, State};
+use run_log::LogId;
 use std::alloc::Global;
 use std::process::Abort;
 use std::sync::Wait;
@@ -30,8 +31,8 @@ fn id_of(rt: &impl Abort, alloc: Global, submitter: u64, number: u64) -> MsgId {
 }
 
 // Submits an event, and waits until it is acknowledged: whether the acknowledgement is its own, and the event has a page then.
-fn is_acknowledged<L: Ledger, R: Wait + Clock + Abort>(
-    place: &Place<'_, L, R>,
+fn is_acknowledged<L: Ledger, I: LogId, R: Wait + Clock + Abort>(
+    place: &Place<'_, L, I, R>,
     submitter: u64,
     number: u64,
     pass: &mut Pass,
@@ -50,8 +51,8 @@ fn is_acknowledged<L: Ledger, R: Wait + Clock + Abort>(
 }
 
 /// Submits each event of this submitter. Whether each is acknowledged.
-pub(crate) fn submit_each<L: Ledger, R: Wait + Clock + Abort>(
-    place: &Place<'_, L, R>,
+pub(crate) fn submit_each<L: Ledger, I: LogId, R: Wait + Clock + Abort>(
+    place: &Place<'_, L, I, R>,
     submitter: u64,
     pass: &mut Pass,
 ) -> bool {
@@ -65,8 +66,8 @@ pub(crate) fn submit_each<L: Ledger, R: Wait + Clock + Abort>(
 }
 
 /// Posts what there is to post until the end: whether the desk isn't halted then.
-pub(crate) fn work<L: Ledger, R: Wait + Clock + Abort>(
-    place: &Place<'_, L, R>,
+pub(crate) fn work<L: Ledger, I: LogId, R: Wait + Clock + Abort>(
+    place: &Place<'_, L, I, R>,
     pass: &mut Pass,
 ) -> bool {
     for _ in place.rt.forever() {
@@ -89,8 +90,8 @@ fn is_delivered<L: Ledger>(desk: &Desk<L>, name: Name, id: &MsgId) -> bool {
 }
 
 /// Whether each event of so many submitters was delivered at its first attempt.
-pub(crate) fn are_each_delivered<L: Ledger, R: Wait + Clock + Abort>(
-    place: &Place<'_, L, R>,
+pub(crate) fn are_each_delivered<L: Ledger, I: LogId, R: Wait + Clock + Abort>(
+    place: &Place<'_, L, I, R>,
     submitters: u64,
 ) -> bool {
     let rt = place.rt;

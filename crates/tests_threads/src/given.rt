@@ -1,7 +1,7 @@
 //! Names and events, and what is done with a desk and a vault before threads share the desk.
 
 use desk::{Command, Desk};
-use group_commit::WrongTurn;
+use group_commit::{Held, WrongTurn};
 use relay_types::{Body, MaxLimit, Moment, MsgId, Name, Secret, Secrets, Target};
 use spool::{Batch, CommitEnd, Receipt, Vault};
 use sqlite::Alter;
@@ -24,6 +24,8 @@ pub(crate) enum Before {
     Fill(u32),
     /// What waits is settled.
     Turn,
+    /// The desk is halted.
+    Halt,
 }
 
 pub(crate) fn holds(rt: &impl Abort, is: bool, what: &str) {
@@ -109,6 +111,13 @@ fn turn<L: Ledger, S: Alter>(rt: &impl Abort, desk: &mut Desk<L>, vault: &mut Va
     }
 }
 
+fn halt<L: Ledger>(rt: &impl Abort, desk: &mut Desk<L>) {
+    match desk.halt(Held::Nothing) {
+        Ok(()) => {}
+        Err((_held, WrongTurn)) => panic!(rt; "the halt was refused"),
+    }
+}
+
 fn submit_numbered<L: Ledger>(rt: &impl Abort, alloc: Global, desk: &mut Desk<L>, number: u32) {
     let text = format!(in alloc; "msg_{number}").expect(rt, "memory");
     submit(rt, alloc, desk, text.as_bytes());
@@ -143,6 +152,7 @@ fn is_done<L: Ledger, S: Alter>(
         Before::Disable => command(rt, desk, disable(rt)),
         Before::Fill(count) => fill(rt, alloc, desk, vault, *count),
         Before::Turn => return turn(rt, desk, vault),
+        Before::Halt => halt(rt, desk),
     }
     true
 }

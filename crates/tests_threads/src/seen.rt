@@ -16,15 +16,14 @@ pub(crate) struct Seen {
     pub(crate) begun: AtomicU64,
     /// Threads that have come to an end, or requests that were answered.
     pub(crate) ended: AtomicU64,
+    /// Events that were staged by a step of a thread.
+    pub(crate) staged: AtomicU64,
     /// Commits that have begun.
     pub(crate) commits: AtomicU64,
     /// Commits during which a record was staged.
     pub(crate) meetings: AtomicU64,
     /// Rests that took less than half a second.
     pub(crate) short: AtomicU64,
-    /// Committers that gave up for want of memory, and those that found the desk halted.
-    pub(crate) halting: AtomicU64,
-    pub(crate) halted: AtomicU64,
 }
 
 impl Seen {
@@ -33,11 +32,10 @@ impl Seen {
             case,
             begun: AtomicU64::new(0),
             ended: AtomicU64::new(0),
+            staged: AtomicU64::new(0),
             commits: AtomicU64::new(0),
             meetings: AtomicU64::new(0),
             short: AtomicU64::new(0),
-            halting: AtomicU64::new(0),
-            halted: AtomicU64::new(0),
         }
     }
 }

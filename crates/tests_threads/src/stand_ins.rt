@@ -1,48 +1,41 @@
 //! Keepers, subscribers and clocks that stand in.
 ghost use Rattle.std.specs.Prelude.{◌≡◌, ⊤};
 
-use crate::seen::{Seen, TURNS, count, have_come, wait_a_turn};
-use delivery::{Clock, Keeper, Outgoing, Poster, Shared, committer_run};
+use crate::seen::{Seen, count, have_come};
+use delivery::{Clock, Keeper, Outgoing, Poster, Shared};
 use relay_host::{Place, Sight};
 use relay_types::Moment;
 use retry_table::{PostResult, Status};
+use run_log::LogId;
 use spool::{Batch, CommitEnd, Receipt, Unchanged};
-use std::sync::Wait;
 use std::sync::ledger::Ledger;
+use std::sync::{Arc, Wait};
 use std::time::Clock as SystemClock;
 
 /// Stands before another keeper: refuses so many commits for want of memory, then commits and counts. It may hold its first commit
 /// until another record is staged meanwhile.
 #[derive(Drop)]
-pub(crate) struct Watched<'a, K: Keeper + Drop, L: Ledger, R> {
+pub(crate) struct Watched<K: Keeper + Drop, R> {
     pub(crate) keeper: K,
     pub(crate) refusals: u32,
     pub(crate) holds_first: bool,
-    pub(crate) shared: &'a Shared<L>,
-    pub(crate) seen: &'a Seen,
-    pub(crate) rt: &'a R,
+    pub(crate) seen: Arc<Seen>,
+    pub(crate) rt: R,
 }
 
-impl<K: Keeper + Drop, L: Ledger, R: Wait + SystemClock> Watched<'_, K, L, R> {
-    // Counts a commit up to this place. Where it is held, whether a record is staged meanwhile is counted too.
-    fn begin(&self, upto: u64) {
-        if count(&self.seen.commits) == 0 && self.holds_first && self.is_staged_behind(upto) {
+impl<K: Keeper + Drop, R: SystemClock> Watched<K, R> {
+    // Counts a commit. If it is held, it waits until a thread has staged an event, and that is counted too.
+    fn begin(&self) {
+        if count(&self.seen.commits) == 0
+            && self.holds_first
+            && have_come(&self.rt, &self.seen.staged, 1)
+        {
             count(&self.seen.meetings);
         }
     }
-
-    fn is_staged_behind(&self, upto: u64) -> bool {
-        for _ in 0..TURNS {
-            if self.shared.lock(self.rt).desk().records() > upto {
-                return true;
-            }
-            wait_a_turn(self.rt);
-        }
-        false
-    }
 }
 
-impl<K: Keeper + Drop, L: Ledger, R: Wait + SystemClock> Keeper for Watched<'_, K, L, R> {
+impl<K: Keeper + Drop, R: SystemClock> Keeper for Watched<K, R> {
     ghost is_clean = { λ k. K.is_clean k.keeper };
 
     ghost holds = { λ k records. K.holds k.keeper records };
@@ -51,12 +44,14 @@ impl<K: Keeper + Drop, L: Ledger, R: Wait + SystemClock> Keeper for Watched<'_, 
 
     ghost closed = { λ k. K.closed k.keeper };
 
+    ghost next = { λ k. K.next k.keeper };
+
     fn commit(&mut self, batch: Batch) -> Result<Receipt, CommitEnd> {
         if self.refusals > 0 && !self.keeper.is_closed() {
             self.refusals -= 1;
             return Err(CommitEnd::Unchanged(batch, Unchanged::OutOfMemory));
         }
-        self.begin(batch.upto());
+        self.begin();
         self.keeper.commit(batch)
     }
 
@@ -81,30 +76,6 @@ impl Place for Spot {
     }
 }
 
-/// Refuses each batch for want of memory.
-#[derive(Drop)]
-pub(crate) struct Refusing;
-
-impl Keeper for Refusing {
-    ghost use Rattle.std.specs.Prelude.{false};
-
-    ghost is_clean = { λ _. ⊥ };
-
-    ghost holds = { λ _ _. ⊥ };
-
-    ghost in_doubt = { λ _ _ _. ⊥ };
-
-    ghost closed = { λ _. false };
-
-    fn commit(&mut self, batch: Batch) -> Result<Receipt, CommitEnd> {
-        Err(CommitEnd::Unchanged(batch, Unchanged::OutOfMemory))
-    }
-
-    fn is_closed(&self) -> bool {
-        false
-    }
-}
-
 /// A clock that stands.
 #[derive(Clone, Copy)]
 pub(crate) struct Standing(pub(crate) Moment);
@@ -121,14 +92,14 @@ pub(crate) enum Way {
     Answer(u16),
     /// With 200 once two posts have begun, and else it isn't reached.
     Meet,
-    /// Meanwhile the end is asked for, and the desk is halted, if it has a step that waits. Then with 200.
+    /// With 200 once the end was asked for meanwhile and the committer has ended, and else it isn't reached.
     End,
 }
 
 #[derive(Drop)]
-pub(crate) struct Subscriber<'a, L: Ledger, R> {
+pub(crate) struct Subscriber<'a, L: Ledger, I: LogId, R> {
     pub(crate) way: &'a Way,
-    pub(crate) shared: &'a Shared<L>,
+    pub(crate) shared: &'a Shared<L, I>,
     pub(crate) seen: &'a Seen,
     pub(crate) rt: &'a R,
 }
@@ -143,24 +114,28 @@ fn answered(number: u16) -> PostResult {
     }
 }
 
-impl<L: Ledger, R: Wait + SystemClock> Subscriber<'_, L, R> {
+// With 200 if it has come, and else it isn't reached.
+fn answered_if(has_come: bool) -> PostResult {
+    if has_come {
+        answered(200)
+    } else {
+        PostResult::Unreached
+    }
+}
+
+impl<L: Ledger, I: LogId, R: Wait + SystemClock> Subscriber<'_, L, I, R> {
     fn meet(&self) -> PostResult {
         count(&self.seen.begun);
-        if have_come(self.rt, &self.seen.begun, 2) {
-            answered(200)
-        } else {
-            PostResult::Unreached
-        }
+        answered_if(have_come(self.rt, &self.seen.begun, 2))
     }
 
     fn end(&self) -> PostResult {
         self.shared.finish(self.rt);
-        let (_, _) = committer_run(self.rt, self.shared, Refusing);
-        answered(200)
+        answered_if(have_come(self.rt, &self.seen.ended, 1))
     }
 }
 
-impl<L: Ledger, R: Wait + SystemClock> Poster for Subscriber<'_, L, R> {
+impl<L: Ledger, I: LogId, R: Wait + SystemClock> Poster for Subscriber<'_, L, I, R> {
     ghost may_answer = { λ _ _ _. ⊤ };
 
     fn post(&self, _: &Outgoing) -> PostResult {

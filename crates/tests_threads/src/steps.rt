@@ -4,10 +4,11 @@ use crate::asked::{Request, is_answered};
 use crate::crowd::{are_each_delivered, submit_each, work};
 use crate::given::{body, disable, id, moment, name, now};
 use crate::seen::{Seen, TURNS, count, have_come, pause, wait_a_turn};
-use crate::stand_ins::{Refusing, Standing, Subscriber, Way};
-use delivery::{CommitterEnd, HaltCause, Pass, Round, Shared, committer_run, worker_round};
+use crate::stand_ins::{Standing, Subscriber, Way};
+use delivery::{Pass, Round, Shared, worker_round};
 use desk::{CommandTicket, Desk, Ticket, Told};
 use retry_table::Spend;
+use run_log::LogId;
 use std::alloc::Global;
 use std::process::Abort;
 use std::sync::Wait;
@@ -34,8 +35,6 @@ pub(crate) enum Step {
     Disable(u64),
     /// The end is asked for.
     Finish,
-    /// A committer runs whose keeper refuses each batch for want of memory.
-    Refuse,
     /// A round at this moment.
     Round(u64, Way, Turn),
     /// The pass looks at the desk.
@@ -70,14 +69,14 @@ pub(crate) enum Step {
 
 /// What a thread has.
 #[derive(Drop)]
-pub(crate) struct Place<'a, L: Ledger, R> {
+pub(crate) struct Place<'a, L: Ledger, I: LogId, R> {
     pub(crate) rt: &'a R,
     pub(crate) alloc: Global,
-    pub(crate) shared: &'a Shared<L>,
+    pub(crate) shared: &'a Shared<L, I>,
     pub(crate) seen: &'a Seen,
 }
 
-impl<L: Ledger, R: Wait + Clock + Abort> Place<'_, L, R> {
+impl<L: Ledger, I: LogId, R: Wait + Clock + Abort> Place<'_, L, I, R> {
     /// Takes the steps one after another.
     pub(crate) fn walk(&self, steps: &[Step]) {
         let mut pass = Pass::new();
@@ -97,7 +96,6 @@ impl<L: Ledger, R: Wait + Clock + Abort> Place<'_, L, R> {
             Step::Submit(text, seq) => return self.is_submitted(text, *seq),
             Step::Disable(seq) => return self.is_disabled(*seq),
             Step::Finish => self.shared.finish(self.rt),
-            Step::Refuse => self.refuse(),
             Step::Rest => self.rest(pass),
             Step::Look => return pass.look(self.shared.lock(self.rt).desk()).is_ok(),
             Step::Saw(seen) => return pass.seen() == *seen,
@@ -127,7 +125,7 @@ impl<L: Ledger, R: Wait + Clock + Abort> Place<'_, L, R> {
         match step {
             Step::Round(seconds, way, turn) => self.is_round(*seconds, way, turn, pass),
             Step::Ask(request, status, retry, text) => {
-                let is = is_answered(&self.reply(request, pass), *status, *retry, text);
+                let is = is_answered(&self.answer_to(request, pass), *status, *retry, text);
                 count(&self.seen.ended);
                 is
             }
@@ -142,26 +140,19 @@ impl<L: Ledger, R: Wait + Clock + Abort> Place<'_, L, R> {
         let (name, id) = (name(self.rt, b"a"), id(self.rt, text));
         let body = body(self.rt, self.alloc);
         match self.shared.submit(self.rt, now(self.rt), name, id, body) {
-            Ok(ticket) => ticket.seq == seq,
+            Ok(ticket) => {
+                count(&self.seen.staged);
+                ticket.seq == seq
+            }
             Err(_) => false,
         }
     }
 
     fn is_disabled(&self, seq: u64) -> bool {
         match self.shared.command(self.rt, disable(self.rt)) {
-            Ok(ticket) => ticket.seq == seq,
+            Ok(change) => change.ticket().seq == seq,
             Err(_) => false,
         }
-    }
-
-    fn refuse(&self) {
-        let (_, end) = committer_run(self.rt, self.shared, Refusing);
-        match end {
-            CommitterEnd::Halted(HaltCause::OutOfMemory) => count(&self.seen.halting),
-            CommitterEnd::Halted(HaltCause::Halted) => count(&self.seen.halted),
-            _ => 0,
-        };
-        count(&self.seen.ended);
     }
 
     // Rests, and counts whether that took less than half a second.

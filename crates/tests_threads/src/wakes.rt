@@ -11,18 +11,15 @@ use std::sync::Wait;
 use std::thread::Threads;
 use std::time::Clock;
 
-/// A course, its end, and how many rests were short, how many other committers gave up for want of memory, and how many of them found
-/// the desk halted.
-struct Case(Course, End, u64, u64, u64);
-
-const ENDPOINT: &[Before] = &[Before::Put(b"a"), Before::Turn];
+/// A course, its end, and how many rests were short.
+struct Case(Course, End, u64);
 
 const ENDPOINT_AND_EVENT: &[Before] = &[Before::Put(b"a"), Before::Submit(b"msg_1"), Before::Turn];
 
 /// An event waits to be settled.
 const WAITING: &[Before] = &[Before::Put(b"a"), Before::Turn, Before::Submit(b"msg_1")];
 
-static CASES: [Case; 11] = [
+static CASES: [Case; 10] = [
     // an event wakes the committer
     Case(
         Course {
@@ -38,8 +35,6 @@ static CASES: [Case; 11] = [
             ]],
         },
         End(Ending::Finished, 3, 3, false),
-        0,
-        0,
         0,
     ),
     // a command wakes it
@@ -58,8 +53,6 @@ static CASES: [Case; 11] = [
         },
         End(Ending::Finished, 3, 3, false),
         0,
-        0,
-        0,
     ),
     // an outcome wakes it
     Case(
@@ -77,8 +70,6 @@ static CASES: [Case; 11] = [
         },
         End(Ending::Finished, 3, 3, false),
         0,
-        0,
-        0,
     ),
     // the end wakes it
     Case(
@@ -89,24 +80,6 @@ static CASES: [Case; 11] = [
         },
         End(Ending::Finished, 2, 2, false),
         0,
-        0,
-        0,
-    ),
-    // one of two committers halts the desk, and the other finds it halted
-    Case(
-        Course {
-            before: ENDPOINT,
-            committer: Committer::Without,
-            threads: &[
-                &[Step::Refuse],
-                &[Step::Refuse],
-                &[Step::Pause, Step::Submit(b"msg_2", 1), Step::Ended(2)],
-            ],
-        },
-        End(Ending::Without, 1, 2, true),
-        0,
-        1,
-        1,
     ),
     // a batch that is settled wakes who waits for an event, and who waits for a command
     Case(
@@ -126,8 +99,6 @@ static CASES: [Case; 11] = [
         },
         End(Ending::Finished, 3, 3, false),
         0,
-        0,
-        0,
     ),
     // a desk that is halted wakes both
     Case(
@@ -138,17 +109,14 @@ static CASES: [Case; 11] = [
                 Before::Submit(b"msg_1"),
                 Before::Disable,
             ],
-            committer: Committer::Without,
+            committer: Committer::Refused,
             threads: &[
                 &[Step::Told(1, b"msg_1"), Step::End],
                 &[Step::ToldCommand(2), Step::End],
-                &[Step::Pause, Step::Refuse],
                 &[Step::Ended(3), Step::Finish],
             ],
         },
-        End(Ending::Without, 1, 3, true),
-        0,
-        1,
+        End(Ending::OutOfMemory, 1, 3, true),
         0,
     ),
     // a worker that rests is woken by nobody, and looks again after a second
@@ -163,8 +131,6 @@ static CASES: [Case; 11] = [
         },
         End(Ending::Without, 1, 2, false),
         0,
-        0,
-        0,
     ),
     // the desk is halted while a post is under way
     Case(
@@ -175,30 +141,26 @@ static CASES: [Case; 11] = [
                 Before::Turn,
                 Before::Submit(b"msg_2"),
             ],
-            committer: Committer::Without,
+            committer: Committer::RefusedAtEnd,
             threads: &[&[
                 Step::Round(1000, Way::End, Turn::Posted),
                 Step::Round(1000, Way::Answer(200), Turn::Closing),
             ]],
         },
-        End(Ending::Without, 2, 3, true),
-        0,
-        0,
+        End(Ending::OutOfMemory, 2, 3, true),
         0,
     ),
     // the end comes while a post is under way: its outcome waits for nobody
     Case(
         Course {
             before: ENDPOINT_AND_EVENT,
-            committer: Committer::Without,
+            committer: Committer::RefusedAtEnd,
             threads: &[&[
                 Step::Round(1000, Way::End, Turn::Posted),
                 Step::Round(1000, Way::Answer(200), Turn::Closing),
             ]],
         },
-        End(Ending::Without, 2, 3, false),
-        0,
-        0,
+        End(Ending::Finished, 2, 3, false),
         0,
     ),
     // an event falls due: a worker that rests looks again after a second
@@ -221,21 +183,18 @@ static CASES: [Case; 11] = [
         },
         End(Ending::Finished, 4, 4, false),
         0,
-        0,
-        0,
     ),
 ];
 
 // Takes the course of a case, and checks its end. How many rests were short.
-fn short_rests<R: Threads + Wait + Clock + Abort + Sync>(
+fn short_rests<R: Threads + Wait + Clock + Abort + Copy + Sync>(
     rt: &R,
     alloc: Global,
     case: &Case,
     place: usize,
 ) -> u64 {
     let found = in_memory(rt, alloc, &case.0, place);
-    let is = is_ended(&found, &case.1) && found.halting == case.3 && found.halted == case.4;
-    assert!(rt; is, "the end of case {place}");
+    assert!(rt; is_ended(&found, &case.1), "the end of case {place}");
     found.short
 }
 
@@ -263,8 +222,6 @@ static RESTS: [Case; 4] = [
         },
         End(Ending::Finished, 2, 2, false),
         1,
-        0,
-        0,
     ),
     // it ends all rests
     Case(
@@ -279,23 +236,19 @@ static RESTS: [Case; 4] = [
         },
         End(Ending::Finished, 2, 2, false),
         2,
-        0,
-        0,
     ),
     // the desk is halted
     Case(
         Course {
             before: WAITING,
-            committer: Committer::Without,
+            committer: Committer::Refused,
             threads: &[
                 &[Step::Look, Step::Rest, Step::End, Step::Finish],
-                &[Step::Pause, Step::Refuse, Step::Ended(2)],
+                &[Step::Ended(2)],
             ],
         },
-        End(Ending::Without, 1, 2, true),
+        End(Ending::OutOfMemory, 1, 2, true),
         1,
-        1,
-        0,
     ),
     // the end is asked for
     Case(
@@ -309,13 +262,11 @@ static RESTS: [Case; 4] = [
         },
         End(Ending::Without, 1, 2, false),
         1,
-        0,
-        0,
     ),
 ];
 
 // Whether at some time all rests of the case are short.
-fn is_woken<R: Threads + Wait + Clock + Abort + Sync>(
+fn is_woken<R: Threads + Wait + Clock + Abort + Copy + Sync>(
     rt: &R,
     alloc: Global,
     case: &Case,

@@ -5,7 +5,9 @@ pub returns : goal.returns
 returns g c = inl (
   record { method = c.as_bytes.result; path = c.path_of.result; ids = c.as_slice.result; body = c.args.body },
   c.in-Ok-fresh_id.fresh,
-  c.answer.new.pass,
+  c.answer-reply.new.pass,
+  c.answer-reply.result.ack,
+  c.answer-reply.result.confirmed,
   record {
     method = c.as_bytes.ensures.value ∙ c.as_str.ensures.value;
     path = c.path_of.ensures;
@@ -13,5 +15,5 @@ returns g c = inl (
     body = refl;
   },
   c.in-Ok-fresh_id.ensures,
-  c.answer.ensures.answers,
+  c.answer-reply.ensures.answers,
 )

@@ -7,7 +7,8 @@ use Rattle.intake_shed.proofs.pages.page_reply.Goals as goal
 pub returns-in-Totals-clause-value : goal.returns-in-Totals-clause-value
 returns-in-Totals-clause-value g c =
     subst (λ asked. RepliesBy c.args.desk.now asked c.done.result) (sym c.in-Totals.is)
-    (c.totals.result, c.totals.ensures.records, c.done.ensures (totals_text c.totals.result) c.totals_text.ensures)
+    (subst (λ page. GivesPage (totals_text page) c.done.result) c.totals.ensures.value
+    (c.done.ensures (totals_text c.totals.result) c.totals_text.ensures))
 
 pub returns-in-Totals-clause-stands : goal.returns-in-Totals-clause-stands
 returns-in-Totals-clause-stands g c = λ w stands.

@@ -1,0 +1,14 @@
+-- What a refusal to look at a path tells.
+use Rattle.std.specs.Prelude.{◌≡◌}
+use Rattle.std.specs.declared.io.ErrorKind.{ErrorKind}
+use Rattle.std.specs.declared.io.ErrorKind.TheVariants.{NotFound, NotADirectory, FilesystemLoop, OutOfMemory}
+use Rattle.relay_host.specs.declared.place.Sight.{Sight}
+use Rattle.relay_host.specs.declared.place.Sight.TheVariants as sight
+
+-- Nothing stands there where the path leads nowhere. Every other refusal but want of memory hides what stands there.
+abbrev pub sight_after : ErrorKind → Sight
+sight_after NotFound = sight.Gone
+sight_after NotADirectory = sight.Gone
+sight_after FilesystemLoop = sight.Gone
+sight_after OutOfMemory = sight.OutOfMemory
+sight_after _ = sight.Unseen

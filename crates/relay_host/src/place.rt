@@ -1,0 +1,163 @@
+//! Whether a file still stands where it was opened.
+ghost use Rattle.std.specs.Prelude.{◌≡◌, ◌↔◌, ◌⊎◌, true, false, None, IsSome, IfErr};
+ghost use Rattle.std.specs.IoError.{error_kind};
+ghost use Rattle.relay_host.specs.Placing.{IsSightOf};
+ghost use Rattle.relay_host.specs.Looking.{sight_after};
+
+use std::alloc::{AllocError, Global};
+use std::fs::Files;
+use std::io::{self, ErrorKind};
+use std::os::unix::fs::MetadataExt;
+use std::time::{Clock, Duration};
+use std::{fs, thread};
+
+/// So many looks are made at a file that can't be looked at, and so long after one another: ten seconds of them.
+const LOOKS: u32 = 101;
+
+const PAUSE_MILLIS: u64 = 100;
+
+/// What a look at a place finds.
+#[derive(Clone, Copy, PartialEq, Eq, Debug)]
+pub enum Sight {
+    /// What was opened stands there.
+    Stands,
+    /// Nothing stands there, or something else.
+    Gone,
+    /// The system doesn't let anybody look, as for want of rights or of an answer.
+    Unseen,
+    /// Memory was refused.
+    OutOfMemory,
+}
+
+/// A place at which something was opened. It names what a look may find, and what it leaves.
+pub trait Place {
+    ghost use Rattle.std.specs.Prelude.{⊤};
+    ghost use Rattle.relay_host.specs.declared.place.Sight.{Sight};
+
+    ghost finds: { Self → Self → Sight → Type 0 } = { λ _ _ _. ⊤ };
+
+    /// Looks what stands there now.
+    fn look(&mut self) -> Sight
+        ensures { finds self.old self.new result };
+}
+
+/// A file and its log at their paths. Both are told from others by device and number, as `stat` gives them (POSIX.1-2017). The log of a file
+/// to which the path leads by a link isn't looked at.
+#[derive(Drop)]
+pub struct FilePlace<'a, F: Files + Clock> {
+    files: &'a F,
+    path: &'a str,
+    log_path: String,
+    is_known: bool,
+    file: Option<Node>,
+    log: Option<Node>,
+}
+
+// Which file something is: its device, and its number there.
+#[derive(Clone, Copy, PartialEq, Eq)]
+struct Node {
+    device: u64,
+    number: u64,
+}
+
+impl<'a, F: Files + Clock> FilePlace<'a, F> {
+    /// The place of a file that isn't opened yet.
+    pub fn new(files: &'a F, alloc: Global, path: &'a str) -> Result<FilePlace<'a, F>, AllocError> {
+        let log_path = format!(in alloc; "{path}-wal")?;
+        Ok(FilePlace {
+            files,
+            path,
+            log_path,
+            is_known: false,
+            file: None,
+            log: None,
+        })
+    }
+
+    /// Takes what stands there now for what was opened. Where it can't be looked at, the next look does.
+    pub fn remember(&mut self) {
+        let _seen = self.look();
+    }
+
+    // One look.
+    fn glance(&mut self) -> Sight
+        ensures { IsSightOf self.old self.new result }
+    {
+        match (
+            node_at(self.files, self.path),
+            node_at(self.files, self.log_path.as_str()),
+        ) {
+            (Ok(file), Ok(log)) => self.sees(file, log),
+            (Err(unseen), _) | (_, Err(unseen)) => unseen,
+        }
+    }
+
+    // What stands there, beside what was opened.
+    fn sees(&mut self, file: Option<Node>, log: Option<Node>) -> Sight
+        ensures known { self.new.is_known ≡ true }
+        ensures first { self.old.is_known ≡ false → self.new.file ≡ file }
+        ensures file { self.old.is_known ≡ true → self.new.file ≡ self.old.file }
+        ensures first_log { self.old.log ≡ None → self.new.log ≡ log }
+        ensures log { IsSome self.old.log → self.new.log ≡ self.old.log }
+        ensures stands { (result ≡ Sight.Stands) ↔ (IsSome self.new.file × (self.new.file ≡ file) × (self.new.log ≡ log)) }
+        ensures gone { (result ≡ Sight.Stands) ⊎ (result ≡ Sight.Gone) }
+    {
+        if !self.is_known {
+            self.is_known = true;
+            self.file = file;
+        }
+        if self.log.is_none() {
+            self.log = log;
+        }
+        if self.file.is_some() && self.file == file && self.log == log {
+            Sight::Stands
+        } else {
+            Sight::Gone
+        }
+    }
+}
+
+impl<F: Files + Clock> Place for FilePlace<'_, F> {
+    ghost use Rattle.relay_host.specs.Placing.{IsSightOf};
+
+    ghost finds = { IsSightOf };
+
+    /// The first look that sees the file takes what stands there for what was opened. A log that wasn't there before is the file's own from
+    /// then on. A file that can't be looked at is looked at again, for ten seconds at most.
+    fn look(&mut self) -> Sight {
+        for _ in 1..LOOKS {
+            match self.glance() {
+                Sight::Unseen => thread::sleep(self.files, Duration::from_millis(PAUSE_MILLIS)),
+                sight => return sight,
+            }
+        }
+        self.glance()
+    }
+}
+
+// Which file stands at the path, if one does, or why that can't be said.
+fn node_at<F: Files>(files: &F, path: &str) -> Result<Option<Node>, Sight>
+    ensures { IfErr result (λ sight. (sight ≡ Sight.Unseen) ⊎ (sight ≡ Sight.OutOfMemory)) }
+{
+    match fs::metadata(files, path) {
+        Ok(found) => Ok(Some(Node {
+            device: found.dev(),
+            number: found.ino(),
+        })),
+        Err(error) => match sight_after(error) {
+            Sight::Gone => Ok(None),
+            unseen => Err(unseen),
+        },
+    }
+}
+
+// What a refusal to look tells: that nothing stands at the path, or nothing of what stands there.
+fn sight_after(error: io::Error) -> Sight
+    ensures { result ≡ sight_after (error_kind error) }
+{
+    match error.kind() {
+        ErrorKind::NotFound | ErrorKind::NotADirectory | ErrorKind::FilesystemLoop => Sight::Gone,
+        ErrorKind::OutOfMemory => Sight::OutOfMemory,
+        _ => Sight::Unseen,
+    }
+}

@@ -1,0 +1,77 @@
+//! The request of a desk's first attempt.
+ghost use Rattle.std.specs.Prelude.{◌≡◌};
+ghost use Rattle.permits.specs.declared.pool.TheConstants.{PARTS};
+
+use crate::given::{MARK, begin, moment};
+use delivery::Outgoing;
+use desk::{Desk, Job};
+use permits::{Foreign, PARTS, Permit};
+use recovery::create;
+use relay_types::Moment;
+use retry_table::PostResult;
+use sqlite::{Alter, Connection, MemStore};
+use std::alloc::{AllocGlobal, Global};
+use std::marker::Brand;
+use std::process::Abort;
+use std::sync::ledger::{Blank, Ledger};
+use std::test::Fail;
+
+fn give_back<L: Ledger, R: Abort>(rt: &R, desk: &mut Desk<L>, permit: Permit<L>, now: Moment) {
+    match desk.spend(permit, PostResult::Unsent, now) {
+        Ok(_) => {}
+        Err((_permit, Foreign)) => panic!(rt; "the permit was refused"),
+    }
+}
+
+// Claims the event's attempt, and gives it back.
+fn claimed<L: Ledger, R: Abort>(
+    rt: &R,
+    alloc: Global,
+    desk: &mut Desk<L>,
+) -> Result<Outgoing, Fail> {
+    let now = moment()?;
+    let Ok(Some(job)) = desk.claim(now) else {
+        return Err(Fail::from("nothing is due"));
+    };
+    let built = Outgoing::build(alloc, &job);
+    give_back(rt, desk, job.into_permit(), now);
+    Ok(built?)
+}
+
+fn over<L, S, R>(
+    rt: &R,
+    alloc: Global,
+    blank: Blank,
+    conn: Connection<S>,
+    url: &str,
+) -> Result<Outgoing, Fail>
+where
+    L: Ledger,
+    S: Alter + Drop,
+    R: Abort,
+    requires name { blank.name ≡ L.name }
+    requires parts { blank.parts ≡ L.parts }
+    requires enough { blank.parts ≡ PARTS }
+{
+    if !conn.is_autocommit() {
+        return Err(Fail::from("the store is in a transaction"));
+    }
+    let Ok((mut desk, mut vault)) = create::<L, S>(alloc, blank, conn, MARK) else {
+        return Err(Fail::from("the store wasn't made"));
+    };
+    match begin(rt, alloc, &mut desk, &mut vault, url) {
+        Ok(()) => claimed(rt, alloc, &mut desk),
+        Err(fail) => Err(fail),
+    }
+}
+
+/// The request of an event for a subscriber at this host and port.
+pub(crate) fn request_to<R>(rt: &R, host: &str, port: u16) -> Result<Outgoing, Fail>
+where
+    R: AllocGlobal + Abort,
+{
+    let url = format!(in rt.alloc(); "http://{host}:{port}/hook")?;
+    let conn = Connection::open_in_memory(rt.alloc())?;
+    let blank = Blank::new(PARTS);
+    over::<Brand, MemStore, R>(rt, rt.alloc(), blank, conn, url.as_str())
+}

@@ -1,0 +1,190 @@
+//! Files that can't be looked at.
+
+use crate::given::holds;
+use relay_host::{FilePlace, Place, Sight};
+use std::alloc::{Allocator, Global};
+use std::fs::{File, Files, Metadata, OpenOptions};
+use std::io::{self, Empty, ErrorKind};
+use std::process::Abort;
+use std::sync::atomic::{AtomicU64, Ordering};
+use std::test::Fail;
+use std::time::{Clock, Duration};
+
+/// A file that stands at its path without a log, once so many looks at it were refused with this number (errno of Linux), and a clock by which
+/// nobody waits.
+#[derive(Drop)]
+struct Hidden {
+    number: i32,
+    refusals: AtomicU64,
+    slept: AtomicU64,
+}
+
+impl Files for Hidden {
+    type File = File;
+
+    type Dir = Empty;
+
+    fn open_file(&self, _how: &OpenOptions, _path: &str) -> io::Result<File> {
+        Err(ErrorKind::Unsupported.into())
+    }
+
+    fn open_dir(&self, _path: &str) -> io::Result<Empty> {
+        Err(ErrorKind::Unsupported.into())
+    }
+
+    fn metadata(&self, path: &str) -> io::Result<Metadata> {
+        if path.ends_with("-wal") {
+            return Err(ErrorKind::NotFound.into());
+        }
+        let left = self.refusals.load(Ordering::SeqCst);
+        if left == 0 {
+            return Ok(Metadata::of_file(4096));
+        }
+        self.refusals.store(left - 1, Ordering::SeqCst);
+        Err(io::Error::from_raw_os_error(self.number))
+    }
+
+    fn symlink_metadata(&self, path: &str) -> io::Result<Metadata> {
+        self.metadata(path)
+    }
+
+    fn copy(&self, _from: &str, _to: &str) -> io::Result<u64> {
+        Err(ErrorKind::Unsupported.into())
+    }
+
+    fn rename(&self, _from: &str, _to: &str) -> io::Result<()> {
+        Err(ErrorKind::Unsupported.into())
+    }
+
+    fn remove_file(&self, _path: &str) -> io::Result<()> {
+        Err(ErrorKind::Unsupported.into())
+    }
+
+    fn create_dir(&self, _path: &str) -> io::Result<()> {
+        Err(ErrorKind::Unsupported.into())
+    }
+
+    fn remove_dir(&self, _path: &str) -> io::Result<()> {
+        Err(ErrorKind::Unsupported.into())
+    }
+
+    fn remove_dir_all<B: Allocator>(&self, _alloc: B, _path: &str) -> io::Result<()> {
+        Err(ErrorKind::Unsupported.into())
+    }
+}
+
+impl Clock for Hidden {
+    fn monotonic(&self) -> io::Result<Duration> {
+        Ok(Duration::ZERO)
+    }
+
+    fn since_1970(&self) -> io::Result<Duration> {
+        Ok(Duration::ZERO)
+    }
+
+    fn sleep(&self, duration: Duration) {
+        let millis = u64::try_from(duration.as_millis()).unwrap_or(0);
+        self.slept.fetch_add(millis, Ordering::SeqCst);
+    }
+}
+
+/// How many looks are refused once the file is known, with which number, and what the next look finds, after so many milliseconds.
+struct Case {
+    name: &'static str,
+    refusals: u64,
+    number: i32,
+    finds: Sight,
+    slept: u64,
+}
+
+static CASES: [Case; 9] = [
+    Case {
+        name: "nothing is refused",
+        refusals: 0,
+        number: 0,
+        finds: Sight::Stands,
+        slept: 0,
+    },
+    Case {
+        name: "a folder without rights, for a moment",
+        refusals: 3,
+        number: 13,
+        finds: Sight::Stands,
+        slept: 300,
+    },
+    Case {
+        name: "a disk that doesn't answer, for ten seconds",
+        refusals: 100,
+        number: 5,
+        finds: Sight::Stands,
+        slept: 10_000,
+    },
+    Case {
+        name: "a disk that doesn't answer any more",
+        refusals: 1000,
+        number: 5,
+        finds: Sight::Unseen,
+        slept: 10_000,
+    },
+    Case {
+        name: "a handle of another file server",
+        refusals: 1000,
+        number: 116,
+        finds: Sight::Unseen,
+        slept: 10_000,
+    },
+    Case {
+        name: "no file",
+        refusals: 1,
+        number: 2,
+        finds: Sight::Gone,
+        slept: 0,
+    },
+    Case {
+        name: "a file in place of its folder",
+        refusals: 1,
+        number: 20,
+        finds: Sight::Gone,
+        slept: 0,
+    },
+    Case {
+        name: "links in a ring",
+        refusals: 1,
+        number: 40,
+        finds: Sight::Gone,
+        slept: 0,
+    },
+    Case {
+        name: "no memory",
+        refusals: 1,
+        number: 12,
+        finds: Sight::OutOfMemory,
+        slept: 0,
+    },
+];
+
+fn look<R: Abort>(rt: &R, alloc: Global, case: &Case) -> io::Result<()> {
+    let files = Hidden {
+        number: case.number,
+        refusals: AtomicU64::new(0),
+        slept: AtomicU64::new(0),
+    };
+    let mut place = FilePlace::new(&files, alloc, "relay.db")?;
+    place.remember();
+    files.refusals.store(case.refusals, Ordering::SeqCst);
+    holds(rt, place.look() == case.finds, case.name);
+    holds(
+        rt,
+        files.slept.load(Ordering::SeqCst) == case.slept,
+        case.name,
+    );
+    Ok(())
+}
+
+#[test]
+fn a_file_that_is_hidden_is_looked_at_again(rt: HostRuntime) -> Result<(), Fail> {
+    for case in &CASES {
+        look(&rt, rt.alloc(), case)?;
+    }
+    Ok(())
+}
