@@ -26,48 +26,48 @@ pub const VERSION: &str = "0.1.0";
 
 const EXIT_HELP: &str = "Exit status:
   0  done
-  1  words that are no command, or an argument that its reader refuses
+  1  wrong usage: no such command or option, or an invalid argument
   2  a bad line, or too much input
-  3  every other fault
-  4  a file that isn't the relay's, is of a later version, or is damaged
-A fault is told on standard error.";
+  3  any other error
+  4  the file isn't a relay's store, is from a later version, or is damaged
+Errors are reported on standard error.";
 
 const REPLAY_HELP: &str =
-    "Lines, words with one space between; NOW is in seconds since the Unix epoch:
+    "Each line is one of these, with one space between words. NOW is in seconds since the Unix epoch.
   put NAME URL MAX SECRETS    a new endpoint; 1 to 4 secrets with commas between, the newest first
   secrets NAME SECRETS        other secrets of an endpoint
   enable NAME, disable NAME   whether its events are posted
   submit NOW NAME ID BODY     a new event; BODY in hexadecimal or -
-  told SEQ                    what is known of the record that was staged under this number
-  seal                        makes a batch of what waits
+  told SEQ                    whether the record with this number is settled
+  seal                        makes a batch of the records that wait
   commit                      writes the batch into the store
-  settle                      acknowledges what was written
+  settle                      acknowledges the records that were written
   unseal                      takes the batch back: its records wait again
-  halt                        ends what is out; nothing is taken from then on
-  claim NOW                   the next attempt that may begin
-  spend DELIVERY NOW RESULT   what came of it: STATUS RTT, timeout RTT, unreached or unsent
-  show NAME                   what the settled records say of an endpoint
-  show NAME ID                what became of an event
+  halt                        gives up the batch; nothing is accepted from then on
+  claim NOW                   starts the next attempt that is due, if the limit allows one
+  spend DELIVERY NOW RESULT   ends an attempt: STATUS RTT, timeout RTT, unreached or unsent
+  show NAME                   an endpoint, by the settled records
+  show NAME ID                an event: pending, delivered or exhausted
   limits NAME                 how many attempts at an endpoint may be under way, and how many are
-  stop                        what is under way is let go, and the store is opened again
-A bad line ends the script with status 2; the replies before it stand.";
+  stop                        a crash: what isn't committed is lost, and the store is reopened
+A bad line ends the script with status 2. The replies before it are printed.";
 
 const CHECK_HELP: &str =
-    "Makes a store where no file is, or an empty one; every other file is only read.
+    "Creates a store if the file is missing or empty. Any other file is only read.
 Prints `ok records N endpoints E pending P`.
-Status 4 and NotOurs, NewerVersion or Damaged tell of a file that the relay doesn't take; status 3 and
-Busy of one that another program has open, CannotOpen, Corrupt, Full or Lost of what else is wrong.";
+Status 4 with NotOurs, NewerVersion or Damaged: the relay doesn't accept the file. Status 3 with Busy:
+another program has it open; with CannotOpen, Corrupt, Full or Lost: the file or the disk failed.";
 
 const SIGN_HELP: &str =
-    "Whoever may list the processes of this machine sees the secrets. A body has at most 65536 bytes;
-status 2 tells of a longer one, status 1 and a name of an argument that is refused.";
+    "Anyone who can list this machine's processes sees the secrets. A body has at most 65536 bytes:
+status 2 means that it is longer, status 1 that an argument is invalid.";
 
 const VEGAS_HELP: &str = "Lines: RTT INFLIGHT ok, or RTT INFLIGHT drop
   RTT       the round trip of a post in microseconds
   INFLIGHT  how many posts were in flight, 1 to 1000
-With --explain an answer goes on: from LIMIT NOLOAD PROBES by COUNT
-  the last COUNT samples, 64 at most, led from these numbers to that limit
-A bad line ends the samples with status 2; the limits before it stand.";
+With --explain each line also has: from LIMIT NOLOAD PROBES by COUNT
+  the last COUNT samples, at most 64, led from that state to this limit
+A bad line ends the input with status 2. The limits before it are printed.";
 
 /// What the words ask for, as far as it is done here.
 #[derive(Clone, Copy, PartialEq, Eq, Debug)]
@@ -192,9 +192,7 @@ fn sign_words<R: Read, O: Write, E: Write>(
 fn relayd<'a>(alloc: Global) -> Result<Command<'a>, AllocError> {
     Command::new(alloc, "relayd")
         .version(VERSION)
-        .about(
-            "Serves a webhook relay, checks its file, and shows its layers: a script of its calls, signatures, the adaptive limit",
-        )
+        .about("A webhook relay: accepts events over HTTP and posts them, signed, to subscribers")
         .after_help(EXIT_HELP)
         .subcommand_required(true)
         .subcommand(check_syntax(alloc)?)?
@@ -206,14 +204,16 @@ fn relayd<'a>(alloc: Global) -> Result<Command<'a>, AllocError> {
 
 fn check_syntax<'a>(alloc: Global) -> Result<Command<'a>, AllocError> {
     Command::new(alloc, "check")
-        .about("Prints how much the store in a file holds; makes a store where no file is")
+        .about(
+            "Prints how many records, endpoints and pending events a store has; creates it if it is missing",
+        )
         .after_help(CHECK_HELP)
         .arg(text(alloc, "file").help("The file's path"))
 }
 
 fn replay_syntax<'a>(alloc: Global) -> Command<'a> {
     Command::new(alloc, "replay")
-        .about("Answers each line of the script on standard input, over a store in memory")
+        .about("Runs the script on standard input over a store in memory and prints each reply")
         .after_help(REPLAY_HELP)
 }
 
@@ -235,12 +235,12 @@ fn vegas_syntax<'a>(alloc: Global) -> Result<Command<'a>, AllocError> {
     Command::new(alloc, "vegas")
         .about("Prints the limit and the no-load time after each sample on standard input")
         .after_help(VEGAS_HELP)
-        .arg(text(alloc, "max").help("The greatest limit, 1 to 1000"))?
+        .arg(text(alloc, "max").help("The maximum limit, 1 to 1000"))?
         .arg(
             Arg::new(alloc, "explain")
                 .long("explain")
                 .action(ArgAction::SetTrue)
-                .help("Tells with each limit from which numbers the last samples led to it"),
+                .help("Also prints the state from which the last samples led to each limit"),
         )
 }
 

@@ -4,9 +4,9 @@ use clap::{Arg, ArgAction, ArgMatches, Command};
 use std::alloc::{AllocError, Global};
 
 const SERVE_HELP: &str =
-    "Prints `listening on ADDRESS` once it takes requests. Standard error tells when it started, which endpoint an answer 410
-disabled, and why the relay ended. Where no file is, or an empty one, a store is made.
-Status 3 and a name tell of a halt, of an address where nothing can be listened on, and of a file that another relay has.";
+    "Prints `listening on ADDRESS` once it accepts requests. Standard error reports when it started, each endpoint that a 410
+disabled, each event that was given up, and why the relay ended. A store is created if the file is missing or empty.
+Status 3 means that the relay halted, couldn't listen at ADDRESS, or that another relay has the file open.";
 
 /// What `relayd serve` is asked for.
 #[derive(Clone, Copy, PartialEq, Eq, Debug)]
@@ -39,10 +39,10 @@ pub(crate) fn read_serve<'a>(words: &ArgMatches<'a>) -> Option<ServeWords<'a>> {
 
 pub(crate) fn serve_syntax<'a>(alloc: Global) -> Result<Command<'a>, AllocError> {
     let command = Command::new(alloc, "serve")
-        .about("Takes events over HTTP, keeps them in the file, and posts each to its endpoint")
+        .about("Accepts events over HTTP, stores them in the file, and posts each to its endpoint")
         .after_help(SERVE_HELP)
         .arg(word(alloc, "file").help("The file's path"))?
-        .arg(word(alloc, "address").help("Where to listen, as 127.0.0.1:8080"))?;
+        .arg(word(alloc, "address").help("The address to listen on, such as 127.0.0.1:8080"))?;
     add_options(alloc, command)
 }
 
@@ -66,7 +66,7 @@ fn add_options<'a>(alloc: Global, command: Command<'a>) -> Result<Command<'a>, A
         .arg(
             number(alloc, "requests", 0, u64::MAX)
                 .default_value("0")
-                .help("After so many answered requests the relay ends; 0 for never"),
+                .help("Ends after this many answered requests; 0 means never"),
         )
 }
 

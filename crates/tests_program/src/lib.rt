@@ -5,6 +5,10 @@
 #[cfg(test)]
 mod ends;
 #[cfg(test)]
+mod limits;
+#[cfg(test)]
+mod longest;
+#[cfg(test)]
 mod program;
 #[cfg(test)]
 mod streams;

@@ -170,6 +170,97 @@ disabled pending 1 delivered 0 exhausted 0
 waiting
 ";
 
+// What was committed is there after a stop, settled or not, and tickets are forgotten.
+const STOPPED_AFTER_A_COMMIT: &str =
+    "put a http://127.0.0.1:9000/hook 100 whsec_MDEyMzQ1Njc4OTAxMjM0NTY3ODkwMTIz
+submit 1000 a msg_1 7b7d
+seal
+commit
+submit 1001 a msg_2 -
+stop
+told 1
+show a
+show a msg_1
+show a msg_2
+submit 1005 a msg_1 7b7d
+submit 1005 a msg_2 -";
+
+const STOPPED_AFTER_A_COMMIT_REPLIES: &str = "staged 0
+staged 1
+sealed 0..2
+committed 2
+staged 2
+reopened 2
+no-ticket
+enabled pending 1 delivered 0 exhausted 0
+pending due 1000 attempts 0
+absent
+staged 1
+staged 2
+";
+
+// A desk that halted takes records again after a stop.
+const STOPPED_AFTER_A_HALT: &str =
+    "put a http://127.0.0.1:9000/hook 100 whsec_MDEyMzQ1Njc4OTAxMjM0NTY3ODkwMTIz
+seal
+commit
+settle
+submit 1000 a msg_1 7b7d
+seal
+halt
+submit 1000 a msg_2 -
+stop
+show a msg_1
+submit 1000 a msg_1 7b7d
+seal
+commit
+settle
+show a msg_1";
+
+const STOPPED_AFTER_A_HALT_REPLIES: &str = "staged 0
+sealed 0..1
+committed 1
+settled 1
+staged 1
+sealed 1..2
+halted
+refused 1 Halted
+reopened 1
+absent
+staged 1
+sealed 1..2
+committed 2
+settled 2
+pending due 1000 attempts 0
+";
+
+// An attempt under way is let go by a stop, and made again. Nothing is out of the permits.
+const STOPPED_WITH_A_PERMIT: &str =
+    "put a http://127.0.0.1:9000/hook 100 whsec_MDEyMzQ1Njc4OTAxMjM0NTY3ODkwMTIz
+submit 1000 a msg_1 7b7d
+seal
+commit
+settle
+claim 1000
+claim 1000
+stop
+limits a
+claim 900
+claim 1000";
+
+const STOPPED_WITH_A_PERMIT_REPLIES: &str = "staged 0
+staged 1
+sealed 0..2
+committed 2
+settled 2
+permit 1 a msg_1 attempt 1 at 1000 inflight 1
+none
+reopened 2
+limit 20 inflight 0 noload 0
+permit 1 a msg_1 attempt 1 at 1000 inflight 1
+none
+";
+
 pub(crate) const SECRET: &str = "whsec_MDEyMzQ1Njc4OTAxMjM0NTY3ODkwMTIz";
 
 // The example of Standard Webhooks 1.0.0.
@@ -216,6 +307,27 @@ static SCRIPTS: &[Run] = &[
         words: REPLAY,
         texts: &[CHANGED],
         output: CHANGED_REPLIES,
+        errors: "",
+        status: 0,
+    },
+    Run {
+        words: REPLAY,
+        texts: &[STOPPED_AFTER_A_COMMIT],
+        output: STOPPED_AFTER_A_COMMIT_REPLIES,
+        errors: "",
+        status: 0,
+    },
+    Run {
+        words: REPLAY,
+        texts: &[STOPPED_AFTER_A_HALT],
+        output: STOPPED_AFTER_A_HALT_REPLIES,
+        errors: "",
+        status: 0,
+    },
+    Run {
+        words: REPLAY,
+        texts: &[STOPPED_WITH_A_PERMIT],
+        output: STOPPED_WITH_A_PERMIT_REPLIES,
         errors: "",
         status: 0,
     },
@@ -285,6 +397,21 @@ static ARGUMENTS: &[Run] = &[
         output: "",
         errors: "relayd: BadSecret\n",
         status: 1,
+    },
+    // No file, but a directory and a device.
+    Run {
+        words: &["relayd", "check", "/"],
+        texts: &[""],
+        output: "",
+        errors: "relayd: CannotOpen\n",
+        status: 3,
+    },
+    Run {
+        words: &["relayd", "check", "/dev/null"],
+        texts: &[""],
+        output: "",
+        errors: "relayd: CannotOpen\n",
+        status: 3,
     },
     Run {
         words: &["relayd", "vegas", "1001"],
@@ -524,23 +651,27 @@ struct Help {
 static HELP: &[Help] = &[
     Help {
         words: &["relayd", "--help"],
-        end: "\nA fault is told on standard error.\n",
+        end: "\nErrors are reported on standard error.\n",
+    },
+    Help {
+        words: &["relayd", "check", "--help"],
+        end: "\nanother program has it open; with CannotOpen, Corrupt, Full or Lost: the file or the disk failed.\n",
     },
     Help {
         words: &["relayd", "replay", "--help"],
-        end: "\nA bad line ends the script with status 2; the replies before it stand.\n",
+        end: "\nA bad line ends the script with status 2. The replies before it are printed.\n",
     },
     Help {
         words: &["relayd", "serve", "--help"],
-        end: "\nStatus 3 and a name tell of a halt, of an address where nothing can be listened on, and of a file that another relay has.\n",
+        end: "\nStatus 3 means that the relay halted, couldn't listen at ADDRESS, or that another relay has the file open.\n",
     },
     Help {
         words: &["relayd", "sign", "--help"],
-        end: "\nstatus 2 tells of a longer one, status 1 and a name of an argument that is refused.\n",
+        end: "\nstatus 2 means that it is longer, status 1 that an argument is invalid.\n",
     },
     Help {
         words: &["relayd", "vegas", "--help"],
-        end: "\nA bad line ends the samples with status 2; the limits before it stand.\n",
+        end: "\nA bad line ends the input with status 2. The limits before it are printed.\n",
     },
 ];
 
@@ -562,6 +693,9 @@ fn shows_help(rt: HostRuntime) {
 
 static BAD_WORDS: &[&[&str]] = &[
     &[],
+    &["relayd"],
+    &["relayd", "check"],
+    &["relayd", "check", "a", "b"],
     &["relayd", "fly"],
     &["relayd", "--fly"],
     &["relayd", "replay", "more"],
