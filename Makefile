@@ -2,13 +2,14 @@ ENDPOINT = {\"url\":\"http://127.0.0.1:9000/hook\",\"max\":100,\"secrets\":[\"wh
 
 RELAYD = crates/relayd/out/relayd
 BENCH = crates/bench/out/bench
+AT_ONCE = $(shell scripts/crates-at-once)
 SOURCES = $(shell find crates -path '*/out' -prune -o -path 'crates/tests_*' -prune -o \( -name '*.rt' -o -name '*.antt' \) -print) crates.txt HANDLES
 
 # Lists what can be made.
 help:
 	@awk '/^# /{said=said substr($$0, 2)} /^[a-z]+:/{sub(/:.*/, ""); printf "make %-8s%s\n", $$0, said} !/^# /{said=""}' Makefile
 
-# Builds the relay, all of it proved first (one to two hours where out/ is empty), and serves relay.db at 127.0.0.1:8080.
+# Proves the relay and builds it (about an hour on four processors if out/ is empty), and serves relay.db at 127.0.0.1:8080.
 run: $(RELAYD)
 	@echo 'Put an endpoint, and submit an event to it:'
 	@echo "  curl -X PUT http://127.0.0.1:8080/v1/endpoints/shop -d '$(ENDPOINT)'"
@@ -19,13 +20,12 @@ run: $(RELAYD)
 demo: $(RELAYD)
 	scripts/demo $(RELAYD)
 
-# Runs `relayd replay` on the stored script with nothing proved, in three to four minutes.
+# Shows one event on its way through the relay's core: a failure, a crash, the delivery. It takes three to four minutes and proves nothing.
 try:
-	@echo 'Nothing is proved by this: rt try compiles relayd from its sources and runs it (make run proves it first).'
-	cd crates/relayd && rt try -- replay < ../../vectors/replay/first-path.script
-	@echo 'That was relayd with nothing proved.'
+	@echo 'rt try compiles relayd from its sources and runs it, in three to four minutes. It proves nothing: make run does.'
+	@scripts/try
 
-# Passes the tests: the merge gate, then the scripts that stand beside it.
+# Runs the tests: the merge gate, then the scripts beside it.
 test:
 	./scripts/test
 
@@ -33,11 +33,11 @@ test:
 check:
 	rt all check
 
-# Tries the wrong bodies that the gate tries of one crate, one by one: make edits CRATE=vegas
+# Tries the mutants that the gate tries of one crate, one by one: make edits CRATE=vegas
 edits:
 	rt must-fail $(or $(CRATE),$(error say which crate: make edits CRATE=vegas))
 
-# Tries all wrong bodies of each crate, those in different functions at once, or of one: make attack CRATE=vegas
+# Tries all mutants of each crate, those in different functions at once, or of one: make attack CRATE=vegas
 attack:
 	./scripts/attack $(CRATE)
 
@@ -45,7 +45,7 @@ attack:
 fmt:
 	for crate in crates/*/; do (cd "$$crate" && rt fmt) || exit 1; done
 
-# Prints one table of measurements, each beside what stands for comparison.
+# Prints one table of measurements, each beside a figure to compare it with.
 bench: $(BENCH) $(RELAYD)
 	./scripts/bench $(BENCH) $(RELAYD)
 
@@ -57,18 +57,19 @@ install: $(RELAYD)
 deb: $(RELAYD)
 	./scripts/make-deb $(RELAYD) relayd.deb
 
-# Measures `relayd serve` beside nginx and a plain relay in Python, where wrk and nginx are at hand.
+# Measures `relayd serve` beside nginx and a plain relay in Python. It needs wrk and nginx.
 load: $(RELAYD)
 	./scripts/bench-serve $(RELAYD)
 
-# A program is proved and built where one of its sources is newer. `make test` builds both, too.
+# A program is proved and built if one of its sources is newer. `make test` builds both, too. `rt run` alone proves the crates below it
+# one after another; `rt all`, in the program's folder, proves these and the program side by side, and `rt run` takes what it leaves.
 $(RELAYD): $(SOURCES)
-	@echo 'Proving each crate, the lowest first, and then building relayd: one to two hours where out/ is empty, else what changed.'
-	cd crates/relayd && rt run -- --version
+	@echo 'Proving all crates of relayd, and then building it: about an hour on four processors if out/ is empty, else what changed.'
+	cd crates/relayd && rt all check --jobs $(AT_ONCE) && rt run -- --version
 	touch $@
 
 $(BENCH): $(SOURCES)
-	cd crates/bench && rt run
+	cd crates/bench && rt all check --jobs $(AT_ONCE) && rt run
 	touch $@
 
 .PHONY: help run demo try test check edits attack fmt bench install deb load

@@ -198,12 +198,12 @@ class Subscriber:
     """Listens at a port, of its own where none is said, and answers each post by what `reply` says of it: a status, or bytes as they are
     sent."""
 
-    def __init__(self, reply=lambda post: 200, port=0):
+    def __init__(self, reply=lambda post: 200, port=0, host="127.0.0.1"):
         self.reply = reply
         self.posts = []
         self.open = self.most = 0
         self.lock = threading.Lock()
-        self.listener = socket.create_server(("127.0.0.1", port), backlog=256)
+        self.listener = socket.create_server((host, port), backlog=256)
         self.port = self.listener.getsockname()[1]
         threading.Thread(target=self.accept, daemon=True).start()
 
