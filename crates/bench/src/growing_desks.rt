@@ -176,15 +176,15 @@ impl<L: Ledger> Attempt for Audit<'_, L> {
 
 /// A call of a thread that shares the desk.
 #[derive(Drop)]
-struct Sharer<'a, L: Ledger, I: LogId, R: Wait> {
-    wait: &'a R,
+struct Sharer<'w, 's, L: Ledger, I: LogId, R: Wait> {
+    wait: &'w R,
     call: DeskCall,
-    shared: &'a Shared<L, I>,
+    shared: &'s Shared<L, I>,
     given: Given,
     pass: Pass,
 }
 
-impl<L: Ledger, I: LogId, R: Wait> Attempt for Sharer<'_, L, I, R> {
+impl<L: Ledger, I: LogId, R: Wait> Attempt for Sharer<'_, '_, L, I, R> {
     fn attempt(&mut self, rt: &HostRuntime) -> Told {
         match self.call {
             DeskCall::AnswerEndpoint => self.ask(rt, b"GET", b"/v1/endpoints/a", &[]),
@@ -210,7 +210,7 @@ impl<L: Ledger, I: LogId, R: Wait> Attempt for Sharer<'_, L, I, R> {
     }
 }
 
-impl<L: Ledger, I: LogId, R: Wait> Sharer<'_, L, I, R> {
+impl<L: Ledger, I: LogId, R: Wait> Sharer<'_, '_, L, I, R> {
     fn ask<'x>(
         &mut self,
         rt: &HostRuntime,
