@@ -18,18 +18,16 @@ use Rattle.desk.proofs.Words.{changes_other, all_weaker, QueueValue, ChangesMark
 use Rattle.desk.proofs.Words.{with_room, is_outcome, count_by_snoc, is_out, same_row, AreMarked, AreQueued, AreTied}
 use Rattle.desk.proofs.Words.{HasPlaces, HasRoomForAll, Holds, KeepsRooms, endpoint_at, idle_pair, room_by, has_row}
 use Rattle.desk.proofs.Words.{HasOutcome, IsDesk, OverWorlds, Spends, TakesOutcome, map-append, MAX_WAITING_OUTCOMES}
-use Rattle.desk.proofs.Words.{outcomes_in}
+use Rattle.desk.proofs.Words.{SpentValue, outcomes_in, status_of}
 use Rattle.retry_table.specs.declared.post.PostResult.{PostResult}
-use Rattle.retry_table.specs.Judging.{measure_of, recorded_status, spend_of}
+use Rattle.retry_table.specs.Judging.{measure_of, recorded_status}
 use Rattle.retry_table.specs.declared.post.Measured.{Measured as Told}
-use Rattle.retry_table.specs.declared.post.Spend.{Spend}
 use Rattle.std.proofs.lemmas.List.Elements.{filter-append}
 use Rattle.endpoint_book.proofs.Staged.{stands-gone}
 use Rattle.delivery_book.proofs.Laws.{free_means, stands_outcome}
 use Rattle.delivery_book.proofs.Tellings.{stands_row}
 use Rattle.endpoint_book.specs.declared.entry.Kind.TheVariants.{Flag}
 use Rattle.delivery_book.proofs.Waiting.{waiting_outcome}
-use Rattle.desk.specs.declared.spent.Spent.{Spent}
 use Rattle.endpoint_book.specs.Entries as endpoint_entries
 use Rattle.endpoint_book.specs.Book as endpoint_book
 use Rattle.delivery_book.specs.Entries as delivery_entries
@@ -232,10 +230,6 @@ stands_went d w row post at (Some s) limiters h sampled u known room legal_statu
     let stands = stands_tried d w row s at h u known room (legal_status s refl) moment_is in
     stands_over _ _ row post at limiters stands (limits_sampled d w limiters row post h.limits sampled)
 
--- what waits after a spend
-abbrev pub status_of : (halted : Bool) (post : PostResult) → Option ℕ
-status_of halted post = if halted then None else recorded_status post
-
 -- what the limiters are after it
 abbrev pub AreTold : (halted : Bool) (old new : List Limiter) (row : Row) (post : PostResult) → Type 0
 AreTold true old new row post = new ≡ old
@@ -265,17 +259,17 @@ exhausted_is {d} {w} delivery h =
     ∙ by_option (accepted (all_records w) delivery) (λ e. rw e) (λ a e. rw e)
 
 -- what a spend known_attempt
-pub tells_spent : (d new : DeskValue) (w : World) (row : Row) (post : PostResult) (now : ℕ) (spend : Spend) (staged : Option ℕ) (limit in_flight : ℕ) (exhausted : Bool) → StandsFor d w → StandsFor new (with_attempt_over w row post now)
+pub tells_spent : (d new : DeskValue) (w : World) (row : Row) (post : PostResult) (now : ℕ) (staged : Option ℕ) (limit in_flight : ℕ) (exhausted : Bool) → StandsFor d w → StandsFor new (with_attempt_over w row post now)
     → AreLimiters new.limiters new.endpoints → IsTrue (endpoint_entries.is_known new.endpoints row.endpoint)
-    → spend ≡ spend_of post → staged ≡ option_map (λ _. record_count d.waiting) (status_of d.halted post) → limit ≡ limit_by new.limiters row.endpoint → in_flight ≡ in_flight_of row.endpoint new.live → exhausted ≡ is_exhausted_in new.deliveries row.delivery
-    → record { spend = spend; staged = staged; limit = limit; in_flight = in_flight; exhausted = exhausted } ≡ spent_by w row post now
-tells_spent d new w row post now spend staged limit in_flight exhausted h after limited known spends stages limits flies ends =
+    → staged ≡ option_map (λ _. record_count d.waiting) (status_of d.halted post) → limit ≡ limit_by new.limiters row.endpoint → in_flight ≡ in_flight_of row.endpoint new.live → exhausted ≡ is_exhausted_in new.deliveries row.delivery
+    → record { row = row; post = post; staged = staged; limit = limit; in_flight = in_flight; exhausted = exhausted } ≡ spent_by w row post now
+tells_spent d new w row post now staged limit in_flight exhausted h after limited known stages limits flies ends =
     let limit_told : limit ≡ limit_in (with_attempt_over w row post now) row.endpoint = limits ∙ limit_is row.endpoint after limited (sym (known_is row.endpoint after) ∙ known) in
     let flying : in_flight ≡ in_flight_of row.endpoint (with_attempt_over w row post now).live = flies ∙ ap (in_flight_of row.endpoint) after.live in
     let numbered : staged ≡ (if w.halted then None else option_map (λ _. next_seq w) (recorded_status post)) =
     stages ∙ (λ i. option_map (λ _. count_is h i) (status_of (h.halted i) post)) ∙ grind arith in
     let ended : exhausted ≡ is_exhausted (with_attempt_over w row post now) row.delivery = ends ∙ exhausted_is row.delivery after in
-    λ i. record { spend = spends i; staged = numbered i; limit = limit_told i; in_flight = flying i; exhausted = ended i }
+    λ i. record { row = row; post = post; staged = numbered i; limit = limit_told i; in_flight = flying i; exhausted = ended i }
 
 -- What ties a desk's fields stays so once an attempt is over
 
@@ -540,7 +534,15 @@ written n old new all row post sampled counted =
 
 -- Spends
 
-pub foreign_spends : {E : Type 0} {view d : DeskValue} → view ≡ d → (row : Row) (post : PostResult) (now : ℕ) (result : Result Spent E) (rows : List Row) → IsErr result → rows ≡ view.live
+-- the status that is told is the one that was recorded
+pub tells_status : {staged : Option ℕ} (halted : Bool) (post : PostResult) (seq : ℕ)
+    → staged ≡ option_map (λ _. seq) (status_of halted post)
+    → (if is_some staged then recorded_status post else None) ≡ status_of halted post
+tells_status true post seq stages = rw stages
+tells_status false post seq stages =
+    by_option (recorded_status post) (λ none. rw (stages, none)) (λ status some. rw (stages, some))
+
+pub foreign_spends : {E : Type 0} {view d : DeskValue} → view ≡ d → (row : Row) (post : PostResult) (now : ℕ) (result : Result SpentValue E) (rows : List Row) → IsErr result → rows ≡ view.live
     → position (same_row row) view.live ≡ None → Spends d row post now result (record view { live = rows })
 foreign_spends same row post now (Ok spent) rows wrong back none = let no : false ≡ true = wrong in cc
 foreign_spends {E} {view} {d} same row post now (Err e) rows wrong back none =
@@ -550,25 +552,25 @@ foreign_spends {E} {view} {d} same row post now (Err e) rows wrong back none =
     ))
 
 -- the permit is one of those that were out, and each world goes on as the model does
-abbrev pub IsSpent : DeskValue → (permit : Row) → (post : PostResult) → (now : ℕ) → Spent → DeskValue → Type 0
+abbrev pub IsSpent : DeskValue → (permit : Row) → (post : PostResult) → (now : ℕ) → SpentValue → DeskValue → Type 0
 IsSpent d permit post now spent m = OverWorlds d (λ w. (has_row w permit ≡ true) × (spent ≡ spent_by w permit post now) × StandsFor m (with_attempt_over w permit post now))
 
-pub spends : (view d : DeskValue) → view ≡ d → (m : DeskValue) (queue told : QueueValue) (row permit : Row) (rest : List Row) (post : PostResult) (now at : ℕ) (spend : Spend) (staged : Option ℕ) (limit in_flight : ℕ) (exhausted : Bool)
+pub spends : (view d : DeskValue) → view ≡ d → (m : DeskValue) (queue told : QueueValue) (row permit : Row) (rest : List Row) (post : PostResult) (now at : ℕ) (staged : Option ℕ) (limit in_flight : ℕ) (exhausted : Bool)
     → IsDesk view.endpoints view.deliveries view.waiting view.live view.limiters queue → IsReturned row view.live rest → row ≡ permit → IsOver view m row rest post at staged
     → IsDesk m.endpoints m.deliveries m.waiting m.live m.limiters told → at ≡ max now view.clock → is_moment at ≡ true → ((s : ℕ) → recorded_status post ≡ Some s → is_status s ≡ true)
-    → spend ≡ spend_of post → limit ≡ limit_by m.limiters row.endpoint → in_flight ≡ in_flight_of row.endpoint m.live → exhausted ≡ is_exhausted_in m.deliveries row.delivery
-    → IsSpent d permit post now (record { spend = spend; staged = staged; limit = limit; in_flight = in_flight; exhausted = exhausted }) m
-spends view d same m queue told row permit rest post now at spend staged limit in_flight exhausted h r own over after later moment_is legal_status judged limits flies ends =
+    → limit ≡ limit_by m.limiters row.endpoint → in_flight ≡ in_flight_of row.endpoint m.live → exhausted ≡ is_exhausted_in m.deliveries row.delivery
+    → IsSpent d permit post now (record { row = row; post = post; staged = staged; limit = limit; in_flight = in_flight; exhausted = exhausted }) m
+spends view d same m queue told row permit rest post now at staged limit in_flight exhausted h r own over after later moment_is legal_status limits flies ends =
     subst (λ (v : DeskValue). IsSpent v permit post now spent m) same
     (subst (λ (p : Row). IsSpent view p post now spent m) own (λ w s.
     let stands = stands w s in (
       ap (list_any (same_row row)) (sym s.live) ∙ r.there,
-      tells_spent view m w row post now spend staged limit in_flight exhausted s stands after.tied.limited known judged over.numbered limits flies ends,
+      tells_spent view m w row post now staged limit in_flight exhausted s stands after.tied.limited known over.numbered limits flies ends,
       stands,
     )))
   where
-    spent : Spent
-    spent = record { spend = spend; staged = staged; limit = limit; in_flight = in_flight; exhausted = exhausted }
+    spent : SpentValue
+    spent = record { row = row; post = post; staged = staged; limit = limit; in_flight = in_flight; exhausted = exhausted }
 
     live : IsLive view row rest
     live = is_live view queue row rest h.tied r

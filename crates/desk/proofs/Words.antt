@@ -76,7 +76,7 @@ pub use Rattle.desk.proofs.Cases.{by_bool, by_option}
 pub use Rattle.desk.specs.Claims.{JobValue, choice, claim, claim_chosen, claimables, has_place as has_place_in}
 pub use Rattle.desk.specs.Claims.{has_room, has_row, is_claimable, is_exhausted, is_live, job_of, least_by, limit_in}
 pub use Rattle.desk.specs.Claims.{limits, next_attempt, rests, sample_by, sampled, samples_of, spent_by, starts}
-pub use Rattle.desk.specs.Claims.{target_in, waits, with_attempt_over, without_row}
+pub use Rattle.desk.specs.Claims.{SpentValue, status_of, target_in, waits, with_attempt_over, without_row}
 pub use Rattle.desk.specs.Comparing.{SameEndpoint, SameEvent}
 pub use Rattle.desk.specs.Desks.{AreBooks, AreLimits, ArePlacesOf, Checks, DeskValue, HasOutcome, IsCore, IsDesk}
 pub use Rattle.desk.specs.Desks.{IsHeldOf, IsMove, IsPostOf, IsReceiptOf, Opens, OverWorlds, Spends, StandsFor, Starts}

@@ -14,12 +14,11 @@ use Rattle.permits.specs.declared.row.Row.{Row}
 use Rattle.permits.specs.Rows.{in_flight_of, is_out, next_row, same_row}
 use Rattle.retry_table.specs.declared.post.Measured.{Measured as Told}
 use Rattle.retry_table.specs.declared.post.PostResult.{PostResult}
-use Rattle.retry_table.specs.Judging.{spend_of, recorded_status, measure_of}
+use Rattle.retry_table.specs.Judging.{recorded_status, measure_of}
 use Rattle.group_commit.specs.declared.limits.TheConstants.{MAX_WAITING_OUTCOMES}
 use Rattle.group_commit.specs.Steps.{outcomes_in}
 use Rattle.desk.specs.declared.refusal.Fault.TheVariants as fault
 use Rattle.desk.specs.declared.spent.Limits.{Limits}
-use Rattle.desk.specs.declared.spent.Spent.{Spent}
 use Rattle.desk.specs.World.{World, Measured, all_records, settled_records, waiting_records}
 use Rattle.desk.specs.Moves.{Answer, gives, unless, or_out_of_memory, moment, next_seq, are_seqs_spent}
 
@@ -199,16 +198,33 @@ staged_by w post = if w.halted then None else option_map (λ status. next_seq w)
 abbrev pub is_exhausted : (w : World) (delivery : Seq) → Bool
 is_exhausted w d = is_some (accepted (all_records w) d) && is_in_state Exhausted (state_of (all_records w) d)
 
--- what a spend tells: what the permit is spent as, the outcome's number, and, after it, the endpoint's limit and attempts and whether
--- the event is given up
-abbrev pub spent_in : (w after : World) (row : Row) (post : PostResult) → Spent
+-- what a spend tells: the permit's row, the post, the outcome's number, and, after it, the endpoint's limit and
+-- attempts and whether the event is given up
+pub record SpentValue : Type 0 where
+  pub row : Row
+  pub post : PostResult
+  pub staged : Option Seq
+  pub limit : ℕ
+  pub in_flight : ℕ
+  pub exhausted : Bool
+
+-- the status that a desk records of a post: none once it is halted
+abbrev pub status_of : (halted : Bool) (post : PostResult) → Option ℕ
+status_of halted post = if halted then None else recorded_status post
+
+-- the status that a spend tells: that of its post, where an outcome waits
+abbrev pub status_in : SpentValue → Option ℕ
+status_in spent = if is_some spent.staged then recorded_status spent.post else None
+
+abbrev pub spent_in : (w after : World) (row : Row) (post : PostResult) → SpentValue
 spent_in w after row post = record {
-  spend = spend_of post;
+  row = row;
+  post = post;
   staged = staged_by w post;
   limit = limit_in after row.endpoint;
   in_flight = live_of after row.endpoint;
   exhausted = is_exhausted after row.delivery;
 }
 
-abbrev pub spent_by : (w : World) (row : Row) (post : PostResult) (now : Seconds) → Spent
+abbrev pub spent_by : (w : World) (row : Row) (post : PostResult) (now : Seconds) → SpentValue
 spent_by w row post now = spent_in w (with_attempt_over w row post now) row post

@@ -35,9 +35,8 @@ use Rattle.desk.specs.Faults.{Faults, first_fault}
 use Rattle.desk.specs.World.{World, Out, all_records, settled_records}
 use Rattle.desk.specs.declared.job.Post.{Post}
 use Rattle.desk.specs.declared.limiter.Limiter.{Limiter}
-use Rattle.desk.specs.declared.spent.Spent.{Spent}
 use Rattle.desk.specs.Moves.{Answer, MayGive, is_nothing_out, sealed_batch, opened}
-use Rattle.desk.specs.Claims.{JobValue, samples_of, next_attempt, target_in, job_of, with_attempt, has_row, with_attempt_over, spent_by}
+use Rattle.desk.specs.Claims.{JobValue, SpentValue, samples_of, next_attempt, target_in, job_of, with_attempt, has_row, with_attempt_over, spent_by}
 use Rattle.desk.specs.Ties.{AreLimiters, AreTied, AreUnderWay, HasRoomForAll, StandsAt, endpoint_at, is_idle, new_limiter, room_by}
 
 -- The books of all records, the steps that wait, the latest moment, whether nothing is taken any more, the permits that are out
@@ -171,7 +170,7 @@ Starts old at d job new = OverWorlds old (λ w. (a : Accepted)
     × (accepted (all_records w) d ≡ Some a) × (job ≡ job_of w at d a) × StandsFor new (with_attempt w at job.row))
 
 -- From each world for which the desk stood: the permit of an attempt that is under way is taken, and any other comes back.
-abbrev pub Spends : {E : Type 0} → (old : DeskValue) (row : Row) (post : PostResult) (now : Seconds) (result : Result Spent E) (new : DeskValue) → Type 0
+abbrev pub Spends : {E : Type 0} → (old : DeskValue) (row : Row) (post : PostResult) (now : Seconds) (result : Result SpentValue E) (new : DeskValue) → Type 0
 Spends old row post now (Ok spent) new = OverWorlds old (λ w.
     (has_row w row ≡ true) × (spent ≡ spent_by w row post now) × StandsFor new (with_attempt_over w row post now))
 Spends old row post now (Err e) new = OverWorlds old (λ w. (has_row w row ≡ false) × StandsFor new w)

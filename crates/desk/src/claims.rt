@@ -4,9 +4,8 @@ ghost use Rattle.relay_types.specs.declared.limits.TheConstants.{MAX_RECORDS};
 ghost use Rattle.group_commit.specs.Waits.{batch_out, record_count};
 ghost use Rattle.relay_types.specs.Legal.{is_status};
 ghost use Rattle.permits.specs.Rows.{next_row, same_row};
-ghost use Rattle.retry_table.specs.Judging.{spend_of};
 ghost use Rattle.desk.specs.Faults.{may_refuse_claim};
-ghost use Rattle.desk.specs.Claims.{choice, claim};
+ghost use Rattle.desk.specs.Claims.{choice, claim, status_in, status_of};
 ghost use Rattle.desk.specs.Desks.{HasOutcome, IsMove, IsPostOf, OverWorlds, Spends, Starts, TakesOutcome, attempt_in, is_exhausted_in, may_start, may_start_at, with_job, with_live};
 
 use crate::desk::Desk;
@@ -136,7 +135,9 @@ impl<L: Ledger> Desk<L> {
         now: Moment,
     ) -> Result<Spent, (Permit<L>, Foreign)>
         ensures moves { Spends self.old permit post now result self.new }
-        ensures judged { IfOk result (λ spent. spent.spend ≡ spend_of post) }
+        ensures row { IfOk result (λ spent. spent.row ≡ permit) }
+        ensures post { IfOk result (λ spent. spent.post ≡ post) }
+        ensures recorded { IfOk result (λ spent. status_in spent ≡ status_of self.old.halted post) }
         ensures exhausted { IfOk result (λ spent. spent.exhausted ≡ is_exhausted_in self.new.deliveries permit.delivery) }
         ensures back { IfErr result (λ back. back.0 ≡ permit) }
         ensures foreign { IsErr result ↔ (position (same_row permit) self.old.live ≡ None) }
@@ -148,7 +149,7 @@ impl<L: Ledger> Desk<L> {
     {
         let at = self.moment(now);
         let row = self.pool.give_back(permit)?;
-        let (spend, status) = judge(&post);
+        let (_, status) = judge(&post);
         let staged = if self.halted {
             None
         } else {
@@ -173,7 +174,8 @@ impl<L: Ledger> Desk<L> {
             row.endpoint,
         );
         Ok(Spent {
-            spend,
+            row,
+            post,
             staged,
             limit,
             in_flight: self.pool.in_flight(row.endpoint),

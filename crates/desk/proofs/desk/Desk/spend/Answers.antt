@@ -1,14 +1,14 @@
 use Rattle.desk.proofs.Words.{◌≡◌, ◌∙◌, ℕ, Option, List, false, true, ap, max, refl, rules, sym, subst, IfSome, IsTrue}
 use Rattle.desk.proofs.Words.{vec_len, is_status, is_moment, QueueValue, ChangesMark, IsNew, with_room, Limiter}
 use Rattle.desk.proofs.Words.{DeskValue, IsDesk, AreLimiters, AreSampled, HasPlaces, Holds, idle_pair, limit_by}
-use Rattle.desk.proofs.Words.{room_by}
+use Rattle.desk.proofs.Words.{room_by, status_of}
 use Rattle.desk.specs.declared.desk.Desk.TheInside.{Inside}
 use Rattle.desk.specs.contracts.desk.Desk.{the_view}
 use denote.Param.{param}
 use Rattle.desk.proofs.RowLaws.{IsReturned}
 use Rattle.desk.proofs.SpendLaws.{IsLive, IsOver, back_from, foreign_spends, halted_over, is_desk_left, is_live}
 use Rattle.desk.proofs.SpendLaws.{limiter_known, new_left, places_left, reserved_left, spends, takes_outcome, told_over}
-use Rattle.desk.proofs.SpendLaws.{written}
+use Rattle.desk.proofs.SpendLaws.{tells_status, written}
 use Rattle.desk.proofs.desk.Desk.spend.Given.{Over}
 use Rattle.desk.proofs.desk.Desk.spend.Goals.{In_ok-row, After-limit_of-limit, After-hold, After-tell_room, then-self, else-self}
 use Rattle.desk.proofs.desk.Desk.spend.Goals as goal
@@ -45,12 +45,12 @@ module _ (g : Over) (c : After-limit_of-limit g) where
         | then-self w ↦ halted_over d new row rest c.args.post c.moment-at.result c.if-self.staged w.if-self.true (ap view w.self-inside-is) w.staged-is
         | else-self w ↦
             let stage = w.stage_status-staged in
-            told_over d new row rest c.args.post c.moment-at.result c.if-self.staged c.judge-spend.result.1 stage.new.endpoints stage.new.deliveries stage.new.waiting w.sample.new.limiters
+            told_over d new row rest c.args.post c.moment-at.result c.if-self.staged c.judge-status.result.1 stage.new.endpoints stage.new.deliveries stage.new.waiting w.sample.new.limiters
             w.if-self.false
             (ap view w.self-inside-is ∙ ap (λ (ls : List Limiter). record d { clock = c.moment-at.result; endpoints = stage.new.endpoints; deliveries = stage.new.deliveries; waiting = stage.new.waiting; live = rest; limiters = ls })
             (written (vec_len c.self.inside.limiters) w.deref_mut.result.now w.sample.new.limiters c.self.inside.limiters.items row c.args.post w.sample.ensures w.deref_mut.ensures.len))
             (subst (λ (ls : List Limiter). AreSampled ls w.sample.new.limiters row c.args.post) w.deref_mut.ensures.value w.sample.ensures)
-            c.judge-spend.ensures.status stage.ensures.some stage.ensures.none (w.staged-is ∙ stage.ensures.staged)
+            c.judge-status.ensures.status stage.ensures.some stage.ensures.none (w.staged-is ∙ stage.ensures.staged)
       ]
 
 -- the delivery is held again
@@ -111,8 +111,14 @@ returns-clause-moves g c =
     let moment_is : IsTrue (is_moment c.moment-at.result) = search (rules, c.moment-at.type_inv) in
     let at = goal.at.returns-clause-moves g c in
     spends (old g at.In_ok-row) c.args.self.now c.self.view_is (new g at.After-limit_of-limit) c.self.inside.queue c.tell_room.new.queue c.in_ok-row.row c.args.permit c.give_back.new.self c.args.post c.args.now c.moment-at.result
-    c.judge-spend.result.0 c.if-self.staged c.limit_of-limit.result c.in_flight.result c.is_exhausted.result
+    c.if-self.staged c.limit_of-limit.result c.in_flight.result c.is_exhausted.result
     c.self.invariant (back g at.In_ok-row) c.in_ok-row.ensures.returned (over g at.After-limit_of-limit) (after g at.After-tell_room)
     (c.moment-at.ensures ∙ ap (λ (v : DeskValue). max c.args.now v.clock) (sym c.self.view_is)) moment_is
-    (λ s e. subst (λ (o : Option ℕ). IfSome o (λ x. IsTrue (is_status x))) (c.judge-spend.ensures.status ∙ e) c.judge-spend.ensures.legal)
-    c.judge-spend.ensures.spend (c.limit_of-limit.ensures ∙ ap (λ (ls : List Limiter). limit_by ls c.in_ok-row.row.endpoint) c.deref.ensures.value) c.in_flight.ensures.count c.is_exhausted.ensures
+    (λ s e. subst (λ (o : Option ℕ). IfSome o (λ x. IsTrue (is_status x))) (c.judge-status.ensures.status ∙ e) c.judge-status.ensures.legal)
+    (c.limit_of-limit.ensures ∙ ap (λ (ls : List Limiter). limit_by ls c.in_ok-row.row.endpoint) c.deref.ensures.value) c.in_flight.ensures.count c.is_exhausted.ensures
+
+pub returns-clause-recorded : goal.returns-clause-recorded
+returns-clause-recorded g c =
+    let at = goal.at.returns-clause-recorded g c in
+    tells_status (old g at.In_ok-row).halted c.args.post _ (over g at.After-limit_of-limit).numbered
+    ∙ ap (λ (v : DeskValue). status_of v.halted c.args.post) c.self.view_is
