@@ -22,12 +22,11 @@ use Rattle.desk.specs.declared.command.Command.{Command}
 use Rattle.desk.specs.declared.command.Command.TheVariants.{PutEndpoint, SetSecrets, SetEnabled}
 use Rattle.desk.specs.declared.refusal.Fault.TheVariants as desk_fault
 use Rattle.desk.specs.declared.refusal.Refusal.{Refusal}
-use Rattle.desk.specs.declared.spent.Spent.{Spent}
 use Rattle.desk.specs.Faults.{Faults, refusal}
 use Rattle.desk.specs.World.{World, all_records, settled_records}
 use Rattle.desk.specs.Moves as desk
 use Rattle.desk.specs.Moves.{MayGive, refused, unless, submit, submit_faults, submit_new, new_submit_faults, repeats, change, changes, change_faults, sealed_batch, moment, are_seqs_spent}
-use Rattle.desk.specs.Claims.{JobValue, is_live, is_claimable, is_claimable_for, claimables, has_no_waiting_outcome, waits, choice, claim, claim_chosen, starts, rests, with_attempt, has_row, with_attempt_over, without_row, outcome_by, sample_by}
+use Rattle.desk.specs.Claims.{JobValue, SpentValue, is_live, is_claimable, is_claimable_for, claimables, has_no_waiting_outcome, waits, choice, claim, claim_chosen, starts, rests, with_attempt, has_row, with_attempt_over, without_row, outcome_by, sample_by}
 use Rattle.group_commit.specs.Waits.{batch_out}
 use Rattle.desk.specs.Desks.{StandsFor, IsMove, KeepsOut, Spends}
 use Rattle.desk.proofs.LeastLaws.{chosen_among, passes}
@@ -387,7 +386,7 @@ once_less rows place d within once n =
     sum_by-remove (λ (x : Row). cond (nat_eq x.delivery n) 1 0) rows place d within in
     omega (arith, less, once n)
 
-pub answers_spent : {L : Type 0} (old new : Core L) (delivery now place : ℕ) (post : PostResult) (row : Row) (spent : Spent) → IsTaken delivery place row old.permits.items new.permits.items
+pub answers_spent : {L : Type 0} (old new : Core L) (delivery now place : ℕ) (post : PostResult) (row : Row) (spent : SpentValue) → IsTaken delivery place row old.permits.items new.permits.items
     → Spends {E = Unit {0}} old.desk row post now (Ok spent) new.desk → new.desk.waiting.mark ≡ old.desk.waiting.mark
     → ((place : ℕ) → position (same_row row) old.desk.live ≡ Some place → new.desk.live ≡ remove old.desk.live place) → batch_out new.desk.waiting ≡ batch_out old.desk.waiting → new.held ≡ old.held → new.tickets ≡ old.tickets
     → CoreAnswers old (λ s. spends s (permit_of s.world delivery) post now) (spent_reply spent) new

@@ -5,6 +5,7 @@ use Rattle.relay_types.specs.Records.{records_of}
 use Rattle.delivery_book.specs.declared.row.Row.{Row}
 use Rattle.permits.specs.declared.row.Row as under_way
 use Rattle.retry_table.specs.declared.post.PostResult.{PostResult}
+use Rattle.retry_table.specs.Judging.{spend_of}
 use Rattle.spool.specs.Batches.{BatchValue}
 use Rattle.script_lines.specs.declared.call.Call.{Call}
 use Rattle.script_lines.specs.declared.call.Call.TheVariants as on
@@ -20,10 +21,9 @@ use Rattle.desk.specs.declared.refusal.Fault as desk_refusal
 use Rattle.desk.specs.declared.refusal.Fault.TheVariants as desk_fault
 use Rattle.desk.specs.declared.refusal.Refusal.{Refusal}
 use Rattle.desk.specs.declared.spent.Limits.{Limits}
-use Rattle.desk.specs.declared.spent.Spent.{Spent}
 use Rattle.desk.specs.declared.ticket.Told as desk_ticket
 use Rattle.desk.specs.declared.ticket.Told.TheVariants as desk_told
-use Rattle.desk.specs.Claims.{JobValue, claim, limits, spent_by, with_attempt_over}
+use Rattle.desk.specs.Claims.{JobValue, SpentValue, claim, limits, spent_by, with_attempt_over}
 use Rattle.desk.specs.Looks.{EndpointShown, told, told_command, event_page, endpoint_page}
 use Rattle.desk.specs.Moves as desk
 use Rattle.desk.specs.World.{World, Out, Nothing, Batch, Receipt, Doubt, settled_records, sealed_records}
@@ -91,8 +91,8 @@ claim_reply (Ok None) = says.NothingDue
 claim_reply (Ok (Some job)) = permit_reply job
 claim_reply (Err refusal) = refusal_reply refusal
 
-abbrev pub spent_reply : Spent → Reply
-spent_reply spent = says.Spent spent.spend spent.limit spent.in_flight spent.staged
+abbrev pub spent_reply : SpentValue → Reply
+spent_reply spent = says.Spent (spend_of spent.post) spent.limit spent.in_flight spent.staged
 
 abbrev pub limits_reply : Option Limits → Reply
 limits_reply None = says.Absent

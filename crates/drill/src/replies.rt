@@ -97,10 +97,10 @@ pub(crate) fn spent_reply(spent: Spent) -> Reply
     ensures { result ≡ spent_reply spent }
 {
     Reply::Spent {
-        spend: spent.spend,
-        limit: spent.limit,
-        in_flight: spent.in_flight,
-        staged: spent.staged,
+        spend: spent.spend(),
+        limit: spent.limit(),
+        in_flight: spent.in_flight(),
+        staged: spent.staged(),
     }
 }
 
