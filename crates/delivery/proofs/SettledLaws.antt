@@ -20,14 +20,13 @@ use Rattle.desk.specs.declared.refusal.Fault.TheVariants as fault
 use Rattle.desk.specs.declared.refusal.Refusal.{Refusal}
 use Rattle.desk.specs.declared.ticket.CommandTicket.{CommandTicket}
 use Rattle.desk.specs.declared.ticket.Ticket.{Ticket}
-use Rattle.desk.specs.declared.spent.Spent.{Spent}
 use Rattle.desk.specs.Faults.{Faults, refusal}
 use Rattle.desk.specs.World.{World, all_records, settled_records}
 use Rattle.desk.specs.Moves.{Answer, MayGive, LacksMemory, unless, with_record, at_moment, moment, submit, submit_known}
 use Rattle.desk.specs.Moves.{submit_new, submit_faults, new_submit_faults, accepts, repeats, or_out_of_memory, change}
 use Rattle.desk.specs.Moves.{change_faults, changes, seal, seal_waiting, seal_faults, sealed_batch, with_sealed_settled}
 use Rattle.desk.specs.Moves.{are_seqs_spent}
-use Rattle.desk.specs.Claims.{JobValue, claim, claim_chosen, choice, starts, rests, with_attempt_over, without_row}
+use Rattle.desk.specs.Claims.{JobValue, SpentValue, claim, claim_chosen, choice, starts, rests, with_attempt_over, without_row}
 use Rattle.desk.specs.Claims.{outcome_by, sample_by}
 use Rattle.desk.specs.Desks.{DeskValue, StandsFor, IsMove, Turns, Spends, IsReceiptOf}
 use Rattle.delivery.specs.Logs.{ChangeValue, HasChange, HasRecords, HasSettled, IsCommitted, change_of, entry_of}
@@ -272,7 +271,7 @@ module _ (is_base : List Record → Type 0) (start : ℕ) (old new : DeskValue) 
         m.2,
       ))
 
-  pub spent : (E : Type 0) (row : Row) (post : PostResult) (now : Seconds) (s : Spent)
+  pub spent : (E : Type 0) (row : Row) (post : PostResult) (now : Seconds) (s : SpentValue)
       → Spends {E = E} old row post now (Ok s) new
       → HasRecords is_base start new prefix (followed staged (prefix ++ records_of new.waiting.waiting))
   spent E row post now s spends = grows_on (λ w stands.

@@ -1,7 +1,6 @@
 -- What a round of a worker posted.
 use Rattle.std.specs.Prelude.{◌≡◌}
 use Rattle.retry_table.specs.declared.post.PostResult.{PostResult}
-use Rattle.retry_table.specs.Judging.{spend_of}
 use Rattle.desk.specs.Claims.{JobValue}
 use Rattle.delivery.specs.declared.worker.Claimed.{Claimed}
 use Rattle.delivery.specs.declared.worker.Claimed.TheVariants as claimed
@@ -9,12 +8,12 @@ use Rattle.delivery.specs.declared.worker.Round.{Round}
 use Rattle.delivery.specs.declared.worker.Round.TheVariants.{Posted, Idle, Halted, Closing, NoMemory, WentBack}
 use Rattle.delivery.specs.Requests.{Request, request_of}
 
--- A round that posted sent the request of a job, which it names, was answered what the poster may answer to it, and spent the permit by
--- that.
+-- A round that posted sent the request of a job, which it names, was answered what the poster may answer to it, and
+-- spent that job's permit by that very result.
 abbrev pub IsPostedBy : (may_answer : Request → PostResult → Type 0) → Round → Type 0
 IsPostedBy may_answer (Posted endpoint attempt request result spent) =
     (job : JobValue) × (endpoint ≡ job.row.endpoint) × (attempt ≡ job.attempt) × (request ≡ request_of job)
-    × may_answer request result × (spent.spend ≡ spend_of result)
+    × may_answer request result × (spent.row ≡ job.row) × (spent.post ≡ result)
 IsPostedBy may_answer Idle = Unit {0}
 IsPostedBy may_answer Halted = Unit {0}
 IsPostedBy may_answer Closing = Unit {0}

@@ -10,7 +10,6 @@ ghost use Rattle.desk.specs.Kept as kept;
 ghost use Rattle.desk.specs.Moves.{change, seal, submit, with_sealed_settled, with_batch_back, with_halt};
 ghost use Rattle.desk.specs.Claims.{JobValue, claim};
 ghost use Rattle.desk.specs.declared.refusal.Refusal.{Refusal};
-ghost use Rattle.retry_table.specs.Judging.{spend_of};
 ghost use Rattle.delivery.specs.Logs.{HasChange, HasSettled, IsOfCommand, entry_of, ticket_of};
 ghost use Rattle.delivery.specs.Keepers.{EndsByDesk};
 ghost use Rattle.delivery.specs.Rounds.{EndsUnposted};
@@ -189,7 +188,8 @@ impl<L: Ledger, I: LogId> Locked<L, I> {
         now: Moment,
     ) -> Result<Spent, (Permit<L>, Foreign)>
         ensures moves { Spends self.old.desk permit post now result self.new.desk }
-        ensures judged { IfOk result (λ spent. spent.spend ≡ spend_of post) }
+        ensures row { IfOk result (λ spent. spent.row ≡ permit) }
+        ensures post { IfOk result (λ spent. spent.post ≡ post) }
         ensures back { IfErr result (λ back. back.0 ≡ permit) }
         ensures flag { self.new.closing ≡ self.old.closing }
     {

@@ -6,7 +6,6 @@ ghost use Rattle.std.specs.Sync.Mutex.{mutex_guard_value};
 ghost use Rattle.desk.specs.Faults.{may_refuse, may_refuse_event};
 ghost use Rattle.desk.specs.Kept as kept;
 ghost use Rattle.desk.specs.declared.ticket.Told.TheVariants.{Waiting};
-ghost use Rattle.retry_table.specs.Judging.{spend_of};
 ghost use Rattle.delivery.specs.Logs.{HasSettled, IsOfCommand};
 ghost use Rattle.delivery.specs.Keepers.{EndsByDesk};
 ghost use Rattle.delivery.specs.Rounds.{EndsUnposted};
@@ -152,7 +151,8 @@ impl<L: Ledger, I: LogId> Shared<L, I> {
         post: &PostResult,
         now: Moment,
     ) -> Spent
-        ensures { result.spend ≡ spend_of post.now }
+        ensures row { result.row ≡ permit }
+        ensures post { result.post ≡ post.now }
     {
         let mut held = permit;
         for _ in rt.forever() {
