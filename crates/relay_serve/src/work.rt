@@ -70,7 +70,7 @@ fn tell_of<R: Clock + AllocGlobal + Eprint>(rt: &R, round: &Round) {
     if is_gone(answer) {
         tell(rt, rt.alloc(), &News::Disabled { endpoint, request });
     }
-    if spent.exhausted {
+    if spent.is_exhausted() {
         tell(rt, rt.alloc(), &News::Exhausted { endpoint, request });
     }
 }

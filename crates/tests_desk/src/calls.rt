@@ -2,7 +2,7 @@
 
 use crate::given::{body, post_of, put_command, secrets};
 use crate::kept::{Kept, numbers_of};
-use crate::steps::{Answer, Endpoint, Given, Went};
+use crate::steps::{Answer, Endpoint, Given, Over, Went};
 use desk::{Command, Desk, Job, Refusal, Spent, Ticket};
 use group_commit::{Held, WrongTurn};
 use permits::Foreign;
@@ -243,6 +243,23 @@ fn spend_job<L: Ledger>(
     }
 }
 
+// The status that is recorded of a post that went so, where its outcome waits.
+fn status_of(went: Went, wanted: Over) -> Option<u16> {
+    match (went, wanted.staged) {
+        (Went::Answered(status), Some(_)) => Some(status),
+        (Went::Unreached, Some(_)) => Some(0),
+        (Went::Unsent, _) | (_, None) => None,
+    }
+}
+
+fn tells(spent: &Spent, wanted: Over) -> bool {
+    spent.spend() == wanted.spend
+        && spent.staged() == wanted.staged
+        && spent.limit() == wanted.limit
+        && spent.in_flight() == wanted.in_flight
+        && spent.is_exhausted() == wanted.is_exhausted
+}
+
 pub(crate) fn spend<L: Ledger>(
     rt: &impl Abort,
     desk: &mut Desk<L>,
@@ -250,12 +267,20 @@ pub(crate) fn spend<L: Ledger>(
     place: usize,
     went: Went,
     now: u64,
-    wanted: Spent,
+    wanted: Over,
 ) -> Result<bool, Fail> {
     let now = Moment::of(now)?;
     let post = post_of(went)?;
     assert!(rt; place < jobs.len(), "job {place} is not kept");
-    Ok(spend_job(rt, desk, jobs.remove(place), post, now) == wanted)
+    let job = jobs.remove(place);
+    let row = job.permit().row();
+    let spent = spend_job(rt, desk, job, post, now);
+    Ok(
+        spent.row() == row
+            && spent.post() == post
+            && spent.status() == status_of(went, wanted)
+            && tells(&spent, wanted),
+    )
 }
 
 /// Claims, and gives the job back unsent.

@@ -36,6 +36,16 @@ pub(crate) enum Went {
     Unsent,
 }
 
+/// What is told of a post that is over.
+#[derive(Clone, Copy)]
+pub(crate) struct Over {
+    pub(crate) spend: Spend,
+    pub(crate) staged: Option<u64>,
+    pub(crate) limit: u32,
+    pub(crate) in_flight: u32,
+    pub(crate) is_exhausted: bool,
+}
+
 /// What a job says of what is posted.
 #[derive(Clone, Copy)]
 pub(crate) struct Post {

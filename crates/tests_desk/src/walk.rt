@@ -6,9 +6,9 @@ use crate::given::{MARK, opened};
 use crate::kept::Kept;
 use crate::numbers::spent_books;
 use crate::requests::asks;
-use crate::steps::{Post, Request, Step};
+use crate::steps::{Over, Post, Request, Step};
 use crate::{calls, looks};
-use desk::{Desk, Job, Spent};
+use desk::{Desk, Job};
 use permits::{PARTS, Pool};
 use relay_types::Moment;
 use retry_table::Spend;
@@ -152,22 +152,22 @@ fn post<L: Ledger>(
         Step::Look(now, given) => calls::look(rt, desk, jobs, now, given),
         Step::Claims(now, count) => calls::claim_many(rt, desk, jobs, now, count),
         Step::Spend(place, went, now, spend, staged, limit, in_flight) => {
-            let wanted = Spent {
+            let wanted = Over {
                 spend,
                 staged,
                 limit,
                 in_flight,
-                exhausted: false,
+                is_exhausted: false,
             };
             calls::spend(rt, desk, jobs, place, went, now, wanted)
         }
         Step::Exhaust(place, went, now, staged, limit) => {
-            let wanted = Spent {
+            let wanted = Over {
                 spend: Spend::Success,
                 staged: Some(staged),
                 limit,
                 in_flight: 0,
-                exhausted: true,
+                is_exhausted: true,
             };
             calls::spend(rt, desk, jobs, place, went, now, wanted)
         }

@@ -244,7 +244,7 @@ fn wanted_of<L: Ledger>(desk: &Desk<L>) -> Told {
 // Whether it was posted as a success, and so many at most are under way then.
 fn is_success(round: &Round, most: u32) -> bool {
     match round {
-        Round::Posted { spent, .. } => spent.spend == Spend::Success && spent.in_flight <= most,
+        Round::Posted { spent, .. } => spent.spend() == Spend::Success && spent.in_flight() <= most,
         _ => false,
     }
 }
