@@ -1,34 +1,47 @@
 -- The attempts that a load reads, and what all rows of a history make of the book.
-use Rattle.std.proofs.Common.{◌≡◌, ℕ, ◌+◌, ◌==◌, Bool, true, false, List, [], ◌∷◌, ◌++◌, Option, Some, None, map, take, length, refl, sym, ap, subst, ◌∙◌, arith, append-nil}
-use Rattle.std.specs.Prelude.{find, filter_map, max, option_map, bytes_eq, is_some, if◌then◌else◌}
-use Rattle.std.specs.List.{cons_option, enumerate_from}
+use Rattle.std.proofs.Common.{◌≡◌, ◌<◌, ◌≤◌, ℕ, suc, ◌+◌, ◌==◌, Bool, true, false, cond, ◌||◌, nat_lt, List, [], ◌∷◌}
+use Rattle.std.proofs.Common.{◌++◌, Option, Some, None, map, take, length, refl, sym, ap, subst, ◌∙◌, arith, append-nil}
+use Rattle.std.proofs.Common.{length-append}
+use Rattle.std.specs.Prelude.{count_by, filter, find, filter_map, max, option_map, bytes_eq, is_some, if◌then◌else◌}
+use Rattle.std.specs.List.{cons_option, enumerate_from, list_any}
 use Rattle.std.specs.Option.{option_map_or}
-use Rattle.std.proofs.lemmas.Bool.{eq-eqb, ne_eqb}
+use Rattle.std.proofs.lemmas.Bool.{eq-eqb, eqb-true, lt-leb, lt-ltb, ne_eqb}
 use Rattle.std.proofs.lemmas.List.{map-append, take_all}
 use Rattle.std.proofs.lemmas.List.Elements.{filter_map-append}
+use Rattle.std.proofs.lemmas.List.Sums.{sum_by-cons}
 use Rattle.std.proofs.lemmas.Slice.Eq.{bytes_eq-Decides}
 use Rattle.relay_types.specs.declared.record.Record.{Record}
 use Rattle.relay_types.specs.declared.record.Record.TheVariants.{Put, Secrets, Enabled, Accept, Outcome}
-use Rattle.relay_types.specs.declared.limits.TheConstants.{MAX_RECORDS}
+use Rattle.relay_types.specs.declared.limits.TheConstants.{MAX_FAILURES, MAX_RECORDS}
+use Rattle.relay_types.specs.declared.state.State.TheVariants.{Exhausted, Pending}
+use Rattle.relay_types.specs.Judging.{is_delivered_status, is_failed_status}
+use Rattle.relay_types.specs.Sound.{AreKeyed, attempts_before, is_delivery_at}
 use Rattle.relay_types.specs.Values.{Text}
 use Rattle.relay_types.specs.Records.{Attempt, attempt_by}
-use Rattle.relay_types.specs.Deliveries.{attempts_of}
+use Rattle.relay_types.specs.Deliveries.{attempts_of, is_in_state}
 use Rattle.relay_types.specs.Endpoints.{Endpoint, endpoints, endpoint_of, has_endpoint}
 use Rattle.relay_types.specs.Legal.{IsLegal}
 use Rattle.relay_types.specs.Rows.{EndpointRow, DeliveryRow, AttemptRow, attempt_row, delivery_row, endpoint_row, put_of, rows_of}
-use Rattle.relay_types.proofs.KnownLaws.{AllKnown, legal_known}
+use Rattle.relay_types.proofs.ConditionLaws.{attempt_values}
+use Rattle.relay_types.proofs.KeyLaws.{legal_sound}
+use Rattle.relay_types.proofs.KnownLaws.{AllKnown, and_both, legal_known}
 use Rattle.relay_types.proofs.OrderLaws.{Rises, puts_rise, finds, finds_above}
 use Rattle.relay_types.proofs.RowLaws.{find_map}
+use Rattle.relay_types.proofs.TableLaws.{In, found_at, in_all, in_any}
 use Rattle.delivery_book.specs.declared.entry.Entry.{Entry}
-use Rattle.delivery_book.specs.Entries.{BookValue, progress_of, with_outcome_restored, with_attempt_restored, at_delivery}
+use Rattle.delivery_book.specs.Entries.{BookValue, at_delivery, entry_at, failed_among, has_room_for_attempt}
+use Rattle.delivery_book.specs.Entries.{is_delivered_among, may_restore, progress_of, state_by, with_attempt_restored}
+use Rattle.delivery_book.specs.Entries.{with_outcome_restored}
 use Rattle.delivery_book.specs.Book.{entry_by}
 use Rattle.delivery_book.proofs.Progresses.{progress_of-append}
 use Rattle.spool.specs.Reading.{IsRising}
-use Rattle.spool.specs.Loading.{AreAccepted, AreAttempted, Attempts, HaveAttempts, attempt_by_row, attempted_entry, fresh_entry, greatest, name_put}
+use Rattle.spool.specs.Loading.{AreAccepted, AreAttempted, Attempts, NextToAttempt, HaveAttempts, attempt_by_row}
+use Rattle.spool.specs.Loading.{attempted_entry, fresh_entry, greatest, name_put}
 use Rattle.spool.specs.declared.deliveries.Deliveries.{Deliveries}
-use Rattle.spool.proofs.PageLaws.{rising_higher, rows_rise, legal_length}
+use Rattle.spool.proofs.PageLaws.{few_below, rising_higher, rows_before, rows_rise, legal_length}
 use Rattle.spool.proofs.QuietReads.{IsReadTo, read_none}
-use Rattle.spool.proofs.DeliveryLoads.{greatest-append}
+use Rattle.spool.proofs.DeliveryLoads.{accepted_within, greatest-append}
+use Rattle.spool.proofs.EndpointLoads.{in_middle}
 
 -- The rows of a history, and its words on deliveries
 
@@ -41,6 +54,55 @@ attempts_tied d n (Enabled name flag ∷ rest) = attempts_tied d (n + 1) rest
 attempts_tied d n (Accept name id body at ∷ rest) = attempts_tied d (n + 1) rest
 attempts_tied d n (Outcome delivery attempt status at ∷ rest) =
     ap (cons_option (if delivery == d then Some (record { number = attempt; status = status; at = at }) else None)) (attempts_tied d (n + 1) rest)
+
+-- so are their ends
+delivered_tied : (d : ℕ) (ts : List AttemptRow) → is_delivered_among (filter_map (attempt_by_row d) ts) ≡ list_any
+    (λ (s : AttemptRow). is_delivered_status s.status) (filter (λ (s : AttemptRow). s.delivery == d) ts)
+delivered_tied d [] = refl
+delivered_tied d (t ∷ ts) = at (t.delivery == d) (delivered_tied d ts)
+  where
+    at : (b : Bool) → is_delivered_among (filter_map (attempt_by_row d) ts) ≡ list_any
+        (λ (s : AttemptRow). is_delivered_status s.status) (filter (λ (s : AttemptRow). s.delivery == d) ts)
+        → is_delivered_among (cons_option
+        (if b then Some (record { number = t.number; status = t.status; at = t.at }) else None)
+        (filter_map (attempt_by_row d) ts))
+        ≡ list_any (λ (s : AttemptRow). is_delivered_status s.status)
+        (if b then t ∷ filter (λ (s : AttemptRow). s.delivery == d) ts else filter
+        (λ (s : AttemptRow). s.delivery == d) ts)
+    at true rest = ap (λ b. is_delivered_status t.status || b) rest
+    at false rest = rest
+
+failed_tied : (d : ℕ) (ts : List AttemptRow) → failed_among (filter_map (attempt_by_row d) ts) ≡ count_by
+    (λ (s : AttemptRow). is_failed_status s.status) (filter (λ (s : AttemptRow). s.delivery == d) ts)
+failed_tied d [] = refl
+failed_tied d (t ∷ ts) = at (t.delivery == d) (failed_tied d ts)
+  where
+    at : (b : Bool) → failed_among (filter_map (attempt_by_row d) ts) ≡ count_by
+        (λ (s : AttemptRow). is_failed_status s.status) (filter (λ (s : AttemptRow). s.delivery == d) ts)
+        → failed_among (cons_option (if b then Some (record { number = t.number; status = t.status; at = t.at }) else
+        None) (filter_map (attempt_by_row d) ts))
+        ≡ count_by (λ (s : AttemptRow). is_failed_status s.status)
+        (if b then t ∷ filter (λ (s : AttemptRow). s.delivery == d) ts else filter
+        (λ (s : AttemptRow). s.delivery == d) ts)
+    at true rest =
+        sum_by-cons (λ (a : Attempt). cond (is_failed_status a.status) 1 0)
+        (record { number = t.number; status = t.status; at = t.at }) (filter_map (attempt_by_row d) ts)
+        ∙ ap (λ n. cond (is_failed_status t.status) 1 0 + n) rest
+        ∙ sym (sum_by-cons (λ (s : AttemptRow). cond (is_failed_status s.status) 1 0) t
+        (filter (λ (s : AttemptRow). s.delivery == d) ts))
+    at false rest = rest
+
+pub not_both : (b : Bool) → b ≡ true → b ≡ false → ⊥
+not_both b is other = absurd (let no : true ≡ false = sym is ∙ other in cc)
+
+no_more : {X Y : Type 0} (f : X → Option Y) (xs : List X) → length (filter_map f xs) ≤ length xs
+no_more f [] = omega arith
+no_more f (x ∷ xs) = at (f x) (no_more f xs)
+  where
+    at : (o : Option _) → length (filter_map f xs) ≤ length xs → length (cons_option o (filter_map f xs)) ≤ suc
+        (length xs)
+    at None rest = omega (arith, rest)
+    at (Some y) rest = omega (arith, rest)
 
 -- an endpoint that has the name is found by its number
 by_number : (n : ℕ) (name : Text) (es : List Endpoint) (found : Endpoint) → Rises n es → finds name es ≡ Some found → (find (λ (e : Endpoint). e.put == found.put) es ≡ Some found) × (found.name ≡ name)
@@ -151,6 +213,88 @@ module _ (records : List Record) where
       at_seq k (Enabled name flag) a is = absurd (let no = is in cc)
       at_seq k (Accept name id body at) a is = absurd (let no = is in cc)
 
+  -- Why a row of a legal history is taken in
+
+  -- the attempt of the next row may be restored
+  pub may_restore_next : (loaded : Deliveries) (row : AttemptRow) → IsLegal records
+      → NextToAttempt loaded (row ∷ []) records → may_restore loaded.book row.delivery ≡ true
+  may_restore_next loaded row legal (before, after, parted, h) =
+      and_both (loaded.book.settled_seq == 0) _ (eq-eqb loaded.book.settled_seq 0 h.settled_seq)
+      (and_both (length loaded.book.unsettled == 0) _ (ap (λ os. length os == 0) h.unsettled) room)
+    where
+      rises : IsRising (λ (a : AttemptRow). a.seq) 0 (length records) (before ++ (row ∷ after))
+      rises = subst (IsRising (λ (a : AttemptRow). a.seq) 0 (length records)) parted attempts_rise
+
+      here : In row (rows_of records).attempts
+      here = subst (In row) (sym parted) (in_middle before after row)
+
+      keyed : AreKeyed (rows_of records)
+      keyed = (legal_sound records legal).1
+
+      there : (d : DeliveryRow) × In d (rows_of records).deliveries × (d.seq == row.delivery ≡ true)
+      there = in_any (λ (d : DeliveryRow). d.seq == row.delivery) (rows_of records).deliveries
+          (in_all (λ (t : AttemptRow). is_delivery_at (rows_of records) t.delivery) (rows_of records).attempts row
+          keyed.deliveries here)
+
+      d : DeliveryRow
+      d = there.0
+
+      is : d.seq ≡ row.delivery
+      is = eqb-true d.seq row.delivery there.2
+
+      mine : List Attempt
+      mine = filter_map (attempt_by_row d.seq) before
+
+      so_far : attempts_before (rows_of records) row ≡ filter (λ (s : AttemptRow). s.delivery == d.seq) before
+      so_far =
+          ap (λ ts. filter (λ (s : AttemptRow). s.delivery == row.delivery)
+          (filter (λ (s : AttemptRow). nat_lt s.seq row.seq) ts)) parted
+          ∙ ap (filter (λ (s : AttemptRow). s.delivery == row.delivery))
+          (rows_before (λ (a : AttemptRow). a.seq) 0 (length records) before after row rises)
+          ∙ ap (λ n. filter (λ (s : AttemptRow). s.delivery == n) before) (sym is)
+
+      undelivered : is_delivered_among mine ≡ false
+      undelivered = delivered_tied d.seq before ∙ ap (list_any (λ (s : AttemptRow). is_delivered_status s.status))
+          (sym so_far)
+          ∙ (attempt_values (rows_of records) keyed (legal_sound records legal).0 row here).4
+
+      failed : failed_among mine < MAX_FAILURES
+      failed = omega (
+        arith,
+        failed_tied d.seq before,
+        ap (count_by (λ (s : AttemptRow). is_failed_status s.status))
+            so_far,
+        (attempt_values (rows_of records) keyed (legal_sound records legal).0 row here).5,
+      )
+
+      few : length mine < MAX_RECORDS
+      few = omega (
+        arith,
+        no_more (attempt_by_row d.seq) before,
+        few_below (λ (a : AttemptRow). a.seq) 0 (length records) (before ++ (row ∷ after)) rises,
+        length-append before (row ∷ after),
+        legal_length records legal,
+      )
+
+      pending : is_in_state Pending (state_by (is_delivered_among mine) (failed_among mine)) ≡ true
+      pending =
+          ap (λ b. is_in_state Pending (state_by b (failed_among mine))) undelivered
+          ∙ ap (λ b. is_in_state Pending (if b then Exhausted else Pending))
+          (lt-leb MAX_FAILURES (failed_among mine) failed)
+
+      room : option_map_or has_room_for_attempt (entry_at loaded.book.entries row.delivery) false ≡ true
+      room =
+          ap (λ es. option_map_or has_room_for_attempt (entry_at es row.delivery) false) h.entries
+          ∙ ap (λ o. option_map_or has_room_for_attempt o false) (
+          find_map (attempted_entry records before) (λ (e : Entry). e.seq == row.delivery)
+          (rows_of records).deliveries
+          ∙ ap (option_map (attempted_entry records before))
+          (found_at (λ (x : DeliveryRow). x.seq) 0 row.delivery (rows_of records).deliveries d
+          keyed.deliveries_rise there.1 is))
+          ∙ and_both _ (nat_lt (length mine) MAX_RECORDS)
+          (and_both _ (length mine == length mine) pending (eq-eqb (length mine) (length mine) refl))
+          (lt-ltb (length mine) MAX_RECORDS few)
+
   -- no attempt is read yet
   pub attempts_none : (loaded : Deliveries) → IsLegal records → AreAccepted loaded records (rows_of records).deliveries → IsReadTo (λ (a : AttemptRow). a.seq) (rows_of records).attempts (HaveAttempts loaded records) 0
   attempts_none loaded legal h =
@@ -158,7 +302,7 @@ module _ (records : List Record) where
       (rising_higher (λ (a : AttemptRow). a.seq) 0 (length records) MAX_RECORDS (rows_of records).attempts (legal_length records legal) attempts_rise) (record {
         entries = h.entries;
         unsettled = h.unsettled;
-        next_seq = h.next_seq;
+        next_seq = accepted_within records loaded h;
         settled_seq = h.settled_seq;
         clock = omega (arith, h.clock);
       })

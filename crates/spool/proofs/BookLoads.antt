@@ -1,15 +1,17 @@
 -- The books of the tables once all their records are settled, and the vault behind a load.
-use Rattle.std.proofs.Common.{◌≡◌, ℕ, List, [], ◌∷◌, Result, Ok, Err, IfOk, IsTrue, map, length, inl, inr, refl, ap, ◌∙◌, arith}
-use Rattle.std.specs.Prelude.{filter}
+use Rattle.std.proofs.Common.{◌≡◌, ◌<◌, ◌⊎◌, ℕ, List, [], ◌∷◌, Result, Ok, Err, IfOk, IfErr, IsTrue, map, length, inl}
+use Rattle.std.proofs.Common.{inr, refl, sym, subst, ap, ◌∙◌, arith}
+use Rattle.std.specs.Prelude.{filter, max, IsErr}
 use Rattle.sqlite.specs.Effect.{Database}
-use Rattle.sqlite.specs.State.{State, HasCleanDisk, Survives}
+use Rattle.sqlite.specs.State.{State, HasCleanDisk, IsUnchanged, Survives}
 use Rattle.sqlite.specs.Tree.{Trees}
 use Rattle.sqlite.specs.Held.{state}
 use Rattle.sqlite_trees.specs.declared.store.Store.{Ghosts}
 use Rattle.relay_types.specs.declared.record.Record.{Record}
 use Rattle.relay_types.specs.Endpoints.{Endpoint, endpoints}
 use Rattle.relay_types.specs.Legal.{IsLegal}
-use Rattle.relay_types.specs.Rows.{endpoint_row, rows_of}
+use Rattle.relay_types.specs.declared.limits.TheConstants.{MAX_RECORDS}
+use Rattle.relay_types.specs.Rows.{Rows, endpoint_row, rows_of}
 use Rattle.endpoint_book.specs.declared.entry.Entry.{Entry as EndpointEntry}
 use Rattle.endpoint_book.specs.Entries.{is_from, settled_at}
 use Rattle.endpoint_book.specs.Entries as endpoint
@@ -22,13 +24,21 @@ use Rattle.delivery_book.specs.Entries as delivery
 use Rattle.delivery_book.specs.Book as delivery_book
 use Rattle.delivery_book.proofs.Laws.{stands_restored}
 use Rattle.spool_sql.specs.declared.row.RowFault.{RowFault}
+use Rattle.spool_sql.specs.declared.row.RowFault.TheVariants.{Failed, Unreadable}
+use Rattle.spool_sql.specs.Readable.{IsRefusal, IsRowRefusal}
+use Rattle.spool_sql.specs.Steps.{Spares, Stands}
+use Rattle.spool_sql.proofs.RefusalLemmas.{of_failure}
 use Rattle.spool_sql.specs.Stored.{IsTables}
-use Rattle.spool.specs.Loading.{AreRestored, AreAttempted, entry_of_row}
+use Rattle.spool.specs.Loading.{AreAccepted, AreAttempted, AreNames, AreRestored, IsReadRefusal, entry_of_row}
 use Rattle.spool_sql.proofs.StepLemmas.{leaves_along, leaves_commit}
+use Rattle.spool.proofs.EndpointLoads.{restored_within}
+use Rattle.spool.proofs.PageLaws.{legal_length}
+use Rattle.spool.proofs.QuietReads.{IsQuiet, clean_before, quiet_then, tables_along}
+use Rattle.spool.proofs.ReadableLemmas.{refusal_since, refusal_until}
 use Rattle.spool.specs.Vaults.{VaultValue, Holds}
 use Rattle.spool.specs.Adopting.{IsOnlyRead}
 use Rattle.spool.specs.Commits.{HoldsOnDisk}
-use Rattle.spool.specs.Books.{AreBooks, IsSeen, KeepsOpen, LeavesHeld}
+use Rattle.spool.specs.Books.{AreBooks, IsLoadRefusal, IsSeen, KeepsOpen, LeavesHeld, TellsLoad, error_of}
 use Rattle.spool.specs.declared.ends.LoadFault.{LoadFault}
 use Rattle.spool.specs.declared.ends.LoadFault.TheVariants.{Closed, Store, OutOfMemory}
 use Rattle.spool.specs.declared.load.Books.{Books}
@@ -55,7 +65,7 @@ module _ (records : List Record) where
         ∙ ap (λ cs. map (λ (e : EndpointEntry). settled_at (length records) cs e.name e) loaded.book.entries) h.changes
         ∙ none_changed (length records) loaded.book.entries ∙ h.entries ∙ entries_back (endpoints records);
     changes = ap (λ (b : endpoint.BookValue). b.changes) is ∙ ap (filter (is_from (length records))) h.changes;
-    next_seq = omega (arith, ap (λ (b : endpoint.BookValue). b.next_seq) is, h.next_seq);
+    next_seq = omega (arith, ap (λ (b : endpoint.BookValue). b.next_seq) is, restored_within records loaded h);
     settled_seq = ap (λ (b : endpoint.BookValue). b.settled_seq) is;
   })
 
@@ -125,3 +135,89 @@ only_read old new keeps survives clean = record {
   stays = keeps;
   leaves = λ db may. elim (survives.crash clean db may) [ inl was ↦ was | inr none ↦ absurd none ];
 }
+
+-- Why a load is refused
+
+pub settles_read : (a z : State) (read : Result Books RowFault) (U : Type 0) → (IsErr read → U)
+    → (IsTrue a.is_open → (records : List Record) → IsLegal records → IsTables a.now (rows_of records) → ¬ U)
+    → IfErr read (IsReadRefusal a z (λ _. Unit {0}))
+settles_read a z (Ok books) U why never = tt
+settles_read a z (Err fault) U why never = λ is_open records legal tables given. absurd
+    (never is_open records legal tables (why refl))
+
+-- a transaction that is left
+pub read_until : (a m z : State) → Survives a m (λ _. ⊥) → Survives m z (λ _. ⊥) → HasCleanDisk z
+    → (read : Result Books RowFault) → (HasCleanDisk m → IfErr read (IsReadRefusal a m (λ _. Unit {0})))
+    → IfErr read (IsReadRefusal a z (λ _. Unit {0}))
+read_until a m z early late clean (Ok books) refused = tt
+read_until a m z early late clean (Err Unreadable) refused = λ is_open records legal tables given. absurd
+    (refused (omega (arith, clean, late.clean)) is_open records legal tables given)
+read_until a m z early late clean (Err (Failed error)) refused = λ is_open records legal tables given.
+    refusal_until a m z early late clean error
+    (refused (omega (arith, clean, late.clean)) is_open records legal tables given)
+
+-- and a look at the store behind it
+pub load_refused : (a m z : State) → Survives a m (λ _. ⊥) → Survives m z (λ _. ⊥) → HasCleanDisk z
+    → (read : Result Books RowFault) (result : Result Books LoadFault)
+    → (HasCleanDisk m → IfErr read (IsReadRefusal a m (λ _. Unit {0}))) → TellsLoad m z read result
+    → IfErr result (λ fault. (history : List Record) → IsLegal history → Stands a (rows_of history)
+    → IsLoadRefusal a z fault)
+load_refused a m z early late clean read (Ok books) refused told = tt
+load_refused a m z early late clean read (Err Closed) refused told = λ history legal stands. tt
+load_refused a m z early late clean read (Err OutOfMemory) refused told = λ history legal stands. tt
+load_refused a m z early late clean read (Err (Store error)) refused (inr (asks, fails)) = λ history legal stands.
+    refusal_since a m z early late clean error stands.is_open (of_failure m z error (fails clean))
+load_refused a m z early late clean read (Err (Store error)) refused (inl (fault, is, own, other)) = λ history legal
+    stands. by fault own (subst (λ r. IfErr r (IsReadRefusal a m (λ _. Unit {0}))) is
+    (refused (omega (arith, clean, late.clean))) stands.is_open history legal stands.now tt)
+  where
+    by : (fault : RowFault) → error ≡ error_of fault → IsRowRefusal a m fault → IsRefusal a z error
+    by Unreadable same none = absurd none
+    by (Failed e) same refusal = subst (IsRefusal a z) (sym same) (refusal_until a m z early late clean e refusal)
+
+-- All that was read, one table behind another
+
+module _ (a b d e z : State) (endpoints : Endpoints) (deliveries attempted : Deliveries) (count : ℕ)
+    (quiet_b : IsQuiet a b) (quiet_d : IsQuiet b d) (quiet_e : IsQuiet d e) (look : Spares e z)
+    (same : HasCleanDisk z → IsUnchanged e z)
+    (first : HasCleanDisk b → (records : List Record) → IsLegal records → IsTables a.now (rows_of records)
+    → AreRestored endpoints records (rows_of records).endpoints)
+    (second : HasCleanDisk d → (records : List Record) → IsLegal records → IsTables b.now (rows_of records)
+    → AreNames endpoints.names.items records → AreAccepted deliveries records (rows_of records).deliveries)
+    (third : HasCleanDisk e → (records : List Record) → IsLegal records → IsTables d.now (rows_of records)
+    → AreAccepted deliveries records (rows_of records).deliveries → AreAttempted attempted records)
+    (last : HasCleanDisk z → (rows : Rows) → IsTables e.now rows → count ≡ rows.records) where
+  pub all_read : HasCleanDisk z → (records : List Record) → IsLegal records → IsTables a.now (rows_of records)
+      → AreRestored endpoints records (rows_of records).endpoints
+      × (AreAttempted attempted records × (count ≡ length records))
+  all_read clean records legal tables =
+      let at_e = clean_before e z look clean in
+      let at_d = clean_before d e quiet_e.spares at_e in
+      let at_b = clean_before b d quiet_d.spares at_d in
+      let open_e = (same clean).0.was_open in
+      let open_d = (quiet_e.spares.kept at_e).was_open open_e in
+      let open_b = (quiet_d.spares.kept at_d).was_open open_d in
+      let quiet_ad = quiet_then a b d quiet_b quiet_d in
+      let quiet_ae = quiet_then a d e quiet_ad quiet_e in
+      let rows = rows_of records in
+      let restored = first at_b records legal tables in
+      let accepted = second at_d records legal (tables_along a b rows quiet_b at_b open_b tables) restored.names in (
+        restored,
+        (
+          third at_e records legal (tables_along a d rows quiet_ad at_d open_d tables) accepted,
+          last clean rows
+              (tables_along a e rows quiet_ae at_e open_e tables),
+        ),
+      )
+
+  -- so many records are settled
+  pub all_settle : HasCleanDisk z → (records : List Record) → IsLegal records → IsTables a.now (rows_of records)
+      → ¬ ((count < max endpoints.book.next_seq attempted.book.next_seq) ⊎ (MAX_RECORDS < count))
+  all_settle clean records legal tables why =
+      let all = all_read clean records legal tables in
+      let within = restored_within records endpoints all.0 in
+      let few = legal_length records legal in
+      elim why [
+        | inl below ↦ omega (arith, below, all.1.1, within, all.1.0.next_seq)
+        | inr above ↦ omega (arith, above, all.1.1, few)
+      ]

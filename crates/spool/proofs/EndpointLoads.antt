@@ -1,6 +1,8 @@
 -- The endpoints that a load reads, with their secrets.
-use Rattle.std.proofs.Common.{◌≡◌, ◌<◌, ◌≤◌, ℕ, suc, ◌+◌, ◌==◌, Bool, List, [], ◌∷◌, ◌++◌, Some, Result, Ok, Err, OnOk, IfOk, map, length, refl, sym, ap, subst, ◌∙◌, arith, append-nil}
-use Rattle.std.specs.Prelude.{filter, flat_map}
+use Rattle.std.proofs.Common.{◌≡◌, ◌<◌, ◌≤◌, inl, inr, ℕ, suc, ◌+◌, ◌==◌, Bool, true, false, List, [], ◌∷◌, ◌++◌, Some}
+use Rattle.std.proofs.Common.{Result, Ok, Err, OnOk, IfOk, map, length, refl, sym, ap, subst, ◌∙◌, arith, append-nil}
+use Rattle.std.proofs.Common.{append_assoc}
+use Rattle.std.specs.Prelude.{filter, flat_map, find, option_map, is_some, bytes_eq}
 use Rattle.std.specs.List.{enumerate_from}
 use Rattle.std.specs.List.Sorted.{IsPermutation}
 use Rattle.std.proofs.lemmas.Bool.{eq-eqb, ne_eqb}
@@ -12,13 +14,21 @@ use Rattle.relay_types.specs.Endpoints.{Endpoint, endpoint_by, endpoints, secret
 use Rattle.relay_types.specs.declared.limits.TheConstants.{MAX_RECORDS}
 use Rattle.relay_types.specs.Legal.{IsLegal}
 use Rattle.relay_types.specs.Rows.{EndpointRow, SecretRow, endpoint_row, secret_rows, rows_of}
+use Rattle.relay_types.specs.Sound.{are_sound}
+use Rattle.relay_types.specs.Values.{are_secrets}
+use Rattle.relay_types.proofs.ConditionLaws.{endpoint_values, same_named}
+use Rattle.relay_types.proofs.KeyLaws.{legal_sound}
 use Rattle.relay_types.proofs.OrderLaws.{Rises, puts_rise}
-use Rattle.endpoint_book.specs.Entries.{BookValue, empty_book, restored_entry, with_restored}
+use Rattle.relay_types.proofs.RowLaws.{find_map}
+use Rattle.relay_types.proofs.StandLaws.{text_same}
+use Rattle.relay_types.proofs.TableLaws.{In, none_found}
+use Rattle.endpoint_book.specs.Entries.{BookValue, empty_book, is_known, is_named, restored_entry, with_restored}
 use Rattle.spool_sql.specs.Stored.{AreSecretsOf}
 use Rattle.spool.specs.Reading.{IsRising}
-use Rattle.spool.specs.Loading.{AreRestored, Restores, entry_of_row, known_of}
+use Rattle.spool.specs.Loading.{AreRestored, Restores, NextToRestore, MayRestore, entry_of_row, known_of}
 use Rattle.spool.specs.declared.load_endpoints.Endpoints.{Endpoints}
-use Rattle.spool.proofs.PageLaws.{rising_order, rising_map, rising_at, rising_higher, rows_rise, legal_length}
+use Rattle.spool.proofs.PageLaws.{below_next, rising_order, rising_map, rising_at, rising_higher, rows_rise}
+use Rattle.spool.proofs.PageLaws.{legal_length}
 use Rattle.spool.proofs.QuietReads.{IsReadTo, read_none}
 
 -- Secrets of one endpoint
@@ -47,6 +57,17 @@ places_rise p n (s ∷ rest) = (omega arith, subst (λ m. IsRising (λ (t : Secr
 secrets_back : (p n : ℕ) (secrets : List (List ℕ)) → map (λ (s : SecretRow). s.secret) (map (row_at p) (enumerate_from n secrets)) ≡ secrets
 secrets_back p n [] = refl
 secrets_back p n (s ∷ rest) = ap (λ more. s ∷ more) (secrets_back p (n + 1) rest)
+
+-- Rows among others
+
+pub in_middle : {X : Type 0} (xs ys : List X) (x : X) → In x (xs ++ (x ∷ ys))
+in_middle [] ys x = inl refl
+in_middle (y ∷ xs) ys x = inr (in_middle xs ys x)
+
+pub in_front : {X : Type 0} (xs ys : List X) (x : X) → In x xs → In x (xs ++ ys)
+in_front [] ys x i = absurd i
+in_front (y ∷ xs) ys x (inl same) = inl same
+in_front (y ∷ xs) ys x (inr i) = inr (in_front xs ys x i)
 
 module _ (records : List Record) where
   abbrev secrets_at : Endpoint → List SecretRow
@@ -136,13 +157,62 @@ module _ (records : List Record) where
         ∙ (λ i. h.entries i ++ restored_entry row.put row.name row.url row.max (given before after is i) row.enabled ∷ [])
         ∙ sym (map-append (entry_of_row records) before (row ∷ []));
     changes = ap (λ (b : BookValue). b.changes) book ∙ h.changes;
-    next_seq = omega (arith, ap (λ (b : BookValue). b.next_seq) book, within);
+    left = λ rest parted.
+        subst (λ next. IsRising (λ (e : EndpointRow). e.put) next (length records) rest)
+        (sym (ap (λ (b : BookValue). b.next_seq) book))
+        (h.left (row ∷ rest) (parted ∙ append_assoc before (row ∷ []) rest)).1;
     settled_seq = omega (arith, ap (λ (b : BookValue). b.settled_seq) book, within);
     names = names ∙ ap (λ ks. ks ++ known_of row ∷ []) h.names ∙ sym (map-append known_of before (row ∷ []));
   }
     where
       within : row.put < length records
       within = rising_at (λ (e : EndpointRow). e.put) 0 (length records) before after row (subst (IsRising (λ (e : EndpointRow). e.put) 0 (length records)) is endpoints_rise)
+
+  -- the endpoint of the next row may be restored
+  pub may_restore_next : (loaded : Endpoints) (row : EndpointRow) → IsLegal records
+      → NextToRestore loaded (row ∷ []) records → MayRestore loaded.book row.put row.name
+  may_restore_next loaded row legal (before, after, is, h) = ((h.left (row ∷ after) is).0, unknown)
+    where
+      sound : are_sound (rows_of records) ≡ true
+      sound = (legal_sound records legal).0
+
+      apart : (e : EndpointRow) → In e before → bytes_eq e.name row.name ≡ false
+      apart e i = by (bytes_eq e.name row.name) refl
+        where
+          less : e.put < row.put
+          less = below_next (λ (e : EndpointRow). e.put) 0 (length records) before after row e
+              (subst (IsRising (λ (e : EndpointRow). e.put) 0 (length records)) is endpoints_rise) i
+
+          by : (b : Bool) → bytes_eq e.name row.name ≡ b → b ≡ false
+          by false other = refl
+          by true same = absurd (
+              let e_is = same_named (rows_of records) (legal_sound records legal).1 sound row e
+              (subst (In row) (sym is) (in_middle before after row))
+              (subst (In e) (sym is) (in_front before (row ∷ after) e i)) (text_same e.name row.name same) in
+              omega (arith, ap (λ (x : EndpointRow). x.put) e_is, less))
+
+      unknown : is_known loaded.book row.name ≡ false
+      unknown = ap (λ es. is_some (find (is_named row.name) es)) h.entries
+          ∙ ap is_some (find_map (entry_of_row records) (is_named row.name) before
+          ∙ ap (option_map (entry_of_row records))
+          (none_found (λ (e : EndpointRow). bytes_eq e.name row.name) before apart))
+
+  -- and it has secrets
+  pub has_secrets : (before after : List EndpointRow) (row : EndpointRow) → IsLegal records
+      → (rows_of records).endpoints ≡ before ++ (row ∷ after) → are_secrets (secrets_of records row.name) ≡ true
+  has_secrets before after row legal is =
+      let laws = legal_sound records legal in
+      let kept = (endpoint_values (rows_of records) laws.1 laws.0 row
+      (subst (In row) (sym is) (in_middle before after row))).3 in
+      subst (λ ss. are_secrets ss ≡ true)
+      (ap (map (λ (s : SecretRow). s.secret))
+      (own_secrets 0 (endpoints records) before after row (puts_rise records) is)
+      ∙ secrets_back row.put 0 (secrets_of records row.name)) kept
+
+  -- all are read
+  pub restored_within : (loaded : Endpoints) → AreRestored loaded records (rows_of records).endpoints
+      → loaded.book.next_seq ≤ length records
+  restored_within loaded h = h.left [] (sym (append-nil (rows_of records).endpoints))
 
 -- nothing is read yet
 pub restored_none : (records : List Record) (loaded : Endpoints) → IsLegal records → loaded.book ≡ empty_book → loaded.names.items ≡ [] → IsReadTo (λ (e : EndpointRow). e.put) (rows_of records).endpoints (AreRestored loaded records) 0
@@ -151,7 +221,10 @@ restored_none records loaded legal book names =
     (rising_higher (λ (e : EndpointRow). e.put) 0 (length records) MAX_RECORDS (rows_of records).endpoints (legal_length records legal) (endpoints_rise records)) (record {
       entries = ap (λ (b : BookValue). b.entries) book;
       changes = ap (λ (b : BookValue). b.changes) book;
-      next_seq = omega (arith, ap (λ (b : BookValue). b.next_seq) book);
+      left = λ after parted.
+          subst (λ next. IsRising (λ (e : EndpointRow). e.put) next (length records) after)
+          (sym (ap (λ (b : BookValue). b.next_seq) book))
+          (subst (IsRising (λ (e : EndpointRow). e.put) 0 (length records)) parted (endpoints_rise records));
       settled_seq = omega (arith, ap (λ (b : BookValue). b.settled_seq) book);
       names = names;
     })

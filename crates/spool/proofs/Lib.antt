@@ -10,6 +10,7 @@ pub mod AnswerLemmas
 pub mod CreateLemmas
 pub mod PageLaws
 pub mod QuietReads
+pub mod ReadableLemmas
 pub mod EndpointLoads
 pub mod DeliveryLoads
 pub mod AttemptLoads

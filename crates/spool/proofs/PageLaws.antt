@@ -1,17 +1,24 @@
 -- The pages of a table whose numbers rise, one after another, are the table.
-use Rattle.std.proofs.Common.{◌≡◌, inl, inr, ◌<◌, ◌≤◌, ℕ, zero, suc, ◌+◌, ◌==◌, Bool, true, false, cond, List, [], ◌∷◌, ◌++◌, ◌-◌, Option, Some, None, map, length, take, drop, refl, sym, ap, subst, ◌∙◌, arith, append-nil, append_assoc}
-use Rattle.std.specs.Prelude.{filter, find, filter_map, nat_le, option_map, slice_get, slice_index_or}
-use Rattle.std.specs.List.{cons_option, enumerate_from, list_all}
-use Rattle.std.specs.List.Sorted.{IsPermutation, IsNonDecreasingBy}
-use Rattle.std.proofs.lemmas.Bool.{le-leb, leb-true, lt-leb, eq-eqb, ne_eqb, cases_lt}
+use Rattle.std.proofs.Common.{◌≡◌, inl, inr, ◌<◌, ◌≤◌, ℕ, zero, suc, ◌+◌, ◌==◌, Bool, true, false, cond, List, [], ◌∷◌}
+use Rattle.std.proofs.Common.{◌++◌, ◌-◌, Option, Some, None, map, length, take, drop, get_or, ltb, refl, sym, ap, subst}
+use Rattle.std.proofs.Common.{◌∙◌, arith, append-nil, append_assoc}
+use Rattle.std.specs.Prelude.{filter, find, filter_map, nat_le, nat_lt, option_map, slice_get, slice_index_or}
+use Rattle.std.specs.List.{cons_option, enumerate_from, list_all, list_any}
+use Rattle.std.specs.List.Sorted.{IsPartitionedBy, IsPermutation, IsNonDecreasingBy}
+use Rattle.std.proofs.lemmas.Bool.{le-leb, leb-true, lt-leb, lt-ltb, le-ltb, eq-eqb, ne_eqb, cases_eq, cases_lt}
 use Rattle.std.proofs.lemmas.List.{length-map, take-append-drop}
 use Rattle.std.proofs.lemmas.List.Elements.{filter-append}
-use Rattle.std.proofs.lemmas.List.Sorted.{length_permutation}
+use Rattle.std.specs.Iterator.{Yields}
+use Rattle.std.proofs.lemmas.Iterator.{YieldsList}
+use Rattle.std.proofs.lemmas.Iterator.Consumers.{YieldsList-so_far, YieldsList-turn}
+use Rattle.std.proofs.lemmas.List.Folds.{list_any_none}
+use Rattle.std.proofs.lemmas.List.Sorted.{IsPartitionedBy-ltb, length_permutation}
 use Rattle.sqlite_trees.proofs.ListLemmas.{IsPermutation-filter, all-permutation}
 use Rattle.relay_types.specs.declared.limits.TheConstants.{MAX_RECORDS}
 use Rattle.relay_types.specs.declared.record.Record.{Record}
 use Rattle.relay_types.specs.Legal.{may_all_follow, is_within_limits, IsLegal}
 use Rattle.relay_types.proofs.KnownLaws.{and_second}
+use Rattle.relay_types.proofs.TableLaws.{In}
 use Rattle.spool_sql.specs.Stored.{IsPage, page_rows}
 use Rattle.spool.specs.Reading.{IsRising, IsLeft}
 
@@ -216,7 +223,8 @@ module _ {X : Type 0} (number : X → ℕ) where
   abbrev pub IsBehind : (next : ℕ) (xs read left page : List X) → Type 0
   IsBehind next xs read left page = (more : List X) × (left ≡ page ++ more) × IsLeft number next xs (read ++ page) more
 
-  parted_page : (from : ℕ) (xs read left page : List X) → IsLeft number from xs read left → page ≡ take page_rows left → left ≡ page ++ drop page_rows left
+  pub parted_page : (from : ℕ) (xs read left page : List X) → IsLeft number from xs read left
+      → page ≡ take page_rows left → left ≡ page ++ drop page_rows left
   parted_page from xs read left page h is = sym (take-append-drop page_rows left) ∙ ap (λ ys. ys ++ drop page_rows left) (sym is)
 
   pub behind_some : (from next : ℕ) (xs read left page : List X) (last : X) → IsLeft number from xs read left → IsPage number from xs page → slice_get page (length page - 1) ≡ Some last → next ≡ number last + 1
@@ -243,6 +251,87 @@ module _ {X : Type 0} (number : X → ℕ) where
   rising_find a b zero (y ∷ ys) x h is = rw (eq-eqb (number y) (number x) (ap number (some_same y x is))) is
   rising_find a b (suc k) (y ∷ ys) x h is =
       rw (ne_eqb (number y) (number x) (λ same. absurd (omega (arith, same, rising_get (number y + 1) b k ys x h.1 is)))) (rising_find (number y + 1) b k ys x h.1 is)
+
+  -- the last row of a page isn't below the number where the page begins
+  pub not_fallen : (from : ℕ) (xs read left page : List X) (last : X) → IsLeft number from xs read left
+      → IsPage number from xs page → slice_get page (length page - 1) ≡ Some last → from ≤ number last
+  not_fallen from xs read left page last h p at =
+      let parted = parted_page from xs read left page h (page_is from xs read left page h p) in
+      let rises = rising_parts from MAX_RECORDS page (drop page_rows left)
+      (subst (IsRising number from MAX_RECORDS) parted h.behind) in
+      rising_get from (behind_last from page) (length page - 1) page last rises.0 at
+
+  -- No other number is found than at the place where the greater ones begin
+
+  from_place : (a b k : ℕ) (xs : List X) (d : X) → IsRising number a b xs → k < length xs → a ≤ number (get_or xs k d)
+  from_place a b k [] d h l = absurd (omega (arith, l))
+  from_place a b zero (x ∷ xs) d h l = h.0
+  from_place a b (suc k) (x ∷ xs) d h l = omega (arith, h.0, from_place (number x + 1) b k xs d h.1 (omega (arith, l)))
+
+  places_rise : (a b i j : ℕ) (xs : List X) (d : X) → IsRising number a b xs → i < j → j < length xs
+      → number (get_or xs i d) < number (get_or xs j d)
+  places_rise a b i j [] d h l m = absurd (omega (arith, m))
+  places_rise a b i zero (x ∷ xs) d h l m = absurd (omega (arith, l))
+  places_rise a b zero (suc j) (x ∷ xs) d h l m = omega
+      (arith, from_place (number x + 1) b j xs d h.1 (omega (arith, m)))
+  places_rise a b (suc i) (suc j) (x ∷ xs) d h l m = places_rise (number x + 1) b i j xs d h.1 (omega (arith, l))
+      (omega (arith, m))
+
+  pub rising_parted : (a b n : ℕ) (xs : List X) → IsRising number a b xs → IsPartitionedBy (λ x. ltb (number x) n) xs
+  rising_parted a b n xs h = IsPartitionedBy-ltb number xs n
+      (λ i j d le l. elim (cases_eq i j) [
+        | inl same ↦ omega (arith, ap (λ k. number (get_or xs k d)) same)
+        | inr other ↦ omega
+            (arith, places_rise a b i j xs d h (omega (arith, le, other)) l)
+      ])
+
+  pub none_there : (a b n place : ℕ) (xs : List X) → IsRising number a b xs
+      → ((k : ℕ) (d : X) → k < place → k < length xs → number (get_or xs k d) < n)
+      → ((k : ℕ) (d : X) → place ≤ k → k < length xs → n ≤ number (get_or xs k d))
+      → ((d : X) → place < length xs → ¬ (number (get_or xs place d) ≡ n)) → list_any (λ x. number x == n) xs ≡ false
+  none_there a b n place xs h below above not_here = list_any_none (λ x. number x == n) xs
+      (λ k d l. ne_eqb (number (get_or xs k d)) n (λ same. elim (cases_lt k place) [
+        | inl less ↦ omega (arith, below k d less l, same)
+        | inr later ↦ elim (cases_eq place k) [
+          | inl here ↦ not_here d (omega (arith, here, l)) (ap (λ m. number (get_or xs m d)) here ∙ same)
+          | inr other ↦ omega (
+            arith,
+            places_rise a b place k xs d h (omega (arith, later, other)) l,
+            above place d
+                (omega arith) (omega (arith, later, l)),
+            same,
+          )
+        ]
+      ]))
+
+  -- The rows before one
+
+  rising_first : (a b : ℕ) (xs ys : List X) (x : X) → IsRising number a b (xs ++ (x ∷ ys)) → a ≤ number x
+  rising_first a b [] ys x h = h.0
+  rising_first a b (y ∷ xs) ys x h = omega (arith, h.0, rising_first (number y + 1) b xs ys x h.1)
+
+  pub below_next : (a b : ℕ) (xs ys : List X) (x y : X) → IsRising number a b (xs ++ (x ∷ ys)) → In y xs
+      → number y < number x
+  below_next a b [] ys x y h i = absurd i
+  below_next a b (z ∷ xs) ys x y h (inl same) = omega (arith, ap number same, rising_first (number z + 1) b xs ys x h.1)
+  below_next a b (z ∷ xs) ys x y h (inr i) = below_next (number z + 1) b xs ys x y h.1 i
+
+  pub rows_before : (a b : ℕ) (xs ys : List X) (x : X) → IsRising number a b (xs ++ (x ∷ ys))
+      → filter (λ y. nat_lt (number y) (number x)) (xs ++ (x ∷ ys)) ≡ xs
+  rows_before a b [] ys x h = rw (le-ltb (number x) (number x) (omega arith)) (none (number x + 1) ys (omega arith) h.1)
+    where
+      none : (c : ℕ) (zs : List X) → number x ≤ c → IsRising number c b zs
+          → filter (λ y. nat_lt (number y) (number x)) zs ≡ []
+      none c [] l i = refl
+      none c (z ∷ zs) l i = rw (le-ltb (number z) (number x) (omega (arith, l, i.0)))
+          (none (number z + 1) zs (omega (arith, l, i.0)) i.1)
+  rows_before a b (z ∷ xs) ys x h =
+      rw (lt-ltb (number z) (number x) (below_next a b (z ∷ xs) ys x z h (inl refl)))
+      (ap (λ rest. z ∷ rest) (rows_before (number z + 1) b xs ys x h.1))
+
+  pub few_below : (a b : ℕ) (xs : List X) → IsRising number a b xs → a + length xs ≤ b
+  few_below a b [] h = omega (arith, h)
+  few_below a b (x ∷ xs) h = omega (arith, h.0, few_below (number x + 1) b xs h.1)
 
 -- What is read of another list
 pub rising_map : {X Y : Type 0} (f : X → Y) (number : Y → ℕ) (a b : ℕ) (xs : List X) → IsRising (λ x. number (f x)) a b xs → IsRising number a b (map f xs)
@@ -290,3 +379,27 @@ none_read f (x ∷ xs) is = absurd (there x xs (length (x ∷ xs) - 1) (omega ar
 pub map_itself : {X : Type 0} (xs : List X) → map (λ y. y) xs ≡ xs
 map_itself [] = refl
 map_itself (x ∷ xs) = ap (λ rest. x ∷ rest) (map_itself xs)
+
+-- a row that is reached in turn stands between those that were and those that are left
+pub reached : {X : Type 0} (xs all : List X) (x : X) → map (λ y. y) xs ≡ take (length xs) all → length xs < length all
+    → x ≡ get_or all (length xs) x → (rest : List X) × (all ≡ xs ++ (x ∷ rest))
+reached [] [] x so_far below is = absurd (omega (arith, below))
+reached [] (y ∷ ys) x so_far below is = (ys, ap (λ z. z ∷ ys) (sym is))
+reached (z ∷ zs) [] x so_far below is = absurd (omega (arith, below))
+reached (z ∷ zs) (y ∷ ys) x so_far below is =
+    let rest = reached zs ys x (tail so_far) (omega (arith, below)) is in
+    (rest.0, λ i. sym (head so_far) i ∷ rest.1 i)
+  where
+    head : z ∷ map (λ t. t) zs ≡ y ∷ take (length zs) ys → z ≡ y
+    head same = cc
+
+    tail : z ∷ map (λ t. t) zs ≡ y ∷ take (length zs) ys → map (λ t. t) zs ≡ take (length zs) ys
+    tail same = cc
+
+-- so does the item of a loop over rows
+pub turned : {S A : Type 0} {steps : S → Option A → S → Type 0} {s : S} {all : List A}
+    (e : YieldsList steps (λ y. y) s all) (xs : List A) (t : S) (y : Yields steps s xs t) (r : Option A) (u : S) (x : A)
+    → r ≡ Some x → steps t r u → (rest : List A) × (all ≡ xs ++ (x ∷ rest))
+turned {S} {A} {steps} {s} {all} e xs t y r u x is step =
+    let next = YieldsList-turn e xs t y r u x is step in
+    reached xs all x (YieldsList-so_far e xs t y) next.0 next.1

@@ -1,17 +1,20 @@
 -- Reads that change nothing, one after another, and the rows that they read.
-use Rattle.std.proofs.Common.{◌≤◌, List, [], ◌++◌, IsTrue, sym, ap, subst, ◌∙◌, arith, append-nil, append_assoc}
+use Rattle.std.proofs.Common.{◌≡◌, ◌≤◌, ◌-◌, List, [], ◌∷◌, ◌++◌, Some, length, map, drop, IsTrue, sym, ap, subst, ◌∙◌}
+use Rattle.std.proofs.Common.{arith, append-nil, append_assoc}
+use Rattle.std.specs.Prelude.{slice_get}
+use Rattle.std.proofs.lemmas.List.{map-append}
 use Rattle.sqlite.specs.State.{State, HasCleanDisk, IsUnchanged}
 use Rattle.sqlite.proofs.Callers.{unchanged_then}
 use Rattle.sqlite.proofs.StateLemmas.{unchanged}
 use Rattle.relay_types.specs.declared.limits.TheConstants.{MAX_RECORDS}
 use Rattle.relay_types.specs.Values.{Seq}
 use Rattle.relay_types.specs.Rows.{Rows}
-use Rattle.spool_sql.specs.Stored.{IsPage, IsTables}
+use Rattle.spool_sql.specs.Stored.{IsPage, IsTables, page_rows}
 use Rattle.spool_sql.specs.Steps.{Spares}
 use Rattle.spool_sql.proofs.StepLemmas.{spares_then}
-use Rattle.spool.specs.Reading.{IsRising, IsLeft, ReadsOn}
+use Rattle.spool.specs.Reading.{IsRising, IsLeft, ComeNext, ReadsOn}
 use Rattle.spool.proofs.SecretLemmas.{spares_none}
-use Rattle.spool.proofs.PageLaws.{IsBehind, left_all, none_left}
+use Rattle.spool.proofs.PageLaws.{IsBehind, left_all, none_left, not_fallen, page_is, parted_page}
 
 -- What the reads leave
 
@@ -69,6 +72,18 @@ module _ {X : Type 0} (number : X → Seq) (table : List X) where
       let here = subst (λ d. IsTables d rows) (sym unchanged.0.now_is) there in
       read_page P Q from next page (reads clean here) (λ read left h. behind read left h (found at_m there)) (so_far at_b tables)
 
+  -- a page from there on comes next
+  pub comes_next : (P : List X → Type 0) (from : Seq) (page : List X) → IsReadTo P from → IsPage number from table page
+      → ComeNext table P page
+  comes_next P from page (read, left, h, so_far) is =
+      let parted = parted_page number from table read left page h (page_is number from table read left page h is) in
+      (read, drop page_rows left, h.parted ∙ ap (λ rest. read ++ rest) parted, so_far)
+
+  -- and the last of its rows isn't below that number
+  pub page_rises : (P : List X → Type 0) (from : Seq) (page : List X) (last : X) → IsReadTo P from
+      → IsPage number from table page → slice_get page (length page - 1) ≡ Some last → from ≤ number last
+  page_rises P from page last (read, left, h, so_far) is at = not_fallen number from table read left page last h is at
+
   pub read_whole : (P : List X → Type 0) (from : Seq) → MAX_RECORDS ≤ from → IsReadTo P from → P table
   read_whole P from l (read, left, h, so_far) =
       let none = none_left number from table read left l h in
@@ -83,3 +98,24 @@ module _ {X : Type 0} (table : List X) where
   reads_then P Q R some more p q before after is h =
       let whole = is ∙ ap (λ rest. before ++ rest) (append_assoc some more after) in
       subst R (append_assoc before some more) (q (before ++ some) after (whole ∙ sym (append_assoc before some (more ++ after))) (p before (more ++ after) whole h))
+
+  -- the next rows, of which some were read already
+  pub next_then : (P Q : List X → Type 0) (some more : List X) → ReadsOn table P Q some
+      → ComeNext table P (some ++ more) → ComeNext table Q more
+  next_then P Q some more p (before, after, is, h) =
+      let whole = is ∙ ap (λ rest. before ++ rest) (append_assoc some more after) in
+      (before ++ some, after, whole ∙ sym (append_assoc before some (more ++ after)), p before (more ++ after) whole h)
+
+  -- the first of the next rows
+  pub next_first : (P : List X → Type 0) (x : X) (more : List X) → ComeNext table P (x ∷ more)
+      → ComeNext table P (x ∷ [])
+  next_first P x more (before, after, is, h) = (before, more ++ after, is, h)
+
+  -- the one that is reached, among rows that come next
+  pub next_row : {Y : Type 0} (f : Y → X) (P Q : List X → Type 0) (some items : List Y) (row : Y)
+      → ((rest : List Y) × (items ≡ some ++ (row ∷ rest)))
+      → ReadsOn table P Q (map f some) → ComeNext table P (map f items) → ComeNext table Q (f row ∷ [])
+  next_row f P Q some items row (rest, is) reads next =
+      next_first Q (f row) (map f rest)
+      (next_then P Q (map f some) (f row ∷ map f rest) reads
+      (subst (ComeNext table P) (ap (map f) is ∙ map-append f some (row ∷ rest)) next))

@@ -17,6 +17,7 @@ use Rattle.spool_sql.specs.declared.row.RowFault.{RowFault}
 use Rattle.spool_sql.specs.declared.row.RowFault.TheVariants.{Failed, Unreadable}
 use Rattle.spool_sql.specs.declared.cause.Cause.TheVariants.{Memory}
 use Rattle.spool_sql.specs.Causes.{cause}
+use Rattle.spool_sql.specs.Readable.{IsRefusal}
 use Rattle.spool_sql.specs.Steps.{Stands, MayLeave}
 use Rattle.spool.specs.declared.ends.LoadFault.{LoadFault}
 use Rattle.spool.specs.declared.ends.LoadFault.TheVariants.{Closed, Store, OutOfMemory}
@@ -51,6 +52,13 @@ pub record AreSettled (books : Books) : Type 0 where
   pub deliveries_settled : books.deliveries.settled_seq ≡ books.records
   pub no_outcomes : books.deliveries.unsettled ≡ []
   pub room : books.records ≤ MAX_RECORDS
+
+-- Why a load gives no books: the vault is closed, memory was refused, the store failed under this name while it was
+-- read, or a query took more steps than the connection may.
+abbrev pub IsLoadRefusal : State → State → LoadFault → Type 0
+IsLoadRefusal old new Closed = Unit {0}
+IsLoadRefusal old new OutOfMemory = Unit {0}
+IsLoadRefusal old new (Store error) = IsRefusal old new error
 
 -- the store was seen to be usable behind the reads
 abbrev pub IsSeen : Result Books LoadFault → Type 0

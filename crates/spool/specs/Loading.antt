@@ -1,7 +1,8 @@
 -- What a load reads of the tables, and the books that it gives.
-use Rattle.std.specs.Prelude.{◌≡◌, ◌≤◌, ◌==◌, ℕ, false, List, [], ◌∷◌, map, max, find, length, slice_get, filter_map, Option, Some, None, Result, IfOk, OnOk, IsTrue, if◌then◌else◌}
+use Rattle.std.specs.Prelude.{◌≡◌, ◌≤◌, ◌==◌, ◌++◌, ℕ, false, List, [], ◌∷◌, map, max, find, length, slice_get}
+use Rattle.std.specs.Prelude.{filter_map, Option, Some, None, Result, IfOk, IfErr, OnOk, IsTrue, if◌then◌else◌}
 use Rattle.std.specs.Option.{option_map_or}
-use Rattle.sqlite.specs.State.{HasCleanDisk, IsUnchanged}
+use Rattle.sqlite.specs.State.{State, HasCleanDisk, IsUnchanged}
 use Rattle.sqlite.specs.Held.{Held, state}
 use Rattle.sqlite_trees.specs.declared.store.Store.{Ghosts}
 use Rattle.relay_types.specs.declared.record.Record.{Record}
@@ -16,9 +17,11 @@ use Rattle.delivery_book.specs.declared.entry.Entry.{Entry as DeliveryEntry}
 use Rattle.delivery_book.specs.declared.progress.Progress.{Progress}
 use Rattle.delivery_book.specs.Entries.{BookValue as DeliveryBookValue, known_in, new_entry, progress_of}
 use Rattle.delivery_book.specs.Book.{entries_of}
+use Rattle.spool_sql.specs.declared.row.RowFault.{RowFault}
+use Rattle.spool_sql.specs.Readable.{IsRowRefusal}
 use Rattle.spool_sql.specs.Stored.{IsTables}
 use Rattle.spool_sql.specs.Steps.{IfClean}
-use Rattle.spool.specs.Reading.{ReadsOn}
+use Rattle.spool.specs.Reading.{ComeNext, IsRising, ReadsOn}
 use Rattle.spool.specs.declared.deliveries.Deliveries.{Deliveries}
 use Rattle.spool.specs.declared.load_endpoints.Endpoints.{Endpoints}
 use Rattle.spool.specs.declared.load_endpoints.Known.{Known}
@@ -33,6 +36,17 @@ LeavesOpen g old new result = IfClean g old new (λ a b. OnOk result (IsTrue a.i
 abbrev pub Reads : {S X E : Type 0} → Ghosts S → Held S → Held S → Result X E → (X → List Record → Type 0) → Type 0
 Reads g old new result P =
     HasCleanDisk (state g new) → IfOk result (λ x. (records : List Record) → IsLegal records → IsTables (state g old).now (rows_of records) → P x records)
+
+-- Of each legal history whose rows an open store has, and of which so much is given, no row is told as unreadable: a
+-- read is refused for memory, or by the store.
+abbrev pub IsReadRefusal : (old new : State) → (Given : List Record → Type 0) → RowFault → Type 0
+IsReadRefusal old new Given fault =
+    IsTrue old.is_open → (records : List Record) → IsLegal records → IsTables old.now (rows_of records) → Given records
+    → IsRowRefusal old new fault
+
+abbrev pub IsRefusedOnly : {S X : Type 0} → Ghosts S → Held S → Held S → Result X RowFault → (List Record → Type 0)
+    → Type 0
+IsRefusedOnly g old new result Given = IfClean g old new (λ a b. IfErr result (IsReadRefusal a b Given))
 
 -- ---- endpoints
 
@@ -51,13 +65,18 @@ entry_of_row records e = restored_entry e.put e.name e.url e.max (secrets_of rec
 pub record AreRestored (loaded : Endpoints) (records : List Record) (rows : List EndpointRow) : Type 0 where
   pub entries : loaded.book.entries ≡ map (entry_of_row records) rows
   pub changes : loaded.book.changes ≡ []
-  pub next_seq : loaded.book.next_seq ≤ length records
+  pub left : (after : List EndpointRow) → (rows_of records).endpoints ≡ rows ++ after
+      → IsRising (λ (e : EndpointRow). e.put) loaded.book.next_seq (length records) after
   pub settled_seq : loaded.book.settled_seq ≤ length records
   pub names : loaded.names.items ≡ map known_of rows
 
 -- these rows of the table were read behind those before
 abbrev pub Restores : (old new : Endpoints) → List EndpointRow → List Record → Type 0
 Restores old new more records = ReadsOn (rows_of records).endpoints (AreRestored old records) (AreRestored new records) more
+
+-- these rows are the next ones
+abbrev pub NextToRestore : (loaded : Endpoints) → List EndpointRow → List Record → Type 0
+NextToRestore loaded more records = ComeNext (rows_of records).endpoints (AreRestored loaded records) more
 
 -- ---- events
 
@@ -90,13 +109,18 @@ fresh_entry records d = new_entry d.seq (name_put (rows_of records).endpoints d.
 pub record AreAccepted (loaded : Deliveries) (records : List Record) (rows : List DeliveryRow) : Type 0 where
   pub entries : loaded.book.entries ≡ map (fresh_entry records) rows
   pub unsettled : loaded.book.unsettled ≡ []
-  pub next_seq : loaded.book.next_seq ≤ length records
+  pub left : (after : List DeliveryRow) → (rows_of records).deliveries ≡ rows ++ after
+      → IsRising (λ (d : DeliveryRow). d.seq) loaded.book.next_seq (length records) after
   pub settled_seq : loaded.book.settled_seq ≡ 0
   pub clock : loaded.clock ≡ greatest (map (λ (d : DeliveryRow). d.at) rows)
 
 -- these rows of the table were read behind those before
 abbrev pub Accepts : (old new : Deliveries) → List DeliveryRow → List Record → Type 0
 Accepts old new more records = ReadsOn (rows_of records).deliveries (AreAccepted old records) (AreAccepted new records) more
+
+-- these rows are the next ones
+abbrev pub NextToAccept : (loaded : Deliveries) → List DeliveryRow → List Record → Type 0
+NextToAccept loaded more records = ComeNext (rows_of records).deliveries (AreAccepted loaded records) more
 
 -- ---- attempts
 
@@ -132,6 +156,10 @@ pub record HaveAttempts (loaded : Deliveries) (records : List Record) (rows : Li
 abbrev pub Attempts : (old new : Deliveries) → List AttemptRow → List Record → Type 0
 Attempts old new more records =
     ReadsOn (rows_of records).attempts (HaveAttempts old records) (HaveAttempts new records) more
+
+-- these rows are the next ones
+abbrev pub NextToAttempt : (loaded : Deliveries) → List AttemptRow → List Record → Type 0
+NextToAttempt loaded more records = ComeNext (rows_of records).attempts (HaveAttempts loaded records) more
 
 -- all events and attempts of these records were read, and none of the records is settled yet
 pub record AreAttempted (loaded : Deliveries) (records : List Record) : Type 0 where

@@ -1,13 +1,17 @@
 //! The books of what the tables hold.
-ghost use Rattle.std.specs.Prelude.{◌≡◌, ◌≢◌, ◌⊎◌, ◌<◌, max, false, IsTrue, IfOk, IsErr, Err};
+ghost use Rattle.std.specs.Prelude.{◌≡◌, ◌≢◌, ◌⊎◌, ◌<◌, max, false, List, IsTrue, IfOk, IfErr, IsErr, Err};
 ghost use Rattle.sqlite.specs.State.{HasCleanDisk};
 ghost use Rattle.sqlite.specs.Held.{state};
 ghost use Rattle.relay_types.specs.declared.limits.TheConstants.{MAX_RECORDS};
+ghost use Rattle.relay_types.specs.declared.record.Record.{Record};
+ghost use Rattle.relay_types.specs.Legal.{IsLegal};
+ghost use Rattle.relay_types.specs.Rows.{rows_of};
 ghost use Rattle.endpoint_book.specs.Entries.{with_settled as endpoints_settled};
 ghost use Rattle.delivery_book.specs.Entries.{with_settled as deliveries_settled};
-ghost use Rattle.spool_sql.specs.Steps.{IfClean, IsOfSame, SparesCommit, SurvivesAs};
-ghost use Rattle.spool.specs.Loading.{Reads};
-ghost use Rattle.spool.specs.Books.{AreBooks, AreBooksOn, AreSettled, IsSeen, KeepsOpen, TellsLoad, error_of};
+ghost use Rattle.spool_sql.specs.Steps.{IfClean, IsOfSame, SparesCommit, Stands, SurvivesAs};
+ghost use Rattle.spool.specs.Loading.{IsRefusedOnly, Reads};
+ghost use Rattle.spool.specs.Books.{AreBooks, AreBooksOn, AreSettled, IsLoadRefusal, IsSeen, KeepsOpen, TellsLoad};
+ghost use Rattle.spool.specs.Books.{error_of};
 
 use crate::deliveries::Deliveries;
 use crate::ends::LoadFault;
@@ -42,6 +46,8 @@ pub(crate) fn load_books<S: Alter>(
     requires { conn.old.in_transaction ≡ false }
     ensures books { IfClean S.Store conn.old conn.new (λ a _. IfOk result (AreBooksOn a)) }
     ensures settled { IfOk result AreSettled }
+    ensures sound { IfClean S.Store conn.old conn.new (λ a b. IfErr result (λ fault.
+        (history : List Record) → IsLegal history → Stands a (rows_of history) → IsLoadRefusal a b fault)) }
     ensures tried { result ≢ Err LoadFault.Closed }
     ensures seen { IfClean S.Store conn.old conn.new (λ _ b. IsSeen result → IsTrue b.is_open) }
     ensures stays { IfClean S.Store conn.old conn.new KeepsOpen }
@@ -57,6 +63,7 @@ fn read_books<S: Alter>(conn: &mut Connection<S>, alloc: Global) -> Result<Books
     requires { conn.old.in_transaction ≡ false }
     ensures books { IfClean S.Store conn.old conn.new (λ a _. IfOk result (AreBooksOn a)) }
     ensures settled { IfOk result AreSettled }
+    ensures refused { IsRefusedOnly S.Store conn.old conn.new result (λ _. Unit {0}) }
     ensures stays { IfClean S.Store conn.old conn.new KeepsOpen }
     ensures mode { conn.new.in_transaction ≡ false }
     ensures survives { SurvivesAs S.Store conn.old conn.new (λ _ _. ⊥) }
@@ -69,6 +76,7 @@ fn read_books<S: Alter>(conn: &mut Connection<S>, alloc: Global) -> Result<Books
 fn read_tables<S: Alter>(tx: &mut Transaction<'_, S>, alloc: Global) -> Result<Books, RowFault>
     ensures same_reference { IsOfSame tx.old.conn tx.new.conn }
     ensures found { Reads S.Store tx.old.conn.now tx.new.conn.now result (λ books records. AreBooks books records) }
+    ensures refused { IsRefusedOnly S.Store tx.old.conn.now tx.new.conn.now result (λ _. Unit {0}) }
     ensures settled { IfOk result AreSettled }
     ensures spares { SparesCommit S.Store tx.old.conn.now tx.new.conn.now }
 {

@@ -1,11 +1,13 @@
 //! The attempts that the tables hold, read back into the book of their events.
 ghost use Rattle.std.specs.Prelude.{◌≡◌, false, List, map, max, IsErr, OnOk};
 ghost use Rattle.relay_types.specs.declared.record.Record.{Record};
+ghost use Rattle.relay_types.specs.Legal.{IsLegal};
 ghost use Rattle.relay_types.specs.Rows.{rows_of};
 ghost use Rattle.delivery_book.specs.Entries.{may_restore, with_outcome_restored};
 ghost use Rattle.spool_sql.specs.Stored.{attempt_of};
 ghost use Rattle.spool_sql.specs.Steps.{IsOfSame, SparesCommit};
-ghost use Rattle.spool.specs.Loading.{LeavesOpen, Reads, AreAccepted, AreAttempted, Attempts};
+ghost use Rattle.spool.specs.Loading.{LeavesOpen, Reads, IsRefusedOnly, AreAccepted, AreAttempted, Attempts};
+ghost use Rattle.spool.specs.Loading.{NextToAttempt};
 
 use crate::deliveries::Deliveries;
 use crate::pages::behind;
@@ -34,8 +36,10 @@ impl Deliveries {
 
 // Takes in the attempts of a page.
 fn restore_page(loaded: &mut Deliveries, page: Vec<AttemptRow>) -> Result<(), RowFault>
-    ensures { OnOk result ((records : List Record)
+    ensures found { OnOk result ((records : List Record)
         → Attempts loaded.old loaded.new (map attempt_of page.items) records) }
+    ensures refused { IsErr result → (records : List Record) → IsLegal records
+        → ¬ NextToAttempt loaded.old (map attempt_of page.items) records }
 {
     for row in page {
         loaded.restore(row)?;
@@ -53,6 +57,8 @@ pub(crate) fn load_attempts<S: Alter>(
     ensures unchanged { LeavesOpen S.Store tx.old.conn.now tx.new.conn.now result }
     ensures found { Reads S.Store tx.old.conn.now tx.new.conn.now result
         (λ _ records. AreAccepted loaded.old records (rows_of records).deliveries → AreAttempted loaded.new records) }
+    ensures refused { IsRefusedOnly S.Store tx.old.conn.now tx.new.conn.now result
+        (λ records. AreAccepted loaded.old records (rows_of records).deliveries) }
     ensures spares { SparesCommit S.Store tx.old.conn.now tx.new.conn.now }
 {
     let mut from = 0;

@@ -1,11 +1,17 @@
 //! The events that the tables hold, read back into a book.
-ghost use Rattle.std.specs.Prelude.{◌≡◌, ◌↔◌, List, map, max, Err, IsTrue, IfSome, OnOk};
+ghost use Rattle.std.specs.Prelude.{◌≡◌, ◌↔◌, ◌==◌, false, List, map, max, None, IfErr, IsTrue, IfSome, OnOk};
+ghost use Rattle.std.specs.List.{list_any};
+ghost use Rattle.relay_types.specs.declared.limits.TheConstants.{MAX_RECORDS};
 ghost use Rattle.relay_types.specs.declared.record.Record.{Record};
+ghost use Rattle.relay_types.specs.Legal.{IsLegal};
 ghost use Rattle.relay_types.specs.Rows.{rows_of};
 ghost use Rattle.delivery_book.specs.Entries.{with_event};
+ghost use Rattle.spool_sql.specs.Readable.{IsMemoryFault};
 ghost use Rattle.spool_sql.specs.Stored.{delivery_of};
 ghost use Rattle.spool_sql.specs.Steps.{IsOfSame, SparesCommit};
-ghost use Rattle.spool.specs.Loading.{LeavesOpen, Reads, AreAccepted, Accepts, MayAccept, AreNames, IsNameOf};
+ghost use Rattle.spool.specs.Loading.{LeavesOpen, Reads, IsRefusedOnly, AreAccepted, Accepts, NextToAccept, MayAccept};
+ghost use Rattle.spool.specs.Loading.{AreNames, IsNameOf};
+ghost use Rattle.spool.specs.Reading.{IsRising};
 
 use crate::deliveries::Deliveries;
 use crate::load_endpoints::Known;
@@ -28,7 +34,7 @@ impl Deliveries {
     fn accept(&mut self, row: DeliveryRow, name: Name) -> Result<(), RowFault>
         ensures book { OnOk result (self.new.book ≡ with_event self.old.book row.seq name row.id row.body row.at) }
         ensures clock { OnOk result (self.new.clock ≡ max self.old.clock row.at) }
-        ensures unreadable { result ≡ Err RowFault.Unreadable → ¬ MayAccept self.old.book row.seq name row.id }
+        ensures refused { IfErr result (λ fault. MayAccept self.old.book row.seq name row.id → IsMemoryFault fault) }
     {
         let seq = row.seq.get();
         if !self.may_accept(seq, name, &row.id) {
@@ -44,7 +50,9 @@ impl Deliveries {
 
 // The name of the endpoint with this number, by halves.
 fn name_of(names: &[Known], put: u64) -> Option<Name>
-    ensures { IfSome result (IsNameOf names.now put) }
+    ensures found { IfSome result (IsNameOf names.now put) }
+    ensures missing { result ≡ None → IsRising (λ known. known.put) 0 MAX_RECORDS names.now
+        → list_any (λ known. known.put == put) names.now ≡ false }
 {
     let index = names.partition_point(|known| known.put < put);
     match names.get(index) {
@@ -59,8 +67,10 @@ fn accept_page(
     names: &[Known],
     page: Vec<DeliveryRow>,
 ) -> Result<(), RowFault>
-    ensures { OnOk result ((records : List Record) → AreNames names.now records
+    ensures found { OnOk result ((records : List Record) → AreNames names.now records
         → Accepts loaded.old loaded.new (map delivery_of page.items) records) }
+    ensures refused { IfErr result (λ fault. (records : List Record) → IsLegal records → AreNames names.now records
+        → NextToAccept loaded.old (map delivery_of page.items) records → IsMemoryFault fault) }
 {
     for row in page {
         let Some(name) = name_of(names, row.endpoint.get()) else {
@@ -81,6 +91,7 @@ pub(crate) fn load_deliveries<S: Alter>(
     ensures unchanged { LeavesOpen S.Store tx.old.conn.now tx.new.conn.now result }
     ensures found { Reads S.Store tx.old.conn.now tx.new.conn.now result
         (λ loaded records. AreNames names.now records → AreAccepted loaded records (rows_of records).deliveries) }
+    ensures refused { IsRefusedOnly S.Store tx.old.conn.now tx.new.conn.now result (AreNames names.now) }
     ensures spares { SparesCommit S.Store tx.old.conn.now tx.new.conn.now }
 {
     let Ok(clock) = Moment::of(0) else {

@@ -1,10 +1,12 @@
 //! The endpoints that the tables hold, read back into a book.
-ghost use Rattle.std.specs.Prelude.{◌≡◌, ◌↔◌, ◌++◌, [], ◌∷◌, map, Err, IsTrue, OnOk};
+ghost use Rattle.std.specs.Prelude.{◌≡◌, ◌↔◌, ◌++◌, [], ◌∷◌, map, IfErr, IsTrue, OnOk};
 ghost use Rattle.relay_types.specs.Rows.{rows_of};
 ghost use Rattle.endpoint_book.specs.Entries.{restored_entry, with_restored};
+ghost use Rattle.spool_sql.specs.Readable.{IsMemoryFault};
 ghost use Rattle.spool_sql.specs.Stored.{endpoint_of};
 ghost use Rattle.spool_sql.specs.Steps.{IsOfSame, LeavesAll, SparesCommit};
-ghost use Rattle.spool.specs.Loading.{LeavesOpen, Reads, AreRestored, Restores, MayRestore, known_of};
+ghost use Rattle.spool.specs.Loading.{LeavesOpen, Reads, IsRefusedOnly, AreRestored, Restores, NextToRestore};
+ghost use Rattle.spool.specs.Loading.{MayRestore, known_of};
 
 use crate::pages::behind;
 use endpoint_book::EndpointBook;
@@ -43,7 +45,7 @@ impl Endpoints {
         ensures names { OnOk result (self.new.names.items
             ≡ self.old.names.items ++ known_of (endpoint_of row) ∷ []) }
         ensures settled { OnOk result (self.new.book.changes ≡ []) }
-        ensures unreadable { result ≡ Err RowFault.Unreadable → ¬ MayRestore self.old.book row.put row.name }
+        ensures refused { IfErr result (λ fault. MayRestore self.old.book row.put row.name → IsMemoryFault fault) }
     {
         let put = row.put.get();
         if !self.may_restore(put, row.name) {
@@ -74,6 +76,8 @@ fn restore_endpoint<S: Alter>(
     ensures unchanged { LeavesAll S.Store tx.old.conn.now tx.new.conn.now result }
     ensures found { Reads S.Store tx.old.conn.now tx.new.conn.now result
         (λ _. Restores loaded.old loaded.new (endpoint_of row ∷ [])) }
+    ensures refused { IsRefusedOnly S.Store tx.old.conn.now tx.new.conn.now result
+        (NextToRestore loaded.old (endpoint_of row ∷ [])) }
     ensures settled { OnOk result (loaded.new.book.changes ≡ []) }
     ensures spares { SparesCommit S.Store tx.old.conn.now tx.new.conn.now }
 {
@@ -96,6 +100,8 @@ fn restore_page<S: Alter>(
     ensures unchanged { LeavesOpen S.Store tx.old.conn.now tx.new.conn.now result }
     ensures found { Reads S.Store tx.old.conn.now tx.new.conn.now result
         (λ _. Restores loaded.old loaded.new (map endpoint_of page.items)) }
+    ensures refused { IsRefusedOnly S.Store tx.old.conn.now tx.new.conn.now result
+        (NextToRestore loaded.old (map endpoint_of page.items)) }
     ensures settled { OnOk result (loaded.new.book.changes ≡ []) }
     ensures spares { SparesCommit S.Store tx.old.conn.now tx.new.conn.now }
 {
@@ -114,6 +120,7 @@ pub(crate) fn load_endpoints<S: Alter>(
     ensures unchanged { LeavesOpen S.Store tx.old.conn.now tx.new.conn.now result }
     ensures found { Reads S.Store tx.old.conn.now tx.new.conn.now result
         (λ loaded records. AreRestored loaded records (rows_of records).endpoints) }
+    ensures refused { IsRefusedOnly S.Store tx.old.conn.now tx.new.conn.now result (λ _. Unit {0}) }
     ensures spares { SparesCommit S.Store tx.old.conn.now tx.new.conn.now }
 {
     let mut loaded = Endpoints {

@@ -1,15 +1,20 @@
 //! The one writer of a store.
-ghost use Rattle.std.specs.Prelude.{◌≡◌, ◌⊎◌, ◌↔◌, ◌+◌, false, [], length, IsTrue, IfOk, IfErr, IsErr, MatchResult, cond, is_ok};
+ghost use Rattle.std.specs.Prelude.{◌≡◌, ◌⊎◌, ◌↔◌, ◌+◌, false, List, [], length, IsTrue, IfOk, IfErr, IsErr};
+ghost use Rattle.std.specs.Prelude.{MatchResult, cond, is_ok};
 ghost use Rattle.sqlite.specs.State.{HasCleanDisk};
 ghost use Rattle.sqlite.specs.Held.{state};
+ghost use Rattle.relay_types.specs.declared.record.Record.{Record};
 ghost use Rattle.relay_types.specs.Records.{records_of};
 ghost use Rattle.spool_sql.specs.Steps.{IfClean, IsBegun};
 ghost use Rattle.spool_sql.specs.Tables.{no_schema, relay_schema};
 ghost use Rattle.sound_tables.specs.Keys.{has_meta, has_tables};
-ghost use Rattle.spool.specs.Adopting.{FailsIfOfStore, HaveHistory, IsAdopted, IsForeign, IsOfStore, IsOnlyRead, IsUnadopted, LeavesRead};
+ghost use Rattle.spool.specs.Adopting.{FailsIfOfStore, HaveHistory, IsAdopted, IsForeign, IsOfStore, IsOnlyRead};
+ghost use Rattle.spool.specs.Adopting.{IsUnadopted, LeavesRead};
 ghost use Rattle.spool.specs.Opening.{has_ours, IsRefusedFor, LeavesAt};
-ghost use Rattle.spool.specs.Books.{AreBooksOf, AreSettled, IsSeen, LeavesHeld};
-ghost use Rattle.spool.specs.Commits.{HoldsOnDisk, IsNext, HandsBack, IsDoubt, IsRefused, answer_of, LeavesRows, LeavesHistory, IsIllegal};
+ghost use Rattle.spool.specs.Books.{AreBooksOf, AreSettled, IsLoadRefusal, IsSeen, LeavesHeld};
+ghost use Rattle.spool.specs.Commits.{HoldsOnDisk, IsNext, HandsBack, IsDoubt, IsRefused, answer_of, LeavesRows};
+ghost use Rattle.spool.specs.Commits.{LeavesHistory, IsIllegal};
+ghost use Rattle.spool.specs.Vaults.{Holds};
 
 use crate::adopt::adopt_tables;
 use crate::batch::{Batch, Receipt};
@@ -175,6 +180,8 @@ impl<S: Alter> Vault<S> {
         ensures books { IfClean S.Store self.old.conn self.new.conn
             (λ _ _. IfOk result (AreBooksOf S.Store self.old)) }
         ensures settled { IfOk result AreSettled }
+        ensures sound { IfClean S.Store self.old.conn self.new.conn (λ a b. IfErr result (λ fault.
+            (history : List Record) → Holds S.Store self.old history → IsLoadRefusal a b fault)) }
         ensures untouched { result ≡ Err LoadFault.Closed → self.new ≡ self.old }
         ensures mark { self.new.mark ≡ self.old.mark }
         ensures next { self.new.next ≡ self.old.next }

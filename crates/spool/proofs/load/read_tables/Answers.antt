@@ -2,8 +2,12 @@ use Rattle.std.proofs.Common.{◌∙◌}
 use Rattle.sqlite.specs.Held.{state}
 use Rattle.relay_types.specs.Rows.{rows_of}
 use Rattle.spool_sql.proofs.StepLemmas.{spares_then}
-use Rattle.spool.proofs.BookLoads.{books_read}
+use Rattle.spool_sql.specs.declared.row.RowFault.TheVariants.{Failed}
+use Rattle.spool_sql.proofs.ReadableLemmas.{handed_on}
+use Rattle.spool.specs.Loading.{IsReadRefusal}
+use Rattle.spool.proofs.BookLoads.{all_read, all_settle, books_read, settles_read}
 use Rattle.spool.proofs.QuietReads.{IsQuiet, quiet_then, clean_before, tables_along}
+use Rattle.spool.proofs.ReadableLemmas.{legal_readable, refused_behind}
 use Rattle.spool.proofs.load.read_tables.Goals as goal
 
 pub returns-in_err-records-clause-spares : goal.returns-in_err-records-clause-spares
@@ -23,19 +27,91 @@ returns-clause-found g c clean =
     let second = c.in_ok-deliveries.ensures in
     let third = c.in_ok-load_attempts.ensures in
     let look = c.in_ok-records.ensures in
-    let at_e = clean_before e z look.spares clean in
-    let at_d = clean_before d e third.spares at_e in
-    let at_b = clean_before b d second.spares at_d in
-    let open_e = (look.unchanged clean).0.was_open in
-    let open_d = (third.spares.kept at_e).was_open open_e in
-    let open_b = (second.spares.kept at_d).was_open open_d in
-    let quiet_b : IsQuiet a b = record { spares = first.spares; unchanged = first.unchanged } in
-    let quiet_d = quiet_then a b d quiet_b (record { spares = second.spares; unchanged = second.unchanged }) in
-    let quiet_e = quiet_then a d e quiet_d (record { spares = third.spares; unchanged = third.unchanged }) in
     let end = c.settle_books.ensures in
-    books_read a.now c.in_ok-endpoints.endpoints c.load_attempts.new.loaded c.in_ok-records.records c.settle_books.result end.endpoints end.deliveries end.records end.clock (λ records legal tables.
-    let rows = rows_of records in
-    let restored = first.found at_b records legal tables in
-    let accepted = second.found at_d records legal (tables_along a b rows quiet_b at_b open_b tables) (c.deref.ensures.value ∙ restored.names) in
-    let attempted = third.found at_e records legal (tables_along a d rows quiet_d at_d open_d tables) accepted in
-    (restored, (attempted, look.found clean rows (tables_along a e rows quiet_e at_e open_e tables))))
+    books_read a.now c.in_ok-endpoints.endpoints c.load_attempts.new.loaded c.in_ok-records.records
+    c.settle_books.result end.endpoints end.deliveries end.records end.clock
+    (all_read a b d e z c.in_ok-endpoints.endpoints c.in_ok-deliveries.deliveries c.load_attempts.new.loaded
+    c.in_ok-records.records
+    (record { spares = first.spares; unchanged = first.unchanged })
+    (record { spares = second.spares; unchanged = second.unchanged })
+    (record { spares = third.spares; unchanged = third.unchanged })
+    look.spares look.unchanged first.found
+    (λ at_d records legal tables names. second.found at_d records legal tables (c.deref.ensures.value ∙ names))
+    third.found look.found clean)
+
+pub returns-clause-refused : goal.returns-clause-refused
+returns-clause-refused g c clean =
+    let a = state g.S.Store c.args.tx.now.conn.now in
+    let b = state g.S.Store c.load_endpoints.new.tx.conn.now in
+    let d = state g.S.Store c.load_deliveries.new.tx.conn.now in
+    let e = state g.S.Store c.load_attempts.new.tx.conn.now in
+    let z = state g.S.Store c.select_records.new.tx.conn.now in
+    let first = c.in_ok-endpoints.ensures in
+    let second = c.in_ok-deliveries.ensures in
+    let third = c.in_ok-load_attempts.ensures in
+    let look = c.in_ok-records.ensures in
+    settles_read a z c.settle_books.result _ c.settle_books.ensures.unreadable (λ is_open.
+    all_settle a b d e z c.in_ok-endpoints.endpoints c.in_ok-deliveries.deliveries c.load_attempts.new.loaded
+    c.in_ok-records.records
+    (record { spares = first.spares; unchanged = first.unchanged })
+    (record { spares = second.spares; unchanged = second.unchanged })
+    (record { spares = third.spares; unchanged = third.unchanged })
+    look.spares look.unchanged first.found
+    (λ at_d records legal tables names. second.found at_d records legal tables (c.deref.ensures.value ∙ names))
+    third.found look.found clean)
+
+pub returns-in_err-deliveries-clause-refused : goal.returns-in_err-deliveries-clause-refused
+returns-in_err-deliveries-clause-refused g c clean =
+    let a = state g.S.Store c.args.tx.now.conn.now in
+    let b = state g.S.Store c.load_endpoints.new.tx.conn.now in
+    let d = state g.S.Store c.load_deliveries.new.tx.conn.now in
+    let first = c.in_ok-endpoints.ensures in
+    let step = c.in_err-deliveries.ensures in
+    handed_on c.from_residual-in_err-deliveries.result c.in_err-deliveries.field-0.0 (IsReadRefusal a d (λ _. Unit {0}))
+    c.from_residual-in_err-deliveries.ensures.1
+    (λ is_open records legal tables given. refused_behind a b d
+    (record { spares = first.spares; unchanged = first.unchanged }) step.spares clean is_open (rows_of records) _
+    tables (λ at_b open_b here.
+    step.refused clean open_b records legal here
+    (c.deref.ensures.value ∙ (first.found at_b records legal tables).names)))
+
+pub returns-in_err-load_attempts-clause-refused : goal.returns-in_err-load_attempts-clause-refused
+returns-in_err-load_attempts-clause-refused g c clean =
+    let a = state g.S.Store c.args.tx.now.conn.now in
+    let b = state g.S.Store c.load_endpoints.new.tx.conn.now in
+    let d = state g.S.Store c.load_deliveries.new.tx.conn.now in
+    let e = state g.S.Store c.load_attempts.new.tx.conn.now in
+    let first = c.in_ok-endpoints.ensures in
+    let second = c.in_ok-deliveries.ensures in
+    let step = c.in_err-load_attempts.ensures in
+    let quiet_b : IsQuiet a b = record { spares = first.spares; unchanged = first.unchanged } in
+    handed_on c.from_residual-in_err-load_attempts.result c.in_err-load_attempts.field-0.0
+    (IsReadRefusal a e (λ _. Unit {0})) c.from_residual-in_err-load_attempts.ensures.1
+    (λ is_open records legal tables given.
+    refused_behind a d e (quiet_then a b d quiet_b (record { spares = second.spares; unchanged = second.unchanged }))
+    step.spares clean is_open (rows_of records) _ tables (λ at_d open_d here.
+    let at_b = clean_before b d second.spares at_d in
+    let names = c.deref.ensures.value ∙ (first.found at_b records legal tables).names in
+    step.refused clean open_d records legal here
+    (second.found at_d records legal
+    (tables_along a b (rows_of records) quiet_b at_b (quiet_b.unchanged at_b is_open).0.is_open tables) names)))
+
+pub returns-in_err-records-clause-refused : goal.returns-in_err-records-clause-refused
+returns-in_err-records-clause-refused g c clean =
+    let a = state g.S.Store c.args.tx.now.conn.now in
+    let b = state g.S.Store c.load_endpoints.new.tx.conn.now in
+    let d = state g.S.Store c.load_deliveries.new.tx.conn.now in
+    let e = state g.S.Store c.load_attempts.new.tx.conn.now in
+    let z = state g.S.Store c.select_records.new.tx.conn.now in
+    let first = c.in_ok-endpoints.ensures in
+    let second = c.in_ok-deliveries.ensures in
+    let third = c.in_ok-load_attempts.ensures in
+    let look = c.in_err-records.ensures in
+    let quiet_d = quiet_then a b d (record { spares = first.spares; unchanged = first.unchanged })
+    (record { spares = second.spares; unchanged = second.unchanged }) in
+    handed_on c.from_residual-in_err-records.result (Failed c.in_err-records.field-0.0)
+    (IsReadRefusal a z (λ _. Unit {0})) c.from_residual-in_err-records.ensures.1
+    (λ is_open records legal tables given.
+    refused_behind a e z (quiet_then a d e quiet_d (record { spares = third.spares; unchanged = third.unchanged }))
+    look.spares clean is_open (rows_of records) (Failed c.in_err-records.field-0.0) tables (λ at_e open_e here.
+    look.refused clean (rows_of records) here (legal_readable records legal)))

@@ -3,10 +3,12 @@ use Rattle.sqlite.specs.Held.{state}
 use Rattle.relay_types.specs.Rows.{EndpointRow, rows_of}
 use Rattle.endpoint_book.specs.Entries.{BookValue, empty_book}
 use Rattle.spool_sql.specs.Stored.{endpoint_of}
-use Rattle.spool.specs.Loading.{AreRestored}
+use Rattle.spool_sql.proofs.ReadableLemmas.{handed_on}
+use Rattle.spool.specs.Loading.{AreRestored, IsReadRefusal}
 use Rattle.spool.proofs.PageLaws.{behind_some, behind_none, last_read, none_read}
 use Rattle.spool.proofs.QuietReads.{quiet_none, quiet_look, quiet_then, page_then, read_whole}
 use Rattle.spool.proofs.EndpointLoads.{restored_none}
+use Rattle.spool.proofs.ReadableLemmas.{legal_readable, page_ends, page_refused, refused_behind}
 use Rattle.spool.proofs.load_endpoints.load_endpoints.Goals as goal
 use Rattle.spool.proofs.load_endpoints.load_endpoints.Goals.{in-Some+in_ok-from-in-Some, in-None}
 
@@ -60,3 +62,55 @@ loop-from-preserved g c =
 pub returns-clause-found : goal.returns-clause-found
 returns-clause-found g c clean records legal tables =
     read_whole (λ (e : EndpointRow). e.put) (rows_of records).endpoints (AreRestored c.loop-from.loaded records) c.loop-from.from (omega (arith, c.loop-from-test.false)) (c.loop-from.invariant.done clean records legal tables)
+
+pub returns-in_err-page-clause-refused : goal.returns-in_err-page-clause-refused
+returns-in_err-page-clause-refused g c clean =
+    let a = state g.S.Store c.args.tx.now.conn.now in
+    let b = state g.S.Store c.loop-from.tx.conn.now in
+    let m = state g.S.Store c.select_endpoints.new.tx.conn.now in
+    let look = c.in_err-page.ensures in
+    handed_on c.from_residual-in_err-page.result c.in_err-page.field-0.0 (IsReadRefusal a m (λ _. Unit {0}))
+    c.from_residual-in_err-page.ensures.1
+    (λ is_open records legal tables given. refused_behind a b m c.loop-from.invariant.quiet look.spares clean is_open
+    (rows_of records) _ tables (λ at_b open_b here.
+    look.refused clean (rows_of records) here (legal_readable records legal)))
+
+pub returns-in_err-from-in-Some-clause-refused : goal.returns-in_err-from-in-Some-clause-refused
+returns-in_err-from-in-Some-clause-refused g c clean =
+    let a = state g.S.Store c.args.tx.now.conn.now in
+    let b = state g.S.Store c.loop-from.tx.conn.now in
+    let m = state g.S.Store c.select_endpoints.new.tx.conn.now in
+    let so_far = c.loop-from.invariant in
+    let look = c.in_ok-page.ensures in
+    let items = c.in_ok-page.page.items in
+    handed_on c.from_residual-in_err-from-in-Some.result c.in_err-from-in-Some.field-0.0
+    (IsReadRefusal a m (λ _. Unit {0})) c.from_residual-in_err-from-in-Some.ensures.1
+    (λ is_open records legal tables given.
+    absurd (
+    let rises = page_ends (λ (e : EndpointRow). e.put) (rows_of records).endpoints a b m (rows_of records)
+    (AreRestored c.loop-from.loaded records) c.loop-from.from (map endpoint_of items)
+    so_far.quiet look.spares look.unchanged (λ early. so_far.done early records legal)
+    (λ early tables. rw c.of.ensures at (look.found early (rows_of records) tables))
+    (endpoint_of c.in-Some.last.now)
+    (last_read endpoint_of items c.in-Some.last.now
+    (rw c.deref.ensures.value at (rw c.in-Some.is at c.last.ensures.value))) clean is_open tables in
+    omega (arith, rises, c.in_err-from-in-Some.ensures.fallen.0 refl)))
+
+pub returns-in_err-restore_page-clause-refused : goal.returns-in_err-restore_page-clause-refused
+returns-in_err-restore_page-clause-refused g c clean =
+    let a = state g.S.Store c.args.tx.now.conn.now in
+    let b = state g.S.Store c.loop-from.tx.conn.now in
+    let m = state g.S.Store c.select_endpoints.new.tx.conn.now in
+    let z = state g.S.Store c.restore_page.new.tx.conn.now in
+    let so_far = c.loop-from.invariant in
+    let look = c.in_ok-page.ensures in
+    let step = c.in_err-restore_page.ensures in
+    let items = c.in_ok-page.page.items in
+    handed_on c.from_residual-in_err-restore_page.result c.in_err-restore_page.field-0.0
+    (IsReadRefusal a z (λ _. Unit {0})) c.from_residual-in_err-restore_page.ensures.1
+    (λ is_open records legal tables given.
+    page_refused (λ (e : EndpointRow). e.put) (rows_of records).endpoints a b m (rows_of records)
+    (AreRestored c.loop-from.loaded records) c.loop-from.from (map endpoint_of items)
+    so_far.quiet look.spares look.unchanged (λ early. so_far.done early records legal)
+    (λ early tables. rw c.of.ensures at (look.found early (rows_of records) tables))
+    z _ step.spares clean is_open tables (λ open_m here next. step.refused clean open_m records legal here next))

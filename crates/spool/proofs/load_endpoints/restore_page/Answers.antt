@@ -5,9 +5,12 @@ use Rattle.std.proofs.lemmas.Iterator.Consumers.{YieldsList-end}
 use Rattle.sqlite.specs.Held.{state}
 use Rattle.relay_types.specs.Rows.{rows_of}
 use Rattle.spool_sql.specs.Stored.{endpoint_of}
-use Rattle.spool.specs.Loading.{AreRestored, Restores}
-use Rattle.spool.proofs.PageLaws.{map_itself}
-use Rattle.spool.proofs.QuietReads.{quiet_none, quiet_look, quiet_then, clean_before, tables_along, reads_none, reads_then}
+use Rattle.spool_sql.proofs.ReadableLemmas.{handed_on}
+use Rattle.spool.specs.Loading.{AreRestored, IsReadRefusal, NextToRestore, Restores}
+use Rattle.spool.proofs.PageLaws.{map_itself, turned}
+use Rattle.spool.proofs.QuietReads.{quiet_none, quiet_look, quiet_then, clean_before, tables_along, next_row}
+use Rattle.spool.proofs.QuietReads.{reads_none, reads_then}
+use Rattle.spool.proofs.ReadableLemmas.{refused_behind}
 use Rattle.spool.proofs.load_endpoints.restore_page.Goals as goal
 
 pub loop-row-preserved : goal.loop-row-preserved
@@ -43,3 +46,24 @@ returns-clause-found g c clean records legal tables =
     let ended = YieldsList-end (YieldsList-from_vec c.args.page.items given.0 (given.1 ∙ c.args.page.ok.0)) c.loop-row.yielded c.loop-row.row-iterator c.loop-row.yielded_by c.next.result c.next.new.self c.in-None.is c.next.ensures.steps in
     let all : c.loop-row.yielded ≡ c.args.page.items = sym (map_itself c.loop-row.yielded) ∙ ended.0 in
     subst (λ items. Restores c.args.loaded.now c.loop-row.loaded (map endpoint_of items) records) all (c.loop-row.invariant.done clean records legal tables)
+
+pub returns-in_err-restore_endpoint-clause-refused : goal.returns-in_err-restore_endpoint-clause-refused
+returns-in_err-restore_endpoint-clause-refused g c clean =
+    let a = state g.S.Store c.args.tx.now.conn.now in
+    let b = state g.S.Store c.loop-row.tx.conn.now in
+    let z = state g.S.Store c.restore_endpoint.new.tx.conn.now in
+    let so_far = c.loop-row.invariant in
+    let step = c.in_err-restore_endpoint.ensures in
+    let given = c.into_iter-row-iterator.ensures.into_iter_gives in
+    let here = turned (YieldsList-from_vec c.args.page.items given.0 (given.1 ∙ c.args.page.ok.0)) c.loop-row.yielded
+    c.loop-row.row-iterator c.loop-row.yielded_by c.next.result c.next.new.self c.in-Some.row c.in-Some.is
+    c.next.ensures.steps in
+    handed_on c.from_residual.result c.in_err-restore_endpoint.field-0.0
+    (IsReadRefusal a z (NextToRestore c.args.loaded.now (map endpoint_of c.args.page.items)))
+    c.from_residual.ensures.1
+    (λ is_open records legal tables next. refused_behind a b z so_far.quiet step.spares clean is_open (rows_of records)
+    _ tables (λ at_b open_b there.
+    step.refused clean open_b records legal there
+    (next_row (rows_of records).endpoints endpoint_of (AreRestored c.args.loaded.now records)
+    (AreRestored c.loop-row.loaded records) c.loop-row.yielded c.args.page.items c.in-Some.row here
+    (so_far.done at_b records legal tables) next)))

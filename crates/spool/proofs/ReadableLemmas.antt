@@ -1,0 +1,168 @@
+-- The rows of a legal history can be read back, and reads of them are refused only for memory or by the store.
+use Rattle.std.proofs.Common.{◌≡◌, ◌<◌, ◌≤◌, ◌^◌, inl, inr, ℕ, ◌-◌, Some, true, ◌&&◌, List, [], ◌∷◌}
+use Rattle.std.proofs.Common.{◌++◌, length, map, IsTrue, refl, subst, arith}
+use Rattle.std.specs.Prelude.{flat_map, slice_get, IsSome}
+use Rattle.std.specs.List.{AllByRecursion, list_all}
+use Rattle.std.proofs.lemmas.Bool.Decides.{nat_tests}
+use Rattle.sqlite.specs.State.{State, HasCleanDisk, IsUnchanged, Survives}
+use Rattle.sqlite.specs.declared.error.Error.{Error}
+use Rattle.relay_types.specs.declared.record.Record.{Record}
+use Rattle.relay_types.specs.Legal.{IsLegal, is_status}
+use Rattle.relay_types.specs.Lookups.{secrets_at}
+use Rattle.relay_types.specs.Rows.{Rows, EndpointRow, SecretRow, rows_of}
+use Rattle.relay_types.specs.Sound.{AreKeyed, secret_rows_at}
+use Rattle.relay_types.specs.Values.{Seq, is_secret, is_msg_id, is_body, is_moment, is_between}
+use Rattle.relay_types.proofs.ConditionLaws.{endpoint_below, delivery_below, attempt_below, endpoint_values}
+use Rattle.relay_types.proofs.ConditionLaws.{delivery_values, attempt_values}
+use Rattle.relay_types.proofs.KeyLaws.{legal_sound}
+use Rattle.relay_types.proofs.KnownLaws.{and_first, and_second}
+use Rattle.relay_types.proofs.TableLaws.{In}
+use Rattle.spool_sql.specs.declared.row.RowFault.{RowFault}
+use Rattle.spool_sql.specs.declared.row.RowFault.TheVariants.{Failed, Unreadable}
+use Rattle.spool_sql.specs.Readable.{AreReadable, IsReadableEndpoint, IsReadableSecret, IsReadableDelivery}
+use Rattle.spool_sql.specs.Readable.{IsReadableAttempt, HasFailed, IsRefusal, IsRowRefusal}
+use Rattle.spool_sql.specs.Steps.{Spares}
+use Rattle.spool_sql.specs.Stored.{IsPage, IsTables}
+use Rattle.spool.specs.Reading.{ComeNext}
+use Rattle.spool.proofs.PageLaws.{legal_length}
+use Rattle.spool.proofs.QuietReads.{IsQuiet, IsReadTo, clean_before, comes_next, page_rises, quiet_look, quiet_then}
+use Rattle.spool.proofs.QuietReads.{tables_along}
+
+all_of : {X : Type 0} (P : X → Type 0) (xs : List X) → ((x : X) → In x xs → P x) → AllByRecursion P xs
+all_of P [] h = tt
+all_of P (x ∷ xs) h = (h x (inl refl), all_of P xs (λ y i. h y (inr i)))
+
+all_append : {X : Type 0} (P : X → Type 0) (xs ys : List X) → AllByRecursion P xs → AllByRecursion P ys
+    → AllByRecursion P (xs ++ ys)
+all_append P [] ys h i = i
+all_append P (x ∷ xs) ys h i = (h.0, all_append P xs ys h.1 i)
+
+secrets_read : (ss : List SecretRow) → list_all is_secret (map (λ (s : SecretRow). s.secret) ss) ≡ true
+    → AllByRecursion IsReadableSecret ss
+secrets_read [] h = tt
+secrets_read (s ∷ ss) h = (and_first (is_secret s.secret) _ h, secrets_read ss (and_second (is_secret s.secret) _ h))
+
+all_secrets : (rows : Rows) (es : List EndpointRow)
+    → ((e : EndpointRow) → In e es → AllByRecursion IsReadableSecret (secret_rows_at rows e.put))
+    → AllByRecursion IsReadableSecret (flat_map (λ (e : EndpointRow). secret_rows_at rows e.put) es)
+all_secrets rows [] h = tt
+all_secrets rows (e ∷ es) h = all_append IsReadableSecret (secret_rows_at rows e.put) _ (h e (inl refl))
+    (all_secrets rows es (λ f i. h f (inr i)))
+
+small_status : (status : ℕ) → is_status status ≡ true → status < 2 ^ 16
+small_status status h = grind (arith, nat_tests, h)
+
+module _ (records : List Record) (legal : IsLegal records) where
+  abbrev rows : Rows
+  rows = rows_of records
+
+  pub keyed : AreKeyed rows
+  keyed = (legal_sound records legal).1
+
+  few : length records ≤ 2 ^ 62
+  few = legal_length records legal
+
+  pub legal_readable : AreReadable rows
+  legal_readable = let sound = (legal_sound records legal).0 in record {
+    endpoints = all_of IsReadableEndpoint rows.endpoints (λ e i.
+        let below = endpoint_below rows keyed sound e i in
+        let values = endpoint_values rows keyed sound e i in
+        record {
+          put = omega (arith, below.0, few);
+          name = values.0;
+          url = values.1;
+          max = values.2;
+          enabled_by = omega (arith, below.1, few);
+          secrets_by = omega (arith, below.2, few);
+        });
+    secrets = subst (AllByRecursion IsReadableSecret) keyed.by_endpoint (all_secrets rows rows.endpoints (λ e i.
+        secrets_read (secret_rows_at rows e.put)
+        (and_second (is_between 1 4 (length (secrets_at rows e.put))) (list_all is_secret (secrets_at rows e.put))
+        (endpoint_values rows keyed sound e i).3)));
+    deliveries = all_of IsReadableDelivery rows.deliveries (λ d i.
+        let below = delivery_below rows keyed sound d i in
+        let values = delivery_values rows keyed sound d i in
+        let rest = and_second (is_msg_id d.id) (is_body d.body && is_moment d.at) values.1 in
+        record {
+          seq = omega (arith, below, few);
+          endpoint = omega (arith, below, values.0, few);
+          id = and_first (is_msg_id d.id) _ values.1;
+          at = and_second (is_body d.body) (is_moment d.at) rest;
+          body = and_first (is_body d.body) (is_moment d.at) rest;
+        });
+    attempts = all_of IsReadableAttempt rows.attempts (λ t i.
+        let below = attempt_below rows keyed sound t i in
+        let values = attempt_values rows keyed sound t i in
+        record {
+          seq = omega (arith, below, few);
+          delivery = omega (arith, below, values.0, few);
+          status = small_status t.status values.2;
+          at = values.3;
+        });
+  }
+
+-- What refused one of two calls refused both
+
+module _ (a b c : State) (early : Survives a b (λ _. ⊥)) (late : Survives b c (λ _. ⊥)) (clean : HasCleanDisk c) where
+  pub refusal_until : (error : Error) → IsRefusal a b error → IsRefusal a c error
+  refusal_until error (inl memory) = inl memory
+  refusal_until error (inr (inl (why, told, inl failed))) = inr
+      (inl (why, told, inl (omega (arith, failed, late.counts))))
+  refusal_until error (inr (inl (why, told, inr shut))) = inr (inl (why, told, inr shut))
+  refusal_until error (inr (inr stopped)) = inr (inr stopped)
+
+  failed_since : IsTrue a.is_open → HasFailed b c → HasFailed a c
+  failed_since is_open (inl failed) = inl (omega (arith, failed, early.counts))
+  failed_since is_open (inr shut) =
+      elim (early.closes (omega (arith, clean, late.clean)) is_open) [
+        | inl still ↦ absurd (let yes = still in let no = shut in cc)
+        | inr failed ↦ inl (omega (arith, failed, late.counts))
+      ]
+
+  pub refusal_since : (error : Error) → IsTrue a.is_open → IsRefusal b c error → IsRefusal a c error
+  refusal_since error is_open (inl memory) = inl memory
+  refusal_since error is_open (inr (inl (why, told, failed))) = inr (inl (why, told, failed_since is_open failed))
+  refusal_since error is_open (inr (inr stopped)) = inr (inr (stopped.0, subst IsSome early.limit stopped.1))
+
+  row_refusal_since : (fault : RowFault) → IsTrue a.is_open → IsRowRefusal b c fault → IsRowRefusal a c fault
+  row_refusal_since Unreadable is_open none = none
+  row_refusal_since (Failed error) is_open refusal = refusal_since error is_open refusal
+
+-- a read of tables that were read before it
+pub refused_behind : (a b c : State) → IsQuiet a b → Spares b c → HasCleanDisk c → IsTrue a.is_open
+    → (rows : Rows) (fault : RowFault) → IsTables a.now rows
+    → (HasCleanDisk b → IsTrue b.is_open → IsTables b.now rows → IsRowRefusal b c fault) → IsRowRefusal a c fault
+refused_behind a b c quiet spares clean is_open rows fault tables refused =
+    let at_b = clean_before b c spares clean in
+    let open_b = (quiet.unchanged at_b is_open).0.is_open in
+    row_refusal_since a b c quiet.spares.survives spares.survives clean fault is_open
+    (refused at_b open_b (tables_along a b rows quiet at_b open_b tables))
+
+-- A page that was looked up behind the reads before
+
+module _ {X : Type 0} (number : X → Seq) (table : List X) (a b m : State) (rows : Rows) (P : List X → Type 0)
+    (from : Seq) (page : List X)
+    (quiet : IsQuiet a b) (look : Spares b m) (same : HasCleanDisk m → IsUnchanged b m)
+    (so_far : HasCleanDisk b → IsTables a.now rows → IsReadTo number table P from)
+    (found : HasCleanDisk m → IsTables b.now rows → IsPage number from table page) where
+  is_page : HasCleanDisk m → IsTrue a.is_open → IsTables a.now rows → IsReadTo number table P from
+      × IsPage number from table page
+  is_page clean is_open tables =
+      let early = clean_before b m look clean in
+      (so_far early tables, found clean (tables_along a b rows quiet early (same clean).0.was_open tables))
+
+  -- why it isn't taken in
+  pub page_refused : (z : State) (fault : RowFault) → Spares m z → HasCleanDisk z → IsTrue a.is_open
+      → IsTables a.now rows → (IsTrue m.is_open → IsTables m.now rows → ComeNext table P page → IsRowRefusal m z fault)
+      → IsRowRefusal a z fault
+  page_refused z fault step clean is_open tables refused =
+      refused_behind a m z (quiet_then a b m quiet (quiet_look b m look same)) step clean is_open rows fault tables
+      (λ at_m open_m here.
+      let both = is_page at_m is_open tables in
+      refused open_m here (comes_next number table P from page both.0 both.1))
+
+  -- its last row isn't below the number where it begins
+  pub page_ends : (last : X) → slice_get page (length page - 1) ≡ Some last → HasCleanDisk m → IsTrue a.is_open
+      → IsTables a.now rows → from ≤ number last
+  page_ends last is clean is_open tables = let both = is_page clean is_open tables in page_rises number table P from
+      page last both.0 both.1 is
