@@ -1,17 +1,23 @@
 //! Hosts by their names: look-ups that are slow or refused, and a host with two addresses.
+ghost use Rattle.std.specs.Prelude.{◌≡◌};
+ghost use Rattle.permits.specs.declared.pool.TheConstants.{PARTS};
 
 use crate::given::holds;
 use crate::outgoing::request_to;
 use crate::wires::take_post;
 use delivery::{Outgoing, Poster};
 use hyper_poster::HyperPoster;
+use permits::PARTS;
 use retry_table::PostResult;
+use sqlite::{Alter, Connection, MemStore};
 use std::alloc::{Alloc, AllocError, AllocGlobal, Global};
 use std::io::{self, Write};
+use std::marker::Brand;
 use std::net::{Ipv4Addr, Net, SocketAddr, TcpListener, TcpStream};
 use std::process::Abort;
 use std::random::RandomSource;
 use std::sync::Wait;
+use std::sync::ledger::{Blank, Ledger};
 use std::test::Fail;
 use std::thread;
 use std::thread::Threads;
@@ -272,10 +278,39 @@ where
     Ok(two_crowds(rt, request)?)
 }
 
+fn over<L, S, R>(
+    rt: &R,
+    alloc: Global,
+    blank: Blank,
+    conn: Connection<S>,
+    listener: TcpListener,
+) -> Result<(), Fail>
+where
+    L: Ledger,
+    S: Alter + Drop,
+    R: Wait
+        + Threads
+        + Clock
+        + Net<Listener = TcpListener, Stream = TcpStream>
+        + RandomSource
+        + AllocGlobal
+        + Abort
+        + Copy
+        + Send
+        + Sync
+        + 'static,
+    requires name { blank.name ≡ L.name }
+    requires parts { blank.parts ≡ L.parts }
+    requires enough { blank.parts ≡ PARTS }
+{
+    let port = listener.local_addr()?.port();
+    let request = request_to::<L, S, R>(rt, alloc, blank, conn, "subscriber.test", port)?;
+    Ok(meet(rt, alloc, listener, &request)?)
+}
+
 #[test]
 fn a_look_up_takes_no_longer_than_a_post(rt: HostRuntime) -> Result<(), Fail> {
     let listener = TcpListener::bind(&rt, (Ipv4Addr::LOCALHOST, 0))?;
-    let port = listener.local_addr()?.port();
-    let request = request_to(&rt, "subscriber.test", port)?;
-    Ok(meet(&rt, rt.alloc(), listener, &request)?)
+    let conn = Connection::open_in_memory(rt.alloc())?;
+    over::<Brand, MemStore, HostRuntime>(&rt, rt.alloc(), Blank::new(PARTS), conn, listener)
 }

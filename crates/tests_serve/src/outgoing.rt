@@ -9,9 +9,8 @@ use permits::{Foreign, PARTS, Permit};
 use recovery::create;
 use relay_types::Moment;
 use retry_table::PostResult;
-use sqlite::{Alter, Connection, MemStore};
-use std::alloc::{AllocGlobal, Global};
-use std::marker::Brand;
+use sqlite::{Alter, Connection};
+use std::alloc::Global;
 use std::process::Abort;
 use std::sync::ledger::{Blank, Ledger};
 use std::test::Fail;
@@ -38,12 +37,14 @@ fn claimed<L: Ledger, R: Abort>(
     Ok(built?)
 }
 
-fn over<L, S, R>(
+/// The request of an event for a subscriber at this host and port.
+pub(crate) fn request_to<L, S, R>(
     rt: &R,
     alloc: Global,
     blank: Blank,
     conn: Connection<S>,
-    url: &str,
+    host: &str,
+    port: u16,
 ) -> Result<Outgoing, Fail>
 where
     L: Ledger,
@@ -53,25 +54,15 @@ where
     requires parts { blank.parts ≡ L.parts }
     requires enough { blank.parts ≡ PARTS }
 {
+    let url = format!(in alloc; "http://{host}:{port}/hook")?;
     if !conn.is_autocommit() {
         return Err(Fail::from("the store is in a transaction"));
     }
     let Ok((mut desk, mut vault)) = create::<L, S>(alloc, blank, conn, MARK) else {
         return Err(Fail::from("the store wasn't made"));
     };
-    match begin(rt, alloc, &mut desk, &mut vault, url) {
+    match begin(rt, alloc, &mut desk, &mut vault, url.as_str()) {
         Ok(()) => claimed(rt, alloc, &mut desk),
         Err(fail) => Err(fail),
     }
-}
-
-/// The request of an event for a subscriber at this host and port.
-pub(crate) fn request_to<R>(rt: &R, host: &str, port: u16) -> Result<Outgoing, Fail>
-where
-    R: AllocGlobal + Abort,
-{
-    let url = format!(in rt.alloc(); "http://{host}:{port}/hook")?;
-    let conn = Connection::open_in_memory(rt.alloc())?;
-    let blank = Blank::new(PARTS);
-    over::<Brand, MemStore, R>(rt, rt.alloc(), blank, conn, url.as_str())
 }
