@@ -1,9 +1,10 @@
 -- A store that stands is opened as what it holds, and a store that a stop left as what was left.
-use Rattle.std.proofs.Common.{◌≡◌, ℕ, Result, Ok, Err, IfOk, IfErr, List, [], ◌∷◌, map, ◌++◌, take, drop, inl, inr, refl, sym, ap, subst, ◌∙◌, append_assoc}
+use Rattle.std.proofs.Common.{◌≡◌, ℕ, Result, Ok, Err, IfOk, IfErr, List, [], ◌∷◌, map, ◌++◌, take, drop, inl, inr, refl, sym, ap, subst, ◌∙◌, append_assoc, arith}
 use Rattle.std.proofs.lemmas.List.{take-append-drop}
-use Rattle.std.specs.Prelude.{MatchResult}
+use Rattle.std.specs.Prelude.{IsSome, IsTrue, MatchResult}
 use Rattle.sqlite.specs.Store.{Ghosts}
-use Rattle.sqlite.specs.State.{State}
+use Rattle.sqlite.specs.State.{State, Survives}
+use Rattle.sqlite.specs.declared.error.Error.{Error}
 use Rattle.sqlite.specs.Effect.{Database}
 use Rattle.sqlite.specs.Held.{Held, state}
 use Rattle.relay_types.specs.declared.record.Record.{Record}
@@ -13,16 +14,20 @@ use Rattle.relay_types.specs.Rows.{Rows, rows_of}
 use Rattle.relay_types.specs.Sound.{history_from}
 use Rattle.relay_types.proofs.HistoryLaws.{of_a_history}
 use Rattle.relay_types.proofs.KnownLaws.{legal_front}
+use Rattle.spool_sql.specs.Readable.{IsRefusal}
 use Rattle.spool_sql.specs.Stored.{IsTables}
 use Rattle.spool_sql.specs.Tables.{relay_schema}
-use Rattle.spool.specs.Adopting.{IsAdopted, IsOnlyRead, LeavesRead, IsOfStore}
+use Rattle.spool.specs.Adopting.{IsAdopted, IsOnlyRead, LeavesRead, IsOfStore, unloaded_fault}
+use Rattle.spool.specs.Books.{IsLoadRefusal}
+use Rattle.spool.specs.declared.ends.LoadFault.{LoadFault}
+use Rattle.spool.specs.declared.ends.LoadFault.TheVariants as load
 use Rattle.spool.specs.declared.ends.OpenFault.{OpenFault}
 use Rattle.spool.specs.declared.ends.OpenFault.TheVariants.{NotOurs, NewerVersion, Damaged, Store, OutOfMemory}
 use Rattle.spool.specs.Vaults.{VaultValue}
 use Rattle.desk.specs.World.{World, all_records}
 use Rattle.desk.specs.Desks.{DeskValue}
 use Rattle.recovery.specs.Left.{AreLeft, AreOfSteps}
-use Rattle.recovery.specs.Reopenings.{AreOpenedAt, AreOpenedAtOne, IsReopened, OpensHeld, ReopensLeft, steps_from, IsOfReading}
+use Rattle.recovery.specs.Reopenings.{AreOpenedAt, AreOpenedAtOne, IsReopened, OpensHeld, ReopensLeft, steps_from, IsReadingRefusal}
 
 records_of_each : (records : List Record) → records_of (map (λ entry. entry ∷ []) records) ≡ records
 records_of_each [] = refl
@@ -97,9 +102,37 @@ leaves_read_then a b c Damaged first (second, is_open) = (only_read_then a b c f
 leaves_read_then a b c (Store cause) first second = only_read_then a b c first second
 leaves_read_then a b c OutOfMemory first second = only_read_then a b c first second
 
-pub of_reading : (fault : OpenFault) → IsOfStore fault → IsOfReading fault
-of_reading NotOurs none = none
-of_reading NewerVersion none = none
-of_reading Damaged none = none
-of_reading (Store cause) h = tt
-of_reading OutOfMemory h = tt
+-- Why a store of a legal history isn't opened
+
+pub of_reading : (a b : State) (fault : OpenFault) → IsOfStore a b fault → IsReadingRefusal a b fault
+of_reading a b NotOurs none = none
+of_reading a b NewerVersion none = none
+of_reading a b Damaged none = none
+of_reading a b (Store cause) h = h.1
+of_reading a b OutOfMemory h = tt
+
+pub unloaded : (a b : State) (fault : LoadFault) (told : OpenFault) → told ≡ unloaded_fault fault → (fault ≡ load.Closed → ⊥)
+    → IsLoadRefusal a b fault → IsReadingRefusal a b told
+unloaded a b load.Closed told same not_closed h = absurd (not_closed refl)
+unloaded a b (load.Store error) told same not_closed h = subst (IsReadingRefusal a b) (sym same) h
+unloaded a b load.OutOfMemory told same not_closed h = subst (IsReadingRefusal a b) (sym same) tt
+
+-- behind a read that left the store open
+module _ (a m b : State) (early : Survives a m (λ _. ⊥)) (is_open : IsTrue m.is_open) where
+  refusal_since : (error : Error) → IsRefusal m b error → IsRefusal a b error
+  refusal_since error (inl memory) = inl memory
+  refusal_since error (inr (inl (why, told, inl failed))) = inr (inl (why, told, inl (omega (arith, failed, early.counts))))
+  refusal_since error (inr (inl (why, told, inr shut))) = absurd (let yes = is_open in let no = shut in cc)
+  refusal_since error (inr (inr stopped)) = inr (inr (stopped.0, subst IsSome early.limit stopped.1))
+
+  pub reading_since : (fault : OpenFault) → IsReadingRefusal m b fault → IsReadingRefusal a b fault
+  reading_since NotOurs none = none
+  reading_since NewerVersion none = none
+  reading_since Damaged none = none
+  reading_since (Store error) refusal = refusal_since error refusal
+  reading_since OutOfMemory h = tt
+
+-- what is so of each refusal
+pub each_refusal : {A E : Type 0} (P : E → Type 0) (r : Result A E) → ((e : E) → P e) → IfErr r P
+each_refusal P (Ok x) each = tt
+each_refusal P (Err e) each = each e

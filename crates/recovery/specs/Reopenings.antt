@@ -8,6 +8,7 @@ use Rattle.relay_types.specs.Records.{History, records_of}
 use Rattle.relay_types.specs.Legal.{IsLegal}
 use Rattle.relay_types.specs.Rows.{Rows, rows_of}
 use Rattle.relay_types.specs.Sound.{history_from}
+use Rattle.spool_sql.specs.Readable.{IsRefusal}
 use Rattle.spool_sql.specs.Stored.{IsTables}
 use Rattle.sound_tables.specs.Checks.{AreSoundTables}
 use Rattle.spool.specs.Adopting.{IsUnadopted}
@@ -58,6 +59,12 @@ abbrev pub IsOfReading : OpenFault → Type 0
 IsOfReading (Store cause) = Unit {0}
 IsOfReading OutOfMemory = Unit {0}
 IsOfReading other = ⊥
+
+-- Memory was refused, the store failed under this name, or a query took more steps than the connection may.
+abbrev pub IsReadingRefusal : (old new : State) → OpenFault → Type 0
+IsReadingRefusal old new (Store cause) = IsRefusal old new cause
+IsReadingRefusal old new OutOfMemory = Unit {0}
+IsReadingRefusal old new other = ⊥
 
 -- it is the relay's by its meta, and isn't taken for its rows or its version
 abbrev pub IsOfRows : OpenFault → Type 0

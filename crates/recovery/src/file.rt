@@ -7,12 +7,12 @@ ghost use Rattle.sqlite.specs.Start.{FindsIn};
 ghost use Rattle.sqlite.specs.WalFiles.{image_at};
 ghost use Rattle.spool_sql.specs.Steps.{IfClean};
 ghost use Rattle.spool_sql.specs.Tables.{no_schema, relay_schema};
-ghost use Rattle.spool.specs.Adopting.{IsOnlyRead};
+ghost use Rattle.spool.specs.Adopting.{HaveHistory, IsOnlyRead};
 ghost use Rattle.desk.specs.Desks.{HasNothingOut};
 ghost use Rattle.recovery.specs.Files.{IsFileOpened, IsFoundOpened};
 ghost use Rattle.recovery.specs.Left.{IsCleanAt};
 ghost use Rattle.recovery.specs.Openings.{LeavesOr};
-ghost use Rattle.recovery.specs.Reopenings.{IsOfReading, IsOfRows, IsUnopened};
+ghost use Rattle.recovery.specs.Reopenings.{IsOfReading, IsOfRows, IsReadingRefusal, IsUnopened};
 
 use crate::opening::create;
 use crate::reopening::reopen;
@@ -109,6 +109,8 @@ pub fn open<L: Ledger, S: Alter>(
         → IsFoundOpened S.Store conn opening.0 opening.1) }
     ensures refused { IfErr result (λ back. IfClean S.Store conn back.0
         (λ a b. a.now.schema ≡ relay_schema → IsUnopened a b back.1)) }
+    ensures sound { IfErr result (λ back. IfClean S.Store conn back.0
+        (λ a b. HaveHistory a.now → IsReadingRefusal a b back.1)) }
     ensures made { IsTrue is_new → (state S.Store conn).now.schema ≡ no_schema
         → IfErr result (λ back. IsOfReading back.1 × LeavesOr S.Store conn back.0 back.1) }
     ensures read { is_new ≡ false → MatchResult result (λ opening. IfClean S.Store conn opening.1.conn IsOnlyRead)

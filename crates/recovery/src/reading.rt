@@ -1,10 +1,12 @@
 //! The desk of what a vault holds.
-ghost use Rattle.std.specs.Prelude.{◌≡◌, [], false, IfErr, IfOk, MatchResult};
+ghost use Rattle.std.specs.Prelude.{◌≡◌, List, [], false, IfErr, IfOk, MatchResult};
+ghost use Rattle.relay_types.specs.declared.record.Record.{Record};
 ghost use Rattle.spool_sql.specs.Steps.{IfClean};
 ghost use Rattle.spool.specs.Adopting.{IsReadOpen, LeavesRead};
+ghost use Rattle.spool.specs.Vaults.{Holds};
 ghost use Rattle.desk.specs.Desks.{HasNothingOut};
 ghost use Rattle.recovery.specs.Left.{IsCleanAt};
-ghost use Rattle.recovery.specs.Reopenings.{IsOfReading, OpensHeld};
+ghost use Rattle.recovery.specs.Reopenings.{IsOfReading, IsReadingRefusal, OpensHeld};
 
 use desk::Desk;
 use permits::Pool;
@@ -28,6 +30,8 @@ pub(crate) fn with_desk<L: Ledger, S: Alter>(
     ensures opens { IfOk result (λ opening. IsCleanAt S.Store opening.1.conn
         → OpensHeld S.Store vault opening.0 opening.1) }
     ensures cause { IfErr result (λ back. IsOfReading back.1) }
+    ensures sound { IfErr result (λ back. IfClean S.Store vault.conn back.0
+        (λ a b. (history : List Record) → Holds S.Store vault history → IsReadingRefusal a b back.1)) }
     ensures read { MatchResult result (λ opening. IfClean S.Store vault.conn opening.1.conn IsReadOpen)
         (λ back. IfClean S.Store vault.conn back.0 (λ a b. LeavesRead a b back.1)) }
     ensures clean { MatchResult result

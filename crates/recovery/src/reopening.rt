@@ -7,7 +7,7 @@ ghost use Rattle.sound_tables.specs.Keys.{has_meta, has_tables};
 ghost use Rattle.spool.specs.Adopting.{HaveHistory, IsForeign, IsReadOpen, LeavesRead};
 ghost use Rattle.desk.specs.Desks.{HasNothingOut};
 ghost use Rattle.recovery.specs.Left.{IsCleanAt};
-ghost use Rattle.recovery.specs.Reopenings.{IsOfReading, IsReopened, IsUnopened, ReopensLeft};
+ghost use Rattle.recovery.specs.Reopenings.{IsReadingRefusal, IsReopened, IsUnopened, ReopensLeft};
 
 use crate::reading::with_desk;
 use desk::Desk;
@@ -41,7 +41,7 @@ pub fn reopen<L: Ledger, S: Alter>(
     ensures refused { IfErr result (λ back. IfClean S.Store conn back.0
         (λ a b. a.now.schema ≡ relay_schema → IsUnopened a b back.1)) }
     ensures sound { IfErr result (λ back. IfClean S.Store conn back.0
-        (λ a _. HaveHistory a.now → IsOfReading back.1)) }
+        (λ a b. HaveHistory a.now → IsReadingRefusal a b back.1)) }
     ensures read { MatchResult result (λ opening. IfClean S.Store conn opening.1.conn IsReadOpen)
         (λ back. IfClean S.Store conn back.0 (λ a b. LeavesRead a b back.1)) }
     ensures clean { MatchResult result

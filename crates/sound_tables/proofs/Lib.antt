@@ -1,5 +1,7 @@
+pub mod BothRefused
 pub mod ReadingLemmas
 pub mod Texts
+pub mod KeyOrder
 pub mod TableLemmas
 pub mod StoredLemmas
 pub mod KeyLemmas
@@ -8,6 +10,7 @@ pub mod OrderLemmas
 pub mod PlaceLemmas
 pub mod ShownLemmas
 pub mod SoundLemmas
+pub mod ReadOrderLemmas
 pub mod LackLemmas
 pub mod LookLemmas
 pub mod MetaLemmas

@@ -6,10 +6,13 @@ use Rattle.sqlite.specs.Effect.{Database}
 use Rattle.sqlite.specs.State.{HasCleanDisk, IsLive, IsUnchanged}
 use Rattle.sqlite_catalog.specs.Listing.{IsSound}
 use Rattle.sqlite.proofs.Callers.{unchanged_then}
+use Rattle.sqlite.specs.declared.error.Error.{Error}
+use Rattle.spool_sql.specs.Readable.{IsRefusal}
 use Rattle.spool_sql.specs.Tables.{relay_schema}
 use Rattle.sound_tables.specs.Checks.{AreRead, AreShown, HasRecords}
 use Rattle.sound_tables.specs.declared.stored.StoredRows.{StoredRows}
 use Rattle.sound_tables.specs.Reading.{Looks}
+use Rattle.sound_tables.proofs.BothRefused.{refusal_since}
 use Rattle.sound_tables.proofs.ReadingLemmas.{IsStill, looks_failed}
 
 -- the first look changed nothing
@@ -31,6 +34,10 @@ module _ {S : Type 0} (g : Ghosts S) (a m b : Held S) (first : Looks g a m) (sam
 
   pub same_both : HasCleanDisk (state g b) → IsUnchanged (state g m) (state g b) → IsUnchanged (state g a) (state g b)
   same_both clean later = unchanged_then _ _ _ (same (clean_early clean)) later
+
+  -- what the second look was refused for, both were
+  pub refused_since : (e : Error) → HasCleanDisk (state g b) → IsRefusal (state g m) (state g b) e → IsRefusal (state g a) (state g b) e
+  refused_since e clean = refusal_since (state g a) (state g m) (state g b) first.survives second.survives clean e
 
   pub are_read : (records : ℕ) (rows : StoredRows) → IsLive (state g a) → HasCleanDisk (state g b) → (state g a).now.schema ≡ relay_schema → HasRecords (state g a).now records → AreShown (state g m).now rows → AreRead (state g a).now records rows
   are_read records rows live clean has meta shown = record {

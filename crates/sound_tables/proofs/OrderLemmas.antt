@@ -18,7 +18,7 @@ less a b l = by_ranked (a < b) (a ≡ b) (b < a) (nat_cmp a b) (ranked a b (nat_
 pub not_less : (a b : ℕ) → b ≤ a → is_lt (nat_cmp a b) ≡ false
 not_less a b h = by_ranked (a < b) (a ≡ b) (b < a) (nat_cmp a b) (ranked a b (nat_cmp a b) refl) (λ e l. absurd (omega (arith, l, h))) (λ e same. ap is_lt e) (λ e above. ap is_lt e)
 
-one_more : (k : ℕ) → suc k + 1 ≡ suc (k + 1)
+pub one_more : (k : ℕ) → suc k + 1 ≡ suc (k + 1)
 one_more k = omega arith
 
 module _ {X : Type 0} (number : X → ℕ) where
@@ -51,8 +51,15 @@ module _ {X : Type 0} (number : X → ℕ) where
       not_less (number (get_or xs (k + 1) d)) (number (get_or xs k d)) (omega (arith, up))
 
   -- numbers that rise leave one order
+  sorted_as : (xs ys : List X) → IsRisingFrom number 0 xs → IsPermutation xs ys → IsSorted (on number nat_cmp) ys → ys ≡ xs
+  sorted_as xs ys rises same up = sorted_unique (on number nat_cmp) (on_total number nat_cmp_total) xs ys (strictly 0 xs rises) same up
+
   pub one_order : (xs ys : List X) → IsRisingFrom number 0 xs → IsPermutation xs ys → IsRisingFrom number 0 ys → ys ≡ xs
-  one_order xs ys rises same up = sorted_unique (on number nat_cmp) (on_total number nat_cmp_total) xs ys (strictly 0 xs rises) same (sorted ys up)
+  one_order xs ys rises same up = sorted_as xs ys rises same (sorted ys up)
+
+  -- and sorted they rise
+  pub one_sorted : (xs ys : List X) → IsRisingFrom number 0 xs → IsPermutation xs ys → IsSorted (on number nat_cmp) ys → IsRisingFrom number 0 ys
+  one_sorted xs ys rises same up = subst (IsRisingFrom number 0) (sym (sorted_as xs ys rises same up)) rises
 
   -- the numbers don't fall, from a number on
   abbrev pub Climbs : ℕ → List X → Type 0

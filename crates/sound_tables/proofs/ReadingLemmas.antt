@@ -1,10 +1,7 @@
 -- A query whose rows are read one at a time.
-use Rattle.std.proofs.Common.{◌≡◌, ◌≢◌, ◌≤◌, ◌⊎◌, inl, inr, ℕ, List, [], ◌∷◌, ◌++◌, length, Bool, true, false, None, Result, Ok, Err, IsTrue, IfErr, refl, sym, ap, subst, ◌∙◌, arith}
+use Rattle.std.proofs.Common.{◌≡◌, ◌≤◌, ◌⊎◌, inl, inr, ℕ, List, [], ◌∷◌, ◌++◌, length, Bool, true, false, None, Ok, Err, IsTrue, refl, sym, ap, subst, ◌∙◌, arith}
 use Rattle.std.specs.List.{AllZip}
-use Rattle.std.specs.Result.{IsErrAnd}
 use Rattle.sqlite_trees.specs.declared.store.Store.{Ghosts}
-use Rattle.sqlite_trees.specs.declared.error.StoreError.{StoreError}
-use Rattle.sqlite_trees.specs.declared.error.StoreError.TheVariants as store
 use Rattle.sqlite_resolve.specs.declared.compiled.Compiled.{Compiled}
 use Rattle.sqlite_resolve.specs.Lowering.{Checked}
 use Rattle.sqlite.specs.declared.error.Error.{Error}
@@ -14,11 +11,11 @@ use Rattle.sqlite.specs.Clock.{timed}
 use Rattle.sqlite.specs.Listing.{understood, reads_listing, IsSourceOf}
 use Rattle.sqlite.specs.Held.{Held, state}
 use Rattle.sqlite.specs.Given.{HasGiven, HasBegun, Returns}
-use Rattle.sqlite.specs.State.{State, HasCleanDisk, Shown, ShowsRows, Begins, FailsToQuery, FailsToShow, IsNotRun, IsStatement, IsNoStatement, IsUnchanged, IsRolledBack, Survives, CommitsShowing, store_error}
+use Rattle.sqlite.specs.State.{State, HasCleanDisk, Shown, ShowsRows, Begins, FailsToQuery, FailsToShow, IsNotRun, IsStatement, IsNoStatement, IsUnchanged, IsRolledBack, Survives, CommitsShowing}
 use Rattle.sqlite.proofs.Callers.{unchanged_then}
 use Rattle.sqlite.proofs.StateLemmas.{unchanged, survives_then, survives_weaker}
-use Rattle.spool_sql.specs.Causes.{cause}
-use Rattle.spool_sql.specs.declared.cause.Cause.TheVariants.{Other}
+use Rattle.spool_sql.proofs.RefusalLemmas.{of_failure}
+use Rattle.sound_tables.proofs.BothRefused.{refusal_since}
 use Rattle.sound_tables.specs.Reading.{Shows, Fits, IsPlainText, IsAnswerable, IsFault, HasTaken, Looks}
 
 -- ---- what a query that reads tells, of each database that is the same
@@ -74,14 +71,6 @@ failed_left sql params m b e plain (inr h) =
     let none = plain m.now.schema h.0 h.1.is in
     inl (subst (FailsToShow m b sql h.0 (timed params h.0.formats h.1.now) e) none h.2).3
 
-never_other : (kind : StoreError) → cause (store_error kind) ≢ Other
-never_other store.OutOfMemory e = cc
-never_other store.Io e = cc
-never_other store.Corrupt e = cc
-never_other store.Full e = cc
-never_other store.Broken e = cc
-never_other store.Unstorable e = cc
-
 same_compiled : (db : Database) (sql : List ℕ) (c : Compiled) (it : IsAnswerable db sql) → understood db.schema sql ≡ Ok c → it.compiled ≡ c
 same_compiled db sql c it is = let both : Ok it.compiled ≡ Ok c = sym it.is ∙ is in cc
 
@@ -95,24 +84,23 @@ no_statement s sql e it (inr h) =
       | inr (inr clock) ↦ clock.0 (subst (λ (c : Compiled). c.formats ≡ []) same it.timeless)
     ]
 
-pub fault_from : (sql : List ℕ) (m a b : State) (e : Error) → IsPlainText sql → m.now ≡ a.now → FailsToQuery sql [] m b e → IsFault sql a e
+pub fault_at : (sql : List ℕ) (m b : State) (e : Error) → IsPlainText sql → FailsToQuery sql [] m b e → IsFault sql m b e
 unfolding FailsToQuery IsNotRun
-fault_from sql m a b e plain same h = subst (λ (d : Database). IsAnswerable d sql → cause e ≢ Other) same (here h)
-  where
-    here : (IsNotRun m b sql [] e) ⊎ ((c : Compiled) × (it : IsStatement m sql [] c) × FailsToShow m b sql c (timed [] c.formats it.now) e c.returning) → IsAnswerable m.now sql → cause e ≢ Other
-    here (inl (inl n)) it = absurd (no_statement m sql e it n.0)
-    here (inl (inr f)) it = subst (λ x. cause x ≢ Other) (sym f.1) (never_other f.0)
-    here (inr q) it =
-        let none = plain m.now.schema q.0 q.1.is in
-        let told = subst (FailsToShow m b sql q.0 (timed [] q.0.formats q.1.now) e) none q.2 in
-        let compiled = same_compiled m.now sql q.0 it q.1.is in
-        let formats = subst (λ (c : Compiled). c.formats ≡ []) compiled it.timeless in
-        let db : told.0 ≡ m.now = subst (λ b. IsSourceOf b m.now told.0) it.unlisted told.1 in
-        let on_db = subst (λ (d : Database). RefusesToRead m.step_limit q.0.command d (timed [] q.0.formats q.1.now) e) db told.2 in
-        let timeless = subst (λ (f : List (List ℕ)). RefusesToRead m.step_limit q.0.command m.now (timed [] f q.1.now) e) formats on_db in
-        let refused = subst (λ (c : Compiled). RefusesToRead m.step_limit c.command m.now [] e) (sym compiled) timeless in
-        let why = it.taken m.step_limit e refused in
-        rw why (λ x. let y = x in cc)
+fault_at sql m b e plain (inl (inl n)) it = absurd (no_statement m sql e it n.0)
+fault_at sql m b e plain (inl (inr f)) it = of_failure m b e f
+fault_at sql m b e plain (inr q) it =
+    let none = plain m.now.schema q.0 q.1.is in
+    let told = subst (FailsToShow m b sql q.0 (timed [] q.0.formats q.1.now) e) none q.2 in
+    let compiled = same_compiled m.now sql q.0 it q.1.is in
+    let formats = subst (λ (c : Compiled). c.formats ≡ []) compiled it.timeless in
+    let db : told.0 ≡ m.now = subst (λ b. IsSourceOf b m.now told.0) it.unlisted told.1 in
+    let on_db = subst (λ (d : Database). RefusesToRead m.step_limit q.0.command d (timed [] q.0.formats q.1.now) e) db told.2 in
+    let timeless = subst (λ (f : List (List ℕ)). RefusesToRead m.step_limit q.0.command m.now (timed [] f q.1.now) e) formats on_db in
+    inr (inr (it.taken m.step_limit e (subst (λ (c : Compiled). RefusesToRead m.step_limit c.command m.now [] e) (sym compiled) timeless)))
+
+pub fault_since : (sql : List ℕ) (a m b : State) (e : Error) → m.now ≡ a.now → Survives a m (λ _. ⊥) → Survives m b (λ _. ⊥) → HasCleanDisk b → IsFault sql m b e → IsFault sql a b e
+fault_since sql a m b e same early late clean fault it =
+    refusal_since a m b early late clean e (fault (subst (λ (d : Database). IsAnswerable d sql) (sym same) it))
 
 -- ---- one look after another
 
@@ -203,11 +191,3 @@ still_begun g sql a m plain mode survives begun = record {
 pub taken_begun : {S X : Type 0} (g : Ghosts S) (shows : Shows X) (sql : List ℕ) (a m : Held S) (xs : List X) → IsPlainText sql → HasBegun g sql [] a m → xs ≡ [] → HasTaken g shows sql m xs
 taken_begun g shows sql a m xs plain begun none =
     record { plain = plain; given = []; has = (begun_text g sql [] a m plain begun).0; shown = subst (AllZip shows []) (sym none) tt }
-
-pub fault_same : (sql : List ℕ) (m a : State) (e : Error) → m.now ≡ a.now → IsFault sql m e → IsFault sql a e
-fault_same sql m a e same = subst (λ (d : Database). IsAnswerable d sql → cause e ≢ Other) same
-
--- an error that is handed on
-pub handed_on : {A : Type 0} (r : Result A Error) (e : Error) (P : Error → Type 0) → IsErrAnd r (λ x. x ≡ e) → P e → IfErr r P
-handed_on (Ok a) e P same p = tt
-handed_on (Err x) e P same p = subst P (sym same) p

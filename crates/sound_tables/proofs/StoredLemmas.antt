@@ -286,7 +286,7 @@ past : (a b id : ℤ) → is_eq (int_cmp a id) ≡ true → int_lt a b ≡ true 
 past a b id same above = grind (arith, ints)
 
 module _ (id : ℤ) where
-  has_id : (r : Row) (s : Secret) → ShowsSecret r s → has_rowid id r ≡ is_eq (int_cmp s.rowid id)
+  pub has_id : (r : Row) (s : Secret) → ShowsSecret r s → has_rowid id r ≡ is_eq (int_cmp s.rowid id)
   has_id r s shown = ap (λ v. is_eq (value_cmp v (Int id))) shown.rowid ∙ ap is_eq (value_cmp-Int s.rowid id)
 
   none_above : (s : Secret) → is_eq (int_cmp s.rowid id) ≡ true → (rows : List Row) (ss : List Secret) → AllZip ShowsSecret rows ss

@@ -1,7 +1,7 @@
 -- What a whole table shows.
-use Rattle.std.proofs.Common.{◌≡◌, ◌≢◌, inl, inr, ℕ, List, [], ◌∷◌, ◌++◌, map, filter, true, false, Option, None, Some, Result, Ok, Err, IfOk, IfErr, OnOk, refl, sym, ap, subst, ◌∙◌, arith}
+use Rattle.std.proofs.Common.{◌≡◌, inl, inr, ℕ, List, [], ◌∷◌, ◌++◌, map, filter, true, false, Option, None, Some, Result, Ok, Err, IfOk, IfErr, OnOk, refl, sym, ap, subst, ◌∙◌, arith}
 use Rattle.std.specs.List.{AllByRecursion, AllZip}
-use Rattle.std.specs.Prelude.{Vec}
+use Rattle.std.specs.Prelude.{IsSome, Vec}
 use Rattle.std.specs.declared.alloc.Global.{Global}
 use Rattle.std.specs.List.Sorted.{IsPermutation}
 use Rattle.sqlite_trees.proofs.ListLemmas.{all-permutation}
@@ -13,8 +13,7 @@ use Rattle.sqlite.specs.declared.error.Error.{Error}
 use Rattle.sqlite.specs.Listing.{understood}
 use Rattle.sqlite.specs.State.{State, Shown, Begins, IsUnchanged}
 use Rattle.sqlite.proofs.Callers.{command_of, IsPlain, reads_as, begins_as}
-use Rattle.spool_sql.specs.Causes.{cause}
-use Rattle.spool_sql.specs.declared.cause.Cause.TheVariants.{Other}
+use Rattle.spool_sql.specs.Readable.{IsRefusal}
 use Rattle.spool_sql.specs.Tables.{relay_schema}
 use Rattle.spool_sql.proofs.BareLemmas.{understood_bare}
 use Rattle.spool_sql.proofs.UpdateLemmas.{scanned_by, shows, passes}
@@ -23,8 +22,9 @@ use Rattle.sqlite.specs.declared.error.ErrorCode.TheVariants.{OperationInterrupt
 use Rattle.sqlite.specs.Listing.{reads_listing}
 use Rattle.sqlite_typing.specs.Types.{accepts_program}
 use Rattle.sound_tables.specs.Reading.{Shows, Fits, Finds, IsFault, IsAnswerable, IsPlainText}
-use Rattle.sound_tables.specs.Tables.{HasShown, LacksShown, Tells}
+use Rattle.sound_tables.specs.Tables.{AreByFirst, HasShown, LacksShown, Tells}
 use Rattle.sound_tables.proofs.Texts.{ReadsTree, compiled_as, whole, in_order}
+use Rattle.sound_tables.proofs.KeyOrder.{ShowsKey, by_first}
 
 every_row : (rows : List Row) → filter (passes [] []) rows ≡ rows
 every_row [] = refl
@@ -44,6 +44,9 @@ module _ (text : List ℕ) (t : ℕ) (shown : List Term) (names : List (List ℕ
   pub shown_whole : (b : State) (rows : List Row) → Shown text [] s b rows → IsPermutation (map (shows [] shown) (s.now.trees t)) rows
   shown_whole b rows h = answered rows (reads_as text [] s b relay_schema has _ is_select is_plain reads.unlisted rows h)
 
+  pub shown_by_first : ShowsKey shown → (b : State) (rows : List Row) → Shown text [] s b rows → AreByFirst rows
+  shown_by_first first b rows h = by_first t shown first s.now.schema s.now.trees rows (reads_as text [] s b relay_schema has _ is_select is_plain reads.unlisted rows h)
+
   pub begun_whole : (rows : List Row) → Begins text [] s rows → (tail : List Row) × IsPermutation (map (shows [] shown) (s.now.trees t)) (rows ++ tail)
   begun_whole rows h =
       let it = begins_as text [] s s relay_schema has _ is_select is_plain reads.unlisted rows h in
@@ -60,11 +63,11 @@ module _ (text : List ℕ) (t : ℕ) (shown : List Term) (names : List (List ℕ
     taken = λ limit e. taken_by limit e;
   }
     where
-      taken_by : (limit : Option ℕ) (e : Error) → RefusesToRead limit (Select (record { lets = []; body = whole t shown }) names) s.now [] e → e ≡ SqliteFailure OperationInterrupted
+      taken_by : (limit : Option ℕ) (e : Error) → RefusesToRead limit (Select (record { lets = []; body = whole t shown }) names) s.now [] e → (e ≡ SqliteFailure OperationInterrupted) × IsSome limit
       taken_by limit e (inl mismatch) = absurd (let no = mismatch.1 in let yes = ap (λ schema. accepts_program schema [] (whole t shown) []) has ∙ reads.typed in cc)
       taken_by limit e (inr (inl (_, inl none))) = absurd none
       taken_by limit e (inr (inl (_, inr fold))) = absurd fold.4
-      taken_by limit e (inr (inr stopped)) = stopped.0
+      taken_by limit e (inr (inr stopped)) = (stopped.0, stopped.1)
 
 -- ---- rows that each show a value, or one that shows none
 
@@ -76,9 +79,9 @@ chosen : {X : Type 0} (is_shown : Shows X) (rows tail : List Row) → AllByRecur
 chosen is_shown [] tail all = ([], tt)
 chosen is_shown (r ∷ rows) tail all = let rest = chosen is_shown rows tail all.1 in (all.0.0 ∷ rest.0, (all.0.1, rest.1))
 
-module _ {X : Type 0} (is_shown : Shows X) (text : List ℕ) (t : ℕ) (shown : List Term) (names : List (List ℕ)) (reads : ReadsTree text (whole t shown) names) (a b : State) (has : a.now.schema ≡ relay_schema) where
+module _ {X : Type 0} (is_shown : Shows X) (text : List ℕ) (t : ℕ) (shown : List Term) (names : List (List ℕ)) (reads : ReadsTree text (whole t shown) names) (first : ShowsKey shown) (a b : State) (has : a.now.schema ≡ relay_schema) where
   pub has_shown : (xs : List X) → Fits is_shown text a b xs true → HasShown is_shown (shows [] shown) (a.now.trees t) xs
-  has_shown xs h = (h.1.0, shown_whole text t shown names reads a has b h.1.0 h.1.1, h.1.2)
+  has_shown xs h = (h.1.0, shown_whole text t shown names reads a has b h.1.0 h.1.1, h.1.2, shown_by_first text t shown names reads a has first b h.1.0 h.1.1)
 
   pub lacks_shown : (xs : List X) → Fits is_shown text a b xs false → LacksShown is_shown (shows [] shown) (a.now.trees t)
   lacks_shown xs h all =
@@ -101,6 +104,6 @@ module _ (text : List ℕ) (t : ℕ) (shown : List Term) (names : List (List ℕ
   pub plain_text : IsPlainText text
   plain_text = understood_bare text reads.bare
 
-  pub no_other : (s : State) → s.now.schema ≡ relay_schema → {A : Type 0} (r : Result A Error) → IfErr r (IsFault text s) → IfErr r (λ e. cause e ≢ Other)
-  no_other s has (Ok x) h = tt
-  no_other s has (Err e) h = h (answerable text t shown names reads s has)
+  pub refused_only : (a b : State) → a.now.schema ≡ relay_schema → {A : Type 0} (r : Result A Error) → IfErr r (IsFault text a b) → IfErr r (IsRefusal a b)
+  refused_only a b has (Ok x) h = tt
+  refused_only a b has (Err e) h = h (answerable text t shown names reads a has)

@@ -3,6 +3,7 @@ use Rattle.std.specs.Prelude.{◌≡◌, ◌≢◌, ◌<◌, ◌≤◌, ◌⊎�
 use Rattle.std.specs.declared.alloc.Global.{Global}
 use Rattle.sqlite.specs.Order.{Row}
 use Rattle.sqlite.specs.Effect.{Database}
+use Rattle.sqlite.specs.State.{State}
 use Rattle.relay_types.specs.Rows.{Rows}
 use Rattle.relay_types.specs.Sound.{AreKeyed, IsRisingFrom, are_sound}
 use Rattle.sqlite_trees.specs.Tree.{IsAscending}
@@ -12,6 +13,7 @@ use Rattle.sound_rows.specs.declared.numbers.Delivery.{Delivery}
 use Rattle.sound_rows.specs.declared.numbers.Attempt.{Attempt}
 use Rattle.spool_sql.specs.Causes.{cause}
 use Rattle.spool_sql.specs.declared.cause.Cause.TheVariants.{Other}
+use Rattle.spool_sql.specs.Readable.{IsRefusal}
 use Rattle.spool_sql.specs.Stored.{IsTables}
 use Rattle.spool_sql.specs.Tables.{relay_schema}
 use Rattle.sound_tables.specs.Shown.{ShowsMeta, ShowsEndpoint, ShowsSecret, ShowsDelivery, ShowsAttempt}
@@ -40,6 +42,17 @@ IsRefusedAt db NewerVersion = (m : Meta) × HasMeta db m × (version : ℕ) × (
 IsRefusedAt db Damaged =
     (m : Meta) × HasMeta db m × ((version : ℕ) → m.version ≡ pos version → version ≤ 1) × ((rows : Rows) → ¬ AreSoundTables db rows)
 IsRefusedAt db (Failed error) = cause error ≢ Other
+
+-- Why sound tables are refused: memory was, the store failed under this name, or a query took more steps than the connection may.
+abbrev pub IsSoundRefusal : (old new : State) → TableFault → Type 0
+IsSoundRefusal old new NotOurs = ⊥
+IsSoundRefusal old new NewerVersion = ⊥
+IsSoundRefusal old new Damaged = ⊥
+IsSoundRefusal old new (Failed error) = IsRefusal old new error
+
+-- tables that have sound rows are refused only so
+abbrev pub RefusesSound : (old new : State) → TableFault → Type 0
+RefusesSound old new fault = (rows : Rows) → AreSoundTables old.now rows → IsSoundRefusal old new fault
 
 -- sound rows of so many records are theirs
 abbrev pub HasSound : Database → ℕ → Type 0

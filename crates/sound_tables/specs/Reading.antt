@@ -1,5 +1,5 @@
 -- What is read of a table row by row, and why it isn't.
-use Rattle.std.specs.Prelude.{◌≡◌, ◌≢◌, ◌⊎◌, ◌≤◌, ℕ, length, Bool, true, false, List, [], Vec, Option, Some, None, Ok, IsTrue}
+use Rattle.std.specs.Prelude.{◌≡◌, ◌⊎◌, ◌≤◌, ℕ, length, Bool, true, false, List, [], Vec, Option, Some, None, Ok, IsSome, IsTrue}
 use Rattle.std.specs.declared.alloc.Global.{Global}
 use Rattle.std.specs.List.{AllZip}
 use Rattle.sqlite_resolve.specs.declared.compiled.Compiled.{Compiled}
@@ -14,8 +14,7 @@ use Rattle.sqlite.specs.Held.{Held, state}
 use Rattle.sqlite.specs.Given.{HasGiven}
 use Rattle.sqlite_trees.specs.declared.store.Store.{Ghosts}
 use Rattle.sqlite.specs.State.{State, HasCleanDisk, Shown, Begins, IsUnchanged, IsRolledBack, Survives}
-use Rattle.spool_sql.specs.Causes.{cause}
-use Rattle.spool_sql.specs.declared.cause.Cause.TheVariants.{Other}
+use Rattle.spool_sql.specs.Readable.{IsRefusal}
 
 -- whatever the schema is, the text has no RETURNING
 abbrev pub IsPlainText : List ℕ → Type 0
@@ -48,11 +47,11 @@ pub record IsAnswerable (db : Database) (sql : List ℕ) : Type 0 where
   pub bare : compiled.names ≡ []
   pub timeless : compiled.formats ≡ []
   pub unlisted : reads_listing db.schema sql ≡ false
-  pub taken : (limit : Option ℕ) (e : Error) → RefusesToRead limit compiled.command db [] e → e ≡ SqliteFailure OperationInterrupted
+  pub taken : (limit : Option ℕ) (e : Error) → RefusesToRead limit compiled.command db [] e → (e ≡ SqliteFailure OperationInterrupted) × IsSome limit
 
--- a query that can be answered fails for memory or a fault of the store
-abbrev pub IsFault : (sql : List ℕ) → State → Error → Type 0
-IsFault sql s e = IsAnswerable s.now sql → cause e ≢ Other
+-- a query that can be answered is refused only for memory or by the store
+abbrev pub IsFault : (sql : List ℕ) → (old new : State) → Error → Type 0
+IsFault sql old new e = IsAnswerable old.now sql → IsRefusal old new e
 
 module _ {S : Type 0} (g : Ghosts S) where
   -- a query is under way, and the rows that it gave show these values

@@ -1,15 +1,19 @@
 -- What a whole table shows.
 use Rattle.std.specs.Prelude.{List, [], ◌∷◌, Vec, Option, Some, None, map}
 use Rattle.std.specs.declared.alloc.Global.{Global}
-use Rattle.sqlite_value.specs.Order.{column}
+use Rattle.sqlite_value.specs.Order.{column, value_cmp}
 use Rattle.std.specs.List.{AllByRecursion, AllZip}
-use Rattle.std.specs.List.Sorted.{IsPermutation}
+use Rattle.std.specs.List.Sorted.{IsPermutation, IsSorted}
 use Rattle.sqlite.specs.Order.{Row}
 use Rattle.sound_tables.specs.Reading.{Shows}
 
--- each row shows one of these values, in some order, where a query shows so much of a row
+-- the rows stand in the order of their first column
+abbrev pub AreByFirst : List Row → Type 0
+AreByFirst rows = IsSorted (λ r s. value_cmp (column r 0) (column s 0)) rows
+
+-- each row shows one of these values, in the order of its first column, where a query shows so much of a row
 abbrev pub HasShown : {X : Type 0} → Shows X → (of : Row → Row) → (tree : List Row) → List X → Type 0
-HasShown shows of tree xs = (rows : List Row) × IsPermutation (map of tree) rows × AllZip shows rows xs
+HasShown shows of tree xs = (rows : List Row) × IsPermutation (map of tree) rows × AllZip shows rows xs × AreByFirst rows
 
 -- not every row shows a value
 abbrev pub LacksShown : {X : Type 0} → Shows X → (of : Row → Row) → (tree : List Row) → Type 0

@@ -5,7 +5,7 @@ ghost use Rattle.sqlite.specs.State.{IsLive, IsUnchanged};
 ghost use Rattle.relay_types.specs.Rows.{Rows};
 ghost use Rattle.spool_sql.specs.Steps.{IfClean};
 ghost use Rattle.spool_sql.specs.Tables.{relay_schema};
-ghost use Rattle.sound_tables.specs.Checks.{AreSoundTables, IsRefusedAt};
+ghost use Rattle.sound_tables.specs.Checks.{AreSoundTables, IsRefusedAt, RefusesSound};
 ghost use Rattle.sound_tables.specs.Keys.{has_meta, has_names, has_tables};
 ghost use Rattle.sound_tables.specs.Reading.{Looks};
 
@@ -29,6 +29,7 @@ pub fn check_tables<S: Alter>(conn: &mut Connection<S>, alloc: Global) -> Result
         → IfOk result (λ records. (rows : Rows) × AreSoundTables a.now rows × (rows.records ≡ records))) }
     ensures refused { IfClean S.Store conn.old conn.new (λ a _. a.now.schema ≡ relay_schema
         → IfErr result (IsRefusedAt a.now)) }
+    ensures sound { IfClean S.Store conn.old conn.new (λ a b. IfErr result (RefusesSound a b)) }
     ensures same { IfClean S.Store conn.old conn.new (λ a b. OnOk result (IsUnchanged a b)) }
 {
     if !has_meta(conn) {

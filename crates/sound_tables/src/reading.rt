@@ -19,8 +19,7 @@ pub(crate) trait Reading: Drop {
 }
 
 /// What the rows show that the query answers, one for each, or nothing where a row shows none. It holds a few rows at a
-/// time beside what they show, and stops at the first that shows nothing. Only a table of more rows than a `u64` counts is
-/// told as `TooBig`.
+/// time beside what they show, and stops at the first that shows nothing. Memory has no room for what a `u64` doesn't count.
 pub(crate) fn read_table<S: Alter, T: Reading>(
     conn: &mut Connection<S>,
     sql: &str,
@@ -30,7 +29,7 @@ pub(crate) fn read_table<S: Alter, T: Reading>(
     ensures looks { Looks S.Store conn.old conn.new }
     ensures taken { IfClean S.Store conn.old conn.new
         (λ a b. IfOk result (Finds T.is_shown sql.now a b)) }
-    ensures fault { IfClean S.Store conn.old conn.new (λ a _. IfErr result (IsFault sql.now a)) }
+    ensures fault { IfClean S.Store conn.old conn.new (λ a b. IfErr result (IsFault sql.now a b)) }
 {
     let mut found = Vec::new(alloc);
     let mut rows = conn.query(sql, &[])?;
@@ -52,8 +51,8 @@ fn collect<S: Alter, T: Reading>(
     ensures taken { IfClean S.Store rows.old.conn.now rows.new.conn.now (λ a b. IfOk result (λ all. (sql : List ℕ)
         → HasTaken S.Store T.is_shown sql rows.old.conn.now found.old.items
         → Fits T.is_shown sql a b found.new.items all)) }
-    ensures fault { IfClean S.Store rows.old.conn.now rows.new.conn.now (λ a _. IfErr result (λ e. (sql : List ℕ)
-        → HasTaken S.Store T.is_shown sql rows.old.conn.now found.old.items → IsFault sql a e)) }
+    ensures fault { IfClean S.Store rows.old.conn.now rows.new.conn.now (λ a b. IfErr result (λ e. (sql : List ℕ)
+        → HasTaken S.Store T.is_shown sql rows.old.conn.now found.old.items → IsFault sql a b e)) }
 {
     'each: for _ in 0..u64::MAX {
         rows.advance()?;
@@ -65,5 +64,5 @@ fn collect<S: Alter, T: Reading>(
         };
         found.push(shown)?;
     }
-    Err(Error::SqliteFailure(ErrorCode::TooBig))
+    Err(Error::SqliteFailure(ErrorCode::OutOfMemory))
 }

@@ -1,10 +1,11 @@
 //! What `meta` tells: whose the tables are, of which version, and how many records they tell of.
-ghost use Rattle.std.specs.Prelude.{◌≡◌, IfOk, IfErr, OnOk, MatchResult};
+ghost use Rattle.std.specs.Prelude.{◌≡◌, ◌≢◌, IfOk, IfErr, OnOk, MatchResult};
 ghost use Rattle.sqlite.specs.Effect.{Database};
 ghost use Rattle.sqlite.specs.State.{IsUnchanged};
+ghost use Rattle.sqlite.specs.declared.error.Error.{Error};
 ghost use Rattle.spool_sql.specs.Steps.{IfClean};
 ghost use Rattle.spool_sql.specs.Tables.{relay_schema};
-ghost use Rattle.sound_tables.specs.Checks.{HasMeta, HasRecords, IsRefusedAt};
+ghost use Rattle.sound_tables.specs.Checks.{HasMeta, HasRecords, IsRefusedAt, RefusesSound};
 ghost use Rattle.sound_tables.specs.Reading.{Looks};
 ghost use Rattle.sound_tables.specs.Shown.{ShowsMeta};
 ghost use Rattle.sound_tables.specs.Tables.{Tells, meta_columns};
@@ -28,6 +29,7 @@ pub(crate) fn read_records<S: Alter>(
         → IfOk result (HasRecords a.now)) }
     ensures refused { IfClean S.Store conn.old conn.new (λ a _. a.now.schema ≡ relay_schema
         → IfErr result (IsRefusedAt a.now)) }
+    ensures sound { IfClean S.Store conn.old conn.new (λ a b. IfErr result (RefusesSound a b)) }
     ensures same { IfClean S.Store conn.old conn.new (λ a b. OnOk result (IsUnchanged a b)) }
 {
     match read_meta(conn, alloc) {
@@ -37,8 +39,9 @@ pub(crate) fn read_records<S: Alter>(
 }
 
 fn records_in(rows: Option<Vec<Meta>>) -> Result<u64, TableFault>
-    ensures { (db : Database) → Tells ShowsMeta meta_columns (db.trees 0) rows
+    ensures judged { (db : Database) → Tells ShowsMeta meta_columns (db.trees 0) rows
         → MatchResult result (HasRecords db) (IsRefusedAt db) }
+    ensures told { IfErr result (λ why. (error : Error) → why ≢ TableFault.Failed error) }
 {
     let Some(rows) = rows else {
         return Err(TableFault::NotOurs);
@@ -50,7 +53,8 @@ fn records_in(rows: Option<Vec<Meta>>) -> Result<u64, TableFault>
 }
 
 fn records_of(meta: Meta) -> Result<u64, TableFault>
-    ensures { (db : Database) → HasMeta db meta → MatchResult result (HasRecords db) (IsRefusedAt db) }
+    ensures judged { (db : Database) → HasMeta db meta → MatchResult result (HasRecords db) (IsRefusedAt db) }
+    ensures told { IfErr result (λ why. (error : Error) → why ≢ TableFault.Failed error) }
 {
     if meta.version > VERSION {
         return Err(TableFault::NewerVersion);

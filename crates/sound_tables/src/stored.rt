@@ -1,9 +1,8 @@
 //! The rows of the four tables beside `meta`.
-ghost use Rattle.std.specs.Prelude.{◌≡◌, ◌≢◌, IfOk, IfErr, OnOk};
+ghost use Rattle.std.specs.Prelude.{◌≡◌, IfOk, IfErr, OnOk};
 ghost use Rattle.sqlite.specs.Effect.{Database};
 ghost use Rattle.sqlite.specs.State.{IsUnchanged};
-ghost use Rattle.spool_sql.specs.Causes.{cause};
-ghost use Rattle.spool_sql.specs.declared.cause.Cause.TheVariants.{Other};
+ghost use Rattle.spool_sql.specs.Readable.{IsRefusal};
 ghost use Rattle.spool_sql.specs.Steps.{IfClean};
 ghost use Rattle.spool_sql.specs.Tables.{relay_schema};
 ghost use Rattle.sound_tables.specs.Checks.{TellsStored, TellsEndpoints, TellsEvents};
@@ -33,8 +32,8 @@ pub(crate) fn read_stored<S: Alter>(
     ensures found { IfClean S.Store conn.old conn.new (λ a _. a.now.schema ≡ relay_schema
         → IfOk result (TellsStored a.now)) }
     ensures same { IfClean S.Store conn.old conn.new (λ a b. OnOk result (IsUnchanged a b)) }
-    ensures fault { IfClean S.Store conn.old conn.new (λ a _. a.now.schema ≡ relay_schema
-        → IfErr result (λ e. cause e ≢ Other)) }
+    ensures fault { IfClean S.Store conn.old conn.new (λ a b. a.now.schema ≡ relay_schema
+        → IfErr result (IsRefusal a b)) }
 {
     let (endpoints, secrets) = read_endpoint_tables(conn, alloc)?;
     let (deliveries, attempts) = read_event_tables(conn, alloc)?;
@@ -49,8 +48,8 @@ fn read_endpoint_tables<S: Alter>(
     ensures found { IfClean S.Store conn.old conn.new (λ a _. a.now.schema ≡ relay_schema
         → IfOk result (λ told. TellsEndpoints a.now told.0 told.1)) }
     ensures same { IfClean S.Store conn.old conn.new (λ a b. OnOk result (IsUnchanged a b)) }
-    ensures fault { IfClean S.Store conn.old conn.new (λ a _. a.now.schema ≡ relay_schema
-        → IfErr result (λ e. cause e ≢ Other)) }
+    ensures fault { IfClean S.Store conn.old conn.new (λ a b. a.now.schema ≡ relay_schema
+        → IfErr result (IsRefusal a b)) }
 {
     let endpoints = read_endpoints(conn, alloc)?;
     let secrets = read_secrets(conn, alloc)?;
@@ -65,8 +64,8 @@ fn read_event_tables<S: Alter>(
     ensures found { IfClean S.Store conn.old conn.new (λ a _. a.now.schema ≡ relay_schema
         → IfOk result (λ told. TellsEvents a.now told.0 told.1)) }
     ensures same { IfClean S.Store conn.old conn.new (λ a b. OnOk result (IsUnchanged a b)) }
-    ensures fault { IfClean S.Store conn.old conn.new (λ a _. a.now.schema ≡ relay_schema
-        → IfErr result (λ e. cause e ≢ Other)) }
+    ensures fault { IfClean S.Store conn.old conn.new (λ a b. a.now.schema ≡ relay_schema
+        → IfErr result (IsRefusal a b)) }
 {
     let deliveries = read_deliveries(conn, alloc)?;
     let attempts = read_attempts(conn, alloc)?;

@@ -1,8 +1,7 @@
 //! The five tables, each read whole by one statement.
-ghost use Rattle.std.specs.Prelude.{◌≡◌, ◌≢◌, IfOk, IfErr, OnOk};
+ghost use Rattle.std.specs.Prelude.{◌≡◌, IfOk, IfErr, OnOk};
 ghost use Rattle.sqlite.specs.State.{IsUnchanged};
-ghost use Rattle.spool_sql.specs.Causes.{cause};
-ghost use Rattle.spool_sql.specs.declared.cause.Cause.TheVariants.{Other};
+ghost use Rattle.spool_sql.specs.Readable.{IsRefusal};
 ghost use Rattle.spool_sql.specs.Steps.{IfClean};
 ghost use Rattle.spool_sql.specs.Tables.{relay_schema};
 ghost use Rattle.sound_tables.specs.Reading.{Looks};
@@ -25,8 +24,8 @@ pub(crate) fn read_meta<S: Alter>(
     ensures found { IfClean S.Store conn.old conn.new (λ a _. a.now.schema ≡ relay_schema
         → IfOk result (Tells ShowsMeta meta_columns (a.now.trees 0))) }
     ensures same { IfClean S.Store conn.old conn.new (λ a b. OnOk result (IsUnchanged a b)) }
-    ensures fault { IfClean S.Store conn.old conn.new (λ a _. a.now.schema ≡ relay_schema
-        → IfErr result (λ e. cause e ≢ Other)) }
+    ensures fault { IfClean S.Store conn.old conn.new (λ a b. a.now.schema ≡ relay_schema
+        → IfErr result (IsRefusal a b)) }
 {
     read_table(
         conn,
@@ -44,8 +43,8 @@ pub(crate) fn read_endpoints<S: Alter>(
     ensures found { IfClean S.Store conn.old conn.new (λ a _. a.now.schema ≡ relay_schema
         → IfOk result (Tells ShowsEndpoint endpoint_columns (a.now.trees 1))) }
     ensures same { IfClean S.Store conn.old conn.new (λ a b. OnOk result (IsUnchanged a b)) }
-    ensures fault { IfClean S.Store conn.old conn.new (λ a _. a.now.schema ≡ relay_schema
-        → IfErr result (λ e. cause e ≢ Other)) }
+    ensures fault { IfClean S.Store conn.old conn.new (λ a b. a.now.schema ≡ relay_schema
+        → IfErr result (IsRefusal a b)) }
 {
     read_table(
         conn,
@@ -63,8 +62,8 @@ pub(crate) fn read_secrets<S: Alter>(
     ensures found { IfClean S.Store conn.old conn.new (λ a _. a.now.schema ≡ relay_schema
         → IfOk result (Tells ShowsSecret secret_columns (a.now.trees 3))) }
     ensures same { IfClean S.Store conn.old conn.new (λ a b. OnOk result (IsUnchanged a b)) }
-    ensures fault { IfClean S.Store conn.old conn.new (λ a _. a.now.schema ≡ relay_schema
-        → IfErr result (λ e. cause e ≢ Other)) }
+    ensures fault { IfClean S.Store conn.old conn.new (λ a b. a.now.schema ≡ relay_schema
+        → IfErr result (IsRefusal a b)) }
 {
     read_table(
         conn,
@@ -82,8 +81,8 @@ pub(crate) fn read_deliveries<S: Alter>(
     ensures found { IfClean S.Store conn.old conn.new (λ a _. a.now.schema ≡ relay_schema
         → IfOk result (Tells ShowsDelivery delivery_columns (a.now.trees 5))) }
     ensures same { IfClean S.Store conn.old conn.new (λ a b. OnOk result (IsUnchanged a b)) }
-    ensures fault { IfClean S.Store conn.old conn.new (λ a _. a.now.schema ≡ relay_schema
-        → IfErr result (λ e. cause e ≢ Other)) }
+    ensures fault { IfClean S.Store conn.old conn.new (λ a b. a.now.schema ≡ relay_schema
+        → IfErr result (IsRefusal a b)) }
 {
     read_table(
         conn,
@@ -101,8 +100,8 @@ pub(crate) fn read_attempts<S: Alter>(
     ensures found { IfClean S.Store conn.old conn.new (λ a _. a.now.schema ≡ relay_schema
         → IfOk result (Tells ShowsAttempt attempt_columns (a.now.trees 7))) }
     ensures same { IfClean S.Store conn.old conn.new (λ a b. OnOk result (IsUnchanged a b)) }
-    ensures fault { IfClean S.Store conn.old conn.new (λ a _. a.now.schema ≡ relay_schema
-        → IfErr result (λ e. cause e ≢ Other)) }
+    ensures fault { IfClean S.Store conn.old conn.new (λ a b. a.now.schema ≡ relay_schema
+        → IfErr result (IsRefusal a b)) }
 {
     read_table(
         conn,

@@ -34,7 +34,7 @@ use Rattle.spool_sql.proofs.StepLemmas.{leaves_along, leaves_commit}
 use Rattle.spool.proofs.EndpointLoads.{restored_within}
 use Rattle.spool.proofs.PageLaws.{legal_length}
 use Rattle.spool.proofs.QuietReads.{IsQuiet, clean_before, quiet_then, tables_along}
-use Rattle.spool.proofs.ReadableLemmas.{refusal_since, refusal_until}
+use Rattle.sound_tables.proofs.BothRefused.{refusal_since, refusal_until}
 use Rattle.spool.specs.Vaults.{VaultValue, Holds}
 use Rattle.spool.specs.Adopting.{IsOnlyRead}
 use Rattle.spool.specs.Commits.{HoldsOnDisk}
@@ -166,7 +166,7 @@ load_refused a m z early late clean read (Ok books) refused told = tt
 load_refused a m z early late clean read (Err Closed) refused told = λ history legal stands. tt
 load_refused a m z early late clean read (Err OutOfMemory) refused told = λ history legal stands. tt
 load_refused a m z early late clean read (Err (Store error)) refused (inr (asks, fails)) = λ history legal stands.
-    refusal_since a m z early late clean error stands.is_open (of_failure m z error (fails clean))
+    refusal_since a m z early late clean error (of_failure m z error (fails clean))
 load_refused a m z early late clean read (Err (Store error)) refused (inl (fault, is, own, other)) = λ history legal
     stands. by fault own (subst (λ r. IfErr r (IsReadRefusal a m (λ _. Unit {0}))) is
     (refused (omega (arith, clean, late.clean))) stands.is_open history legal stands.now tt)

@@ -16,3 +16,4 @@ pub mod DeliveryLoads
 pub mod AttemptLoads
 pub mod BookLoads
 pub mod HistoryLemmas
+pub mod CheckReads

@@ -1,11 +1,10 @@
 -- The rows of a legal history can be read back, and reads of them are refused only for memory or by the store.
 use Rattle.std.proofs.Common.{◌≡◌, ◌<◌, ◌≤◌, ◌^◌, inl, inr, ℕ, ◌-◌, Some, true, ◌&&◌, List, [], ◌∷◌}
 use Rattle.std.proofs.Common.{◌++◌, length, map, IsTrue, refl, subst, arith}
-use Rattle.std.specs.Prelude.{flat_map, slice_get, IsSome}
+use Rattle.std.specs.Prelude.{flat_map, slice_get}
 use Rattle.std.specs.List.{AllByRecursion, list_all}
 use Rattle.std.proofs.lemmas.Bool.Decides.{nat_tests}
 use Rattle.sqlite.specs.State.{State, HasCleanDisk, IsUnchanged, Survives}
-use Rattle.sqlite.specs.declared.error.Error.{Error}
 use Rattle.relay_types.specs.declared.record.Record.{Record}
 use Rattle.relay_types.specs.Legal.{IsLegal, is_status}
 use Rattle.relay_types.specs.Lookups.{secrets_at}
@@ -20,9 +19,10 @@ use Rattle.relay_types.proofs.TableLaws.{In}
 use Rattle.spool_sql.specs.declared.row.RowFault.{RowFault}
 use Rattle.spool_sql.specs.declared.row.RowFault.TheVariants.{Failed, Unreadable}
 use Rattle.spool_sql.specs.Readable.{AreReadable, IsReadableEndpoint, IsReadableSecret, IsReadableDelivery}
-use Rattle.spool_sql.specs.Readable.{IsReadableAttempt, HasFailed, IsRefusal, IsRowRefusal}
+use Rattle.spool_sql.specs.Readable.{IsReadableAttempt, IsRowRefusal}
 use Rattle.spool_sql.specs.Steps.{Spares}
 use Rattle.spool_sql.specs.Stored.{IsPage, IsTables}
+use Rattle.sound_tables.proofs.BothRefused.{refusal_since}
 use Rattle.spool.specs.Reading.{ComeNext}
 use Rattle.spool.proofs.PageLaws.{legal_length}
 use Rattle.spool.proofs.QuietReads.{IsQuiet, IsReadTo, clean_before, comes_next, page_rises, quiet_look, quiet_then}
@@ -104,29 +104,9 @@ module _ (records : List Record) (legal : IsLegal records) where
 -- What refused one of two calls refused both
 
 module _ (a b c : State) (early : Survives a b (λ _. ⊥)) (late : Survives b c (λ _. ⊥)) (clean : HasCleanDisk c) where
-  pub refusal_until : (error : Error) → IsRefusal a b error → IsRefusal a c error
-  refusal_until error (inl memory) = inl memory
-  refusal_until error (inr (inl (why, told, inl failed))) = inr
-      (inl (why, told, inl (omega (arith, failed, late.counts))))
-  refusal_until error (inr (inl (why, told, inr shut))) = inr (inl (why, told, inr shut))
-  refusal_until error (inr (inr stopped)) = inr (inr stopped)
-
-  failed_since : IsTrue a.is_open → HasFailed b c → HasFailed a c
-  failed_since is_open (inl failed) = inl (omega (arith, failed, early.counts))
-  failed_since is_open (inr shut) =
-      elim (early.closes (omega (arith, clean, late.clean)) is_open) [
-        | inl still ↦ absurd (let yes = still in let no = shut in cc)
-        | inr failed ↦ inl (omega (arith, failed, late.counts))
-      ]
-
-  pub refusal_since : (error : Error) → IsTrue a.is_open → IsRefusal b c error → IsRefusal a c error
-  refusal_since error is_open (inl memory) = inl memory
-  refusal_since error is_open (inr (inl (why, told, failed))) = inr (inl (why, told, failed_since is_open failed))
-  refusal_since error is_open (inr (inr stopped)) = inr (inr (stopped.0, subst IsSome early.limit stopped.1))
-
-  row_refusal_since : (fault : RowFault) → IsTrue a.is_open → IsRowRefusal b c fault → IsRowRefusal a c fault
-  row_refusal_since Unreadable is_open none = none
-  row_refusal_since (Failed error) is_open refusal = refusal_since error is_open refusal
+  row_refusal_since : (fault : RowFault) → IsRowRefusal b c fault → IsRowRefusal a c fault
+  row_refusal_since Unreadable none = none
+  row_refusal_since (Failed error) refusal = refusal_since a b c early late clean error refusal
 
 -- a read of tables that were read before it
 pub refused_behind : (a b c : State) → IsQuiet a b → Spares b c → HasCleanDisk c → IsTrue a.is_open
@@ -135,7 +115,7 @@ pub refused_behind : (a b c : State) → IsQuiet a b → Spares b c → HasClean
 refused_behind a b c quiet spares clean is_open rows fault tables refused =
     let at_b = clean_before b c spares clean in
     let open_b = (quiet.unchanged at_b is_open).0.is_open in
-    row_refusal_since a b c quiet.spares.survives spares.survives clean fault is_open
+    row_refusal_since a b c quiet.spares.survives spares.survives clean fault
     (refused at_b open_b (tables_along a b rows quiet at_b open_b tables))
 
 -- A page that was looked up behind the reads before

@@ -13,6 +13,7 @@ use Rattle.relay_types.specs.Rows.{Rows, rows_of}
 use Rattle.spool_sql.specs.Causes.{cause}
 use Rattle.spool_sql.specs.declared.cause.Cause.{Cause}
 use Rattle.spool_sql.specs.declared.cause.Cause.TheVariants as of
+use Rattle.spool_sql.specs.Readable.{IsRefusal}
 use Rattle.spool_sql.specs.Stored.{IsTables}
 use Rattle.spool_sql.specs.Steps.{MayLeave}
 use Rattle.sound_tables.specs.Checks as tables
@@ -55,13 +56,14 @@ IsUnadopted old new OutOfMemory = Unit {0}
 abbrev pub HaveHistory : Database → Type 0
 HaveHistory db = (records : List Record) × IsLegal records × IsTables db (rows_of records)
 
--- Tables that have the rows of a legal history are refused only for memory, or because a call of the store was.
-abbrev pub IsOfStore : OpenFault → Type 0
-IsOfStore NotOurs = ⊥
-IsOfStore NewerVersion = ⊥
-IsOfStore Damaged = ⊥
-IsOfStore (Store error) = cause error ≡ of.Store
-IsOfStore OutOfMemory = Unit {0}
+-- Tables that have the rows of a legal history are refused only for memory, or because the store failed under this name, or a query took
+-- more steps than the connection may.
+abbrev pub IsOfStore : (old new : State) → OpenFault → Type 0
+IsOfStore old new NotOurs = ⊥
+IsOfStore old new NewerVersion = ⊥
+IsOfStore old new Damaged = ⊥
+IsOfStore old new (Store error) = (cause error ≡ of.Store) × IsRefusal old new error
+IsOfStore old new OutOfMemory = Unit {0}
 
 -- As what a store without a table `meta` is told: as none of the relay's, or the look at it was refused.
 abbrev pub IsForeign : OpenFault → Type 0

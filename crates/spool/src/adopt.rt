@@ -5,7 +5,8 @@ ghost use Rattle.sqlite.specs.State.{HasCleanDisk};
 ghost use Rattle.spool_sql.specs.Steps.{IfClean, SurvivesAs};
 ghost use Rattle.spool_sql.specs.Tables.{relay_schema};
 ghost use Rattle.sound_tables.specs.Keys.{has_meta, has_tables};
-ghost use Rattle.spool.specs.Adopting.{AreAdopted, FailsIfOfStore, IsForeign, IsOnlyRead, IsUnadopted, LeavesRead, TellsCheck};
+ghost use Rattle.spool.specs.Adopting.{AreAdopted, FailsIfOfStore, HaveHistory, IsForeign, IsOfStore, IsOnlyRead, IsUnadopted};
+ghost use Rattle.spool.specs.Adopting.{LeavesRead, TellsCheck};
 
 use crate::ends::OpenFault;
 use sound_tables::{TableFault, check_tables};
@@ -27,10 +28,12 @@ pub(crate) fn adopt_tables<S: Alter>(
         (λ a b. a.now.schema ≡ relay_schema → IfOk result (AreAdopted a b)) }
     ensures refused { IfClean S.Store conn.old conn.new
         (λ a b. a.now.schema ≡ relay_schema → IfErr result (IsUnadopted a b)) }
+    ensures sound { IfClean S.Store conn.old conn.new (λ a b. HaveHistory a.now → IfErr result (IsOfStore a b)) }
     ensures read { IfClean S.Store conn.old conn.new
         (λ a b. MatchResult result (λ _. IsOnlyRead a b) (LeavesRead a b)) }
     ensures clean { IfClean S.Store conn.old conn.new (λ a _. HasCleanDisk a) }
     ensures mode { conn.new.in_transaction ≡ false }
+    ensures survives { SurvivesAs S.Store conn.old conn.new (λ _ _. ⊥) }
 {
     // So what is seen is what the last commit left.
     prove!(conn.is_autocommit());

@@ -5,7 +5,7 @@ ghost use Rattle.sqlite.specs.State.{HasCleanDisk};
 ghost use Rattle.sqlite.specs.Held.{state};
 ghost use Rattle.relay_types.specs.declared.record.Record.{Record};
 ghost use Rattle.relay_types.specs.Records.{records_of};
-ghost use Rattle.spool_sql.specs.Steps.{IfClean, IsBegun};
+ghost use Rattle.spool_sql.specs.Steps.{IfClean, IsBegun, SurvivesAs};
 ghost use Rattle.spool_sql.specs.Tables.{no_schema, relay_schema};
 ghost use Rattle.sound_tables.specs.Keys.{has_meta, has_tables};
 ghost use Rattle.spool.specs.Adopting.{FailsIfOfStore, HaveHistory, IsAdopted, IsForeign, IsOfStore, IsOnlyRead};
@@ -98,9 +98,10 @@ impl<S: Alter> Vault<S> {
             (λ a _. a.now.schema ≡ relay_schema → IsAdopted S.Store a.now v)) }
         ensures refused { IfErr result (λ e. IfClean S.Store conn e.0
             (λ a b. a.now.schema ≡ relay_schema → IsUnadopted a b e.1)) }
-        ensures sound { IfErr result (λ e. IfClean S.Store conn e.0 (λ a _. HaveHistory a.now → IsOfStore e.1)) }
+        ensures sound { IfErr result (λ e. IfClean S.Store conn e.0 (λ a b. HaveHistory a.now → IsOfStore a b e.1)) }
         ensures read { MatchResult result (λ v. IfClean S.Store conn v.conn IsOnlyRead)
             (λ e. IfClean S.Store conn e.0 (λ a b. LeavesRead a b e.1)) }
+        ensures survives { IfOk result (λ v. SurvivesAs S.Store conn v.conn (λ _ _. ⊥)) }
         ensures clean { MatchResult result (λ v. IfClean S.Store conn v.conn (λ a _. HasCleanDisk a))
             (λ e. IfClean S.Store conn e.0 (λ a _. HasCleanDisk a)) }
         ensures mode { IfErr result (λ e. e.0.in_transaction ≡ false) }

@@ -1,7 +1,7 @@
 use Rattle.std.proofs.Common.{inl, inr}
 use Rattle.std.proofs.lemmas.Result.{err_from_is_err_and}
 use Rattle.sqlite.specs.Held.{state}
-use Rattle.recovery.proofs.ReopeningLaws.{is_reopened, reopens_left, of_answer, of_refusal, of_both, only_read_then, leaves_read_then, of_reading}
+use Rattle.recovery.proofs.ReopeningLaws.{is_reopened, reopens_left, of_answer, of_refusal, of_both, only_read_then, leaves_read_then, of_reading, reading_since}
 use Rattle.recovery.proofs.reopening.reopen.Goals as goal
 
 pub returns-clause-opened : goal.returns-clause-opened
@@ -32,9 +32,18 @@ returns-in_err-vault-clause-refused g c =
     rw (p.1, p.2) (λ clean schema. inl (c.in_err-vault.ensures.refused clean schema))
 
 pub returns-clause-sound : goal.returns-clause-sound
-returns-clause-sound g c = of_refusal _ _ _ _ c.with_desk.result (λ back reading clean new history. reading) c.with_desk.ensures.cause c.with_desk.ensures.clean
+returns-clause-sound g c = of_refusal _ _ _ _ c.with_desk.result
+    (λ back sound clean new history.
+    let holds = ((c.in_ok-vault.ensures.adopted (clean new) history.2.schema_is).holds history.0 history.1 history.2).0 in
+    reading_since (state g.S.Store c.args.conn) (state g.S.Store c.in_ok-vault.vault.conn) (state g.S.Store back.0)
+    c.in_ok-vault.ensures.survives holds.stands.is_open back.1 (sound new history.0 holds))
+    c.with_desk.ensures.sound c.with_desk.ensures.clean
 
 pub returns-in_err-vault-clause-sound : goal.returns-in_err-vault-clause-sound
 returns-in_err-vault-clause-sound g c =
     let p = err_from_is_err_and c.from_residual.result c.from_residual.ensures.1 in
-    rw (p.1, p.2) (λ clean history. of_reading _ (c.in_err-vault.ensures.sound clean history))
+    rw (p.1, p.2) (λ clean history. of_reading (state g.S.Store c.args.conn) (state g.S.Store c.in_err-vault.field-0.0.0) c.in_err-vault.field-0.0.1 (c.in_err-vault.ensures.sound clean history))
+
+pub returns-clause-clean : goal.returns-clause-clean
+returns-clause-clean g c = of_both _ _ _ _ _ _ c.with_desk.result (λ opening clean same new. c.in_ok-vault.ensures.clean (clean new)) (λ back clean same new. c.in_ok-vault.ensures.clean (clean new))
+    c.with_desk.ensures.clean c.with_desk.ensures.clean

@@ -5,8 +5,9 @@ use Rattle.sqlite.specs.Held.{state}
 use Rattle.sqlite.specs.State.{HasCleanDisk}
 use Rattle.sqlite.specs.Given.{GivesOn}
 use Rattle.sqlite.proofs.Callers.{unchanged_then, given_begin}
+use Rattle.spool_sql.proofs.ReadableLemmas.{handed_on}
 use Rattle.sound_tables.specs.Reading.{IsReadAs, HasTaken, IsFault}
-use Rattle.sound_tables.proofs.ReadingLemmas.{still_none, still_then, looks_still, looks_failed, given_open, begins_from, shown_from, fault_from, handed_on, zip_push, zip_last}
+use Rattle.sound_tables.proofs.ReadingLemmas.{still_none, still_then, looks_still, looks_failed, given_open, begins_from, shown_from, fault_at, fault_since, zip_push, zip_last}
 use Rattle.sound_tables.proofs.reading.collect.Goals as goal
 
 pub each-init : goal.each-init
@@ -44,12 +45,12 @@ returns-in_err-advance-clause-fault g c clean =
     let m = state g.S.Store c.each.rows.conn.now in
     let b = state g.S.Store c.advance.new.self.conn.now in
     let step = c.in_err-advance.ensures in
-    handed_on c.from_residual.result c.in_err-advance.field-0.0 (λ e. (sql : List ℕ) → HasTaken g.S.Store g.T.Reading.is_shown sql c.args.rows.now.conn.now c.args.found.now.items → IsFault sql a e)
+    handed_on c.from_residual.result c.in_err-advance.field-0.0 (λ e. (sql : List ℕ) → HasTaken g.S.Store g.T.Reading.is_shown sql c.args.rows.now.conn.now c.args.found.now.items → IsFault sql a b e)
     c.from_residual.ensures.1 (λ sql taken.
     let early : HasCleanDisk m = omega (arith, clean, step.survives.clean) in
     let had = c.each.invariant.taken early sql taken in
     let same = c.each.invariant.still.same early (given_open g.S.Store sql [] _ _ taken.has) in
-    fault_from sql m a b _ had.plain same.0.now_is (step.err clean sql [] had.given had.has))
+    fault_since sql a m b _ same.0.now_is c.each.invariant.still.survives step.survives clean (fault_at sql m b _ had.plain (step.err clean sql [] had.given had.has)))
 
 pub returns-in_default-clause-looks : goal.returns-in_default-clause-looks
 returns-in_default-clause-looks g c =
@@ -103,6 +104,9 @@ pub returns-in_err-push-clause-looks : goal.returns-in_err-push-clause-looks
 returns-in_err-push-clause-looks g c =
     let step = c.in_ok-advance.ensures in
     looks_still g.S.Store _ _ (still_then g.S.Store c.args.rows.now.conn.now c.each.rows.conn.now c.advance.new.self.conn.now c.each.invariant.still step.mode step.survives step.same)
+
+pub returns-clause-fault : goal.returns-clause-fault
+returns-clause-fault g c clean sql taken able = inl refl
 
 pub returns-clause-looks : goal.returns-clause-looks
 returns-clause-looks g c = looks_still g.S.Store _ _ c.each.invariant.still

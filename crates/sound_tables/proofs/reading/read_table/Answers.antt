@@ -1,8 +1,9 @@
-use Rattle.std.proofs.Common.{◌≡◌, [], true, false, IfErr, refl, subst, rules, arith}
+use Rattle.std.proofs.Common.{◌≡◌, [], true, false, IfErr, subst, rules, arith}
 use Rattle.sqlite.specs.Held.{state}
 use Rattle.sqlite.specs.State.{HasCleanDisk, Survives, CommitsShowing, FailsToQuery}
+use Rattle.spool_sql.proofs.ReadableLemmas.{handed_on}
 use Rattle.sound_tables.specs.Reading.{Looks, IsFault, Fits}
-use Rattle.sound_tables.proofs.ReadingLemmas.{commits_nothing, failed_left, fault_from, fault_same, handed_on, looks_failed, still_begun, taken_begun, fits_from, begun_text}
+use Rattle.sound_tables.proofs.ReadingLemmas.{commits_nothing, failed_left, fault_at, fault_since, looks_failed, still_begun, taken_begun, fits_from, begun_text}
 use Rattle.sound_tables.proofs.reading.read_table.Goals as goal
 
 pub returns-in_err-rows-clause-looks : goal.returns-in_err-rows-clause-looks
@@ -25,8 +26,8 @@ returns-in_err-rows-clause-fault g c clean =
     let new = state g.S.Store c.query.follows.lender-at-none in
     let held = c.query.follows.holds-at-none in
     let failed : HasCleanDisk new → IfErr c.query.result (FailsToQuery c.args.sql.now [] old new) = search rules in
-    handed_on c.from_residual.result c.in_err-rows.field-0.0 (IsFault c.args.sql.now old) c.from_residual.ensures.1
-    (fault_from c.args.sql.now old old new _ c.requires.plain refl (rw c.in_err-rows.was at (failed clean)))
+    handed_on c.from_residual.result c.in_err-rows.field-0.0 (IsFault c.args.sql.now old new) c.from_residual.ensures.1
+    (fault_at c.args.sql.now old new _ c.requires.plain (rw c.in_err-rows.was at (failed clean)))
 
 pub returns-in_err-collect-clause-looks : goal.returns-in_err-collect-clause-looks
 returns-in_err-collect-clause-looks g c =
@@ -95,5 +96,8 @@ returns-in_err-collect-clause-fault g c clean =
     let begun = c.in_ok-rows.ensures.begun early in
     let taken = taken_begun g.S.Store g.T.Reading.is_shown c.args.sql.now c.args.conn.now _ c.new-found.result.items c.requires.plain begun c.new-found.ensures.items in
     let same = (begun_text g.S.Store c.args.sql.now [] c.args.conn.now _ c.requires.plain begun).1 in
-    handed_on c.from_residual-in_err-collect.result c.in_err-collect.field-0.0 (IsFault c.args.sql.now a) c.from_residual-in_err-collect.ensures.1
-    (fault_same c.args.sql.now m a _ same.0.now_is (c.in_err-collect.ensures.fault late c.args.sql.now taken))
+    let survives = commits_nothing c.args.sql.now [] a m c.requires.plain c.in_ok-rows.ensures.survives in
+    let told : IfErr c.from_residual-in_err-collect.result (IsFault c.args.sql.now a b) =
+    handed_on c.from_residual-in_err-collect.result c.in_err-collect.field-0.0 (IsFault c.args.sql.now a b) c.from_residual-in_err-collect.ensures.1
+    (fault_since c.args.sql.now a m b _ same.0.now_is survives c.in_err-collect.ensures.looks.survives late (c.in_err-collect.ensures.fault late c.args.sql.now taken)) in
+    search rules

@@ -1,11 +1,11 @@
-use Rattle.std.proofs.Common.{◌≢◌, subst}
+use Rattle.std.proofs.Common.{subst}
 use Rattle.sqlite.specs.Effect.{Database}
-use Rattle.spool_sql.specs.Causes.{cause}
-use Rattle.spool_sql.specs.declared.cause.Cause.TheVariants.{Other}
+use Rattle.sqlite.specs.Held.{state}
+use Rattle.spool_sql.specs.Readable.{IsRefusal}
+use Rattle.spool_sql.proofs.ReadableLemmas.{handed_on}
 use Rattle.sound_tables.specs.Shown.{ShowsAttempt}
 use Rattle.sound_tables.specs.Tables.{Tells, attempt_columns}
-use Rattle.sound_tables.proofs.LookLemmas.{looks_both, clean_early, same_now, schema_still, same_both}
-use Rattle.sound_tables.proofs.ReadingLemmas.{handed_on}
+use Rattle.sound_tables.proofs.LookLemmas.{looks_both, clean_early, same_now, schema_still, same_both, refused_since}
 use Rattle.sound_tables.proofs.stored.read_event_tables.Goals as goal
 
 pub returns-in_err-attempts-clause-looks : goal.returns-in_err-attempts-clause-looks
@@ -14,7 +14,8 @@ returns-in_err-attempts-clause-looks g c = looks_both g.S.Store c.args.conn.now 
 pub returns-in_err-attempts-clause-fault : goal.returns-in_err-attempts-clause-fault
 returns-in_err-attempts-clause-fault g c clean has =
     let still = schema_still g.S.Store c.args.conn.now c.read_deliveries.new.conn c.read_attempts.new.conn c.in_ok-deliveries.ensures.looks c.in_ok-deliveries.ensures.same c.in_err-attempts.ensures.looks clean has in
-    handed_on c.from_residual-in_err-attempts.result c.in_err-attempts.field-0.0 (λ e. cause e ≢ Other) c.from_residual-in_err-attempts.ensures.1 (c.in_err-attempts.ensures.fault clean still)
+    handed_on c.from_residual-in_err-attempts.result c.in_err-attempts.field-0.0 (IsRefusal (state g.S.Store c.args.conn.now) (state g.S.Store c.read_attempts.new.conn)) c.from_residual-in_err-attempts.ensures.1
+    (refused_since g.S.Store c.args.conn.now c.read_deliveries.new.conn c.read_attempts.new.conn c.in_ok-deliveries.ensures.looks c.in_ok-deliveries.ensures.same c.in_err-attempts.ensures.looks _ clean (c.in_err-attempts.ensures.fault clean still))
 
 pub returns-clause-looks : goal.returns-clause-looks
 returns-clause-looks g c = looks_both g.S.Store c.args.conn.now c.read_deliveries.new.conn c.read_attempts.new.conn c.in_ok-deliveries.ensures.looks c.in_ok-deliveries.ensures.same c.in_ok-attempts.ensures.looks
