@@ -1,14 +1,15 @@
 -- What is answered of a batch, by how its write ended.
 use Rattle.std.proofs.Common.{◌≡◌, ◌+◌, length, cond, is_ok, ◌∙◌}
 use Rattle.sqlite.specs.Held.{state}
+use Rattle.sqlite.specs.State.{State}
 use Rattle.sqlite_trees.specs.declared.store.Store.{Ghosts}
 use Rattle.relay_types.specs.Records.{records_of}
 use Rattle.spool.specs.declared.transaction.WriteEnd.{WriteEnd}
 use Rattle.spool.specs.declared.transaction.WriteEnd.TheVariants.{Committed, Illegal, OutOfMemory, Doubtful}
 use Rattle.spool.specs.Batches.{BatchValue}
 use Rattle.spool.specs.Vaults.{VaultValue}
-use Rattle.spool.specs.Entering.{WriteEndsAs}
-use Rattle.spool.specs.Commits.{LeavesRows, LeavesHistory, answer_of}
+use Rattle.spool.specs.Entering.{HasCause, WriteEndsAs}
+use Rattle.spool.specs.Commits.{IsDoubtedFor, LeavesRows, LeavesHistory, answer_of}
 use Rattle.spool.proofs.VaultLemmas.{rows_made, rows_doubted, history_made, history_unwritten}
 
 module _ {S : Type 0} (g : Ghosts S) (old new : VaultValue S) (batch : BatchValue) where
@@ -24,3 +25,9 @@ module _ {S : Type 0} (g : Ghosts S) (old new : VaultValue S) (batch : BatchValu
   leaves_rows Illegal over = λ records on. let kept = over records on in (kept.0.stands, kept.1)
   leaves_rows OutOfMemory over = λ records on. let kept = over records on in (kept.0.stands, kept.1)
   leaves_rows (Doubtful cause) over = rows_doubted (state g old.conn) (state g new.conn) old.next (records_of batch.steps) over
+
+pub doubted_for : (old new : State) (batch : BatchValue) (end : WriteEnd) → HasCause old new end → IsDoubtedFor old new (answer_of batch end)
+doubted_for old new batch Committed h = tt
+doubted_for old new batch Illegal h = tt
+doubted_for old new batch OutOfMemory h = tt
+doubted_for old new batch (Doubtful cause) h = h

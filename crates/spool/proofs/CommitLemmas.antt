@@ -1,5 +1,5 @@
 -- Records in one transaction that is committed, and what a stop leaves.
-use Rattle.std.proofs.Common.{◌≡◌, ◌⊎◌, inl, inr, ℕ, Bool, true, false, List, ◌++◌, Result, Ok, IfOk, IsTrue, refl, sym, subst, ◌∙◌, arith}
+use Rattle.std.proofs.Common.{◌≡◌, ◌⊎◌, inl, inr, ℕ, Bool, true, false, List, ◌++◌, Result, Ok, IfOk, IfErr, IsTrue, refl, sym, subst, ◌∙◌, arith}
 use Rattle.sqlite.specs.declared.error.Error.{Error}
 use Rattle.sqlite.specs.Tree.{Trees}
 use Rattle.sqlite.specs.State.{State, HasCleanDisk, IsUnchanged, KeepsCommit, Survives}
@@ -11,12 +11,15 @@ use Rattle.sqlite.proofs.Callers.{survives_begin}
 use Rattle.relay_types.specs.declared.record.Record.{Record}
 use Rattle.relay_types.specs.Legal.{IsLegal}
 use Rattle.relay_types.specs.Rows.{Rows, rows_of}
+use Rattle.spool_sql.specs.Readable.{IsRefusal}
 use Rattle.spool_sql.specs.Stored.{IsTables}
 use Rattle.spool_sql.specs.Steps.{MayLeave, Spares, Stands}
+use Rattle.spool_sql.proofs.RefusalLemmas.{of_failure}
 use Rattle.spool_sql.proofs.StepLemmas.{leaves_commit, leaves_along, stands_along}
+use Rattle.sound_tables.proofs.BothRefused.{refusal_since, refusal_until}
 use Rattle.spool.specs.Vaults.{HoldsAt}
 use Rattle.spool.specs.Books.{KeepsOpen}
-use Rattle.spool.specs.Entering.{AsksForLook, EntersWhole, Commits, CommitsAll, StaysAs, Rests, RestsInDoubt, WriteEndsAs, IsUnwritten, Tells}
+use Rattle.spool.specs.Entering.{AsksForLook, EntersWhole, Commits, CommitsAll, HasCause, IsCause, LeavesAsBefore, StaysAs, Rests, RestsInDoubt, WriteEndsAs, IsUnwritten, Tells}
 use Rattle.spool.specs.declared.transaction.WriteEnd.{WriteEnd}
 use Rattle.spool.specs.declared.transaction.WriteEnd.TheVariants.{Committed, Illegal, OutOfMemory, Doubtful}
 
@@ -97,3 +100,27 @@ ends_told old mid new next entries tried OutOfMemory turns undone first later cl
     let unchanged = same tt in
     rests_along old mid new rows (undone (λ yes. absurd (let a = sym told.1 ∙ yes in cc)) unchanged.0.was_open) unchanged settled stands
 ends_told old mid new next entries tried (Doubtful error) turns undone first later clean told made same looked was_settled settled = doubts_all old mid new next entries first later clean was_settled looked (undone (not_seen mid new tried error told))
+
+-- ---- why it isn't known how the write ended
+
+pub commit_refused : {S : Type 0} (g : Ghosts S) (old : Held S) (mid new : State) (e : Error) {P : Trees → Type 0} → IsTrue mid.in_transaction → Spares (state g (record old { in_transaction = true })) mid
+    → FailsToCommit mid new e → Survives mid new P → HasCleanDisk new → IsRefusal (state g old) new e
+commit_refused g old mid new e inside spares (inl fails) ended clean =
+    refusal_since (state g old) mid new (survives_begin g old mid _ spares.survives) ended clean e (of_failure mid new e fails)
+commit_refused g old mid new e inside spares (inr late) ended clean = absurd (let a = inside in let b = late.1 in cc)
+
+pub leaves_before : (a b : State) → Survives a b (λ _. ⊥) → HasCleanDisk b → LeavesAsBefore a b
+leaves_before a b survives clean db may = elim (survives.crash clean db may) [ inl was ↦ was | inr none ↦ absurd none ]
+
+module _ {P : Trees → Type 0} (a m b : State) (early : Survives a m P) (late : Survives m b (λ _. ⊥)) (clean : HasCleanDisk b) where
+  caused_until : (error : Error) → IsCause a m error → IsCause a b error
+  caused_until error (inl refusal) = inl (refusal_until a m b early late clean error refusal)
+  caused_until error (inr before) = inr (λ db may. before db (leaves_before m b late clean db may))
+
+  pub caused : (tried : Result Bool Error) (told : WriteEnd) → (HasCleanDisk m → IfErr tried (IsCause a m)) → Tells m b tried told → HasCause a b told
+  caused tried Committed cause is = tt
+  caused tried Illegal cause is = tt
+  caused tried OutOfMemory cause is = tt
+  caused tried (Doubtful error) cause (inl (is, other)) =
+      caused_until error (subst (λ r. IfErr r (IsCause a m)) is (cause (omega (arith, clean, late.clean))))
+  caused tried (Doubtful error) cause (inr (asks, fails)) = inl (refusal_since a m b early late clean error (of_failure m b error (fails clean)))

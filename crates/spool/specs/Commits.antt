@@ -1,5 +1,6 @@
 -- How a commit ends, and what it leaves of a vault.
 use Rattle.std.specs.Prelude.{◌≡◌, ◌⊎◌, ◌++◌, List, Result, Ok, Err}
+use Rattle.sqlite.specs.State.{State}
 use Rattle.sqlite.specs.Held.{state}
 use Rattle.sqlite_trees.specs.declared.store.Store.{Ghosts}
 use Rattle.relay_types.specs.Rows.{rows_of, put_rows}
@@ -13,7 +14,7 @@ use Rattle.spool.specs.declared.ends.Unchanged.TheVariants as why
 use Rattle.spool.specs.declared.transaction.WriteEnd.{WriteEnd}
 use Rattle.spool.specs.declared.transaction.WriteEnd.TheVariants.{Committed, Illegal, OutOfMemory, Doubtful}
 use Rattle.spool.specs.Batches.{BatchValue, doubt_of}
-use Rattle.spool.specs.Entering.{Rests, RestsInDoubt}
+use Rattle.spool.specs.Entering.{IsCause, Rests, RestsInDoubt}
 use Rattle.spool.specs.Vaults.{VaultValue, Holds}
 
 -- the vault holds this history, and a stop leaves its rows
@@ -49,6 +50,12 @@ abbrev pub IsDoubt : Result BatchValue CommitEnd → Type 0
 IsDoubt (Ok receipt) = ⊥
 IsDoubt (Err (ends.Unchanged batch reason)) = ⊥
 IsDoubt (Err (ends.Doubtful doubt cause)) = Unit {0}
+
+-- Why nobody knows it: the store failed under this name, or memory was refused. Or else nothing was written to the disk.
+abbrev pub IsDoubtedFor : (old new : State) → Result BatchValue CommitEnd → Type 0
+IsDoubtedFor old new (Ok receipt) = Unit {0}
+IsDoubtedFor old new (Err (ends.Unchanged batch reason)) = Unit {0}
+IsDoubtedFor old new (Err (ends.Doubtful doubt cause)) = IsCause old new cause
 
 -- what the answer says of the rows of a history that the vault held
 abbrev pub LeavesRows : {S : Type 0} → Ghosts S → VaultValue S → VaultValue S → BatchValue → Result BatchValue CommitEnd → Type 0

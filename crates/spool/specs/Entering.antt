@@ -14,6 +14,7 @@ use Rattle.relay_types.specs.Deliveries.{known_as, is_pending, attempts_of}
 use Rattle.relay_types.specs.Endpoints.{endpoints, has_endpoint}
 use Rattle.relay_types.specs.Legal.{is_status, is_legal, IsLegal}
 use Rattle.relay_types.specs.Rows.{Rows, put_of, put_by_delivery, rows_of, secret_rows}
+use Rattle.spool_sql.specs.Readable.{IsRefusal}
 use Rattle.spool_sql.specs.Stored.{IsTables, AreTablesOf, with_records, with_endpoint, new_endpoint, with_enabled, with_secrets_by, without_secrets}
 use Rattle.spool_sql.specs.Steps.{GoesOn, IfClean, Stands, MayLeave}
 use Rattle.spool_sql.specs.Causes.{cause}
@@ -123,6 +124,22 @@ WriteEndsAs old new next entries Committed = (records : List Record) → HoldsAt
 WriteEndsAs old new next entries Illegal = (records : List Record) → HoldsAt old next records → (¬ IsLegal (records ++ entries)) × Rests new (rows_of records)
 WriteEndsAs old new next entries OutOfMemory = (rows : Rows) → Stands old rows → Rests new rows
 WriteEndsAs old new next entries (Doubtful cause) = (records : List Record) → HoldsAt old next records → RestsInDoubt new records entries
+
+-- ---- why it isn't known how the write ended
+
+-- a stop leaves no more than it left before
+abbrev pub LeavesAsBefore : (old new : State) → Type 0
+LeavesAsBefore old new = (db : Trees) → new.may_leave db → old.may_leave db
+
+-- The error is that of a refusal: the store failed under this name, or memory was refused. Or else nothing was written to the disk.
+abbrev pub IsCause : (old new : State) → Error → Type 0
+IsCause old new error = IsRefusal old new error ⊎ LeavesAsBefore old new
+
+abbrev pub HasCause : (old new : State) → WriteEnd → Type 0
+HasCause old new Committed = Unit {0}
+HasCause old new Illegal = Unit {0}
+HasCause old new OutOfMemory = Unit {0}
+HasCause old new (Doubtful error) = IsCause old new error
 
 -- ---- which error was met where
 

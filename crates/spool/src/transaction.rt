@@ -1,12 +1,12 @@
 //! Some steps as one transaction, and what is told of it.
-ghost use Rattle.std.specs.Prelude.{◌≡◌, ◌≢◌, ◌≤◌, ◌+◌, length, true, false, IsTrue, IfOk, Ok};
+ghost use Rattle.std.specs.Prelude.{◌≡◌, ◌≢◌, ◌≤◌, ◌+◌, length, true, false, IsTrue, IfOk, IfErr, Ok};
 ghost use Rattle.sqlite.specs.State.{HasCleanDisk, IsUnchanged};
 ghost use Rattle.sqlite.specs.Held.{state};
 ghost use Rattle.relay_types.specs.declared.limits.TheConstants.{MAX_RECORDS};
 ghost use Rattle.relay_types.specs.Records.{records_of};
 ghost use Rattle.spool_sql.specs.Steps.{IfClean, SurvivesAs};
 ghost use Rattle.spool.specs.Books.{KeepsOpen};
-ghost use Rattle.spool.specs.Entering.{Commits, CommitsAll, StaysAs, WriteEndsAs, IsUnwritten, Tells};
+ghost use Rattle.spool.specs.Entering.{Commits, CommitsAll, HasCause, IsCause, StaysAs, WriteEndsAs, IsUnwritten, Tells};
 
 use crate::records::write_records;
 use relay_types::Step;
@@ -32,6 +32,7 @@ pub(crate) fn write_steps<S: Alter>(conn: &mut Connection<S>, next: u64, steps: 
     requires settled { conn.old.in_transaction ≡ false }
     requires room { next + length (records_of steps.now) ≤ MAX_RECORDS }
     ensures ends { IfClean S.Store conn.old conn.new (λ a b. WriteEndsAs a b next (records_of steps.now) result) }
+    ensures cause { IfClean S.Store conn.old conn.new (λ a b. HasCause a b result) }
     ensures clean { IfClean S.Store conn.old conn.new (λ a _. HasCleanDisk a) }
     ensures mode { conn.new.in_transaction ≡ false }
 {
@@ -50,6 +51,7 @@ fn commit_steps<S: Alter>(
     ensures done { IfClean S.Store conn.old conn.new (λ a b. IfOk result (Commits a b next (records_of steps.now))) }
     ensures undone { IfClean S.Store conn.old conn.new
         (λ a b. result ≢ Ok true → IsTrue b.is_open → StaysAs a b) }
+    ensures cause { IfClean S.Store conn.old conn.new (λ a b. IfErr result (IsCause a b)) }
     ensures mode { conn.new.in_transaction ≡ false }
     ensures survives { SurvivesAs S.Store conn.old conn.new (λ a. CommitsAll a next (records_of steps.now)) }
 {

@@ -13,7 +13,7 @@ ghost use Rattle.spool.specs.Adopting.{IsUnadopted, LeavesRead};
 ghost use Rattle.spool.specs.Opening.{has_ours, IsRefusedFor, LeavesAt};
 ghost use Rattle.spool.specs.Books.{AreBooksOf, AreSettled, IsLoadRefusal, IsSeen, LeavesHeld};
 ghost use Rattle.spool.specs.Commits.{HoldsOnDisk, IsNext, HandsBack, IsDoubt, IsRefused, answer_of, LeavesRows};
-ghost use Rattle.spool.specs.Commits.{LeavesHistory, IsIllegal};
+ghost use Rattle.spool.specs.Commits.{LeavesHistory, IsDoubtedFor, IsIllegal};
 ghost use Rattle.spool.specs.Vaults.{Holds};
 
 use crate::adopt::adopt_tables;
@@ -135,6 +135,7 @@ impl<S: Alter> Vault<S> {
             (λ _ _. LeavesRows S.Store self.old self.new batch result) }
         ensures history { IfClean S.Store self.old.conn self.new.conn
             (λ _ _. LeavesHistory S.Store self.old self.new batch result) }
+        ensures cause { IfClean S.Store self.old.conn self.new.conn (λ a b. IsDoubtedFor a b result) }
         ensures illegal { IfClean S.Store self.old.conn self.new.conn (λ _ _.
             result ≡ Err (CommitEnd.Unchanged batch Unchanged.Illegal) → IsIllegal S.Store self.old batch) }
         ensures clean { IfClean S.Store self.old.conn self.new.conn (λ a _. HasCleanDisk a) }
