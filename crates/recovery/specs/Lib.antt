@@ -1,4 +1,5 @@
 pub mod Files
 pub mod Left
 pub mod Openings
+pub mod Paths
 pub mod Reopenings

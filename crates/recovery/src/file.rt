@@ -1,8 +1,9 @@
 //! The opening of a file.
-ghost use Rattle.std.specs.Prelude.{◌≡◌, false, IfErr, IfOk, IsTrue, MatchResult};
+ghost use Rattle.std.specs.Prelude.{◌≡◌, ◌≢◌, false, IfErr, IfOk, IsTrue, MatchResult};
 ghost use Rattle.permits.specs.declared.pool.TheConstants.{PARTS};
 ghost use Rattle.sqlite.specs.Files.{file_state, over_files, IsOpened};
 ghost use Rattle.sqlite.specs.Held.{state};
+ghost use Rattle.sqlite.specs.Opening.{is_open_error};
 ghost use Rattle.sqlite.specs.Start.{FindsIn};
 ghost use Rattle.sqlite.specs.WalFiles.{image_at};
 ghost use Rattle.spool_sql.specs.Steps.{IfClean};
@@ -12,6 +13,7 @@ ghost use Rattle.desk.specs.Desks.{HasNothingOut};
 ghost use Rattle.recovery.specs.Files.{IsFileOpened, IsFoundOpened};
 ghost use Rattle.recovery.specs.Left.{IsCleanAt};
 ghost use Rattle.recovery.specs.Openings.{LeavesOr};
+ghost use Rattle.recovery.specs.Paths.{IsOfOpen, IsOfPath, unopened_fault};
 ghost use Rattle.recovery.specs.Reopenings.{IsOfReading, IsOfRows, IsReadingRefusal, IsUnopened};
 
 use crate::opening::create;
@@ -75,6 +77,7 @@ pub fn connect<T: Start>(
     ensures opened { IfOk result (λ found. IsCleanAt over_files found.0 → IsOpened found.0) }
     ensures finds { IfOk result (λ found. IsCleanAt over_files found.0
         → FindsIn (image_at T.Start) (file_state found.0)) }
+    ensures cause { IfErr result IsOfOpen }
 {
     let length = length_of(rt, path)?;
     if 0 < length && length < HEADER_LENGTH {
@@ -130,7 +133,9 @@ pub fn open<L: Ledger, S: Alter>(
 }
 
 // Makes the file where nothing stands at the path. It will hold secrets, so nobody but its owner may read it, and its log gets the same rights.
-fn make_private(rt: &HostRuntime, path: &str) -> Result<(), OpenFault> {
+fn make_private(rt: &HostRuntime, path: &str) -> Result<(), OpenFault>
+    ensures fault { IfErr result IsOfPath }
+{
     match OpenOptions::new()
         .write(true)
         .create_new(true)
@@ -148,7 +153,9 @@ fn make_private(rt: &HostRuntime, path: &str) -> Result<(), OpenFault> {
 
 // How long the file at the path is in bytes, and 0 where nothing stands there. A log that lies beside no file holds what somebody's store
 // held, and an open would cut it.
-fn length_of(rt: &HostRuntime, path: &str) -> Result<u64, OpenFault> {
+fn length_of(rt: &HostRuntime, path: &str) -> Result<u64, OpenFault>
+    ensures fault { IfErr result IsOfPath }
+{
     if let Some(length) = length_at(rt, path)? {
         return Ok(length);
     }
@@ -162,7 +169,9 @@ fn length_of(rt: &HostRuntime, path: &str) -> Result<u64, OpenFault> {
 }
 
 // How long the file at the path is in bytes, if one stands there.
-fn length_at(rt: &HostRuntime, path: &str) -> Result<Option<u64>, OpenFault> {
+fn length_at(rt: &HostRuntime, path: &str) -> Result<Option<u64>, OpenFault>
+    ensures fault { IfErr result IsOfPath }
+{
     match fs::metadata(rt, path) {
         Ok(found) if found.is_file() => Ok(Some(found.len())),
         Ok(_) => Err(CANNOT_OPEN),
@@ -180,7 +189,9 @@ fn refusal_of<T: Start>(
     error: Error,
     left: Option<&mut Leftover<FileFrom<T>>>,
 ) -> OpenFault
-    ensures { IsOfRows result → error ≡ Error.SqliteFailure ErrorCode.NotADatabase }
+    ensures rows { IsOfRows result → error ≡ Error.SqliteFailure ErrorCode.NotADatabase }
+    ensures told { error ≢ Error.SqliteFailure ErrorCode.NotADatabase → result ≡ unopened_fault error }
+    ensures cause { IsTrue (is_open_error error) → IsOfOpen result }
 {
     match error {
         Error::SqliteFailure(ErrorCode::NotADatabase) => match left {
