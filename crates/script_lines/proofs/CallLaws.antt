@@ -1,6 +1,7 @@
 -- A call by its first word, and by the words behind it.
 use Rattle.std.proofs.Common.{◌≡◌, ◌≤◌, ◌-◌, suc, drop, take, ◌==◌, subst, length, get_or, arith, ℕ, Bool, true, false, List, [], ◌∷◌, codes, refl, sym, ap, ◌∙◌}
-use Rattle.std.specs.Prelude.{bytes_eq}
+use Rattle.std.specs.Prelude.{bytes_eq, ◌&&◌, decimal, IsTrue}
+use Rattle.relay_types.specs.Values.{is_moment, is_msg_id, is_name}
 use Rattle.std.specs.Borrow.{Bor}
 use Rattle.std.proofs.lemmas.List.{length-map}
 use Rattle.std.proofs.Math.Seq.{take-length}
@@ -9,7 +10,7 @@ use Rattle.script_lines.specs.declared.call.Call.{Call}
 use Rattle.script_lines.specs.declared.call.Call.TheVariants as on
 use Rattle.retry_table.specs.declared.post.PostResult.{PostResult}
 use Rattle.text_lines.specs.Words.{IsSecretsWord}
-use Rattle.script_lines.specs.Script.{IsPut, IsSecrets, IsNamed, IsTold, IsSubmit, IsClaim, IsSpend, IsShow, call_word, AreArguments}
+use Rattle.script_lines.specs.Script.{IsPut, IsSecrets, IsNamed, IsTold, IsSubmit, IsClaim, IsSpend, IsShow, MayLackForPut, MayLackForSecrets, MayLackForSubmit, call_word, AreArguments}
 use Rattle.text_lines.proofs.NumberLaws.{bytes_equal, true_not_false}
 
 -- two words that differ are not one
@@ -166,3 +167,14 @@ pub new_secrets : (a b name : List ℕ) (secrets : List (List ℕ)) → IsSecret
 new_secrets a b name secrets (word, reads, e, valid) =
     let same : word ≡ b = cc in
     subst (λ xs. IsSecretsWord xs secrets) same reads
+
+-- ---- words for which memory may be lacking
+
+pub lacks_put : (words : List (Bor (List ℕ))) (a b c d : List ℕ) → texts words ≡ a ∷ b ∷ c ∷ d ∷ [] → IsTrue (is_name a) → MayLackForPut (texts words)
+lacks_put words a b c d is named = (a, b, c, d, is, named)
+
+pub lacks_secrets : (words : List (Bor (List ℕ))) (a b : List ℕ) → texts words ≡ a ∷ b ∷ [] → IsTrue (is_name a) → MayLackForSecrets (texts words)
+lacks_secrets words a b is named = (a, b, is, named)
+
+pub lacks_submit : (words : List (Bor (List ℕ))) (a b c d : List ℕ) → texts words ≡ a ∷ b ∷ c ∷ d ∷ [] → (moment : ℕ) × (a ≡ decimal moment) × IsTrue (is_moment moment && (is_name b && is_msg_id c)) → MayLackForSubmit (texts words)
+lacks_submit words a b c d is (moment, same, valid) = (moment, b, c, d, is ∙ ap (λ w. w ∷ b ∷ c ∷ d ∷ []) same, valid)

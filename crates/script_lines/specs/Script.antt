@@ -1,6 +1,6 @@
 -- The lines of a script: which text stands for which call. A text that stands for none is a bad line. The grammar is told by
 -- printing: a line has these words, and one space between.
-use Rattle.std.specs.Prelude.{◌≡◌, ℕ, ◌<◌, ◌^◌, true, false, ◌&&◌, List, [], ◌∷◌, IsTrue, codes, decimal}
+use Rattle.std.specs.Prelude.{◌≡◌, ◌⊎◌, ℕ, ◌<◌, ◌^◌, true, false, ◌&&◌, List, [], ◌∷◌, IsTrue, codes, decimal}
 use Rattle.relay_types.specs.Values.{Text, Seq, Seconds, is_name, is_msg_id, is_target, is_max_limit, is_body, is_moment, is_between}
 use Rattle.retry_table.specs.declared.post.PostResult.{PostResult}
 use Rattle.retry_table.specs.declared.post.PostResult.TheVariants.{Answered, TimedOut, Unreached, Unsent}
@@ -126,6 +126,23 @@ AreArguments words (on.Spend delivery now post) = IsSpend words delivery now pos
 AreArguments words (on.Limits name) = IsNamed words name
 AreArguments words (on.ShowEndpoint name) = IsNamed words name
 AreArguments words (on.Show name id) = IsShow words name id
+
+-- Memory is taken for a target, for secrets and for a body, once the words before them were read. Other words lack none.
+abbrev pub MayLackForPut : List (List ℕ) → Type 0
+MayLackForPut words = (name target max secrets : List ℕ) × (words ≡ name ∷ target ∷ max ∷ secrets ∷ []) × IsTrue (is_name name)
+
+abbrev pub MayLackForSecrets : List (List ℕ) → Type 0
+MayLackForSecrets words = (name secrets : List ℕ) × (words ≡ name ∷ secrets ∷ []) × IsTrue (is_name name)
+
+abbrev pub MayLackForSubmit : List (List ℕ) → Type 0
+MayLackForSubmit words = (now : ℕ) × (name id body : List ℕ) × (words ≡ decimal now ∷ name ∷ id ∷ body ∷ [])
+    × IsTrue (is_moment now && (is_name name && is_msg_id id))
+
+-- a first word, and those behind it
+abbrev pub MayLack : List ℕ → List (List ℕ) → Type 0
+MayLack word words =
+    ((word ≡ codes "put") × MayLackForPut words)
+    ⊎ (((word ≡ codes "secrets") × MayLackForSecrets words) ⊎ ((word ≡ codes "submit") × MayLackForSubmit words))
 
 -- the words of a call
 abbrev pub IsCall : List (List ℕ) → Call → Type 0

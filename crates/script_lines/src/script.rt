@@ -1,8 +1,9 @@
 //! The lines of a script: the calls that they stand for.
-ghost use Rattle.std.specs.Prelude.{◌≡◌, ℕ, [], ◌∷◌, ◌<◌, ◌^◌, IsTrue, IfErr, IfOk, IsErr, codes, decimal};
-ghost use Rattle.relay_types.specs.Values.{is_between, is_moment};
+ghost use Rattle.std.specs.Prelude.{◌≡◌, ℕ, List, [], ◌∷◌, ◌<◌, ◌^◌, ◌&&◌, IsTrue, IfErr, IfOk, IsErr, codes, decimal};
+ghost use Rattle.relay_types.specs.Values.{is_between, is_moment, is_msg_id, is_name};
 ghost use Rattle.text_lines.specs.Parts.{texts};
-ghost use Rattle.script_lines.specs.Script.{ReadsLine, IsLine, HasOneLineAtMost, IsCall, call_word, AreArguments};
+ghost use Rattle.script_lines.specs.Script.{ReadsLine, IsLine, HasOneLineAtMost, IsCall, MayLack, call_word, AreArguments};
+ghost use Rattle.script_lines.specs.Script.{MayLackForPut, MayLackForSecrets, MayLackForSubmit};
 ghost use Rattle.script_lines.specs.Script.{AreOfPut, AreOfSecrets, AreOfSubmit, AreOfSpend, AreOfShow, IsNamed, IsTold, IsClaim, IsResult};
 ghost use Rattle.script_lines.specs.Script.{AreOfNoPut, AreOfNoSecrets, AreOfNoSubmit, AreOfNoSpend, AreOfNoResult, AreOfNoName, AreOfNoEvent};
 ghost use Rattle.script_lines.specs.declared.call.Call.{Call};
@@ -46,6 +47,8 @@ pub fn read_call(alloc: Global, line: &[u8]) -> Result<Call, WordFault>
 fn read_words(alloc: Global, words: &[&[u8]]) -> Result<Call, WordFault>
     ensures stands { IfOk result (λ call. IsCall (texts words.now) call) }
     ensures bad { result ≡ Err WordFault.Bad → (call : Call) → ¬ IsCall (texts words.now) call }
+    ensures lacked { result ≡ Err WordFault.OutOfMemory
+        → (word : List ℕ) × (others : List (List ℕ)) × (texts words.now ≡ word ∷ others) × MayLack word others }
 {
     match words.split_first() {
         Some((word, arguments)) => read_worded(alloc, word, arguments),
@@ -58,6 +61,7 @@ fn read_worded(alloc: Global, word: &[u8], arguments: &[&[u8]]) -> Result<Call, 
     ensures stands { IfOk result (λ call. (word.now ≡ call_word call) × AreArguments (texts arguments.now) call) }
     ensures bad { result ≡ Err WordFault.Bad
         → (call : Call) → word.now ≡ call_word call → ¬ AreArguments (texts arguments.now) call }
+    ensures lacked { result ≡ Err WordFault.OutOfMemory → MayLack word.now (texts arguments.now) }
 {
     if is_word(word, "put") {
         read_put(alloc, arguments)
@@ -122,6 +126,7 @@ fn read_alone(arguments: &[&[u8]], call: Call) -> Result<Call, WordFault>
 fn read_put(alloc: Global, arguments: &[&[u8]]) -> Result<Call, WordFault>
     ensures stands { IfOk result (λ call. AreOfPut (texts arguments.now) call) }
     ensures bad { result ≡ Err WordFault.Bad → AreOfNoPut (texts arguments.now) }
+    ensures lacked { result ≡ Err WordFault.OutOfMemory → MayLackForPut (texts arguments.now) }
 {
     match arguments {
         [name, url, max, secrets] => read_put_words(alloc, name, url, max, secrets),
@@ -138,6 +143,7 @@ fn read_put_words(
 ) -> Result<Call, WordFault>
     ensures stands { IfOk result (λ call. AreOfPut (name.now ∷ url.now ∷ max.now ∷ secrets.now ∷ []) call) }
     ensures bad { result ≡ Err WordFault.Bad → AreOfNoPut (name.now ∷ url.now ∷ max.now ∷ secrets.now ∷ []) }
+    ensures lacked { result ≡ Err WordFault.OutOfMemory → IsTrue (is_name name.now) }
 {
     Ok(Call::Put {
         name: Name::read(name)?,
@@ -150,6 +156,7 @@ fn read_put_words(
 fn read_new_secrets(alloc: Global, arguments: &[&[u8]]) -> Result<Call, WordFault>
     ensures stands { IfOk result (λ call. AreOfSecrets (texts arguments.now) call) }
     ensures bad { result ≡ Err WordFault.Bad → AreOfNoSecrets (texts arguments.now) }
+    ensures lacked { result ≡ Err WordFault.OutOfMemory → MayLackForSecrets (texts arguments.now) }
 {
     match arguments {
         [name, secrets] => read_new_secrets_words(alloc, name, secrets),
@@ -160,6 +167,7 @@ fn read_new_secrets(alloc: Global, arguments: &[&[u8]]) -> Result<Call, WordFaul
 fn read_new_secrets_words(alloc: Global, name: &[u8], secrets: &[u8]) -> Result<Call, WordFault>
     ensures stands { IfOk result (λ call. AreOfSecrets (name.now ∷ secrets.now ∷ []) call) }
     ensures bad { result ≡ Err WordFault.Bad → AreOfNoSecrets (name.now ∷ secrets.now ∷ []) }
+    ensures lacked { result ≡ Err WordFault.OutOfMemory → IsTrue (is_name name.now) }
 {
     Ok(Call::Secrets {
         name: Name::read(name)?,
@@ -194,6 +202,7 @@ fn read_seq(arguments: &[&[u8]]) -> Result<u64, WordFault>
 fn read_submit(alloc: Global, arguments: &[&[u8]]) -> Result<Call, WordFault>
     ensures stands { IfOk result (λ call. AreOfSubmit (texts arguments.now) call) }
     ensures bad { result ≡ Err WordFault.Bad → AreOfNoSubmit (texts arguments.now) }
+    ensures lacked { result ≡ Err WordFault.OutOfMemory → MayLackForSubmit (texts arguments.now) }
 {
     match arguments {
         [now, name, id, body] => read_submit_words(alloc, now, name, id, body),
@@ -210,6 +219,8 @@ fn read_submit_words(
 ) -> Result<Call, WordFault>
     ensures stands { IfOk result (λ call. AreOfSubmit (now.now ∷ name.now ∷ id.now ∷ body.now ∷ []) call) }
     ensures bad { result ≡ Err WordFault.Bad → AreOfNoSubmit (now.now ∷ name.now ∷ id.now ∷ body.now ∷ []) }
+    ensures lacked { result ≡ Err WordFault.OutOfMemory → (moment : ℕ) × (now.now ≡ decimal moment)
+        × IsTrue (is_moment moment && (is_name name.now && is_msg_id id.now)) }
 {
     Ok(Call::Submit {
         now: read_moment(now)?,

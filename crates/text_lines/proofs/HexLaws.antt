@@ -1,9 +1,9 @@
 -- Hexadecimal text as it is defined here, and as its reader answers.
-use Rattle.std.proofs.Common.{◌≡◌, ℕ, ◌+◌, ◌*◌, false, ◌==◌, List, [], ◌∷◌, length, codes, Option, Some, None, Result, Ok, Err, refl, sym, ap, ◌∙◌, arith}
+use Rattle.std.proofs.Common.{◌≡◌, ℕ, ◌+◌, ◌*◌, false, ◌==◌, List, [], ◌∷◌, length, codes, Option, Some, None, Result, Ok, Err, inl, inr, refl, sym, ap, ◌∙◌, arith}
 use Rattle.hex.specs.Hex.{decode_of, decode_pairs, digit_or_error, ◌>>=◌}
 use Rattle.hex.specs.declared.error.FromHexError.{FromHexError}
 use Rattle.hex.proofs.HexLemmas.{decode_of-even, decode_of-ok}
-use Rattle.text_lines.specs.Words.{hex_digit, HexOf, IsBodyWord}
+use Rattle.text_lines.specs.Words.{hex_digit, HasBodyLength, HexOf, IsBodyWord}
 
 abbrev pair : Option ℕ → Option ℕ → ℕ → ℕ → ℕ → Result (List ℕ) FromHexError → Result (List ℕ) FromHexError
 pair high low h l i rest = ((digit_or_error h i high) >>= (λ x. (digit_or_error l (i + 1) low) >>= (λ y. Ok (x * 16 + y)))) >>= (λ byte. rest >>= (λ bytes. Ok (byte ∷ bytes)))
@@ -92,3 +92,10 @@ one_body word (a ∷ more) (b ∷ bs) h k =
     let first = decode_is word (a ∷ more) h in
     let second = decode_is word (b ∷ bs) k in
     cc
+
+-- the word of a body is long enough for it
+pub long_enough : (word bytes : List ℕ) → IsBodyWord word bytes → HasBodyLength word
+long_enough word [] h = inl h
+long_enough word (b ∷ bytes) h =
+    let twice = even word (b ∷ bytes) h in
+    inr (λ none. let empty = ap length none in omega (arith, empty, twice), omega (arith, twice))

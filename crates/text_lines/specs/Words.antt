@@ -1,5 +1,5 @@
 -- What the words of a line stand for. It is told by printing: a word stands for what is written so.
-use Rattle.std.specs.Prelude.{◌≡◌, ℕ, ◌+◌, ◌*◌, ◌-◌, List, [], ◌∷◌, Option, Some, None, IsTrue, codes, length, if◌then◌else◌}
+use Rattle.std.specs.Prelude.{◌≡◌, ◌≢◌, ◌⊎◌, ℕ, ◌+◌, ◌*◌, ◌-◌, ◌%◌, List, [], ◌∷◌, Option, Some, None, IsTrue, codes, length, if◌then◌else◌}
 use Rattle.std.specs.List.{join_with_byte}
 use Rattle.relay_types.specs.Values.{is_between}
 use Rattle.relay_types.specs.SecretText.{ReadsSecret}
@@ -27,6 +27,10 @@ abbrev pub HexOf : List ℕ → List ℕ → Type 0
 HexOf [] [] = Unit {0}
 HexOf (high ∷ low ∷ word) (byte ∷ bytes) = ((h : ℕ) × (l : ℕ) × (hex_digit high ≡ Some h) × (hex_digit low ≡ Some l) × (byte ≡ 16 * h + l)) × HexOf word bytes
 HexOf word bytes = ⊥
+
+-- a word is long enough for a body: it is `-`, or has two digits for each of some bytes
+abbrev pub HasBodyLength : List ℕ → Type 0
+HasBodyLength word = (word ≡ codes "-") ⊎ ((word ≢ []) × (length word % 2 ≡ 0))
 
 -- the empty body is written `-`
 abbrev pub IsBodyWord : List ℕ → List ℕ → Type 0

@@ -2,7 +2,7 @@
 ghost use Rattle.std.specs.Prelude.{◌≡◌, ◌↔◌, ◌⊎◌, ℕ, ◌<◌, ◌^◌, List, false, IsTrue, IfOk, IfErr, IfSome, decimal, map};
 ghost use Rattle.relay_types.specs.Values.{is_moment, is_max_limit, is_body};
 ghost use Rattle.text_lines.specs.Parts.{HasParts, texts};
-ghost use Rattle.text_lines.specs.Words.{ReadSecrets, AreSecretTexts, IsSecretsWord, IsBodyWord};
+ghost use Rattle.text_lines.specs.Words.{ReadSecrets, AreSecretTexts, IsSecretsWord, IsBodyWord, HasBodyLength};
 ghost use Rattle.text_lines.specs.WordFaults.{word_fault};
 ghost use Rattle.text_lines.specs.declared.words.WordFault.TheVariants.{OutOfMemory};
 
@@ -144,6 +144,7 @@ pub fn read_body(alloc: Global, word: &[u8]) -> Result<Body, WordFault>
     ensures valid { IfOk result (λ body. IsTrue (is_body body)) }
     ensures bad { result ≡ Err WordFault.Bad
         → (body : List ℕ) → IsTrue (is_body body) → IsBodyWord word.now body → ⊥ }
+    ensures lacked { result ≡ Err WordFault.OutOfMemory → HasBodyLength word.now }
 {
     let bytes = read_bytes(alloc, word)?;
     body_of(alloc, bytes)
@@ -153,6 +154,7 @@ pub fn read_body(alloc: Global, word: &[u8]) -> Result<Body, WordFault>
 fn read_bytes(alloc: Global, word: &[u8]) -> Result<Vec<u8>, WordFault>
     ensures value { IfOk result (λ bytes. IsBodyWord word.now bytes.items) }
     ensures bad { result ≡ Err WordFault.Bad → (bytes : List ℕ) → IsBodyWord word.now bytes → ⊥ }
+    ensures lacked { result ≡ Err WordFault.OutOfMemory → HasBodyLength word.now }
 {
     if word == b"-".as_slice() {
         return Ok(Vec::new(alloc));
