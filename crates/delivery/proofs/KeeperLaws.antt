@@ -1,6 +1,6 @@
 -- What a run of commits leaves of a history.
-use Rattle.std.proofs.Common.{◌≡◌, sym, ◌∙◌, ap, subst, ⊎_elim, List, [], ◌∷◌, ◌++◌}
-use Rattle.std.specs.Prelude.{Option, Some, None, Result, Ok, Err, IfOk, IfErr}
+use Rattle.std.proofs.Common.{◌≡◌, sym, ◌∙◌, ap, subst, ⊎_elim, inr, List, [], ◌∷◌, ◌++◌}
+use Rattle.std.specs.Prelude.{Some, None, Result, Ok, Err, IfOk, IfErr}
 use Rattle.std.proofs.lemmas.List.{append_assoc, append-nil}
 use Rattle.sqlite.specs.Held.{state}
 use Rattle.sqlite.specs.Store.{Ghosts}
@@ -8,6 +8,7 @@ use Rattle.relay_types.specs.declared.record.Record.{Record}
 use Rattle.relay_types.specs.Records.{History, records_of}
 use Rattle.spool.specs.declared.ends.CommitEnd.{CommitEnd}
 use Rattle.spool.specs.declared.ends.CommitEnd.TheVariants as ends
+use Rattle.spool.specs.declared.ends.Unchanged.{Unchanged}
 use Rattle.spool.specs.declared.ends.Unchanged.TheVariants as why
 use Rattle.spool.specs.Batches.{BatchValue}
 use Rattle.spool.specs.Commits.{HoldsOnDisk, LeavesHistory}
@@ -16,7 +17,7 @@ use Rattle.spool.specs.Vaults.{VaultValue}
 use Rattle.delivery.specs.declared.committer.CommitterEnd.{CommitterEnd}
 use Rattle.delivery.specs.declared.committer.CommitterEnd.TheVariants.{Halted}
 use Rattle.delivery.specs.declared.committer.HaltCause.TheVariants as cause
-use Rattle.delivery.specs.Keepers.{AppendsBatches, EndsBy, Leaves, Stands, records_in}
+use Rattle.delivery.specs.Keepers.{AppendsBatches, EndsBy, Leaves, Stands, cause_of, records_in}
 use Rattle.delivery.specs.Logs.{CommittedValue, receipt_of}
 
 -- what a vault's commit leaves, as a keeper says it
@@ -83,6 +84,14 @@ module _ {K : Type 0} (holds : K → List Record → Type 0) (in_doubt : K → L
   ends_so (Err (ends.Doubtful doubt reason)) end e leaves records held =
       let is : end ≡ Halted (cause.Store reason) = cc e in
       subst (Stands holds in_doubt new records) (sym is) (batch.steps, leaves records held)
+
+-- a commit that changed nothing ends a committer for its cause
+pub ends_unchanged : (batch : BatchValue) (reason : Unchanged) (end : CommitterEnd) → end ≡ Halted (cause_of reason)
+    → EndsBy (Err (ends.Unchanged batch reason)) (Some end)
+ends_unchanged batch why.OutOfMemory end is = inr (ap (λ (e : CommitterEnd). Some e) is)
+ends_unchanged batch why.Closed end is = ap (λ (e : CommitterEnd). Some e) is
+ends_unchanged batch why.OutOfTurn end is = ap (λ (e : CommitterEnd). Some e) is
+ends_unchanged batch why.Illegal end is = ap (λ (e : CommitterEnd). Some e) is
 
 -- a commit appends its batch, or nothing
 pub appends_on : (ended : Result CommittedValue CommitEnd) (batch : BatchValue) (begun log now : List Record)

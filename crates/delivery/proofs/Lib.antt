@@ -2,3 +2,4 @@ pub mod Printable
 pub mod KeeperLaws
 pub mod UrlLaws
 pub mod SettledLaws
+pub mod ToldLaws

@@ -1,5 +1,5 @@
 -- What each call of the desk leaves of its settled and its staged records.
-use Rattle.std.proofs.Common.{◌≡◌, ◌⊎◌, ⊎_elim, ℕ, zero, suc, ◌+◌, ◌≤◌, Bool, true, false, List, [], ◌∷◌, ◌++◌, length}
+use Rattle.std.proofs.Common.{◌≡◌, ⊎_elim, ℕ, zero, suc, ◌≤◌, Bool, true, false, List, [], ◌∷◌, ◌++◌, length}
 use Rattle.std.proofs.Common.{take, drop, refl, ap, sym, ◌∙◌, subst, arith, append_assoc, length-append}
 use Rattle.std.specs.Prelude.{Option, Some, None, Result, Ok, Err, IfOk, IsSomeAnd, ◌<◌, ◌==◌, slice_get, if◌then◌else◌}
 use Rattle.std.specs.Option.{option_map_or}
@@ -22,7 +22,7 @@ use Rattle.desk.specs.declared.ticket.CommandTicket.{CommandTicket}
 use Rattle.desk.specs.declared.ticket.Ticket.{Ticket}
 use Rattle.desk.specs.Faults.{Faults, refusal}
 use Rattle.desk.specs.World.{World, all_records, settled_records}
-use Rattle.desk.specs.Moves.{Answer, MayGive, LacksMemory, unless, with_record, at_moment, moment, submit, submit_known}
+use Rattle.desk.specs.Moves.{Answer, MayGive, unless, moment, submit, submit_known}
 use Rattle.desk.specs.Moves.{submit_new, submit_faults, new_submit_faults, accepts, repeats, or_out_of_memory, change}
 use Rattle.desk.specs.Moves.{change_faults, changes, seal, seal_waiting, seal_faults, sealed_batch, with_sealed_settled}
 use Rattle.desk.specs.Moves.{are_seqs_spent}

@@ -31,7 +31,6 @@ module _ {K : Type 0} (holds : K → List Record → Type 0) (in_doubt : K → L
   Stands new records (Halted cause.Illegal) = holds new records
   Stands new records (Halted cause.OutOfMemory) = holds new records
   Stands new records (Halted cause.Halted) = holds new records
-  Stands new records (Halted cause.BatchOut) = holds new records
 
 -- the number of the next record: a batch that is committed begins with it
 module _ {K : Type 0} (next : K → ℕ) where
@@ -85,14 +84,12 @@ IsOfKeeper (Halted cause.OutOfTurn) = ⊥
 IsOfKeeper (Halted cause.Illegal) = ⊥
 IsOfKeeper (Halted cause.OutOfMemory) = ⊥
 IsOfKeeper (Halted cause.Halted) = ⊥
-IsOfKeeper (Halted cause.BatchOut) = ⊥
 
 -- the desk alone brings such an end
 abbrev pub IsOfDesk : CommitterEnd → Type 0
-IsOfDesk end = (end ≡ Finished) ⊎ ((end ≡ Halted cause.Halted) ⊎ (end ≡ Halted cause.BatchOut))
+IsOfDesk end = (end ≡ Finished) ⊎ (end ≡ Halted cause.Halted)
 
 abbrev pub EndsByDesk : Next → Type 0
 EndsByDesk (next.End end) = IsOfDesk end
 EndsByDesk (next.Commit batch) = Unit {0}
-EndsByDesk next.Wait = Unit {0}
 EndsByDesk next.Refused = Unit {0}

@@ -2,7 +2,7 @@
 use Rattle.std.specs.Prelude.{◌≡◌, ℕ, ◌+◌, List, ◌++◌, length, slice_get, Option, Some, Result, Ok, Err}
 use Rattle.relay_types.specs.declared.record.Record.{Record}
 use Rattle.relay_types.specs.declared.record.Record.TheVariants.{Put, Secrets, Enabled}
-use Rattle.relay_types.specs.Records.{History, records_of}
+use Rattle.relay_types.specs.Records.{records_of}
 use Rattle.relay_types.specs.Lists.{last_of}
 use Rattle.relay_types.specs.Values.{Seq}
 use Rattle.spool.specs.declared.ends.CommitEnd.{CommitEnd}

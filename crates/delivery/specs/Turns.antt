@@ -43,23 +43,23 @@ claimed_by (Ok (Some job)) = claimed.Job job
 claimed_by (Ok None) = claimed.Nothing round.Idle
 claimed_by (Err why) = claimed.Nothing (round_of why.fault)
 
--- what a committer does whose seal is refused
-abbrev pub refused : Fault → Next
-refused fault.Halted = next.End (end.Halted cause.Halted)
-refused fault.UnknownEndpoint = next.End (end.Halted cause.BatchOut)
-refused fault.Conflict = next.End (end.Halted cause.BatchOut)
-refused fault.Exists = next.End (end.Halted cause.BatchOut)
-refused fault.EndpointBacklog = next.End (end.Halted cause.BatchOut)
-refused fault.Backlog = next.End (end.Halted cause.BatchOut)
-refused fault.TooManyEndpoints = next.End (end.Halted cause.BatchOut)
-refused fault.WaitingFull = next.End (end.Halted cause.BatchOut)
-refused fault.SeqExhausted = next.End (end.Halted cause.BatchOut)
-refused fault.BatchOut = next.End (end.Halted cause.BatchOut)
-refused fault.OutOfMemory = next.Refused
+-- what a committer does whose seal is refused: nothing yet, while another one has a batch
+abbrev pub refused : Fault → Option Next
+refused fault.Halted = Some (next.End (end.Halted cause.Halted))
+refused fault.UnknownEndpoint = None
+refused fault.Conflict = None
+refused fault.Exists = None
+refused fault.EndpointBacklog = None
+refused fault.Backlog = None
+refused fault.TooManyEndpoints = None
+refused fault.WaitingFull = None
+refused fault.SeqExhausted = None
+refused fault.BatchOut = None
+refused fault.OutOfMemory = Some next.Refused
 
--- it commits a batch; where nothing waits it waits, or is finished once the end was asked for
-abbrev pub next_by : (closing : Bool) → Result (Option BatchValue) Refusal → Next
-next_by closing (Ok (Some batch)) = next.Commit batch
-next_by true (Ok None) = next.End end.Finished
-next_by false (Ok None) = next.Wait
+-- It commits a batch. If nothing waits it does nothing yet, or is finished once the end was asked for.
+abbrev pub next_by : (closing : Bool) → Result (Option BatchValue) Refusal → Option Next
+next_by closing (Ok (Some batch)) = Some (next.Commit batch)
+next_by true (Ok None) = Some (next.End end.Finished)
+next_by false (Ok None) = None
 next_by closing (Err why) = refused why.fault

@@ -4,6 +4,7 @@ ghost use Rattle.delivery.specs.Logs.{receipt_of};
 ghost use Rattle.delivery.specs.Keepers.{Adds, AppendsBatches, EndsBy, IsOfKeeper, KeepsLog, cause_of};
 
 use crate::keeper::Keeper;
+use crate::locked::Ended;
 use crate::logged_keeper::{Committed, LoggedKeeper};
 use crate::shared::Shared;
 use group_commit::Held;
@@ -26,8 +27,6 @@ pub const PAUSE_MILLIS: u64 = 10;
 pub enum HaltCause {
     /// The desk was halted before.
     Halted,
-    /// A batch is out that another committer has.
-    BatchOut,
     /// Memory was refused nine times in a row.
     OutOfMemory,
     /// An earlier commit was doubtful.
@@ -51,10 +50,9 @@ pub enum CommitterEnd {
 // What the committer does next.
 pub(crate) enum Next {
     Commit(Batch),
-    Wait,
     /// Memory was refused.
     Refused,
-    End(CommitterEnd),
+    End(Ended),
 }
 
 /// Commits what waits, with the lock free during each commit, until the end was asked for and nothing waits, or until a commit fails. Want of
@@ -63,7 +61,7 @@ pub fn committer_run<L: Ledger, I: LogId, K: Keeper + Drop, R: Wait + Clock>(
     rt: &R,
     shared: &Shared<L, I>,
     logged: LoggedKeeper<I, K>,
-) -> (LoggedKeeper<I, K>, CommitterEnd)
+) -> (LoggedKeeper<I, K>, Ended)
     ensures rows { K.is_clean result.0.keeper → Adds K.holds K.in_doubt logged.keeper result.0.keeper result.1 }
     ensures logged { K.is_clean result.0.keeper
         → KeepsLog K.holds K.in_doubt logged.keeper logged.writer result.0.keeper result.0.writer result.1 }
@@ -81,15 +79,14 @@ pub fn committer_run<L: Ledger, I: LogId, K: Keeper + Drop, R: Wait + Clock>(
                     return (logged, end);
                 }
             }
-            Next::Wait => {}
             Next::Refused => {
                 if is_last(&mut refusals) {
-                    shared.halt(rt, Held::Nothing);
-                    return (logged, CommitterEnd::Halted(HaltCause::OutOfMemory));
+                    let ended = shared.halt(rt, Held::Nothing, HaltCause::OutOfMemory);
+                    return (logged, ended);
                 }
                 pause(rt);
             }
-            Next::End(end) => return (logged, end),
+            Next::End(ended) => return (logged, ended),
         }
     }
     unreachable!()
@@ -101,18 +98,19 @@ fn is_last(refusals: &mut u32) -> bool {
     *refusals >= MAX_REFUSALS
 }
 
-// Memory may be free again after a moment.
-fn pause<R: Clock>(rt: &R) {
+// Memory may be free again after a moment, or another committer's batch be back.
+pub(crate) fn pause<R: Clock>(rt: &R) {
     thread::sleep(rt, Duration::from_millis(PAUSE_MILLIS));
 }
 
 // Hands in what came of a commit. `None` where the committer goes on.
+#[tactic(auto, using(crate::proofs::KeeperLaws::ends_unchanged))]
 fn hand_in<L: Ledger, I: LogId, R: Wait + Clock>(
     rt: &R,
     shared: &Shared<L, I>,
     ended: Result<Committed<I>, CommitEnd>,
     refusals: &mut u32,
-) -> Option<CommitterEnd>
+) -> Option<Ended>
     ensures { EndsBy (receipt_of ended) result }
 {
     match ended {
@@ -127,12 +125,10 @@ fn hand_in<L: Ledger, I: LogId, R: Wait + Clock>(
             None
         }
         Err(CommitEnd::Unchanged(batch, why)) => {
-            shared.halt(rt, Held::Batch(batch));
-            Some(CommitterEnd::Halted(cause_of(why)))
+            Some(shared.halt(rt, Held::Batch(batch), cause_of(why)))
         }
         Err(CommitEnd::Doubtful(doubt, error)) => {
-            shared.halt(rt, Held::Doubt(doubt));
-            Some(CommitterEnd::Halted(HaltCause::Store(error)))
+            Some(shared.halt(rt, Held::Doubt(doubt), HaltCause::Store(error)))
         }
     }
 }

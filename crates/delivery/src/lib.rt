@@ -17,7 +17,7 @@ mod worker;
 pub use crate::committer::{CommitterEnd, HaltCause, MAX_REFUSALS, PAUSE_MILLIS, committer_run};
 pub use crate::header::{Header, HeaderName};
 pub use crate::keeper::Keeper;
-pub use crate::locked::Locked;
+pub use crate::locked::{Ended, Locked};
 pub use crate::logged_keeper::{Committed, LoggedKeeper};
 pub use crate::outgoing::Outgoing;
 pub use crate::pass::{Pass, WentBack};

@@ -1,10 +1,11 @@
 //! What lies under the lock. Each call is one of the desk's, or leaves the desk as it was.
-ghost use Rattle.std.specs.Prelude.{◌≡◌, ◌≤◌, ◌<◌, ◌↔◌, ◌∷◌, ◌++◌, [], true, false, None, IfOk, IfErr, IfSome, IsOk, IsTrue, OnErr, OnOk, Result, Option, length};
+ghost use Rattle.std.specs.Prelude.{◌≡◌, ◌≢◌, ◌≤◌, ◌<◌, ◌↔◌, ◌∷◌, ◌++◌, [], true, false, length, IsTrue};
+ghost use Rattle.std.specs.Prelude.{Result, IfOk, IfErr, IsOk, OnErr, OnOk, Option, None, Some, IfSome};
 ghost use Rattle.relay_types.specs.Records.{records_of};
 ghost use Rattle.spool.specs.Batches.{BatchValue, doubt_of};
 ghost use Rattle.group_commit.specs.Turns as waiting;
 ghost use Rattle.group_commit.specs.Waits.{record_count, with_settled};
-ghost use Rattle.desk.specs.Desks.{IsMove, Spends, Turns, IsReceiptOf, ArePlacesOf, IsHeldOf};
+ghost use Rattle.desk.specs.Desks.{IsCore, IsMove, Spends, Turns, IsReceiptOf, ArePlacesOf, IsHeldOf};
 ghost use Rattle.desk.specs.Faults.{may_refuse, may_refuse_event};
 ghost use Rattle.desk.specs.Kept as kept;
 ghost use Rattle.desk.specs.Moves.{change, seal, submit, with_sealed_settled, with_batch_back, with_halt};
@@ -12,6 +13,7 @@ ghost use Rattle.desk.specs.Claims.{JobValue, claim};
 ghost use Rattle.desk.specs.declared.refusal.Refusal.{Refusal};
 ghost use Rattle.delivery.specs.Logs.{HasChange, HasSettled, IsOfCommand, entry_of, ticket_of};
 ghost use Rattle.delivery.specs.Keepers.{EndsByDesk};
+ghost use Rattle.delivery.specs.declared.committer.CommitterEnd.TheVariants.{Halted};
 ghost use Rattle.delivery.specs.Rounds.{EndsUnposted};
 ghost use Rattle.delivery.specs.Turns.{claimed_by, halted, next_by, refused, round_of, went_back};
 
@@ -50,6 +52,30 @@ impl<L: Ledger, I: LogId> Model for Locked<L, I> {
     ghost invariant = { λ l. HasRecords I.is_base I.start l.desk l.prefix l.staged };
 }
 
+/// Shows how a committer ended. Only what runs under the lock makes one: `Finished` once the end was asked for and nothing
+/// waits, `Halted` once the desk is halted.
+#[derive(Drop)]
+pub struct Ended {
+    how: CommitterEnd,
+}
+
+impl Model for Ended {
+    ghost use Rattle.delivery.specs.declared.committer.CommitterEnd.{CommitterEnd};
+
+    ghost Value = { CommitterEnd };
+
+    ghost view = { λ e. e.how };
+}
+
+impl Ended {
+    /// How it ended.
+    pub fn how(&self) -> CommitterEnd
+        ensures { result ≡ self.now }
+    {
+        self.how
+    }
+}
+
 // What a call is told once the end was asked for.
 const CLOSING: Refusal = Refusal {
     number: 1,
@@ -73,7 +99,8 @@ impl<L: Ledger, I: LogId> Locked<L, I> {
     }
 
     pub(crate) fn into_desk(self) -> Desk<L>
-        ensures { result ≡ self.desk }
+        ensures desk { result ≡ self.desk }
+        ensures settled { HasSettled I.is_base I.start result self.prefix }
     {
         let Locked { desk, .. } = self;
         desk
@@ -202,16 +229,24 @@ impl<L: Ledger, I: LogId> Locked<L, I> {
         }
     }
 
+    // Nothing is looked up for a number that is settled.
+    #[tactic(auto, using(crate::proofs::ToldLaws::event_waits))]
     pub(crate) fn is_waiting(&self, ticket: &Ticket) -> bool
-        ensures { IsTrue result ↔ (kept.told self.now.desk ticket.now ≡ Told.Waiting) }
+        ensures told { IsTrue result ↔ (kept.told self.now.desk ticket.now ≡ Told.Waiting) }
+        ensures core { IsCore self.now.desk }
     {
-        self.desk.told(ticket) == Told::Waiting
+        ticket.seq >= self.desk.settled_records() && self.desk.told(ticket) == Told::Waiting
     }
 
+    // Its number is one of those that wait, and the desk isn't halted.
+    #[tactic(auto, using(crate::proofs::ToldLaws::change_waits, crate::proofs::ToldLaws::waiting_change))]
     pub(crate) fn is_command_waiting(&self, ticket: &CommandTicket) -> bool
-        ensures { IsTrue result ↔ (kept.told_command self.now.desk ticket.now ≡ Told.Waiting) }
+        ensures told { IsTrue result ↔ (kept.told_command self.now.desk ticket.now ≡ Told.Waiting) }
+        ensures core { IsCore self.now.desk }
     {
-        self.desk.told_command(ticket) == Told::Waiting
+        self.desk.settled_records() <= ticket.seq
+            && ticket.seq < self.desk.records()
+            && !self.desk.is_halted()
     }
 
     // Nothing waits to be sealed, and the end hasn't come.
@@ -236,10 +271,12 @@ impl<L: Ledger, I: LogId> Locked<L, I> {
         self.desk.settled_records() <= seen && !self.is_closing && !self.desk.is_halted()
     }
 
-    pub(crate) fn next_batch(&mut self) -> Next
+    // What the committer does next: `None` if nothing waits and the end wasn't asked for, or another committer has a batch.
+    pub(crate) fn next_batch(&mut self) -> Option<Next>
         ensures moves { (reply : Result (Option BatchValue) Refusal) × (result ≡ next_by self.old.closing reply)
             × IsMove self.old.desk (seal self.old.desk.waiting.mark) reply self.new.desk }
-        ensures end { EndsByDesk result }
+        ensures end { IfSome result EndsByDesk }
+        ensures asked { result ≡ Some (Next.End CommitterEnd.Finished) → IsTrue self.old.closing }
         ensures flag { self.new.closing ≡ self.old.closing }
     {
         next_by(self.is_closing, self.desk.seal())
@@ -304,15 +341,19 @@ impl<L: Ledger, I: LogId> Locked<L, I> {
         self.desk.unseal(batch)
     }
 
-    pub(crate) fn halt(&mut self, held: Held) -> Result<(), (Held, WrongTurn)>
+    pub(crate) fn halt(&mut self, held: Held, cause: HaltCause) -> Result<Ended, (Held, WrongTurn)>
         ensures moves { Turns self.old.desk (λ w. IsHeldOf self.old.desk.waiting.mark w held) with_halt
             result self.new.desk }
         ensures turn { IsOk result ↔ waiting.IsHeldOf self.old.desk.waiting held }
+        ensures ended { IfOk result (λ ended. ended ≡ Halted cause) }
         ensures back { IfErr result (λ back. back.0 ≡ held) }
         ensures flag { self.new.closing ≡ self.old.closing }
         ensures err { OnErr result (self.new ≡ self.old) }
     {
-        self.desk.halt(held)
+        self.desk.halt(held)?;
+        Ok(Ended {
+            how: CommitterEnd::Halted(cause),
+        })
     }
 }
 
@@ -340,26 +381,32 @@ fn round_of(fault: Fault) -> Round
 }
 
 // What a seal's answer is to the committer.
-fn next_by(is_closing: bool, sealed: Result<Option<Batch>, Refusal>) -> Next
+fn next_by(is_closing: bool, sealed: Result<Option<Batch>, Refusal>) -> Option<Next>
     ensures value { result ≡ next_by is_closing sealed }
-    ensures end { EndsByDesk result }
+    ensures end { IfSome result EndsByDesk }
+    ensures asked { result ≡ Some (Next.End CommitterEnd.Finished) → IsTrue is_closing }
 {
     match sealed {
-        Ok(Some(batch)) => Next::Commit(batch),
-        Ok(None) if is_closing => Next::End(CommitterEnd::Finished),
-        Ok(None) => Next::Wait,
+        Ok(Some(batch)) => Some(Next::Commit(batch)),
+        Ok(None) if is_closing => Some(Next::End(Ended {
+            how: CommitterEnd::Finished,
+        })),
+        Ok(None) => None,
         Err(refusal) => refused(refusal.fault),
     }
 }
 
 // What comes next where a seal is refused for this.
-fn refused(fault: Fault) -> Next
+fn refused(fault: Fault) -> Option<Next>
     ensures value { result ≡ refused fault }
-    ensures end { EndsByDesk result }
+    ensures end { IfSome result EndsByDesk }
+    ensures unfinished { result ≢ Some (Next.End CommitterEnd.Finished) }
 {
     match fault {
-        Fault::OutOfMemory => Next::Refused,
-        Fault::Halted => Next::End(CommitterEnd::Halted(HaltCause::Halted)),
-        _ => Next::End(CommitterEnd::Halted(HaltCause::BatchOut)),
+        Fault::OutOfMemory => Some(Next::Refused),
+        Fault::Halted => Some(Next::End(Ended {
+            how: CommitterEnd::Halted(HaltCause::Halted),
+        })),
+        _ => None,
     }
 }

@@ -1,19 +1,22 @@
 //! What threads share: the desk under one lock, and whom a change wakes.
 //!
 //! The committer waits on `staged` until a step waits, and everybody else on `changed` until something is settled, or nothing will be.
-ghost use Rattle.std.specs.Prelude.{◌≡◌, ◌≢◌, ◌≤◌, IfErr, IfOk, IsTrue};
+ghost use Rattle.std.specs.Prelude.{◌≡◌, ◌≢◌, ◌≤◌, ◌<◌, IfErr, IfOk, IfSome, IsTrue, List, OnErr};
 ghost use Rattle.std.specs.Sync.Mutex.{mutex_guard_value};
+ghost use Rattle.relay_types.specs.declared.record.Record.{Record};
+ghost use Rattle.desk.specs.Desks.{IsCore};
 ghost use Rattle.desk.specs.Faults.{may_refuse, may_refuse_event};
 ghost use Rattle.desk.specs.Kept as kept;
 ghost use Rattle.desk.specs.declared.ticket.Told.TheVariants.{Waiting};
 ghost use Rattle.delivery.specs.Logs.{HasSettled, IsOfCommand};
 ghost use Rattle.delivery.specs.Keepers.{EndsByDesk};
 ghost use Rattle.delivery.specs.Rounds.{EndsUnposted};
+ghost use Rattle.delivery.specs.declared.committer.CommitterEnd.TheVariants.{Halted};
 
-use crate::committer::Next;
-use crate::locked::Locked;
+use crate::committer::{HaltCause, Next, pause};
+use crate::locked::{Ended, Locked};
 use crate::logged_keeper::Committed;
-use crate::pass::Pass;
+use crate::pass::{Pass, WentBack};
 use crate::staged::StagedChange;
 use crate::worker::Claimed;
 use desk::{Command, CommandTicket, Desk, Refusal, Spent, Ticket};
@@ -59,7 +62,9 @@ impl<L: Ledger, I: LogId> Shared<L, I> {
     }
 
     /// The desk, once no other thread has it.
-    pub fn into_desk(self) -> Desk<L> {
+    pub fn into_desk(self) -> Desk<L>
+        ensures settled { (prefix : List Record) × HasSettled I.is_base I.start result prefix }
+    {
         let Shared { locked, .. } = self;
         locked.into_inner().into_desk()
     }
@@ -101,6 +106,7 @@ impl<L: Ledger, I: LogId> Shared<L, I> {
     /// Waits until the submission is settled, or won't be.
     pub fn wait_for<R: Wait>(&self, rt: &R, ticket: &Ticket) -> MutexGuard<'_, Locked<L, I>>
         ensures over { kept.told (mutex_guard_value result).desk ticket.now ≢ Waiting }
+        ensures core { IsCore (mutex_guard_value result).desk }
     {
         let locked = self.locked.lock(rt);
         self.changed
@@ -114,6 +120,7 @@ impl<L: Ledger, I: LogId> Shared<L, I> {
         ticket: &CommandTicket,
     ) -> MutexGuard<'_, Locked<L, I>>
         ensures over { kept.told_command (mutex_guard_value result).desk ticket.now ≢ Waiting }
+        ensures core { IsCore (mutex_guard_value result).desk }
     {
         let locked = self.locked.lock(rt);
         self.changed
@@ -123,6 +130,23 @@ impl<L: Ledger, I: LogId> Shared<L, I> {
     /// The desk, to be looked at.
     pub fn lock<R: Wait>(&self, rt: &R) -> MutexGuard<'_, Locked<L, I>> {
         self.locked.lock(rt)
+    }
+
+    /// The same, unless the desk has fewer settled records than the pass has seen. The pass sees them.
+    pub fn look<R: Wait>(
+        &self,
+        rt: &R,
+        pass: &mut Pass,
+    ) -> Result<MutexGuard<'_, Locked<L, I>>, WentBack>
+        ensures core { IfOk result (λ locked. IsCore (mutex_guard_value locked).desk) }
+        ensures seen { IfOk result (λ locked. pass.new ≡ (mutex_guard_value locked).desk.waiting.settled) }
+        ensures back { IfErr result (λ told. (told.seen ≡ pass.old) × (told.found < pass.old)) }
+        ensures pass { pass.old ≤ pass.new }
+        ensures same { OnErr result (pass.new ≡ pass.old) }
+    {
+        let locked = self.locked.lock(rt);
+        pass.look(locked.desk())?;
+        Ok(locked)
     }
 
     /// Rests until more is settled than the pass has seen, or a second has passed.
@@ -168,9 +192,22 @@ impl<L: Ledger, I: LogId> Shared<L, I> {
         unreachable!()
     }
 
-    // Waits until a step waits, or the end has come.
-    pub(crate) fn next_batch<R: Wait>(&self, rt: &R) -> Next
+    // Waits until a step waits, or the end has come. While another committer has a batch it tries again after a pause.
+    pub(crate) fn next_batch<R: Wait + std::time::Clock>(&self, rt: &R) -> Next
         ensures { EndsByDesk result }
+    {
+        for _ in rt.forever() {
+            if let Some(next) = self.wait_and_seal(rt) {
+                return next;
+            }
+            pause(rt);
+        }
+        unreachable!()
+    }
+
+    // The same without a pause: `None` while another committer has a batch.
+    fn wait_and_seal<R: Wait>(&self, rt: &R) -> Option<Next>
+        ensures { IfSome result EndsByDesk }
     {
         let mut locked = self
             .staged
@@ -208,15 +245,17 @@ impl<L: Ledger, I: LogId> Shared<L, I> {
     }
 
     // Hands in what is out until it is taken, and wakes all: nothing more will be settled.
-    pub(crate) fn halt<R: Wait>(&self, rt: &R, out: Held) {
+    pub(crate) fn halt<R: Wait>(&self, rt: &R, out: Held, cause: HaltCause) -> Ended
+        ensures { result ≡ Halted cause }
+    {
         let mut held = out;
         for _ in rt.forever() {
-            let taken = self.locked.lock(rt).halt(held);
+            let taken = self.locked.lock(rt).halt(held, cause);
             match taken {
-                Ok(()) => {
+                Ok(ended) => {
                     self.staged.notify_all();
                     self.changed.notify_all();
-                    return;
+                    return ended;
                 }
                 Err((back, WrongTurn)) => held = back,
             }

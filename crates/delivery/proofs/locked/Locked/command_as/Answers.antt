@@ -1,4 +1,4 @@
-use Rattle.std.proofs.Common.{sym, ◌∙◌, ap, subst, List, [], ◌∷◌, ◌++◌}
+use Rattle.std.proofs.Common.{sym, ◌∙◌, ap, subst, List, ◌++◌}
 use Rattle.relay_types.specs.declared.record.Record.{Record}
 use Rattle.relay_types.specs.Lists.{last_of}
 use Rattle.delivery.specs.Logs.{ChangeValue, HasChange, HasRecords, change_of, entry_of}
