@@ -17,7 +17,7 @@ use crate::refusals::{WaitFault, refusal_reply};
 use crate::reply::Reply;
 use crate::waits::{command_and_wait, submit_and_wait};
 use delivery::{Pass, Shared};
-use desk::{Command, Desk};
+use desk::Command;
 use relay_types::{Moment, MsgId};
 use run_log::LogId;
 use std::alloc::Global;
@@ -70,7 +70,7 @@ fn answer_asked<L: Ledger, I: LogId, R: Wait>(
             answer_event(alloc, waited)
         }
         page => Answered {
-            reply: answer_page(alloc, shared.lock(rt).desk(), &page, pass),
+            reply: answer_page(rt, alloc, shared, &page, pass),
             ack: None,
             confirmed: None,
         },
@@ -122,13 +122,19 @@ fn answer_event<I: LogId>(alloc: Global, waited: Result<Ack<I>, WaitFault>) -> A
 }
 
 // The page, of a desk at which the pass looks first.
-fn answer_page<L: Ledger>(alloc: Global, desk: &Desk<L>, asked: &Asked, pass: &mut Pass) -> Reply
+fn answer_page<L: Ledger, I: LogId, R: Wait>(
+    rt: &R,
+    alloc: Global,
+    shared: &Shared<L, I>,
+    asked: &Asked,
+    pass: &mut Pass,
+) -> Reply
     requires { IsTrue (asks_for_page asked.now) }
     ensures page { GivesPageAt asked.now pass.new result }
     ensures pass { pass.old ≤ pass.new }
 {
-    match pass.look(desk) {
-        Ok(()) => page_reply(alloc, desk, asked),
+    match shared.look(rt, pass) {
+        Ok(locked) => page_reply(alloc, locked.desk(), asked),
         Err(_) => refusal_reply(&WaitFault::WentBack),
     }
 }
