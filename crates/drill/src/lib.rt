@@ -2,6 +2,7 @@
 #![tactic(auto)]
 
 mod attempts;
+mod audited;
 mod audits;
 mod calls;
 mod commit;
@@ -20,6 +21,7 @@ mod tickets;
 mod turns;
 mod unrecorded;
 
+pub use crate::audited::{Audited, audit_shown};
 pub use crate::audits::{AuditFault, audit};
 pub use crate::events::{Event, Look, Reply};
 pub use crate::law::{
