@@ -1,3 +1,4 @@
 pub mod Fresh
+pub mod Hosts
 pub mod Looking
 pub mod Placing

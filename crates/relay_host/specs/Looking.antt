@@ -5,7 +5,7 @@ use Rattle.std.specs.declared.io.ErrorKind.TheVariants.{NotFound, NotADirectory,
 use Rattle.relay_host.specs.declared.place.Sight.{Sight}
 use Rattle.relay_host.specs.declared.place.Sight.TheVariants as sight
 
--- Nothing stands there where the path leads nowhere. Every other refusal but want of memory hides what stands there.
+-- If the path leads nowhere, nothing is there. Every other refusal hides what is there, except lack of memory.
 abbrev pub sight_after : ErrorKind → Sight
 sight_after NotFound = sight.Gone
 sight_after NotADirectory = sight.Gone

@@ -1,5 +1,6 @@
 -- What a look at a place finds, and what a keeper there keeps.
-use Rattle.std.specs.Prelude.{◌≡◌, ◌⊎◌, IsSome, IsTrue, Option, Some, None}
+use Rattle.std.specs.Prelude.{◌≡◌, ◌++◌, ◌⊎◌, ℕ, false, IsSome, IsTrue, List, Option, Some, None}
+use Rattle.std.specs.Prelude.{codes, string_bytes}
 use Rattle.spool.specs.declared.ends.Unchanged.{Unchanged}
 use Rattle.spool.specs.declared.ends.Unchanged.TheVariants as why
 use Rattle.relay_host.specs.declared.place.FilePlace.{FilePlace}
@@ -14,8 +15,19 @@ IsBlind Gone = ⊥
 IsBlind Unseen = Unit {0}
 IsBlind OutOfMemory = Unit {0}
 
--- What is known of the file and of its log stays known, and a look that told nothing changes nothing.
+-- The place of the file at this path, of which nothing is known yet. Its log is the one of a database in WAL mode.
+pub record IsPlaceOf {F File Dir : Type 0} (path : List ℕ) (place : FilePlace F File Dir) : Type 0 where
+  pub file_path : place.path.now ≡ path
+  pub log_path : string_bytes place.log_path ≡ path ++ codes "-wal"
+  pub file : place.is_known ≡ false
+  pub log : place.log ≡ None
+
+-- The paths stay the same. What is known of the file and of its log stays known. A look that told something makes the
+-- file known, and one that told nothing changes nothing.
 pub record IsSightOf {F File Dir : Type 0} (old new : FilePlace F File Dir) (sight : Sight) : Type 0 where
+  pub file_path : new.path ≡ old.path
+  pub log_path : new.log_path ≡ old.log_path
+  pub known : IsBlind sight ⊎ IsTrue new.is_known
   pub file : IsTrue old.is_known → new.file ≡ old.file
   pub log : IsSome old.log → new.log ≡ old.log
   pub stands : sight ≡ Stands → IsTrue new.is_known × IsSome new.file

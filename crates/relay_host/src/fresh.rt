@@ -20,16 +20,10 @@ pub trait RandomBytes {
         ensures { IfOk result (gives self.now) };
 }
 
-/// The system's source of random bytes.
+// The system's source of random bytes.
 #[derive(Clone, Copy)]
-pub struct HostRandom<'a, R> {
+struct HostRandom<'a, R> {
     rt: &'a R,
-}
-
-impl<'a, R> HostRandom<'a, R> {
-    pub fn new(rt: &'a R) -> HostRandom<'a, R> {
-        HostRandom { rt }
-    }
 }
 
 impl<R: RandomSource> RandomBytes for HostRandom<'_, R> {
@@ -45,10 +39,10 @@ impl<R: RandomSource> RandomBytes for HostRandom<'_, R> {
 pub fn fresh_id<R: RandomSource>(rt: &R) -> io::Result<MsgId>
     ensures { IfOk result IsMadeId }
 {
-    fresh_id_from(&HostRandom::new(rt))
+    fresh_id_from(&HostRandom { rt })
 }
 
-/// The same of a source's bytes: all of them, but for the six bits that tell the version and the variant.
+/// The same of a source's bytes: all of their bits, except the six that say the version and the variant.
 pub fn fresh_id_from<S: RandomBytes>(source: &S) -> io::Result<MsgId>
     ensures { IfOk result (IsMadeOf (S.gives source.now)) }
 {

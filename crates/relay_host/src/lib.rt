@@ -1,4 +1,4 @@
-//! What the system gives a relay: ids that nobody used before, the moment, and whether its file still stands at its path.
+//! What the system gives a relay: ids that nobody used before, the moment, and whether its file is still at its path.
 #![tactic(auto)]
 
 mod fresh;
@@ -6,7 +6,7 @@ mod moment;
 mod place;
 mod placed;
 
-pub use crate::fresh::{HostRandom, RandomBytes, fresh_id, fresh_id_from};
+pub use crate::fresh::{RandomBytes, fresh_id, fresh_id_from};
 pub use crate::moment::{HostClock, moment_of};
 pub use crate::place::{FilePlace, Place, Sight};
 pub use crate::placed::Placed;

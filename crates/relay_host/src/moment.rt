@@ -1,19 +1,23 @@
 //! Moments by the system's clock.
 ghost use Rattle.std.specs.Prelude.{◌≡◌, min};
 ghost use Rattle.relay_types.specs.declared.limits.TheConstants.{MAX_MOMENT};
+ghost use Rattle.relay_host.specs.Hosts.{runtime_of};
 
 use delivery::Clock;
 use relay_types::{MAX_MOMENT, Moment};
 use std::time::{Clock as SystemClock, SystemTime};
 
-/// The system's clock. Where it can't be read, or stands before 1970, the moment is 0, and past the greatest moment it is that one.
+/// The system's clock. If it can't be read, or is before 1970, the moment is 0. After the greatest moment it is that one.
 #[derive(Clone, Copy)]
 pub struct HostClock<'a, R> {
     rt: &'a R,
 }
 
 impl<'a, R> HostClock<'a, R> {
-    pub fn new(rt: &'a R) -> HostClock<'a, R> {
+    /// The clock of this runtime.
+    pub fn new(rt: &'a R) -> HostClock<'a, R>
+        ensures { runtime_of result ≡ rt.now }
+    {
         HostClock { rt }
     }
 }

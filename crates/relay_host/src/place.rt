@@ -1,8 +1,9 @@
 //! Whether a file still stands where it was opened.
-ghost use Rattle.std.specs.Prelude.{◌≡◌, ◌↔◌, ◌⊎◌, true, false, None, IsSome, IfErr};
+ghost use Rattle.std.specs.Prelude.{◌≡◌, ◌↔◌, ◌⊎◌, true, false, None, IsSome, IfOk, IfErr};
 ghost use Rattle.std.specs.IoError.{error_kind};
-ghost use Rattle.relay_host.specs.Placing.{IsSightOf};
+ghost use Rattle.relay_host.specs.Placing.{IsPlaceOf, IsSightOf};
 ghost use Rattle.relay_host.specs.Looking.{sight_after};
+ghost use Rattle.relay_host.specs.declared.place.Sight.{Sight};
 
 use std::alloc::{AllocError, Global};
 use std::fs::Files;
@@ -41,7 +42,7 @@ pub trait Place {
         ensures { finds self.old self.new result };
 }
 
-/// A file and its log at their paths. Both are told from others by device and number, as `stat` gives them (POSIX.1-2017). The log of a file
+/// A file and its log at their paths. Device and number, as `stat` gives them (POSIX.1-2017), distinguish them from others. The log of a file
 /// to which the path leads by a link isn't looked at.
 #[derive(Drop)]
 pub struct FilePlace<'a, F: Files + Clock> {
@@ -62,7 +63,9 @@ struct Node {
 
 impl<'a, F: Files + Clock> FilePlace<'a, F> {
     /// The place of a file that isn't opened yet.
-    pub fn new(files: &'a F, alloc: Global, path: &'a str) -> Result<FilePlace<'a, F>, AllocError> {
+    pub fn new(files: &'a F, alloc: Global, path: &'a str) -> Result<FilePlace<'a, F>, AllocError>
+        ensures { IfOk result (IsPlaceOf path.now) }
+    {
         let log_path = format!(in alloc; "{path}-wal")?;
         Ok(FilePlace {
             files,
@@ -74,8 +77,10 @@ impl<'a, F: Files + Clock> FilePlace<'a, F> {
         })
     }
 
-    /// Takes what stands there now for what was opened. Where it can't be looked at, the next look does.
-    pub fn remember(&mut self) {
+    /// Takes what is there now for what was opened. If it can't be looked at, the next look takes it. It leaves what a look leaves.
+    pub fn remember(&mut self)
+        ensures { (sight : Sight) × IsSightOf self.old self.new sight }
+    {
         let _seen = self.look();
     }
 
@@ -94,6 +99,8 @@ impl<'a, F: Files + Clock> FilePlace<'a, F> {
 
     // What stands there, beside what was opened.
     fn sees(&mut self, file: Option<Node>, log: Option<Node>) -> Sight
+        ensures file_path { self.new.path ≡ self.old.path }
+        ensures log_path { self.new.log_path ≡ self.old.log_path }
         ensures known { self.new.is_known ≡ true }
         ensures first { self.old.is_known ≡ false → self.new.file ≡ file }
         ensures file { self.old.is_known ≡ true → self.new.file ≡ self.old.file }
