@@ -10,6 +10,6 @@ MayAnswerWithin timeout (TimedOut rtt) = rtt ≡ timeout
 MayAnswerWithin timeout Unreached = Unit {0}
 MayAnswerWithin timeout Unsent = Unit {0}
 
--- what a head is told as that was read after so many microseconds
+-- what a head comes to that was read after so many microseconds
 abbrev pub answer_of : (status rtt timeout : ℕ) → PostResult
 answer_of status rtt timeout = if nat_lt timeout rtt then TimedOut timeout else Answered status rtt

@@ -1,4 +1,4 @@
--- As what a refusal is told.
+-- How refusals count.
 use Rattle.std.specs.Prelude.{◌≡◌, ◌⊎◌, Some, pos}
 use Rattle.std.specs.IoError.{error_kind, raw_os_error}
 use Rattle.std.specs.declared.io.Error.{Error}

@@ -26,12 +26,12 @@ use tokio::runtime::LocalRuntime;
 // the connection until it was read.
 pub(crate) fn exchange<R>(
     rt: &R,
-    resolver: &Resolver,
+    resolver: &Resolver<R>,
     outgoing: &Outgoing,
     timeout: Duration,
 ) -> Result<(StatusCode, Duration), Failure>
 where
-    R: Wait + Clock + Net + RandomSource + AllocGlobal,
+    R: Wait + Clock + Net + RandomSource + AllocGlobal + Copy,
 {
     let request = http_request(rt.alloc(), outgoing)?;
     let mut runtime = LocalRuntime::new(rt).map_err(Failure::before)?;
@@ -42,7 +42,7 @@ where
     let Ok(host) = str::from_utf8(outgoing.host()) else {
         return Err(Failure::Unreached);
     };
-    let addresses = resolver.addresses(rt, host, outgoing.port(), left(rt, deadline))?;
+    let addresses = resolver.addresses(host, outgoing.port(), left(rt, deadline))?;
     let start = Instant::now(rt).map_err(Failure::before)?;
     let socket = connect(rt, &mut runtime, addresses, deadline)?;
     let status = send(rt, &mut runtime, socket, request, deadline)?;

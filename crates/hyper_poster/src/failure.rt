@@ -77,7 +77,7 @@ impl Failure {
         Failure::Unsent
     }
 
-    // As what a refusal by the system is told, where a subscriber was asked for.
+    // How a refusal by the system counts, once a subscriber was asked for.
     pub(crate) fn of(error: io::Error) -> Failure
         ensures here { (result ≡ Failure.Unsent) ↔ IsRefusedHere error }
         ensures asked { result ≢ Failure.Late }

@@ -2,7 +2,6 @@
 use crate::failure::Failure;
 use std::alloc::{AllocError, AllocGlobal, Global};
 use std::net::{HostAddrs, IpAddr, Net, TcpListener, TcpStream, ToSocketAddrs};
-use std::sync::atomic::{AtomicBool, Ordering};
 use std::sync::{Arc, Condvar, CondvarTimeouts, Mutex, Wait};
 use std::thread;
 use std::thread::Threads;
@@ -12,17 +11,24 @@ use std::time::{Clock, Duration};
 const MOST_LOOK_UPS: usize = 32;
 
 /// Looks names up. One thread waits for them, and starts another for each.
-pub(crate) struct Resolver {
+pub(crate) struct Resolver<R: Wait + Copy> {
+    rt: R,
     asked: Arc<Asked>,
     under_way: Mutex<Vec<Arc<LookUp>>>,
 }
 
-// The look-ups that wait for a thread.
+// What the thread waits for. It changes only under the lock, so the thread misses no change.
 #[derive(Drop)]
 struct Asked {
-    waiting: Mutex<Vec<Arc<LookUp>>>,
-    came: Condvar,
-    is_over: AtomicBool,
+    line: Mutex<Line>,
+    changed: Condvar,
+}
+
+// The look-ups that wait for a thread, and whether the resolver is gone.
+#[derive(Drop)]
+struct Line {
+    waiting: Vec<Arc<LookUp>>,
+    is_over: bool,
 }
 
 // A name, and what came of its look-up once it has ended.
@@ -35,25 +41,23 @@ struct LookUp {
 }
 
 // The thread that waits ends; no look-up is waited for.
-impl Drop for Resolver {
+impl<R: Wait + Copy> Drop for Resolver<R> {
     fn drop(self) {
-        self.asked.is_over.store(true, Ordering::SeqCst);
-        self.asked.came.notify_all();
+        self.asked.end(&self.rt);
         let Resolver {
+            rt: _,
             asked: _,
             under_way: _,
         } = self;
     }
 }
 
-impl Resolver {
-    pub(crate) fn start<R>(rt: R) -> Result<Resolver, AllocError>
+impl<R: Wait + Copy> Resolver<R> {
+    pub(crate) fn start(rt: R) -> Result<Resolver<R>, AllocError>
     where
-        R: Wait
-            + Threads
+        R: Threads
             + Net<Listener = TcpListener, Stream = TcpStream>
             + AllocGlobal
-            + Copy
             + Send
             + 'static,
     {
@@ -62,42 +66,45 @@ impl Resolver {
         let theirs = Arc::try_clone(&asked)?;
         let _running = thread::spawn(&rt, move || begin_all(&rt, &theirs))?;
         Ok(Resolver {
+            rt,
             asked,
             under_way: Mutex::new(Vec::new(alloc)),
         })
     }
 
     // The addresses of the host, if they are found in so long.
-    pub(crate) fn addresses<R>(
+    pub(crate) fn addresses(
         &self,
-        rt: &R,
         host: &str,
         port: u16,
         limit: Duration,
     ) -> Result<HostAddrs, Failure>
     where
-        R: Wait + Clock + Net + AllocGlobal,
+        R: Clock + Net + AllocGlobal,
     {
         if host.parse::<IpAddr>().is_ok() {
-            return addresses_of(rt, host, port);
+            return addresses_of(&self.rt, host, port);
         }
-        let host = String::from_str(rt.alloc(), host)?;
-        let look_up = self.ask(rt, LookUp::new(host, port))?;
-        look_up.found_within(rt, limit)
+        let host = String::from_str(self.rt.alloc(), host)?;
+        let look_up = self.ask(LookUp::new(host, port))?;
+        look_up.found_within(&self.rt, limit)
     }
 
-    // A look-up that is asked for. None is where too many are under way.
-    fn ask<R: Wait + AllocGlobal>(&self, rt: &R, look_up: LookUp) -> Result<Arc<LookUp>, Failure> {
-        let mut under_way = self.under_way.lock(rt);
+    // A look-up that is asked for, unless too many are under way.
+    fn ask(&self, look_up: LookUp) -> Result<Arc<LookUp>, Failure>
+    where
+        R: AllocGlobal,
+    {
+        let mut under_way = self.under_way.lock(&self.rt);
         under_way.retain(|it| Arc::strong_count(it) > 1);
         if under_way.len() >= MOST_LOOK_UPS {
             return Err(Failure::Unsent);
         }
-        let look_up = Arc::new(rt.alloc(), look_up).map_err(AllocError::from)?;
+        let look_up = Arc::new(self.rt.alloc(), look_up).map_err(AllocError::from)?;
         under_way
             .push(Arc::try_clone(&look_up)?)
             .map_err(AllocError::from)?;
-        self.asked.add(rt, Arc::try_clone(&look_up)?)?;
+        self.asked.add(&self.rt, Arc::try_clone(&look_up)?)?;
         Ok(look_up)
     }
 }
@@ -105,28 +112,37 @@ impl Resolver {
 impl Asked {
     fn new(alloc: Global) -> Asked {
         Asked {
-            waiting: Mutex::new(Vec::new(alloc)),
-            came: Condvar::new(),
-            is_over: AtomicBool::new(false),
+            line: Mutex::new(Line {
+                waiting: Vec::new(alloc),
+                is_over: false,
+            }),
+            changed: Condvar::new(),
         }
     }
 
     fn add<R: Wait>(&self, rt: &R, look_up: Arc<LookUp>) -> Result<(), AllocError> {
-        self.waiting
+        self.line
             .lock(rt)
+            .waiting
             .push(look_up)
             .map_err(AllocError::from)?;
-        self.came.notify_all();
+        self.changed.notify_all();
         Ok(())
+    }
+
+    // The resolver is gone.
+    fn end<R: Wait>(&self, rt: &R) {
+        self.line.lock(rt).is_over = true;
+        self.changed.notify_all();
     }
 
     // The next look-up, or none once the resolver is gone.
     fn next<R: Wait>(&self, rt: &R) -> Option<Arc<LookUp>> {
-        let waiting = self.waiting.lock(rt);
-        let mut waiting = self.came.wait_while(rt, waiting, |waiting| {
-            waiting.is_empty() && !self.is_over.load(Ordering::SeqCst)
+        let line = self.line.lock(rt);
+        let mut line = self.changed.wait_while(rt, line, |line| {
+            line.waiting.is_empty() && !line.is_over
         });
-        waiting.pop()
+        line.waiting.pop()
     }
 }
 

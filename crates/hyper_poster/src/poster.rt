@@ -19,14 +19,14 @@ use std::time::{Clock, Duration};
 
 /// Posts each request over a connection of its own. A head within the timeout is an answer, whatever follows it.
 #[derive(Drop)]
-pub struct HyperPoster<R> {
+pub struct HyperPoster<R: Wait + Copy> {
     rt: R,
     // in microseconds
     timeout: u64,
-    resolver: Resolver,
+    resolver: Resolver<R>,
 }
 
-impl<R> Model for HyperPoster<R> {
+impl<R: Wait + Copy> Model for HyperPoster<R> {
     ghost use Rattle.std.specs.Prelude.{ℕ};
 
     ghost Value = { ℕ };
@@ -59,7 +59,7 @@ where
 
 impl<R> Poster for HyperPoster<R>
 where
-    R: Wait + Clock + Net + RandomSource + AllocGlobal,
+    R: Wait + Clock + Net + RandomSource + AllocGlobal + Copy,
 {
     ghost use Rattle.hyper_poster.specs.Answers.{MayAnswerWithin};
 
