@@ -2,7 +2,11 @@
 #![tactic(auto)]
 
 #[cfg(test)]
+mod confirmed;
+#[cfg(test)]
 mod given;
+#[cfg(test)]
+mod hosts;
 #[cfg(test)]
 mod names;
 #[cfg(test)]
