@@ -1,5 +1,5 @@
 // A library to be loaded before the C library. It fails the call that reads, writes, cuts or syncs a file by place and whose number,
-// from 1, stands in FAIL, and those behind it where ALSO is set; and it keeps how many were made in the file that ASKED names.
+// from 1, is in FAIL, and the later ones if ALSO is set; and it keeps how many were made in the file that ASKED names.
 #define _GNU_SOURCE
 #include <dlfcn.h>
 #include <errno.h>

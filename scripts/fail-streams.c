@@ -1,5 +1,5 @@
-// A library to be loaded before the C library. It fails the read of standard input whose number, from 1, stands in READ, or the write to
-// standard output whose number stands in WRITE, and each behind it. A read gives PIECE bytes at most, and a write takes as many.
+// A library to be loaded before the C library. It fails the read of standard input whose number, from 1, is in READ, or the write to
+// standard output whose number is in WRITE, and each later one. A read gives PIECE bytes at most, and a write takes as many.
 #define _GNU_SOURCE
 #include <dlfcn.h>
 #include <errno.h>

@@ -31,7 +31,7 @@ def counts_of(asked):
 
 
 class Ended:
-    """How a run ended: what it replied to each line that it was sent, what it wrote behind them, its errors and its status."""
+    """How a run ended: what it replied to each line that it was sent, what it wrote after them, its errors and its status."""
 
     def __init__(self, replies, rest, errors, status, counts):
         self.replies, self.rest, self.errors, self.status, self.counts = replies, rest, errors, status, counts
@@ -51,7 +51,7 @@ def run(library, words, text=b"", folder=None, refuse=0, many=None):
 
 
 class Lines:
-    """A run that is sent a line at a time, each once the one before it is replied to. The allocation with this number behind the line with
+    """A run that is sent a line at a time, each once the one before it is replied to. The allocation with this number after the line with
     that number, from 1, is refused, or as many from there on."""
 
     def __init__(self, library, words, folder=None, step=0, refuse=0, many=None):

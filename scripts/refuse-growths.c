@@ -1,7 +1,7 @@
 // A library to be loaded before the C library. It refuses the allocation whose number, from 1, stands in REFUSE, or as many from there
 // on as stands in MANY, and keeps how many were asked for in the file that ASKED names. Where STEP is set, it counts from the read of
 // standard input with that number on, until the next one, and refuses among these; so a script that writes a line at a time refuses those
-// of one call. The file has, behind the number of all, that of each step: those before the first read are step 0.
+// of one call. The file has, after the number of all, that of each step: those before the first read are step 0.
 #define _GNU_SOURCE
 #include <dlfcn.h>
 #include <errno.h>

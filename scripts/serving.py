@@ -260,7 +260,7 @@ def wait_until(holds, seconds=30):
 
 
 class Counts:
-    """Checks that passed and failed; each that fails is told."""
+    """Checks that passed and failed; each that fails is printed."""
 
     def __init__(self):
         self.passed = self.failed = 0

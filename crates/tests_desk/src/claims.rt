@@ -224,7 +224,7 @@ fn nothing_is_posted_to_an_endpoint_that_is_gone(rt: HostRuntime) -> Result<(), 
     )
 }
 
-/// What is told of the endpoint before its first sample.
+/// The limits of the endpoint before its first sample.
 const UNKNOWN: Limits = Limits {
     limit: 20,
     in_flight: 0,

@@ -9,7 +9,7 @@ pub(crate) struct Kept {
     pub(crate) receipt: Option<Receipt>,
 }
 
-/// The number of the batch's first record, that behind its last one, and how many steps it has.
+/// The number of the batch's first record, that after its last one, and how many steps it has.
 pub(crate) fn numbers_of(batch: &Batch) -> (u64, u64, usize) {
     (batch.from(), batch.upto(), batch.steps().len())
 }

@@ -36,7 +36,7 @@ pub(crate) enum Went {
     Unsent,
 }
 
-/// What is told of a post that is over.
+/// What is known of a post that is over.
 #[derive(Clone, Copy)]
 pub(crate) struct Over {
     pub(crate) spend: Spend,
@@ -98,30 +98,30 @@ pub(crate) enum Step {
     Submit(u64, &'static [u8], &'static [u8], &'static [u8], Answer),
     /// Submits the twenty events `a` to `t` of 1000 to this endpoint. The first one's record has this number.
     Submits(&'static [u8], u64),
-    /// Seals: the number of the batch's first record, that behind its last one, and how many steps it has.
+    /// Seals: the number of the batch's first record, that after its last one, and how many steps it has.
     Seal(Option<(u64, u64, usize)>),
     /// Seals, commits and settles: so many records are settled then.
     Turn(u64),
     /// Halts with nothing, or with the batch that is out: whether that is what is out.
     HaltByNothing(bool),
     HaltByBatch(bool),
-    /// Claims at this moment. The job is kept behind those that are.
+    /// Claims at this moment. The job is kept after those that are.
     Claim(u64, Given),
     /// Claims at this moment. The job is given back at once, unsent.
     Look(u64, Given),
     /// Claims so many jobs at this moment.
     Claims(u64, usize),
-    /// Spends the permit of the job at this place of those that are kept, at this moment: what is told of the post, the
+    /// Spends the permit of the job at this place of those that are kept, at this moment: what came of the post, the
     /// number of the outcome that waits, the endpoint's limit, and how many of it are under way.
     Spend(usize, Went, u64, Spend, Option<u64>, u32, u32),
-    /// The same, of the last permit that is out, behind which its event is given up: its outcome's number, and the limit.
+    /// The same, of the last permit that is out, after which its event is given up: its outcome's number, and the limit.
     Exhaust(usize, Went, u64, u64, u32),
     /// Spends the permits of all jobs that are kept, which weren't sent.
     SpendAll(u64),
     /// The job at this place is of this post, or makes this request.
     Shows(usize, Post),
     Asks(usize, Request),
-    /// What is told of the event of this record, endpoint and id.
+    /// What the desk says of the event of this record, endpoint and id.
     Told(u64, &'static [u8], &'static [u8], Told),
     SettledBody(u64, &'static [u8], &'static [u8], Option<&'static [u8]>),
     ToldCommand(u64, Told),

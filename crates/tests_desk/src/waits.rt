@@ -13,7 +13,7 @@ use std::test::Fail;
 /// A call, or a look, with what is expected of it.
 #[derive(Clone, Copy)]
 pub(crate) enum Wait {
-    /// In place of what waits, nothing waits behind so many settled records. A batch and a receipt that are kept stay.
+    /// In place of what waits, nothing waits after so many settled records. A batch and a receipt that are kept stay.
     Anew(u64),
     /// Stages a new endpoint of this name: whether there was a place.
     Put(&'static [u8], bool),
@@ -21,7 +21,7 @@ pub(crate) enum Wait {
     Flags(usize, bool),
     /// Stages the outcome of this attempt at delivery 0.
     Outcome(u64),
-    /// Seals: the number of the batch's first record, that behind its last one, and how many steps it has.
+    /// Seals: the number of the batch's first record, that after its last one, and how many steps it has.
     Seal(Option<(u64, u64, usize)>),
     /// Takes the batch back: whether it is that which is out.
     Unseal(bool),
@@ -224,7 +224,7 @@ fn take_all(
     Ok(())
 }
 
-/// Takes the steps on a new vault. At first nothing waits, behind no settled record.
+/// Takes the steps on a new vault. At first nothing waits, and no record is settled.
 pub(crate) fn take_waits(rt: &impl Abort, alloc: Global, steps: &[Wait]) -> Result<(), Fail> {
     let mut vault = opened(alloc)?;
     let mut kept = Kept::new();

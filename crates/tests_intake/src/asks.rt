@@ -11,7 +11,7 @@ use std::test::Fail;
 #[derive(Clone, Copy)]
 pub(crate) enum Text {
     Is(&'static [u8]),
-    /// These bytes, and behind them so many of this one.
+    /// These bytes, and after them so many of this one.
     Long(&'static [u8], u8, usize),
     /// The body of a new endpoint at `http://h/` with this maximum and a secret of 32 bytes.
     Max(&'static [u8]),

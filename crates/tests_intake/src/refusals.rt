@@ -3,14 +3,14 @@
 use crate::asks::{is_reply, refused_with};
 use desk::{Command, Fault, Refusal};
 use intake_shed::{
-    Ask, AskBody, WaitFault, accepted_reply, change_reply, change_status, refusal_reply,
+    Ask, AskBody, ReplyText, WaitFault, accepted_reply, change_reply, change_status, refusal_reply,
 };
 use relay_types::{MsgId, Name};
 use std::borrow::CowStr;
 use std::process::Abort;
 use std::test::Fail;
 
-/// A refusal, the status and the text that it is told by, and whether the request may be made again.
+/// A refusal, the status and the text of its reply, and whether the request may be made again.
 #[derive(Clone, Copy)]
 struct Case {
     fault: Fault,
@@ -145,6 +145,19 @@ static NOT_KEPT_OF_NOTHING: Ask<'static> = Ask {
 fn a_body_that_was_not_kept_is_too_long(rt: HostRuntime) -> Result<(), Fail> {
     assert!(rt; refused_with(rt.alloc(), &NOT_KEPT)? == 413);
     assert!(rt; refused_with(rt.alloc(), &NOT_KEPT_OF_NOTHING)? == 404);
+    Ok(())
+}
+
+#[test]
+fn a_text_is_kept_without_a_copy(rt: HostRuntime) -> Result<(), Fail> {
+    let fixed = ReplyText::fixed("{}");
+    assert!(rt; fixed.as_str() == "{}");
+    let fixed = fixed.into_cow();
+    assert!(rt; matches!(fixed, CowStr::Borrowed(_)));
+    let made = ReplyText::made(String::from_str(rt.alloc(), "[1]")?);
+    assert!(rt; made.as_str() == "[1]");
+    let made = made.into_cow();
+    assert!(rt; matches!(made, CowStr::Owned(_)));
     Ok(())
 }
 

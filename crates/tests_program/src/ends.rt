@@ -21,7 +21,7 @@ struct Long {
     status: u8,
 }
 
-// Over 1,500 reads of one byte, and a fault that is told byte by byte. The header is that of Python's hmac.
+// Over 1,500 reads of one byte, and a fault that is written byte by byte. The header is that of Python's hmac.
 static LONG: &[Long] = &[
     Long {
         words: &["relayd", "replay"],
@@ -67,7 +67,7 @@ fn gets_on_a_byte_at_a_time(rt: HostRuntime) -> Result<(), Fail> {
     Ok(())
 }
 
-/// A run whose reader or writer fails: what is written before, and what is told.
+/// A run whose reader or writer fails: what is written before, and what it reports.
 #[derive(Clone, Copy)]
 struct Broken {
     words: &'static [&'static str],

@@ -12,3 +12,5 @@ mod longest;
 mod program;
 #[cfg(test)]
 mod streams;
+#[cfg(test)]
+mod words;

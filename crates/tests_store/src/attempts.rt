@@ -79,7 +79,7 @@ static ATTEMPTS_ARE_BEHIND_THEIR_EVENT_IN_ORDER: [File; 6] = [
 ];
 
 #[test]
-fn attempts_are_behind_their_event_in_order(rt: HostRuntime) {
+fn attempts_follow_their_event_in_order(rt: HostRuntime) {
     check_all(&rt, rt.alloc(), &ATTEMPTS_ARE_BEHIND_THEIR_EVENT_IN_ORDER);
 }
 
@@ -201,7 +201,7 @@ static NOTHING_IS_BEHIND_A_DELIVERY: [File; 4] = [
 ];
 
 #[test]
-fn nothing_is_behind_a_delivery(rt: HostRuntime) {
+fn nothing_follows_a_delivery(rt: HostRuntime) {
     check_all(&rt, rt.alloc(), &NOTHING_IS_BEHIND_A_DELIVERY);
 }
 
@@ -399,6 +399,6 @@ static NOTHING_IS_BEHIND_THE_TENTH_FAILURE: [File; 7] = [
 ];
 
 #[test]
-fn nothing_is_behind_the_tenth_failure(rt: HostRuntime) {
+fn nothing_follows_the_tenth_failure(rt: HostRuntime) {
     check_all(&rt, rt.alloc(), &NOTHING_IS_BEHIND_THE_TENTH_FAILURE);
 }

@@ -490,6 +490,6 @@ static AN_EVENT_IS_BEHIND_ITS_ENDPOINT: [File; 6] = [
 ];
 
 #[test]
-fn an_event_is_behind_its_endpoint(rt: HostRuntime) {
+fn an_event_follows_its_endpoint(rt: HostRuntime) {
     check_all(&rt, rt.alloc(), &AN_EVENT_IS_BEHIND_ITS_ENDPOINT);
 }

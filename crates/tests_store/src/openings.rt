@@ -31,7 +31,7 @@ pub(crate) enum Start {
     Endpoints(u32),
 }
 
-/// What is in a store, the queries that tell all of it, what its opening answers, and numbers that it has before and behind it.
+/// What is in a store, the queries that tell all of it, what its opening answers, and numbers that it has before and after it.
 pub(crate) struct File(
     pub Start,
     pub &'static [&'static str],
@@ -122,7 +122,7 @@ fn again(rt: &impl Abort, alloc: Global, conn: Connection<MemStore>) -> Connecti
     }
 }
 
-/// All rows, before and behind the opening.
+/// All rows, before and after the opening.
 fn told(alloc: Global, conn: &mut Connection<MemStore>, queries: &[&str]) -> Result<String, Fail> {
     let mut text = String::new(alloc);
     for sql in queries {

@@ -99,7 +99,7 @@ fn same_totals(one: &DeliveryBook, other: &DeliveryBook) -> bool {
         && one.settled_counts_all() == other.settled_counts_all()
 }
 
-/// What is told of the deliveries with these numbers.
+/// Whether both books have the same deliveries with these numbers.
 fn same_numbers(one: &DeliveryBook, other: &DeliveryBook, count: u64) -> bool {
     let mut is_same = true;
     for delivery in 0..=count {

@@ -15,11 +15,11 @@ use std::test::Fail;
 /// What is committed, or what is expected then.
 #[derive(Clone, Copy)]
 pub(crate) enum Step {
-    /// A batch of this mark and number, of this entry alone, and what is told.
+    /// A batch of this mark and number, of this entry alone, and what it answers.
     Turn(u64, u32, Entry, Told),
     /// The same, as the next of the vault's own mark.
     Enter(Entry, Told),
-    /// Endpoints `e0`, `e1` and so on with these secrets, until one is not written, and what is told then.
+    /// Endpoints `e0`, `e1` and so on with these secrets, until one is not written, and what that answers.
     Puts(u32, Keys, Told),
     /// Events of `a` with the ids `msg_0`, `msg_1` and so on, which are written.
     Events(Span, Moments),

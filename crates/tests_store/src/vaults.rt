@@ -195,7 +195,7 @@ impl Spool {
         }
     }
 
-    /// Steps wait behind what was committed alone.
+    /// Steps wait after what was committed alone.
     fn follow(&mut self, rt: &impl Abort, alloc: Global) -> Result<(), Fail> {
         let next = self.vault.next();
         assert!(rt; next < 1_000_000);
