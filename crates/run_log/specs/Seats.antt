@@ -13,6 +13,10 @@ use Rattle.run_log.specs.declared.View.{View}
 abbrev pub no_table : TableId
 no_table = record { words = 0; slots = 0; views_name = 0; atom = 0; block = 0; offset = 0; slot_names = [] }
 
+-- all that the table takes in the program: one word, and no place for a value
+abbrev pub IsOneWord : TableId → Type 0
+IsOneWord table = (table.words ≡ 1) × (table.slots ≡ 0)
+
 -- the one seat that knows the whole log, and appends to it
 abbrev pub writing : List Record → View
 writing all = record { writes = true; seen = all; other = [] }

@@ -7,6 +7,7 @@ ghost use Rattle.relay_types.specs.declared.record.Record.{Record};
 ghost use Rattle.relay_types.specs.Records.{records_of};
 ghost use mathlib.Core.List.{IsPrefix};
 ghost use Rattle.run_log.specs.Prefixes.{Agree};
+ghost use Rattle.run_log.specs.Seats.{IsOneWord};
 
 use atomic_table::{Join, Play, Seat, Split, Table, TableRule};
 use relay_types::Record;
@@ -157,7 +158,9 @@ impl Model for NewLog {
 
 impl NewLog {
     /// An empty log. It takes two small allocations.
-    pub fn new(alloc: Global) -> Result<NewLog, AllocError> {
+    pub fn new(alloc: Global) -> Result<NewLog, AllocError>
+        ensures { IfOk result IsOneWord }
+    {
         let (table, seat) = Table::of_words(alloc, &[0], &())?;
         Ok(NewLog { table, seat })
     }
