@@ -11,7 +11,7 @@ use desk::{EndpointPage, Totals};
 use serde_json::{Value, json};
 use std::alloc::{AllocError, Global};
 
-/// The page of all endpoints and events. It fails only for want of memory.
+/// The page of all endpoints and events. It fails only if it lacks memory.
 pub fn totals_text(alloc: Global, page: &Totals) -> Result<String, AllocError>
     ensures { IfOk result (λ text. string_bytes text ≡ totals_text page.now) }
 {
@@ -31,7 +31,7 @@ fn totals_value(alloc: Global, page: &Totals) -> Result<Value, AllocError>
 }
 
 /// The page of an endpoint: how many of its deliveries are in each state, whether it is enabled, its maximum limit, how
-/// many secrets it has, and its URL as it was given. It fails only for want of memory.
+/// many secrets it has, and its URL as it was given. It fails only if it lacks memory.
 pub fn endpoint_text(alloc: Global, page: &EndpointPage<'_>) -> Result<String, AllocError>
     ensures { IfOk result (λ text. string_bytes text ≡ endpoint_text (shown page.now)) }
 {
