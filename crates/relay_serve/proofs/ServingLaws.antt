@@ -31,7 +31,6 @@ module _ {A B : Type 0} (holds : A → List Record → Type 0) (in_doubt : A →
   stands_so records (Halted cause.Illegal) stands = held records stands
   stands_so records (Halted cause.OutOfMemory) stands = held records stands
   stands_so records (Halted cause.Halted) stands = held records stands
-  stands_so records (Halted cause.BatchOut) stands = held records stands
 
 -- an event that the log has after each history that it goes on from, after this one
 pub event_of_base : (is_base : List Record → Type 0) (log : List Record) (acknowledged : Option Acknowledged) (base : List Record) → is_base base

@@ -5,10 +5,11 @@ use Rattle.text_lines.specs.Streams.{AppendsFront}
 use Rattle.drill.specs.Audits.{fault_name}
 use Rattle.relay_commands.specs.Reports.{exit_status, fault_line, told_text}
 use Rattle.relay_serve.specs.declared.fault.ServeFault.{ServeFault}
+use Rattle.relay_serve.specs.declared.served.Served.{Served}
 use Rattle.relay_serve.specs.declared.fault.ServeFault.TheVariants.{BadAddress, File, CannotListen, NoThread, Halted, Audit, Write, OutOfMemory}
 
 -- the exit status: 0 where the end was asked for, 1 a bad address, that of a command whose file wasn't opened, 3 the rest
-abbrev pub serving_status : Result (Unit {0}) ServeFault → ℕ
+abbrev pub serving_status : Result Served ServeFault → ℕ
 serving_status (Ok done) = 0
 serving_status (Err BadAddress) = 1
 serving_status (Err (File fault)) = exit_status (Err fault)
@@ -31,6 +32,6 @@ serving_text Write = codes "Write"
 serving_text OutOfMemory = codes "OutOfMemory"
 
 -- What standard error gets: nothing where the end was asked for, and else a front of the fault's line (all of it where the writer takes it).
-abbrev pub TellsEnd : Result (Unit {0}) ServeFault → Option (List ℕ) → Option (List ℕ) → Type 0
+abbrev pub TellsEnd : Result Served ServeFault → Option (List ℕ) → Option (List ℕ) → Type 0
 TellsEnd (Ok done) old new = Keeps old new
 TellsEnd (Err fault) old new = AppendsFront old new (fault_line (serving_text fault))

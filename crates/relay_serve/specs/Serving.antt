@@ -17,10 +17,11 @@ use Rattle.delivery.specs.declared.committer.CommitterEnd.TheVariants as committ
 use Rattle.intake_shed.specs.Acks.{HasEvent}
 use Rattle.intake_shed.specs.declared.ack.Acknowledged.{Acknowledged}
 use Rattle.relay_serve.specs.declared.fault.ServeFault.{ServeFault}
+use Rattle.relay_serve.specs.declared.served.Served.{Served}
 use Rattle.relay_serve.specs.declared.fault.ServeFault.TheVariants.{BadAddress, File, CannotListen, NoThread, Halted, Audit, Write, OutOfMemory}
 
 -- how the committer ended, as the relay's end tells: it finished, unless it is told to be halted
-abbrev pub committer_end : Result (Unit {0}) ServeFault → CommitterEnd
+abbrev pub committer_end : Result Served ServeFault → CommitterEnd
 committer_end (Ok done) = committer.Finished
 committer_end (Err BadAddress) = committer.Finished
 committer_end (Err (File fault)) = committer.Finished
@@ -47,7 +48,7 @@ module _ {S : Type 0} (g : Ghosts S) where
       → (batches : List History) × Stands LeavesRows LeavesDoubt new (records ++ records_in batches) end
 
   -- so it is at this end, if the disk has returned what was written
-  abbrev pub KeepsHistory : (old new : VaultValue S) → Result (Unit {0}) ServeFault → Type 0
+  abbrev pub KeepsHistory : (old new : VaultValue S) → Result Served ServeFault → Type 0
   KeepsHistory old new ended = IfClean g old.conn new.conn (λ _ _. AddsBatches old new (committer_end ended))
 
   -- If the vault held these records, a crash now leaves them and those of whole batches after them, and the event is one of these records:
@@ -58,6 +59,6 @@ module _ {S : Type 0} (g : Ghosts S) where
       × IfSome acknowledged (λ event. HasEvent (records ++ records_in batches) event.seq event.name event.id event.body)
 
   -- It is so of the settled records of each state that the desk represented, if the disk has returned what was written.
-  abbrev pub KeepsAcknowledged : DeskValue → (old new : VaultValue S) → Result (Unit {0}) ServeFault → Option Acknowledged → Type 0
+  abbrev pub KeepsAcknowledged : DeskValue → (old new : VaultValue S) → Result Served ServeFault → Option Acknowledged → Type 0
   KeepsAcknowledged desk old new ended acknowledged = IfClean g old.conn new.conn (λ _ _.
       (w : World) → StandsFor desk w → AddsEvent old new (committer_end ended) acknowledged (settled_records w))

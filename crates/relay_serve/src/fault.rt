@@ -4,6 +4,7 @@ ghost use Rattle.relay_commands.specs.Reports.{open_fault};
 ghost use Rattle.relay_serve.specs.Ends.{serving_status, serving_text, TellsEnd};
 ghost use Rattle.relay_serve.specs.declared.fault.ServeFault.TheVariants.{File, OutOfMemory};
 
+use crate::served::Served;
 use delivery::HaltCause;
 use drill::AuditFault;
 use relay_commands::{CommandFault, DONE, FAILED, USAGE, end, tell_fault};
@@ -67,13 +68,13 @@ impl From<AllocError> for ServeFault {
 
 /// Tells the fault of a relay's end, and gives the exit status: 0 where it was asked to end, 1 a bad address, 4 a file that isn't the
 /// relay's, 3 the rest.
-pub fn end_serving<E: Write>(errors: &mut E, ended: Result<(), ServeFault>) -> u8
+pub fn end_serving<E: Write>(errors: &mut E, ended: Result<Served, ServeFault>) -> u8
     ensures status { result ≡ serving_status ended }
     ensures tells { TellsEnd ended (E.contents errors.old) (E.contents errors.new) }
     ensures most { result ≤ 4 }
 {
     match ended {
-        Ok(()) => DONE,
+        Ok(_) => DONE,
         Err(ServeFault::File(fault)) => end(errors, Err(fault)),
         Err(fault) => {
             let _ = tell_fault(errors, &fault);

@@ -5,11 +5,13 @@ mod accept;
 mod fault;
 mod news;
 mod relay;
+mod served;
 mod serving;
 mod settings;
 mod threads;
 mod work;
 
 pub use crate::fault::{ServeFault, end_serving};
+pub use crate::served::Served;
 pub use crate::serving::{serve, serve_opened};
 pub use crate::settings::Settings;

@@ -94,7 +94,6 @@ fn id_of(request: &Outgoing) -> &str {
 fn cause_text(cause: HaltCause, sight: Sight) -> &'static str {
     match cause {
         HaltCause::Halted => "the relay had halted before",
-        HaltCause::BatchOut => "another committer has a batch",
         HaltCause::OutOfMemory => "out of memory nine times in a row",
         HaltCause::Closed => "the result of an earlier commit is unknown",
         HaltCause::OutOfTurn if sight == Sight::Unseen => "the file can't be looked at",

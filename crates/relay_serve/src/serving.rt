@@ -15,11 +15,12 @@ ghost use Rattle.relay_serve.specs.Serving.{AddsEvent, KeepsAcknowledged, KeepsH
 use crate::fault::ServeFault;
 use crate::news::{News, tell};
 use crate::relay::Relay;
+use crate::served::Served;
 use crate::settings::Settings;
 use crate::threads::run_threads;
-use delivery::{CommitterEnd, Keeper, LoggedKeeper, begin_run};
+use delivery::{CommitterEnd, Ended, Keeper, LoggedKeeper, begin_run};
 use desk::Desk;
-use drill::audit;
+use drill::audit_shown;
 use intake_shed::Acknowledged;
 use permits::PARTS;
 use recovery::open_path;
@@ -41,7 +42,7 @@ use std::time::Clock;
 const MARK: u64 = 0;
 
 /// Opens the file, and serves at the address until so many requests are answered as the settings say, or the committer gives up.
-pub fn serve<R>(host: &HostRuntime, rt: &R, asked: &ServeWords<'_>) -> Result<(), ServeFault>
+pub fn serve<R>(host: &HostRuntime, rt: &R, asked: &ServeWords<'_>) -> Result<Served, ServeFault>
 where
     R: Wait
         + Threads
@@ -76,7 +77,7 @@ fn open_and_serve<L, R>(
     listener: &TcpListener,
     bound: SocketAddr,
     asked: &ServeWords<'_>,
-) -> Result<(), ServeFault>
+) -> Result<Served, ServeFault>
 where
     L: Ledger + Send + Sync,
     R: Wait
@@ -132,7 +133,7 @@ pub fn serve_opened<L, S, P, R>(
     vault: Vault<S>,
     place: P,
     settings: Settings,
-) -> (Vault<S>, Result<(), ServeFault>, Option<Acknowledged>)
+) -> (Vault<S>, Result<Served, ServeFault>, Option<Acknowledged>)
 where
     L: Ledger + Send + Sync,
     S: Alter + Drop,
@@ -178,7 +179,7 @@ fn serve_named<L, I, S, P, R>(
     vault: Vault<S>,
     place: P,
     settings: Settings,
-) -> (Vault<S>, Result<(), ServeFault>, Option<Acknowledged>)
+) -> (Vault<S>, Result<Served, ServeFault>, Option<Acknowledged>)
 where
     L: Ledger + Send + Sync,
     I: LogId + Send + Sync,
@@ -250,10 +251,10 @@ where
 fn told_end<L, I, S, R>(
     rt: &R,
     relay: &Relay<L, I>,
-    end: CommitterEnd,
+    end: Ended,
     sight: Sight,
     vault: &mut Vault<S>,
-) -> Result<(), ServeFault>
+) -> Result<Served, ServeFault>
 where
     L: Ledger,
     I: LogId,
@@ -264,13 +265,13 @@ where
     ensures clean { IfClean S.Store vault.old.conn vault.new.conn (λ old _. HasCleanDisk old) }
     ensures closed { vault.new.closed ≡ vault.old.closed }
 {
-    match end {
+    match end.how() {
         CommitterEnd::Halted(cause) => {
             tell(rt, rt.alloc(), &News::Halted { cause, sight });
             Err(ServeFault::Halted(cause))
         }
         CommitterEnd::Finished if relay.lacks_thread() => Err(ServeFault::NoThread),
-        CommitterEnd::Finished => look_back(rt, relay, vault),
+        CommitterEnd::Finished => look_back(rt, relay, end, vault),
     }
 }
 
@@ -278,15 +279,17 @@ where
 fn look_back<L: Ledger, I: LogId, S: Alter, R: Wait + AllocGlobal>(
     rt: &R,
     relay: &Relay<L, I>,
+    end: Ended,
     vault: &mut Vault<S>,
-) -> Result<(), ServeFault>
+) -> Result<Served, ServeFault>
+    requires { end ≡ Finished }
     ensures end { committer_end result ≡ Finished }
     ensures read { IfClean S.Store vault.old.conn vault.new.conn IsOnlyRead }
     ensures clean { IfClean S.Store vault.old.conn vault.new.conn (λ old _. HasCleanDisk old) }
     ensures closed { vault.new.closed ≡ vault.old.closed }
 {
-    match audit(rt.alloc(), vault, relay.shared.lock(rt).desk()) {
-        Ok(()) => Ok(()),
+    match audit_shown(rt.alloc(), vault, relay.shared.lock(rt).desk()) {
+        Ok(audited) => Ok(Served::of(end, audited)),
         Err(fault) => Err(ServeFault::Audit(fault)),
     }
 }

@@ -6,7 +6,7 @@ use crate::accept::{take_requests, wake};
 use crate::relay::Relay;
 use crate::settings::Settings;
 use crate::work::work;
-use delivery::{CommitterEnd, Keeper, LoggedKeeper, committer_run};
+use delivery::{CommitterEnd, Ended, Keeper, LoggedKeeper, committer_run};
 use run_log::LogId;
 use std::alloc::AllocGlobal;
 use std::io::Eprint;
@@ -28,7 +28,7 @@ pub(crate) fn run_threads<L, I, K, R>(
     relay: &Relay<L, I>,
     logged: LoggedKeeper<I, K>,
     settings: Settings,
-) -> (LoggedKeeper<I, K>, CommitterEnd)
+) -> (LoggedKeeper<I, K>, Ended)
 where
     L: Ledger + Send + Sync,
     I: LogId + Send + Sync,
@@ -52,9 +52,9 @@ where
     ensures closed { IsOfKeeper result.1 → IsTrue (K.closed result.0.keeper) }
 {
     let (logged, end) = run_together(rt, listener, bound, relay, logged, settings);
-    match end {
+    match end.how() {
         CommitterEnd::Finished => committer_run(rt, &relay.shared, logged),
-        CommitterEnd::Halted(cause) => (logged, CommitterEnd::Halted(cause)),
+        CommitterEnd::Halted(_) => (logged, end),
     }
 }
 
@@ -66,7 +66,7 @@ fn run_together<L, I, K, R>(
     relay: &Relay<L, I>,
     logged: LoggedKeeper<I, K>,
     settings: Settings,
-) -> (LoggedKeeper<I, K>, CommitterEnd)
+) -> (LoggedKeeper<I, K>, Ended)
 where
     L: Ledger + Send + Sync,
     I: LogId + Send + Sync,

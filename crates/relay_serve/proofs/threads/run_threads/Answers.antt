@@ -1,4 +1,4 @@
-use Rattle.std.proofs.Common.{subst}
+use Rattle.std.proofs.Common.{sym, ◌∙◌, subst}
 use Rattle.delivery.specs.declared.committer.CommitterEnd.{CommitterEnd}
 use Rattle.delivery.specs.Keepers.{Adds, KeepsLog}
 use Rattle.relay_serve.proofs.RunLaws.{adds_on, appends_both, logs_on}
@@ -11,7 +11,7 @@ returns-in-Finished-clause-rows g c clean =
     let first = c.run_together-logged in
     let second = c.committer_run in
     let finished = subst (λ (end : CommitterEnd). Adds holds in_doubt c.args.logged.keeper first.result.0.keeper end)
-    c.in-Finished.is (first.ensures.rows (second.ensures.clean clean)) in
+    (sym c.how.ensures ∙ c.in-Finished.is) (first.ensures.rows (second.ensures.clean clean)) in
     adds_on holds in_doubt c.args.logged.keeper first.result.0.keeper second.result.0.keeper second.result.1
     finished (second.ensures.rows clean)
 
@@ -24,7 +24,7 @@ returns-in-Finished-clause-logged g c clean =
     let old = c.args.logged in
     let mid = first.result.0 in
     let finished = subst (λ (end : CommitterEnd). KeepsLog holds in_doubt old.keeper old.writer mid.keeper mid.writer end)
-    c.in-Finished.is (first.ensures.logged (second.ensures.clean clean)) in
+    (sym c.how.ensures ∙ c.in-Finished.is) (first.ensures.logged (second.ensures.clean clean)) in
     logs_on holds in_doubt old.keeper mid.keeper second.result.0.keeper second.result.1 old.writer mid.writer second.result.0.writer
     finished (second.ensures.logged clean)
 
