@@ -124,7 +124,7 @@ fn commit<L: Ledger, I: LogId, K: Keeper + Drop, R: Wait + Clock>(
 ) -> Option<u64> {
     let (logged, end) = committer_run(rt, &run.shared, logged);
     run.shared.finish(rt);
-    match end {
+    match end.how() {
         CommitterEnd::Finished => Some(logged.into_keeper().commits),
         CommitterEnd::Halted(_) => None,
     }

@@ -144,7 +144,7 @@ fn run_committer<L: Ledger, I: LogId, K: Keeper + Drop, R: Wait + Clock>(
     }
     let (logged, end) = committer_run(place.rt, place.shared, logged);
     count(&place.seen.ended);
-    (logged, ending_of(end))
+    (logged, ending_of(end.how()))
 }
 
 // Runs a thread for each table of steps, and the committer on this one.
