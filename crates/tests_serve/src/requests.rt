@@ -23,7 +23,7 @@ use std::time::{Clock, Duration};
 
 /// A store in memory, which nobody removes.
 #[derive(Drop)]
-struct InMemory;
+pub(crate) struct InMemory;
 
 impl Place for InMemory {
     fn look(&mut self) -> Sight {
