@@ -2,5 +2,6 @@ pub mod Requests
 pub mod Logs
 pub mod Keepers
 pub mod Shares
+pub mod Sharing
 pub mod Rounds
 pub mod Turns

@@ -11,6 +11,7 @@ ghost use Rattle.desk.specs.declared.ticket.Told.TheVariants.{Waiting};
 ghost use Rattle.delivery.specs.Logs.{HasSettled, IsOfCommand};
 ghost use Rattle.delivery.specs.Keepers.{EndsByDesk};
 ghost use Rattle.delivery.specs.Rounds.{EndsUnposted};
+ghost use Rattle.delivery.specs.Sharing.{log_of};
 ghost use Rattle.delivery.specs.declared.committer.CommitterEnd.TheVariants.{Halted};
 
 use crate::committer::{HaltCause, Next, pause};
@@ -47,6 +48,7 @@ impl<L: Ledger, I: LogId> Shared<L, I> {
     pub fn new(log: Log<I>, new_log: NewLog, desk: Desk<L>, prefix: Prefix<I>) -> Shared<L, I>
         requires table { new_log ≡ I.staged }
         requires settled { HasSettled I.is_base I.start desk prefix }
+        ensures { log_of result ≡ log }
     {
         Shared {
             locked: Mutex::new(Locked::new(new_log, desk, prefix)),
@@ -57,7 +59,9 @@ impl<L: Ledger, I: LogId> Shared<L, I> {
     }
 
     /// The log of the run.
-    pub fn log(&self) -> &Log<I> {
+    pub fn log(&self) -> &Log<I>
+        ensures { result.now ≡ log_of self.now }
+    {
         &self.log
     }
 

@@ -3,6 +3,7 @@ use Rattle.std.specs.Prelude.{◌≡◌, ℕ, List, Option, Some, Result, IfOk, 
 use Rattle.std.specs.Arc.{arc_value}
 use Rattle.std.specs.declared.alloc.Global.{Global}
 use Rattle.std.specs.declared.sync.Arc.{Arc}
+use Rattle.std.specs.declared.sync.Mutex.{Mutex}
 use Rattle.std.specs.declared.sync.atomic.AtomicU64.{AtomicU64}
 use Rattle.relay_types.specs.declared.limits.TheConstants.{MAX_BODY_BYTES}
 use Rattle.hyper.specs.declared.error.Error.{Error}
@@ -28,7 +29,7 @@ module _ {R L I : Type 0} where
   shared_of intake = intake.owners.shared
 
   -- where acknowledgements are handed in
-  abbrev pub latest_of : Intake R L I → Arc (LatestAck I) Global
+  abbrev pub latest_of : Intake R L I → Arc (Mutex (LatestAck I)) Global
   latest_of intake = intake.owners.latest
 
   -- the count of answered requests

@@ -17,8 +17,8 @@ use relay_host::{HostClock, fresh_id};
 use run_log::LogId;
 use std::alloc::{AllocError, AllocGlobal, Global};
 use std::random::RandomSource;
-use std::sync::Wait;
 use std::sync::ledger::Ledger;
+use std::sync::{Mutex, Wait};
 use std::time::Clock;
 
 // What came of a body.
@@ -54,7 +54,7 @@ pub(crate) fn read_body(gathered: Gathered) -> BodyRead
 pub(crate) fn reply_to<R, L, I>(
     rt: &R,
     shared: &Shared<L, I>,
-    latest: &LatestAck<I>,
+    latest: &Mutex<LatestAck<I>>,
     head: &request::Parts,
     body: AskBody<'_>,
 ) -> Reply
@@ -82,7 +82,9 @@ where
         ack,
         confirmed: _,
     } = answer(rt, rt.alloc(), shared, &ask, fresh, now, &mut Pass::new());
-    latest.keep(rt, ack);
+    if let Some(ack) = ack {
+        latest.lock(rt).keep(ack);
+    }
     reply
 }
 

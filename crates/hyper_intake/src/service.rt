@@ -24,7 +24,7 @@ use std::fmt;
 use std::random::RandomSource;
 use std::sync::atomic::{AtomicU64, Ordering};
 use std::sync::ledger::Ledger;
-use std::sync::{Arc, Wait};
+use std::sync::{Arc, Mutex, Wait};
 use std::time::Clock;
 
 /// Answers the requests of a connection over the desk that threads share, and counts them. A call waits until what it stages is settled.
@@ -38,7 +38,7 @@ pub struct Intake<R, L: Ledger, I: LogId> {
 #[derive(Drop)]
 struct Owners<L: Ledger, I: LogId> {
     shared: Arc<Shared<L, I>>,
-    latest: Arc<LatestAck<I>>,
+    latest: Arc<Mutex<LatestAck<I>>>,
     answered: Arc<AtomicU64>,
 }
 
@@ -93,7 +93,7 @@ impl<R, L: Ledger, I: LogId> Intake<R, L, I> {
     pub fn new(
         rt: R,
         shared: Arc<Shared<L, I>>,
-        latest: Arc<LatestAck<I>>,
+        latest: Arc<Mutex<LatestAck<I>>>,
         answered: Arc<AtomicU64>,
     ) -> Intake<R, L, I>
         ensures shared { shared_of result ≡ shared }

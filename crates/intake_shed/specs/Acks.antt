@@ -15,6 +15,13 @@ pub record AckValue : Type 0 where
   pub body : Text
   pub prefix : List Record
 
+-- the number of the event's record, its endpoint, its id and its body
+pub record EventValue : Type 0 where
+  pub seq : Seq
+  pub name : Text
+  pub id : Text
+  pub body : Text
+
 -- the event of this ticket, which has this body, and this prefix of the log
 abbrev pub ack_of : Ticket → (body : Text) → (prefix : List Record) → AckValue
 ack_of ticket body prefix = record { seq = ticket.seq; name = ticket.name; id = ticket.id; body = body; prefix = prefix }

@@ -12,13 +12,49 @@ use run_log::{Log, LogId, Prefix};
 use std::marker::Model;
 use std::sync::ledger::Ledger;
 
-/// An event that was acknowledged: the number of its record, its endpoint, its id and its body.
+/// An event that was acknowledged: the number of its record, its endpoint, its id and its body. `Ack::compare` alone makes it.
 #[derive(Drop)]
 pub struct Acknowledged {
-    pub seq: u64,
-    pub name: Name,
-    pub id: MsgId,
-    pub body: Body,
+    ticket: Ticket,
+    body: Body,
+}
+
+impl Model for Acknowledged {
+    ghost use Rattle.intake_shed.specs.Acks.{EventValue};
+
+    ghost Value = { EventValue };
+
+    ghost view = { λ e. record { seq = e.ticket.seq; name = e.ticket.name; id = e.ticket.id; body = e.body } };
+}
+
+impl Acknowledged {
+    /// The number of its record.
+    pub fn seq(&self) -> u64
+        ensures { result ≡ self.now.seq }
+    {
+        self.ticket.seq
+    }
+
+    /// The endpoint.
+    pub fn name(&self) -> Name
+        ensures { result ≡ self.now.name }
+    {
+        self.ticket.name
+    }
+
+    /// The id.
+    pub fn id(&self) -> MsgId
+        ensures { result ≡ self.now.id }
+    {
+        self.ticket.id
+    }
+
+    /// The body.
+    pub fn body(&self) -> &Body
+        ensures { result.now ≡ self.now.body }
+    {
+        &self.body
+    }
 }
 
 /// Shows that an event is settled, and that it is in the log of the run. `Ack::of` alone makes it.
@@ -82,12 +118,7 @@ impl<I: LogId> Ack<I> {
             prefix,
         } = self;
         logged.compare(log, prefix);
-        Acknowledged {
-            seq: ticket.seq,
-            name: ticket.name,
-            id: ticket.id,
-            body,
-        }
+        Acknowledged { ticket, body }
     }
 
     /// The endpoint.

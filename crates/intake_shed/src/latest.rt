@@ -1,35 +1,47 @@
 //! The latest acknowledgement.
-ghost use Rattle.std.specs.Prelude.{◌≡◌, ◌≤◌, ◌⊎◌, Some, IfSome};
+ghost use Rattle.std.specs.Prelude.{◌≡◌, ◌≤◌, ◌⊎◌, Some, None, IfSome, IsSomeAnd};
 
 use crate::ack::Ack;
 use run_log::LogId;
-use std::sync::{Mutex, Wait};
+use std::marker::Model;
 
-/// The acknowledgement with the greatest number of those that threads handed in.
+/// The acknowledgement with the greatest number of those that were kept, if there is one. Contracts see it as that.
 #[derive(Drop)]
 pub struct LatestAck<I: LogId> {
-    latest: Mutex<Option<Ack<I>>>,
+    latest: Option<Ack<I>>,
+}
+
+impl<I: LogId> Model for LatestAck<I> {
+    ghost use Rattle.std.specs.Prelude.{Option};
+    ghost use Rattle.intake_shed.specs.Acks.{AckValue};
+
+    ghost Value = { Option AckValue };
+
+    ghost view = { λ l. l.latest };
 }
 
 impl<I: LogId> LatestAck<I> {
-    pub fn new() -> LatestAck<I> {
-        LatestAck {
-            latest: Mutex::new(None),
-        }
+    /// None was kept yet.
+    pub fn new() -> LatestAck<I>
+        ensures { result ≡ None }
+    {
+        LatestAck { latest: None }
     }
 
-    /// Keeps the acknowledgement of an answer, if it has one, unless one with a greater number was kept.
-    pub fn keep<R: Wait>(&self, rt: &R, ack: Option<Ack<I>>) {
-        if let Some(ack) = ack {
-            let mut latest = self.latest.lock(rt);
-            let kept = latest.take();
-            *latest = Some(later(kept, ack));
-        }
+    /// Keeps the acknowledgement, unless one with a greater number was kept.
+    pub fn keep(&mut self, ack: Ack<I>)
+        ensures greatest { IsSomeAnd self.new (λ latest. (ack.seq ≤ latest.seq) × IfSome self.old (λ kept. kept.seq ≤ latest.seq)) }
+        ensures either { (self.new ≡ Some ack) ⊎ (self.new ≡ self.old) }
+    {
+        self.latest = Some(later(self.latest.take(), ack));
     }
 
-    /// The acknowledgement that was kept, if there is one.
-    pub fn take<R: Wait>(&self, rt: &R) -> Option<Ack<I>> {
-        self.latest.lock(rt).take()
+    /// The acknowledgement that was kept. None is kept from then on.
+    pub fn take(&mut self) -> Option<Ack<I>>
+        ensures value { result ≡ self.old }
+        ensures none { self.new ≡ None }
+    {
+        self.latest.take()
     }
 }
 

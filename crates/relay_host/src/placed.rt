@@ -20,7 +20,9 @@ pub struct Placed<K: Keeper + Drop, P: Place + Drop> {
 impl<K: Keeper + Drop, P: Place + Drop> Placed<K, P> {
     /// The keeper of what was opened at the place.
     pub fn new(keeper: K, place: P) -> Placed<K, P>
-        ensures { keeper_of result ≡ keeper }
+        ensures keeper { keeper_of result ≡ keeper }
+        ensures place { place_of result ≡ place }
+        ensures sight { sight_of result ≡ Sight.Stands }
     {
         Placed {
             keeper,

@@ -14,8 +14,7 @@ use Rattle.delivery.specs.Keepers.{Adds, AppendsBatches, KeepsLog, Stands, recor
 use Rattle.delivery.specs.declared.committer.CommitterEnd.{CommitterEnd}
 use Rattle.delivery.specs.declared.committer.CommitterEnd.TheVariants.{Finished, Halted}
 use Rattle.delivery.specs.declared.committer.HaltCause.TheVariants as cause
-use Rattle.intake_shed.specs.Acks.{HasEvent}
-use Rattle.intake_shed.specs.declared.ack.Acknowledged.{Acknowledged}
+use Rattle.intake_shed.specs.Acks.{EventValue, HasEvent}
 use Rattle.relay_serve.specs.Serving.{AddsBatches, AddsEvent, LeavesDoubt, LeavesRows}
 
 -- what stands of one thing stands of another that has as much
@@ -33,7 +32,7 @@ module _ {A B : Type 0} (holds : A → List Record → Type 0) (in_doubt : A →
   stands_so records (Halted cause.Halted) stands = held records stands
 
 -- an event that the log has after each history that it goes on from, after this one
-pub event_of_base : (is_base : List Record → Type 0) (log : List Record) (acknowledged : Option Acknowledged) (base : List Record) → is_base base
+pub event_of_base : (is_base : List Record → Type 0) (log : List Record) (acknowledged : Option EventValue) (base : List Record) → is_base base
     → IfSome acknowledged (λ event. (base : List Record) → is_base base → HasEvent (base ++ log) event.seq event.name event.id event.body)
     → IfSome acknowledged (λ event. HasEvent (base ++ log) event.seq event.name event.id event.body)
 event_of_base is_base log None base is has = has
@@ -61,7 +60,7 @@ module _ {S : Type 0} (g : Ghosts S) where
         (more.0, stands_so holds in_doubt (LeavesRows g) (LeavesDoubt g) new (vault_of new) (λ _ held. held.1) (λ _ _ doubt. doubt) (records ++ records_in more.0) end more.1)
 
     -- a keeper that held these records holds them and the log, which is whole batches, and the event is in these
-    pub logged_event : (old new : K) (log : List Record) (end : CommitterEnd) (acknowledged : Option Acknowledged) (records : List Record)
+    pub logged_event : (old new : K) (log : List Record) (end : CommitterEnd) (acknowledged : Option EventValue) (records : List Record)
         → KeepsLog holds in_doubt old [] new log end → AppendsBatches [] log
         → IfSome acknowledged (λ event. HasEvent (records ++ log) event.seq event.name event.id event.body)
         → AddsEvent g (vault_of old) (vault_of new) end acknowledged records
@@ -87,7 +86,7 @@ module _ {S : Type 0} (g : Ghosts S) where
   pub nothing_added : (v : VaultValue S) → AddsBatches g v v Finished
   nothing_added v records held = ([], subst (LeavesRows g v) (sym (append-nil records)) held.1)
 
-  pub event_still : (old mid new : VaultValue S) (end : CommitterEnd) (acknowledged : Option Acknowledged) (records : List Record)
+  pub event_still : (old mid new : VaultValue S) (end : CommitterEnd) (acknowledged : Option EventValue) (records : List Record)
       → AddsEvent g old mid end acknowledged records → IsOnlyRead (state g mid.conn) (state g new.conn)
       → AddsEvent g old new end acknowledged records
   event_still old mid new end acknowledged records adds read held =

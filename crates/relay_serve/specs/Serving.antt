@@ -14,8 +14,7 @@ use Rattle.desk.specs.World.{World, settled_records}
 use Rattle.delivery.specs.Keepers.{Stands, records_in}
 use Rattle.delivery.specs.declared.committer.CommitterEnd.{CommitterEnd}
 use Rattle.delivery.specs.declared.committer.CommitterEnd.TheVariants as committer
-use Rattle.intake_shed.specs.Acks.{HasEvent}
-use Rattle.intake_shed.specs.declared.ack.Acknowledged.{Acknowledged}
+use Rattle.intake_shed.specs.Acks.{EventValue, HasEvent}
 use Rattle.relay_serve.specs.declared.fault.ServeFault.{ServeFault}
 use Rattle.relay_serve.specs.declared.served.Served.{Served}
 use Rattle.relay_serve.specs.declared.fault.ServeFault.TheVariants.{BadAddress, File, CannotListen, NoThread, Halted, Audit, Write, OutOfMemory}
@@ -53,12 +52,12 @@ module _ {S : Type 0} (g : Ghosts S) where
 
   -- If the vault held these records, a crash now leaves them and those of whole batches after them, and the event is one of these records:
   -- at its number, with its endpoint, its id and its body. If the store was at fault, a crash leaves these, or these and one batch more.
-  abbrev pub AddsEvent : (old new : VaultValue S) → CommitterEnd → Option Acknowledged → List Record → Type 0
+  abbrev pub AddsEvent : (old new : VaultValue S) → CommitterEnd → Option EventValue → List Record → Type 0
   AddsEvent old new end acknowledged records = HoldsOnDisk g old records → (batches : List History)
       × Stands LeavesRows LeavesDoubt new (records ++ records_in batches) end
       × IfSome acknowledged (λ event. HasEvent (records ++ records_in batches) event.seq event.name event.id event.body)
 
   -- It is so of the settled records of each state that the desk represented, if the disk has returned what was written.
-  abbrev pub KeepsAcknowledged : DeskValue → (old new : VaultValue S) → Result Served ServeFault → Option Acknowledged → Type 0
+  abbrev pub KeepsAcknowledged : DeskValue → (old new : VaultValue S) → Result Served ServeFault → Option EventValue → Type 0
   KeepsAcknowledged desk old new ended acknowledged = IfClean g old.conn new.conn (λ _ _.
       (w : World) → StandsFor desk w → AddsEvent old new (committer_end ended) acknowledged (settled_records w))

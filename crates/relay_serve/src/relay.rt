@@ -5,14 +5,14 @@ use run_log::LogId;
 use std::alloc::{AllocError, Global};
 use std::sync::atomic::{AtomicBool, AtomicU64, Ordering};
 use std::sync::ledger::Ledger;
-use std::sync::{Arc, Wait};
+use std::sync::{Arc, Mutex, Wait};
 
 /// What the threads of a relay share.
 #[derive(Drop)]
 pub(crate) struct Relay<L: Ledger, I: LogId> {
     pub(crate) shared: Arc<Shared<L, I>>,
     /// The acknowledged event with the greatest number.
-    pub(crate) latest: Arc<LatestAck<I>>,
+    pub(crate) latest: Arc<Mutex<LatestAck<I>>>,
     /// How many requests were answered.
     pub(crate) answered: Arc<AtomicU64>,
     lacks_thread: AtomicBool,
@@ -24,7 +24,7 @@ impl<L: Ledger, I: LogId> Relay<L, I> {
     pub(crate) fn new(alloc: Global, shared: Shared<L, I>) -> Result<Relay<L, I>, AllocError> {
         Ok(Relay {
             shared: Arc::new(alloc, shared)?,
-            latest: Arc::new(alloc, LatestAck::new())?,
+            latest: Arc::new(alloc, Mutex::new(LatestAck::new()))?,
             answered: Arc::new(alloc, AtomicU64::new(0))?,
             lacks_thread: AtomicBool::new(false),
             running: AtomicU64::new(0),

@@ -117,7 +117,7 @@ where
         rt, listener, bound, desk, vault, place, settings,
     );
     if let Some(event) = acknowledged {
-        tell(rt, rt.alloc(), &News::Acknowledged(event.seq));
+        tell(rt, rt.alloc(), &News::Acknowledged(event.seq()));
     }
     ended
 }
@@ -243,7 +243,7 @@ where
     ensures keeper { logged.new.keeper ≡ logged.old.keeper }
     ensures writer { logged.new.writer ≡ logged.old.writer }
 {
-    let ack = relay.latest.take(rt)?;
+    let ack = relay.latest.lock(rt).take()?;
     Some(ack.compare(relay.shared.log(), logged))
 }
 

@@ -58,10 +58,10 @@ fn is_of_event<I: LogId>(ack: &Ack<I>) -> bool {
 }
 
 fn is_event(event: &Acknowledged) -> bool {
-    event.seq == 1
-        && event.name.as_bytes() == b"a".as_slice()
-        && event.id.as_bytes() == b"msg_1".as_slice()
-        && event.body.as_bytes() == b"{}".as_slice()
+    event.seq() == 1
+        && event.name().as_bytes() == b"a".as_slice()
+        && event.id().as_bytes() == b"msg_1".as_slice()
+        && event.body().as_bytes() == b"{}".as_slice()
 }
 
 // A run with logs of this id, of which nothing is proved.
@@ -90,7 +90,7 @@ where
         move || ask(rt, alloc, lent),
         move || committer_run(rt, lent, logged),
     );
-    let is_over = matches!(end, CommitterEnd::Finished);
+    let is_over = matches!(end.how(), CommitterEnd::Finished);
     holds(rt, is_over, "the committer finishes");
     match asked {
         Ok((confirmed, ack)) => {

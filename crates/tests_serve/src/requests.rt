@@ -237,7 +237,7 @@ fn subscribe(alloc: Global, listener: &TcpListener, port: u16) -> io::Result<boo
 fn is_last_event(event: &Acknowledged) -> bool {
     let wanted: &[u8] = b"[2]";
     match Name::read(b"b") {
-        Ok(name) => event.name == name && event.body.as_bytes() == wanted,
+        Ok(name) => event.name() == name && event.body().as_bytes() == wanted,
         Err(_) => false,
     }
 }

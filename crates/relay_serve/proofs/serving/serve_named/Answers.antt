@@ -16,7 +16,7 @@ use Rattle.relay_serve.proofs.serving.serve_named.Goals as goal
 pub returns-in-Err-clause-rows : goal.returns-in-Err-clause-rows
 returns-in-Err-clause-rows g c clean =
     let old = c.args.vault in
-    let back = c.into_keeper.ensures ∙ ap keeper_of (c.into_keeper-keeper.ensures ∙ c.begin_run-shared.ensures.keeper) ∙ c.new-keeper.ensures in
+    let back = c.into_keeper.ensures ∙ ap keeper_of (c.into_keeper-keeper.ensures ∙ c.begin_run-shared.ensures.keeper) ∙ c.new-keeper.ensures.keeper in
     subst (λ v. AddsBatches g.S.Store old v (committer_end (Err c.from.result))) (sym back)
     (subst (λ (fault : ServeFault). AddsBatches g.S.Store old old (committer_end (Err fault))) (sym c.from.ensures)
     (nothing_added g.S.Store old))
@@ -24,7 +24,7 @@ returns-in-Err-clause-rows g c clean =
 pub returns-in-Err-clause-acknowledged : goal.returns-in-Err-clause-acknowledged
 returns-in-Err-clause-acknowledged g c clean base is =
     let old = c.args.vault in
-    let back = c.into_keeper.ensures ∙ ap keeper_of (c.into_keeper-keeper.ensures ∙ c.begin_run-shared.ensures.keeper) ∙ c.new-keeper.ensures in
+    let back = c.into_keeper.ensures ∙ ap keeper_of (c.into_keeper-keeper.ensures ∙ c.begin_run-shared.ensures.keeper) ∙ c.new-keeper.ensures.keeper in
     subst (λ v. AddsEvent g.S.Store old v (committer_end (Err c.from.result)) None base) (sym back)
     (subst (λ (fault : ServeFault). AddsEvent g.S.Store old old (committer_end (Err fault)) None base) (sym c.from.ensures)
     (no_event g.S.Store old base))
@@ -41,7 +41,7 @@ returns-clause-rows g c clean =
     λ a b. HasCleanDisk (state g.S.Store b.conn) → AddsBatches g.S.Store a b run.result.1 in
     let of_keeper : Left (keeper_of begun) (keeper_of ended) =
     λ clean. added g.S.Store keeper_of begun ended run.result.1 (run.ensures.rows clean) in
-    let from = ap keeper_of c.begin_run-shared.ensures.keeper ∙ c.new-keeper.ensures in
+    let from = ap keeper_of c.begin_run-shared.ensures.keeper ∙ c.new-keeper.ensures.keeper in
     let to = c.into_keeper-vault.ensures
     ∙ ap keeper_of (c.into_keeper-keeper-2.ensures ∙ c.last_acknowledged-acknowledged.ensures.keeper) in
     let left : Left old mid = subst (λ v. Left old v) (sym to) (subst (λ v. Left v (keeper_of ended)) from of_keeper) in
@@ -69,7 +69,7 @@ returns-clause-acknowledged g c clean base is =
     (subst Keeps c.begin_run-shared.ensures.writer (run.ensures.logged clean))
     (subst (λ (before : List Record). AppendsBatches before log) c.begin_run-shared.ensures.writer run.ensures.appended)
     (event_of_base g.I.LogId.is_base log last.result base is last.ensures.event) in
-    let from = ap keeper_of c.begin_run-shared.ensures.keeper ∙ c.new-keeper.ensures in
+    let from = ap keeper_of c.begin_run-shared.ensures.keeper ∙ c.new-keeper.ensures.keeper in
     let to = c.into_keeper-vault.ensures ∙ ap keeper_of (c.into_keeper-keeper-2.ensures ∙ last.ensures.keeper) in
     let left : Left old mid = subst (λ v. Left old v) (sym to) (subst (λ v. Left v (keeper_of ended)) from of_keeper) in
     let told = c.told_end-ended.ensures in
@@ -79,7 +79,7 @@ returns-clause-acknowledged g c clean base is =
 pub returns-clause-clean : goal.returns-clause-clean
 returns-clause-clean g c clean =
     let Clean : VaultValue _ → Type 0 = λ v. HasCleanDisk (state g.S.Store v.conn) in
-    let from = ap keeper_of c.begin_run-shared.ensures.keeper ∙ c.new-keeper.ensures in
+    let from = ap keeper_of c.begin_run-shared.ensures.keeper ∙ c.new-keeper.ensures.keeper in
     let to = c.into_keeper-vault.ensures
     ∙ ap keeper_of (c.into_keeper-keeper-2.ensures ∙ c.last_acknowledged-acknowledged.ensures.keeper) in
     subst Clean from (c.run_threads-logged.ensures.clean (subst Clean to (c.told_end-ended.ensures.clean clean)))
