@@ -9,11 +9,11 @@ SOURCES = $(shell find crates -path '*/out' -prune -o -path 'crates/tests_*' -pr
 help:
 	@awk '/^# /{said=said substr($$0, 2)} /^[a-z]+:/{sub(/:.*/, ""); printf "make %-8s%s\n", $$0, said} !/^# /{said=""}' Makefile
 
-# Proves the relay and builds it (about an hour on four processors if out/ is empty), and serves relay.db at 127.0.0.1:8080.
+# Proves the relay and builds it (70 minutes on four processors if out/ is empty), and serves relay.db at 127.0.0.1:8080.
 run: $(RELAYD)
 	@echo 'Put an endpoint, and submit an event to it:'
 	@echo "  curl -X PUT http://127.0.0.1:8080/v1/endpoints/shop -d '$(ENDPOINT)'"
-	@echo "  curl http://127.0.0.1:8080/v1/endpoints/shop/events -d '{\"order\":1}'"
+	@echo "  curl http://127.0.0.1:8080/v1/endpoints/shop/events -H 'webhook-id: order-1' -d '{\"order\":1}'"
 	$(RELAYD) serve relay.db 127.0.0.1:8080
 
 # Builds the same, and shows step by step what a relay does: events, signatures, a retry, a kill, an answer 410. It ends by itself.
@@ -64,7 +64,7 @@ load: $(RELAYD)
 # A program is proved and built if one of its sources is newer. `make test` builds both, too. `rt run` alone proves the crates below it
 # one after another; `rt all`, in the program's folder, proves these and the program side by side, and `rt run` takes what it leaves.
 $(RELAYD): $(SOURCES)
-	@echo 'Proving all crates of relayd, and then building it: about an hour on four processors if out/ is empty, else what changed.'
+	@echo 'Proving all crates of relayd, and then building it: 70 minutes on four processors if out/ is empty, else what changed.'
 	cd crates/relayd && rt all check --jobs $(AT_ONCE) && rt run -- --version
 	touch $@
 
