@@ -1,4 +1,3 @@
 pub mod Shown
 pub mod Responses
 pub mod Asking
-pub mod Services
