@@ -37,8 +37,6 @@ pub(crate) enum Committer {
     Held,
     /// The end is asked for before it begins, and so many commits are refused for want of memory.
     Lacking(u32),
-    /// It runs from the first on, and so many commits are refused for lack of memory before each that isn't.
-    LackingEach(u32),
     /// What its vault has open doesn't stand at its place any more.
     TakenAway,
     /// It begins a while later, and each of its commits is refused for want of memory.
@@ -51,16 +49,8 @@ impl Committer {
     // How many of its commits are refused for want of memory.
     fn refusals(&self) -> u32 {
         match self {
-            Committer::Lacking(refusals) | Committer::LackingEach(refusals) => *refusals,
+            Committer::Lacking(refusals) => *refusals,
             Committer::Refused | Committer::RefusedAtEnd => u32::MAX,
-            _ => 0,
-        }
-    }
-
-    // How many are refused again after each commit.
-    fn refusals_again(&self) -> u32 {
-        match self {
-            Committer::LackingEach(refusals) => *refusals,
             _ => 0,
         }
     }
@@ -140,7 +130,7 @@ fn run_committer<L: Ledger, I: LogId, K: Keeper + Drop, R: Wait + Clock>(
         Committer::Late | Committer::Refused => pause(place.rt),
         Committer::Lacking(_) => place.shared.finish(place.rt),
         Committer::RefusedAtEnd => wait_for_end(place),
-        Committer::Runs | Committer::LackingEach(_) | Committer::Held | Committer::TakenAway => {}
+        Committer::Runs | Committer::Held | Committer::TakenAway => {}
     }
     let (logged, end) = committer_run(place.rt, place.shared, logged);
     count(&place.seen.ended);
@@ -265,7 +255,6 @@ fn run<L: Ledger + Send + Sync, S: Alter + Drop, R: Threads + Wait + Clock + Abo
     let watched = Watched {
         keeper: Placed::new(vault, Spot { is_gone }),
         refusals: course.committer.refusals(),
-        again: course.committer.refusals_again(),
         holds_first: matches!(course.committer, Committer::Held),
         seen: seen.clone().expect(rt, "a count of owners"),
         rt: *rt,

@@ -12,13 +12,12 @@ use std::sync::ledger::Ledger;
 use std::sync::{Arc, Wait};
 use std::time::Clock as SystemClock;
 
-/// Stands before another keeper: refuses so many commits for want of memory, then commits and counts. After a commit it may refuse as many
-/// again. It may hold its first commit until another record is staged meanwhile.
+/// Stands before another keeper: refuses so many commits for want of memory, then commits and counts. It may hold its first commit
+/// until another record is staged meanwhile.
 #[derive(Drop)]
 pub(crate) struct Watched<K: Keeper + Drop, R> {
     pub(crate) keeper: K,
     pub(crate) refusals: u32,
-    pub(crate) again: u32,
     pub(crate) holds_first: bool,
     pub(crate) seen: Arc<Seen>,
     pub(crate) rt: R,
@@ -53,7 +52,6 @@ impl<K: Keeper + Drop, R: SystemClock> Keeper for Watched<K, R> {
             return Err(CommitEnd::Unchanged(batch, Unchanged::OutOfMemory));
         }
         self.begin();
-        self.refusals = self.again;
         self.keeper.commit(batch)
     }
 
