@@ -55,11 +55,7 @@ impl<R: Wait + Copy> Drop for Resolver<R> {
 impl<R: Wait + Copy> Resolver<R> {
     pub(crate) fn start(rt: R) -> Result<Resolver<R>, AllocError>
     where
-        R: Threads
-            + Net<Listener = TcpListener, Stream = TcpStream>
-            + AllocGlobal
-            + Send
-            + 'static,
+        R: Threads + Net<Listener = TcpListener, Stream = TcpStream> + AllocGlobal + Send + 'static,
     {
         let alloc = rt.alloc();
         let asked = Arc::new(alloc, Asked::new(alloc)).map_err(AllocError::from)?;
