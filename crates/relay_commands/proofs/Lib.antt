@@ -1,3 +1,4 @@
+mod AskedLaws
 mod SampleWords
 mod SignLaws
 pub mod TraceLaws

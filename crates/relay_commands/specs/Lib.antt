@@ -1,3 +1,4 @@
+pub mod Asked
 pub mod Reports
 pub mod Replays
 pub mod Signs

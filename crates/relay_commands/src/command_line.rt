@@ -1,10 +1,11 @@
 //! The command line: which words name which command, and what help says.
-ghost use Rattle.std.specs.Prelude.{◌≡◌, ◌≤◌, ℕ, IfErr};
+ghost use Rattle.std.specs.Prelude.{◌≡◌, ◌≤◌, ℕ, IfErr, IfSome};
 ghost use Rattle.std.specs.Io.KnownBytes.{Keeps};
 ghost use Rattle.text_lines.specs.declared.fault.StreamFault.TheVariants as command;
 ghost use Rattle.clap.specs.Words.{kind_of};
 ghost use Rattle.relay_commands.specs.declared.command_line.Outcome.TheVariants.{Exit};
 ghost use Rattle.relay_commands.specs.declared.ends.CommandFault.TheVariants.{Ended};
+ghost use Rattle.relay_commands.specs.Asked.{IsServeFor};
 ghost use Rattle.relay_commands.specs.Reports.{IsShownAs};
 
 use crate::check_command::check_file;
@@ -102,7 +103,9 @@ pub fn run<'a, S: AsStr, R: Read, O: Write, E: Write>(
 }
 
 // What a relay that serves is told, where the words ask for one.
-fn serve_asked<'a>(matches: &ArgMatches<'a>) -> Option<ServeWords<'a>> {
+fn serve_asked<'a>(matches: &ArgMatches<'a>) -> Option<ServeWords<'a>>
+    ensures asked { IfSome result (IsServeFor matches.now) }
+{
     match matches.subcommand() {
         Some(("serve", words)) => read_serve(words),
         _ => None,

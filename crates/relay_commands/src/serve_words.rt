@@ -1,4 +1,8 @@
 //! The words of `relayd serve`.
+ghost use Rattle.std.specs.Prelude.{IfSome};
+ghost use Rattle.clap.specs.Words.{found_of, rows_of};
+ghost use Rattle.relay_commands.specs.Asked.{AskFor};
+
 use clap::builder::ValueParser;
 use clap::{Arg, ArgAction, ArgMatches, Command};
 use std::alloc::{AllocError, Global};
@@ -26,7 +30,9 @@ pub struct ServeWords<'a> {
 }
 
 // What the words ask for. All of them are there once the parser took them.
-pub(crate) fn read_serve<'a>(words: &ArgMatches<'a>) -> Option<ServeWords<'a>> {
+pub(crate) fn read_serve<'a>(words: &ArgMatches<'a>) -> Option<ServeWords<'a>>
+    ensures asked { IfSome result (AskFor (rows_of (found_of words.now))) }
+{
     Some(ServeWords {
         file: words.get_str("file")?,
         address: words.get_str("address")?,

@@ -1,0 +1,26 @@
+-- What the words of `serve` ask for.
+use Rattle.std.specs.Prelude.{◌≡◌, ℕ, List, Some, codes}
+use Rattle.std.specs.Str.Parse.{IsNumeral, digits_value, without_leading_plus}
+use Rattle.clap.specs.Words.{Row, first_of, one_of, subcommand_rows_of}
+use Rattle.clap.specs.declared.parser.matches.ArgMatches.{ArgMatches}
+use Rattle.relay_commands.specs.declared.serve_words.ServeWords.{ServeWords}
+
+-- the argument of this name is this number, in decimal digits behind a plus sign or none
+abbrev pub HasNumber : List Row → List ℕ → ℕ → Type 0
+HasNumber rows name number =
+    (text : List ℕ) × (one_of name rows ≡ Some text) × IsNumeral 10 (without_leading_plus text)
+    × (number ≡ digits_value 10 (without_leading_plus text))
+
+-- the arguments, whose rows these are, ask for this
+abbrev pub AskFor : List Row → ServeWords → Type 0
+AskFor rows asked =
+    (first_of (codes "file") rows ≡ Some asked.file.now)
+    × (first_of (codes "address") rows ≡ Some asked.address.now)
+    × HasNumber rows (codes "workers") asked.workers
+    × HasNumber rows (codes "intake") asked.intake
+    × HasNumber rows (codes "timeout") asked.timeout
+    × HasNumber rows (codes "requests") asked.requests
+
+-- the command line's subcommand is `serve`, with such arguments
+abbrev pub IsServeFor : ArgMatches → ServeWords → Type 0
+IsServeFor matches asked = (rows : List Row) × (subcommand_rows_of matches ≡ Some (codes "serve", rows)) × AskFor rows asked
