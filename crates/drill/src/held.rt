@@ -1,5 +1,5 @@
 //! What is held between two calls.
-ghost use Rattle.std.specs.Prelude.{◌≡◌};
+ghost use Rattle.std.specs.Prelude.{◌≡◌, None};
 ghost use Rattle.drill.specs.Cores.{receipt_of, given_of};
 
 use spool::{Batch, Doubt, Receipt};
@@ -37,7 +37,10 @@ impl Held {
     }
 
     // Holds again what the desk didn't take.
-    pub(crate) fn again(held: group_commit::Held) -> Held {
+    pub(crate) fn again(held: group_commit::Held) -> Held
+        ensures given { given_of result ≡ held }
+        ensures receipt { receipt_of result ≡ None }
+    {
         match held {
             group_commit::Held::Nothing => Held::Nothing,
             group_commit::Held::Batch(batch) => Held::Batch(batch),

@@ -5,7 +5,7 @@ ghost use Rattle.script_lines.specs.declared.call.Call.TheVariants as on;
 ghost use Rattle.script_lines.specs.declared.reply.Fault.{Fault};
 ghost use Rattle.script_lines.specs.declared.reply.Reply.TheVariants as says;
 ghost use Rattle.drill.specs.Moves.{answer_to, wrong_turn};
-ghost use Rattle.drill.specs.Cores.{CoreAnswers, HandsOver, IsCore, KeepsOn, TakesRoom};
+ghost use Rattle.drill.specs.Cores.{CoreAnswers, HandsOver, IsCore, KeepsOn, TakesRoom, given_of, receipt_of};
 ghost use Rattle.drill.specs.Runners.{Answers};
 ghost use Rattle.recovery.specs.Left.{IsCleanAt};
 
@@ -128,6 +128,8 @@ impl<L: Ledger> Core<L> {
         ensures gone { IsHeldOf self.old.desk.waiting held
             → (self.new.held ≡ self.old.held) × (self.new.desk.waiting.out ≡ None) }
         ensures kept { ¬ IsHeldOf self.old.desk.waiting held → self.new.desk ≡ self.old.desk }
+        ensures back { ¬ IsHeldOf self.old.desk.waiting held
+            → (given_of self.new.held ≡ held) × (receipt_of self.new.held ≡ None) }
         ensures same { self.new ≡ record self.old { desk = self.new.desk; held = self.new.held } }
     {
         match self.desk.halt(held) {
