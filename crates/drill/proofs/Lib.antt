@@ -14,3 +14,4 @@ mod WorkedRun
 mod WithinLaws
 mod RefusalLaws
 mod LaterLaws
+mod AuditLaws

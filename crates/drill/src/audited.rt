@@ -1,9 +1,9 @@
 //! What an audit shows.
-ghost use Rattle.std.specs.Prelude.{◌≡◌, Err, IsTrue, OnOk};
+ghost use Rattle.std.specs.Prelude.{◌≡◌, Err, IsTrue};
 ghost use Rattle.sqlite.specs.State.{HasCleanDisk};
 ghost use Rattle.spool_sql.specs.Steps.{IfClean};
 ghost use Rattle.spool.specs.Adopting.{IsOnlyRead};
-ghost use Rattle.drill.specs.Audits.{IsTold, IsToldOtherwise};
+ghost use Rattle.drill.specs.Audits.{TellsAudit};
 
 use crate::audits::{AuditFault, audit};
 use desk::Desk;
@@ -24,8 +24,7 @@ pub fn audit_shown<L: Ledger, S: Alter>(
     vault: &mut Vault<S>,
     desk: &Desk<L>,
 ) -> Result<Audited, AuditFault>
-    ensures same { OnOk result (IsTold S.Store vault.old vault.new desk.now) }
-    ensures differs { result ≡ Err AuditFault.Mismatch → IsToldOtherwise S.Store vault.old vault.new desk.now }
+    ensures tells { TellsAudit S.Store vault.old vault.new desk.now result }
     ensures closed { IsTrue vault.old.closed → result ≡ Err AuditFault.Store }
     ensures mark { vault.new.mark ≡ vault.old.mark }
     ensures next { vault.new.next ≡ vault.old.next }

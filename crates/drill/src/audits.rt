@@ -1,12 +1,13 @@
 //! Whether the store has what the desk tells to be settled.
-ghost use Rattle.std.specs.Prelude.{◌≡◌, Err, Some, IsTrue, OnOk};
+ghost use Rattle.std.specs.Prelude.{◌≡◌, Err, Some, IsTrue};
 ghost use Rattle.sqlite.specs.State.{HasCleanDisk};
 ghost use Rattle.spool_sql.specs.Steps.{IfClean};
 ghost use Rattle.spool.specs.Adopting.{IsOnlyRead};
-ghost use Rattle.drill.specs.Audits.{IsTold, IsToldOtherwise, fault_name, refusal_of};
+ghost use Rattle.drill.specs.Audits.{TellsAudit, fault_name, refusal_of};
 
 use desk::Desk;
 use spool::{LoadFault, Vault};
+use spool_sql::{Cause, cause_of};
 use sqlite::Alter;
 use std::alloc::Global;
 use std::fmt;
@@ -17,7 +18,7 @@ use std::sync::ledger::Ledger;
 pub enum AuditFault {
     /// The rows tell of something else than the desk.
     Mismatch,
-    /// The store refused a call, or a commit was doubtful, so that nobody knows what it holds.
+    /// The store failed, or a commit was doubtful, so that nobody knows what it holds.
     Store,
     /// Memory was refused.
     OutOfMemory,
@@ -43,8 +44,7 @@ pub fn audit<L: Ledger, S: Alter>(
     vault: &mut Vault<S>,
     desk: &Desk<L>,
 ) -> Result<(), AuditFault>
-    ensures same { OnOk result (IsTold S.Store vault.old vault.new desk.now) }
-    ensures differs { result ≡ Err AuditFault.Mismatch → IsToldOtherwise S.Store vault.old vault.new desk.now }
+    ensures tells { TellsAudit S.Store vault.old vault.new desk.now result }
     ensures closed { IsTrue vault.old.closed → result ≡ Err AuditFault.Store }
     ensures mark { vault.new.mark ≡ vault.old.mark }
     ensures next { vault.new.next ≡ vault.old.next }
@@ -68,7 +68,11 @@ fn refusal_of(fault: LoadFault) -> AuditFault
     ensures { result ≡ refusal_of fault }
 {
     match fault {
+        LoadFault::Closed => AuditFault::Store,
+        LoadFault::Store(error) => match cause_of(error) {
+            Cause::Memory => AuditFault::OutOfMemory,
+            Cause::Store | Cause::Other => AuditFault::Store,
+        },
         LoadFault::OutOfMemory => AuditFault::OutOfMemory,
-        LoadFault::Closed | LoadFault::Store(_) => AuditFault::Store,
     }
 }
