@@ -1,3 +1,4 @@
 pub mod Shown
 pub mod Responses
 pub mod Asking
+pub mod Services

@@ -1,6 +1,8 @@
 //! The service of a connection.
-ghost use Rattle.std.specs.Prelude.{IfOk};
+ghost use Rattle.std.specs.Prelude.{◌≡◌, IfOk, IfSome};
+ghost use Rattle.std.specs.Arc.{arc_value};
 ghost use Rattle.hyper_intake.specs.Asking.{IsResponseTo};
+ghost use Rattle.hyper_intake.specs.Services.{answered_of, latest_of, shared_of};
 
 use crate::asking::{BodyRead, Gathered, is_coded, read_body, reply_to};
 use crate::responding::{not_implemented, response_of};
@@ -41,7 +43,9 @@ struct Owners<L: Ledger, I: LogId> {
 }
 
 impl<L: Ledger, I: LogId> Owners<L, I> {
-    fn again(&self) -> Option<Owners<L, I>> {
+    fn again(&self) -> Option<Owners<L, I>>
+        ensures { IfSome result (λ again. arc_value again.shared ≡ arc_value self.now.shared) }
+    {
         Some(Owners {
             shared: Arc::try_clone(&self.shared).ok()?,
             latest: Arc::try_clone(&self.latest).ok()?,
@@ -91,7 +95,11 @@ impl<R, L: Ledger, I: LogId> Intake<R, L, I> {
         shared: Arc<Shared<L, I>>,
         latest: Arc<Mutex<LatestAck<I>>>,
         answered: Arc<AtomicU64>,
-    ) -> Intake<R, L, I> {
+    ) -> Intake<R, L, I>
+        ensures shared { shared_of result ≡ shared }
+        ensures latest { latest_of result ≡ latest }
+        ensures answered { answered_of result ≡ answered }
+    {
         Intake {
             rt,
             owners: Owners {
@@ -109,6 +117,10 @@ where
     L: Ledger,
     I: LogId,
 {
+    ghost use Rattle.hyper_intake.specs.Services.{Takes};
+
+    ghost calls = { Takes };
+
     type Response = Response<Full<Bytes>>;
 
     type Error = Unanswered;
@@ -135,7 +147,11 @@ where
 {
     type Output = Result<Response<Full<Bytes>>, Unanswered>;
 
+    ghost use Rattle.hyper_intake.specs.Services.{MayRespond};
+
     ghost can_poll = { λ a. C.can_poll a.body };
+
+    ghost gives = { λ a. MayRespond (C.gives a.body) a.head };
 
     ghost needs = { λ a. C.needs a.body };
 
