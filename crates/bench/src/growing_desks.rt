@@ -198,7 +198,9 @@ impl<L: Ledger, I: LogId, R: Wait> Attempt for Sharer<'_, '_, L, I, R> {
 
     // How many records there are, and a thousand for each attempt under way.
     fn state(&self, _: &HostRuntime) -> u64 {
-        let locked = self.shared.lock(self.wait);
+        let Ok(locked) = self.shared.look(self.wait, &mut Pass::new()) else {
+            return 0;
+        };
         let under_way = match locked.desk().limits(self.given.name) {
             Some(limits) => u64::from(limits.in_flight),
             None => 0,

@@ -131,12 +131,7 @@ impl<L: Ledger, I: LogId> Shared<L, I> {
             .wait_while(rt, locked, |locked| locked.is_command_waiting(ticket))
     }
 
-    /// The desk, to be looked at.
-    pub fn lock<R: Wait>(&self, rt: &R) -> MutexGuard<'_, Locked<L, I>> {
-        self.locked.lock(rt)
-    }
-
-    /// The same, unless the desk has fewer settled records than the pass has seen. The pass sees them.
+    /// The desk, to be looked at, unless it has fewer settled records than the pass has seen. The pass sees them.
     pub fn look<R: Wait>(
         &self,
         rt: &R,

@@ -1,11 +1,14 @@
 //! What the threads of a relay share.
-use delivery::Shared;
+ghost use Rattle.std.specs.Sync.Mutex.{mutex_guard_value};
+ghost use Rattle.desk.specs.Desks.{IsCore};
+
+use delivery::{Locked, Pass, Shared};
 use intake_shed::LatestAck;
 use run_log::LogId;
 use std::alloc::{AllocError, Global};
 use std::sync::atomic::{AtomicBool, AtomicU64, Ordering};
 use std::sync::ledger::Ledger;
-use std::sync::{Arc, Mutex, Wait};
+use std::sync::{Arc, Mutex, MutexGuard, Wait};
 
 /// What the threads of a relay share.
 #[derive(Drop)]
@@ -56,8 +59,18 @@ impl<L: Ledger, I: LogId> Relay<L, I> {
         self.lacks_thread.load(Ordering::SeqCst)
     }
 
+    // The desk, to be looked at. A new pass has seen nothing, so the desk can't have gone back.
+    pub(crate) fn look<R: Wait>(&self, rt: &R) -> MutexGuard<'_, Locked<L, I>>
+        ensures { IsCore (mutex_guard_value result).desk }
+    {
+        let Ok(locked) = self.shared.look(rt, &mut Pass::new()) else {
+            unreachable!()
+        };
+        locked
+    }
+
     pub(crate) fn is_closing<R: Wait>(&self, rt: &R) -> bool {
-        self.shared.lock(rt).is_closing()
+        self.look(rt).is_closing()
     }
 
     // Ends the relay once so many requests are answered, 0 for never.

@@ -288,7 +288,7 @@ fn look_back<L: Ledger, I: LogId, S: Alter, R: Wait + AllocGlobal>(
     ensures clean { IfClean S.Store vault.old.conn vault.new.conn (λ old _. HasCleanDisk old) }
     ensures closed { vault.new.closed ≡ vault.old.closed }
 {
-    match audit_shown(rt.alloc(), vault, relay.shared.lock(rt).desk()) {
+    match audit_shown(rt.alloc(), vault, relay.look(rt).desk()) {
         Ok(audited) => Ok(Served::of(end, audited)),
         Err(fault) => Err(ServeFault::Audit(fault)),
     }

@@ -7,7 +7,7 @@ use crate::given::{Before, MARK, are_done, holds, name};
 use crate::seen::{Seen, TURNS, count, pause, so_far, wait_a_turn};
 use crate::stand_ins::{Spot, Watched};
 use crate::steps::{Place, Step};
-use delivery::{CommitterEnd, HaltCause, Keeper, LoggedKeeper, begin_run, committer_run};
+use delivery::{CommitterEnd, HaltCause, Keeper, LoggedKeeper, Pass, begin_run, committer_run};
 use desk::Desk;
 use drill::audit;
 use permits::PARTS;
@@ -111,11 +111,19 @@ fn ending_of(end: CommitterEnd) -> Ending {
 
 // Waits until the end was asked for.
 fn wait_for_end<L: Ledger, I: LogId, R: Wait + Clock>(place: &Place<'_, L, I, R>) {
+    let mut pass = Pass::new();
     for _ in 0..TURNS {
-        if place.shared.lock(place.rt).is_closing() {
+        if is_closing(place, &mut pass) {
             return;
         }
         wait_a_turn(place.rt);
+    }
+}
+
+fn is_closing<L: Ledger, I: LogId, R: Wait>(place: &Place<'_, L, I, R>, pass: &mut Pass) -> bool {
+    match place.shared.look(place.rt, pass) {
+        Ok(locked) => locked.is_closing(),
+        Err(_) => false,
     }
 }
 

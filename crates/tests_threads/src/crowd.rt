@@ -41,11 +41,19 @@ fn is_acknowledged<L: Ledger, I: LogId, R: Wait + Clock + Abort>(
     let (name, id) = (name_of(rt, number), id_of(rt, alloc, submitter, number));
     let body = body(rt, alloc);
     match submit_and_wait(rt, place.shared, now(rt), name, id, body, pass) {
-        Ok(ack) => {
-            ack.id() == id
-                && ack.seq() < pass.seen()
-                && place.shared.lock(rt).desk().event_page(name, &id).is_some()
-        }
+        Ok(ack) => { ack.id() == id && ack.seq() < pass.seen() && has_page(place, name, &id, pass) }
+        Err(_) => false,
+    }
+}
+
+fn has_page<L: Ledger, I: LogId, R: Wait>(
+    place: &Place<'_, L, I, R>,
+    name: Name,
+    id: &MsgId,
+    pass: &mut Pass,
+) -> bool {
+    match place.shared.look(place.rt, pass) {
+        Ok(locked) => locked.desk().event_page(name, id).is_some(),
         Err(_) => false,
     }
 }
@@ -82,6 +90,18 @@ pub(crate) fn work<L: Ledger, I: LogId, R: Wait + Clock + Abort>(
 }
 
 // Whether the event was delivered at its first attempt.
+fn was_delivered<L: Ledger, I: LogId, R: Wait>(
+    place: &Place<'_, L, I, R>,
+    name: Name,
+    id: &MsgId,
+    pass: &mut Pass,
+) -> bool {
+    match place.shared.look(place.rt, pass) {
+        Ok(locked) => is_delivered(locked.desk(), name, id),
+        Err(_) => false,
+    }
+}
+
 fn is_delivered<L: Ledger>(desk: &Desk<L>, name: Name, id: &MsgId) -> bool {
     match desk.event_page(name, id) {
         Some(row) => row.state == State::Delivered && row.attempts == 1,
@@ -94,13 +114,13 @@ pub(crate) fn are_each_delivered<L: Ledger, I: LogId, R: Wait + Clock + Abort>(
     place: &Place<'_, L, I, R>,
     submitters: u64,
 ) -> bool {
-    let rt = place.rt;
+    let (rt, mut pass) = (place.rt, Pass::new());
     for number in 0..submitters.saturating_mul(EACH) {
         let (name, id) = (
             name_of(rt, number % EACH),
             id_of(rt, place.alloc, number / EACH, number % EACH),
         );
-        if !is_delivered(place.shared.lock(rt).desk(), name, &id) {
+        if !was_delivered(place, name, &id, &mut pass) {
             return false;
         }
     }

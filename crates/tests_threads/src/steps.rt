@@ -97,7 +97,7 @@ impl<L: Ledger, I: LogId, R: Wait + Clock + Abort> Place<'_, L, I, R> {
             Step::Disable(seq) => return self.is_disabled(*seq),
             Step::Finish => self.shared.finish(self.rt),
             Step::Rest => self.rest(pass),
-            Step::Look => return pass.look(self.shared.lock(self.rt).desk()).is_ok(),
+            Step::Look => return self.shared.look(self.rt, pass).is_ok(),
             Step::Saw(seen) => return pass.seen() == *seen,
             Step::End => {
                 count(&self.seen.ended);
@@ -190,8 +190,9 @@ impl<L: Ledger, I: LogId, R: Wait + Clock + Abort> Place<'_, L, I, R> {
     }
 
     fn are_settled(&self, wanted: u64) -> bool {
+        let mut pass = Pass::new();
         for _ in 0..TURNS {
-            if self.shared.lock(self.rt).desk().settled_records() >= wanted {
+            if self.shared.look(self.rt, &mut pass).is_ok() && pass.seen() >= wanted {
                 return true;
             }
             wait_a_turn(self.rt);
@@ -200,13 +201,22 @@ impl<L: Ledger, I: LogId, R: Wait + Clock + Abort> Place<'_, L, I, R> {
     }
 
     fn are_delivered(&self, wanted: u64) -> bool {
+        let mut pass = Pass::new();
         for _ in 0..5 * TURNS {
-            if self.shared.lock(self.rt).desk().totals().delivered >= wanted {
+            if self.delivered(&mut pass) >= wanted {
                 return true;
             }
             wait_a_turn(self.rt);
         }
         false
+    }
+
+    // How many events are delivered.
+    fn delivered(&self, pass: &mut Pass) -> u64 {
+        match self.shared.look(self.rt, pass) {
+            Ok(locked) => locked.desk().totals().delivered,
+            Err(_) => 0,
+        }
     }
 
     /// A round at this moment, of a subscriber that answers in this way.
