@@ -3,13 +3,14 @@ use crate::relay::Relay;
 use hyper::rt::TokioTimer;
 use hyper::server::conn::http1;
 use hyper_intake::Intake;
+use intake_shed::LatestAck;
 use run_log::LogId;
 use std::alloc::AllocGlobal;
 use std::hash::RandomState;
 use std::net::{Net, SocketAddr, TcpListener, TcpStream};
 use std::random::RandomSource;
 use std::sync::ledger::Ledger;
-use std::sync::{Arc, Wait};
+use std::sync::{Arc, Mutex, Wait};
 use std::time::{Clock, Duration};
 use std::{io, thread};
 use tokio::runtime::LocalRuntime;
@@ -27,6 +28,7 @@ pub(crate) fn take_requests<R, L, I>(
     rt: &R,
     listener: &TcpListener,
     relay: &Relay<L, I>,
+    latest: &Arc<Mutex<LatestAck<I>>>,
     requests: u64,
 ) -> io::Result<()>
 where
@@ -45,7 +47,7 @@ where
                 if relay.is_closing(rt) {
                     return Ok(());
                 }
-                let _ended = serve_one(rt, &mut runtime, &http, relay, socket);
+                let _ended = serve_one(rt, &mut runtime, &http, relay, latest, socket);
                 relay.end_after(rt, requests);
             }
             Err(_) => thread::sleep(rt, Duration::from_millis(PAUSE_MILLIS)),
@@ -73,6 +75,7 @@ fn serve_one<R, L, I>(
     runtime: &mut LocalRuntime,
     http: &http1::Builder<TokioTimer<R>>,
     relay: &Relay<L, I>,
+    latest: &Arc<Mutex<LatestAck<I>>>,
     socket: TcpStream,
 ) -> io::Result<()>
 where
@@ -82,7 +85,7 @@ where
 {
     let socket = tokio::net::TcpStream::from_std(socket, runtime.handle().reactor())?;
     let shared = Arc::try_clone(&relay.shared)?;
-    let latest = Arc::try_clone(&relay.latest)?;
+    let latest = Arc::try_clone(latest)?;
     let answered = Arc::try_clone(&relay.answered)?;
     let connection = http.serve_connection(socket, Intake::new(*rt, shared, latest, answered));
     let limit = Duration::from_secs(REQUEST_SECONDS);

@@ -14,8 +14,8 @@ use std::sync::{Arc, Mutex, MutexGuard, Wait};
 #[derive(Drop)]
 pub(crate) struct Relay<L: Ledger, I: LogId> {
     pub(crate) shared: Arc<Shared<L, I>>,
-    /// The acknowledged event with the greatest number.
-    pub(crate) latest: Arc<Mutex<LatestAck<I>>>,
+    /// For each thread that takes requests, its acknowledgement with the greatest number.
+    pub(crate) latest: Vec<Arc<Mutex<LatestAck<I>>>>,
     /// How many requests were answered.
     pub(crate) answered: Arc<AtomicU64>,
     lacks_thread: AtomicBool,
@@ -24,10 +24,19 @@ pub(crate) struct Relay<L: Ledger, I: LogId> {
 }
 
 impl<L: Ledger, I: LogId> Relay<L, I> {
-    pub(crate) fn new(alloc: Global, shared: Shared<L, I>) -> Result<Relay<L, I>, AllocError> {
+    // A relay of which so many threads will take requests.
+    pub(crate) fn new(
+        alloc: Global,
+        shared: Shared<L, I>,
+        intake: u64,
+    ) -> Result<Relay<L, I>, AllocError> {
+        let mut latest = Vec::new(alloc);
+        for _ in 0..intake {
+            latest.push(Arc::new(alloc, Mutex::new(LatestAck::new()))?)?;
+        }
         Ok(Relay {
             shared: Arc::new(alloc, shared)?,
-            latest: Arc::new(alloc, Mutex::new(LatestAck::new()))?,
+            latest,
             answered: Arc::new(alloc, AtomicU64::new(0))?,
             lacks_thread: AtomicBool::new(false),
             running: AtomicU64::new(0),

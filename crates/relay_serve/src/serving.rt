@@ -21,7 +21,7 @@ use crate::threads::run_threads;
 use delivery::{CommitterEnd, Ended, Keeper, LoggedKeeper, begin_run};
 use desk::Desk;
 use drill::audit_shown;
-use intake_shed::Acknowledged;
+use intake_shed::{Acknowledged, LatestAck};
 use permits::PARTS;
 use recovery::open_path;
 use relay_commands::ServeWords;
@@ -211,7 +211,7 @@ where
     let (shared, logged) = begin_run::<L, I, Placed<Vault<S>, P>>(
         new_log, new_staged, desk, keeper,
     );
-    let relay = match Relay::new(rt.alloc(), shared) {
+    let relay = match Relay::new(rt.alloc(), shared, settings.intake) {
         Ok(relay) => relay,
         Err(refused) => {
             let keeper = logged.into_keeper();
@@ -243,7 +243,13 @@ where
     ensures keeper { logged.new.keeper ≡ logged.old.keeper }
     ensures writer { logged.new.writer ≡ logged.old.writer }
 {
-    let ack = relay.latest.lock(rt).take()?;
+    let mut latest = LatestAck::new();
+    for kept in &relay.latest {
+        if let Some(ack) = kept.lock(rt).take() {
+            latest.keep(ack);
+        }
+    }
+    let ack = latest.take()?;
     Some(ack.compare(relay.shared.log(), logged))
 }
 

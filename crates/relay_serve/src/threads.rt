@@ -7,13 +7,14 @@ use crate::relay::Relay;
 use crate::settings::Settings;
 use crate::work::work;
 use delivery::{CommitterEnd, Ended, Keeper, LoggedKeeper, committer_run};
+use intake_shed::LatestAck;
 use run_log::LogId;
 use std::alloc::AllocGlobal;
 use std::io::Eprint;
 use std::net::{Net, SocketAddr, TcpListener, TcpStream};
 use std::random::RandomSource;
-use std::sync::Wait;
 use std::sync::ledger::Ledger;
+use std::sync::{Arc, Mutex, Wait};
 use std::thread;
 use std::thread::Threads;
 use std::time::Clock;
@@ -100,9 +101,15 @@ where
             ensures clean { K.is_clean result.0.keeper → K.is_clean logged.keeper }
             ensures closed { IsOfKeeper result.1 → IsTrue (K.closed result.0.keeper) }
         {
-            for _ in 0..settings.intake {
+            for latest in &relay.latest {
                 relay.start();
-                let started = scope.spawn(move || take_in(rt, listener, relay, settings.requests));
+                let started = scope.spawn(move || take_in(
+                    rt,
+                    listener,
+                    relay,
+                    latest,
+                    settings.requests,
+                ));
                 if started.is_err() {
                     relay.stop();
                     relay.lack_thread(rt);
@@ -123,13 +130,19 @@ where
 }
 
 // A thread of the intake.
-fn take_in<L, I, R>(rt: &R, listener: &TcpListener, relay: &Relay<L, I>, requests: u64)
+fn take_in<L, I, R>(
+    rt: &R,
+    listener: &TcpListener,
+    relay: &Relay<L, I>,
+    latest: &Arc<Mutex<LatestAck<I>>>,
+    requests: u64,
+)
 where
     L: Ledger,
     I: LogId,
     R: Wait + Clock + Net + RandomSource + AllocGlobal + Copy,
 {
-    if take_requests(rt, listener, relay, requests).is_err() {
+    if take_requests(rt, listener, relay, latest, requests).is_err() {
         relay.lack_thread(rt);
     }
     relay.stop();
