@@ -2,10 +2,12 @@
 imports this ends what it started, also where it is ended by SIGTERM."""
 import atexit
 import base64
+import contextlib
 import hashlib
 import hmac
 import json
 import os
+import pathlib
 import shutil
 import signal
 import socket
@@ -15,6 +17,7 @@ import threading
 import time
 
 SECRET = "whsec_MDEyMzQ1Njc4OTAxMjM0NTY3ODkwMTIz"
+ROOT = pathlib.Path(__file__).resolve().parent.parent
 STARTED = []
 
 
@@ -45,6 +48,19 @@ def needs(program, package):
     """Ends the script where this machine lacks a program, and names Debian's package of it."""
     if not shutil.which(program):
         sys.exit(f"{os.path.basename(sys.argv[0])}: there is no {program} (apt-get install {package})")
+
+
+def has(*programs):
+    """Whether this machine has these programs; what it lacks is printed."""
+    missing = [it for it in programs if not shutil.which(it)]
+    if missing:
+        print(f"not on this machine, so not tried: {', '.join(missing)}")
+    return not missing
+
+
+def ran(*words, **options):
+    done = subprocess.run(list(map(str, words)), capture_output=True, text=True, timeout=120, **options)
+    return done.returncode, done.stdout, done.stderr
 
 
 class Relay:
@@ -83,6 +99,15 @@ class Relay:
             return self.process.wait(seconds)
         except subprocess.TimeoutExpired:
             return None
+
+
+@contextlib.contextmanager
+def relay_of(*words, **options):
+    relay = Relay(*words, **options)
+    try:
+        yield relay
+    finally:
+        relay.kill()
 
 
 def connect(address, seconds=40):
@@ -163,7 +188,8 @@ class Post:
         self.body = body
 
     def header(self, name):
-        return next(value for it, value in self.headers if it == name)
+        """The value of a header, whose name may have been written in other letters on its way."""
+        return next(value for it, value in self.headers if it.lower() == name)
 
     def is_signed_by(self, *secrets):
         """Whether the signature is that of Standard Webhooks 1.0.0: for each secret, the newest first."""
@@ -196,7 +222,7 @@ def read_post(sock):
 
 class Subscriber:
     """Listens at a port, of its own where none is said, and answers each post by what `reply` says of it: a status, or bytes as they are
-    sent."""
+    sent, or several of them, one after another."""
 
     def __init__(self, reply=lambda post: 200, port=0, host="127.0.0.1"):
         self.reply = reply
@@ -230,8 +256,8 @@ class Subscriber:
             told = None
         self.count(-1)
         try:
-            if told:
-                sock.sendall(told)
+            for piece in [told] if isinstance(told, bytes) else told or []:
+                sock.sendall(piece)
         except OSError:
             pass
         finally:
@@ -247,6 +273,42 @@ class Subscriber:
 
     def wait_for(self, count, seconds=30):
         return wait_until(lambda: len(self.posts) >= count, seconds)
+
+
+@contextlib.contextmanager
+def nginx_of(folder, name, *sections):
+    """An nginx of these parts of its `http` block."""
+    place = pathlib.Path(folder, name)
+    place.mkdir()
+    kept = "".join(f"{it}_temp_path {place}/{it}; " for it in ("client_body", "proxy", "fastcgi", "uwsgi", "scgi"))
+    conf = f"pid {place}/pid; error_log {place}/log; events {{ worker_connections 512; }}\nhttp {{ access_log off; keepalive_timeout 0; {kept}\n" + "\n".join(sections) + "\n}\n"
+    (place / "nginx.conf").write_text(conf)
+    words = ["nginx", "-c", str(place / "nginx.conf")]
+    server = subprocess.Popen([*words, "-g", "daemon off;"], stdout=subprocess.DEVNULL, stderr=subprocess.DEVNULL)
+    STARTED.append(server)
+    try:
+        if not wait_until((place / "pid").exists, 10):
+            raise RuntimeError(ran(*words, "-t")[2])
+        time.sleep(0.5)
+        yield lambda: ran(*words, "-s", "reload") and time.sleep(1)
+    finally:
+        server.terminate()
+        server.wait()
+
+
+def free_port():
+    with socket.socket() as listener:
+        listener.bind(("127.0.0.1", 0))
+        return listener.getsockname()[1]
+
+
+def changed(name, changes):
+    """A file of packaging/, with these texts changed, each of which stands in it."""
+    text = (ROOT / "packaging" / name).read_text()
+    for old, new in changes.items():
+        assert old in text, f"{name} has no {old}"
+        text = text.replace(old, new)
+    return text
 
 
 def wait_until(holds, seconds=30):
