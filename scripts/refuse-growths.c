@@ -1,7 +1,8 @@
 // A library to be loaded before the C library. It refuses the allocation whose number, from 1, stands in REFUSE, or as many from there
 // on as stands in MANY, and keeps how many were asked for in the file that ASKED names. Where STEP is set, it counts from the read of
 // standard input with that number on, until the next one, and refuses among these; so a script that writes a line at a time refuses those
-// of one call. The file has, after the number of all, that of each step: those before the first read are step 0.
+// of one call. The file has, after the number of all, that of each step: those before the first read are step 0. Where MAIN is set, it
+// counts and refuses the allocations of the main thread alone.
 #define _GNU_SOURCE
 #include <dlfcn.h>
 #include <errno.h>
@@ -16,6 +17,7 @@ static unsigned long number;
 static unsigned long refuse;
 static unsigned long many = 1;
 static int by_step;
+static int only_main;
 static unsigned long step;
 static unsigned long wanted;
 static unsigned long *asked;
@@ -37,6 +39,7 @@ __attribute__((constructor)) static void start(void) {
     text = getenv("MANY");
     if (text != NULL)
         many = strtoul(text, NULL, 10);
+    only_main = getenv("MAIN") != NULL;
     text = getenv("STEP");
     by_step = text != NULL;
     if (by_step)
@@ -45,7 +48,7 @@ __attribute__((constructor)) static void start(void) {
 
 // Counts an allocation: whether it is to be refused. Those before `start` aren't the program's.
 static int is_refused(void) {
-    if (asked == NULL)
+    if (asked == NULL || (only_main && gettid() != getpid()))
         return 0;
     unsigned long this = __atomic_add_fetch(&number, 1, __ATOMIC_RELAXED);
     *asked = this;

@@ -66,9 +66,9 @@ def ran(*words, **options):
 class Relay:
     """A process of `relayd serve` on a file, at a port of its own."""
 
-    def __init__(self, relayd, file, *options, address="127.0.0.1:0"):
+    def __init__(self, relayd, file, *options, address="127.0.0.1:0", env=None):
         words = [relayd, "serve", file, address, *map(str, options)]
-        self.process = subprocess.Popen(words, stdout=subprocess.PIPE, stderr=subprocess.PIPE, text=True)
+        self.process = subprocess.Popen(words, stdout=subprocess.PIPE, stderr=subprocess.PIPE, text=True, env=env)
         STARTED.append(self.process)
         self.told = []
         self.teller = threading.Thread(target=self.listen, daemon=True)
