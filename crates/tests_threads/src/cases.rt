@@ -37,6 +37,8 @@ pub(crate) enum Committer {
     Held,
     /// The end is asked for before it begins, and so many commits are refused for want of memory.
     Lacking(u32),
+    /// It runs from the first on, and so many commits are refused for lack of memory before each that isn't.
+    LackingEach(u32),
     /// What its vault has open doesn't stand at its place any more.
     TakenAway,
     /// It begins a while later, and each of its commits is refused for want of memory.
@@ -49,8 +51,16 @@ impl Committer {
     // How many of its commits are refused for want of memory.
     fn refusals(&self) -> u32 {
         match self {
-            Committer::Lacking(refusals) => *refusals,
+            Committer::Lacking(refusals) | Committer::LackingEach(refusals) => *refusals,
             Committer::Refused | Committer::RefusedAtEnd => u32::MAX,
+            _ => 0,
+        }
+    }
+
+    // How many are refused again after each commit.
+    fn refusals_again(&self) -> u32 {
+        match self {
+            Committer::LackingEach(refusals) => *refusals,
             _ => 0,
         }
     }
@@ -87,6 +97,8 @@ pub(crate) struct Found {
     /// How many commits there were, and during how many a record was staged.
     pub(crate) commits: u64,
     pub(crate) meetings: u64,
+    /// How many posts there were.
+    pub(crate) posts: u64,
     /// How many rests were short.
     pub(crate) short: u64,
 }
@@ -138,7 +150,7 @@ fn run_committer<L: Ledger, I: LogId, K: Keeper + Drop, R: Wait + Clock>(
         Committer::Late | Committer::Refused => pause(place.rt),
         Committer::Lacking(_) => place.shared.finish(place.rt),
         Committer::RefusedAtEnd => wait_for_end(place),
-        Committer::Runs | Committer::Held | Committer::TakenAway => {}
+        Committer::Runs | Committer::LackingEach(_) | Committer::Held | Committer::TakenAway => {}
     }
     let (logged, end) = committer_run(place.rt, place.shared, logged);
     count(&place.seen.ended);
@@ -198,6 +210,7 @@ fn find<L: Ledger, S: Alter>(
         are_back: are_back(rt, desk),
         commits: so_far(&seen.commits),
         meetings: so_far(&seen.meetings),
+        posts: so_far(&seen.posts),
         short: so_far(&seen.short),
     }
 }
@@ -213,6 +226,7 @@ const NOTHING: Found = Found {
     are_back: false,
     commits: 0,
     meetings: 0,
+    posts: 0,
     short: 0,
 };
 
@@ -263,6 +277,7 @@ fn run<L: Ledger + Send + Sync, S: Alter + Drop, R: Threads + Wait + Clock + Abo
     let watched = Watched {
         keeper: Placed::new(vault, Spot { is_gone }),
         refusals: course.committer.refusals(),
+        again: course.committer.refusals_again(),
         holds_first: matches!(course.committer, Committer::Held),
         seen: seen.clone().expect(rt, "a count of owners"),
         rt: *rt,

@@ -108,6 +108,29 @@ fn the_ninth_refusal_for_memory_halts(rt: HostRuntime) {
     );
 }
 
+static REFUSALS_IN_TWO_ROWS: Course = Course {
+    before: &[Before::Put(b"a"), Before::Turn],
+    committer: Committer::LackingEach(8),
+    threads: &[&[
+        Step::Submit(b"msg_1", 1),
+        Step::Settled(2),
+        Step::Submit(b"msg_2", 2),
+        Step::Settled(3),
+        Step::Finish,
+        Step::Ended(1),
+    ]],
+};
+
+#[test]
+fn a_commit_ends_a_row_of_refusals(rt: HostRuntime) {
+    check(
+        &rt,
+        rt.alloc(),
+        &REFUSALS_IN_TWO_ROWS,
+        &End(Ending::Finished, 3, 3, false),
+    );
+}
+
 /// The store was taken away from its place: nothing is committed to it any more, and who waits is told so.
 static TAKEN_AWAY: Course = Course {
     before: &[
@@ -288,6 +311,8 @@ static SERVED: End = End(Ending::Finished, RECORDS, RECORDS, false);
 fn a_crowd_is_served(rt: HostRuntime) -> Result<(), Fail> {
     let found = in_files(&rt, rt.alloc(), u64::MAX, &CROWD);
     holds(&rt, is_ended(&found, &SERVED), "how it ends");
+    let each_once = found.posts == SUBMITTERS * EACH;
+    holds(&rt, each_once, "each event is posted once");
     let (events, commits) = (SUBMITTERS * EACH, found.commits);
     println!(rt; "{events} events and as many outcomes in {commits} commits")?;
     Ok(())

@@ -12,7 +12,9 @@ pub(crate) const TURNS: u64 = 60_000;
 pub(crate) struct Seen {
     /// Which case it is.
     pub(crate) case: usize,
-    /// Posts that have begun.
+    /// Posts of the subscriber.
+    pub(crate) posts: AtomicU64,
+    /// Posts that have begun and wait for others.
     pub(crate) begun: AtomicU64,
     /// Threads that have come to an end, or requests that were answered.
     pub(crate) ended: AtomicU64,
@@ -30,6 +32,7 @@ impl Seen {
     pub(crate) fn new(case: usize) -> Seen {
         Seen {
             case,
+            posts: AtomicU64::new(0),
             begun: AtomicU64::new(0),
             ended: AtomicU64::new(0),
             staged: AtomicU64::new(0),

@@ -12,12 +12,13 @@ use std::sync::ledger::Ledger;
 use std::sync::{Arc, Wait};
 use std::time::Clock as SystemClock;
 
-/// Stands before another keeper: refuses so many commits for want of memory, then commits and counts. It may hold its first commit
-/// until another record is staged meanwhile.
+/// Stands before another keeper: refuses so many commits for want of memory, then commits and counts. After a commit it may refuse as many
+/// again. It may hold its first commit until another record is staged meanwhile.
 #[derive(Drop)]
 pub(crate) struct Watched<K: Keeper + Drop, R> {
     pub(crate) keeper: K,
     pub(crate) refusals: u32,
+    pub(crate) again: u32,
     pub(crate) holds_first: bool,
     pub(crate) seen: Arc<Seen>,
     pub(crate) rt: R,
@@ -52,6 +53,7 @@ impl<K: Keeper + Drop, R: SystemClock> Keeper for Watched<K, R> {
             return Err(CommitEnd::Unchanged(batch, Unchanged::OutOfMemory));
         }
         self.begin();
+        self.refusals = self.again;
         self.keeper.commit(batch)
     }
 
@@ -90,6 +92,8 @@ impl Clock for Standing {
 pub(crate) enum Way {
     /// With this status, after a tenth of a second by its own word.
     Answer(u16),
+    /// It isn't reached.
+    Away,
     /// With 200 once two posts have begun, and else it isn't reached.
     Meet,
     /// With 200 once the end was asked for meanwhile and the committer has ended, and else it isn't reached.
@@ -139,8 +143,10 @@ impl<L: Ledger, I: LogId, R: Wait + SystemClock> Poster for Subscriber<'_, L, I,
     ghost may_answer = { λ _ _ _. ⊤ };
 
     fn post(&self, _: &Outgoing) -> PostResult {
+        count(&self.seen.posts);
         match self.way {
             Way::Answer(number) => answered(*number),
+            Way::Away => PostResult::Unreached,
             Way::Meet => self.meet(),
             Way::End => self.end(),
         }

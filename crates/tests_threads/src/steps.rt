@@ -19,8 +19,10 @@ use std::time::{Clock, Duration, Instant};
 pub(crate) enum Turn {
     /// It is posted, its spend is a success, and nothing of the endpoint is under way then.
     Posted,
-    /// It is posted, and its spend is a success.
+    /// It is posted, its spend is a success, and one other of the endpoint may be under way then.
     Met,
+    /// It is posted, its spend is ignored, and nothing of the endpoint is under way then.
+    Ignored,
     Idle,
     Closing,
 }
@@ -234,8 +236,9 @@ impl<L: Ledger, I: LogId, R: Wait + Clock + Abort> Place<'_, L, I, R> {
     fn is_round(&self, seconds: u64, way: &Way, turn: &Turn, pass: &mut Pass) -> bool {
         let round = self.round(seconds, way, pass);
         match turn {
-            Turn::Posted => is_success(&round, 0),
-            Turn::Met => is_success(&round, 1),
+            Turn::Posted => is_spent(&round, Spend::Success, 0),
+            Turn::Met => is_spent(&round, Spend::Success, 1),
+            Turn::Ignored => is_spent(&round, Spend::Ignored, 0),
             Turn::Idle => matches!(round, Round::Idle),
             Turn::Closing => matches!(round, Round::Closing),
         }
@@ -251,10 +254,10 @@ fn wanted_of<L: Ledger>(desk: &Desk<L>) -> Told {
     }
 }
 
-// Whether it was posted as a success, and so many at most are under way then.
-fn is_success(round: &Round, most: u32) -> bool {
+// Whether it was posted and spent so, and so many at most are under way then.
+fn is_spent(round: &Round, spend: Spend, most: u32) -> bool {
     match round {
-        Round::Posted { spent, .. } => spent.spend() == Spend::Success && spent.in_flight() <= most,
+        Round::Posted { spent, .. } => spent.spend() == spend && spent.in_flight() <= most,
         _ => false,
     }
 }

@@ -19,7 +19,7 @@ const ENDPOINT_AND_EVENT: &[Before] = &[Before::Put(b"a"), Before::Submit(b"msg_
 /// An event waits to be settled.
 const WAITING: &[Before] = &[Before::Put(b"a"), Before::Turn, Before::Submit(b"msg_1")];
 
-static CASES: [Case; 10] = [
+static CASES: [Case; 11] = [
     // an event wakes the committer
     Case(
         Course {
@@ -69,6 +69,25 @@ static CASES: [Case; 10] = [
             ]],
         },
         End(Ending::Finished, 3, 3, false),
+        0,
+    ),
+    // so does that of a post whose subscriber isn't reached, and the event falls due again
+    Case(
+        Course {
+            before: ENDPOINT_AND_EVENT,
+            committer: Committer::Runs,
+            threads: &[&[
+                Step::Pause,
+                Step::Round(1000, Way::Away, Turn::Ignored),
+                Step::Settled(3),
+                Step::Round(1004, Way::Answer(200), Turn::Idle),
+                Step::Round(1005, Way::Answer(200), Turn::Posted),
+                Step::Settled(4),
+                Step::Finish,
+                Step::Ended(1),
+            ]],
+        },
+        End(Ending::Finished, 4, 4, false),
         0,
     ),
     // the end wakes it
