@@ -5,15 +5,47 @@ use group_commit::WrongTurn;
 use relay_types::{Body, MaxLimit, Moment, MsgId, Name, Secret, Secrets, Target};
 use spool::{Batch, CommitEnd, Receipt, Vault};
 use sqlite::Alter;
-use std::alloc::{AllocError, Global};
+use std::alloc::{AllocError, AllocGlobal, Global};
+use std::net::{Net, TcpListener, TcpStream};
 use std::process::Abort;
-use std::sync::Arc;
+use std::random::RandomSource;
 use std::sync::ledger::Ledger;
+use std::sync::{Arc, Wait};
 use std::test::Fail;
+use std::thread::Threads;
+use std::time::Clock;
 
 pub(crate) const MARK: u64 = 7;
 
 pub(crate) const SECRET: &str = "whsec_MDEyMzQ1Njc4OTAxMjM0NTY3ODkwMTIz";
+
+/// What runs relays, subscribers and posters.
+pub(crate) trait Host: Wait
+    + Threads
+    + Clock
+    + Net<Listener = TcpListener, Stream = TcpStream>
+    + RandomSource
+    + AllocGlobal
+    + Abort
+    + Copy
+    + Send
+    + Sync
+    + 'static {}
+
+impl<R> Host for R
+where
+    R: Wait
+        + Threads
+        + Clock
+        + Net<Listener = TcpListener, Stream = TcpStream>
+        + RandomSource
+        + AllocGlobal
+        + Abort
+        + Copy
+        + Send
+        + Sync
+        + 'static,
+{}
 
 pub(crate) fn holds(rt: &impl Abort, is: bool, what: &str) {
     assert!(rt; is, "{what}");
@@ -23,20 +55,37 @@ pub(crate) fn moment() -> Result<Moment, Fail> {
     Ok(Moment::of(1000)?)
 }
 
-// Puts the endpoint at this URL, and takes an event for it.
-fn stage<L: Ledger>(desk: &mut Desk<L>, alloc: Global, url: &str) -> Result<(), Fail> {
-    let put = Command::PutEndpoint {
-        name: Name::read(b"a")?,
+/// The name of the endpoint.
+pub(crate) fn name() -> Result<Name, Fail> {
+    Ok(Name::read(b"a")?)
+}
+
+/// The id of the event.
+pub(crate) fn id() -> Result<MsgId, Fail> {
+    Ok(MsgId::read(b"msg_1")?)
+}
+
+/// The body of the event.
+pub(crate) fn body(alloc: Global) -> Result<Body, Fail> {
+    let bytes = Vec::from_slice(alloc, b"{}")?;
+    Ok(Body::of(Arc::new(alloc, bytes).map_err(AllocError::from)?)?)
+}
+
+/// Puts the endpoint at this URL.
+pub(crate) fn put(alloc: Global, url: &str) -> Result<Command, Fail> {
+    Ok(Command::PutEndpoint {
+        name: name()?,
         target: Target::read(alloc, url.as_bytes())?,
         max: MaxLimit::of(100)?,
         secrets: Secrets::of(&[Secret::read(SECRET.as_bytes())?])?,
-    };
-    let bytes = Vec::from_slice(alloc, b"{}")?;
-    let body = Body::of(Arc::new(alloc, bytes).map_err(AllocError::from)?)?;
-    let id = MsgId::read(b"msg_1")?;
+    })
+}
+
+// Puts the endpoint at this URL, and takes an event for it.
+fn stage<L: Ledger>(desk: &mut Desk<L>, alloc: Global, url: &str) -> Result<(), Fail> {
     match (
-        desk.command(put),
-        desk.submit(moment()?, Name::read(b"a")?, id, body),
+        desk.command(put(alloc, url)?),
+        desk.submit(moment()?, name()?, id()?, body(alloc)?),
     ) {
         (Ok(_), Ok(_)) => Ok(()),
         _ => Err(Fail::from("the endpoint or its event was refused")),

@@ -2,7 +2,13 @@
 #![tactic(auto)]
 
 #[cfg(test)]
+mod audits;
+#[cfg(test)]
+mod confirmed;
+#[cfg(test)]
 mod given;
+#[cfg(test)]
+mod hosts;
 #[cfg(test)]
 mod names;
 #[cfg(test)]

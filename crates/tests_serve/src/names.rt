@@ -1,23 +1,18 @@
 //! Hosts by their names: look-ups that are slow or refused, and a host with two addresses.
-ghost use Rattle.std.specs.Prelude.{◌≡◌};
-ghost use Rattle.permits.specs.declared.pool.TheConstants.{PARTS};
 
-use crate::given::holds;
-use crate::outgoing::request_to;
+use crate::given::{Host, holds};
+use crate::outgoing::subscriber;
 use crate::wires::take_post;
 use delivery::{Outgoing, Poster};
 use hyper_poster::HyperPoster;
-use permits::PARTS;
 use retry_table::PostResult;
-use sqlite::{Alter, Connection, MemStore};
 use std::alloc::{Alloc, AllocError, AllocGlobal, Global};
-use std::io::{self, Write};
-use std::marker::Brand;
+use std::fs::{self, Files};
+use std::io::{self, ErrorKind, Write};
 use std::net::{Ipv4Addr, Net, SocketAddr, TcpListener, TcpStream};
 use std::process::Abort;
 use std::random::RandomSource;
 use std::sync::Wait;
-use std::sync::ledger::{Blank, Ledger};
 use std::test::Fail;
 use std::thread;
 use std::thread::Threads;
@@ -172,17 +167,11 @@ fn is_wanted(post: PostResult, wanted: Wanted) -> bool {
     }
 }
 
-fn poster<R>(rt: R, look_up: LookUp, micros: u64) -> Result<HyperPoster<Resolving<R>>, AllocError>
-where
-    R: Wait
-        + Threads
-        + Clock
-        + Net<Listener = TcpListener, Stream = TcpStream>
-        + AllocGlobal
-        + Copy
-        + Send
-        + 'static,
-{
+fn poster<R: Host>(
+    rt: R,
+    look_up: LookUp,
+    micros: u64,
+) -> Result<HyperPoster<Resolving<R>>, AllocError> {
     HyperPoster::new(Resolving { rt, look_up }, Duration::from_micros(micros))
 }
 
@@ -192,19 +181,7 @@ fn answer(alloc: Global, listener: &TcpListener) -> io::Result<()> {
     socket.write_all(b"HTTP/1.1 200 OK\r\n\r\n")
 }
 
-fn post_all<R>(rt: &R, request: &Outgoing) -> Result<(), AllocError>
-where
-    R: Wait
-        + Threads
-        + Clock
-        + Net<Listener = TcpListener, Stream = TcpStream>
-        + RandomSource
-        + AllocGlobal
-        + Abort
-        + Copy
-        + Send
-        + 'static,
-{
+fn post_all<R: Host>(rt: &R, request: &Outgoing) -> Result<(), AllocError> {
     for case in &CASES {
         let result = poster(*rt, case.look_up, SECOND)?.post(request);
         holds(rt, is_wanted(result, case.wanted), case.name);
@@ -234,19 +211,7 @@ fn crowd<R: Abort, P: Poster>(rt: &R, poster: &P, request: &Outgoing) {
 }
 
 // Once they have ended, as many more may be.
-fn two_crowds<R>(rt: &R, request: &Outgoing) -> Result<(), AllocError>
-where
-    R: Wait
-        + Threads
-        + Clock
-        + Net<Listener = TcpListener, Stream = TcpStream>
-        + RandomSource
-        + AllocGlobal
-        + Abort
-        + Copy
-        + Send
-        + 'static,
-{
+fn two_crowds<R: Host>(rt: &R, request: &Outgoing) -> Result<(), AllocError> {
     let poster = poster(*rt, LookUp::Silent, MOMENT)?;
     crowd(rt, &poster, request);
     thread::sleep(rt, Duration::from_millis(4500));
@@ -254,20 +219,12 @@ where
     Ok(())
 }
 
-fn meet<R>(rt: &R, alloc: Global, listener: TcpListener, request: &Outgoing) -> io::Result<()>
-where
-    R: Wait
-        + Threads
-        + Clock
-        + Net<Listener = TcpListener, Stream = TcpStream>
-        + RandomSource
-        + AllocGlobal
-        + Abort
-        + Copy
-        + Send
-        + Sync
-        + 'static,
-{
+fn meet<R: Host>(
+    rt: &R,
+    alloc: Global,
+    listener: TcpListener,
+    request: &Outgoing,
+) -> io::Result<()> {
     let (answered, posted) = thread::join(
         rt,
         move || answer(alloc, &listener),
@@ -278,39 +235,52 @@ where
     Ok(two_crowds(rt, request)?)
 }
 
-fn over<L, S, R>(
-    rt: &R,
-    alloc: Global,
-    blank: Blank,
-    conn: Connection<S>,
-    listener: TcpListener,
-) -> Result<(), Fail>
-where
-    L: Ledger,
-    S: Alter + Drop,
-    R: Wait
-        + Threads
-        + Clock
-        + Net<Listener = TcpListener, Stream = TcpStream>
-        + RandomSource
-        + AllocGlobal
-        + Abort
-        + Copy
-        + Send
-        + Sync
-        + 'static,
-    requires name { blank.name ≡ L.name }
-    requires parts { blank.parts ≡ L.parts }
-    requires enough { blank.parts ≡ PARTS }
-{
-    let port = listener.local_addr()?.port();
-    let request = request_to::<L, S, R>(rt, alloc, blank, conn, "subscriber.test", port)?;
-    Ok(meet(rt, alloc, listener, &request)?)
+#[test]
+fn a_look_up_takes_no_longer_than_a_post(rt: HostRuntime) -> Result<(), Fail> {
+    let (listener, request) = subscriber(&rt, "subscriber.test")?;
+    Ok(meet(&rt, rt.alloc(), listener, &request)?)
+}
+
+/// So many posters are made, each of which is dropped at once.
+const POSTERS: u64 = 200;
+
+fn make_and_drop<R: Host>(rt: &R) -> Result<(), AllocError> {
+    for _ in 0..POSTERS {
+        let _poster = poster(*rt, LookUp::Two, SECOND)?;
+    }
+    Ok(())
+}
+
+// How many threads the process has (proc(5)).
+fn threads<R: Files + AllocGlobal>(rt: &R) -> io::Result<u64> {
+    let status = fs::read_to_string(rt, "/proc/self/status")?;
+    for line in status.as_str().lines() {
+        if let Some(count) = line.strip_prefix("Threads:") {
+            return match count.trim().parse::<u64>() {
+                Ok(count) => Ok(count),
+                Err(_) => Err(ErrorKind::InvalidData.into()),
+            };
+        }
+    }
+    Err(ErrorKind::InvalidData.into())
+}
+
+// Whether the process has fewer threads than so many, after ten seconds at most.
+fn are_fewer<R: Files + AllocGlobal + Clock>(rt: &R, most: u64) -> io::Result<bool> {
+    for _ in 0..1000 {
+        if threads(rt)? < most {
+            return Ok(true);
+        }
+        thread::sleep(rt, Duration::from_millis(10));
+    }
+    Ok(false)
 }
 
 #[test]
-fn a_look_up_takes_no_longer_than_a_post(rt: HostRuntime) -> Result<(), Fail> {
-    let listener = TcpListener::bind(&rt, (Ipv4Addr::LOCALHOST, 0))?;
-    let conn = Connection::open_in_memory(rt.alloc())?;
-    over::<Brand, MemStore, HostRuntime>(&rt, rt.alloc(), Blank::new(PARTS), conn, listener)
+fn the_thread_of_a_poster_ends_with_it(rt: HostRuntime) -> Result<(), Fail> {
+    let before = threads(&rt)?;
+    make_and_drop(&rt)?;
+    let most = before.saturating_add(POSTERS / 2);
+    holds(&rt, are_fewer(&rt, most)?, "the threads end");
+    Ok(())
 }

@@ -1,22 +1,33 @@
-//! Files that can't be looked at.
+//! Files that can't be looked at, or are taken away.
 
 use crate::given::holds;
-use relay_host::{FilePlace, Place, Sight};
+use relay_host::{FilePlace, Place, Sight, fresh_id};
 use std::alloc::{Allocator, Global};
-use std::fs::{File, Files, Metadata, OpenOptions};
+use std::fs::{self, File, Files, Metadata, OpenOptions};
 use std::io::{self, Empty, ErrorKind};
 use std::process::Abort;
-use std::sync::atomic::{AtomicU64, Ordering};
+use std::str;
+use std::sync::atomic::{AtomicBool, AtomicU64, Ordering};
 use std::test::Fail;
 use std::time::{Clock, Duration};
 
-/// A file that stands at its path without a log, once so many looks at it were refused with this number (errno of Linux), and a clock by which
+/// A file that is at its path, maybe with a log, once so many looks at it were refused with this number (errno of Linux), and a clock by which
 /// nobody waits.
 #[derive(Drop)]
 struct Hidden {
     number: i32,
     refusals: AtomicU64,
     slept: AtomicU64,
+    has_log: AtomicBool,
+}
+
+fn hidden_by(number: i32) -> Hidden {
+    Hidden {
+        number,
+        refusals: AtomicU64::new(0),
+        slept: AtomicU64::new(0),
+        has_log: AtomicBool::new(false),
+    }
 }
 
 impl Files for Hidden {
@@ -34,7 +45,11 @@ impl Files for Hidden {
 
     fn metadata(&self, path: &str) -> io::Result<Metadata> {
         if path.ends_with("-wal") {
-            return Err(ErrorKind::NotFound.into());
+            return if self.has_log.load(Ordering::SeqCst) {
+                Ok(Metadata::of_file(0))
+            } else {
+                Err(ErrorKind::NotFound.into())
+            };
         }
         let left = self.refusals.load(Ordering::SeqCst);
         if left == 0 {
@@ -164,11 +179,7 @@ static CASES: [Case; 9] = [
 ];
 
 fn look<R: Abort>(rt: &R, alloc: Global, case: &Case) -> io::Result<()> {
-    let files = Hidden {
-        number: case.number,
-        refusals: AtomicU64::new(0),
-        slept: AtomicU64::new(0),
-    };
+    let files = hidden_by(case.number);
     let mut place = FilePlace::new(&files, alloc, "relay.db")?;
     place.remember();
     files.refusals.store(case.refusals, Ordering::SeqCst);
@@ -186,5 +197,83 @@ fn a_file_that_is_hidden_is_looked_at_again(rt: HostRuntime) -> Result<(), Fail>
     for case in &CASES {
         look(&rt, rt.alloc(), case)?;
     }
+    Ok(())
+}
+
+/// Whether there is a log when the place is remembered, at a look and at a second one, and what that finds.
+struct LogCase {
+    logs: (bool, bool, bool),
+    finds: Sight,
+}
+
+static LOGS: [LogCase; 5] = [
+    LogCase {
+        logs: (false, false, false),
+        finds: Sight::Stands,
+    },
+    LogCase {
+        logs: (true, true, true),
+        finds: Sight::Stands,
+    },
+    LogCase {
+        logs: (true, true, false),
+        finds: Sight::Gone,
+    },
+    LogCase {
+        logs: (false, true, true),
+        finds: Sight::Stands,
+    },
+    LogCase {
+        logs: (false, true, false),
+        finds: Sight::Gone,
+    },
+];
+
+// What the second look finds.
+fn look_twice(alloc: Global, case: &LogCase) -> io::Result<Sight> {
+    let files = hidden_by(0);
+    let mut place = FilePlace::new(&files, alloc, "relay.db")?;
+    files.has_log.store(case.logs.0, Ordering::SeqCst);
+    place.remember();
+    files.has_log.store(case.logs.1, Ordering::SeqCst);
+    let _seen = place.look();
+    files.has_log.store(case.logs.2, Ordering::SeqCst);
+    Ok(place.look())
+}
+
+#[test]
+fn a_log_belongs_to_its_file(rt: HostRuntime) -> Result<(), Fail> {
+    for (place, case) in LOGS.iter().enumerate() {
+        let found = look_twice(rt.alloc(), case)?;
+        assert!(rt; found == case.finds, "the log of case {place}");
+    }
+    Ok(())
+}
+
+// What a look finds once another file took the place of the one that was remembered.
+fn replaced<F: Files + Clock>(
+    files: &F,
+    alloc: Global,
+    path: &str,
+    other: &str,
+) -> io::Result<Sight> {
+    fs::write(files, path, "a")?;
+    let mut place = FilePlace::new(files, alloc, path)?;
+    place.remember();
+    fs::write(files, other, "b")?;
+    fs::rename(files, other, path)?;
+    let found = place.look();
+    fs::remove_file(files, path)?;
+    Ok(found)
+}
+
+#[test]
+fn a_file_that_is_replaced_is_gone(rt: HostRuntime) -> Result<(), Fail> {
+    let id = fresh_id(&rt)?;
+    let name = str::from_utf8(id.as_bytes())?;
+    let path = format!(in rt.alloc(); "/tmp/{name}")?;
+    let other = format!(in rt.alloc(); "/tmp/{name}.other")?;
+    let found = replaced(&rt, rt.alloc(), path.as_str(), other.as_str())?;
+    holds(&rt, found == Sight::Gone, "another file is at the path");
     Ok(())
 }

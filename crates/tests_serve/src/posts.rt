@@ -1,29 +1,20 @@
 //! Posts to subscribers, of which some misbehave.
-ghost use Rattle.std.specs.Prelude.{◌≡◌};
-ghost use Rattle.permits.specs.declared.pool.TheConstants.{PARTS};
 
-use crate::given::holds;
-use crate::outgoing::request_to;
+use crate::given::{Host, holds};
+use crate::outgoing::subscriber;
 use crate::wires::take_post;
 use delivery::{Outgoing, Poster};
 use hyper_poster::HyperPoster;
-use permits::PARTS;
 use retry_table::PostResult;
-use sqlite::{Alter, Connection, MemStore};
-use std::alloc::{AllocGlobal, Global};
+use std::alloc::Global;
 use std::io::{self, Write};
-use std::marker::Brand;
-use std::net::{Ipv4Addr, Net, TcpListener, TcpStream};
+use std::net::{TcpListener, TcpStream};
 use std::process::Abort;
-use std::random::RandomSource;
-use std::sync::Wait;
-use std::sync::ledger::{Blank, Ledger};
 use std::test::Fail;
 use std::thread;
-use std::thread::Threads;
 use std::time::{Clock, Duration};
 
-/// What a subscriber does behind what it sends.
+/// What a subscriber does after it has sent its answer.
 #[derive(Clone, Copy, PartialEq, Eq)]
 enum Then {
     Closes,
@@ -35,7 +26,7 @@ enum Then {
     SendsLate,
 }
 
-/// What comes of a post, but for how long it took.
+/// What comes of a post, except how long it took.
 #[derive(Clone, Copy, PartialEq, Eq)]
 enum Wanted {
     Status(u16),
@@ -147,7 +138,7 @@ static CASES: [Case; 18] = [
         then: Then::Closes,
         wanted: Wanted::Unreached,
     },
-    // While it stays it takes no other, so those behind it aren't answered in time either.
+    // While it stays it takes no other, so the next ones aren't answered in time either.
     Case {
         sends: "HTTP/1.1 204 X\r\ncontent-length: 100\r\n\r\n",
         tens: 0,
@@ -223,7 +214,7 @@ fn answer<R: Clock>(rt: &R, alloc: Global, listener: &TcpListener, case: &Case) 
     Ok(())
 }
 
-// Serves all cases, each over a connection of its own. Nobody listens behind them.
+// Serves all cases, each over a connection of its own. Nobody listens after that.
 fn subscribe<R: Clock>(rt: &R, alloc: Global, listener: TcpListener) -> io::Result<()> {
     for case in &CASES {
         match case.then {
@@ -242,20 +233,12 @@ fn post_all<P: Poster, R: Abort>(rt: &R, poster: &P, request: &Outgoing) {
 }
 
 // The subscriber and its poster, each in a thread of its own.
-fn meet<R>(rt: &R, alloc: Global, listener: TcpListener, request: &Outgoing) -> io::Result<()>
-where
-    R: Wait
-        + Threads
-        + Clock
-        + Net<Listener = TcpListener, Stream = TcpStream>
-        + RandomSource
-        + AllocGlobal
-        + Abort
-        + Copy
-        + Send
-        + Sync
-        + 'static,
-{
+fn meet<R: Host>(
+    rt: &R,
+    alloc: Global,
+    listener: TcpListener,
+    request: &Outgoing,
+) -> io::Result<()> {
     let poster = HyperPoster::new(*rt, Duration::from_secs(1))?;
     let (served, ()) = thread::join(
         rt,
@@ -267,39 +250,8 @@ where
     served
 }
 
-fn over<L, S, R>(
-    rt: &R,
-    alloc: Global,
-    blank: Blank,
-    conn: Connection<S>,
-    listener: TcpListener,
-) -> Result<(), Fail>
-where
-    L: Ledger,
-    S: Alter + Drop,
-    R: Wait
-        + Threads
-        + Clock
-        + Net<Listener = TcpListener, Stream = TcpStream>
-        + RandomSource
-        + AllocGlobal
-        + Abort
-        + Copy
-        + Send
-        + Sync
-        + 'static,
-    requires name { blank.name ≡ L.name }
-    requires parts { blank.parts ≡ L.parts }
-    requires enough { blank.parts ≡ PARTS }
-{
-    let port = listener.local_addr()?.port();
-    let request = request_to::<L, S, R>(rt, alloc, blank, conn, "127.0.0.1", port)?;
-    Ok(meet(rt, alloc, listener, &request)?)
-}
-
 #[test]
 fn a_subscriber_may_do_what_it_likes(rt: HostRuntime) -> Result<(), Fail> {
-    let listener = TcpListener::bind(&rt, (Ipv4Addr::LOCALHOST, 0))?;
-    let conn = Connection::open_in_memory(rt.alloc())?;
-    over::<Brand, MemStore, HostRuntime>(&rt, rt.alloc(), Blank::new(PARTS), conn, listener)
+    let (listener, request) = subscriber(&rt, "127.0.0.1")?;
+    Ok(meet(&rt, rt.alloc(), listener, &request)?)
 }

@@ -2,7 +2,7 @@
 ghost use Rattle.std.specs.Prelude.{◌≡◌};
 ghost use Rattle.permits.specs.declared.pool.TheConstants.{PARTS};
 
-use crate::given::{MARK, SECRET, holds};
+use crate::given::{Host, MARK, SECRET, holds};
 use crate::wires::{exchange, take_post};
 use intake_shed::Acknowledged;
 use permits::PARTS;
@@ -11,22 +11,19 @@ use relay_host::{Place, Sight};
 use relay_serve::{Settings, serve_opened};
 use relay_types::Name;
 use sqlite::{Alter, Connection, MemStore};
-use std::alloc::{AllocGlobal, Global};
+use std::alloc::Global;
 use std::io::{self, Eprint, Write};
 use std::marker::Brand;
 use std::net::{Ipv4Addr, Net, SocketAddr, TcpListener, TcpStream};
 use std::process::Abort;
-use std::random::RandomSource;
-use std::sync::Wait;
 use std::sync::ledger::{Blank, Ledger};
 use std::test::Fail;
 use std::thread;
-use std::thread::Threads;
 use std::time::{Clock, Duration};
 
 /// A store in memory, which nobody removes.
 #[derive(Drop)]
-struct InMemory;
+pub(crate) struct InMemory;
 
 impl Place for InMemory {
     fn look(&mut self) -> Sight {
@@ -56,7 +53,7 @@ struct Step {
     ends: &'static str,
 }
 
-// All but one of these are answered, and so are the pages behind them.
+// All of these except one are answered, and so are the pages after them.
 static STEPS: [Step; 13] = [
     Step {
         line: "PUT /v1/endpoints/a HTTP/1.1",
@@ -118,7 +115,8 @@ static STEPS: [Step; 13] = [
         line: "GET /v1/endpoints/b HTTP/1.1",
         body: Sent::Bytes(""),
         begins: "HTTP/1.1 200 ",
-        ends: "\r\n\r\n{\"delivered\":0,\"enabled\":true,\"exhausted\":0,\"max\":7,\"name\":\"b\",\"pending\":0,\"secrets\":1,\"url\":\"http://127.0.0.1:9000/hook\"}",
+        ends: "\r\n\r\n{\"delivered\":0,\"enabled\":true,\"exhausted\":0,\"max\":7,\"name\":\"b\",\"pending\":0,\
+            \"secrets\":1,\"url\":\"http://127.0.0.1:9000/hook\"}",
     },
     // Events without ids are given different ones. Nobody listens where they are posted to.
     Step {
@@ -141,7 +139,7 @@ static STEPS: [Step; 13] = [
     },
 ];
 
-/// So many pages are asked for behind the steps.
+/// So many pages are asked for after the steps.
 const PAGES: u64 = 100;
 
 const PAGE: &str =
@@ -229,7 +227,8 @@ fn subscribe(alloc: Global, listener: &TcpListener, port: u16) -> io::Result<boo
     let (mut second, _) = take_post(alloc, listener, 65_536)?;
     second.write_all(b"HTTP/1.1 200 OK\r\ncontent-length: 0\r\n\r\n")?;
     let wanted = format!(in alloc;
-        "POST /hook HTTP/1.1\r\nhost: 127.0.0.1:{port}\r\nuser-agent: relayd/1\r\ncontent-type: application/json\r\ncontent-length: 2\r\nconnection: close\r\nwebhook-id: msg_1\r\nwebhook-timestamp: "
+        "POST /hook HTTP/1.1\r\nhost: 127.0.0.1:{port}\r\nuser-agent: relayd/1\r\ncontent-type: application/json\r\n\
+            content-length: 2\r\nconnection: close\r\nwebhook-id: msg_1\r\nwebhook-timestamp: "
     )?;
     Ok(came.as_slice().starts_with(wanted.as_bytes()))
 }
@@ -255,18 +254,7 @@ fn over<L, S, R>(
 where
     L: Ledger + Send + Sync,
     S: Alter + Drop + Send,
-    R: Wait
-        + Threads
-        + Clock
-        + Net<Listener = TcpListener, Stream = TcpStream>
-        + RandomSource
-        + AllocGlobal
-        + Eprint
-        + Abort
-        + Copy
-        + Send
-        + Sync
-        + 'static,
+    R: Host + Eprint,
     requires name { blank.name ≡ L.name }
     requires parts { blank.parts ≡ L.parts }
     requires enough { blank.parts ≡ PARTS }

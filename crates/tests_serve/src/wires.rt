@@ -22,7 +22,7 @@ pub(crate) fn exchange<N: Net<Stream = TcpStream>>(
     Ok(came)
 }
 
-/// Takes a connection, and reads a head and then as many bytes as the caller awaits behind it.
+/// Takes a connection, and reads a head and then as many bytes of a body as the caller awaits.
 pub(crate) fn take_post(
     alloc: Global,
     listener: &TcpListener,
@@ -46,7 +46,7 @@ pub(crate) fn take_post(
     Ok((socket, came))
 }
 
-// Where the bytes behind a head begin.
+// Where the bytes after a head begin.
 fn end_of_head(bytes: &[u8]) -> Option<usize> {
     let at = bytes
         .windows(4)
