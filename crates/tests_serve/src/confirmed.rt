@@ -3,7 +3,7 @@ ghost use Rattle.std.specs.Prelude.{◌≡◌, List};
 ghost use Rattle.permits.specs.declared.pool.TheConstants.{PARTS};
 ghost use Rattle.relay_types.specs.declared.record.Record.{Record};
 
-use crate::given::{Host, MARK, body, holds, id, moment, name, put};
+use crate::given::{MARK, body, holds, id, moment, name, put};
 use delivery::{CommitterEnd, Keeper, LoggedKeeper, Pass, Shared, begin_run, committer_run};
 use desk::Desk;
 use intake_shed::{Ack, Acknowledged, Confirmed, command_and_wait, submit_and_wait};
@@ -19,6 +19,8 @@ use std::sync::Wait;
 use std::sync::ledger::{Blank, Ledger};
 use std::test::Fail;
 use std::thread;
+use std::thread::Threads;
+use std::time::Clock;
 
 const URL: &str = "http://127.0.0.1:9000/hook";
 
@@ -77,7 +79,7 @@ where
     L: Ledger + Send + Sync,
     I: LogId + Send + Sync,
     S: Alter + Drop + Send,
-    R: Host,
+    R: Threads + Wait + Clock + Abort + Copy + Sync,
     requires table { new_log ≡ I.table }
     requires staged { new_staged ≡ I.staged }
     requires start { I.start ≡ vault.next }
@@ -122,7 +124,7 @@ fn over<L, S, R>(rt: &R, alloc: Global, blank: Blank, conn: Connection<S>) -> Re
 where
     L: Ledger + Send + Sync,
     S: Alter + Drop + Send,
-    R: Host,
+    R: Threads + Wait + Clock + Abort + Copy + Sync,
     requires name { blank.name ≡ L.name }
     requires parts { blank.parts ≡ L.parts }
     requires enough { blank.parts ≡ PARTS }

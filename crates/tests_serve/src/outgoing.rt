@@ -1,4 +1,4 @@
-//! A subscriber, and the request of an event for it.
+//! The request of a desk's first attempt.
 ghost use Rattle.std.specs.Prelude.{◌≡◌};
 ghost use Rattle.permits.specs.declared.pool.TheConstants.{PARTS};
 
@@ -9,10 +9,8 @@ use permits::{Foreign, PARTS, Permit};
 use recovery::create;
 use relay_types::Moment;
 use retry_table::PostResult;
-use sqlite::{Alter, Connection, MemStore};
-use std::alloc::{AllocGlobal, Global};
-use std::marker::Brand;
-use std::net::{Ipv4Addr, Net, TcpListener, TcpStream};
+use sqlite::{Alter, Connection};
+use std::alloc::Global;
 use std::process::Abort;
 use std::sync::ledger::{Blank, Ledger};
 use std::test::Fail;
@@ -39,8 +37,8 @@ fn claimed<L: Ledger, R: Abort>(
     Ok(built?)
 }
 
-// The request of an event for a subscriber at this host and port.
-fn request_to<L, S, R>(
+/// The request of an event for a subscriber at this host and port.
+pub(crate) fn request_to<L, S, R>(
     rt: &R,
     alloc: Global,
     blank: Blank,
@@ -67,23 +65,4 @@ where
         Ok(()) => claimed(rt, alloc, &mut desk),
         Err(fail) => Err(fail),
     }
-}
-
-/// Who listens for a subscriber, and the request of an event for it under this name of its host.
-pub(crate) fn subscriber<R>(rt: &R, host: &str) -> Result<(TcpListener, Outgoing), Fail>
-where
-    R: Net<Listener = TcpListener, Stream = TcpStream> + AllocGlobal + Abort,
-{
-    let listener = TcpListener::bind(rt, (Ipv4Addr::LOCALHOST, 0))?;
-    let port = listener.local_addr()?.port();
-    let conn = Connection::open_in_memory(rt.alloc())?;
-    let request = request_to::<Brand, MemStore, R>(
-        rt,
-        rt.alloc(),
-        Blank::new(PARTS),
-        conn,
-        host,
-        port,
-    )?;
-    Ok((listener, request))
 }
