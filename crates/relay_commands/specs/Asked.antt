@@ -5,7 +5,7 @@ use Rattle.clap.specs.Words.{Row, first_of, one_of, subcommand_rows_of}
 use Rattle.clap.specs.declared.parser.matches.ArgMatches.{ArgMatches}
 use Rattle.relay_commands.specs.declared.serve_words.ServeWords.{ServeWords}
 
--- the argument of this name is this number, in decimal digits behind a plus sign or none
+-- the argument of this name is this number, in decimal digits after an optional plus sign
 abbrev pub HasNumber : List Row → List ℕ → ℕ → Type 0
 HasNumber rows name number =
     (text : List ℕ) × (one_of name rows ≡ Some text) × IsNumeral 10 (without_leading_plus text)
