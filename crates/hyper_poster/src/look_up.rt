@@ -1,11 +1,17 @@
 //! The addresses of hosts. The system looks a name up for as long as it likes, so each name is looked up on a thread of its own.
+ghost use Rattle.std.specs.Prelude.{◌≡◌, ◌≢◌, IsSome};
+ghost use Rattle.std.specs.IoError.{raw_os_error};
+ghost use Rattle.hyper_poster.specs.Failures.{IsRefusedHere};
+
 use crate::failure::Failure;
 use std::alloc::{AllocError, AllocGlobal, Global};
-use std::net::{HostAddrs, IpAddr, Net, TcpListener, TcpStream, ToSocketAddrs};
+use std::net::{
+    HostAddrs, IpAddr, Ipv4Addr, Net, SocketAddr, TcpListener, TcpStream, ToSocketAddrs,
+};
 use std::sync::{Arc, Condvar, CondvarTimeouts, Mutex, Wait};
-use std::thread;
 use std::thread::Threads;
 use std::time::{Clock, Duration};
+use std::{io, thread};
 
 /// So many look-ups of one poster may be under way, those that it gave up among them.
 const MOST_LOOK_UPS: usize = 32;
@@ -197,5 +203,27 @@ where
 }
 
 fn addresses_of<R: Net>(rt: &R, host: &str, port: u16) -> Result<HostAddrs, Failure> {
-    (host, port).to_socket_addrs(rt).map_err(Failure::of)
+    (host, port)
+        .to_socket_addrs(rt)
+        .map_err(|error| why_not_found(rt, error))
+}
+
+// How a failed look-up counts. A resolver without a free descriptor reports an unknown name, with no number, so a socket is asked for then.
+fn why_not_found<R: Net>(rt: &R, error: io::Error) -> Failure
+    ensures here { IsRefusedHere error → result ≡ Failure.Unsent }
+    ensures numbered { IsSome (raw_os_error error) → result ≡ Failure.Unsent → IsRefusedHere error }
+    ensures asked { result ≢ Failure.Late }
+{
+    if error.raw_os_error().is_none() && is_without_sockets(rt) {
+        return Failure::Unsent;
+    }
+    Failure::of(error)
+}
+
+// Whether this side is refused a socket now.
+fn is_without_sockets<R: Net>(rt: &R) -> bool {
+    match rt.bind(SocketAddr::from((Ipv4Addr::LOCALHOST, 0))) {
+        Ok(_socket) => false,
+        Err(refused) => matches!(Failure::of(refused), Failure::Unsent),
+    }
 }
