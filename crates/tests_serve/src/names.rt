@@ -31,8 +31,10 @@ enum LookUp {
     Silent,
     /// The system refuses it with this number (errno of Linux).
     Refused(i32),
-    /// Two addresses. Nobody listens at the first.
-    Two,
+    /// It fails without a number. A socket is refused with this one, or isn't refused.
+    Unknown(Option<i32>),
+    /// Two addresses, after so many milliseconds. Nobody listens at the first, and who listens at the second takes as long to answer.
+    Two(u64),
 }
 
 /// A runtime with a resolver of its own.
@@ -80,7 +82,10 @@ impl<R: Net<Listener = TcpListener, Stream = TcpStream> + Clock> Net for Resolvi
     type Listener = TcpListener;
 
     fn bind(&self, addr: SocketAddr) -> io::Result<TcpListener> {
-        self.rt.bind(addr)
+        match self.look_up {
+            LookUp::Unknown(Some(number)) => Err(io::Error::from_raw_os_error(number)),
+            _ => self.rt.bind(addr),
+        }
     }
 
     fn connect(&self, addr: SocketAddr) -> io::Result<TcpStream> {
@@ -94,7 +99,9 @@ impl<R: Net<Listener = TcpListener, Stream = TcpStream> + Clock> Net for Resolvi
                 Ok(0)
             }
             LookUp::Refused(number) => Err(io::Error::from_raw_os_error(number)),
-            LookUp::Two => {
+            LookUp::Unknown(_) => Err(ErrorKind::NotFound.into()),
+            LookUp::Two(millis) => {
+                self.rt.sleep(Duration::from_millis(millis));
                 let [first, second, ..] = found else {
                     return Ok(0);
                 };
@@ -126,11 +133,16 @@ const SECOND: u64 = 1_000_000;
 
 const MOMENT: u64 = 20_000;
 
-static CASES: [Case; 7] = [
+static CASES: [Case; 11] = [
     Case {
         name: "a host with two addresses",
-        look_up: LookUp::Two,
+        look_up: LookUp::Two(0),
         wanted: Wanted::Status(200),
+    },
+    Case {
+        name: "a look-up and an answer that are late together",
+        look_up: LookUp::Two(600),
+        wanted: Wanted::TimedOut(SECOND),
     },
     Case {
         name: "a look-up that doesn't end",
@@ -162,6 +174,21 @@ static CASES: [Case; 7] = [
         look_up: LookUp::Refused(113),
         wanted: Wanted::Unreached,
     },
+    Case {
+        name: "an unknown name",
+        look_up: LookUp::Unknown(None),
+        wanted: Wanted::Unreached,
+    },
+    Case {
+        name: "an unknown name, and no descriptor for a socket",
+        look_up: LookUp::Unknown(Some(24)),
+        wanted: Wanted::Unsent,
+    },
+    Case {
+        name: "an unknown name, and no address for a socket",
+        look_up: LookUp::Unknown(Some(99)),
+        wanted: Wanted::Unreached,
+    },
 ];
 
 fn is_wanted(post: PostResult, wanted: Wanted) -> bool {
@@ -181,10 +208,22 @@ fn poster<R: Host>(
     HyperPoster::new(Resolving { rt, look_up }, Duration::from_micros(micros))
 }
 
-// Answers one post.
-fn answer(alloc: Global, listener: &TcpListener) -> io::Result<()> {
+// Answers one post, after so many milliseconds. Nobody may read it any more.
+fn answer<R: Clock>(rt: &R, alloc: Global, listener: &TcpListener, millis: u64) -> io::Result<()> {
     let (mut socket, _) = take_post(alloc, listener, 2)?;
-    socket.write_all(b"HTTP/1.1 200 OK\r\n\r\n")
+    thread::sleep(rt, Duration::from_millis(millis));
+    let _sent = socket.write_all(b"HTTP/1.1 200 OK\r\n\r\n");
+    Ok(())
+}
+
+// Answers the post of each case whose look-up finds the subscriber.
+fn answer_all<R: Clock>(rt: &R, alloc: Global, listener: &TcpListener) -> io::Result<()> {
+    for case in &CASES {
+        if let LookUp::Two(millis) = case.look_up {
+            answer(rt, alloc, listener, millis)?;
+        }
+    }
+    Ok(())
 }
 
 fn post_all<R: Host>(rt: &R, request: &Outgoing) -> Result<(), AllocError> {
@@ -233,7 +272,7 @@ fn meet<R: Host>(
 ) -> io::Result<()> {
     let (answered, posted) = thread::join(
         rt,
-        move || answer(alloc, &listener),
+        move || answer_all(rt, alloc, &listener),
         || post_all(rt, request),
     );
     answered?;

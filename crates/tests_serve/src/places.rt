@@ -5,6 +5,7 @@ use relay_host::{FilePlace, Place, Sight, fresh_id};
 use std::alloc::{Allocator, Global};
 use std::fs::{self, File, Files, Metadata, OpenOptions};
 use std::io::{self, Empty, ErrorKind};
+use std::os::unix::fs::{MetadataExt, symlink};
 use std::process::Abort;
 use std::str;
 use std::sync::atomic::{AtomicBool, AtomicU64, Ordering};
@@ -275,5 +276,60 @@ fn a_file_that_is_replaced_is_gone(rt: HostRuntime) -> Result<(), Fail> {
     let other = format!(in rt.alloc(); "/tmp/{name}.other")?;
     let found = replaced(&rt, rt.alloc(), path.as_str(), other.as_str())?;
     holds(&rt, found == Sight::Gone, "another file is at the path");
+    Ok(())
+}
+
+/// Where the link at the path leads when it is remembered and at the next look, and what that finds. Both files have the same number.
+struct LinkCase {
+    name: &'static str,
+    leads: (&'static str, &'static str),
+    finds: Sight,
+}
+
+static LINKS: [LinkCase; 2] = [
+    LinkCase {
+        name: "another link to the same file",
+        leads: ("/proc", "/proc"),
+        finds: Sight::Stands,
+    },
+    LinkCase {
+        name: "a file on another device",
+        leads: ("/proc", "/sys"),
+        finds: Sight::Gone,
+    },
+];
+
+// Whether the two files have one number.
+fn are_alike<F: Files>(files: &F, leads: (&str, &str)) -> io::Result<bool> {
+    Ok(fs::metadata(files, leads.0)?.ino() == fs::metadata(files, leads.1)?.ino())
+}
+
+// What a look finds once the link at the path leads to another file than the one that was remembered.
+fn led<F: Files + Clock>(
+    files: &F,
+    alloc: Global,
+    path: &str,
+    leads: (&str, &str),
+) -> io::Result<Sight> {
+    symlink(files, leads.0, path)?;
+    let mut place = FilePlace::new(files, alloc, path)?;
+    place.remember();
+    fs::remove_file(files, path)?;
+    symlink(files, leads.1, path)?;
+    let found = place.look();
+    fs::remove_file(files, path)?;
+    Ok(found)
+}
+
+#[test]
+fn a_file_on_another_device_is_another(rt: HostRuntime) -> Result<(), Fail> {
+    let id = fresh_id(&rt)?;
+    let name = str::from_utf8(id.as_bytes())?;
+    let path = format!(in rt.alloc(); "/tmp/{name}")?;
+    for case in &LINKS {
+        holds(&rt, are_alike(&rt, case.leads)?, "they have one number");
+        let found = led(&rt, rt.alloc(), path.as_str(), case.leads)?;
+        holds(&rt, found == case.finds, case.name);
+    }
     Ok(())
 }
