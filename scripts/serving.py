@@ -64,11 +64,11 @@ def ran(*words, **options):
 
 
 class Relay:
-    """A process of `relayd serve` on a file, at a port of its own."""
+    """A process of `relayd serve` on a file, at a port of its own. `limit` is called in it before it is the program."""
 
-    def __init__(self, relayd, file, *options, address="127.0.0.1:0", env=None):
+    def __init__(self, relayd, file, *options, address="127.0.0.1:0", env=None, limit=None):
         words = [relayd, "serve", file, address, *map(str, options)]
-        self.process = subprocess.Popen(words, stdout=subprocess.PIPE, stderr=subprocess.PIPE, text=True, env=env)
+        self.process = subprocess.Popen(words, stdout=subprocess.PIPE, stderr=subprocess.PIPE, text=True, env=env, preexec_fn=limit)
         STARTED.append(self.process)
         self.told = []
         self.teller = threading.Thread(target=self.listen, daemon=True)
