@@ -100,6 +100,7 @@ impl<L: Ledger, I: LogId> Locked<L, I> {
 
     pub(crate) fn into_desk(self) -> Desk<L>
         ensures desk { result ≡ self.desk }
+        ensures core { IsCore result }
         ensures settled { HasSettled I.is_base I.start result self.prefix }
     {
         let Locked { desk, .. } = self;

@@ -67,6 +67,7 @@ impl<L: Ledger, I: LogId> Shared<L, I> {
 
     /// The desk, once no other thread has it.
     pub fn into_desk(self) -> Desk<L>
+        ensures core { IsCore result }
         ensures settled { (prefix : List Record) × HasSettled I.is_base I.start result prefix }
     {
         let Shared { locked, .. } = self;
