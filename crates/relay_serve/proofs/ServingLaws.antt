@@ -1,11 +1,14 @@
 -- What a committer's run, and a look at the rows behind it, leave of the histories that a vault held.
 use Rattle.std.proofs.Common.{sym, subst, List, [], ◌++◌}
-use Rattle.std.specs.Prelude.{Option, Some, None, IfSome}
+use Rattle.std.specs.Prelude.{◌≡◌, Option, Some, None, IfSome, IsTrue}
 use Rattle.std.proofs.lemmas.List.{append-nil}
 use Rattle.sqlite.specs.Held.{state}
 use Rattle.sqlite.specs.State.{State}
 use Rattle.sqlite.specs.Store.{Ghosts}
 use Rattle.relay_types.specs.declared.record.Record.{Record}
+use Rattle.relay_types.specs.Rows.{Rows, rows_of}
+use Rattle.spool_sql.specs.Steps as tables
+use Rattle.spool_sql.specs.Steps.{MayLeave}
 use Rattle.spool.specs.Adopting.{IsOnlyRead}
 use Rattle.spool.specs.Commits.{HoldsOnDisk}
 use Rattle.spool.specs.Entering.{RestsInDoubt}
@@ -15,7 +18,7 @@ use Rattle.delivery.specs.declared.committer.CommitterEnd.{CommitterEnd}
 use Rattle.delivery.specs.declared.committer.CommitterEnd.TheVariants.{Finished, Halted}
 use Rattle.delivery.specs.declared.committer.HaltCause.TheVariants as cause
 use Rattle.intake_shed.specs.Acks.{EventValue, HasEvent}
-use Rattle.relay_serve.specs.Serving.{AddsBatches, AddsEvent, LeavesDoubt, LeavesRows}
+use Rattle.relay_serve.specs.Serving.{AddsBatches, AddsEvent, LeavesDoubt, HasRows}
 
 -- what stands of one thing stands of another that has as much
 module _ {A B : Type 0} (holds : A → List Record → Type 0) (in_doubt : A → List Record → List Record → Type 0)
@@ -38,6 +41,15 @@ pub event_of_base : (is_base : List Record → Type 0) (log : List Record) (ackn
 event_of_base is_base log None base is has = has
 event_of_base is_base log (Some event) base is has = has base is
 
+-- rows that stand while the store is open stand, and are left, while it is only read
+still_there : (old new : State) → IsOnlyRead old new → (rows : Rows)
+    → (IsTrue old.is_open → tables.Stands old rows) × MayLeave old (λ r. r ≡ rows)
+    → (IsTrue new.is_open → tables.Stands new rows) × MayLeave new (λ r. r ≡ rows)
+still_there old new read rows (stood, left) = (
+  λ is_open. let before = read.stays is_open in before.1 rows (stood before.0),
+  λ db may. left db (read.leaves db may),
+)
+
 -- a doubt stays while the store is only read
 still_doubted : (old new : State) → IsOnlyRead old new → (records more : List Record) → RestsInDoubt old records more → RestsInDoubt new records more
 still_doubted old new read records more doubt = record {
@@ -57,7 +69,7 @@ module _ {S : Type 0} (g : Ghosts S) where
     pub added : (old new : K) (end : CommitterEnd) → Adds holds in_doubt old new end → AddsBatches g (vault_of old) (vault_of new) end
     added old new end adds records held =
         let more = adds records held in
-        (more.0, stands_so holds in_doubt (LeavesRows g) (LeavesDoubt g) new (vault_of new) (λ _ held. held.1) (λ _ _ doubt. doubt) (records ++ records_in more.0) end more.1)
+        (more.0, stands_so holds in_doubt (HasRows g) (LeavesDoubt g) new (vault_of new) (λ _ held. (λ _. held.0.stands, held.1)) (λ _ _ doubt. doubt) (records ++ records_in more.0) end more.1)
 
     -- a keeper that held these records holds them and the log, which is whole batches, and the event is in these
     pub logged_event : (old new : K) (log : List Record) (end : CommitterEnd) (acknowledged : Option EventValue) (records : List Record)
@@ -66,9 +78,9 @@ module _ {S : Type 0} (g : Ghosts S) where
         → AddsEvent g (vault_of old) (vault_of new) end acknowledged records
     logged_event old new log end acknowledged records keeps (batches, are) has held =
         let held_all = keeps records (subst (holds old) (sym (append-nil records)) held) in
-        let left = stands_so holds in_doubt (LeavesRows g) (LeavesDoubt g) new (vault_of new) (λ _ held. held.1)
+        let left = stands_so holds in_doubt (HasRows g) (LeavesDoubt g) new (vault_of new) (λ _ held. (λ _. held.0.stands, held.1))
         (λ _ _ doubt. doubt) (records ++ log) end held_all in
-        let Has = λ (more : List Record). Stands (LeavesRows g) (LeavesDoubt g) (vault_of new) (records ++ more) end
+        let Has = λ (more : List Record). Stands (HasRows g) (LeavesDoubt g) (vault_of new) (records ++ more) end
         × IfSome acknowledged (λ event. HasEvent (records ++ more) event.seq event.name event.id event.body) in
         let both = subst Has are (left, has) in (batches, both.0, both.1)
 
@@ -78,13 +90,13 @@ module _ {S : Type 0} (g : Ghosts S) where
   added_still old mid new end adds read records held =
       let more = adds records held in (
         more.0,
-        stands_so (LeavesRows g) (LeavesDoubt g) (LeavesRows g) (LeavesDoubt g) mid new (λ _ leaves db may. leaves db (read.leaves db may))
+        stands_so (HasRows g) (LeavesDoubt g) (HasRows g) (LeavesDoubt g) mid new (λ records. still_there (state g mid.conn) (state g new.conn) read (rows_of records))
             (still_doubted (state g mid.conn) (state g new.conn) read) (records ++ records_in more.0) end more.1,
       )
 
   -- nothing is added where nobody touched the vault
   pub nothing_added : (v : VaultValue S) → AddsBatches g v v Finished
-  nothing_added v records held = ([], subst (LeavesRows g v) (sym (append-nil records)) held.1)
+  nothing_added v records held = ([], subst (HasRows g v) (sym (append-nil records)) (λ _. held.0.stands, held.1))
 
   pub event_still : (old mid new : VaultValue S) (end : CommitterEnd) (acknowledged : Option EventValue) (records : List Record)
       → AddsEvent g old mid end acknowledged records → IsOnlyRead (state g mid.conn) (state g new.conn)
@@ -92,10 +104,10 @@ module _ {S : Type 0} (g : Ghosts S) where
   event_still old mid new end acknowledged records adds read held =
       let more = adds held in (
         more.0,
-        stands_so (LeavesRows g) (LeavesDoubt g) (LeavesRows g) (LeavesDoubt g) mid new (λ _ leaves db may. leaves db (read.leaves db may))
+        stands_so (HasRows g) (LeavesDoubt g) (HasRows g) (LeavesDoubt g) mid new (λ records. still_there (state g mid.conn) (state g new.conn) read (rows_of records))
             (still_doubted (state g mid.conn) (state g new.conn) read) (records ++ records_in more.0) end more.1,
         more.2,
       )
 
   pub no_event : (v : VaultValue S) (records : List Record) → AddsEvent g v v Finished None records
-  no_event v records held = ([], subst (LeavesRows g v) (sym (append-nil records)) held.1, tt)
+  no_event v records held = ([], subst (HasRows g v) (sym (append-nil records)) (λ _. held.0.stands, held.1), tt)

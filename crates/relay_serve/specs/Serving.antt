@@ -1,10 +1,11 @@
 -- What is in the store after a relay that served.
-use Rattle.std.specs.Prelude.{◌≡◌, List, ◌++◌, Option, Result, Ok, Err, IfSome}
+use Rattle.std.specs.Prelude.{◌≡◌, List, ◌++◌, Option, Result, Ok, Err, IfSome, IsTrue}
 use Rattle.sqlite.specs.Held.{state}
 use Rattle.sqlite.specs.Store.{Ghosts}
 use Rattle.relay_types.specs.declared.record.Record.{Record}
 use Rattle.relay_types.specs.Records.{History}
 use Rattle.relay_types.specs.Rows.{rows_of}
+use Rattle.spool_sql.specs.Steps as tables
 use Rattle.spool_sql.specs.Steps.{IfClean, MayLeave}
 use Rattle.spool.specs.Commits.{HoldsOnDisk}
 use Rattle.spool.specs.Entering.{RestsInDoubt}
@@ -32,29 +33,31 @@ committer_end (Err Write) = committer.Finished
 committer_end (Err OutOfMemory) = committer.Finished
 
 module _ {S : Type 0} (g : Ghosts S) where
-  -- a stop leaves the rows of these records
-  abbrev pub LeavesRows : VaultValue S → List Record → Type 0
-  LeavesRows v records = MayLeave (state g v.conn) (λ r. r ≡ rows_of records)
+  -- the store, if it is open, has the rows of these records, and a stop leaves them
+  abbrev pub HasRows : VaultValue S → List Record → Type 0
+  HasRows v records = (IsTrue (state g v.conn).is_open → tables.Stands (state g v.conn) (rows_of records))
+      × MayLeave (state g v.conn) (λ r. r ≡ rows_of records)
 
-  -- a stop leaves these, or these and the rows of more records
+  -- the same, but that a stop may leave the rows of more records behind them
   abbrev pub LeavesDoubt : VaultValue S → List Record → List Record → Type 0
   LeavesDoubt v records more = RestsInDoubt (state g v.conn) records more
 
-  -- Of each history that the vault held, a stop leaves the rows, with those of whole batches behind them, in their order; where the store
-  -- was at fault it leaves these, or these and the last batch.
+  -- Of each history that the vault held, it has the rows, with those of whole batches behind them, in their order, and a stop leaves these;
+  -- where the store was at fault it leaves these, or these and the last batch.
   abbrev pub AddsBatches : (old new : VaultValue S) → CommitterEnd → Type 0
   AddsBatches old new end = (records : List Record) → HoldsOnDisk g old records
-      → (batches : List History) × Stands LeavesRows LeavesDoubt new (records ++ records_in batches) end
+      → (batches : List History) × Stands HasRows LeavesDoubt new (records ++ records_in batches) end
 
   -- so it is at this end, if the disk has returned what was written
   abbrev pub KeepsHistory : (old new : VaultValue S) → Result Served ServeFault → Type 0
   KeepsHistory old new ended = IfClean g old.conn new.conn (λ _ _. AddsBatches old new (committer_end ended))
 
-  -- If the vault held these records, a crash now leaves them and those of whole batches after them, and the event is one of these records:
-  -- at its number, with its endpoint, its id and its body. If the store was at fault, a crash leaves these, or these and one batch more.
+  -- If the vault held these records, it has the rows of them and of whole batches after them, and a crash now leaves these. The event is one
+  -- of these records: at its number, with its endpoint, its id and its body. If the store was at fault, a crash leaves these, or these and one
+  -- batch more.
   abbrev pub AddsEvent : (old new : VaultValue S) → CommitterEnd → Option EventValue → List Record → Type 0
   AddsEvent old new end acknowledged records = HoldsOnDisk g old records → (batches : List History)
-      × Stands LeavesRows LeavesDoubt new (records ++ records_in batches) end
+      × Stands HasRows LeavesDoubt new (records ++ records_in batches) end
       × IfSome acknowledged (λ event. HasEvent (records ++ records_in batches) event.seq event.name event.id event.body)
 
   -- It is so of the settled records of each state that the desk represented, if the disk has returned what was written.
