@@ -1,6 +1,6 @@
 -- A file is opened as what it and its log held.
 use Rattle.std.proofs.Common.{◌≡◌, List, [], ◌∷◌, Bool, true, false, Result, Ok, Err, inl, inr, refl, sym, subst, ◌∙◌}
-use Rattle.std.specs.Prelude.{IsTrue, IfOk, IsErr}
+use Rattle.std.specs.Prelude.{IsTrue, IfOk, IfErr, IsErr}
 use Rattle.sqlite.specs.Store.{Ghosts}
 use Rattle.sqlite.specs.State.{State, IsLive, Opens}
 use Rattle.sqlite.specs.Effect.{Database}
@@ -16,14 +16,14 @@ use Rattle.relay_types.specs.Rows.{Rows, rows_of}
 use Rattle.spool_sql.specs.Stored.{AreTablesOf, IsTables}
 use Rattle.spool_sql.specs.Tables.{no_schema, relay_schema}
 use Rattle.spool_sql.proofs.StepLemmas.{opened_tables}
-use Rattle.spool.specs.Adopting.{IsOnlyRead, LeavesRead}
+use Rattle.spool.specs.Adopting.{HaveHistory, IsOnlyRead, LeavesRead}
 use Rattle.spool.specs.declared.ends.OpenFault.{OpenFault}
 use Rattle.spool.specs.declared.ends.OpenFault.TheVariants.{NotOurs, NewerVersion, Damaged, Store, OutOfMemory}
 use Rattle.spool.specs.Vaults.{VaultValue}
 use Rattle.desk.specs.Desks.{DeskValue}
 use Rattle.desk.specs.World.{World, all_records}
-use Rattle.recovery.specs.Files.{HoldsRows, HoldsLeftOf, IsMadeOrReopened, IsFileOpened}
-use Rattle.recovery.specs.Reopenings.{AreOpenedAt, AreOpenedAtOne}
+use Rattle.recovery.specs.Files.{HoldsRows, HoldsLeftOf, IsMadeOrReopened, IsFileOpened, IsFileRefused}
+use Rattle.recovery.specs.Reopenings.{AreOpenedAt, AreOpenedAtOne, IsOfReading, IsReadingRefusal, IsUnopened}
 use Rattle.recovery.proofs.ReopeningLaws.{opens_one}
 
 abbrev HasNone : List Table → Type 0
@@ -56,6 +56,17 @@ module _ {S : Type 0} (g : Ghosts S) (desk : DeskValue) (vault : VaultValue S) w
       left : (w : World) → IsLegal (all_records w) → HoldsLeftOf image w → AreOpenedAtOne g desk vault w w.left
       left w legal (rows, is_left, held) = opens_one g desk vault w legal rows is_left (λ history of is. each history of (subst (HoldsRows image) is held))
 
+-- What a refusal says of what was found is said of what the file and its log held.
+pub file_refused : (image : Image) (old new : State) (fault : OpenFault) (is_new : Bool) → IsLive old → Opens old → FindsIn image old
+    → (old.now.schema ≡ relay_schema → IsUnopened old new fault) → (HaveHistory old.now → IsReadingRefusal old new fault)
+    → (IsTrue is_new → old.now.schema ≡ no_schema → IsOfReading fault) → IsFileRefused image is_new old new fault
+file_refused image old new fault is_new live opens finds says sound made = record {
+  finds = finds_trees image old opens finds;
+  says = says;
+  made = made;
+  sound = λ history legal held. sound (records_of history, legal, finds_rows image old live opens finds (rows_of (records_of history)) held);
+}
+
 -- What was opened had the tables.
 pub of_whole : {A E : Type 0} (P R : A → Type 0) (stand : Bool) (r : Result A E) → (stand ≡ false → IsErr r) → IfOk r P
     → ((x : A) → IsTrue stand → P x → R x) → IfOk r R
@@ -70,3 +81,8 @@ only_read old new NewerVersion (read, is_open) = read
 only_read old new Damaged (read, is_open) = read
 only_read old new (Store cause) read = read
 only_read old new OutOfMemory read = read
+
+-- what is said of an error is so of what follows from it
+pub refused_so : {A E : Type 0} (P Q : E → Type 0) (result : Result A E) → ((e : E) → P e → Q e) → IfErr result P → IfErr result Q
+refused_so P Q (Ok value) so h = h
+refused_so P Q (Err e) so h = so e h

@@ -1,3 +1,4 @@
 pub mod FileLaws
+mod PathLaws
 mod ReadingLaws
 mod ReopeningLaws

@@ -5,6 +5,8 @@ use Rattle.std.specs.Prelude.{IsSome, IsTrue, MatchResult}
 use Rattle.sqlite.specs.Store.{Ghosts}
 use Rattle.sqlite.specs.State.{State, Survives}
 use Rattle.sqlite.specs.declared.error.Error.{Error}
+use Rattle.sqlite.specs.declared.error.Error.TheVariants.{SqliteFailure}
+use Rattle.sqlite.specs.declared.error.ErrorCode.TheVariants as code
 use Rattle.sqlite.specs.Effect.{Database}
 use Rattle.sqlite.specs.Held.{Held, state}
 use Rattle.relay_types.specs.declared.record.Record.{Record}
@@ -18,7 +20,7 @@ use Rattle.spool_sql.specs.Readable.{IsRefusal}
 use Rattle.spool_sql.specs.Stored.{IsTables}
 use Rattle.spool_sql.specs.Tables.{relay_schema}
 use Rattle.spool.specs.Adopting.{IsAdopted, IsOnlyRead, LeavesRead, IsOfStore, unloaded_fault}
-use Rattle.spool.specs.Books.{IsLoadRefusal}
+use Rattle.spool.specs.Books.{IsLoadRefusal, IsSeen}
 use Rattle.spool.specs.declared.ends.LoadFault.{LoadFault}
 use Rattle.spool.specs.declared.ends.LoadFault.TheVariants as load
 use Rattle.spool.specs.declared.ends.OpenFault.{OpenFault}
@@ -116,6 +118,12 @@ pub unloaded : (a b : State) (fault : LoadFault) (told : OpenFault) → told ≡
 unloaded a b load.Closed told same not_closed h = absurd (not_closed refl)
 unloaded a b (load.Store error) told same not_closed h = subst (IsReadingRefusal a b) (sym same) h
 unloaded a b load.OutOfMemory told same not_closed h = subst (IsReadingRefusal a b) (sym same) tt
+
+-- a load that is told as want of memory saw the store open
+pub seen_open : (P : Type 0) (fault : LoadFault) (told : OpenFault) → told ≡ unloaded_fault fault → told ≡ OutOfMemory → (IsSeen (Err fault) → P) → P
+seen_open P load.Closed told same memory seen = absurd (let no : Store (SqliteFailure code.Closed) ≡ OutOfMemory = sym same ∙ memory in cc)
+seen_open P (load.Store error) told same memory seen = absurd (let no : Store error ≡ OutOfMemory = sym same ∙ memory in cc)
+seen_open P load.OutOfMemory told same memory seen = seen tt
 
 -- behind a read that left the store open
 module _ (a m b : State) (early : Survives a m (λ _. ⊥)) (is_open : IsTrue m.is_open) where

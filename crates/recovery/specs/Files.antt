@@ -1,11 +1,14 @@
 -- What the opening of a file gives, by what the file held.
-use Rattle.std.specs.Prelude.{◌≡◌, ◌⊎◌, [], IsTrue}
+use Rattle.std.specs.Prelude.{◌≡◌, ◌⊎◌, [], Bool, IsTrue, Result, IfErr}
 use Rattle.sqlite.specs.Store.{Ghosts}
 use Rattle.sqlite.specs.Effect.{Database}
 use Rattle.sqlite.specs.Tree.{Trees}
 use Rattle.sqlite.specs.Held.{Held, state}
 use Rattle.sqlite.specs.Recovery.{Image}
-use Rattle.sqlite.specs.Files.{HoldsDatabase, AreFoundIn}
+use Rattle.sqlite.specs.Files.{HoldsDatabase, AreFoundIn, file_state, over_files}
+use Rattle.sqlite.specs.State.{State}
+use Rattle.sqlite_disk.specs.declared.Disk as disk
+use Rattle.sqlite_store.specs.declared.store.FileStore.{FileStore}
 use Rattle.relay_types.specs.Records.{History, records_of}
 use Rattle.relay_types.specs.Legal.{IsLegal}
 use Rattle.relay_types.specs.Rows.{Rows, rows_of}
@@ -13,10 +16,12 @@ use Rattle.spool_sql.specs.Stored.{AreTablesOf}
 use Rattle.spool_sql.specs.Tables.{no_schema, relay_schema}
 use Rattle.sound_tables.specs.Keys.{has_tables}
 use Rattle.spool.specs.Vaults.{VaultValue}
+use Rattle.spool.specs.declared.ends.OpenFault.{OpenFault}
 use Rattle.desk.specs.World.{World, all_records}
 use Rattle.desk.specs.Desks.{DeskValue}
-use Rattle.recovery.specs.Left.{AreLeft}
-use Rattle.recovery.specs.Reopenings.{AreOpenedAt, AreOpenedAtOne, IsReopened}
+use Rattle.recovery.specs.Left.{AreLeft, IsCleanAt}
+use Rattle.recovery.specs.Paths.{IsOfLook, IsUnconnected}
+use Rattle.recovery.specs.Reopenings.{AreOpenedAt, AreOpenedAtOne, IsOfReading, IsReadingRefusal, IsReopened, IsUnopened}
 
 -- the file and its log hold the relay's tables of these rows
 abbrev pub HoldsRows : Image → Rows → Type 0
@@ -48,3 +53,28 @@ pub record IsFileOpened {S : Type 0} (g : Ghosts S) (image : Image) (desk : Desk
       → AreOpenedAt g desk vault history
   -- Of what a stop left of a world, they stand for the opening of its first steps, for one of the numbers that the world says.
   pub left : (w : World) → IsLegal (all_records w) → HoldsLeftOf image w → AreOpenedAtOne g desk vault w w.left
+
+-- What a refusal says of what a file and its log held, by the connection as it found this and as it is since.
+pub record IsFileRefused (image : Image) (is_new : Bool) (old new : State) (fault : OpenFault) : Type 0 where
+  -- what was found is what the file and its log held
+  pub finds : AreFoundIn image old.now.trees
+  pub says : old.now.schema ≡ relay_schema → IsUnopened old new fault
+  -- A new file without tables is refused only for memory or by the store.
+  pub made : IsTrue is_new → old.now.schema ≡ no_schema → IsOfReading fault
+  -- Of a legal history whose rows they held, memory was refused or the store failed.
+  pub sound : (history : History) → IsLegal (records_of history) → HoldsRows image (rows_of (records_of history))
+      → IsReadingRefusal old new fault
+
+-- Why a file isn't opened: there is no connection, or one found what it held, which says so much while its disk returns what was written.
+abbrev pub IsFileUnopened : {D : Type 0} → disk.Ghosts D → Image → Bool → OpenFault → Type 0
+IsFileUnopened {D} g image is_new fault =
+    IsUnconnected g image fault
+    ⊎ ((old new : Held (FileStore D g)) × (IsCleanAt over_files new → IsFileRefused image is_new (file_state old) (file_state new) fault))
+
+-- it is opened, or this is why it isn't
+abbrev pub OpensOr : {D : Type 0} {g : disk.Ghosts D} → Image → Bool → Result (DeskValue × VaultValue (FileStore D g)) OpenFault → Type 0
+OpensOr {D} {g} image is_new result = IfErr result (IsFileUnopened g image is_new)
+
+-- The file at a path is opened, or this is why it isn't: the look at the path gave no file that may be a database, or as above.
+abbrev pub OpensPathOr : {D : Type 0} {g : disk.Ghosts D} → Image → Result (DeskValue × VaultValue (FileStore D g)) OpenFault → Type 0
+OpensPathOr {D} {g} image result = IfErr result (λ fault. IsOfLook fault ⊎ ((is_new : Bool) × IsFileUnopened g image is_new fault))

@@ -1,5 +1,5 @@
 //! The opening of a file.
-ghost use Rattle.std.specs.Prelude.{◌≡◌, ◌≢◌, false, IfErr, IfOk, IsTrue, MatchResult};
+ghost use Rattle.std.specs.Prelude.{◌≡◌, ◌≢◌, ◌↔◌, ◌<◌, false, Err, IfErr, IfOk, IsTrue, MatchResult};
 ghost use Rattle.permits.specs.declared.pool.TheConstants.{PARTS};
 ghost use Rattle.sqlite.specs.Files.{file_state, over_files, IsOpened};
 ghost use Rattle.sqlite.specs.Held.{state};
@@ -10,10 +10,10 @@ ghost use Rattle.spool_sql.specs.Steps.{IfClean};
 ghost use Rattle.spool_sql.specs.Tables.{no_schema, relay_schema};
 ghost use Rattle.spool.specs.Adopting.{HaveHistory, IsOnlyRead};
 ghost use Rattle.desk.specs.Desks.{HasNothingOut};
-ghost use Rattle.recovery.specs.Files.{IsFileOpened, IsFoundOpened};
+ghost use Rattle.recovery.specs.Files.{IsFileOpened, IsFoundOpened, OpensOr, OpensPathOr};
 ghost use Rattle.recovery.specs.Left.{IsCleanAt};
 ghost use Rattle.recovery.specs.Openings.{LeavesOr};
-ghost use Rattle.recovery.specs.Paths.{IsOfOpen, IsOfPath, unopened_fault};
+ghost use Rattle.recovery.specs.Paths.{ConnectsOr, IsOfLook, IsOfOpen, IsOfPath, IsToldUnfit, unopened_fault};
 ghost use Rattle.recovery.specs.Reopenings.{IsOfReading, IsOfRows, IsReadingRefusal, IsUnopened};
 
 use crate::opening::create;
@@ -39,6 +39,14 @@ const OWNER_ALONE: u32 = 0o600;
 
 const CANNOT_OPEN: OpenFault = OpenFault::Store(Error::SqliteFailure(ErrorCode::CannotOpen));
 
+/// Whether nothing stands at the path, or an empty file. A file that is too short to be a database is `NotOurs`; a log beside no file
+/// can't be opened.
+pub fn is_new_file(rt: &HostRuntime, path: &str) -> Result<bool, OpenFault>
+    ensures fault { IfErr result IsOfLook }
+{
+    is_new_at(length_of(rt, path)?)
+}
+
 /// The desk and the vault of the file at the path. Where nothing stands there, or an empty file, a store of the empty history is
 /// made; every other file is opened as by `reopen`, and isn't written. `start` stands for what the file and its log hold.
 ///
@@ -59,36 +67,58 @@ pub fn open_path<L: Ledger, T: Start>(
     ensures out { IfOk result (λ opening. HasNothingOut opening.0) }
     ensures opened { IfOk result (λ opening. IsCleanAt over_files opening.1.conn
         → IsFileOpened over_files (image_at T.Start) opening.0 opening.1) }
+    ensures refused { OpensPathOr (image_at T.Start) result }
 {
-    let (conn, is_new) = connect(rt, path, start)?;
+    let is_new = is_new_file(rt, path)?;
+    open_file(rt, blank, path, is_new, start, mark)
+}
+
+// The same of a file of which it is known whether it is new.
+fn open_file<L: Ledger, T: Start>(
+    rt: &HostRuntime,
+    blank: Blank,
+    path: &str,
+    is_new: bool,
+    start: T,
+    mark: u64,
+) -> Result<(Desk<L>, Vault<FileStore<FileFrom<T>>>), OpenFault>
+    requires name { blank.name ≡ L.name }
+    requires parts { blank.parts ≡ L.parts }
+    requires enough { blank.parts ≡ PARTS }
+    ensures mark { IfOk result (λ opening. (opening.0.waiting.mark ≡ mark) × (opening.1.mark ≡ mark)) }
+    ensures out { IfOk result (λ opening. HasNothingOut opening.0) }
+    ensures opened { IfOk result (λ opening. IsCleanAt over_files opening.1.conn
+        → IsFileOpened over_files (image_at T.Start) opening.0 opening.1) }
+    ensures refused { OpensOr (image_at T.Start) is_new result }
+{
+    let conn = connect(rt, path, is_new, start)?;
     match open(rt.alloc(), blank, conn, is_new, mark) {
         Ok(opening) => Ok(opening),
-        Err((_, fault)) => Err(fault),
+        Err((_back, fault)) => Err(fault),
     }
 }
 
-/// The connection to the file at the path, and whether nothing stood there, or an empty file. It is outside a transaction.
+/// The connection to the file at the path, which is made first if it `is_new`. It is outside a transaction.
 pub fn connect<T: Start>(
     rt: &HostRuntime,
     path: &str,
+    is_new: bool,
     start: T,
-) -> Result<(Connection<FileStore<FileFrom<T>>>, bool), OpenFault>
-    ensures outside { IfOk result (λ found. found.0.in_transaction ≡ false) }
-    ensures opened { IfOk result (λ found. IsCleanAt over_files found.0 → IsOpened found.0) }
-    ensures finds { IfOk result (λ found. IsCleanAt over_files found.0
-        → FindsIn (image_at T.Start) (file_state found.0)) }
+) -> Result<Connection<FileStore<FileFrom<T>>>, OpenFault>
+    ensures outside { IfOk result (λ conn. conn.in_transaction ≡ false) }
+    ensures opened { IfOk result (λ conn. IsCleanAt over_files conn → IsOpened conn) }
+    ensures finds { IfOk result (λ conn. IsCleanAt over_files conn
+        → FindsIn (image_at T.Start) (file_state conn)) }
+    ensures refused { ConnectsOr (image_at T.Start) result }
     ensures cause { IfErr result IsOfOpen }
 {
-    let length = length_of(rt, path)?;
-    if 0 < length && length < HEADER_LENGTH {
-        return Err(OpenFault::NotOurs);
-    }
-    if length == 0 {
+    if is_new {
         make_private(rt, path)?;
     }
     match Connection::open_from(rt, path, false, start) {
-        Ok(conn) => Ok((conn, length == 0)),
-        Err((error, mut left)) => Err(refusal_of(rt.alloc(), error, left.as_mut())),
+        Ok(conn) => Ok(conn),
+        Err((error, None)) => Err(unopened_fault(error)),
+        Err((error, Some(mut left))) => Err(refusal_of(rt.alloc(), error, &mut left)),
     }
 }
 
@@ -151,6 +181,18 @@ fn make_private(rt: &HostRuntime, path: &str) -> Result<(), OpenFault>
     }
 }
 
+// Whether a file of so many bytes is new.
+fn is_new_at(length: u64) -> Result<bool, OpenFault>
+    ensures short { (result ≡ Err OpenFault.NotOurs) ↔ (0 < length) × (length < 16) }
+    ensures fault { IfErr result (λ fault. fault ≡ OpenFault.NotOurs) }
+    ensures new { IfOk result (λ is_new. IsTrue is_new ↔ (length ≡ 0)) }
+{
+    if 0 < length && length < HEADER_LENGTH {
+        return Err(OpenFault::NotOurs);
+    }
+    Ok(length == 0)
+}
+
 // How long the file at the path is in bytes, and 0 where nothing stands there. A log that lies beside no file holds what somebody's store
 // held, and an open would cut it.
 fn length_of(rt: &HostRuntime, path: &str) -> Result<u64, OpenFault>
@@ -183,21 +225,28 @@ fn length_at(rt: &HostRuntime, path: &str) -> Result<Option<u64>, OpenFault>
     }
 }
 
-// As what the store's refusal of an open is told. Where the store was read, and its rows break its schema, `meta` tells whose it is.
-fn refusal_of<T: Start>(
-    alloc: Global,
-    error: Error,
-    left: Option<&mut Leftover<FileFrom<T>>>,
-) -> OpenFault
+// As what the store's refusal of an open is told, by what it left of the files. If the store was read, and its rows break its schema,
+// `meta` tells whose it is.
+fn refusal_of<T: Start>(alloc: Global, error: Error, left: &mut Leftover<FileFrom<T>>) -> OpenFault
     ensures rows { IsOfRows result → error ≡ Error.SqliteFailure ErrorCode.NotADatabase }
+    ensures unfit { error ≡ Error.SqliteFailure ErrorCode.NotADatabase → IsToldUnfit left.old result }
     ensures told { error ≢ Error.SqliteFailure ErrorCode.NotADatabase → result ≡ unopened_fault error }
     ensures cause { IsTrue (is_open_error error) → IsOfOpen result }
 {
     match error {
         Error::SqliteFailure(ErrorCode::NotADatabase) => match left {
-            Some(Leftover::Store(store)) => OpenFault::from(judge_unsound(store, alloc)),
+            Leftover::Store(store) => OpenFault::from(judge_unsound(store, alloc)),
             _ => OpenFault::NotOurs,
         },
+        other => unopened_fault(other),
+    }
+}
+
+// As what every other refusal of an open is told.
+fn unopened_fault(error: Error) -> OpenFault
+    ensures { result ≡ unopened_fault error }
+{
+    match error {
         Error::SqliteFailure(ErrorCode::OutOfMemory) => OpenFault::OutOfMemory,
         other => OpenFault::Store(other),
     }

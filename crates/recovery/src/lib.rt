@@ -6,6 +6,6 @@ mod opening;
 mod reading;
 mod reopening;
 
-pub use crate::file::{connect, open, open_path};
+pub use crate::file::{connect, is_new_file, open, open_path};
 pub use crate::opening::create;
 pub use crate::reopening::reopen;

@@ -1,5 +1,5 @@
 //! The desk of what a vault holds.
-ghost use Rattle.std.specs.Prelude.{◌≡◌, List, [], false, IfErr, IfOk, MatchResult};
+ghost use Rattle.std.specs.Prelude.{◌≡◌, List, [], false, IfErr, IfOk, IsTrue, MatchResult};
 ghost use Rattle.relay_types.specs.declared.record.Record.{Record};
 ghost use Rattle.spool_sql.specs.Steps.{IfClean};
 ghost use Rattle.spool.specs.Adopting.{IsReadOpen, LeavesRead};
@@ -32,6 +32,8 @@ pub(crate) fn with_desk<L: Ledger, S: Alter>(
     ensures cause { IfErr result (λ back. IsOfReading back.1) }
     ensures sound { IfErr result (λ back. IfClean S.Store vault.conn back.0
         (λ a b. (history : List Record) → Holds S.Store vault history → IsReadingRefusal a b back.1)) }
+    ensures seen { IfErr result (λ back. back.1 ≡ OpenFault.OutOfMemory
+        → IfClean S.Store vault.conn back.0 (λ _ b. IsTrue b.is_open)) }
     ensures read { MatchResult result (λ opening. IfClean S.Store vault.conn opening.1.conn IsReadOpen)
         (λ back. IfClean S.Store vault.conn back.0 (λ a b. LeavesRead a b back.1)) }
     ensures clean { MatchResult result

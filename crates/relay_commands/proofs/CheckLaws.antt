@@ -3,9 +3,12 @@ use Rattle.std.proofs.Common.{◌≡◌, [], Result, Ok, Err, Some, inl, inr}
 use Rattle.sqlite.specs.Store.{Ghosts}
 use Rattle.sqlite.specs.State.{State, IsLive, Opens}
 use Rattle.sqlite.specs.Effect.{Database}
-use Rattle.sqlite.specs.Held.{Held, state}
+use Rattle.sqlite.specs.Files.{file_state, over_files, IsOpened}
+use Rattle.sqlite.specs.Held.{Held}
 use Rattle.sqlite.specs.Recovery.{Image}
 use Rattle.sqlite.specs.Start.{FindsIn}
+use Rattle.sqlite_disk.specs.declared.Disk as disk
+use Rattle.sqlite_store.specs.declared.store.FileStore.{FileStore}
 use Rattle.relay_types.specs.Records.{History, records_of}
 use Rattle.relay_types.specs.Legal.{IsLegal}
 use Rattle.relay_types.specs.Rows.{rows_of}
@@ -52,16 +55,16 @@ says_of old new Damaged (inr (none, rows, sound)) = absurd none
 says_of old new (Store error) unopened = tt
 says_of old new OutOfMemory unopened = tt
 
-pub counted_in : {S : Type 0} (g : Ghosts S) (image : Image) (old new : Held S) (counted : Result Totals OpenFault) → (IsCleanAt g new → IsCleanAt g old)
-    → (IsCleanAt g old → Opens (state g old) × IsLive (state g old)) → (IsCleanAt g old → FindsIn image (state g old)) → IsCounted g old new counted
-    → IsCountedIn g image (Some new) counted
-counted_in g image old new (Ok t) clean opened finds is = λ now.
+pub counted_in : {D : Type 0} {g : disk.Ghosts D} (image : Image) (old new : Held (FileStore D g)) (counted : Result Totals OpenFault) → (IsCleanAt over_files new → IsCleanAt over_files old)
+    → (IsCleanAt over_files old → IsOpened old) → (IsCleanAt over_files old → FindsIn image (file_state old)) → IsCounted over_files old new counted
+    → IsCountedIn image (Some new) counted
+counted_in image old new (Ok t) clean opened finds is = λ now.
     let before = clean now in
-    totals_in image (state g old) t (opened before).1 (opened before).0 (finds before) (is now)
-counted_in g image old new (Err why) clean opened finds is = λ now.
+    totals_in image (file_state old) t (opened before).1 (opened before).0 (finds before) (is now)
+counted_in image old new (Err why) clean opened finds is = λ now.
     let before = clean now in
     record {
-      found = (state g old).now;
-      finds = finds_trees image (state g old) (opened before).0 (finds before);
-      says = λ ours. says_of (state g old) (state g new) why (is now ours);
+      found = (file_state old).now;
+      finds = finds_trees image (file_state old) (opened before).0 (finds before);
+      says = λ ours. says_of (file_state old) (file_state new) why (is now ours);
     }

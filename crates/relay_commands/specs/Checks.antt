@@ -5,7 +5,9 @@ use Rattle.sqlite.specs.Store.{Ghosts}
 use Rattle.sqlite.specs.Effect.{Database}
 use Rattle.sqlite.specs.Held.{Held}
 use Rattle.sqlite.specs.Recovery.{Image}
-use Rattle.sqlite.specs.Files.{AreFoundIn}
+use Rattle.sqlite.specs.Files.{AreFoundIn, over_files}
+use Rattle.sqlite_disk.specs.declared.Disk as disk
+use Rattle.sqlite_store.specs.declared.store.FileStore.{FileStore}
 use Rattle.relay_types.specs.Records.{History, records_of}
 use Rattle.relay_types.specs.Legal.{IsLegal}
 use Rattle.relay_types.specs.Rows.{Rows, rows_of}
@@ -23,6 +25,7 @@ use Rattle.desk.specs.Looks.{totals}
 use Rattle.desk.specs.declared.pages.Totals.{Totals}
 use Rattle.recovery.specs.Files.{HoldsRows}
 use Rattle.recovery.specs.Left.{IsCleanAt}
+use Rattle.recovery.specs.Paths.{IsOfLook, IsUnconnected}
 use Rattle.recovery.specs.Reopenings.{IsUnopened, opening_of, steps_from}
 use Rattle.text_lines.specs.declared.fault.StreamFault.TheVariants.{Write, OutOfMemory}
 use Rattle.text_lines.specs.Parts.{line}
@@ -80,13 +83,13 @@ pub record IsRefusedIn (image : Image) (why : OpenFault) : Type 0 where
   pub finds : AreFoundIn image found.trees
   pub says : found.schema ≡ relay_schema → SaysOf found why
 
--- What was counted of the file that held so much, where it was opened, and while its disk returns what was written. Why a file wasn't opened
--- says nothing of it.
-abbrev pub IsCountedIn : {S : Type 0} → Ghosts S → Image → (opened : Option (Held S)) → Result Totals OpenFault → Type 0
-IsCountedIn g image (Some conn) (Ok t) = IsCleanAt g conn → AreTotalsIn image t
-IsCountedIn g image (Some conn) (Err why) = IsCleanAt g conn → IsRefusedIn image why
-IsCountedIn g image None (Ok t) = ⊥
-IsCountedIn g image None (Err why) = Unit {0}
+-- What was counted of the file that held so much, where it was opened, and while its disk returns what was written. Otherwise why it wasn't:
+-- the look at the path gave no file, or there is no connection to it.
+abbrev pub IsCountedIn : {D : Type 0} {g : disk.Ghosts D} → Image → (opened : Option (Held (FileStore D g))) → Result Totals OpenFault → Type 0
+IsCountedIn image (Some conn) (Ok t) = IsCleanAt over_files conn → AreTotalsIn image t
+IsCountedIn image (Some conn) (Err why) = IsCleanAt over_files conn → IsRefusedIn image why
+IsCountedIn image None (Ok t) = ⊥
+IsCountedIn {D} {g} image None (Err why) = IsOfLook why ⊎ IsUnconnected g image why
 
 -- what is written of the totals where their line isn't: a front of it where the writer failed, and nothing without memory
 abbrev pub WritesFront : Totals → Option (List ℕ) → Option (List ℕ) → CommandFault → Type 0
@@ -111,7 +114,7 @@ ChecksTo g conn back old new untold told status =
     (counted : Result Totals OpenFault) × IsCounted g conn back counted × ReportsChecked counted old new untold told status
 
 -- the same, of what was counted of a file
-abbrev pub ChecksFileTo : {S : Type 0} → Ghosts S → Image → (opened : Option (Held S))
+abbrev pub ChecksFileTo : {D : Type 0} {g : disk.Ghosts D} → Image → (opened : Option (Held (FileStore D g)))
     → Option (List ℕ) → Option (List ℕ) → Option (List ℕ) → Option (List ℕ) → ℕ → Type 0
-ChecksFileTo g image opened old new untold told status =
-    (counted : Result Totals OpenFault) × IsCountedIn g image opened counted × ReportsChecked counted old new untold told status
+ChecksFileTo image opened old new untold told status =
+    (counted : Result Totals OpenFault) × IsCountedIn image opened counted × ReportsChecked counted old new untold told status

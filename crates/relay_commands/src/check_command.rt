@@ -1,7 +1,6 @@
 //! `relayd check`: how much the store in a file holds.
 ghost use Rattle.std.specs.Prelude.{◌≡◌, false, Some};
 ghost use Rattle.permits.specs.declared.pool.TheConstants.{PARTS};
-ghost use Rattle.sqlite.specs.Files.{over_files};
 ghost use Rattle.sqlite.specs.WalFiles.{image_at};
 ghost use Rattle.spool_sql.specs.Steps.{IfClean};
 ghost use Rattle.spool.specs.Adopting.{IsOnlyRead};
@@ -11,7 +10,7 @@ ghost use Rattle.relay_commands.specs.Checks.{IsCounted, ChecksSo, ChecksTo, Che
 use crate::ends::{CommandFault, end};
 use desk::Totals;
 use permits::PARTS;
-use recovery::{connect, open};
+use recovery::{connect, is_new_file, open};
 use spool::OpenFault;
 use sqlite::{Alter, Connection, FileFrom, FileStore, Start};
 use std::alloc::Global;
@@ -55,11 +54,15 @@ pub fn check_file<T: Start, O: Write, E: Write>(
     output: &mut O,
     errors: &mut E,
 ) -> (Option<Connection<FileStore<FileFrom<T>>>>, u8)
-    ensures checks { ChecksFileTo over_files (image_at T.Start) result.0 (O.contents output.old) (O.contents output.new)
+    ensures checks { ChecksFileTo (image_at T.Start) result.0 (O.contents output.old) (O.contents output.new)
         (E.contents errors.old) (E.contents errors.new) result.1 }
 {
-    match connect(rt, path, start) {
-        Ok((conn, is_new)) => {
+    let is_new = match is_new_file(rt, path) {
+        Ok(is_new) => is_new,
+        Err(fault) => return (None, end(errors, Err(CommandFault::from(fault)))),
+    };
+    match connect(rt, path, is_new, start) {
+        Ok(conn) => {
             let (conn, status) = check_store(rt.alloc(), conn, is_new, output, errors);
             (Some(conn), status)
         }
