@@ -4,6 +4,7 @@ mod MarkLaws
 pub mod NumberLaws
 pub mod PartLaws
 mod SecretWords
+mod SecretTexts
 pub mod StreamLaws
 pub mod CleanWords
 pub mod EndLaws

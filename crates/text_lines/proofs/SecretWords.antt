@@ -50,10 +50,19 @@ length-ReadSecrets [] (s ∷ secrets) h = absurd h
 length-ReadSecrets (w ∷ words) [] h = absurd h
 length-ReadSecrets (w ∷ words) (s ∷ secrets) h = ap suc (length-ReadSecrets words secrets h.1)
 
+-- as many words as secrets
+pub as_many : {A : Type 0} (text : A → List ℕ) (words : List A) (secrets : List (List ℕ)) → ReadSecrets (map text words) secrets → length words ≡ length secrets
+as_many text words secrets reads =
+    let same : length (map text words) ≡ length words = simp length-map in
+    sym same ∙ length-ReadSecrets (map text words) secrets reads
+
 some_word : (words secrets : List (List ℕ)) → ReadSecrets words secrets → IsTrue (is_between 1 4 (length secrets)) → words ≢ []
 some_word [] [] h many none = cc
 some_word [] (s ∷ secrets) h many none = h
 some_word (w ∷ words) secrets h many none = cc
+
+pub parts_of_secrets : (word : List ℕ) (secrets : List (List ℕ)) → IsSecretsWord word secrets → (texts : List (List ℕ)) × HasParts 44 word texts × AreSecretTexts texts secrets
+parts_of_secrets word secrets (words, e, (reads, many)) = (words, (e, some_word words secrets reads many, clean-secrets 44 words secrets refl reads), (reads, many))
 
 -- the texts of the secrets are the parts of the word
 pub the_words : (word : List ℕ) (parts secrets : List (List ℕ)) → HasParts 44 word parts → IsSecretsWord word secrets → AreSecretTexts parts secrets

@@ -15,6 +15,6 @@ pub use crate::limits::{MAX_LINE_BYTES, MAX_LINES, MAX_READS, MAX_WRITES};
 pub use crate::lines::{Lines, extend_within, read_into};
 pub use crate::output::{write_bytes, write_line};
 pub use crate::words::{
-    WordFault, is_word, read_body, read_max, read_moment, read_number, read_secrets, secrets_of,
-    split,
+    WordFault, count_words, is_secrets_word, is_word, read_body, read_max, read_moment,
+    read_number, read_secrets, secrets_of, split,
 };

@@ -1,6 +1,7 @@
 //! The words of a line.
-ghost use Rattle.std.specs.Prelude.{◌≡◌, ◌↔◌, ◌⊎◌, ℕ, ◌<◌, ◌^◌, List, false, IsTrue, IfOk, IfErr, IfSome, decimal, map};
-ghost use Rattle.relay_types.specs.Values.{is_moment, is_max_limit, is_body};
+ghost use Rattle.std.specs.Prelude.{◌≡◌, ◌↔◌, ◌⊎◌, ℕ, ◌<◌, ◌^◌, List, length, false, IsTrue, MatchBool, IfOk, IfErr, IfSome, decimal, map};
+ghost use Rattle.relay_types.specs.SecretText.{ReadsSecret};
+ghost use Rattle.relay_types.specs.Values.{is_between, is_moment, is_max_limit, is_body};
 ghost use Rattle.text_lines.specs.Parts.{HasParts, texts};
 ghost use Rattle.text_lines.specs.Words.{ReadSecrets, AreSecretTexts, IsSecretsWord, IsBodyWord, HasBodyLength};
 ghost use Rattle.text_lines.specs.WordFaults.{word_fault};
@@ -8,7 +9,9 @@ ghost use Rattle.text_lines.specs.declared.words.WordFault.TheVariants.{OutOfMem
 
 use hex::FromHexError;
 use itoa::Buffer;
-use relay_types::{Body, MaxLimit, Moment, MsgId, Name, ReadFault, Secret, Secrets, Target};
+use relay_types::{
+    Body, MAX_SECRETS, MaxLimit, Moment, MsgId, Name, ReadFault, Secret, Secrets, Target,
+};
 use std::alloc::{AllocError, Global};
 use std::convert::AsSlice;
 use std::sync::Arc;
@@ -53,6 +56,20 @@ fn split_at(alloc: Global, text: &[u8], mark: u8) -> Result<Vec<&[u8]>, AllocErr
     ensures { IfOk result (λ parts. HasParts mark text.now (texts parts.items)) }
 {
     text.split(|byte| *byte == mark).collect(alloc)
+}
+
+/// How many words a line has. It takes no memory.
+pub fn count_words(line: &[u8]) -> usize
+    ensures { (words : List (List ℕ)) → HasParts 32 line.now words → result ≡ length words }
+{
+    count_parts(line, b' ')
+}
+
+// How many parts the text has, between which the mark stands.
+fn count_parts(text: &[u8], mark: u8) -> usize
+    ensures { (parts : List (List ℕ)) → HasParts mark text.now parts → result ≡ length parts }
+{
+    text.split(|byte| *byte == mark).count()
 }
 
 /// Whether the word is this one.
@@ -100,25 +117,66 @@ pub fn read_max(word: &[u8]) -> Result<MaxLimit, ReadFault>
     }
 }
 
-/// One to four secrets, with commas between, the newest first.
+/// One to four secrets, with commas between, the newest first. Memory is taken once the word is read.
 pub fn read_secrets(alloc: Global, word: &[u8]) -> Result<Secrets, WordFault>
     ensures value { IfOk result (λ secrets. IsSecretsWord word.now secrets) }
     ensures bad { result ≡ Err WordFault.Bad
         → (secrets : List (List ℕ)) → IsSecretsWord word.now secrets → ⊥ }
+    ensures lacked { result ≡ Err WordFault.OutOfMemory
+        → (secrets : List (List ℕ)) × IsSecretsWord word.now secrets }
 {
+    if !is_secrets_word(word) {
+        return Err(WordFault::Bad);
+    }
     let texts = split_at(alloc, word, b',')?;
     Ok(secrets_of(alloc, texts.as_slice())?)
 }
 
-/// The secrets of one to four texts, the newest first.
+/// Whether the word has one to four secrets, with commas between. It takes no memory.
+pub fn is_secrets_word(word: &[u8]) -> bool
+    ensures { MatchBool result ((secrets : List (List ℕ)) × IsSecretsWord word.now secrets)
+        ((secrets : List (List ℕ)) → IsSecretsWord word.now secrets → ⊥) }
+{
+    count_parts(word, b',') <= MAX_SECRETS && are_secrets(word)
+}
+
+// Whether each part between commas is the text of a secret.
+fn are_secrets(word: &[u8]) -> bool
+    ensures { MatchBool result
+        ((texts : List (List ℕ)) × (secrets : List (List ℕ)) × HasParts 44 word.now texts × ReadSecrets texts secrets)
+        ((texts : List (List ℕ)) (secrets : List (List ℕ)) → HasParts 44 word.now texts → ReadSecrets texts secrets → ⊥) }
+{
+    word.split(|byte| *byte == b',')
+        .all(|text| is_secret_text(text))
+}
+
+fn is_secret_text(text: &[u8]) -> bool
+    ensures { MatchBool result ((secret : List ℕ) × ReadsSecret text.now secret)
+        ((secret : List ℕ) → ReadsSecret text.now secret → ⊥) }
+{
+    Secret::read(text).is_ok()
+}
+
+/// The secrets of one to four texts, the newest first. Memory is taken once the texts are read.
 pub fn secrets_of<T: AsSlice<u8>>(alloc: Global, texts: &[T]) -> Result<Secrets, ReadFault>
     ensures value { IfOk result (λ secrets. AreSecretTexts (map T.items texts.now) secrets) }
     ensures bad { result ≡ Err ReadFault.BadSecret
         → (secrets : List (List ℕ)) → AreSecretTexts (map T.items texts.now) secrets → ⊥ }
+    ensures lacked { result ≡ Err ReadFault.OutOfMemory
+        → (secrets : List (List ℕ)) × AreSecretTexts (map T.items texts.now) secrets }
     ensures refusal { IfErr result (λ fault. (fault ≡ ReadFault.BadSecret) ⊎ (fault ≡ ReadFault.OutOfMemory)) }
 {
+    if !is_count_of_secrets(texts.len()) {
+        return Err(ReadFault::BadSecret);
+    }
     let secrets = read_each(alloc, texts)?;
     Secrets::of(secrets.as_slice())
+}
+
+fn is_count_of_secrets(count: usize) -> bool
+    ensures { result ≡ is_between 1 4 count }
+{
+    (1..=MAX_SECRETS).contains(&count)
 }
 
 // The secrets of the texts.
@@ -126,8 +184,13 @@ fn read_each<T: AsSlice<u8>>(alloc: Global, texts: &[T]) -> Result<Vec<Secret>, 
     ensures value { IfOk result (λ secrets. ReadSecrets (map T.items texts.now) secrets.items) }
     ensures bad { result ≡ Err ReadFault.BadSecret
         → (secrets : List (List ℕ)) → ReadSecrets (map T.items texts.now) secrets → ⊥ }
+    ensures lacked { result ≡ Err ReadFault.OutOfMemory
+        → (secrets : List (List ℕ)) × ReadSecrets (map T.items texts.now) secrets }
     ensures refusal { IfErr result (λ fault. (fault ≡ ReadFault.BadSecret) ⊎ (fault ≡ ReadFault.OutOfMemory)) }
 {
+    if !are_read(texts) {
+        return Err(ReadFault::BadSecret);
+    }
     let mut secrets = Vec::new(alloc);
     for text in texts {
         let secret = Secret::read(text.as_slice())?;
@@ -136,6 +199,19 @@ fn read_each<T: AsSlice<u8>>(alloc: Global, texts: &[T]) -> Result<Vec<Secret>, 
         }
     }
     Ok(secrets)
+}
+
+// Whether each of these is the text of a secret.
+fn are_read<T: AsSlice<u8>>(texts: &[T]) -> bool
+    ensures { MatchBool result ((secrets : List (List ℕ)) × ReadSecrets (map T.items texts.now) secrets)
+        ((secrets : List (List ℕ)) → ReadSecrets (map T.items texts.now) secrets → ⊥) }
+{
+    for text in texts {
+        if !is_secret_text(text.as_slice()) {
+            return false;
+        }
+    }
+    true
 }
 
 /// The body of an event: two hexadecimal digits of either case for a byte, or `-` for the empty one.
