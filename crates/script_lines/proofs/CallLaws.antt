@@ -1,8 +1,9 @@
 -- A call by its first word, and by the words behind it.
 use Rattle.std.proofs.Common.{◌≡◌, ◌≤◌, ◌-◌, suc, drop, take, ◌==◌, subst, length, get_or, arith, ℕ, Bool, true, false, List, [], ◌∷◌, codes, refl, sym, ap, ◌∙◌}
 use Rattle.std.specs.Prelude.{bytes_eq, ◌&&◌, decimal, IsTrue}
-use Rattle.relay_types.specs.Values.{is_moment, is_msg_id, is_name}
+use Rattle.relay_types.specs.Values.{is_moment, is_msg_id, is_name, is_target, is_max_limit}
 use Rattle.std.specs.Borrow.{Bor}
+use Rattle.std.proofs.lemmas.Bool.{and_parts}
 use Rattle.std.proofs.lemmas.List.{length-map}
 use Rattle.std.proofs.Math.Seq.{take-length}
 use Rattle.text_lines.specs.Parts.{texts}
@@ -163,6 +164,12 @@ put_secrets a b c d name target max secrets (word, reads, e, valid) =
     let same : word ≡ d = cc in
     subst (λ xs. IsSecretsWord xs secrets) same reads
 
+pub put_max : (a b c d name target : List ℕ) (max : ℕ) (secrets : List (List ℕ)) → IsPut (a ∷ b ∷ c ∷ d ∷ []) name target max secrets → (c ≡ decimal max) × IsTrue (is_max_limit max)
+put_max a b c d name target max secrets (word, reads, e, valid) =
+    let same : c ≡ decimal max = cc in
+    let rest = (and_parts (is_name name) (is_target target && is_max_limit max) valid).1 in
+    (same, (and_parts (is_target target) (is_max_limit max) rest).1)
+
 pub new_secrets : (a b name : List ℕ) (secrets : List (List ℕ)) → IsSecrets (a ∷ b ∷ []) name secrets → IsSecretsWord b secrets
 new_secrets a b name secrets (word, reads, e, valid) =
     let same : word ≡ b = cc in
@@ -170,11 +177,8 @@ new_secrets a b name secrets (word, reads, e, valid) =
 
 -- ---- words for which memory may be lacking
 
-pub lacks_put : (words : List (Bor (List ℕ))) (a b c d : List ℕ) → texts words ≡ a ∷ b ∷ c ∷ d ∷ [] → IsTrue (is_name a) → MayLackForPut (texts words)
-lacks_put words a b c d is named = (a, b, c, d, is, named)
-
-pub lacks_secrets : (words : List (Bor (List ℕ))) (a b : List ℕ) → texts words ≡ a ∷ b ∷ [] → IsTrue (is_name a) → MayLackForSecrets (texts words)
-lacks_secrets words a b is named = (a, b, is, named)
+pub lacks_secrets : (name word : List ℕ) → IsTrue (is_name name) → (secrets : List (List ℕ)) × IsSecretsWord word secrets → MayLackForSecrets (name ∷ word ∷ [])
+lacks_secrets name word named (secrets, reads) = (name, secrets, (word, reads, refl, named))
 
 pub lacks_submit : (words : List (Bor (List ℕ))) (a b c d : List ℕ) → texts words ≡ a ∷ b ∷ c ∷ d ∷ [] → (moment : ℕ) × (a ≡ decimal moment) × IsTrue (is_moment moment && (is_name b && is_msg_id c)) → MayLackForSubmit (texts words)
 lacks_submit words a b c d is (moment, same, valid) = (moment, b, c, d, is ∙ ap (λ w. w ∷ b ∷ c ∷ d ∷ []) same, valid)

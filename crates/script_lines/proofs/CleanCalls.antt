@@ -1,17 +1,17 @@
 -- No space stands in a word of a call, so the words of a line tell its call.
-use Rattle.std.proofs.Common.{◌≡◌, ◌≢◌, ℕ, ◌<◌, ◌^◌, arith, true, false, List, [], ◌∷◌, decimal, codes, IsTrue, refl, sym, subst, lit<}
+use Rattle.std.proofs.Common.{◌≡◌, ◌≢◌, ℕ, suc, ◌<◌, ◌≤◌, ◌^◌, length, ap, arith, true, false, List, [], ◌∷◌, decimal, codes, IsTrue, refl, sym, subst, lit<}
 use Rattle.std.specs.Prelude.{◌&&◌, nat_le}
 use Rattle.std.specs.List.{list_all}
 use Rattle.std.proofs.lemmas.Bool.{and_parts}
 use Rattle.relay_types.specs.Values.{is_name, is_msg_id, is_target, is_max_limit, is_moment, is_body}
 use Rattle.text_lines.specs.Parts.{line, has_no, HasParts}
 use Rattle.text_lines.proofs.CleanWords.{clean-name, clean-id, clean-target, clean-decimal, clean-body, clean-secrets_word, at_most}
-use Rattle.text_lines.proofs.PartLaws.{parts_equal}
+use Rattle.text_lines.proofs.PartLaws.{parts_equal, HasParts-split}
 use Rattle.script_lines.specs.declared.call.Call.{Call}
 use Rattle.script_lines.specs.declared.call.Call.TheVariants as on
 use Rattle.retry_table.specs.declared.post.PostResult.{PostResult}
 use Rattle.retry_table.specs.declared.post.PostResult.TheVariants.{Answered, TimedOut, Unreached, Unsent}
-use Rattle.script_lines.specs.Script.{IsNamed, IsResult, call_word, AreArguments, IsCall, ReadsLine}
+use Rattle.script_lines.specs.Script.{IsNamed, IsResult, HasFewWords, call_word, AreArguments, IsCall, ReadsLine}
 
 four_clean : (a b c d : List ℕ) → IsTrue (has_no 32 a) → IsTrue (has_no 32 b) → IsTrue (has_no 32 c) → IsTrue (has_no 32 d) → IsTrue (list_all (has_no 32) (a ∷ b ∷ c ∷ d ∷ []))
 four_clean a b c d ha hb hc hd = rw (ha, hb, hc, hd) refl
@@ -95,3 +95,52 @@ parts_of_call text words call e (arguments, is, told) =
 pub the_call : (text : List ℕ) (parts : List (List ℕ)) (call : Call) → HasParts 32 text parts → ReadsLine text call → IsCall parts call
 the_call text parts call h (words, e, is) =
     subst (λ xs. IsCall xs call) (parts_equal 32 text words parts (parts_of_call text words call e is) h) is
+
+-- ---- how many words a line has
+
+length-result : (words : List (List ℕ)) (post : PostResult) → IsResult words post → length words ≤ 2
+length-result words (Answered status rtt) (e, valid, small) = let n : length words ≡ 2 = ap length e in omega (arith, n)
+length-result words (TimedOut rtt) (e, small) = let n : length words ≡ 2 = ap length e in omega (arith, n)
+length-result words Unreached e = let n : length words ≡ 1 = ap length e in omega (arith, n)
+length-result words Unsent e = let n : length words ≡ 1 = ap length e in omega (arith, n)
+
+length-alone : (words : List (List ℕ)) → words ≡ [] → length words ≤ 4
+length-alone words e = let n : length words ≡ 0 = ap length e in omega (arith, n)
+
+length-named : (words : List (List ℕ)) (name : List ℕ) → words ≡ name ∷ [] → length words ≤ 4
+length-named words name e = let n : length words ≡ 1 = ap length e in omega (arith, n)
+
+length-arguments : (words : List (List ℕ)) (call : Call) → AreArguments words call → length words ≤ 4
+length-arguments words (on.Put name target max secrets) (word, reads, e, valid) = let n : length words ≡ 4 = ap length e in omega (arith, n)
+length-arguments words (on.Secrets name secrets) (word, reads, e, valid) = let n : length words ≡ 2 = ap length e in omega (arith, n)
+length-arguments words (on.Enabled name flag) (e, valid) = length-named words name e
+length-arguments words (on.Submit now name id body) (word, reads, e, valid) = let n : length words ≡ 4 = ap length e in omega (arith, n)
+length-arguments words (on.Told seq) (e, small) = length-named words (decimal seq) e
+length-arguments words on.Seal e = length-alone words e
+length-arguments words on.Commit e = length-alone words e
+length-arguments words on.Settle e = length-alone words e
+length-arguments words on.Unseal e = length-alone words e
+length-arguments words on.Halt e = length-alone words e
+length-arguments words (on.Claim now) (e, valid) = length-named words (decimal now) e
+length-arguments words (on.Spend delivery now post) (results, told, e, small, valid) =
+    let n : length words ≡ suc (suc (length results)) = ap length e in
+    let few = length-result results post told in
+    omega (arith, n, few)
+length-arguments words (on.Limits name) (e, valid) = length-named words name e
+length-arguments words (on.ShowEndpoint name) (e, valid) = length-named words name e
+length-arguments words (on.Show name id) (e, valid) = let n : length words ≡ 2 = ap length e in omega (arith, n)
+
+-- more words than a call has
+pub many_words : (text : List ℕ) (count : ℕ) → ((words : List (List ℕ)) → HasParts 32 text words → count ≡ length words) → 5 < count
+    → (call : Call) → ReadsLine text call → ⊥
+many_words text count counts many call (words, e, (arguments, is, told)) =
+    let same = counts words (parts_of_call text words call e (arguments, is, told)) in
+    let long : length words ≡ suc (length arguments) = ap length is in
+    let few = length-arguments arguments call told in
+    omega (arith, same, many, long, few)
+
+pub few_words : (text : List ℕ) (count : ℕ) → ((words : List (List ℕ)) → HasParts 32 text words → count ≡ length words) → count ≤ 5 → HasFewWords text
+few_words text count counts few =
+    let is = HasParts-split 32 text in
+    let same = counts _ is in
+    (_, is, omega (arith, same, few))

@@ -1,10 +1,10 @@
 -- The lines of a script: which text stands for which call. A text that stands for none is a bad line. The grammar is told by
 -- printing: a line has these words, and one space between.
-use Rattle.std.specs.Prelude.{◌≡◌, ◌⊎◌, ℕ, ◌<◌, ◌^◌, true, false, ◌&&◌, List, [], ◌∷◌, IsTrue, codes, decimal}
+use Rattle.std.specs.Prelude.{◌≡◌, ◌⊎◌, ℕ, ◌<◌, ◌≤◌, ◌^◌, true, false, ◌&&◌, List, [], ◌∷◌, length, IsTrue, codes, decimal}
 use Rattle.relay_types.specs.Values.{Text, Seq, Seconds, is_name, is_msg_id, is_target, is_max_limit, is_body, is_moment, is_between}
 use Rattle.retry_table.specs.declared.post.PostResult.{PostResult}
 use Rattle.retry_table.specs.declared.post.PostResult.TheVariants.{Answered, TimedOut, Unreached, Unsent}
-use Rattle.text_lines.specs.Parts.{line}
+use Rattle.text_lines.specs.Parts.{line, HasParts}
 use Rattle.text_lines.specs.Words.{IsSecretsWord, IsBodyWord}
 use Rattle.script_lines.specs.declared.call.Call.{Call}
 use Rattle.script_lines.specs.declared.call.Call.TheVariants as on
@@ -127,12 +127,12 @@ AreArguments words (on.Limits name) = IsNamed words name
 AreArguments words (on.ShowEndpoint name) = IsNamed words name
 AreArguments words (on.Show name id) = IsShow words name id
 
--- Memory is taken for a target, for secrets and for a body, once the words before them were read. Other words lack none.
+-- Memory is taken for a target and for secrets once all words are read, and for a body once the words before it are. Other words lack none.
 abbrev pub MayLackForPut : List (List ℕ) → Type 0
-MayLackForPut words = (name target max secrets : List ℕ) × (words ≡ name ∷ target ∷ max ∷ secrets ∷ []) × IsTrue (is_name name)
+MayLackForPut words = (name : List ℕ) × (target : List ℕ) × (max : ℕ) × (secrets : List (List ℕ)) × IsPut words name target max secrets
 
 abbrev pub MayLackForSecrets : List (List ℕ) → Type 0
-MayLackForSecrets words = (name secrets : List ℕ) × (words ≡ name ∷ secrets ∷ []) × IsTrue (is_name name)
+MayLackForSecrets words = (name : List ℕ) × (secrets : List (List ℕ)) × IsSecrets words name secrets
 
 abbrev pub MayLackForSubmit : List (List ℕ) → Type 0
 MayLackForSubmit words = (now : ℕ) × (name id body : List ℕ) × (words ≡ decimal now ∷ name ∷ id ∷ body ∷ [])
@@ -144,9 +144,19 @@ MayLack word words =
     ((word ≡ codes "put") × MayLackForPut words)
     ⊎ (((word ≡ codes "secrets") × MayLackForSecrets words) ⊎ ((word ≡ codes "submit") × MayLackForSubmit words))
 
+-- the call has a target or a body, which several calls can share
+abbrev pub HasShared : Call → Type 0
+HasShared (on.Put name target max secrets) = Unit {0}
+HasShared (on.Submit now name id body) = Unit {0}
+HasShared call = ⊥
+
 -- the words of a call
 abbrev pub IsCall : List (List ℕ) → Call → Type 0
 IsCall words call = (arguments : List (List ℕ)) × (words ≡ call_word call ∷ arguments) × AreArguments arguments call
+
+-- the text has no more words than a call may have
+abbrev pub HasFewWords : List ℕ → Type 0
+HasFewWords text = (words : List (List ℕ)) × HasParts 32 text words × (length words ≤ 5)
 
 -- a text stands for the call whose words it has
 abbrev pub ReadsLine : List ℕ → Call → Type 0

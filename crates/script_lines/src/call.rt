@@ -1,5 +1,6 @@
 //! The calls of the core, and the line that isn't one.
-ghost use Rattle.std.specs.Prelude.{◌≡◌, IfOk};
+ghost use Rattle.std.specs.Prelude.{◌≡◌, IfOk, IsErr};
+ghost use Rattle.script_lines.specs.Script.{HasShared};
 
 use relay_types::{Body, MaxLimit, Moment, MsgId, Name, Secrets, Target};
 use retry_table::PostResult;
@@ -83,7 +84,8 @@ pub enum Line {
 impl Call {
     /// The same call for another holder. It copies no text and no body.
     pub fn share(&self) -> Result<Call, AllocError>
-        ensures { IfOk result (λ same. same ≡ self.now) }
+        ensures same { IfOk result (λ same. same ≡ self.now) }
+        ensures lacked { IsErr result → HasShared self.now }
     {
         match self {
             Call::Submit {

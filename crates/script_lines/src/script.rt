@@ -1,8 +1,8 @@
 //! The lines of a script: the calls that they stand for.
-ghost use Rattle.std.specs.Prelude.{◌≡◌, ℕ, List, [], ◌∷◌, ◌<◌, ◌^◌, ◌&&◌, IsTrue, IfErr, IfOk, IsErr, codes, decimal};
-ghost use Rattle.relay_types.specs.Values.{is_between, is_moment, is_msg_id, is_name};
+ghost use Rattle.std.specs.Prelude.{◌≡◌, ℕ, List, [], ◌∷◌, ◌<◌, ◌^◌, ◌&&◌, false, IsTrue, IfErr, IfOk, IsErr, codes, decimal};
+ghost use Rattle.relay_types.specs.Values.{is_between, is_moment, is_msg_id, is_name, is_target};
 ghost use Rattle.text_lines.specs.Parts.{texts};
-ghost use Rattle.script_lines.specs.Script.{ReadsLine, IsLine, HasOneLineAtMost, IsCall, MayLack, call_word, AreArguments};
+ghost use Rattle.script_lines.specs.Script.{ReadsLine, IsLine, HasOneLineAtMost, HasFewWords, IsCall, MayLack, call_word, AreArguments};
 ghost use Rattle.script_lines.specs.Script.{MayLackForPut, MayLackForSecrets, MayLackForSubmit};
 ghost use Rattle.script_lines.specs.Script.{AreOfPut, AreOfSecrets, AreOfSubmit, AreOfSpend, AreOfShow, IsNamed, IsTold, IsClaim, IsResult};
 ghost use Rattle.script_lines.specs.Script.{AreOfNoPut, AreOfNoSecrets, AreOfNoSubmit, AreOfNoSpend, AreOfNoResult, AreOfNoName, AreOfNoEvent};
@@ -10,18 +10,23 @@ ghost use Rattle.script_lines.specs.declared.call.Call.{Call};
 ghost use Rattle.script_lines.specs.declared.call.Line.{Line};
 
 use crate::call::{Call, Line};
-use relay_types::{Moment, MsgId, Name, Target};
+use relay_types::{Moment, MsgId, Name, ReadFault, Target};
 use retry_table::{PostResult, Status};
 use std::alloc::Global;
 use text_lines::{
-    WordFault, is_word, read_body, read_max, read_moment, read_number, read_secrets, split,
+    WordFault, count_words, is_secrets_word, is_word, read_body, read_max, read_moment,
+    read_number, read_secrets, split,
 };
+
+// The most words of a call.
+const MAX_WORDS: usize = 5;
 
 /// What a line stands for. A stop takes no memory.
 pub fn read_line(alloc: Global, line: &[u8]) -> Result<Line, WordFault>
     ensures stands { IfOk result (λ read. IsLine line.now read) }
     ensures stop { line.now ≡ codes "stop" → result ≡ Ok Line.Stop }
     ensures bad { result ≡ Err WordFault.Bad → (other : Line) → ¬ IsLine line.now other }
+    ensures lacked { result ≡ Err WordFault.OutOfMemory → HasFewWords line.now }
 {
     if is_word(line, "stop") {
         return Ok(Line::Stop);
@@ -34,11 +39,15 @@ pub fn one_line_at_most()
     ensures { HasOneLineAtMost }
 {}
 
-/// The call that a line stands for.
+/// The call that a line stands for. Memory is taken only for a line of few words.
 pub fn read_call(alloc: Global, line: &[u8]) -> Result<Call, WordFault>
     ensures stands { IfOk result (λ call. ReadsLine line.now call) }
     ensures bad { result ≡ Err WordFault.Bad → (call : Call) → ¬ ReadsLine line.now call }
+    ensures lacked { result ≡ Err WordFault.OutOfMemory → HasFewWords line.now }
 {
+    if count_words(line) > MAX_WORDS {
+        return Err(WordFault::Bad);
+    }
     let words = split(alloc, line)?;
     read_words(alloc, words.as_slice())
 }
@@ -143,14 +152,33 @@ fn read_put_words(
 ) -> Result<Call, WordFault>
     ensures stands { IfOk result (λ call. AreOfPut (name.now ∷ url.now ∷ max.now ∷ secrets.now ∷ []) call) }
     ensures bad { result ≡ Err WordFault.Bad → AreOfNoPut (name.now ∷ url.now ∷ max.now ∷ secrets.now ∷ []) }
-    ensures lacked { result ≡ Err WordFault.OutOfMemory → IsTrue (is_name name.now) }
+    ensures lacked { result ≡ Err WordFault.OutOfMemory
+        → MayLackForPut (name.now ∷ url.now ∷ max.now ∷ secrets.now ∷ []) }
 {
+    let name = Name::read(name)?;
+    let max = read_max(max)?;
+    if !is_secrets_word(secrets) {
+        return Err(WordFault::Bad);
+    }
     Ok(Call::Put {
-        name: Name::read(name)?,
-        target: Target::read(alloc, url)?,
-        max: read_max(max)?,
+        name,
+        target: read_target(alloc, url)?,
+        max,
         secrets: read_secrets(alloc, secrets)?,
     })
+}
+
+fn read_target(alloc: Global, url: &[u8]) -> Result<Target, WordFault>
+    ensures value { IfOk result (λ target. target ≡ url.now) }
+    ensures valid { IfOk result (λ _. IsTrue (is_target url.now)) }
+    ensures bad { result ≡ Err WordFault.Bad → is_target url.now ≡ false }
+    ensures lacked { result ≡ Err WordFault.OutOfMemory → IsTrue (is_target url.now) }
+{
+    match Target::read(alloc, url) {
+        Ok(target) => Ok(target),
+        Err(ReadFault::OutOfMemory) => Err(WordFault::OutOfMemory),
+        Err(_) => Err(WordFault::Bad),
+    }
 }
 
 fn read_new_secrets(alloc: Global, arguments: &[&[u8]]) -> Result<Call, WordFault>
@@ -167,7 +195,7 @@ fn read_new_secrets(alloc: Global, arguments: &[&[u8]]) -> Result<Call, WordFaul
 fn read_new_secrets_words(alloc: Global, name: &[u8], secrets: &[u8]) -> Result<Call, WordFault>
     ensures stands { IfOk result (λ call. AreOfSecrets (name.now ∷ secrets.now ∷ []) call) }
     ensures bad { result ≡ Err WordFault.Bad → AreOfNoSecrets (name.now ∷ secrets.now ∷ []) }
-    ensures lacked { result ≡ Err WordFault.OutOfMemory → IsTrue (is_name name.now) }
+    ensures lacked { result ≡ Err WordFault.OutOfMemory → MayLackForSecrets (name.now ∷ secrets.now ∷ []) }
 {
     Ok(Call::Secrets {
         name: Name::read(name)?,

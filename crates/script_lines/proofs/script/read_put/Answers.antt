@@ -1,7 +1,7 @@
-use Rattle.std.proofs.Common.{arith, List, ℕ, subst}
-use Rattle.script_lines.specs.Script.{IsPut}
+use Rattle.std.proofs.Common.{arith, List, ℕ, subst, sym}
+use Rattle.script_lines.specs.Script.{IsPut, MayLackForPut}
 use borrow.Author.Tests.{ltb-true, ltb-false}
-use Rattle.script_lines.proofs.CallLaws.{four_texts, lacks_put, length-IsPut}
+use Rattle.script_lines.proofs.CallLaws.{four_texts, length-IsPut}
 use Rattle.script_lines.proofs.script.read_put.Goals as goal
 use Rattle.script_lines.proofs.script.read_put.Goals.{in_default-via-then-arguments-lt4, in_default-via-else-arguments-lt4+else-arguments-lt5}
 
@@ -16,4 +16,4 @@ returns-in-len4-clause-bad c = λ e of to most by h.
     (subst (λ (words : List (List ℕ)). IsPut words of to most by) (four_texts c.args.arguments.now _ (omega arith)) h)
 
 pub returns-in-len4-clause-lacked : goal.returns-in-len4-clause-lacked
-returns-in-len4-clause-lacked c = λ e. lacks_put c.args.arguments.now _ _ _ _ (four_texts c.args.arguments.now _ (omega arith)) (c.read_put_words.ensures.lacked e)
+returns-in-len4-clause-lacked c = λ e. subst MayLackForPut (sym (four_texts c.args.arguments.now _ (omega arith))) (c.read_put_words.ensures.lacked e)
