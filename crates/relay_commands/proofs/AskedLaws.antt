@@ -1,6 +1,6 @@
 -- What the parser's getters give, by the rows that it found.
-use Rattle.std.proofs.Common.{◌≡◌, ◌∙◌, ap, sym, subst, ℕ, List, Option, Some, None, Bor, refl}
-use Rattle.std.specs.Prelude.{option_map, Ok, Result}
+use Rattle.std.proofs.Common.{◌≡◌, ◌∙◌, ◌<◌, ◌^◌, ap, sym, subst, ℕ, List, Option, Some, None, Bor, refl}
+use Rattle.std.specs.Prelude.{option_map, Ok, Err, Result}
 use Rattle.std.specs.Str.Parse.{ParsesUnsigned}
 use Rattle.clap.specs.Words.{ReadsOne, first_of, first_value, one_text, rows_of}
 use Rattle.clap.specs.declared.parser.matches.Found.{Found}
@@ -29,3 +29,20 @@ number_found {E} gives found name result number parses none reads some = go (one
         let read : gives text (Ok number) = subst (λ (r : Option ℕ). ReadsOne gives text r) some (reads text is) in
         let parsed = parses text (Ok number) read in
         (text, sym (one_text-rows found name) ∙ is, parsed.0.0, parsed.1)
+
+-- a text that wasn't found is in no row
+pub text_missing : (found : Found) (name : List ℕ) (result : Option (Bor (List ℕ))) (text : List ℕ)
+    → option_map (λ s. s.now) result ≡ first_value found name → result ≡ None
+    → first_of name (rows_of found) ≡ Some text → ⊥
+text_missing found name result text is none there =
+    let bad : None ≡ Some text = sym (ap (option_map (λ (s : Bor (List ℕ)). s.now)) none) ∙ is ∙ first_value-rows found name ∙ there in
+    cc
+
+-- a number that wasn't found is in no row, or has more than 64 bits
+pub number_missing : {E : Type 0} (gives : List ℕ → Result ℕ E → Type 0) (found : Found) (name : List ℕ) (result : Option ℕ) (number : ℕ)
+    → ((text : List ℕ) (read : Result ℕ E) → gives text read → ParsesUnsigned 64 10 text read)
+    → ((text : List ℕ) → one_text found name ≡ Some text → ReadsOne gives text result)
+    → result ≡ None → number < 2 ^ 64 → HasNumber (rows_of found) name number → ⊥
+number_missing {E} gives found name result number parses reads none small (text, there, numeral, is) =
+    let read : ReadsOne gives text None = subst (λ (r : Option ℕ). ReadsOne gives text r) none (reads text (one_text-rows found name ∙ there)) in
+    parses text (Err read.0) read.1 (numeral, subst (λ (n : ℕ). n < 2 ^ 64) is small)

@@ -1,5 +1,5 @@
 -- What the words of `serve` ask for.
-use Rattle.std.specs.Prelude.{◌≡◌, ℕ, List, Some, codes}
+use Rattle.std.specs.Prelude.{◌≡◌, ◌<◌, ◌^◌, ℕ, List, Some, codes}
 use Rattle.std.specs.Str.Parse.{IsNumeral, digits_value, without_leading_plus}
 use Rattle.clap.specs.Words.{Row, first_of, one_of, subcommand_rows_of}
 use Rattle.clap.specs.declared.parser.matches.ArgMatches.{ArgMatches}
@@ -24,3 +24,15 @@ AskFor rows asked =
 -- the command line's subcommand is `serve`, with such arguments
 abbrev pub IsServeFor : ArgMatches → ServeWords → Type 0
 IsServeFor matches asked = (rows : List Row) × (subcommand_rows_of matches ≡ Some (codes "serve", rows)) × AskFor rows asked
+
+-- each number is one of 64 bits
+abbrev pub AreWithinBits : ServeWords → Type 0
+AreWithinBits asked = (asked.workers < 2 ^ 64) × (asked.intake < 2 ^ 64) × (asked.timeout < 2 ^ 64) × (asked.requests < 2 ^ 64)
+
+-- the arguments ask for nothing: one is missing, or is no such number
+abbrev pub AskForNothing : List Row → Type 0
+AskForNothing rows = (asked : ServeWords) → AreWithinBits asked → ¬ AskFor rows asked
+
+-- the command line has another subcommand than `serve`, or arguments that ask for nothing
+abbrev pub IsForNoServe : ArgMatches → Type 0
+IsForNoServe matches = (rows : List Row) → subcommand_rows_of matches ≡ Some (codes "serve", rows) → AskForNothing rows

@@ -13,7 +13,7 @@ use Rattle.vegas.specs.Vegas.{limit_of, noload_of, probes_of}
 use Rattle.vegas.specs.Estimators.{EstimatorValue, Explains, StandsFor, before_last}
 use Rattle.text_lines.specs.declared.fault.StreamFault.{StreamFault}
 use Rattle.text_lines.specs.Ends.{Ends}
-use Rattle.text_lines.specs.Parts.{line}
+use Rattle.text_lines.specs.Parts.{line, HasParts}
 use Rattle.text_lines.specs.Streams.{with_feed}
 use Rattle.relay_commands.specs.declared.ends.CommandFault.{CommandFault}
 use Rattle.relay_commands.specs.declared.ends.CommandFault.TheVariants.{Argument, Ended, File, Store}
@@ -46,6 +46,10 @@ ReadSamples (text ∷ texts) [] = ⊥
 -- the text stands for no sample
 abbrev pub IsNoSample : List ℕ → Type 0
 IsNoSample text = (x : Sample) → ReadsSample text x → ⊥
+
+-- the text has as many words as that of a sample
+abbrev pub HasThreeWords : List ℕ → Type 0
+HasThreeWords text = (words : List (List ℕ)) × HasParts 32 text words × (length words ≡ 3)
 
 -- a limit and a no-load time
 abbrev pub numbers_words : (limit noload : ℕ) → List (List ℕ)

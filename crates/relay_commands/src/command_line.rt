@@ -5,7 +5,7 @@ ghost use Rattle.text_lines.specs.declared.fault.StreamFault.TheVariants as comm
 ghost use Rattle.clap.specs.Words.{kind_of};
 ghost use Rattle.relay_commands.specs.declared.command_line.Outcome.TheVariants.{Exit};
 ghost use Rattle.relay_commands.specs.declared.ends.CommandFault.TheVariants.{Ended};
-ghost use Rattle.relay_commands.specs.Asked.{IsServeFor};
+ghost use Rattle.relay_commands.specs.Asked.{IsServeFor, IsForNoServe};
 ghost use Rattle.relay_commands.specs.Reports.{IsShownAs};
 
 use crate::check_command::check_file;
@@ -105,6 +105,7 @@ pub fn run<'a, S: AsStr, R: Read, O: Write, E: Write>(
 // What a relay that serves is told, where the words ask for one.
 fn serve_asked<'a>(matches: &ArgMatches<'a>) -> Option<ServeWords<'a>>
     ensures asked { IfSome result (IsServeFor matches.now) }
+    ensures none { result ≡ None → IsForNoServe matches.now }
 {
     match matches.subcommand() {
         Some(("serve", words)) => read_serve(words),

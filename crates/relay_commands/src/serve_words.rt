@@ -1,7 +1,7 @@
 //! The words of `relayd serve`.
-ghost use Rattle.std.specs.Prelude.{IfSome};
+ghost use Rattle.std.specs.Prelude.{◌≡◌, None, IfSome};
 ghost use Rattle.clap.specs.Words.{found_of, rows_of};
-ghost use Rattle.relay_commands.specs.Asked.{AskFor};
+ghost use Rattle.relay_commands.specs.Asked.{AskFor, AskForNothing};
 
 use clap::builder::ValueParser;
 use clap::{Arg, ArgAction, ArgMatches, Command};
@@ -32,6 +32,7 @@ pub struct ServeWords<'a> {
 // What the words ask for. All of them are there once the parser took them.
 pub(crate) fn read_serve<'a>(words: &ArgMatches<'a>) -> Option<ServeWords<'a>>
     ensures asked { IfSome result (AskFor (rows_of (found_of words.now))) }
+    ensures none { result ≡ None → AskForNothing (rows_of (found_of words.now)) }
 {
     Some(ServeWords {
         file: words.get_str("file")?,

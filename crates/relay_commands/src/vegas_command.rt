@@ -3,7 +3,7 @@ ghost use Rattle.std.specs.Prelude.{◌≡◌, ◌<◌, ◌≤◌, Bool, [], ◌
 ghost use Rattle.text_lines.specs.Parts.{line};
 ghost use Rattle.vegas.specs.declared.sample.Sample.{Sample as Taken};
 ghost use Rattle.vegas.specs.Estimators.{sample_of};
-ghost use Rattle.relay_commands.specs.Traces.{Traces, TracesSo, TracesTo, AnswersSample, ReadsSample, IsNoSample, IsSample, answer_words, end_word, estimator_words};
+ghost use Rattle.relay_commands.specs.Traces.{Traces, TracesSo, TracesTo, AnswersSample, ReadsSample, IsNoSample, HasThreeWords, IsSample, answer_words, end_word, estimator_words};
 
 use crate::ends::{CommandFault, end};
 use relay_types::MaxLimit;
@@ -11,8 +11,8 @@ use std::alloc::Global;
 use std::fmt;
 use std::io::{Read, Write};
 use text_lines::{
-    Answerer, LineFault, StreamFault, WordFault, answer_lines, is_word, read_max, read_number,
-    split,
+    Answerer, LineFault, StreamFault, WordFault, answer_lines, count_words, is_word, read_max,
+    read_number, split,
 };
 use vegas::{Estimator, State};
 
@@ -168,7 +168,11 @@ fn trace<R: Read, O: Write>(
 fn read_sample(alloc: Global, text: &[u8]) -> Result<Sample, WordFault>
     ensures stands { IfOk result (λ x. ReadsSample text.now (sample_of x.rtt x.inflight x.dropped)) }
     ensures bad { result ≡ Err WordFault.Bad → IsNoSample text.now }
+    ensures lacked { result ≡ Err WordFault.OutOfMemory → HasThreeWords text.now }
 {
+    if count_words(text) != 3 {
+        return Err(WordFault::Bad);
+    }
     let words = split(alloc, text)?;
     match words.as_slice() {
         [rtt, inflight, end] => read_words(rtt, inflight, end).ok_or(WordFault::Bad),

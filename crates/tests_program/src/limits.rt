@@ -8,7 +8,7 @@ use relay_types::{
     MAX_RECORDS, MAX_SECRET_BYTES, MAX_SECRETS, MAX_TARGET_BYTES,
 };
 use spool::MAX_BATCH_STEPS;
-use text_lines::{MAX_LINE_BYTES, MAX_LINES};
+use text_lines::{MAX_LINE_BYTES, MAX_LINES, MAX_READS, MAX_WRITES};
 
 #[test]
 fn keeps_the_limits_of_what_waits(rt: HostRuntime) {
@@ -38,4 +38,6 @@ fn keeps_the_limits_of_records(rt: HostRuntime) {
 fn keeps_the_limits_of_lines(rt: HostRuntime) {
     holds(&rt, MAX_LINE_BYTES == 140_000, "line", 0);
     holds(&rt, MAX_LINES == 1_000_000, "lines", 0);
+    holds(&rt, MAX_READS == 4_294_967_296, "reads", 0);
+    holds(&rt, MAX_WRITES == 4_294_967_296, "writes", 0);
 }

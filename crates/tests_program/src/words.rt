@@ -211,6 +211,27 @@ static SERVING: &[Serving] = &[
             ..USUAL
         },
     },
+    // the greatest of each number, and a long address
+    Serving {
+        words: &[
+            "relayd",
+            "serve",
+            "relay.db",
+            "[2001:0db8:0123:4567:89ab:cdef:0123:4567]:65535",
+            "--workers=64",
+            "--intake=64",
+            "--timeout=60",
+            "--requests=18446744073709551615",
+        ],
+        asked: ServeWords {
+            file: "relay.db",
+            address: "[2001:0db8:0123:4567:89ab:cdef:0123:4567]:65535",
+            workers: 64,
+            intake: 64,
+            timeout: 60,
+            requests: u64::MAX,
+        },
+    },
 ];
 
 // A relay that serves is asked for as the words say, and nothing is written.
