@@ -57,6 +57,7 @@ pub(crate) enum ValueCall {
     SecretWrite,
     SecretsOf,
     Split,
+    StepEvent,
     StepShare,
     TargetRead,
     TargetShare,
@@ -103,6 +104,7 @@ impl ValueCall {
             "script_lines Call::share" => Some(ValueCall::CallShare),
             "drill Event::share" => Some(ValueCall::EventShare),
             "Record::share" => Some(ValueCall::RecordShare),
+            "Step::event" => Some(ValueCall::StepEvent),
             "Step::share" => Some(ValueCall::StepShare),
             "Target::share" => Some(ValueCall::TargetShare),
             _ => None,
@@ -220,7 +222,11 @@ impl Values {
             ValueCall::Estimator => Ok(u64::from(Estimator::new(alloc, self.max)?.limit())),
             ValueCall::NewLog => log_told(alloc),
             ValueCall::CallShare => done(self.line.share()),
-            ValueCall::RecordShare => done(self.step.record().share()),
+            ValueCall::RecordShare => match self.step.records().first() {
+                Some(entry) => done(entry.share()),
+                None => Err(Told::Other),
+            },
+            ValueCall::StepEvent => step_told(alloc, self.id, &self.body, self.at),
             ValueCall::EventShare => done(self.event.share()),
             ValueCall::StepShare => done(self.step.share()),
             ValueCall::TargetShare => Ok(u64::from(self.target.share()?.port())),
@@ -329,6 +335,15 @@ fn log_told(alloc: Global) -> Result<u64, Told> {
         }
         Err(refused) => Err(Told::from(refused)),
     }
+}
+
+// How many records the step of an event at two endpoints has.
+fn step_told(alloc: Global, id: MsgId, body: &Body, at: Moment) -> Result<u64, Told> {
+    let (Ok(one), Ok(other)) = (Name::read(b"a"), Name::read(b"b")) else {
+        return Err(Told::Other);
+    };
+    let step = Step::event(alloc, &[one, other], id, body, at)?;
+    Ok(step.records().len() as u64)
 }
 
 // Ends a log that nothing is appended to.

@@ -15,7 +15,8 @@ use Rattle.desk.proofs.Words.{StandsFor, attempt_in, is_exhausted_in, with_gone,
 use Rattle.desk.proofs.Words.{◌&&◌, remove, IfNone, IfSome, IsErr, Result, Ok, Err, nat_lt, take-append_seam, ltb-true}
 use Rattle.desk.proofs.Words.{length-map, list_any, records_of, enabled_in, Change, HasChanges, changes_gone}
 use Rattle.desk.proofs.Words.{changes_other, all_weaker, QueueValue, ChangesMark, IsNew, HasSamePairs, is_reserved}
-use Rattle.desk.proofs.Words.{with_room, is_outcome, count_by_snoc, is_out, same_row, AreMarked, AreQueued, AreTied}
+use Rattle.group_commit.proofs.StepLaws.{outcomes_snoc}
+use Rattle.desk.proofs.Words.{with_room, count_by_snoc, is_out, same_row, AreMarked, AreQueued, AreTied}
 use Rattle.desk.proofs.Words.{HasPlaces, HasRoomForAll, Holds, KeepsRooms, endpoint_at, idle_pair, room_by, has_row}
 use Rattle.desk.proofs.Words.{HasOutcome, IsDesk, OverWorlds, Spends, TakesOutcome, map-append, MAX_WAITING_OUTCOMES}
 use Rattle.desk.proofs.Words.{SpentValue, outcomes_in, status_of}
@@ -351,7 +352,7 @@ queued_over d queue held row rest (Some s) at h is unused holds places = record 
 room_over : (d : DeskValue) (row : Row) (rest : List Row) (status : Option ℕ) (at : ℕ) → HasRoomForAll d.waiting d.live → length rest + 1 ≡ length d.live → HasRoomForAll (recorded d row at status) rest
 room_over d row rest None at h fewer = record { places = omega (arith, h.places, fewer); numbers = omega (arith, h.numbers, fewer) }
 room_over d row rest (Some s) at h fewer = record {
-  places = omega (arith, h.places, fewer, count_by_snoc is_outcome d.waiting.waiting (Outcome row.delivery (attempt_in d.deliveries row.delivery) s at ∷ []));
+  places = omega (arith, h.places, fewer, outcomes_snoc d.waiting.waiting (Outcome row.delivery (attempt_in d.deliveries row.delivery) s at));
   numbers = omega (arith, h.numbers, fewer, one_more d.waiting (Outcome row.delivery (attempt_in d.deliveries row.delivery) s at));
 }
 

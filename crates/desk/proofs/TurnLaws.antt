@@ -1,14 +1,17 @@
 -- What a desk hands out, and what becomes of it when it comes back.
 use Rattle.desk.proofs.Words.{◌≡◌, ℕ, ◌+◌, ◌-◌, ◌≤◌, Bool, true, false, [], ◌∷◌, Option, Some, None, length, take, drop}
-use Rattle.desk.proofs.Words.{map, refl, sym, ◌∙◌, ap, arith, cond, subst, eqb, max, List, ◌↔◌, option_map, Result, Ok}
+use Rattle.desk.proofs.Words.{map, refl, sym, ◌∙◌, ap, arith, subst, eqb, max, List, ◌↔◌, option_map, Result, Ok}
 use Rattle.desk.proofs.Words.{Err, OnOk, OnErr, IsOk, IsErr, IfOk, IfSome, IsSome, IsSomeAnd, not, is_some}
 use Rattle.desk.proofs.Words.{if◌then◌else◌, list_all, drop-append_seam, take-add, eq-eqb, ne_eqb, drop-take}
-use Rattle.desk.proofs.Words.{length-drop, length-take, take-append-drop, sum_by-append, map-map, Record, History}
+use Rattle.desk.proofs.Words.{length-drop, length-take, take-append-drop, map-map, Record, History}
 use Rattle.desk.proofs.Words.{records_of, find_map, HasChanges, changes_settled, HasWaiting, BatchValue, DoubtValue}
-use Rattle.desk.proofs.Words.{doubt_of, upto_of, is_outcome, outcomes_in, WaitingValue, batch_of, record_count}
+use Rattle.desk.proofs.Words.{doubt_of, upto_of, outcomes_in, WaitingValue, batch_of, record_count}
 use Rattle.desk.proofs.Words.{sealed_count, with_batch_out, with_nothing_out, length-records_of}
 use Rattle.desk.proofs.Words.{length-records_of-split, drop_drop, Refusal, refusal, first_fault, World, all_records}
 use Rattle.desk.proofs.Words.{settled_records, sealed_records, Answer, is_nothing_out, sealed_batch, seal, seal_faults}
+use Rattle.group_commit.specs.Steps.{fitting}
+use Rattle.group_commit.proofs.StepLaws.{fitting_within, outcomes_both}
+use Rattle.spool.specs.declared.limits.TheConstants.{MAX_BATCH_RECORDS}
 use Rattle.desk.proofs.Words.{seal_waiting, with_batch, with_sealed_settled, with_batch_back, with_halt, Row}
 use Rattle.desk.proofs.Words.{QueueValue, Limiter, AreMarked, AreQueued, KeepsRooms, bound_of, endpoint_at, room_by}
 use Rattle.desk.proofs.Words.{DeskValue, IsDesk, StandsFor, IsReceiptOf, ArePlacesOf, IsHeldOf, OverWorlds, Turns}
@@ -158,7 +161,7 @@ marked_settled {queue} {told} {book} {limiters} {live} place rooms marked = reco
 
 outcomes_left : (count : ℕ) (steps : History) → outcomes_in (drop count steps) ≤ outcomes_in steps
 outcomes_left count steps =
-    omega (arith, ap outcomes_in (take-append-drop count steps), sum_by-append (λ step. cond (is_outcome step) 1 0) (take count steps) (drop count steps))
+    omega (arith, ap outcomes_in (take-append-drop count steps), outcomes_both (take count steps) (drop count steps))
 
 pub records_settled : (steps : WaitingValue) (count : ℕ) → record_count (with_settled steps count) ≡ record_count steps
 records_settled steps count = omega (arith, length-records_of-split count steps.waiting)
@@ -234,13 +237,15 @@ idle_is {d} {w} (x ∷ xs) h e = ne_eqb (length w.history) w.settled (λ same. a
 
 -- the first steps that wait are out
 sealed_now : {d : DeskValue} {w : World} → StandsFor d w → out_count (with_batch w) ≡ sealed_count d.waiting
-sealed_now {d} {w} h = omega (arith, waiting_length h)
+sealed_now {d} {w} h =
+    let same : fitting MAX_BATCH_RECORDS (drop w.settled w.history) ≡ sealed_count d.waiting = ap (fitting MAX_BATCH_RECORDS) (sym h.waiting.steps) in
+    omega (arith, same)
 
 stands_sealed : {d : DeskValue} {w : World} → StandsFor d w → StandsFor (record d { waiting = with_batch_out d.waiting }) (with_batch w)
 stands_sealed {d} {w} h =
     let out = ap Some (sym (sealed_now h)) in
-    let first : w.settled ≤ (with_batch w).sealed = omega (arith, waiting_length h) in
-    let within : (with_batch w).sealed ≤ length w.history = omega arith in
+    let first : w.settled ≤ (with_batch w).sealed = omega arith in
+    let within : (with_batch w).sealed ≤ length w.history = omega (arith, fitting_within MAX_BATCH_RECORDS (drop w.settled w.history), length-drop w.settled w.history, h.waiting.settled_first, h.waiting.sealed_within) in
     assumption (out, first, within)
 
 sealed_is : {d : DeskValue} {w : World} → StandsFor d w → sealed_batch d.waiting.mark (with_batch w) ≡ batch_of d.waiting (sealed_count d.waiting)

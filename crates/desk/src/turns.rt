@@ -17,7 +17,7 @@ use spool::{Batch, Receipt};
 use std::sync::ledger::Ledger;
 
 impl<L: Ledger> Desk<L> {
-    /// Puts the first steps that wait into a batch, 256 at most: `None` where nothing waits.
+    /// Puts the first steps that wait into a batch, with at most 256 records: `None` if nothing waits.
     pub fn seal(&mut self) -> Result<Option<Batch>, Refusal>
         ensures moves { IsMove self.old (seal self.old.waiting.mark) result self.new }
         ensures names { IfErr result (λ why. IsTrue (may_refuse_seal why.fault)) }

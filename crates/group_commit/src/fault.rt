@@ -1,6 +1,6 @@
 //! Why a call changed nothing.
 
-/// All places for requests are taken. The step comes back.
+/// The step has more records than there are free places for requests. It comes back.
 #[derive(Clone, Copy, PartialEq, Eq, Debug)]
 pub struct WaitingFull;
 

@@ -1,7 +1,8 @@
 //! Steps in the order in which they came, with places for requests and for outcomes.
-ghost use Rattle.std.specs.Prelude.{◌≡◌, ◌≤◌, ◌<◌, ◌+◌, [], ◌∷◌, ◌++◌, true, false, not, length, take, drop, slice_get, option_map, ◌↔◌, IsTrue, IfOk};
+ghost use Rattle.std.specs.Prelude.{◌≡◌, ◌≤◌, ◌<◌, ◌+◌, [], ◌∷◌, ◌++◌, true, false, length, take, drop, slice_get, option_map, ◌↔◌, IsTrue, IfOk};
 ghost use Rattle.relay_types.specs.Records.{records_of};
-ghost use Rattle.group_commit.specs.Steps.{is_request, is_outcome, requests_in, outcomes_in};
+ghost use Rattle.relay_types.specs.declared.limits.TheConstants.{MAX_STEP_RECORDS};
+ghost use Rattle.group_commit.specs.Steps.{is_request, is_outcome, is_outcome_record, requests_in, outcomes_in, fitting};
 
 use crate::limits::{MAX_WAITING_OUTCOMES, MAX_WAITING_REQUESTS};
 use relay_types::{Record, Step};
@@ -9,7 +10,7 @@ use std::alloc::{AllocError, Global};
 use std::collections::VecDeque;
 use std::marker::Model;
 
-// It knows how many of its steps are requests, and how many outcomes.
+// It counts the records of requests and the outcomes among its steps.
 #[derive(Drop)]
 pub(crate) struct Queue {
     steps: VecDeque<Step>,
@@ -49,24 +50,22 @@ impl Queue {
         self.steps.len()
     }
 
-    // Each step has one record.
-    #[tactic(auto, using(crate::proofs::StepLaws::one_record_each))]
+    // How many records of requests.
+    #[tactic(auto, using(crate::proofs::StepLaws::records_count))]
     pub(crate) fn requests(&self) -> usize
         ensures count { result ≡ requests_in self.now }
         ensures most { result ≤ MAX_WAITING_REQUESTS }
-        ensures others { length self.now ≤ result + MAX_WAITING_OUTCOMES }
-        ensures single { length (records_of self.now) ≡ length self.now }
+        ensures others { length (records_of self.now) ≤ result + MAX_WAITING_OUTCOMES }
     {
         self.requests
     }
 
-    // Each step has one record.
-    #[tactic(auto, using(crate::proofs::StepLaws::one_record_each))]
+    // How many outcomes.
+    #[tactic(auto, using(crate::proofs::StepLaws::records_count))]
     pub(crate) fn outcomes(&self) -> usize
         ensures count { result ≡ outcomes_in self.now }
         ensures most { result ≤ MAX_WAITING_OUTCOMES }
-        ensures others { length self.now ≤ result + MAX_WAITING_REQUESTS }
-        ensures single { length (records_of self.now) ≡ length self.now }
+        ensures others { length (records_of self.now) ≤ result + MAX_WAITING_REQUESTS }
     {
         self.outcomes
     }
@@ -78,18 +77,19 @@ impl Queue {
     }
 
     // A request, at the end.
-    #[tactic(auto, using(crate::proofs::StepLaws::count_by_snoc, crate::proofs::StepLaws::request_alone))]
     pub(crate) fn push_request(&mut self, step: Step)
         requires kind { IsTrue (is_request step) }
-        requires place { requests_in self.old < MAX_WAITING_REQUESTS }
+        requires most { length step ≤ MAX_STEP_RECORDS }
+        requires place { requests_in self.old + length step ≤ MAX_WAITING_REQUESTS }
         ensures { self.new ≡ self.old ++ step ∷ [] }
     {
+        let records = step.records().len();
         self.steps.push_back_reserved(step);
-        self.requests += 1;
+        self.requests += records;
     }
 
     // An outcome, at the end.
-    #[tactic(auto, using(crate::proofs::StepLaws::count_by_snoc, crate::proofs::StepLaws::outcome_alone, crate::proofs::StepLaws::one_record_each))]
+    #[tactic(auto, using(crate::proofs::StepLaws::records_count))]
     pub(crate) fn push_outcome(&mut self, step: Step)
         requires kind { IsTrue (is_outcome step) }
         requires place { outcomes_in self.old < MAX_WAITING_OUTCOMES }
@@ -98,6 +98,14 @@ impl Queue {
     {
         self.steps.push_back_reserved(step);
         self.outcomes += 1;
+    }
+
+    // How many of the first steps have at most so many records together.
+    pub(crate) fn fitting(&self, most: usize) -> usize
+        ensures count { result ≡ fitting most self.now }
+        ensures some { 0 < length self.now → MAX_STEP_RECORDS ≤ most → 0 < result }
+    {
+        fitting(&self.steps, most)
     }
 
     // The first steps for another holder, so many at most. It copies no body.
@@ -133,23 +141,43 @@ impl Queue {
         if is_outcome(&step) {
             self.outcomes -= 1;
         } else {
-            self.requests -= 1;
+            self.requests -= step.records().len();
         }
     }
 }
 
 // Whether the step is an outcome.
 pub(crate) fn is_outcome(step: &Step) -> bool
-    ensures outcome { result ≡ is_outcome step.now }
-    ensures request { not result ≡ is_request step.now }
+    ensures { result ≡ is_outcome step.now }
 {
-    match step.record() {
+    let records = step.records();
+    records.len() == 1 && is_outcome_record(&records[0])
+}
+
+fn is_outcome_record(entry: &Record) -> bool
+    ensures { result ≡ is_outcome_record entry.now }
+{
+    match entry {
         Record::Outcome { .. } => true,
         Record::Put { .. }
         | Record::Secrets { .. }
         | Record::Enabled { .. }
         | Record::Accept { .. } => false,
     }
+}
+
+fn fitting(steps: &VecDeque<Step>, most: usize) -> usize
+    ensures { result ≡ fitting most steps.now.items }
+{
+    let mut room = most;
+    for place in 0..steps.len() {
+        let records = steps[place].records().len();
+        if records > room {
+            return place;
+        }
+        room -= records;
+    }
+    steps.len()
 }
 
 fn share_first(alloc: Global, steps: &VecDeque<Step>, most: usize) -> Result<Vec<Step>, AllocError>

@@ -1,8 +1,9 @@
 //! The steps that wait, and the batch of the first of them that is out.
 ghost use Rattle.std.specs.Prelude.{◌≡◌, ◌≤◌, ◌<◌, ◌-◌, ◌+◌, [], ◌∷◌, None, Some, true, false, length, slice_get, option_map, ◌↔◌, IfOk, IfErr, IfSome, IsOk, IsErr, IsSome, IsTrue, OnOk, OnErr};
 ghost use Rattle.relay_types.specs.declared.limits.TheConstants.{MAX_RECORDS};
+ghost use Rattle.spool.specs.declared.limits.TheConstants.{MAX_BATCH_RECORDS};
 ghost use Rattle.spool.specs.Batches.{doubt_of};
-ghost use Rattle.group_commit.specs.Steps.{is_request, is_outcome, requests_in, outcomes_in};
+ghost use Rattle.group_commit.specs.Steps.{is_request, is_outcome, requests_in, outcomes_in, IsLongestPrefix};
 ghost use Rattle.group_commit.specs.Waits.{batch_of, batch_out, record_count, sealed_count, with_step, with_batch_out, with_settled, with_nothing_out};
 ghost use Rattle.group_commit.specs.Turns.{IsReceiptOf, ArePlacesOf, IsHeldOf};
 
@@ -12,7 +13,7 @@ use crate::limits::{MAX_WAITING_OUTCOMES, MAX_WAITING_REQUESTS};
 use crate::out::Out;
 use crate::queue::Queue;
 use relay_types::Step;
-use spool::{Batch, Doubt, MAX_BATCH_STEPS, Receipt};
+use spool::{Batch, Doubt, MAX_BATCH_RECORDS, Receipt};
 use std::alloc::{AllocError, Global};
 use std::marker::Model;
 
@@ -55,20 +56,21 @@ impl Waiting {
         })
     }
 
-    /// A request waits: a step of any record but an Outcome. It takes no memory.
+    /// A request waits: a step of any records but an Outcome. Each of its records takes a place. It takes no memory.
     pub fn stage_request(&mut self, step: Step) -> Result<(), (Step, WaitingFull)>
         requires kind { IsTrue (is_request step) }
-        requires room { record_count self.old < MAX_RECORDS }
-        ensures full { IsErr result ↔ (requests_in self.old.waiting ≡ MAX_WAITING_REQUESTS) }
+        requires room { record_count self.old + length step ≤ MAX_RECORDS }
+        ensures full { IsErr result ↔ (MAX_WAITING_REQUESTS < requests_in self.old.waiting + length step) }
         ensures back { IfErr result (λ back. back.0 ≡ step) }
         ensures staged { OnOk result (self.new ≡ with_step self.old step) }
         ensures out { batch_out self.new ≡ batch_out self.old }
         ensures err { OnErr result (self.new ≡ self.old) }
     {
-        if self.free_requests() == 0 {
+        let records = step.records().len();
+        if self.free_requests() < records {
             return Err((step, WaitingFull));
         }
-        self.records += 1;
+        self.records += records as u64;
         self.queue.push_request(step);
         Ok(())
     }
@@ -86,11 +88,14 @@ impl Waiting {
         self.queue.push_outcome(step);
     }
 
-    /// A batch of the first steps that wait, 256 at most: `None` where none waits. It copies no body.
+    /// A batch of the longest prefix of the waiting steps that has at most 256 records: `None` if no step waits. No step
+    /// is cut. It copies no body.
     pub fn seal(&mut self) -> Result<Option<Batch>, SealFault>
         ensures batch_out { (result ≡ Err SealFault.BatchOut) ↔ IsSome self.old.out }
         ensures nothing { (result ≡ Ok None) ↔ ((self.old.out ≡ None) × (self.old.waiting ≡ [])) }
         ensures batch { IfOk result (λ sealed. IfSome sealed (λ batch. batch ≡ batch_of self.old (sealed_count self.old))) }
+        ensures longest { IfOk result (λ sealed. IfSome sealed
+            (λ batch. IsLongestPrefix MAX_BATCH_RECORDS self.old.waiting batch.steps)) }
         ensures out { IfOk result (λ sealed. IfSome sealed (λ _. self.new ≡ with_batch_out self.old)) }
         ensures same { result ≡ Ok None → self.new ≡ self.old }
         ensures err { OnErr result (self.new ≡ self.old) }
@@ -101,10 +106,10 @@ impl Waiting {
         if self.queue.len() == 0 {
             return Ok(None);
         }
-        let Ok(steps) = self.queue.share_first(self.alloc, MAX_BATCH_STEPS) else {
+        let count = self.queue.fitting(MAX_BATCH_RECORDS);
+        let Ok(steps) = self.queue.share_first(self.alloc, count) else {
             return Err(SealFault::OutOfMemory);
         };
-        let count = steps.len();
         let batch = Batch::of(self.mark, self.settled, steps);
         self.out = Some(Out {
             steps: count,
@@ -206,7 +211,7 @@ impl Waiting {
         self.queue.get(place)
     }
 
-    /// How many more requests can wait. Behind the settled records no more wait than there are places.
+    /// How many more records of requests can wait. Behind the settled records no more wait than there are places.
     pub fn free_requests(&self) -> usize
         ensures free { result + requests_in self.now.waiting ≡ MAX_WAITING_REQUESTS }
         ensures records { record_count self.now + result ≤ self.now.settled + MAX_WAITING_REQUESTS + MAX_WAITING_OUTCOMES }

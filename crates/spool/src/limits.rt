@@ -1,4 +1,4 @@
 //! The limits of what is committed at once. Those of histories are told by `relay_types`.
 
-/// The most steps of a batch.
-pub const MAX_BATCH_STEPS: usize = 256;
+/// The most records of a batch.
+pub const MAX_BATCH_RECORDS: usize = 256;

@@ -167,7 +167,7 @@ fn abandon_batch(waiting: &mut Waiting, kept: &mut Kept) -> Option<bool> {
 /// Whether an outcome waits at this place, if a step does.
 fn is_outcome(waiting: &Waiting, place: usize) -> Option<bool> {
     let step = waiting.get(place)?;
-    Some(matches!(step.record(), Record::Outcome { .. }))
+    Some(matches!(step.records().first(), Some(Record::Outcome { .. })))
 }
 
 /// Whether what is seen is what is expected. A call is none.

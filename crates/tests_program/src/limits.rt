@@ -7,12 +7,12 @@ use relay_types::{
     MAX_BODY_BYTES, MAX_ENDPOINTS, MAX_FAILURES, MAX_ID_LEN, MAX_LIMIT, MAX_MOMENT, MAX_NAME_LEN,
     MAX_RECORDS, MAX_SECRET_BYTES, MAX_SECRETS, MAX_TARGET_BYTES,
 };
-use spool::MAX_BATCH_STEPS;
+use spool::MAX_BATCH_RECORDS;
 use text_lines::{MAX_LINE_BYTES, MAX_LINES, MAX_READS, MAX_WRITES};
 
 #[test]
 fn keeps_the_limits_of_what_waits(rt: HostRuntime) {
-    holds(&rt, MAX_BATCH_STEPS == 256, "steps of a batch", 0);
+    holds(&rt, MAX_BATCH_RECORDS == 256, "records of a batch", 0);
     holds(&rt, MAX_WAITING_REQUESTS == 768, "waiting requests", 0);
     holds(&rt, MAX_WAITING_OUTCOMES == 256, "waiting outcomes", 0);
     holds(&rt, MAX_PENDING == 10_000, "pending events", 0);

@@ -154,7 +154,7 @@ impl Spool {
         }
     }
 
-    /// Commits what waits, 256 steps at most.
+    /// Commits what waits, 256 records at most.
     pub(crate) fn commit(&mut self) -> Told {
         let Ok(Some(batch)) = self.waiting.seal() else {
             return Told::Written;

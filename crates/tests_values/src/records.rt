@@ -1,7 +1,7 @@
 //! Lists of secrets, and records and steps: how they are shared and compared.
 
 use crate::cases::{body, holds, max_limit, moment, msg_id, name, secret, target};
-use relay_types::{ReadFault, Record, Secret, Secrets, Step};
+use relay_types::{MAX_STEP_RECORDS, Name, ReadFault, Record, Secret, Secrets, Step};
 use std::alloc::Global;
 use std::process::Abort;
 
@@ -160,10 +160,18 @@ fn shared(rt: &impl Abort, record: &Record) -> Step {
     Step::of(record.share().expect(rt, "memory"))
 }
 
+/// Whether the step has one record, which shows what it is of.
+fn has_one(rt: &impl Abort, step: &Step, kind: Kind) -> bool {
+    match step.records().first() {
+        Some(entry) => step.records().len() == 1 && is_of(rt, entry, kind),
+        None => false,
+    }
+}
+
 /// Whether the record, its step and a second holder of the step show what the record is of.
 fn are_of(rt: &impl Abort, record: &Record, step: &Step, kind: Kind) -> bool {
     let second = step.share().expect(rt, "memory");
-    is_of(rt, record, kind) && is_of(rt, step.record(), kind) && is_of(rt, second.record(), kind)
+    is_of(rt, record, kind) && has_one(rt, step, kind) && has_one(rt, &second, kind)
 }
 
 fn show(rt: &impl Abort, record: &Record, kind: Kind, place: usize) {
@@ -195,4 +203,54 @@ fn records_and_steps_are_compared(rt: HostRuntime) {
     for (place, kind) in KINDS.iter().enumerate() {
         compare_all(&rt, rt.alloc(), &record(&rt, rt.alloc(), *kind), place);
     }
+}
+
+const EVENT: Kind = Kind::Accept(1000, &[7, 7]);
+
+/// The step of one event at these endpoints.
+fn event(rt: &impl Abort, alloc: Global, names: &[Name]) -> Option<Step> {
+    if names.is_empty() || names.len() > MAX_STEP_RECORDS {
+        return None;
+    }
+    let (id, body) = (msg_id(rt, b"msg_1"), body(rt, alloc, &[7, 7]));
+    Step::event(alloc, names, id, &body, moment(rt, 1000)).ok()
+}
+
+fn is_at(record: &Record, name: &Name) -> bool {
+    match record {
+        Record::Accept { name: at, .. } => *at == *name,
+        _ => false,
+    }
+}
+
+/// Whether the step has one record for each of these endpoints, in their order, all of the event.
+fn is_event(rt: &impl Abort, step: &Step, names: &[Name]) -> bool {
+    let records = step.records();
+    let mut all = records.len() == names.len();
+    for (record, name) in records.iter().zip(names) {
+        all = all && is_of(rt, record, EVENT) && is_at(record, name);
+    }
+    all
+}
+
+#[test]
+fn an_event_is_one_step(rt: HostRuntime) {
+    let three = [name(&rt, b"b"), name(&rt, b"a"), name(&rt, b"c")];
+    let names = &three[..];
+    holds(&rt, event(&rt, rt.alloc(), &names[..0]).is_none(), 0);
+    for count in 1..4 {
+        let step = event(&rt, rt.alloc(), &names[..count]).expect(&rt, "memory");
+        let second = step.share().expect(&rt, "memory");
+        holds(&rt, is_event(&rt, &step, &names[..count]), count);
+        holds(
+            &rt,
+            is_event(&rt, &second, &names[..count]) && step.is(&second),
+            count,
+        );
+        let fewer = event(&rt, rt.alloc(), &names[1..count]);
+        holds(&rt, !fewer.is_some_and(|it| it.is(&step)), count);
+    }
+    let alone = event(&rt, rt.alloc(), &names[1..2]);
+    let record = shared(&rt, &record(&rt, rt.alloc(), EVENT));
+    holds(&rt, alone.is_some_and(|it| it.is(&record)), 4);
 }
