@@ -71,6 +71,46 @@ fn each_kind_has_its_places(rt: HostRuntime) -> Result<(), Fail> {
     take_waits(&rt, rt.alloc(), &EACH_KIND_HAS_ITS_PLACES)
 }
 
+static EACH_RECORD_OF_AN_EVENT_HAS_ITS_PLACE: [Wait; 11] = [
+    Wait::Event(256, true),
+    Wait::Event(256, true),
+    Wait::Flags(255, true),
+    Wait::Event(2, false),
+    Wait::Free(1, 256),
+    Wait::Event(1, true),
+    Wait::Flags(1, false),
+    Wait::Len(258),
+    Wait::Records(768, 0),
+    Wait::IsOutcome(0, Some(false)),
+    Wait::Seal(Some((0, 256, 1))),
+];
+
+#[test]
+fn each_record_of_an_event_has_its_place(rt: HostRuntime) -> Result<(), Fail> {
+    take_waits(&rt, rt.alloc(), &EACH_RECORD_OF_AN_EVENT_HAS_ITS_PLACE)
+}
+
+static A_BATCH_CUTS_NO_STEP: [Wait; 13] = [
+    Wait::Put(b"a", true),
+    Wait::Put(b"e0", true),
+    Wait::Put(b"e1", true),
+    Wait::Flags(252, true),
+    Wait::Event(2, true),
+    Wait::Seal(Some((0, 255, 255))),
+    Wait::Commit(255),
+    Wait::Settle(Some(255)),
+    Wait::Seal(Some((255, 257, 1))),
+    Wait::Commit(257),
+    Wait::Settle(Some(257)),
+    Wait::Free(768, 256),
+    Wait::Len(0),
+];
+
+#[test]
+fn a_batch_cuts_no_step(rt: HostRuntime) -> Result<(), Fail> {
+    take_waits(&rt, rt.alloc(), &A_BATCH_CUTS_NO_STEP)
+}
+
 static ONLY_WHAT_IS_OUT_IS_GIVEN_UP: [Wait; 7] = [
     Wait::AbandonNothing(true),
     Wait::Flags(2, true),

@@ -1,9 +1,12 @@
 //! Walks over steps of what waits to be committed, without a desk.
 
-use crate::given::{MARK, opened};
+use crate::given::{MARK, body, opened};
 use crate::kept::{Kept, numbers_of};
 use group_commit::{Held, Waiting, WrongTurn};
-use relay_types::{MAX_RECORDS, MaxLimit, Moment, Name, Record, Secret, Secrets, Step, Target};
+use relay_types::{
+    MAX_RECORDS, MAX_STEP_RECORDS, MaxLimit, Moment, MsgId, Name, Record, Secret, Secrets, Step,
+    Target,
+};
 use spool::Vault;
 use sqlite::MemStore;
 use std::alloc::Global;
@@ -19,6 +22,8 @@ pub(crate) enum Wait {
     Put(&'static [u8], bool),
     /// Stages so many flags of endpoint `a`, by turns on and off: whether there was a place for each, or for none.
     Flags(usize, bool),
+    /// Stages an event at the endpoints `e0`, `e1` and so on, so many of them: whether there was a place for each.
+    Event(usize, bool),
     /// Stages the outcome of this attempt at delivery 0.
     Outcome(u64),
     /// Seals: the number of the batch's first record, that after its last one, and how many steps it has.
@@ -75,6 +80,34 @@ fn flags(waiting: &mut Waiting, count: usize, wanted: bool) -> Result<bool, Fail
         }
     }
     Ok(true)
+}
+
+fn endpoints(alloc: Global, count: usize) -> Result<Vec<Name>, Fail> {
+    let mut names = Vec::with_capacity(alloc, count)?;
+    for place in 0..count {
+        let text = format!(in alloc; "e{place}")?;
+        names.push(Name::read(text.as_bytes())?)?;
+    }
+    Ok(names)
+}
+
+fn event(waiting: &mut Waiting, alloc: Global, count: usize) -> Result<bool, Fail> {
+    let names = endpoints(alloc, count)?;
+    let body = body(alloc, b"{}")?;
+    if names.len() < 1 || names.len() > MAX_STEP_RECORDS {
+        return Err(Fail::from("no step has so many records"));
+    }
+    let step = Step::event(
+        alloc,
+        &names,
+        MsgId::read(b"msg_1")?,
+        &body,
+        Moment::of(1000)?,
+    )?;
+    if MAX_RECORDS - waiting.records() < step.records().len() as u64 {
+        return Err(Fail::from("no number is left"));
+    }
+    Ok(waiting.stage_request(step).is_ok())
 }
 
 fn outcome(waiting: &mut Waiting, attempt: u64) -> Result<bool, Fail> {
@@ -198,6 +231,7 @@ fn step(
         Wait::Anew(records) => anew(waiting, alloc, records),
         Wait::Put(name, wanted) => Ok(put(waiting, alloc, name)? == wanted),
         Wait::Flags(count, wanted) => flags(waiting, count, wanted),
+        Wait::Event(count, wanted) => Ok(event(waiting, alloc, count)? == wanted),
         Wait::Outcome(attempt) => outcome(waiting, attempt),
         Wait::Seal(sealed) => Ok(seal(waiting, kept, sealed)),
         Wait::Unseal(is) => Ok(unseal(waiting, kept) == Some(is)),
