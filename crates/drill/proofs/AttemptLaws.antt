@@ -39,7 +39,7 @@ use Rattle.drill.specs.Runs.{Move}
 use Rattle.drill.specs.Unrecorded.{ArePendingAgain, IsEachPendingAgain, IsPendingAgain, records_behind, unrecorded}
 use Rattle.drill.specs.Worlds.{AreAttemptsPendingAgain, IsOpening, session_of}
 use Rattle.drill.proofs.CoreLaws.{Goes, IsClaimed, Stages, later, same_first, waits_so}
-use Rattle.drill.proofs.FollowLaws.{by_call, commits_follow, follows_each}
+use Rattle.drill.proofs.FollowLaws.{by_call, commits_follow, follows_each, sealed_within}
 use Rattle.drill.proofs.TurnLaws.{flatten_both, front_is, split_at}
 use Rattle.drill.proofs.VaultLaws.{each_left, leaves_goes, leaves_settled, left_on_halt}
 
@@ -235,7 +235,7 @@ desk_tracked s next event told h own move = follows_each IsTracked s next event 
   spends = λ delivery now row post found. tracked_spends s.world delivery now row post h found;
   seals = λ going free. record {
     below = omega arith;
-    within = omega arith;
+    within = sealed_within s.world (omega (arith, h.below, h.within));
     leaves = leaves_settled s.world going (subst (λ o. LeavesBy o s.world) free h.leaves);
     once = h.once;
     pending = h.pending;

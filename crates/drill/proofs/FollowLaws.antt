@@ -1,5 +1,6 @@
 -- What is so of the world after each call of the desk, where it is so of each world to which a move leads.
-use Rattle.std.proofs.Common.{◌≡◌, ℕ, ◌==◌, Bool, true, false, [], length, Option, Some, None, Result, inl, inr, refl, sym, subst, ◌∙◌}
+use Rattle.std.proofs.Common.{◌≡◌, ◌≤◌, ℕ, ◌==◌, Bool, true, false, [], length, drop, Option, Some, None, Result, inl, inr, refl, sym, subst, ◌∙◌, arith}
+use Rattle.std.proofs.lemmas.List.{length-drop}
 use Rattle.permits.specs.declared.row.Row.{Row}
 use Rattle.retry_table.specs.declared.post.PostResult.{PostResult}
 use Rattle.script_lines.specs.declared.call.Call.{Call}
@@ -8,13 +9,18 @@ use Rattle.script_lines.specs.declared.reply.Reply.{Reply}
 use Rattle.desk.specs.declared.command.Command.{Command}
 use Rattle.desk.specs.declared.command.Command.TheVariants.{PutEndpoint, SetSecrets, SetEnabled}
 use Rattle.desk.specs.declared.refusal.Refusal.{Refusal}
-use Rattle.desk.specs.World.{World, Out, Nothing, Batch, Receipt, Doubt}
+use Rattle.group_commit.proofs.StepLaws.{fitting_within}
+use Rattle.desk.specs.World.{World, Out, Nothing, Batch, Receipt, Doubt, max_sealed}
 use Rattle.desk.specs.Moves.{submit, change, with_batch, with_sealed_settled, with_batch_back, with_halt, is_nothing_out}
 use Rattle.desk.specs.Claims.{JobValue, claim, with_attempt_over}
 use Rattle.drill.specs.Moves.{Session, MayTell, IsOneOf, lacks, tells, seal_reply, answer_to, commands, commits, in_doubt, settles, unseals, halts, spends, permit_of, with_receipt}
 use Rattle.drill.specs.Cores.{is_commit}
 use Rattle.drill.proofs.CoreLaws.{Goes, Stages, IsClaimed, goes_change, goes_submit, goes_claim, goes_over, is_claim}
 use Rattle.drill.proofs.TurnLaws.{answer_by, is_nothing}
+
+-- a batch has steps of the history
+pub sealed_within : (w : World) → w.settled ≤ length w.history → (with_batch w).sealed ≤ length w.history
+sealed_within w below = omega (arith, below, fitting_within max_sealed (drop w.settled w.history), length-drop w.settled w.history)
 
 -- it is so of the world, and of each to which a move of the desk leads from there: by each move alone
 pub record FollowsEach (P : World → Type 0) (w : World) : Type 0 where

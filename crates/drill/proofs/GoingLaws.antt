@@ -18,7 +18,7 @@ use Rattle.drill.specs.Runs.{Move}
 use Rattle.drill.specs.Within.{HasMarksInOrder}
 use Rattle.drill.specs.Worlds.{AreInFront, GoesOn, IsOpening}
 use Rattle.drill.proofs.CoreLaws.{Goes}
-use Rattle.drill.proofs.FollowLaws.{by_call, commits_follow, follows}
+use Rattle.drill.proofs.FollowLaws.{by_call, commits_follow, follows, sealed_within}
 use Rattle.drill.proofs.TurnLaws.{flatten_both, split_at}
 use Rattle.drill.proofs.VaultLaws.{each_left}
 
@@ -53,7 +53,7 @@ line_goes_on s next event told marks move = by_call (GoesInOrder s.world) s next
     desk own = follows (GoesInOrder s.world) s next event told own (record {
       stays = stays;
       goes = λ other g. (record { more = g.more; history = g.history; settled = omega (arith, g.settled) }, marks_go s.world other g marks);
-      seals = λ going free. (stays_on s.world _ refl (omega arith), (omega (arith, marks.0, marks.1), omega arith));
+      seals = λ going free. (stays_on s.world _ refl (omega arith), (omega arith, sealed_within s.world (omega (arith, marks.0, marks.1))));
       settles = λ e. (stays_on s.world _ refl marks.0, (omega arith, marks.1));
       unseals = λ e. (stays_on s.world _ refl (omega arith), (omega arith, omega (arith, marks.0, marks.1)));
       halts = λ other. (stays_on s.world _ refl (omega arith), marks);
