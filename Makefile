@@ -57,7 +57,7 @@ install: $(RELAYD)
 deb: $(RELAYD)
 	./scripts/make-deb $(RELAYD) relayd.deb
 
-# Measures `relayd serve` beside nginx and a plain relay in Python. It needs wrk and nginx.
+# Measures `relayd serve` beside nginx, relays in Go and Python, and PostgreSQL. It needs wrk and nginx, and leaves out Go or PostgreSQL if it lacks them.
 load: $(RELAYD)
 	./scripts/bench-serve $(RELAYD)
 
