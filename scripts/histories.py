@@ -1,9 +1,178 @@
-"""A model of the desk that keeps the whole history as a list and looks everything up in it, and random lines of scripts with its replies: what
-random-replay and stop-store share. It shares no code with the program. Its replies follow docs/SPECIFICATION.md and docs/FORMATS.md."""
-import base64
+"""A model of the relay's desk: what a history says, what each call of the desk is answered, and what survives a crash.
 
+The model keeps all records in one list and looks everything up in it: it is slow, and easy to compare with docs/SPECIFICATION.md, which has the
+rules. It shares no code with the relay. It knows neither out of memory nor the limit of 2^62 records. check-asks, check-queue, random-replay and
+stop-store compare the relay with it; check-model compares it with worked examples.
+"""
+from typing import NamedTuple
+
+MOST_ENDPOINTS = 256
+MOST_PAIRS = 4096
+MOST_PENDING = 10_000
+MOST_PENDING_ALL = 50_000
 MOST_WAITING = 768
+MOST_OUTCOMES = 256
 MOST_SEALED = 256
+# The seconds to the next attempt after each failure but the last.
+DELAYS = [5, 300, 1800, 7200, 18000, 36000, 50400, 72000, 86400]
+GONE = 410
+
+
+# The records
+
+
+class Put(NamedTuple):
+    name: str
+    url: str
+    most: int
+    secrets: tuple
+
+
+class Secrets(NamedTuple):
+    name: str
+    secrets: tuple
+
+
+class Enabled(NamedTuple):
+    name: str
+    flag: bool
+
+
+class Subscribed(NamedTuple):
+    topic: str
+    name: str
+    flag: bool
+
+
+class Accept(NamedTuple):
+    name: str
+    id: str
+    body: bytes
+    at: int
+
+
+class Outcome(NamedTuple):
+    delivery: int
+    status: int
+    at: int
+
+
+# What a history says, which is a list of records
+
+
+def of(kind, records):
+    """The records of a kind, or of one of several."""
+    return [record for record in records if isinstance(record, kind)]
+
+
+def names_in(records):
+    """The endpoints, in the order in which they were put."""
+    return [record.name for record in of(Put, records)]
+
+
+def last_that_says(records, said):
+    """What the last record says that says something, and its number."""
+    for number in reversed(range(len(records))):
+        value = said(records[number])
+        if value is not None:
+            return value, number
+    return None, None
+
+
+def secrets_of(records, name):
+    """The secrets of an endpoint, newest first, and the number of the record that gave them."""
+    return last_that_says(records, lambda it: it.secrets if isinstance(it, (Put, Secrets)) and it.name == name else None)
+
+
+def flag_of(records, name):
+    """Whether an endpoint is enabled, and the number of the record that decides it."""
+
+    def said(record):
+        if isinstance(record, Put) and record.name == name:
+            return True
+        if isinstance(record, Enabled) and record.name == name:
+            return record.flag
+        if isinstance(record, Outcome) and record.status == GONE and records[record.delivery].name == name:
+            return False
+        return None
+
+    return last_that_says(records, said)
+
+
+def subscriptions_in(records):
+    """Of each pair of a topic and an endpoint that a record names: the last flag, and that record's number."""
+    pairs = {}
+    for number, record in enumerate(records):
+        if isinstance(record, Subscribed):
+            pairs[record.topic, record.name] = record.flag, number
+    return pairs
+
+
+def subscribers(records, topic):
+    """The endpoints that are subscribed to a topic, in the order in which they were put."""
+    flags = {record.name: record.flag for record in of(Subscribed, records) if record.topic == topic}
+    return [name for name in names_in(records) if flags.get(name)]
+
+
+def number_of(records, name, id):
+    """The number of the event that an endpoint knows by an id, or None."""
+    for number, record in enumerate(records):
+        if isinstance(record, Accept) and record.name == name and record.id == id:
+            return number
+    return None
+
+
+class Delivery:
+    """An event at its endpoint, and the outcomes of the attempts at it."""
+
+    def __init__(self, accept):
+        self.accept = accept
+        self.outcomes = []
+
+    @property
+    def failures(self):
+        return sum(not 200 <= it.status <= 299 and it.status != GONE for it in self.outcomes)
+
+    @property
+    def state(self):
+        if any(200 <= it.status <= 299 for it in self.outcomes):
+            return "delivered"
+        return "exhausted" if self.failures > len(DELAYS) else "pending"
+
+    @property
+    def due(self):
+        """When a pending event is posted next."""
+        if not self.outcomes:
+            return self.accept.at
+        last = self.outcomes[-1]
+        return last.at if last.status == GONE else last.at + DELAYS[self.failures - 1]
+
+
+def deliveries_in(records):
+    """Each event by its number."""
+    found = {}
+    for number, record in enumerate(records):
+        if isinstance(record, Accept):
+            found[number] = Delivery(record)
+        if isinstance(record, Outcome):
+            found[record.delivery].outcomes.append(record)
+    return found
+
+
+def counts_in(records, name=None):
+    """How many events, of one endpoint or of all, are in each state."""
+    states = [it.state for it in deliveries_in(records).values() if name in (None, it.accept.name)]
+    return {state: states.count(state) for state in ("pending", "delivered", "exhausted")}
+
+
+def first_due(held, now, has_room):
+    """The number of the event that is posted first, or None. `held` has events as (endpoint, due moment, number). One may be posted if it is due and
+    its endpoint has room. The one that is due first comes first, at equal moments the one that was accepted first."""
+    ready = [(due, number) for name, due, number in held if due <= now and has_room(name)]
+    return min(ready)[1] if ready else None
+
+
+# The adaptive limit
 
 
 class Estimator:
@@ -36,328 +205,286 @@ class Estimator:
         return limit - gap if queued > 6 * gap else limit
 
 
-DELAYS = [5, 300, 1800, 7200, 18000, 36000, 50400, 72000, 86400]
+# The desk
 
 
-class Model:
-    def __init__(self):
-        self.history = []
-        self.tickets = {}
-        self.settled = 0
-        self.sealed = 0
-        self.out = None
-        self.clock = 0
+def refused(number, name):
+    return f"refused {number} {name}"
+
+
+class Permit(NamedTuple):
+    name: str
+    delivery: int
+    inflight: int
+
+
+class Desk:
+    """A desk and its store. Calls answer as the lines of a script do."""
+
+    def __init__(self, history=()):
+        """Opens a store that has these records."""
+        self.history = list(history)
+        self.settled = self.sealed = len(self.history)
+        # Where each step ends that was staged since the opening.
+        self.ends = []
+        # What is held: a batch, the receipt of one, or nothing.
+        self.held = None
         self.halted = False
+        self.clock = max((record.at for record in of((Accept, Outcome), self.history)), default=0)
+        self.tickets = set()
         self.permits = []
-        self.limits = {}
+        self.limits = {put.name: Estimator(put.most) for put in of(Put, self.history)}
 
-    def puts(self, records):
-        return [record[1] for record in records if record[0] == "put"]
-
-    # What a stop takes back is lost, with the permits, the tickets and the limits.
     def stop(self):
-        kept = self.sealed if self.out == "receipt" else self.settled
-        history = self.history[:kept]
-        self.__init__()
-        self.history, self.settled, self.sealed = history, kept, kept
-        self.clock = max([record[-1] for record in history if record[0] in ("accept", "outcome")], default=0)
-        self.limits = {record[1]: Estimator(record[2]) for record in history if record[0] == "put"}
+        """A crash. What isn't committed is gone, and so are tickets, permits and limits."""
+        kept = self.sealed if self.held == "receipt" else self.settled
+        self.__init__(self.history[:kept])
         return f"reopened {kept}"
 
-    def accept(self, records, name, key):
-        for seq, record in enumerate(records):
-            if record[0] == "accept" and record[1:3] == (name, key):
-                return seq
-        return None
+    # What waits
 
-    def attempts(self, records, seq):
-        return [record for record in records if record[0] == "outcome" and record[1] == seq]
-
-    def failures(self, records, seq):
-        return sum(not 200 <= record[2] <= 299 and record[2] != 410 for record in self.attempts(records, seq))
-
-    def state(self, records, seq):
-        if any(200 <= record[2] <= 299 for record in self.attempts(records, seq)):
-            return "delivered"
-        return "exhausted" if self.failures(records, seq) >= 10 else "pending"
-
-    def due(self, records, seq):
-        tried = self.attempts(records, seq)
-        if not tried:
-            return records[seq][4]
-        _, _, status, at = tried[-1]
-        return at if status == 410 else at + DELAYS[self.failures(records, seq) - 1]
-
-    def enabled(self, records, name):
-        flag = True
-        for record in records:
-            if record[:2] == ("enabled", name):
-                flag = record[2]
-            if record[0] == "outcome" and record[2] == 410 and records[record[1]][1] == name:
-                flag = False
-        return flag
+    def shown(self):
+        """The records that are settled, which pages tell of."""
+        return self.history[: self.settled]
 
     def waiting_outcomes(self):
-        return [record for record in self.history[self.settled :] if record[0] == "outcome"]
+        return of(Outcome, self.history[self.settled :])
 
-    def full(self):
-        return len(self.history) - self.settled - len(self.waiting_outcomes()) >= MOST_WAITING
+    def is_full(self, more=1):
+        """Whether so many more records of requests find no place."""
+        return len(self.history) - self.settled - len(self.waiting_outcomes()) + more > MOST_WAITING
 
-    def stage(self, record):
-        self.tickets[len(self.history)] = record
-        self.history.append(record)
-        return f"staged {len(self.history) - 1}"
+    def stage(self, *records):
+        """Adds a step of these records, and gives their numbers."""
+        first = len(self.history)
+        self.history += records
+        self.ends.append(len(self.history))
+        return range(first, len(self.history))
 
-    def put(self, name, most, url, secrets):
-        if self.halted:
-            return "refused 1 Halted"
-        if name in self.puts(self.history):
-            return "refused 3 Exists"
-        if len(self.puts(self.history)) >= 256:
-            return "refused 4 TooManyEndpoints"
-        if self.full():
-            return "refused 5 WaitingFull"
-        self.limits[name] = Estimator(most)
-        return self.stage(("put", name, most, url, secrets))
-
-    def change(self, record):
-        if self.halted:
-            return "refused 1 Halted"
-        if record[1] not in self.puts(self.history):
-            return "refused 2 UnknownEndpoint"
-        if self.full():
-            return "refused 5 WaitingFull"
-        return self.stage(record)
-
-    def submit(self, now, name, key, body):
-        if self.halted:
-            return "refused 1 Halted"
-        if name not in self.puts(self.history):
-            return "refused 2 UnknownEndpoint"
-        known = self.accept(self.history, name, key)
-        if known is not None:
-            if self.history[known][3] != body:
-                return "refused 3 Conflict"
-            self.clock = max(self.clock, now)
-            self.tickets[known] = self.history[known]
-            return f"staged {known}"
-        if self.full():
-            return "refused 6 WaitingFull"
-        self.clock = max(self.clock, now)
-        return self.stage(("accept", name, key, body, self.clock))
-
-    def in_flight(self, name):
-        return sum(permit[0] == name for permit in self.permits)
-
-    def claimable(self, seq):
-        settled, name = self.history[: self.settled], self.history[seq][1]
-        return (
-            self.state(settled, seq) == "pending"
-            and all(record[1] != seq for record in self.waiting_outcomes())
-            and all(permit[1] != seq for permit in self.permits)
-            and self.due(settled, seq) <= self.clock
-            and self.enabled(self.history, name)
-            and self.in_flight(name) < self.limits[name].limit
-            and len(self.waiting_outcomes()) + len(self.permits) < 256
-        )
-
-    def claim(self, now):
-        if self.halted:
-            return "refused 1 Halted"
-        self.clock = max(self.clock, now)
-        settled = self.history[: self.settled]
-        ready = [seq for seq, record in enumerate(settled) if record[0] == "accept" and self.claimable(seq)]
-        if not ready:
-            return "none"
-        seq = min(ready, key=lambda seq: (self.due(settled, seq), seq))
-        _, name, key = self.history[seq][:3]
-        inflight = self.in_flight(name) + 1
-        self.permits.append((name, seq, inflight))
-        attempt = len(self.attempts(self.history, seq)) + 1
-        return f"permit {seq} {name} {key} attempt {attempt} at {self.clock} inflight {inflight}"
-
-    def spend(self, seq, now, post):
-        permit = next((permit for permit in self.permits if permit[1] == seq), None)
-        if permit is None:
-            return "no-permit"
-        self.permits.remove(permit)
-        name, _, inflight = permit
-        words = post.split()
-        dropped = words[0] in ("timeout", "429", "502", "503", "504")
-        spend = "ignored" if len(words) == 1 else "dropped" if dropped else "success"
-        staged = "nothing"
-        if not self.halted:
-            self.clock = max(self.clock, now)
-            if spend != "ignored":
-                self.limits[name].sample(int(words[1]), inflight, dropped)
-            if words[0] != "unsent":
-                status = int(words[0]) if words[0].isdigit() else 0
-                staged = f"staged {len(self.history)}"
-                self.history.append(("outcome", seq, status, self.clock))
-        return f"{spend} limit {self.limits[name].limit} inflight {self.in_flight(name)} {staged}"
-
-    def show_limits(self, name):
-        if name not in self.puts(self.history):
-            return "absent"
-        limit = self.limits[name]
-        return f"limit {limit.limit} inflight {self.in_flight(name)} noload {limit.noload}"
-
-    def told(self, seq):
-        if seq not in self.tickets:
+    def told(self, number):
+        if number not in self.tickets:
             return "no-ticket"
-        if seq < self.settled:
+        if number < self.settled:
             return "settled"
         return "unknown" if self.halted else "waiting"
 
+    # Commands
+
+    def command(self, record):
+        """Stages a command, if there is a place for it."""
+        if self.is_full():
+            return refused(5, "WaitingFull")
+        (number,) = self.stage(record)
+        self.tickets.add(number)
+        return f"staged {number}"
+
+    def put(self, name, url, most, secrets):
+        names = names_in(self.history)
+        if self.halted:
+            return refused(1, "Halted")
+        if name in names:
+            return refused(3, "Exists")
+        if len(names) >= MOST_ENDPOINTS:
+            return refused(4, "TooManyEndpoints")
+        reply = self.command(Put(name, url, most, tuple(secrets)))
+        if reply.startswith("staged"):
+            self.limits[name] = Estimator(most)
+        return reply
+
+    def change(self, record):
+        """A command that changes an endpoint: Secrets, Enabled or Subscribed."""
+        if self.halted:
+            return refused(1, "Halted")
+        if record.name not in names_in(self.history):
+            return refused(2, "UnknownEndpoint")
+        if isinstance(record, Subscribed) and self.is_a_pair_too_many(record):
+            return refused(8, "TooManySubscriptions")
+        return self.command(record)
+
+    def is_a_pair_too_many(self, record):
+        """Whether no record named this pair yet, and no further one may be named."""
+        pairs = subscriptions_in(self.history)
+        return (record.topic, record.name) not in pairs and len(pairs) >= MOST_PAIRS
+
+    # Events
+
+    def submit(self, now, name, id, body):
+        """An event for one endpoint."""
+        known = name in names_in(self.history)
+        return self.take_in(now, [name] if known else [], "UnknownEndpoint", id, body)
+
+    def publish(self, now, topic, id, body):
+        """An event for each endpoint that is subscribed to a topic."""
+        return self.take_in(now, subscribers(self.history, topic), "UnknownTopic", id, body)
+
+    def take_in(self, now, names, unknown, id, body):
+        """Takes an event in, in one step, for those of the endpoints that don't know its id. It is answered its number at each of them."""
+        if self.halted:
+            return refused(1, "Halted")
+        if not names:
+            return refused(2, unknown)
+        numbers = {name: number_of(self.history, name, id) for name in names}
+        if any(number is not None and self.history[number].body != body for number in numbers.values()):
+            return refused(3, "Conflict")
+        lacking = [name for name in names if numbers[name] is None]
+        reply = self.no_room_for(lacking) if lacking else None
+        if reply:
+            return reply
+        self.clock = max(self.clock, now)
+        if lacking:
+            numbers.update(zip(lacking, self.stage(*(Accept(name, id, body, self.clock) for name in lacking))))
+        self.tickets.update(numbers.values())
+        return "staged " + ",".join(str(numbers[name]) for name in names)
+
+    def no_room_for(self, names):
+        """How one more event of each of these endpoints is refused, if there is no room for them."""
+        # Fewer records than this leave no backlog. It takes long to count them.
+        if len(self.history) >= MOST_PENDING:
+            if any(counts_in(self.history, name)["pending"] >= MOST_PENDING for name in names):
+                return refused(4, "EndpointBacklog")
+            if counts_in(self.history)["pending"] + len(names) > MOST_PENDING_ALL:
+                return refused(5, "Backlog")
+        return refused(6, "WaitingFull") if self.is_full(len(names)) else None
+
+    # Attempts
+
+    def in_flight(self, name):
+        return sum(permit.name == name for permit in self.permits)
+
+    def has_room(self, name):
+        """Whether an endpoint may be posted to now."""
+        return flag_of(self.history, name)[0] and self.in_flight(name) < self.limits[name].limit
+
+    def held_to_post(self):
+        """The pending events at which no attempt is under way, nor was one whose outcome waits."""
+        busy = {it.delivery for it in (*self.permits, *self.waiting_outcomes())}
+        found = deliveries_in(self.shown()).items()
+        return [(it.accept.name, it.due, number) for number, it in found if it.state == "pending" and number not in busy]
+
+    def claim(self, now):
+        if self.halted:
+            return refused(1, "Halted")
+        self.clock = max(self.clock, now)
+        if len(self.permits) + len(self.waiting_outcomes()) >= MOST_OUTCOMES:
+            return "none"
+        number = first_due(self.held_to_post(), self.clock, self.has_room)
+        if number is None:
+            return "none"
+        accept = self.history[number]
+        permit = Permit(accept.name, number, self.in_flight(accept.name) + 1)
+        self.permits.append(permit)
+        attempt = len(deliveries_in(self.history)[number].outcomes) + 1
+        return f"permit {number} {accept.name} {accept.id} attempt {attempt} at {self.clock} inflight {permit.inflight}"
+
+    def spend(self, number, now, result, rtt=None):
+        """Ends an attempt: with a status or a timeout and the round trip, or `unreached`, or `unsent`."""
+        permit = next((permit for permit in self.permits if permit.delivery == number), None)
+        if permit is None:
+            return "no-permit"
+        self.permits.remove(permit)
+        dropped = result in ("timeout", "429", "502", "503", "504")
+        spent = "ignored" if rtt is None else "dropped" if dropped else "success"
+        staged = "nothing" if self.halted else self.record_outcome(permit, now, result, rtt, dropped)
+        return f"{spent} limit {self.limits[permit.name].limit} inflight {self.in_flight(permit.name)} {staged}"
+
+    def record_outcome(self, permit, now, result, rtt, dropped):
+        self.clock = max(self.clock, now)
+        if rtt is not None:
+            self.limits[permit.name].sample(rtt, permit.inflight, dropped)
+        if result == "unsent":
+            return "nothing"
+        (number,) = self.stage(Outcome(permit.delivery, int(result) if result.isdigit() else 0, self.clock))
+        return f"staged {number}"
+
+    # Batches
+
     def seal(self):
         if self.halted:
-            return "refused 1 Halted"
-        if self.out is not None:
-            return "refused 2 BatchOut"
+            return refused(1, "Halted")
+        if self.held:
+            return refused(2, "BatchOut")
         if self.settled == len(self.history):
             return "nothing"
-        self.sealed = min(len(self.history), self.settled + MOST_SEALED)
-        self.out = "batch"
+        self.sealed = max(end for end in self.ends if end <= self.settled + MOST_SEALED)
+        self.held = "batch"
         return f"sealed {self.settled}..{self.sealed}"
 
     def commit(self):
-        if self.out != "batch":
+        if self.held != "batch":
             return "no-batch"
-        self.out = "receipt"
+        self.held = "receipt"
         return f"committed {self.sealed}"
 
     def settle(self):
-        if self.out != "receipt":
+        if self.held != "receipt":
             return "no-receipt"
-        self.out = None
+        self.held = None
         self.settled = self.sealed
         return f"settled {self.settled}"
 
     def unseal(self):
-        if self.out != "batch":
+        if self.held != "batch":
             return "no-batch"
-        self.out = None
+        self.held = None
         return f"unsealed {self.settled}..{self.sealed}"
 
     def halt(self):
-        if self.out == "receipt":
-            return "refused 1 WrongTurn"
-        self.out = None
+        if self.held == "receipt":
+            return refused(1, "WrongTurn")
+        self.held = None
         self.halted = True
         return "halted"
 
-    def show(self, name, key):
-        records = self.history[: self.settled]
-        seq = self.accept(records, name, key)
-        if seq is None:
+    # Looks
+
+    def show(self, name, id):
+        number = number_of(self.shown(), name, id)
+        if number is None:
             return "absent"
-        state, attempts = self.state(records, seq), len(self.attempts(records, seq))
-        due = f" due {self.due(records, seq)}" if state == "pending" else ""
-        return f"{state}{due} attempts {attempts}"
+        it = deliveries_in(self.shown())[number]
+        due = f" due {it.due}" if it.state == "pending" else ""
+        return f"{it.state}{due} attempts {len(it.outcomes)}"
 
     def show_endpoint(self, name):
-        records = self.history[: self.settled]
-        if name not in self.puts(records):
+        records = self.shown()
+        if name not in names_in(records):
             return "absent"
-        states = [self.state(records, seq) for seq, record in enumerate(records) if record[:2] == ("accept", name)]
-        counts = " ".join(f"{state} {states.count(state)}" for state in ("pending", "delivered", "exhausted"))
-        return f"{'enabled' if self.enabled(records, name) else 'disabled'} {counts}"
+        counts = " ".join(f"{state} {count}" for state, count in counts_in(records, name).items())
+        return f"{'enabled' if flag_of(records, name)[0] else 'disabled'} {counts}"
+
+    def show_limits(self, name):
+        if name not in self.limits:
+            return "absent"
+        limit = self.limits[name]
+        return f"limit {limit.limit} inflight {self.in_flight(name)} noload {limit.noload}"
 
 
-def secret(rng):
-    raw = bytes(rng.randrange(256) for _ in range(rng.randint(24, 64)))
-    text = base64.b64encode(raw).decode()
-    if rng.random() < 0.3:
-        text = text.rstrip("=")
-    return ("whsec_" if rng.random() < 0.7 else "") + text
+# Scripts
 
 
-# How often each line comes in a short script and in a long one.
-KINDS = {
-    "put": (2, 1),
-    "secrets": (2, 5),
-    "flag": (2, 5),
-    "submit": (6, 400),
-    "told": (3, 10),
-    "turn": (6, 2),
-    "claim": (8, 3),
-    "spend": (6, 3),
-    "show_limits": (2, 2),
-    "seal": (5, 4),
-    "commit": (5, 4),
-    "settle": (5, 4),
-    "unseal": (1, 1),
-    "halt": (0.1, 0.02),
-    "stop": (0.5, 0.05),
-    "show_endpoint": (2, 2),
-    "show": (4, 2),
+def body_of(word):
+    return bytes.fromhex(word.removeprefix("-"))
+
+
+CALLS = {
+    "put": lambda desk, name, url, most, secrets: desk.put(name, url, int(most), secrets.split(",")),
+    "secrets": lambda desk, name, secrets: desk.change(Secrets(name, tuple(secrets.split(",")))),
+    "enable": lambda desk, name: desk.change(Enabled(name, True)),
+    "disable": lambda desk, name: desk.change(Enabled(name, False)),
+    "subscribe": lambda desk, topic, name: desk.change(Subscribed(topic, name, True)),
+    "unsubscribe": lambda desk, topic, name: desk.change(Subscribed(topic, name, False)),
+    "submit": lambda desk, now, name, id, body: desk.submit(int(now), name, id, body_of(body)),
+    "publish": lambda desk, now, topic, id, body: desk.publish(int(now), topic, id, body_of(body)),
+    "told": lambda desk, number: desk.told(int(number)),
+    "claim": lambda desk, now: desk.claim(int(now)),
+    "spend": lambda desk, number, now, result, *rtt: desk.spend(int(number), int(now), result, *map(int, rtt)),
+    "limits": lambda desk, name: desk.show_limits(name),
+    "show": lambda desk, name, *id: desk.show(name, *id) if id else desk.show_endpoint(name),
+    **{call: lambda desk, call=call: getattr(desk, call)() for call in ("seal", "commit", "settle", "unseal", "halt", "stop")},
 }
 
 
-def secrets_of(rng):
-    return ",".join(secret(rng) for _ in range(rng.randint(1, 4)))
-
-
-# A moment, seldom the last one, from which on none is later.
-def moment(rng):
-    return 2**40 if rng.random() < 0.005 else rng.choice([0, 1000, rng.randrange(2000), rng.randrange(400_000)])
-
-
-def spending(rng, model):
-    out = [permit[1] for permit in model.permits]
-    seq = rng.choice(out) if out and rng.random() < 0.9 else rng.randrange(len(model.history) + 2)
-    status = rng.choice([200, 299, 410, 429, 500, 500, 500, 502, 503, 504, 100, 999])
-    rtt = rng.choice([0, 1, 100_000, 110_000, rng.randrange(200_000), 2**63 - 1])
-    post = rng.choice([f"{status} {rtt}", f"{status} {rtt}", f"{status} {rtt}", f"timeout {rtt}", "unreached", "unsent"])
-    now = moment(rng)
-    return f"spend {seq} {now} {post}", model.spend(seq, now, post)
-
-
-def submission(rng, model, name, key):
-    now = moment(rng)
-    body = bytes(rng.randrange(256) for _ in range(rng.choice([0, 1, 2])))
-    word = "-" if not body else (body.hex() if rng.random() < 0.5 else body.hex().upper())
-    return f"submit {now} {name} {key} {word}", model.submit(now, name, key, body)
-
-
-def line(rng, model, long, kinds):
-    name = rng.choice(["a", "b-2", "hook"])
-    key = f"m{rng.randrange(5000)}" if long else rng.choice(["msg_1", "MSG-2", "x", "y" * 64])
-    kind = rng.choices(list(kinds), [often[long] for often in kinds.values()])[0]
-    if kind == "put":
-        url = rng.choice(["http://127.0.0.1:9000/hook", "HTTP://h", "http://h:65535/?q=1"])
-        most, secrets = rng.choice([1, 2, 3, 25, rng.randint(1, 1000)]), secrets_of(rng)
-        return f"put {name} {url} {most} {secrets}", model.put(name, most, url, secrets)
-    if kind == "secrets":
-        secrets = secrets_of(rng)
-        return f"secrets {name} {secrets}", model.change(("secrets", name, secrets))
-    if kind == "flag":
-        flag = rng.random() < 0.5
-        return f"{'enable' if flag else 'disable'} {name}", model.change(("enabled", name, flag))
-    if kind == "submit":
-        return submission(rng, model, name, key)
-    if kind == "told":
-        seq = rng.choice([rng.randrange(len(model.history) + 2), 2**64 - 1])
-        return f"told {seq}", model.told(seq)
-    if kind == "claim":
-        now = min(rng.choice([moment(rng), model.clock, model.clock + rng.choice(DELAYS)]), 2**40)
-        return f"claim {now}", model.claim(now)
-    if kind == "spend":
-        return spending(rng, model)
-    if kind == "show_limits":
-        return f"limits {name}", model.show_limits(name)
-    if kind == "turn":
-        return kind, None
-    if kind == "show_endpoint":
-        return f"show {name}", model.show_endpoint(name)
-    if kind == "show":
-        return f"show {name} {key}", model.show(name, key)
-    return kind, getattr(model, kind)()
-
-
-# The next line, or a batch's whole way.
-def made(rng, model, long, kinds=KINDS):
-    text, reply = line(rng, model, long, kinds)
-    if text != "turn":
-        return [(text, reply)]
-    return [(turn, getattr(model, turn)()) for turn in ("seal", "commit", "settle")]
+def reply_to(desk, line):
+    """What a line of a script is answered. The words of the line are good ones."""
+    call, *words = line.split(" ")
+    return CALLS[call](desk, *words)

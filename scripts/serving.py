@@ -17,6 +17,8 @@ import threading
 import time
 
 SECRET = "whsec_MDEyMzQ1Njc4OTAxMjM0NTY3ODkwMTIz"
+# Whether the relay has topics: this line turns on all tests of them.
+HAS_TOPICS = False
 ROOT = pathlib.Path(__file__).resolve().parent.parent
 STARTED = []
 
