@@ -3,6 +3,7 @@ imports this ends what it started, also where it is ended by SIGTERM."""
 import atexit
 import base64
 import contextlib
+import email.utils
 import hashlib
 import hmac
 import json
@@ -176,8 +177,19 @@ def put(address, name, port, most=100, secrets=(SECRET,), path="/hook"):
 
 
 def submit(address, name, body, event=None):
-    headers = [f"webhook-id: {event}"] if event else []
-    return ask(address, "POST", f"/v1/endpoints/{name}/events", body, headers)
+    return post(address, f"/v1/endpoints/{name}/events", body, event)
+
+
+def publish(address, topic, body, event=None):
+    return post(address, f"/v1/topics/{topic}/events", body, event)
+
+
+def post(address, path, body, event=None):
+    return ask(address, "POST", path, body, [f"webhook-id: {event}"] if event else [])
+
+
+def subscribe(address, topic, name, flag=True):
+    return ask(address, "PUT", f"/v1/endpoints/{name}/topics/{topic}", json.dumps({"subscribed": flag}).encode())
 
 
 class Post:
@@ -339,3 +351,14 @@ class Counts:
     def end(self):
         print(f"{self.passed} passed, {self.failed} failed")
         return 1 if self.failed else 0
+
+
+def check_answer(counts, name, answer, status, body):
+    """An answer of the relay: its status, its body, and its headers, no others and in this order."""
+    counts.check(f"{name}: status and body", (answer.status, answer.body), (status, body))
+    retry = [("retry-after", "1")] if status == 503 else []
+    date = answer.header("date")
+    wanted = [("content-type", "application/json"), *retry, ("date", date), ("connection", "close"), ("content-length", str(len(body)))]
+    counts.check(f"{name}: headers", answer.headers, wanted)
+    told = email.utils.parsedate_tz(date or "")
+    counts.check(f"{name}: its date is now", told is not None and abs(email.utils.mktime_tz(told) - time.time()) < 10)
