@@ -8,8 +8,6 @@ from typing import NamedTuple
 
 MOST_ENDPOINTS = 256
 MOST_PAIRS = 4096
-MOST_PENDING = 10_000
-MOST_PENDING_ALL = 50_000
 MOST_WAITING = 768
 MOST_OUTCOMES = 256
 MOST_SEALED = 256
@@ -221,6 +219,10 @@ class Permit(NamedTuple):
 class Desk:
     """A desk and its store. Calls answer as the lines of a script do."""
 
+    # How many events may be pending at an endpoint, and in all.
+    MOST_PENDING = 10_000
+    MOST_PENDING_ALL = 50_000
+
     def __init__(self, history=()):
         """Opens a store that has these records."""
         self.history = list(history)
@@ -339,10 +341,10 @@ class Desk:
     def no_room_for(self, names):
         """How one more event of each of these endpoints is refused, if there is no room for them."""
         # Fewer records than this leave no backlog. It takes long to count them.
-        if len(self.history) >= MOST_PENDING:
-            if any(counts_in(self.history, name)["pending"] >= MOST_PENDING for name in names):
+        if len(self.history) >= self.MOST_PENDING:
+            if any(counts_in(self.history, name)["pending"] >= self.MOST_PENDING for name in names):
                 return refused(4, "EndpointBacklog")
-            if counts_in(self.history)["pending"] + len(names) > MOST_PENDING_ALL:
+            if counts_in(self.history)["pending"] + len(names) > self.MOST_PENDING_ALL:
                 return refused(5, "Backlog")
         return refused(6, "WaitingFull") if self.is_full(len(names)) else None
 
