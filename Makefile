@@ -51,11 +51,11 @@ bench: $(BENCH) $(RELAYD)
 
 # Installs the same below PREFIX: the program, its manual page, its unit and the documents.
 install: $(RELAYD)
-	./scripts/install $(RELAYD) $(or $(PREFIX),/usr/local)
+	./packaging/install $(RELAYD) $(or $(PREFIX),/usr/local)
 
 # Makes a Debian package of the same.
 deb: $(RELAYD)
-	./scripts/make-deb $(RELAYD) relayd.deb
+	./packaging/make-deb $(RELAYD) relayd.deb
 
 # Measures `relayd serve` beside nginx, relays in Go and Python, and PostgreSQL. It needs wrk and nginx, and leaves out Go or PostgreSQL if it lacks them.
 load: $(RELAYD)
