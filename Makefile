@@ -2,7 +2,7 @@ ENDPOINT = {\"url\":\"http://127.0.0.1:9000/hook\",\"max\":100,\"secrets\":[\"wh
 
 RELAYD = crates/relayd/out/relayd
 BENCH = crates/bench/out/bench
-AT_ONCE = $(shell scripts/crates-at-once)
+AT_ONCE = $(shell scripts/gate jobs)
 SOURCES = $(shell find crates -path '*/out' -prune -o -path 'crates/tests_*' -prune -o \( -name '*.rt' -o -name '*.antt' \) -print) crates.txt HANDLES
 
 # Lists what can be made.
@@ -18,16 +18,16 @@ run: $(RELAYD)
 
 # Builds the same, and shows step by step what a relay does: events, signatures, a retry, a kill, an answer 410. It ends by itself.
 demo: $(RELAYD)
-	scripts/demo $(RELAYD)
+	scripts/serve demo $(RELAYD)
 
 # Shows one event on its way through the relay's core: a failure, a crash, the delivery. It takes three to four minutes and proves nothing.
 try:
 	@echo 'rt try compiles relayd from its sources and runs it, in three to four minutes. It proves nothing: make run does.'
-	@scripts/try
+	@scripts/script show
 
 # Runs the tests: the merge gate, then the scripts beside it.
 test:
-	./scripts/test
+	scripts/gate test
 
 # Proves every crate that changed and those above it, over what earlier checks kept in out/.
 check:
@@ -39,7 +39,7 @@ edits:
 
 # Tries all mutants of each crate, those in different functions at once, or of one: make attack CRATE=vegas
 attack:
-	./scripts/attack $(CRATE)
+	scripts/gate mutants $(CRATE)
 
 # Lays out the files of every crate.
 fmt:
@@ -47,19 +47,19 @@ fmt:
 
 # Prints one table of measurements, each beside a figure to compare it with.
 bench: $(BENCH) $(RELAYD)
-	./scripts/bench $(BENCH) $(RELAYD)
+	scripts/bench core $(BENCH) $(RELAYD)
 
 # Installs the same below PREFIX: the program, its manual page, its unit and the documents.
 install: $(RELAYD)
-	./packaging/install $(RELAYD) $(or $(PREFIX),/usr/local)
+	packaging/install $(RELAYD) $(or $(PREFIX),/usr/local)
 
 # Makes a Debian package of the same.
 deb: $(RELAYD)
-	./packaging/make-deb $(RELAYD) relayd.deb
+	packaging/make-deb $(RELAYD) relayd.deb
 
 # Measures `relayd serve` beside nginx, relays in Go and Python, and PostgreSQL. It needs wrk and nginx, and leaves out Go or PostgreSQL if it lacks them.
 load: $(RELAYD)
-	./scripts/bench-serve $(RELAYD)
+	scripts/bench http $(RELAYD)
 
 # A program is proved and built if one of its sources is newer. `make test` builds both, too. `rt run` alone proves the crates below it
 # one after another; `rt all`, in the program's folder, proves these and the program side by side, and `rt run` takes what it leaves.

@@ -1,5 +1,5 @@
 //! Answers requests over HTTP, one on a line, by what the intake and a desk over a store in memory make of each, for
-//! `scripts/check-asks`.
+//! `scripts/script requests`.
 //!
 //!     ask NOW FRESH METHOD PATH BODY ID..  a request: the moment and the fresh id that an event gets; then its method, its path,
 //!                                          its body and each of its ids in hexadecimal, `-` for none of their bytes

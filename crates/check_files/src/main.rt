@@ -1,5 +1,5 @@
 //! Prints what `relayd check` reports of each file in its folder, and the exit status. The merge gate compares that
-//! with the file `stdout`, which was written by hand from the faults in docs/FORMATS.md. `scripts/make-checked` made
+//! with the file `stdout`, which was written by hand from the faults in docs/FORMATS.md. `scripts/store samples` made
 //! the files.
 #![tactic(auto)]
 

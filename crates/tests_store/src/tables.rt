@@ -1,6 +1,6 @@
 //! What is committed to a vault and refused, and what its tables then hold.
 //!
-//! The rows themselves are read by `scripts/check-tables`.
+//! The rows themselves are read by `scripts/store tables`.
 
 use crate::database::count_all;
 use crate::entries::{Entry, Keys};

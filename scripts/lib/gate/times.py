@@ -1,0 +1,144 @@
+"""Runs the merge gate `rt ci`, and then prints where its time went.
+
+For each crate, the slowest first: the time from the first to the last of its proof, of the proof of
+its tests and of its mutants, the processor time that they took, and that of compiling and running
+it. It looks at the processes that the gate started, twice a second, and changes nothing of what the
+gate does. Its exit status is the gate's. All times are in seconds.
+Usage: scripts/gate times
+"""
+import os
+import pathlib
+import re
+import resource
+import subprocess
+import threading
+import time
+
+from lib.command import ROOT
+
+KINDS = ("proof", "tests", "edits", "runs")
+PAUSE = 0.5
+TICK = os.sysconf("SC_CLK_TCK")
+
+
+def read_process(pid):
+    """A process's parent, its processor time with that of its ended children, and when it began, or None where it is gone."""
+    try:
+        fields = pathlib.Path(f"/proc/{pid}/stat").read_text(errors="replace").rpartition(")")[2].split()
+    except OSError:
+        return None
+    return int(fields[1]), sum(int(it) for it in fields[11:15]) / TICK, fields[19]
+
+
+def task_of(pid):
+    """The crate that a process works for and what it does there, by its words and its folder, or None."""
+    try:
+        words = pathlib.Path(f"/proc/{pid}/cmdline").read_bytes().decode(errors="replace").split("\0")
+        folder = os.readlink(f"/proc/{pid}/cwd")
+    except OSError:
+        return None
+    if "--crate-name" in words:
+        crate = words[words.index("--crate-name") + 1]
+        if os.path.basename(folder).startswith("rt-edit-"):
+            return crate, "edits"
+        if "--crate-checked" in words:
+            return crate, "runs"
+        return crate, "tests" if "--test" in words else "proof"
+    for word in words:
+        program = re.fullmatch(r".*/rt-run-[^/]*/bin/(\w+?)(_tests)?", word)
+        if program:
+            return program[1], "runs"
+    return None
+
+
+class Times:
+    """Per crate and kind of work: when it began and ended, and the processor time of each of its processes."""
+
+    def __init__(self):
+        self.spans = {}
+        self.used = {}
+
+    def look(self, gate):
+        """Takes in the processes below the gate's. A task is its topmost process and all below that."""
+        now = time.monotonic()
+        seen = {int(it): read_process(it) for it in os.listdir("/proc") if it.isdigit()}
+        below = {}
+        for pid, process in seen.items():
+            if process:
+                below.setdefault(process[0], []).append(pid)
+
+        def total(pid):
+            return seen[pid][1] + sum(total(it) for it in below.get(pid, []))
+
+        def visit(pid):
+            task = task_of(pid)
+            if task is None:
+                for it in below.get(pid, []):
+                    visit(it)
+                return
+            first, _ = self.spans.get(task, (now, now))
+            self.spans[task] = (first, now)
+            processes = self.used.setdefault(task, {})
+            process = (pid, seen[pid][2])
+            processes[process] = max(processes.get(process, 0), total(pid))
+
+        for pid in below.get(gate, []):
+            visit(pid)
+
+    def wall(self, task):
+        first, last = self.spans.get(task, (0, 0))
+        return last - first
+
+    def processor(self, task):
+        return sum(self.used.get(task, {}).values())
+
+
+def table(times, wall, processor):
+    """The lines of the table."""
+    edits = {it.name: len(list(it.glob("must-fail/*.edit"))) for it in pathlib.Path("crates").iterdir()}
+    crates = {crate for crate, _ in times.spans}
+    cost = {crate: sum(times.processor((crate, kind)) for kind in KINDS) for crate in crates}
+    yield "| crate | proof | processor | tests | processor | wrong bodies | their time | processor | compile, run | processor, all |"
+    yield "|---|---|---|---|---|---|---|---|---|---|"
+    for crate in sorted(crates, key=lambda it: -cost[it]):
+        cells = []
+        for kind in KINDS:
+            task = (crate, kind)
+            if kind == "edits":
+                cells.append(edits.get(crate, 0) or "")
+            if kind != "runs":
+                cells.append(f"{times.wall(task):.0f}" if task in times.spans else "")
+            cells.append(f"{times.processor(task):.0f}" if task in times.spans else "")
+        yield "| " + " | ".join(str(it) for it in (crate, *cells, f"{cost[crate]:.0f}")) + " |"
+    sums = {kind: sum(times.processor((crate, kind)) for crate in crates) for kind in KINDS}
+    count = sum(edits.get(it, 0) for it in crates)
+    cells = ["", f"{sums['proof']:.0f}", "", f"{sums['tests']:.0f}", count, "", f"{sums['edits']:.0f}", f"{sums['runs']:.0f}"]
+    yield "| all | " + " | ".join(str(it) for it in (*cells, f"{sum(sums.values()):.0f}")) + " |"
+    yield ""
+    yield f"The gate took {wall / 60:.1f} minutes, and {processor / 60:.1f} of processor time, on {len(os.sched_getaffinity(0))} processors."
+
+
+def main():
+    os.chdir(ROOT)
+    times = Times()
+    began = time.monotonic()
+    gate = subprocess.Popen(["rt", "ci"])
+    ended = threading.Event()
+
+    def watch():
+        while not ended.wait(PAUSE):
+            times.look(gate.pid)
+
+    watcher = threading.Thread(target=watch, daemon=True)
+    watcher.start()
+    try:
+        status = gate.wait()
+    except KeyboardInterrupt:
+        status = gate.wait()
+    ended.set()
+    watcher.join()
+    used = resource.getrusage(resource.RUSAGE_CHILDREN)
+    print()
+    for line in table(times, time.monotonic() - began, used.ru_utime + used.ru_stime):
+        print(line)
+    return status if status >= 0 else 128 - status

@@ -1,0 +1,66 @@
+"""The model itself, against worked scripts and requests. It needs no program.
+
+Scripts that end with a fault are left out, since the model reads good lines alone.
+Usage: scripts/script model [FOLDER | PAGE]..: if nothing is named, all of vectors/, and the scripts
+of limits, with fewer pending events
+"""
+import pathlib
+import sys
+
+from lib.answers import answer, examples, once_settled, turn
+from lib.command import ROOT, Counts, first_difference
+from lib.limit_scripts import pairs, publishes, room
+from lib.model import Desk, reply_to
+
+VECTORS = ROOT / "vectors"
+PLACES = [VECTORS / "replay", VECTORS / "topics", VECTORS / "requests.md", VECTORS / "topics" / "requests.md"]
+
+
+class SmallDesk(Desk):
+    """A desk for which fewer events are a backlog, since the model is slow."""
+
+    MOST_PENDING = 100
+    MOST_PENDING_ALL = 500
+
+
+def check_replies(counts, name, desk, lines, wanted):
+    """Compares the replies to the lines of a script, up to the first that differs."""
+    counts.check(name, first_difference([reply_to(desk, line) for line in lines], wanted), None)
+
+
+def check_script(counts, script):
+    lines, wanted = (script.with_suffix(end).read_text().splitlines() for end in (".script", ".replies"))
+    check_replies(counts, script, Desk(), lines, wanted)
+
+
+def check_limits(counts):
+    pending = SmallDesk.MOST_PENDING, SmallDesk.MOST_PENDING_ALL
+    for name, desk, script in (("room", SmallDesk(), room(*pending)), ("publishes", SmallDesk(), publishes(*pending)), ("pairs", Desk(), pairs())):
+        check_replies(counts, name, desk, *map(list, zip(*script.lines)))
+
+
+def check_page(counts, page):
+    """Compares the answer to each request of a page."""
+    desk, listed = Desk(), list(examples(page.read_text()))
+    counts.check(f"{page} has examples", bool(listed))
+    for it, wanted in listed:
+        counts.check(f"{page.name}: {it}", once_settled(it, answer(desk, it)), wanted)
+        turn(desk)
+
+
+def check(counts, place):
+    if not place.is_dir():
+        return check_page(counts, place)
+    scripts = [it for it in sorted(place.glob("*.script")) if not it.with_suffix(".status").exists()]
+    counts.check(f"{place} has scripts", bool(scripts))
+    for script in scripts:
+        check_script(counts, script)
+
+
+def main():
+    counts = Counts()
+    for place in map(pathlib.Path, sys.argv[1:] or PLACES):
+        check(counts, place)
+    if not sys.argv[1:]:
+        check_limits(counts)
+    return counts.end()
