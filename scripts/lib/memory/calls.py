@@ -18,7 +18,7 @@ import subprocess
 import tempfile
 import time
 
-from lib import allocations
+from lib import faults
 from lib.command import ROOT, Counts, programs_of
 from lib.serving import Relay, ask, put
 
@@ -129,7 +129,7 @@ def made(library, bench, word, folder, step=0, refuse=0, many=1):
         if word == "FILE":
             shutil.copyfile(os.path.join(folder, "two"), path)
         words = [bench, "growths", path if word in ("FILE", "ABSENT") else word]
-        run = allocations.Lines(library, words, folder, step, refuse, many)
+        run = faults.Lines(library, words, folder, step, refuse, many)
         stood = run.read()
         answers = [run.send("\n"), run.send("\n")]
         return stood, answers, run.end()
@@ -182,7 +182,7 @@ REFUSED_STOP = "refused stop"
 def played(library, relayd, folder, at=None, refuse=0):
     """A script whose line at this place has an allocation refused: the replies of all lines, those of the looks before and after that line, and
     what it replied when it was made again. An empty line follows the script, which is none."""
-    run = allocations.Lines(library, [relayd, "replay"], folder, 0 if at is None else at + 1 + len(LOOKS), refuse)
+    run = faults.Lines(library, [relayd, "replay"], folder, 0 if at is None else at + 1 + len(LOOKS), refuse)
     replies, before, after, again = [], None, None, None
     for place, (line, _) in enumerate(SCRIPT):
         if place == at:
@@ -293,7 +293,7 @@ def ended(library, relayd, words, text, folder, refuse, many=1):
         if file:
             shutil.copyfile(os.path.join(folder, file), path)
         named = [path if word in FILES else word for word in words]
-        told, count = allocations.run(library, [relayd, *named], text, scratch, refuse, many)
+        told, count = faults.run(library, [relayd, *named], text, scratch, allocation=refuse, many=many)
         return (told.stdout, told.stderr, told.returncode), count
 
 
@@ -422,7 +422,7 @@ def try_bench(library, bench, word, kinds, needed, folder, pool, counts):
             for ending in ("", "-wal"):
                 if word == "loads" and os.path.exists(f"{folder}/loaded{ending}"):
                     shutil.copyfile(f"{folder}/loaded{ending}", f"{scratch}/store{ending}")
-            told, count = allocations.run(library, [bench, word, f"{scratch}/store"], b"", scratch, number)
+            told, count = faults.run(library, [bench, word, f"{scratch}/store"], b"", scratch, allocation=number)
         lines = tuple(told.stdout.decode().splitlines())
         if told.returncode == 1 and not lines:
             return "opening", count
@@ -450,13 +450,13 @@ def seals(relayd, library, folder, refuse=0, many=0):
     """How a relay answers a change, its status if it ended, and what it told then; how many allocations its main thread had asked for before; and how
     many seconds the answer took."""
     with tempfile.TemporaryDirectory(dir=folder) as scratch, tempfile.NamedTemporaryFile(dir=folder) as asked:
-        asked.write(allocations.EMPTY)
+        asked.write(faults.EMPTY)
         asked.flush()
-        env = allocations.settings(library, asked.name, refuse=refuse, many=many, main=1)
+        env = faults.settings(library, asked=asked.name, allocation=refuse, many=many, main=1)
         relay = Relay(relayd, os.path.join(scratch, "relay.db"), "--workers", 1, "--intake", 1, env=env)
         ask(relay.address, "GET", "/v1/status")
         time.sleep(0.2)
-        before, begun = allocations.counts_of(asked.name)[0], time.monotonic()
+        before, begun = faults.counts_of(asked.name)[0], time.monotonic()
         answer = put(relay.address, "a", 9)
         taken = time.monotonic() - begun
         status = relay.ended(10) if answer.status != 201 else relay.process.poll()
@@ -479,7 +479,7 @@ def main():
     counts, rows = Counts(), table()
     check_table(rows, counts)
     with tempfile.TemporaryDirectory() as folder, concurrent.futures.ThreadPoolExecutor(4) as pool:
-        library = allocations.compiled(folder)
+        library = faults.compiled(folder)
         make_files(relayd, folder)
         for row in rows:
             if row.way in ("growths", "none") and row.word:

@@ -19,7 +19,7 @@ import tempfile
 import threading
 import time
 
-from lib import allocations
+from lib import faults
 from lib.command import Counts, needs, program_of
 from lib.serving import STARTED, Relay, Subscriber, ask, put, submit, wait_until
 
@@ -112,9 +112,9 @@ def asked_before(program, library):
     """How many allocations a relay asks for before it serves."""
     with tempfile.TemporaryDirectory() as folder:
         asked = pathlib.Path(folder, "asked")
-        asked.write_bytes(allocations.EMPTY)
-        relay, _ = started(program, f"{folder}/relay.db", *ONE_THREAD, env=allocations.settings(library, asked, refuse=0))
-        first = allocations.counts_of(asked)[0]
+        asked.write_bytes(faults.EMPTY)
+        relay, _ = started(program, f"{folder}/relay.db", *ONE_THREAD, env=faults.settings(library, asked=asked, allocation=0))
+        first = faults.counts_of(asked)[0]
         relay.process.kill()
         relay.process.communicate()
         return first
@@ -124,7 +124,7 @@ def refused_at(program, library, number, kept, events):
     """What is wrong where the allocation with this number is refused, and whether there was one."""
     with tempfile.TemporaryDirectory() as folder:
         asked, file, held = pathlib.Path(folder, "asked"), f"{folder}/relay.db", threading.Event()
-        asked.write_bytes(allocations.EMPTY)
+        asked.write_bytes(faults.EMPTY)
 
         def reply(_):
             held.wait(20)
@@ -132,14 +132,14 @@ def refused_at(program, library, number, kept, events):
 
         subscriber = Subscriber(reply)
         try:
-            relay, ended = started(program, file, *ONE_THREAD, env=allocations.settings(library, asked, refuse=number))
+            relay, ended = started(program, file, *ONE_THREAD, env=faults.settings(library, asked=asked, allocation=number))
             if relay is None:
                 return (None if is_named(*ended) else f"allocation {number}: {ended}"), True
             wrong, taken = worked(relay, subscriber, held, number, kept, events)
         finally:
             held.set()
             subscriber.close()
-        was_refused = allocations.counts_of(asked)[0] >= number
+        was_refused = faults.counts_of(asked)[0] >= number
         return wrong or lost(program, file, taken, f"allocation {number}"), was_refused
 
 
@@ -216,7 +216,6 @@ def bounded_by(program, size):
 
 def main():
     program = program_of(__doc__)
-    needs("cc", "gcc")
     needs("prlimit", "util-linux")
     most = int(sys.argv[2]) if len(sys.argv) > 2 else 400
     step = int(sys.argv[3]) if len(sys.argv) > 3 else 8
@@ -224,7 +223,7 @@ def main():
     sizes = [(LEAST + APART * at) * MEGABYTE for at in range(0, SIZES, max(1, SIZES // bounds))]
     counts, refused, kept = Counts(), 0, []
     with tempfile.TemporaryDirectory() as folder:
-        library = allocations.compiled(folder)
+        library = faults.compiled(folder)
         first = asked_before(program, library)
         numbers = range(first + 1, first + most + 1, step)
         with concurrent.futures.ThreadPoolExecutor(4) as pool:

@@ -6,11 +6,11 @@ byte, 7 or all; so does a write.
 Usage: scripts/script streams RELAYD
 """
 import concurrent.futures
-import os
 import subprocess
 import tempfile
 
-from lib.command import ROOT, SCRIPTS, program_of
+from lib import faults
+from lib.command import ROOT, program_of
 
 STORED = ROOT / "vectors" / "replay"
 SECRET = "whsec_MfKQ9r8GKYqrTwjUPD8ILPZIo2LaLaSw"
@@ -22,13 +22,13 @@ COMMANDS = [
     (["vegas", "1000"], b"100000 1 ok\n100000 10 ok\n", b"20 100000\n26 100000\n"),
 ]
 PIECES = (1, 7, 0)
-STREAMS = {"READ": b"relayd: Read\n", "WRITE": b"relayd: Write\n"}
+STREAMS = {"read": b"relayd: Read\n", "write": b"relayd: Write\n"}
 MOST = 5000
 
 
 def run(program, library, words, text, stream, number, piece):
     """How the command ends where this read or write fails."""
-    env = {**os.environ, "LD_PRELOAD": library, stream: str(number), "PIECE": str(piece)}
+    env = faults.settings(library, **{stream: number}, piece=piece)
     return subprocess.run([program, *words], input=text, capture_output=True, env=env, timeout=60)
 
 
@@ -40,7 +40,7 @@ def is_failed(end, stream, wanted):
     """Whether it told the stream's failure, and wrote a front of what is wanted before."""
     if (end.returncode, end.stderr) != (3, STREAMS[stream]) or not wanted.startswith(end.stdout):
         return False
-    return stream == "WRITE" or end.stdout == b"" or end.stdout.endswith(b"\n")
+    return stream == "write" or end.stdout == b"" or end.stdout.endswith(b"\n")
 
 
 def try_stream(program, library, command, stream, piece, pool):
@@ -65,8 +65,7 @@ def main():
     program = program_of(__doc__)
     passed = failed = 0
     with tempfile.TemporaryDirectory() as scratch, concurrent.futures.ThreadPoolExecutor(4) as pool:
-        library = f"{scratch}/fail-streams.so"
-        subprocess.run(["cc", "-O1", "-shared", "-fPIC", "-o", library, SCRIPTS / "fail-streams.c", "-ldl"], check=True)
+        library = faults.compiled(scratch)
         for command in COMMANDS:
             for stream in STREAMS:
                 for piece in PIECES:

@@ -6,17 +6,14 @@ the records that were committed, and at most those of one doubtful commit more.
 Usage: scripts/store fail BENCH
 """
 import concurrent.futures
-import os
 import pathlib
 import re
 import sqlite3
-import struct
-import subprocess
 import tempfile
 
-from lib.command import SCRIPTS, program_of
+from lib import faults
+from lib.command import program_of
 
-SOURCE = SCRIPTS / "fail-files.c"
 SECRET = b"0123456789abcdef01234567"
 URL = "http://127.0.0.1:9000/hook"
 TEXT = "whsec_MDEyMzQ1Njc4OWFiY2RlZjAxMjM0NTY3"
@@ -29,17 +26,6 @@ ENTRIES = [
 ]
 # Each commit stands twice: the second finds no batch, or a closed vault after a doubtful one.
 SCRIPT = "".join(f"{line}\nseal\ncommit\ncommit\nsettle\n" for line, _ in ENTRIES).encode()
-
-
-def run(bench, library, path, settings):
-    """How `bench replay` ends with these settings of the library, and how many calls it made."""
-    with tempfile.NamedTemporaryFile() as asked:
-        asked.write(struct.pack("L", 0))
-        asked.flush()
-        given = dict(os.environ, LD_PRELOAD=library, ASKED=asked.name, **settings)
-        told = subprocess.run([bench, "replay", path], input=SCRIPT, capture_output=True, env=given, timeout=60)
-        asked.seek(0)
-        return told, struct.unpack("L", asked.read(8))[0]
 
 
 def rows_of(entries):
@@ -101,7 +87,7 @@ def try_all(bench, library, settings, pool, scratch):
 
     def one(number):
         path = f"{scratch}/{name}-{number}.db"
-        told, count = run(bench, library, path, dict(settings, FAIL=str(number)))
+        told, count = faults.run(library, [bench, "replay", path], SCRIPT, file=number, **settings)
         why = wrong(told, path)
         for left in pathlib.Path(scratch).glob(f"{name}-{number}.db*"):
             left.unlink()
@@ -122,9 +108,8 @@ def main():
     bench = program_of(__doc__)
     passed = failed = 0
     with tempfile.TemporaryDirectory() as scratch, concurrent.futures.ThreadPoolExecutor(4) as pool:
-        library = f"{scratch}/fail-files.so"
-        subprocess.run(["cc", "-O1", "-shared", "-fPIC", "-o", library, SOURCE, "-ldl"], check=True)
-        for settings in ({}, {"ALSO": "1"}):
+        library = faults.compiled(scratch)
+        for settings in ({}, {"also": 1}):
             good, bad = try_all(bench, library, settings, pool, scratch)
             passed, failed = passed + good, failed + bad
     print(f"{passed} passed, {failed} failed")

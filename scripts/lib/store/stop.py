@@ -17,17 +17,16 @@ import pathlib
 import random
 import re
 import sqlite3
-import struct
 import subprocess
 import sys
 import tempfile
 
-from lib.command import SCRIPTS, programs_of
+from lib import faults
+from lib.command import programs_of
 from lib.model import Accept, Desk, Outcome, Put, flag_of, of, secrets_of, subscriptions_in
 from lib.random_lines import KINDS, made
 from lib.serving import HAS_TOPICS
 
-SOURCE = SCRIPTS / "stop-files.c"
 LINES = 60
 STOPPED = 9
 # What is lost of what wasn't synced, twice each: all, nothing, or what a number says.
@@ -83,12 +82,8 @@ def found_in(path):
 
 def play(bench, library, path, text, stop, lose):
     """The replies of a script that is stopped at this call, its status, and how many calls it made."""
-    with tempfile.NamedTemporaryFile(dir=os.path.dirname(path)) as asked:
-        asked.write(struct.pack("L", 0))
-        asked.flush()
-        env = {**os.environ, "LD_PRELOAD": library, "ASKED": asked.name, "STOP": str(stop), "LOSE": str(lose)}
-        told = subprocess.run([bench, "replay", path], input=text.encode(), capture_output=True, env=env, timeout=60)
-        return told.stdout.decode().splitlines(), told.returncode, struct.unpack("L", pathlib.Path(asked.name).read_bytes())[0]
+    told, count = faults.run(library, [bench, "replay", path], text.encode(), os.path.dirname(path), stop=stop, lose=lose)
+    return told.stdout.decode().splitlines(), told.returncode, count
 
 
 def number_in(replies, pattern):
@@ -145,8 +140,7 @@ def main():
     relayd, bench = programs_of(__doc__, 2)
     scripts = int(sys.argv[3]) if len(sys.argv) > 3 else 200
     with tempfile.TemporaryDirectory() as folder, concurrent.futures.ThreadPoolExecutor(os.cpu_count()) as pool:
-        library = f"{folder}/stop-files.so"
-        subprocess.run(["cc", "-O1", "-shared", "-fPIC", "-o", library, SOURCE, "-ldl"], check=True)
+        library = faults.compiled(folder)
         ends = [end for of in pool.map(lambda seed: run(relayd, bench, library, seed), range(scripts)) for end in of]
     for why, _ in [end for end in ends if end[0]][:10]:
         print(why)

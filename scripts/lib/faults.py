@@ -1,33 +1,34 @@
-"""Programs whose requests for memory are refused, one at a time."""
+"""Programs into which the library scripts/faults.c is loaded: it has calls and allocations fail, or stops the machine, as the environment says."""
 import os
 import pathlib
 import struct
 import subprocess
 import tempfile
 
-from lib.command import SCRIPTS
+from lib.command import SCRIPTS, needs
 
-SOURCE = SCRIPTS / "refuse-growths.c"
+SOURCE = SCRIPTS / "faults.c"
 STEPS = 64
 EMPTY = struct.pack("L", 0) * (STEPS + 1)
 MOST_SECONDS = 60
 
 
 def compiled(folder):
-    """The library that refuses allocations, compiled into the folder."""
-    library = os.path.join(folder, "refuse.so")
+    """The library, compiled into the folder."""
+    needs("cc", "gcc")
+    library = os.path.join(folder, "faults.so")
     subprocess.run(["cc", "-O1", "-shared", "-fPIC", "-o", library, SOURCE, "-ldl"], check=True)
     return library
 
 
-def settings(library, asked, **values):
-    """The environment of a program whose allocations the library counts in the file, and refuses as the values say."""
-    given = {name.upper(): str(value) for name, value in values.items() if value is not None}
-    return {**os.environ, "LD_PRELOAD": library, "ASKED": str(asked), **given}
+def settings(library, **values):
+    """The environment of a program in which the library makes the faults that the values say: `file=3` is FAULT_FILE=3."""
+    given = {f"FAULT_{name.upper()}": str(value) for name, value in values.items() if value is not None}
+    return {**os.environ, "LD_PRELOAD": library, **given}
 
 
 def counts_of(asked):
-    """How many allocations were asked for, and how many from each read of standard input on."""
+    """How many calls were made, and how many allocations from each read of standard input on."""
     numbers = struct.unpack(f"{STEPS + 1}L", pathlib.Path(asked).read_bytes())
     return numbers[0], list(numbers[1:])
 
@@ -38,16 +39,13 @@ class Ended:
     def __init__(self, replies, rest, errors, status, counts):
         self.replies, self.rest, self.errors, self.status, self.counts = replies, rest, errors, status, counts
 
-    def is_whole(self, replies):
-        return (self.status, self.errors, self.rest, self.replies) == (0, "", "", replies)
 
-
-def run(library, words, text=b"", folder=None, refuse=0, many=None):
-    """A run that is given its input at once: how it ended, and how many allocations it asked for."""
+def run(library, words, text=b"", folder=None, **values):
+    """A run that is given its input at once: how it ended, and how many calls it made."""
     with tempfile.NamedTemporaryFile(dir=folder) as asked:
         asked.write(EMPTY)
         asked.flush()
-        env = settings(library, asked.name, refuse=refuse, many=many)
+        env = settings(library, asked=asked.name, **values)
         told = subprocess.run(words, input=text, capture_output=True, env=env, timeout=MOST_SECONDS)
         return told, counts_of(asked.name)[0]
 
@@ -60,7 +58,7 @@ class Lines:
         self.asked = tempfile.NamedTemporaryFile(dir=folder)
         self.asked.write(EMPTY)
         self.asked.flush()
-        env = settings(library, self.asked.name, step=step, refuse=refuse, many=many)
+        env = settings(library, asked=self.asked.name, step=step, allocation=refuse, many=many)
         pipe = subprocess.PIPE
         self.process = subprocess.Popen(words, stdin=pipe, stdout=pipe, stderr=pipe, env=env)
         self.replies = []
