@@ -283,9 +283,8 @@ int ftruncate(int file, off_t length) {
     return next_ftruncate(file, length);
 }
 
-int fsync(int file) {
+static int synced(int file, int (*next)(int)) {
     int done;
-    NEXT(fsync);
     if (is_failed())
         return -1;
     step();
@@ -294,15 +293,14 @@ int fsync(int file) {
     return done;
 }
 
+int fsync(int file) {
+    NEXT(fsync);
+    return synced(file, next);
+}
+
 int fdatasync(int file) {
-    int done;
     NEXT(fdatasync);
-    if (is_failed())
-        return -1;
-    step();
-    done = next(file);
-    forget(file);
-    return done;
+    return synced(file, next);
 }
 
 ssize_t read(int file, void *bytes, size_t count) {

@@ -11,7 +11,7 @@ import threading
 import time
 import zlib
 
-from lib.serving import STARTED
+from lib.serving import STARTED, wait_until
 
 # Generous, since other programs may have the processors.
 SECONDS = 60
@@ -21,12 +21,7 @@ TEXTS = {"Enter": "\r", "Space": " "}
 
 def until(holds, seconds=SECONDS):
     """Whether it holds within so many seconds. It is looked at three times a second: a page that is asked all the time does nothing else."""
-    end = time.monotonic() + seconds
-    while not holds():
-        if time.monotonic() > end:
-            return False
-        time.sleep(0.3)
-    return True
+    return wait_until(holds, seconds, 0.3)
 
 
 def high(number):

@@ -10,6 +10,7 @@ import sys
 
 SCRIPTS = pathlib.Path(__file__).resolve().parent.parent
 ROOT = SCRIPTS.parent
+PAGES = [ROOT / "README.md", ROOT / "CHANGELOG.md", *sorted((ROOT / "docs").glob("*.md"))]
 TOOLS = ("bench", "docs", "gate", "memory", "script", "serve", "store")
 
 

@@ -15,7 +15,8 @@ import sys
 import time
 import typing
 
-from lib.command import ROOT, SCRIPTS
+from lib.command import SCRIPTS
+from lib.formats import texts_of_tables
 from lib.serving import SECRET, STARTED, free_port, wait_until
 
 ENDPOINTS = 40
@@ -122,11 +123,10 @@ def built_go(folder):
 
 def make_store(file):
     """A store as docs/FORMATS.md describes it, with the rows that relayd writes if it puts and disables the endpoints."""
-    tables = re.findall(r"^CREATE TABLE.*?STRICT$", (ROOT / "docs/FORMATS.md").read_text(), re.S | re.M)
     key = base64.b64decode(SECRET.removeprefix("whsec_"))
     with contextlib.closing(sqlite3.connect(file)) as conn, conn:
-        for text in tables:
-            conn.execute(" ".join(text.split()))
+        for text in texts_of_tables():
+            conn.execute(text)
         conn.execute("INSERT INTO meta VALUES(1, 'webhook-relay', 1, ?)", (2 * ENDPOINTS,))
         for number in range(ENDPOINTS):
             row = (2 * number, f"e{number}", "http://127.0.0.1:9/", 100, 0, 2 * number + 1, 2 * number)

@@ -18,6 +18,8 @@ import time
 from lib.command import ROOT, ran
 
 SECRET = "whsec_MDEyMzQ1Njc4OTAxMjM0NTY3ODkwMTIz"
+# The tokens of those who come through the proxy in front.
+SUBMITTER, OPERATOR = "5" * 64, "a" * 64
 # Whether the relay has topics: this line turns on all tests of them.
 HAS_TOPICS = False
 STARTED = []
@@ -283,6 +285,18 @@ def nginx_of(folder, name, *sections):
         server.wait()
 
 
+@contextlib.contextmanager
+def front_of(folder, relay):
+    """The proxy of packaging/nginx.conf in front of a relay, at a port of its own, with a certificate that it makes in the folder."""
+    port = free_port()
+    ran("openssl", "req", "-x509", "-newkey", "rsa:2048", "-nodes", "-days", "1", "-subj", "/CN=localhost", "-keyout", f"{folder}/key.pem", "-out",
+        f"{folder}/certificate.pem")
+    changes = {"/etc/relayd/": f"{folder}/", "127.0.0.1:8080": "%s:%d" % relay.address, "listen 8443": f"listen 127.0.0.1:{port}",
+               "SUBMITTER-TOKEN": SUBMITTER, "OPERATOR-TOKEN": OPERATOR, "/usr/share/relayd": str(ROOT / "packaging")}
+    with nginx_of(folder, "front", changed("nginx.conf", changes)):
+        yield port
+
+
 def free_port():
     with socket.socket() as listener:
         listener.bind(("127.0.0.1", 0))
@@ -298,13 +312,13 @@ def changed(name, changes):
     return text
 
 
-def wait_until(holds, seconds=30):
-    """Whether it holds within so many seconds."""
+def wait_until(holds, seconds=30, pause=0.02):
+    """Whether it holds within so many seconds. It is looked at with such pauses."""
     until = time.monotonic() + seconds
     while not holds():
         if time.monotonic() > until:
             return False
-        time.sleep(0.02)
+        time.sleep(pause)
     return True
 
 

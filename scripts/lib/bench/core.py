@@ -7,7 +7,7 @@ that one held. `--shared BENCH` measures threads that share a desk alone; `--fil
 the file of as many deliveries that is reopened, and `--read PATH` reads its rows.
 Usage: scripts/bench core BENCH RELAYD
 """
-import re
+import contextlib
 import resource
 import sqlite3
 import subprocess
@@ -17,6 +17,8 @@ import threading
 import time
 
 from lib.command import ROOT, end_with_usage, programs_of
+from lib.formats import texts_of_tables
+from lib.process import status_of
 from lib.serving import SECRET
 
 SAMPLES = 100_000_000
@@ -48,19 +50,12 @@ def measured(words, given=b""):
         reader = threading.Thread(target=lambda: told.append(run.stdout.read()))
         reader.start()
         while reader.is_alive():
-            peak = max(peak, memory_of(run.pid))
+            with contextlib.suppress(OSError):
+                peak = max(peak, status_of(run.pid, "VmHWM") / 2**20)
             reader.join(0.02)
     if run.returncode:
         sys.exit(f"{' '.join(words)}: status {run.returncode}")
     return told[0].decode(), time.monotonic() - began, peak
-
-
-def memory_of(pid):
-    try:
-        with open(f"/proc/{pid}/status") as status:
-            return next((int(it.split()[1]) for it in status if it.startswith("VmHWM")), 0) / 1024
-    except OSError:
-        return 0
 
 
 def limit_in_python(count):
@@ -84,19 +79,13 @@ def limit_in_python(count):
     print(limit, noload)
 
 
-def tables():
-    """The statements that make the tables, as docs/FORMATS.md states them."""
-    page = (ROOT / "docs" / "FORMATS.md").read_text()
-    return [" ".join(it.split()) for it in re.findall(r"^CREATE TABLE.*?STRICT$", page, re.S | re.M)]
-
-
 def store_in_python(path, count, size):
     """The statements of as many commits, one event in each."""
     conn = sqlite3.connect(path, isolation_level=None)
     conn.execute("PRAGMA journal_mode = WAL")
     conn.execute("PRAGMA synchronous = FULL")
     conn.execute("BEGIN")
-    for text in tables():
+    for text in texts_of_tables():
         conn.execute(text)
     conn.execute("INSERT INTO meta VALUES(1, 'webhook-relay', 1, 0)")
     conn.execute("COMMIT")
@@ -122,7 +111,7 @@ def file_in_python(path, count, size=100, attempts=((200, 1001),)):
     conn = sqlite3.connect(path, isolation_level=None)
     conn.execute("PRAGMA journal_mode = WAL")
     conn.execute("BEGIN")
-    for text in tables():
+    for text in texts_of_tables():
         conn.execute(text)
     for put in range(100):
         conn.execute("INSERT INTO endpoints VALUES(?1, ?2, 'http://h/', 100, 1, ?1, ?1)", (put, f"e{put}"))

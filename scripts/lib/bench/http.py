@@ -37,6 +37,7 @@ import threading
 import time
 
 from lib.command import needs, program_of
+from lib.process import status_of
 from lib.servers import BODY, ENDPOINTS, Postgres, Run, built_go, count_rows, postgres_programs, processor_of, start_go, start_nginx, start_plain
 from lib.servers import started, wait_for
 from lib.serving import SECRET, free_port
@@ -83,10 +84,6 @@ def start_relay(folder, program, name):
         assert ask(port, "PUT", f"/v1/endpoints/e{number}", put)[0] == 201
         assert ask(port, "PUT", f"/v1/endpoints/e{number}/enabled", '{"enabled":false}')[0] == 200
     return process, port
-
-
-def memory_of(process):
-    return int(re.search(r"VmRSS:\s+(\d+)", pathlib.Path(f"/proc/{process.pid}/status").read_text())[1]) * 1024
 
 
 def times_of(process):
@@ -167,10 +164,10 @@ def measure_rounds(servers, rounds, seconds, counts):
 def measure_threads(folder, program, seconds):
     """How long the relay's threads ran and waited at 64 connections, and how its memory grew."""
     relay, port = start_relay(folder, program, "threads.db")
-    memory, before = memory_of(relay), times_of(relay)
+    memory, before = status_of(relay.pid, "VmRSS"), times_of(relay)
     rate, _, _, _ = load(folder, port, 64, seconds)
     ran, waited, others, others_waited = (after - it for after, it in zip(times_of(relay), before))
-    grown, kept = memory_of(relay) - memory, json.loads(ask(port, "GET", "/v1/status")[1])["pending"]
+    grown, kept = status_of(relay.pid, "VmRSS") - memory, json.loads(ask(port, "GET", "/v1/status")[1])["pending"]
     count = rate * seconds
     print(f"\nAt 64 connections, {rate:.0f} answers a second: of {seconds} s the committer ran {ran:.2f} s and waited {waited:.2f} s for a processor; the 64")
     print(f"threads of the intake ran {others:.2f} s and waited {others_waited:.2f} s. So an answer took {ran / count * 1e6:.0f} us of the committer and "

@@ -1,6 +1,6 @@
 """Every example of the pages prints what they say; then `names` and `words`.
 
-The pages are README.md and docs/*.md. An example is a block of a page, indented by four spaces or
+The pages are README.md, CHANGELOG.md and docs/*.md. An example is a block of a page, indented by four spaces or
 between fences, with a line that begins with `$ `. Such a line is a command. A line that ends in
 `|`, `\\` or `&&` goes on in the next one. The lines after it, up to the next command, are what it
 prints. A line `...` stands for any lines, and a number of ten digits for any other, since it is a
@@ -24,7 +24,7 @@ import subprocess
 import sys
 import tempfile
 
-from lib.command import ROOT, needs, program_of
+from lib.command import PAGES, ROOT, needs, program_of
 from lib.serving import free_port
 
 SECONDS = 60
@@ -138,7 +138,7 @@ def counts_of(check, pages):
 def main():
     program = program_of(__doc__)
     needs("curl", "curl")
-    pages = [pathlib.Path(it) for it in sys.argv[2:]] or [ROOT / "README.md", *sorted((ROOT / "docs").glob("*.md"))]
+    pages = [pathlib.Path(it) for it in sys.argv[2:]] or PAGES
     passed = failed = 0
     for page in pages:
         for first, block in blocks_of(page.read_text()):

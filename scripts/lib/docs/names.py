@@ -33,9 +33,8 @@ import pathlib
 import re
 import sys
 
-from lib.command import ROOT, TOOLS, subcommands_of
+from lib.command import PAGES, ROOT, TOOLS, subcommands_of
 
-PAGES = [ROOT / "README.md", ROOT / "CHANGELOG.md", *sorted((ROOT / "docs").glob("*.md"))]
 SKIPPED = {".git", "out", "target", "__pycache__", "must-fail", "wrong", "wrong-by-tests"}
 PLACES = {"src", "specs", "proofs", "must-fail", "wrong", "wrong-by-tests", "out", "data"}
 SOURCES = {"rt", "antt", "md", "svg", "py", "c", "yaml", "conf", "service", "script", "replies", "edit"}

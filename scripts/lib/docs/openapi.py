@@ -7,12 +7,12 @@ Usage: scripts/docs openapi RELAYD
 """
 import http.client
 import re
-import subprocess
 import sys
 import tempfile
 
 from lib.command import ROOT, program_of
-from lib.serving import STARTED
+from lib.formats import part_from
+from lib.serving import Relay
 
 try:
     import yaml
@@ -59,9 +59,7 @@ def faults_of(port, path, method, responses, example):
 
 def statuses():
     """The statuses that FORMATS has for requests."""
-    text = (ROOT / "docs" / "FORMATS.md").read_text()
-    section = text[text.index("## HTTP"):text.index("## Posts")]
-    return set(re.findall(r"(?<![\d,])([245]\d\d)\b", section))
+    return set(re.findall(r"(?<![\d,])([245]\d\d)\b", part_from("## HTTP", "## Posts")))
 
 
 def main():
@@ -69,12 +67,9 @@ def main():
     page = yaml.safe_load((ROOT / "docs" / "openapi.yaml").read_text())
     passed = failed = 0
     with tempfile.TemporaryDirectory() as folder:
-        words = [relayd, "serve", f"{folder}/relay.db", "127.0.0.1:0"]
-        relay = subprocess.Popen(words, stdout=subprocess.PIPE, stderr=subprocess.DEVNULL, text=True)
-        STARTED.append(relay)
-        port = int(relay.stdout.readline().rpartition(":")[2])
+        relay = Relay(relayd, f"{folder}/relay.db")
         for path, method, responses, example in examples_of(page):
-            faults = list(faults_of(port, path, method, responses, example))
+            faults = list(faults_of(relay.address[1], path, method, responses, example))
             passed += not faults
             failed += bool(faults)
             for fault in faults:

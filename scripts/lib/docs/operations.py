@@ -22,9 +22,9 @@ import threading
 import time
 
 from lib.command import ROOT, Counts, has, program_of, ran
-from lib.serving import SECRET, Answer, Relay, Subscriber, ask, changed, free_port, nginx_of, put, read_all, relay_of, request, submit, wait_until
+from lib.serving import OPERATOR, SECRET, SUBMITTER, Answer, Relay, Subscriber, ask, changed, free_port, front_of, nginx_of, put, read_all
+from lib.serving import relay_of, request, submit, wait_until
 
-SUBMITTER, OPERATOR = "5" * 64, "a" * 64
 NOWHERE = 9
 TEN_YEARS = 10 * 365 * 24 * 3600
 
@@ -179,13 +179,8 @@ def check_behind_nginx(counts, program, folder):
     """The configuration of packaging/nginx.conf: TLS, tokens, a bound of bodies, and slow clients that hold none of the relay's threads."""
     if not has("nginx", "openssl"):
         return
-    ran("openssl", "req", "-x509", "-newkey", "rsa:2048", "-nodes", "-days", "1", "-subj", "/CN=localhost", "-keyout", f"{folder}/key.pem", "-out",
-        f"{folder}/certificate.pem")
-    port = free_port()
     with relay_of(program, f"{folder}/behind.db", "--intake", 2) as relay:
-        changes = {"/etc/relayd/": f"{folder}/", "127.0.0.1:8080": "%s:%d" % relay.address, "listen 8443": f"listen 127.0.0.1:{port}",
-                   "SUBMITTER-TOKEN": SUBMITTER, "OPERATOR-TOKEN": OPERATOR}
-        with nginx_of(folder, "front", changed("nginx.conf", changes)):
+        with front_of(folder, relay) as port:
             context = ssl.create_default_context(cafile=f"{folder}/certificate.pem")
             context.check_hostname = False
             tell = lambda *words, **more: over_tls(context, port, asked(*words, **more))

@@ -7,9 +7,7 @@ language that isn't here (Debian: curl, nodejs, golang-go, default-jdk-headless)
 counted.
 Usage: scripts/docs submitters RELAYD
 """
-import os
 import pathlib
-import re
 import shutil
 import subprocess
 import sys
@@ -17,6 +15,7 @@ import tempfile
 import threading
 
 from lib.command import ROOT, Counts, program_of
+from lib.languages import programs_in, with_go
 from lib.serving import HAS_TOPICS, Subscriber, ask, exchange, free_port, put, relay_of, subscribe, wait_until
 
 SECONDS = 300
@@ -32,13 +31,13 @@ JAVA_MAIN = '\npublic static void main(String[] none) throws Exception {\n    va
 
 def programs(page, folder):
     """Of each language the words that run its program, or None where this machine hasn't what runs it."""
-    blocks = dict(re.findall(r"```(sh|python|javascript|go|java)\n(.*?)```", page, re.S))
+    blocks = programs_in(page)
     (folder / "send.sh").write_text(blocks["sh"])
     (folder / "send.py").write_text(blocks["python"] + PYTHON)
     (folder / "send.js").write_text(blocks["javascript"] + NODE)
     (folder / "send.go").write_text(GO + blocks["go"] + GO_MAIN)
     (folder / "Send.java").write_text(JAVA + blocks["java"] + JAVA_MAIN)
-    env = {**os.environ, "GOTOOLCHAIN": "local", "GOPROXY": "off", "GOFLAGS": "", "GOCACHE": str(folder / "cache"), "HOME": str(folder)}
+    env = with_go(folder)
     yield "curl", "curl", ["sh", "send.sh"], None, env
     yield "python", sys.executable, [sys.executable, "send.py"], None, env
     yield "node", "node", ["node", "send.js"], None, env
@@ -123,7 +122,7 @@ def check_published(counts, language, send, relay):
 
 def main():
     relayd, counts = program_of(__doc__), Counts()
-    page = (ROOT / "docs" / "SUBMITTERS.md").read_text()
+    page = ROOT / "docs" / "SUBMITTERS.md"
     with tempfile.TemporaryDirectory() as name:
         folder, subscriber, events = pathlib.Path(name), Subscriber(), 0
         with relay_of(relayd, folder / "relay.db") as relay:

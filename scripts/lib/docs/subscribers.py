@@ -8,7 +8,6 @@ Usage: scripts/docs subscribers
 import json
 import os
 import pathlib
-import re
 import shlex
 import shutil
 import subprocess
@@ -16,6 +15,7 @@ import sys
 import tempfile
 
 from lib.command import ROOT
+from lib.languages import programs_in, with_go
 from lib.serving import SECRET
 
 PAGE = ROOT / "docs" / "SUBSCRIBERS.md"
@@ -43,7 +43,7 @@ GO_MAIN = '\nfunc main() {\n\tvar c map[string]string\n\tjson.NewDecoder(os.Stdi
 
 def verifiers(page, folder):
     """Of each language the words that run its verifier, or None where its program isn't here."""
-    blocks = dict(re.findall(r"```(python|javascript|go|sh)\n(.*?)```", page, re.S))
+    blocks = programs_in(page)
     (folder / "verify.py").write_text(blocks["python"] + PYTHON)
     (folder / "verify.js").write_text(blocks["javascript"] + NODE)
     (folder / "verify.go").write_text(GO + blocks["go"] + GO_MAIN)
@@ -56,8 +56,7 @@ def verifiers(page, folder):
 
 def go_program(folder):
     """The verifier in Go, built once, with nothing fetched."""
-    env = {**os.environ, "GOTOOLCHAIN": "local", "GOPROXY": "off", "GOFLAGS": "", "GOCACHE": str(folder / "cache"), "HOME": str(folder)}
-    done = subprocess.run(["go", "build", "-o", "verify", "verify.go"], cwd=folder, env=env, capture_output=True, text=True, timeout=SECONDS)
+    done = subprocess.run(["go", "build", "-o", "verify", "verify.go"], cwd=folder, env=with_go(folder), capture_output=True, text=True, timeout=SECONDS)
     return [str(folder / "verify")] if done.returncode == 0 else ["sh", "-c", f"echo {shlex.quote(done.stderr)}"]
 
 
@@ -73,7 +72,7 @@ def main():
     passed = failed = 0
     with tempfile.TemporaryDirectory() as name:
         folder = pathlib.Path(name)
-        for language, words in verifiers(PAGE.read_text(), folder):
+        for language, words in verifiers(PAGE, folder):
             if words is None:
                 print(f"{language}: not on this machine")
                 continue

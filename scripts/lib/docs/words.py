@@ -18,7 +18,7 @@ import re
 import statistics
 import sys
 
-from lib.command import ROOT
+from lib.command import PAGES
 
 MOST_WORDS, LONGEST_MEDIAN, WIDTH = 27_000, 16, 100
 STOP = r"[.!?](?=[)\"”*_]*(?:\s|$))[)\"”*_]*"
@@ -85,8 +85,7 @@ def wide_lines(parts):
 
 
 def main():
-    pages = [pathlib.Path(it) for it in sys.argv[1:]]
-    pages = pages or [ROOT / "README.md", ROOT / "CHANGELOG.md", *sorted((ROOT / "docs").glob("*.md"))]
+    pages = [pathlib.Path(it) for it in sys.argv[1:]] or PAGES
     words, lengths, ends = 0, [], []
     print(f"{'words':>7} {'sentences':>9} {'median':>6} {'nine in ten':>11}  page")
 

@@ -87,7 +87,7 @@ def naming(word, crate):
 
 
 class Edit:
-    """A wrong body: its pairs of texts by file, and the functions that it changes, as (module, owner, name)."""
+    """A mutant: its pairs of texts by file, and the functions that it changes, as (module, owner, name)."""
 
     def __init__(self, path, crate):
         self.path, self.name = path, f"{crate.name}/{path.stem}"
@@ -155,7 +155,7 @@ class Edit:
 
 
 class Crate:
-    """A crate with wrong bodies, and the libraries of the repository below it."""
+    """A crate with mutants, and the libraries of the repository below it."""
 
     def __init__(self, name, listed, flags):
         self.name, self.folder, self.flags = name, ROOT / "crates" / name, flags
@@ -303,7 +303,7 @@ def tried(crate, edits, say, until):
 
 
 def attack(crate, until):
-    """Tries all wrong bodies of a crate, and returns how many were refused and how many not."""
+    """Tries all mutants of a crate, and returns how many were refused and how many not."""
     began, used = time.monotonic(), resource.getrusage(resource.RUSAGE_CHILDREN)
     edits = [Edit(path, crate) for part in FOLDERS for path in sorted((crate.folder / part).glob("*.edit"))]
     counts, rounds, waiting = [0, 0], 0, {edit.name for edit in edits}
@@ -328,12 +328,12 @@ def attack(crate, until):
     now = resource.getrusage(resource.RUSAGE_CHILDREN)
     processor = now.ru_utime + now.ru_stime - used.ru_utime - used.ru_stime
     took = f"{time.monotonic() - began:.0f} s, {processor:.0f} s of processor time"
-    print(f"{crate.name}: {len(edits)} wrong bodies, {counts[0]} refused, {rounds} rounds, {took}", flush=True)
+    print(f"{crate.name}: {len(edits)} mutants, {counts[0]} refused, {rounds} rounds, {took}", flush=True)
     return counts
 
 
 def attack_apart(name, seconds):
-    """Tries the wrong bodies of a crate in a process of its own, and returns what it printed and its counts."""
+    """Tries the mutants of a crate in a process of its own, and returns what it printed and its counts."""
     how = {"stdin": subprocess.DEVNULL, "stdout": subprocess.PIPE, "stderr": subprocess.STDOUT, "errors": "replace"}
     words = [ROOT / "scripts" / "gate", "mutants", "--seconds", str(seconds), "--jobs", "1", name]
     said = subprocess.run(words, check=False, **how).stdout
@@ -354,7 +354,7 @@ def main():
     names = words or has_any
     unknown = [it for it in names if it not in has_any]
     if unknown:
-        print(f"no crate with wrong bodies: {', '.join(unknown)}\n0 passed, {len(unknown)} failed")
+        print(f"no crate with mutants: {', '.join(unknown)}\n0 passed, {len(unknown)} failed")
         return 1
     passed = failed = 0
     if len(names) == 1:

@@ -98,7 +98,7 @@ def table(times, wall, processor):
     edits = {it.name: len(list(it.glob("must-fail/*.edit"))) for it in pathlib.Path("crates").iterdir()}
     crates = {crate for crate, _ in times.spans}
     cost = {crate: sum(times.processor((crate, kind)) for kind in KINDS) for crate in crates}
-    yield "| crate | proof | processor | tests | processor | wrong bodies | their time | processor | compile, run | processor, all |"
+    yield "| crate | proof | processor | tests | processor | mutants | their time | processor | compile, run | processor, all |"
     yield "|---|---|---|---|---|---|---|---|---|---|"
     for crate in sorted(crates, key=lambda it: -cost[it]):
         cells = []

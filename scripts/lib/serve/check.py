@@ -21,6 +21,7 @@ import threading
 import time
 
 from lib.command import Counts, program_of
+from lib.process import NOBODY, descriptors_of, seconds_of
 from lib.serving import HAS_TOPICS, SECRET, STARTED, Answer, Relay, Subscriber, ask, check_answer, connect, exchange, put, read_all, request, submit
 from lib.serving import wait_until
 from lib.topics import check_many_subscriptions, check_topics
@@ -34,8 +35,6 @@ RESOLVER = "127.83.7.1"
 ELSEWHERE = "127.83.7.2"
 # The id of an event that comes without one: a UUID of version 4.
 MADE = re.compile(r"msg_[0-9a-f]{8}-[0-9a-f]{4}-4[0-9a-f]{3}-[89ab][0-9a-f]{3}-[0-9a-f]{12}")
-# The user that owns nothing.
-NOBODY = 65534
 # A user of whom nothing runs.
 STRANGER = 64321
 HEADERS = [
@@ -240,16 +239,6 @@ def check_silent_resolver(counts, relayd, folder, subscriber):
         counts.check("silent resolver: it ends in time", time.monotonic() - begun < 4)
 
 
-def highest_descriptor(process):
-    return max(int(it) for it in os.listdir(f"/proc/{process}/fd"))
-
-
-def seconds_of(process):
-    """The processor time that a process has used."""
-    fields = pathlib.Path(f"/proc/{process}/stat").read_text().rpartition(")")[2].split()
-    return (int(fields[11]) + int(fields[12])) / os.sysconf("SC_CLK_TCK")
-
-
 def post_with_spare(relayd, file, spare, told):
     """Has an event posted again while the relay may open so many more descriptors, then as many as it likes: what its page tells in the end, and how
     much processor time the relay used in two seconds in which the event was due."""
@@ -262,7 +251,7 @@ def post_with_spare(relayd, file, spare, told):
     wait_until(lambda: page()[0] == 1, 20)
     time.sleep(0.5)
     before = resource.prlimit(relay.process.pid, resource.RLIMIT_NOFILE)
-    resource.prlimit(relay.process.pid, resource.RLIMIT_NOFILE, (highest_descriptor(relay.process.pid) + 1 + spare, before[1]))
+    resource.prlimit(relay.process.pid, resource.RLIMIT_NOFILE, (max(descriptors_of(relay.process.pid)) + 1 + spare, before[1]))
     time.sleep(5)
     used = seconds_of(relay.process.pid)
     time.sleep(2)

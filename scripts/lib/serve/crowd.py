@@ -5,9 +5,6 @@ Meanwhile the relay's memory and descriptors stay bounded, and a submitter that 
 again is answered 202 within minutes. Once the crowd is gone the next one is answered at once.
 Usage: scripts/serve crowd RELAYD [CONNECTIONS]: 10,000 connections if left out
 """
-import os
-import pathlib
-import re
 import resource
 import socket
 import sys
@@ -15,6 +12,7 @@ import tempfile
 import time
 
 from lib.command import Counts, program_of
+from lib.process import descriptors_of, status_of
 from lib.serving import Relay, put, submit
 
 INTAKE = 64
@@ -24,8 +22,7 @@ MEGABYTES = 64
 
 def has(process):
     """The memory of a process in megabytes, and how many descriptors it has."""
-    status = pathlib.Path(f"/proc/{process.pid}/status").read_text()
-    return int(re.search(r"VmRSS:\s+(\d+)", status)[1]) // 1024, len(os.listdir(f"/proc/{process.pid}/fd"))
+    return status_of(process.pid, "VmRSS") // 2**20, len(descriptors_of(process.pid))
 
 
 class Crowd:

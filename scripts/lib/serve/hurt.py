@@ -20,6 +20,7 @@ import threading
 import time
 
 from lib.command import Counts, program_of
+from lib.process import NOBODY
 from lib.serving import Answer, Relay, Subscriber, ask, connect, put, read_all, request, submit, wait_until
 
 
@@ -197,9 +198,6 @@ def check_all_moved(counts, relayd, folder, subscriber):
     check_taken_away(counts, relayd, folder, subscriber)
     check_replaced_at_once(counts, relayd, folder)
     check_no_descriptor(counts, relayd, folder)
-
-
-NOBODY = 65534
 
 
 def as_nobody(folder, relayd):

@@ -10,14 +10,13 @@ Usage: scripts/serve kill RELAYD [KILLS [SEED]]: 20 kills if left out
 """
 import random
 import sqlite3
-import subprocess
 import sys
 import tempfile
 import threading
 import time
 import zlib
 
-from lib.command import Counts, program_of
+from lib.command import Counts, program_of, ran
 from lib.serving import HAS_TOPICS, SECRET, Relay, Subscriber, ask, post, put, subscribe, wait_until
 
 SUBMITTERS = 16
@@ -89,11 +88,6 @@ class Failing:
         return FAILURES[draw // 5 % len(FAILURES)] if is_first and draw % 5 == 0 else 200
 
 
-def checked(relayd, file):
-    done = subprocess.run([relayd, "check", file], capture_output=True, text=True, timeout=120)
-    return done.returncode, done.stdout.split(), done.stderr
-
-
 def main():
     relayd = program_of(__doc__)
     kills = int(sys.argv[2]) if len(sys.argv) > 2 else 20
@@ -117,9 +111,9 @@ def main():
             with load.lock:
                 known = len(load.acknowledged)
             relay.kill()
-            status, words, told = checked(relayd, file)
-            counts.check("the file is opened", (status, told), (0, ""))
-            counts.check("it holds what was acknowledged", int(words[2]) >= known + len(NAMES))
+            status, told, fault = ran(relayd, "check", file)
+            counts.check("the file is opened", (status, fault), (0, ""))
+            counts.check("it holds what was acknowledged", int(told.split()[2]) >= known + len(NAMES))
             relay = Relay(relayd, file)
             load.address = relay.address
         load.ends = True

@@ -24,6 +24,7 @@ import urllib.parse
 import urllib.request
 
 from lib.command import ROOT, Counts, has, needs, program_of, ran
+from lib.process import NOBODY, status_of
 from lib.serving import STARTED, Relay, Subscriber, ask, changed, put, submit, wait_until
 
 PACKAGING = ROOT / "packaging"
@@ -33,8 +34,6 @@ SHORTER = {"[10m]": "[30s]", "for: 10m": "for: 6s", "[1h]": "[30s]", "for: 1m": 
 SCRAPE = 3
 # Generous, since other programs may have the processors.
 SECONDS = 180
-# The user that owns nothing.
-NOBODY = 65534
 TEN_DAYS = 10 * 24 * 3600
 # For each rule as it is shipped: what comes every 15 seconds, and whether it fires after so many minutes.
 MOMENTS = [
@@ -111,8 +110,7 @@ def check_metrics(counts, program, folder):
     counts.check("the files", [found[f'relayd_store_bytes{{file="{it}"}}'] for it in ("store", "log")], sizes)
     room = shutil.disk_usage(folder).free
     counts.check("the room", abs(found["relayd_store_free_bytes"] - room) < 2**32)
-    memory = 1024 * int(re.search(r"VmRSS:\s+(\d+)", pathlib.Path(f"/proc/{process}/status").read_text())[1])
-    counts.check("its memory", abs(found["relayd_process_resident_memory_bytes"] - memory) < 2**22)
+    counts.check("its memory", abs(found["relayd_process_resident_memory_bytes"] - status_of(process, "VmRSS")) < 2**22)
     counts.check("its threads", found["relayd_process_threads"], len(os.listdir(f"/proc/{process}/task")))
     counts.check("its start", abs(found["relayd_process_start_time_seconds"] - time.time()) < 300)
     counts.check("its files and their limit", 3 < found["relayd_process_open_fds"] <= found["relayd_process_max_fds"])

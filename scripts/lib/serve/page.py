@@ -15,10 +15,10 @@ import tempfile
 import time
 
 from lib.browser import SECONDS, Browser, until
-from lib.command import ROOT, Counts, needs, program_of, ran
-from lib.serving import Relay, Subscriber, ask, changed, free_port, nginx_of, put, submit
+from lib.command import Counts, needs, program_of
+from lib.formats import part_from
+from lib.serving import OPERATOR, SUBMITTER, Relay, Subscriber, ask, front_of, put, submit
 
-SUBMITTER, OPERATOR = "5" * 64, "a" * 64
 PICTURES = {"status-wide.png": (1600, "light"), "status-narrow.png": (400, "dark")}
 MOST_BYTES = 150_000
 # The contrast of each text that is shown against what is behind it, by the formulas of WCAG 2: the least, and where it is.
@@ -77,8 +77,7 @@ def last_step(page, wanted, seconds=SECONDS):
 
 def errors_of_formats():
     """The names of errors that docs/FORMATS.md has for requests."""
-    text = (ROOT / "docs" / "FORMATS.md").read_text()
-    section = text[text.index("## HTTP"):text.index("## Posts")]
+    section = part_from("## HTTP", "## Posts")
     checks = re.findall(r":\s+(?:40[04]|413) ([A-Z]\w+)", section)
     refusals = [it for part in re.findall(r"(?s)- (?:404|409|503)[^:]*:(.*?)(?=\n- |\n\n)", section) for it in re.findall(r"\b[A-Z][a-z]+[A-Za-z]*\b", part)]
     return sorted({*checks, *refusals})
@@ -417,19 +416,15 @@ def main():
         return 500 if event.startswith("test-") and first.setdefault(event, post) is post else 200
 
     with tempfile.TemporaryDirectory() as folder:
-        port, file, subscriber = free_port(), f"{folder}/relay.db", Subscriber(reply)
-        ran("openssl", "req", "-x509", "-newkey", "rsa:2048", "-nodes", "-days", "1", "-subj", "/CN=localhost", "-keyout", f"{folder}/key.pem", "-out",
-            f"{folder}/certificate.pem")
+        file, subscriber = f"{folder}/relay.db", Subscriber(reply)
         relay = Relay(program, file)
         put(relay.address, "shop", subscriber.port, most=7)
         put(relay.address, "billing", subscriber.port, most=1)
         for event in ("order-1", "order-2", "order-bad"):
             submit(relay.address, "shop", b"{}", event)
         until(lambda: ask(relay.address, "GET", "/v1/endpoints/shop/events/order-bad").json()["attempts"] > 1, 60)
-        changes = {"/etc/relayd/": f"{folder}/", "127.0.0.1:8080": "%s:%d" % relay.address, "listen 8443": f"listen 127.0.0.1:{port}",
-                   "SUBMITTER-TOKEN": SUBMITTER, "OPERATOR-TOKEN": OPERATOR, "/usr/share/relayd": str(ROOT / "packaging")}
         pictures = sys.argv[2] if len(sys.argv) > 2 else folder
-        with nginx_of(folder, "front", changed("nginx.conf", changes)):
+        with front_of(folder, relay) as port:
             browser = Browser(folder)
             page = browser.page(f"https://127.0.0.1:{port}/status.html")
             page.shape(1600, "light")

@@ -8,15 +8,14 @@ Usage: scripts/serve soak RELAYD [MINUTES]: 10 minutes if left out
 """
 import concurrent.futures
 import os
-import pathlib
 import random
-import re
 import sys
 import tempfile
 import threading
 import time
 
 from lib.command import Counts, program_of
+from lib.process import descriptors_of, status_of
 from lib.serving import Relay, Subscriber, ask, put, submit
 
 SUBMITTERS, ENDPOINTS, WORKERS, INTAKE = 64, 32, 32, 16
@@ -41,9 +40,7 @@ KINDS = (lambda _: 200, answers_slowly, lambda _: random.choice((200, 500)), lam
 
 def has(process):
     """What a process has: memory in bytes, descriptors, threads."""
-    status = pathlib.Path(f"/proc/{process.pid}/status").read_text()
-    number = lambda name: int(re.search(rf"{name}:\s+(\d+)", status)[1])
-    return number("VmRSS") * 1024, len(os.listdir(f"/proc/{process.pid}/fd")), number("Threads")
+    return status_of(process.pid, "VmRSS"), len(descriptors_of(process.pid)), status_of(process.pid, "Threads")
 
 
 class Load:

@@ -8,63 +8,38 @@ Usage: scripts/store fail BENCH
 import concurrent.futures
 import pathlib
 import re
-import sqlite3
 import tempfile
 
 from lib import faults
 from lib.command import program_of
+from lib.model import Desk, reply_to
+from lib.rows import rows_in, rows_of
+from lib.serving import SECRET
 
-SECRET = b"0123456789abcdef01234567"
-URL = "http://127.0.0.1:9000/hook"
-TEXT = "whsec_MDEyMzQ1Njc4OWFiY2RlZjAxMjM0NTY3"
-
-ENTRIES = [
-    (f"put a {URL} 100 {TEXT}", ("put", "a")),
-    ("submit 1000 a msg_1 7b7d", ("event", "a", "msg_1")),
-    (f"put b {URL} 100 {TEXT}", ("put", "b")),
-    ("submit 1000 b msg_1 7b7d", ("event", "b", "msg_1")),
-]
-# Each commit stands twice: the second finds no batch, or a closed vault after a doubtful one.
-SCRIPT = "".join(f"{line}\nseal\ncommit\ncommit\nsettle\n" for line, _ in ENTRIES).encode()
+PUT = f"http://127.0.0.1:9000/hook 100 {SECRET}"
+LINES = [f"put a {PUT}", "submit 1000 a msg_1 7b7d", f"put b {PUT}", "submit 1000 b msg_1 7b7d"]
+# Each commit is there twice: the second finds no batch, or a closed vault after a doubtful one.
+SCRIPT = "".join(f"{line}\nseal\ncommit\ncommit\nsettle\n" for line in LINES).encode()
 
 
-def rows_of(entries):
-    """What the tables hold of these records."""
-    puts, rows = {}, {"endpoints": [], "secrets": [], "deliveries": []}
-    for seq, entry in enumerate(entries):
-        if entry[0] == "put":
-            puts[entry[1]] = seq
-            rows["endpoints"].append((seq, entry[1], URL, 100, 1, seq, seq))
-            rows["secrets"].append((seq, 0, SECRET))
-        else:
-            rows["deliveries"].append((seq, puts[entry[1]], entry[2], 1000, b"{}"))
-    return dict(rows, meta=[(1, "webhook-relay", 1, len(entries))], attempts=[])
-
-
-def found_in(path):
-    """What SQLite in C reads in the file."""
-    conn = sqlite3.connect(path)
-    try:
-        if conn.execute("PRAGMA integrity_check").fetchall() != [("ok",)]:
-            return "broken"
-        tables = ["endpoints", "secrets", "deliveries", "meta", "attempts"]
-        return {table: conn.execute(f"SELECT * FROM {table} ORDER BY 1, 2").fetchall() for table in tables}
-    except sqlite3.Error as error:
-        return str(error)
-    finally:
-        conn.close()
+def records():
+    """The records of the lines, by the model."""
+    desk = Desk()
+    for line in LINES:
+        reply_to(desk, line)
+    return desk.history
 
 
 def wrong(told, path):
     """What is wrong with this end, or None. Where the tables weren't made, nothing is replied."""
     replies = told.stdout.decode().splitlines()
-    if told.returncode not in (0, 1) or (told.returncode == 0) != (len(replies) == 5 * len(ENTRIES)):
+    if told.returncode not in (0, 1) or (told.returncode == 0) != (len(replies) == len(SCRIPT.splitlines())):
         return "status"
-    staged, committed, doubt = [], 0, False
+    staged, committed, doubt, all_staged = [], 0, False, records()
     for at, reply in enumerate(replies):
-        (_, entry), step = ENTRIES[at // 5], at % 5
+        record, step = all_staged[at // 5], at % 5
         if step == 0 and reply == f"staged {len(staged)}":
-            staged.append(entry)
+            staged.append(record)
         elif step in (2, 3):
             if re.fullmatch(r"committed \d+", reply):
                 committed = int(reply.split()[1])
@@ -77,7 +52,7 @@ def wrong(told, path):
     allowed = [rows_of(staged[:committed])]
     if doubt:
         allowed.append(rows_of(staged[:committed + 1]))
-    found = found_in(path)
+    found = rows_in(path)
     return None if found in allowed else f"found {found}"
 
 

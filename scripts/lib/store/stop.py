@@ -8,34 +8,27 @@ rows that docs/FORMATS.md gives of them. Before the first reply alone it may be 
 Usage: scripts/store stop RELAYD BENCH [SCRIPTS]: 200 scripts if left out, each of which is stopped
 six times
 """
-import base64
 import collections
 import concurrent.futures
-import contextlib
 import os
 import pathlib
 import random
 import re
-import sqlite3
 import subprocess
 import sys
 import tempfile
 
 from lib import faults
 from lib.command import programs_of
-from lib.model import Accept, Desk, Outcome, Put, flag_of, of, secrets_of, subscriptions_in
+from lib.model import Desk
 from lib.random_lines import KINDS, made
-from lib.serving import HAS_TOPICS
+from lib.rows import rows_in, rows_of
 
 LINES = 60
 STOPPED = 9
 # What is lost of what wasn't synced, twice each: all, nothing, or what a number says.
 LOSSES = 2 * ["all", "none", None]
 OFTEN = {**{kind: often for kind, often in KINDS.items() if kind not in ("stop", "halt")}, "submit": (12, 0), "turn": (12, 0)}
-ORDERS = {"meta": "1", "endpoints": "1", "secrets": "1, 2", "deliveries": "1", "attempts": "1"}
-VERSION = 1
-if HAS_TOPICS:
-    ORDERS["topics"], VERSION = "1, 2", 2
 
 
 def script_of(rng):
@@ -46,43 +39,9 @@ def script_of(rng):
     return lines, desk.history
 
 
-def bytes_of(secret):
-    text = secret.removeprefix("whsec_").rstrip("=")
-    return base64.b64decode(text + "=" * (-len(text) % 4))
-
-
-def rows_of(records):
-    """What the tables hold of these records."""
-    rows = {table: [] for table in ORDERS}
-    rows["meta"] = [(1, "webhook-relay", VERSION, len(records))]
-    puts = {record.name: number for number, record in enumerate(records) if isinstance(record, Put)}
-    for number, record in enumerate(records):
-        if isinstance(record, Put):
-            (enabled, enabled_by), (secrets, secrets_by) = flag_of(records, record.name), secrets_of(records, record.name)
-            rows["endpoints"].append((number, record.name, record.url, record.most, int(enabled), enabled_by, secrets_by))
-            rows["secrets"] += [(number, place, bytes_of(secret)) for place, secret in enumerate(secrets)]
-        elif isinstance(record, Accept):
-            rows["deliveries"].append((number, puts[record.name], record.id, record.at, record.body))
-        elif isinstance(record, Outcome):
-            attempt = sum(other.delivery == record.delivery for other in of(Outcome, records[: number + 1]))
-            rows["attempts"].append((number, record.delivery, attempt, record.status, record.at))
-    if HAS_TOPICS:
-        pairs = subscriptions_in(records).items()
-        rows["topics"] = sorted((topic, puts[name], int(flag), number) for (topic, name), (flag, number) in pairs)
-    return rows
-
-
-def found_in(path):
-    """What SQLite in C reads in the file."""
-    with contextlib.closing(sqlite3.connect(path)) as conn:
-        if conn.execute("PRAGMA integrity_check").fetchall() != [("ok",)]:
-            return "broken"
-        return {table: conn.execute(f"SELECT * FROM {table} ORDER BY {order}").fetchall() for table, order in ORDERS.items()}
-
-
-def play(bench, library, path, text, stop, lose):
-    """The replies of a script that is stopped at this call, its status, and how many calls it made."""
-    told, count = faults.run(library, [bench, "replay", path], text.encode(), os.path.dirname(path), stop=stop, lose=lose)
+def play(words, library, folder, text, stop, lose):
+    """What a program prints that is given this text and stopped at this call, its status, and how many calls it made."""
+    told, count = faults.run(library, words, text.encode(), folder, stop=stop, lose=lose)
     return told.stdout.decode().splitlines(), told.returncode, count
 
 
@@ -105,7 +64,7 @@ def wrong_after(relayd, history, path, replies):
     records = int(found[1])
     if records not in (committed, sealed):
         return f"{records} records, of {committed} committed and {sealed} sealed", None
-    rows = found_in(path)
+    rows = rows_in(path)
     if rows != rows_of(history[:records]):
         return f"the rows are {rows}", None
     return None, "committed" if records == committed else "sealed"
@@ -119,14 +78,15 @@ def run(relayd, bench, library, seed):
     ends = []
     with tempfile.TemporaryDirectory() as folder:
         path = os.path.join(folder, "store")
-        replies, status, count = play(bench, library, path, text, 0, "none")
+        words = [bench, "replay", path]
+        replies, status, count = play(words, library, folder, text, 0, "none")
         if (replies, status) != (wanted, 0):
             return [(f"seed {seed}: without a stop: status {status}, {replies}", None)]
         for lose in LOSSES:
             for left in pathlib.Path(folder).glob("store*"):
                 left.unlink()
             stop, lose = rng.randint(1, count), lose or rng.randrange(1, 2**32)
-            replies, status, _ = play(bench, library, path, text, stop, lose)
+            replies, status, _ = play(words, library, folder, text, stop, lose)
             name = f"seed {seed}, stopped at {stop} of {count}, {lose} lost"
             if status != STOPPED or replies != wanted[: len(replies)]:
                 ends.append((f"{name}: status {status}, {replies}", None))

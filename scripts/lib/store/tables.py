@@ -5,14 +5,13 @@ below, the other has each kind of record, by the second script.
 Usage: scripts/store tables BENCH
 """
 import base64
-import re
 import sqlite3
 import subprocess
 import tempfile
 
-from lib.command import ROOT, program_of
+from lib.command import program_of
+from lib.formats import texts_of_tables
 
-FORMATS = ROOT / "docs" / "FORMATS.md"
 NEW = b"0123456789abcdef01234567"
 OLD = b"89abcdef0123456789abcdef"
 URL = "http://127.0.0.1:9000/hook"
@@ -58,17 +57,12 @@ EACH_RECORD = {
 }
 
 
-def texts_of_formats():
-    """The texts of the CREATE statements that FORMATS.md states, on one line each."""
-    return [" ".join(it.split()) for it in re.findall(r"^CREATE TABLE.*?STRICT$", FORMATS.read_text(), re.S | re.M)]
-
-
 def checks(conn, tables):
     """Each check, whether it holds and what was found."""
     found = conn.execute("PRAGMA integrity_check").fetchall()
     yield "integrity", found == [("ok",)], found
     found = [text for (text,) in conn.execute("SELECT sql FROM sqlite_schema WHERE sql IS NOT NULL ORDER BY rowid")]
-    yield "texts of the tables", found == texts_of_formats(), found
+    yield "texts of the tables", found == texts_of_tables(), found
     for table, rows in tables.items():
         found = conn.execute(f"SELECT * FROM {table} ORDER BY 1, 2").fetchall()
         yield f"rows of {table}", found == rows, found
