@@ -22,6 +22,7 @@ use std::sync::ledger::{Blank, Ledger};
 #[derive(Clone, Copy)]
 pub(crate) enum BookCall {
     Accept,
+    Accepts,
     Deliveries,
     Desk,
     Endpoints,
@@ -42,6 +43,7 @@ impl BookCall {
             "ClaimQueue::reserve" => Some(BookCall::Reserve),
             "DeliveryBook::new" => Some(BookCall::Deliveries),
             "DeliveryBook::stage_accept" => Some(BookCall::Accept),
+            "DeliveryBook::stage_accepts" => Some(BookCall::Accepts),
             "Desk::new" => Some(BookCall::Desk),
             "EndpointBook::new" => Some(BookCall::Endpoints),
             "EndpointBook::restore" => Some(BookCall::Restore),
@@ -62,6 +64,7 @@ struct Books {
     deliveries: DeliveryBook,
     queue: ClaimQueue,
     name: Name,
+    other: Name,
     id: MsgId,
     at: Moment,
     max: MaxLimit,
@@ -90,6 +93,7 @@ impl Books {
             deliveries: DeliveryBook::new(alloc),
             queue: ClaimQueue::new(alloc),
             name: Name::read(b"a")?,
+            other: Name::read(b"b")?,
             id: MsgId::read(b"msg_1")?,
             at: Moment::of(1000)?,
             max: MaxLimit::of(100)?,
@@ -102,6 +106,7 @@ impl Books {
     fn made(&mut self, alloc: Global) -> Result<u64, Told> {
         match self.call {
             BookCall::Accept => self.accept(),
+            BookCall::Accepts => self.accept_all(),
             BookCall::Deliveries => Ok(DeliveryBook::new(alloc).next_seq()),
             BookCall::Desk => new_desk::<Brand>(alloc, Blank::new(PARTS)),
             BookCall::Endpoints => Ok(EndpointBook::new(alloc)?.next_seq()),
@@ -123,6 +128,22 @@ impl Books {
         let body = self.body.share()?;
         self.deliveries
             .stage_accept(seq, self.name, self.id, body, self.at)?;
+        Ok(seq)
+    }
+
+    fn accept_all(&mut self) -> Result<u64, Told> {
+        let names = [self.name, self.other];
+        let seq = self.deliveries.next_seq();
+        if MAX_RECORDS - 2 < seq || self.name == self.other {
+            return Err(Told::Other);
+        }
+        if self.deliveries.find(self.name, &self.id).is_some()
+            || self.deliveries.find(self.other, &self.id).is_some()
+        {
+            return Err(Told::Other);
+        }
+        self.deliveries
+            .stage_accepts(seq, &names, self.id, &self.body, self.at)?;
         Ok(seq)
     }
 

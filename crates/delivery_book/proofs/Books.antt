@@ -1,76 +1,53 @@
--- What ties the index, the counts and the room to the entries stays so with one more event.
-use Rattle.std.proofs.Common.{◌≡◌, ◌&&◌, ℕ, ◌+◌, ◌<◌, ◌≤◌, Bool, true, false, List, [], ◌∷◌, ◌++◌, Option, Some, None, length, get_or, refl, sym, ◌∙◌, ap, ltb, not, arith, cond, length-append}
-use Rattle.std.specs.Prelude.{find, count_by, option_map, bytes_eq}
-use Rattle.std.specs.Option.{option_or}
-use Rattle.std.specs.Cmp.{first_so, second_so}
-use Rattle.std.specs.Cmp.Lexicographic.{bytes_decides, slice_cmp}
+-- What ties the index, the counts and the room to the entries stays so with more events.
+use Rattle.std.proofs.Common.{◌≡◌, ◌&&◌, ℕ, zero, suc, ◌+◌, ◌-◌, ◌<◌, ◌≤◌, true, List, [], ◌∷◌, ◌++◌}
+use Rattle.std.proofs.Common.{Option, Some, None, length, get_or, refl, sym, ◌∙◌, ap, ltb, not, arith, cond, ⊎_elim}
+use Rattle.std.proofs.Common.{add-zero, length-append}
+use Rattle.std.specs.Prelude.{find, count_by, option_map}
+use Rattle.std.specs.List.{AllByRecursion, list_all}
 use Rattle.std.specs.BTreeMap.{BTreeMap, get, is_at}
-use Rattle.std.specs.declared.cmp.Ordering.{Ordering}
-use Rattle.std.specs.declared.cmp.Ordering.TheVariants.{Less, Equal, Greater}
-use Rattle.std.specs.Ordering.{is_eq, nat_cmp, ordering_then}
-use Rattle.std.proofs.lemmas.Bool.{lt-ltb, le-ltb}
-use Rattle.std.proofs.lemmas.Map.Text.{is_eq-slice_cmp}
-use Rattle.std.proofs.Math.Seq.{get_or-append_seam}
-use Rattle.std.proofs.lemmas.List.{take-append-le, get_or_append_left}
+use Rattle.std.proofs.lemmas.Bool.{lt-ltb, le-ltb, cases_lt}
+use Rattle.std.proofs.lemmas.List.{take-append-le, get_or_append_left, get_or-append_right}
+use Rattle.std.proofs.lemmas.List.Elements.{All-from_recursion}
 use Rattle.std.proofs.lemmas.List.Folds.{find-append, list_all-append}
-use Rattle.std.proofs.lemmas.List.Sums.{sum_by_push}
+use Rattle.std.proofs.lemmas.List.Sums.{list_all-from_AllPass, sum_by-append, sum_by-cons}
 use Rattle.relay_types.specs.declared.limits.TheConstants.{MAX_RECORDS}
 use Rattle.relay_types.specs.declared.state.State.{State}
 use Rattle.relay_types.specs.declared.state.State.TheVariants.{Pending}
+use Rattle.relay_types.specs.Deliveries.{is_in_state}
 use Rattle.relay_types.proofs.KnownLaws.{and_both}
 use Rattle.delivery_book.specs.declared.entry.Entry.{Entry}
 use Rattle.delivery_book.specs.declared.entry.Unsettled.{Unsettled}
 use Rattle.delivery_book.specs.declared.keys.EventKey.{EventKey}
-use Rattle.delivery_book.specs.declared.progress.Progress.{Progress}
 use Rattle.delivery_book.specs.declared.tally.Tally.{Tally}
 use Rattle.delivery_book.specs.Entries.{new_entry, is_entry_as, state_in}
-use Rattle.delivery_book.specs.Fields.{IsBook, IsKeyed, IsIndex, IsTally, is_numbered, is_waiting, is_later, event_cmp, in_state, counts_for, has_room, one_of, is_counted}
-use Rattle.delivery_book.proofs.Updates.{all_at, all_weaker, caught-push}
-
--- Keys
-
-ties : (a b : Ordering) → is_eq (ordering_then a b) ≡ is_eq a && is_eq b
-ties Less b = refl
-ties Equal b = refl
-ties Greater b = refl
-
--- keys tie exactly where their characters are the same
-same_at : (k q : EventKey) → is_at (event_cmp k) q ≡ bytes_eq k.name q.name && bytes_eq k.id q.id
-same_at k q = ties (slice_cmp nat_cmp k.name q.name) (slice_cmp nat_cmp k.id q.id) ∙ (λ i. is_eq-slice_cmp k.name q.name i && is_eq-slice_cmp k.id q.id i)
-
--- the index with the key of one more entry
-indexed-push : (index later : BTreeMap EventKey ℕ) (entries : List Entry) (e : Entry) → IsIndex index entries → find (is_entry_as e.name e.id) entries ≡ None
-    → ((q : EventKey) → get event_cmp later q ≡ cond (is_at (event_cmp (record { name = e.name; id = e.id })) q) (Some e.seq) (get event_cmp index q)) → IsIndex later (entries ++ e ∷ [])
-indexed-push index later entries e h unknown updated q =
-    updated q
-    ∙ ap (λ b. cond b (Some e.seq) (get event_cmp index q)) (same_at (record { name = e.name; id = e.id }) q)
-    ∙ pick (bytes_eq e.name q.name && bytes_eq e.id q.id) refl
-    ∙ ap (option_map (λ x. x.seq)) (sym (find-append (is_entry_as q.name q.id) entries (e ∷ [])))
-  where
-    pick : (b : Bool) → bytes_eq e.name q.name && bytes_eq e.id q.id ≡ b
-        → cond b (Some e.seq) (get event_cmp index q) ≡ option_map (λ x. x.seq) (option_or (find (is_entry_as q.name q.id) entries) (cond b (Some e) None))
-    pick true same = ap (λ o. option_map (λ (x : Entry). x.seq) (option_or o (Some e))) (sym (sym (ap (λ p. find p entries) alike) ∙ unknown))
-      where
-        alike : is_entry_as e.name e.id ≡ is_entry_as q.name q.id
-        alike i = is_entry_as ((bytes_decides e.name q.name).0 (first_so (bytes_eq e.name q.name) (bytes_eq e.id q.id) same) i) ((bytes_decides e.id q.id).0 (second_so (bytes_eq e.name q.name) (bytes_eq e.id q.id) same) i)
-    pick false other = h q ∙ ap (option_map (λ x. x.seq)) (none_more (find (is_entry_as q.name q.id) entries))
-      where
-        none_more : (o : Option Entry) → o ≡ option_or o None
-        none_more None = refl
-        none_more (Some x) = refl
+use Rattle.delivery_book.specs.Fields.{IsBook, IsKeyed, IsIndex, HasMoreKeys, event_cmp, key_of}
+use Rattle.delivery_book.specs.Fields.{HasMore, HasSame, HasRoomForAll, KeepsRoom, in_state, counts_for, has_room}
+use Rattle.delivery_book.specs.Fields.{one_of}
+use Rattle.delivery_book.specs.Fields.{is_numbered, is_waiting, is_later, is_among, is_counted, settled_among}
+use Rattle.delivery_book.proofs.IndexLemmas.{indexed-append, keys-push, none_more}
+use Rattle.delivery_book.proofs.Updates.{IsFresh, all_at, all_weaker, caught-append}
 
 -- no entry has a number that is mapped away
 pub unmapped : (o : Option Entry) → option_map (λ e. e.seq) o ≡ None → o ≡ None
 unmapped None e = refl
 unmapped (Some x) e = cc
 
--- One more event
+-- More events
 
-read-front : (entries : List Entry) (e : Entry) (k : ℕ) (d : Entry) → k < length entries → (get_or (entries ++ e ∷ []) k d).seq ≡ (get_or entries k d).seq
-read-front entries e k d h = ap (λ (x : Entry). x.seq) (get_or_append_left entries (e ∷ []) d k h)
+-- These events have the numbers from this one on, and no attempt.
+pub record AreFrom (seq : ℕ) (events : List Entry) : Type 0 where
+  pub numbers : (k : ℕ) (d : Entry) → k < length events → (get_or events k d).seq ≡ seq + k
+  pub fresh : AllByRecursion IsFresh events
 
-read-last : (entries : List Entry) (e : Entry) (k : ℕ) (d : Entry) → k ≡ length entries → (get_or (entries ++ e ∷ []) k d).seq ≡ e.seq
-read-last entries e k d h = ap (λ (x : Entry). x.seq) (ap (λ i. get_or (entries ++ e ∷ []) i d) h ∙ get_or-append_seam entries e [] d)
+read-front : (entries events : List Entry) (k : ℕ) (d : Entry) → k < length entries
+    → (get_or (entries ++ events) k d).seq ≡ (get_or entries k d).seq
+read-front entries events k d h = ap (λ (x : Entry). x.seq) (get_or_append_left entries events d k h)
+
+read-behind : (entries events : List Entry) (seq k : ℕ) (d : Entry) → AreFrom seq events → length entries ≤ k
+    → k < length (entries ++ events) → (get_or (entries ++ events) k d).seq ≡ seq + (k - length entries)
+read-behind entries events seq k d new h l =
+    ap (λ (x : Entry). x.seq) (get_or-append_right entries events (length entries) k d refl h)
+    ∙ new.numbers (k - length entries) d (omega (arith, l, h, length-append entries events))
 
 -- what an entry's number and attempts are below
 pub below : (next : ℕ) (e : Entry) → is_numbered next e ≡ true → (e.seq < next) × (e.latest.attempts ≤ next + MAX_RECORDS)
@@ -79,18 +56,99 @@ below next e h = grind arith
 pub numbered_if : (next : ℕ) (e : Entry) → e.seq < next → e.latest.attempts ≤ next + MAX_RECORDS → is_numbered next e ≡ true
 numbered_if next e h l = and_both (ltb e.seq next) _ (lt-ltb e.seq next h) (ap not (le-ltb (next + MAX_RECORDS) e.latest.attempts l))
 
-keyed-push : (index later : BTreeMap EventKey ℕ) (entries : List Entry) (next settled n : ℕ) (e : Entry) → IsKeyed entries index next settled n → next ≤ e.seq → e.latest.attempts ≡ 0 → IsIndex later (entries ++ e ∷ [])
-    → IsKeyed (entries ++ e ∷ []) later (e.seq + 1) settled n
-keyed-push index later entries next settled n e h l none indexed = grind (arith, read-front, read-last, list_all-append, all_weaker, numbered_if, below, length-append, all_at)
+numbered-append : (entries events : List Entry) (next seq : ℕ) → list_all (is_numbered next) entries ≡ true → next ≤ seq
+    → AreFrom seq events → list_all (is_numbered (seq + length events)) (entries ++ events) ≡ true
+numbered-append entries events next seq h up new =
+    list_all-append (is_numbered last) entries events
+    ∙ and_both _ _ (all_weaker (is_numbered next) (is_numbered last) entries older h)
+    (list_all-from_AllPass (is_numbered last) events newer)
+  where
+    last : ℕ
+    last = seq + length events
 
-tally-push : (tally more : Tally) (picked : Entry → Progress) (entries : List Entry) (e : Entry) → IsTally tally picked entries
-    → ((those : Option (List ℕ)) (asked : State) → in_state asked (counts_for more those) ≡ in_state asked (counts_for tally those) + one_of e.name (state_in (picked e)) those asked) → IsTally more picked (entries ++ e ∷ [])
-tally-push tally more picked entries e counts again those asked =
-    again those asked ∙ ap (λ m. m + one_of e.name (state_in (picked e)) those asked) (counts those asked) ∙ sym (sum_by_push (λ x. cond (is_counted picked those asked x) 1 0) entries e)
+    older : (e : Entry) → is_numbered next e ≡ true → is_numbered last e ≡ true
+    older e is = numbered_if last e (omega (arith, up, (below next e is).0)) (omega (arith, up, (below next e is).1))
 
-found_still : (entries : List Entry) (e : Entry) (o : Unsettled) → is_later entries o ≡ true → is_later (entries ++ e ∷ []) o ≡ true
-found_still entries e o h = grind (arith, find-append)
+    newer : (k : ℕ) (d : Entry) → k < length events → is_numbered last (get_or events k d) ≡ true
+    newer k d l =
+        numbered_if last (get_or events k d) (omega (arith, l, new.numbers k d l))
+        (omega (arith, (All-from_recursion IsFresh events new.fresh k d l).1))
 
+keyed-append : (index later : BTreeMap EventKey ℕ) (entries events : List Entry) (next seq settled n : ℕ)
+    → IsKeyed entries index next settled n → next ≤ seq → AreFrom seq events → IsIndex later (entries ++ events)
+    → IsKeyed (entries ++ events) later (seq + length events) settled n
+keyed-append index later entries events next seq settled n h up new indexed = record {
+  ascending = λ i j d lt l. ⊎_elim
+      (λ near. omega (arith, front i d (omega (arith, lt, near)), front j d near, h.ascending i j d lt near))
+      (λ far. ⊎_elim
+      (λ near. omega (arith, up, front i d near, older i d near, behind j d far l))
+      (λ beyond. omega (arith, lt, beyond, behind i d beyond (omega (arith, lt, l)), behind j d far l))
+      (cases_lt i (length entries)))
+      (cases_lt j (length entries));
+  numbered = numbered-append entries events next seq h.numbered up new;
+  settled_next = omega (arith, up, h.settled_next);
+  indexed = indexed;
+  settled_within = omega (arith, h.settled_within, length-append entries events);
+  settled_below = λ k d l. omega (arith, front k d (omega (arith, l, h.settled_within)), h.settled_below k d l);
+  settled_above = λ k d l m. ⊎_elim
+      (λ near. omega (arith, front k d near, h.settled_above k d l near))
+      (λ far. omega (arith, up, h.settled_next, behind k d far m))
+      (cases_lt k (length entries));
+}
+  where
+    front : (k : ℕ) (d : Entry) → k < length entries → (get_or (entries ++ events) k d).seq ≡ (get_or entries k d).seq
+    front k d = read-front entries events k d
+
+    behind : (k : ℕ) (d : Entry) → length entries ≤ k → k < length (entries ++ events)
+        → (get_or (entries ++ events) k d).seq ≡ seq + (k - length entries)
+    behind k d = read-behind entries events seq k d new
+
+    older : (k : ℕ) (d : Entry) → k < length entries → (get_or entries k d).seq < next
+    older k d l = (below next (get_or entries k d) (all_at (is_numbered next) entries k d l h.numbered)).0
+
+counted_alike : (those : Option (List ℕ)) (asked : State) (events : List Entry) → AllByRecursion IsFresh events
+    → settled_among events those asked ≡ count_by (is_counted (λ e. e.latest) those asked) events
+counted_alike those asked [] fresh = refl
+counted_alike those asked (e ∷ events) fresh =
+    sum_by-cons (λ x. cond (is_counted (λ e. e.settled) those asked x) 1 0) e events
+    ∙ (λ i. cond (is_among those e.name && is_in_state asked (state_in (sym fresh.0.0 i))) 1 0
+    + counted_alike those asked events fresh.1 i)
+    ∙ sym (sum_by-cons (λ x. cond (is_counted (λ e. e.latest) those asked x) 1 0) e events)
+
+found_still : (entries events : List Entry) (o : Unsettled) → is_later entries o ≡ true
+    → is_later (entries ++ events) o ≡ true
+found_still entries events o h = grind (arith, find-append)
+
+pub book-append : (index later : BTreeMap EventKey ℕ) (tally counted settled_tally opened_tally : Tally)
+    (entries events : List Entry) (unsettled : List Unsettled) (room more_room next settled n seq : ℕ)
+    → IsBook entries index tally settled_tally unsettled room next settled n → next ≤ seq → AreFrom seq events
+    → HasMoreKeys index events later → HasMore tally (settled_among events) counted → HasSame settled_tally opened_tally
+    → HasRoomForAll opened_tally events → KeepsRoom settled_tally opened_tally
+    → length entries + length events ≤ more_room
+    → IsBook (entries ++ events) later counted opened_tally unsettled more_room (seq + length events) settled n
+book-append index later tally counted settled_tally opened_tally entries events unsettled room more_room next settled n
+    seq h up new more again same opened stays enough = record {
+      keyed = keyed-append index later entries events next seq settled n h.keyed up new
+          (indexed-append index later entries events h.keyed.indexed more);
+      latest = λ those asked. again those asked
+          ∙ (λ i. h.latest those asked i + counted_alike those asked events new.fresh i)
+          ∙ sym (sum_by-append (λ x. cond (is_counted (λ e. e.latest) those asked x) 1 0) entries events);
+      settled = λ those asked. ap (in_state asked) (same those) ∙ h.settled those asked
+          ∙ ap (count_by (is_counted (λ e. e.settled) those asked))
+          (sym (take-append-le n entries events h.keyed.settled_within));
+      opened = list_all-append (λ e. has_room opened_tally e.name) entries events
+          ∙ and_both _ _ (all_weaker (λ e. has_room settled_tally e.name) (λ e. has_room opened_tally e.name) entries
+          (λ e is. stays e.name is) h.opened) opened;
+      queue = record {
+        later = all_weaker (is_later entries) (is_later (entries ++ events)) unsettled
+            (λ o is. found_still entries events o is) h.queue.later;
+        counted = omega (arith, h.queue.counted, sum_by-append (λ e. cond (is_waiting e) 1 0) entries events);
+        caught_up = caught-append unsettled entries events h.queue.caught_up new.fresh;
+        room = omega (arith, enough, length-append entries events);
+      };
+    }
+
+-- one more event
 pub book-push : (index later : BTreeMap EventKey ℕ) (tally counted settled_tally opened_tally : Tally) (entries : List Entry) (unsettled : List Unsettled) (room more_room next settled n : ℕ) (seq : ℕ) (name id body : List ℕ) (at : ℕ)
     → IsBook entries index tally settled_tally unsettled room next settled n → next ≤ seq → find (is_entry_as name id) entries ≡ None
     → ((q : EventKey) → get event_cmp later q ≡ cond (is_at (event_cmp (record { name = name; id = id })) q) (Some seq) (get event_cmp index q))
@@ -98,20 +156,26 @@ pub book-push : (index later : BTreeMap EventKey ℕ) (tally counted settled_tal
     → ((those : Option (List ℕ)) → counts_for opened_tally those ≡ counts_for settled_tally those) → has_room opened_tally name ≡ true
     → ((asked : List ℕ) → has_room settled_tally asked ≡ true → has_room opened_tally asked ≡ true) → length entries + 1 ≤ more_room
     → IsBook (entries ++ new_entry seq name id body at ∷ []) later counted opened_tally unsettled more_room (seq + 1) settled n
-book-push index later tally counted settled_tally opened_tally entries unsettled room more_room next settled n seq name id body at h l unknown updated again same opened stays enough = record {
-  keyed = keyed-push index later entries next settled n (new_entry seq name id body at) h.keyed l refl (indexed-push index later entries (new_entry seq name id body at) h.keyed.indexed unknown updated);
-  latest = tally-push tally counted (λ e. e.latest) entries (new_entry seq name id body at) h.latest again;
-  settled = λ those asked. ap (in_state asked) (same those) ∙ h.settled those asked
-      ∙ ap (count_by (is_counted (λ e. e.settled) those asked)) (sym (take-append-le n entries (new_entry seq name id body at ∷ []) h.keyed.settled_within));
-  opened = list_all-append (λ e. has_room opened_tally e.name) entries (new_entry seq name id body at ∷ [])
-      ∙ and_both _ _ (all_weaker (λ e. has_room settled_tally e.name) (λ e. has_room opened_tally e.name) entries (λ e is. stays e.name is) h.opened) (and_both (has_room opened_tally name) true opened refl);
-  queue = record {
-    later = all_weaker (is_later entries) (is_later (entries ++ new_entry seq name id body at ∷ [])) unsettled (λ o is. found_still entries (new_entry seq name id body at) o is) h.queue.later;
-    counted = omega (arith, h.queue.counted, sum_by_push (λ e. cond (is_waiting e) 1 0) entries (new_entry seq name id body at));
-    caught_up = caught-push unsettled entries seq name id body at h.queue.caught_up;
-    room = omega (arith, enough, length-append entries (new_entry seq name id body at ∷ []));
-  };
-}
+book-push index later tally counted settled_tally opened_tally entries unsettled room more_room next settled n seq name
+    id body at h l unknown updated again same opened stays enough =
+    book-append index later tally counted settled_tally opened_tally entries (e ∷ []) unsettled room more_room next
+    settled n seq h l (record { numbers = numbers; fresh = ((refl, refl), tt) })
+    (keys-push index index later [] e (h.keyed.indexed (key_of e) ∙ ap (option_map (λ x. x.seq)) unknown) refl
+    (λ q. sym (none_more (get event_cmp index q))) updated)
+    (λ those asked. again those asked
+    ∙ ap (λ m. in_state asked (counts_for tally those) + m)
+    (sym (sum_by-cons (one those asked) e [] ∙ add-zero (one those asked e))))
+    same (and_both (has_room opened_tally name) true opened refl) stays enough
+  where
+    e : Entry
+    e = new_entry seq name id body at
+
+    one : Option (List ℕ) → State → Entry → ℕ
+    one those asked x = cond (is_counted (λ y. y.settled) those asked x) 1 0
+
+    numbers : (k : ℕ) (d : Entry) → k < 1 → (get_or (e ∷ []) k d).seq ≡ seq + k
+    numbers zero d lt = sym (add-zero seq)
+    numbers (suc k) d lt = absurd (omega (arith, lt))
 
 -- the same keys and counts, with as much room or more
 pub book-same : (index kept : BTreeMap EventKey ℕ) (tally counted settled_tally opened_tally : Tally) (entries : List Entry) (unsettled : List Unsettled) (room more_room next settled n : ℕ)

@@ -4,7 +4,7 @@ use Rattle.std.specs.Prelude.{filter_map, option_map, is_some, IsTrue, max}
 use Rattle.std.specs.List.{cons_option, list_any}
 use Rattle.std.proofs.Math.Seq.{take-add}
 use Rattle.std.proofs.lemmas.Bool.{eq-eqb, ne_eqb, eqb-true, ltb-true, ltb-false, cases_eq}
-use Rattle.std.proofs.lemmas.List.{take-append-le, drop-append-le, length-drop}
+use Rattle.std.proofs.lemmas.List.{append_assoc, take-append-le, drop-append-le, length-drop}
 use Rattle.std.proofs.lemmas.List.Elements.{filter_map-append}
 use Rattle.relay_types.specs.declared.record.Record.{Record}
 use Rattle.relay_types.specs.declared.record.Record.TheVariants.{Put, Secrets, Enabled, Accept, Outcome}
@@ -14,8 +14,11 @@ use Rattle.relay_types.specs.Deliveries.{accepted, attempts_of, is_in_state, is_
 use Rattle.relay_types.proofs.GrowthLaws.{numbered-snoc}
 use Rattle.relay_types.proofs.KnownLaws.{AllKnown, and_first, and_second, below_if_accepted, legal_known}
 use Rattle.relay_types.specs.Legal.{IsLegal}
+use Rattle.relay_types.specs.Steps.{accepts}
 use Rattle.delivery_book.specs.declared.entry.Unsettled.{Unsettled}
-use Rattle.delivery_book.specs.Entries.{BookValue, empty_book, with_event, with_outcome, with_attempt, at_delivery, at_outcomes, with_latest_settled, with_settled, front_below, rest_from, takes_outcome, progress_of}
+use Rattle.delivery_book.specs.Entries.{BookValue, empty_book, events_from, new_entry, with_event, with_events}
+use Rattle.delivery_book.specs.Entries.{with_outcome, with_attempt, at_delivery, at_outcomes, with_latest_settled}
+use Rattle.delivery_book.specs.Entries.{with_settled, front_below, rest_from, takes_outcome, progress_of}
 use Rattle.delivery_book.specs.Book.{StandsFor, entry_for, entry_by, entries_of, delivery_by, outcome_by, outcomes_from, is_other, is_free}
 use Rattle.delivery_book.specs.Laws.{IsRestored}
 use Rattle.delivery_book.proofs.Progresses.{progress_of-append, attempts_of-append, attempts_of-split, empty_if, none_earlier, all_earlier}
@@ -94,6 +97,41 @@ stands_accept book records settled seq name id body at h e =
   where
     none : attempts_of records (length records) ≡ []
     none = h.in_order (length records) (omega arith)
+
+-- one event at several endpoints
+pub stands_accepts : (book : BookValue) (records : List Record) (settled seq : ℕ) (names : List (List ℕ))
+    (id body : List ℕ) (at : ℕ) → StandsFor book records settled → seq ≡ length records
+    → StandsFor (with_events book seq (accepts names id body at)) (records ++ accepts names id body at) settled
+stands_accepts book records settled seq [] id body at h e =
+    subst (λ some. StandsFor (with_events book seq []) some settled) (sym (append-nil records)) (record {
+      entries = append-nil book.entries ∙ h.entries;
+      unsettled = h.unsettled;
+      next_seq = omega (arith, e);
+      settled_seq = h.settled_seq;
+      within = h.within;
+      once = h.once;
+      in_order = h.in_order;
+    })
+stands_accepts book records settled seq (name ∷ names) id body at h e =
+    subst (λ some. StandsFor (with_events book seq (a ∷ rest)) some settled) (append_assoc records (a ∷ []) rest)
+    (subst (λ b. StandsFor b ((records ++ a ∷ []) ++ rest) settled) same
+    (stands_accepts (with_event book seq name id body at) (records ++ a ∷ []) settled (seq + 1) names id body at
+    (stands_accept book records settled seq name id body at h e) (omega (arith, e, length-append records (a ∷ [])))))
+  where
+    a : Record
+    a = Accept name id body at
+
+    rest : List Record
+    rest = accepts names id body at
+
+    next : seq + 1 + length rest ≡ seq + length (a ∷ rest)
+    next = omega arith
+
+    same : with_events (with_event book seq name id body at) (seq + 1) rest ≡ with_events book seq (a ∷ rest)
+    same i = record book {
+      entries = append_assoc book.entries (new_entry seq name id body at ∷ []) (events_from (seq + 1) rest) i;
+      next_seq = next i;
+    }
 
 others_accept : (r : Record) → IsTrue (is_other r) → accepted_by r ≡ None
 others_accept (Put name target max secrets) h = refl

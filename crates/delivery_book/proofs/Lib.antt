@@ -6,6 +6,8 @@ pub mod Settling
 pub mod Laws
 pub mod Tellings
 pub mod Updates
+pub mod IndexLemmas
 pub mod Books
+pub mod EventEntries
 pub mod Outcomes
 pub mod Waiting

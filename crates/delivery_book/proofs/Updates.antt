@@ -5,7 +5,7 @@ use Rattle.std.specs.List.{AllByRecursion, list_all, list_any}
 use Rattle.std.specs.BTreeMap.{BTreeMap}
 use Rattle.std.proofs.lemmas.Bool.{eq-eqb, ne_eqb, cases_lt}
 use Rattle.std.proofs.lemmas.List.{get_or-map, length-map, length-set, take-append-drop}
-use Rattle.std.proofs.lemmas.List.Folds.{list_all_at, list_all-append, list_all-map, list_any-append}
+use Rattle.std.proofs.lemmas.List.Folds.{list_all_at, list_all_more, list_all-append, list_all-map, list_any-append}
 use Rattle.std.proofs.lemmas.List.Sums.{sum_by-set, sum_by-cons, get_or-le-sum_by, count_by-le-length}
 use Rattle.relay_types.specs.declared.state.State.{State}
 use Rattle.relay_types.proofs.KnownLaws.{and_first, and_second, and_both}
@@ -15,8 +15,10 @@ use Rattle.delivery_book.specs.declared.keys.EventKey.{EventKey}
 use Rattle.delivery_book.specs.declared.progress.Progress.{Progress}
 use Rattle.delivery_book.specs.declared.tally.Tally.{Tally}
 use Rattle.delivery_book.specs.declared.entry.Unsettled.{Unsettled}
-use Rattle.delivery_book.specs.Entries.{IsCaughtUp, at_delivery, entry_at, is_entry_as, new_entry, state_in, with_attempt, with_attempt_restored, with_latest_settled}
-use Rattle.delivery_book.specs.Fields.{IsAscending, IsIndex, IsKeyed, IsTally, is_numbered, in_state, counts_for, has_room, is_among, one_of, is_counted}
+use Rattle.delivery_book.specs.Entries.{IsCaughtUp, at_delivery, entry_at, is_entry_as, state_in, with_attempt}
+use Rattle.delivery_book.specs.Entries.{with_attempt_restored, with_latest_settled}
+use Rattle.delivery_book.specs.Fields.{HasRoomForAll, KeepsRoom, IsAscending, IsIndex, IsKeyed, IsTally, is_numbered}
+use Rattle.delivery_book.specs.Fields.{in_state, counts_for, has_room, is_among, one_of, is_counted}
 use Rattle.delivery_book.proofs.Entries.{get_or-any}
 
 -- Lists
@@ -150,6 +152,16 @@ pub opened_still : (tally : Tally) (g : Entry → Entry) (entries : List Entry) 
 opened_still tally g entries keeps h =
     list_all-map (λ e. has_room tally e.name) g entries ∙ all_weaker (λ e. has_room tally e.name) (λ e. has_room tally (g e).name) entries (λ e is. ap (has_room tally) (keeps e).1 ∙ is) h
 
+-- the room for one more endpoint
+pub room-more : (now later : Tally) (entries : List Entry) (i : ℕ) (e : Entry) → i < length entries
+    → e ≡ get_or entries i e → HasRoomForAll now (take i entries) → KeepsRoom now later → has_room later e.name ≡ true
+    → HasRoomForAll later (take (i + 1) entries)
+room-more now later entries i e h is all stays here =
+    list_all_more (λ x. has_room later x.name) entries i e h
+    ∙ and_both _ _ (all_weaker (λ x. has_room now x.name) (λ x. has_room later x.name) (take i entries)
+    (λ x was. stays x.name was) all)
+    (ap (λ (x : Entry). has_room later x.name) (sym is) ∙ here)
+
 -- an entry that stands somewhere is found
 pub some_at : (entries : List Entry) (i : ℕ) (x : Entry) (seq : ℕ) → i < length entries → x ≡ get_or entries i x → x.seq ≡ seq → is_some (entry_at entries seq) ≡ true
 some_at [] i x seq h is same = absurd (omega (arith, h))
@@ -175,10 +187,16 @@ each_map : {X : Type 0} (P Q : X → Type 0) (g : X → X) (xs : List X) → ((x
 each_map P Q g [] step h = tt
 each_map P Q g (x ∷ xs) step h = (step x h.0, each_map P Q g xs step h.1)
 
-pub caught-push : (unsettled : List Unsettled) (entries : List Entry) (seq : ℕ) (name id body : List ℕ) (at : ℕ) → AllByRecursion (IsCaughtUp unsettled) entries
-    → AllByRecursion (IsCaughtUp unsettled) (entries ++ new_entry seq name id body at ∷ [])
-caught-push unsettled [] seq name id body at h = (λ none. refl, tt)
-caught-push unsettled (x ∷ xs) seq name id body at h = (h.0, caught-push unsettled xs seq name id body at h.1)
+-- the entry has no attempt, by all records and by the settled ones
+abbrev pub IsFresh : Entry → Type 0
+IsFresh e = (e.latest ≡ e.settled) × (e.latest.attempts ≡ 0)
+
+pub caught-append : (unsettled : List Unsettled) (entries events : List Entry)
+    → AllByRecursion (IsCaughtUp unsettled) entries → AllByRecursion IsFresh events
+    → AllByRecursion (IsCaughtUp unsettled) (entries ++ events)
+caught-append unsettled [] [] h fresh = h
+caught-append unsettled [] (e ∷ events) h fresh = (λ none. fresh.0.0, caught-append unsettled [] events h fresh.1)
+caught-append unsettled (x ∷ xs) events h fresh = (h.0, caught-append unsettled xs events h.1 fresh)
 
 -- what a change at a delivery makes of each entry
 caught_at : (P Q : Entry → Type 0) (d : ℕ) (change : Entry → Entry) (entries : List Entry) → ((e : Entry) → eqb d e.seq ≡ true → Q (change e)) → ((e : Entry) → eqb d e.seq ≡ false → P e → Q e)

@@ -17,8 +17,10 @@ use Rattle.delivery_book.specs.declared.entry.Entry.{Entry}
 use Rattle.delivery_book.specs.declared.entry.Unsettled.{Unsettled}
 use Rattle.delivery_book.specs.declared.progress.Progress.{Progress}
 use Rattle.delivery_book.specs.Book.{is_other, outcome_by, outcomes_from}
-use Rattle.delivery_book.specs.Entries.{BookValue, IsCaughtUp, IsInStep, at_delivery, at_outcomes, entry_at, front_below, is_open, new_entry, progress_after, rest_from, with_attempt, with_event, with_latest_settled, with_outcome, with_settled}
-use Rattle.delivery_book.specs.Waiting.{AreTries, HasWaiting, event_by, events_from, is_from}
+use Rattle.delivery_book.specs.Entries.{BookValue, IsCaughtUp, IsInStep, at_delivery, at_outcomes, entry_at, event_by}
+use Rattle.delivery_book.specs.Entries.{events_from, front_below, is_open, new_entry, progress_after, rest_from}
+use Rattle.delivery_book.specs.Entries.{with_attempt, with_event, with_latest_settled, with_outcome, with_settled}
+use Rattle.delivery_book.specs.Waiting.{AreTries, HasWaiting, is_from}
 use Rattle.delivery_book.proofs.Waits.{front-outcomes, outcomes_from-snoc, rest-outcomes}
 
 pub events_from-snoc : (n : ℕ) (records : List Record) (entry : Record) → events_from n (records ++ entry ∷ []) ≡ events_from n records ++ cons_option (event_by (n + length records, entry)) []

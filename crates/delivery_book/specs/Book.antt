@@ -70,6 +70,11 @@ abbrev pub Takes : (old : BookValue) → Seq → Record → (new : BookValue) �
 Takes old seq entry new =
     OverHistories old (λ records settled. seq ≡ length records → StandsFor new (records ++ entry ∷ []) settled)
 
+-- with these records behind, of which the first has this number, the later book stands for them
+abbrev pub TakesAll : (old : BookValue) → Seq → (more : List Record) → (new : BookValue) → Type 0
+TakesAll old seq more new =
+    OverHistories old (λ records settled. seq ≡ length records → StandsFor new (records ++ more) settled)
+
 -- with the records below this number settled, the later book stands for them
 abbrev pub Settles : (old : BookValue) → Seq → (new : BookValue) → Type 0
 Settles old seq new = OverHistories old (λ records settled. seq ≤ length records → StandsFor new records seq)

@@ -1,13 +1,16 @@
 -- What the book keeps: an entry for each event, in the order in which they were taken in, and the outcomes that wait.
-use Rattle.std.specs.Prelude.{◌≡◌, ℕ, ◌+◌, ◌≤◌, ◌&&◌, ◌||◌, ◌==◌, Bool, false, nat_le, nat_lt, List, [], ◌∷◌, ◌++◌, length, map, Option, Some, None, is_some, option_map, bytes_eq, find, count_by, max, IsTrue, if◌then◌else◌}
-use Rattle.std.specs.List.{AllByRecursion, list_all, list_any}
+use Rattle.std.specs.Prelude.{◌≡◌, ℕ, ◌+◌, ◌≤◌, ◌&&◌, ◌||◌, ◌==◌, Bool, false, nat_le, nat_lt, List, [], ◌∷◌, ◌++◌}
+use Rattle.std.specs.Prelude.{length, map, Option, Some, None, is_some, option_map, bytes_eq, filter_map, find}
+use Rattle.std.specs.Prelude.{count_by, max, IsTrue, if◌then◌else◌}
+use Rattle.std.specs.List.{AllByRecursion, enumerate_from, list_all, list_any}
 use Rattle.std.specs.Option.{option_map_or}
 use Rattle.relay_types.specs.declared.limits.TheConstants.{MAX_FAILURES, MAX_RECORDS}
+use Rattle.relay_types.specs.declared.record.Record.{Record}
 use Rattle.relay_types.specs.declared.state.State.{State}
 use Rattle.relay_types.specs.declared.state.State.TheVariants.{Pending, Delivered, Exhausted}
 use Rattle.relay_types.specs.Values.{Text, Seq, Seconds}
 use Rattle.relay_types.specs.Lists.{last_of}
-use Rattle.relay_types.specs.Records.{Attempt}
+use Rattle.relay_types.specs.Records.{Attempt, accepted_by}
 use Rattle.relay_types.specs.Judging.{is_delivered_status, is_failed_status}
 use Rattle.relay_types.specs.Deliveries.{is_in_state, due_after}
 use Rattle.delivery_book.specs.declared.entry.Entry.{Entry}
@@ -93,6 +96,14 @@ new_entry seq name id body at = record {
   latest = progress_of at [];
   settled = progress_of at [];
 }
+
+-- the entry of an event before any attempt
+abbrev pub event_by : (Seq × Record) → Option Entry
+event_by e = option_map (λ a. new_entry e.0 a.endpoint a.id a.body a.at) (accepted_by e.1)
+
+-- the events among records of which the first has this number
+abbrev pub events_from : Seq → List Record → List Entry
+events_from seq records = filter_map event_by (enumerate_from seq records)
 
 abbrev pub with_attempt : (status : ℕ) (at : Seconds) → Entry → Entry
 with_attempt status at entry = record entry { latest = progress_after status at entry.latest }
@@ -196,6 +207,13 @@ abbrev pub with_event : BookValue → (seq : Seq) (name id body : Text) (at : Se
 with_event book seq name id body at = record book {
   entries = book.entries ++ new_entry seq name id body at ∷ [];
   next_seq = seq + 1;
+}
+
+-- the book with the events among these records, of which the first has this number
+abbrev pub with_events : BookValue → (seq : Seq) → List Record → BookValue
+with_events book seq records = record book {
+  entries = book.entries ++ events_from seq records;
+  next_seq = seq + length records;
 }
 
 -- the book with one more outcome of this delivery

@@ -1,6 +1,9 @@
 -- What ties the index, the counts and the room of a book to its entries.
-use Rattle.std.specs.Prelude.{◌≡◌, ℕ, ◌+◌, ◌^◌, ◌<◌, ◌≤◌, ◌&&◌, ◌==◌, not, Bool, true, nat_lt, nat_eq, List, length, take, Option, Some, None, option_map, unwrap_or, is_some, slice_index_or, filter, find, count_by, bytes_eq, IsTrue, if◌then◌else◌}
-use Rattle.std.specs.List.{AllByRecursion, list_all}
+use Rattle.std.specs.Prelude.{◌≡◌, ℕ, ◌+◌, ◌^◌, ◌<◌, ◌≤◌, ◌&&◌, ◌==◌, not, Bool, true, false, nat_lt, nat_eq, List}
+use Rattle.std.specs.Prelude.{length, take, Option, Some, None, option_map, unwrap_or, is_some, slice_index_or}
+use Rattle.std.specs.Prelude.{filter, find, count_by, bytes_eq, All, AllPairs, IsTrue, if◌then◌else◌}
+use Rattle.std.specs.List.{AllByRecursion, list_all, list_any}
+use Rattle.std.specs.Option.{option_or}
 use Rattle.std.specs.BTreeMap.{BTreeMap}
 use Rattle.std.specs.BTreeMap as tree
 use Rattle.std.specs.Cmp.Lexicographic.{pointwise, slice_cmp}
@@ -33,6 +36,10 @@ same_event a b = pointwise nat_eq a.name b.name && pointwise nat_eq a.id b.id
 -- events stand in the order of their characters, the endpoint's before the id's
 abbrev pub event_cmp : EventKey → EventKey → Ordering
 event_cmp = then_cmp (on (λ k. k.name) (slice_cmp nat_cmp)) (on (λ k. k.id) (slice_cmp nat_cmp))
+
+-- the key of an event
+abbrev pub key_of : Entry → EventKey
+key_of entry = record { name = entry.name; id = entry.id }
 
 -- Counts by state
 
@@ -139,6 +146,28 @@ abbrev pub IsIndex : BTreeMap EventKey ℕ → List Entry → Type 0
 IsIndex index entries =
     (k : EventKey)
     → tree.get event_cmp index k ≡ option_map (λ e. e.seq) (find (is_entry_as k.name k.id) entries)
+
+-- the index has the numbers of these events too
+abbrev pub HasMoreKeys : (old : BTreeMap EventKey ℕ) → (events : List Entry) → (new : BTreeMap EventKey ℕ) → Type 0
+HasMoreKeys old events new =
+    (k : EventKey)
+    → tree.get event_cmp new k
+    ≡ option_or (tree.get event_cmp old k) (option_map (λ e. e.seq) (find (is_entry_as k.name k.id) events))
+
+-- the index has the numbers of these events no more
+abbrev pub HasLessKeys : (old : BTreeMap EventKey ℕ) → (events : List Entry) → (new : BTreeMap EventKey ℕ) → Type 0
+HasLessKeys old events new =
+    (k : EventKey)
+    → tree.get event_cmp new k
+    ≡ (if list_any (is_entry_as k.name k.id) events then None else tree.get event_cmp old k)
+
+abbrev pub HasSameKeys : (old new : BTreeMap EventKey ℕ) → Type 0
+HasSameKeys old new = (k : EventKey) → tree.get event_cmp new k ≡ tree.get event_cmp old k
+
+-- the index has none of these events, and no two of them have one key
+pub record AreNew (index : BTreeMap EventKey ℕ) (events : List Entry) : Type 0 where
+  pub unknown : All (λ e. tree.get event_cmp index (key_of e) ≡ None) events
+  pub apart : AllPairs (λ a b. is_entry_as b.name b.id a ≡ false) events
 
 -- Outcomes that wait
 

@@ -1,21 +1,12 @@
 -- What a book has of the records behind the settled ones, whatever stands before these.
-use Rattle.std.specs.Prelude.{◌≡◌, ◌+◌, Bool, nat_le, List, [], ◌∷◌, Option, Some, None, filter, filter_map, option_map}
-use Rattle.std.specs.List.{enumerate_from}
+use Rattle.std.specs.Prelude.{◌≡◌, ◌+◌, Bool, nat_le, List, [], ◌∷◌, Option, Some, None, filter}
 use Rattle.relay_types.specs.declared.record.Record.{Record}
 use Rattle.relay_types.specs.Values.{Seq}
-use Rattle.relay_types.specs.Records.{Attempt, accepted_by}
+use Rattle.relay_types.specs.Records.{Attempt}
 use Rattle.relay_types.specs.Deliveries.{attempts_of}
 use Rattle.delivery_book.specs.declared.entry.Entry.{Entry}
 use Rattle.delivery_book.specs.Book.{outcomes_from}
-use Rattle.delivery_book.specs.Entries.{BookValue, entry_at, new_entry, progress_after}
-
--- the entry of an event before any attempt
-abbrev pub event_by : (Seq × Record) → Option Entry
-event_by e = option_map (λ a. new_entry e.0 a.endpoint a.id a.body a.at) (accepted_by e.1)
-
--- the events among records of which the first has this number
-abbrev pub events_from : Seq → List Record → List Entry
-events_from seq records = filter_map event_by (enumerate_from seq records)
+use Rattle.delivery_book.specs.Entries.{BookValue, entry_at, events_from, progress_after}
 
 abbrev pub is_from : Seq → Entry → Bool
 is_from seq entry = nat_le seq entry.seq

@@ -1,21 +1,27 @@
 //! The book itself.
-ghost use Rattle.std.specs.Prelude.{◌≡◌, ◌≤◌, ◌<◌, ◌+◌, ℕ, [], length, take, true, None, Some, is_some, unwrap_or, slice_get};
-ghost use Rattle.std.specs.Prelude.{option_copied, option_map, IfSome, OnOk, OnErr};
+ghost use Rattle.std.specs.Prelude.{◌≡◌, ◌≢◌, ◌≤◌, ◌<◌, ◌+◌, ℕ, [], length, take, true, None, Some, is_some};
+ghost use Rattle.std.specs.Prelude.{unwrap_or, slice_get};
+ghost use Rattle.std.specs.Prelude.{option_copied, option_map, All, AllPairs, IfSome, OnOk, OnErr};
 ghost use Rattle.relay_types.specs.declared.limits.TheConstants.{MAX_RECORDS};
 ghost use Rattle.relay_types.specs.declared.record.Record.TheVariants.{Accept, Outcome};
 ghost use Rattle.relay_types.specs.Deliveries.{known_as};
-ghost use Rattle.delivery_book.specs.Entries.{empty_book, with_event, with_outcome, with_outcome_restored, with_events_settled};
-ghost use Rattle.delivery_book.specs.Entries.{settle_first, with_settled, known_in, takes_outcome, may_restore, HasOneEach, IsInStep};
+ghost use Rattle.relay_types.specs.Steps.{accepts};
+ghost use Rattle.delivery_book.specs.Entries.{empty_book, with_event, with_events, with_outcome, with_outcome_restored};
+ghost use Rattle.delivery_book.specs.Entries.{with_events_settled, settle_first, with_settled, known_in};
+ghost use Rattle.delivery_book.specs.Entries.{takes_outcome, may_restore, HasOneEach, IsInStep};
 ghost use Rattle.delivery_book.specs.Entries.{entry_at, latest_row, settled_row, pending_in, next_settled};
 ghost use Rattle.delivery_book.specs.Fields.{settled_counts};
-ghost use Rattle.delivery_book.specs.Book.{StandsFor, OverHistories, Takes, Settles, is_free, row_of, body_of, counts_of, counts_of_all};
+ghost use Rattle.delivery_book.specs.Book.{StandsFor, OverHistories, Takes, TakesAll, Settles, is_free, row_of};
+ghost use Rattle.delivery_book.specs.Book.{body_of, counts_of, counts_of_all};
 
 use crate::entry::{Entry, Unsettled};
+use crate::events::events_of;
+use crate::index::add_events;
 use crate::keys::EventKey;
 use crate::progress::Progress;
 use crate::row::{Counts, Row};
 use crate::search::{count_below, entry_at, index_of};
-use crate::tally::{Tally, add_settled_between};
+use crate::tally::{Tally, add_settled, add_settled_between};
 use relay_types::{Body, MAX_RECORDS, Moment, MsgId, Name, State};
 use std::alloc::{AllocError, Global};
 use std::collections::{BTreeMap, VecDeque};
@@ -108,6 +114,40 @@ impl DeliveryBook {
             settled: fresh,
         });
         self.next_seq = seq + 1;
+        Ok(())
+    }
+
+    /// Takes in one event at each of these endpoints, or at none if an allocation fails. Its records have the numbers
+    /// from `seq` on, in the order of the names. It makes the room that their outcomes need. `next_seq`, `find` and
+    /// `==` test the conditions; that the endpoints exist is the caller's to know.
+    pub fn stage_accepts(
+        &mut self,
+        seq: u64,
+        names: &[Name],
+        id: MsgId,
+        body: &Body,
+        at: Moment,
+    ) -> Result<(), AllocError>
+        requires room { seq + length names.now ≤ MAX_RECORDS }
+        requires above { self.old.next_seq ≤ seq }
+        requires apart { AllPairs (λ a b. a ≢ b) names.now }
+        requires unknown { All (λ name. known_in self.old name id ≡ None) names.now }
+        ensures accepted { OnOk result (self.new ≡ with_events self.old seq (accepts names.now id body.now at)) }
+        ensures stands { OnOk result (TakesAll self.old seq (accepts names.now id body.now at) self.new) }
+        ensures unchanged { OnErr result (self.new ≡ self.old) }
+    {
+        let alloc = *self.entries.allocator();
+        let mut events = events_of(alloc, seq, names, id, body, at)?;
+        let count = events.len();
+        self.entries.reserve(count)?;
+        let spare = self.entries.len() + count - self.unsettled.len();
+        self.unsettled.reserve(spare)?;
+        self.tally.open_all(&events)?;
+        self.settled_tally.open_all(&events)?;
+        add_events(&mut self.index, &events)?;
+        add_settled(&mut self.tally, &events);
+        self.next_seq = seq + count as u64;
+        let _ = self.entries.append(&mut events);
         Ok(())
     }
 

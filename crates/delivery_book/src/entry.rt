@@ -1,7 +1,9 @@
 //! What the book keeps of one event.
 ghost use Rattle.std.specs.Prelude.{◌≡◌};
 ghost use Rattle.delivery_book.specs.Entries.{is_open, row_in};
+ghost use Rattle.delivery_book.specs.Fields.{key_of};
 
+use crate::keys::EventKey;
 use crate::progress::Progress;
 use crate::row::Row;
 use relay_types::{Body, Moment, MsgId, Name, State};
@@ -25,6 +27,16 @@ impl Entry {
     {
         matches!(self.latest.state(), State::Pending)
             && self.latest.attempts == self.settled.attempts
+    }
+
+    /// The key of its event.
+    pub(crate) fn key(&self) -> EventKey
+        ensures { result ≡ key_of self.now }
+    {
+        EventKey {
+            name: self.name,
+            id: self.id,
+        }
     }
 
     /// The delivery as told where it has come this far.

@@ -3,6 +3,8 @@
 
 mod book;
 mod entry;
+mod events;
+mod index;
 mod keys;
 mod law;
 mod progress;

@@ -101,6 +101,18 @@ impl Tally {
         Ok(())
     }
 
+    /// Makes room for the endpoints of these entries.
+    pub(crate) fn open_all(&mut self, entries: &[Entry]) -> Result<(), AllocError>
+        ensures same { HasSame self.old self.new }
+        ensures opened { OnOk result (HasRoomForAll self.new entries.now) }
+        ensures stays { KeepsRoom self.old self.new }
+    {
+        for entry in entries {
+            self.open(entry.name)?;
+        }
+        Ok(())
+    }
+
     /// Counts one more delivery of the endpoint, in this state.
     pub(crate) fn add(&mut self, name: Name, state: State)
         requires opened { has_room self.old name ≡ true }
@@ -127,7 +139,7 @@ impl Tally {
 }
 
 /// Counts these deliveries by where the settled records have them.
-fn add_settled(tally: &mut Tally, entries: &[Entry])
+pub(crate) fn add_settled(tally: &mut Tally, entries: &[Entry])
     requires opened { HasRoomForAll tally.old entries.now }
     requires room { CanCount tally.old entries.now }
     ensures more { HasMore tally.old (settled_among entries.now) tally.new }

@@ -23,6 +23,8 @@ pub(crate) struct Told {
 pub(crate) enum Step {
     /// An event of this number, endpoint and id, with this body, at this moment.
     Accept(u64, &'static [u8], &'static [u8], &'static [u8], u64),
+    /// The same at the endpoints `b`, `a` and `c`, in one step, from this number on.
+    AcceptAtThree(u64, &'static [u8], &'static [u8], u64),
     /// An attempt at the delivery ended: the number, the delivery, the status and the moment.
     Outcome(u64, u64, u16, u64),
     Settle(u64),
@@ -64,6 +66,24 @@ fn accept(
     assert!(rt; seq < 1_000_000 && book.next_seq() <= seq);
     assert!(rt; book.find(name, &id).is_none());
     done(rt, book.stage_accept(seq, name, id, body, at));
+}
+
+/// Takes in an event at three endpoints, of which none knows its id yet.
+fn accept_at_three(
+    rt: &impl Abort,
+    book: &mut DeliveryBook,
+    seq: u64,
+    id: MsgId,
+    body: &Body,
+    at: Moment,
+) {
+    let (b, a, c) = (name(rt, b"b"), name(rt, b"a"), name(rt, b"c"));
+    assert!(rt; seq < 1_000_000 && book.next_seq() <= seq);
+    assert!(rt; b != a && b != c && a != c);
+    assert!(rt; book.find(b, &id).is_none());
+    assert!(rt; book.find(a, &id).is_none());
+    assert!(rt; book.find(c, &id).is_none());
+    done(rt, book.stage_accepts(seq, &[b, a, c], id, body, at));
 }
 
 /// An attempt at the delivery ended.
@@ -161,6 +181,10 @@ fn stage(rt: &impl Abort, alloc: Global, book: &mut DeliveryBook, step: Step) {
         Step::Accept(seq, endpoint, id, text, at) => {
             let event = (name(rt, endpoint), msg_id(rt, id));
             accept(rt, book, seq, event, body(rt, alloc, text), moment(rt, at));
+        }
+        Step::AcceptAtThree(seq, id, text, at) => {
+            let text = body(rt, alloc, text);
+            accept_at_three(rt, book, seq, msg_id(rt, id), &text, moment(rt, at));
         }
         Step::Outcome(seq, delivery, status, at) => {
             end(rt, book, seq, delivery, status, moment(rt, at));

@@ -67,6 +67,36 @@ fn events_are_known_by_endpoint_and_id(rt: HostRuntime) {
     walk(&rt, rt.alloc(), &EVENTS_ARE_KNOWN);
 }
 
+// Records 0 to 2 put the endpoints, and 3 to 5 take in one event at `b`, `a` and `c`.
+static ONE_EVENT_AT_THREE: [Step; 21] = [
+    Step::AcceptAtThree(3, b"msg_1", b"{}", 1000),
+    Step::Next(6),
+    Step::Find(b"b", b"msg_1", Some(3)),
+    Step::Find(b"a", b"msg_1", Some(4)),
+    Step::Find(b"c", b"msg_1", Some(5)),
+    Step::Find(b"d", b"msg_1", None),
+    Step::Find(b"a", b"msg_2", None),
+    Step::Row(2, None),
+    Step::Row(4, Some(FIRST)),
+    Step::Row(6, None),
+    Step::Body(3, Some(b"{}")),
+    Step::Body(5, Some(b"{}")),
+    Step::Pending(b"c", 1),
+    Step::PendingAll(3),
+    Step::CountsAll(0, 0, 0),
+    Step::Outcome(6, 4, 204, 1001),
+    Step::Settle(5),
+    Step::CountsAll(2, 0, 0),
+    Step::Settled(5, None),
+    Step::Settle(7),
+    Step::CountsAll(2, 1, 0),
+];
+
+#[test]
+fn an_event_is_taken_in_at_three_endpoints(rt: HostRuntime) {
+    walk(&rt, rt.alloc(), &ONE_EVENT_AT_THREE);
+}
+
 static ROWS_AND_BODIES: [Step; 16] = [
     ACCEPT_FIRST,
     ACCEPT_SECOND,

@@ -1,0 +1,36 @@
+//! The index of events by endpoint and id.
+ghost use Rattle.delivery_book.specs.Fields.{AreNew, HasLessKeys, HasMoreKeys, HasSameKeys};
+ghost use Rattle.std.specs.Prelude.{OnErr, OnOk};
+
+use crate::entry::Entry;
+use crate::keys::EventKey;
+use std::alloc::AllocError;
+use std::collections::BTreeMap;
+
+/// Adds the numbers of these events, all or none: if memory runs out, those that were added are removed again.
+pub(crate) fn add_events(
+    index: &mut BTreeMap<EventKey, u64>,
+    events: &[Entry],
+) -> Result<(), AllocError>
+    requires { AreNew index.old events.now }
+    ensures added { OnOk result (HasMoreKeys index.old events.now index.new) }
+    ensures unchanged { OnErr result (HasSameKeys index.old index.new) }
+{
+    for place in 0..events.len() {
+        let event = &events[place];
+        if index.insert(event.key(), event.seq).is_err() {
+            remove_events(index, &events[..place]);
+            return Err(AllocError);
+        }
+    }
+    Ok(())
+}
+
+/// Removes the numbers of these events. It takes no memory.
+fn remove_events(index: &mut BTreeMap<EventKey, u64>, events: &[Entry])
+    ensures { HasLessKeys index.old events.now index.new }
+{
+    for event in events {
+        let _ = index.remove(&event.key());
+    }
+}
