@@ -16,7 +16,7 @@ import time
 import typing
 
 from lib.command import SCRIPTS
-from lib.formats import texts_of_tables
+from lib.formats import make_tables
 from lib.serving import SECRET, STARTED, free_port, wait_until
 
 ENDPOINTS = 40
@@ -125,9 +125,7 @@ def make_store(file):
     """A store as docs/FORMATS.md describes it, with the rows that relayd writes if it puts and disables the endpoints."""
     key = base64.b64decode(SECRET.removeprefix("whsec_"))
     with contextlib.closing(sqlite3.connect(file)) as conn, conn:
-        for text in texts_of_tables():
-            conn.execute(text)
-        conn.execute("INSERT INTO meta VALUES(1, 'webhook-relay', 1, ?)", (2 * ENDPOINTS,))
+        make_tables(conn, 2 * ENDPOINTS)
         for number in range(ENDPOINTS):
             row = (2 * number, f"e{number}", "http://127.0.0.1:9/", 100, 0, 2 * number + 1, 2 * number)
             conn.execute("INSERT INTO endpoints VALUES(?, ?, ?, ?, ?, ?, ?)", row)

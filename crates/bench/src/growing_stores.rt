@@ -21,6 +21,7 @@ pub(crate) enum StoreCall {
     Create,
     CreateDesk,
     Load,
+    Migrate,
     Open,
     Reopen,
 }
@@ -32,6 +33,7 @@ impl StoreCall {
             "Vault::adopt" => Some(StoreCall::Adopt),
             "Vault::create" => Some(StoreCall::Create),
             "Vault::load" => Some(StoreCall::Load),
+            "Vault::migrate" => Some(StoreCall::Migrate),
             "recovery::create" => Some(StoreCall::CreateDesk),
             "recovery::open" => Some(StoreCall::Open),
             "recovery::reopen" => Some(StoreCall::Reopen),
@@ -39,11 +41,42 @@ impl StoreCall {
         }
     }
 
-    // Whether the store is to have no table yet.
-    fn is_of_new(self) -> bool {
-        matches!(self, StoreCall::Create | StoreCall::CreateDesk)
+    // What the store is to have before the call.
+    fn before(self) -> Before {
+        match self {
+            StoreCall::Create | StoreCall::CreateDesk => Before::Nothing,
+            StoreCall::Migrate => Before::First,
+            _ => Before::Ours,
+        }
     }
 }
+
+/// What a store has before it is opened.
+#[derive(Clone, Copy)]
+enum Before {
+    /// No table.
+    Nothing,
+    /// Tables of version 1, of the empty history.
+    First,
+    /// The tables of the empty history.
+    Ours,
+}
+
+/// What a relay executed that made tables of version 1.
+const FIRST: &str = "CREATE TABLE meta(k INTEGER PRIMARY KEY CHECK(k = 1), app TEXT NOT NULL, \
+     version INTEGER NOT NULL, records INTEGER NOT NULL) STRICT; \
+     CREATE TABLE endpoints(put INTEGER PRIMARY KEY, name TEXT NOT NULL UNIQUE, \
+     url TEXT NOT NULL, max INTEGER NOT NULL, enabled INTEGER NOT NULL, \
+     enabled_by INTEGER NOT NULL, secrets_by INTEGER NOT NULL) STRICT; \
+     CREATE TABLE secrets(endpoint INTEGER NOT NULL REFERENCES endpoints(put), \
+     place INTEGER NOT NULL, secret BLOB NOT NULL, PRIMARY KEY(endpoint, place)) STRICT; \
+     CREATE TABLE deliveries(seq INTEGER PRIMARY KEY, \
+     endpoint INTEGER NOT NULL REFERENCES endpoints(put), id TEXT NOT NULL, \
+     at INTEGER NOT NULL, body BLOB NOT NULL, UNIQUE(endpoint, id)) STRICT; \
+     CREATE TABLE attempts(seq INTEGER PRIMARY KEY, \
+     delivery INTEGER NOT NULL REFERENCES deliveries(seq), number INTEGER NOT NULL, \
+     status INTEGER NOT NULL, at INTEGER NOT NULL, UNIQUE(delivery, number)) STRICT; \
+     INSERT INTO meta VALUES(1, 'webhook-relay', 1, 0)";
 
 /// A call, and the connection that it opens, until it was opened.
 #[derive(Drop)]
@@ -83,6 +116,7 @@ fn opened(alloc: Global, call: StoreCall, conn: Connection<MemStore>) -> Result<
     match call {
         StoreCall::Adopt | StoreCall::Load => Ok(Vault::adopt(conn, MARK, alloc)?.next()),
         StoreCall::Create => Ok(Vault::create(conn, MARK)?.next()),
+        StoreCall::Migrate => Ok(Vault::migrate(conn, MARK, alloc)?.next()),
         StoreCall::CreateDesk => created_desk::<Brand, MemStore>(alloc, Blank::new(PARTS), conn),
         StoreCall::Open => opened_desk::<Brand, MemStore>(alloc, Blank::new(PARTS), conn),
         StoreCall::Reopen => reopened_desk::<Brand, MemStore>(alloc, Blank::new(PARTS), conn),
@@ -153,23 +187,32 @@ impl Attempt for Loading {
     }
 }
 
-// A connection to a store, with the tables of the empty history if it isn't to be a new one.
-fn connected(alloc: Global, is_new: bool) -> Option<Connection<MemStore>> {
+// A connection to a store that has this.
+fn connected(alloc: Global, before: Before) -> Option<Connection<MemStore>> {
     let Ok(conn) = Connection::open_in_memory(alloc) else {
         return None;
     };
-    if is_new {
-        return Some(conn);
+    match before {
+        Before::Nothing => Some(conn),
+        Before::First => first(conn),
+        Before::Ours => match created(conn) {
+            Ok(vault) => Some(vault.release()),
+            Err(_) => None,
+        },
     }
-    match created(conn) {
-        Ok(vault) => Some(vault.release()),
+}
+
+fn first(conn: Connection<MemStore>) -> Option<Connection<MemStore>> {
+    let mut conn = conn;
+    match conn.execute_batch(FIRST) {
+        Ok(()) => Some(conn),
         Err(_) => None,
     }
 }
 
 /// Makes the call over a store in memory. Whether it was made.
 pub(crate) fn print_store_calls(rt: &HostRuntime, call: StoreCall) -> io::Result<bool> {
-    let Some(conn) = connected(rt.alloc(), call.is_of_new()) else {
+    let Some(conn) = connected(rt.alloc(), call.before()) else {
         return Ok(false);
     };
     if !matches!(call, StoreCall::Load) {

@@ -7,7 +7,7 @@ use relay_commands::{Outcome, run};
 use std::io;
 
 /// The files, each of which is checked as often as it is listed.
-static FILES: [[&str; 3]; 15] = [
+static FILES: [[&str; 3]; 22] = [
     // Not a database.
     ["relayd", "check", "one-byte"],
     ["relayd", "check", "short-text"],
@@ -16,6 +16,7 @@ static FILES: [[&str; 3]; 15] = [
     ["relayd", "check", "another-program"],
     ["relayd", "check", "no-table"],
     ["relayd", "check", "later-version"],
+    ["relayd", "check", "later-version-damaged"],
     // Stores that are damaged, in a row and in a page.
     ["relayd", "check", "damaged-row"],
     ["relayd", "check", "damaged-page"],
@@ -23,6 +24,14 @@ static FILES: [[&str; 3]; 15] = [
     ["relayd", "check", "sound"],
     ["relayd", "check", "sound"],
     ["relayd", "check", "sound-copied"],
+    // The same of version 1. The first check makes version 2 of them.
+    ["relayd", "check", "first-version"],
+    ["relayd", "check", "first-version"],
+    ["relayd", "check", "first-version-copied"],
+    ["relayd", "check", "first-version-copied"],
+    // Of version 1, with a damaged row, and with another's table of topics.
+    ["relayd", "check", "first-version-damaged"],
+    ["relayd", "check", "first-version-taken"],
     // No store yet, and the store that the first check made.
     ["relayd", "check", "empty"],
     ["relayd", "check", "empty"],

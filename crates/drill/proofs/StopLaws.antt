@@ -5,7 +5,6 @@ use Rattle.std.specs.Prelude.{IfOk, IsTrue}
 use Rattle.sqlite.specs.Store.{Ghosts}
 use Rattle.sqlite.specs.Held.{Held, state}
 use Rattle.relay_types.specs.Records.{History, records_of}
-use Rattle.spool.specs.Adopting.{IsReadOpen}
 use Rattle.spool.specs.Vaults.{VaultValue}
 use Rattle.script_lines.specs.declared.call.Call.{Call}
 use Rattle.script_lines.specs.declared.call.Line.TheVariants as as_line
@@ -14,7 +13,7 @@ use Rattle.script_lines.specs.declared.reply.Reply.TheVariants as says
 use Rattle.desk.specs.World.{World, Nothing}
 use Rattle.desk.specs.Desks.{DeskValue, StandsFor}
 use Rattle.recovery.specs.Left.{FindsLeft}
-use Rattle.recovery.specs.Reopenings.{AreOpenedAtOne, ReopensLeft, opening_of}
+use Rattle.recovery.specs.Reopenings.{AreOpenedAtOne, IsOpenBehind, ReopensLeft, opening_of}
 use Rattle.drill.specs.declared.calls.Core.{Core}
 use Rattle.drill.specs.Cores.{CoreStandsFor}
 use Rattle.drill.specs.declared.player.State.{State}
@@ -43,11 +42,11 @@ starts_again g s core desk vault (steps ∷ others) marked stands (inr more) =
 
 -- The store was open, so what a stop leaves stood in it.
 pub stop_taken : {L S : Type 0} (g : Ghosts S) (s : Session) (before : Core L) (old : VaultValue S) (conn : Held S) (core : Core L) (desk : DeskValue) (vault : VaultValue S) → RunStandsFor g before old s → conn ≡ old.conn
-    → IsReadOpen (state g conn) (state g vault.conn) → ReopensLeft g conn desk vault → core.desk.waiting.mark ≡ vault.mark
+    → IsOpenBehind (state g conn) (state g vault.conn) → ReopensLeft g conn desk vault → core.desk.waiting.mark ≡ vault.mark
     → ((w : World) → StandsFor desk w → w.out ≡ Nothing → w.live ≡ [] → CoreStandsFor core (record { world = w; tickets = [] }))
     → (next : Session) × OpensAgain s s.world.left (says.Reopened vault.next) next × RunStandsFor g core vault next
-stop_taken g s before old conn core desk vault on same (read, is_open) reopens marked stands =
-    let was_open = subst (λ c. IsTrue (state g c).is_open) same (read.stays is_open).0 in
+stop_taken g s before old conn core desk vault on same (may, is_open) reopens marked stands =
+    let was_open = subst (λ c. IsTrue (state g c).is_open) same (may.stays is_open).0 in
     let found = subst (λ c. FindsLeft g c s.world) (sym same) ((rows_kept g old s.world on.holds).finds was_open) in
     starts_again g s core desk vault s.world.left marked stands (reopens s.world on.stands.desk.books.legal found)
 

@@ -18,7 +18,7 @@ use Rattle.sqlite_store.specs.Report.{named}
 use Rattle.sqlite_trees.specs.declared.error.StoreError.{StoreError}
 use Rattle.sqlite_trees.specs.declared.error.StoreError.TheVariants as stored
 use Rattle.spool.specs.declared.ends.OpenFault.{OpenFault}
-use Rattle.recovery.specs.Paths.{IsOfDisk, unopened_fault}
+use Rattle.recovery.specs.Paths.{IsOfDisk, IsOfDiskAs, unopened_fault}
 
 -- two files as an image, and what one of the two held
 abbrev pub image_of_two : List ℕ → List ℕ → Image
@@ -39,16 +39,17 @@ not_unfit stored.Broken e = absurd (let no = e in cc)
 not_unfit stored.Unstorable e = absurd (let no = e in cc)
 
 module _ {D : Type 0} {g : disk.Ghosts D} (files : Files D) (rest : Leftover D g) (fault : OpenFault) where
-  of_kind : (kind : StoreError) → fault ≡ unopened_fault (store_error kind) → MoreFaults (faults_of g files) (faults_left rest) → IsOfDisk files rest fault
+  of_kind : (kind : StoreError) → fault ≡ unopened_fault (store_error kind)
+      → MoreFaults (faults_of g files) (faults_left rest) → IsOfDiskAs kind files rest fault
   of_kind stored.OutOfMemory is more = inl is
-  of_kind stored.Io is more = inr (inl (stored.Io, is, more))
-  of_kind stored.Corrupt is more = inr (inl (stored.Corrupt, is, more))
-  of_kind stored.Full is more = inr (inl (stored.Full, is, more))
-  of_kind stored.Broken is more = inr (inl (stored.Broken, is, more))
-  of_kind stored.Unstorable is more = inr (inl (stored.Unstorable, is, more))
+  of_kind stored.Io is more = inr (inl (is, more))
+  of_kind stored.Corrupt is more = inr (inl (is, more))
+  of_kind stored.Full is more = inr (inl (is, more))
+  of_kind stored.Broken is more = inr (inl (is, more))
+  of_kind stored.Unstorable is more = inr (inl (is, more))
 
   named_so : (kind : StoreError) (error : Error) → (error ≢ SqliteFailure code.NotADatabase → fault ≡ unopened_fault error) → (db : Trees) → HoldsDatabase (image_of g files) db
-      → FailsToOpenAs kind files rest error → IsOfDisk files rest fault
+      → FailsToOpenAs kind files rest error → IsOfDiskAs kind files rest fault
   named_so kind error told db holds (inl memory) = inl (told (λ e. not_unfit stored.OutOfMemory (sym memory ∙ e)) ∙ ap unopened_fault memory)
   named_so kind error told db holds (inr (inl (refused, none))) = absurd (none (inl (db, holds)))
   named_so kind error told db holds (inr (inr (inl (is, more)))) = of_kind kind (told (λ e. not_unfit kind (sym is ∙ e)) ∙ ap unopened_fault is) more

@@ -1,52 +1,67 @@
 -- A store that stands is opened as what it holds, and a store that a stop left as what was left.
-use Rattle.std.proofs.Common.{◌≡◌, ℕ, Result, Ok, Err, IfOk, IfErr, List, [], ◌∷◌, map, ◌++◌, take, drop, inl, inr, refl, sym, ap, subst, ◌∙◌, append_assoc, arith}
+use Rattle.std.proofs.Common.{◌≡◌, ℕ, Result, Ok, Err, IfOk, IfErr, List, [], ◌∷◌, map, ◌++◌, take, drop, inl, inr}
+use Rattle.std.proofs.Common.{refl, sym, ap, subst, ◌∙◌, append_assoc}
 use Rattle.std.proofs.lemmas.List.{take-append-drop}
-use Rattle.std.specs.Prelude.{IsSome, IsTrue, MatchResult}
+use Rattle.std.specs.Prelude.{IsTrue, MatchResult}
 use Rattle.sqlite.specs.Store.{Ghosts}
 use Rattle.sqlite.specs.State.{State, Survives}
-use Rattle.sqlite.specs.declared.error.Error.{Error}
 use Rattle.sqlite.specs.declared.error.Error.TheVariants.{SqliteFailure}
 use Rattle.sqlite.specs.declared.error.ErrorCode.TheVariants as code
 use Rattle.sqlite.specs.Effect.{Database}
+use Rattle.sqlite.specs.Tree.{Trees}
 use Rattle.sqlite.specs.Held.{Held, state}
 use Rattle.relay_types.specs.declared.record.Record.{Record}
 use Rattle.relay_types.specs.Records.{History, records_of}
 use Rattle.relay_types.specs.Legal.{IsLegal}
 use Rattle.relay_types.specs.Rows.{Rows, rows_of}
-use Rattle.relay_types.specs.Sound.{history_from}
+use Rattle.relay_types.specs.Sound.{AreKeyed, are_sound, history_from}
 use Rattle.relay_types.proofs.HistoryLaws.{of_a_history}
 use Rattle.relay_types.proofs.KnownLaws.{legal_front}
-use Rattle.spool_sql.specs.Readable.{IsRefusal}
+use Rattle.spool_sql.proofs.RefusalLemmas.{was_refusal}
+use Rattle.sound_tables.proofs.BothRefused.{was_since}
 use Rattle.spool_sql.specs.Stored.{IsTables}
-use Rattle.spool_sql.specs.Tables.{relay_schema}
-use Rattle.spool.specs.Adopting.{IsAdopted, IsOnlyRead, LeavesRead, IsOfStore, unloaded_fault}
+use Rattle.spool_sql.specs.Tables.{IsOwn}
+use Rattle.spool.specs.Adopting.{IsOnlyRead, LeavesRead, IsOfStore, unloaded_fault}
+use Rattle.spool.specs.Migrating.{HaveRows, IsMigrated, IsUnmade, LeavesMigrated, MayMigrate}
 use Rattle.spool.specs.Books.{IsLoadRefusal, IsSeen}
 use Rattle.spool.specs.declared.ends.LoadFault.{LoadFault}
 use Rattle.spool.specs.declared.ends.LoadFault.TheVariants as load
 use Rattle.spool.specs.declared.ends.OpenFault.{OpenFault}
-use Rattle.spool.specs.declared.ends.OpenFault.TheVariants.{NotOurs, NewerVersion, Damaged, Store, OutOfMemory}
+use Rattle.spool.specs.declared.ends.OpenFault.TheVariants.{NotOurs, NewerVersion, OldVersion, Damaged, Store}
+use Rattle.spool.specs.declared.ends.OpenFault.TheVariants.{OutOfMemory}
 use Rattle.spool.specs.Vaults.{VaultValue}
 use Rattle.desk.specs.World.{World, all_records}
 use Rattle.desk.specs.Desks.{DeskValue}
 use Rattle.recovery.specs.Left.{AreLeft, AreOfSteps}
-use Rattle.recovery.specs.Reopenings.{AreOpenedAt, AreOpenedAtOne, IsReopened, OpensHeld, ReopensLeft, steps_from, IsReadingRefusal}
+use Rattle.recovery.specs.Reopenings.{AreOpenedAt, AreOpenedAtOne, IsNotMigrated, IsOfReading, IsReadingRefusal}
+use Rattle.recovery.specs.Reopenings.{IsReopened, OpensHeld, ReopensLeft, steps_from}
 
 records_of_each : (records : List Record) → records_of (map (λ entry. entry ∷ []) records) ≡ records
 records_of_each [] = refl
 records_of_each (entry ∷ records) = ap (λ rest. entry ∷ rest) (records_of_each records)
 
 -- what was adopted, and the desk of what the vault holds
-pub is_reopened : {S : Type 0} (g : Ghosts S) (db : Database) (vault : VaultValue S) (desk : DeskValue) (new : VaultValue S) → IsAdopted g db vault → OpensHeld g vault desk new → IsReopened g db desk new
+pub is_reopened : {S : Type 0} (g : Ghosts S) (db : Database) (vault : VaultValue S) (desk : DeskValue) (new : VaultValue S) → IsMigrated g db vault → OpensHeld g vault desk new → IsReopened g db desk new
 is_reopened g db vault desk new adopted opens = record { rows = adopted.rows; sound = adopted.stand; stands = stands; each = each }
   where
-    each : (history : History) → IsLegal (records_of history) → IsTables db (rows_of (records_of history)) → AreOpenedAt g desk new history
-    each history legal tables = opens history (adopted.holds (records_of history) legal tables).0
+    each : (history : History) → IsLegal (records_of history) → HaveRows db (rows_of (records_of history))
+        → AreOpenedAt g desk new history
+    each history legal have = opens history (adopted.holds (records_of history) legal have).0
+
+    of_rows : AreKeyed adopted.rows → IsTrue (are_sound adopted.rows) → HaveRows db adopted.rows
+        → AreOpenedAt g desk new (steps_from adopted.rows)
+    of_rows keyed sound have =
+        let law = of_a_history adopted.rows keyed sound in
+        let same : history_from adopted.rows ≡ records_of (steps_from adopted.rows) = sym (records_of_each (history_from adopted.rows)) in
+        each (steps_from adopted.rows) (subst IsLegal same law.0)
+        (subst (λ (records : List Record). HaveRows db (rows_of records)) same
+        (subst (HaveRows db) (sym law.1) have))
 
     stands : AreOpenedAt g desk new (steps_from adopted.rows)
-    stands =
-        let law = of_a_history adopted.rows adopted.stand.keyed adopted.stand.sound in
-        let same : history_from adopted.rows ≡ records_of (steps_from adopted.rows) = sym (records_of_each (history_from adopted.rows)) in
-        each (steps_from adopted.rows) (subst IsLegal same law.0) (subst (λ (records : List Record). IsTables db (rows_of records)) same (subst (IsTables db) (sym law.1) adopted.stand.tables))
+    stands = elim adopted.stand [
+      | inl second ↦ of_rows second.keyed second.sound (inl second.tables)
+      | inr first ↦ of_rows first.keyed first.sound (inr first.tables)
+    ]
 
 records_of_both : (xs ys : History) → records_of (xs ++ ys) ≡ records_of xs ++ records_of ys
 records_of_both [] ys = refl
@@ -65,9 +80,11 @@ opens_one g desk vault w legal rows left opened = at w.left left
     at (steps ∷ others) (inl is) = inl (opened (take steps w.history) (legal_first steps w.history legal) is)
     at (steps ∷ others) (inr of) = inr (at others of)
 
-pub reopens_left : {S : Type 0} (g : Ghosts S) (conn : Held S) (desk : DeskValue) (vault : VaultValue S) → ((state g conn).now.schema ≡ relay_schema → IsReopened g (state g conn).now desk vault) → ReopensLeft g conn desk vault
+pub reopens_left : {S : Type 0} (g : Ghosts S) (conn : Held S) (desk : DeskValue) (vault : VaultValue S)
+    → (IsOwn (state g conn).now.schema → IsReopened g (state g conn).now desk vault) → ReopensLeft g conn desk vault
 reopens_left g conn desk vault opened w legal (rows, left, stands) =
-    opens_one g desk vault w legal rows left (λ history of is. (opened stands.now.schema_is).each history of (subst (IsTables (state g conn).now) is stands.now))
+    opens_one g desk vault w legal rows left (λ history of is. (opened (inr stands.now.schema_is)).each history of
+    (inl (subst (IsTables (state g conn).now) is stands.now)))
 
 -- What is known of an answer or of a refusal, with what a clause on both says of it
 
@@ -86,10 +103,16 @@ module _ {A E : Type 0} (P R U : A → Type 0) (Q M V : E → Type 0) where
   of_both (Ok x) answers refuses p r = answers x p r
   of_both (Err e) answers refuses q m = refuses e q m
 
--- One read behind another
+-- what is said of a refusal, beside what is said of it and of an answer
+module _ {A E : Type 0} (P : A → Type 0) (C Q : E → Type 0) where
+  pub with_cause : (r : Result A E) → IfErr r C → MatchResult r P Q → MatchResult r P (λ e. C e × Q e)
+  with_cause (Ok x) cause p = p
+  with_cause (Err e) cause q = (cause, q)
 
-pub only_read_then : (a b c : State) → IsOnlyRead a b → IsOnlyRead b c → IsOnlyRead a c
-only_read_then a b c first second = record {
+-- A read behind a migration
+
+pub migrated_then : (a b c : State) → MayMigrate a b → IsOnlyRead b c → MayMigrate a c
+migrated_then a b c first second = record {
   stays = λ is_open.
       let later = second.stays is_open in
       let before = first.stays later.0 in
@@ -97,20 +120,23 @@ only_read_then a b c first second = record {
   leaves = λ db may. first.leaves db (second.leaves db may);
 }
 
-pub leaves_read_then : (a b c : State) (fault : OpenFault) → IsOnlyRead a b → LeavesRead b c fault → LeavesRead a c fault
-leaves_read_then a b c NotOurs first (second, is_open) = (only_read_then a b c first second, is_open)
-leaves_read_then a b c NewerVersion first (second, is_open) = (only_read_then a b c first second, is_open)
-leaves_read_then a b c Damaged first (second, is_open) = (only_read_then a b c first second, is_open)
-leaves_read_then a b c (Store cause) first second = only_read_then a b c first second
-leaves_read_then a b c OutOfMemory first second = only_read_then a b c first second
+pub leaves_then : (a b c : State) (fault : OpenFault) → IsOfReading fault → MayMigrate a b → LeavesRead b c fault
+    → LeavesMigrated a c fault
+leaves_then a b c NotOurs none first second = absurd none
+leaves_then a b c NewerVersion none first second = absurd none
+leaves_then a b c OldVersion none first second = absurd none
+leaves_then a b c Damaged none first second = absurd none
+leaves_then a b c (Store cause) reading first second = migrated_then a b c first second
+leaves_then a b c OutOfMemory reading first second = migrated_then a b c first second
 
 -- Why a store of a legal history isn't opened
 
 pub of_reading : (a b : State) (fault : OpenFault) → IsOfStore a b fault → IsReadingRefusal a b fault
 of_reading a b NotOurs none = none
 of_reading a b NewerVersion none = none
+of_reading a b OldVersion none = none
 of_reading a b Damaged none = none
-of_reading a b (Store cause) h = h.1
+of_reading a b (Store cause) h = was_refusal a b cause h.1
 of_reading a b OutOfMemory h = tt
 
 pub unloaded : (a b : State) (fault : LoadFault) (told : OpenFault) → told ≡ unloaded_fault fault → (fault ≡ load.Closed → ⊥)
@@ -126,19 +152,32 @@ seen_open P (load.Store error) told same memory seen = absurd (let no : Store er
 seen_open P load.OutOfMemory told same memory seen = seen tt
 
 -- behind a read that left the store open
-module _ (a m b : State) (early : Survives a m (λ _. ⊥)) (is_open : IsTrue m.is_open) where
-  refusal_since : (error : Error) → IsRefusal m b error → IsRefusal a b error
-  refusal_since error (inl memory) = inl memory
-  refusal_since error (inr (inl (why, told, inl failed))) = inr (inl (why, told, inl (omega (arith, failed, early.counts))))
-  refusal_since error (inr (inl (why, told, inr shut))) = absurd (let yes = is_open in let no = shut in cc)
-  refusal_since error (inr (inr stopped)) = inr (inr (stopped.0, subst IsSome early.limit stopped.1))
-
+module _ {P : Trees → Type 0} (a m b : State) (early : Survives a m P) (is_open : IsTrue m.is_open) where
   pub reading_since : (fault : OpenFault) → IsReadingRefusal m b fault → IsReadingRefusal a b fault
   reading_since NotOurs none = none
   reading_since NewerVersion none = none
+  reading_since OldVersion none = none
   reading_since Damaged none = none
-  reading_since (Store error) refusal = refusal_since error refusal
+  reading_since (Store error) refusal = was_since a m b early is_open error refusal
   reading_since OutOfMemory h = tt
+
+-- of tables of version 1, a refusal is that of a reading or of the migration
+pub not_migrated : (a b : State) (fault : OpenFault) → IsReadingRefusal a b fault → IsNotMigrated a b fault
+not_migrated a b NotOurs none = none
+not_migrated a b NewerVersion none = none
+not_migrated a b OldVersion none = none
+not_migrated a b Damaged none = none
+not_migrated a b (Store error) refusal = inl refusal
+not_migrated a b OutOfMemory h = tt
+
+pub of_migrating : (a b : State) (fault : OpenFault) → IsUnmade a b fault → IsNotMigrated a b fault
+of_migrating a b NotOurs none = none
+of_migrating a b NewerVersion none = none
+of_migrating a b OldVersion none = none
+of_migrating a b Damaged none = none
+of_migrating a b (Store error) (inl refusal) = inl (was_refusal a b error refusal)
+of_migrating a b (Store error) (inr before) = inr before
+of_migrating a b OutOfMemory h = tt
 
 -- what is so of each refusal
 pub each_refusal : {A E : Type 0} (P : E → Type 0) (r : Result A E) → ((e : E) → P e) → IfErr r P

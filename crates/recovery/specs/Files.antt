@@ -12,31 +12,40 @@ use Rattle.sqlite_store.specs.declared.store.FileStore.{FileStore}
 use Rattle.relay_types.specs.Records.{History, records_of}
 use Rattle.relay_types.specs.Legal.{IsLegal}
 use Rattle.relay_types.specs.Rows.{Rows, rows_of}
-use Rattle.spool_sql.specs.Stored.{AreTablesOf}
-use Rattle.spool_sql.specs.Tables.{no_schema, relay_schema}
-use Rattle.sound_tables.specs.Keys.{has_tables}
+use Rattle.spool_sql.specs.Stored.{AreFirstTablesOf, AreTablesOf}
+use Rattle.spool_sql.specs.Tables.{IsOwn, no_schema}
+use Rattle.sound_tables.specs.Keys.{has_first_tables}
 use Rattle.spool.specs.Vaults.{VaultValue}
 use Rattle.spool.specs.declared.ends.OpenFault.{OpenFault}
 use Rattle.desk.specs.World.{World, all_records}
 use Rattle.desk.specs.Desks.{DeskValue}
 use Rattle.recovery.specs.Left.{AreLeft, IsCleanAt}
 use Rattle.recovery.specs.Paths.{IsOfLook, IsUnconnected}
-use Rattle.recovery.specs.Reopenings.{AreOpenedAt, AreOpenedAtOne, IsOfReading, IsReadingRefusal, IsReopened, IsUnopened}
+use Rattle.recovery.specs.Reopenings.{AreOpenedAt, AreOpenedAtOne, IsNotMigrated, IsOfReading, IsReadingRefusal}
+use Rattle.recovery.specs.Reopenings.{IsReopened, IsUnopened}
 
 -- the file and its log hold the relay's tables of these rows
 abbrev pub HoldsRows : Image → Rows → Type 0
 HoldsRows image rows = (db : Trees) × HoldsDatabase image db × AreTablesOf db rows
 
+-- they hold those of version 1
+abbrev pub HoldsFirstRows : Image → Rows → Type 0
+HoldsFirstRows image rows = (db : Trees) × HoldsDatabase image db × AreFirstTablesOf db rows
+
+-- they hold those of either version
+abbrev pub HoldsEither : Image → Rows → Type 0
+HoldsEither image rows = HoldsRows image rows ⊎ HoldsFirstRows image rows
+
 -- they hold what a stop may leave of the world
 abbrev pub HoldsLeftOf : Image → World → Type 0
 HoldsLeftOf image w = (rows : Rows) × AreLeft w rows × HoldsRows image rows
 
--- Where there was no table, desk and vault stand for the opening of the empty history. Otherwise the five stood with their keys, and where
--- the schema was the relay's, they stand for that of their rows.
+-- Where there was no table, desk and vault stand for the opening of the empty history. Otherwise the five of version 1
+-- stood with their keys, and where the schema was the relay's, of either version, they stand for that of their rows.
 abbrev pub IsMadeOrReopened : {S : Type 0} → Ghosts S → Database → DeskValue → VaultValue S → Type 0
 IsMadeOrReopened g db desk vault =
     ((db.schema ≡ no_schema) × AreOpenedAt g desk vault [])
-    ⊎ (IsTrue (has_tables db.schema) × (db.schema ≡ relay_schema → IsReopened g db desk vault))
+    ⊎ (IsTrue (has_first_tables db.schema) × (IsOwn db.schema → IsReopened g db desk vault))
 
 -- the same of what a connection found
 abbrev pub IsFoundOpened : {S : Type 0} → Ghosts S → Held S → DeskValue → VaultValue S → Type 0
@@ -49,23 +58,28 @@ pub record IsFileOpened {S : Type 0} (g : Ghosts S) (image : Image) (desk : Desk
   pub finds : AreFoundIn image found.trees
   pub opens : IsMadeOrReopened g found desk vault
   -- Of a legal history whose rows they held, desk and vault stand for the opening.
-  pub each : (history : History) → IsLegal (records_of history) → HoldsRows image (rows_of (records_of history))
+  pub each : (history : History) → IsLegal (records_of history) → HoldsEither image (rows_of (records_of history))
       → AreOpenedAt g desk vault history
-  -- Of what a stop left of a world, they stand for the opening of its first steps, for one of the numbers that the world says.
+  -- Of what a stop left of a world, they stand for the opening of its first steps, for one of the numbers that the
+  -- world says.
   pub left : (w : World) → IsLegal (all_records w) → HoldsLeftOf image w → AreOpenedAtOne g desk vault w w.left
 
 -- What a refusal says of what a file and its log held, by the connection as it found this and as it is since.
 pub record IsFileRefused (image : Image) (is_new : Bool) (old new : State) (fault : OpenFault) : Type 0 where
   -- what was found is what the file and its log held
   pub finds : AreFoundIn image old.now.trees
-  pub says : old.now.schema ≡ relay_schema → IsUnopened old new fault
+  pub says : IsOwn old.now.schema → IsUnopened old new fault
   -- A new file without tables is refused only for memory or by the store.
   pub made : IsTrue is_new → old.now.schema ≡ no_schema → IsOfReading fault
   -- Of a legal history whose rows they held, memory was refused or the store failed.
   pub sound : (history : History) → IsLegal (records_of history) → HoldsRows image (rows_of (records_of history))
       → IsReadingRefusal old new fault
+  -- Of one whose rows those of version 1 had, the same, or nothing was written.
+  pub first : (history : History) → IsLegal (records_of history)
+      → HoldsFirstRows image (rows_of (records_of history)) → IsNotMigrated old new fault
 
--- Why a file isn't opened: there is no connection, or one found what it held, which says so much while its disk returns what was written.
+-- Why a file isn't opened: there is no connection, or one found what it held, which says so much while its disk returns
+-- what was written.
 abbrev pub IsFileUnopened : {D : Type 0} → disk.Ghosts D → Image → Bool → OpenFault → Type 0
 IsFileUnopened {D} g image is_new fault =
     IsUnconnected g image fault
@@ -75,6 +89,7 @@ IsFileUnopened {D} g image is_new fault =
 abbrev pub OpensOr : {D : Type 0} {g : disk.Ghosts D} → Image → Bool → Result (DeskValue × VaultValue (FileStore D g)) OpenFault → Type 0
 OpensOr {D} {g} image is_new result = IfErr result (IsFileUnopened g image is_new)
 
--- The file at a path is opened, or this is why it isn't: the look at the path gave no file that may be a database, or as above.
+-- The file at a path is opened, or this is why it isn't: the look at the path gave no file that may be a database, or
+-- as above.
 abbrev pub OpensPathOr : {D : Type 0} {g : disk.Ghosts D} → Image → Result (DeskValue × VaultValue (FileStore D g)) OpenFault → Type 0
 OpensPathOr {D} {g} image result = IfErr result (λ fault. IsOfLook fault ⊎ ((is_new : Bool) × IsFileUnopened g image is_new fault))

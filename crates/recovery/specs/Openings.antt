@@ -6,13 +6,15 @@ use Rattle.sqlite.specs.Schema.{Schema}
 use Rattle.spool_sql.specs.Steps.{IfClean}
 use Rattle.spool.specs.Opening.{has_ours, LeavesAt}
 use Rattle.spool.specs.declared.ends.OpenFault.{OpenFault}
-use Rattle.spool.specs.declared.ends.OpenFault.TheVariants.{NotOurs, NewerVersion, Damaged, Store, OutOfMemory}
+use Rattle.spool.specs.declared.ends.OpenFault.TheVariants.{NotOurs, NewerVersion, OldVersion, Damaged, Store}
+use Rattle.spool.specs.declared.ends.OpenFault.TheVariants.{OutOfMemory}
 
 -- Why a store without tables wasn't opened. A table of ours is told as such, or memory was refused before the look at the store.
 abbrev pub IsRefusedAs : Schema → OpenFault → Type 0
 IsRefusedAs schema NotOurs = IsTrue (has_ours schema)
 IsRefusedAs schema NewerVersion = ⊥
 IsRefusedAs schema Damaged = ⊥
+IsRefusedAs schema OldVersion = ⊥
 IsRefusedAs schema OutOfMemory = Unit {0}
 IsRefusedAs schema (Store cause) = has_ours schema ≡ false
 

@@ -7,14 +7,15 @@ ghost use Rattle.sqlite.specs.Opening.{is_open_error};
 ghost use Rattle.sqlite.specs.Start.{FindsIn};
 ghost use Rattle.sqlite.specs.WalFiles.{image_at};
 ghost use Rattle.spool_sql.specs.Steps.{IfClean};
-ghost use Rattle.spool_sql.specs.Tables.{no_schema, relay_schema};
-ghost use Rattle.spool.specs.Adopting.{HaveHistory, IsOnlyRead};
+ghost use Rattle.spool_sql.specs.Tables.{IsOwn, no_schema};
+ghost use Rattle.spool.specs.Adopting.{HaveFirstHistory, HaveHistory};
+ghost use Rattle.spool.specs.Migrating.{MayMigrate};
 ghost use Rattle.desk.specs.Desks.{HasNothingOut};
 ghost use Rattle.recovery.specs.Files.{IsFileOpened, IsFoundOpened, OpensOr, OpensPathOr};
 ghost use Rattle.recovery.specs.Left.{IsCleanAt};
 ghost use Rattle.recovery.specs.Openings.{LeavesOr};
 ghost use Rattle.recovery.specs.Paths.{ConnectsOr, IsOfLook, IsOfOpen, IsOfPath, IsToldUnfit, unopened_fault};
-ghost use Rattle.recovery.specs.Reopenings.{IsOfReading, IsOfRows, IsReadingRefusal, IsUnopened};
+ghost use Rattle.recovery.specs.Reopenings.{IsNotMigrated, IsOfReading, IsOfRows, IsReadingRefusal, IsUnopened};
 
 use crate::opening::create;
 use crate::reopening::reopen;
@@ -39,20 +40,21 @@ const OWNER_ALONE: u32 = 0o600;
 
 const CANNOT_OPEN: OpenFault = OpenFault::Store(Error::SqliteFailure(ErrorCode::CannotOpen));
 
-/// Whether nothing stands at the path, or an empty file. A file that is too short to be a database is `NotOurs`; a log beside no file
-/// can't be opened.
+/// Whether there is no file at the path, or an empty one. A file that is too short to be a database is `NotOurs`. A log
+/// without its file can't be opened.
 pub fn is_new_file(rt: &HostRuntime, path: &str) -> Result<bool, OpenFault>
     ensures fault { IfErr result IsOfLook }
 {
     is_new_at(length_of(rt, path)?)
 }
 
-/// The desk and the vault of the file at the path. Where nothing stands there, or an empty file, a store of the empty history is
-/// made; every other file is opened as by `reopen`, and isn't written. `start` stands for what the file and its log hold.
+/// Opens the file at the path, and returns its desk and its vault. If there is no file, or an empty one, it makes a store
+/// of the empty history. It opens every other file as `reopen` does, and writes it only if its tables are of version 1.
+/// `start` represents what the file and its log hold.
 ///
-/// A file that no SQLite wrote is `NotOurs`, and so is one without the relay's tables, also where a stop left it so as it was made:
-/// such a file is deleted by hand. What can't be opened is `Store` with its cause, `DatabaseBusy` where another program has the file open;
-/// so is a log beside no file. SQLite's log may be made beside the file.
+/// A file that no SQLite wrote is `NotOurs`, and so is one without the relay's tables. A crash may leave such a file while
+/// it is made: delete it by hand. A file that can't be opened is `Store` with its cause: `DatabaseBusy` if another program
+/// has it open, `CannotOpen` for a log without its file. SQLite may make its log beside the file.
 pub fn open_path<L: Ledger, T: Start>(
     rt: &HostRuntime,
     blank: Blank,
@@ -122,9 +124,9 @@ pub fn connect<T: Start>(
     }
 }
 
-/// The desk and the vault of what was found: a new store without any table becomes the relay's, as by `create`, and every other is
-/// opened as by `reopen`. Each refusal gives the connection back. The caller sees by `is_autocommit` that the connection is outside
-/// a transaction.
+/// Opens what was found, and returns its desk and its vault. A new store without any table becomes the relay's, as by
+/// `create`; every other is opened as by `reopen`. Each refusal gives the connection back. `is_autocommit` tests that the
+/// connection is outside a transaction.
 pub fn open<L: Ledger, S: Alter>(
     alloc: Global,
     blank: Blank,
@@ -141,13 +143,15 @@ pub fn open<L: Ledger, S: Alter>(
     ensures opened { IfOk result (λ opening. IsCleanAt S.Store opening.1.conn
         → IsFoundOpened S.Store conn opening.0 opening.1) }
     ensures refused { IfErr result (λ back. IfClean S.Store conn back.0
-        (λ a b. a.now.schema ≡ relay_schema → IsUnopened a b back.1)) }
+        (λ a b. IsOwn a.now.schema → IsUnopened a b back.1)) }
     ensures sound { IfErr result (λ back. IfClean S.Store conn back.0
         (λ a b. HaveHistory a.now → IsReadingRefusal a b back.1)) }
+    ensures first { IfErr result (λ back. IfClean S.Store conn back.0
+        (λ a b. HaveFirstHistory a.now → IsNotMigrated a b back.1)) }
     ensures made { IsTrue is_new → (state S.Store conn).now.schema ≡ no_schema
         → IfErr result (λ back. IsOfReading back.1 × LeavesOr S.Store conn back.0 back.1) }
-    ensures read { is_new ≡ false → MatchResult result (λ opening. IfClean S.Store conn opening.1.conn IsOnlyRead)
-        (λ back. IfClean S.Store conn back.0 IsOnlyRead) }
+    ensures left { is_new ≡ false → MatchResult result (λ opening. IfClean S.Store conn opening.1.conn MayMigrate)
+        (λ back. IfClean S.Store conn back.0 MayMigrate) }
     ensures clean { MatchResult result
         (λ opening. IsCleanAt S.Store opening.1.conn → IsCleanAt S.Store conn)
         (λ back. IsCleanAt S.Store back.0 → IsCleanAt S.Store conn) }

@@ -1,5 +1,5 @@
 -- What `relayd check` writes, by how it ends.
-use Rattle.std.specs.Prelude.{◌≡◌, ◌⊎◌, ℕ, List, [], ◌∷◌, Option, Some, None, Result, Ok, Err, IsTrue, codes, decimal}
+use Rattle.std.specs.Prelude.{◌≡◌, ◌≤◌, ◌⊎◌, ℕ, List, [], ◌∷◌, Option, Some, None, Result, Ok, Err, IsTrue, codes, decimal}
 use Rattle.std.specs.Io.KnownBytes.{Appends, Keeps}
 use Rattle.sqlite.specs.Store.{Ghosts}
 use Rattle.sqlite.specs.Effect.{Database}
@@ -12,18 +12,18 @@ use Rattle.relay_types.specs.Records.{History, records_of}
 use Rattle.relay_types.specs.Legal.{IsLegal}
 use Rattle.relay_types.specs.Rows.{Rows, rows_of}
 use Rattle.spool_sql.specs.Steps.{IfClean}
-use Rattle.spool_sql.specs.Stored.{IsTables}
-use Rattle.spool_sql.specs.Tables.{no_schema, relay_schema}
-use Rattle.sound_tables.specs.Checks.{AreSoundTables, IsRefusedAt}
+use Rattle.spool_sql.specs.Tables.{IsOwn, no_schema}
+use Rattle.sound_tables.specs.Checks.{HasNoVersionBut, HasVersion, IsRefusedAt}
 use Rattle.sound_tables.specs.declared.fault.TableFault.TheVariants as table
-use Rattle.sound_tables.specs.Keys.{has_tables}
+use Rattle.sound_tables.specs.Keys.{has_first_tables}
+use Rattle.spool.specs.Migrating.{AreSoundRows, HaveRows, has_topics}
 use Rattle.spool.specs.declared.ends.OpenFault.{OpenFault}
-use Rattle.spool.specs.declared.ends.OpenFault.TheVariants.{NotOurs, NewerVersion, Damaged, Store}
+use Rattle.spool.specs.declared.ends.OpenFault.TheVariants.{NotOurs, NewerVersion, OldVersion, Damaged, Store}
 use Rattle.spool.specs.declared.ends.OpenFault.TheVariants as opening
 use Rattle.desk.specs.World.{settled_records}
 use Rattle.desk.specs.Looks.{totals}
 use Rattle.desk.specs.declared.pages.Totals.{Totals}
-use Rattle.recovery.specs.Files.{HoldsRows}
+use Rattle.recovery.specs.Files.{HoldsEither}
 use Rattle.recovery.specs.Left.{IsCleanAt}
 use Rattle.recovery.specs.Paths.{IsOfLook, IsUnconnected}
 use Rattle.recovery.specs.Reopenings.{IsUnopened, opening_of, steps_from}
@@ -42,38 +42,42 @@ counts_text t = line
 abbrev pub counts_line : Totals → List ℕ
 counts_line t = with_feed (counts_text t)
 
--- The tables have sound rows, and these are the totals of the opening of their history, and of each legal history that has these rows.
+-- The tables, of either version, have sound rows, and these are the totals of the opening of their history, and of each
+-- legal history that has these rows.
 pub record AreTotalsOf (db : Database) (t : Totals) : Type 0 where
   pub rows : Rows
-  pub sound : AreSoundTables db rows
+  pub sound : AreSoundRows db rows
   pub counts : t ≡ totals (settled_records (opening_of (steps_from rows)))
-  pub each : (history : History) → IsLegal (records_of history) → IsTables db (rows_of (records_of history))
+  pub each : (history : History) → IsLegal (records_of history) → HaveRows db (rows_of (records_of history))
       → t ≡ totals (settled_records (opening_of history))
 
--- Where there was no table, they are the totals of no record. Otherwise the five stood with their keys, and where the schema was the
--- relay's, they are those of their history.
+-- Where there was no table, they are the totals of no record. Otherwise the five of version 1 stood with their keys, and
+-- where the schema was the relay's, of either version, they are those of their history.
 abbrev pub AreTotalsFound : Database → Totals → Type 0
 AreTotalsFound db t =
-    ((db.schema ≡ no_schema) × (t ≡ totals [])) ⊎ (IsTrue (has_tables db.schema) × (db.schema ≡ relay_schema → AreTotalsOf db t))
+    ((db.schema ≡ no_schema) × (t ≡ totals []))
+    ⊎ (IsTrue (has_first_tables db.schema) × (IsOwn db.schema → AreTotalsOf db t))
 
 -- What was counted of a store: its totals, or why it wasn't opened, which is said of the relay's schema.
 abbrev pub IsCounted : {S : Type 0} → Ghosts S → (old new : Held S) → Result Totals OpenFault → Type 0
 IsCounted g old new (Ok t) = IfClean g old new (λ a b. AreTotalsFound a.now t)
-IsCounted g old new (Err why) = IfClean g old new (λ a b. a.now.schema ≡ relay_schema → IsUnopened a b why)
+IsCounted g old new (Err why) = IfClean g old new (λ a b. IsOwn a.now.schema → IsUnopened a b why)
 
 -- They are the totals of what a file and its log held, and of each legal history whose rows these were.
 pub record AreTotalsIn (image : Image) (t : Totals) : Type 0 where
   pub found : Database
   pub finds : AreFoundIn image found.trees
   pub counts : AreTotalsFound found t
-  pub each : (history : History) → IsLegal (records_of history) → HoldsRows image (rows_of (records_of history))
+  pub each : (history : History) → IsLegal (records_of history) → HoldsEither image (rows_of (records_of history))
       → t ≡ totals (settled_records (opening_of history))
 
 -- what a refusal says of the tables
 abbrev pub SaysOf : Database → OpenFault → Type 0
-SaysOf db NotOurs = IsRefusedAt db table.NotOurs
+SaysOf db NotOurs =
+    IsRefusedAt db table.NotOurs ⊎ (HasVersion db (λ version. version ≡ 1) × IsTrue (has_topics db.schema))
 SaysOf db NewerVersion = IsRefusedAt db table.NewerVersion
-SaysOf db Damaged = IsRefusedAt db table.Damaged
+SaysOf db OldVersion = ⊥
+SaysOf db Damaged = HasNoVersionBut db (λ version. version ≤ 2) × ((rows : Rows) → ¬ AreSoundRows db rows)
 SaysOf db (Store error) = Unit {0}
 SaysOf db opening.OutOfMemory = Unit {0}
 
@@ -81,7 +85,7 @@ SaysOf db opening.OutOfMemory = Unit {0}
 pub record IsRefusedIn (image : Image) (why : OpenFault) : Type 0 where
   pub found : Database
   pub finds : AreFoundIn image found.trees
-  pub says : found.schema ≡ relay_schema → SaysOf found why
+  pub says : IsOwn found.schema → SaysOf found why
 
 -- What was counted of the file that held so much, where it was opened, and while its disk returns what was written. Otherwise why it wasn't:
 -- the look at the path gave no file, or there is no connection to it.

@@ -17,7 +17,7 @@ use Rattle.text_lines.specs.Streams.{AppendsFront, with_feed}
 use Rattle.relay_commands.specs.declared.ends.CommandFault.{CommandFault}
 use Rattle.relay_commands.specs.declared.ends.CommandFault.TheVariants.{Argument, Ended, File, Store}
 use Rattle.relay_commands.specs.declared.ends.FileFault.{FileFault}
-use Rattle.relay_commands.specs.declared.ends.FileFault.TheVariants.{NotOurs, NewerVersion, Damaged}
+use Rattle.relay_commands.specs.declared.ends.FileFault.TheVariants.{NotOurs, NewerVersion, OldVersion, Damaged}
 use Rattle.relay_commands.specs.declared.ends.StoreFault.{StoreFault}
 use Rattle.relay_commands.specs.declared.ends.StoreFault.TheVariants as of
 
@@ -38,6 +38,7 @@ store_fault other = Ended command.Lost
 abbrev pub open_fault : OpenFault → CommandFault
 open_fault opening.NotOurs = File NotOurs
 open_fault opening.NewerVersion = File NewerVersion
+open_fault opening.OldVersion = File OldVersion
 open_fault opening.Damaged = File Damaged
 open_fault (opening.Store error) = store_fault error
 open_fault opening.OutOfMemory = Ended command.OutOfMemory
@@ -54,6 +55,7 @@ exit_status (Err (Store fault)) = 3
 abbrev pub file_fault_name : FileFault → List ℕ
 file_fault_name NotOurs = codes "NotOurs"
 file_fault_name NewerVersion = codes "NewerVersion"
+file_fault_name OldVersion = codes "OldVersion"
 file_fault_name Damaged = codes "Damaged"
 
 abbrev pub store_fault_name : StoreFault → List ℕ

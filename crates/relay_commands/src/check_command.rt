@@ -3,7 +3,7 @@ ghost use Rattle.std.specs.Prelude.{◌≡◌, false, Some};
 ghost use Rattle.permits.specs.declared.pool.TheConstants.{PARTS};
 ghost use Rattle.sqlite.specs.WalFiles.{image_at};
 ghost use Rattle.spool_sql.specs.Steps.{IfClean};
-ghost use Rattle.spool.specs.Adopting.{IsOnlyRead};
+ghost use Rattle.spool.specs.Migrating.{MayMigrate};
 ghost use Rattle.recovery.specs.Left.{IsCleanAt};
 ghost use Rattle.relay_commands.specs.Checks.{IsCounted, ChecksSo, ChecksTo, ChecksFileTo, counts_text};
 
@@ -43,9 +43,10 @@ impl fmt::Display for Checked {
     }
 }
 
-/// Where nothing stands at the path, or an empty file, a store of the empty history is made; every other file isn't written, but SQLite's
-/// log may be made beside it. Opens the store in the file and writes how many records, endpoints and pending events it holds: 0 done, 4 the
-/// relay doesn't take the file, 3 every other fault. `start` stands for what the file and its log hold. The connection comes back where the
+/// If there is no file at the path, or an empty one, it makes a store of the empty history, and tables of version 1
+/// become those of version 2. Nothing else is written, except that SQLite may make its log beside the file. Opens the store in
+/// the file and writes how many records, endpoints and pending events it holds: 0 done, 4 the relay doesn't take the
+/// file, 3 every other fault. `start` stands for what the file and its log hold. The connection comes back where the
 /// file was opened.
 pub fn check_file<T: Start, O: Write, E: Write>(
     rt: &HostRuntime,
@@ -82,7 +83,7 @@ pub fn check_store<S: Alter, O: Write, E: Write>(
     requires mode { conn.in_transaction ≡ false }
     ensures checks { ChecksTo S.Store conn result.0 (O.contents output.old) (O.contents output.new)
         (E.contents errors.old) (E.contents errors.new) result.1 }
-    ensures read { is_new ≡ false → IfClean S.Store conn result.0 IsOnlyRead }
+    ensures left { is_new ≡ false → IfClean S.Store conn result.0 MayMigrate }
     ensures clean { IsCleanAt S.Store result.0 → IsCleanAt S.Store conn }
     ensures outside { result.0.in_transaction ≡ false }
 {
@@ -102,7 +103,7 @@ fn count<L: Ledger, S: Alter>(
     requires enough { blank.parts ≡ PARTS }
     requires mode { conn.in_transaction ≡ false }
     ensures counted { IsCounted S.Store conn result.0 result.1 }
-    ensures read { is_new ≡ false → IfClean S.Store conn result.0 IsOnlyRead }
+    ensures left { is_new ≡ false → IfClean S.Store conn result.0 MayMigrate }
     ensures clean { IsCleanAt S.Store result.0 → IsCleanAt S.Store conn }
     ensures outside { result.0.in_transaction ≡ false }
 {

@@ -54,7 +54,8 @@ const REPLAY_HELP: &str =
 A bad line ends the script with status 2. The replies before it are printed.";
 
 const CHECK_HELP: &str =
-    "Creates a store if the file is missing or empty. Any other file is only read.
+    "Creates a store if the file is missing or empty. Converts a store of version 1 to version 2, which older
+relays refuse; there is no way back. Any other file is only read.
 Prints `ok records N endpoints E pending P`.
 Status 4 with NotOurs, NewerVersion or Damaged: the relay doesn't accept the file. Status 3 with Busy:
 another program has it open; with CannotOpen, Corrupt, Full or Lost: the file or the disk failed.";

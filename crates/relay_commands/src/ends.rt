@@ -35,6 +35,8 @@ pub enum FileFault {
     NotOurs,
     /// Its tables are of a later version.
     NewerVersion,
+    /// Its tables are of an older version. Every opening migrates them, so no command reports it.
+    OldVersion,
     /// Its tables are the relay's, and their rows aren't such as a legal history has.
     Damaged,
 }
@@ -59,6 +61,7 @@ impl fmt::Display for FileFault {
         match self {
             FileFault::NotOurs => f.write_str("NotOurs"),
             FileFault::NewerVersion => f.write_str("NewerVersion"),
+            FileFault::OldVersion => f.write_str("OldVersion"),
             FileFault::Damaged => f.write_str("Damaged"),
         }
     }
@@ -152,6 +155,7 @@ impl From<OpenFault> for CommandFault {
         match fault {
             OpenFault::NotOurs => CommandFault::File(FileFault::NotOurs),
             OpenFault::NewerVersion => CommandFault::File(FileFault::NewerVersion),
+            OpenFault::OldVersion => CommandFault::File(FileFault::OldVersion),
             OpenFault::Damaged => CommandFault::File(FileFault::Damaged),
             OpenFault::Store(error) => store_fault(error),
             OpenFault::OutOfMemory => CommandFault::Ended(StreamFault::OutOfMemory),

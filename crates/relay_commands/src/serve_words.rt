@@ -9,7 +9,8 @@ use std::alloc::{AllocError, Global};
 
 const SERVE_HELP: &str =
     "Prints `listening on ADDRESS` once it accepts requests. Standard error reports when it started, each endpoint that a 410
-disabled, each event that was given up, and why the relay ended. A store is created if the file is missing or empty.
+disabled, each event that was given up, and why the relay ended. A store is created if the file is missing or empty,
+and one of version 1 is converted to version 2, which older relays refuse.
 Status 3 means that the relay halted, couldn't listen at ADDRESS, or that another relay has the file open.";
 
 /// What `relayd serve` is asked for.

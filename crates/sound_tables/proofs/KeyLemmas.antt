@@ -1,5 +1,6 @@
 -- What the keys of the schema say of the rows that the tables have.
-use Rattle.std.proofs.Common.{◌≡◌, ◌==◌, ◌&&◌, ◌||◌, ℕ, pos, List, [], ◌∷◌, map, drop, codes, flat_map, bytes_eq, Bool, true, false, not, Option, Some, IsTrue, is_eq, refl, sym, ap, ap₂, subst, ◌∙◌, arith}
+use Rattle.std.proofs.Common.{◌≡◌, ◌==◌, ◌&&◌, ◌||◌, ℕ, pos, List, [], ◌∷◌, map, drop, flat_map, bytes_eq, Bool, true}
+use Rattle.std.proofs.Common.{false, not, Some, IsTrue, is_eq, refl, sym, ap, ap₂, ◌∙◌, arith}
 use Rattle.std.specs.List.{AllByRecursion, list_any, list_all}
 use Rattle.std.specs.List.Sorted.{IsPermutation}
 use Rattle.std.specs.Ordering.{is_ne}
@@ -10,22 +11,22 @@ use Rattle.sqlite.specs.Order.{Row}
 use Rattle.sqlite.specs.Collation.TheVariants.{Binary}
 use Rattle.sqlite.specs.declared.types.Value.{Value}
 use Rattle.sqlite.specs.declared.types.Value.TheVariants.{Int, Text as Words}
-use Rattle.sqlite_value.specs.Keys.{first_key, joined, plain}
+use Rattle.sqlite_value.specs.Keys.{first_key, plain}
 use Rattle.sqlite_value.specs.Order.{column}
 use Rattle.sqlite_value.proofs.OrderLemmas.{value_cmp-Int, value_cmp-Text}
 use Rattle.sqlite_trees.specs.Tree.{Trees, rowid}
 use Rattle.sqlite_trees.proofs.ListLemmas.{all_weaker, all_from_map, all-permutation}
 use Rattle.sqlite_sql.specs.Ops.{binary, from_truth, is_null, is_true}
-use Rattle.sqlite_schema.specs.declared.schema.Constraint.TheVariants.{Unique, ForeignKey}
-use Rattle.sqlite_schema.specs.Names.{same_name}
-use Rattle.sqlite_schema.specs.Rules.{agree, clashes, differ, equal, has_null, is_held, parent_key, ParentKey}
+use Rattle.sqlite_schema.specs.Rules.{agree, clashes, differ, equal}
 use Rattle.sqlite_rules.specs.Lists.{Has}
 use Rattle.sqlite_rules.proofs.ListLemmas.{all_has}
 use Rattle.relay_types.specs.Rows.{Rows, EndpointRow, SecretRow, DeliveryRow, AttemptRow}
 use Rattle.relay_types.specs.Sound.{AreKeyed, IsRisingFrom, is_put_at, is_delivery_at, secret_rows_at}
-use Rattle.spool_sql.specs.Tables.{relay_schema, reference_to}
+use Rattle.sqlite.specs.Schema.{Schema}
+use Rattle.spool_sql.specs.Tables.{IsOwn}
 use Rattle.spool_sql.specs.Stored.{AreTables, endpoint_stored, secret_stored, delivery_stored, attempt_stored}
 use Rattle.spool_sql.proofs.SelectLemmas.{equal_numbers, and_true}
+use Rattle.sound_tables.proofs.FiveLemmas.{KeepsFive, keeps_five}
 
 -- ---- values that are compared
 
@@ -101,34 +102,26 @@ number_clash s t = two_equal (equal_numbers s.delivery t.delivery) (equal_number
 
 -- ---- the references
 
-abbrev parent_in : ℕ → Option ParentKey
-parent_in tree = Some (tree, 0 ∷ [], plain)
-
-to_endpoints : (place : ℕ) → parent_key relay_schema.tables (reference_to (codes "endpoints") (codes "put") place) ≡ parent_in 1
-unfolding same_name joined
-to_endpoints place = refl
-
-to_deliveries : (place : ℕ) → parent_key relay_schema.tables (reference_to (codes "deliveries") (codes "seq") place) ≡ parent_in 5
-unfolding same_name joined
-to_deliveries place = refl
-
-abbrev Refers : (db : Trees) (place : ℕ) (key : Option ParentKey) (tree : List Row) → Type 0
-Refers db place key = AllByRecursion (λ row. (has_null (place ∷ []) row || is_held db (place ∷ []) row key) && true ≡ true)
-
 behind_rowid : (P : Value → Type 0) (tree : List Row) → AllByRecursion (λ r. P (column r 1)) tree → AllByRecursion (λ r. P (column r 0)) (map (drop 1) tree)
 behind_rowid P [] all = tt
 behind_rowid P ([] ∷ tree) all = (all.0, behind_rowid P tree all.1)
 behind_rowid P ((v ∷ r) ∷ tree) all = (all.0, behind_rowid P tree all.1)
 
-module _ (db : Trees) (rows : Rows) (tables : AreTables relay_schema 1 db rows) where
+module _ (schema : Schema) (own : IsOwn schema) (version : ℕ) (db : Trees) (rows : Rows)
+    (tables : AreTables schema version db rows) where
+  keeps : KeepsFive db
+  keeps = keeps_five schema db own tables.sound
+
   names_apart : IsTrue (list_all (λ e. not (list_any (λ f. bytes_eq f.name e.name && not (f.put == e.put)) rows.endpoints)) rows.endpoints)
-  names_apart = all_apart endpoint_stored (db 1) rows.endpoints tables.endpoints (2 ∷ []) _ name_clash (tables.sound.obeys.rules Unique).1.0
+  names_apart = all_apart endpoint_stored (db 1) rows.endpoints tables.endpoints (2 ∷ []) _ name_clash keeps.uniques.1.0
 
   ids_apart : IsTrue (list_all (λ d. not (list_any (λ g. g.endpoint == d.endpoint && (bytes_eq g.id d.id && not (g.seq == d.seq))) rows.deliveries)) rows.deliveries)
-  ids_apart = all_apart delivery_stored (db 5) rows.deliveries tables.deliveries (2 ∷ 3 ∷ []) _ id_clash (tables.sound.obeys.rules Unique).1.1.1.0
+  ids_apart = all_apart delivery_stored (db 5) rows.deliveries tables.deliveries (2 ∷ 3 ∷ []) _ id_clash
+      keeps.uniques.1.1.1.0
 
   numbers_apart : IsTrue (list_all (λ t. not (list_any (λ s. s.delivery == t.delivery && (s.number == t.number && not (s.seq == t.seq))) rows.attempts)) rows.attempts)
-  numbers_apart = all_apart attempt_stored (db 7) rows.attempts tables.attempts (2 ∷ 3 ∷ []) _ number_clash (tables.sound.obeys.rules Unique).1.1.1.1.0
+  numbers_apart = all_apart attempt_stored (db 7) rows.attempts tables.attempts (2 ∷ 3 ∷ []) _ number_clash
+      keeps.uniques.1.1.1.1.0
 
   is_endpoint : (n : ℕ) → is_held_at endpoint_stored (db 1) rows.endpoints tables.endpoints (Int (pos n)) && true ≡ true → is_put_at rows n ≡ true
   is_endpoint = found_at endpoint_stored (db 1) rows.endpoints tables.endpoints (λ (e : EndpointRow). e.put) (λ e. refl)
@@ -139,7 +132,7 @@ module _ (db : Trees) (rows : Rows) (tables : AreTables relay_schema 1 db rows) 
   deliveries_refer : IsTrue (list_all (λ d. is_put_at rows d.endpoint) rows.deliveries)
   unfolding first_key
   deliveries_refer =
-      let held = subst (λ key. Refers db 2 key (db 5)) (to_endpoints 2) (tables.sound.obeys.rules ForeignKey).1.1.1.0 in
+      let held = keeps.deliveries in
       all_pass (λ (d : DeliveryRow). is_put_at rows d.endpoint) rows.deliveries
       (all_weaker _ (λ (d : DeliveryRow). is_put_at rows d.endpoint ≡ true) (λ d. is_endpoint d.endpoint) rows.deliveries
       (each_stored delivery_stored (db 5) rows.deliveries tables.deliveries (λ row. is_held_at endpoint_stored (db 1) rows.endpoints tables.endpoints (column row 2) && true ≡ true) held))
@@ -147,7 +140,7 @@ module _ (db : Trees) (rows : Rows) (tables : AreTables relay_schema 1 db rows) 
   attempts_refer : IsTrue (list_all (λ t. is_delivery_at rows t.delivery) rows.attempts)
   unfolding first_key
   attempts_refer =
-      let held = subst (λ key. Refers db 2 key (db 7)) (to_deliveries 2) (tables.sound.obeys.rules ForeignKey).1.1.1.1.0 in
+      let held = keeps.attempts in
       all_pass (λ (t : AttemptRow). is_delivery_at rows t.delivery) rows.attempts
       (all_weaker _ (λ (t : AttemptRow). is_delivery_at rows t.delivery ≡ true) (λ t. is_delivery t.delivery) rows.attempts
       (each_stored attempt_stored (db 7) rows.attempts tables.attempts (λ row. is_held_at delivery_stored (db 5) rows.deliveries tables.deliveries (column row 2) && true ≡ true) held))
@@ -156,7 +149,7 @@ module _ (db : Trees) (rows : Rows) (tables : AreTables relay_schema 1 db rows) 
   pub secrets_refer : (s : SecretRow) → Has rows.secrets s → is_put_at rows s.endpoint ≡ true
   unfolding first_key
   secrets_refer s there =
-      let held = subst (λ key. Refers db 1 key (db 3)) (to_endpoints 1) (tables.sound.obeys.rules ForeignKey).1.1.0 in
+      let held = keeps.secrets in
       let behind = behind_rowid (λ v. is_held_at endpoint_stored (db 1) rows.endpoints tables.endpoints v && true ≡ true) (db 3) held in
       is_endpoint s.endpoint
       (all_has (λ (t : SecretRow). is_held_at endpoint_stored (db 1) rows.endpoints tables.endpoints (Int (pos t.endpoint)) && true ≡ true) rows.secrets s

@@ -16,7 +16,8 @@ use Rattle.sound_rows.specs.declared.numbers.Endpoint.{Endpoint}
 use Rattle.sound_rows.specs.declared.numbers.Delivery.{Delivery}
 use Rattle.sound_rows.specs.declared.numbers.Attempt.{Attempt}
 use Rattle.spool_sql.specs.Stored.{endpoint_stored, delivery_stored, attempt_stored}
-use Rattle.sound_tables.specs.Checks.{AreSoundTables, TellsStored}
+use Rattle.sqlite.specs.Schema.{Schema}
+use Rattle.sound_tables.specs.Checks.{AreSoundUnder, TellsStored}
 use Rattle.sound_tables.specs.Shown.{ShowsEndpoint, ShowsDelivery, ShowsAttempt}
 use Rattle.sound_tables.specs.Tables.{endpoint_columns, delivery_columns, attempt_columns}
 use Rattle.sound_tables.proofs.ShownLemmas.{all_show, secrets_show}
@@ -81,8 +82,9 @@ own_secrets : (rows : Rows) (e : EndpointRow) → is_endpoint_row rows e ≡ tru
 own_secrets rows e h =
     from_images (secret_rows_at rows e.put) (and_second (is_between 1 MAX_SECRETS (length (secrets_at rows e.put))) _ (and_first (are_secrets (secrets_at rows e.put)) _ (and_second (is_max_limit e.max) _ (and_second (is_target e.url) _ (and_second (is_name e.name) _ h)))))
 
-pub lacks_sound : (db : Database) → TellsStored db None → (rows : Rows) → ¬ AreSoundTables db rows
-lacks_sound db lacks rows it =
+pub lacks_sound : (schema : Schema) (version : ℕ) (db : Database) → TellsStored db None → (rows : Rows)
+    → ¬ AreSoundUnder schema version db rows
+lacks_sound schema version db lacks rows it =
     let values = values_of rows it.sound in
     let endpoints_hold = each_true (is_endpoint_row rows) rows.endpoints values.endpoints in
     elim lacks [

@@ -3,6 +3,7 @@ pub mod ReadingLemmas
 pub mod Texts
 pub mod KeyOrder
 pub mod TableLemmas
+pub mod FiveLemmas
 pub mod StoredLemmas
 pub mod KeyLemmas
 pub mod KeyedLemmas
@@ -16,3 +17,4 @@ pub mod LookLemmas
 pub mod MetaLemmas
 pub mod UnsoundLemmas
 pub mod RefusedLemmas
+pub mod JudgedLemmas

@@ -1,14 +1,13 @@
 -- One look at the database after another.
-use Rattle.std.proofs.Common.{◌≡◌, ℕ, Result, Ok, Err, IfOk, IfErr, OnOk, MatchResult, ap, subst, ◌∙◌, arith}
+use Rattle.std.proofs.Common.{◌≡◌, ℕ, Result, Ok, Err, IfOk, IfErr, OnOk, MatchResult, refl, sym, subst, arith}
 use Rattle.sqlite_trees.specs.declared.store.Store.{Ghosts}
 use Rattle.sqlite.specs.Held.{Held, state}
 use Rattle.sqlite.specs.Effect.{Database}
 use Rattle.sqlite.specs.State.{HasCleanDisk, IsLive, IsUnchanged}
-use Rattle.sqlite_catalog.specs.Listing.{IsSound}
 use Rattle.sqlite.proofs.Callers.{unchanged_then}
 use Rattle.sqlite.specs.declared.error.Error.{Error}
 use Rattle.spool_sql.specs.Readable.{IsRefusal}
-use Rattle.spool_sql.specs.Tables.{relay_schema}
+use Rattle.sqlite.specs.Schema.{Schema}
 use Rattle.sound_tables.specs.Checks.{AreRead, AreShown, HasRecords}
 use Rattle.sound_tables.specs.declared.stored.StoredRows.{StoredRows}
 use Rattle.sound_tables.specs.Reading.{Looks}
@@ -29,8 +28,10 @@ module _ {S : Type 0} (g : Ghosts S) (a m b : Held S) (first : Looks g a m) (sam
   pub same_now : HasCleanDisk (state g b) → (state g m).now ≡ (state g a).now
   same_now clean = (same (clean_early clean)).0.now_is
 
-  pub schema_still : HasCleanDisk (state g b) → (state g a).now.schema ≡ relay_schema → (state g m).now.schema ≡ relay_schema
-  schema_still clean has = ap (λ db. db.schema) (same_now clean) ∙ has
+  -- what is so of the schema is so of it still
+  pub schema_still : (P : Schema → Type 0) → HasCleanDisk (state g b) → P (state g a).now.schema
+      → P (state g m).now.schema
+  schema_still P clean has = subst (λ (db : Database). P db.schema) (sym (same_now clean)) has
 
   pub same_both : HasCleanDisk (state g b) → IsUnchanged (state g m) (state g b) → IsUnchanged (state g a) (state g b)
   same_both clean later = unchanged_then _ _ _ (same (clean_early clean)) later
@@ -39,10 +40,12 @@ module _ {S : Type 0} (g : Ghosts S) (a m b : Held S) (first : Looks g a m) (sam
   pub refused_since : (e : Error) → HasCleanDisk (state g b) → IsRefusal (state g m) (state g b) e → IsRefusal (state g a) (state g b) e
   refused_since e clean = refusal_since (state g a) (state g m) (state g b) first.survives second.survives clean e
 
-  pub are_read : (records : ℕ) (rows : StoredRows) → IsLive (state g a) → HasCleanDisk (state g b) → (state g a).now.schema ≡ relay_schema → HasRecords (state g a).now records → AreShown (state g m).now rows → AreRead (state g a).now records rows
-  are_read records rows live clean has meta shown = record {
-    schema_is = has;
-    obeys = subst (λ schema. IsSound schema (state g a).now.trees) has (live (same (clean_early clean)).0.was_open).0;
+  pub are_read : (version records : ℕ) (rows : StoredRows) → IsLive (state g a) → HasCleanDisk (state g b)
+      → HasRecords version (state g a).now records → AreShown (state g m).now rows
+      → AreRead (state g a).now.schema version (state g a).now records rows
+  are_read version records rows live clean meta shown = record {
+    schema_is = refl;
+    obeys = (live (same (clean_early clean)).0.was_open).0;
     meta = meta;
     shown = subst (λ (db : Database). AreShown db rows) (same_now clean) shown;
   }

@@ -1,12 +1,15 @@
 -- The row of meta, as it is read.
-use Rattle.std.proofs.Common.{◌≡◌, ◌≢◌, ◌≤◌, ℕ, pos, suc, List, [], ◌∷◌, map, length, get_or, refl, sym, ap, subst, arith, IsPermutation}
+use Rattle.std.proofs.Common.{◌≡◌, ◌≢◌, inr, ℕ, pos, suc, List, [], ◌∷◌, map, length, get_or, refl, sym, ap, subst}
+use Rattle.std.proofs.Common.{arith, IsPermutation}
 use Rattle.std.specs.List.{AllZip}
 use Rattle.std.proofs.lemmas.List.Sorted.{length_permutation}
 use Rattle.sqlite.specs.Order.{Row}
 use Rattle.sqlite.specs.Effect.{Database}
 use Rattle.sqlite_trees.proofs.ListLemmas.{all-permutation}
 use Rattle.relay_types.specs.Rows.{Rows}
-use Rattle.sound_tables.specs.Checks.{AreSoundTables, HasMeta, HasRecords, IsRefusedAt}
+use Rattle.sound_tables.specs.Checks.{AreSoundFive, HasMeta, HasRecords, Refuses}
+use Rattle.sound_tables.specs.Versions.{number_of}
+use Rattle.sound_tables.specs.declared.version.Version.{Version}
 use Rattle.sound_tables.specs.declared.fault.TableFault.TheVariants.{Damaged}
 use Rattle.sound_tables.specs.Shown.{ShowsMeta}
 use Rattle.sound_tables.specs.Tables.{HasShown, LacksShown, meta_columns}
@@ -43,11 +46,18 @@ one_shown db (m ∷ []) d shown one = at (db.trees 0) shown.0 refl shown.1 shown
 pub none_shown : (db : Database) → LacksShown ShowsMeta meta_columns (db.trees 0) → (m : Meta) → ¬ HasMeta db m
 none_shown db lacks m has = lacks (subst (Rattle.std.specs.List.AllByRecursion (λ r. (x : Meta) × ShowsMeta (meta_columns r) x)) (sym has.1) ((m, has.2), tt))
 
-at_most_one : (version : ℕ) → pos 1 ≡ pos version → version ≤ 1
-at_most_one version same =
-    let one : 1 ≡ version = cc in
-    omega (arith, one)
+pub one_version : (n version : ℕ) → pos n ≡ pos version → version ≡ n
+one_version n version same = let both : n ≡ version = cc in sym both
 
--- tables of this version that have no sound rows
-pub damaged : (db : Database) (records : ℕ) → HasRecords db records → ((rows : Rows) → ¬ AreSoundTables db rows) → IsRefusedAt db Damaged
-damaged db records has none = (record { key = pos 1; version = pos 1; records = pos records }, has, at_most_one, none)
+-- tables of the version that is asked for, which have no sound rows
+pub damaged : (v : Version) (db : Database) (records : ℕ) → HasRecords (number_of v) db records
+    → ((rows : Rows) → ¬ AreSoundFive v db rows) → Refuses v (AreSoundFive v) db Damaged
+damaged v db records has none = (
+  (
+    record { key = pos 1; version = pos (number_of v); records = pos records },
+    has,
+    λ version same. inr
+        (one_version (number_of v) version same),
+  ),
+  none,
+)

@@ -20,7 +20,8 @@ use Rattle.sound_rows.specs.declared.numbers.Endpoint.{Endpoint}
 use Rattle.sound_rows.specs.declared.numbers.Delivery.{Delivery}
 use Rattle.sound_rows.specs.declared.numbers.Attempt.{Attempt}
 use Rattle.spool_sql.specs.Stored.{HasRowids}
-use Rattle.sound_tables.specs.Checks.{AreInOrder, AreShown, AreSoundTables}
+use Rattle.sqlite.specs.Schema.{Schema}
+use Rattle.sound_tables.specs.Checks.{AreInOrder, AreShown, AreSoundUnder}
 use Rattle.sound_tables.specs.Reading.{Shows}
 use Rattle.sound_tables.specs.Shown.{ShowsEndpoint, ShowsSecret, ShowsDelivery, ShowsAttempt}
 use Rattle.sound_tables.specs.Tables.{AreByFirst, HasShown, secret_columns}
@@ -95,8 +96,9 @@ rowids_rise tree ss ids shown = rising_by_next ss (λ k d l. at k d l (int_lt (g
         absurd (omega (arith, both, once s.rowid))
 
 -- what is read of sound tables rises
-pub sound_in_order : (db : Database) (stored : StoredRows) (rows : Rows) → AreShown db stored → AreSoundTables db rows → AreInOrder stored
-sound_in_order db stored rows shown it = record {
+pub sound_in_order : (schema : Schema) (version : ℕ) (db : Database) (stored : StoredRows) (rows : Rows)
+    → AreShown db stored → AreSoundUnder schema version db rows → AreInOrder stored
+sound_in_order schema version db stored rows shown it = record {
   puts = one_sorted (λ (e : Endpoint). e.put) (map of_endpoint rows.endpoints) stored.endpoints.items (rising_map of_endpoint (λ (e : Endpoint). e.put) 0 rows.endpoints it.keyed.puts_rise)
       (endpoints_read (db.trees 1) rows.endpoints stored.endpoints.items it.tables.tables.endpoints shown.endpoints)
       (by_number ShowsEndpoint (λ (e : Endpoint). e.put) (λ r e shows. shows.numbers.put) _ (db.trees 1) stored.endpoints.items shown.endpoints);

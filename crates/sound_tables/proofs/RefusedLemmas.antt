@@ -13,14 +13,20 @@ use Rattle.sqlite_value.specs.Order.{column}
 use Rattle.relay_types.specs.Rows.{Rows}
 use Rattle.spool_sql.specs.Causes.{cause}
 use Rattle.spool_sql.specs.Readable.{IsRefusal}
-use Rattle.spool_sql.specs.Stored.{meta_stored}
-use Rattle.spool_sql.specs.Tables.{relay_schema}
+use Rattle.sqlite.specs.Schema.{Schema}
+use Rattle.spool_sql.specs.Stored.{IsTablesOf, meta_stored}
+use Rattle.spool_sql.specs.Tables.{IsOwn, first_schema}
 use Rattle.spool_sql.specs.declared.cause.Cause.TheVariants.{Other}
-use Rattle.sound_tables.specs.Checks.{AreSoundTables, HasMeta, IsRefusedAt, IsSoundRefusal, RefusesSound}
+use Rattle.sound_tables.specs.Checks.{AreSoundFirstTables, AreSoundFive, AreSoundUnder, HasMeta, HasRecords}
+use Rattle.sound_tables.specs.Checks.{IsOldRefusal, IsRefusedMeta, IsSoundRefusal, RefusesFive, RefusesOld}
 use Rattle.sound_tables.specs.Tables.{meta_columns}
 use Rattle.sound_tables.specs.declared.meta.Meta.{Meta}
 use Rattle.sound_tables.specs.declared.fault.TableFault.{TableFault}
-use Rattle.sound_tables.specs.declared.fault.TableFault.TheVariants.{NotOurs, NewerVersion, Damaged, Failed}
+use Rattle.sound_tables.specs.declared.fault.TableFault.TheVariants.{NotOurs, NewerVersion, OldVersion, Damaged, Failed}
+use Rattle.sound_tables.specs.Versions.{number_of, schema_of}
+use Rattle.sound_tables.specs.declared.version.Version.{Version}
+use Rattle.sound_tables.specs.declared.version.Version.TheVariants.{First, Second}
+use Rattle.sound_tables.proofs.KeyedLemmas.{own_schema}
 
 never_other : (kind : StoreError) → cause (store_error kind) ≢ Other
 never_other store.OutOfMemory e = cc
@@ -33,7 +39,7 @@ never_other store.Unstorable e = cc
 -- an error that a query of the relay's tables is refused for
 pub not_other : (a b : State) (e : Error) → IsRefusal a b e → cause e ≢ Other
 not_other a b e (inl memory) = rw memory (λ x. let y = x in cc)
-not_other a b e (inr (inl (why, told, failed))) = subst (λ x. cause x ≢ Other) (sym told) (never_other why)
+not_other a b e (inr (inl (why, told, failed, blamed))) = subst (λ x. cause x ≢ Other) (sym told) (never_other why)
 not_other a b e (inr (inr (told, some))) = rw told (λ x. let y = x in cc)
 
 head_is : (x y : Row) → x ∷ [] ≡ y ∷ [] → x ≡ y
@@ -45,42 +51,104 @@ same_int n z e = cc
 same_pos : (m n : ℕ) → pos m ≡ pos n → m ≡ n
 same_pos m n e = cc
 
--- their meta is the relay's, of version 1
-module _ (db : Database) (rows : Rows) (sound : AreSoundTables db rows) where
-  abbrev stored : Row
-  stored = meta_stored 1 rows.records
+-- the meta of tables of a version
+module _ (schema : Schema) (version : ℕ) (db : Database) (rows : Rows) (tables : IsTablesOf schema version db rows)
+  where
+    abbrev stored : Row
+    stored = meta_stored version rows.records
 
-  has_meta : HasMeta db (record { key = pos 1; version = pos 1; records = pos rows.records })
-  has_meta = (stored, sound.tables.tables.meta, record { key = refl; app = refl; version = refl; records = refl })
+    pub has_meta : HasMeta db (record { key = pos 1; version = pos version; records = pos rows.records })
+    has_meta = (stored, tables.tables.meta, record { key = refl; app = refl; version = refl; records = refl })
 
-  version_is : (m : Meta) (version : ℕ) → HasMeta db m → m.version ≡ pos version → version ≡ 1
-  version_is m version has is =
-      let row : has.0 ≡ stored = head_is has.0 stored (sym has.1 ∙ sound.tables.tables.meta) in
-      same_pos version 1 (sym is ∙ same_int 1 m.version (sym has.2.version ∙ ap (λ r. column (meta_columns r) 2) row))
+    pub meta_tells : (m : Meta) → HasMeta db m → m.version ≡ pos version
+    meta_tells m has =
+        let row : has.0 ≡ stored = head_is has.0 stored (sym has.1 ∙ tables.tables.meta) in
+        same_int version m.version (sym has.2.version ∙ ap (λ r. column (meta_columns r) 2) row)
 
-  pub not_foreign : ¬ IsRefusedAt db NotOurs
-  not_foreign none = none _ has_meta
+    pub version_is : (m : Meta) (told : ℕ) → HasMeta db m → m.version ≡ pos told → told ≡ version
+    version_is m told has is = same_pos told version (sym is ∙ meta_tells m has)
 
-  pub not_newer : ¬ IsRefusedAt db NewerVersion
-  not_newer (m, has, version, is, above) = let one = version_is m version has is in absurd (omega (arith, one, above))
-
-  pub not_damaged : ¬ IsRefusedAt db Damaged
-  not_damaged (m, has, most, none) = none rows sound
+-- there is one meta
+pub one_told : (db : Database) (m n : Meta) (v w : ℕ) → HasMeta db m → m.version ≡ pos v → HasMeta db n
+    → n.version ≡ pos w → v ≡ w
+one_told db m n v w has is other told =
+    let row : has.0 ≡ other.0 = head_is has.0 other.0 (sym has.1 ∙ other.1) in
+    same_pos v w (sym is ∙ both m.version n.version (sym has.2.version ∙ ap (λ r. column (meta_columns r) 2)
+    row ∙ other.2.version) ∙ told)
+  where
+    both : (x y : _) → Int x ≡ Int y → x ≡ y
+    both x y e = cc
 
 -- where a statement was refused, it was for memory or by the store
 abbrev pub FailsOnlySo : (a b : State) → TableFault → Type 0
 FailsOnlySo a b fault = (error : Error) → fault ≡ Failed error → IsRefusal a b error
 
--- of sound tables a refusal that says something of the tables is none
-refuses_sound : (a b : State) (fault : TableFault) (rows : Rows) → AreSoundTables a.now rows → IsRefusedAt a.now fault → FailsOnlySo a b fault → IsSoundRefusal a b fault
-refuses_sound a b NotOurs rows it says failed = absurd (not_foreign a.now rows it says)
-refuses_sound a b NewerVersion rows it says failed = absurd (not_newer a.now rows it says)
-refuses_sound a b Damaged rows it says failed = absurd (not_damaged a.now rows it says)
-refuses_sound a b (Failed error) rows it says failed = failed error refl
+-- of sound tables a refusal that says something of meta is none
+refuses_five : (v : Version) (a b : State) (fault : TableFault) (rows : Rows) → AreSoundFive v a.now rows
+    → IsRefusedMeta v (AreSoundFive v) a.now fault → FailsOnlySo a b fault → IsSoundRefusal a b fault
+refuses_five v a b NotOurs rows it none failed = absurd
+    (none _ (has_meta (schema_of v) (number_of v) a.now rows it.tables))
+refuses_five v a b NewerVersion rows it (m, has, version, is, above) failed =
+    let one = version_is (schema_of v) (number_of v) a.now rows it.tables m version has is in absurd
+    (omega (arith, one, above))
+refuses_five v a b OldVersion rows it (m, has, version, is, (above, below)) failed =
+    let one = version_is (schema_of v) (number_of v) a.now rows it.tables m version has is in absurd
+    (omega (arith, one, below))
+refuses_five v a b Damaged rows it (told, none) failed = absurd (none rows it)
+refuses_five v a b (Failed error) rows it says failed = failed error refl
 
-pub sound_refused : {A : Type 0} (a b : State) (r : Result A TableFault) → (a.now.schema ≡ relay_schema → IfErr r (IsRefusedAt a.now)) → ((rows : Rows) → AreSoundTables a.now rows → IfErr r (FailsOnlySo a b)) → IfErr r (RefusesSound a b)
-sound_refused a b (Ok x) says failed = tt
-sound_refused a b (Err fault) says failed = λ rows it. refuses_sound a b fault rows it (says it.tables.schema_is) (failed rows it)
+-- and of tables of version 1 it tells of their age
+refuses_old : (v : Version) (a b : State) (fault : TableFault) (rows : Rows) → AreSoundFirstTables a.now rows
+    → IsRefusedMeta v (AreSoundFive v) a.now fault → FailsOnlySo a b fault → IsOldRefusal a b fault
+refuses_old First a b NotOurs rows it says failed = refuses_five First a b NotOurs rows it says failed
+refuses_old First a b NewerVersion rows it says failed = refuses_five First a b NewerVersion rows it says failed
+refuses_old First a b Damaged rows it says failed = refuses_five First a b Damaged rows it says failed
+refuses_old First a b OldVersion rows it says failed = tt
+refuses_old First a b (Failed error) rows it says failed = failed error refl
+refuses_old Second a b NotOurs rows it none failed = absurd (none _ (has_meta first_schema 1 a.now rows it.tables))
+refuses_old Second a b NewerVersion rows it (m, has, version, is, above) failed =
+    let one = version_is first_schema 1 a.now rows it.tables m version has is in absurd (omega (arith, one, above))
+refuses_old Second a b OldVersion rows it says failed = tt
+refuses_old Second a b (Failed error) rows it says failed = failed error refl
+refuses_old Second a b Damaged rows it ((m, has, told), none) failed = elim
+    (told 1 (meta_tells first_schema 1 a.now rows it.tables m has)) [
+      | inl zero ↦ absurd (omega (arith, zero))
+      | inr two ↦ absurd (omega (arith, two))
+    ]
+
+module _ {A : Type 0} (v : Version) (a b : State) where
+  pub five_refused : (r : Result A TableFault) → (IsOwn a.now.schema → IfErr r (IsRefusedMeta v (AreSoundFive v) a.now))
+      → (IsOwn a.now.schema → IfErr r (FailsOnlySo a b)) → IfErr r (RefusesFive v a b)
+  five_refused (Ok x) says failed = tt
+  five_refused (Err fault) says failed = λ rows it. let own = own_schema v a.now.schema it.tables.schema_is in
+      refuses_five v a b fault rows it (says own) (failed own)
+
+  pub old_refused : (r : Result A TableFault) → (IsOwn a.now.schema → IfErr r (IsRefusedMeta v (AreSoundFive v) a.now))
+      → (IsOwn a.now.schema → IfErr r (FailsOnlySo a b)) → IfErr r (RefusesOld a b)
+  old_refused (Ok x) says failed = tt
+  old_refused (Err fault) says failed = λ rows it. let own = inl it.tables.schema_is in refuses_old v a b fault rows it
+      (says own) (failed own)
+
+weaker_refusal : (a b : State) (fault : TableFault) → IsSoundRefusal a b fault → IsOldRefusal a b fault
+weaker_refusal a b NotOurs none = none
+weaker_refusal a b NewerVersion none = none
+weaker_refusal a b OldVersion none = tt
+weaker_refusal a b Damaged none = none
+weaker_refusal a b (Failed error) refusal = refusal
+
+-- tables whose meta tells the version that is asked for are of version 1 only if that is
+pub told_old : (v : Version) (a b : State) (fault : TableFault) (records : ℕ)
+    → (IsOwn a.now.schema → HasRecords (number_of v) a.now records) → RefusesFive v a b fault → RefusesOld a b fault
+told_old First a b fault records has refuses = λ rows it. weaker_refusal a b fault (refuses rows it)
+told_old Second a b fault records has refuses = λ rows it. absurd
+    (let one = version_is first_schema 1 a.now rows it.tables _ 2 (has (inl it.tables.schema_is)) refl in omega
+    (arith, one))
+
+-- what has no sound rows under its own schema has none
+pub unsound_under : (v : Version) (db : Database) → ((rows : Rows) → ¬ AreSoundUnder db.schema (number_of v) db rows)
+    → (rows : Rows) → ¬ AreSoundFive v db rows
+unsound_under v db none rows it = none rows (subst (λ schema. AreSoundUnder schema (number_of v) db rows)
+    (sym it.tables.schema_is) it)
 
 pub never_failed : {A : Type 0} (a b : State) (r : Result A TableFault) → IfErr r (λ why. (error : Error) → why ≢ Failed error) → IfErr r (FailsOnlySo a b)
 never_failed a b (Ok x) never = tt

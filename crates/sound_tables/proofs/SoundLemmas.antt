@@ -16,7 +16,8 @@ use Rattle.relay_types.specs.Rows.{Rows, EndpointRow, SecretRow, DeliveryRow, At
 use Rattle.relay_types.specs.Legal.{is_status}
 use Rattle.relay_types.specs.Lookups.{secrets_at}
 use Rattle.relay_types.specs.Sound as sound
-use Rattle.relay_types.specs.Sound.{AreKeyed, IsRisingFrom, are_sound, is_put_at, is_endpoint_row, is_delivery_row, is_attempt_row, secret_rows_at}
+use Rattle.relay_types.specs.Sound.{AreKeyed, IsRisingFrom, are_sound, is_endpoint_row, is_delivery_row, is_attempt_row}
+use Rattle.relay_types.specs.Sound.{secret_rows_at}
 use Rattle.relay_types.proofs.KnownLaws.{and_first, and_second}
 use Rattle.relay_types.proofs.FilterLaws.{rising_map}
 use Rattle.sound_rows.specs.Numbers.{AreNumbersOf, AreValues, of_endpoint, of_delivery, of_attempt}
@@ -24,9 +25,10 @@ use Rattle.sound_rows.specs.declared.numbers.Endpoint.{Endpoint}
 use Rattle.sound_rows.specs.declared.numbers.Delivery.{Delivery}
 use Rattle.sound_rows.specs.declared.numbers.Attempt.{Attempt}
 use Rattle.sound_rows.specs.declared.numbers.Numbers.{Numbers}
-use Rattle.spool_sql.specs.Tables.{relay_schema}
+use Rattle.sqlite.specs.Schema.{Schema}
+use Rattle.spool_sql.specs.Tables.{IsOwn}
 use Rattle.spool_sql.specs.Stored.{AreTables, endpoint_stored, secret_stored, delivery_stored, attempt_stored, meta_stored}
-use Rattle.sound_tables.specs.Checks.{AreInOrder, AreRead, AreSoundTables, HasSound}
+use Rattle.sound_tables.specs.Checks.{AreInOrder, AreRead, AreSoundUnder, HasSound}
 use Rattle.sound_tables.specs.Places.{are_places, by_place, places_of}
 use Rattle.sound_tables.specs.Shown.{ShowsMeta}
 use Rattle.sound_tables.specs.Tables.{meta_columns}
@@ -36,6 +38,7 @@ use Rattle.sound_tables.proofs.OrderLemmas.{one_order, grouped}
 use Rattle.sound_tables.proofs.PlaceLemmas.{IsSamePlace, AreBefore, zip_permutation, same_places, all_secrets, zip_climbs, places_same, endpoints_climb, flat_ascend, places_in_order}
 use Rattle.sound_tables.proofs.ShownLemmas.{endpoints_read, deliveries_read, attempts_read, secrets_read}
 use Rattle.sound_tables.proofs.StoredLemmas.{StandsAt, meta_is, endpoints_of, secrets_of, deliveries_of, attempts_of, rowids_of}
+use Rattle.sound_tables.proofs.FiveLemmas.{KeepsFive, keeps_five}
 use Rattle.sound_tables.proofs.KeyLemmas.{secrets_refer, keyed_by}
 
 -- ---- lists
@@ -114,9 +117,13 @@ module _ (rows : Rows) (is : IsTrue (are_sound rows)) where
 
 -- ---- what is read of a database, as rows
 
-module _ (db : Database) (records : ℕ) (stored : StoredRows) (read : AreRead db records stored) (order : AreInOrder stored)
+module _ (schema : Schema) (version : ℕ) (own : IsOwn schema) (db : Database) (records : ℕ) (stored : StoredRows)
+    (read : AreRead schema version db records stored) (order : AreInOrder stored)
     (numbers : Numbers) (records_are : numbers.records ≡ records) (endpoints_are : numbers.endpoints.items ≡ stored.endpoints.items) (deliveries_are : numbers.deliveries.items ≡ stored.deliveries.items) (attempts_are : numbers.attempts.items ≡ stored.attempts.items)
   where
+    keeps : KeepsFive db.trees
+    keeps = keeps_five schema db.trees own read.obeys
+
     module _ (ss : List Secret) (moved : IsPermutation stored.secrets.items ss) (up : IsSorted by_place ss) (placed : list_all (λ (e : Endpoint). are_places (places_of e.put ss)) stored.endpoints.items ≡ true) (told : (rows : Rows) → AreNumbersOf numbers rows → AreKeyed rows → AreValues rows → true ≡ are_sound rows) where
       module _ (es : List EndpointRow) (es_stored : IsPermutation (db.trees 1) (map endpoint_stored es)) (es_are : map of_endpoint es ≡ stored.endpoints.items)
           (es_rules : IsTrue (list_all (λ (e : EndpointRow). is_name e.name && (is_target e.url && is_max_limit e.max)) es)) (rs : List SecretRow) (rs_stored : IsPermutation (map (drop 1) (db.trees 3)) (map secret_stored rs)) (rs_are : AllZip StandsAt rs ss)
@@ -126,10 +133,10 @@ module _ (db : Database) (records : ℕ) (stored : StoredRows) (read : AreRead d
         same : AllZip IsSamePlace rs ss
         same = same_places rs ss rs_are
 
-        tables : AreTables relay_schema 1 db.trees (record { records = records; endpoints = es; secrets = rs; deliveries = ds; attempts = ts })
+        tables : AreTables schema version db.trees (record { records = records; endpoints = es; secrets = rs; deliveries = ds; attempts = ts })
         tables = record {
           sound = read.obeys;
-          meta = meta_is db.trees read.obeys read.meta.0 _ 1 records read.meta.1 read.meta.2 refl refl refl;
+          meta = meta_is db.trees keeps read.meta.0 _ version records read.meta.1 read.meta.2 refl refl refl;
           endpoints = es_stored;
           secrets = rs_stored;
           deliveries = ds_stored;
@@ -142,10 +149,13 @@ module _ (db : Database) (records : ℕ) (stored : StoredRows) (read : AreRead d
 
         by_endpoint : flat_map (λ (e : EndpointRow). filter (λ s. s.endpoint == e.put) rs) es ≡ rs
         by_endpoint = grouped (λ (s : SecretRow). s.endpoint) (λ (e : EndpointRow). e.put) 0 es rs puts (zip_climbs 0 rs ss same (endpoints_climb ss up))
-            (all_has (λ (s : SecretRow). list_any (λ (e : EndpointRow). e.put == s.endpoint) es ≡ true) rs (secrets_refer db.trees _ tables))
+            (all_has (λ (s : SecretRow). list_any (λ (e : EndpointRow). e.put == s.endpoint) es ≡ true) rs
+            (secrets_refer schema own version db.trees _ tables))
 
         keyed : AreKeyed (record { records = records; endpoints = es; secrets = rs; deliveries = ds; attempts = ts })
-        keyed = keyed_by db.trees _ tables puts (rising_back of_delivery (λ (d : Delivery). d.seq) 0 ds (subst (IsRisingFrom (λ (d : Delivery). d.seq) 0) (sym ds_are) order.deliveries))
+        keyed = keyed_by schema own version db.trees _ tables puts
+            (rising_back of_delivery (λ (d : Delivery). d.seq) 0 ds
+            (subst (IsRisingFrom (λ (d : Delivery). d.seq) 0) (sym ds_are) order.deliveries))
             (rising_back of_attempt (λ (t : Attempt). t.seq) 0 ts (subst (IsRisingFrom (λ (t : Attempt). t.seq) 0) (sym ts_are) order.attempts)) by_endpoint
 
         their_places : list_all (λ (e : EndpointRow). are_places (places_of e.put ss)) es ≡ true
@@ -176,32 +186,35 @@ module _ (db : Database) (records : ℕ) (stored : StoredRows) (read : AreRead d
         are_numbers : AreNumbersOf numbers (record { records = records; endpoints = es; secrets = rs; deliveries = ds; attempts = ts })
         are_numbers = λ i. record { records = records_are i; endpoints = (endpoints_are ∙ sym es_are) i; deliveries = (deliveries_are ∙ sym ds_are) i; attempts = (attempts_are ∙ sym ts_are) i }
 
-        has_rows : HasSound db records
+        has_rows : HasSound (AreSoundUnder schema version) db records
         has_rows = (
           record { records = records; endpoints = es; secrets = rs; deliveries = ds; attempts = ts },
           record { tables = record { schema_is = read.schema_is; tables = tables }; keyed = keyed; sound = sym (told _ are_numbers keyed values) },
           refl,
         )
 
-      pub has_sound : HasSound db records
+      pub has_sound : HasSound (AreSoundUnder schema version) db records
       has_sound =
-          let es = endpoints_of db.trees read.obeys stored.endpoints.items read.shown.endpoints in
-          let rs = secrets_of db.trees read.obeys stored.secrets.items read.shown.secrets in
-          let ds = deliveries_of db.trees read.obeys stored.deliveries.items read.shown.deliveries in
-          let ts = attempts_of db.trees read.obeys stored.attempts.items read.shown.attempts in
+          let es = endpoints_of db.trees keeps stored.endpoints.items read.shown.endpoints in
+          let rs = secrets_of db.trees keeps stored.secrets.items read.shown.secrets in
+          let ds = deliveries_of db.trees keeps stored.deliveries.items read.shown.deliveries in
+          let ts = attempts_of db.trees keeps stored.attempts.items read.shown.attempts in
           let beside = zip_permutation StandsAt stored.secrets.items ss moved rs.0 rs.2 in
           has_rows es.0 es.1 es.2 es.3 beside.0 (IsPermutation-trans _ _ _ rs.1 (IsPermutation-map secret_stored _ _ beside.1)) beside.2 ds.0 ds.1 ds.2 ds.3 ts.0 ts.1 ts.2 ts.3
 
     -- ---- and the rows that sound tables have are read so
 
-    module _ (rows : Rows) (it : AreSoundTables db rows) where
+    module _ (rows : Rows) (it : AreSoundUnder schema version db rows) where
       records_same : records ≡ rows.records
       records_same = at read.meta.0 (row_is (sym read.meta.1 ∙ it.tables.tables.meta)) read.meta.2
         where
-          row_is : (read.meta.0 ∷ []) ≡ (meta_stored 1 rows.records ∷ []) → read.meta.0 ≡ meta_stored 1 rows.records
+          row_is : (read.meta.0 ∷ []) ≡ (meta_stored version rows.records ∷ [])
+              → read.meta.0 ≡ meta_stored version rows.records
           row_is e = cc
 
-          at : (row : Row) → row ≡ meta_stored 1 rows.records → ShowsMeta (meta_columns row) (record { key = pos 1; version = pos 1; records = pos records }) → records ≡ rows.records
+          at : (row : Row) → row ≡ meta_stored version rows.records
+              → ShowsMeta (meta_columns row) (record { key = pos 1; version = pos version; records = pos records })
+              → records ≡ rows.records
           at row is shown =
               let told : Int (pos rows.records) ≡ Int (pos records) = sym (ap (λ r. column (meta_columns r) 3) is) ∙ shown.records in
               cc
@@ -248,9 +261,12 @@ module _ (db : Database) (records : ℕ) (stored : StoredRows) (read : AreRead d
               (and_first (is_between 1 MAX_SECRETS (length (secrets_at rows e.put))) _ (and_first (are_secrets (secrets_at rows e.put)) _ (secrets_of_row e h))) (and_second (are_secrets (secrets_at rows e.put)) _ (secrets_of_row e h))
 
     pub judged : (ss : List Secret) (answer placed : Bool) → IsPermutation stored.secrets.items ss → IsSorted by_place ss → ((all : Rows) → AreNumbersOf numbers all → AreKeyed all → AreValues all → answer ≡ are_sound all)
-        → placed ≡ list_all (λ (e : Endpoint). are_places (places_of e.put ss)) stored.endpoints.items → answer ≡ true → MatchBool placed (HasSound db records) ((rows : Rows) → ¬ AreSoundTables db rows)
+        → placed ≡ list_all (λ (e : Endpoint). are_places (places_of e.put ss)) stored.endpoints.items → answer ≡
+        true → MatchBool placed (HasSound (AreSoundUnder schema version) db records)
+        ((rows : Rows) → ¬ AreSoundUnder schema version db rows)
     judged ss answer true moved up told is agreed = has_sound ss moved up (sym is) (λ all n k v. sym agreed ∙ told all n k v)
     judged ss answer false moved up told is agreed = λ rows it. absurd (let never : false ≡ true = is ∙ secrets_placed rows it ss moved up in cc)
 
-    pub none_sound : (answer : Bool) → ((all : Rows) → AreNumbersOf numbers all → AreKeyed all → AreValues all → answer ≡ are_sound all) → answer ≡ false → (rows : Rows) → ¬ AreSoundTables db rows
+    pub none_sound : (answer : Bool) → ((all : Rows) → AreNumbersOf numbers all → AreKeyed all → AreValues all
+        → answer ≡ are_sound all) → answer ≡ false → (rows : Rows) → ¬ AreSoundUnder schema version db rows
     none_sound answer told denied rows it = absurd (let never : false ≡ true = sym denied ∙ numbers_sound rows it answer told in cc)

@@ -19,23 +19,23 @@ use Rattle.sqlite_sql.specs.declared.ops.CompareOp.TheVariants.{Eq}
 use Rattle.sqlite.specs.Collation.TheVariants.{Binary}
 use Rattle.sqlite_schema.specs.declared.schema.Column.{Column}
 use Rattle.sqlite_schema.specs.declared.schema.Table.{Table}
-use Rattle.sqlite_schema.specs.declared.schema.Constraint.TheVariants.{Datatype, Check}
+use Rattle.sqlite_schema.specs.declared.schema.Constraint.TheVariants.{Check}
 use Rattle.sqlite_schema.specs.Names.{is_key}
 use Rattle.sqlite_schema.specs.Rules.{are_typed, passes, suits}
-use Rattle.sqlite_catalog.specs.Listing.{IsSound}
 use Rattle.relay_types.specs.Values.{is_name, is_target, is_max_limit, is_msg_id, is_body, is_moment, is_secret}
 use Rattle.relay_types.specs.Rows.{EndpointRow, SecretRow, DeliveryRow, AttemptRow}
 use Rattle.sound_rows.specs.Numbers.{of_endpoint, of_delivery, of_attempt}
 use Rattle.sound_rows.specs.declared.numbers.Endpoint.{Endpoint}
 use Rattle.sound_rows.specs.declared.numbers.Delivery.{Delivery}
 use Rattle.sound_rows.specs.declared.numbers.Attempt.{Attempt}
-use Rattle.spool_sql.specs.Tables.{relay_schema, meta, endpoints, secrets, deliveries, attempts}
+use Rattle.spool_sql.specs.Tables.{first_schema, meta, endpoints, secrets, deliveries, attempts}
 use Rattle.spool_sql.specs.Stored.{HasRowids, meta_stored, endpoint_stored, secret_stored, delivery_stored, attempt_stored}
 use Rattle.sound_tables.specs.Reading.{Shows}
 use Rattle.sound_tables.specs.Shown.{ShowsMeta, ShowsEndpoint, ShowsSecret, ShowsDelivery, ShowsAttempt}
 use Rattle.sound_tables.specs.Tables.{HasShown, meta_columns, endpoint_columns, secret_columns, delivery_columns, attempt_columns}
 use Rattle.sound_tables.specs.declared.meta.Meta.{Meta}
 use Rattle.sound_tables.specs.declared.secret.Secret.{Secret}
+use Rattle.sound_tables.proofs.FiveLemmas.{KeepsFive}
 
 both : (a b : Bool) → a && b ≡ true → (a ≡ true) × (b ≡ true)
 both true b e = (refl, e)
@@ -240,40 +240,45 @@ rising_from (s ∷ t ∷ ss) next =
 pub rising_by_next : (ss : List Secret) → ((i : ℕ) (d : Secret) → i + 1 < length ss → int_lt (slice_index_or ss i d).rowid (slice_index_or ss (i + 1) d).rowid ≡ true) → AreRising ss
 rising_by_next ss next = rising_from ss (λ i d inside. let more : i + 1 ≡ suc i = omega arith in subst (λ k. int_lt (slice_index_or ss i d).rowid (slice_index_or ss k d).rowid ≡ true) more (next i d (omega (arith, inside))))
 
-module _ (db : Trees) (sound : IsSound relay_schema db) where
+module _ (db : Trees) (keeps : KeepsFive db) where
   -- the key is 1
   pub meta_key : (row : Row) (m : Meta) → db 0 ≡ row ∷ [] → ShowsMeta (meta_columns row) m → m.key ≡ pos 1
   meta_key row m one shown =
-      let checked = (subst (AllByRecursion (λ r. passes Check relay_schema db (record meta { tree = 0 }) r ≡ true)) one (sound.obeys.rules Check).0).0 in
+      let checked = (subst (AllByRecursion (λ r. passes Check first_schema db (record meta { tree = 0 }) r ≡ true)) one
+      keeps.checks.0).0 in
       checked_one m.key (subst (λ v. not (is_false (binary (Compare Eq Binary) v (Int (pos 1)))) && true ≡ true) shown.key checked)
 
   pub meta_is : (row : Row) (m : Meta) (version n : ℕ) → db 0 ≡ row ∷ [] → ShowsMeta (meta_columns row) m → m.key ≡ pos 1 → m.version ≡ pos version → m.records ≡ pos n → db 0 ≡ meta_stored version n ∷ []
   meta_is row m version n one shown key of_version records =
-      let good = (subst (AllByRecursion (IsTypedFor meta)) one (sound.obeys.rules Datatype).0).0 in
+      let good = (subst (AllByRecursion (IsTypedFor meta)) one keeps.types.0).0 in
       one ∙ ap (λ r. r ∷ []) (meta_typed row m version n good shown key of_version records)
 
   pub endpoints_of : (es : List Endpoint) → HasShown ShowsEndpoint endpoint_columns (db 1) es
       → (rows : List EndpointRow) × IsPermutation (db 1) (map endpoint_stored rows) × (map of_endpoint rows ≡ es)
       × IsTrue (list_all (λ (e : EndpointRow). is_name e.name && (is_target e.url && is_max_limit e.max)) rows)
   endpoints_of es shown =
-      whole_typed ShowsEndpoint endpoint_columns endpoint_stored of_endpoint is_endpoint_text (IsTypedFor endpoints) endpoint_typed (db 1) es (sound.obeys.rules Datatype).1.0 shown
+      whole_typed ShowsEndpoint endpoint_columns endpoint_stored of_endpoint is_endpoint_text (IsTypedFor endpoints)
+      endpoint_typed (db 1) es keeps.types.1.0 shown
 
   pub secrets_of : (ss : List Secret) → HasShown ShowsSecret secret_columns (db 3) ss
       → (rows : List SecretRow) × IsPermutation (map (drop 1) (db 3)) (map secret_stored rows) × AllZip StandsAt rows ss
   secrets_of ss shown =
-      all_typed ShowsSecret secret_columns (drop 1) secret_stored StandsAt (IsTypedFor secrets) secret_typed (db 3) ss (sound.obeys.rules Datatype).1.1.0 shown
+      all_typed ShowsSecret secret_columns (drop 1) secret_stored StandsAt (IsTypedFor secrets) secret_typed (db 3) ss
+      keeps.types.1.1.0 shown
 
   pub deliveries_of : (ds : List Delivery) → HasShown ShowsDelivery delivery_columns (db 5) ds
       → (rows : List DeliveryRow) × IsPermutation (db 5) (map delivery_stored rows) × (map of_delivery rows ≡ ds)
       × IsTrue (list_all (λ (d : DeliveryRow). is_msg_id d.id && (is_body d.body && is_moment d.at)) rows)
   deliveries_of ds shown =
-      whole_typed ShowsDelivery delivery_columns delivery_stored of_delivery is_delivery_text (IsTypedFor deliveries) delivery_typed (db 5) ds (sound.obeys.rules Datatype).1.1.1.0 shown
+      whole_typed ShowsDelivery delivery_columns delivery_stored of_delivery is_delivery_text (IsTypedFor deliveries)
+      delivery_typed (db 5) ds keeps.types.1.1.1.0 shown
 
   pub attempts_of : (ts : List Attempt) → HasShown ShowsAttempt attempt_columns (db 7) ts
       → (rows : List AttemptRow) × IsPermutation (db 7) (map attempt_stored rows) × (map of_attempt rows ≡ ts)
       × IsTrue (list_all (λ (t : AttemptRow). is_moment t.at) rows)
   attempts_of ts shown =
-      whole_typed ShowsAttempt attempt_columns attempt_stored of_attempt (λ (t : AttemptRow). is_moment t.at) (IsTypedFor attempts) attempt_typed (db 7) ts (sound.obeys.rules Datatype).1.1.1.1.0 shown
+      whole_typed ShowsAttempt attempt_columns attempt_stored of_attempt (λ (t : AttemptRow). is_moment t.at)
+      (IsTypedFor attempts) attempt_typed (db 7) ts keeps.types.1.1.1.1.0 shown
 
 -- ---- the rowids of a tree
 

@@ -1,9 +1,11 @@
 -- What a whole table shows.
-use Rattle.std.proofs.Common.{◌≡◌, inl, inr, ℕ, List, [], ◌∷◌, ◌++◌, map, filter, true, false, Option, None, Some, Result, Ok, Err, IfOk, IfErr, OnOk, refl, sym, ap, subst, ◌∙◌, arith}
+use Rattle.std.proofs.Common.{◌≡◌, ◌≢◌, inl, inr, ℕ, length, List, [], ◌∷◌, ◌++◌, map, filter, true, false, Option}
+use Rattle.std.proofs.Common.{None, Some, Result, Ok, Err, IfOk, IfErr, OnOk, refl, sym, ap, subst, arith}
 use Rattle.std.specs.List.{AllByRecursion, AllZip}
 use Rattle.std.specs.Prelude.{IsSome, Vec}
 use Rattle.std.specs.declared.alloc.Global.{Global}
 use Rattle.std.specs.List.Sorted.{IsPermutation}
+use Rattle.std.proofs.lemmas.List.Sorted.{length_permutation}
 use Rattle.sqlite_trees.proofs.ListLemmas.{all-permutation}
 use Rattle.sqlite.specs.Order.{Row}
 use Rattle.sqlite.specs.Term.{Term}
@@ -14,57 +16,64 @@ use Rattle.sqlite.specs.Listing.{understood}
 use Rattle.sqlite.specs.State.{State, Shown, Begins, IsUnchanged}
 use Rattle.sqlite.proofs.Callers.{command_of, IsPlain, reads_as, begins_as}
 use Rattle.spool_sql.specs.Readable.{IsRefusal}
-use Rattle.spool_sql.specs.Tables.{relay_schema}
+use Rattle.sqlite.specs.Schema.{Schema}
 use Rattle.spool_sql.proofs.BareLemmas.{understood_bare}
 use Rattle.spool_sql.proofs.UpdateLemmas.{scanned_by, shows, passes}
 use Rattle.sqlite.specs.declared.error.Error.TheVariants.{SqliteFailure}
 use Rattle.sqlite.specs.declared.error.ErrorCode.TheVariants.{OperationInterrupted}
-use Rattle.sqlite.specs.Listing.{reads_listing}
-use Rattle.sqlite_typing.specs.Types.{accepts_program}
 use Rattle.sound_tables.specs.Reading.{Shows, Fits, Finds, IsFault, IsAnswerable, IsPlainText}
 use Rattle.sound_tables.specs.Tables.{AreByFirst, HasShown, LacksShown, Tells}
-use Rattle.sound_tables.proofs.Texts.{ReadsTree, compiled_as, whole, in_order}
+use Rattle.sound_tables.proofs.Texts.{ReadsTree, ReadsUnder, compiled_as, whole, in_order}
 use Rattle.sound_tables.proofs.KeyOrder.{ShowsKey, by_first}
 
 every_row : (rows : List Row) → filter (passes [] []) rows ≡ rows
 every_row [] = refl
 every_row (r ∷ rows) = ap (λ rest. r ∷ rest) (every_row rows)
 
-module _ (text : List ℕ) (t : ℕ) (shown : List Term) (names : List (List ℕ)) (reads : ReadsTree text (whole t shown) names) (s : State) (has : s.now.schema ≡ relay_schema) where
-  is_select : command_of (understood relay_schema text) ≡ Select (record { lets = []; body = whole t shown }) names
-  is_select = ap command_of reads.is
+module _ (Known : Schema → Type 0) (text : List ℕ) (t : ℕ) (shown : List Term) (names : List (List ℕ))
+    (reads : ReadsTree Known text (whole t shown) names) (s : State) (known : Known s.now.schema) where
+  abbrev schema : Schema
+  schema = s.now.schema
 
-  is_plain : IsPlain (understood relay_schema text)
-  is_plain = subst IsPlain (sym reads.is) (refl, refl)
+  under : ReadsUnder schema text (whole t shown) names
+  under = reads.under schema known
+
+  is_select : command_of (understood schema text) ≡ Select (record { lets = []; body = whole t shown }) names
+  is_select = ap command_of under.is
+
+  is_plain : IsPlain (understood schema text)
+  is_plain = subst IsPlain (sym under.is) (refl, refl)
 
   answered : (rows : List Row) → Answers s.now (record { lets = []; body = whole t shown }) [] rows → IsPermutation (map (shows [] shown) (s.now.trees t)) rows
   answered rows h =
-      subst (λ tree. IsPermutation (map (shows [] shown) tree) rows) (every_row (s.now.trees t)) (scanned_by in_order t [] shown s.now.schema s.now.trees [] rows h)
+      subst (λ tree. IsPermutation (map (shows [] shown) tree) rows) (every_row (s.now.trees t))
+      (scanned_by in_order t [] shown schema s.now.trees [] rows h)
 
   pub shown_whole : (b : State) (rows : List Row) → Shown text [] s b rows → IsPermutation (map (shows [] shown) (s.now.trees t)) rows
-  shown_whole b rows h = answered rows (reads_as text [] s b relay_schema has _ is_select is_plain reads.unlisted rows h)
+  shown_whole b rows h = answered rows (reads_as text [] s b schema refl _ is_select is_plain under.unlisted rows h)
 
   pub shown_by_first : ShowsKey shown → (b : State) (rows : List Row) → Shown text [] s b rows → AreByFirst rows
-  shown_by_first first b rows h = by_first t shown first s.now.schema s.now.trees rows (reads_as text [] s b relay_schema has _ is_select is_plain reads.unlisted rows h)
+  shown_by_first first b rows h = by_first t shown first schema s.now.trees rows
+      (reads_as text [] s b schema refl _ is_select is_plain under.unlisted rows h)
 
   pub begun_whole : (rows : List Row) → Begins text [] s rows → (tail : List Row) × IsPermutation (map (shows [] shown) (s.now.trees t)) (rows ++ tail)
   begun_whole rows h =
-      let it = begins_as text [] s s relay_schema has _ is_select is_plain reads.unlisted rows h in
+      let it = begins_as text [] s s schema refl _ is_select is_plain under.unlisted rows h in
       (it.1.0, answered (rows ++ it.1.0) (record { typed = it.0; answer = it.1.1 }))
 
   pub answerable : IsAnswerable s.now text
   answerable = record {
     compiled = compiled_as text (whole t shown) names;
-    is = ap (λ schema. understood schema text) has ∙ reads.is;
+    is = under.is;
     alone = omega arith;
     bare = refl;
     timeless = refl;
-    unlisted = ap (λ schema. reads_listing schema text) has ∙ reads.unlisted;
+    unlisted = under.unlisted;
     taken = λ limit e. taken_by limit e;
   }
     where
       taken_by : (limit : Option ℕ) (e : Error) → RefusesToRead limit (Select (record { lets = []; body = whole t shown }) names) s.now [] e → (e ≡ SqliteFailure OperationInterrupted) × IsSome limit
-      taken_by limit e (inl mismatch) = absurd (let no = mismatch.1 in let yes = ap (λ schema. accepts_program schema [] (whole t shown) []) has ∙ reads.typed in cc)
+      taken_by limit e (inl mismatch) = absurd (let no = mismatch.1 in let yes = under.typed in cc)
       taken_by limit e (inr (inl (_, inl none))) = absurd none
       taken_by limit e (inr (inl (_, inr fold))) = absurd fold.4
       taken_by limit e (inr (inr stopped)) = (stopped.0, stopped.1)
@@ -79,13 +88,21 @@ chosen : {X : Type 0} (is_shown : Shows X) (rows tail : List Row) → AllByRecur
 chosen is_shown [] tail all = ([], tt)
 chosen is_shown (r ∷ rows) tail all = let rest = chosen is_shown rows tail all.1 in (all.0.0 ∷ rest.0, (all.0.1, rest.1))
 
-module _ {X : Type 0} (is_shown : Shows X) (text : List ℕ) (t : ℕ) (shown : List Term) (names : List (List ℕ)) (reads : ReadsTree text (whole t shown) names) (first : ShowsKey shown) (a b : State) (has : a.now.schema ≡ relay_schema) where
+module _ {X : Type 0} (is_shown : Shows X) (Known : Schema → Type 0) (text : List ℕ) (t : ℕ) (shown : List Term)
+    (names : List (List ℕ)) (reads : ReadsTree Known text (whole t shown) names) (first : ShowsKey shown) (a b : State)
+    (has : Known a.now.schema) where
   pub has_shown : (xs : List X) → Fits is_shown text a b xs true → HasShown is_shown (shows [] shown) (a.now.trees t) xs
-  has_shown xs h = (h.1.0, shown_whole text t shown names reads a has b h.1.0 h.1.1, h.1.2, shown_by_first text t shown names reads a has first b h.1.0 h.1.1)
+  has_shown xs h = (
+    h.1.0,
+    shown_whole Known text t shown names reads a has b h.1.0 h.1.1,
+    h.1.2,
+    shown_by_first Known
+        text t shown names reads a has first b h.1.0 h.1.1,
+  )
 
   pub lacks_shown : (xs : List X) → Fits is_shown text a b xs false → LacksShown is_shown (shows [] shown) (a.now.trees t)
   lacks_shown xs h all =
-      let it = begun_whole text t shown names reads a has h.1.0 h.1.1 in
+      let it = begun_whole Known text t shown names reads a has h.1.0 h.1.1 in
       let each = all-permutation (λ r. (x : X) × is_shown r x) _ _ it.1 (all_shown is_shown (shows [] shown) (a.now.trees t) all) in
       let some = chosen is_shown h.1.0 it.0 each in
       h.1.2 some.0 some.1
@@ -100,10 +117,24 @@ unchanged_by is_shown text a b (Ok (Some xs)) h = h.0
 unchanged_by is_shown text a b (Ok None) h = h.0
 unchanged_by is_shown text a b (Err e) h = tt
 
-module _ (text : List ℕ) (t : ℕ) (shown : List Term) (names : List (List ℕ)) (reads : ReadsTree text (whole t shown) names) where
+module _ (Known : Schema → Type 0) (text : List ℕ) (t : ℕ) (shown : List Term) (names : List (List ℕ))
+    (reads : ReadsTree Known text (whole t shown) names) where
   pub plain_text : IsPlainText text
   plain_text = understood_bare text reads.bare
 
-  pub refused_only : (a b : State) → a.now.schema ≡ relay_schema → {A : Type 0} (r : Result A Error) → IfErr r (IsFault text a b) → IfErr r (IsRefusal a b)
-  refused_only a b has (Ok x) h = tt
-  refused_only a b has (Err e) h = h (answerable text t shown names reads a has)
+  pub refused_only : (a b : State) → Known a.now.schema → {A : Type 0} (r : Result A Error) → IfErr r (IsFault text a b)
+      → IfErr r (IsRefusal a b)
+  refused_only a b known (Ok x) h = tt
+  refused_only a b known (Err e) h = h (answerable Known text t shown names reads a known)
+
+-- ---- a table that has no row
+
+pub none_there : {X : Type 0} (of : Row → Row) (tree : List Row) (xs : List X) → HasShown (λ _ _. ⊥) of tree xs
+    → tree ≡ []
+none_there of [] xs shown = refl
+none_there of (r ∷ tree) xs ([], same, zip, up) = absurd (let more = length_permutation _ _ same in omega (arith, more))
+none_there of (r ∷ tree) [] (s ∷ rows, same, zip, up) = absurd zip
+none_there of (r ∷ tree) (x ∷ xs) (s ∷ rows, same, zip, up) = absurd zip.0
+
+pub some_there : (X : Type 0) (of : Row → Row) (tree : List Row) → LacksShown {X = X} (λ _ _. ⊥) of tree → tree ≢ []
+some_there X of tree lacks none = lacks (subst (AllByRecursion (λ r. (x : X) × ⊥)) (sym none) tt)

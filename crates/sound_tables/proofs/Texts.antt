@@ -1,5 +1,5 @@
 -- The SELECT statements that read a whole table.
-use Rattle.std.proofs.Common.{◌≡◌, ℕ, List, [], ◌∷◌, length, codes, true, false, None, Ok, refl}
+use Rattle.std.proofs.Common.{◌≡◌, inl, inr, ℕ, List, [], ◌∷◌, length, codes, true, false, None, Ok, refl, sym, subst}
 use Rattle.sqlite.specs.Collation.TheVariants.{Binary}
 use Rattle.sqlite_value.specs.Keys.{ascending}
 use Rattle.sqlite_value.specs.declared.keys.Key.{Key}
@@ -10,7 +10,8 @@ use Rattle.sqlite.specs.Listing.{understood, reads_listing}
 use Rattle.sqlite_typing.specs.Types.{accepts_program}
 use Rattle.sqlite_resolve.specs.declared.compiled.Compiled.{Compiled}
 use Rattle.sqlite_tied.specs.Compute.{everything}
-use Rattle.spool_sql.specs.Tables.{relay_schema}
+use Rattle.sqlite.specs.Schema.{Schema}
+use Rattle.spool_sql.specs.Tables.{IsOwn, first_schema, relay_schema}
 use Rattle.spool_sql.proofs.BareLemmas.{IsBare}
 use Rattle.spool_sql.proofs.UpdateLemmas.{scan_by}
 
@@ -25,12 +26,24 @@ whole t shown = scan_by in_order t [] shown
 abbrev pub compiled_as : List ℕ → Query → List (List ℕ) → Compiled
 compiled_as text q names = record { command = Select (record { lets = []; body = q }) names; names = []; formats = []; returning = None; start = 0; end = length text; tail = length text }
 
--- under the relay's schema the text is this query, and whatever the schema is it writes nothing
-pub record ReadsTree (text : List ℕ) (q : Query) (names : List (List ℕ)) : Type 0 where
-  pub is : understood relay_schema text ≡ Ok (compiled_as text q names)
-  pub unlisted : reads_listing relay_schema text ≡ false
+-- under this schema the text is this query
+pub record ReadsUnder (schema : Schema) (text : List ℕ) (q : Query) (names : List (List ℕ)) : Type 0 where
+  pub is : understood schema text ≡ Ok (compiled_as text q names)
+  pub unlisted : reads_listing schema text ≡ false
+  pub typed : accepts_program schema [] q [] ≡ true
+
+-- so it is under these schemas, and whatever the schema is the text writes nothing
+pub record ReadsTree (Known : Schema → Type 0) (text : List ℕ) (q : Query) (names : List (List ℕ)) : Type 0 where
   pub bare : IsBare text
-  pub typed : accepts_program relay_schema [] q [] ≡ true
+  pub under : (schema : Schema) → Known schema → ReadsUnder schema text q names
+
+under_own : (text : List ℕ) (q : Query) (names : List (List ℕ)) → ReadsUnder first_schema text q names
+    → ReadsUnder relay_schema text q names → (schema : Schema) → IsOwn schema → ReadsUnder schema text q names
+under_own text q names first relay schema (inl is) = subst (λ s. ReadsUnder s text q names) (sym is) first
+under_own text q names first relay schema (inr is) = subst (λ s. ReadsUnder s text q names) (sym is) relay
+
+abbrev pub IsRelays : Schema → Type 0
+IsRelays schema = schema ≡ relay_schema
 
 abbrev pub endpoints_text : List ℕ
 endpoints_text = codes "SELECT put, name, url, max, enabled, enabled_by, secrets_by FROM endpoints ORDER BY put"
@@ -38,9 +51,27 @@ endpoints_text = codes "SELECT put, name, url, max, enabled, enabled_by, secrets
 abbrev pub endpoints_columns : List Term
 endpoints_columns = col 1 0 ∷ col 1 2 ∷ col 1 3 ∷ col 1 4 ∷ col 1 5 ∷ col 1 6 ∷ col 1 7 ∷ []
 
-pub endpoints_read : ReadsTree endpoints_text (whole 1 endpoints_columns) (codes "put" ∷ codes "name" ∷ codes "url" ∷ codes "max" ∷ codes "enabled" ∷ codes "enabled_by" ∷ codes "secrets_by" ∷ [])
+abbrev endpoints_names : List (List ℕ)
+endpoints_names = codes "put" ∷ codes "name" ∷ codes "url" ∷ codes "max" ∷ codes "enabled" ∷ codes "enabled_by" ∷
+    codes "secrets_by" ∷ []
+
+endpoints_first : ReadsUnder first_schema endpoints_text (whole 1 endpoints_columns) endpoints_names
 unfolding understood everything
-endpoints_read = record { is = refl; unlisted = refl; bare = λ schema base. refl; typed = refl }
+endpoints_first = record { is = refl; unlisted = refl; typed = refl }
+
+endpoints_relay : ReadsUnder relay_schema endpoints_text (whole 1 endpoints_columns) endpoints_names
+unfolding understood everything
+endpoints_relay = record { is = refl; unlisted = refl; typed = refl }
+
+endpoints_bare : IsBare endpoints_text
+unfolding understood everything
+endpoints_bare schema base = refl
+
+pub endpoints_read : ReadsTree IsOwn endpoints_text (whole 1 endpoints_columns) endpoints_names
+endpoints_read = record {
+  bare = endpoints_bare;
+  under = under_own endpoints_text (whole 1 endpoints_columns) endpoints_names endpoints_first endpoints_relay;
+}
 
 abbrev pub secrets_text : List ℕ
 secrets_text = codes "SELECT rowid, endpoint, place, secret FROM secrets ORDER BY rowid"
@@ -48,9 +79,26 @@ secrets_text = codes "SELECT rowid, endpoint, place, secret FROM secrets ORDER B
 abbrev pub secrets_columns : List Term
 secrets_columns = col 1 0 ∷ col 1 1 ∷ col 1 2 ∷ col 1 3 ∷ []
 
-pub secrets_read : ReadsTree secrets_text (whole 3 secrets_columns) (codes "rowid" ∷ codes "endpoint" ∷ codes "place" ∷ codes "secret" ∷ [])
+abbrev secrets_names : List (List ℕ)
+secrets_names = codes "rowid" ∷ codes "endpoint" ∷ codes "place" ∷ codes "secret" ∷ []
+
+secrets_first : ReadsUnder first_schema secrets_text (whole 3 secrets_columns) secrets_names
 unfolding understood everything
-secrets_read = record { is = refl; unlisted = refl; bare = λ schema base. refl; typed = refl }
+secrets_first = record { is = refl; unlisted = refl; typed = refl }
+
+secrets_relay : ReadsUnder relay_schema secrets_text (whole 3 secrets_columns) secrets_names
+unfolding understood everything
+secrets_relay = record { is = refl; unlisted = refl; typed = refl }
+
+secrets_bare : IsBare secrets_text
+unfolding understood everything
+secrets_bare schema base = refl
+
+pub secrets_read : ReadsTree IsOwn secrets_text (whole 3 secrets_columns) secrets_names
+secrets_read = record {
+  bare = secrets_bare;
+  under = under_own secrets_text (whole 3 secrets_columns) secrets_names secrets_first secrets_relay;
+}
 
 abbrev pub deliveries_text : List ℕ
 deliveries_text = codes "SELECT seq, endpoint, id, at, body FROM deliveries ORDER BY seq"
@@ -58,9 +106,26 @@ deliveries_text = codes "SELECT seq, endpoint, id, at, body FROM deliveries ORDE
 abbrev pub deliveries_columns : List Term
 deliveries_columns = col 1 0 ∷ col 1 2 ∷ col 1 3 ∷ col 1 4 ∷ col 1 5 ∷ []
 
-pub deliveries_read : ReadsTree deliveries_text (whole 5 deliveries_columns) (codes "seq" ∷ codes "endpoint" ∷ codes "id" ∷ codes "at" ∷ codes "body" ∷ [])
+abbrev deliveries_names : List (List ℕ)
+deliveries_names = codes "seq" ∷ codes "endpoint" ∷ codes "id" ∷ codes "at" ∷ codes "body" ∷ []
+
+deliveries_first : ReadsUnder first_schema deliveries_text (whole 5 deliveries_columns) deliveries_names
 unfolding understood everything
-deliveries_read = record { is = refl; unlisted = refl; bare = λ schema base. refl; typed = refl }
+deliveries_first = record { is = refl; unlisted = refl; typed = refl }
+
+deliveries_relay : ReadsUnder relay_schema deliveries_text (whole 5 deliveries_columns) deliveries_names
+unfolding understood everything
+deliveries_relay = record { is = refl; unlisted = refl; typed = refl }
+
+deliveries_bare : IsBare deliveries_text
+unfolding understood everything
+deliveries_bare schema base = refl
+
+pub deliveries_read : ReadsTree IsOwn deliveries_text (whole 5 deliveries_columns) deliveries_names
+deliveries_read = record {
+  bare = deliveries_bare;
+  under = under_own deliveries_text (whole 5 deliveries_columns) deliveries_names deliveries_first deliveries_relay;
+}
 
 abbrev pub attempts_text : List ℕ
 attempts_text = codes "SELECT seq, delivery, number, status, at FROM attempts ORDER BY seq"
@@ -68,9 +133,26 @@ attempts_text = codes "SELECT seq, delivery, number, status, at FROM attempts OR
 abbrev pub attempts_columns : List Term
 attempts_columns = col 1 0 ∷ col 1 2 ∷ col 1 3 ∷ col 1 4 ∷ col 1 5 ∷ []
 
-pub attempts_read : ReadsTree attempts_text (whole 7 attempts_columns) (codes "seq" ∷ codes "delivery" ∷ codes "number" ∷ codes "status" ∷ codes "at" ∷ [])
+abbrev attempts_names : List (List ℕ)
+attempts_names = codes "seq" ∷ codes "delivery" ∷ codes "number" ∷ codes "status" ∷ codes "at" ∷ []
+
+attempts_first : ReadsUnder first_schema attempts_text (whole 7 attempts_columns) attempts_names
 unfolding understood everything
-attempts_read = record { is = refl; unlisted = refl; bare = λ schema base. refl; typed = refl }
+attempts_first = record { is = refl; unlisted = refl; typed = refl }
+
+attempts_relay : ReadsUnder relay_schema attempts_text (whole 7 attempts_columns) attempts_names
+unfolding understood everything
+attempts_relay = record { is = refl; unlisted = refl; typed = refl }
+
+attempts_bare : IsBare attempts_text
+unfolding understood everything
+attempts_bare schema base = refl
+
+pub attempts_read : ReadsTree IsOwn attempts_text (whole 7 attempts_columns) attempts_names
+attempts_read = record {
+  bare = attempts_bare;
+  under = under_own attempts_text (whole 7 attempts_columns) attempts_names attempts_first attempts_relay;
+}
 
 abbrev pub meta_text : List ℕ
 meta_text = codes "SELECT k, app, version, records FROM meta ORDER BY k"
@@ -78,6 +160,44 @@ meta_text = codes "SELECT k, app, version, records FROM meta ORDER BY k"
 abbrev pub meta_columns : List Term
 meta_columns = col 1 0 ∷ col 1 2 ∷ col 1 3 ∷ col 1 4 ∷ []
 
-pub meta_read : ReadsTree meta_text (whole 0 meta_columns) (codes "k" ∷ codes "app" ∷ codes "version" ∷ codes "records" ∷ [])
+abbrev meta_names : List (List ℕ)
+meta_names = codes "k" ∷ codes "app" ∷ codes "version" ∷ codes "records" ∷ []
+
+meta_first : ReadsUnder first_schema meta_text (whole 0 meta_columns) meta_names
 unfolding understood everything
-meta_read = record { is = refl; unlisted = refl; bare = λ schema base. refl; typed = refl }
+meta_first = record { is = refl; unlisted = refl; typed = refl }
+
+meta_relay : ReadsUnder relay_schema meta_text (whole 0 meta_columns) meta_names
+unfolding understood everything
+meta_relay = record { is = refl; unlisted = refl; typed = refl }
+
+meta_bare : IsBare meta_text
+unfolding understood everything
+meta_bare schema base = refl
+
+pub meta_read : ReadsTree IsOwn meta_text (whole 0 meta_columns) meta_names
+meta_read = record {
+  bare = meta_bare;
+  under = under_own meta_text (whole 0 meta_columns) meta_names meta_first meta_relay;
+}
+
+abbrev pub topics_text : List ℕ
+topics_text = codes "SELECT rowid FROM topics ORDER BY rowid"
+
+abbrev pub topics_columns : List Term
+topics_columns = col 1 0 ∷ []
+
+topics_under : ReadsUnder relay_schema topics_text (whole 9 topics_columns) (codes "rowid" ∷ [])
+unfolding understood everything
+topics_under = record { is = refl; unlisted = refl; typed = refl }
+
+topics_bare : IsBare topics_text
+unfolding understood everything
+topics_bare schema base = refl
+
+pub topics_read : ReadsTree IsRelays topics_text (whole 9 topics_columns) (codes "rowid" ∷ [])
+topics_read = record {
+  bare = topics_bare;
+  under = λ schema is. subst (λ s. ReadsUnder s topics_text (whole 9 topics_columns) (codes "rowid" ∷ [])) (sym is)
+      topics_under;
+}

@@ -1,8 +1,9 @@
 -- Which tables are adopted, and why others aren't.
-use Rattle.std.specs.Prelude.{◌≡◌, ◌≢◌, ◌<◌, ◌≤◌, ◌⊎◌, ℕ, pos, true, [], ◌∷◌, Vec, Option, Some, None, int_lt, IsTrue}
+use Rattle.std.specs.Prelude.{◌≡◌, ◌≢◌, ◌<◌, ◌⊎◌, false, ℕ, pos, true, [], ◌∷◌, Vec, Option, Some, None, int_lt, IsTrue}
 use Rattle.std.specs.declared.alloc.Global.{Global}
 use Rattle.sqlite.specs.Order.{Row}
 use Rattle.sqlite.specs.Effect.{Database}
+use Rattle.sqlite.specs.Schema.{Schema}
 use Rattle.sqlite.specs.State.{State}
 use Rattle.relay_types.specs.Rows.{Rows}
 use Rattle.relay_types.specs.Sound.{AreKeyed, IsRisingFrom, are_sound}
@@ -14,15 +15,17 @@ use Rattle.sound_rows.specs.declared.numbers.Attempt.{Attempt}
 use Rattle.spool_sql.specs.Causes.{cause}
 use Rattle.spool_sql.specs.declared.cause.Cause.TheVariants.{Other}
 use Rattle.spool_sql.specs.Readable.{IsRefusal}
-use Rattle.spool_sql.specs.Stored.{IsTables}
-use Rattle.spool_sql.specs.Tables.{relay_schema}
+use Rattle.spool_sql.specs.Stored.{IsTables, IsTablesOf}
 use Rattle.sound_tables.specs.Shown.{ShowsMeta, ShowsEndpoint, ShowsSecret, ShowsDelivery, ShowsAttempt}
 use Rattle.sound_tables.specs.Tables.{HasShown, LacksShown, Tells, meta_columns, endpoint_columns, secret_columns, delivery_columns, attempt_columns}
 use Rattle.sound_tables.specs.declared.meta.Meta.{Meta}
 use Rattle.sound_tables.specs.declared.secret.Secret.{Secret}
 use Rattle.sound_tables.specs.declared.stored.StoredRows.{StoredRows}
 use Rattle.sound_tables.specs.declared.fault.TableFault.{TableFault}
-use Rattle.sound_tables.specs.declared.fault.TableFault.TheVariants.{NotOurs, NewerVersion, Damaged, Failed}
+use Rattle.sound_tables.specs.declared.fault.TableFault.TheVariants.{NotOurs, NewerVersion, OldVersion, Damaged, Failed}
+use Rattle.sound_tables.specs.declared.version.Version.{Version}
+use Rattle.sound_tables.specs.declared.version.Version.TheVariants.{First, Second}
+use Rattle.sound_tables.specs.Versions.{has_names_of, number_of, schema_of}
 
 -- the tables have these rows, which are such as a legal history has
 pub record AreSoundTables (db : Database) (rows : Rows) : Type 0 where
@@ -30,23 +33,62 @@ pub record AreSoundTables (db : Database) (rows : Rows) : Type 0 where
   pub keyed : AreKeyed rows
   pub sound : IsTrue (are_sound rows)
 
+-- the five tables that a version has of a history's rows have these, which are such, under this schema
+pub record AreSoundUnder (schema : Schema) (version : ℕ) (db : Database) (rows : Rows) : Type 0 where
+  pub tables : IsTablesOf schema version db rows
+  pub keyed : AreKeyed rows
+  pub sound : IsTrue (are_sound rows)
+
+abbrev pub AreSoundFive : Version → Database → Rows → Type 0
+AreSoundFive v = AreSoundUnder (schema_of v) (number_of v)
+
+-- tables of version 1 have these rows, which are such
+abbrev pub AreSoundFirstTables : Database → Rows → Type 0
+AreSoundFirstTables = AreSoundFive First
+
 -- the one row of meta names the relay
 abbrev pub HasMeta : Database → Meta → Type 0
 HasMeta db m = (row : Row) × (db.trees 0 ≡ row ∷ []) × ShowsMeta (meta_columns row) m
 
--- What each refusal says of the tables: they aren't the relay's; they are of a later version; they are the relay's, of no later version, and
--- no sound rows are theirs; or a statement was refused by the store or for memory.
-abbrev pub IsRefusedAt : Database → TableFault → Type 0
-IsRefusedAt db NotOurs = (m : Meta) → ¬ HasMeta db m
-IsRefusedAt db NewerVersion = (m : Meta) × HasMeta db m × (version : ℕ) × (m.version ≡ pos version) × (1 < version)
-IsRefusedAt db Damaged =
-    (m : Meta) × HasMeta db m × ((version : ℕ) → m.version ≡ pos version → version ≤ 1) × ((rows : Rows) → ¬ AreSoundTables db rows)
-IsRefusedAt db (Failed error) = cause error ≢ Other
+-- it tells a version for which this holds
+abbrev pub HasVersion : Database → (ℕ → Type 0) → Type 0
+HasVersion db P = (m : Meta) × HasMeta db m × (version : ℕ) × (m.version ≡ pos version) × P version
 
--- Why sound tables are refused: memory was, the store failed under this name, or a query took more steps than the connection may.
+-- if it tells a version that is a number, this holds of it
+abbrev pub HasNoVersionBut : Database → (ℕ → Type 0) → Type 0
+HasNoVersionBut db P = (m : Meta) × HasMeta db m × ((version : ℕ) → m.version ≡ pos version → P version)
+
+module _ (v : Version) (AreSound : Database → Rows → Type 0) (db : Database) where
+  -- What each refusal of a look at meta says, where tables of this version are looked for: meta isn't the relay's; it
+  -- tells a later version, or an older one; or it tells this version or none that there is, and no sound rows are
+  -- theirs. Or a statement was refused by the store or for memory.
+  abbrev pub IsRefusedMeta : TableFault → Type 0
+  IsRefusedMeta NotOurs = (m : Meta) → ¬ HasMeta db m
+  IsRefusedMeta NewerVersion = HasVersion db (λ version. number_of v < version)
+  IsRefusedMeta OldVersion = HasVersion db (λ version. (0 < version) × (version < number_of v))
+  IsRefusedMeta Damaged =
+      HasNoVersionBut db (λ version. (version ≡ 0) ⊎ (version ≡ number_of v)) × ((rows : Rows) → ¬ AreSound db rows)
+  IsRefusedMeta (Failed error) = cause error ≢ Other
+
+  -- The same of a look at all tables. They aren't the relay's either where one of their names is no table's.
+  abbrev pub Refuses : TableFault → Type 0
+  Refuses NotOurs = IsRefusedMeta NotOurs ⊎ (has_names_of v db.schema ≡ false)
+  Refuses fault = IsRefusedMeta fault
+
+-- what each refusal says of the tables
+abbrev pub IsRefusedAt : Database → TableFault → Type 0
+IsRefusedAt = Refuses Second AreSoundTables
+
+-- and of tables of which those of version 1 are asked for
+abbrev pub IsFirstRefusedAt : Database → TableFault → Type 0
+IsFirstRefusedAt = Refuses First AreSoundFirstTables
+
+-- Why sound tables are refused: memory was, the store failed under this name, or a query took more steps than the
+-- connection may.
 abbrev pub IsSoundRefusal : (old new : State) → TableFault → Type 0
 IsSoundRefusal old new NotOurs = ⊥
 IsSoundRefusal old new NewerVersion = ⊥
+IsSoundRefusal old new OldVersion = ⊥
 IsSoundRefusal old new Damaged = ⊥
 IsSoundRefusal old new (Failed error) = IsRefusal old new error
 
@@ -54,15 +96,32 @@ IsSoundRefusal old new (Failed error) = IsRefusal old new error
 abbrev pub RefusesSound : (old new : State) → TableFault → Type 0
 RefusesSound old new fault = (rows : Rows) → AreSoundTables old.now rows → IsSoundRefusal old new fault
 
+-- and so are those of version 1
+abbrev pub RefusesFirst : (old new : State) → TableFault → Type 0
+RefusesFirst old new fault = (rows : Rows) → AreSoundFirstTables old.now rows → IsSoundRefusal old new fault
+
+-- and so are tables of a version that is asked for
+abbrev pub RefusesFive : Version → (old new : State) → TableFault → Type 0
+RefusesFive v old new fault = (rows : Rows) → AreSoundFive v old.now rows → IsSoundRefusal old new fault
+
+-- Tables of version 1 are told as such, or refused so.
+abbrev pub IsOldRefusal : (old new : State) → TableFault → Type 0
+IsOldRefusal old new OldVersion = Unit {0}
+IsOldRefusal old new fault = IsSoundRefusal old new fault
+
+-- where those of version 2 are asked for
+abbrev pub RefusesOld : (old new : State) → TableFault → Type 0
+RefusesOld old new fault = (rows : Rows) → AreSoundFirstTables old.now rows → IsOldRefusal old new fault
+
 -- sound rows of so many records are theirs
-abbrev pub HasSound : Database → ℕ → Type 0
-HasSound db records = (rows : Rows) × AreSoundTables db rows × (rows.records ≡ records)
+abbrev pub HasSound : (Database → Rows → Type 0) → Database → ℕ → Type 0
+HasSound AreSound db records = (rows : Rows) × AreSound db rows × (rows.records ≡ records)
 
 -- ---- what is read
 
 -- meta tells the relay, this version and so many records
-abbrev pub HasRecords : Database → ℕ → Type 0
-HasRecords db records = HasMeta db (record { key = pos 1; version = pos 1; records = pos records })
+abbrev pub HasRecords : (version : ℕ) → Database → ℕ → Type 0
+HasRecords version db records = HasMeta db (record { key = pos 1; version = pos version; records = pos records })
 
 abbrev pub TellsEndpoints : Database → Option (Vec Endpoint Global) → Option (Vec Secret Global) → Type 0
 TellsEndpoints db endpoints secrets =
@@ -72,7 +131,7 @@ abbrev pub TellsEvents : Database → Option (Vec Delivery Global) → Option (V
 TellsEvents db deliveries attempts =
     Tells ShowsDelivery delivery_columns (db.trees 5) deliveries × Tells ShowsAttempt attempt_columns (db.trees 7) attempts
 
--- the rows of the four tables show these values
+-- the rows of the four tables beside meta show these values
 pub record AreShown (db : Database) (rows : StoredRows) : Type 0 where
   pub endpoints : HasShown ShowsEndpoint endpoint_columns (db.trees 1) rows.endpoints.items
   pub secrets : HasShown ShowsSecret secret_columns (db.trees 3) rows.secrets.items
@@ -94,9 +153,16 @@ pub record AreInOrder (rows : StoredRows) : Type 0 where
   pub deliveries : IsRisingFrom (λ (d : Delivery). d.seq) 0 rows.deliveries.items
   pub attempts : IsRisingFrom (λ (t : Attempt). t.seq) 0 rows.attempts.items
 
--- all that is read of a database that obeys the relay's schema
-pub record AreRead (db : Database) (records : ℕ) (rows : StoredRows) : Type 0 where
-  pub schema_is : db.schema ≡ relay_schema
-  pub obeys : IsSound relay_schema db.trees
-  pub meta : HasRecords db records
+-- all that is read of the five tables of a database that obeys this schema
+pub record AreRead (schema : Schema) (version : ℕ) (db : Database) (records : ℕ) (rows : StoredRows) : Type 0 where
+  pub schema_is : db.schema ≡ schema
+  pub obeys : IsSound schema db.trees
+  pub meta : HasRecords version db records
   pub shown : AreShown db rows
+
+-- What a judgement of what was read says: it has no sound rows, memory was refused, or the rows aren't in the order
+-- that was asked for.
+abbrev pub IsJudgedUnder : (schema : Schema) (version : ℕ) → Database → TableFault → Type 0
+IsJudgedUnder schema version db Damaged = (rows : Rows) → ¬ AreSoundUnder schema version db rows
+IsJudgedUnder schema version db (Failed error) = cause error ≢ Other
+IsJudgedUnder schema version db other = ⊥

@@ -14,9 +14,15 @@ has_table schema name = is_some (table_named schema name)
 abbrev pub has_meta : Schema → Bool
 has_meta schema = has_table schema (codes "meta")
 
--- each of the five names is a table's, whatever stands beside them
+-- each of the five names of version 1 is a table's, whatever stands beside them
+abbrev pub has_first_names : Schema → Bool
+has_first_names schema =
+    has_meta schema && (has_table schema (codes "endpoints") && (has_table schema (codes "secrets")
+    && (has_table schema (codes "deliveries") && has_table schema (codes "attempts"))))
+
+-- and so is the sixth, of version 2
 abbrev pub has_names : Schema → Bool
-has_names schema = has_meta schema && (has_table schema (codes "endpoints") && (has_table schema (codes "secrets") && (has_table schema (codes "deliveries") && has_table schema (codes "attempts"))))
+has_names schema = has_first_names schema && has_table schema (codes "topics")
 
 -- ---- the keys, by the places of their columns, of which the first is 1
 
@@ -52,6 +58,16 @@ is_deliveries t = same_name t.name (codes "deliveries") && (is_numbered t.key &&
 abbrev pub is_attempts : Table → Bool
 is_attempts t = same_name t.name (codes "attempts") && (is_numbered t.key && (is_unique t (2 ∷ 3 ∷ []) && refers t 2 (codes "deliveries") (codes "seq")))
 
--- the relay's five tables stand with their keys, whatever stands beside them
+abbrev pub is_topics : Table → Bool
+is_topics t =
+    same_name t.name (codes "topics") && (is_unique t (1 ∷ 2 ∷ []) && refers t 2 (codes "endpoints") (codes "put"))
+
+-- the five tables of version 1 stand with their keys, whatever stands beside them
+abbrev pub has_first_tables : Schema → Bool
+has_first_tables schema =
+    has_meta schema && (list_any is_endpoints schema.tables && (list_any is_secrets schema.tables
+    && (list_any is_deliveries schema.tables && list_any is_attempts schema.tables)))
+
+-- and so does the sixth, of version 2
 abbrev pub has_tables : Schema → Bool
-has_tables schema = has_meta schema && (list_any is_endpoints schema.tables && (list_any is_secrets schema.tables && (list_any is_deliveries schema.tables && list_any is_attempts schema.tables)))
+has_tables schema = has_first_tables schema && list_any is_topics schema.tables

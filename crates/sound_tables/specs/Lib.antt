@@ -5,3 +5,4 @@ pub mod Reading
 pub mod Shown
 pub mod Tables
 pub mod Unsound
+pub mod Versions

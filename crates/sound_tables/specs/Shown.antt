@@ -10,6 +10,7 @@ use Rattle.sound_rows.specs.declared.numbers.Attempt.{Attempt}
 use Rattle.spool_sql.specs.Stored.{flag_number}
 use Rattle.sound_tables.specs.declared.meta.Meta.{Meta}
 use Rattle.sound_tables.specs.declared.secret.Secret.{Secret}
+use Rattle.sound_tables.specs.declared.topic.Topic.{Topic}
 
 -- the row of the relay's meta
 pub record ShowsMeta (row : Row) (m : Meta) : Type 0 where
@@ -51,3 +52,7 @@ pub record ShowsAttempt (row : Row) (t : Attempt) : Type 0 where
   pub status : column row 3 ≡ Int (pos t.status)
   pub at : (at : ℕ) × (column row 4 ≡ Int (pos at)) × IsTrue (is_moment at)
   pub fits : t.status < 2 ^ 16
+
+-- no record gives the table of topics a row yet, so none of its rows shows one
+abbrev pub ShowsTopic : Row → Topic → Type 0
+ShowsTopic row topic = ⊥

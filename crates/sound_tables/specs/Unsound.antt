@@ -7,11 +7,15 @@ use Rattle.sqlite_trees.specs.declared.store.Shape.TheVariants.{Table}
 use Rattle.sqlite_trees.specs.Objects.{catalog_tree}
 use Rattle.sqlite_trees.specs.Tree.{has_rowid}
 use Rattle.sqlite_trees.specs.View.{View}
+use Rattle.sqlite_trees.specs.View.{Tells as TellsStore}
+use Rattle.sqlite_trees.specs.declared.error.StoreError.{StoreError}
+use Rattle.sqlite.specs.declared.error.Error.{Error}
+use Rattle.sqlite.specs.State.{store_error}
 use Rattle.sound_tables.specs.Shown.{ShowsMeta}
 use Rattle.sound_tables.specs.Tables.{meta_columns}
 use Rattle.sound_tables.specs.declared.meta.Meta.{Meta}
 use Rattle.sound_tables.specs.declared.fault.TableFault.{TableFault}
-use Rattle.sound_tables.specs.declared.fault.TableFault.TheVariants.{NotOurs, NewerVersion, Damaged, Failed}
+use Rattle.sound_tables.specs.declared.fault.TableFault.TheVariants.{NotOurs, NewerVersion, OldVersion, Damaged, Failed}
 
 abbrev pub is_text : Value → List ℕ → Bool
 is_text (Text own) text = bytes_eq own text
@@ -56,6 +60,19 @@ ReadsRelay v None = (m : Meta) → NamesRelay v m → ⊥
 -- As what the store is told: it doesn't name the relay; it names it, of a later version; or of no later version. Or a look at it was refused.
 abbrev pub IsToldUnsound : View → TableFault → Type 0
 IsToldUnsound v NotOurs = (m : Meta) → NamesRelay v m → ⊥
-IsToldUnsound v NewerVersion = (m : Meta) × NamesRelay v m × (version : ℕ) × (m.version ≡ pos version) × (1 < version)
-IsToldUnsound v Damaged = (m : Meta) × NamesRelay v m × ((version : ℕ) → m.version ≡ pos version → version ≤ 1)
+IsToldUnsound v NewerVersion = (m : Meta) × NamesRelay v m × (version : ℕ) × (m.version ≡ pos version) × (2 < version)
+IsToldUnsound v OldVersion = ⊥
+IsToldUnsound v Damaged = (m : Meta) × NamesRelay v m × ((version : ℕ) → m.version ≡ pos version → version ≤ 2)
 IsToldUnsound v (Failed error) = Unit {0}
+
+-- the error is the name of a fault of the store, which it told last, where it keeps that
+abbrev pub IsOfStore : Option StoreError → Error → Type 0
+IsOfStore blamed error = (why : StoreError) × (error ≡ store_error why) × TellsStore blamed why
+
+-- a refused look is told so
+abbrev pub TellsFailed : Option StoreError → TableFault → Type 0
+TellsFailed blamed NotOurs = Unit {0}
+TellsFailed blamed NewerVersion = Unit {0}
+TellsFailed blamed OldVersion = Unit {0}
+TellsFailed blamed Damaged = Unit {0}
+TellsFailed blamed (Failed error) = IsOfStore blamed error

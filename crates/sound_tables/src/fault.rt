@@ -8,6 +8,8 @@ pub enum TableFault {
     NotOurs,
     /// The tables are of a later version.
     NewerVersion,
+    /// The tables are of an older version.
+    OldVersion,
     /// The version is below 1, or the rows aren't such as a legal history has.
     Damaged,
     /// A statement was refused.

@@ -1,8 +1,10 @@
 //! Whether the rows that were read are such as a legal history has.
-ghost use Rattle.std.specs.Prelude.{◌≡◌, ◌⊎◌, IfOk, IfErr, MatchBool, MatchResult};
+ghost use Rattle.std.specs.Prelude.{◌≡◌, ◌⊎◌, ℕ, IfOk, IfErr, MatchBool, MatchResult};
 ghost use Rattle.sqlite.specs.Effect.{Database};
 ghost use Rattle.relay_types.specs.Rows.{Rows};
-ghost use Rattle.sound_tables.specs.Checks.{AreInOrder, AreRead, AreSoundTables, HasSound, IsRefusedAt};
+ghost use Rattle.sqlite.specs.Schema.{Schema};
+ghost use Rattle.spool_sql.specs.Tables.{IsOwn};
+ghost use Rattle.sound_tables.specs.Checks.{AreInOrder, AreRead, AreSoundUnder, HasSound, IsJudgedUnder};
 
 use crate::fault::TableFault;
 use crate::places::are_in_places;
@@ -13,7 +15,9 @@ use std::alloc::{AllocError, Global};
 
 /// How many records the rows tell of, where they are such as a legal history has.
 pub(crate) fn judge(records: u64, rows: StoredRows, alloc: Global) -> Result<u64, TableFault>
-    ensures judged { (db : Database) → AreRead db records rows → MatchResult result (HasSound db) (IsRefusedAt db) }
+    ensures judged { (schema : Schema) (version : ℕ) (db : Database) → IsOwn schema
+        → AreRead schema version db records rows
+        → MatchResult result (HasSound (AreSoundUnder schema version) db) (IsJudgedUnder schema version db) }
     ensures told { AreInOrder rows → IfErr result (λ why. (why ≡ TableFault.Damaged)
         ⊎ (why ≡ TableFault.Failed (Error.SqliteFailure ErrorCode.OutOfMemory))) }
 {
@@ -30,8 +34,10 @@ pub(crate) fn judge(records: u64, rows: StoredRows, alloc: Global) -> Result<u64
 
 fn are_sound(records: u64, rows: StoredRows, alloc: Global) -> Result<bool, AllocError>
     requires { AreInOrder rows }
-    ensures { IfOk result (λ sound. (db : Database) → AreRead db records rows
-        → MatchBool sound (HasSound db records) ((all : Rows) → ¬ AreSoundTables db all)) }
+    ensures { IfOk result (λ sound. (schema : Schema) (version : ℕ) (db : Database) → IsOwn schema
+        → AreRead schema version db records rows
+        → MatchBool sound (HasSound (AreSoundUnder schema version) db records)
+        ((all : Rows) → ¬ AreSoundUnder schema version db all)) }
 {
     let StoredRows {
         endpoints,

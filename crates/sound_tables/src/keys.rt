@@ -1,14 +1,37 @@
 //! Which tables a store has of the relay's, by their names and their keys.
 ghost use Rattle.std.specs.Prelude.{◌≡◌};
 ghost use Rattle.std.specs.List.{list_any};
-ghost use Rattle.sound_tables.specs.Keys.{has_names, has_tables, is_attempts, is_deliveries, is_endpoints, is_numbered, is_reference, is_secrets, is_unique, refers};
+ghost use Rattle.sound_tables.specs.Keys.{has_first_names, has_first_tables, is_attempts, is_deliveries, is_endpoints};
+ghost use Rattle.sound_tables.specs.Keys.{is_numbered, is_reference, is_secrets, is_topics, is_unique, refers};
+ghost use Rattle.sound_tables.specs.Versions.{has_names_of, has_tables_of};
 
+use crate::version::Version;
 use sqlite_schema::names::same_name;
 use sqlite_schema::schema::{Reference, Schema, Table};
 
-/// Whether each of the five names is a table's.
-pub(crate) fn has_names(schema: &Schema) -> bool
-    ensures { result ≡ has_names schema.now }
+/// Whether there is a table of each name of this version.
+pub(crate) fn has_names(schema: &Schema, version: Version) -> bool
+    ensures { result ≡ has_names_of version schema.now }
+{
+    match version {
+        Version::First => has_first_names(schema),
+        Version::Second => has_first_names(schema) && schema.table_named(b"topics").is_some(),
+    }
+}
+
+/// Whether the tables of this version are there, with their keys.
+pub(crate) fn has_tables(schema: &Schema, version: Version) -> bool
+    ensures { result ≡ has_tables_of version schema.now }
+{
+    match version {
+        Version::First => has_first_tables(schema),
+        Version::Second => has_first_tables(schema) && has_topics(schema.tables.as_slice()),
+    }
+}
+
+// Whether there is a table of each of the five names.
+fn has_first_names(schema: &Schema) -> bool
+    ensures { result ≡ has_first_names schema.now }
 {
     schema.table_named(b"meta").is_some()
         && schema.table_named(b"endpoints").is_some()
@@ -17,9 +40,9 @@ pub(crate) fn has_names(schema: &Schema) -> bool
         && schema.table_named(b"attempts").is_some()
 }
 
-/// Whether the relay's five tables stand with their keys.
-pub(crate) fn has_tables(schema: &Schema) -> bool
-    ensures { result ≡ has_tables schema.now }
+// Whether the five tables are there, with their keys.
+fn has_first_tables(schema: &Schema) -> bool
+    ensures { result ≡ has_first_tables schema.now }
 {
     let tables = schema.tables.as_slice();
     schema.table_named(b"meta").is_some()
@@ -53,6 +76,12 @@ fn has_attempts(tables: &[Table]) -> bool
     tables.iter().any(|t| is_attempts(t))
 }
 
+fn has_topics(tables: &[Table]) -> bool
+    ensures { result ≡ list_any is_topics tables.now }
+{
+    tables.iter().any(|t| is_topics(t))
+}
+
 fn is_endpoints(table: &Table) -> bool
     ensures { result ≡ is_endpoints table.now }
 {
@@ -83,6 +112,12 @@ fn is_attempts(table: &Table) -> bool
         && is_numbered(table.key)
         && is_unique(table, &[2, 3])
         && refers(table, 2, b"deliveries", b"seq")
+}
+
+fn is_topics(table: &Table) -> bool
+    ensures { result ≡ is_topics table.now }
+{
+    table.is_named(b"topics") && is_unique(table, &[1, 2]) && refers(table, 2, b"endpoints", b"put")
 }
 
 // Whether the rowid is the first column.

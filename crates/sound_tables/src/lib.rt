@@ -17,9 +17,11 @@ mod records;
 mod secret;
 mod stored;
 mod tables;
+mod topic;
 mod unsound;
 mod value;
+mod version;
 
-pub use crate::check::check_tables;
+pub use crate::check::{check_first_tables, check_tables};
 pub use crate::fault::TableFault;
 pub use crate::unsound::judge_unsound;

@@ -1,10 +1,10 @@
 //! The rows of the four tables beside `meta`.
-ghost use Rattle.std.specs.Prelude.{◌≡◌, IfOk, IfErr, OnOk};
+ghost use Rattle.std.specs.Prelude.{IfOk, IfErr, OnOk};
 ghost use Rattle.sqlite.specs.Effect.{Database};
 ghost use Rattle.sqlite.specs.State.{IsUnchanged};
 ghost use Rattle.spool_sql.specs.Readable.{IsRefusal};
 ghost use Rattle.spool_sql.specs.Steps.{IfClean};
-ghost use Rattle.spool_sql.specs.Tables.{relay_schema};
+ghost use Rattle.spool_sql.specs.Tables.{IsOwn};
 ghost use Rattle.sound_tables.specs.Checks.{TellsStored, TellsEndpoints, TellsEvents};
 ghost use Rattle.sound_tables.specs.Reading.{Looks};
 
@@ -29,10 +29,10 @@ pub(crate) fn read_stored<S: Alter>(
     alloc: Global,
 ) -> Result<Option<StoredRows>, Error>
     ensures looks { Looks S.Store conn.old conn.new }
-    ensures found { IfClean S.Store conn.old conn.new (λ a _. a.now.schema ≡ relay_schema
+    ensures found { IfClean S.Store conn.old conn.new (λ a _. IsOwn a.now.schema
         → IfOk result (TellsStored a.now)) }
     ensures same { IfClean S.Store conn.old conn.new (λ a b. OnOk result (IsUnchanged a b)) }
-    ensures fault { IfClean S.Store conn.old conn.new (λ a b. a.now.schema ≡ relay_schema
+    ensures fault { IfClean S.Store conn.old conn.new (λ a b. IsOwn a.now.schema
         → IfErr result (IsRefusal a b)) }
 {
     let (endpoints, secrets) = read_endpoint_tables(conn, alloc)?;
@@ -45,10 +45,10 @@ fn read_endpoint_tables<S: Alter>(
     alloc: Global,
 ) -> Result<(Option<Vec<Endpoint>>, Option<Vec<Secret>>), Error>
     ensures looks { Looks S.Store conn.old conn.new }
-    ensures found { IfClean S.Store conn.old conn.new (λ a _. a.now.schema ≡ relay_schema
+    ensures found { IfClean S.Store conn.old conn.new (λ a _. IsOwn a.now.schema
         → IfOk result (λ told. TellsEndpoints a.now told.0 told.1)) }
     ensures same { IfClean S.Store conn.old conn.new (λ a b. OnOk result (IsUnchanged a b)) }
-    ensures fault { IfClean S.Store conn.old conn.new (λ a b. a.now.schema ≡ relay_schema
+    ensures fault { IfClean S.Store conn.old conn.new (λ a b. IsOwn a.now.schema
         → IfErr result (IsRefusal a b)) }
 {
     let endpoints = read_endpoints(conn, alloc)?;
@@ -61,10 +61,10 @@ fn read_event_tables<S: Alter>(
     alloc: Global,
 ) -> Result<(Option<Vec<Delivery>>, Option<Vec<Attempt>>), Error>
     ensures looks { Looks S.Store conn.old conn.new }
-    ensures found { IfClean S.Store conn.old conn.new (λ a _. a.now.schema ≡ relay_schema
+    ensures found { IfClean S.Store conn.old conn.new (λ a _. IsOwn a.now.schema
         → IfOk result (λ told. TellsEvents a.now told.0 told.1)) }
     ensures same { IfClean S.Store conn.old conn.new (λ a b. OnOk result (IsUnchanged a b)) }
-    ensures fault { IfClean S.Store conn.old conn.new (λ a b. a.now.schema ≡ relay_schema
+    ensures fault { IfClean S.Store conn.old conn.new (λ a b. IsOwn a.now.schema
         → IfErr result (IsRefusal a b)) }
 {
     let deliveries = read_deliveries(conn, alloc)?;

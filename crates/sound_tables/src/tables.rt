@@ -1,16 +1,19 @@
-//! The five tables, each read whole by one statement.
+//! The tables, each read whole by one statement.
 ghost use Rattle.std.specs.Prelude.{◌≡◌, IfOk, IfErr, OnOk};
 ghost use Rattle.sqlite.specs.State.{IsUnchanged};
 ghost use Rattle.spool_sql.specs.Readable.{IsRefusal};
 ghost use Rattle.spool_sql.specs.Steps.{IfClean};
-ghost use Rattle.spool_sql.specs.Tables.{relay_schema};
+ghost use Rattle.spool_sql.specs.Tables.{IsOwn, relay_schema};
 ghost use Rattle.sound_tables.specs.Reading.{Looks};
 ghost use Rattle.sound_tables.specs.Shown.{ShowsMeta, ShowsEndpoint, ShowsSecret, ShowsDelivery, ShowsAttempt};
-ghost use Rattle.sound_tables.specs.Tables.{Tells, meta_columns, endpoint_columns, secret_columns, delivery_columns, attempt_columns};
+ghost use Rattle.sound_tables.specs.Shown.{ShowsTopic};
+ghost use Rattle.sound_tables.specs.Tables.{Tells, meta_columns, endpoint_columns, secret_columns};
+ghost use Rattle.sound_tables.specs.Tables.{delivery_columns, attempt_columns, topic_columns};
 
 use crate::meta::Meta;
 use crate::reading::read_table;
 use crate::secret::Secret;
+use crate::topic::Topic;
 use sound_rows::{Attempt, Delivery, Endpoint};
 use sqlite::{Alter, Connection, Error};
 use std::alloc::Global;
@@ -21,10 +24,10 @@ pub(crate) fn read_meta<S: Alter>(
     alloc: Global,
 ) -> Result<Option<Vec<Meta>>, Error>
     ensures looks { Looks S.Store conn.old conn.new }
-    ensures found { IfClean S.Store conn.old conn.new (λ a _. a.now.schema ≡ relay_schema
+    ensures found { IfClean S.Store conn.old conn.new (λ a _. IsOwn a.now.schema
         → IfOk result (Tells ShowsMeta meta_columns (a.now.trees 0))) }
     ensures same { IfClean S.Store conn.old conn.new (λ a b. OnOk result (IsUnchanged a b)) }
-    ensures fault { IfClean S.Store conn.old conn.new (λ a b. a.now.schema ≡ relay_schema
+    ensures fault { IfClean S.Store conn.old conn.new (λ a b. IsOwn a.now.schema
         → IfErr result (IsRefusal a b)) }
 {
     read_table(
@@ -40,10 +43,10 @@ pub(crate) fn read_endpoints<S: Alter>(
     alloc: Global,
 ) -> Result<Option<Vec<Endpoint>>, Error>
     ensures looks { Looks S.Store conn.old conn.new }
-    ensures found { IfClean S.Store conn.old conn.new (λ a _. a.now.schema ≡ relay_schema
+    ensures found { IfClean S.Store conn.old conn.new (λ a _. IsOwn a.now.schema
         → IfOk result (Tells ShowsEndpoint endpoint_columns (a.now.trees 1))) }
     ensures same { IfClean S.Store conn.old conn.new (λ a b. OnOk result (IsUnchanged a b)) }
-    ensures fault { IfClean S.Store conn.old conn.new (λ a b. a.now.schema ≡ relay_schema
+    ensures fault { IfClean S.Store conn.old conn.new (λ a b. IsOwn a.now.schema
         → IfErr result (IsRefusal a b)) }
 {
     read_table(
@@ -59,10 +62,10 @@ pub(crate) fn read_secrets<S: Alter>(
     alloc: Global,
 ) -> Result<Option<Vec<Secret>>, Error>
     ensures looks { Looks S.Store conn.old conn.new }
-    ensures found { IfClean S.Store conn.old conn.new (λ a _. a.now.schema ≡ relay_schema
+    ensures found { IfClean S.Store conn.old conn.new (λ a _. IsOwn a.now.schema
         → IfOk result (Tells ShowsSecret secret_columns (a.now.trees 3))) }
     ensures same { IfClean S.Store conn.old conn.new (λ a b. OnOk result (IsUnchanged a b)) }
-    ensures fault { IfClean S.Store conn.old conn.new (λ a b. a.now.schema ≡ relay_schema
+    ensures fault { IfClean S.Store conn.old conn.new (λ a b. IsOwn a.now.schema
         → IfErr result (IsRefusal a b)) }
 {
     read_table(
@@ -78,10 +81,10 @@ pub(crate) fn read_deliveries<S: Alter>(
     alloc: Global,
 ) -> Result<Option<Vec<Delivery>>, Error>
     ensures looks { Looks S.Store conn.old conn.new }
-    ensures found { IfClean S.Store conn.old conn.new (λ a _. a.now.schema ≡ relay_schema
+    ensures found { IfClean S.Store conn.old conn.new (λ a _. IsOwn a.now.schema
         → IfOk result (Tells ShowsDelivery delivery_columns (a.now.trees 5))) }
     ensures same { IfClean S.Store conn.old conn.new (λ a b. OnOk result (IsUnchanged a b)) }
-    ensures fault { IfClean S.Store conn.old conn.new (λ a b. a.now.schema ≡ relay_schema
+    ensures fault { IfClean S.Store conn.old conn.new (λ a b. IsOwn a.now.schema
         → IfErr result (IsRefusal a b)) }
 {
     read_table(
@@ -97,10 +100,10 @@ pub(crate) fn read_attempts<S: Alter>(
     alloc: Global,
 ) -> Result<Option<Vec<Attempt>>, Error>
     ensures looks { Looks S.Store conn.old conn.new }
-    ensures found { IfClean S.Store conn.old conn.new (λ a _. a.now.schema ≡ relay_schema
+    ensures found { IfClean S.Store conn.old conn.new (λ a _. IsOwn a.now.schema
         → IfOk result (Tells ShowsAttempt attempt_columns (a.now.trees 7))) }
     ensures same { IfClean S.Store conn.old conn.new (λ a b. OnOk result (IsUnchanged a b)) }
-    ensures fault { IfClean S.Store conn.old conn.new (λ a b. a.now.schema ≡ relay_schema
+    ensures fault { IfClean S.Store conn.old conn.new (λ a b. IsOwn a.now.schema
         → IfErr result (IsRefusal a b)) }
 {
     read_table(
@@ -108,4 +111,19 @@ pub(crate) fn read_attempts<S: Alter>(
         "SELECT seq, delivery, number, status, at FROM attempts ORDER BY seq",
         alloc,
     )
+}
+
+/// The rows of `topics`: none, or nothing at all if it has one.
+pub(crate) fn read_topics<S: Alter>(
+    conn: &mut Connection<S>,
+    alloc: Global,
+) -> Result<Option<Vec<Topic>>, Error>
+    ensures looks { Looks S.Store conn.old conn.new }
+    ensures found { IfClean S.Store conn.old conn.new (λ a _. a.now.schema ≡ relay_schema
+        → IfOk result (Tells ShowsTopic topic_columns (a.now.trees 9))) }
+    ensures same { IfClean S.Store conn.old conn.new (λ a b. OnOk result (IsUnchanged a b)) }
+    ensures fault { IfClean S.Store conn.old conn.new (λ a b. a.now.schema ≡ relay_schema
+        → IfErr result (IsRefusal a b)) }
+{
+    read_table(conn, "SELECT rowid FROM topics ORDER BY rowid", alloc)
 }

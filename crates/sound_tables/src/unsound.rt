@@ -1,5 +1,6 @@
 //! What is told of a store whose rows don't obey the schema that it lists. `sqlite` opens no such store.
-ghost use Rattle.std.specs.Prelude.{◌≡◌, ◌≢◌, ◌+◌, ◌<◌, ℕ, ℤ, pos, find, option_copied, IfOk, OnOk, IfSome, IsNone, MatchOption};
+ghost use Rattle.std.specs.Prelude.{◌≡◌, ◌≢◌, ◌+◌, ◌<◌, ℕ, ℤ, pos, find, option_copied};
+ghost use Rattle.std.specs.Prelude.{IfOk, IfErr, OnOk, IfSome, IsNone, MatchOption};
 ghost use Rattle.sqlite_value.specs.declared.value.Value.TheVariants.{Int};
 ghost use Rattle.sqlite_value.specs.Order.{column};
 ghost use Rattle.sqlite_value.specs.Value.{owned};
@@ -8,11 +9,12 @@ ghost use Rattle.sqlite_trees.specs.View.{IsClean};
 ghost use Rattle.sound_tables.specs.Reading.{IsReadAs};
 ghost use Rattle.sound_tables.specs.Shown.{ShowsMeta};
 ghost use Rattle.sound_tables.specs.Tables.{meta_columns};
-ghost use Rattle.sound_tables.specs.Unsound.{FindsMeta, IsToldUnsound, ReadsMeta, ReadsRelay, is_meta_object, is_text};
+ghost use Rattle.sound_tables.specs.Unsound.{FindsMeta, IsOfStore, IsToldUnsound, ReadsMeta, ReadsRelay};
+ghost use Rattle.sound_tables.specs.Unsound.{TellsFailed, is_meta_object, is_text};
 
 use crate::fault::TableFault;
 use crate::meta::Meta;
-use crate::records::VERSION;
+use crate::version::Version;
 use sqlite::{Error, ErrorCode};
 use sqlite_trees::error::StoreError;
 use sqlite_trees::store::{Alter, Shape, Store};
@@ -23,10 +25,11 @@ use std::alloc::{AllocError, Global};
 /// What is told of a store of which `sqlite` said that its rows don't obey its schema: `Damaged` where its `meta` names the relay, but
 /// `NewerVersion` where it names a later version, and `NotOurs` where it doesn't name the relay. Nothing is written.
 pub fn judge_unsound<S: Alter>(store: &mut S, alloc: Global) -> TableFault
-    ensures { IsClean (S.Store.view store.new) → IsToldUnsound (S.Store.view store.old) result }
+    ensures rows { IsClean (S.Store.view store.new) → IsToldUnsound (S.Store.view store.old) result }
+    ensures failed { TellsFailed (S.Store.blamed store.new) result }
 {
     match read_relay(store, alloc) {
-        Ok(Some(meta)) if meta.version > VERSION => TableFault::NewerVersion,
+        Ok(Some(meta)) if meta.version > Version::Second.number() => TableFault::NewerVersion,
         Ok(Some(_)) => TableFault::Damaged,
         Ok(None) => TableFault::NotOurs,
         Err(error) => TableFault::Failed(error),
@@ -35,7 +38,9 @@ pub fn judge_unsound<S: Alter>(store: &mut S, alloc: Global) -> TableFault
 
 // What `meta` tells, where it names the relay.
 fn read_relay<S: Alter>(store: &mut S, alloc: Global) -> Result<Option<Meta>, Error>
-    ensures { IfOk result (λ found. IsClean (S.Store.view store.new) → ReadsRelay (S.Store.view store.old) found) }
+    ensures relay { IfOk result
+        (λ found. IsClean (S.Store.view store.new) → ReadsRelay (S.Store.view store.old) found) }
+    ensures failed { IfErr result (IsOfStore (S.Store.blamed store.new)) }
 {
     match find_meta(store, alloc)? {
         Some(tree) => read_meta_at(store, tree, alloc),
@@ -90,6 +95,7 @@ fn tree_of(object: &Row) -> Option<u32>
 fn read_meta_at<S: Alter>(store: &mut S, tree: u32, alloc: Global) -> Result<Option<Meta>, Error>
     ensures meta { IfOk result (λ found. IsClean (S.Store.view store.new) → ReadsMeta (S.Store.view store.old) tree found) }
     ensures clean { OnOk result (IsClean (S.Store.view store.new) → IsClean (S.Store.view store.old)) }
+    ensures failed { IfErr result (IsOfStore (S.Store.blamed store.new)) }
 {
     if store.shape(tree) != Shape::Table {
         return Ok(None);

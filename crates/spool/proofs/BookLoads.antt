@@ -25,16 +25,17 @@ use Rattle.delivery_book.specs.Book as delivery_book
 use Rattle.delivery_book.proofs.Laws.{stands_restored}
 use Rattle.spool_sql.specs.declared.row.RowFault.{RowFault}
 use Rattle.spool_sql.specs.declared.row.RowFault.TheVariants.{Failed, Unreadable}
-use Rattle.spool_sql.specs.Readable.{IsRefusal, IsRowRefusal}
+use Rattle.spool_sql.specs.Readable.{WasRefusal, WasRowRefusal}
 use Rattle.spool_sql.specs.Steps.{Spares, Stands}
-use Rattle.spool_sql.proofs.RefusalLemmas.{of_failure}
+use Rattle.spool_sql.proofs.RefusalLemmas.{of_failure, was_refusal}
 use Rattle.spool_sql.specs.Stored.{IsTables}
-use Rattle.spool.specs.Loading.{AreAccepted, AreAttempted, AreNames, AreRestored, IsReadRefusal, entry_of_row}
+use Rattle.spool.specs.Loading.{AreAccepted, AreAttempted, AreNames, AreRestored, IsReadRefusal, WasReadRefusal}
+use Rattle.spool.specs.Loading.{entry_of_row}
 use Rattle.spool_sql.proofs.StepLemmas.{leaves_along, leaves_commit}
 use Rattle.spool.proofs.EndpointLoads.{restored_within}
 use Rattle.spool.proofs.PageLaws.{legal_length}
 use Rattle.spool.proofs.QuietReads.{IsQuiet, clean_before, quiet_then, tables_along}
-use Rattle.sound_tables.proofs.BothRefused.{refusal_since, refusal_until}
+use Rattle.sound_tables.proofs.BothRefused.{refusal_since, was_until}
 use Rattle.spool.specs.Vaults.{VaultValue, Holds}
 use Rattle.spool.specs.Adopting.{IsOnlyRead}
 use Rattle.spool.specs.Commits.{HoldsOnDisk}
@@ -148,32 +149,32 @@ settles_read a z (Err fault) U why never = λ is_open records legal tables given
 -- a transaction that is left
 pub read_until : (a m z : State) → Survives a m (λ _. ⊥) → Survives m z (λ _. ⊥) → HasCleanDisk z
     → (read : Result Books RowFault) → (HasCleanDisk m → IfErr read (IsReadRefusal a m (λ _. Unit {0})))
-    → IfErr read (IsReadRefusal a z (λ _. Unit {0}))
+    → IfErr read (WasReadRefusal a z)
 read_until a m z early late clean (Ok books) refused = tt
-read_until a m z early late clean (Err Unreadable) refused = λ is_open records legal tables given. absurd
-    (refused (omega (arith, clean, late.clean)) is_open records legal tables given)
-read_until a m z early late clean (Err (Failed error)) refused = λ is_open records legal tables given.
-    refusal_until a m z early late clean error
-    (refused (omega (arith, clean, late.clean)) is_open records legal tables given)
+read_until a m z early late clean (Err Unreadable) refused = λ is_open records legal tables. absurd
+    (refused (omega (arith, clean, late.clean)) is_open records legal tables tt)
+read_until a m z early late clean (Err (Failed error)) refused = λ is_open records legal tables.
+    was_until a m z late error (was_refusal a m error
+    (refused (omega (arith, clean, late.clean)) is_open records legal tables tt))
 
 -- and a look at the store behind it
 pub load_refused : (a m z : State) → Survives a m (λ _. ⊥) → Survives m z (λ _. ⊥) → HasCleanDisk z
     → (read : Result Books RowFault) (result : Result Books LoadFault)
-    → (HasCleanDisk m → IfErr read (IsReadRefusal a m (λ _. Unit {0}))) → TellsLoad m z read result
+    → (HasCleanDisk m → IfErr read (WasReadRefusal a m)) → TellsLoad m z read result
     → IfErr result (λ fault. (history : List Record) → IsLegal history → Stands a (rows_of history)
     → IsLoadRefusal a z fault)
 load_refused a m z early late clean read (Ok books) refused told = tt
 load_refused a m z early late clean read (Err Closed) refused told = λ history legal stands. tt
 load_refused a m z early late clean read (Err OutOfMemory) refused told = λ history legal stands. tt
 load_refused a m z early late clean read (Err (Store error)) refused (inr (asks, fails)) = λ history legal stands.
-    refusal_since a m z early late clean error (of_failure m z error (fails clean))
+    was_refusal a z error (refusal_since a m z early late clean error (of_failure m z error (fails clean)))
 load_refused a m z early late clean read (Err (Store error)) refused (inl (fault, is, own, other)) = λ history legal
-    stands. by fault own (subst (λ r. IfErr r (IsReadRefusal a m (λ _. Unit {0}))) is
-    (refused (omega (arith, clean, late.clean))) stands.is_open history legal stands.now tt)
+    stands. by fault own (subst (λ r. IfErr r (WasReadRefusal a m)) is
+    (refused (omega (arith, clean, late.clean))) stands.is_open history legal stands.now)
   where
-    by : (fault : RowFault) → error ≡ error_of fault → IsRowRefusal a m fault → IsRefusal a z error
+    by : (fault : RowFault) → error ≡ error_of fault → WasRowRefusal a m fault → WasRefusal a z error
     by Unreadable same none = absurd none
-    by (Failed e) same refusal = subst (IsRefusal a z) (sym same) (refusal_until a m z early late clean e refusal)
+    by (Failed e) same refusal = subst (WasRefusal a z) (sym same) (was_until a m z late e refusal)
 
 -- All that was read, one table behind another
 

@@ -52,13 +52,17 @@ pub tables_permuted : (db : Database) (rows : Rows) (secrets : List SecretRow) â
 tables_permuted db rows secrets same t = record {
   schema_is = t.schema_is;
   tables = record {
-    sound = t.tables.sound;
-    meta = t.tables.meta;
-    endpoints = t.tables.endpoints;
-    secrets = IsPermutation-trans _ (map secret_stored rows.secrets) (map secret_stored secrets) t.tables.secrets (IsPermutation-map secret_stored rows.secrets secrets same);
-    deliveries = t.tables.deliveries;
-    attempts = t.tables.attempts;
-    secret_rowids = t.tables.secret_rowids;
+    five = record {
+      sound = t.tables.five.sound;
+      meta = t.tables.five.meta;
+      endpoints = t.tables.five.endpoints;
+      secrets = IsPermutation-trans _ (map secret_stored rows.secrets) (map secret_stored secrets) t.tables.five.secrets
+          (IsPermutation-map secret_stored rows.secrets secrets same);
+      deliveries = t.tables.five.deliveries;
+      attempts = t.tables.five.attempts;
+      secret_rowids = t.tables.five.secret_rowids;
+    };
+    no_topics = t.tables.no_topics;
   };
 }
 

@@ -72,7 +72,7 @@ leaves_all a b next entries records s clean at settled db may = elim (s.crash cl
 
 -- a transaction whose end isn't known wasn't seen to be committed
 not_seen : (mid new : State) (tried : Result Bool Error) (error : Error) → Tells mid new tried (Doubtful error) → tried ≡ Ok true → ⊥
-not_seen mid new tried error (inl (failed, other)) made = absurd (let e = sym failed ∙ made in cc)
+not_seen mid new tried error (inl (failed, other, same)) made = absurd (let e = sym failed ∙ made in cc)
 not_seen mid new tried error (inr (asks, fails)) made = absurd (let e = subst AsksForLook made asks in cc)
 
 doubts_all : (a b c : State) (next : ℕ) (entries : List Record) → Survives a b (CommitsAll a next entries) → Survives b c (λ _. ⊥) → HasCleanDisk c → IsSettled a
@@ -113,14 +113,14 @@ pub leaves_before : (a b : State) → Survives a b (λ _. ⊥) → HasCleanDisk 
 leaves_before a b survives clean db may = elim (survives.crash clean db may) [ inl was ↦ was | inr none ↦ absurd none ]
 
 module _ {P : Trees → Type 0} (a m b : State) (early : Survives a m P) (late : Survives m b (λ _. ⊥)) (clean : HasCleanDisk b) where
-  caused_until : (error : Error) → IsCause a m error → IsCause a b error
-  caused_until error (inl refusal) = inl (refusal_until a m b early late clean error refusal)
-  caused_until error (inr before) = inr (λ db may. before db (leaves_before m b late clean db may))
+  pub caused_until : (error : Error) → b.blamed ≡ m.blamed → IsCause a m error → IsCause a b error
+  caused_until error same (inl refusal) = inl (refusal_until a m b late same error refusal)
+  caused_until error same (inr before) = inr (λ db may. before db (leaves_before m b late clean db may))
 
   pub caused : (tried : Result Bool Error) (told : WriteEnd) → (HasCleanDisk m → IfErr tried (IsCause a m)) → Tells m b tried told → HasCause a b told
   caused tried Committed cause is = tt
   caused tried Illegal cause is = tt
   caused tried OutOfMemory cause is = tt
-  caused tried (Doubtful error) cause (inl (is, other)) =
-      caused_until error (subst (λ r. IfErr r (IsCause a m)) is (cause (omega (arith, clean, late.clean))))
+  caused tried (Doubtful error) cause (inl (is, other, same)) =
+      caused_until error same (subst (λ r. IfErr r (IsCause a m)) is (cause (omega (arith, clean, late.clean))))
   caused tried (Doubtful error) cause (inr (asks, fails)) = inl (refusal_since a m b early late clean error (of_failure m b error (fails clean)))

@@ -17,3 +17,5 @@ pub mod AttemptLoads
 pub mod BookLoads
 pub mod HistoryLemmas
 pub mod CheckReads
+pub mod MigrateLemmas
+pub mod EitherLemmas

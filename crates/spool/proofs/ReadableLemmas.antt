@@ -21,7 +21,7 @@ use Rattle.spool_sql.specs.declared.row.RowFault.TheVariants.{Failed, Unreadable
 use Rattle.spool_sql.specs.Readable.{AreReadable, IsReadableEndpoint, IsReadableSecret, IsReadableDelivery}
 use Rattle.spool_sql.specs.Readable.{IsReadableAttempt, IsRowRefusal}
 use Rattle.spool_sql.specs.Steps.{Spares}
-use Rattle.spool_sql.specs.Stored.{IsPage, IsTables}
+use Rattle.spool_sql.specs.Stored.{IsPage, IsTables, with_records}
 use Rattle.sound_tables.proofs.BothRefused.{refusal_since}
 use Rattle.spool.specs.Reading.{ComeNext}
 use Rattle.spool.proofs.PageLaws.{legal_length}
@@ -99,6 +99,15 @@ module _ (records : List Record) (legal : IsLegal records) where
           status = small_status t.status values.2;
           at = values.3;
         });
+  }
+
+  -- with any number of records
+  pub counted_readable : (count : ℕ) → AreReadable (with_records count rows)
+  counted_readable count = record {
+    endpoints = legal_readable.endpoints;
+    secrets = legal_readable.secrets;
+    deliveries = legal_readable.deliveries;
+    attempts = legal_readable.attempts;
   }
 
 -- What refused one of two calls refused both

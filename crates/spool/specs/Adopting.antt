@@ -14,7 +14,7 @@ use Rattle.spool_sql.specs.Causes.{cause}
 use Rattle.spool_sql.specs.declared.cause.Cause.{Cause}
 use Rattle.spool_sql.specs.declared.cause.Cause.TheVariants as of
 use Rattle.spool_sql.specs.Readable.{IsRefusal}
-use Rattle.spool_sql.specs.Stored.{IsTables}
+use Rattle.spool_sql.specs.Stored.{IsFirstTables, IsTables}
 use Rattle.spool_sql.specs.Steps.{MayLeave}
 use Rattle.sound_tables.specs.Checks as tables
 use Rattle.sound_tables.specs.declared.fault.TableFault.{TableFault}
@@ -24,7 +24,8 @@ use Rattle.sqlite.specs.declared.error.ErrorCode.TheVariants as code
 use Rattle.spool.specs.declared.ends.LoadFault.{LoadFault}
 use Rattle.spool.specs.declared.ends.LoadFault.TheVariants as load
 use Rattle.spool.specs.declared.ends.OpenFault.{OpenFault}
-use Rattle.spool.specs.declared.ends.OpenFault.TheVariants.{NotOurs, NewerVersion, Damaged, Store, OutOfMemory}
+use Rattle.spool.specs.declared.ends.OpenFault.TheVariants.{NotOurs, NewerVersion, OldVersion, Damaged, Store}
+use Rattle.spool.specs.declared.ends.OpenFault.TheVariants.{OutOfMemory}
 use Rattle.spool.specs.Books.{KeepsOpen}
 use Rattle.spool.specs.Commits.{HoldsOnDisk}
 use Rattle.spool.specs.Vaults.{VaultValue, HoldsAt}
@@ -48,6 +49,7 @@ IsReadOpen old new = IsOnlyRead old new × IsTrue new.is_open
 abbrev pub IsUnadopted : (old new : State) → OpenFault → Type 0
 IsUnadopted old new NotOurs = tables.IsRefusedAt old.now table.NotOurs
 IsUnadopted old new NewerVersion = tables.IsRefusedAt old.now table.NewerVersion
+IsUnadopted old new OldVersion = tables.IsRefusedAt old.now table.OldVersion
 IsUnadopted old new Damaged = tables.IsRefusedAt old.now table.Damaged
 IsUnadopted old new (Store error) = cause error ≡ of.Store
 IsUnadopted old new OutOfMemory = Unit {0}
@@ -61,14 +63,25 @@ HaveHistory db = (records : List Record) × IsLegal records × IsTables db (rows
 abbrev pub IsOfStore : (old new : State) → OpenFault → Type 0
 IsOfStore old new NotOurs = ⊥
 IsOfStore old new NewerVersion = ⊥
+IsOfStore old new OldVersion = ⊥
 IsOfStore old new Damaged = ⊥
 IsOfStore old new (Store error) = (cause error ≡ of.Store) × IsRefusal old new error
 IsOfStore old new OutOfMemory = Unit {0}
+
+-- they are of version 1, and have the rows of a legal history
+abbrev pub HaveFirstHistory : Database → Type 0
+HaveFirstHistory db = (records : List Record) × IsLegal records × IsFirstTables db (rows_of records)
+
+-- These are told as such, or refused only so.
+abbrev pub IsOldOrOfStore : (old new : State) → OpenFault → Type 0
+IsOldOrOfStore old new OldVersion = Unit {0}
+IsOldOrOfStore old new fault = IsOfStore old new fault
 
 -- As what a store without a table `meta` is told: as none of the relay's, or the look at it was refused.
 abbrev pub IsForeign : OpenFault → Type 0
 IsForeign NotOurs = Unit {0}
 IsForeign NewerVersion = ⊥
+IsForeign OldVersion = ⊥
 IsForeign Damaged = ⊥
 IsForeign (Store error) = Unit {0}
 IsForeign OutOfMemory = Unit {0}
@@ -77,6 +90,7 @@ IsForeign OutOfMemory = Unit {0}
 abbrev pub FailsIfOfStore : State → OpenFault → Type 0
 FailsIfOfStore new NotOurs = Unit {0}
 FailsIfOfStore new NewerVersion = Unit {0}
+FailsIfOfStore new OldVersion = Unit {0}
 FailsIfOfStore new Damaged = Unit {0}
 FailsIfOfStore new (Store error) = (why : StoreError) × (error ≡ store_error why) × Tells new.blamed why
 FailsIfOfStore new OutOfMemory = Unit {0}
@@ -85,6 +99,7 @@ FailsIfOfStore new OutOfMemory = Unit {0}
 abbrev pub LeavesRead : State → State → OpenFault → Type 0
 LeavesRead old new NotOurs = IsReadOpen old new
 LeavesRead old new NewerVersion = IsReadOpen old new
+LeavesRead old new OldVersion = IsReadOpen old new
 LeavesRead old new Damaged = IsReadOpen old new
 LeavesRead old new (Store error) = IsOnlyRead old new
 LeavesRead old new OutOfMemory = IsOnlyRead old new
@@ -107,6 +122,7 @@ fault_by error of.Other = NotOurs
 abbrev pub fault_of : TableFault → OpenFault
 fault_of table.NotOurs = NotOurs
 fault_of table.NewerVersion = NewerVersion
+fault_of table.OldVersion = OldVersion
 fault_of table.Damaged = Damaged
 fault_of (table.Failed error) = fault_by error (cause error)
 
@@ -120,13 +136,15 @@ abbrev pub IsToldAs : Result ℕ TableFault → OpenFault → Type 0
 IsToldAs checked told = (fault : TableFault) × (checked ≡ Err fault) × (told ≡ fault_of fault)
 
 -- What is told of a check with this answer. A fault of the store, and want of memory, is the check's own, or that of the look at the
--- store behind it.
+-- store behind it. If it is the check's, the store told no other since.
 abbrev pub TellsCheck : State → State → Result ℕ TableFault → Result ℕ OpenFault → Type 0
 TellsCheck old new checked (Ok records) = (checked ≡ Ok records) × IsUnchanged old new
 TellsCheck old new checked (Err NotOurs) = IsToldAs checked NotOurs × IsUnchanged old new
 TellsCheck old new checked (Err NewerVersion) = IsToldAs checked NewerVersion × IsUnchanged old new
+TellsCheck old new checked (Err OldVersion) = IsToldAs checked OldVersion × IsUnchanged old new
 TellsCheck old new checked (Err Damaged) = IsToldAs checked Damaged × IsUnchanged old new
 TellsCheck old new checked (Err OutOfMemory) =
     (IsToldAs checked OutOfMemory × IsUnchanged old new) ⊎ ((error : Error) × (cause error ≡ of.Memory) × Fails old new ⊥ error)
 TellsCheck old new checked (Err (Store error)) =
-    (IsToldAs checked (Store error) × KeepsOpen old new) ⊎ ((cause error ≡ of.Store) × Fails old new ⊥ error)
+    (IsToldAs checked (Store error) × KeepsOpen old new × (new.blamed ≡ old.blamed))
+    ⊎ ((cause error ≡ of.Store) × Fails old new ⊥ error)

@@ -17,7 +17,7 @@ use Rattle.spool_sql.specs.declared.row.RowFault.{RowFault}
 use Rattle.spool_sql.specs.declared.row.RowFault.TheVariants.{Failed, Unreadable}
 use Rattle.spool_sql.specs.declared.cause.Cause.TheVariants.{Memory}
 use Rattle.spool_sql.specs.Causes.{cause}
-use Rattle.spool_sql.specs.Readable.{IsRefusal}
+use Rattle.spool_sql.specs.Readable.{WasRefusal}
 use Rattle.spool_sql.specs.Steps.{Stands, MayLeave}
 use Rattle.spool.specs.declared.ends.LoadFault.{LoadFault}
 use Rattle.spool.specs.declared.ends.LoadFault.TheVariants.{Closed, Store, OutOfMemory}
@@ -58,7 +58,7 @@ pub record AreSettled (books : Books) : Type 0 where
 abbrev pub IsLoadRefusal : State → State → LoadFault → Type 0
 IsLoadRefusal old new Closed = Unit {0}
 IsLoadRefusal old new OutOfMemory = Unit {0}
-IsLoadRefusal old new (Store error) = IsRefusal old new error
+IsLoadRefusal old new (Store error) = WasRefusal old new error
 
 -- the store was seen to be usable behind the reads
 abbrev pub IsSeen : Result Books LoadFault → Type 0

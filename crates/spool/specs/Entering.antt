@@ -81,6 +81,11 @@ pub record HasRows (db : Database) (count : ℕ) (records : List Record) : Type 
 abbrev pub LooksAt : {S X : Type 0} → Ghosts S → Held S → Held S → Result X Error → (X → List Record → Type 0) → Type 0
 LooksAt g old new result P = IfClean g old new (λ a b. IfOk result (λ x. (count : ℕ) (records : List Record) → HasRows a.now count records → P x records))
 
+-- and an error is that of a refusal
+abbrev pub IsLookRefusal : (old new : State) → Error → Type 0
+IsLookRefusal old new error =
+    (count : ℕ) (records : List Record) → HasRows old.now count records → IsRefusal old new error
+
 -- the records with these numbers are written, and their number isn't, exactly where the longer history is legal
 pub record Enters (old new : State) (next : ℕ) (entries : List Record) (legal : Bool) : Type 0 where
   pub on : GoesOn old new
@@ -131,7 +136,8 @@ WriteEndsAs old new next entries (Doubtful cause) = (records : List Record) → 
 abbrev pub LeavesAsBefore : (old new : State) → Type 0
 LeavesAsBefore old new = (db : Trees) → new.may_leave db → old.may_leave db
 
--- The error is that of a refusal: the store failed under this name, or memory was refused. Or else nothing was written to the disk.
+-- The error is that of a refusal: the store failed and told this fault last, or memory was refused. Or else nothing
+-- was written to the disk.
 abbrev pub IsCause : (old new : State) → Error → Type 0
 IsCause old new error = IsRefusal old new error ⊎ LeavesAsBefore old new
 
@@ -155,10 +161,12 @@ abbrev pub AsksForLook : Result Bool Error → Type 0
 AsksForLook (Ok made) = made ≡ false
 AsksForLook (Err error) = cause error ≡ Memory
 
--- What is told of a transaction with this answer. A doubt has the transaction's own error, or that of the look at the store behind it,
--- where the store failed.
+-- What is told of a transaction with this answer. A doubt has the transaction's own error, and the store told no other
+-- since, or that of the look at the store behind it, where the store failed.
 abbrev pub Tells : State → State → Result Bool Error → WriteEnd → Type 0
 Tells old new tried Committed = tried ≡ Ok true
 Tells old new tried Illegal = tried ≡ Ok false
 Tells old new tried OutOfMemory = (error : Error) × (tried ≡ Err error) × (cause error ≡ Memory)
-Tells old new tried (Doubtful error) = ((tried ≡ Err error) × (¬ (cause error ≡ Memory))) ⊎ (AsksForLook tried × (HasCleanDisk new → Fails old new ⊥ error))
+Tells old new tried (Doubtful error) =
+    ((tried ≡ Err error) × (¬ (cause error ≡ Memory)) × (new.blamed ≡ old.blamed))
+    ⊎ (AsksForLook tried × (HasCleanDisk new → Fails old new ⊥ error))

@@ -4,6 +4,7 @@ pub mod Vaults
 pub mod Entering
 pub mod Reading
 pub mod Loading
+pub mod Migrating
 pub mod Opening
 pub mod Commits
 pub mod Books

@@ -18,7 +18,7 @@ use Rattle.delivery_book.specs.declared.progress.Progress.{Progress}
 use Rattle.delivery_book.specs.Entries.{BookValue as DeliveryBookValue, known_in, new_entry, progress_of}
 use Rattle.delivery_book.specs.Book.{entries_of}
 use Rattle.spool_sql.specs.declared.row.RowFault.{RowFault}
-use Rattle.spool_sql.specs.Readable.{IsRowRefusal}
+use Rattle.spool_sql.specs.Readable.{IsRowRefusal, WasRowRefusal}
 use Rattle.spool_sql.specs.Stored.{IsTables}
 use Rattle.spool_sql.specs.Steps.{IfClean}
 use Rattle.spool.specs.Reading.{ComeNext, IsRising, ReadsOn}
@@ -43,6 +43,12 @@ abbrev pub IsReadRefusal : (old new : State) → (Given : List Record → Type 0
 IsReadRefusal old new Given fault =
     IsTrue old.is_open → (records : List Record) → IsLegal records → IsTables old.now (rows_of records) → Given records
     → IsRowRefusal old new fault
+
+-- the same behind the transaction
+abbrev pub WasReadRefusal : (old new : State) → RowFault → Type 0
+WasReadRefusal old new fault =
+    IsTrue old.is_open → (records : List Record) → IsLegal records → IsTables old.now (rows_of records)
+    → WasRowRefusal old new fault
 
 abbrev pub IsRefusedOnly : {S X : Type 0} → Ghosts S → Held S → Held S → Result X RowFault → (List Record → Type 0)
     → Type 0

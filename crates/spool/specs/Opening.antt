@@ -11,19 +11,23 @@ use Rattle.spool_sql.specs.Stored.{AreTablesOf}
 use Rattle.spool_sql.specs.Steps.{IsBegun}
 use Rattle.spool_sql.specs.Causes.{cause}
 use Rattle.spool_sql.specs.declared.cause.Cause.TheVariants.{Memory}
-use Rattle.spool.specs.Entering.{Rests}
+use Rattle.spool.specs.Entering.{IsCause, Rests}
 use Rattle.spool.specs.declared.ends.OpenFault.{OpenFault}
-use Rattle.spool.specs.declared.ends.OpenFault.TheVariants.{NotOurs, NewerVersion, Damaged, Store, OutOfMemory}
+use Rattle.spool.specs.declared.ends.OpenFault.TheVariants.{NotOurs, NewerVersion, OldVersion, Damaged, Store}
+use Rattle.spool.specs.declared.ends.OpenFault.TheVariants.{OutOfMemory}
 
--- a table, an index or a view of the store has the name of one of the five tables, in any case of its letters
+-- a table, an index or a view of the store has the name of one of the six tables, in any case of its letters
 abbrev pub has_ours : Schema → Bool
-has_ours schema = is_used schema (codes "meta") || (is_used schema (codes "endpoints") || (is_used schema (codes "secrets") || (is_used schema (codes "deliveries") || is_used schema (codes "attempts"))))
+has_ours schema =
+    is_used schema (codes "meta") || (is_used schema (codes "endpoints") || (is_used schema (codes "secrets")
+    || (is_used schema (codes "deliveries") || (is_used schema (codes "attempts") || is_used schema (codes "topics")))))
 
 -- NotOurs comes of such a store, and every other refusal of another
 abbrev pub IsRefusedFor : Schema → OpenFault → Type 0
 IsRefusedFor schema NotOurs = IsTrue (has_ours schema)
 IsRefusedFor schema NewerVersion = ⊥
 IsRefusedFor schema Damaged = ⊥
+IsRefusedFor schema OldVersion = ⊥
 IsRefusedFor schema OutOfMemory = has_ours schema ≡ false
 IsRefusedFor schema (Store cause) = has_ours schema ≡ false
 
@@ -33,6 +37,7 @@ fault_name NotOurs = codes "NotOurs"
 fault_name NewerVersion = codes "NewerVersion"
 fault_name Damaged = codes "Damaged"
 fault_name (Store cause) = codes "Store"
+fault_name OldVersion = codes "OldVersion"
 fault_name OutOfMemory = codes "OutOfMemory"
 
 -- the last commit stands, in no transaction
@@ -59,19 +64,23 @@ pub record KeepsTables (old new : State) : Type 0 where
 abbrev pub MayBeMade : State → State → Type 0
 MayBeMade old new = (db : Trees) → new.may_leave db → old.may_leave db ⊎ ((has_ours old.now.schema ≡ false) × Founded old db)
 
--- what each refusal leaves
+-- What each refusal leaves. A fault of the store is the one that it told last, or nothing was written to the disk.
 abbrev pub LeavesAt : State → State → OpenFault → Type 0
 LeavesAt old new NotOurs = (db : Trees) → new.may_leave db → old.may_leave db
 LeavesAt old new NewerVersion = ⊥
 LeavesAt old new Damaged = ⊥
+LeavesAt old new OldVersion = ⊥
 LeavesAt old new OutOfMemory = KeepsTables old new
-LeavesAt old new (Store cause) = MayBeMade old new
+LeavesAt old new (Store cause) = MayBeMade old new × IsCause old new cause
 
--- What is told of an error for which the tables weren't made. A fault of the store has that error, or that of the look at the store
--- behind it, where the store failed.
+-- What is told of an error for which the tables weren't made. A fault of the store has that error, and the store told
+-- no other since, or that of the look at the store behind it, where the store failed.
 abbrev pub TellsFault : State → State → Error → OpenFault → Type 0
 TellsFault old new error NotOurs = ⊥
 TellsFault old new error NewerVersion = ⊥
 TellsFault old new error Damaged = ⊥
+TellsFault old new error OldVersion = ⊥
 TellsFault old new error OutOfMemory = cause error ≡ Memory
-TellsFault old new error (Store told) = ((told ≡ error) × (¬ (cause error ≡ Memory))) ⊎ ((cause error ≡ Memory) × (HasCleanDisk new → Fails old new ⊥ told))
+TellsFault old new error (Store told) =
+    ((told ≡ error) × (¬ (cause error ≡ Memory)) × (new.blamed ≡ old.blamed))
+    ⊎ ((cause error ≡ Memory) × (HasCleanDisk new → Fails old new ⊥ told))

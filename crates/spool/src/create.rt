@@ -1,10 +1,11 @@
 //! The tables of a new store.
-ghost use Rattle.std.specs.Prelude.{◌≡◌, false, IsTrue, OnOk, OnErr, IfErr, MatchResult, Err};
-ghost use Rattle.sqlite.specs.State.{HasCleanDisk, IsUnchanged};
+ghost use Rattle.std.specs.Prelude.{◌≡◌, ◌⊎◌, false, IsTrue, OnOk, OnErr, IfErr, MatchResult, Err};
+ghost use Rattle.sqlite.specs.State.{HasCleanDisk, IsRolledBack, IsUnchanged};
 ghost use Rattle.sqlite.specs.Held.{state};
 ghost use Rattle.spool_sql.specs.Steps.{IfClean, IsBegun, Stands, SurvivesAs};
 ghost use Rattle.spool_sql.specs.Tables.{no_schema};
 ghost use Rattle.spool_sql.specs.Stored.{first_rows};
+ghost use Rattle.spool.specs.Entering.{IsCause};
 ghost use Rattle.spool.specs.Opening.{has_ours, IsRefusedFor, TellsFault, IsBack, Founded, IsFounded, LeavesAt};
 
 use crate::ends::OpenFault;
@@ -39,6 +40,7 @@ fn create_in_transaction<S: Alter>(conn: &mut Connection<S>) -> Result<(), Error
     ensures done { IfClean S.Store conn.old conn.new
         (λ a b. OnOk result (IsBegun no_schema a.now → Stands b first_rows)) }
     ensures undone { IfClean S.Store conn.old conn.new (λ a b. OnErr result (IsTrue b.is_open → IsBack a b)) }
+    ensures cause { IfClean S.Store conn.old conn.new (λ a b. IfErr result (IsCause a b)) }
     ensures mode { conn.new.in_transaction ≡ false }
     ensures survives { SurvivesAs S.Store conn.old conn.new Founded }
 {
@@ -56,13 +58,16 @@ fn has_ours(schema: &Schema) -> bool
         || is_used(schema, b"secrets")
         || is_used(schema, b"deliveries")
         || is_used(schema, b"attempts")
+        || is_used(schema, b"topics")
 }
 
-// What is told of a store in which the tables weren't made for this error, after a look at it.
-fn fault_of<S: Alter>(conn: &mut Connection<S>, error: Error) -> OpenFault
+/// What is reported of a store in which this error kept the tables from being made, after a probe of it.
+pub(crate) fn fault_of<S: Alter>(conn: &mut Connection<S>, error: Error) -> OpenFault
     requires { conn.old.in_transaction ≡ false }
     ensures told { TellsFault (state S.Store conn.old) (state S.Store conn.new) error result }
     ensures same { IfClean S.Store conn.old conn.new (λ a b. result ≡ OpenFault.OutOfMemory → IsUnchanged a b) }
+    ensures ended { IfClean S.Store conn.old conn.new
+        (λ a b. IsTrue b.is_open → IsUnchanged a b ⊎ IsRolledBack a b) }
     ensures mode { conn.new.in_transaction ≡ false }
     ensures survives { SurvivesAs S.Store conn.old conn.new (λ _ _. ⊥) }
 {

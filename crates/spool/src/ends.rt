@@ -14,8 +14,8 @@ use std::fmt;
 /// Why a store was not opened.
 #[derive(Clone, Copy)]
 pub enum OpenFault {
-    /// Where tables are to be made: a table, an index or a view already has the name of one of the relay's tables. Where they are read:
-    /// the store has no `meta` that names the relay, or lacks another table of the relay's.
+    /// If tables are to be made: a table, an index or a view already has the name of one of the relay's tables. If they
+    /// are read: the store has no `meta` that names the relay, or lacks another table of the relay's.
     NotOurs,
     /// The tables are of a later version.
     NewerVersion,
@@ -25,6 +25,8 @@ pub enum OpenFault {
     Store(Error),
     /// Memory was refused, and the tables are as they were.
     OutOfMemory,
+    /// The tables are of version 1. It is checked after `NewerVersion`, and only `Vault::adopt` returns it.
+    OldVersion,
 }
 
 impl OpenFault {
@@ -33,6 +35,13 @@ impl OpenFault {
         ensures { IsTrue result ↔ (self ≡ OpenFault.OutOfMemory) }
     {
         matches!(self, OpenFault::OutOfMemory)
+    }
+
+    /// Whether the tables are of version 1.
+    pub(crate) fn is_old(self) -> bool
+        ensures { IsTrue result ↔ (self ≡ OpenFault.OldVersion) }
+    {
+        matches!(self, OpenFault::OldVersion)
     }
 }
 
@@ -44,6 +53,7 @@ impl From<TableFault> for OpenFault {
         match fault {
             TableFault::NotOurs => OpenFault::NotOurs,
             TableFault::NewerVersion => OpenFault::NewerVersion,
+            TableFault::OldVersion => OpenFault::OldVersion,
             TableFault::Damaged => OpenFault::Damaged,
             TableFault::Failed(error) => match cause_of(error) {
                 Cause::Memory => OpenFault::OutOfMemory,
@@ -77,6 +87,7 @@ impl fmt::Display for OpenFault {
             OpenFault::Damaged => f.write_str("Damaged"),
             OpenFault::Store(_) => f.write_str("Store"),
             OpenFault::OutOfMemory => f.write_str("OutOfMemory"),
+            OpenFault::OldVersion => f.write_str("OldVersion"),
         }
     }
 }

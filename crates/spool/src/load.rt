@@ -9,7 +9,7 @@ ghost use Rattle.relay_types.specs.Rows.{rows_of};
 ghost use Rattle.endpoint_book.specs.Entries.{with_settled as endpoints_settled};
 ghost use Rattle.delivery_book.specs.Entries.{with_settled as deliveries_settled};
 ghost use Rattle.spool_sql.specs.Steps.{IfClean, IsOfSame, SparesCommit, Stands, SurvivesAs};
-ghost use Rattle.spool.specs.Loading.{IsRefusedOnly, Reads};
+ghost use Rattle.spool.specs.Loading.{IsRefusedOnly, Reads, WasReadRefusal};
 ghost use Rattle.spool.specs.Books.{AreBooks, AreBooksOn, AreSettled, IsLoadRefusal, IsSeen, KeepsOpen, TellsLoad};
 ghost use Rattle.spool.specs.Books.{error_of};
 
@@ -63,7 +63,7 @@ fn read_books<S: Alter>(conn: &mut Connection<S>, alloc: Global) -> Result<Books
     requires { conn.old.in_transaction ≡ false }
     ensures books { IfClean S.Store conn.old conn.new (λ a _. IfOk result (AreBooksOn a)) }
     ensures settled { IfOk result AreSettled }
-    ensures refused { IsRefusedOnly S.Store conn.old conn.new result (λ _. Unit {0}) }
+    ensures refused { IfClean S.Store conn.old conn.new (λ a b. IfErr result (WasReadRefusal a b)) }
     ensures stays { IfClean S.Store conn.old conn.new KeepsOpen }
     ensures mode { conn.new.in_transaction ≡ false }
     ensures survives { SurvivesAs S.Store conn.old conn.new (λ _ _. ⊥) }

@@ -1,12 +1,13 @@
 //! An Outcome inside the transaction that writes it: whether it may follow the rows, its row, and what it changes of its
 //! endpoint.
-ghost use Rattle.std.specs.Prelude.{◌≡◌, ◌<◌, ◌^◌, [], ◌∷◌, count_by, IfOk, IfSome, IsTrue};
+ghost use Rattle.std.specs.Prelude.{◌≡◌, ◌<◌, ◌^◌, [], ◌∷◌, count_by, IfOk, IfErr, IfSome, IsTrue};
 ghost use Rattle.std.specs.List.{list_any};
 ghost use Rattle.relay_types.specs.declared.record.Record.TheVariants as on;
 ghost use Rattle.relay_types.specs.Judging.{is_delivered_status, is_failed_status};
 ghost use Rattle.relay_types.specs.Legal.{is_status};
-ghost use Rattle.spool_sql.specs.Steps.{Alters, Answers, Achieves, IsOfSame, LeavesAll, SparesCommit};
-ghost use Rattle.spool.specs.Entering.{Enters, LooksAt, are_pending, may_be_next, attempting, disabled_if_gone};
+ghost use Rattle.spool_sql.specs.Steps.{Alters, Answers, Achieves, IfClean, IsOfSame, LeavesAll, SparesCommit};
+ghost use Rattle.spool.specs.Entering.{Enters, IsLookRefusal, LooksAt, are_pending, may_be_next, attempting};
+ghost use Rattle.spool.specs.Entering.{disabled_if_gone};
 
 use relay_types::{MAX_FAILURES, Moment};
 use retry_table::{Status, Verdict, verdict_of};
@@ -49,6 +50,7 @@ fn find_attempted<S: Alter>(
     ensures found { LooksAt S.Store tx.old.conn.now tx.new.conn.now result
         (λ found records. found ≡ attempting records delivery attempt status) }
     ensures number { IfOk result (λ found. IfSome found (λ _. attempt < 2 ^ 63)) }
+    ensures refused { IfClean S.Store tx.old.conn.now tx.new.conn.now (λ a b. IfErr result (IsLookRefusal a b)) }
     ensures spares { SparesCommit S.Store tx.old.conn.now tx.new.conn.now }
 {
     let Some(put) = select_endpoint(tx, delivery)? else {

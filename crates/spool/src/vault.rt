@@ -6,11 +6,12 @@ ghost use Rattle.sqlite.specs.Held.{state};
 ghost use Rattle.relay_types.specs.declared.record.Record.{Record};
 ghost use Rattle.relay_types.specs.Records.{records_of};
 ghost use Rattle.spool_sql.specs.Steps.{IfClean, IsBegun, SurvivesAs};
-ghost use Rattle.spool_sql.specs.Tables.{no_schema, relay_schema};
-ghost use Rattle.sound_tables.specs.Keys.{has_meta, has_tables};
-ghost use Rattle.spool.specs.Adopting.{FailsIfOfStore, HaveHistory, IsAdopted, IsForeign, IsOfStore, IsOnlyRead};
-ghost use Rattle.spool.specs.Adopting.{IsUnadopted, LeavesRead};
-ghost use Rattle.spool.specs.Opening.{has_ours, IsRefusedFor, LeavesAt};
+ghost use Rattle.spool_sql.specs.Tables.{IsOwn, no_schema, relay_schema};
+ghost use Rattle.sound_tables.specs.Keys.{has_first_tables, has_meta, has_tables};
+ghost use Rattle.spool.specs.Adopting.{FailsIfOfStore, HaveFirstHistory, HaveHistory, IsAdopted, IsForeign};
+ghost use Rattle.spool.specs.Adopting.{IsOfStore, IsOldOrOfStore, IsOnlyRead, IsUnadopted, LeavesRead};
+ghost use Rattle.spool.specs.Migrating.{IsMigrated, IsUnmade, IsUnmigrated, LeavesMigrated, MayMigrate, Migrated};
+ghost use Rattle.spool.specs.Opening.{has_ours, IsBack, IsRefusedFor, LeavesAt};
 ghost use Rattle.spool.specs.Books.{AreBooksOf, AreSettled, IsLoadRefusal, IsSeen, LeavesHeld};
 ghost use Rattle.spool.specs.Commits.{HoldsOnDisk, IsNext, HandsBack, IsDoubt, IsRefused, answer_of, LeavesRows};
 ghost use Rattle.spool.specs.Commits.{LeavesHistory, IsDoubtedFor, IsIllegal};
@@ -22,6 +23,7 @@ use crate::create::create_store;
 use crate::doubt::Doubt;
 use crate::ends::{CommitEnd, LoadFault, OpenFault, Unchanged};
 use crate::load::{Books, load_books};
+use crate::migrate::migrate_tables;
 use crate::transaction::{WriteEnd, write_steps};
 use sqlite::{Alter, Connection};
 use std::alloc::Global;
@@ -50,9 +52,9 @@ impl<S: Alter> Model for Vault<S> {
 }
 
 impl<S: Alter> Vault<S> {
-    /// Makes the tables in one transaction, with the rows of the history that has no record. The store's connection comes
-    /// back with each refusal. A store where a table, an index or a view already has the name of one of these tables is
-    /// `NotOurs`, and it isn't touched. The caller sees by `is_autocommit` that the connection is outside a
+    /// Makes the tables in one transaction, with the rows of the history that has no record. The store's connection
+    /// comes back with each refusal. A store where a table, an index or a view already has the name of one of these
+    /// tables is `NotOurs`, and it isn't touched. The caller sees by `is_autocommit` that the connection is outside a
     /// transaction.
     pub fn create(conn: Connection<S>, mark: u64) -> Result<Vault<S>, (Connection<S>, OpenFault)>
         requires { conn.in_transaction ≡ false }
@@ -79,9 +81,11 @@ impl<S: Alter> Vault<S> {
         }
     }
 
-    /// The vault of the tables that stand, whoever wrote them. Each table is read once, row by row, and nothing is written; other tables
-    /// than the relay's are passed over, as `create` makes its own beside them. Refusals come in the order of `OpenFault`, but a fault of the store and want of memory come at the call that was refused; each gives the
-    /// connection back. The caller sees by `is_autocommit` that the connection is outside a transaction.
+    /// The vault of the tables in the store, whoever wrote them. It reads each table once, row by row, and writes
+    /// nothing. It passes over tables of others, as `create` makes its own beside them. Refusals come in the order of
+    /// `OpenFault`, `OldVersion` after `NewerVersion`, but a fault of the store or running out of memory comes at the
+    /// call that was refused. Each gives the connection back. `is_autocommit` tests that the connection is outside a
+    /// transaction.
     pub fn adopt(
         conn: Connection<S>,
         mark: u64,
@@ -97,8 +101,10 @@ impl<S: Alter> Vault<S> {
         ensures adopted { IfOk result (λ v. IfClean S.Store conn v.conn
             (λ a _. a.now.schema ≡ relay_schema → IsAdopted S.Store a.now v)) }
         ensures refused { IfErr result (λ e. IfClean S.Store conn e.0
-            (λ a b. a.now.schema ≡ relay_schema → IsUnadopted a b e.1)) }
+            (λ a b. IsOwn a.now.schema → IsUnadopted a b e.1)) }
         ensures sound { IfErr result (λ e. IfClean S.Store conn e.0 (λ a b. HaveHistory a.now → IsOfStore a b e.1)) }
+        ensures first { IfErr result (λ e. IfClean S.Store conn e.0
+            (λ a b. HaveFirstHistory a.now → IsOldOrOfStore a b e.1)) }
         ensures read { MatchResult result (λ v. IfClean S.Store conn v.conn IsOnlyRead)
             (λ e. IfClean S.Store conn e.0 (λ a b. LeavesRead a b e.1)) }
         ensures survives { IfOk result (λ v. SurvivesAs S.Store conn v.conn (λ _ _. ⊥)) }
@@ -118,8 +124,55 @@ impl<S: Alter> Vault<S> {
         }
     }
 
-    /// Writes the batch in one transaction, all of it or nothing. Refusals come in the order of `Unchanged`, but want of
-    /// memory and a doubtful end may come before `Illegal`.
+    /// The vault of the tables in the store, which are of version 2 from then on. It checks tables of version 1 as
+    /// `adopt` checks those of version 2. One transaction then makes the table of topics and sets the version, and the
+    /// vault holds the same history. On version 2 it is `adopt`. Refusals are those of `adopt`, except `OldVersion`.
+    /// Tables of version 1 are also `NotOurs` if another table, index or view has the name of the table of topics or of
+    /// its index. Nothing is written to tables that are `NotOurs`, `NewerVersion` or `Damaged`. A statement of the
+    /// transaction is refused as `Store` or `OutOfMemory`. If the store is still open after a refusal, its tables are
+    /// as they were.
+    pub fn migrate(
+        conn: Connection<S>,
+        mark: u64,
+        alloc: Global,
+    ) -> Result<Vault<S>, (Connection<S>, OpenFault)>
+        requires { conn.in_transaction ≡ false }
+        ensures opened { IfOk result (λ v. (v.mark ≡ mark) × (v.closed ≡ false)) }
+        ensures ours { has_meta (state S.Store conn).now.schema ≡ false
+            → MatchResult result (λ _. ⊥) (λ e. IsForeign e.1) }
+        ensures foreign { has_meta (state S.Store conn).now.schema ≡ false
+            → IfErr result (λ e. IfClean S.Store conn e.0 (λ _ b. FailsIfOfStore b e.1)) }
+        ensures whole { IfOk result (λ v. IfClean S.Store conn v.conn
+            (λ a _. IsTrue (has_first_tables a.now.schema))) }
+        ensures migrated { IfOk result (λ v. IfClean S.Store conn v.conn
+            (λ a _. IsOwn a.now.schema → IsMigrated S.Store a.now v)) }
+        ensures refused { IfErr result (λ e. IfClean S.Store conn e.0
+            (λ a b. IsOwn a.now.schema → IsUnmigrated a b e.1)) }
+        ensures sound { IfErr result (λ e. IfClean S.Store conn e.0 (λ a b. HaveHistory a.now → IsOfStore a b e.1)) }
+        ensures first { IfErr result (λ e. IfClean S.Store conn e.0
+            (λ a b. HaveFirstHistory a.now → IsUnmade a b e.1)) }
+        ensures left { MatchResult result (λ v. IfClean S.Store conn v.conn MayMigrate)
+            (λ e. IfClean S.Store conn e.0 (λ a b. LeavesMigrated a b e.1)) }
+        ensures back { IfErr result (λ e. IfClean S.Store conn e.0 (λ a b. IsTrue b.is_open → IsBack a b)) }
+        ensures survives { IfOk result (λ v. SurvivesAs S.Store conn v.conn Migrated) }
+        ensures clean { MatchResult result (λ v. IfClean S.Store conn v.conn (λ a _. HasCleanDisk a))
+            (λ e. IfClean S.Store conn e.0 (λ a _. HasCleanDisk a)) }
+        ensures mode { IfErr result (λ e. e.0.in_transaction ≡ false) }
+    {
+        let mut conn = conn;
+        match migrate_tables(&mut conn, alloc) {
+            Ok(records) => Ok(Vault {
+                conn,
+                mark,
+                next: records,
+                closed: false,
+            }),
+            Err(fault) => Err((conn, fault)),
+        }
+    }
+
+    /// Writes the batch in one transaction, all of it or nothing. Refusals come in the order of `Unchanged`, but want
+    /// of memory and a doubtful end may come before `Illegal`.
     pub fn commit(&mut self, batch: Batch) -> Result<Receipt, CommitEnd>
         ensures closed { (result ≡ Err (CommitEnd.Unchanged batch Unchanged.Closed)) ↔ IsTrue self.old.closed }
         ensures out_of_turn { (result ≡ Err (CommitEnd.Unchanged batch Unchanged.OutOfTurn))

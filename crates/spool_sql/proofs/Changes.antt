@@ -20,17 +20,17 @@ use Rattle.sqlite_rules.specs.Cast.{cast_row}
 use Rattle.sqlite_rules.specs.Edit.{id_in}
 use Rattle.sqlite_rules.specs.Calls.{ids_of}
 use Rattle.sqlite.specs.Command.TheVariants.{Update, Delete}
-use Rattle.sqlite.specs.Schema.{Schema}
 use Rattle.sqlite.specs.Listing.{understood}
 use Rattle.sqlite.specs.State.{State, Executes}
 use Rattle.sqlite_tied.specs.Compute.{everything}
 use Rattle.relay_types.specs.Rows.{Rows, EndpointRow, SecretRow, change_where}
 use Rattle.spool_sql.specs.Tables.{relay_schema, endpoints, secrets}
-use Rattle.spool_sql.specs.Stored.{IsTablesOf, HasRowids, endpoint_stored, secret_stored, flag_number, with_enabled, with_secrets_by, without_secrets}
+use Rattle.spool_sql.specs.Stored.{IsTables, HasRowids, endpoint_stored, secret_stored, flag_number, with_enabled}
+use Rattle.spool_sql.specs.Stored.{with_secrets_by, without_secrets}
 use Rattle.spool_sql.specs.Steps.{Makes}
 use Rattle.spool_sql.proofs.InsertLemmas.{Means}
 use Rattle.spool_sql.proofs.Inserts.{cast_int, cast_null}
-use Rattle.spool_sql.proofs.RelayLemmas.{HasTables, relay_has_tables, listed, others_of, other_endpoints, other_secrets}
+use Rattle.spool_sql.proofs.RelayLemmas.{idle, others_of, other_endpoints, other_secrets}
 use Rattle.spool_sql.proofs.SelectLemmas.{filtered, map_map, equal_ints, equal_numbers, and_true}
 use Rattle.spool_sql.proofs.UpdateLemmas.{scan, shows, passes, scanned, updates}
 use Rattle.spool_sql.proofs.ChangeLemmas.{updated_typed, left_in_table, left_rowids, deletes}
@@ -81,38 +81,52 @@ own_number n = has_number n n ∙ grind (arith, nat_tests)
 same_number : (k m n : ℕ) → (n == k) ≡ true → is_eq (value_cmp (Int (pos m)) (Int (pos n))) ≡ true → (m == k) ≡ true
 same_number k m n is tie = let here : (m == n) ≡ true = sym (has_number m n) ∙ tie in grind (arith, nat_tests)
 
-module _ (schema : Schema) (version : ℕ) (has : HasTables schema) (old new : State) (count : ℕ) where
+enabled_update_means : Means relay_schema enabled_update (Update 1 (changed_endpoints 2 enabled_terms))
+unfolding understood everything
+enabled_update_means = record { is = refl; plain = (refl, refl) }
+
+secrets_by_update_means : Means relay_schema secrets_by_update (Update 1 (changed_endpoints 1 secrets_by_terms))
+unfolding understood everything
+secrets_by_update_means = record { is = refl; plain = (refl, refl) }
+
+module _ (old new : State) where
   -- an UPDATE of the endpoint with this number
-  changes_endpoint : (sql : List ℕ) (params : Row) (at : ℕ) (more : List Term) → Means schema sql (Update 1 (changed_endpoints at more)) → (put : ℕ) (edit : EndpointRow → EndpointRow)
+  changes_endpoint : (sql : List ℕ) (params : Row) (at : ℕ) (more : List Term)
+      → Means relay_schema sql (Update 1 (changed_endpoints at more)) → (put : ℕ) (edit : EndpointRow → EndpointRow)
       → ((e : EndpointRow) → passes params (is_given 0 at) (endpoint_stored e) ≡ (e.put == put))
       → ((e : EndpointRow) → cast_row (record endpoints { tree = 1 }) (drop 1 (shows params (col 1 0 ∷ more) (endpoint_stored e))) ≡ endpoint_stored (edit e))
-      → Executes sql params old new (Ok count) → (rows : Rows) → IsTablesOf schema version old.now rows
-      → IsTablesOf schema version new.now (record rows { endpoints = change_where (λ e. e.put == put) edit rows.endpoints })
-  changes_endpoint sql params at more means put edit passed changed h rows t =
+      → (count : ℕ) → Executes sql params old new (Ok count) → (rows : Rows) → IsTables old.now rows
+      → IsTables new.now (record rows { endpoints = change_where (λ e. e.put == put) edit rows.endpoints })
+  changes_endpoint sql params at more means put edit passed changed count h rows t =
       let table = record endpoints { tree = 1 } in
-      let u = updates schema sql params 1 (changed_endpoints at more) table means (listed schema has 1 _ refl) has.idle old new count t.schema_is h in
-      let found = scanned 1 (is_given 0 at) (col 1 0 ∷ more) schema old.now.trees params u.0 u.1 in
+      let u = updates relay_schema sql params 1 (changed_endpoints at more) table means refl idle old new count
+      t.schema_is h in
+      let found = scanned 1 (is_given 0 at) (col 1 0 ∷ more) relay_schema old.now.trees params u.0 u.1 in
       let w = u.2 in
       let all = change_where (λ (e : EndpointRow). e.put == put) edit rows.endpoints in
       record {
         schema_is = w.schema_is;
-        tables = other_endpoints schema version old.now.trees new.now.trees rows t.tables w.sound (others_of schema has old new 1 _ w) all
+        tables = other_endpoints 2 old.now.trees new.now.trees rows t.tables w.sound (others_of old new 1 _ w) all
             (subst (λ x. IsPermutation x (map endpoint_stored all)) (sym w.rows_are)
             (updated_typed endpoint_stored table params (is_given 0 at) (col 1 0 ∷ more) (λ (e : EndpointRow). e.put == put) edit passed changed (λ r. refl)
-            (λ e. own_number e.put) (λ e f. same_number put e.put f.put) old.now.trees rows.endpoints u.0 t.tables.endpoints found u.3));
+            (λ e. own_number e.put) (λ e f. same_number put e.put f.put) old.now.trees rows.endpoints u.0
+            t.tables.five.endpoints found u.3));
       }
 
-  pub changes_enabled : Means schema enabled_update (Update 1 (changed_endpoints 2 enabled_terms)) → (put : ℕ) (flag : Bool) (by : ℕ) → Executes enabled_update (enabled_values put flag by) old new (Ok count)
-      → (rows : Rows) → IsTablesOf schema version old.now rows → IsTablesOf schema version new.now (with_enabled put flag by rows)
-  changes_enabled means put flag by =
-      changes_endpoint enabled_update (enabled_values put flag by) 2 enabled_terms means put (λ e. record e { enabled = flag; enabled_by = by })
+  pub makes_enabled : (put : ℕ) (flag : Bool) (by count : ℕ)
+      → Executes enabled_update (enabled_values put flag by) old new (Ok count)
+      → Makes old new (with_enabled put flag by)
+  makes_enabled put flag by =
+      changes_endpoint enabled_update (enabled_values put flag by) 2 enabled_terms enabled_update_means put
+      (λ e. record e { enabled = flag; enabled_by = by })
       (λ e. and_true _ ∙ equal_numbers e.put put)
       (λ e. rw (cast_null, cast_int (pos e.put), cast_int (pos e.max), cast_int (pos (flag_number flag)), cast_int (pos by), cast_int (pos e.secrets_by)) refl)
 
-  pub changes_secrets_by : Means schema secrets_by_update (Update 1 (changed_endpoints 1 secrets_by_terms)) → (put by : ℕ) → Executes secrets_by_update (secrets_by_values put by) old new (Ok count)
-      → (rows : Rows) → IsTablesOf schema version old.now rows → IsTablesOf schema version new.now (with_secrets_by put by rows)
-  changes_secrets_by means put by =
-      changes_endpoint secrets_by_update (secrets_by_values put by) 1 secrets_by_terms means put (λ e. record e { secrets_by = by })
+  pub makes_secrets_by : (put by count : ℕ) → Executes secrets_by_update (secrets_by_values put by) old new (Ok count)
+      → Makes old new (with_secrets_by put by)
+  makes_secrets_by put by =
+      changes_endpoint secrets_by_update (secrets_by_values put by) 1 secrets_by_terms secrets_by_update_means put
+      (λ e. record e { secrets_by = by })
       (λ e. and_true _ ∙ equal_numbers e.put put)
       (λ e. rw (cast_null, cast_int (pos e.put), cast_int (pos e.max), cast_int (pos (flag_number e.enabled)), cast_int (pos e.enabled_by), cast_int (pos by)) refl)
 
@@ -137,47 +151,30 @@ other_secrets_left endpoint tree all are =
     (filtered secret_stored (λ v. not (names_endpoint endpoint v)) (λ (s : SecretRow). not (s.endpoint == endpoint)) (λ s. ap not (and_true _ ∙ equal_numbers s.endpoint endpoint)) all)
     (IsPermutation-filter (λ v. not (names_endpoint endpoint v)) _ _ are))
 
-module _ (schema : Schema) (version : ℕ) (has : HasTables schema) (old new : State) (count : ℕ) where
-  pub removes_secrets : Means schema secrets_delete (Delete 2 deleted_secrets) → (endpoint : ℕ) → Executes secrets_delete (Int (pos endpoint) ∷ []) old new (Ok count)
-      → (rows : Rows) → IsTablesOf schema version old.now rows → IsTablesOf schema version new.now (without_secrets endpoint rows)
-  removes_secrets means endpoint h rows t =
-      let params : Row = Int (pos endpoint) ∷ [] in
-      let tree = old.now.trees 3 in
-      let u = deletes schema secrets_delete params 2 deleted_secrets (record secrets { tree = 3 }) means (listed schema has 2 _ refl) has.idle old new count t.schema_is h in
-      let found = scanned 3 (is_given 1 0) (col 1 0 ∷ []) schema old.now.trees params u.0 u.1 in
-      let w = u.2 in
-      let p = passes params (is_given 1 0) in
-      let these : IsPermutation (map (λ r. id_in (rowid r)) (filter p tree)) (ids_of u.0) =
-      subst (λ l. IsPermutation l (ids_of u.0)) (map_map (shows params (col 1 0 ∷ [])) (λ r. id_in (rowid r)) (filter p tree)) (IsPermutation-map (λ r. id_in (rowid r)) _ _ found) in
-      let left = left_in_table tree t.tables.secret_rowids p (ids_of u.0) these in
-      let now : new.now.trees 3 ≡ filter (λ r. not (p r)) tree = w.rows_are ∙ left in
-      let all = filter (λ (s : SecretRow). not (s.endpoint == endpoint)) rows.secrets in
-      record {
-        schema_is = w.schema_is;
-        tables = other_secrets schema version old.now.trees new.now.trees rows t.tables w.sound (others_of schema has old new 3 _ w) all
-            (subst (λ x. IsPermutation (map (drop 1) x) (map secret_stored all)) (sym now) (other_secrets_left endpoint tree rows.secrets t.tables.secrets))
-            (subst HasRowids (sym w.rows_are) (left_rowids (ids_of u.0) tree t.tables.secret_rowids));
-      }
-
--- ---- the relay's
-
-enabled_update_means : Means relay_schema enabled_update (Update 1 (changed_endpoints 2 enabled_terms))
-unfolding understood everything
-enabled_update_means = record { is = refl; plain = (refl, refl) }
-
-pub makes_enabled : (old new : State) (put : ℕ) (flag : Bool) (by count : ℕ) → Executes enabled_update (enabled_values put flag by) old new (Ok count) → Makes old new (with_enabled put flag by)
-makes_enabled old new put flag by count = changes_enabled relay_schema 1 relay_has_tables old new count enabled_update_means put flag by
-
-secrets_by_update_means : Means relay_schema secrets_by_update (Update 1 (changed_endpoints 1 secrets_by_terms))
-unfolding understood everything
-secrets_by_update_means = record { is = refl; plain = (refl, refl) }
-
-pub makes_secrets_by : (old new : State) (put by count : ℕ) → Executes secrets_by_update (secrets_by_values put by) old new (Ok count) → Makes old new (with_secrets_by put by)
-makes_secrets_by old new put by count = changes_secrets_by relay_schema 1 relay_has_tables old new count secrets_by_update_means put by
-
 secrets_delete_means : Means relay_schema secrets_delete (Delete 2 deleted_secrets)
 unfolding understood everything
 secrets_delete_means = record { is = refl; plain = (refl, refl) }
 
-pub makes_without_secrets : (old new : State) (endpoint count : ℕ) → Executes secrets_delete (Int (pos endpoint) ∷ []) old new (Ok count) → Makes old new (without_secrets endpoint)
-makes_without_secrets old new endpoint count = removes_secrets relay_schema 1 relay_has_tables old new count secrets_delete_means endpoint
+module _ (old new : State) where
+  pub makes_without_secrets : (endpoint count : ℕ)
+      → Executes secrets_delete (Int (pos endpoint) ∷ []) old new (Ok count) → Makes old new (without_secrets endpoint)
+  makes_without_secrets endpoint count h rows t =
+      let params : Row = Int (pos endpoint) ∷ [] in
+      let tree = old.now.trees 3 in
+      let u = deletes relay_schema secrets_delete params 2 deleted_secrets (record secrets { tree = 3 })
+      secrets_delete_means refl idle old new count t.schema_is h in
+      let found = scanned 3 (is_given 1 0) (col 1 0 ∷ []) relay_schema old.now.trees params u.0 u.1 in
+      let w = u.2 in
+      let p = passes params (is_given 1 0) in
+      let these : IsPermutation (map (λ r. id_in (rowid r)) (filter p tree)) (ids_of u.0) =
+      subst (λ l. IsPermutation l (ids_of u.0)) (map_map (shows params (col 1 0 ∷ [])) (λ r. id_in (rowid r)) (filter p tree)) (IsPermutation-map (λ r. id_in (rowid r)) _ _ found) in
+      let left = left_in_table tree t.tables.five.secret_rowids p (ids_of u.0) these in
+      let now : new.now.trees 3 ≡ filter (λ r. not (p r)) tree = w.rows_are ∙ left in
+      let all = filter (λ (s : SecretRow). not (s.endpoint == endpoint)) rows.secrets in
+      record {
+        schema_is = w.schema_is;
+        tables = other_secrets 2 old.now.trees new.now.trees rows t.tables w.sound (others_of old new 3 _ w) all
+            (subst (λ x. IsPermutation (map (drop 1) x) (map secret_stored all)) (sym now)
+            (other_secrets_left endpoint tree rows.secrets t.tables.five.secrets))
+            (subst HasRowids (sym w.rows_are) (left_rowids (ids_of u.0) tree t.tables.five.secret_rowids));
+      }

@@ -9,13 +9,12 @@ use Rattle.sqlite_sql.specs.declared.ops.CompareOp.TheVariants.{Eq}
 use Rattle.sqlite.specs.declared.types.Value.TheVariants.{Int}
 use Rattle.sqlite.specs.Order.{Row}
 use Rattle.sqlite.specs.Term.{Term, col, op2}
-use Rattle.sqlite.specs.Schema.{Schema}
 use Rattle.sqlite.specs.Listing.{understood}
 use Rattle.sqlite.specs.State.{State, Shown}
 use Rattle.sqlite_tied.specs.Compute.{everything}
 use Rattle.relay_types.specs.Rows.{Rows, DeliveryRow, AttemptRow}
 use Rattle.spool_sql.specs.Tables.{relay_schema}
-use Rattle.spool_sql.specs.Stored.{IsTablesOf, IsEndpointOf, AreStatusesOf, number_of, delivery_stored, attempt_stored}
+use Rattle.spool_sql.specs.Stored.{IsTables, IsEndpointOf, AreStatusesOf, number_of, delivery_stored, attempt_stored}
 use Rattle.relay_types.specs.declared.limits.TheConstants.{MAX_RECORDS}
 use Rattle.spool_sql.specs.Readable.{IsReadableDelivery, IsReadableAttempt, ShowsBelow}
 use Rattle.spool_sql.proofs.BareLemmas.{IsBare}
@@ -54,37 +53,47 @@ statuses_select_bare schema base = refl
 numbers_of : {X : Type 0} (n : X → ℕ) (xs : List X) (found : List Row) → IsPermutation (map (λ x. Int (pos (n x)) ∷ []) xs) found → IsPermutation (map n xs) (map number_of found)
 numbers_of n xs found same = subst (λ l. IsPermutation l (map number_of found)) (map_map (λ x. Int (pos (n x)) ∷ []) number_of xs) (IsPermutation-map number_of _ _ same)
 
-module _ (schema : Schema) (version : ℕ) (old new : State) (found : List Row) (rows : Rows) (t : IsTablesOf schema version old.now rows) (delivery : ℕ) where
+module _ (old new : State) (found : List Row) (rows : Rows) (t : IsTables old.now rows) (delivery : ℕ) where
   abbrev params : Row
   params = Int (pos delivery) ∷ []
 
-  endpoint_found : Asks schema endpoint_select (scan 5 by_seq (col 1 2 ∷ [])) (codes "endpoint" ∷ []) → Shown endpoint_select params old new found
+  endpoint_found : Asks relay_schema endpoint_select (scan 5 by_seq (col 1 2 ∷ [])) (codes "endpoint" ∷ [])
+      → Shown endpoint_select params old new found
       → IsPermutation (map (λ (d : DeliveryRow). shows params (col 1 2 ∷ []) (delivery_stored d)) (filter (λ (d : DeliveryRow). d.seq == delivery) rows.deliveries)) found
   endpoint_found asks h =
-      finds delivery_stored params by_seq (col 1 2 ∷ []) (λ (d : DeliveryRow). d.seq == delivery) (λ d. and_true _ ∙ equal_numbers d.seq delivery) (old.now.trees 5) rows.deliveries found t.tables.deliveries
-      (found_in schema endpoint_select 5 by_seq (col 1 2 ∷ []) _ asks params old new found t.schema_is h)
+      finds delivery_stored params by_seq (col 1 2 ∷ []) (λ (d : DeliveryRow). d.seq == delivery)
+      (λ d. and_true _ ∙ equal_numbers d.seq delivery) (old.now.trees 5) rows.deliveries found
+      t.tables.five.deliveries
+      (found_in relay_schema endpoint_select 5 by_seq (col 1 2 ∷ []) _ asks params old new found t.schema_is h)
 
-  statuses_found : Asks schema statuses_select (scan 7 by_delivery (col 1 4 ∷ [])) (codes "status" ∷ []) → Shown statuses_select params old new found
+  statuses_found : Asks relay_schema statuses_select (scan 7 by_delivery (col 1 4 ∷ [])) (codes "status" ∷ [])
+      → Shown statuses_select params old new found
       → IsPermutation (map (λ (a : AttemptRow). shows params (col 1 4 ∷ []) (attempt_stored a)) (filter (λ (a : AttemptRow). a.delivery == delivery) rows.attempts)) found
   statuses_found asks h =
-      finds attempt_stored params by_delivery (col 1 4 ∷ []) (λ (a : AttemptRow). a.delivery == delivery) (λ a. and_true _ ∙ equal_numbers a.delivery delivery) (old.now.trees 7) rows.attempts found t.tables.attempts
-      (found_in schema statuses_select 7 by_delivery (col 1 4 ∷ []) _ asks params old new found t.schema_is h)
+      finds attempt_stored params by_delivery (col 1 4 ∷ []) (λ (a : AttemptRow). a.delivery == delivery)
+      (λ a. and_true _ ∙ equal_numbers a.delivery delivery) (old.now.trees 7) rows.attempts found
+      t.tables.five.attempts
+      (found_in relay_schema statuses_select 7 by_delivery (col 1 4 ∷ []) _ asks params old new found t.schema_is h)
 
-  pub tells_endpoint : Asks schema endpoint_select (scan 5 by_seq (col 1 2 ∷ [])) (codes "endpoint" ∷ []) → Shown endpoint_select params old new found
+  pub tells_endpoint : Asks relay_schema endpoint_select (scan 5 by_seq (col 1 2 ∷ [])) (codes "endpoint" ∷ [])
+      → Shown endpoint_select params old new found
       → (put : Option ℕ) → put ≡ option_map number_of (slice_get found 0) → IsEndpointOf delivery rows put
   tells_endpoint asks h put is =
       (map number_of found, numbers_of (λ (d : DeliveryRow). d.endpoint) _ found (endpoint_found asks h), is ∙ sym (first_number found))
 
-  pub shows_endpoint : Asks schema endpoint_select (scan 5 by_seq (col 1 2 ∷ [])) (codes "endpoint" ∷ []) → Shown endpoint_select params old new found → AllByRecursion IsReadableDelivery rows.deliveries
+  pub shows_endpoint : Asks relay_schema endpoint_select (scan 5 by_seq (col 1 2 ∷ [])) (codes "endpoint" ∷ [])
+      → Shown endpoint_select params old new found → AllByRecursion IsReadableDelivery rows.deliveries
       → AllByRecursion (ShowsBelow MAX_RECORDS) found
   shows_endpoint asks h good =
       finds_all delivery_stored params (col 1 2 ∷ []) (λ (d : DeliveryRow). d.seq == delivery) IsReadableDelivery (ShowsBelow MAX_RECORDS) (λ d is. (d.endpoint, refl, is.endpoint)) rows.deliveries found (endpoint_found asks h) good
 
-  pub tells_statuses : Asks schema statuses_select (scan 7 by_delivery (col 1 4 ∷ [])) (codes "status" ∷ []) → Shown statuses_select params old new found
+  pub tells_statuses : Asks relay_schema statuses_select (scan 7 by_delivery (col 1 4 ∷ [])) (codes "status" ∷ [])
+      → Shown statuses_select params old new found
       → AreStatusesOf delivery rows (map number_of found)
   tells_statuses asks h = numbers_of (λ (a : AttemptRow). a.status) _ found (statuses_found asks h)
 
-  pub shows_statuses : Asks schema statuses_select (scan 7 by_delivery (col 1 4 ∷ [])) (codes "status" ∷ []) → Shown statuses_select params old new found → AllByRecursion IsReadableAttempt rows.attempts
+  pub shows_statuses : Asks relay_schema statuses_select (scan 7 by_delivery (col 1 4 ∷ [])) (codes "status" ∷ [])
+      → Shown statuses_select params old new found → AllByRecursion IsReadableAttempt rows.attempts
       → AllByRecursion (ShowsBelow (2 ^ 16)) found
   shows_statuses asks h good =
       finds_all attempt_stored params (col 1 4 ∷ []) (λ (a : AttemptRow). a.delivery == delivery) IsReadableAttempt (ShowsBelow (2 ^ 16)) (λ a is. (a.status, refl, is.status)) rows.attempts found (statuses_found asks h) good

@@ -16,18 +16,20 @@ use Rattle.sqlite.specs.Rows.{stamped}
 use Rattle.sqlite.specs.Effect.{value_rows}
 use Rattle.sqlite.specs.Tree.{Trees, put_row}
 use Rattle.spool_sql.proofs.ChangeLemmas.{put_rowids}
-use Rattle.sqlite.specs.Schema.{Schema}
 use Rattle.sqlite.specs.Listing.{understood}
 use Rattle.sqlite_tied.specs.Compute.{everything}
 use Rattle.spool_sql.specs.Tables.{relay_schema, meta, endpoints, secrets, deliveries, attempts}
 use Rattle.std.specs.List.Sorted.{IsPermutation}
 use Rattle.std.proofs.lemmas.List.Sorted.{IsPermutation-refl}
 use Rattle.sqlite.specs.State.{State, Executes}
-use Rattle.relay_types.specs.Rows.{Rows, SecretRow, DeliveryRow, AttemptRow}
-use Rattle.spool_sql.specs.Stored.{IsTables, HasRowids, IsTablesOf, meta_stored, endpoint_stored, delivery_stored, attempt_stored, secret_stored, new_endpoint, with_endpoint, with_secret, with_delivery, with_attempt, first_rows}
+use Rattle.relay_types.specs.Rows.{SecretRow, DeliveryRow, AttemptRow}
+use Rattle.spool_sql.specs.Stored.{IsTables, HasRowids, meta_stored, endpoint_stored, delivery_stored, attempt_stored}
+use Rattle.spool_sql.specs.Stored.{secret_stored}
+use Rattle.spool_sql.specs.Stored.{new_endpoint, with_endpoint, with_secret, with_delivery, with_attempt, first_rows}
 use Rattle.spool_sql.specs.Steps.{Makes, IsBegun}
 use Rattle.spool_sql.proofs.InsertLemmas.{Means, inserts}
-use Rattle.spool_sql.proofs.RelayLemmas.{HasTables, relay_has_tables, listed, others_of, other_endpoints, other_secrets, other_deliveries, other_attempts}
+use Rattle.spool_sql.proofs.RelayLemmas.{idle, others_of, other_endpoints, other_secrets, other_deliveries}
+use Rattle.spool_sql.proofs.RelayLemmas.{other_attempts}
 use Rattle.spool_sql.proofs.TypedLemmas.{put_typed, put_hidden}
 
 either : (b : Bool) (x : Value) → cond b x x ≡ x
@@ -42,7 +44,7 @@ pub cast_int : (n : ℤ) → cast Integer (Int n) ≡ Int n
 unfolding unary
 cast_int n = either _ (Int n)
 
--- ---- what the statements are, whatever the version of the tables
+-- ---- what the statements are
 
 abbrev pub deliveries_insert : List ℕ
 deliveries_insert = codes "INSERT INTO deliveries VALUES(?1, ?2, ?3, ?4, ?5)"
@@ -67,6 +69,29 @@ three = lit Null ∷ col 0 0 ∷ col 0 1 ∷ col 0 2 ∷ []
 
 abbrev first_terms : ℕ → List Term
 first_terms version = lit (Int (pos 1)) ∷ lit Null ∷ lit (Text (codes "webhook-relay")) ∷ lit (Int (pos version)) ∷ lit (Int (pos 0)) ∷ []
+
+deliveries_insert_means : Means relay_schema deliveries_insert (Insert 3 (Values five 6))
+unfolding understood everything
+deliveries_insert_means = record { is = refl; plain = (refl, refl) }
+
+attempts_insert_means : Means relay_schema attempts_insert (Insert 4 (Values five 6))
+unfolding understood everything
+attempts_insert_means = record { is = refl; plain = (refl, refl) }
+
+endpoints_insert_means : Means relay_schema endpoints_insert (Insert 1 (Values seven 8))
+unfolding understood everything
+endpoints_insert_means = record { is = refl; plain = (refl, refl) }
+
+secrets_insert_means : Means relay_schema secrets_insert (Insert 2 (Values three 4))
+unfolding understood everything
+secrets_insert_means = record { is = refl; plain = (refl, refl) }
+
+abbrev pub meta_insert : List ℕ
+meta_insert = codes "INSERT INTO meta VALUES(1, 'webhook-relay', 2, 0)"
+
+meta_insert_means : Means relay_schema meta_insert (Insert 0 (Values (first_terms 2) 5))
+unfolding understood everything
+meta_insert_means = record { is = refl; plain = (refl, refl) }
 
 -- ---- the parameters, and the rows that they make
 
@@ -101,109 +126,97 @@ secret_news s db = rw (cast_null, cast_int (pos s.endpoint), cast_int (pos s.pla
 meta_news : (version : ℕ) (db : Trees) → (edit_of db meta [] Chosen 0 (value_rows (stamped meta []) 5 (length (first_terms version) / 5) (first_terms version))).news ≡ meta_stored version 0 ∷ []
 meta_news version db = rw (cast_null, cast_int (pos 1), cast_int (pos version), cast_int (pos 0)) refl
 
--- ---- what they make of tables
+-- ---- what they make of the relay's tables
 
-module _ (schema : Schema) (version : ℕ) (has : HasTables schema) (old new : State) (count : ℕ) where
-  pub adds_delivery : Means schema deliveries_insert (Insert 3 (Values five 6)) → (d : DeliveryRow) → Executes deliveries_insert (delivery_values d) old new (Ok count)
-      → (rows : Rows) → IsTablesOf schema version old.now rows → IsTablesOf schema version new.now (with_delivery d rows)
-  adds_delivery means d h rows t =
-      let u = inserts schema deliveries_insert (delivery_values d) 3 five 6 (record deliveries { tree = 5 }) means (listed schema has 3 _ refl) refl (λ _. delivery_stored d) (delivery_news d) has.idle old new count t.schema_is h in
+module _ (old new : State) where
+  pub makes_delivery : (d : DeliveryRow) (count : ℕ) → Executes deliveries_insert (delivery_values d) old new (Ok count)
+      → Makes old new (with_delivery d)
+  makes_delivery d count h rows t =
+      let u = inserts relay_schema deliveries_insert (delivery_values d) 3 five 6 (record deliveries { tree = 5 })
+      deliveries_insert_means refl refl (λ _. delivery_stored d) (delivery_news d) idle old new count t.schema_is
+      h in
       let w = u.0 in
       record {
         schema_is = w.schema_is;
-        tables = other_deliveries schema version old.now.trees new.now.trees rows t.tables w.sound (others_of schema has old new 5 _ w) (rows.deliveries ++ d ∷ [])
-            (subst (λ x. IsPermutation x (map delivery_stored (rows.deliveries ++ d ∷ []))) (sym w.rows_are) (put_typed delivery_stored d (old.now.trees 5) rows.deliveries u.1 t.tables.deliveries));
+        tables = other_deliveries 2 old.now.trees new.now.trees rows t.tables w.sound (others_of old new 5 _ w)
+            (rows.deliveries ++ d ∷ [])
+            (subst (λ x. IsPermutation x (map delivery_stored (rows.deliveries ++ d ∷ []))) (sym w.rows_are)
+            (put_typed delivery_stored d (old.now.trees 5) rows.deliveries u.1 t.tables.five.deliveries));
       }
 
-  pub adds_attempt : Means schema attempts_insert (Insert 4 (Values five 6)) → (a : AttemptRow) → Executes attempts_insert (attempt_values a) old new (Ok count)
-      → (rows : Rows) → IsTablesOf schema version old.now rows → IsTablesOf schema version new.now (with_attempt a rows)
-  adds_attempt means a h rows t =
-      let u = inserts schema attempts_insert (attempt_values a) 4 five 6 (record attempts { tree = 7 }) means (listed schema has 4 _ refl) refl (λ _. attempt_stored a) (attempt_news a) has.idle old new count t.schema_is h in
+  pub makes_attempt : (a : AttemptRow) (count : ℕ) → Executes attempts_insert (attempt_values a) old new (Ok count)
+      → Makes old new (with_attempt a)
+  makes_attempt a count h rows t =
+      let u = inserts relay_schema attempts_insert (attempt_values a) 4 five 6 (record attempts { tree = 7 })
+      attempts_insert_means refl refl (λ _. attempt_stored a) (attempt_news a) idle old new count t.schema_is h in
       let w = u.0 in
       record {
         schema_is = w.schema_is;
-        tables = other_attempts schema version old.now.trees new.now.trees rows t.tables w.sound (others_of schema has old new 7 _ w) (rows.attempts ++ a ∷ [])
-            (subst (λ x. IsPermutation x (map attempt_stored (rows.attempts ++ a ∷ []))) (sym w.rows_are) (put_typed attempt_stored a (old.now.trees 7) rows.attempts u.1 t.tables.attempts));
+        tables = other_attempts 2 old.now.trees new.now.trees rows t.tables w.sound (others_of old new 7 _ w)
+            (rows.attempts ++ a ∷ [])
+            (subst (λ x. IsPermutation x (map attempt_stored (rows.attempts ++ a ∷ []))) (sym w.rows_are)
+            (put_typed attempt_stored a (old.now.trees 7) rows.attempts u.1 t.tables.five.attempts));
       }
 
-  pub adds_endpoint : Means schema endpoints_insert (Insert 1 (Values seven 8)) → (put : ℕ) (name url : List ℕ) (max : ℕ) → Executes endpoints_insert (endpoint_values put name url max) old new (Ok count)
-      → (rows : Rows) → IsTablesOf schema version old.now rows → IsTablesOf schema version new.now (with_endpoint (new_endpoint put name url max) rows)
-  adds_endpoint means put name url max h rows t =
+  pub makes_endpoint : (put : ℕ) (name url : List ℕ) (max count : ℕ)
+      → Executes endpoints_insert (endpoint_values put name url max) old new (Ok count)
+      → Makes old new (with_endpoint (new_endpoint put name url max))
+  makes_endpoint put name url max count h rows t =
       let e = new_endpoint put name url max in
-      let u = inserts schema endpoints_insert (endpoint_values put name url max) 1 seven 8 (record endpoints { tree = 1 }) means (listed schema has 1 _ refl) refl (λ _. endpoint_stored e) (endpoint_news put name url max) has.idle old new count t.schema_is h in
+      let u = inserts relay_schema endpoints_insert (endpoint_values put name url max) 1 seven 8
+      (record endpoints { tree = 1 }) endpoints_insert_means refl refl (λ _. endpoint_stored e)
+      (endpoint_news put name url max) idle old new count t.schema_is h in
       let w = u.0 in
       record {
         schema_is = w.schema_is;
-        tables = other_endpoints schema version old.now.trees new.now.trees rows t.tables w.sound (others_of schema has old new 1 _ w) (rows.endpoints ++ e ∷ [])
-            (subst (λ x. IsPermutation x (map endpoint_stored (rows.endpoints ++ e ∷ []))) (sym w.rows_are) (put_typed endpoint_stored e (old.now.trees 1) rows.endpoints u.1 t.tables.endpoints));
+        tables = other_endpoints 2 old.now.trees new.now.trees rows t.tables w.sound (others_of old new 1 _ w)
+            (rows.endpoints ++ e ∷ [])
+            (subst (λ x. IsPermutation x (map endpoint_stored (rows.endpoints ++ e ∷ []))) (sym w.rows_are)
+            (put_typed endpoint_stored e (old.now.trees 1) rows.endpoints u.1 t.tables.five.endpoints));
       }
 
-  pub adds_secret : Means schema secrets_insert (Insert 2 (Values three 4)) → (s : SecretRow) → Executes secrets_insert (secret_values s) old new (Ok count)
-      → (rows : Rows) → IsTablesOf schema version old.now rows → IsTablesOf schema version new.now (with_secret s rows)
-  adds_secret means s h rows t =
-      let u = inserts schema secrets_insert (secret_values s) 2 three 4 (record secrets { tree = 3 }) means (listed schema has 2 _ refl) refl (hidden s) (secret_news s) has.idle old new count t.schema_is h in
+  pub makes_secret : (s : SecretRow) (count : ℕ) → Executes secrets_insert (secret_values s) old new (Ok count)
+      → Makes old new (with_secret s)
+  makes_secret s count h rows t =
+      let u = inserts relay_schema secrets_insert (secret_values s) 2 three 4 (record secrets { tree = 3 })
+      secrets_insert_means refl refl (hidden s) (secret_news s) idle old new count t.schema_is h in
       let w = u.0 in
       record {
         schema_is = w.schema_is;
-        tables = other_secrets schema version old.now.trees new.now.trees rows t.tables w.sound (others_of schema has old new 3 _ w) (rows.secrets ++ s ∷ [])
+        tables = other_secrets 2 old.now.trees new.now.trees rows t.tables w.sound (others_of old new 3 _ w)
+            (rows.secrets ++ s ∷ [])
             (subst (λ x. IsPermutation (map (drop 1) x) (map secret_stored (rows.secrets ++ s ∷ []))) (sym w.rows_are)
-            (put_hidden secret_stored s (Int (next_rowid (old.now.trees 3))) (old.now.trees 3) rows.secrets u.1 t.tables.secrets))
-            (subst (HasRowids) (sym w.rows_are) (put_rowids (next_rowid (old.now.trees 3)) (secret_stored s) (old.now.trees 3) u.1 t.tables.secret_rowids));
+            (put_hidden secret_stored s (Int (next_rowid (old.now.trees 3))) (old.now.trees 3) rows.secrets u.1
+            t.tables.five.secrets))
+            (subst (HasRowids) (sym w.rows_are) (put_rowids (next_rowid (old.now.trees 3)) (secret_stored s)
+            (old.now.trees 3) u.1 t.tables.five.secret_rowids));
       }
 
--- ---- the relay's
-
-deliveries_insert_means : Means relay_schema deliveries_insert (Insert 3 (Values five 6))
-unfolding understood everything
-deliveries_insert_means = record { is = refl; plain = (refl, refl) }
-
-pub makes_delivery : (old new : State) (d : DeliveryRow) (count : ℕ) → Executes deliveries_insert (delivery_values d) old new (Ok count) → Makes old new (with_delivery d)
-makes_delivery old new d count = adds_delivery relay_schema 1 relay_has_tables old new count deliveries_insert_means d
-
-attempts_insert_means : Means relay_schema attempts_insert (Insert 4 (Values five 6))
-unfolding understood everything
-attempts_insert_means = record { is = refl; plain = (refl, refl) }
-
-pub makes_attempt : (old new : State) (a : AttemptRow) (count : ℕ) → Executes attempts_insert (attempt_values a) old new (Ok count) → Makes old new (with_attempt a)
-makes_attempt old new a count = adds_attempt relay_schema 1 relay_has_tables old new count attempts_insert_means a
-
-endpoints_insert_means : Means relay_schema endpoints_insert (Insert 1 (Values seven 8))
-unfolding understood everything
-endpoints_insert_means = record { is = refl; plain = (refl, refl) }
-
-pub makes_endpoint : (old new : State) (put : ℕ) (name url : List ℕ) (max : ℕ) (count : ℕ) → Executes endpoints_insert (endpoint_values put name url max) old new (Ok count)
-    → Makes old new (with_endpoint (new_endpoint put name url max))
-makes_endpoint old new put name url max count = adds_endpoint relay_schema 1 relay_has_tables old new count endpoints_insert_means put name url max
-
-secrets_insert_means : Means relay_schema secrets_insert (Insert 2 (Values three 4))
-unfolding understood everything
-secrets_insert_means = record { is = refl; plain = (refl, refl) }
-
-pub makes_secret : (old new : State) (s : SecretRow) (count : ℕ) → Executes secrets_insert (secret_values s) old new (Ok count) → Makes old new (with_secret s)
-makes_secret old new s count = adds_secret relay_schema 1 relay_has_tables old new count secrets_insert_means s
-
-abbrev pub meta_insert : List ℕ
-meta_insert = codes "INSERT INTO meta VALUES(1, 'webhook-relay', 1, 0)"
-
-meta_insert_means : Means relay_schema meta_insert (Insert 0 (Values (first_terms 1) 5))
-unfolding understood everything
-meta_insert_means = record { is = refl; plain = (refl, refl) }
-
--- of the tables as they are made
-pub makes_first_rows : (old new : State) (count : ℕ) → Executes meta_insert [] old new (Ok count) → IsBegun relay_schema old.now → IsTables new.now first_rows
-makes_first_rows old new count h b =
-    let w = (inserts relay_schema meta_insert [] 0 (first_terms 1) 5 meta meta_insert_means refl refl (λ _. meta_stored 1 0) (meta_news 1) relay_has_tables.idle old new count b.schema_is h).0 in
-    let o = others_of relay_schema relay_has_tables old new 0 _ w in
-    let none = IsPermutation-refl [] in
-    record {
-      schema_is = w.schema_is;
-      tables = record {
-        sound = w.sound;
-        meta = w.rows_are ∙ ap (put_row (meta_stored 1 0)) b.empty.0;
-        endpoints = subst (λ x. IsPermutation x []) (sym (o.endpoints (λ e. absurd (omega (arith, e))) ∙ b.empty.1.0)) none;
-        secrets = subst (λ x. IsPermutation (map (drop 1) x) []) (sym (o.secrets (λ e. absurd (omega (arith, e))) ∙ b.empty.1.1.0)) none;
-        deliveries = subst (λ x. IsPermutation x []) (sym (o.deliveries (λ e. absurd (omega (arith, e))) ∙ b.empty.1.1.1.0)) none;
-        attempts = subst (λ x. IsPermutation x []) (sym (o.attempts (λ e. absurd (omega (arith, e))) ∙ b.empty.1.1.1.1.0)) none;
-        secret_rowids = subst (HasRowids) (sym (o.secrets (λ e. absurd (omega (arith, e))) ∙ b.empty.1.1.0)) (record { numbered = tt; once = λ id. omega arith });
-      };
-    }
+  -- of the tables as they are made
+  pub makes_first_rows : (count : ℕ) → Executes meta_insert [] old new (Ok count) → IsBegun relay_schema old.now
+      → IsTables new.now first_rows
+  makes_first_rows count h b =
+      let w = (inserts relay_schema meta_insert [] 0 (first_terms 2) 5 meta meta_insert_means refl refl
+      (λ _. meta_stored 2 0) (meta_news 2) idle old new count b.schema_is h).0 in
+      let o = others_of old new 0 _ w in
+      let none = IsPermutation-refl [] in
+      record {
+        schema_is = w.schema_is;
+        tables = record {
+          five = record {
+            sound = w.sound;
+            meta = w.rows_are ∙ ap (put_row (meta_stored 2 0)) b.empty.0;
+            endpoints = subst (λ x. IsPermutation x [])
+                (sym (o.endpoints (λ e. absurd (omega (arith, e))) ∙ b.empty.1.0)) none;
+            secrets = subst (λ x. IsPermutation (map (drop 1) x) [])
+                (sym (o.secrets (λ e. absurd (omega (arith, e))) ∙ b.empty.1.1.0)) none;
+            deliveries = subst (λ x. IsPermutation x [])
+                (sym (o.deliveries (λ e. absurd (omega (arith, e))) ∙ b.empty.1.1.1.0)) none;
+            attempts = subst (λ x. IsPermutation x []) (sym
+                (o.attempts (λ e. absurd (omega (arith, e))) ∙ b.empty.1.1.1.1.0)) none;
+            secret_rowids = subst (HasRowids) (sym (o.secrets (λ e. absurd (omega (arith, e))) ∙ b.empty.1.1.0))
+                (record { numbered = tt; once = λ id. omega arith });
+          };
+          no_topics = o.topics (λ e. absurd (omega (arith, e))) ∙ b.empty.1.1.1.1.1.0;
+        };
+      }

@@ -10,7 +10,7 @@ use Rattle.sqlite.proofs.Callers.{one_permutation}
 use Rattle.sqlite_tied.specs.Compute.{everything}
 use Rattle.relay_types.specs.Rows.{Rows}
 use Rattle.spool_sql.specs.Tables.{relay_schema}
-use Rattle.spool_sql.specs.Stored.{IsTablesOf, number_of}
+use Rattle.spool_sql.specs.Stored.{IsTables, number_of}
 use Rattle.spool_sql.proofs.BareLemmas.{IsBare}
 use Rattle.spool_sql.proofs.SelectLemmas.{Asks, found_in}
 use Rattle.spool_sql.proofs.UpdateLemmas.{scan, shows, passes}
@@ -33,12 +33,15 @@ same_some : {m n : ℕ} → Some m ≡ Some n → m ≡ n
 same_some e = cc
 
 -- the answer is the number of records
-pub record_shown : (old new : State) (found : List Row) (rows : Rows) → IsTablesOf relay_schema 1 old.now rows → Shown records_select [] old new found → found ≡ (Int (pos rows.records) ∷ []) ∷ []
+pub record_shown : (old new : State) (found : List Row) (rows : Rows) → IsTables old.now rows
+    → Shown records_select [] old new found → found ≡ (Int (pos rows.records) ∷ []) ∷ []
 record_shown old new found rows t h =
-    one_permutation _ found (subst (λ tree. IsPermutation (map (shows [] counted) (filter (passes [] []) tree)) found) t.tables.meta
+    one_permutation _ found (subst (λ tree. IsPermutation (map (shows [] counted) (filter (passes [] []) tree)) found)
+    t.tables.five.meta
     (found_in relay_schema records_select 0 [] counted _ records_select_asks [] old new found t.schema_is h))
 
-pub tells_records : (old new : State) (found : List Row) (rows : Rows) → IsTablesOf relay_schema 1 old.now rows → Shown records_select [] old new found
+pub tells_records : (old new : State) (found : List Row) (rows : Rows) → IsTables old.now rows
+    → Shown records_select [] old new found
     → (count : ℕ) → option_map number_of (slice_get found 0) ≡ Some count → count ≡ rows.records
 tells_records old new found rows t h count is =
     same_some (sym is ∙ ap (λ l. option_map number_of (slice_get l 0)) (record_shown old new found rows t h))

@@ -15,7 +15,8 @@ use Rattle.std.specs.List.Sorted.{IsPermutation}
 use Rattle.sqlite_trees.proofs.ListLemmas.{all_weaker, all-filter, all-map, all-permutation}
 use Rattle.relay_types.specs.Rows.{Rows, EndpointRow, DeliveryRow, AttemptRow}
 use Rattle.spool_sql.specs.Tables.{relay_schema}
-use Rattle.spool_sql.specs.Stored.{IsTablesOf, IsPage, page_rows, flag_number, endpoint_stored, delivery_stored, attempt_stored, endpoint_in, delivery_in, attempt_in}
+use Rattle.spool_sql.specs.Stored.{IsTables, IsPage, page_rows, flag_number, endpoint_stored, delivery_stored}
+use Rattle.spool_sql.specs.Stored.{attempt_stored, endpoint_in, delivery_in, attempt_in}
 use Rattle.spool_sql.specs.Readable.{AreReadable, IsReadableEndpoint, IsReadableDelivery, IsReadableAttempt, ShowsEndpoint, ShowsDelivery, ShowsAttempt}
 use Rattle.spool_sql.proofs.BareLemmas.{IsBare}
 use Rattle.spool_sql.proofs.SelectLemmas.{Asks, map_map}
@@ -79,17 +80,20 @@ flag_back : (flag : Bool) → not (flag_number flag == 0) ≡ flag
 flag_back true = refl
 flag_back false = refl
 
-pub tells_endpoints : (old new : State) (found : List Row) (rows : Rows) → IsTablesOf relay_schema 1 old.now rows → (from : ℕ) → Shown endpoints_page (Int (pos from) ∷ []) old new found
+pub tells_endpoints : (old new : State) (found : List Row) (rows : Rows) → IsTables old.now rows → (from : ℕ)
+    → Shown endpoints_page (Int (pos from) ∷ []) old new found
     → IsPage (λ (e : EndpointRow). e.put) from rows.endpoints (map endpoint_in found)
 tells_endpoints old new found rows t from h =
     pages_in endpoint_stored (λ (e : EndpointRow). e.put) 1 endpoint_columns endpoint_in from (λ e. refl) (λ e. ap (λ b. record e { enabled = b }) (flag_back e.enabled))
-    relay_schema endpoints_page _ endpoints_page_asks old new rows.endpoints found t.schema_is t.tables.endpoints h
+    relay_schema endpoints_page _ endpoints_page_asks old new rows.endpoints found t.schema_is t.tables.five.endpoints h
 
-pub shows_endpoints : (old new : State) (found : List Row) (rows : Rows) → IsTablesOf relay_schema 1 old.now rows → (from : ℕ) → Shown endpoints_page (Int (pos from) ∷ []) old new found → AreReadable rows
+pub shows_endpoints : (old new : State) (found : List Row) (rows : Rows) → IsTables old.now rows → (from : ℕ)
+    → Shown endpoints_page (Int (pos from) ∷ []) old new found → AreReadable rows
     → AllByRecursion ShowsEndpoint found
 shows_endpoints old new found rows t from h readable =
     pages_show endpoint_stored (λ (e : EndpointRow). e.put) 1 endpoint_columns from (λ e. refl) IsReadableEndpoint ShowsEndpoint (λ e good. (e, refl, good))
-    endpoints_page _ endpoints_page_asks old new rows.endpoints found t.schema_is t.tables.endpoints h readable.endpoints
+    endpoints_page _ endpoints_page_asks old new rows.endpoints found t.schema_is t.tables.five.endpoints h
+    readable.endpoints
 
 -- ---- events
 
@@ -107,17 +111,20 @@ pub deliveries_select_bare : IsBare deliveries_select
 unfolding understood everything
 deliveries_select_bare schema base = refl
 
-pub tells_deliveries : (old new : State) (found : List Row) (rows : Rows) → IsTablesOf relay_schema 1 old.now rows → (from : ℕ) → Shown deliveries_select (Int (pos from) ∷ []) old new found
+pub tells_deliveries : (old new : State) (found : List Row) (rows : Rows) → IsTables old.now rows → (from : ℕ)
+    → Shown deliveries_select (Int (pos from) ∷ []) old new found
     → IsPage (λ (d : DeliveryRow). d.seq) from rows.deliveries (map delivery_in found)
 tells_deliveries old new found rows t from h =
     pages_in delivery_stored (λ (d : DeliveryRow). d.seq) 5 delivery_columns delivery_in from (λ d. refl) (λ d. refl) relay_schema deliveries_select _ deliveries_select_asks old new rows.deliveries found
-    t.schema_is t.tables.deliveries h
+    t.schema_is t.tables.five.deliveries h
 
-pub shows_deliveries : (old new : State) (found : List Row) (rows : Rows) → IsTablesOf relay_schema 1 old.now rows → (from : ℕ) → Shown deliveries_select (Int (pos from) ∷ []) old new found → AreReadable rows
+pub shows_deliveries : (old new : State) (found : List Row) (rows : Rows) → IsTables old.now rows → (from : ℕ)
+    → Shown deliveries_select (Int (pos from) ∷ []) old new found → AreReadable rows
     → AllByRecursion ShowsDelivery found
 shows_deliveries old new found rows t from h readable =
     pages_show delivery_stored (λ (d : DeliveryRow). d.seq) 5 delivery_columns from (λ d. refl) IsReadableDelivery ShowsDelivery (λ d good. (d, refl, good))
-    deliveries_select _ deliveries_select_asks old new rows.deliveries found t.schema_is t.tables.deliveries h readable.deliveries
+    deliveries_select _ deliveries_select_asks old new rows.deliveries found t.schema_is t.tables.five.deliveries h
+    readable.deliveries
 
 -- ---- attempts
 
@@ -135,14 +142,17 @@ pub attempts_select_bare : IsBare attempts_select
 unfolding understood everything
 attempts_select_bare schema base = refl
 
-pub tells_attempts : (old new : State) (found : List Row) (rows : Rows) → IsTablesOf relay_schema 1 old.now rows → (from : ℕ) → Shown attempts_select (Int (pos from) ∷ []) old new found
+pub tells_attempts : (old new : State) (found : List Row) (rows : Rows) → IsTables old.now rows → (from : ℕ)
+    → Shown attempts_select (Int (pos from) ∷ []) old new found
     → IsPage (λ (a : AttemptRow). a.seq) from rows.attempts (map attempt_in found)
 tells_attempts old new found rows t from h =
     pages_in attempt_stored (λ (a : AttemptRow). a.seq) 7 attempt_columns attempt_in from (λ a. refl) (λ a. refl) relay_schema attempts_select _ attempts_select_asks old new rows.attempts found
-    t.schema_is t.tables.attempts h
+    t.schema_is t.tables.five.attempts h
 
-pub shows_attempts : (old new : State) (found : List Row) (rows : Rows) → IsTablesOf relay_schema 1 old.now rows → (from : ℕ) → Shown attempts_select (Int (pos from) ∷ []) old new found → AreReadable rows
+pub shows_attempts : (old new : State) (found : List Row) (rows : Rows) → IsTables old.now rows → (from : ℕ)
+    → Shown attempts_select (Int (pos from) ∷ []) old new found → AreReadable rows
     → AllByRecursion ShowsAttempt found
 shows_attempts old new found rows t from h readable =
     pages_show attempt_stored (λ (a : AttemptRow). a.seq) 7 attempt_columns from (λ a. refl) IsReadableAttempt ShowsAttempt (λ a good. (a, refl, good))
-    attempts_select _ attempts_select_asks old new rows.attempts found t.schema_is t.tables.attempts h readable.attempts
+    attempts_select _ attempts_select_asks old new rows.attempts found t.schema_is t.tables.five.attempts h
+    readable.attempts

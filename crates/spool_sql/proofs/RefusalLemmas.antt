@@ -3,6 +3,7 @@ use Rattle.std.proofs.Common.{◌≡◌, ◌≤◌, ◌==◌, ◌&&◌, ◌⊎�
 use Rattle.std.specs.Prelude.{IsSome}
 use Rattle.std.proofs.lemmas.Bool.Decides.{nat_tests}
 use Rattle.sqlite_trees.specs.Tree.{Trees}
+use Rattle.sqlite_trees.specs.View.{Tells}
 use Rattle.sqlite_trees.specs.declared.error.StoreError.{StoreError}
 use Rattle.sqlite_trees.specs.declared.error.StoreError.TheVariants as store
 use Rattle.sqlite_sql.specs.Program.{ProgramOverflows}
@@ -19,7 +20,7 @@ use Rattle.sqlite.specs.Effect.{Database, RefusesToRead}
 use Rattle.sqlite.specs.Listing.{understood, reads_listing, IsSourceOf}
 use Rattle.sqlite.specs.State.{State, FailsToQuery, FailsToShow, IsTooLate, IsNotRun, IsNoStatement, Fails, HasCause, store_error}
 use Rattle.spool_sql.specs.Tables.{relay_schema}
-use Rattle.spool_sql.specs.Readable.{IsRefusal}
+use Rattle.spool_sql.specs.Readable.{HasFailed, HasFault, IsRefusal, WasRefusal}
 use Rattle.spool_sql.proofs.BareLemmas.{IsBare, understood_bare}
 use Rattle.spool_sql.proofs.SelectLemmas.{Asks}
 use Rattle.sqlite.proofs.Callers.{command_of, IsPlain}
@@ -30,16 +31,32 @@ is_one size count (Ok c) = nat_le size c.tail && (count == length c.names)
 is_one size count (Err e) = false
 
 -- the store failed, or memory was refused
-pub of_cause : (a b : State) (kind : StoreError) → HasCause a b ⊥ kind → (e : Error) → e ≡ store_error kind → IsRefusal a b e
-of_cause a b store.OutOfMemory h e is = inl is
-of_cause a b store.Io h e is = inr (inl (store.Io, is, inl h))
-of_cause a b store.Corrupt h e is = inr (inl (store.Corrupt, is, inl h))
-of_cause a b store.Full h e is = inr (inl (store.Full, is, inl h))
-of_cause a b store.Broken h e is = inr (inl (store.Broken, is, inr h))
-of_cause a b store.Unstorable h e is = absurd h
+of_cause : (a b : State) (kind : StoreError) → HasCause a b ⊥ kind → Tells b.blamed kind → (e : Error)
+    → e ≡ store_error kind → IsRefusal a b e
+of_cause a b store.OutOfMemory h told e is = inl is
+of_cause a b store.Io h told e is = inr (inl (store.Io, is, h, told))
+of_cause a b store.Corrupt h told e is = inr (inl (store.Corrupt, is, h, told))
+of_cause a b store.Full h told e is = inr (inl (store.Full, is, h, told))
+of_cause a b store.Broken h told e is = inr (inl (store.Broken, is, inr h, told))
+of_cause a b store.Unstorable h told e is = absurd h
 
 pub of_failure : (a b : State) (e : Error) → Fails a b ⊥ e → IsRefusal a b e
-of_failure a b e f = of_cause a b f.0 f.2 e f.1
+of_failure a b e f = of_cause a b f.0 f.2 f.4 e f.1
+
+-- whatever is told of the store later
+pub was_refusal : (a b : State) (e : Error) → IsRefusal a b e → WasRefusal a b e
+was_refusal a b e (inl memory) = inl memory
+was_refusal a b e (inr (inl (fault, is, has, told))) = inr (inl (fault, is, has))
+was_refusal a b e (inr (inr stopped)) = inr (inr stopped)
+
+-- a store that has a fault has failed, or it was shut
+pub has_failed : (a b : State) (kind : StoreError) → HasFault a b kind → HasFailed a b
+has_failed a b store.OutOfMemory none = absurd none
+has_failed a b store.Io h = inl h
+has_failed a b store.Corrupt h = inl h
+has_failed a b store.Full h = inl h
+has_failed a b store.Broken h = h
+has_failed a b store.Unstorable none = absurd none
 
 both : (x y : Bool) → x && y ≡ true → (x ≡ true) × (y ≡ true)
 both true y e = (refl, e)

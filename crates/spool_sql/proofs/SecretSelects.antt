@@ -19,7 +19,7 @@ use Rattle.sqlite.proofs.Callers.{reads_as}
 use Rattle.sqlite_tied.specs.Compute.{everything}
 use Rattle.relay_types.specs.Rows.{Rows, SecretRow}
 use Rattle.spool_sql.specs.Tables.{relay_schema}
-use Rattle.spool_sql.specs.Stored.{IsTablesOf, AreSecretsOf, secret_stored}
+use Rattle.spool_sql.specs.Stored.{IsTables, AreSecretsOf, secret_stored}
 use Rattle.spool_sql.specs.Readable.{AreReadable, IsReadableSecret, ShowsSecret}
 use Rattle.spool_sql.proofs.BareLemmas.{IsBare}
 use Rattle.spool_sql.proofs.SelectLemmas.{Asks, map_map, equal_numbers, and_true}
@@ -78,20 +78,23 @@ abbrev secret_shown : ℕ → Hidden → Row
 secret_shown endpoint x = shows (Int (pos endpoint) ∷ []) (col 1 3 ∷ []) (hidden_row x)
 
 -- the secrets of an endpoint that the answer shows, in their order
-secrets_found : (old new : State) (found : List Row) (rows : Rows) → IsTablesOf relay_schema 1 old.now rows → (endpoint : ℕ) → Shown secrets_select (Int (pos endpoint) ∷ []) old new found
+secrets_found : (old new : State) (found : List Row) (rows : Rows) → IsTables old.now rows → (endpoint : ℕ)
+    → Shown secrets_select (Int (pos endpoint) ∷ []) old new found
     → (seen : List Hidden) × (map (λ (x : Hidden). x.1) seen ≡ rows.secrets) × (all : List Hidden) × IsPermutation (filter (λ (x : Hidden). x.1.endpoint == endpoint) seen) all × IsNonDecreasingBy (λ (x : Hidden). x.1.place) all
     × (found ≡ map (secret_shown endpoint) all)
 secrets_found old new found rows t endpoint h =
     let params : Row = Int (pos endpoint) ∷ [] in
     let read = reads_as secrets_select params old new relay_schema t.schema_is _ secrets_select_asks.means.is secrets_select_asks.means.plain secrets_select_asks.unlisted found h in
-    let from = pull_back (drop 1) (map (drop 1) (old.now.trees 3)) (map secret_stored rows.secrets) t.tables.secrets (old.now.trees 3) refl in
+    let from = pull_back (drop 1) (map (drop 1) (old.now.trees 3)) (map secret_stored rows.secrets)
+    t.tables.five.secrets (old.now.trees 3) refl in
     let seen = behind rows.secrets from.0 from.2 in
     let are : IsPermutation (old.now.trees 3) (map hidden_row seen.0) = subst (IsPermutation (old.now.trees 3)) seen.1 from.1 in
     let all = ordered_rows hidden_row (λ (x : Hidden). x.1.place) 3 2 of_endpoint (col 1 3 ∷ []) params (Int (negsuc 0)) (λ (x : Hidden). x.1.endpoint == endpoint) (λ x. and_true _ ∙ equal_numbers x.1.endpoint endpoint) (λ x. refl)
     old.now.schema old.now.trees seen.0 found are read in
     (seen.0, seen.2, all.0, all.1, all.2, all.3)
 
-pub tells_secrets : (old new : State) (found : List Row) (rows : Rows) → IsTablesOf relay_schema 1 old.now rows → (endpoint : ℕ) → Shown secrets_select (Int (pos endpoint) ∷ []) old new found
+pub tells_secrets : (old new : State) (found : List Row) (rows : Rows) → IsTables old.now rows → (endpoint : ℕ)
+    → Shown secrets_select (Int (pos endpoint) ∷ []) old new found
     → AreSecretsOf endpoint rows (map (λ (row : Row). bytes (column row 0)) found)
 tells_secrets old new found rows t endpoint h =
     let (seen, seen_is, all, same, up, found_is) = secrets_found old new found rows t endpoint h in
@@ -106,7 +109,8 @@ tells_secrets old new found rows t endpoint h =
       back,
     )
 
-pub shows_secrets : (old new : State) (found : List Row) (rows : Rows) → IsTablesOf relay_schema 1 old.now rows → (endpoint : ℕ) → Shown secrets_select (Int (pos endpoint) ∷ []) old new found → AreReadable rows
+pub shows_secrets : (old new : State) (found : List Row) (rows : Rows) → IsTables old.now rows → (endpoint : ℕ)
+    → Shown secrets_select (Int (pos endpoint) ∷ []) old new found → AreReadable rows
     → AllByRecursion ShowsSecret found
 shows_secrets old new found rows t endpoint h readable =
     let (seen, seen_is, all, same, up, found_is) = secrets_found old new found rows t endpoint h in

@@ -25,7 +25,8 @@ use Rattle.sqlite.proofs.Callers.{reads_as, one_permutation}
 use Rattle.sqlite_tied.specs.Compute.{everything}
 use Rattle.relay_types.specs.Rows.{Rows, EndpointRow}
 use Rattle.spool_sql.specs.Tables.{relay_schema}
-use Rattle.spool_sql.specs.Stored.{IsTablesOf, IsPutOf, is_delivery, has_id, number_of, endpoints_named, endpoint_stored, delivery_stored}
+use Rattle.spool_sql.specs.Stored.{IsTables, IsPutOf, is_delivery, has_id, number_of, endpoints_named, endpoint_stored}
+use Rattle.spool_sql.specs.Stored.{delivery_stored}
 use Rattle.relay_types.specs.declared.limits.TheConstants.{MAX_RECORDS}
 use Rattle.spool_sql.specs.Readable.{IsReadableEndpoint, ShowsBelow}
 use Rattle.spool_sql.proofs.BareLemmas.{IsBare}
@@ -158,36 +159,45 @@ first_number (r ∷ rest) = refl
 puts_of : (name : List ℕ) (rows : Rows) (found : List Row) → IsPermutation (map put_shown (endpoints_named name rows)) found → IsPermutation (map (λ (e : EndpointRow). e.put) (endpoints_named name rows)) (map number_of found)
 puts_of name rows found same = subst (λ l. IsPermutation l (map number_of found)) (map_map put_shown number_of (endpoints_named name rows)) (IsPermutation-map number_of _ _ same)
 
--- ---- the three queries and what their answers say, whatever the version of the tables
+-- ---- the three queries and what their answers say
 
-module _ (schema : Schema) (version : ℕ) (old new : State) (found : List Row) (rows : Rows) (t : IsTablesOf schema version old.now rows) where
-  pub counts_endpoints : Asks schema endpoints_select (scan 1 [] (col 1 0 ∷ [])) (codes "put" ∷ []) → Shown endpoints_select [] old new found → length found ≡ length rows.endpoints
+module _ (old new : State) (found : List Row) (rows : Rows) (t : IsTables old.now rows) where
+  pub counts_endpoints : Asks relay_schema endpoints_select (scan 1 [] (col 1 0 ∷ [])) (codes "put" ∷ [])
+      → Shown endpoints_select [] old new found → length found ≡ length rows.endpoints
   counts_endpoints asks h =
-      let same = finds endpoint_stored [] [] (col 1 0 ∷ []) (λ _. true) (λ e. refl) (old.now.trees 1) rows.endpoints found t.tables.endpoints
-      (found_in schema endpoints_select 1 [] (col 1 0 ∷ []) _ asks [] old new found t.schema_is h) in
+      let same = finds endpoint_stored [] [] (col 1 0 ∷ []) (λ _. true) (λ e. refl) (old.now.trees 1) rows.endpoints
+      found t.tables.five.endpoints
+      (found_in relay_schema endpoints_select 1 [] (col 1 0 ∷ []) _ asks [] old new found t.schema_is h) in
       length_permutation _ found same ∙ length-map _ put_shown ∙ ap length (all_kept rows.endpoints)
 
-  pub tells_delivery : Asks schema delivery_select (scan 5 by_id (col 1 0 ∷ [])) (codes "seq" ∷ []) → (endpoint : ℕ) (id : List ℕ) → Shown delivery_select (delivery_params endpoint id) old new found
+  pub tells_delivery : Asks relay_schema delivery_select (scan 5 by_id (col 1 0 ∷ [])) (codes "seq" ∷ [])
+      → (endpoint : ℕ) (id : List ℕ) → Shown delivery_select (delivery_params endpoint id) old new found
       → not (length found == 0) ≡ has_id rows endpoint id
   tells_delivery asks endpoint id h =
       let same = finds delivery_stored (delivery_params endpoint id) by_id (col 1 0 ∷ []) (is_delivery endpoint id)
       (λ d. rw (equal_numbers d.endpoint endpoint, equal_texts d.id id) (ap (λ b. (d.endpoint == endpoint) && b) (and_true (bytes_eq d.id id))))
-      (old.now.trees 5) rows.deliveries found t.tables.deliveries (found_in schema delivery_select 5 by_id (col 1 0 ∷ []) _ asks (delivery_params endpoint id) old new found t.schema_is h) in
+      (old.now.trees 5) rows.deliveries found t.tables.five.deliveries
+      (found_in relay_schema delivery_select 5 by_id (col 1 0 ∷ []) _ asks (delivery_params endpoint id) old new
+      found t.schema_is h) in
       let many = length_permutation _ found same ∙ length-map (filter (is_delivery endpoint id) rows.deliveries) _ in
       ap (λ n. not (n == 0)) many ∙ any_kept (is_delivery endpoint id) rows.deliveries
 
-  puts_found : Asks schema named_select (scan 1 by_name (col 1 0 ∷ [])) (codes "put" ∷ []) → (name : List ℕ) → Shown named_select (Text name ∷ []) old new found
+  puts_found : Asks relay_schema named_select (scan 1 by_name (col 1 0 ∷ [])) (codes "put" ∷ []) → (name : List ℕ)
+      → Shown named_select (Text name ∷ []) old new found
       → IsPermutation (map (λ (e : EndpointRow). shows (Text name ∷ []) (col 1 0 ∷ []) (endpoint_stored e)) (endpoints_named name rows)) found
   puts_found asks name h =
-      finds endpoint_stored (Text name ∷ []) by_name (col 1 0 ∷ []) (λ (e : EndpointRow). bytes_eq e.name name) (λ e. and_true _ ∙ equal_texts e.name name) (old.now.trees 1) rows.endpoints found t.tables.endpoints
-      (found_in schema named_select 1 by_name (col 1 0 ∷ []) _ asks (Text name ∷ []) old new found t.schema_is h)
+      finds endpoint_stored (Text name ∷ []) by_name (col 1 0 ∷ []) (λ (e : EndpointRow). bytes_eq e.name name)
+      (λ e. and_true _ ∙ equal_texts e.name name) (old.now.trees 1) rows.endpoints found t.tables.five.endpoints
+      (found_in relay_schema named_select 1 by_name (col 1 0 ∷ []) _ asks (Text name ∷ []) old new found t.schema_is h)
 
-  pub shows_puts : Asks schema named_select (scan 1 by_name (col 1 0 ∷ [])) (codes "put" ∷ []) → (name : List ℕ) → Shown named_select (Text name ∷ []) old new found → AllByRecursion IsReadableEndpoint rows.endpoints
+  pub shows_puts : Asks relay_schema named_select (scan 1 by_name (col 1 0 ∷ [])) (codes "put" ∷ []) → (name : List ℕ)
+      → Shown named_select (Text name ∷ []) old new found → AllByRecursion IsReadableEndpoint rows.endpoints
       → AllByRecursion (ShowsBelow MAX_RECORDS) found
   shows_puts asks name h good =
       finds_all endpoint_stored (Text name ∷ []) (col 1 0 ∷ []) (λ (e : EndpointRow). bytes_eq e.name name) IsReadableEndpoint (ShowsBelow MAX_RECORDS) (λ e is. (e.put, refl, is.put)) rows.endpoints found (puts_found asks name h) good
 
-  pub tells_put : Asks schema named_select (scan 1 by_name (col 1 0 ∷ [])) (codes "put" ∷ []) → (name : List ℕ) → Shown named_select (Text name ∷ []) old new found
+  pub tells_put : Asks relay_schema named_select (scan 1 by_name (col 1 0 ∷ [])) (codes "put" ∷ []) → (name : List ℕ)
+      → Shown named_select (Text name ∷ []) old new found
       → (put : Option ℕ) → put ≡ option_map number_of (slice_get found 0) → IsPutOf name rows put
   tells_put asks name h put is =
       (map number_of found, puts_of name rows found (puts_found asks name h), is ∙ sym (first_number found))

@@ -7,11 +7,11 @@ use Rattle.sqlite.specs.State.{State, HasCleanDisk, IsLive, IsUnchanged, IsRolle
 use Rattle.sqlite.proofs.StateLemmas.{survives_then}
 use Rattle.sqlite_catalog.proofs.ReadLemmas.{lists_once}
 use Rattle.relay_types.specs.Rows.{Rows}
-use Rattle.spool_sql.specs.Stored.{IsTables, AreTablesOf, first_rows}
+use Rattle.spool_sql.specs.Stored.{AreFirstTablesOf, IsFirstTables, IsTables, AreTablesOf, first_rows}
 use Rattle.sqlite.specs.Effect.{Database, IsDatabase}
 use Rattle.sqlite.specs.Schema.{Schema}
-use Rattle.spool_sql.specs.Steps.{GoesOn, Alters, Spares, Stands, MayLeave, Reopens, Grows, Founds}
-use Rattle.spool_sql.specs.Tables.{relay_schema}
+use Rattle.spool_sql.specs.Steps.{GoesOn, Alters, Becomes, Spares, Stands, MayLeave, Reopens, Grows, Founds}
+use Rattle.spool_sql.specs.Tables.{first_schema, relay_schema}
 
 pub keeps_if : (a b : State) → IsUnchanged a b ⊎ IsRolledBack a b → KeepsCommit a b
 keeps_if a b (inl same) = record { was_open = λ _. same.0.was_open; committed = λ _. same.0.committed_is }
@@ -44,13 +44,34 @@ alters_then a b c f g p q = record {
   makes = λ rows t. q.makes (f rows) (p.makes rows t);
 }
 
+pub becomes_then : {X Y Z : Database → Rows → Type 0} (a b c : State) → Becomes X Y a b → Becomes Y Z b c
+    → Becomes X Z a c
+becomes_then a b c p q = record { on = goes_on_then a b c p.on q.on; makes = λ rows t. q.makes rows (p.makes rows t) }
+
+pub becomes_same : {X Y : Database → Rows → Type 0} (a b c : State) → Becomes X Y a b → IsUnchanged b c
+    → Becomes X Y a c
+becomes_same {X} {Y} a b c p same = record {
+  on = goes_on_same a b c p.on same;
+  makes = λ rows t. subst (λ d. Y d rows)
+      (sym same.0.now_is) (p.makes rows t);
+}
+
 pub alters_last : (a b c : State) (f g : Rows → Rows) (r : Result (Unit {0}) Error) → Alters a b f → OnOk r (Alters b c g) → OnOk r (Alters a c (λ rows. g (f rows)))
 alters_last a b c f g (Ok done) p q = alters_then a b c f g p q
 alters_last a b c f g (Err e) p q = tt
 
 -- a list of objects lists one schema
 pub opened_tables : (d : Database) (rows : Rows) → IsDatabase d → AreTablesOf d.trees rows → IsTables d rows
-opened_tables d rows sound t = record { schema_is = lists_once _ d.schema relay_schema sound.lists t.sound.lists; tables = t }
+opened_tables d rows sound t = record {
+  schema_is = lists_once _ d.schema relay_schema sound.lists t.five.sound.lists;
+  tables = t;
+}
+
+pub opened_first : (d : Database) (rows : Rows) → IsDatabase d → AreFirstTablesOf d.trees rows → IsFirstTables d rows
+opened_first d rows sound t = record {
+  schema_is = lists_once _ d.schema first_schema sound.lists t.sound.lists;
+  tables = t;
+}
 
 pub reopens : (s : State) → IsLive s → Reopens s
 reopens s live rows opened t =

@@ -3,7 +3,9 @@ use Rattle.std.specs.Prelude.{◌≡◌, ◌⊎◌, ◌<◌, ◌^◌, ℕ, pos, 
 use Rattle.std.specs.List.{AllByRecursion}
 use Rattle.sqlite_disk.specs.Disk.{MoreFaults}
 use Rattle.sqlite_trees.specs.declared.store.Store.{Ghosts}
+use Rattle.sqlite_trees.specs.View.{Tells}
 use Rattle.sqlite_trees.specs.declared.error.StoreError.{StoreError}
+use Rattle.sqlite_trees.specs.declared.error.StoreError.TheVariants as store
 use Rattle.sqlite.specs.declared.types.Value.{Value}
 use Rattle.sqlite.specs.declared.types.Value.TheVariants.{Int, Text as Words, Blob as Bytes}
 use Rattle.sqlite.specs.declared.error.Error.{Error}
@@ -104,17 +106,39 @@ IsMemoryFault Unreadable = ⊥
 abbrev pub HasFailed : State → State → Type 0
 HasFailed old new = MoreFaults old.faults new.faults ⊎ (old.is_open ≡ false)
 
--- The error is that of a refusal: memory was refused, the store failed under this name, or a query took more steps than the connection may.
+-- since the first of two states the store has had this fault; of one that is told as closed, it has failed or was
+-- shut already
+abbrev pub HasFault : State → State → StoreError → Type 0
+HasFault old new store.OutOfMemory = ⊥
+HasFault old new store.Io = MoreFaults old.faults new.faults
+HasFault old new store.Corrupt = MoreFaults old.faults new.faults
+HasFault old new store.Full = MoreFaults old.faults new.faults
+HasFault old new store.Broken = HasFailed old new
+HasFault old new store.Unstorable = ⊥
+
+-- The error is that of a refusal: memory was refused, the store failed and told this fault last, or a query took more
+-- steps than the connection may.
 abbrev pub IsRefusal : State → State → Error → Type 0
 IsRefusal old new error =
     IsMemory error
-    ⊎ (((fault : StoreError) × (error ≡ store_error fault) × HasFailed old new)
+    ⊎ (((fault : StoreError) × (error ≡ store_error fault) × HasFault old new fault × Tells new.blamed fault)
+    ⊎ ((error ≡ SqliteFailure code.OperationInterrupted) × IsSome old.step_limit))
+
+-- The same of a call after which the store was used again: it may have told another fault since.
+abbrev pub WasRefusal : State → State → Error → Type 0
+WasRefusal old new error =
+    IsMemory error
+    ⊎ (((fault : StoreError) × (error ≡ store_error fault) × HasFault old new fault)
     ⊎ ((error ≡ SqliteFailure code.OperationInterrupted) × IsSome old.step_limit))
 
 -- a row is never told as unreadable
 abbrev pub IsRowRefusal : State → State → RowFault → Type 0
 IsRowRefusal old new (Failed error) = IsRefusal old new error
 IsRowRefusal old new Unreadable = ⊥
+
+abbrev pub WasRowRefusal : State → State → RowFault → Type 0
+WasRowRefusal old new (Failed error) = WasRefusal old new error
+WasRowRefusal old new Unreadable = ⊥
 
 module _ {S X E : Type 0} (g : Ghosts S) (old new : Held S) (result : Result X E) where
   -- of tables whose rows can be read back, an error says so much

@@ -1,18 +1,20 @@
 -- What a statement of the relay leaves of a connection.
-use Rattle.std.specs.Prelude.{◌≡◌, true, false, IsTrue, [], Result, IfOk, IfErr, OnOk}
+use Rattle.std.specs.Prelude.{◌≡◌, ℕ, true, false, IsTrue, List, [], Result, Err, IfOk, IfErr, OnOk}
 use Rattle.std.specs.List.{AllByRecursion}
 use Rattle.std.specs.Borrow.{MutBor}
 use Rattle.sqlite.specs.Tree.{Trees}
 use Rattle.sqlite.specs.Effect.{Database}
+use Rattle.sqlite.specs.Order.{Row}
 use Rattle.sqlite.specs.Schema.{Schema}
 use Rattle.sqlite.specs.Table.{Table}
 use Rattle.sqlite.specs.State.{State, HasCleanDisk, Opens, Shows, Fails, IsUnchanged, KeepsCommit, Survives}
+use Rattle.sqlite.specs.State.{ExecutesInside}
 use Rattle.sqlite.specs.declared.error.Error.{Error}
 use Rattle.sqlite.specs.Held.{Held, state}
 use Rattle.sqlite_trees.specs.declared.store.Store.{Ghosts}
 use Rattle.sqlite_catalog.specs.Change.{created}
 use Rattle.relay_types.specs.Rows.{Rows}
-use Rattle.spool_sql.specs.Stored.{IsTables, AreTablesOf, first_rows}
+use Rattle.spool_sql.specs.Stored.{IsFirstTables, IsSixTables, IsTables, AreTablesOf, first_rows}
 
 -- ---- inside a transaction
 
@@ -72,6 +74,25 @@ pub record Founds (schema : Schema) (old new : State) : Type 0 where
   pub on : GoesOn old new
   pub founds : IsBegun schema old.now → IsTables new.now first_rows
 
+-- ---- the tables of version 1, as they become those of version 2
+
+-- inside a transaction, tables of one kind become tables of another, of the same rows
+pub record Becomes (before after : Database → Rows → Type 0) (old new : State) : Type 0 where
+  pub on : GoesOn old new
+  pub makes : (rows : Rows) → before old.now rows → after new.now rows
+
+-- a table of topics is added, and meta still tells version 1
+abbrev pub AddsTopics : State → State → Type 0
+AddsTopics = Becomes IsFirstTables (IsSixTables 1)
+
+-- meta tells version 2
+abbrev pub SetsVersion : State → State → Type 0
+SetsVersion = Becomes (IsSixTables 1) IsTables
+
+-- both
+abbrev pub Migrates : State → State → Type 0
+Migrates = Becomes IsFirstTables IsTables
+
 -- ---- the clauses that the functions share
 
 -- a transaction is still one of the same connection
@@ -119,3 +140,8 @@ module _ {S X E : Type 0} (g : Ghosts S) (old new : Held S) (result : Result X E
 -- an error is a failure of the store, under its name
 abbrev pub FailsAsStore : {S X : Type 0} → Ghosts S → Held S → Held S → Result X Error → Type 0
 FailsAsStore g old new result = IfClean g old new (λ a b. IfErr result (Fails a b ⊥))
+
+-- inside a transaction, an error is one for which this statement is refused with these values
+abbrev pub IsRefusedOf : {S X : Type 0} → Ghosts S → Held S → Held S → Result X Error → (sql : List ℕ) → Row → Type 0
+IsRefusedOf g old new result sql values =
+    IfInside g old new (λ a b. IfErr result (λ e. ExecutesInside 0 sql values a b (Err e)))

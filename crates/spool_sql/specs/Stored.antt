@@ -1,4 +1,4 @@
--- How the rows of a history are stored in the five tables.
+-- How the rows of a history are stored in the relay's tables.
 use Rattle.std.specs.List.{AllByRecursion, list_any}
 use Rattle.std.specs.Prelude.{◌≡◌, ◌≤◌, ℕ, ℤ, ◌==◌, ◌&&◌, not, pos, Bool, true, cond, List, [], ◌∷◌, ◌++◌, length, map, drop, filter, codes, bytes_eq, Option, slice_get, nat_le, take, IsTrue}
 use Rattle.sqlite.specs.declared.types.Value.TheVariants.{Null, Int, Text as Words, Blob as Bytes}
@@ -15,7 +15,7 @@ use Rattle.relay_types.specs.Rows.{Rows, EndpointRow, SecretRow, DeliveryRow, At
 use Rattle.sqlite_value.specs.Order.{column, bytes}
 use Rattle.sqlite_trees.specs.Objects.{number_in}
 use Rattle.spool_sql.specs.declared.row as row
-use Rattle.spool_sql.specs.Tables.{relay_schema}
+use Rattle.spool_sql.specs.Tables.{first_schema, relay_schema}
 
 -- ---- a row as it is stored: its rowid, and then its columns, with NULL where the rowid stands for one
 
@@ -59,12 +59,29 @@ pub record IsTablesOf (schema : Schema) (version : ℕ) (db : Database) (rows : 
   pub schema_is : db.schema ≡ schema
   pub tables : AreTables schema version db.trees rows
 
--- the relay's tables of version 1
+-- the five tables of version 1
+abbrev pub AreFirstTablesOf : Trees → Rows → Type 0
+AreFirstTablesOf = AreTables first_schema 1
+
+abbrev pub IsFirstTables : Database → Rows → Type 0
+IsFirstTables = IsTablesOf first_schema 1
+
+-- beside the five tables, of which meta tells this version, that of topics has no row
+pub record AreSixTables (version : ℕ) (db : Trees) (rows : Rows) : Type 0 where
+  pub five : AreTables relay_schema version db rows
+  pub no_topics : db 9 ≡ []
+
+-- a connection sees these six
+pub record IsSixTables (version : ℕ) (db : Database) (rows : Rows) : Type 0 where
+  pub schema_is : db.schema ≡ relay_schema
+  pub tables : AreSixTables version db.trees rows
+
+-- the relay's tables, which are of version 2
 abbrev pub AreTablesOf : Trees → Rows → Type 0
-AreTablesOf = AreTables relay_schema 1
+AreTablesOf = AreSixTables 2
 
 abbrev pub IsTables : Database → Rows → Type 0
-IsTables = IsTablesOf relay_schema 1
+IsTables = IsSixTables 2
 
 -- ---- what each statement makes of the rows
 

@@ -1,8 +1,9 @@
 //! The rows that are changed or taken out.
-ghost use Rattle.std.specs.Prelude.{◌<◌};
+ghost use Rattle.std.specs.Prelude.{◌<◌, pos, [], ◌∷◌, codes};
+ghost use Rattle.sqlite.specs.declared.types.Value.TheVariants.{Int};
 ghost use Rattle.relay_types.specs.declared.limits.TheConstants.{MAX_RECORDS};
-ghost use Rattle.spool_sql.specs.Stored.{with_enabled, with_secrets_by, without_secrets};
-ghost use Rattle.spool_sql.specs.Steps.{Changes, IsOfSame, SparesCommit};
+ghost use Rattle.spool_sql.specs.Stored.{flag_number, with_enabled, with_secrets_by, without_secrets};
+ghost use Rattle.spool_sql.specs.Steps.{Changes, IsOfSame, IsRefusedOf, SparesCommit};
 
 use crate::seq::Seq;
 use crate::value::int;
@@ -18,6 +19,9 @@ pub fn update_enabled<S: Alter>(
     ensures same_reference { IsOfSame tx.old.conn tx.new.conn }
     ensures done { Changes S.Store tx.old.conn.now tx.new.conn.now result (with_enabled put flag by) }
     ensures room { by < MAX_RECORDS }
+    ensures refused { IsRefusedOf S.Store tx.old.conn.now tx.new.conn.now result
+        (codes "UPDATE endpoints SET enabled = ?1, enabled_by = ?2 WHERE put = ?3")
+        (Int (pos (flag_number flag)) ∷ Int (pos by) ∷ Int (pos put) ∷ []) }
     ensures spares { SparesCommit S.Store tx.old.conn.now tx.new.conn.now }
 {
     tx.execute(
@@ -36,6 +40,9 @@ pub fn update_secrets_by<S: Alter>(
     ensures same_reference { IsOfSame tx.old.conn tx.new.conn }
     ensures done { Changes S.Store tx.old.conn.now tx.new.conn.now result (with_secrets_by put by) }
     ensures room { by < MAX_RECORDS }
+    ensures refused { IsRefusedOf S.Store tx.old.conn.now tx.new.conn.now result
+        (codes "UPDATE endpoints SET secrets_by = ?1 WHERE put = ?2")
+        (Int (pos by) ∷ Int (pos put) ∷ []) }
     ensures spares { SparesCommit S.Store tx.old.conn.now tx.new.conn.now }
 {
     tx.execute(
@@ -49,6 +56,9 @@ pub fn update_secrets_by<S: Alter>(
 pub fn delete_secrets<S: Alter>(tx: &mut Transaction<'_, S>, endpoint: Seq) -> Result<(), Error>
     ensures same_reference { IsOfSame tx.old.conn tx.new.conn }
     ensures done { Changes S.Store tx.old.conn.now tx.new.conn.now result (without_secrets endpoint) }
+    ensures refused { IsRefusedOf S.Store tx.old.conn.now tx.new.conn.now result
+        (codes "DELETE FROM secrets WHERE endpoint = ?1")
+        (Int (pos endpoint) ∷ []) }
     ensures spares { SparesCommit S.Store tx.old.conn.now tx.new.conn.now }
 {
     tx.execute(

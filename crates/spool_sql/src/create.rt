@@ -1,13 +1,13 @@
-//! The five tables, as they are made.
-ghost use Rattle.std.specs.Prelude.{◌≡◌};
-ghost use Rattle.spool_sql.specs.Tables.{relay_schema, no_schema, schema_1, schema_2, schema_3, schema_4};
+//! The making of the tables.
+ghost use Rattle.spool_sql.specs.Tables.{first_schema, no_schema, relay_schema, schema_1, schema_2, schema_3, schema_4};
 ghost use Rattle.spool_sql.specs.Tables.{meta, endpoints, secrets, deliveries, attempts};
 ghost use Rattle.spool_sql.specs.Steps.{Achieves, Adds, Grows, Founds, IsOfSame, SparesCommit};
 
+use crate::migrate::create_topics;
 use crate::opened::prepare_probe;
 use sqlite::{Alter, Error, Transaction};
 
-/// Makes the five tables and the row of `meta`, in a store without tables: the rows of the history with no record. The
+/// Makes the six tables and the row of `meta`, in a store without tables: the rows of the history with no record. The
 /// connection then has the statement of `probe` compiled.
 ///
 /// A table that is there already is refused as `NameTaken`.
@@ -16,14 +16,16 @@ pub fn create_tables<S: Alter>(tx: &mut Transaction<'_, S>) -> Result<(), Error>
     ensures done { Achieves S.Store tx.old.conn.now tx.new.conn.now result (Founds no_schema) }
     ensures spares { SparesCommit S.Store tx.old.conn.now tx.new.conn.now }
 {
-    create_schema(tx)?;
+    create_first_schema(tx)?;
+    create_topics(tx)?;
     insert_first_meta(tx)?;
     prepare_probe(tx)
 }
 
-fn create_schema<S: Alter>(tx: &mut Transaction<'_, S>) -> Result<(), Error>
+// The five tables of version 1.
+fn create_first_schema<S: Alter>(tx: &mut Transaction<'_, S>) -> Result<(), Error>
     ensures same_reference { IsOfSame tx.old.conn tx.new.conn }
-    ensures done { Achieves S.Store tx.old.conn.now tx.new.conn.now result (Grows no_schema relay_schema) }
+    ensures done { Achieves S.Store tx.old.conn.now tx.new.conn.now result (Grows no_schema first_schema) }
     ensures spares { SparesCommit S.Store tx.old.conn.now tx.new.conn.now }
 {
     create_meta(tx)?;
@@ -108,6 +110,6 @@ fn insert_first_meta<S: Alter>(tx: &mut Transaction<'_, S>) -> Result<(), Error>
     ensures done { Achieves S.Store tx.old.conn.now tx.new.conn.now result (Founds relay_schema) }
     ensures spares { SparesCommit S.Store tx.old.conn.now tx.new.conn.now }
 {
-    tx.execute("INSERT INTO meta VALUES(1, 'webhook-relay', 1, 0)", &[])?;
+    tx.execute("INSERT INTO meta VALUES(1, 'webhook-relay', 2, 0)", &[])?;
     Ok(())
 }

@@ -7,6 +7,7 @@ mod change;
 mod create;
 mod delivery;
 mod find;
+mod migrate;
 mod opened;
 mod read;
 mod row;
@@ -19,6 +20,7 @@ pub use crate::change::{delete_secrets, update_enabled, update_secrets_by};
 pub use crate::create::create_tables;
 pub use crate::delivery::{select_endpoint, select_statuses};
 pub use crate::find::{count_endpoints, has_delivery, select_put};
+pub use crate::migrate::{create_topics, update_version};
 pub use crate::opened::{is_empty, prepare_probe, probe};
 pub use crate::read::{
     select_attempts, select_deliveries, select_endpoints, select_records, select_secrets,

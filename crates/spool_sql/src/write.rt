@@ -1,9 +1,10 @@
 //! The rows that are added or changed.
-ghost use Rattle.std.specs.Prelude.{◌≡◌, ◌<◌, ◌≤◌, ◌^◌, ◌&&◌, IsTrue};
+ghost use Rattle.std.specs.Prelude.{◌≡◌, ◌<◌, ◌≤◌, ◌^◌, ◌&&◌, IsTrue, pos, [], ◌∷◌, codes};
+ghost use Rattle.sqlite.specs.declared.types.Value.TheVariants.{Int, Text, Blob};
 ghost use Rattle.relay_types.specs.declared.limits.TheConstants.{MAX_RECORDS};
 ghost use Rattle.relay_types.specs.Values.{is_name, is_target, is_max_limit, is_secret, is_msg_id, is_body, is_moment};
 ghost use Rattle.spool_sql.specs.Stored.{new_endpoint, with_endpoint, with_secret, with_delivery, with_attempt, with_records};
-ghost use Rattle.spool_sql.specs.Steps.{Changes, IsOfSame, SparesCommit};
+ghost use Rattle.spool_sql.specs.Steps.{Changes, IsOfSame, IsRefusedOf, SparesCommit};
 
 use crate::seq::Seq;
 use crate::value::int;
@@ -24,6 +25,9 @@ pub fn insert_endpoint<S: Alter>(
         (with_endpoint (new_endpoint put name.now target.now max)) }
     ensures room { put < MAX_RECORDS }
     ensures limits { IsTrue (is_name name.now && (is_target target.now && is_max_limit max)) }
+    ensures refused { IsRefusedOf S.Store tx.old.conn.now tx.new.conn.now result
+        (codes "INSERT INTO endpoints VALUES(?1, ?2, ?3, ?4, 1, ?1, ?1)")
+        (Int (pos put) ∷ Text name.now ∷ Text target.now ∷ Int (pos max) ∷ []) }
     ensures spares { SparesCommit S.Store tx.old.conn.now tx.new.conn.now }
 {
     tx.execute(
@@ -50,6 +54,9 @@ pub fn insert_secret<S: Alter>(
     ensures done { Changes S.Store tx.old.conn.now tx.new.conn.now result
         (with_secret (record { endpoint = endpoint; place = place; secret = secret.now })) }
     ensures limits { IsTrue (is_secret secret.now) }
+    ensures refused { IsRefusedOf S.Store tx.old.conn.now tx.new.conn.now result
+        (codes "INSERT INTO secrets VALUES(?1, ?2, ?3)")
+        (Int (pos endpoint) ∷ Int (pos place) ∷ Blob secret.now ∷ []) }
     ensures spares { SparesCommit S.Store tx.old.conn.now tx.new.conn.now }
 {
     tx.execute(
@@ -78,6 +85,9 @@ pub fn insert_delivery<S: Alter>(
         (with_delivery (record { seq = seq; endpoint = endpoint; id = id.now; at = at; body = body.now })) }
     ensures room { seq < MAX_RECORDS }
     ensures limits { IsTrue (is_msg_id id.now && (is_body body.now && is_moment at)) }
+    ensures refused { IsRefusedOf S.Store tx.old.conn.now tx.new.conn.now result
+        (codes "INSERT INTO deliveries VALUES(?1, ?2, ?3, ?4, ?5)")
+        (Int (pos seq) ∷ Int (pos endpoint) ∷ Text id.now ∷ Int (pos at) ∷ Blob body.now ∷ []) }
     ensures spares { SparesCommit S.Store tx.old.conn.now tx.new.conn.now }
 {
     tx.execute(
@@ -109,6 +119,9 @@ pub fn insert_attempt<S: Alter>(
         (with_attempt (record { seq = seq; delivery = delivery; number = number; status = status; at = at })) }
     ensures room { seq < MAX_RECORDS }
     ensures limits { IsTrue (is_moment at) }
+    ensures refused { IsRefusedOf S.Store tx.old.conn.now tx.new.conn.now result
+        (codes "INSERT INTO attempts VALUES(?1, ?2, ?3, ?4, ?5)")
+        (Int (pos seq) ∷ Int (pos delivery) ∷ Int (pos number) ∷ Int (pos status) ∷ Int (pos at) ∷ []) }
     ensures spares { SparesCommit S.Store tx.old.conn.now tx.new.conn.now }
 {
     tx.execute(
@@ -129,6 +142,9 @@ pub fn update_records<S: Alter>(tx: &mut Transaction<'_, S>, records: u64) -> Re
     requires records { records ≤ MAX_RECORDS }
     ensures same_reference { IsOfSame tx.old.conn tx.new.conn }
     ensures done { Changes S.Store tx.old.conn.now tx.new.conn.now result (with_records records) }
+    ensures refused { IsRefusedOf S.Store tx.old.conn.now tx.new.conn.now result
+        (codes "UPDATE meta SET records = ?1")
+        (Int (pos records) ∷ []) }
     ensures spares { SparesCommit S.Store tx.old.conn.now tx.new.conn.now }
 {
     tx.execute("UPDATE meta SET records = ?1", &[int(records)])?;

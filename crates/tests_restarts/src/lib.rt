@@ -18,6 +18,8 @@ mod given;
 #[cfg(test)]
 mod histories;
 #[cfg(test)]
+mod migrations;
+#[cfg(test)]
 mod pages;
 #[cfg(test)]
 mod paths;

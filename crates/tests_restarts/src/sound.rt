@@ -83,8 +83,13 @@ pub(crate) fn refusal_of(rt: &impl Abort, conn: &mut Connection<MemStore>) -> &'
     if number(rt, conn, OURS) != 1 {
         return "NotOurs";
     }
-    if number(rt, conn, "SELECT version FROM meta") > 1 {
+    let version = number(rt, conn, "SELECT version FROM meta");
+    if version > 2 {
         return "NewerVersion";
     }
-    if is_sound(rt, conn) { "" } else { "Damaged" }
+    if !is_sound(rt, conn) {
+        return "Damaged";
+    }
+    // Beside tables of version 1 the name of the sixth is taken.
+    if version == 1 { "NotOurs" } else { "" }
 }

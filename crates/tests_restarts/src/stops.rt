@@ -15,7 +15,7 @@ use std::marker::Brand;
 use std::process::Abort;
 use std::sync::ledger::{Blank, Ledger};
 
-type Failing = FileStore<Fuse<Memory>>;
+pub(crate) type Failing = FileStore<Fuse<Memory>>;
 
 /// An endpoint, three events, and an attempt at the first of them, each settled before the next. The replies are those of a run that
 /// nothing stops.
@@ -93,7 +93,11 @@ fn opened(alloc: Global, stopping: Stopping, calls: u64) -> Option<Connection<Fa
 }
 
 /// The store that is there once the machine comes back.
-fn come_back(rt: &impl Abort, alloc: Global, conn: Connection<Failing>) -> Connection<Failing> {
+pub(crate) fn come_back(
+    rt: &impl Abort,
+    alloc: Global,
+    conn: Connection<Failing>,
+) -> Connection<Failing> {
     let mut files = conn.into_store().close();
     files.log.crash();
     files.db.crash();

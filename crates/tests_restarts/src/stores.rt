@@ -35,12 +35,13 @@ pub(crate) fn number(rt: &impl Abort, conn: &mut Connection<MemStore>, sql: &str
     row.get(0).expect(rt, "a number")
 }
 
-static TABLES: [&str; 5] = [
+static TABLES: [&str; 6] = [
     "SELECT rowid, * FROM meta",
     "SELECT rowid, * FROM endpoints",
     "SELECT rowid, * FROM secrets",
     "SELECT rowid, * FROM deliveries",
     "SELECT rowid, * FROM attempts",
+    "SELECT rowid, * FROM topics",
 ];
 
 fn add_rows(

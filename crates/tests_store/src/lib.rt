@@ -18,6 +18,8 @@ mod histories;
 #[cfg(test)]
 mod loads;
 #[cfg(test)]
+mod migrations;
+#[cfg(test)]
 mod openings;
 #[cfg(test)]
 mod refusals;

@@ -25,13 +25,16 @@ pub(crate) enum Start {
     Nothing,
     /// The rows of the empty history.
     Ours,
+    /// The same in the five tables of version 1.
+    First,
     /// Those of an endpoint, an event with so many bytes and an attempt at it.
     Body(usize),
     /// Those of so many endpoints with a secret each.
     Endpoints(u32),
 }
 
-/// What is in a store, the queries that tell all of it, what its opening answers, and numbers that it has before and after it.
+/// What is in a store, the queries that tell all of it, what its opening answers, and numbers that
+/// it has before and after it.
 pub(crate) struct File(
     pub Start,
     pub &'static [&'static str],
@@ -47,7 +50,24 @@ pub(crate) const ROWS: &[&str] = &[
     "SELECT * FROM secrets",
     "SELECT * FROM deliveries",
     "SELECT * FROM attempts",
+    "SELECT * FROM topics",
 ];
+
+/// What a relay executed that made tables of version 1.
+const FIRST: &str = "CREATE TABLE meta(k INTEGER PRIMARY KEY CHECK(k = 1), app TEXT NOT NULL, \
+     version INTEGER NOT NULL, records INTEGER NOT NULL) STRICT; \
+     CREATE TABLE endpoints(put INTEGER PRIMARY KEY, name TEXT NOT NULL UNIQUE, \
+     url TEXT NOT NULL, max INTEGER NOT NULL, enabled INTEGER NOT NULL, \
+     enabled_by INTEGER NOT NULL, secrets_by INTEGER NOT NULL) STRICT; \
+     CREATE TABLE secrets(endpoint INTEGER NOT NULL REFERENCES endpoints(put), \
+     place INTEGER NOT NULL, secret BLOB NOT NULL, PRIMARY KEY(endpoint, place)) STRICT; \
+     CREATE TABLE deliveries(seq INTEGER PRIMARY KEY, \
+     endpoint INTEGER NOT NULL REFERENCES endpoints(put), id TEXT NOT NULL, \
+     at INTEGER NOT NULL, body BLOB NOT NULL, UNIQUE(endpoint, id)) STRICT; \
+     CREATE TABLE attempts(seq INTEGER PRIMARY KEY, \
+     delivery INTEGER NOT NULL REFERENCES deliveries(seq), number INTEGER NOT NULL, \
+     status INTEGER NOT NULL, at INTEGER NOT NULL, UNIQUE(delivery, number)) STRICT; \
+     INSERT INTO meta VALUES(1, 'webhook-relay', 1, 0)";
 
 pub(crate) const ATTEMPTED: &str =
     "INSERT INTO endpoints VALUES(0, 'a', 'http://h/', 100, 1, 0, 0); \
@@ -91,6 +111,7 @@ fn fill_endpoints(alloc: Global, conn: &mut Connection<MemStore>, count: u32) ->
 fn fill_start(alloc: Global, conn: &mut Connection<MemStore>, start: Start) -> Result<(), Fail> {
     match start {
         Start::Nothing | Start::Ours => Ok(()),
+        Start::First => run(conn, FIRST),
         Start::Body(len) => {
             run(conn, ATTEMPTED)?;
             fill_body(alloc, conn, len)
@@ -99,9 +120,14 @@ fn fill_start(alloc: Global, conn: &mut Connection<MemStore>, start: Start) -> R
     }
 }
 
-fn fill(alloc: Global, conn: &mut Connection<MemStore>, file: &File) -> Result<(), Fail> {
-    fill_start(alloc, conn, file.0)?;
-    for text in file.1 {
+fn fill(
+    alloc: Global,
+    conn: &mut Connection<MemStore>,
+    start: Start,
+    texts: &[&str],
+) -> Result<(), Fail> {
+    fill_start(alloc, conn, start)?;
+    for text in texts {
         run(conn, text)?;
     }
     Ok(())
@@ -109,13 +135,17 @@ fn fill(alloc: Global, conn: &mut Connection<MemStore>, file: &File) -> Result<(
 
 fn begun(alloc: Global, start: Start) -> Result<Connection<MemStore>, Fail> {
     match start {
-        Start::Nothing => Ok(Connection::open_in_memory(alloc)?),
+        Start::Nothing | Start::First => Ok(Connection::open_in_memory(alloc)?),
         _ => Ok(opened(alloc, None)?.release()),
     }
 }
 
 /// The store, opened over again.
-fn again(rt: &impl Abort, alloc: Global, conn: Connection<MemStore>) -> Connection<MemStore> {
+pub(crate) fn again(
+    rt: &impl Abort,
+    alloc: Global,
+    conn: Connection<MemStore>,
+) -> Connection<MemStore> {
     match Connection::over(alloc, conn.into_store()) {
         Ok(conn) => conn,
         Err((_, _)) => panic!(rt; "the store was not opened again"),
@@ -138,14 +168,21 @@ fn text_or_abort(rt: &impl Abort, text: Result<String, Fail>) -> String {
     }
 }
 
-fn look(rt: &impl Abort, alloc: Global, conn: &mut Connection<MemStore>, file: &File) -> String {
-    if let Err(_) = count_all(rt, conn, file.4) {
+/// The rows that the queries give, where each of the others gives its number.
+pub(crate) fn look(
+    rt: &impl Abort,
+    alloc: Global,
+    conn: &mut Connection<MemStore>,
+    queries: &[&str],
+    counts: &[Count],
+) -> String {
+    if let Err(_) = count_all(rt, conn, counts) {
         panic!(rt; "a query was refused");
     }
-    text_or_abort(rt, told(alloc, conn, file.2))
+    text_or_abort(rt, told(alloc, conn, queries))
 }
 
-fn same_text(rt: &impl Abort, found: &str, wanted: &str, place: usize) {
+pub(crate) fn same_text(rt: &impl Abort, found: &str, wanted: &str, place: usize) {
     assert!(rt; found == wanted, "{found} at {place}");
 }
 
@@ -213,14 +250,15 @@ fn fault_of(alloc: Global, fault: OpenFault) -> Result<String, Fail> {
     Ok(format!(in alloc; "{fault}")?)
 }
 
-/// What the vault of the store lists, or why there is none.
-fn adopted(
+type Back = (Connection<MemStore>, OpenFault);
+
+/// What the vault lists, or why there is none.
+fn listed_or_fault(
     rt: &impl Abort,
     alloc: Global,
-    conn: Connection<MemStore>,
+    opening: Result<Vault<MemStore>, Back>,
 ) -> (String, Connection<MemStore>) {
-    assert!(rt; conn.is_autocommit());
-    match Vault::adopt(conn, MARK, alloc) {
+    match opening {
         Ok(vault) => {
             let mut vault = vault;
             let text = text_or_abort(rt, loaded(alloc, &mut vault));
@@ -228,6 +266,26 @@ fn adopted(
         }
         Err((conn, fault)) => (text_or_abort(rt, fault_of(alloc, fault)), conn),
     }
+}
+
+/// What the vault of the store lists, or why there is none.
+pub(crate) fn adopted(
+    rt: &impl Abort,
+    alloc: Global,
+    conn: Connection<MemStore>,
+) -> (String, Connection<MemStore>) {
+    assert!(rt; conn.is_autocommit());
+    listed_or_fault(rt, alloc, Vault::adopt(conn, MARK, alloc))
+}
+
+/// The same once its tables are of version 2.
+pub(crate) fn migrated(
+    rt: &impl Abort,
+    alloc: Global,
+    conn: Connection<MemStore>,
+) -> (String, Connection<MemStore>) {
+    assert!(rt; conn.is_autocommit());
+    listed_or_fault(rt, alloc, Vault::migrate(conn, MARK, alloc))
 }
 
 fn submitted<L: Ledger>(alloc: Global, desk: &mut Desk<L>) -> Result<Option<Refusal>, Fail> {
@@ -266,7 +324,7 @@ fn tried<L: Ledger>(alloc: Global, desk: &mut Desk<L>) -> Result<String, Fail> {
 }
 
 /// What the desk of the store shows, or why there is none.
-fn reopened<L: Ledger>(
+pub(crate) fn reopened<L: Ledger>(
     rt: &impl Abort,
     alloc: Global,
     pool: Pool<L>,
@@ -285,7 +343,7 @@ fn reopened<L: Ledger>(
     }
 }
 
-fn pool_of<L: Ledger>(rt: &impl Abort, alloc: Global, blank: Blank) -> Pool<L>
+pub(crate) fn pool_of<L: Ledger>(rt: &impl Abort, alloc: Global, blank: Blank) -> Pool<L>
     requires name { blank.name ≡ L.name }
     requires parts { blank.parts ≡ L.parts }
     requires enough { blank.parts ≡ PARTS }
@@ -304,27 +362,33 @@ fn check_in<L: Ledger>(rt: &impl Abort, alloc: Global, blank: Blank, file: &File
     requires enough { blank.parts ≡ PARTS }
 {
     let pool = pool_of::<L>(rt, alloc, blank);
-    let mut conn = made(rt, alloc, file);
-    let before = look(rt, alloc, &mut conn, file);
+    let mut conn = made(rt, alloc, file.0, file.1);
+    let before = look(rt, alloc, &mut conn, file.2, file.4);
     let (text, conn) = adopted(rt, alloc, conn);
     same_text(rt, &text, file.3, place);
     let (text, conn) = reopened::<L>(rt, alloc, pool, conn);
     same_text(rt, &text, file.3, place);
     let mut conn = conn;
-    let after = look(rt, alloc, &mut conn, file);
+    let after = look(rt, alloc, &mut conn, file.2, file.4);
     same_text(rt, &after, &before, place);
 }
 
-fn made(rt: &impl Abort, alloc: Global, file: &File) -> Connection<MemStore> {
-    match written(alloc, file) {
+/// The store in which the texts were executed, opened over again.
+pub(crate) fn made(
+    rt: &impl Abort,
+    alloc: Global,
+    start: Start,
+    texts: &[&str],
+) -> Connection<MemStore> {
+    match written(alloc, start, texts) {
         Ok(conn) => again(rt, alloc, conn),
         Err(_) => panic!(rt; "a text was refused"),
     }
 }
 
-fn written(alloc: Global, file: &File) -> Result<Connection<MemStore>, Fail> {
-    let mut conn = begun(alloc, file.0)?;
-    fill(alloc, &mut conn, file)?;
+fn written(alloc: Global, start: Start, texts: &[&str]) -> Result<Connection<MemStore>, Fail> {
+    let mut conn = begun(alloc, start)?;
+    fill(alloc, &mut conn, start, texts)?;
     Ok(conn)
 }
 

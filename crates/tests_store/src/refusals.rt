@@ -37,10 +37,10 @@ static WRONG_META: [File; 8] = [
     ),
     File(
         Start::Ours,
-        &[ATTEMPTED, "UPDATE meta SET version = 2"],
+        &[ATTEMPTED, "UPDATE meta SET version = 3"],
         ROWS,
         "NewerVersion",
-        &[("SELECT count(*) FROM meta WHERE version = 2", 1)],
+        &[("SELECT count(*) FROM meta WHERE version = 3", 1)],
     ),
     File(
         Start::Ours,
@@ -260,7 +260,7 @@ fn a_store_without_the_tables_is_not_ours(rt: HostRuntime) {
     check_all(&rt, rt.alloc(), &WITHOUT_THE_TABLES);
 }
 
-static OTHER_TABLES: [File; 4] = [
+static OTHER_TABLES: [File; 5] = [
     File(
         Start::Ours,
         &[
@@ -275,7 +275,7 @@ static OTHER_TABLES: [File; 4] = [
         Start::Ours,
         &[
             ATTEMPTED,
-            "CREATE TABLE notes(a); UPDATE meta SET version = 2",
+            "CREATE TABLE notes(a); UPDATE meta SET version = 3",
         ],
         ROWS,
         "NewerVersion",
@@ -285,7 +285,7 @@ static OTHER_TABLES: [File; 4] = [
         Start::Ours,
         &[
             ATTEMPTED,
-            "DROP TABLE attempts; UPDATE meta SET version = 2",
+            "DROP TABLE attempts; UPDATE meta SET version = 3",
         ],
         SCHEMA,
         "NewerVersion",
@@ -297,6 +297,13 @@ static OTHER_TABLES: [File; 4] = [
         SCHEMA,
         NOT_OURS,
         &[("SELECT count(*) FROM deliveries", 1)],
+    ),
+    File(
+        Start::Ours,
+        &[ATTEMPTED, "DROP TABLE topics"],
+        SCHEMA,
+        NOT_OURS,
+        &[("SELECT count(*) FROM attempts", 1)],
     ),
 ];
 

@@ -4,8 +4,9 @@ use crate::database::{Count, count_all, holds};
 use crate::entries::body_of;
 use relay_types::{MaxLimit, Moment, MsgId, Name, Secret, Target};
 use spool_sql::{
-    Cause, Seq, cause_of, count_endpoints, create_tables, has_delivery, insert_attempt,
-    insert_delivery, insert_endpoint, insert_secret, is_empty, probe, select_put, update_records,
+    Cause, Seq, cause_of, count_endpoints, create_tables, create_topics, has_delivery,
+    insert_attempt, insert_delivery, insert_endpoint, insert_secret, is_empty, probe, select_put,
+    update_records, update_version,
 };
 use sqlite::{Connection, Error, ErrorCode, MemStore, Transaction};
 use std::alloc::Global;
@@ -16,6 +17,10 @@ use std::test::Fail;
 #[derive(Clone, Copy)]
 enum Call {
     Tables,
+    /// The table of topics.
+    Topics,
+    /// Version 2.
+    Version,
     /// The number, the name and the greatest limit. The URL is `http://h/`.
     Endpoint(u32, &'static [u8], u64),
     /// The endpoint, the place and the bytes.
@@ -107,6 +112,8 @@ fn make(
 ) -> Result<Result<(), Error>, Fail> {
     match call {
         Call::Tables => Ok(create_tables(tx)),
+        Call::Topics => Ok(create_topics(tx)),
+        Call::Version => Ok(update_version(tx)),
         Call::Endpoint(put, name, max) => add_endpoint(alloc, tx, put, name, max),
         Call::Secret(endpoint, place, bytes) => add_secret(tx, endpoint, place, bytes),
         Call::Delivery(number, endpoint, id, at) => {
@@ -232,7 +239,7 @@ static NO_STEP: [Step; 0] = [];
 static ROWS: [Count; 12] = [
     ("SELECT count(*) FROM meta", 1),
     (
-        "SELECT count(*) FROM meta WHERE k = 1 AND app = 'webhook-relay' AND version = 1 AND records = 6",
+        "SELECT count(*) FROM meta WHERE k = 1 AND app = 'webhook-relay' AND version = 2 AND records = 6",
         1,
     ),
     ("SELECT count(*) FROM endpoints", 1),
@@ -284,8 +291,10 @@ fn endpoints_and_events_are_found(rt: HostRuntime) -> Result<(), Fail> {
     walk(&rt, rt.alloc(), &FOUND, &ROWS)
 }
 
-static REPEATED: [Step; 6] = [
+static REPEATED: [Step; 8] = [
     Step::Refused(Call::Tables),
+    Step::Refused(Call::Topics),
+    Step::Done(Call::Version),
     Step::Refused(Call::Endpoint(6, b"alpha", 10)),
     Step::Refused(Call::Secret(3, 1, b"fedcba98fedcba98fedcba98")),
     Step::Refused(Call::Delivery(6, 3, b"msg_1", 1000)),
@@ -298,7 +307,7 @@ fn endpoints_and_events_that_repeat_are_refused(rt: HostRuntime) -> Result<(), F
     walk(&rt, rt.alloc(), &REPEATED, &ROWS)
 }
 
-static TABLES: [Count; 6] = [
+static TABLES: [Count; 7] = [
     (
         "SELECT count(*) FROM sqlite_schema WHERE sql = \
          'CREATE TABLE meta(k INTEGER PRIMARY KEY CHECK(k = 1), app TEXT NOT NULL, \
@@ -333,8 +342,16 @@ static TABLES: [Count; 6] = [
         1,
     ),
     (
+        "SELECT count(*) FROM sqlite_schema WHERE sql = \
+         'CREATE TABLE topics(topic TEXT NOT NULL, \
+         endpoint INTEGER NOT NULL REFERENCES endpoints(put), \
+         subscribed INTEGER NOT NULL, set_by INTEGER NOT NULL, \
+         PRIMARY KEY(topic, endpoint)) STRICT'",
+        1,
+    ),
+    (
         "SELECT count(*) FROM sqlite_schema WHERE sql IS NOT NULL",
-        5,
+        6,
     ),
 ];
 

@@ -7,6 +7,7 @@ use crate::entries::{Entry, Keys};
 use crate::stories::{Step, Story, walk};
 use crate::vaults::{MARK, Told, opened};
 use spool::{OpenFault, Unchanged, Vault};
+use sqlite::Connection;
 use std::test::Fail;
 
 pub(crate) const KEYS: Keys = Keys::Two(
@@ -36,17 +37,33 @@ static ROWS_ARE_COUNTED: Story = Story {
     ],
     counts: &[
         ("SELECT count(*) FROM meta", 1),
+        ("SELECT version FROM meta", 2),
         ("SELECT records FROM meta", 2),
         ("SELECT count(*) FROM endpoints", 1),
         ("SELECT count(*) FROM secrets", 2),
         ("SELECT count(*) FROM deliveries", 1),
         ("SELECT count(*) FROM attempts", 0),
+        ("SELECT count(*) FROM topics", 0),
     ],
 };
 
 #[test]
 fn rows_are_counted(rt: HostRuntime) -> Result<(), Fail> {
     walk(&rt, rt.alloc(), &ROWS_ARE_COUNTED)
+}
+
+#[test]
+fn a_store_with_a_table_of_topics_is_not_ours(rt: HostRuntime) -> Result<(), Fail> {
+    let mut conn = Connection::open_in_memory(rt.alloc())?;
+    conn.execute_batch("CREATE TABLE topics(a)")?;
+    if !conn.is_autocommit() {
+        return Err(Fail::from("a transaction is open"));
+    }
+    match Vault::create(conn, 8) {
+        Ok(_) => Err(Fail::from("create was not refused")),
+        Err((_, fault)) if matches!(fault, OpenFault::NotOurs) => Ok(()),
+        Err(_) => Err(Fail::from("create was refused for another reason")),
+    }
 }
 
 #[test]

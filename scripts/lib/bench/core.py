@@ -17,8 +17,9 @@ import threading
 import time
 
 from lib.command import ROOT, end_with_usage, programs_of
-from lib.formats import texts_of_tables
+from lib.formats import make_tables
 from lib.process import status_of
+from lib.rows import ORDERS
 from lib.serving import SECRET
 
 SAMPLES = 100_000_000
@@ -85,9 +86,7 @@ def store_in_python(path, count, size):
     conn.execute("PRAGMA journal_mode = WAL")
     conn.execute("PRAGMA synchronous = FULL")
     conn.execute("BEGIN")
-    for text in texts_of_tables():
-        conn.execute(text)
-    conn.execute("INSERT INTO meta VALUES(1, 'webhook-relay', 1, 0)")
+    make_tables(conn)
     conn.execute("COMMIT")
     for put in range(ENDPOINTS):
         conn.execute("BEGIN")
@@ -111,24 +110,22 @@ def file_in_python(path, count, size=100, attempts=((200, 1001),)):
     conn = sqlite3.connect(path, isolation_level=None)
     conn.execute("PRAGMA journal_mode = WAL")
     conn.execute("BEGIN")
-    for text in texts_of_tables():
-        conn.execute(text)
+    tried = [(delivery, number, *attempt) for delivery in range(100, 100 + count, 2) for number, attempt in enumerate(attempts, 1)]
+    make_tables(conn, 100 + count + len(tried))
     for put in range(100):
         conn.execute("INSERT INTO endpoints VALUES(?1, ?2, 'http://h/', 100, 1, ?1, ?1)", (put, f"e{put}"))
         conn.execute("INSERT INTO secrets VALUES(?1, 0, ?2)", (put, b"0" * 24))
     ids = ((100 + number, number % 100, f"msg_{number * 2_654_435_761 % 2**32}", b"{" * size) for number in range(count))
     conn.executemany("INSERT INTO deliveries VALUES(?1, ?2, ?3, 1000, ?4)", ids)
-    tried = [(delivery, number, *attempt) for delivery in range(100, 100 + count, 2) for number, attempt in enumerate(attempts, 1)]
     conn.executemany("INSERT INTO attempts VALUES(?1, ?2, ?3, ?4, ?5)", ((100 + count + at, *it) for at, it in enumerate(tried)))
-    conn.execute("INSERT INTO meta VALUES(1, 'webhook-relay', 1, ?1)", (100 + count + len(tried),))
     conn.execute("COMMIT")
     conn.close()
 
 
 def read_in_python(path):
-    """Each row of the five tables, in the order of their keys."""
+    """Each row of the tables, in the order of their keys."""
     conn = sqlite3.connect(path)
-    for table in ("meta", "endpoints", "secrets", "deliveries", "attempts"):
+    for table in ORDERS:
         for _ in conn.execute(f"SELECT * FROM {table} ORDER BY rowid"):
             pass
 

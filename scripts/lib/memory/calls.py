@@ -20,6 +20,7 @@ import time
 
 from lib import faults
 from lib.command import ROOT, Counts, programs_of
+from lib.rows import make_store, of_first, rows_in, write_rows
 from lib.serving import Relay, ask, put
 
 CRATES = ROOT / "crates"
@@ -119,16 +120,16 @@ def check_table(rows, counts):
 # All of a call's requests are refused too, from each one on, where it makes no more than so many.
 FEW, ALL = 64, 10**6
 # Openings of a file are also commands, of which each request is refused: here one of so many.
-STRIDE = {"FILE": 8, "ABSENT": 8}
+STRIDE = {"FILE": 8, "FIRST": 8, "ABSENT": 8}
 
 
 def made(library, bench, word, folder, step=0, refuse=0, many=1):
     """What `bench growths` tells of a call that is made twice: what stood, the two answers, and how it ended."""
     with tempfile.TemporaryDirectory(dir=folder) as scratch:
         path = os.path.join(scratch, "store")
-        if word == "FILE":
-            shutil.copyfile(os.path.join(folder, "two"), path)
-        words = [bench, "growths", path if word in ("FILE", "ABSENT") else word]
+        if FILES.get(word):
+            shutil.copyfile(os.path.join(folder, FILES[word]), path)
+        words = [bench, "growths", path if word in FILES else word]
         run = faults.Lines(library, words, folder, step, refuse, many)
         stood = run.read()
         answers = [run.send("\n"), run.send("\n")]
@@ -237,9 +238,10 @@ REFUSED = [
 STOP = f"{COMMITTED}stop\nshow a\n"
 STOP_DONE = ["staged 0", "sealed 0..1", "committed 1", "settled 1", "reopened 1", "enabled pending 0 delivered 0 exhausted 0"]
 STOP_REFUSED = [[*replies[:4], "reopened 0", "absent"] for replies in REFUSED[:3]]
-# Where a command gets the path of a file of two records, of one whose event has no endpoint, and where one on which nothing stands.
-FILE, UNSOUND, ABSENT = "FILE", "UNSOUND", "ABSENT"
-FILES = {FILE: "two", UNSOUND: "unsound", ABSENT: None}
+# Where a command gets the path of a file of two records, of the same of version 1, of one whose event has no endpoint, and where one on which
+# nothing stands.
+FILE, FIRST, UNSOUND, ABSENT = "FILE", "FIRST", "UNSOUND", "ABSENT"
+FILES = {FILE: "two", FIRST: "first", UNSOUND: "unsound", ABSENT: None}
 ROWS = (
     "INSERT INTO endpoints VALUES(0, 'a', 'http://h/', 100, 1, 0, 0)",
     "INSERT INTO secrets VALUES(0, 0, x'303132333435363738396162636465663031323334353637')",
@@ -263,6 +265,7 @@ COMMANDS = [
     (["vegas", "1000"], b"100000 1 ok\n100000 10 ok\n", (b"20 100000\n26 100000\n", b"", 0)),
     (["check", ABSENT], b"", (b"ok records 0 endpoints 0 pending 0\n", b"", 0)),
     (["check", FILE], b"", (b"ok records 2 endpoints 1 pending 1\n", b"", 0)),
+    (["check", FIRST], b"", (b"ok records 2 endpoints 1 pending 1\n", b"", 0)),
     (["check", UNSOUND], b"", (b"", b"relayd: Damaged\n", 4)),
 ]
 # Others that a script may tell, where one of its calls was refused.
@@ -283,6 +286,8 @@ def make_files(relayd, folder):
             conn.execute(statement)
         conn.commit()
         conn.close()
+    rows = of_first(rows_in(path))
+    make_store(os.path.join(folder, FILES[FIRST]), lambda conn: write_rows(conn, rows), False)
 
 
 def ended(library, relayd, words, text, folder, refuse, many=1):

@@ -1,9 +1,9 @@
 """2,000 changes of a store: each is refused by a name, or read as SQLite reads it.
 
 A change is of a byte, a page or the length, and `relayd check` looks at it. It damages FILE or
-FILE-wal of a store whose records are in its log, and of one whose log was copied into FILE. What is
-read has as many records, endpoints and pending events as Python's sqlite3 finds. It never crashes,
-takes a minute or a gigabyte.
+FILE-wal of a store whose records are in its log, and of one whose log was copied into FILE, each of
+version 1 and of the latest. What is read has as many records, endpoints and pending events as
+Python's sqlite3 finds, also once it is migrated. It never crashes, takes a minute or a gigabyte.
 Usage: scripts/store damage RELAYD [COUNT [SEED]]: 2,000 if left out
 """
 import collections
@@ -11,13 +11,13 @@ import os
 import pathlib
 import random
 import resource
-import shutil
 import sqlite3
 import subprocess
 import sys
 import tempfile
 
 from lib.command import Counts, program_of
+from lib.rows import copy_store, make_store, of_first, rows_in, write_rows
 from lib.serving import Relay, Subscriber, ask, put, submit, wait_until
 
 NAMES = {"NotOurs": 4, "NewerVersion": 4, "Damaged": 4, "Busy": 3, "CannotOpen": 3, "Corrupt": 3, "Full": 3, "Lost": 3, "OutOfMemory": 3}
@@ -41,8 +41,7 @@ def make(relayd, path):
 
 def fold(whole, folded):
     """Copies a store, and has Python's sqlite3 copy its log into FILE."""
-    for end in ("", "-wal"):
-        shutil.copy(whole + end, folded + end)
+    copy_store(whole, folded)
     conn = sqlite3.connect(folded)
     conn.execute("PRAGMA wal_checkpoint(TRUNCATE)")
     conn.close()
@@ -114,20 +113,22 @@ def main():
         whole, folded, path, copy = (str(pathlib.Path(name, it)) for it in ("whole", "folded", "damaged", "copy"))
         make(relayd, whole)
         fold(whole, folded)
+        rows = of_first(rows_in(folded))
+        for base in (whole, folded):
+            make_store(f"{base}-first", lambda conn: write_rows(conn, rows), base == whole)
         for number in range(count):
             base, end = draw.choice(((whole, ""), (whole, "-wal"), (whole, "-wal"), (folded, ""), (folded, ""), (folded, "")))
-            for it in ("", "-wal"):
-                shutil.copy(base + it, path + it)
+            version = draw.choice(("", "-first"))
+            copy_store(base + version, path)
             data = bytearray(pathlib.Path(path + end).read_bytes())
             kind = change(draw, data)
             pathlib.Path(path + end).write_bytes(data)
-            for it in ("", "-wal"):
-                shutil.copy(path + it, copy + it)
+            copy_store(path, copy)
             answer = told(relayd, path)
             holds = answer in NAMES
             if isinstance(answer, tuple):
-                holds, answer = found(copy) in (answer, None), "read"
-            file = f"FILE{end}, the log " + ("beside it" if base == whole else "in FILE")
+                holds, answer = {found(copy), found(path)} <= {answer, None}, "read"
+            file = f"FILE{end}{' of version 1' * bool(version)}, the log " + ("beside it" if base == whole else "in FILE")
             ends[kind, file, answer] += 1
             counts.check(f"change {number}, {kind} of {file}: {answer}", holds)
             for it in (path, path + "-wal", path + "-shm", copy, copy + "-wal", copy + "-shm"):

@@ -1,110 +1,143 @@
-"""What `relayd check` says of files that SQLite made, and that it changes none.
+"""What `relayd check` says of files that SQLite made, and which of them it changes.
 
-It says the line or the fault that docs/FORMATS.md names, with the exit status, and each file is as
-it was, byte for byte. If there is nothing, or an empty file, a store is made, which Python's SQLite
-then reads. Beside these what is said of a file that another program has open, and the copies of
-`packaging/backup`. Then the same of `bench open`, which opens a file by one call.
+It says the line or the fault that docs/FORMATS.md names, with the exit status. A store of version 1
+is migrated, and has the same rows then; every other file is as it was, byte for byte. If there is
+nothing, or an empty file, a store is made, which Python's SQLite then reads. Beside these what is
+said of a file that another program has open, and the copies of `packaging/backup`. Then the same of
+`bench open`, which opens a file by one call. Last, `relayd serve` migrates a store.
 Usage: scripts/store files RELAYD BENCH
 """
+import contextlib
 import fcntl
 import os
 import pathlib
-import shutil
+import re
 import sqlite3
 import subprocess
 import tempfile
 
 from lib.command import ROOT, programs_of
-
-SCHEMA = (
-    "CREATE TABLE meta(k INTEGER PRIMARY KEY CHECK(k = 1), app TEXT NOT NULL, version INTEGER NOT NULL, records INTEGER NOT NULL) STRICT",
-    "CREATE TABLE endpoints(put INTEGER PRIMARY KEY, name TEXT NOT NULL UNIQUE, url TEXT NOT NULL, max INTEGER NOT NULL, "
-    "enabled INTEGER NOT NULL, enabled_by INTEGER NOT NULL, secrets_by INTEGER NOT NULL) STRICT",
-    "CREATE TABLE secrets(endpoint INTEGER NOT NULL REFERENCES endpoints(put), place INTEGER NOT NULL, secret BLOB NOT NULL, "
-    "PRIMARY KEY(endpoint, place)) STRICT",
-    "CREATE TABLE deliveries(seq INTEGER PRIMARY KEY, endpoint INTEGER NOT NULL REFERENCES endpoints(put), id TEXT NOT NULL, "
-    "at INTEGER NOT NULL, body BLOB NOT NULL, UNIQUE(endpoint, id)) STRICT",
-    "CREATE TABLE attempts(seq INTEGER PRIMARY KEY, delivery INTEGER NOT NULL REFERENCES deliveries(seq), number INTEGER NOT NULL, "
-    "status INTEGER NOT NULL, at INTEGER NOT NULL, UNIQUE(delivery, number)) STRICT",
-)
-META = "INSERT INTO meta VALUES(1, 'webhook-relay', {}, {})"
-ENDPOINT = (
-    "INSERT INTO endpoints VALUES(0, 'a', 'http://h/', 100, 1, 0, 0)",
-    "INSERT INTO secrets VALUES(0, 0, x'303132333435363738396162636465663031323334353637')",
-)
-EVENT = (*ENDPOINT, "INSERT INTO deliveries VALUES(1, 0, 'msg_1', 1000, x'7b7d')")
-GONE = (*EVENT, "INSERT INTO attempts VALUES(2, 1, 1, 410, 1001)")
+from lib.formats import FIRST, LATEST, make_tables, texts_of_tables
+from lib.rows import copy_store, is_migrated, make_store, rows_in, rows_of
+from lib.serving import ask, relay_of
 
 SECRET = "x'303132333435363738396162636465663031323334353637'"
-# Two endpoints, or what belongs to each, twice under keys that the schema below doesn't have.
+ENDPOINT = ("INSERT INTO endpoints VALUES(0, 'a', 'http://h/', 100, 1, 0, 0)", f"INSERT INTO secrets VALUES(0, 0, {SECRET})")
+EVENT = (*ENDPOINT, "INSERT INTO deliveries VALUES(1, 0, 'msg_1', 1000, x'7b7d')")
+DELIVERED = (*EVENT, "INSERT INTO attempts VALUES(2, 1, 1, 200, 1001)")
+GONE = (*EVENT, "INSERT INTO attempts VALUES(2, 1, 1, 410, 1001)")
+LOOSE = (*EVENT, f"INSERT INTO secrets VALUES(7, 0, {SECRET})")
+# Two endpoints, or what belongs to each, twice under keys that the tables without keys don't have.
 TWICE = (*EVENT, "INSERT INTO endpoints VALUES(2, 'a', 'http://h/', 100, 1, 2, 2)", f"INSERT INTO secrets VALUES(2, 0, {SECRET})")
 
-# The schema without references, and without any key but that of meta.
-NO_REFERENCE = tuple(text.replace(" REFERENCES endpoints(put)", "").replace(" REFERENCES deliveries(seq)", "") for text in SCHEMA)
-NO_KEY = NO_REFERENCE[:1] + tuple(
-    text.replace("INTEGER PRIMARY KEY", "INTEGER NOT NULL").replace(" UNIQUE,", ",").replace(", PRIMARY KEY(endpoint, place)", "")
-    .replace(", UNIQUE(endpoint, id)", "").replace(", UNIQUE(delivery, number)", "")
-    for text in NO_REFERENCE[1:]
+TOPICS = texts_of_tables()[-1]
+
+# SQLite gives no index such a name by itself.
+RENAMED = (
+    "PRAGMA writable_schema = on",
+    "UPDATE sqlite_schema SET name = 'sqlite_autoindex_topics_1', sql = replace(sql, 'late', 'sqlite_autoindex_topics_1') WHERE name = 'late'",
 )
+
+
+def no_reference(text):
+    return re.sub(r" REFERENCES \w+\(\w+\)", "", text)
+
+
+def no_key(text):
+    """The text of a table without references, and without keys too if it isn't that of meta."""
+    if text.startswith("CREATE TABLE meta("):
+        return text
+    text = no_reference(text).replace("INTEGER PRIMARY KEY", "INTEGER NOT NULL").replace(" UNIQUE,", ",")
+    return re.sub(r", (PRIMARY KEY|UNIQUE)\([^)]*\)", "", text)
+
 
 NO_RECORD = "ok records 0 endpoints 0 pending 0"
 AN_EVENT = "ok records 2 endpoints 1 pending 1"
 
-# What is in the file, and what is said of it: the line of the counts, or the fault and the status.
+# What is in a store of the first version or the latest, how many records, and what is said of it: the line of the counts, or the fault.
 STORES = {
-    "no record": ((), 1, 0, NO_RECORD),
-    "an event": (EVENT, 1, 2, "ok records 2 endpoints 1 pending 1"),
-    "a delivered event": ((*EVENT, "INSERT INTO attempts VALUES(2, 1, 1, 200, 1001)"), 1, 3, "ok records 3 endpoints 1 pending 0"),
-    "a number that no record explains": (ENDPOINT, 1, 2, "Damaged"),
-    "a later list of secrets": ((*ENDPOINT, "UPDATE endpoints SET secrets_by = 1"), 1, 2, "ok records 2 endpoints 1 pending 0"),
-    "no row": ((), 1, 1, "Damaged"),
-    "a gone endpoint that is enabled": (GONE, 1, 3, "Damaged"),
-    "a gone endpoint": ((*GONE, "UPDATE endpoints SET enabled = 0, enabled_by = 2"), 1, 3, "ok records 3 endpoints 1 pending 1"),
-    "a second attempt without a first": ((*EVENT, "INSERT INTO attempts VALUES(2, 1, 2, 500, 1001)"), 1, 3, "Damaged"),
-    "version 3": (EVENT, 3, 2, "NewerVersion"),
-    "without meta": ((*EVENT, "DROP TABLE meta"), 1, 2, "NotOurs"),
-    "without attempts": ((*EVENT, "DROP TABLE attempts"), 1, 2, "NotOurs"),
-    "another program's meta": ((*EVENT, "UPDATE meta SET app = 'webhook-relays'"), 1, 2, "NotOurs"),
+    "no record": ((), 0, NO_RECORD),
+    "an event": (EVENT, 2, AN_EVENT),
+    "a delivered event": (DELIVERED, 3, "ok records 3 endpoints 1 pending 0"),
+    "a number that no record explains": (ENDPOINT, 2, "Damaged"),
+    "a later list of secrets": ((*ENDPOINT, "UPDATE endpoints SET secrets_by = 1"), 2, "ok records 2 endpoints 1 pending 0"),
+    "no row": ((), 1, "Damaged"),
+    "a gone endpoint that is enabled": (GONE, 3, "Damaged"),
+    "a gone endpoint": ((*GONE, "UPDATE endpoints SET enabled = 0, enabled_by = 2"), 3, "ok records 3 endpoints 1 pending 1"),
+    "a second attempt without a first": ((*EVENT, "INSERT INTO attempts VALUES(2, 1, 2, 500, 1001)"), 3, "Damaged"),
+    "without meta": ((*EVENT, "DROP TABLE meta"), 2, "NotOurs"),
+    "without attempts": ((*EVENT, "DROP TABLE attempts"), 2, "NotOurs"),
+    "another program's meta": ((*EVENT, "UPDATE meta SET app = 'webhook-relays'"), 2, "NotOurs"),
     # Python's SQLite asks of no reference whether its row is there.
-    "an event of no endpoint": ((*ENDPOINT, "INSERT INTO deliveries VALUES(1, 7, 'msg_1', 1000, x'7b7d')"), 1, 2, "Damaged"),
-    "an attempt of no event": ((*EVENT, "INSERT INTO attempts VALUES(2, 7, 1, 500, 1001)"), 1, 3, "Damaged"),
-    "a secret of no endpoint": ((*EVENT, f"INSERT INTO secrets VALUES(7, 0, {SECRET})"), 1, 2, "Damaged"),
-    "a secret of no endpoint, version 3": ((*EVENT, f"INSERT INTO secrets VALUES(7, 0, {SECRET})"), 3, 2, "NewerVersion"),
-    "a secret of no endpoint, another program's meta": (
-        (*EVENT, f"INSERT INTO secrets VALUES(7, 0, {SECRET})", "UPDATE meta SET app = 'other'"), 1, 2, "NotOurs",
-    ),
-    "a table more": ((*EVENT, "CREATE TABLE notes(seq INTEGER REFERENCES deliveries(seq), note)"), 1, 2, AN_EVENT),
-    "version 3 and a table more": ((*EVENT, "CREATE TABLE subscriptions(a)"), 3, 2, "NewerVersion"),
-    "version 3 and a table less": ((*EVENT, "DROP TABLE attempts"), 3, 2, "NewerVersion"),
-    "analyzed": ((*EVENT, "ANALYZE"), 1, 2, AN_EVENT),
-    "a counter of SQLite's": ((*EVENT, "CREATE TABLE notes(n INTEGER PRIMARY KEY AUTOINCREMENT)"), 1, 2, AN_EVENT),
-    "an index and a view more": ((*EVENT, "CREATE INDEX by_at ON deliveries(at)", "CREATE VIEW now AS SELECT * FROM deliveries"), 1, 2, AN_EVENT),
+    "an event of no endpoint": ((*ENDPOINT, "INSERT INTO deliveries VALUES(1, 7, 'msg_1', 1000, x'7b7d')"), 2, "Damaged"),
+    "an attempt of no event": ((*EVENT, "INSERT INTO attempts VALUES(2, 7, 1, 500, 1001)"), 3, "Damaged"),
+    "a secret of no endpoint": (LOOSE, 2, "Damaged"),
+    "a secret of no endpoint, another program's meta": ((*LOOSE, "UPDATE meta SET app = 'other'"), 2, "NotOurs"),
+    "a table more": ((*EVENT, "CREATE TABLE notes(seq INTEGER REFERENCES deliveries(seq), note)"), 2, AN_EVENT),
+    "analyzed": ((*EVENT, "ANALYZE"), 2, AN_EVENT),
+    "a counter of SQLite's": ((*EVENT, "CREATE TABLE notes(n INTEGER PRIMARY KEY AUTOINCREMENT)"), 2, AN_EVENT),
+    "an index and a view more": ((*EVENT, "CREATE INDEX by_at ON deliveries(at)", "CREATE VIEW now AS SELECT * FROM deliveries"), 2, AN_EVENT),
     # These the store's reader doesn't open, or not with the tables that they stand on.
-    "a trigger": ((*EVENT, "CREATE TRIGGER t AFTER INSERT ON deliveries BEGIN SELECT 1; END"), 1, 2, "NotOurs"),
-    "a trigger that was dropped": ((*EVENT, "CREATE TRIGGER t AFTER INSERT ON deliveries BEGIN SELECT 1; END", "DROP TRIGGER t"), 1, 2, AN_EVENT),
-    "an index of some rows": ((*EVENT, "CREATE INDEX late ON deliveries(at) WHERE at > 5"), 1, 2, "NotOurs"),
+    "a trigger": ((*EVENT, "CREATE TRIGGER t AFTER INSERT ON deliveries BEGIN SELECT 1; END"), 2, "NotOurs"),
+    "a trigger that was dropped": ((*EVENT, "CREATE TRIGGER t AFTER INSERT ON deliveries BEGIN SELECT 1; END", "DROP TRIGGER t"), 2, AN_EVENT),
+    "an index of some rows": ((*EVENT, "CREATE INDEX late ON deliveries(at) WHERE at > 5"), 2, "NotOurs"),
+    # Tables whose texts were changed.
+    "no reference": (EVENT, 2, "Damaged", no_reference),
+    "no reference, and a secret of no endpoint": (LOOSE, 2, "Damaged", no_reference),
+    "no key": (EVENT, 2, "Damaged", no_key),
+    "no key, and a name twice": (TWICE, 3, "Damaged", no_key),
+    "no key, and a number twice": ((*EVENT, "INSERT INTO deliveries VALUES(1, 0, 'msg_2', 1000, x'7b7d')"), 2, "Damaged", no_key),
+    "no key, and an id twice": ((*EVENT, "INSERT INTO deliveries VALUES(2, 0, 'msg_1', 1000, x'7b7d')"), 3, "Damaged", no_key),
 }
-# The same of tables that other statements made.
-OTHERS = {
-    "no reference": (NO_REFERENCE, EVENT, 2, "Damaged"),
-    "no reference, and a secret of no endpoint": (NO_REFERENCE, (*EVENT, f"INSERT INTO secrets VALUES(7, 0, {SECRET})"), 2, "Damaged"),
-    "no key": (NO_KEY, EVENT, 2, "Damaged"),
-    "no key, and a name twice": (NO_KEY, TWICE, 3, "Damaged"),
-    "no key, and a number twice": (NO_KEY, (*EVENT, "INSERT INTO deliveries VALUES(1, 0, 'msg_2', 1000, x'7b7d')"), 2, "Damaged"),
-    "no key, and an id twice": (NO_KEY, (*EVENT, "INSERT INTO deliveries VALUES(2, 0, 'msg_1', 1000, x'7b7d')"), 3, "Damaged"),
+# The same by the version. The table of topics has no row yet, and beside tables of version 1 nothing has its name.
+VERSIONS = {
+    0: {"an event": (EVENT, 2, "Damaged")},
+    FIRST: {
+        **STORES,
+        "another table of topics": ((*EVENT, "CREATE TABLE Topics(topic)"), 2, "NotOurs"),
+        "a table of topics": ((*EVENT, TOPICS), 2, "NotOurs"),
+        "an index that is named topics": ((*EVENT, "CREATE INDEX topics ON deliveries(at)"), 2, "NotOurs"),
+        "an index that is named as that of topics": ((*EVENT, "CREATE INDEX late ON deliveries(at)", *RENAMED), 2, "NotOurs"),
+        "a view that is named topics": ((*EVENT, "CREATE VIEW topics AS SELECT * FROM deliveries"), 2, "NotOurs"),
+    },
+    LATEST: {
+        **STORES,
+        "without topics": ((*EVENT, "DROP TABLE topics"), 2, "NotOurs"),
+        "a row of topics": ((*EVENT, "INSERT INTO topics VALUES('t', 0, 1, 1)"), 2, "Damaged"),
+        "a row of topics of no endpoint": ((*EVENT, "INSERT INTO topics VALUES('t', 7, 1, 1)"), 2, "Damaged"),
+        "topics without a reference": ((*EVENT, "DROP TABLE topics", no_reference(TOPICS)), 2, "Damaged"),
+        "topics without a key": ((*EVENT, "DROP TABLE topics", re.sub(", PRIMARY KEY.*\\)", ")", TOPICS)), 2, "Damaged"),
+    },
+    LATEST + 1: {
+        "an event": (EVENT, 2, "NewerVersion"),
+        "a secret of no endpoint": (LOOSE, 2, "NewerVersion"),
+        "a table more": ((*EVENT, "CREATE TABLE purges(a)"), 2, "NewerVersion"),
+        "a table less": ((*EVENT, "DROP TABLE attempts"), 2, "NewerVersion"),
+        "without topics": ((*EVENT, "DROP TABLE topics"), 2, "NewerVersion"),
+    },
 }
 STATUSES = {"NotOurs": 4, "NewerVersion": 4, "Damaged": 4, "Busy": 3, "CannotOpen": 3, "Corrupt": 3, "Full": 3, "Lost": 3}
+# A log of fewer bytes has no page: its head, and a page's head and bytes.
+WITH_A_PAGE = 32 + 24 + 512
 # As what `bench open` tells each of them.
 OF_THE_STORE = [fault for fault, status in STATUSES.items() if status == 3]
 
 
-def make(path, statements, version, records, schema=SCHEMA, pragma="PRAGMA foreign_keys = OFF"):
-    conn = sqlite3.connect(path)
-    conn.execute(pragma)
-    for statement in (*schema, META.format(version, records), *statements):
-        conn.execute(statement)
-    conn.commit()
-    conn.close()
+def filling(version, statements, records, change=str):
+    """What gives a connection the tables of a version, whose texts are changed so, and these rows."""
+    def fill(conn):
+        make_tables(conn, records, version, change)
+        for statement in statements:
+            conn.execute(statement)
+
+    return fill
+
+
+def make(path, fill, pragma="PRAGMA foreign_keys = OFF"):
+    with contextlib.closing(sqlite3.connect(path)) as conn:
+        conn.execute(pragma)
+        fill(conn)
+        conn.commit()
     return path
 
 
@@ -147,27 +180,50 @@ def ends_so(tell, path, wanted, what):
 
 
 def check_kept(tell, path, wanted, what):
-    """Whether this is said of the file, and leaves it as it was."""
-    before = path.read_bytes() if path.is_file() else None
+    """Whether this is said of the file, and leaves it as it was, beside at most a log of no page."""
+    before, log = path.read_bytes() if path.is_file() else None, pathlib.Path(f"{path}-wal")
     told = ends_so(tell, path, wanted, what)
-    same = before == (path.read_bytes() if path.is_file() else None)
+    same = before == (path.read_bytes() if path.is_file() else None) and (not log.exists() or log.stat().st_size < WITH_A_PAGE)
     if not same:
         print(f"{what}: the file was changed")
     return told and same
+
+
+def texts_in(path):
+    """The texts of all that was made in the file, in that order."""
+    with contextlib.closing(sqlite3.connect(path)) as conn:
+        return [text for (text,) in conn.execute("SELECT sql FROM sqlite_schema WHERE sql IS NOT NULL ORDER BY rowid")]
+
+
+def check_migrated(tell, path, wanted, what):
+    """Whether this is said of a store of version 1, and again once it is of the latest version with the same rows."""
+    before = f"{path}-before"
+    copy_store(path, before)
+    told = [ends_so(tell, path, wanted, what) for _ in range(2)]
+    same = is_migrated(rows_in(before), rows_in(path)) and texts_in(path) == [*texts_in(before), TOPICS]
+    if not same:
+        print(f"{what}: it wasn't migrated: {rows_in(path)}")
+    return all(told) and same
+
+
+def check_stores(tell, version, folder):
+    """Whether the right thing is said of each store of a version, which then is as it was or migrated."""
+    ends = []
+    for number, (what, (statements, records, wanted, *change)) in enumerate(VERSIONS[version].items()):
+        path = make(pathlib.Path(folder, f"{number}.db"), filling(version, statements, records, *change))
+        is_taken = version == FIRST and wanted not in STATUSES
+        ends.append((check_migrated if is_taken else check_kept)(tell, path, wanted, f"version {version}: {what}"))
+    return ends
 
 
 def check_made(tell, path, what):
     """Whether a store of no record is made, and told of again."""
     if not all(ends_so(tell, path, NO_RECORD, what) for _ in range(2)):
         return False
-    conn = sqlite3.connect(path)
-    made = conn.execute("SELECT sql FROM sqlite_schema WHERE type = 'table'").fetchall()
-    meta = conn.execute("SELECT * FROM meta").fetchall()
-    conn.close()
-    reserved = path.read_bytes()[20]
-    if sorted(made) == sorted((text,) for text in SCHEMA) and meta == [(1, "webhook-relay", 1, 0)] and reserved == 0:
+    texts, rows, reserved = texts_in(path), rows_in(path), path.read_bytes()[20]
+    if texts == texts_of_tables() and rows == rows_of([]) and reserved == 0:
         return True
-    print(f"{what}: {made} {meta}, {reserved} bytes of each page reserved")
+    print(f"{what}: {texts} {rows}, {reserved} bytes of each page reserved")
     return False
 
 
@@ -183,75 +239,75 @@ def with_journal(path, whole):
     return path
 
 
-def with_log(path):
-    """A file whose log has all of its tables, as a relay leaves it."""
-    other = pathlib.Path(f"{path}-open")
-    conn = sqlite3.connect(other, isolation_level=None)
-    conn.execute("PRAGMA journal_mode = wal")
-    conn.execute("PRAGMA wal_autocheckpoint = 0")
-    for statement in (*SCHEMA, META.format(1, 2), *EVENT):
-        conn.execute(statement)
-    shutil.copy(other, path)
-    shutil.copy(f"{other}-wal", f"{path}-wal")
-    conn.close()
-    return path
-
-
-def log_alone(path):
-    with_log(path).unlink()
-    return path
-
-
-def check_all(tell, folder):
-    """Whether the right thing is said of each file of the folder, which is empty at first."""
-    cases = []
-    for number, (what, (statements, version, records, wanted)) in enumerate(STORES.items()):
-        path = pathlib.Path(folder, f"{number}.db")
-        cases.append((make(path, statements, version, records), wanted, what))
-    for number, (what, (schema, statements, records, wanted)) in enumerate(OTHERS.items()):
-        path = pathlib.Path(folder, f"other-{number}.db")
-        cases.append((make(path, statements, 1, records, schema), wanted, what))
-    whole = cases[1][0].read_bytes()
+def spoiled(version, folder):
+    """Files that were a store of a version before something was done to them, each with what is said of it."""
+    whole = make(pathlib.Path(folder, "whole"), filling(version, EVENT, 2)).read_bytes()
     page = int.from_bytes(whole[16:18], "big")
-    for what, contents, wanted in (
-        ("a text", b"no database\n" * 1000, "NotOurs"),
-        ("a short text", b"no database\n", "NotOurs"),
-        ("a byte", b"S", "NotOurs"),
-        ("zeros", bytes(page), "NotOurs"),
-        ("the header alone", whole[:16], "NotOurs"),
-        ("its first half", whole[: len(whole) // 2], "Corrupt"),
-        ("without its last page", whole[:-page], "Corrupt"),
-        ("a page of zeros", whole[: 2 * page] + bytes(page) + whole[3 * page :], "Corrupt"),
-        ("a page of text", whole[:page] + (b"overwritten\n" * page)[:page] + whole[2 * page :], "Corrupt"),
+    for what, contents in (
+        ("its first half", whole[: len(whole) // 2]),
+        ("without its last page", whole[:-page]),
+        ("a page of zeros", whole[: 2 * page] + bytes(page) + whole[3 * page :]),
+        ("a page of text", whole[:page] + (b"overwritten\n" * page)[:page] + whole[2 * page :]),
     ):
         path = pathlib.Path(folder, what.replace(" ", "_"))
         path.write_bytes(contents)
-        cases.append((path, wanted, what))
-    cases.append((no_table(pathlib.Path(folder, "dropped")), "NotOurs", "a database without a table"))
-    cases.append((pathlib.Path(folder), "CannotOpen", "a folder"))
-    cases.append((pathlib.Path(folder, "no_folder", "absent"), "CannotOpen", "a path in no folder"))
-    cases.append((linked(pathlib.Path(folder, "linked"), whole), "CannotOpen", "a file of two names"))
-    cases.append((with_journal(pathlib.Path(folder, "journal"), whole), "CannotOpen", "a rollback journal"))
-    vacuumed = make(pathlib.Path(folder, "vacuumed"), EVENT, 1, 2, pragma="PRAGMA auto_vacuum = 1")
-    cases.append((vacuumed, "Corrupt", "pages that SQLite moves by itself"))
+        yield path, "Corrupt", what
+    vacuumed = make(pathlib.Path(folder, "vacuumed"), filling(version, EVENT, 2), "PRAGMA auto_vacuum = 1")
+    yield vacuumed, "Corrupt", "pages that SQLite moves by itself"
+    yield linked(pathlib.Path(folder, "linked"), whole), "CannotOpen", "a file of two names"
+    yield with_journal(pathlib.Path(folder, "journal"), whole), "CannotOpen", "a rollback journal"
+
+
+def check_spoiled(tell, version, folder):
+    return [check_kept(tell, path, wanted, f"version {version}: {what}") for path, wanted, what in spoiled(version, folder)]
+
+
+def check_others(tell, folder):
+    """Whether the right thing is said of what never was a store, and a store is made if there is nothing."""
+    cases = [
+        (no_table(pathlib.Path(folder, "dropped")), "NotOurs", "a database without a table"),
+        (pathlib.Path(folder), "CannotOpen", "a folder"),
+        (pathlib.Path(folder, "no_folder", "absent"), "CannotOpen", "a path in no folder"),
+    ]
+    for what, contents in (
+        ("a text", b"no database\n" * 1000),
+        ("a short text", b"no database\n"),
+        ("a byte", b"S"),
+        ("zeros", bytes(4096)),
+        ("the header alone", b"SQLite format 3\0"),
+    ):
+        path = pathlib.Path(folder, what.replace(" ", "_"))
+        path.write_bytes(contents)
+        cases.append((path, "NotOurs", what))
+    kept = [check_kept(tell, *case) for case in cases]
     empty = pathlib.Path(folder, "empty")
     empty.write_bytes(b"")
-    kept = [check_kept(tell, *case) for case in cases]
-    made = [check_made(tell, empty, "an empty file"), check_made(tell, pathlib.Path(folder, "absent"), "an absent file")]
-    return kept + made
+    return kept + [check_made(tell, empty, "an empty file"), check_made(tell, pathlib.Path(folder, "absent"), "an absent file")]
 
 
-def check_logs(tell, folder):
+def with_log(path, version):
+    """A file whose log has all of its tables."""
+    make_store(path, filling(version, EVENT, 2))
+    return path
+
+
+def log_alone(path, version):
+    with_log(path, version).unlink()
+    return path
+
+
+def check_logs(tell, version, folder):
     """What is said of a file and its log, of the file without it, and of the log without the file, which is left alone."""
-    both, alone = with_log(pathlib.Path(folder, "both")), with_log(pathlib.Path(folder, "alone"))
+    both, alone = with_log(pathlib.Path(folder, "both"), version), with_log(pathlib.Path(folder, "alone"), version)
     pathlib.Path(f"{alone}-wal").unlink()
-    lost = log_alone(pathlib.Path(folder, "lost"))
+    lost = log_alone(pathlib.Path(folder, "lost"), version)
     before = pathlib.Path(f"{lost}-wal").read_bytes()
     refused = ends_so(tell, lost, "CannotOpen", "a log beside no file")
     same = pathlib.Path(f"{lost}-wal").read_bytes() == before and not lost.exists()
     if not same:
         print("a log beside no file: it was changed, or a file was made")
-    return [ends_so(tell, both, AN_EVENT, "a file and its log"), ends_so(tell, alone, "NotOurs", "a file without its log"), refused and same]
+    found = (check_migrated if version == FIRST else ends_so)(tell, both, AN_EVENT, f"version {version}: a file and its log")
+    return [found, ends_so(tell, alone, "NotOurs", "a file without its log"), refused and same]
 
 
 def lock(file):
@@ -259,9 +315,9 @@ def lock(file):
     fcntl.lockf(file, fcntl.LOCK_EX | fcntl.LOCK_NB, 512, 1 << 30)
 
 
-def check_busy(tell, folder):
+def check_busy(tell, version, folder):
     """What is said of a file that another program has open, and afterwards."""
-    path = make(pathlib.Path(folder, "busy"), EVENT, 1, 2)
+    path = make(pathlib.Path(folder, "busy"), filling(version, EVENT, 2))
     with open(path, "r+b") as file:
         lock(file)
         ends = [ends_so(tell, path, "Busy", "under a relay's lock")]
@@ -280,10 +336,10 @@ def backs_up(source, target):
     return subprocess.run([ROOT / "packaging" / "backup", source, target], capture_output=True, timeout=60).returncode
 
 
-def check_backup(tell, folder):
+def check_backup(tell, version, folder):
     """Whether a copy holds what the file and its log held, its owner alone may read it, and none is made over another file, of no file, or while the file is open."""
     source, copy, other = (pathlib.Path(folder, name) for name in ("source", "copy", "copy-2"))
-    with_log(source)
+    with_log(source, version)
     ends = [backs_up(source, copy) == 0 and ends_so(tell, copy, AN_EVENT, "a copy"), backs_up(source, copy) == 3]
     ends.append(all(os.stat(it).st_mode & 0o777 == 0o600 for it in (copy, f"{copy}-wal")))
     with open(source, "r+b") as file:
@@ -296,13 +352,36 @@ def check_backup(tell, folder):
     return ends
 
 
+def check_served(relayd, folder):
+    """Whether a relay that serves has migrated a store of version 1, whose rows are in its log or in FILE."""
+    ends = []
+    for is_in_log in (True, False):
+        path = f"{folder}/served-{is_in_log}"
+        make_store(path, filling(FIRST, DELIVERED, 3), is_in_log)
+        copy_store(path, f"{path}-before")
+        with relay_of(relayd, path) as relay:
+            totals = ask(relay.address, "GET", "/v1/status").json()
+        ends.append(totals["records"] == 3 and is_migrated(rows_in(f"{path}-before"), rows_in(path)))
+        if not ends[-1]:
+            print(f"served: {totals}, {rows_in(path)}")
+    return ends
+
+
+def in_a_folder(check, *words):
+    with tempfile.TemporaryDirectory() as folder:
+        return check(*words, folder)
+
+
 def main():
     relayd, bench = programs_of(__doc__, 2)
-    ends = []
+    ends = in_a_folder(check_served, relayd)
     for tell in (lambda path: checks(relayd, path), lambda path: opens(bench, path)):
-        with tempfile.TemporaryDirectory() as folder:
-            ends += check_all(tell, folder) + check_logs(tell, folder) + check_busy(tell, folder)
-            ends += check_backup(tell, folder)
+        ends += in_a_folder(check_others, tell)
+        for version in VERSIONS:
+            ends += in_a_folder(check_stores, tell, version)
+        for version in (FIRST, LATEST):
+            for check in (check_spoiled, check_logs, check_busy, check_backup):
+                ends += in_a_folder(check, tell, version)
     failed = len(ends) - sum(ends)
     print(f"{sum(ends)} passed, {failed} failed")
     return 1 if failed else 0

@@ -1,4 +1,4 @@
-"""Makes the files of crates/check_files/data anew.
+"""Makes the files of crates/check_files/data anew, but for those that a relay of version 1 left.
 
 The merge gate has `relayd check` report of them. It is no test: run it if the tables change, and
 compare the counts in crates/check_files/stdout.
@@ -6,14 +6,16 @@ Usage: scripts/store samples RELAYD
 """
 import contextlib
 import pathlib
-import shutil
 import sqlite3
 import tempfile
 
 from lib.command import ROOT, program_of
+from lib.rows import copy_store
 from lib.serving import Relay, Subscriber, ask, put, submit, wait_until
 
 DATA = ROOT / "crates" / "check_files" / "data"
+# What a relay of version 1 left, in its log and copied, and that with a damaged row.
+OF_FIRST = ("first-version", "first-version-wal", "first-version-copied", "first-version-damaged")
 # The smallest page of SQLite's.
 PAGE = 512
 RECORDS = 7
@@ -63,20 +65,23 @@ def small_copy(source, path, *statements):
 
 def main():
     relayd = program_of(__doc__)
-    shutil.rmtree(DATA, ignore_errors=True)
-    DATA.mkdir()
+    for file in DATA.iterdir():
+        if file.name not in OF_FIRST:
+            file.unlink()
     with tempfile.TemporaryDirectory() as folder:
         whole, copied = pathlib.Path(folder, "whole"), DATA / "sound-copied"
         make_sound(relayd, whole)
-        for end in ("", "-wal"):
-            shutil.copyfile(f"{whole}{end}", DATA / f"sound{end}")
-            shutil.copyfile(f"{whole}{end}", f"{folder}/copied{end}")
+        for copy in (DATA / "sound", f"{folder}/copied"):
+            copy_store(whole, copy)
         (DATA / "log-alone-wal").write_bytes((DATA / "sound-wal").read_bytes()[:LOG])
         copy_log(f"{folder}/copied")
         small_copy(f"{folder}/copied", copied)
     # Nothing follows a status of 200, which the attempt at the first event got.
     small_copy(copied, DATA / "damaged-row", "UPDATE meta SET records = 8", "INSERT INTO attempts VALUES(7, 3, 2, 500, 2000000000)")
-    small_copy(copied, DATA / "later-version", "UPDATE meta SET version = 2")
+    small_copy(copied, DATA / "later-version", "UPDATE meta SET version = 3")
+    # No endpoint has this number.
+    small_copy(copied, DATA / "later-version-damaged", "UPDATE meta SET version = 3", "UPDATE deliveries SET endpoint = 2")
+    small_copy(DATA / "first-version-copied", DATA / "first-version-taken", "CREATE TABLE topics(topic TEXT)")
     data = bytearray(copied.read_bytes())
     data[PAGE : 2 * PAGE] = (b"overwritten\n" * PAGE)[:PAGE]
     (DATA / "damaged-page").write_bytes(data)

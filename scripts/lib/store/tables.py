@@ -29,11 +29,12 @@ REQUESTS = [
 
 # What each table holds after these seven records. The clock never goes back, so the last event is taken in at 1001.
 REPLAYED = {
-    "meta": [(1, "webhook-relay", 1, 7)],
+    "meta": [(1, "webhook-relay", 2, 7)],
     "endpoints": [(0, "a", URL, 100, 0, 6, 0), (2, "b-2", "HTTP://h", 1000, 1, 2, 5)],
     "secrets": [(0, 0, NEW), (0, 1, OLD), (2, 0, NEW)],
     "deliveries": [(1, 0, "msg_1", 1000, b"{}"), (3, 2, "msg_1", 1001, b""), (4, 0, "msg_2", 1001, b"\x00\xff")],
     "attempts": [],
+    "topics": [],
 }
 
 
@@ -49,11 +50,12 @@ EACH_REQUEST = [
     f"secrets a whsec_{base64.b64encode(OLD).decode()},whsec_{base64.b64encode(NEW).decode()}",
 ]
 EACH_RECORD = {
-    "meta": [(1, "webhook-relay", 1, 7)],
+    "meta": [(1, "webhook-relay", 2, 7)],
     "endpoints": [(0, "a", URL, 100, 1, 4, 6)],
     "secrets": [(0, 0, OLD), (0, 1, NEW)],
     "deliveries": [(1, 0, "msg_1", 1000, b"{{")],
     "attempts": [(2, 1, 1, 500, 1001), (3, 1, 2, 410, 1006), (5, 1, 3, 500, 1007)],
+    "topics": [],
 }
 
 

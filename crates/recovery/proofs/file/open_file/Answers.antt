@@ -19,7 +19,8 @@ returns-in-Err-clause-refused g c = inr (
       let before = c.in-Err.ensures.clean clean in
       let opened = c.in_ok-conn.ensures.opened before in
       file_refused (image_at g.T.Start) (file_state c.in_ok-conn.conn) (file_state c.in-Err._back) c.in-Err.fault c.args.is_new opened.1 opened.0 (c.in_ok-conn.ensures.finds before)
-      (c.in-Err.ensures.refused clean) (c.in-Err.ensures.sound clean) (λ new none. (c.in-Err.ensures.made new none).0),
+      (c.in-Err.ensures.refused clean) (c.in-Err.ensures.sound clean) (c.in-Err.ensures.first clean)
+      (λ new none. (c.in-Err.ensures.made new none).0),
 )
 
 pub returns-in_err-conn-clause-refused : goal.returns-in_err-conn-clause-refused

@@ -2,6 +2,7 @@ use Rattle.std.proofs.Common.{subst}
 use Rattle.sqlite.specs.Effect.{Database}
 use Rattle.sqlite.specs.Held.{state}
 use Rattle.sound_tables.specs.Checks.{TellsEvents}
+use Rattle.spool_sql.specs.Tables.{IsOwn}
 use Rattle.sound_tables.proofs.LookLemmas.{clean_early, same_now, schema_still}
 use Rattle.sound_tables.proofs.stored.read_stored.Goals as goal
 
@@ -12,6 +13,6 @@ returns-clause-found g c clean has =
     let b = c.read_event_tables.new.conn in
     let first = c.in_ok-endpoints.ensures in
     let later = c.in_ok-deliveries.ensures in
-    let still = schema_still g.S.Store a m b first.looks first.same later.looks clean has in
+    let still = schema_still g.S.Store a m b first.looks first.same later.looks IsOwn clean has in
     c.all_of.ensures (state g.S.Store a).now (first.found (clean_early g.S.Store a m b first.looks first.same later.looks clean) has)
     (subst (λ (db : Database). TellsEvents db c.in_ok-deliveries.deliveries c.in_ok-deliveries.attempts) (same_now g.S.Store a m b first.looks first.same later.looks clean) (later.found clean still))

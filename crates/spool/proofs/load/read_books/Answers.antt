@@ -2,7 +2,7 @@ use Rattle.std.proofs.Common.{◌≡◌, IfErr, rules, subst}
 use Rattle.sqlite.specs.State.{HasCleanDisk}
 use Rattle.sqlite.specs.Held.{state}
 use Rattle.sqlite.proofs.Callers.{survives_begin}
-use Rattle.spool.specs.Loading.{IsReadRefusal}
+use Rattle.spool.specs.Loading.{WasReadRefusal}
 use Rattle.spool.proofs.BookLoads.{read_until}
 use Rattle.spool.proofs.load.read_books.Goals as goal
 
@@ -12,7 +12,7 @@ returns-clause-refused g c clean =
     let begun = c.transaction-tx.ensures.begun in
     let same : c.drop-tx.new.self.0 ≡ c.conn-1.given.0 = search rules in
     let late : HasCleanDisk (state g.S.Store c.drop-tx.new.self.0) = rw same clean in
-    subst (λ h. IfErr c.read_tables.result (IsReadRefusal a (state g.S.Store h) (λ _. Unit {0}))) same
+    subst (λ h. IfErr c.read_tables.result (WasReadRefusal a (state g.S.Store h))) same
     (read_until a (state g.S.Store c.read_tables.new.tx.conn.now) (state g.S.Store c.drop-tx.new.self.0)
     (survives_begin g.S.Store c.args.conn.now _ _ (rw begun at c.read_tables.ensures.spares.survives))
     c.drop-tx.ensures.survives late c.read_tables.result

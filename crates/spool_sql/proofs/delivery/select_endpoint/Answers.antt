@@ -5,7 +5,6 @@ use Rattle.spool_sql.specs.Stored.{IsTables}
 use Rattle.spool_sql.specs.Readable.{AreReadable, IsRefusal}
 use Rattle.spool_sql.proofs.ReadableLemmas.{handed_on, err_then}
 use Rattle.spool_sql.proofs.Refusals.{endpoint_of_refused}
-use Rattle.spool_sql.specs.Tables.{relay_schema}
 use Rattle.spool_sql.proofs.BareLemmas.{unchanged_by, spares_found, spares_failed}
 use Rattle.spool_sql.proofs.DeliverySelects.{shows_endpoint, endpoint_select, endpoint_select_asks, endpoint_select_bare, tells_endpoint}
 use Rattle.spool_sql.proofs.StepLemmas.{ok_then, ok_always}
@@ -18,7 +17,9 @@ returns-clause-unchanged g c clean =
 pub returns-clause-found : goal.returns-clause-found
 returns-clause-found g c clean =
     ok_then c.first_seq.result _ _ c.first_seq.ensures.value (λ put is rows t.
-    tells_endpoint relay_schema 1 (state g.S.Store c.args.tx.now.conn.now) (state g.S.Store c.query_all.new.self.conn.now) c.in_ok-rows.rows.items rows t c.args.delivery endpoint_select_asks (rw c.value.ensures.value at (c.in_ok-rows.ensures.ok clean)) put (rw c.deref.ensures.value at is))
+    tells_endpoint (state g.S.Store c.args.tx.now.conn.now) (state g.S.Store c.query_all.new.self.conn.now)
+    c.in_ok-rows.rows.items rows t c.args.delivery endpoint_select_asks
+    (rw c.value.ensures.value at (c.in_ok-rows.ensures.ok clean)) put (rw c.deref.ensures.value at is))
 
 pub returns-clause-spares : goal.returns-clause-spares
 returns-clause-spares g c =
@@ -40,4 +41,6 @@ returns-clause-refused g c clean =
     let a = state g.S.Store c.args.tx.now.conn.now in
     let b = state g.S.Store c.query_all.new.self.conn.now in
     err_then c.first_seq.result _ (λ e. (rows : Rows) → IsTables a.now rows → AreReadable rows → IsRefusal a b e) c.first_seq.ensures.refused
-    (λ e memory rows t readable. inl (memory (rw c.deref.ensures.value (shows_endpoint relay_schema 1 a b _ rows t c.args.delivery endpoint_select_asks (rw c.value.ensures.value at (c.in_ok-rows.ensures.ok clean)) readable.deliveries))))
+    (λ e memory rows t readable. inl (memory (rw c.deref.ensures.value
+    (shows_endpoint a b _ rows t c.args.delivery endpoint_select_asks
+    (rw c.value.ensures.value at (c.in_ok-rows.ensures.ok clean)) readable.deliveries))))

@@ -5,7 +5,6 @@ use Rattle.spool_sql.specs.Stored.{IsTables}
 use Rattle.spool_sql.specs.Readable.{AreReadable, IsRefusal}
 use Rattle.spool_sql.proofs.ReadableLemmas.{handed_on, err_then}
 use Rattle.spool_sql.proofs.Refusals.{statuses_refused}
-use Rattle.spool_sql.specs.Tables.{relay_schema}
 use Rattle.spool_sql.specs.Stored.{AreStatusesOf, number_of}
 use Rattle.spool_sql.proofs.BareLemmas.{unchanged_by, spares_found, spares_failed}
 use Rattle.spool_sql.proofs.DeliverySelects.{shows_statuses, statuses_select, statuses_select_asks, statuses_select_bare, tells_statuses}
@@ -19,7 +18,10 @@ returns-clause-unchanged g c clean =
 pub returns-clause-found : goal.returns-clause-found
 returns-clause-found g c clean =
     ok_then c.read_statuses.result _ _ c.read_statuses.ensures.value (λ found is rows t.
-    subst (AreStatusesOf c.args.delivery rows) (sym (is ∙ ap (map number_of) c.deref.ensures.value)) (tells_statuses relay_schema 1 (state g.S.Store c.args.tx.now.conn.now) (state g.S.Store c.query_all.new.self.conn.now) c.in_ok-rows.rows.items rows t c.args.delivery statuses_select_asks (rw c.value.ensures.value at (c.in_ok-rows.ensures.ok clean))))
+    subst (AreStatusesOf c.args.delivery rows) (sym (is ∙ ap (map number_of) c.deref.ensures.value))
+    (tells_statuses (state g.S.Store c.args.tx.now.conn.now) (state g.S.Store c.query_all.new.self.conn.now)
+    c.in_ok-rows.rows.items rows t c.args.delivery statuses_select_asks
+    (rw c.value.ensures.value at (c.in_ok-rows.ensures.ok clean))))
 
 pub returns-clause-spares : goal.returns-clause-spares
 returns-clause-spares g c =
@@ -41,4 +43,6 @@ returns-clause-refused g c clean =
     let a = state g.S.Store c.args.tx.now.conn.now in
     let b = state g.S.Store c.query_all.new.self.conn.now in
     err_then c.read_statuses.result _ (λ e. (rows : Rows) → IsTables a.now rows → AreReadable rows → IsRefusal a b e) c.read_statuses.ensures.refused
-    (λ e memory rows t readable. inl (memory (rw c.deref.ensures.value (shows_statuses relay_schema 1 a b _ rows t c.args.delivery statuses_select_asks (rw c.value.ensures.value at (c.in_ok-rows.ensures.ok clean)) readable.attempts))))
+    (λ e memory rows t readable. inl (memory (rw c.deref.ensures.value
+    (shows_statuses a b _ rows t c.args.delivery statuses_select_asks
+    (rw c.value.ensures.value at (c.in_ok-rows.ensures.ok clean)) readable.attempts))))

@@ -5,7 +5,6 @@ use Rattle.spool_sql.specs.Stored.{IsTables}
 use Rattle.spool_sql.specs.Readable.{AreReadable, IsRefusal}
 use Rattle.spool_sql.proofs.ReadableLemmas.{handed_on}
 use Rattle.spool_sql.proofs.Refusals.{count_refused}
-use Rattle.spool_sql.specs.Tables.{relay_schema}
 use Rattle.spool_sql.proofs.BareLemmas.{unchanged_by, spares_found, spares_failed}
 use Rattle.spool_sql.proofs.SelectLemmas.{endpoints_select, endpoints_select_asks, endpoints_select_bare, counts_endpoints}
 use Rattle.spool_sql.proofs.find.count_endpoints.Goals as goal
@@ -17,7 +16,9 @@ returns-clause-unchanged g c clean =
 pub returns-clause-counted : goal.returns-clause-counted
 returns-clause-counted g c clean rows t =
     let many : vec_len c.in_ok-rows.rows ≡ length c.in_ok-rows.rows.items = omega (arith, c.in_ok-rows.rows.ok.0) in
-    c.len.ensures ∙ many ∙ counts_endpoints relay_schema 1 (state g.S.Store c.args.tx.now.conn.now) (state g.S.Store c.query_all.new.self.conn.now) c.in_ok-rows.rows.items rows t endpoints_select_asks (c.in_ok-rows.ensures.ok clean)
+    c.len.ensures ∙ many ∙ counts_endpoints (state g.S.Store c.args.tx.now.conn.now)
+    (state g.S.Store c.query_all.new.self.conn.now) c.in_ok-rows.rows.items rows t endpoints_select_asks
+    (c.in_ok-rows.ensures.ok clean)
 
 pub returns-clause-spares : goal.returns-clause-spares
 returns-clause-spares g c =

@@ -5,7 +5,6 @@ use Rattle.spool_sql.specs.Stored.{IsTables}
 use Rattle.spool_sql.specs.Readable.{AreReadable, IsRefusal}
 use Rattle.spool_sql.proofs.ReadableLemmas.{handed_on}
 use Rattle.spool_sql.proofs.Refusals.{has_refused}
-use Rattle.spool_sql.specs.Tables.{relay_schema}
 use Rattle.spool_sql.proofs.BareLemmas.{unchanged_by, spares_found, spares_failed}
 use Rattle.spool_sql.proofs.SelectLemmas.{delivery_select, delivery_select_asks, delivery_select_bare, tells_delivery}
 use Rattle.spool_sql.proofs.find.has_delivery.Goals as goal
@@ -18,7 +17,9 @@ pub returns-clause-found : goal.returns-clause-found
 returns-clause-found g c clean rows t =
     let shown = rw (c.value.ensures.value, c.as_bytes.ensures.text) at (c.in_ok-rows.ensures.ok clean) in
     let many : vec_len c.in_ok-rows.rows ≡ length c.in_ok-rows.rows.items = omega (arith, c.in_ok-rows.rows.ok.0) in
-    ap not c.is_empty.ensures ∙ ap (λ n. not (n == 0)) many ∙ tells_delivery relay_schema 1 (state g.S.Store c.args.tx.now.conn.now) (state g.S.Store c.query_all.new.self.conn.now) c.in_ok-rows.rows.items rows t delivery_select_asks c.args.endpoint c.args.id.now shown
+    ap not c.is_empty.ensures ∙ ap (λ n. not (n == 0)) many ∙ tells_delivery (state g.S.Store c.args.tx.now.conn.now)
+    (state g.S.Store c.query_all.new.self.conn.now) c.in_ok-rows.rows.items rows t delivery_select_asks
+    c.args.endpoint c.args.id.now shown
 
 pub returns-clause-spares : goal.returns-clause-spares
 returns-clause-spares g c =

@@ -1,3 +1,7 @@
+use Rattle.std.proofs.Common.{pos, [], ◌∷◌, codes, Err}
+use Rattle.sqlite.specs.declared.types.Value.TheVariants.{Int}
+use Rattle.sqlite.specs.State.{ExecutesInside}
+use Rattle.spool_sql.proofs.ReadableLemmas.{handed_on}
 use Rattle.sqlite.specs.Held.{state}
 use Rattle.spool_sql.proofs.Inserts.{makes_attempt}
 use Rattle.spool_sql.proofs.write.insert_attempt.Goals as goal
@@ -8,3 +12,22 @@ returns-clause-done g c clean inside =
     let new = state g.S.Store c.execute.new.self.conn.now in
     let ran = rw (c.value.ensures.value, c.value-2.ensures.value, c.int.ensures, c.int-2.ensures, c.from.ensures, c.int-3.ensures, c.seconds.ensures.number) at (c.in_ok-execute.ensures.runs clean inside) in
     record { on = ran.1; makes = makes_attempt old new (record { seq = c.args.seq; delivery = c.args.delivery; number = c.args.number; status = c.args.status; at = c.args.at }) c.in_ok-execute.field-0 ran.0 }
+
+pub returns-in_err-execute-clause-refused : goal.returns-in_err-execute-clause-refused
+returns-in_err-execute-clause-refused g c clean inside =
+    let old = state g.S.Store c.args.tx.now.conn.now in
+    let new = state g.S.Store c.execute.new.self.conn.now in
+    handed_on c.from_residual.result c.in_err-execute.field-0.0
+    (λ e. ExecutesInside 0 (codes "INSERT INTO attempts VALUES(?1, ?2, ?3, ?4, ?5)")
+    (Int (pos c.args.seq) ∷ Int (pos c.args.delivery) ∷ Int (pos c.args.number) ∷ Int (pos c.args.status)
+    ∷ Int (pos c.args.at) ∷ []) old new (Err e))
+    c.from_residual.ensures.1
+    (rw (
+      c.value.ensures.value,
+      c.value-2.ensures.value,
+      c.int.ensures,
+      c.int-2.ensures,
+      c.from.ensures,
+      c.int-3.ensures,
+      c.seconds.ensures.number,
+    ) at (c.in_err-execute.ensures.runs clean inside))

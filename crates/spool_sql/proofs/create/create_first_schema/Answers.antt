@@ -2,10 +2,10 @@ use Rattle.std.proofs.Common.{subst, arith}
 use Rattle.sqlite.specs.State.{HasCleanDisk}
 use Rattle.sqlite.specs.Held.{state}
 use Rattle.spool_sql.specs.Steps.{Grows}
-use Rattle.spool_sql.specs.Tables.{schema_1, schema_2, schema_3, schema_4, no_schema, relay_schema}
-use Rattle.spool_sql.proofs.CreateLemmas.{makes_relay}
+use Rattle.spool_sql.specs.Tables.{schema_1, schema_2, schema_3, schema_4, no_schema, first_schema}
+use Rattle.spool_sql.proofs.CreateLemmas.{makes_first}
 use Rattle.spool_sql.proofs.StepLemmas.{grows_then, on_ok, spares_then}
-use Rattle.spool_sql.proofs.create.create_schema.Goals as goal
+use Rattle.spool_sql.proofs.create.create_first_schema.Goals as goal
 
 pub returns-clause-done : goal.returns-clause-done
 returns-clause-done g c clean inside =
@@ -24,7 +24,8 @@ returns-clause-done g c clean inside =
     let three = grows_then no_schema schema_2 schema_3 s0 s2 s3 two (c.in_ok-create_secrets.ensures.done c3 two.on.mode) in
     let four = grows_then no_schema schema_3 schema_4 s0 s3 s4 three (c.in_ok-create_deliveries.ensures.done c4 three.on.mode) in
     on_ok c.create_attempts.result _ _ (c.create_attempts.ensures.done clean four.on.mode)
-    (λ five. grows_then no_schema schema_4 relay_schema s0 s4 s5 four (subst (λ s. Grows schema_4 s s4 s5) makes_relay five))
+    (λ five. grows_then no_schema schema_4 first_schema s0 s4 s5 four
+    (subst (λ s. Grows schema_4 s s4 s5) makes_first five))
 
 pub returns-clause-spares : goal.returns-clause-spares
 returns-clause-spares g c =
