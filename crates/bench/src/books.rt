@@ -9,8 +9,8 @@ const ENDPOINTS: u64 = 100;
 
 const MAX_WAITING: u64 = 256;
 
-/// Prints how many events a book of as many has pending, and how many attempts the last one had, where each is to have an outcome.
-/// Whether there is such a number.
+/// Prints how many events a book of as many has pending, and how many attempts the last one had,
+/// where each is to have an outcome. Whether there is such a number.
 pub(crate) fn print_book(
     rt: &HostRuntime,
     count: Option<u64>,

@@ -233,7 +233,8 @@ fn fill<L: Ledger, S: Alter>(
     Ok(())
 }
 
-// Puts the endpoints, and the events that are to be posted, and gives how many events the threads are to see, and the moment.
+// Puts the endpoints, and the events that are to be posted, and gives how many events the threads
+// are to see, and the moment.
 fn prepare<L: Ledger, S: Alter>(
     alloc: Global,
     desk: &mut Desk<L>,
@@ -303,8 +304,9 @@ fn shown<L: Ledger, I: LogId, R: Clock>(
     }
 }
 
-/// Runs the threads over 100 endpoints: submitters of events with a body of 1,024 bytes each, which nobody posts; workers that post pending
-/// events, each answered at once; or workers that have nothing to post.
+/// Runs the threads over 100 endpoints: submitters of events with a body of 1,024 bytes each, which
+/// nobody posts; workers that post pending events, each answered at once; or workers that have
+/// nothing to post.
 pub(crate) fn run_threads<
     L: Ledger + Send + Sync,
     S: Alter + Drop,

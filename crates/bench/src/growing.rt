@@ -1,5 +1,6 @@
-//! Calls that take memory, for `scripts/memory calls`, which has the table of what each must tell. A call is made twice, each time at a
-//! byte of standard input, so that the script knows which requests for memory are the call's own.
+//! Calls that take memory, for `scripts/memory calls`, which has the table of what each must tell.
+//! A call is made twice, each time at a byte of standard input, so that the script knows which
+//! requests for memory are the call's own.
 use crate::growing_books::{BookCall, print_book_calls};
 use crate::growing_desks::{DeskCall, print_desk_calls};
 use crate::growing_stores::{StoreCall, print_path_calls, print_store_calls};

@@ -17,7 +17,8 @@ struct Told {
     due: u64,
 }
 
-/// Loads a store that stands twice, and prints what each load tells: its fault, or what the books have. Whether the store was opened.
+/// Loads a store that stands twice, and prints what each load tells: its fault, or what the books
+/// have. Whether the store was opened.
 pub(crate) fn print_loads<S: Alter + Drop>(
     rt: &HostRuntime,
     conn: Connection<S>,

@@ -1,5 +1,6 @@
-//! Runs of the relay's layers that `scripts/bench core` measures, and over files and requests for the scripts that look at them. Without words
-//! it lists them. Each run opens what it works on in one function, lends it to others, and prints once at its end.
+//! Runs of the relay's layers that `scripts/bench core` measures, and over files and requests for
+//! the scripts that look at them. Without words it lists them. Each run opens what it works on in
+//! one function, lends it to others, and prints once at its end.
 #![tactic(auto)]
 
 mod asking;

@@ -28,7 +28,8 @@ pub(crate) fn print_opening(rt: &HostRuntime, path: &str) -> io::Result<bool> {
     }
 }
 
-/// What the file at the path holds. A ledger can't be picked at a call that hands a `&str` on, so the path is taken whole.
+/// What the file at the path holds. A ledger can't be picked at a call that hands a `&str` on, so
+/// the path is taken whole.
 pub(crate) fn opened_file<L: Ledger, T: Start>(
     rt: &HostRuntime,
     blank: Blank,

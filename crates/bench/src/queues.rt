@@ -226,7 +226,8 @@ fn change(
     true
 }
 
-/// Prints how many nanoseconds each call takes where so many deliveries of so many endpoints are held. Whether there are such numbers.
+/// Prints how many nanoseconds each call takes where so many deliveries of so many endpoints are
+/// held. Whether there are such numbers.
 pub(crate) fn print_calls(rt: &HostRuntime, count: u32, endpoints: u32) -> io::Result<bool> {
     if endpoints == 0 || endpoints > 256 {
         return Ok(false);

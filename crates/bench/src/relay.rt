@@ -6,8 +6,8 @@
 //!     turn                                 what waits is sealed, committed and settled
 //!     halt                                 nothing is taken any more
 //!
-//! The reply to `ask` is a status, ` retry` where `Retry-After` goes with it, and the body; of a change or an event that the desk
-//! took it is `staged SEQ`, with the event's id.
+//! The reply to `ask` is a status, ` retry` where `Retry-After` goes with it, and the body; of a
+//! change or an event that the desk took it is `staged SEQ`, with the event's id.
 ghost use Rattle.std.specs.Prelude.{◌≡◌};
 ghost use Rattle.permits.specs.declared.pool.TheConstants.{PARTS};
 

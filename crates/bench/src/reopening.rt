@@ -14,7 +14,8 @@ use std::marker::Brand;
 use std::sync::ledger::{Blank, Ledger};
 use std::time::{Duration, Instant};
 
-/// How long after the beginning each part had ended: the file's opening, the look at its tables, the books, and the desk.
+/// How long after the beginning each part had ended: the file's opening, the look at its tables,
+/// the books, and the desk.
 #[derive(Clone, Copy)]
 struct Ends {
     opened: Duration,
@@ -23,8 +24,8 @@ struct Ends {
     seated: Duration,
 }
 
-/// Reopens the store that stands, and prints how many microseconds each part took, with the opening of its file, and what the store
-/// holds. Whether it was reopened.
+/// Reopens the store that stands, and prints how many microseconds each part took, with the opening
+/// of its file, and what the store holds. Whether it was reopened.
 pub(crate) fn print_parts<S: Alter + Drop>(
     rt: &HostRuntime,
     began: Instant,

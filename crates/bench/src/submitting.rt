@@ -46,8 +46,8 @@ pub(crate) fn submit_plan(events: u32) -> Plan {
     }
 }
 
-/// As many submissions to so many endpoints. Once all are pending, every second endpoint is disabled, and half as many are posted to
-/// the others.
+/// As many submissions to so many endpoints. Once all are pending, every second endpoint is
+/// disabled, and half as many are posted to the others.
 pub(crate) fn post_plan(events: u32, endpoints: u32) -> Plan {
     Plan {
         endpoints,
@@ -59,8 +59,8 @@ pub(crate) fn post_plan(events: u32, endpoints: u32) -> Plan {
     }
 }
 
-/// Submits and posts events over a store that is to have no table, and prints how many records are settled, and how many
-/// microseconds each part took. Whether that went well.
+/// Submits and posts events over a store that is to have no table, and prints how many records are
+/// settled, and how many microseconds each part took. Whether that went well.
 pub(crate) fn print_submitting<S: Alter + Drop>(
     rt: &HostRuntime,
     began: Instant,

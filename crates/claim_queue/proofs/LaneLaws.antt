@@ -100,12 +100,16 @@ apart_added lanes new h none =
 
 -- What is held
 
-own_pairs : (endpoint : List ℕ) (turns : List Turn) (pair : Pair) → list_any (same_pair pair) (map (pair_at endpoint) turns) ≡ (list_any (same_turn (turn_of pair)) turns && bytes_eq endpoint pair.endpoint)
+own_pairs : (endpoint : List ℕ) (turns : List Turn) (pair : Pair)
+    → list_any (same_pair pair) (map (pair_at endpoint) turns)
+    ≡ (list_any (same_turn (turn_of pair)) turns && bytes_eq endpoint pair.endpoint)
 own_pairs endpoint [] pair = refl
 own_pairs endpoint (t ∷ ts) pair = grind (arith, own_pairs endpoint ts pair)
 
 -- what is held of an endpoint is what its lane holds
-pub held_is : (lanes : List Lane) → AreApart (names_of lanes) → (pair : Pair) → list_any (same_pair pair) (flat_map pairs_of lanes) ≡ option_map_or (λ lane. has_turn lane (turn_of pair)) (lane_in lanes pair.endpoint) false
+pub held_is : (lanes : List Lane) → AreApart (names_of lanes) → (pair : Pair)
+    → list_any (same_pair pair) (flat_map pairs_of lanes) ≡ option_map_or (λ lane. has_turn lane (turn_of pair))
+    (lane_in lanes pair.endpoint) false
 held_is [] h pair = refl
 held_is (l ∷ ls) h pair = grind (arith, list_any-append, own_pairs, bytes_decides, none_named, held_is ls h.1 pair)
 
@@ -141,6 +145,8 @@ none_has (l ∷ ls) seq h =
     own false e = refl
 
 -- a lane has no delivery of a number that none has
-pub none_in : (lanes : List Lane) (i : ℕ) (held : Lane) (seq : ℕ) → list_any (λ lane. list_any (is_turn_numbered seq) lane.turns.items) lanes ≡ false → held ≡ slice_index_or lanes i held → i < length lanes
+pub none_in : (lanes : List Lane) (i : ℕ) (held : Lane) (seq : ℕ)
+    → list_any (λ lane. list_any (is_turn_numbered seq) lane.turns.items) lanes ≡ false
+    → held ≡ slice_index_or lanes i held → i < length lanes
     → list_any (is_turn_numbered seq) held.turns.items ≡ false
 none_in lanes i held seq none is within = grind (arith, false_from_ne_true, both_ways, list_any_at)

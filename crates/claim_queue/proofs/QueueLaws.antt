@@ -1,5 +1,7 @@
 -- The queue after a change of one lane, and which pair is next.
-use Rattle.std.proofs.Common.{◌≡◌, ℕ, zero, suc, ◌+◌, ◌<◌, ◌≤◌, Bool, true, false, not, ◌&&◌, ◌||◌, List, [], ◌∷◌, ◌++◌, length, map, Option, Some, None, refl, sym, ◌∙◌, ap, subst, arith, IsTrue, slice_index_or, slice_set}
+use Rattle.std.proofs.Common.{◌≡◌, ℕ, zero, suc, ◌+◌, ◌<◌, ◌≤◌, Bool, true, false, not, ◌&&◌, ◌||◌, List, [], ◌∷◌, ◌++◌}
+use Rattle.std.proofs.Common.{length, map, Option, Some, None, refl, sym, ◌∙◌, ap, subst, arith, IsTrue, slice_index_or}
+use Rattle.std.proofs.Common.{slice_set}
 use Rattle.std.specs.Prelude.{IfSome, is_some, position, bytes_eq, nat_eq, nat_le, option_map, slice_get, sum_by, if◌then◌else◌}
 use Rattle.std.specs.List.{list_any}
 use Rattle.std.specs.Option.{option_map_or}
@@ -13,7 +15,9 @@ use Rattle.claim_queue.specs.declared.marks.Mark.{Mark}
 use Rattle.claim_queue.specs.declared.pairs.Pair.{Pair}
 use Rattle.claim_queue.specs.declared.pairs.Turn.{Turn}
 use Rattle.claim_queue.specs.Queues.{IsNext, IsNoLater, NothingIsReady, Sets, free_in, has_room_in, is_held, is_ready, is_ready_by, mark_for, mark_in, pair_of, same_pair}
-use Rattle.claim_queue.specs.Lanes.{AreApart, AreInOrder, IsInOrder, IsQueue, IsSound, Renews, absent, comes_before, first_of, has_turn, is_of, is_the, lane_in, names_of, pair_at, pairs_of, queue_of, same_turn, turn_of}
+use Rattle.claim_queue.specs.Lanes.{AreApart, AreInOrder, IsInOrder, IsQueue, IsSound, Renews, absent, comes_before}
+use Rattle.claim_queue.specs.Lanes.{first_of, has_turn, is_of, is_the, lane_in, names_of, pair_at, pairs_of, queue_of}
+use Rattle.claim_queue.specs.Lanes.{same_turn, turn_of}
 use Rattle.claim_queue.proofs.OrderLaws.{IsNotBefore, from_not_before, not_before, one_way}
 use Rattle.claim_queue.proofs.TurnLaws.{is_same_turn, same_turn_itself}
 use Rattle.claim_queue.proofs.FirstLaws.{is_same, same_itself, stays}
@@ -57,7 +61,8 @@ first_held lanes firsts len capacity endpoint lane q at (Some pair) is =
 
 -- of the pairs of an endpoint none but its lane's first one is among the first ones
 pub own_held : (lanes : List Lane) (firsts : List Pair) (len capacity : ℕ) (endpoint : List ℕ) (lane new : Lane) → IsQueue lanes firsts len capacity → lane_in lanes endpoint ≡ Some lane
-    → new.mark.endpoint ≡ lane.mark.endpoint → (before after : Option Pair) → before ≡ first_of lane → after ≡ first_of new → IfSome after (λ pair. list_any (same_pair pair) firsts ≡ is_the before pair)
+    → new.mark.endpoint ≡ lane.mark.endpoint → (before after : Option Pair) → before ≡ first_of lane
+    → after ≡ first_of new → IfSome after (λ pair. list_any (same_pair pair) firsts ≡ is_the before pair)
 own_held lanes firsts len capacity endpoint lane new q at keeps before None b a = tt
 own_held lanes firsts len capacity endpoint lane new q at keeps before (Some pair) b a =
     let name : endpoint ≡ pair.endpoint = sym (lane_named lanes endpoint lane at) ∙ sym keeps ∙ (the_first new pair (ap (λ o. is_the o pair) (sym a) ∙ same_itself pair)).0 in
@@ -202,7 +207,8 @@ now_held lanes endpoint i held new turn op apart at is keeps none turns pair =
     without true false = refl
     without false d = refl
 
-    pick : (b : Bool) → bytes_eq endpoint pair.endpoint ≡ b → has (if b then Some new else lane_in lanes pair.endpoint) ≡ op (has (lane_in lanes pair.endpoint)) (same_pair pair (pair_of endpoint turn.due turn.seq))
+    pick : (b : Bool) → bytes_eq endpoint pair.endpoint ≡ b → has (if b then Some new else lane_in lanes pair.endpoint)
+        ≡ op (has (lane_in lanes pair.endpoint)) (same_pair pair (pair_of endpoint turn.due turn.seq))
     pick true same =
         turns (turn_of pair)
         ∙ ap (λ o. op (has o) (same_turn (turn_of pair) turn)) (sym (ap (lane_in lanes) (sym ((bytes_decides endpoint pair.endpoint).0 same)) ∙ own.0))
@@ -213,7 +219,9 @@ now_held lanes endpoint i held new turn op apart at is keeps none turns pair =
         ∙ without (nat_eq turn.seq pair.seq) (nat_eq turn.due pair.due)) ∙ none (has (lane_in lanes pair.endpoint)))
 
 -- what is kept of each endpoint then
-pub now_marked : (lanes : List Lane) (endpoint : List ℕ) (i : ℕ) (held new : Lane) → Some i ≡ position (is_of endpoint) lanes → held ≡ slice_index_or lanes i held → new.mark.endpoint ≡ held.mark.endpoint
+pub now_marked : (lanes : List Lane) (endpoint : List ℕ) (i : ℕ) (held new : Lane)
+    → Some i ≡ position (is_of endpoint) lanes → held ≡ slice_index_or lanes i held → new.mark.endpoint
+    ≡ held.mark.endpoint
     → (other : List ℕ) → mark_in (map (λ lane. lane.mark) (slice_set lanes i new)) other ≡ (if bytes_eq endpoint other then Some new.mark else mark_in (map (λ lane. lane.mark) lanes) other)
 now_marked lanes endpoint i held new at is keeps other = grind (arith, marked (slice_set lanes i new) other, set_at lanes endpoint i held new at is keeps other, marked lanes other)
 
@@ -243,20 +251,23 @@ none_earlier (t ∷ ts) turn order h = at (Any-from_list_any (same_turn turn) (t
     itself : (a : Turn) → comes_before a a ≡ false
     itself a = from_not_before a a (record { due = omega arith; tie = λ same. omega arith })
 
-    at : (k : ℕ) × (x : Turn) × (k < length (t ∷ ts)) × (slice_index_or (t ∷ ts) k x ≡ x) × (same_turn turn x ≡ true) → (first : Turn) × (slice_get (t ∷ ts) 0 ≡ Some first) × (comes_before turn first ≡ false)
+    at : (k : ℕ) × (x : Turn) × (k < length (t ∷ ts)) × (slice_index_or (t ∷ ts) k x ≡ x) × (same_turn turn x ≡ true)
+        → (first : Turn) × (slice_get (t ∷ ts) 0 ≡ Some first) × (comes_before turn first ≡ false)
     at (zero, x, within, is, same) = (t, refl, subst (λ a. comes_before a t ≡ false) (is ∙ is_same_turn turn x same) (itself t))
     at (suc k, x, within, is, same) =
         (t, refl, subst (λ a. comes_before a t ≡ false) (is ∙ is_same_turn turn x same) (one_way t (slice_index_or (t ∷ ts) (suc k) x) (order 0 (suc k) x (omega arith) within)))
 
 -- of the first pairs none comes before the first
-none_before : (pairs : List Pair) (pair : Pair) → AreInOrder pairs → list_any (same_pair pair) pairs ≡ true → (first : Pair) × (slice_get pairs 0 ≡ Some first) × (comes_before (turn_of pair) (turn_of first) ≡ false)
+none_before : (pairs : List Pair) (pair : Pair) → AreInOrder pairs → list_any (same_pair pair) pairs ≡ true
+    → (first : Pair) × (slice_get pairs 0 ≡ Some first) × (comes_before (turn_of pair) (turn_of first) ≡ false)
 none_before [] pair order h = absurd (let no = h in cc)
 none_before (p ∷ ps) pair order h = at (Any-from_list_any (same_pair pair) (p ∷ ps) h)
   where
     itself : (a : Turn) → comes_before a a ≡ false
     itself a = from_not_before a a (record { due = omega arith; tie = λ same. omega arith })
 
-    at : (k : ℕ) × (x : Pair) × (k < length (p ∷ ps)) × (slice_index_or (p ∷ ps) k x ≡ x) × (same_pair pair x ≡ true) → (first : Pair) × (slice_get (p ∷ ps) 0 ≡ Some first) × (comes_before (turn_of pair) (turn_of first) ≡ false)
+    at : (k : ℕ) × (x : Pair) × (k < length (p ∷ ps)) × (slice_index_or (p ∷ ps) k x ≡ x) × (same_pair pair x ≡ true)
+        → (first : Pair) × (slice_get (p ∷ ps) 0 ≡ Some first) × (comes_before (turn_of pair) (turn_of first) ≡ false)
     at (zero, x, within, is, same) = (p, refl, subst (λ a. comes_before (turn_of a) (turn_of p) ≡ false) (is ∙ is_same pair x same) (itself (turn_of p)))
     at (suc k, x, within, is, same) =
         (p, refl, subst (λ a. comes_before (turn_of a) (turn_of p) ≡ false) (is ∙ is_same pair x same) (order 0 (suc k) x (omega arith) within).0)
@@ -265,14 +276,18 @@ none_before (p ∷ ps) pair order h = at (Any-from_list_any (same_pair pair) (p 
 lane_of_mark : (lanes : List Lane) (endpoint : List ℕ) → has_room_in (map (λ lane. lane.mark) lanes) endpoint ≡ true → (lane : Lane) × (lane_in lanes endpoint ≡ Some lane) × (lane.mark.room ≡ true)
 lane_of_mark lanes endpoint h = pick (lane_in lanes endpoint) refl (sym (ap (λ o. option_map_or (λ m. m.room) o false) (marked lanes endpoint)) ∙ h)
   where
-    pick : (o : Option Lane) → lane_in lanes endpoint ≡ o → option_map_or (λ m. m.room) (option_map (λ lane. lane.mark) o) false ≡ true → (lane : Lane) × (lane_in lanes endpoint ≡ Some lane) × (lane.mark.room ≡ true)
+    pick : (o : Option Lane) → lane_in lanes endpoint ≡ o
+        → option_map_or (λ m. m.room) (option_map (λ lane. lane.mark) o) false ≡ true → (lane : Lane)
+        × (lane_in lanes endpoint ≡ Some lane) × (lane.mark.room ≡ true)
     pick None e f = absurd (let no = f in cc)
     pick (Some lane) e f = (lane, e, f)
 
 -- the first of the first pairs is no later than any that is ready
 pub ready_behind : (lanes : List Lane) (firsts : List Pair) (len capacity now : ℕ) (other : Pair) → IsQueue lanes firsts len capacity → is_ready (queue_of lanes) now other ≡ true
     → (first : Pair) × (slice_get firsts 0 ≡ Some first) × IsNoLater first other
-ready_behind lanes firsts len capacity now other q ready = at (lane_of_mark lanes other.endpoint (and_parts (nat_le other.due now) (has_room_in (map (λ lane. lane.mark) lanes) other.endpoint) parts.1).1)
+ready_behind lanes firsts len capacity now other q ready =
+    at (lane_of_mark lanes other.endpoint
+    (and_parts (nat_le other.due now) (has_room_in (map (λ lane. lane.mark) lanes) other.endpoint) parts.1).1)
   where
     parts : (is_held (queue_of lanes) other ≡ true) × (is_ready_by (map (λ lane. lane.mark) lanes) now other ≡ true)
     parts = and_parts (is_held (queue_of lanes) other) (is_ready_by (map (λ lane. lane.mark) lanes) now other) ready
@@ -342,7 +357,9 @@ none_free lanes endpoint none = ap (λ o. option_map_or (λ m. m.free) o 0) (no_
 pub none_reserved : (lanes : List Lane) (endpoint : List ℕ) → lane_in lanes endpoint ≡ None → is_some (mark_in (map (λ lane. lane.mark) lanes) endpoint) ≡ true → ⊥
 none_reserved lanes endpoint none some = let clash = sym (ap is_some (no_mark lanes endpoint none)) ∙ some in cc
 
-pub free_set : (lanes : List Lane) (endpoint : List ℕ) (i : ℕ) (held new : Lane) → Some i ≡ position (is_of endpoint) lanes → held ≡ slice_index_or lanes i held → new.mark.endpoint ≡ held.mark.endpoint
+pub free_set : (lanes : List Lane) (endpoint : List ℕ) (i : ℕ) (held new : Lane)
+    → Some i ≡ position (is_of endpoint) lanes → held ≡ slice_index_or lanes i held → new.mark.endpoint
+    ≡ held.mark.endpoint
     → free_in (map (λ lane. lane.mark) (slice_set lanes i new)) endpoint ≡ new.mark.free
 free_set lanes endpoint i held new at is keeps =
     ap (λ o. option_map_or (λ m. m.free) o 0) (now_marked lanes endpoint i held new at is keeps endpoint
@@ -370,7 +387,8 @@ pub seen_the_same : (lanes : List Lane) (i : ℕ) (held new : Lane) → held ≡
     → queue_of (slice_set lanes i new) ≡ queue_of lanes
 seen_the_same lanes i held new is within mark turns = grind (arith, kept_flat, kept_map)
 
-pub same_pairs : (lanes : List Lane) (i : ℕ) (held new : Lane) (pair : Pair) → held ≡ slice_index_or lanes i held → i < length lanes → new.mark.endpoint ≡ held.mark.endpoint → new.turns.items ≡ held.turns.items
+pub same_pairs : (lanes : List Lane) (i : ℕ) (held new : Lane) (pair : Pair) → held ≡ slice_index_or lanes i held
+    → i < length lanes → new.mark.endpoint ≡ held.mark.endpoint → new.turns.items ≡ held.turns.items
     → is_held (queue_of (slice_set lanes i new)) pair ≡ is_held (queue_of lanes) pair
 same_pairs lanes i held new pair is within name turns = ap (list_any (same_pair pair)) (kept_flat pairs_of lanes i held new is within (λ k. map (pair_at (name k)) (turns k)))
 
@@ -389,9 +407,13 @@ next_is lanes firsts len capacity now pair q at due = record {
 
 pub none_first : (lanes : List Lane) (firsts : List Pair) (len capacity now : ℕ) → IsQueue lanes firsts len capacity → slice_get firsts 0 ≡ None → NothingIsReady (queue_of lanes) now
 none_first lanes firsts len capacity now q at pair =
-    false_from_ne_true (is_ready (queue_of lanes) now pair) (λ ready. none-some (ready_behind lanes firsts len capacity now pair q ready).0 (sym at ∙ (ready_behind lanes firsts len capacity now pair q ready).1))
+    false_from_ne_true (is_ready (queue_of lanes) now pair)
+    (λ ready. none-some (ready_behind lanes firsts len capacity now pair q ready).0 (sym at
+    ∙ (ready_behind lanes firsts len capacity now pair q ready).1))
 
-pub none_due : (lanes : List Lane) (firsts : List Pair) (len capacity now : ℕ) (first : Pair) → IsQueue lanes firsts len capacity → slice_get firsts 0 ≡ Some first → now < first.due → NothingIsReady (queue_of lanes) now
+pub none_due : (lanes : List Lane) (firsts : List Pair) (len capacity now : ℕ) (first : Pair)
+    → IsQueue lanes firsts len capacity → slice_get firsts 0 ≡ Some first → now < first.due
+    → NothingIsReady (queue_of lanes) now
 none_due lanes firsts len capacity now first q at later pair = false_from_ne_true (is_ready (queue_of lanes) now pair) (λ ready. clash ready (ready_behind lanes firsts len capacity now pair q ready))
   where
     clash : is_ready (queue_of lanes) now pair ≡ true → (first : Pair) × (slice_get firsts 0 ≡ Some first) × IsNoLater first pair → ⊥

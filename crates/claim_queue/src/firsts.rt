@@ -1,5 +1,6 @@
 //! The first deliveries of the endpoints that have room, in the order of their turns.
-ghost use Rattle.std.specs.Prelude.{◌≡◌, ◌+◌, ◌<◌, ◌≤◌, ◌||◌, ◌&&◌, not, true, false, length, position, vec_len, vec_capacity, IsTrue, IfSome};
+ghost use Rattle.std.specs.Prelude.{◌≡◌, ◌+◌, ◌<◌, ◌≤◌, ◌||◌, ◌&&◌, not, true, false, length, position, vec_len};
+ghost use Rattle.std.specs.Prelude.{vec_capacity, IsTrue, IfSome};
 ghost use Rattle.std.specs.List.{list_any};
 ghost use Rattle.std.specs.List.Sorted.{IsPartitionPoint};
 ghost use Rattle.claim_queue.specs.Queues.{same_pair};

@@ -1,8 +1,10 @@
 //! The lanes: of each endpoint the deliveries that wait, in the order of their turns.
-ghost use Rattle.std.specs.Prelude.{◌≡◌, ◌+◌, ◌<◌, ◌≤◌, ◌||◌, ◌&&◌, not, [], false, None, Some, length, position, option_copied, IsTrue, IsOk, OnOk, OnErr};
+ghost use Rattle.std.specs.Prelude.{◌≡◌, ◌+◌, ◌<◌, ◌≤◌, ◌||◌, ◌&&◌, not, [], false, None, Some, length, position};
+ghost use Rattle.std.specs.Prelude.{option_copied, IsTrue, IsOk, OnOk, OnErr};
 ghost use Rattle.std.specs.List.{AllWithin, list_any};
 ghost use Rattle.claim_queue.specs.Queues.{mark_for, place_given, place_taken};
-ghost use Rattle.claim_queue.specs.Lanes.{IsInOrder, IsSound, comes_before, first_of, has_turn, is_of, is_turn_numbered, lane_in, same_turn};
+ghost use Rattle.claim_queue.specs.Lanes.{IsInOrder, IsSound, comes_before, first_of, has_turn, is_of};
+ghost use Rattle.claim_queue.specs.Lanes.{is_turn_numbered, lane_in, same_turn};
 
 use crate::marks::Mark;
 use crate::pairs::{Pair, Turn};

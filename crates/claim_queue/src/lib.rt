@@ -1,5 +1,5 @@
-//! The deliveries that wait for their next attempt, and which of them is next. Which endpoint has room for one more attempt
-//! the queue is told.
+//! The deliveries that wait for their next attempt, and which of them is next. Which endpoint has
+//! room for one more attempt the queue is told.
 #![tactic(auto)]
 
 mod firsts;

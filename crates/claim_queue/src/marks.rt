@@ -1,8 +1,8 @@
 //! What is kept of each endpoint.
 use relay_types::Name;
 
-/// What is kept of an endpoint: whether it has room for one more attempt, and how many more of its deliveries there is a
-/// place for.
+/// What is kept of an endpoint: whether it has room for one more attempt, and how many more of its
+/// deliveries there is a place for.
 #[derive(Clone, Copy)]
 pub struct Mark {
     pub(crate) endpoint: Name,

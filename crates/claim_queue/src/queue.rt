@@ -1,6 +1,8 @@
 //! The queue.
 ghost use Rattle.std.specs.Prelude.{◌≡◌, ◌<◌, ◌+◌, ◌↔◌, IsTrue, IsOk, IsNone, IfSome, OnOk, OnErr};
-ghost use Rattle.claim_queue.specs.Queues.{ChangesMark, Gains, HasSamePairs, IsNew, IsNext, IsReservedFor, Loses, NothingIsReady, SetsMark, empty_queue, free_places, is_held, is_reserved, pair_of, place_given, place_taken, reserved_mark, with_room};
+ghost use Rattle.claim_queue.specs.Queues.{ChangesMark, Gains, HasSamePairs, IsNew, IsNext, IsReservedFor, Loses};
+ghost use Rattle.claim_queue.specs.Queues.{NothingIsReady, SetsMark, empty_queue, free_places, is_held, is_reserved};
+ghost use Rattle.claim_queue.specs.Queues.{pair_of, place_given, place_taken, reserved_mark, with_room};
 
 use crate::firsts::renew;
 use crate::lanes::{Lane, has_seq, lane_of, place_of};
@@ -9,9 +11,10 @@ use relay_types::Name;
 use std::alloc::{AllocError, Global};
 use std::marker::Model;
 
-/// The deliveries that wait for their next attempt, each by its endpoint, the moment at which it is due, in seconds since the
-/// epoch, and its number. Of each endpoint for which places were reserved the queue knows how many are free, and whether the
-/// endpoint has room for one more attempt. Only `reserve` takes memory.
+/// The deliveries that wait for their next attempt, each by its endpoint, the moment at which it is
+/// due, in seconds since the epoch, and its number. Of each endpoint for which places were reserved
+/// the queue knows how many are free, and whether the endpoint has room for one more attempt. Only
+/// `reserve` takes memory.
 #[derive(Drop)]
 pub struct ClaimQueue {
     alloc: Global,
@@ -45,8 +48,9 @@ impl ClaimQueue {
         }
     }
 
-    /// Makes places, so that this many more deliveries of the endpoint can be inserted; where as many are free already, none.
-    /// An endpoint that is named for the first time has no room until it is set. An error is want of memory.
+    /// Makes places, so that this many more deliveries of the endpoint can be inserted; where as
+    /// many are free already, none. An endpoint that is named for the first time has no room until
+    /// it is set. An error is want of memory.
     pub fn reserve(&mut self, endpoint: Name, more: usize) -> Result<(), AllocError>
         ensures pairs { OnOk result (HasSamePairs self.old self.new) }
         ensures mark { OnOk result (SetsMark self.old self.new (reserved_mark self.old endpoint more)) }
@@ -80,8 +84,8 @@ impl ClaimQueue {
         }
     }
 
-    /// Lets a delivery go. Its place is free for another one of its endpoint. `contains` tests the condition. It takes no
-    /// memory.
+    /// Lets a delivery go. Its place is free for another one of its endpoint. `contains` tests the
+    /// condition. It takes no memory.
     pub fn remove(&mut self, endpoint: Name, due: u64, seq: u64)
         requires held { IsTrue (is_held self.old (pair_of endpoint due seq)) }
         ensures pairs { Loses self.old self.new (pair_of endpoint due seq) }
@@ -112,8 +116,9 @@ impl ClaimQueue {
         }
     }
 
-    /// The endpoint and the number of the delivery that is next at this moment, in seconds since the epoch: of those that are
-    /// due and whose endpoint has room the first by due moment, and by number where several are due at one moment.
+    /// The endpoint and the number of the delivery that is next at this moment, in seconds since
+    /// the epoch: of those that are due and whose endpoint has room the first by due moment, and by
+    /// number where several are due at one moment.
     pub fn next(&self, now: u64) -> Option<(Name, u64)>
         ensures first { IfSome result (λ next. IsNext self.now now next.0 next.1) }
         ensures none { IsNone result ↔ NothingIsReady self.now now }

@@ -39,7 +39,8 @@ pub found_seq : (entries : List Entry) (s : ℕ) (e : Entry) → entry_at entrie
 found_seq [] s e h = cc
 found_seq (x ∷ rest) s e h = grind (arith, nat_tests, found_seq rest s e)
 
-pub may_start_next : {d e : DeskValue} {queue : QueueValue} (now : ℕ) (name : List ℕ) (s : ℕ) → d ≡ e → AreTied d.endpoints d.deliveries d.waiting d.live d.limiters queue → has_place d ≡ true → IsNext queue now name s
+pub may_start_next : {d e : DeskValue} {queue : QueueValue} (now : ℕ) (name : List ℕ) (s : ℕ) → d ≡ e
+    → AreTied d.endpoints d.deliveries d.waiting d.live d.limiters queue → has_place d ≡ true → IsNext queue now name s
     → may_start e s ≡ true
 may_start_next {d} {queue = queue} now name s same tied place next =
     let held = tied.queued.held (pair_of name next.due s) in
@@ -154,7 +155,8 @@ count_less p q (x ∷ xs) s e there passes fails h =
 -- Places
 
 -- a delivery that is opened and isn't held has a place
-pub has_free_place : (queue : QueueValue) (book : BookValue) (s : ℕ) (e : Entry) → HasPlaces queue book → IsNew queue s → entry_at book.entries s ≡ Some e → e.seq ≡ s → is_open e ≡ true → 0 < free_places queue e.name
+pub has_free_place : (queue : QueueValue) (book : BookValue) (s : ℕ) (e : Entry) → HasPlaces queue book → IsNew queue s
+    → entry_at book.entries s ≡ Some e → e.seq ≡ s → is_open e ≡ true → 0 < free_places queue e.name
 has_free_place queue book s e places new there numbered opened =
     let same = (bytes_eq-Decides e.name e.name).1 refl in
     let none = ap (λ n. is_held queue (pair_of e.name (unwrap_or e.settled.due 0) n)) numbered ∙ new e.name _ in
@@ -167,7 +169,8 @@ same_pair_self : (p : Pair) → same_pair p p ≡ true
 same_pair_self p = grind (arith, nat_tests, bytes_eq-Decides p.endpoint p.endpoint)
 
 -- the delivery of an entry is held from now on
-pub places_held : (queue new : QueueValue) (book : BookValue) (s due : ℕ) (e : Entry) → HasPlaces queue book → IsNew queue s → entry_at book.entries s ≡ Some e → e.seq ≡ s → is_open e ≡ true → e.settled.due ≡ Some due
+pub places_held : (queue new : QueueValue) (book : BookValue) (s due : ℕ) (e : Entry) → HasPlaces queue book
+    → IsNew queue s → entry_at book.entries s ≡ Some e → e.seq ≡ s → is_open e ≡ true → e.settled.due ≡ Some due
     → HoldsPair queue new (pair_of e.name due s) → HasPlaces new book
 places_held queue new book s due e places unheld there numbered opened timed holds = λ n.
     let own : own_pair e ≡ pair_of e.name due s = λ i. pair_of e.name (unwrap_or (timed i) 0) (numbered i) in
@@ -296,7 +299,9 @@ waits_is {d} {w} s a h e =
     grind (arith, entry, first, named, due, same, none, out, e)
   where
     due_is : (w : World) (s : ℕ) (a : Accepted) → accepted (settled_records w) s ≡ Some a
-        → option_map_or (λ due. nat_eq due (due_of (settled_records w) s)) (entry_for (attempts_of (all_records w)) (attempts_of (settled_records w)) s a).settled.due false ≡ is_pending_after (attempts_of (settled_records w) s)
+        → option_map_or (λ due. nat_eq due (due_of (settled_records w) s))
+        (entry_for (attempts_of (all_records w)) (attempts_of (settled_records w)) s a).settled.due false
+        ≡ is_pending_after (attempts_of (settled_records w) s)
     due_is w s a e = due_told (is_pending_after (attempts_of (settled_records w) s)) _ _
         (ap (λ o. option_map_or (λ last. due_after last (failures_of (settled_records w) s)) (last_of (attempts_of (settled_records w) s)) (option_map_or (λ (t : Accepted). t.at) o 0)) (sym e))
 
@@ -396,7 +401,9 @@ next_is_choice {d} {w} {queue} now name s h tied place next =
     let first_place : 0 + s ≡ s = omega arith in
     least_is (due_of (settled_records w)) 0 (claimables w now) s
     (rises_filter (is_claimable w now) 0 (deliveries (settled_records w)) (places_rise is_accept 0 (settled_records w)))
-    (among_filter (is_claimable w now) s (deliveries (settled_records w)) (subst (λ k. Among k (deliveries (settled_records w))) first_place (accepted_among 0 s (settled_records w) a own.there)) claimable)
+    (among_filter (is_claimable w now) s (deliveries (settled_records w))
+    (subst (λ k. Among k (deliveries (settled_records w))) first_place
+    (accepted_among 0 s (settled_records w) a own.there)) claimable)
     (λ m among. first own.timed m (least.passes (is_claimable w now) m (deliveries (settled_records w)) among))
   where
     first : next.due ≡ due_of (settled_records w) s → (m : ℕ) → is_claimable w now m ≡ true → IsFirstBy (due_of (settled_records w)) s m
@@ -433,7 +440,9 @@ spent_faults w = (are_seqs_spent w, 2, fault.SeqExhausted) ∷ []
 pub checks_halted : {d v : DeskValue} (result : Result (Unit {0}) Refusal) → d ≡ v → result ≡ first_fault ((d.halted, 1, fault.Halted) ∷ []) → Checks v halted_faults result
 checks_halted result same e = λ w h. e ∙ ap (λ b. first_fault ((b, 1, fault.Halted) ∷ [])) (seen same h).halted
 
-pub checks_spent : {d : DeskValue} (b : Bool) (result : Result (Unit {0}) Refusal) → OverWorlds d (λ w. b ≡ are_seqs_spent w) → result ≡ first_fault ((b, 2, fault.SeqExhausted) ∷ []) → Checks d spent_faults result
+pub checks_spent : {d : DeskValue} (b : Bool) (result : Result (Unit {0}) Refusal)
+    → OverWorlds d (λ w. b ≡ are_seqs_spent w) → result ≡ first_fault ((b, 2, fault.SeqExhausted) ∷ [])
+    → Checks d spent_faults result
 checks_spent b result spent e = λ w h. e ∙ ap (λ x. first_fault ((x, 2, fault.SeqExhausted) ∷ [])) (spent w h)
 
 -- the delivery that the desk has next is the choice, in each world for which it stands
@@ -480,7 +489,8 @@ pub was_refused : {A E : Type 0} (X : Type 0) (r : Refusal) (made : Result A E) 
 was_refused X r (Ok a) e h = cc
 was_refused {A} X r (Err x) e h = (cc, h)
 
-pub claim_lacks : (d new : DeskValue) (now at : ℕ) (u v : Unit {0}) (delivery : ℕ) (r : Refusal) → Checks d halted_faults (Ok u) → at ≡ max now d.clock → Chooses d at (Some delivery) → Checks d spent_faults (Ok v)
+pub claim_lacks : (d new : DeskValue) (now at : ℕ) (u v : Unit {0}) (delivery : ℕ) (r : Refusal)
+    → Checks d halted_faults (Ok u) → at ≡ max now d.clock → Chooses d at (Some delivery) → Checks d spent_faults (Ok v)
     → (r ≡ refusal 3 fault.OutOfMemory) × (new ≡ d) → IsMove d (λ w. claim w now) (Err r) new
 claim_lacks d new now at u v delivery r checks later chooses spent is =
     leaves d new d (λ w. claim w now) (Err r)
@@ -493,7 +503,8 @@ claim_lacks d new now at u v delivery r checks later chooses spent is =
 abbrev given : JobValue → Result (Option JobValue) Refusal
 given job = Ok (Some job)
 
-pub claim_starts : (d new : DeskValue) (now at : ℕ) (u v : Unit {0}) (delivery : ℕ) (job : JobValue) → Checks d halted_faults (Ok u) → at ≡ max now d.clock → Chooses d at (Some delivery) → Checks d spent_faults (Ok v)
+pub claim_starts : (d new : DeskValue) (now at : ℕ) (u v : Unit {0}) (delivery : ℕ) (job : JobValue)
+    → Checks d halted_faults (Ok u) → at ≡ max now d.clock → Chooses d at (Some delivery) → Checks d spent_faults (Ok v)
     → Starts d at delivery job new → IsMove d (λ w. claim w now) (Ok (Some job)) new
 claim_starts d new now at u v delivery job checks later chooses spent starting =
     claim_by d new now at u (Some delivery) (given job) checks later chooses
@@ -564,7 +575,8 @@ job_starts d new at delivery row post posts rows is = λ w h.
 
 -- What a desk tells of an endpoint's limit
 
-pub limits_are : (d : DeskValue) (w : World) (name : List ℕ) → StandsFor d w → AreLimiters d.limiters d.endpoints → option_map (limits_by (in_flight_of name d.live)) (limiter_of d.limiters name) ≡ limits w name
+pub limits_are : (d : DeskValue) (w : World) (name : List ℕ) → StandsFor d w → AreLimiters d.limiters d.endpoints
+    → option_map (limits_by (in_flight_of name d.live)) (limiter_of d.limiters name) ≡ limits w name
 limits_are d w name h are =
     let same = limiter_is name h are in
     by_option (limiter_of d.limiters name) (λ none. grind (arith, same, none)) (λ l found.

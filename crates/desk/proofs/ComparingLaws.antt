@@ -21,9 +21,12 @@ pub all_next : {X : Type 0} (P : X → Type 0) (xs : List X) (i : ℕ) (x : X) �
 all_next P xs i x at h p = subst (AllByRecursion P) (sym (take_next xs i x at)) (all_append P (take i xs) x h p)
 
 -- the next endpoint, and the next event
-pub name_next : (P : List ℕ → Type 0) (book : endpoint_entries.BookValue) (names : List (List ℕ)) (i : ℕ) (name : List ℕ) → names ≡ map (λ e. e.name) book.entries → i < length names → name ≡ get_or names i name
+pub name_next : (P : List ℕ → Type 0) (book : endpoint_entries.BookValue) (names : List (List ℕ)) (i : ℕ)
+    (name : List ℕ) → names ≡ map (λ e. e.name) book.entries → i < length names → name ≡ get_or names i name
     → AllByRecursion P (take i (map (λ e. e.name) book.entries)) → P name → AllByRecursion P (take (i + 1) (map (λ e. e.name) book.entries))
-name_next P book names i name are within is h p = subst (AllByRecursion P) (sym (names_next book names i name are within is)) (all_append P (take i (map (λ (e : EndpointEntry). e.name) book.entries)) name h p)
+name_next P book names i name are within is h p =
+    subst (AllByRecursion P) (sym (names_next book names i name are within is))
+    (all_append P (take i (map (λ (e : EndpointEntry). e.name) book.entries)) name h p)
 
 pub event_next : (P : List ℕ → List ℕ → Type 0) (entries : List Entry) (place : ℕ) (row : Row) → Some row ≡ option_map (λ e. row_in e.latest e) (slice_get entries place)
     → AllByRecursion (λ e. P e.name e.id) (take place entries) → P row.endpoint row.id → AllByRecursion (λ e. P e.name e.id) (take (place + 1) entries)
@@ -39,13 +42,16 @@ found_known f o h = grind arith
 
 -- What holds of each element that is there holds of what is found among them
 
-pub named_among : (P : List ℕ → Type 0) (entries : List EndpointEntry) (name : List ℕ) → AllByRecursion P (map (λ e. e.name) entries) → is_some (find (endpoint_entries.is_named name) entries) ≡ true → P name
+pub named_among : (P : List ℕ → Type 0) (entries : List EndpointEntry) (name : List ℕ)
+    → AllByRecursion P (map (λ e. e.name) entries) → is_some (find (endpoint_entries.is_named name) entries) ≡ true
+    → P name
 named_among P [] name h there = cc
 named_among P (e ∷ es) name h there = by_bool (bytes_eq e.name name)
     (λ same. subst P ((bytes_eq-Decides e.name name).0 same) h.0)
     (λ other. named_among P es name h.1 (grind (arith, there, other)))
 
-pub event_among : (P : List ℕ → List ℕ → Type 0) (entries : List Entry) (name id : List ℕ) → AllByRecursion (λ e. P e.name e.id) entries → is_some (find (is_entry_as name id) entries) ≡ true → P name id
+pub event_among : (P : List ℕ → List ℕ → Type 0) (entries : List Entry) (name id : List ℕ)
+    → AllByRecursion (λ e. P e.name e.id) entries → is_some (find (is_entry_as name id) entries) ≡ true → P name id
 event_among P [] name id h there = cc
 event_among P (e ∷ es) name id h there = by_bool (is_entry_as name id e)
     (λ same.
@@ -61,7 +67,9 @@ nothing_found o e = grind arith
 
 unknown_endpoint : (endpoints : endpoint_entries.BookValue) (deliveries : BookValue) (name : List ℕ) → endpoint_entries.is_known endpoints name ≡ false → endpoint_in endpoints deliveries name ≡ None
 unknown_endpoint endpoints deliveries name none =
-    ap (λ o. option_map (shown_with (settled_counts deliveries (Some name))) (option_and_then (λ (e : EndpointEntry). option_map (view_by e) e.settled) o)) (nothing_found (endpoint_entries.entry_of endpoints name) none)
+    ap (λ o. option_map (shown_with (settled_counts deliveries (Some name)))
+    (option_and_then (λ (e : EndpointEntry). option_map (view_by e) e.settled) o))
+    (nothing_found (endpoint_entries.entry_of endpoints name) none)
 
 unknown_event : (deliveries : BookValue) (name id : List ℕ) → is_some (known_in deliveries name id) ≡ false → event_in deliveries name id ≡ None
 unknown_event deliveries name id none = ap (option_and_then (settled_row deliveries)) (nothing_found (known_in deliveries name id) none)
@@ -112,14 +120,18 @@ is_told {d} {v} same books counted mine theirs = record {
 
 -- what is told isn't found to differ, from either side
 pub not_here : {d v : DeskValue} → d ≡ v → (books : Books)
-    → ¬ (((name : List ℕ) → endpoint_in d.endpoints d.deliveries name ≡ endpoint_in books.endpoints books.deliveries name) × ((name id : List ℕ) → event_in d.deliveries name id ≡ event_in books.deliveries name id)) → AreTold v books → ⊥
+    → ¬ (((name : List ℕ) → endpoint_in d.endpoints d.deliveries name
+    ≡ endpoint_in books.endpoints books.deliveries name)
+    × ((name id : List ℕ) → event_in d.deliveries name id ≡ event_in books.deliveries name id)) → AreTold v books → ⊥
 not_here {d} {v} same books differs told = differs (
   λ name. ap (λ (x : DeskValue). endpoint_page x name) same ∙ sym (told.endpoints name),
   λ name id. ap (λ (x : DeskValue). event_page x name id) same ∙ sym (told.events name id),
 )
 
 pub not_there : {d v : DeskValue} → d ≡ v → (books : Books)
-    → ¬ (((name : List ℕ) → endpoint_in books.endpoints books.deliveries name ≡ endpoint_in d.endpoints d.deliveries name) × ((name id : List ℕ) → event_in books.deliveries name id ≡ event_in d.deliveries name id)) → AreTold v books → ⊥
+    → ¬ (((name : List ℕ) → endpoint_in books.endpoints books.deliveries name
+    ≡ endpoint_in d.endpoints d.deliveries name)
+    × ((name id : List ℕ) → event_in books.deliveries name id ≡ event_in d.deliveries name id)) → AreTold v books → ⊥
 not_there {d} {v} same books differs told = differs (
   λ name. told.endpoints name ∙ sym (ap (λ (x : DeskValue). endpoint_page x name) same),
   λ name id. told.events name id ∙ sym (ap (λ (x : DeskValue). event_page x name id) same),

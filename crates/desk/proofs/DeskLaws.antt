@@ -216,7 +216,9 @@ passes {A} d new faults answer u reply checks move = λ w h.
     subst (λ (a : Answer A). (next : World) × MayGive w a reply next × StandsFor new next) (sym (fault_passes (faults w) w (answer w) u (sym (checks w h)))) (move w h)
 
 -- the call makes this
-pub makes : {A : Type 0} (d new : DeskValue) (answer : World → Answer A) (a : A) → ((w : World) → StandsFor d w → ((answer w).reply ≡ Ok a) × StandsFor new (answer w).next) → IsMove d answer (Ok a) new
+pub makes : {A : Type 0} (d new : DeskValue) (answer : World → Answer A) (a : A)
+    → ((w : World) → StandsFor d w → ((answer w).reply ≡ Ok a) × StandsFor new (answer w).next)
+    → IsMove d answer (Ok a) new
 makes d new answer a made = λ w h.
     let m = made w h in
     ((answer w).next, inl (sym m.0, refl), m.1)
@@ -225,12 +227,15 @@ abbrev refusing_by : {A : Type 0} → ℕ → Result A Refusal
 refusing_by number = Err (refusal number fault.OutOfMemory)
 
 -- a call that takes memory may be refused for want of it
-pub lacks : {A : Type 0} (d : DeskValue) (answer : World → Answer A) (number : ℕ) → ((w : World) → StandsFor d w → (answer w).memory ≡ Some number) → IsMove d answer (Err (refusal number fault.OutOfMemory)) d
+pub lacks : {A : Type 0} (d : DeskValue) (answer : World → Answer A) (number : ℕ)
+    → ((w : World) → StandsFor d w → (answer w).memory ≡ Some number)
+    → IsMove d answer (Err (refusal number fault.OutOfMemory)) d
 lacks {A} d answer number takes = λ w h.
     (w, inr (subst (λ (o : Option ℕ). IsSomeAnd o (λ n. (refusing_by {A = A} number ≡ refusing_by n) × (w ≡ w))) (sym (takes w h)) (refl, refl)), h)
 
 -- the same answer in other words
-pub becomes : {A : Type 0} (d new : DeskValue) (answer other : World → Answer A) (reply : Result A Refusal) → ((w : World) → StandsFor d w → answer w ≡ other w) → IsMove d answer reply new → IsMove d other reply new
+pub becomes : {A : Type 0} (d new : DeskValue) (answer other : World → Answer A) (reply : Result A Refusal)
+    → ((w : World) → StandsFor d w → answer w ≡ other w) → IsMove d answer reply new → IsMove d other reply new
 becomes {A} d new answer other reply same move = λ w h.
     subst (λ (a : Answer A). (next : World) × MayGive w a reply next × StandsFor new next) (same w h) (move w h)
 
@@ -292,16 +297,24 @@ pub one_more : (waiting : WaitingValue) (entry : Record) → record_count (with_
 one_more waiting entry = omega (arith, length-records_of waiting.waiting ((entry ∷ []) ∷ []))
 
 -- the records that wait, and one more behind them
-pub one_waits : (d : delivery_entries.BookValue) (waiting : WaitingValue) (entry : Record) → HasWaiting d (records_of waiting.waiting ++ entry ∷ []) → HasWaiting d (records_of (with_step waiting (entry ∷ [])).waiting)
+pub one_waits : (d : delivery_entries.BookValue) (waiting : WaitingValue) (entry : Record)
+    → HasWaiting d (records_of waiting.waiting ++ entry ∷ [])
+    → HasWaiting d (records_of (with_step waiting (entry ∷ [])).waiting)
 one_waits d waiting entry h = subst (HasWaiting d) (sym (records_of-snoc waiting.waiting entry)) h
 
-pub one_changes : (at : ℕ → Option (List ℕ)) (e : endpoint_entries.BookValue) (waiting : WaitingValue) (entry : Record) → HasChanges at e (records_of waiting.waiting ++ entry ∷ []) → HasChanges at e (records_of (with_step waiting (entry ∷ [])).waiting)
+pub one_changes : (at : ℕ → Option (List ℕ)) (e : endpoint_entries.BookValue) (waiting : WaitingValue) (entry : Record)
+    → HasChanges at e (records_of waiting.waiting ++ entry ∷ [])
+    → HasChanges at e (records_of (with_step waiting (entry ∷ [])).waiting)
 one_changes at e waiting entry h = subst (HasChanges at e) (sym (records_of-snoc waiting.waiting entry)) h
 
 -- the endpoints and the steps with one more record
-pub endpoints_wait : {e f : endpoint_entries.BookValue} {d : delivery_entries.BookValue} {waiting : WaitingValue} {live : List Row} {limiters more : List Limiter} {queue later : QueueValue} (change : Change) (entry : Record) → IsDesk e d waiting live limiters queue
+pub endpoints_wait : {e f : endpoint_entries.BookValue} {d : delivery_entries.BookValue} {waiting : WaitingValue}
+    {live : List Row} {limiters more : List Limiter} {queue later : QueueValue} (change : Change) (entry : Record)
+    → IsDesk e d waiting live limiters queue
     → f.changes ≡ e.changes ++ change ∷ [] → f.next_seq ≡ record_count waiting + 1 → f.settled_seq ≡ e.settled_seq → is_other entry ≡ true
-    → HasChanges (endpoint_at d) f (records_of waiting.waiting ++ entry ∷ []) → AreTied f d (with_step waiting (entry ∷ [])) live more later → IsDesk f d (with_step waiting (entry ∷ [])) live more later
+    → HasChanges (endpoint_at d) f (records_of waiting.waiting ++ entry ∷ [])
+    → AreTied f d (with_step waiting (entry ∷ [])) live more later
+    → IsDesk f d (with_step waiting (entry ∷ [])) live more later
 endpoints_wait {e} {f} {d} {waiting} change entry h changes next settled other waits tied =
     let flags = ap (count_by is_flag) changes ∙ count_by_snoc is_flag e.changes change in
     let one : cond (is_flag change) 1 0 ≤ 1 = grind arith in
@@ -318,8 +331,12 @@ endpoints_wait {e} {f} {d} {waiting} change entry h changes next settled other w
     }
 
 -- the deliveries and the steps with one more record
-pub deliveries_wait : {e : endpoint_entries.BookValue} {d f : delivery_entries.BookValue} {waiting : WaitingValue} {live : List Row} {limiters : List Limiter} {queue later : QueueValue} (entry : Record) → IsDesk e d waiting live limiters queue
-    → f.next_seq ≡ record_count waiting + 1 → f.settled_seq ≡ d.settled_seq → HasWaiting f (records_of waiting.waiting ++ entry ∷ []) → HasChanges (endpoint_at f) e (records_of waiting.waiting ++ entry ∷ [])
+pub deliveries_wait : {e : endpoint_entries.BookValue} {d f : delivery_entries.BookValue} {waiting : WaitingValue}
+    {live : List Row} {limiters : List Limiter} {queue later : QueueValue} (entry : Record)
+    → IsDesk e d waiting live limiters queue
+    → f.next_seq ≡ record_count waiting + 1 → f.settled_seq ≡ d.settled_seq
+    → HasWaiting f (records_of waiting.waiting ++ entry ∷ [])
+    → HasChanges (endpoint_at f) e (records_of waiting.waiting ++ entry ∷ [])
     → AreTied e f (with_step waiting (entry ∷ [])) live limiters later → IsDesk e f (with_step waiting (entry ∷ [])) live limiters later
 deliveries_wait {e} {d} {f} {waiting} entry h next settled waits changes tied =
     let more = one_more waiting entry in
@@ -358,7 +375,8 @@ known_is {d} {w} name h = known-entry d.endpoints (all_records w) name h.books.o
 -- Each record, where the desk has room and it may follow
 
 -- the limiters with one more
-limiters_more : (ls : List Limiter) (x : Limiter) (name : List ℕ) (samples : List Sample) → StandsAt ls name samples → (samples ≡ [] → StandsAt (x ∷ []) name samples) → StandsAt (ls ++ x ∷ []) name samples
+limiters_more : (ls : List Limiter) (x : Limiter) (name : List ℕ) (samples : List Sample) → StandsAt ls name samples
+    → (samples ≡ [] → StandsAt (x ∷ []) name samples) → StandsAt (ls ++ x ∷ []) name samples
 limiters_more [] x name samples h new = new h
 limiters_more (l ∷ ls) x name samples h new = by_bool (is_limiter_of name l)
     (λ e. rw e (rw e at h)) (λ e. rw e (limiters_more ls x name samples (rw e at h) new))
@@ -378,7 +396,8 @@ stands_limited : (d : DeskValue) (w : World) (limiters : List Limiter) → Stand
 stands_limited d w limiters h limits = assumption
 
 pub stands_with_put : (d : DeskValue) (w : World) (name target : List ℕ) (max : ℕ) (secrets : List (List ℕ)) → StandsFor d w → record_count d.waiting < MAX_RECORDS → is_known d.endpoints name ≡ false
-    → length (endpoints (all_records w)) < MAX_ENDPOINTS → IsTrue (is_within_limits (Put name target max secrets)) → StandsFor (with_put d name target max secrets) (with_record w (Put name target max secrets))
+    → length (endpoints (all_records w)) < MAX_ENDPOINTS → IsTrue (is_within_limits (Put name target max secrets))
+    → StandsFor (with_put d name target max secrets) (with_record w (Put name target max secrets))
 stands_with_put d w name target max secrets h room unknown few limits =
     let entry = Put name target max secrets in
     let new : has_endpoint (all_records w) name ≡ false = sym (known_is name h) ∙ unknown in
@@ -415,7 +434,8 @@ stands_with_enabled d w name flag h room known limits =
     })
 
 pub stands_with_accept : (d : DeskValue) (w : World) (name id body : List ℕ) (at : ℕ) → StandsFor d w → record_count d.waiting < MAX_RECORDS → has_endpoint (all_records w) name ≡ true
-    → known_as (all_records w) name id ≡ None → IsTrue (is_within_limits (Accept name id body at)) → StandsFor (with_accept d name id body at) (with_record (record w { clock = at }) (Accept name id body at))
+    → known_as (all_records w) name id ≡ None → IsTrue (is_within_limits (Accept name id body at))
+    → StandsFor (with_accept d name id body at) (with_record (record w { clock = at }) (Accept name id body at))
 stands_with_accept d w name id body at h room known new limits =
     let entry = Accept name id body at in
     let legal = legal_with entry h room (λ i. known i && not (is_some (new i))) limits in
@@ -451,7 +471,8 @@ abbrev pub Finds : DeskValue → List ℕ → List ℕ → Option ℕ → Type 0
 Finds d name id found = OverWorlds d (λ w. found ≡ known_as (all_records w) name id)
 
 -- a repeated submission sets the clock alone
-repeats_makes : (d new : DeskValue) (now : ℕ) (name id : List ℕ) (delivery at : ℕ) → at ≡ max now d.clock → new ≡ record d { clock = at } → IsMove d (λ w. repeats w now name id delivery) (Ok (ticket delivery name id)) new
+repeats_makes : (d new : DeskValue) (now : ℕ) (name id : List ℕ) (delivery at : ℕ) → at ≡ max now d.clock
+    → new ≡ record d { clock = at } → IsMove d (λ w. repeats w now name id delivery) (Ok (ticket delivery name id)) new
 repeats_makes d new now name id delivery at later is =
     makes d new (λ w. repeats w now name id delivery) (ticket delivery name id) (λ w h. (
       refl,
@@ -471,7 +492,8 @@ submit_refused d now name id body known r finds checks =
     submit_by d d now name id body known (Err r) finds
     (refuses d (λ w. submit_faults w name known body) (λ w. option_map_or (repeats w now name id) known (submit_new w now name id body)) r checks)
 
-pub submit_repeated : (d new : DeskValue) (now : ℕ) (name id body : List ℕ) (delivery at : ℕ) (u : Unit {0}) → Finds d name id (Some delivery) → Checks d (λ w. submit_faults w name (Some delivery) body) (Ok u)
+pub submit_repeated : (d new : DeskValue) (now : ℕ) (name id body : List ℕ) (delivery at : ℕ) (u : Unit {0})
+    → Finds d name id (Some delivery) → Checks d (λ w. submit_faults w name (Some delivery) body) (Ok u)
     → at ≡ max now d.clock → new ≡ record d { clock = at } → IsMove d (λ w. submit w now name id body) (Ok (ticket delivery name id)) new
 submit_repeated d new now name id body delivery at u finds checks later is =
     submit_by d new now name id body (Some delivery) (Ok (ticket delivery name id)) finds
@@ -488,7 +510,8 @@ new_refused d now name id body u r finds checks new =
     submit_taken d d now name id body u (Err r) finds checks (refuses d (λ w. new_submit_faults w name) (λ w. or_out_of_memory 8 (accepts w now name id body)) r new)
 
 -- the record of a new submission waits
-accept_makes : (d new : DeskValue) (now : ℕ) (name id body : List ℕ) (at : ℕ) (v : Unit {0}) (given : Ticket) → Checks d (λ w. submit_faults w name None body) (Ok v) → record_count d.waiting < MAX_RECORDS
+accept_makes : (d new : DeskValue) (now : ℕ) (name id body : List ℕ) (at : ℕ) (v : Unit {0}) (given : Ticket)
+    → Checks d (λ w. submit_faults w name None body) (Ok v) → record_count d.waiting < MAX_RECORDS
     → Finds d name id None → at ≡ max now d.clock → given ≡ ticket (record_count d.waiting) name id → new ≡ with_accept d name id body at → IsTrue (is_within_limits (Accept name id body at))
     → (w : World) → StandsFor d w → ((accepts w now name id body).reply ≡ Ok given) × StandsFor new (accepts w now name id body).next
 accept_makes d new now name id body at v given checks room unknown later same is limits w h = (
@@ -504,7 +527,9 @@ accept_makes d new now name id body at v given checks room unknown later same is
 -- a new submission is staged, or refused for memory
 pub accept_moves : (d new : DeskValue) (now : ℕ) (name id body : List ℕ) (at : ℕ) (u v : Unit {0}) (made : Result Ticket AllocError) → Checks d (λ w. new_submit_faults w name) (Ok u)
     → Checks d (λ w. submit_faults w name None body) (Ok v) → record_count d.waiting < MAX_RECORDS → Finds d name id None → at ≡ max now d.clock
-    → IfOk made (λ given. given ≡ ticket (record_count d.waiting) name id) → OnOk made (new ≡ with_accept d name id body at) → OnOk made (IsTrue (is_within_limits (Accept name id body at))) → OnErr made (new ≡ d)
+    → IfOk made (λ given. given ≡ ticket (record_count d.waiting) name id)
+    → OnOk made (new ≡ with_accept d name id body at) → OnOk made (IsTrue (is_within_limits (Accept name id body at)))
+    → OnErr made (new ≡ d)
     → IsMove d (λ w. submit w now name id body) (out_of_memory_at 8 made) new
 accept_moves d new now name id body at u v made checks there room unknown later same is limits err =
     submit_taken d new now name id body v (out_of_memory_at 8 made) unknown there

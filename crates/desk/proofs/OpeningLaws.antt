@@ -84,7 +84,9 @@ at_place book i d once h = by_option (slice_get book.entries i) (λ e. absurd (g
       fresh = ap (entry_at (take i book.entries)) is ∙ (own_place book.entries i x (once x.seq) e).1;
     })
 
-pub new_among : (queue : QueueValue) (book : BookValue) (i d : ℕ) → HasOneEach book → Some d ≡ option_map (λ e. e.seq) (slice_get book.entries i) → HoldsAmong queue book (take i book.entries) → IsNew queue d
+pub new_among : (queue : QueueValue) (book : BookValue) (i d : ℕ) → HasOneEach book
+    → Some d ≡ option_map (λ e. e.seq) (slice_get book.entries i) → HoldsAmong queue book (take i book.entries)
+    → IsNew queue d
 new_among queue book i d once h among = λ endpoint due.
     among (pair_of endpoint due d) ∙ ap (λ o. is_some o && waits_as book [] (pair_of endpoint due d)) (at_place book i d once h).fresh
 
@@ -106,7 +108,8 @@ abbrev pub has_all : BookValue → QueueValue → Entry → Bool
 has_all book queue e = nat_le (pending_in book e.name) (free_places queue e.name)
 
 -- the places of the endpoint of one more entry are made
-pub all_more : (old new : QueueValue) (book : BookValue) (i pending : ℕ) (row : DeliveryRow) → Some row ≡ option_map (λ e. row_in e.latest e) (slice_get book.entries i) → pending ≡ pending_in book row.endpoint
+pub all_more : (old new : QueueValue) (book : BookValue) (i pending : ℕ) (row : DeliveryRow)
+    → Some row ≡ option_map (λ e. row_in e.latest e) (slice_get book.entries i) → pending ≡ pending_in book row.endpoint
     → SetsMark old new (reserved_mark old row.endpoint pending) → list_all (has_all book old) (take i book.entries) ≡ true → list_all (has_all book new) (take (i + 1) book.entries) ≡ true
 all_more old new book i pending row there is sets all =
     by_option (slice_get book.entries i) (λ e. absurd (grind (arith, there, e))) (λ x e.
@@ -180,7 +183,9 @@ names_next book names i name are within is =
     ap (take (i + 1)) (sym are) ∙ take_more names i name within ∙ (λ j. take i (are j) ++ sym is j ∷ [])
 
 pub told_next : (old between new : QueueValue) (book : endpoint_entries.BookValue) (limiters : List Limiter) (names : List (List ℕ)) (i : ℕ) (name : List ℕ) (live : List Row) → live ≡ []
-    → names ≡ map (λ e. e.name) book.entries → i < length names → name ≡ get_or names i name → SetsMark old between (reserved_mark old name 0) → ChangesMark between new name (with_room (room_by book limiters live name))
+    → names ≡ map (λ e. e.name) book.entries → i < length names → name ≡ get_or names i name
+    → SetsMark old between (reserved_mark old name 0)
+    → ChangesMark between new name (with_room (room_by book limiters live name))
     → AreTold old book limiters (take i (map (λ e. e.name) book.entries)) → AreTold new book limiters (take (i + 1) (map (λ e. e.name) book.entries))
 told_next old between new book limiters names i name live none are within is sets changes told =
     subst (λ done. AreTold new book limiters done) (sym (names_next book names i name are within is))
@@ -191,7 +196,9 @@ among_known : (xs : List EndpointEntry) (n : List ℕ) → is_among (map (λ (e 
 among_known [] n = refl
 among_known (x ∷ xs) n = grind (arith, among_known xs n)
 
-pub marked_all : (queue : QueueValue) (book : endpoint_entries.BookValue) (limiters : List Limiter) → AreLimiters limiters book → AreTold queue book limiters (map (λ e. e.name) book.entries) → AreMarked queue book limiters []
+pub marked_all : (queue : QueueValue) (book : endpoint_entries.BookValue) (limiters : List Limiter)
+    → AreLimiters limiters book → AreTold queue book limiters (map (λ e. e.name) book.entries)
+    → AreMarked queue book limiters []
 marked_all queue book limiters limited told = record {
   listed = refl;
   known = λ n h. told.known n (among_known book.entries n ∙ h);
@@ -239,7 +246,8 @@ limiters_all book i limiters found h are =
     are ∙ ap (filter_map (limiter_in book)) (take_all i (map (λ (e : EndpointEntry). e.name) book.entries) h) ∙ limiters_named book book.entries found
 
 -- the limiter of one more endpoint, or none
-limiter_next : (book : endpoint_entries.BookValue) (names : List (List ℕ)) (i : ℕ) (name : List ℕ) (limiters : List Limiter) → names ≡ map (λ e. e.name) book.entries → i < length names → name ≡ get_or names i name
+limiter_next : (book : endpoint_entries.BookValue) (names : List (List ℕ)) (i : ℕ) (name : List ℕ)
+    (limiters : List Limiter) → names ≡ map (λ e. e.name) book.entries → i < length names → name ≡ get_or names i name
     → limiters ≡ filter_map (limiter_in book) (take i (map (λ e. e.name) book.entries))
     → filter_map (limiter_in book) (take (i + 1) (map (λ e. e.name) book.entries)) ≡ limiters ++ cons_option (limiter_in book name) []
 limiter_next book names i name limiters are within is before =
@@ -247,7 +255,9 @@ limiter_next book names i name limiters are within is before =
     ∙ filter_map-append (limiter_in book) (take i (map (λ (e : EndpointEntry). e.name) book.entries)) (name ∷ [])
     ∙ ap (λ some. some ++ cons_option (limiter_in book name) []) (sym before)
 
-pub limiter_more : (book : endpoint_entries.BookValue) (names : List (List ℕ)) (i : ℕ) (name : List ℕ) (limiters more : List Limiter) (estimator : EstimatorValue) (max : ℕ) → names ≡ map (λ e. e.name) book.entries → i < length names
+pub limiter_more : (book : endpoint_entries.BookValue) (names : List (List ℕ)) (i : ℕ) (name : List ℕ)
+    (limiters more : List Limiter) (estimator : EstimatorValue) (max : ℕ) → names ≡ map (λ e. e.name) book.entries
+    → i < length names
     → name ≡ get_or names i name → limiters ≡ filter_map (limiter_in book) (take i (map (λ e. e.name) book.entries)) → Some max ≡ option_map (λ e. e.max) (endpoint_entries.entry_of book name)
     → estimator.maximum ≡ max → StandsForSamples estimator [] → Explains estimator [] → more ≡ limiters ++ record { endpoint = name; estimator = estimator } ∷ []
     → more ≡ filter_map (limiter_in book) (take (i + 1) (map (λ e. e.name) book.entries))
@@ -258,7 +268,8 @@ limiter_more book names i name limiters more estimator max are within is before 
     ∙ ap (λ o. limiters ++ cons_option o []) own
     ∙ sym (limiter_next book names i name limiters are within is before)
 
-pub limiter_none : (book : endpoint_entries.BookValue) (names : List (List ℕ)) (i : ℕ) (name : List ℕ) (limiters : List Limiter) → names ≡ map (λ e. e.name) book.entries → i < length names → name ≡ get_or names i name
+pub limiter_none : (book : endpoint_entries.BookValue) (names : List (List ℕ)) (i : ℕ) (name : List ℕ)
+    (limiters : List Limiter) → names ≡ map (λ e. e.name) book.entries → i < length names → name ≡ get_or names i name
     → limiters ≡ filter_map (limiter_in book) (take i (map (λ e. e.name) book.entries)) → None ≡ option_map (λ e. e.max) (endpoint_entries.entry_of book name)
     → limiters ≡ filter_map (limiter_in book) (take (i + 1) (map (λ e. e.name) book.entries))
 limiter_none book names i name limiters are within is before there =
@@ -280,9 +291,13 @@ unsampled name (x ∷ xs) = by_bool (bytes_eq x.name name)
 abbrev pub none_waiting : (records mark : ℕ) → WaitingValue
 none_waiting records mark = record { mark = mark; settled = records; waiting = []; out = None }
 
-pub is_desk_opened : (books : Books) (endpoints : endpoint_entries.BookValue) (deliveries : BookValue) (waiting : WaitingValue) (live : List Row) (limiters : List Limiter) (queue : QueueValue) (mark : ℕ)
-    → endpoints ≡ books.endpoints → deliveries ≡ books.deliveries → AreSettled books → AreInStep books.endpoints → (books.endpoints.next_seq ≡ books.endpoints.settled_seq → books.endpoints.changes ≡ []) → IsInStep books.deliveries → waiting ≡ none_waiting books.records mark → live ≡ []
-    → limiters ≡ map (λ e. new_limiter e.name e.max) books.endpoints.entries → AreQueued queue books.deliveries [] → AreMarked queue books.endpoints limiters [] → IsDesk endpoints deliveries waiting live limiters queue
+pub is_desk_opened : (books : Books) (endpoints : endpoint_entries.BookValue) (deliveries : BookValue)
+    (waiting : WaitingValue) (live : List Row) (limiters : List Limiter) (queue : QueueValue) (mark : ℕ)
+    → endpoints ≡ books.endpoints → deliveries ≡ books.deliveries → AreSettled books → AreInStep books.endpoints
+    → (books.endpoints.next_seq ≡ books.endpoints.settled_seq → books.endpoints.changes ≡ [])
+    → IsInStep books.deliveries → waiting ≡ none_waiting books.records mark → live ≡ []
+    → limiters ≡ map (λ e. new_limiter e.name e.max) books.endpoints.entries → AreQueued queue books.deliveries []
+    → AreMarked queue books.endpoints limiters [] → IsDesk endpoints deliveries waiting live limiters queue
 is_desk_opened books endpoints deliveries waiting live limiters queue mark same_endpoints same_deliveries settled endpoints_step all_settled step none nobody are queued marked =
     let same = settled.endpoints_next ∙ sym settled.endpoints_settled in
     rw (same_endpoints, same_deliveries, none, nobody) (record {
@@ -302,7 +317,8 @@ is_desk_opened books endpoints deliveries waiting live limiters queue mark same_
     })
 
 pub is_desk_new : {endpoints : endpoint_entries.BookValue} {deliveries : BookValue} {waiting : WaitingValue} {live : List Row} {limiters : List Limiter} {queue : QueueValue} (mark : ℕ)
-    → endpoints ≡ endpoint_entries.empty_book → deliveries ≡ empty_book → waiting ≡ none_waiting 0 mark → live ≡ [] → limiters ≡ [] → queue ≡ empty_queue → IsDesk endpoints deliveries waiting live limiters queue
+    → endpoints ≡ endpoint_entries.empty_book → deliveries ≡ empty_book → waiting ≡ none_waiting 0 mark → live ≡ []
+    → limiters ≡ [] → queue ≡ empty_queue → IsDesk endpoints deliveries waiting live limiters queue
 is_desk_new {endpoints} {deliveries} {waiting} {live} {limiters} {queue} mark no_endpoint no_event none nobody nothing empty =
     rw (no_endpoint, no_event, none, nobody, nothing, empty) (record {
       endpoints_staged = omega arith;

@@ -21,7 +21,8 @@ same_row_is a b h =
     λ i. record { endpoint = same.0 i; delivery = same.1 i; inflight = same.2 i }
 
 pub same_row_self : (r : Row) → same_row r r ≡ true
-same_row_self r = and_both (bytes_eq r.endpoint r.endpoint) _ ((bytes_eq-Decides r.endpoint r.endpoint).1 refl) (and_both (nat_eq r.delivery r.delivery) _ (eq-eqb r.delivery r.delivery refl) (eq-eqb r.inflight r.inflight refl))
+same_row_self r = and_both (bytes_eq r.endpoint r.endpoint) _ ((bytes_eq-Decides r.endpoint r.endpoint).1 refl)
+    (and_both (nat_eq r.delivery r.delivery) _ (eq-eqb r.delivery r.delivery refl) (eq-eqb r.inflight r.inflight refl))
 
 -- Rows that pass no test
 
@@ -118,7 +119,8 @@ returned_at row rows new i at is once =
     counted [] = refl
     counted (x ∷ xs) = omega (arith, sum_by-cons (λ (y : Row). 1) x xs, counted xs)
 
-pub returned : (row : Row) (rows new : List Row) → (position (same_row row) rows ≡ None → ⊥) → ((i : ℕ) → position (same_row row) rows ≡ Some i → new ≡ remove rows i) → ((d : ℕ) → attempts_at d rows ≤ 1)
+pub returned : (row : Row) (rows new : List Row) → (position (same_row row) rows ≡ None → ⊥)
+    → ((i : ℕ) → position (same_row row) rows ≡ Some i → new ≡ remove rows i) → ((d : ℕ) → attempts_at d rows ≤ 1)
     → IsReturned row rows new
 returned row rows new there is once =
     by_option (position (same_row row) rows) (λ e. absurd (there e)) (λ i e. returned_at row rows new i e (is i e) once)
@@ -140,7 +142,8 @@ last_out permits last rows h e =
     absurd (omega (arith, h last, more, none, ap {B = ℕ} (λ b. cond b 1 0) (same_row_self last)))
 
 -- without it the others are all of those that are out
-pub last_back : (permits : List Row) (last : Row) (rows new : List Row) → AreAll (permits ++ last ∷ []) rows → ((i : ℕ) → position (same_row last) rows ≡ Some i → new ≡ remove rows i) → AreAll permits new
+pub last_back : (permits : List Row) (last : Row) (rows new : List Row) → AreAll (permits ++ last ∷ []) rows
+    → ((i : ℕ) → position (same_row last) rows ≡ Some i → new ≡ remove rows i) → AreAll permits new
 last_back permits last rows new h is = by_option (position (same_row last) rows)
     (λ e. absurd (last_out permits last rows h e))
     (λ i e r.

@@ -243,7 +243,9 @@ apart_settled book apart = record {
   in_turn = ap (rises (book.settled_seq + 1) (max book.next_seq (book.settled_seq + 1))) rest ∙ rises_behind book.settled_seq book.next_seq book.unsettled apart.in_turn;
   told = ap (list_all (is_told (later book))) rest
       ∙ all_both (λ (o : Unsettled). not (names (first book) o.delivery)) (is_told book) (is_told (later book)) (behind book.settled_seq book.unsettled)
-      (λ o other told. ap (λ e. option_map_or (λ (x : Entry). not (nat_eq x.latest.attempts x.settled.attempts)) e false) (entry_still book o.delivery apart (not_named (names (first book) o.delivery) other)) ∙ told)
+      (λ o other told. ap
+      (λ e. option_map_or (λ (x : Entry). not (nat_eq x.latest.attempts x.settled.attempts)) e false)
+      (entry_still book o.delivery apart (not_named (names (first book) o.delivery) other)) ∙ told)
       (others_wait book.settled_seq book.unsettled apart.once) (all_behind (is_told book) book.settled_seq book.unsettled apart.told);
   own = ap (list_all (is_own (later book))) rest
       ∙ ap (λ test. list_all test (behind book.settled_seq book.unsettled)) (λ i o. not (found_as o.seq i))
@@ -327,7 +329,8 @@ later_is book after seq same is = is ∙ ap (λ n. with_settled book (n + 1)) sa
 pub new_next : (queue : QueueValue) (book : BookValue) (next : Option ℕ) (d : ℕ) → next ≡ next_settled book → next ≡ Some d → (live : List Row) × AreQueued queue book live → IsNew queue d
 new_next queue book next d told is queued = new_settled queue book queued.0 d queued.1 (ap (λ o. names o d) (sym told ∙ is) ∙ eq-eqb d d refl)
 
-pub places_next : (queue : QueueValue) (book after : BookValue) (seq : ℕ) → seq ≡ book.settled_seq → after ≡ with_settled book (seq + 1) → (live : List Row) × AreQueued queue book live → HasPlaces queue after
+pub places_next : (queue : QueueValue) (book after : BookValue) (seq : ℕ) → seq ≡ book.settled_seq
+    → after ≡ with_settled book (seq + 1) → (live : List Row) × AreQueued queue book live → HasPlaces queue after
 places_next queue book after seq same is queued =
     subst (λ (b : BookValue). HasPlaces queue b) (sym (later_is book after seq same is)) (places_settled queue book queued.0 queued.1)
 
@@ -363,7 +366,9 @@ none_left book settled counter records is waits =
     let none : 0 ≡ counter - settled = omega (arith, is) in
     subst (λ n. HasWaiting book (drop n records)) none waits
 
-pub one_further : (book : BookValue) (settled counter : ℕ) (records : List Record) → settled ≤ counter → HasWaiting book (drop 1 (drop (counter - settled) records)) → HasWaiting book (drop (counter + 1 - settled) records)
+pub one_further : (book : BookValue) (settled counter : ℕ) (records : List Record) → settled ≤ counter
+    → HasWaiting book (drop 1 (drop (counter - settled) records))
+    → HasWaiting book (drop (counter + 1 - settled) records)
 one_further book settled counter records above waits =
     let more : counter - settled + 1 ≡ counter + 1 - settled = omega (arith, above) in
     subst (HasWaiting book) (drop_drop (counter - settled) 1 records ∙ ap (λ n. drop n records) more) waits
@@ -393,7 +398,8 @@ pub none_tried : (book : BookValue) (records : List Record) → HasWaiting book 
 none_tried book records h d none = subst (AreTries (attempts_of records d)) none (h.tries d)
 
 -- with one more event, the deliveries of which an outcome waits have the endpoints that they had
-pub named_alike : (book : BookValue) (x : Entry) (later : BookValue) (records : List Record) → later.entries ≡ book.entries ++ x ∷ [] → ((d : ℕ) → entry_at book.entries d ≡ None → attempts_of records d ≡ [])
+pub named_alike : (book : BookValue) (x : Entry) (later : BookValue) (records : List Record) → later.entries
+    ≡ book.entries ++ x ∷ [] → ((d : ℕ) → entry_at book.entries d ≡ None → attempts_of records d ≡ [])
     → AreNamedAlike (endpoint_at book) (endpoint_at later) records
 named_alike book x later [] more tried = tt
 named_alike book x later (Outcome delivery attempt status moment ∷ rest) more tried = (
@@ -421,11 +427,15 @@ new_alone : (book : BookValue) (x : Entry) (n : ℕ) → entry_at book.entries n
 new_alone book x n h = find-append (λ y. nat_eq y.seq n) book.entries (x ∷ []) ∙ ap (λ o. option_or o (cond (nat_eq x.seq n) (Some x) None)) h
 
 -- a test of an entry that is there, where none is there it fails
-kept_with : (test : Entry → Bool) (book : BookValue) (x : Entry) (n : ℕ) → option_map_or test (entry_at book.entries n) false ≡ true → option_map_or test (entry_at (book.entries ++ x ∷ []) n) false ≡ true
+kept_with : (test : Entry → Bool) (book : BookValue) (x : Entry) (n : ℕ)
+    → option_map_or test (entry_at book.entries n) false ≡ true
+    → option_map_or test (entry_at (book.entries ++ x ∷ []) n) false ≡ true
 kept_with test book x n h = let there = there_with book x n in grind (arith, there, h)
 
 -- a test that fails at the new entry tells the same
-same_with : (test : Entry → Bool) (book : BookValue) (x : Entry) (n : ℕ) → test x ≡ false → option_map_or test (entry_at book.entries n) false ≡ option_map_or test (entry_at (book.entries ++ x ∷ []) n) false
+same_with : (test : Entry → Bool) (book : BookValue) (x : Entry) (n : ℕ) → test x ≡ false
+    → option_map_or test (entry_at book.entries n) false
+    ≡ option_map_or test (entry_at (book.entries ++ x ∷ []) n) false
 same_with test book x n fails =
     let found = find-append (λ (y : Entry). nat_eq y.seq n) book.entries (x ∷ []) in
     grind (arith, found, fails)
@@ -438,7 +448,8 @@ outcomes_below from upto (o ∷ rest) h =
     let later = and_second (nat_le from o.seq) _ h in
     grind (arith, nat_tests, rises_within (o.seq + 1) upto rest later, outcomes_below (o.seq + 1) upto rest later)
 
-own_with : (book : BookValue) (x : Entry) (o : Unsettled) → book.next_seq ≤ x.seq → nat_lt o.seq book.next_seq ≡ true → is_own book o ≡ true → not (is_some (entry_at (book.entries ++ x ∷ []) o.seq)) ≡ true
+own_with : (book : BookValue) (x : Entry) (o : Unsettled) → book.next_seq ≤ x.seq → nat_lt o.seq book.next_seq ≡ true
+    → is_own book o ≡ true → not (is_some (entry_at (book.entries ++ x ∷ []) o.seq)) ≡ true
 own_with book x o above below own =
     let alone = new_alone book x o.seq in
     grind (arith, nat_tests, own, alone, above, below)
@@ -450,8 +461,12 @@ both_pass p q r (o ∷ rest) h a b = grind (arith, h o, both_pass p q r rest h)
 apart_taken : (book : BookValue) (s : ℕ) (name id body : List ℕ) (at : ℕ) → book.next_seq ≤ s → AreApart book → AreApart (with_event book s name id body at)
 apart_taken book s name id body at above h = record {
   in_turn = rises_upto book.settled_seq book.next_seq (s + 1) book.unsettled (omega (arith, above)) h.in_turn;
-  told = all_weaker (is_told book) (is_told (with_event book s name id body at)) book.unsettled (λ o. kept_with (λ e. not (nat_eq e.latest.attempts e.settled.attempts)) book (new_entry s name id body at) o.delivery) h.told;
-  own = both_pass (λ o. nat_lt o.seq book.next_seq) (is_own book) (is_own (with_event book s name id body at)) book.unsettled (λ o. own_with book (new_entry s name id body at) o above) (outcomes_below book.settled_seq book.next_seq book.unsettled h.in_turn) h.own;
+  told = all_weaker (is_told book) (is_told (with_event book s name id body at)) book.unsettled
+      (λ o. kept_with (λ e. not (nat_eq e.latest.attempts e.settled.attempts)) book
+      (new_entry s name id body at) o.delivery) h.told;
+  own = both_pass (λ o. nat_lt o.seq book.next_seq) (is_own book) (is_own (with_event book s name id body at))
+      book.unsettled (λ o. own_with book (new_entry s name id body at) o above)
+      (outcomes_below book.settled_seq book.next_seq book.unsettled h.in_turn) h.own;
   once = h.once;
 }
 
@@ -468,13 +483,16 @@ under_way_taken book live s name id body at h = record {
 -- The queue
 
 -- a delivery that isn't settled doesn't wait for an attempt
-waits_taken : (book : BookValue) (live : List Row) (s : ℕ) (name id body : List ℕ) (at : ℕ) (pair : Pair) → book.settled_seq ≤ s → waits_as book live pair ≡ waits_as (with_event book s name id body at) live pair
+waits_taken : (book : BookValue) (live : List Row) (s : ℕ) (name id body : List ℕ) (at : ℕ) (pair : Pair)
+    → book.settled_seq ≤ s → waits_as book live pair ≡ waits_as (with_event book s name id body at) live pair
 waits_taken book live s name id body at pair above =
     let x = new_entry s name id body at in
     same_with (λ e. is_idle book.settled_seq live e && is_pair_of pair e) book (new_entry s name id body at) pair.seq
     (ap (λ b. (b && (is_open x && not (is_out x.seq live))) && is_pair_of pair x) (le-ltb s book.settled_seq above))
 
-places_taken : (queue new : QueueValue) (book : BookValue) (s : ℕ) (name id body : List ℕ) (at : ℕ) → HasSamePairs queue new → SetsMark queue new (reserved_mark queue name (pending_in book name + 1)) → HasPlaces queue book
+places_taken : (queue new : QueueValue) (book : BookValue) (s : ℕ) (name id body : List ℕ) (at : ℕ)
+    → HasSamePairs queue new → SetsMark queue new (reserved_mark queue name (pending_in book name + 1))
+    → HasPlaces queue book
     → HasPlaces new (with_event book s name id body at)
 places_taken queue new book s name id body at same sets places n = by_name name n own other
   where
@@ -498,8 +516,10 @@ places_taken queue new book s name id body at same sets places n = by_name name 
         let kept = places_reserved queue new name (pending_in book name + 1) sets n in
         grind (arith, pushed, apart, counted, places n, kept)
 
-pub tied_accept : {endpoints : endpoint_entries.BookValue} {deliveries : BookValue} {waiting : WaitingValue} {live : List Row} {limiters : List Limiter} {queue new : QueueValue} (s : ℕ) (name id kept body : List ℕ) (at : ℕ)
-    → record_count waiting + length live < MAX_RECORDS → deliveries.next_seq ≤ s → deliveries.settled_seq ≤ s → HasSamePairs queue new → SetsMark queue new (reserved_mark queue name (pending_in deliveries name + 1))
+pub tied_accept : {endpoints : endpoint_entries.BookValue} {deliveries : BookValue} {waiting : WaitingValue}
+    {live : List Row} {limiters : List Limiter} {queue new : QueueValue} (s : ℕ) (name id kept body : List ℕ) (at : ℕ)
+    → record_count waiting + length live < MAX_RECORDS → deliveries.next_seq ≤ s → deliveries.settled_seq ≤ s
+    → HasSamePairs queue new → SetsMark queue new (reserved_mark queue name (pending_in deliveries name + 1))
     → AreTied endpoints deliveries waiting live limiters queue → AreTied endpoints (with_event deliveries s name id kept at) (with_step waiting (Accept name id body at ∷ [])) live limiters new
 tied_accept {endpoints} {deliveries} {waiting} {live} {limiters} {queue} {new} s name id kept body at numbers above behind same sets h = record {
   limited = h.limited;
@@ -513,7 +533,9 @@ tied_accept {endpoints} {deliveries} {waiting} {live} {limiters} {queue} {new} s
   };
 }
 
-pub desk_accept : {endpoints : endpoint_entries.BookValue} {deliveries taken : BookValue} {waiting later : WaitingValue} {live : List Row} {limiters : List Limiter} {queue new : QueueValue} (s : ℕ) (name id kept body : List ℕ) (at pending : ℕ)
+pub desk_accept : {endpoints : endpoint_entries.BookValue} {deliveries taken : BookValue} {waiting later : WaitingValue}
+    {live : List Row} {limiters : List Limiter} {queue new : QueueValue} (s : ℕ) (name id kept body : List ℕ)
+    (at pending : ℕ)
     → s ≡ record_count waiting → kept ≡ body → taken ≡ with_event deliveries s name id kept at → later ≡ with_step waiting (Accept name id body at ∷ []) → pending ≡ pending_in deliveries name
     → record_count waiting + length live < MAX_RECORDS → HasSamePairs queue new → SetsMark queue new (reserved_mark queue name (pending + 1))
     → IsDesk endpoints deliveries waiting live limiters queue → IsDesk endpoints taken later live limiters new
@@ -525,7 +547,9 @@ desk_accept {endpoints} {deliveries} {taken} {waiting} {later} {live} {limiters}
     (subst (λ (b : BookValue). HasChanges (endpoint_at b) endpoints (records_of waiting.waiting ++ Accept name id body at ∷ [])) (sym is)
     (changes_other (endpoint_at (with_event deliveries s name id kept at)) endpoints (records_of waiting.waiting) (Accept name id body at) refl
     (changes_named (endpoint_at deliveries) (endpoint_at (with_event deliveries s name id kept at)) endpoints (records_of waiting.waiting)
-    (named_alike deliveries (new_entry s name id kept at) (with_event deliveries s name id kept at) (records_of waiting.waiting) refl (none_tried deliveries (records_of waiting.waiting) h.deliveries_wait)) h.endpoints_wait)))
+    (named_alike deliveries (new_entry s name id kept at) (with_event deliveries s name id kept at)
+    (records_of waiting.waiting) refl (none_tried deliveries (records_of waiting.waiting) h.deliveries_wait))
+    h.endpoints_wait)))
     (subst (λ b. AreTied endpoints b (with_step waiting (Accept name id body at ∷ [])) live limiters new) (sym is)
     (tied_accept s name id kept body at numbers (omega (arith, count, h.deliveries_staged)) (omega (arith, count, h.deliveries_settled)) same
     (subst (λ n. SetsMark queue new (reserved_mark queue name (n + 1))) few sets) h.tied)))

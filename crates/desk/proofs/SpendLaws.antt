@@ -171,9 +171,15 @@ known_attempt {d} {w} row h u =
 
 -- The outcome waits
 
-stands_tried : (d : DeskValue) (w : World) (row : Row) (status at : ℕ) → StandsFor d w → UnderWay d.deliveries row → IsTrue (endpoint_entries.is_known d.endpoints row.endpoint) → record_count d.waiting < MAX_RECORDS
+stands_tried : (d : DeskValue) (w : World) (row : Row) (status at : ℕ) → StandsFor d w → UnderWay d.deliveries row
+    → IsTrue (endpoint_entries.is_known d.endpoints row.endpoint) → record_count d.waiting < MAX_RECORDS
     → is_status status ≡ true → is_moment at ≡ true
-    → StandsFor (record d { endpoints = disabled d.endpoints (record_count d.waiting) row.endpoint (Some status); deliveries = tried d.deliveries (record_count d.waiting) row.delivery (Some status) at; waiting = recorded d row at (Some status) })
+    → StandsFor (record d {
+      endpoints = disabled d.endpoints (record_count d.waiting) row.endpoint (Some status);
+      deliveries = tried d.deliveries (record_count d.waiting) row.delivery (Some status) at;
+      waiting =
+          recorded d row at (Some status);
+    })
     (record w { history = w.history ++ (Outcome row.delivery (next_attempt w row.delivery) status at ∷ []) ∷ [] })
 stands_tried d w row status at h u known room legal_status moment_is =
     subst (λ attempt. StandsFor (record d {
@@ -183,7 +189,9 @@ stands_tried d w row status at h u known room legal_status moment_is =
     }) (record w { history = w.history ++ (Outcome row.delivery attempt status at ∷ []) ∷ [] })) is.numbered
     (stands_staged d w entry (with_gone d.endpoints (record_count d.waiting) row.endpoint status) (tried d.deliveries (record_count d.waiting) row.delivery (Some status) at) h (record {
       of_endpoints = gone (is_gone_status status) refl;
-      of_deliveries = stands_outcome d.deliveries (all_records w) (length (settled_records w)) (record_count d.waiting) row.delivery (attempt_in d.deliveries row.delivery) status at h.books.of_deliveries (count_is h) (takes d.deliveries row u);
+      of_deliveries = stands_outcome d.deliveries (all_records w) (length (settled_records w))
+          (record_count d.waiting) row.delivery (attempt_in d.deliveries row.delivery) status at h.books.of_deliveries
+          (count_is h) (takes d.deliveries row u);
       legal = legal;
     }))
   where
@@ -196,12 +204,19 @@ stands_tried d w row status at h u known room legal_status moment_is =
     legal : IsLegal (all_records w ++ entry ∷ [])
     legal = legal_with entry h room
         (and_both (is_pending (all_records w) row.delivery) _ is.pending
-        (and_both (nat_eq (attempt_in d.deliveries row.delivery) (length (attempts_of (all_records w) row.delivery) + 1)) _ (eq-eqb (attempt_in d.deliveries row.delivery) (length (attempts_of (all_records w) row.delivery) + 1) is.numbered) legal_status))
+        (and_both (nat_eq (attempt_in d.deliveries row.delivery)
+        (length (attempts_of (all_records w) row.delivery) + 1)) _
+        (eq-eqb (attempt_in d.deliveries row.delivery) (length (attempts_of (all_records w) row.delivery) + 1)
+        is.numbered) legal_status))
         moment_is
 
     gone : (b : Bool) → is_gone_status status ≡ b
-        → endpoint_book.StandsFor (if b then endpoint_entries.with_flag d.endpoints (record_count d.waiting) row.endpoint false else d.endpoints) (all_records w ++ entry ∷ []) (length (settled_records w))
-    gone true e = stands-gone d.endpoints (all_records w) (length (settled_records w)) (record_count d.waiting) row.endpoint row.delivery (attempt_in d.deliveries row.delivery) status at h.books.of_endpoints (count_is h) e is.own legal known
+        → endpoint_book.StandsFor
+        (if b then endpoint_entries.with_flag d.endpoints (record_count d.waiting) row.endpoint false else d.endpoints)
+        (all_records w ++ entry ∷ []) (length (settled_records w))
+    gone true e = stands-gone d.endpoints (all_records w) (length (settled_records w))
+        (record_count d.waiting) row.endpoint row.delivery (attempt_in d.deliveries row.delivery) status at
+        h.books.of_endpoints (count_is h) e is.own legal known
     gone false e = stands-other d.endpoints (all_records w) (length (settled_records w)) entry h.books.of_endpoints legal (ap not e)
 
 -- The attempt is over
@@ -213,7 +228,8 @@ went w row post at status = record (without_row w row) {
   clock = at;
 }
 
-stands_over : (d : DeskValue) (w : World) (row : Row) (post : PostResult) (at : ℕ) (limiters : List Limiter) → StandsFor d w → AreLimits limiters (record w { measured = w.measured ++ sample_by row post })
+stands_over : (d : DeskValue) (w : World) (row : Row) (post : PostResult) (at : ℕ) (limiters : List Limiter)
+    → StandsFor d w → AreLimits limiters (record w { measured = w.measured ++ sample_by row post })
     → StandsFor (record d { clock = at; live = others row d.live; limiters = limiters }) (record (without_row w row) { measured = w.measured ++ sample_by row post; clock = at })
 stands_over d w row post at limiters h limits = assumption (ap (others row) h.live, limits)
 
@@ -222,7 +238,8 @@ pub stands_returned : (d : DeskValue) (w : World) (row : Row) → StandsFor d w 
 stands_returned d w row h = assumption (ap (others row) h.live)
 
 stands_went : (d : DeskValue) (w : World) (row : Row) (post : PostResult) (at : ℕ) (status : Option ℕ) (limiters : List Limiter) → StandsFor d w → AreSampled d.limiters limiters row post
-    → UnderWay d.deliveries row → IsTrue (endpoint_entries.is_known d.endpoints row.endpoint) → record_count d.waiting < MAX_RECORDS → ((s : ℕ) → status ≡ Some s → is_status s ≡ true) → is_moment at ≡ true
+    → UnderWay d.deliveries row → IsTrue (endpoint_entries.is_known d.endpoints row.endpoint) → record_count d.waiting
+    < MAX_RECORDS → ((s : ℕ) → status ≡ Some s → is_status s ≡ true) → is_moment at ≡ true
     → StandsFor (over d row status at at limiters) (went w row post at status)
 stands_went d w row post at None limiters h sampled u known room legal_status moment_is =
     subst (λ history. StandsFor (over d row None at at limiters) (record (went w row post at None) { history = history })) (sym (append-nil w.history))
@@ -237,7 +254,8 @@ AreTold true old new row post = new ≡ old
 AreTold false old new row post = AreSampled old new row post
 
 pub stands_spent : (d : DeskValue) (w : World) (row : Row) (post : PostResult) (now : ℕ) (limiters : List Limiter) → StandsFor d w → AreTold d.halted d.limiters limiters row post
-    → UnderWay d.deliveries row → IsTrue (endpoint_entries.is_known d.endpoints row.endpoint) → record_count d.waiting < MAX_RECORDS → ((s : ℕ) → recorded_status post ≡ Some s → is_status s ≡ true) → is_moment (max now d.clock) ≡ true
+    → UnderWay d.deliveries row → IsTrue (endpoint_entries.is_known d.endpoints row.endpoint) → record_count d.waiting
+    < MAX_RECORDS → ((s : ℕ) → recorded_status post ≡ Some s → is_status s ≡ true) → is_moment (max now d.clock) ≡ true
     → StandsFor (over d row (status_of d.halted post) (max now d.clock) (if d.halted then d.clock else max now d.clock) limiters) (with_attempt_over w row post now)
 stands_spent d w row post now limiters h told u known room legal_status moment_is = by d.halted refl told
   where
@@ -260,9 +278,12 @@ exhausted_is {d} {w} delivery h =
     ∙ by_option (accepted (all_records w) delivery) (λ e. rw e) (λ a e. rw e)
 
 -- what a spend known_attempt
-pub tells_spent : (d new : DeskValue) (w : World) (row : Row) (post : PostResult) (now : ℕ) (staged : Option ℕ) (limit in_flight : ℕ) (exhausted : Bool) → StandsFor d w → StandsFor new (with_attempt_over w row post now)
+pub tells_spent : (d new : DeskValue) (w : World) (row : Row) (post : PostResult) (now : ℕ) (staged : Option ℕ)
+    (limit in_flight : ℕ) (exhausted : Bool) → StandsFor d w → StandsFor new (with_attempt_over w row post now)
     → AreLimiters new.limiters new.endpoints → IsTrue (endpoint_entries.is_known new.endpoints row.endpoint)
-    → staged ≡ option_map (λ _. record_count d.waiting) (status_of d.halted post) → limit ≡ limit_by new.limiters row.endpoint → in_flight ≡ in_flight_of row.endpoint new.live → exhausted ≡ is_exhausted_in new.deliveries row.delivery
+    → staged ≡ option_map (λ _. record_count d.waiting) (status_of d.halted post)
+    → limit ≡ limit_by new.limiters row.endpoint → in_flight ≡ in_flight_of row.endpoint new.live
+    → exhausted ≡ is_exhausted_in new.deliveries row.delivery
     → record { row = row; post = post; staged = staged; limit = limit; in_flight = in_flight; exhausted = exhausted } ≡ spent_by w row post now
 tells_spent d new w row post now staged limit in_flight exhausted h after limited known stages limits flies ends =
     let limit_told : limit ≡ limit_in (with_attempt_over w row post now) row.endpoint = limits ∙ limit_is row.endpoint after limited (sym (known_is row.endpoint after) ∙ known) in
@@ -275,16 +296,20 @@ tells_spent d new w row post now staged limit in_flight exhausted h after limite
 -- What ties a desk's fields stays so once an attempt is over
 
 -- an endpoint that is known has a limiter
-pub limiter_known : (limiters : List Limiter) (book : endpoint_entries.BookValue) (name : List ℕ) → AreLimiters limiters book → IsTrue (endpoint_entries.is_known book name) → is_some (limiter_of limiters name) ≡ true
+pub limiter_known : (limiters : List Limiter) (book : endpoint_entries.BookValue) (name : List ℕ)
+    → AreLimiters limiters book → IsTrue (endpoint_entries.is_known book name) → is_some (limiter_of limiters name)
+    ≡ true
 limiter_known limiters book name are known =
     let entry = limiter_entry limiters book name are in grind (arith, entry, known)
 
 -- what the endpoints tell after it
-disabled_known : (book : endpoint_entries.BookValue) (seq : ℕ) (name other : List ℕ) (status : Option ℕ) → endpoint_entries.is_known (disabled book seq name status) other ≡ endpoint_entries.is_known book other
+disabled_known : (book : endpoint_entries.BookValue) (seq : ℕ) (name other : List ℕ) (status : Option ℕ)
+    → endpoint_entries.is_known (disabled book seq name status) other ≡ endpoint_entries.is_known book other
 disabled_known book seq name other None = refl
 disabled_known book seq name other (Some status) = grind (arith, flag_known book seq name other false)
 
-disabled_limiters : (book : endpoint_entries.BookValue) (seq : ℕ) (name : List ℕ) (status : Option ℕ) (limiters : List Limiter) → AreLimiters limiters book → AreLimiters limiters (disabled book seq name status)
+disabled_limiters : (book : endpoint_entries.BookValue) (seq : ℕ) (name : List ℕ) (status : Option ℕ)
+    (limiters : List Limiter) → AreLimiters limiters book → AreLimiters limiters (disabled book seq name status)
 disabled_limiters book seq name None limiters h = h
 disabled_limiters book seq name (Some status) limiters h = grind (arith, h, flag_limiters book seq name false limiters)
 
@@ -315,7 +340,9 @@ is_live d queue row rest tied r = record {
   known = r.passes (λ (x : Row). endpoint_entries.is_known d.endpoints x.endpoint) tied.marked.listed;
 }
 
-pub takes_outcome : (d : DeskValue) (queue : QueueValue) (row : Row) (rest : List Row) → IsDesk d.endpoints d.deliveries d.waiting d.live d.limiters queue → IsLive d row rest → TakesOutcome d.waiting d.endpoints d.deliveries row
+pub takes_outcome : (d : DeskValue) (queue : QueueValue) (row : Row) (rest : List Row)
+    → IsDesk d.endpoints d.deliveries d.waiting d.live d.limiters queue → IsLive d row rest
+    → TakesOutcome d.waiting d.endpoints d.deliveries row
 takes_outcome d queue row rest h is =
     let place : outcomes_in d.waiting.waiting < MAX_WAITING_OUTCOMES =
     omega (arith, h.tied.room.places, is.gone.fewer) in
@@ -335,8 +362,10 @@ places_over d queue row (Some s) at tied = places_tried queue d.deliveries (reco
 
 -- The attempt is over
 
-queued_over : (d : DeskValue) (queue held : QueueValue) (row : Row) (rest : List Row) (status : Option ℕ) (at : ℕ) → IsDesk d.endpoints d.deliveries d.waiting d.live d.limiters queue → IsLive d row rest → IsUnused d status
-    → Holds queue held (idle_pair (tried d.deliveries (record_count d.waiting) row.delivery status at) row.delivery) → HasPlaces held (tried d.deliveries (record_count d.waiting) row.delivery status at)
+queued_over : (d : DeskValue) (queue held : QueueValue) (row : Row) (rest : List Row) (status : Option ℕ) (at : ℕ)
+    → IsDesk d.endpoints d.deliveries d.waiting d.live d.limiters queue → IsLive d row rest → IsUnused d status
+    → Holds queue held (idle_pair (tried d.deliveries (record_count d.waiting) row.delivery status at) row.delivery)
+    → HasPlaces held (tried d.deliveries (record_count d.waiting) row.delivery status at)
     → AreQueued held (tried d.deliveries (record_count d.waiting) row.delivery status at) rest
 queued_over d queue held row rest None at h is unused holds places =
     let way = under_way_less d.deliveries row d.live rest is.gone h.tied.queued.under_way in
@@ -349,7 +378,8 @@ queued_over d queue held row rest (Some s) at h is unused holds places = record 
   places = places;
 }
 
-room_over : (d : DeskValue) (row : Row) (rest : List Row) (status : Option ℕ) (at : ℕ) → HasRoomForAll d.waiting d.live → length rest + 1 ≡ length d.live → HasRoomForAll (recorded d row at status) rest
+room_over : (d : DeskValue) (row : Row) (rest : List Row) (status : Option ℕ) (at : ℕ) → HasRoomForAll d.waiting d.live
+    → length rest + 1 ≡ length d.live → HasRoomForAll (recorded d row at status) rest
 room_over d row rest None at h fewer = record { places = omega (arith, h.places, fewer); numbers = omega (arith, h.numbers, fewer) }
 room_over d row rest (Some s) at h fewer = record {
   places = omega (arith, h.places, fewer, outcomes_snoc d.waiting.waiting (Outcome row.delivery (attempt_in d.deliveries row.delivery) s at));
@@ -365,27 +395,37 @@ pub keeps_others : (halted : Bool) (old new : List Limiter) (row : Row) (post : 
 keeps_others true old new row post same = record { same = ap (map bound_by) same; others = λ name apart. ap (λ ls. limiter_of ls name) same }
 keeps_others false old new row post sampled = record { same = sampled.same; others = sampled.others }
 
-pub limited_over : (d : DeskValue) (row : Row) (status : Option ℕ) (limiters : List Limiter) → AreLimiters d.limiters d.endpoints → KeepsOthers d.limiters limiters row → AreLimiters limiters (disabled d.endpoints (record_count d.waiting) row.endpoint status)
+pub limited_over : (d : DeskValue) (row : Row) (status : Option ℕ) (limiters : List Limiter)
+    → AreLimiters d.limiters d.endpoints → KeepsOthers d.limiters limiters row
+    → AreLimiters limiters (disabled d.endpoints (record_count d.waiting) row.endpoint status)
 limited_over d row status limiters h kept = kept.same ∙ disabled_limiters d.endpoints (record_count d.waiting) row.endpoint status d.limiters h
 
-marked_over : (d : DeskValue) (queue held told : QueueValue) (row : Row) (rest : List Row) (status : Option ℕ) (limiters : List Limiter) → AreMarked queue d.endpoints d.limiters d.live → IsLive d row rest → KeepsOthers d.limiters limiters row
+marked_over : (d : DeskValue) (queue held told : QueueValue) (row : Row) (rest : List Row) (status : Option ℕ)
+    (limiters : List Limiter) → AreMarked queue d.endpoints d.limiters d.live → IsLive d row rest
+    → KeepsOthers d.limiters limiters row
     → KeepsRooms queue held → ChangesMark held told row.endpoint (with_room (room_by (disabled d.endpoints (record_count d.waiting) row.endpoint status) limiters rest row.endpoint))
     → AreMarked told (disabled d.endpoints (record_count d.waiting) row.endpoint status) limiters rest
 marked_over d queue held told row rest status limiters h is kept rooms changes =
     marked_told held told (disabled d.endpoints (record_count d.waiting) row.endpoint status) limiters rest row.endpoint changes
     (λ name known. rooms.reserved name ∙ h.known name (sym (disabled_known d.endpoints (record_count d.waiting) row.endpoint name status) ∙ known))
     (λ name apart there. rooms.rooms name ∙ h.rooms name (sym (rooms.reserved name) ∙ there) ∙ sym (same name apart))
-    (all_weaker (λ (x : Row). endpoint_entries.is_known d.endpoints x.endpoint) (λ (x : Row). endpoint_entries.is_known (disabled d.endpoints (record_count d.waiting) row.endpoint status) x.endpoint) rest
+    (all_weaker (λ (x : Row). endpoint_entries.is_known d.endpoints x.endpoint)
+    (λ (x : Row). endpoint_entries.is_known (disabled d.endpoints (record_count d.waiting) row.endpoint status)
+    x.endpoint) rest
     (λ x t. disabled_known d.endpoints (record_count d.waiting) row.endpoint x.endpoint status ∙ t) (is.gone.pass (λ (x : Row). endpoint_entries.is_known d.endpoints x.endpoint) h.listed))
   where
-    same : (name : List ℕ) → bytes_eq row.endpoint name ≡ false → room_by (disabled d.endpoints (record_count d.waiting) row.endpoint status) limiters rest name ≡ room_by d.endpoints d.limiters d.live name
+    same : (name : List ℕ) → bytes_eq row.endpoint name ≡ false
+        → room_by (disabled d.endpoints (record_count d.waiting) row.endpoint status) limiters rest name
+        ≡ room_by d.endpoints d.limiters d.live name
     same name apart =
         disabled_room d.endpoints (record_count d.waiting) row.endpoint name status limiters rest apart
         ∙ (λ i. enabled_in d.endpoints name && nat_lt (is.gone.in_flight name apart i) (option_map_or (λ (l : Limiter). l.estimator.state.limit) (kept.others name apart i) 0))
 
-pub tied_over : (d : DeskValue) (queue held told : QueueValue) (row : Row) (rest : List Row) (status : Option ℕ) (at : ℕ) (limiters : List Limiter) → IsDesk d.endpoints d.deliveries d.waiting d.live d.limiters queue
+pub tied_over : (d : DeskValue) (queue held told : QueueValue) (row : Row) (rest : List Row) (status : Option ℕ)
+    (at : ℕ) (limiters : List Limiter) → IsDesk d.endpoints d.deliveries d.waiting d.live d.limiters queue
     → IsLive d row rest → IsUnused d status → KeepsOthers d.limiters limiters row
-    → Holds queue held (idle_pair (tried d.deliveries (record_count d.waiting) row.delivery status at) row.delivery) → HasPlaces held (tried d.deliveries (record_count d.waiting) row.delivery status at)
+    → Holds queue held (idle_pair (tried d.deliveries (record_count d.waiting) row.delivery status at) row.delivery)
+    → HasPlaces held (tried d.deliveries (record_count d.waiting) row.delivery status at)
     → HasSamePairs held told → ChangesMark held told row.endpoint (with_room (room_by (disabled d.endpoints (record_count d.waiting) row.endpoint status) limiters rest row.endpoint))
     → AreTied (disabled d.endpoints (record_count d.waiting) row.endpoint status) (tried d.deliveries (record_count d.waiting) row.delivery status at) (recorded d row at status) rest limiters told
 tied_over d queue held told row rest status at limiters h is unused kept holds places same changes =
@@ -397,7 +437,8 @@ tied_over d queue held told row rest status at limiters h is unused kept holds p
       queued = queued_told held told _ rest row.endpoint _ same changes queued;
     }
 
-pub is_desk_over : (d : DeskValue) (queue told : QueueValue) (row : Row) (rest : List Row) (status : Option ℕ) (at : ℕ) (limiters : List Limiter) → IsDesk d.endpoints d.deliveries d.waiting d.live d.limiters queue → IsLive d row rest
+pub is_desk_over : (d : DeskValue) (queue told : QueueValue) (row : Row) (rest : List Row) (status : Option ℕ) (at : ℕ)
+    (limiters : List Limiter) → IsDesk d.endpoints d.deliveries d.waiting d.live d.limiters queue → IsLive d row rest
     → AreTied (disabled d.endpoints (record_count d.waiting) row.endpoint status) (tried d.deliveries (record_count d.waiting) row.delivery status at) (recorded d row at status) rest limiters told
     → IsDesk (disabled d.endpoints (record_count d.waiting) row.endpoint status) (tried d.deliveries (record_count d.waiting) row.delivery status at) (recorded d row at status) rest limiters told
 is_desk_over d queue told row rest None at limiters h is tied = assumption
@@ -405,18 +446,29 @@ is_desk_over d queue told row rest (Some s) at limiters h is tied = record {
   endpoints_staged = (staged (is_gone_status s)).0;
   endpoints_settled = (staged (is_gone_status s)).1 ∙ h.endpoints_settled;
   flags_few = (staged (is_gone_status s)).2;
-  endpoints_wait = subst (λ name_of. HasChanges name_of (after (is_gone_status s)) (records_of (recorded d row at (Some s)).waiting)) (λ i n. sym (names_tried d.deliveries (record_count d.waiting) row.delivery s at n) i)
+  endpoints_wait =
+      subst (λ name_of. HasChanges name_of (after (is_gone_status s)) (records_of (recorded d row at (Some s)).waiting))
+      (λ i n. sym (names_tried d.deliveries (record_count d.waiting) row.delivery s at n) i)
       (one_changes (endpoint_at d.deliveries) (after (is_gone_status s)) d.waiting outcome (changed (is_gone_status s) refl));
   deliveries_staged = omega (arith, one_more d.waiting (Outcome row.delivery (attempt_in d.deliveries row.delivery) s at));
   deliveries_settled = h.deliveries_settled;
   deliveries_wait = one_waits (tried d.deliveries (record_count d.waiting) row.delivery (Some s) at) d.waiting (Outcome row.delivery (attempt_in d.deliveries row.delivery) s at)
-      (waiting_outcome d.deliveries (records_of d.waiting.waiting) (record_count d.waiting) row.delivery (attempt_in d.deliveries row.delivery) s at is.entry.entry (omega (arith, h.deliveries_settled)) is.entry.there is.entry.opened
+      (waiting_outcome d.deliveries (records_of d.waiting.waiting) (record_count d.waiting) row.delivery
+      (attempt_in d.deliveries row.delivery) s at is.entry.entry
+      (omega (arith, h.deliveries_settled)) is.entry.there is.entry.opened
       (ltb-true row.delivery d.deliveries.settled_seq is.entry.settled) (ap (λ o. option_map_or (λ (e : Entry). e.latest.attempts) o 0 + 1) is.entry.there) h.deliveries_wait);
   tied = tied;
 }
   where
     disables : Change
-    disables = record { seq = record_count d.waiting; name = row.endpoint; kind = Flag; shown = endpoint_entries.shown_with (λ e. record e { enabled = false }) (endpoint_entries.entry_of d.endpoints row.endpoint) }
+    disables = record {
+      seq = record_count d.waiting;
+      name = row.endpoint;
+      kind = Flag;
+      shown =
+          endpoint_entries.shown_with (λ e. record e { enabled = false })
+          (endpoint_entries.entry_of d.endpoints row.endpoint);
+    }
 
     after : Bool → endpoint_entries.BookValue
     after b = if b then endpoint_entries.with_flag d.endpoints (record_count d.waiting) row.endpoint false else d.endpoints
@@ -425,7 +477,9 @@ is_desk_over d queue told row rest (Some s) at limiters h is tied = record {
     outcome = Outcome row.delivery (attempt_in d.deliveries row.delivery) s at
 
     changed : (b : Bool) → is_gone_status s ≡ b → HasChanges (endpoint_at d.deliveries) (after b) (records_of d.waiting.waiting ++ outcome ∷ [])
-    changed true gone = changes_gone (endpoint_at d.deliveries) d.endpoints (records_of d.waiting.waiting) (record_count d.waiting) row.endpoint row.delivery (attempt_in d.deliveries row.delivery) s at (omega (arith, h.endpoints_settled)) is.known gone
+    changed true gone = changes_gone (endpoint_at d.deliveries) d.endpoints (records_of d.waiting.waiting)
+        (record_count d.waiting) row.endpoint row.delivery (attempt_in d.deliveries row.delivery) s at
+        (omega (arith, h.endpoints_settled)) is.known gone
         (ap (option_map (λ (e : Entry). e.name)) is.entry.there ∙ ap Some ((bytes_eq-Decides is.entry.entry.name row.endpoint).0 is.entry.named)) h.endpoints_wait
     changed false other = changes_other (endpoint_at d.deliveries) d.endpoints (records_of d.waiting.waiting) outcome (ap not other) h.endpoints_wait
 
@@ -441,7 +495,8 @@ is_desk_over d queue told row rest (Some s) at limiters h is tied = record {
 -- What a spend leaves
 
 -- the permit's row is given back
-pub back_from : (row permit : Row) (rows new : List Row) → row ≡ permit → (position (same_row permit) rows ≡ None → ⊥) → ((i : ℕ) → position (same_row permit) rows ≡ Some i → new ≡ remove rows i) → ((d : ℕ) → attempts_at d rows ≤ 1)
+pub back_from : (row permit : Row) (rows new : List Row) → row ≡ permit → (position (same_row permit) rows ≡ None → ⊥)
+    → ((i : ℕ) → position (same_row permit) rows ≡ Some i → new ≡ remove rows i) → ((d : ℕ) → attempts_at d rows ≤ 1)
     → IsReturned row rows new
 back_from row permit rows new own there is once = subst (λ (r : Row). IsReturned r rows new) (sym own) (returned permit rows new there is once)
 
@@ -457,7 +512,8 @@ pub record IsOver (d m : DeskValue) (row : Row) (rest : List Row) (post : PostRe
   pub unused : IsUnused d (status_of d.halted post)
   pub numbered : staged ≡ option_map (λ _. record_count d.waiting) (status_of d.halted post)
 
-pub halted_over : (d m : DeskValue) (row : Row) (rest : List Row) (post : PostResult) (at : ℕ) (staged : Option ℕ) → d.halted ≡ true → m ≡ record d { live = rest } → staged ≡ None → IsOver d m row rest post at staged
+pub halted_over : (d m : DeskValue) (row : Row) (rest : List Row) (post : PostResult) (at : ℕ) (staged : Option ℕ)
+    → d.halted ≡ true → m ≡ record d { live = rest } → staged ≡ None → IsOver d m row rest post at staged
 halted_over d m row rest post at staged e is none = record {
   clock = ap (λ (x : DeskValue). x.clock) is ∙ sym (ap (λ b. if b then d.clock else at) e);
   endpoints = ap (λ (x : DeskValue). x.endpoints) is ∙ sym (ap (λ b. disabled d.endpoints (record_count d.waiting) row.endpoint (status_of b post)) e);
@@ -470,7 +526,9 @@ halted_over d m row rest post at staged e is none = record {
   numbered = none ∙ sym (ap (λ b. option_map (λ _. record_count d.waiting) (status_of b post)) e);
 }
 
-pub told_over : (d m : DeskValue) (row : Row) (rest : List Row) (post : PostResult) (at : ℕ) (staged status : Option ℕ) (endpoints : endpoint_entries.BookValue) (deliveries : delivery_entries.BookValue) (waiting : WaitingValue) (limiters : List Limiter)
+pub told_over : (d m : DeskValue) (row : Row) (rest : List Row) (post : PostResult) (at : ℕ) (staged status : Option ℕ)
+    (endpoints : endpoint_entries.BookValue) (deliveries : delivery_entries.BookValue) (waiting : WaitingValue)
+    (limiters : List Limiter)
     → d.halted ≡ false → m ≡ record d { clock = at; endpoints = endpoints; deliveries = deliveries; waiting = waiting; live = rest; limiters = limiters } → AreSampled d.limiters limiters row post
     → status ≡ recorded_status post → IfSome status (HasOutcome d.waiting d.endpoints d.deliveries row at waiting endpoints deliveries)
     → IfNone status ((waiting ≡ d.waiting) × (endpoints ≡ d.endpoints) × (deliveries ≡ d.deliveries)) → staged ≡ option_map (λ _. record_count d.waiting) status → IsOver d m row rest post at staged
@@ -498,7 +556,8 @@ told_over d m row rest post at staged status endpoints deliveries waiting limite
     made (Some s) some none = (some.steps, some.of_endpoints, some.of_deliveries)
 
 -- the desk that is left keeps what ties it
-pub is_desk_left : (d m : DeskValue) (queue held told : QueueValue) (row : Row) (rest : List Row) (post : PostResult) (at : ℕ) (staged : Option ℕ) → IsDesk d.endpoints d.deliveries d.waiting d.live d.limiters queue
+pub is_desk_left : (d m : DeskValue) (queue held told : QueueValue) (row : Row) (rest : List Row) (post : PostResult)
+    (at : ℕ) (staged : Option ℕ) → IsDesk d.endpoints d.deliveries d.waiting d.live d.limiters queue
     → IsReturned row d.live rest → IsOver d m row rest post at staged → Holds queue held (idle_pair m.deliveries row.delivery) → HasPlaces held m.deliveries
     → HasSamePairs held told → ChangesMark held told row.endpoint (with_room (room_by m.endpoints m.limiters m.live row.endpoint)) → IsDesk m.endpoints m.deliveries m.waiting m.live m.limiters told
 is_desk_left d m queue held told row rest post at staged h r over holds places same changes =
@@ -516,11 +575,14 @@ is_desk_left d m queue held told row rest post at staged h r over holds places s
     (subst (λ live. ChangesMark held told row.endpoint (with_room (room_by m.endpoints m.limiters live row.endpoint))) over.live changes)))))))
 
 -- the queue may hold the delivery again
-pub places_left : (d m : DeskValue) (queue : QueueValue) (row : Row) (rest : List Row) (post : PostResult) (at : ℕ) (staged : Option ℕ) → IsDesk d.endpoints d.deliveries d.waiting d.live d.limiters queue
+pub places_left : (d m : DeskValue) (queue : QueueValue) (row : Row) (rest : List Row) (post : PostResult) (at : ℕ)
+    (staged : Option ℕ) → IsDesk d.endpoints d.deliveries d.waiting d.live d.limiters queue
     → IsOver d m row rest post at staged → HasPlaces queue m.deliveries
 places_left d m queue row rest post at staged h over = subst (λ deliveries. HasPlaces queue deliveries) (sym over.deliveries) (places_over d queue row (status_of d.halted post) at h.tied)
 
-pub new_left : (d : DeskValue) (queue : QueueValue) (row : Row) (rest : List Row) → IsDesk d.endpoints d.deliveries d.waiting d.live d.limiters queue → IsReturned row d.live rest → IsNew queue row.delivery
+pub new_left : (d : DeskValue) (queue : QueueValue) (row : Row) (rest : List Row)
+    → IsDesk d.endpoints d.deliveries d.waiting d.live d.limiters queue → IsReturned row d.live rest
+    → IsNew queue row.delivery
 new_left d queue row rest h r = new_pair queue d.deliveries d.live row.delivery h.tied.queued.held (is_live d queue row rest h.tied r).out
 
 pub reserved_left : (d m : DeskValue) (queue held : QueueValue) (row : Row) (rest : List Row) → IsDesk d.endpoints d.deliveries d.waiting d.live d.limiters queue
@@ -556,7 +618,9 @@ foreign_spends {E} {view} {d} same row post now (Err e) rows wrong back none =
 abbrev pub IsSpent : DeskValue → (permit : Row) → (post : PostResult) → (now : ℕ) → SpentValue → DeskValue → Type 0
 IsSpent d permit post now spent m = OverWorlds d (λ w. (has_row w permit ≡ true) × (spent ≡ spent_by w permit post now) × StandsFor m (with_attempt_over w permit post now))
 
-pub spends : (view d : DeskValue) → view ≡ d → (m : DeskValue) (queue told : QueueValue) (row permit : Row) (rest : List Row) (post : PostResult) (now at : ℕ) (staged : Option ℕ) (limit in_flight : ℕ) (exhausted : Bool)
+pub spends : (view d : DeskValue) → view ≡ d
+    → (m : DeskValue) (queue told : QueueValue) (row permit : Row) (rest : List Row) (post : PostResult) (now at : ℕ)
+    (staged : Option ℕ) (limit in_flight : ℕ) (exhausted : Bool)
     → IsDesk view.endpoints view.deliveries view.waiting view.live view.limiters queue → IsReturned row view.live rest → row ≡ permit → IsOver view m row rest post at staged
     → IsDesk m.endpoints m.deliveries m.waiting m.live m.limiters told → at ≡ max now view.clock → is_moment at ≡ true → ((s : ℕ) → recorded_status post ≡ Some s → is_status s ≡ true)
     → limit ≡ limit_by m.limiters row.endpoint → in_flight ≡ in_flight_of row.endpoint m.live → exhausted ≡ is_exhausted_in m.deliveries row.delivery
@@ -577,7 +641,9 @@ spends view d same m queue told row permit rest post now at staged limit in_flig
     live = is_live view queue row rest h.tied r
 
     known : IsTrue (endpoint_entries.is_known m.endpoints row.endpoint)
-    known = ap (λ book. endpoint_entries.is_known book row.endpoint) over.endpoints ∙ disabled_known view.endpoints (record_count view.waiting) row.endpoint row.endpoint (status_of view.halted post) ∙ live.known
+    known = ap (λ book. endpoint_entries.is_known book row.endpoint) over.endpoints
+        ∙ disabled_known view.endpoints (record_count view.waiting) row.endpoint row.endpoint
+        (status_of view.halted post) ∙ live.known
 
     left : m ≡ left_over view row (status_of view.halted post) at (if view.halted then view.clock else at) m.limiters
     left = λ i. record {

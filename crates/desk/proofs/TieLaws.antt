@@ -50,7 +50,8 @@ places_kept queue new book same keeps places = λ n.
     λ i. count_by (λ (e : Entry). bytes_eq e.name n && (is_in_state Pending (state_in e.latest) && not (same (own_pair e) i))) book.entries in
     omega (arith, counted, keeps n, places n)
 
-pub places_told : (queue new : QueueValue) (book : BookValue) (name : List ℕ) (room : Bool) → HasSamePairs queue new → ChangesMark queue new name (with_room room) → HasPlaces queue book → HasPlaces new book
+pub places_told : (queue new : QueueValue) (book : BookValue) (name : List ℕ) (room : Bool) → HasSamePairs queue new
+    → ChangesMark queue new name (with_room room) → HasPlaces queue book → HasPlaces new book
 places_told queue new book name room same changes places =
     places_kept queue new book same (λ n. grind (arith, changes n)) places
 
@@ -63,7 +64,8 @@ all_more : (test : Row → Bool) (live : List Row) (row : Row) → list_all test
 all_more test [] row h e = and_both (test row) true e refl
 all_more test (r ∷ live) row h e = and_both (test r) _ (and_first (test r) _ h) (all_more test live row (and_second (test r) _ h) e)
 
-once_more : (live : List Row) (row : Row) → ((d : ℕ) → count_by (λ (r : Row). nat_eq r.delivery d) live ≤ 1) → is_out row.delivery live ≡ false → (d : ℕ) → count_by (λ (r : Row). nat_eq r.delivery d) (live ++ row ∷ []) ≤ 1
+once_more : (live : List Row) (row : Row) → ((d : ℕ) → count_by (λ (r : Row). nat_eq r.delivery d) live ≤ 1)
+    → is_out row.delivery live ≡ false → (d : ℕ) → count_by (λ (r : Row). nat_eq r.delivery d) (live ++ row ∷ []) ≤ 1
 once_more live row once free d =
     let pushed = sum_by_push (λ (r : Row). cond (nat_eq r.delivery d) 1 0) live row in
     by_bool (nat_eq row.delivery d)
@@ -98,7 +100,8 @@ held_started {d} {queue} {new} name s due row from is own lets held = λ pair.
     grind (arith, lets.pairs pair, held pair, e, out, t, other)))
 
 -- the attempts that are under way, with one more
-pub under_way_started : {d : DeskValue} (name : List ℕ) (s : ℕ) (row : Row) → StartsFrom d name s → row.delivery ≡ s → row.endpoint ≡ name → AreUnderWay d.live d.deliveries → AreUnderWay (d.live ++ row ∷ []) d.deliveries
+pub under_way_started : {d : DeskValue} (name : List ℕ) (s : ℕ) (row : Row) → StartsFrom d name s → row.delivery ≡ s
+    → row.endpoint ≡ name → AreUnderWay d.live d.deliveries → AreUnderWay (d.live ++ row ∷ []) d.deliveries
 under_way_started {d} name s row from is named h =
     let there : entry_at d.deliveries.entries row.delivery ≡ Some from.entry =
     ap (entry_at d.deliveries.entries) is ∙ from.there in
@@ -131,7 +134,8 @@ still_reserved {d} {queue} gone name s tied from lets =
     grind (arith, own.1.mark name, known)
 
 -- the desk once an attempt at the delivery is under way
-pub desk_started : {d : DeskValue} {queue : QueueValue} (gone new : QueueValue) (name : List ℕ) (s : ℕ) (live : List Row) → IsDesk d.endpoints d.deliveries d.waiting d.live d.limiters queue → StartsFrom d name s
+pub desk_started : {d : DeskValue} {queue : QueueValue} (gone new : QueueValue) (name : List ℕ) (s : ℕ)
+    (live : List Row) → IsDesk d.endpoints d.deliveries d.waiting d.live d.limiters queue → StartsFrom d name s
     → record_count d.waiting + length d.live < MAX_RECORDS → live ≡ d.live ++ next_row name s d.live ∷ [] → LetsGo queue gone (pair_in d.deliveries s) → HasPlaces gone d.deliveries
     → HasSamePairs gone new → ChangesMark gone new name (with_room (room_by d.endpoints d.limiters live name)) → IsDesk d.endpoints d.deliveries d.waiting live d.limiters new
 desk_started {d} {queue} gone new name s live h from numbers is lets places same told =
@@ -216,14 +220,16 @@ numbers : (d status at : ℕ) (e : Entry) → (change d status at e).seq ≡ e.s
 numbers d status at e = grind arith
 
 pub entry_tried : (entries : List Entry) (d status at s : ℕ) → entry_at (map (change d status at) entries) s ≡ option_map (change d status at) (entry_at entries s)
-entry_tried entries d status at s = find_map (change d status at) (λ e. nat_eq e.seq s) entries ∙ (λ i. option_map (change d status at) (find (λ (e : Entry). nat_eq (numbers d status at e i) s) entries))
+entry_tried entries d status at s = find_map (change d status at) (λ e. nat_eq e.seq s) entries
+    ∙ (λ i. option_map (change d status at) (find (λ (e : Entry). nat_eq (numbers d status at e i) s) entries))
 
 pub entry_other : (entries : List Entry) (d status at s : ℕ) → nat_eq d s ≡ false → entry_at (map (change d status at) entries) s ≡ entry_at entries s
 entry_other entries d status at s apart =
     let tried = entry_tried entries d status at s in
     grind (arith, tried, apart, found_seq entries s)
 
-pub entry_own : (book : BookValue) (row : Row) (status at : ℕ) (u : UnderWay book row) → entry_at (map (change row.delivery status at) book.entries) row.delivery ≡ Some (with_attempt status at u.entry)
+pub entry_own : (book : BookValue) (row : Row) (status at : ℕ) (u : UnderWay book row)
+    → entry_at (map (change row.delivery status at) book.entries) row.delivery ≡ Some (with_attempt status at u.entry)
 entry_own book row status at u =
     let tried = entry_tried book.entries row.delivery status at row.delivery in
     grind (arith, nat_tests, tried, u.there, u.numbered)
@@ -259,7 +265,8 @@ none_of book row (o ∷ os) u h =
     let apart = told_other book row o u (and_first (is_told book o) _ h) in
     grind (arith, nat_tests, counted, apart, none_of book row os u (and_second (is_told book o) _ h))
 
-pub apart_tried : (book : BookValue) (row : Row) (seq status at : ℕ) → AreApart book → UnderWay book row → book.next_seq ≤ seq → entry_at book.entries seq ≡ None → AreApart (with_outcome book seq row.delivery status at)
+pub apart_tried : (book : BookValue) (row : Row) (seq status at : ℕ) → AreApart book → UnderWay book row → book.next_seq
+    ≤ seq → entry_at book.entries seq ≡ None → AreApart (with_outcome book seq row.delivery status at)
 apart_tried book row seq status at h u next unused = record {
   in_turn = rises_more book.settled_seq book.next_seq seq row.delivery book.unsettled h.in_turn next;
   told = list_all-append (is_told new) book.unsettled (o ∷ []) ∙ and_both (list_all (is_told new) book.unsettled) _
@@ -279,7 +286,8 @@ apart_tried book row seq status at h u next unused = record {
     o = record { seq = seq; delivery = row.delivery }
 
     still : (x : Unsettled) → is_told book x ≡ true → is_told new x ≡ true
-    still x t = ap (λ p. option_map_or (λ (e : Entry). not (nat_eq e.latest.attempts e.settled.attempts)) p false) (entry_other book.entries row.delivery status at x.delivery (told_other book row x u t)) ∙ t
+    still x t = ap (λ p. option_map_or (λ (e : Entry). not (nat_eq e.latest.attempts e.settled.attempts)) p false)
+        (entry_other book.entries row.delivery status at x.delivery (told_other book row x u t)) ∙ t
 
     own_told : is_told new o ≡ true
     own_told = ap (λ p. option_map_or (λ (e : Entry). not (nat_eq e.latest.attempts e.settled.attempts)) p false) (entry_own book row status at u)
@@ -298,7 +306,8 @@ apart_tried book row seq status at h u next unused = record {
 pub under_way_less : (book : BookValue) (row : Row) (live new : List Row) → IsReturned row live new → AreUnderWay live book → AreUnderWay new book
 under_way_less book row live new r h = record { each = r.pass (is_under_way book) h.each; once = r.once }
 
-pub under_way_tried : (book : BookValue) (row : Row) (live new : List Row) (seq status at : ℕ) → IsReturned row live new → AreUnderWay live book → AreUnderWay new (with_outcome book seq row.delivery status at)
+pub under_way_tried : (book : BookValue) (row : Row) (live new : List Row) (seq status at : ℕ) → IsReturned row live new
+    → AreUnderWay live book → AreUnderWay new (with_outcome book seq row.delivery status at)
 under_way_tried book row live new seq status at r h = record {
   each = all_by (is_under_way book) (λ (x : Row). nat_eq x.delivery row.delivery) (is_under_way (with_outcome book seq row.delivery status at)) new each (r.pass (is_under_way book) h.each) r.free;
   once = r.once;
@@ -350,7 +359,8 @@ pair_apart : (pair : Pair) (name : List ℕ) (due d : ℕ) → nat_eq d pair.seq
 pair_apart pair name due d apart = ap (λ b. b && (nat_eq due pair.due && bytes_eq name pair.endpoint)) apart
 
 -- the outcome waits: the delivery isn't held
-pub held_tried : (queue new : QueueValue) (book : BookValue) (row : Row) (live rest : List Row) (seq status at : ℕ) → AreHeld queue book live → UnderWay book row → is_out row.delivery live ≡ true → IsReturned row live rest
+pub held_tried : (queue new : QueueValue) (book : BookValue) (row : Row) (live rest : List Row) (seq status at : ℕ)
+    → AreHeld queue book live → UnderWay book row → is_out row.delivery live ≡ true → IsReturned row live rest
     → Holds queue new (idle_pair (with_outcome book seq row.delivery status at) row.delivery) → AreHeld new (with_outcome book seq row.delivery status at) rest
 held_tried queue new book row live rest seq status at held u out r holds =
     let later = with_outcome book seq row.delivery status at in
@@ -373,7 +383,8 @@ held_tried queue new book row live rest seq status at held u out r holds =
     ∙ ap (waiting_for book rest pair) (sym (entry_other book.entries row.delivery status at pair.seq e)))
 
 -- no outcome waits: the delivery is held again
-pub held_again : (queue new : QueueValue) (book : BookValue) (row : Row) (live rest : List Row) → AreHeld queue book live → UnderWay book row → is_out row.delivery live ≡ true → IsReturned row live rest
+pub held_again : (queue new : QueueValue) (book : BookValue) (row : Row) (live rest : List Row)
+    → AreHeld queue book live → UnderWay book row → is_out row.delivery live ≡ true → IsReturned row live rest
     → Holds queue new (idle_pair book row.delivery) → AreHeld new book rest
 held_again queue new book row live rest held u out r holds =
     by_option u.entry.settled.due (λ e. absurd (grind (arith, e, u.timed))) (λ due e pair.

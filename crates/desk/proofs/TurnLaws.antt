@@ -91,7 +91,9 @@ held_is (held.Doubt places) h = places_are places h
 -- Turns
 
 -- what comes back isn't what is out
-pub comes_back : {A E : Type 0} {view d : DeskValue} → view ≡ d → (steps : WaitingValue) (Turn : Type 0) (IsOut : DeskValue → World → Type 0) (ended : World → World) (result : Result A E) → IsErr result
+pub comes_back : {A E : Type 0} {view d : DeskValue} → view ≡ d
+    → (steps : WaitingValue) (Turn : Type 0) (IsOut : DeskValue → World → Type 0) (ended : World → World)
+    (result : Result A E) → IsErr result
     → OverWorlds view (λ w. Turn ↔ IsOut view w) → (Turn → ⊥) → steps ≡ view.waiting → Turns d (IsOut d) ended result (record view { waiting = steps })
 comes_back same steps Turn IsOut ended (Ok a) wrong turn is back = let no : false ≡ true = wrong in cc
 comes_back {A} {E} {view} {d} same steps Turn IsOut ended (Err e) wrong turn is back =
@@ -148,7 +150,9 @@ endpoint_settled book place name = find_map (λ e. endpoint_entries.settled_at p
 known_settled : (book : endpoint_entries.BookValue) (place : ℕ) (name : List ℕ) → endpoint_entries.is_known (endpoint_entries.with_settled book place) name ≡ endpoint_entries.is_known book name
 known_settled book place name = let settled = endpoint_settled book place name in grind (arith, settled)
 
-room_settled : (book : endpoint_entries.BookValue) (place : ℕ) (limiters : List Limiter) (live : List Row) (name : List ℕ) → room_by (endpoint_entries.with_settled book place) limiters live name ≡ room_by book limiters live name
+room_settled : (book : endpoint_entries.BookValue) (place : ℕ) (limiters : List Limiter) (live : List Row)
+    (name : List ℕ) → room_by (endpoint_entries.with_settled book place) limiters live name
+    ≡ room_by book limiters live name
 room_settled book place limiters live name = let settled = endpoint_settled book place name in grind (arith, settled)
 
 marked_settled : {queue told : QueueValue} {book : endpoint_entries.BookValue} {limiters : List Limiter} {live : List Row} (place : ℕ) → KeepsRooms queue told → AreMarked queue book limiters live
@@ -175,11 +179,14 @@ records_left steps count place settled is same =
     ∙ drop-append_seam (records_of (take count steps.waiting)) (records_of (drop count steps.waiting))
 
 -- the books of a desk that settles, and what ties them
-pub is_desk_settled : {endpoints later : endpoint_entries.BookValue} {deliveries moved : delivery_entries.BookValue} {steps rest : WaitingValue} {live : List Row} {limiters : List Limiter} {queue told : QueueValue} (count place : ℕ)
+pub is_desk_settled : {endpoints later : endpoint_entries.BookValue} {deliveries moved : delivery_entries.BookValue}
+    {steps rest : WaitingValue} {live : List Row} {limiters : List Limiter} {queue told : QueueValue} (count place : ℕ)
     → IsDesk endpoints deliveries steps live limiters queue
     → later ≡ endpoint_entries.with_settled endpoints place → moved.settled_seq ≡ place → moved.next_seq ≡ max deliveries.next_seq place → rest ≡ with_settled steps count → place ≡ rest.settled
     → ((records : List Record) → HasWaiting deliveries records → HasWaiting moved (drop (place - deliveries.settled_seq) records))
-    → ((d : ℕ) → endpoint_at moved d ≡ endpoint_at deliveries d) → endpoint_entries.flags_in later + later.settled_seq ≤ later.next_seq → KeepsRooms queue told → ((live : List Row) → AreQueued queue deliveries live → AreQueued told moved live)
+    → ((d : ℕ) → endpoint_at moved d ≡ endpoint_at deliveries d) → endpoint_entries.flags_in later + later.settled_seq
+    ≤ later.next_seq → KeepsRooms queue told
+    → ((live : List Row) → AreQueued queue deliveries live → AreQueued told moved live)
     → IsDesk later moved rest live limiters told
 is_desk_settled {endpoints} {later} {deliveries} {moved} {steps} {rest} {live} {limiters} {queue} {told} count place h e settled next g is waits names few rooms queued =
     let same : record_count rest ≡ record_count steps = ap record_count g ∙ records_settled steps count in
@@ -192,10 +199,15 @@ is_desk_settled {endpoints} {later} {deliveries} {moved} {steps} {rest} {live} {
           (subst (λ (b : endpoint_entries.BookValue). HasChanges (endpoint_at deliveries) b (records_of rest.waiting)) (sym e)
           (subst (HasChanges (endpoint_at deliveries) (endpoint_entries.with_settled endpoints place))
           (records_left steps count place endpoints.settled_seq (is ∙ ap (λ (w : WaitingValue). w.settled) g) h.endpoints_settled ∙ ap (λ (w : WaitingValue). records_of w.waiting) (sym g))
-          (changes_settled (endpoint_at deliveries) endpoints (records_of steps.waiting) (place - endpoints.settled_seq) place (omega (arith, is, ap (λ (w : WaitingValue). w.settled) g, h.endpoints_settled)) h.endpoints_wait)));
+          (changes_settled (endpoint_at deliveries) endpoints (records_of steps.waiting)
+          (place - endpoints.settled_seq) place
+          (omega (arith, is, ap (λ (w : WaitingValue). w.settled) g, h.endpoints_settled)) h.endpoints_wait)));
       deliveries_staged = omega (arith, next, h.deliveries_staged, same, within);
       deliveries_settled = settled ∙ is;
-      deliveries_wait = subst (HasWaiting moved) (records_left steps count place deliveries.settled_seq (is ∙ ap (λ (w : WaitingValue). w.settled) g) h.deliveries_settled ∙ ap (λ (w : WaitingValue). records_of w.waiting) (sym g))
+      deliveries_wait =
+          subst (HasWaiting moved) (records_left steps count place deliveries.settled_seq (is
+          ∙ ap (λ (w : WaitingValue). w.settled) g) h.deliveries_settled
+          ∙ ap (λ (w : WaitingValue). records_of w.waiting) (sym g))
           (waits (records_of steps.waiting) h.deliveries_wait);
       tied = record {
         limited = h.tied.limited
@@ -216,7 +228,8 @@ is_desk_settled {endpoints} {later} {deliveries} {moved} {steps} {rest} {live} {
 nothing_is : {d : DeskValue} {w : World} → StandsFor d w → is_nothing_out w.out ≡ not (is_some d.waiting.out)
 nothing_is {d} {w} h = let out = h.waiting.is_out in grind (arith, out)
 
-seal_fault : {d : DeskValue} {w : World} (is_out : Bool) → StandsFor d w → d.halted ≡ false → is_some d.waiting.out ≡ is_out → first_fault (seal_faults w) ≡ first_fault ((is_out, 2, fault.BatchOut) ∷ [])
+seal_fault : {d : DeskValue} {w : World} (is_out : Bool) → StandsFor d w → d.halted ≡ false → is_some d.waiting.out
+    ≡ is_out → first_fault (seal_faults w) ≡ first_fault ((is_out, 2, fault.BatchOut) ∷ [])
 seal_fault {w = w} is_out h halted out =
     let free = sym h.halted ∙ halted in
     let nothing = nothing_is h in
@@ -245,7 +258,14 @@ stands_sealed : {d : DeskValue} {w : World} → StandsFor d w → StandsFor (rec
 stands_sealed {d} {w} h =
     let out = ap Some (sym (sealed_now h)) in
     let first : w.settled ≤ (with_batch w).sealed = omega arith in
-    let within : (with_batch w).sealed ≤ length w.history = omega (arith, fitting_within MAX_BATCH_RECORDS (drop w.settled w.history), length-drop w.settled w.history, h.waiting.settled_first, h.waiting.sealed_within) in
+    let within : (with_batch w).sealed ≤ length w.history =
+    omega (
+      arith,
+      fitting_within MAX_BATCH_RECORDS (drop w.settled w.history),
+      length-drop w.settled w.history,
+      h.waiting.settled_first,
+      h.waiting.sealed_within,
+    ) in
     assumption (out, first, within)
 
 sealed_is : {d : DeskValue} {w : World} → StandsFor d w → sealed_batch d.waiting.mark (with_batch w) ≡ batch_of d.waiting (sealed_count d.waiting)
@@ -275,7 +295,8 @@ halt_turns {view} {d} same steps held turn waits = λ w h.
       stands_as (ap (λ (x : WaitingValue). record view { waiting = x; halted = true }) waits) (stands_halted here),
     )
 
-pub settle_counts : {view d : DeskValue} → view ≡ d → (steps : WaitingValue) (receipt : BatchValue) (place : ℕ) → waiting.IsReceiptOf view.waiting receipt → steps ≡ with_settled view.waiting (length receipt.steps)
+pub settle_counts : {view d : DeskValue} → view ≡ d → (steps : WaitingValue) (receipt : BatchValue) (place : ℕ)
+    → waiting.IsReceiptOf view.waiting receipt → steps ≡ with_settled view.waiting (length receipt.steps)
     → place ≡ steps.settled → OverWorlds d (λ w. place ≡ length (sealed_records w))
 settle_counts {view} {d} same steps receipt place turn settled is = λ w h.
     let here = stands_as same h in
@@ -316,7 +337,8 @@ some_if [] h = absurd (h refl)
 some_if (x ∷ xs) h = refl
 
 -- the same desk, with steps that are the same
-same_steps : (d : DeskValue) (steps rest : WaitingValue) (move : World → Answer (Option BatchValue)) (reply : Result (Option BatchValue) Refusal) → steps ≡ rest → IsMove d move reply (record d { waiting = rest })
+same_steps : (d : DeskValue) (steps rest : WaitingValue) (move : World → Answer (Option BatchValue))
+    (reply : Result (Option BatchValue) Refusal) → steps ≡ rest → IsMove d move reply (record d { waiting = rest })
     → IsMove d move reply (record d { waiting = steps })
 same_steps d steps rest move reply same is = leaves d (record d { waiting = steps }) (record d { waiting = rest }) move reply is (ap (λ (x : WaitingValue). record d { waiting = x }) same)
 

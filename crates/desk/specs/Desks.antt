@@ -1,5 +1,6 @@
 -- What a desk keeps, the worlds for which it stands, and what its calls answer.
-use Rattle.std.specs.Prelude.{◌≡◌, ℕ, ◌+◌, ◌-◌, ◌≤◌, ◌<◌, Bool, true, false, ◌&&◌, nat_lt, List, [], ◌∷◌, ◌++◌, length, drop, bytes_eq, Option, Some, None, is_some, IsTrue, Result, Ok, Err, if◌then◌else◌}
+use Rattle.std.specs.Prelude.{◌≡◌, ℕ, ◌+◌, ◌-◌, ◌≤◌, ◌<◌, Bool, true, false, ◌&&◌, nat_lt, List, [], ◌∷◌, ◌++◌, length}
+use Rattle.std.specs.Prelude.{drop, bytes_eq, Option, Some, None, is_some, IsTrue, Result, Ok, Err, if◌then◌else◌}
 use Rattle.std.specs.Option.{option_map_or}
 use Rattle.relay_types.specs.declared.limits.TheConstants.{MAX_RECORDS}
 use Rattle.relay_types.specs.declared.record.Record.{Record}
@@ -51,7 +52,8 @@ pub record DeskValue : Type 0 where
   pub limiters : List Limiter
 
 -- what holds of a desk's fields in every world
-pub record IsDesk (endpoints : endpoint_entries.BookValue) (deliveries : delivery_entries.BookValue) (waiting : WaitingValue) (live : List Row) (limiters : List Limiter) (queue : QueueValue) : Type 0 where
+pub record IsDesk (endpoints : endpoint_entries.BookValue) (deliveries : delivery_entries.BookValue)
+    (waiting : WaitingValue) (live : List Row) (limiters : List Limiter) (queue : QueueValue) : Type 0 where
   pub endpoints_staged : endpoints.next_seq ≤ record_count waiting
   pub endpoints_settled : endpoints.settled_seq ≡ waiting.settled
   pub flags_few : endpoint_entries.flags_in endpoints + endpoints.settled_seq ≤ endpoints.next_seq

@@ -1,6 +1,8 @@
 -- What ties the permits, the limits and the queue of a desk to its books. No world is named here: this holds of the fields
 -- whatever they stand for.
-use Rattle.std.specs.Prelude.{◌≡◌, ℕ, ◌+◌, ◌≤◌, Bool, false, ◌&&◌, ◌==◌, not, nat_le, nat_lt, List, [], ◌∷◌, ◌++◌, length, map, Option, Some, None, find, is_some, unwrap_or, option_map, option_and_then, count_by, bytes_eq, IsTrue, if◌then◌else◌}
+use Rattle.std.specs.Prelude.{◌≡◌, ℕ, ◌+◌, ◌≤◌, Bool, false, ◌&&◌, ◌==◌, not, nat_le, nat_lt, List, [], ◌∷◌, ◌++◌}
+use Rattle.std.specs.Prelude.{length, map, Option, Some, None, find, is_some, unwrap_or, option_map, option_and_then}
+use Rattle.std.specs.Prelude.{count_by, bytes_eq, IsTrue, if◌then◌else◌}
 use Rattle.std.specs.List.{list_all}
 use Rattle.std.specs.Option.{option_map_or}
 use Rattle.relay_types.specs.declared.limits.TheConstants.{MAX_RECORDS}
@@ -218,7 +220,8 @@ pub record HasRoomForAll (waiting : WaitingValue) (live : List Row) : Type 0 whe
   pub places : outcomes_in waiting.waiting + length live ≤ MAX_WAITING_OUTCOMES
   pub numbers : record_count waiting + length live ≤ MAX_RECORDS
 
-pub record AreTied (endpoints : endpoint_entries.BookValue) (deliveries : delivery_entries.BookValue) (waiting : WaitingValue) (live : List Row) (limiters : List Limiter) (queue : QueueValue) : Type 0 where
+pub record AreTied (endpoints : endpoint_entries.BookValue) (deliveries : delivery_entries.BookValue)
+    (waiting : WaitingValue) (live : List Row) (limiters : List Limiter) (queue : QueueValue) : Type 0 where
   pub limited : AreLimiters limiters endpoints
   pub room : HasRoomForAll waiting live
   pub marked : AreMarked queue endpoints limiters live

@@ -1,12 +1,14 @@
 //! How the desk chooses what is posted next, and how it learns what came of it.
-ghost use Rattle.std.specs.Prelude.{◌≡◌, ◌<◌, ◌≤◌, ◌+◌, ◌∷◌, ◌++◌, [], None, Some, ℕ, length, option_map, position, remove, ◌↔◌, IsErr, IsTrue, IfErr, IfNone, IfOk, IfSome, OnErr};
+ghost use Rattle.std.specs.Prelude.{◌≡◌, ◌<◌, ◌≤◌, ◌+◌, ◌∷◌, ◌++◌, [], None, Some, ℕ, length, option_map, position};
+ghost use Rattle.std.specs.Prelude.{remove, ◌↔◌, IsErr, IsTrue, IfErr, IfNone, IfOk, IfSome, OnErr};
 ghost use Rattle.relay_types.specs.declared.limits.TheConstants.{MAX_RECORDS};
 ghost use Rattle.group_commit.specs.Waits.{batch_out, record_count};
 ghost use Rattle.relay_types.specs.Legal.{is_status};
 ghost use Rattle.permits.specs.Rows.{next_row, same_row};
 ghost use Rattle.desk.specs.Faults.{may_refuse_claim};
 ghost use Rattle.desk.specs.Claims.{choice, claim, status_in, status_of};
-ghost use Rattle.desk.specs.Desks.{HasOutcome, IsMove, IsPostOf, OverWorlds, Spends, Starts, TakesOutcome, attempt_in, is_exhausted_in, may_start, may_start_at, with_job, with_live};
+ghost use Rattle.desk.specs.Desks.{HasOutcome, IsMove, IsPostOf, OverWorlds, Spends, Starts, TakesOutcome, attempt_in};
+ghost use Rattle.desk.specs.Desks.{is_exhausted_in, may_start, may_start_at, with_job, with_live};
 
 use crate::desk::Desk;
 use crate::holding::{hold, let_go, tell_room};
@@ -24,8 +26,9 @@ use std::alloc::AllocError;
 use std::sync::ledger::Ledger;
 
 impl<L: Ledger> Desk<L> {
-    /// The next attempt: at the delivery that is due first, of those that wait for one, whose endpoint is enabled and has fewer
-    /// attempts under way than its limit. `None` where there is none at this moment.
+    /// The next attempt: at the delivery that is due first, of those that wait for one, whose
+    /// endpoint is enabled and has fewer attempts under way than its limit. `None` where there is
+    /// none at this moment.
     pub fn claim(&mut self, now: Moment) -> Result<Option<Job<L>>, Refusal>
         ensures moves { IsMove self.old (λ w. claim w now) result self.new }
         ensures names { IfErr result (λ why. IsTrue (may_refuse_claim why.fault)) }
@@ -126,8 +129,8 @@ impl<L: Ledger> Desk<L> {
         permit
     }
 
-    /// Takes the permit of an attempt that is over, with what came of its post. After a halt there is neither a sample nor an
-    /// outcome. It takes no memory.
+    /// Takes the permit of an attempt that is over, with what came of its post. After a halt there
+    /// is neither a sample nor an outcome. It takes no memory.
     pub fn spend(
         &mut self,
         permit: Permit<L>,

@@ -2,7 +2,8 @@
 ghost use Rattle.std.specs.Prelude.{◌≡◌, ◌↔◌, false, IsTrue};
 ghost use Rattle.endpoint_book.specs.Book.{told};
 ghost use Rattle.desk.specs.Kept.{AreTold, event_in, totals_in};
-ghost use Rattle.desk.specs.Comparing.{SameEndpoint, SameEvent, HasEndpoints, HasEvents, AllEndpoints, AllEvents, IsSameEvent, HasComeAsFar, IsSameTarget, HasSameSettings};
+ghost use Rattle.desk.specs.Comparing.{SameEndpoint, SameEvent, HasEndpoints, HasEvents, AllEndpoints, AllEvents};
+ghost use Rattle.desk.specs.Comparing.{IsSameEvent, HasComeAsFar, IsSameTarget, HasSameSettings};
 
 use crate::desk::Desk;
 use crate::opening::row_at;
@@ -14,8 +15,8 @@ use spool::Books;
 use std::sync::ledger::Ledger;
 
 impl<L: Ledger> Desk<L> {
-    /// Whether the books tell what the desk tells: the same totals of all that is settled, the same page of each endpoint, and the same
-    /// page of each event.
+    /// Whether the books tell what the desk tells: the same totals of all that is settled, the same
+    /// page of each endpoint, and the same page of each event.
     pub fn is_told_by(&self, books: &Books) -> bool
         ensures { IsTrue result ↔ AreTold self.now books.now }
     {

@@ -1,5 +1,6 @@
 //! The desk, and how it takes events.
-ghost use Rattle.std.specs.Prelude.{◌≡◌, ◌<◌, ◌+◌, [], ◌∷◌, length, max, nat_le, IsTrue, None, IfOk, IfErr, OnOk, OnErr};
+ghost use Rattle.std.specs.Prelude.{◌≡◌, ◌<◌, ◌+◌, [], ◌∷◌, length, max, nat_le, IsTrue, None, IfOk, IfErr, OnOk};
+ghost use Rattle.std.specs.Prelude.{OnErr};
 ghost use Rattle.relay_types.specs.declared.limits.TheConstants.{MAX_RECORDS};
 ghost use Rattle.relay_types.specs.declared.record.Record.TheVariants.{Accept};
 ghost use Rattle.relay_types.specs.Deliveries.{accepted};
@@ -11,7 +12,8 @@ ghost use Rattle.group_commit.specs.Steps.{is_request, requests_in};
 ghost use Rattle.group_commit.specs.Waits.{batch_out, record_count, with_step};
 ghost use Rattle.desk.specs.Faults.{may_refuse_event};
 ghost use Rattle.desk.specs.World.{all_records};
-ghost use Rattle.desk.specs.Moves.{are_seqs_spent, opened, ticket, submit, submit_faults, new_submit_faults, is_conflict, has_body};
+ghost use Rattle.desk.specs.Moves.{are_seqs_spent, opened, ticket, submit, submit_faults, new_submit_faults};
+ghost use Rattle.desk.specs.Moves.{is_conflict, has_body};
 ghost use Rattle.desk.specs.declared.limits.TheConstants.{MAX_PENDING};
 ghost use Rattle.permits.specs.declared.pool.TheConstants.{PARTS};
 ghost use Rattle.desk.specs.Desks.{StandsFor, Opens, IsMove, Checks, HasNothingOut, KeepsOut, OverWorlds, with_accept};

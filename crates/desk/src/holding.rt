@@ -7,7 +7,8 @@ ghost use Rattle.claim_queue.specs.Queues.{ChangesMark, HasSamePairs, IsNew, is_
 ghost use Rattle.delivery_book.specs.Book.{Settles};
 ghost use Rattle.delivery_book.specs.Entries.{HasOneEach, with_settled};
 ghost use Rattle.delivery_book.specs.Waiting.{HasWaiting};
-ghost use Rattle.desk.specs.Ties.{AreQueued, HasPlaces, Holds, KeepsRooms, LetsGo, endpoint_at, idle_pair, pair_in, room_by};
+ghost use Rattle.desk.specs.Ties.{AreQueued, HasPlaces, Holds, KeepsRooms, LetsGo, endpoint_at, idle_pair, pair_in};
+ghost use Rattle.desk.specs.Ties.{room_by};
 
 use crate::limiter::{Limiter, limit_of};
 use claim_queue::ClaimQueue;

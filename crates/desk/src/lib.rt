@@ -1,5 +1,5 @@
-//! The desk: the order of all changes. It takes submissions and commands, seals what waits, settles what was committed, chooses
-//! what is posted next, learns how it went, and tells what is settled.
+//! The desk: the order of all changes. It takes submissions and commands, seals what waits, settles
+//! what was committed, chooses what is posted next, learns how it went, and tells what is settled.
 #![tactic(auto)]
 
 mod claims;

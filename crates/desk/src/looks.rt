@@ -6,7 +6,8 @@ ghost use Rattle.group_commit.specs.Waits.{record_count};
 ghost use Rattle.desk.specs.World.{all_records, settled_records};
 ghost use Rattle.desk.specs.Claims.{limits};
 ghost use Rattle.desk.specs.Ties.{limiter_of};
-ghost use Rattle.desk.specs.Looks.{is_row_of, has_event, told, told_command, settled_body, event_page, endpoint_page, shown, totals, counts_told};
+ghost use Rattle.desk.specs.Looks.{is_row_of, has_event, told, told_command, settled_body, event_page, endpoint_page};
+ghost use Rattle.desk.specs.Looks.{shown, totals, counts_told};
 ghost use Rattle.desk.specs.Kept as kept;
 ghost use Rattle.desk.specs.Desks.{IsCore, OverWorlds};
 

@@ -4,7 +4,8 @@ ghost use Rattle.claim_queue.specs.declared.pairs.Pair.{Pair};
 ghost use Rattle.claim_queue.specs.Queues.{HasSamePairs, has_room_in, is_held};
 ghost use Rattle.endpoint_book.specs.Waiting.{IsInStep as AreInStep};
 ghost use Rattle.delivery_book.specs.Entries.{IsInStep, row_in};
-ghost use Rattle.desk.specs.Ties.{AreApart, AreHeld, AreLimiters, AreMarked, AreQueued, HasPlaces, HasSameRooms, KeepsPlaces, KeepsRooms, new_limiter};
+ghost use Rattle.desk.specs.Ties.{AreApart, AreHeld, AreLimiters, AreMarked, AreQueued, HasPlaces, HasSameRooms};
+ghost use Rattle.desk.specs.Ties.{KeepsPlaces, KeepsRooms, new_limiter};
 
 use crate::holding::{hold, tell_room};
 use crate::limiter::Limiter;

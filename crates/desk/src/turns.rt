@@ -1,5 +1,6 @@
 //! How the desk hands out what waits, and takes back what became of it.
-ghost use Rattle.std.specs.Prelude.{◌≡◌, [], None, Some, length, ◌↔◌, IsTrue, IfOk, IfErr, IfNone, IfSome, IsOk, IsPermutation, OnErr, OnOk};
+ghost use Rattle.std.specs.Prelude.{◌≡◌, [], None, Some, length, ◌↔◌, IsTrue, IfOk, IfErr, IfNone, IfSome, IsOk};
+ghost use Rattle.std.specs.Prelude.{IsPermutation, OnErr, OnOk};
 ghost use Rattle.spool.specs.Batches.{doubt_of};
 ghost use Rattle.group_commit.specs.Waits.{batch_of, batch_out, sealed_count, with_settled};
 ghost use Rattle.group_commit.specs.Turns as waiting;
@@ -75,8 +76,8 @@ impl<L: Ledger> Desk<L> {
         self.waiting.unseal(batch)
     }
 
-    /// Takes what is out from a committer that gives up. From then on nothing is taken or sealed, and nothing that waits
-    /// will be settled. It takes no memory.
+    /// Takes what is out from a committer that gives up. From then on nothing is taken or sealed,
+    /// and nothing that waits will be settled. It takes no memory.
     pub fn halt(&mut self, held: Held) -> Result<(), (Held, WrongTurn)>
         ensures moves { Turns self.old (λ w. IsHeldOf self.old.waiting.mark w held) with_halt result self.new }
         ensures turn { IsOk result ↔ waiting.IsHeldOf self.old.waiting held }
@@ -91,8 +92,8 @@ impl<L: Ledger> Desk<L> {
         Ok(())
     }
 
-    /// Ends the desk, with the permits that are out and what else is. Nothing that waits will be settled. The pool is empty, and another
-    /// opening may take it.
+    /// Ends the desk, with the permits that are out and what else is. Nothing that waits will be
+    /// settled. The pool is empty, and another opening may take it.
     pub fn close(self, permits: Vec<Permit<L>>, receipt: Option<Receipt>, held: Held) -> Pool<L>
         requires permits { IsPermutation permits.items self.live }
         requires out { IsAllOut self.waiting receipt held }

@@ -1,5 +1,7 @@
 -- Whatever a stop may leave, each event with an attempt that has no outcome there is pending there.
-use Rattle.std.proofs.Common.{◌≡◌, ◌≤◌, ◌<◌, ◌+◌, ◌==◌, ◌&&◌, ◌⊎◌, ℕ, Bool, true, false, List, [], ◌∷◌, ◌++◌, length, take, drop, get_or, Option, Some, None, Result, Ok, Err, inl, inr, refl, sym, ap, subst, ◌∙◌, arith, length-append, append-nil, cond, nat_eq}
+use Rattle.std.proofs.Common.{◌≡◌, ◌≤◌, ◌<◌, ◌+◌, ◌==◌, ◌&&◌, ◌⊎◌, ℕ, Bool, true, false, List, [], ◌∷◌, ◌++◌, length}
+use Rattle.std.proofs.Common.{take, drop, get_or, Option, Some, None, Result, Ok, Err, inl, inr, refl, sym, ap, subst}
+use Rattle.std.proofs.Common.{◌∙◌, arith, length-append, append-nil, cond, nat_eq}
 use Rattle.std.specs.Prelude.{find, is_some, remove, slice_get, if◌then◌else◌}
 use Rattle.std.specs.List.{cons_option, position_or_len}
 use Rattle.std.specs.Option.{option_map_or}
@@ -90,14 +92,18 @@ counted w steps d below within = ap (λ n. attempts_at d w.live + n)
 pending_at : (w : World) (steps d : ℕ) → IsTracked w → w.settled ≤ steps → steps ≤ length w.history → 1 ≤ unrecorded w steps d → IsPendingAgain w steps d
 pending_at w steps d h below within some = record {
   pending = front;
-  same = sym (accepted-before (records_of_first w steps) (records_behind w steps) d (below_if_accepted (records_of_first w steps) d (and_first (is_some (accepted (records_of_first w steps) d)) _ front)))
+  same = sym (accepted-before (records_of_first w steps) (records_behind w steps) d
+      (below_if_accepted (records_of_first w steps) d
+      (and_first (is_some (accepted (records_of_first w steps) d)) _ front)))
       ∙ ap (λ records. accepted records d) (split_at steps w.history);
   once = omega (arith, counted w steps d below within, h.once d, some);
 }
   where
     front : is_pending (records_of_first w steps) d ≡ true
     front = ap (λ records. is_pending records d) (sym (front_is w.history w.settled steps below))
-        ∙ still_pending (settled_records w) (records_of (between w.history w.settled steps)) d (h.pending d (omega (arith, counted w steps d below within, some))) (omega (arith, counted w steps d below within, h.once d, some))
+        ∙ still_pending (settled_records w) (records_of (between w.history w.settled steps)) d
+        (h.pending d (omega (arith, counted w steps d below within, some)))
+        (omega (arith, counted w steps d below within, h.once d, some))
 
 pub pending_again : (w : World) → IsTracked w → ArePendingAgain w
 pending_again w h = each_left (IsEachPendingAgain w) w w.out h.leaves
@@ -124,7 +130,9 @@ tracked_goes w next h g changes = record {
 
     after : (d : ℕ) → unrecorded next next.settled d ≡ attempts_at d next.live + (outcomes (waiting_records w) d + outcomes (records_of g.more) d)
     after d = ap (λ records. attempts_at d next.live + outcomes records d)
-        ((λ i. records_of (drop (g.settled i) (g.history i))) ∙ ap records_of (drop-append-le w.settled w.history g.more (omega (arith, h.below, h.within))) ∙ flatten_both (drop w.settled w.history) g.more)
+        ((λ i. records_of (drop (g.settled i) (g.history i)))
+        ∙ ap records_of (drop-append-le w.settled w.history g.more (omega (arith, h.below, h.within)))
+        ∙ flatten_both (drop w.settled w.history) g.more)
         ∙ ap (λ n. attempts_at d next.live + n) (more_outcomes (waiting_records w) (records_of g.more) d)
 
     once : (d : ℕ) → MayChange w next.live (records_of g.more) d → unrecorded next next.settled d ≤ 1
@@ -140,7 +148,18 @@ tracked_stages w next h s = tracked_goes w next h s.goes (λ d. inl (omega (arit
 
 -- an attempt begins at what waits for it
 tracked_begins : (w : World) (at : ℕ) (row : Row) → IsTracked w → waits w row.delivery ≡ true → IsTracked (with_attempt w at row)
-tracked_begins w at row h waiting = tracked_goes w (with_attempt w at row) h (record { out = refl; settled = refl; sealed = refl; left = refl; halted = refl; more = []; history = sym (append-nil w.history) })
+tracked_begins w at row h waiting =
+    tracked_goes w (with_attempt w at row) h
+    (record {
+      out = refl;
+      settled = refl;
+      sealed = refl;
+      left = refl;
+      halted = refl;
+      more = [];
+      history =
+          sym (append-nil w.history);
+    })
     (λ d. by d (nat_eq row.delivery d) refl)
   where
     push : (d : ℕ) → attempts_at d (w.live ++ row ∷ []) ≡ attempts_at d w.live + cond (nat_eq row.delivery d) 1 0

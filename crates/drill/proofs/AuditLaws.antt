@@ -30,7 +30,9 @@ module _ {S : Type 0} (g : Ghosts S) (old new : VaultValue S) (desk : DeskValue)
   of_other : (error : Error) → (cause error ≡ of.Memory → ⊥)
       → IfClean g old.conn new.conn (λ a b. (history : List Record) → Holds g old history → WasRefusal a b error)
       → TellsAudit {X = Unit {0}} g old new desk (Err Store)
-  of_other error other sound = inr (λ clean history held. has_refused (state g old.conn) (state g new.conn) error other (sound clean history held))
+  of_other error other sound =
+      inr (λ clean history held. has_refused (state g old.conn) (state g new.conn) error other
+      (sound clean history held))
 
   of_cause : (error : Error) (why : Cause) → cause error ≡ why
       → IfClean g old.conn new.conn (λ a b. (history : List Record) → Holds g old history → WasRefusal a b error)

@@ -69,13 +69,27 @@ core_committed : {L : Type 0} (core : Core L) (s : Session) (batch : BatchValue)
     → CoreStandsFor (record core { held = now }) (record s { world = world_by now s.world })
 core_committed core s batch now on was = at now (subst (IsHeld core.desk.waiting.mark s.world) (sym was) on.held)
   where
-    at : (now : Held) → (s.world.out ≡ Batch) × (batch ≡ sealed_batch core.desk.waiting.mark s.world) → IsOfBatch batch now → CoreStandsFor (record core { held = now }) (record s { world = world_by now s.world })
+    at : (now : Held) → (s.world.out ≡ Batch) × (batch ≡ sealed_batch core.desk.waiting.mark s.world)
+        → IsOfBatch batch now → CoreStandsFor (record core { held = now }) (record s { world = world_by now s.world })
     at held.Nothing had h = absurd h
     at (held.Batch back) had h = record { desk = on.desk; held = (had.0, h ∙ had.1); permits = on.permits; once = on.once; tickets = on.tickets }
     at (held.Receipt receipt) had h =
-        record { desk = out_again core.desk s.world Receipt (s.world.sealed ∷ []) on.desk (ap is_nothing_out had.0); held = (refl, h ∙ had.1); permits = on.permits; once = on.once; tickets = on.tickets }
+        record {
+          desk = out_again core.desk s.world Receipt (s.world.sealed ∷ []) on.desk (ap is_nothing_out had.0);
+          held = (refl, h ∙ had.1);
+          permits = on.permits;
+          once = on.once;
+          tickets = on.tickets;
+        }
     at (held.Doubt doubt) had h =
-        record { desk = out_again core.desk s.world Doubt (s.world.settled ∷ s.world.sealed ∷ []) on.desk (ap is_nothing_out had.0); held = (refl, h ∙ ap doubt_of had.1); permits = on.permits; once = on.once; tickets = on.tickets }
+        record {
+          desk = out_again core.desk s.world Doubt (s.world.settled ∷ s.world.sealed ∷ []) on.desk
+              (ap is_nothing_out had.0);
+          held = (refl, h ∙ ap doubt_of had.1);
+          permits = on.permits;
+          once = on.once;
+          tickets = on.tickets;
+        }
 
 pub core_kept : {L : Type 0} (old new : Core L) (batch : BatchValue) → IsCore old → held.Batch batch ≡ old.held → IsOfBatch batch new.held → new ≡ record old { held = new.held } → IsCore new
 core_kept old new batch core was of same = subst IsCore (sym same) (∥∥₁_map core (λ (h : HoldsAll old). record {
@@ -115,8 +129,11 @@ ends_commit g vault mark batch (held.Doubt doubt) reply s below had leaves (is, 
 ends_commit g vault mark batch held.Nothing reply s below had leaves h = absurd h
 
 -- the store takes the next batch, unless it has no memory
-pub unchanged_ends : {S : Type 0} (g : Ghosts S) (old new : VaultValue S) (batch back : BatchValue) (reason : Unchanged) (result : Result BatchValue CommitEnd) → result ≡ Err (ends.Unchanged back reason) → back ≡ batch
-    → (result ≡ Err (ends.Unchanged batch why.Closed) → IsTrue old.closed) → (result ≡ Err (ends.Unchanged batch why.OutOfTurn) → IsNext old batch → ⊥) → (result ≡ Err (ends.Unchanged batch why.Illegal) → IsIllegal g old batch)
+pub unchanged_ends : {S : Type 0} (g : Ghosts S) (old new : VaultValue S) (batch back : BatchValue) (reason : Unchanged)
+    (result : Result BatchValue CommitEnd) → result ≡ Err (ends.Unchanged back reason) → back ≡ batch
+    → (result ≡ Err (ends.Unchanged batch why.Closed) → IsTrue old.closed)
+    → (result ≡ Err (ends.Unchanged batch why.OutOfTurn) → IsNext old batch → ⊥)
+    → (result ≡ Err (ends.Unchanged batch why.Illegal) → IsIllegal g old batch)
     → (IsTrue new.closed → IsTrue old.closed ⊎ IsDoubt result) → LeavesHistory g old new batch result
     → (records : List Record) → IsOpenAt g old records → IsNext old batch → IsLegal (records ++ records_of batch.steps) → EndsAs g new records batch (held.Batch back) (unchanged_reply reason)
 unchanged_ends g old new batch back why.Closed result is same closed turn illegal doubt over records open_at next legal =
@@ -132,7 +149,8 @@ unchanged_ends g old new batch back why.OutOfMemory result is same closed turn i
     at false e = refl
     at true e = elim (doubt e) [ inl h ↦ absurd (let shut : old.closed ≡ true = h in let free : old.closed ≡ false = open_at.0 in cc) | inr h ↦ absurd (subst IsDoubt is h) ]
 
-pub answers_commit : {L S : Type 0} (g : Ghosts S) (old new : Core L) (vault later : VaultValue S) (batch : BatchValue) (reply : Reply) → held.Batch batch ≡ old.held → new ≡ record old { held = new.held }
+pub answers_commit : {L S : Type 0} (g : Ghosts S) (old new : Core L) (vault later : VaultValue S) (batch : BatchValue)
+    (reply : Reply) → held.Batch batch ≡ old.held → new ≡ record old { held = new.held }
     → IsOfBatch batch new.held → later.mark ≡ vault.mark → CommitsSo g vault later batch new.held reply → Answers g old vault (λ s. commits s s.world.out) reply new later
 answers_commit g old new vault later batch reply was same of mark commit s on =
     let w = s.world in

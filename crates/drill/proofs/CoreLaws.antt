@@ -1,5 +1,7 @@
 -- What calls of the desk make of a core and its session: looks, steps that are staged, and attempts.
-use Rattle.std.proofs.Common.{◌≡◌, ◌≤◌, ◌<◌, ◌+◌, ◌==◌, ℕ, Bool, true, false, not, ◌&&◌, cond, List, [], ◌∷◌, ◌++◌, length, take, drop, get_or, Option, Some, None, Result, Ok, Err, inl, inr, ⊎_elim, refl, sym, ap, subst, ◌∙◌, arith, append-nil, nat_eq, nat_lt}
+use Rattle.std.proofs.Common.{◌≡◌, ◌≤◌, ◌<◌, ◌+◌, ◌==◌, ℕ, Bool, true, false, not, ◌&&◌, cond, List, [], ◌∷◌, ◌++◌}
+use Rattle.std.proofs.Common.{length, take, drop, get_or, Option, Some, None, Result, Ok, Err, inl, inr, ⊎_elim, refl}
+use Rattle.std.proofs.Common.{sym, ap, subst, ◌∙◌, arith, append-nil, nat_eq, nat_lt}
 use mathlib.Core.Logic.{∥∥₁_map}
 use Rattle.std.specs.Prelude.{IsSomeAnd, count_by, find, position, remove, slice_get, if◌then◌else◌}
 use Rattle.std.specs.List.{list_any, position_or_len}
@@ -26,7 +28,9 @@ use Rattle.desk.specs.Faults.{Faults, refusal}
 use Rattle.desk.specs.World.{World, all_records, settled_records}
 use Rattle.desk.specs.Moves as desk
 use Rattle.desk.specs.Moves.{MayGive, refused, unless, submit, submit_faults, submit_new, new_submit_faults, repeats, change, changes, change_faults, sealed_batch, moment, are_seqs_spent}
-use Rattle.desk.specs.Claims.{JobValue, SpentValue, is_live, is_claimable, is_claimable_for, claimables, has_no_waiting_outcome, waits, choice, claim, claim_chosen, starts, rests, with_attempt, has_row, with_attempt_over, without_row, outcome_by, sample_by}
+use Rattle.desk.specs.Claims.{JobValue, SpentValue, is_live, is_claimable, is_claimable_for, claimables}
+use Rattle.desk.specs.Claims.{has_no_waiting_outcome, waits, choice, claim, claim_chosen, starts, rests, with_attempt}
+use Rattle.desk.specs.Claims.{has_row, with_attempt_over, without_row, outcome_by, sample_by}
 use Rattle.group_commit.specs.Waits.{batch_out}
 use Rattle.desk.specs.Desks.{StandsFor, IsMove, KeepsOut, Spends}
 use Rattle.desk.proofs.LeastLaws.{chosen_among, passes}
@@ -115,7 +119,8 @@ same_first w next k g within = ap records_of (sym (ap (take k) g.history ∙ tak
 batch_goes : (mark : ℕ) (w next : World) → Goes w next → w.settled ≤ w.sealed → w.sealed ≤ length w.history → sealed_batch mark w ≡ sealed_batch mark next
 batch_goes mark w next g below within =
     let settled : settled_records w ≡ settled_records next = same_first w next w.settled g (omega arith) ∙ ap (λ k. records_of (take k next.history)) (sym g.settled) in
-    let sealed : take w.sealed w.history ≡ take next.sealed next.history = sym (ap (λ k. take k next.history) g.sealed ∙ ap (take w.sealed) g.history ∙ take-append-le w.sealed w.history g.more within) in
+    let sealed : take w.sealed w.history ≡ take next.sealed next.history = sym (ap (λ k. take k next.history) g.sealed
+    ∙ ap (take w.sealed) g.history ∙ take-append-le w.sealed w.history g.more within) in
     λ i. record { mark = mark; from = length (settled i); steps = drop (sym g.settled i) (sealed i) }
 
 held_goes : (mark : ℕ) (w next : World) (now : Held) → Goes w next → w.settled ≤ w.sealed → w.sealed ≤ length w.history → IsHeld mark w now → IsHeld mark next now
@@ -124,7 +129,8 @@ held_goes mark w next (held.Batch batch) g below within h = (g.out ∙ h.0, h.1 
 held_goes mark w next (held.Receipt batch) g below within h = (g.out ∙ h.0, h.1 ∙ batch_goes mark w next g below within)
 held_goes mark w next (held.Doubt doubt) g below within h = (g.out ∙ h.0, h.1 ∙ ap doubt_of (batch_goes mark w next g below within))
 
-core_goes : {L : Type 0} (old new : Core L) (s : Session) (next : World) (given : List Given) → CoreStandsFor old s → Goes s.world next → StandsFor new.desk next → new.desk.waiting.mark ≡ old.desk.waiting.mark
+core_goes : {L : Type 0} (old new : Core L) (s : Session) (next : World) (given : List Given) → CoreStandsFor old s
+    → Goes s.world next → StandsFor new.desk next → new.desk.waiting.mark ≡ old.desk.waiting.mark
     → new.held ≡ old.held → new.permits.items ≡ next.live → AreOnce next.live → Keeps new.tickets given → CoreStandsFor new (record { world = next; tickets = given })
 core_goes old new s next given on goes desk mark same permits once keeps = record {
   desk = desk;
@@ -165,7 +171,8 @@ answers_staged old new of move result plain moved mark out same permits keeps = 
       let goes = goes_given s.world (move s.world) result made.0 (plain s.world) made.1 in (
         record { world = made.0; tickets = with_ticket of result s.tickets },
         may_stage of s (move s.world) result made.0 made.1,
-        core_goes old new s made.0 (with_ticket of result s.tickets) on goes.goes made.2 mark same (permits ∙ on.permits ∙ sym goes.live) (subst AreOnce (sym goes.live) on.once) (keeps s.tickets on.tickets),
+        core_goes old new s made.0 (with_ticket of result s.tickets) on goes.goes made.2 mark same (permits ∙ on.permits
+            ∙ sym goes.live) (subst AreOnce (sym goes.live) on.once) (keeps s.tickets on.tickets),
       );
 }
 
@@ -274,7 +281,10 @@ answers_claimed old new now job moved mark rows out same permits tickets = recor
         record s { world = made.0 },
         tells_given claim_reply s (claim s.world now) (Ok (Some job)) made.0 (λ r. refl) made.1,
         core_goes old new s made.0 s.tickets on (goes_claim s.world (Ok (Some job)) made.0 (at, e, waiting)) made.2 mark same
-            (permits ∙ ap (λ rows. rows ++ job.row ∷ []) on.permits ∙ sym live) (subst AreOnce (sym live) (once_more s.world.live job.row on.once (waits_so s.world job.row.delivery waiting).2)) (subst (λ t. Keeps t s.tickets) (sym tickets) on.tickets),
+            (permits ∙ ap (λ rows. rows ++ job.row ∷ []) on.permits ∙ sym live)
+            (subst AreOnce (sym live)
+            (once_more s.world.live job.row on.once (waits_so s.world job.row.delivery waiting).2))
+            (subst (λ t. Keeps t s.tickets) (sym tickets) on.tickets),
       );
 }
 
@@ -375,7 +385,8 @@ taken_first delivery place row rows rest t = by (position (same_row row) rows) r
         e ∙ ap (λ n. Some n) (⊎_elim (λ lt. absurd (early i lt found)) (λ most. ⊎_elim (λ lt. absurd (late lt)) (λ least. omega (arith, most, least)) (cases_lt place i)) (cases_lt i place))
 
 -- it is that of an attempt that is under way
-pub taken_is_out : {L : Type 0} (core : Core L) (s : Session) (delivery place : ℕ) (row : Row) (rest : List Row) → CoreStandsFor core s → IsTaken delivery place row core.permits.items rest → has_row s.world row ≡ true
+pub taken_is_out : {L : Type 0} (core : Core L) (s : Session) (delivery place : ℕ) (row : Row) (rest : List Row)
+    → CoreStandsFor core s → IsTaken delivery place row core.permits.items rest → has_row s.world row ≡ true
 taken_is_out core s delivery place row rest on t =
     subst (λ rows. list_any (same_row row) rows ≡ true) on.permits
     (list_any_at (same_row row) core.permits.items place row (taken_within delivery place row core.permits.items rest t) (ap (same_row row) (sym t.own) ∙ same_row_self row))
@@ -388,12 +399,15 @@ once_less rows place d within once n =
 
 pub answers_spent : {L : Type 0} (old new : Core L) (delivery now place : ℕ) (post : PostResult) (row : Row) (spent : SpentValue) → IsTaken delivery place row old.permits.items new.permits.items
     → Spends {E = Unit {0}} old.desk row post now (Ok spent) new.desk → new.desk.waiting.mark ≡ old.desk.waiting.mark
-    → ((place : ℕ) → position (same_row row) old.desk.live ≡ Some place → new.desk.live ≡ remove old.desk.live place) → batch_out new.desk.waiting ≡ batch_out old.desk.waiting → new.held ≡ old.held → new.tickets ≡ old.tickets
+    → ((place : ℕ) → position (same_row row) old.desk.live ≡ Some place → new.desk.live ≡ remove old.desk.live place)
+    → batch_out new.desk.waiting ≡ batch_out old.desk.waiting → new.held ≡ old.held → new.tickets ≡ old.tickets
     → CoreAnswers old (λ s. spends s (permit_of s.world delivery) post now) (spent_reply spent) new
 answers_spent old new delivery now place post row spent t spends_so mark rows out same tickets = record {
   mark = mark;
   keeps = λ core. ∥∥₁_map core (λ (h : HoldsAll old). record {
-    permits = t.left ∙ ap (λ live. remove live place) h.permits ∙ sym (rows place (subst (λ live. position (same_row row) live ≡ Some place) h.permits (taken_first delivery place row old.permits.items new.permits.items t)));
+    permits = t.left ∙ ap (λ live. remove live place) h.permits
+        ∙ sym (rows place (subst (λ live. position (same_row row) live ≡ Some place) h.permits
+        (taken_first delivery place row old.permits.items new.permits.items t)));
     out = subst (HoldsOut (batch_out new.desk.waiting)) (sym same) (subst (λ o. HoldsOut o old.held) (sym out) h.out);
   });
   moves = λ s on.
@@ -426,7 +440,8 @@ answers_no_permit core delivery now post none = record {
     not_found : (rows : List Row) → position (λ (r : Row). r.delivery == delivery) rows ≡ None → find (λ (r : Row). r.delivery == delivery) rows ≡ None
     not_found rows e = pick (nat_lt (position_or_len (λ (r : Row). r.delivery == delivery) rows) (length rows)) refl e
       where
-        pick : (b : Bool) → nat_lt (position_or_len (λ (r : Row). r.delivery == delivery) rows) (length rows) ≡ b → cond b (Some (position_or_len (λ (r : Row). r.delivery == delivery) rows)) None ≡ None
+        pick : (b : Bool) → nat_lt (position_or_len (λ (r : Row). r.delivery == delivery) rows) (length rows) ≡ b
+            → cond b (Some (position_or_len (λ (r : Row). r.delivery == delivery) rows)) None ≡ None
             → find (λ (r : Row). r.delivery == delivery) rows ≡ None
         pick true below e = cc
         pick false beyond e = find_at (λ (r : Row). r.delivery == delivery) rows

@@ -130,7 +130,8 @@ follows P s next event reply own h = follows_each P s next event reply own (reco
 })
 
 -- a commit, by what is out
-pub commits_follow : (P : World → Type 0) (s next : Session) (reply : Reply) (o : Out) → s.world.out ≡ o → P s.world → (s.world.out ≡ Batch → P (with_receipt s.world)) → (s.world.out ≡ Batch → P (in_doubt s.world))
+pub commits_follow : (P : World → Type 0) (s next : Session) (reply : Reply) (o : Out) → s.world.out ≡ o → P s.world
+    → (s.world.out ≡ Batch → P (with_receipt s.world)) → (s.world.out ≡ Batch → P (in_doubt s.world))
     → MayTell (commits s o) reply next → P next.world
 commits_follow P s next reply Nothing e stays kept doubt move = moved P next s reply _ stays move
 commits_follow P s next reply Batch e stays kept doubt (inl given) = subst (λ (t : Session). P t.world) (sym given.1) (kept e)

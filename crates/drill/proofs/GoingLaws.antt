@@ -99,7 +99,9 @@ opening_in_front w next (history, clock, is) g marks leaves = each_left (λ step
         )
 
 -- What is settled is in whatever a stop may leave, in its place.
-pub front_kept : (w : World) (n : ℕ) (records : List Record) → LeavesBy w.out w → n ≤ length (records_of_first w w.settled) → n ≤ length (records_of_first w w.sealed) → take n (all_records w) ≡ take n records → KeepsFirst w n records
+pub front_kept : (w : World) (n : ℕ) (records : List Record) → LeavesBy w.out w
+    → n ≤ length (records_of_first w w.settled) → n ≤ length (records_of_first w w.sealed) → take n (all_records w)
+    ≡ take n records → KeepsFirst w n records
 front_kept w n records leaves settled sealed same = each_left (λ steps. HasFirst n records (records_of_first w steps)) w w.out leaves (at w.settled settled) (at w.sealed sealed)
   where
     at : (steps : ℕ) → n ≤ length (records_of_first w steps) → HasFirst n records (records_of_first w steps)

@@ -27,7 +27,8 @@ pub go_on : RunsGoOn
 go_on s last events replies n marks run = (run_goes_on events replies s last n marks run).0
 
 -- what a run shows is settled at its end, and so is what was settled before
-run_settles : (events : List Event) (replies : List Reply) (s last : Session) (n : ℕ) → HasMarksInOrder s.world → Runs s events replies last n → (n ≤ settled_count last.world) × (settled_count s.world ≤ settled_count last.world)
+run_settles : (events : List Event) (replies : List Reply) (s last : Session) (n : ℕ) → HasMarksInOrder s.world
+    → Runs s events replies last n → (n ≤ settled_count last.world) × (settled_count s.world ≤ settled_count last.world)
 run_settles [] [] s last n marks (same, none) = (omega (arith, none), omega (arith, ap (λ (t : Session). settled_count t.world) same))
 run_settles (event ∷ events) (told ∷ replies) s last n marks (next, later, makes, rest, is) =
     let order : IsOrdered s.world = record { below = marks.0; within = marks.1 } in
@@ -57,7 +58,8 @@ opening_settled w (history, clock, is) =
     subst (λ (v : World). settled_count v ≡ length (all_records v)) (sym is) (ap (λ (h : History). length (records_of h)) (take-length history))
 
 -- a run keeps what its opening has
-run_has : (w : World) (events : List Event) (replies : List Reply) (last : Session) (m n : ℕ) (records : List Record) → IsOpening w → Runs (session_of w) events replies last m → HasFirst n records (all_records w)
+run_has : (w : World) (events : List Event) (replies : List Reply) (last : Session) (m n : ℕ) (records : List Record)
+    → IsOpening w → Runs (session_of w) events replies last m → HasFirst n records (all_records w)
     → HasSettled last.world n records
 run_has w events replies last m n records opening run (within, same) = record {
   tracked = run_tracked (session_of w) events replies last m (opening_tracked w opening) run;
@@ -86,14 +88,16 @@ stops_keep lines more replies others first last n later run rest =
 
 -- By what the calls say
 
-opened_at : {S : Type 0} (g : Ghosts S) (desk : DeskValue) (vault : VaultValue S) (w : World) (numbers : List ℕ) (n : ℕ) (records : List Record) → AllByRecursion (λ steps. HasFirst n records (records_of_first w steps)) numbers
+opened_at : {S : Type 0} (g : Ghosts S) (desk : DeskValue) (vault : VaultValue S) (w : World) (numbers : List ℕ) (n : ℕ)
+    (records : List Record) → AllByRecursion (λ steps. HasFirst n records (records_of_first w steps)) numbers
     → AreOpenedAtOne g desk vault w numbers → (history : History) × AreOpenedAt g desk vault history × HasFirst n records (records_of history)
 opened_at g desk vault w [] n records first none = absurd none
 opened_at g desk vault w (steps ∷ others) n records first (inl opened) = (take steps w.history, opened, first.0)
 opened_at g desk vault w (steps ∷ others) n records first (inr other) = opened_at g desk vault w others n records first.1 other
 
 -- what stands in front of all that a stop may leave has them, so that has them too
-in_front_kept : (w : World) (numbers : List ℕ) (n : ℕ) (records front : List Record) → HasFirst n records front → AllByRecursion (λ steps. (more : List Record) × (records_of_first w steps ≡ front ++ more)) numbers
+in_front_kept : (w : World) (numbers : List ℕ) (n : ℕ) (records front : List Record) → HasFirst n records front
+    → AllByRecursion (λ steps. (more : List Record) × (records_of_first w steps ≡ front ++ more)) numbers
     → AllByRecursion (λ steps. HasFirst n records (records_of_first w steps)) numbers
 in_front_kept w [] n records front has none = tt
 in_front_kept w (steps ∷ others) n records front has ((more, is), rest) =

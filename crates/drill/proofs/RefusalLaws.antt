@@ -28,7 +28,9 @@ use Rattle.drill.specs.declared.events.Reply.TheVariants as reply
 use Rattle.drill.specs.declared.tickets.Given.{Given}
 use Rattle.drill.specs.declared.tickets.Given.TheVariants.{Submission, Command as OfCommand}
 use Rattle.drill.specs.Events.{look_reply}
-use Rattle.drill.specs.Moves.{Session, Answer, IsOneOf, answer_to, fault_of, lacks, staged_reply, seal_reply, claim_reply, limits_reply, told_reply, endpoint_reply, event_reply, commits, settles, unseals, halts, spends, permit_of}
+use Rattle.drill.specs.Moves.{Session, Answer, IsOneOf, answer_to, fault_of, lacks, staged_reply, seal_reply}
+use Rattle.drill.specs.Moves.{claim_reply, limits_reply, told_reply, endpoint_reply, event_reply, commits, settles}
+use Rattle.drill.specs.Moves.{unseals, halts, spends, permit_of}
 use Rattle.drill.specs.Refusals.{CanRefuse, RefusalsOfMoves}
 use Rattle.drill.specs.Runs.{Move}
 use Rattle.drill.specs.Tickets.{find_ticket}
@@ -42,7 +44,8 @@ abbrev AreAllowed : World → line.Call → List (line_reply.Reply × Session) �
 AreAllowed w event [] = Unit {0}
 AreAllowed w event (one ∷ others) = IsAllowed w event one.0 × AreAllowed w event others
 
-by_unserved : (w : World) (event : line.Call) (unserved : List (line_reply.Reply × Session)) (told : line_reply.Reply) (next : Session) → AreAllowed w event unserved → IsOneOf unserved told next → IsAllowed w event told
+by_unserved : (w : World) (event : line.Call) (unserved : List (line_reply.Reply × Session)) (told : line_reply.Reply)
+    (next : Session) → AreAllowed w event unserved → IsOneOf unserved told next → IsAllowed w event told
 by_unserved w event [] told next h none = absurd none
 by_unserved w event (one ∷ others) told next h (inl given) = subst (IsAllowed w event) (sym given.0) h.0
 by_unserved w event (one ∷ others) told next h (inr more) = by_unserved w event others told next h.1 more

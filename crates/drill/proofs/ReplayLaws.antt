@@ -24,13 +24,23 @@ abbrev RepliesFrom : (Session → Type 0) → Session → List (List ℕ) → Li
 RepliesFrom Holds s texts written = (lines : List Line) × (replies : List Reply) × (last : Session) × (acknowledged : ℕ)
     × ReadLines texts lines × Replay s lines replies last acknowledged × (written ≡ replies_text replies) × Holds last
 
-replies_from : {L S : Type 0} (g : Ghosts S) (old new : Player L S g) (s : Session) (texts : List (List ℕ)) (written : List ℕ) → StateStandsFor g old.state s → AnswersEach (RunsLine g) old texts written new
+replies_from : {L S : Type 0} (g : Ghosts S) (old new : Player L S g) (s : Session) (texts : List (List ℕ))
+    (written : List ℕ) → StateStandsFor g old.state s → AnswersEach (RunsLine g) old texts written new
     → RepliesFrom (StateStandsFor g new.state) s texts written
 replies_from {L} {S} g old new s [] written stands (none, same) = ([], [], s, 0, tt, (refl, refl), none, subst (λ (p : Player L S g). StateStandsFor g p.state s) same stands)
 replies_from g old new s (text ∷ texts) written stands (next, told, rest, (line, reply, reads, takes, is), whole, each) =
     let (after, move, on) = takes s stands in
-    let (lines, replies, last, n, calls, run, said, holds) = replies_from g next new after texts rest on each in
-    (line ∷ lines, reply ∷ replies, last, max (shown_of s.world line reply) n, (reads, calls), (after, n, move, run, refl), whole ∙ ap (λ xs. xs ++ 10 ∷ rest) is ∙ ap (λ xs. reply_text reply ++ 10 ∷ xs) said, holds)
+    let (lines, replies, last, n, calls, run, said, holds) = replies_from g next new after texts rest on each in (
+      line ∷ lines,
+      reply ∷ replies,
+      last,
+      max (shown_of s.world line reply) n,
+      (reads, calls),
+      (after, n, move, run, refl),
+      whole ∙ ap (λ xs. xs ++ 10 ∷ rest) is
+          ∙ ap (λ xs. reply_text reply ++ 10 ∷ xs) said,
+      holds,
+    )
 
 pub Replies-none : Replies [] []
 Replies-none = ([], [], begun, 0, tt, (refl, refl), refl)

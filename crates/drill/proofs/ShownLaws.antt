@@ -1,5 +1,6 @@
 -- What a reply shows is settled, and stays so.
-use Rattle.std.proofs.Common.{◌≡◌, ◌≤◌, ◌+◌, ◌==◌, ◌&&◌, ℕ, Bool, true, false, not, List, [], ◌∷◌, ◌++◌, length, take, max, Option, Some, None, inl, inr, refl, sym, ap, subst, ◌∙◌, arith, length-append}
+use Rattle.std.proofs.Common.{◌≡◌, ◌≤◌, ◌+◌, ◌==◌, ◌&&◌, ℕ, Bool, true, false, not, List, [], ◌∷◌, ◌++◌, length, take}
+use Rattle.std.proofs.Common.{max, Option, Some, None, inl, inr, refl, sym, ap, subst, ◌∙◌, arith, length-append}
 use Rattle.std.specs.Prelude.{is_some, nat_lt, option_map, if◌then◌else◌}
 use Rattle.std.specs.Option.{option_map_or}
 use Rattle.std.proofs.lemmas.Bool.{eqb-true, ltb-true}
@@ -155,7 +156,10 @@ permit_below w now told is said = at w.halted (choice w (moment w now)) refl sai
     not_told other none e = let yes : is_permit told ≡ true = is in let same : is_permit told ≡ is_permit other = ap is_permit e in cc
 
     began : (d : ℕ) → choice w (moment w now) ≡ Some d → (full : Bool) (accept : Option Accepted)
-        → told ≡ claim_reply (unless ((full, 2, desk_fault.SeqExhausted) ∷ []) w (option_map_or (starts w (moment w now) d) accept (rests w (moment w now)))).reply → delivery_in told + 1 ≤ settled_count w
+        → told ≡ claim_reply
+        (unless ((full, 2, desk_fault.SeqExhausted) ∷ []) w
+        (option_map_or (starts w (moment w now) d) accept (rests w (moment w now)))).reply → delivery_in told + 1
+        ≤ settled_count w
     began d e true accept said = absurd (not_told _ refl said)
     began d e false None said = absurd (not_told _ refl said)
     began d e false (Some a) said = omega (arith, ap delivery_in said, chosen_below w (moment w now) d e)
@@ -285,7 +289,8 @@ events_more g first mid new before between later events replies event told so_fa
 
 -- The first session
 
-pub begun_core : {L : Type 0} (core : Core L) (w : World) → StandsFor core.desk w → IsOpening w → core.held ≡ held.Nothing → core.permits.items ≡ [] → Keeps core.tickets [] → CoreStandsFor core (session_of w)
+pub begun_core : {L : Type 0} (core : Core L) (w : World) → StandsFor core.desk w → IsOpening w
+    → core.held ≡ held.Nothing → core.permits.items ≡ [] → Keeps core.tickets [] → CoreStandsFor core (session_of w)
 begun_core core w on (history, clock, is) nothing none kept = record {
   desk = on;
   held = subst (IsHeld core.desk.waiting.mark w) (sym nothing) (ap (λ (v : World). v.out) is);
@@ -302,8 +307,10 @@ idle_core core (live, out) nothing none = merely (record {
 
 -- What is left when all events were told their replies
 
-pub run_from : {L S : Type 0} (g : Ghosts S) (first : Core L) (before : VaultValue S) (core : Core L) (w : World) (events : List Event) (to : left.World L S) → IsOpening w → RunStandsFor g first before (session_of w)
-    → TakesEvents g first before events to.replies.items core to.vault → to.desk ≡ core.desk → to.permits ≡ core.permits → to.receipt ≡ receipt_of core.held → to.held ≡ given_of core.held → IsRunFrom g (session_of w) events to
+pub run_from : {L S : Type 0} (g : Ghosts S) (first : Core L) (before : VaultValue S) (core : Core L) (w : World)
+    (events : List Event) (to : left.World L S) → IsOpening w → RunStandsFor g first before (session_of w)
+    → TakesEvents g first before events to.replies.items core to.vault → to.desk ≡ core.desk → to.permits ≡ core.permits
+    → to.receipt ≡ receipt_of core.held → to.held ≡ given_of core.held → IsRunFrom g (session_of w) events to
 run_from g first before core w events to opening started takes desk permits receipt given =
     let (last, n, run, on, below) = takes (session_of w) started in
     let going = run_goes_on events to.replies.items (session_of w) last n (opening_marks w opening) run in record {

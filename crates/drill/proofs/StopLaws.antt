@@ -26,9 +26,12 @@ use Rattle.drill.specs.Runners.{Answers, RunStandsFor}
 use Rattle.drill.specs.Worlds.{session_of}
 use Rattle.drill.proofs.CommitLaws.{rows_kept}
 
-starts_again : {L S : Type 0} (g : Ghosts S) (s : Session) (core : Core L) (desk : DeskValue) (vault : VaultValue S) (left : List _) → core.desk.waiting.mark ≡ vault.mark
-    → ((w : World) → StandsFor desk w → w.out ≡ Nothing → w.live ≡ [] → CoreStandsFor core (record { world = w; tickets = [] }))
-    → AreOpenedAtOne g desk vault s.world left → (next : Session) × OpensAgain s left (says.Reopened vault.next) next × RunStandsFor g core vault next
+starts_again : {L S : Type 0} (g : Ghosts S) (s : Session) (core : Core L) (desk : DeskValue) (vault : VaultValue S)
+    (left : List _) → core.desk.waiting.mark ≡ vault.mark
+    → ((w : World) → StandsFor desk w → w.out ≡ Nothing → w.live ≡ []
+    → CoreStandsFor core (record { world = w; tickets = [] }))
+    → AreOpenedAtOne g desk vault s.world left → (next : Session) × OpensAgain s left (says.Reopened vault.next) next
+    × RunStandsFor g core vault next
 starts_again g s core desk vault [] marked stands none = absurd none
 starts_again g s core desk vault (steps ∷ others) marked stands (inl (on, holds)) =
     let first : History = take steps s.world.history in
@@ -41,9 +44,12 @@ starts_again g s core desk vault (steps ∷ others) marked stands (inr more) =
     let (next, opens, on) = starts_again g s core desk vault others marked stands more in (next, inr opens, on)
 
 -- The store was open, so what a stop leaves stood in it.
-pub stop_taken : {L S : Type 0} (g : Ghosts S) (s : Session) (before : Core L) (old : VaultValue S) (conn : Held S) (core : Core L) (desk : DeskValue) (vault : VaultValue S) → RunStandsFor g before old s → conn ≡ old.conn
-    → IsOpenBehind (state g conn) (state g vault.conn) → ReopensLeft g conn desk vault → core.desk.waiting.mark ≡ vault.mark
-    → ((w : World) → StandsFor desk w → w.out ≡ Nothing → w.live ≡ [] → CoreStandsFor core (record { world = w; tickets = [] }))
+pub stop_taken : {L S : Type 0} (g : Ghosts S) (s : Session) (before : Core L) (old : VaultValue S) (conn : Held S)
+    (core : Core L) (desk : DeskValue) (vault : VaultValue S) → RunStandsFor g before old s → conn ≡ old.conn
+    → IsOpenBehind (state g conn) (state g vault.conn) → ReopensLeft g conn desk vault → core.desk.waiting.mark
+    ≡ vault.mark
+    → ((w : World) → StandsFor desk w → w.out ≡ Nothing → w.live ≡ []
+    → CoreStandsFor core (record { world = w; tickets = [] }))
     → (next : Session) × OpensAgain s s.world.left (says.Reopened vault.next) next × RunStandsFor g core vault next
 stop_taken g s before old conn core desk vault on same (may, is_open) reopens marked stands =
     let was_open = subst (λ c. IsTrue (state g c).is_open) same (may.stays is_open).0 in
@@ -56,15 +62,20 @@ module _ {L S : Type 0} (g : Ghosts S) (old new : State L S g) (runner after : R
   one_runner : {a b : Runner L S g} → Open a ≡ Open b → a ≡ b
   one_runner e = cc
 
-  stood : (s : Session) (first : Runner L S g) → old ≡ Open runner → old ≡ Open first → RunStandsFor g first.core first.vault s → RunStandsFor g runner.core runner.vault s
+  stood : (s : Session) (first : Runner L S g) → old ≡ Open runner → old ≡ Open first
+      → RunStandsFor g first.core first.vault s → RunStandsFor g runner.core runner.vault s
   stood s first was is on = subst (λ (r : Runner L S g). RunStandsFor g r.core r.vault s) (one_runner (sym is ∙ was)) on
 
-  pub call_taken : (event : Call) (reply : Reply) → old ≡ Open runner → new ≡ Open after → Answers g runner.core runner.vault (λ s. answer_to s event) reply after.core after.vault → TakesLine g old (as_line.Call event) reply new
+  pub call_taken : (event : Call) (reply : Reply) → old ≡ Open runner → new ≡ Open after
+      → Answers g runner.core runner.vault (λ s. answer_to s event) reply after.core after.vault
+      → TakesLine g old (as_line.Call event) reply new
   call_taken event reply was is answers s (first, same, on) =
       let (next, told, stands) = answers s (stood s first was same on) in (next, told, (after, is, stands))
 
   pub reopening_taken : (reply : Reply) → old ≡ Open runner → new ≡ Open after
-      → ((s : Session) → RunStandsFor g runner.core runner.vault s → (next : Session) × OpensAgain s s.world.left reply next × RunStandsFor g after.core after.vault next) → TakesLine g old as_line.Stop reply new
+      → ((s : Session) → RunStandsFor g runner.core runner.vault s → (next : Session)
+      × OpensAgain s s.world.left reply next × RunStandsFor g after.core after.vault next)
+      → TakesLine g old as_line.Stop reply new
   reopening_taken reply was is opens s (first, same, on) =
       let (next, leads, stands) = opens s (stood s first was same on) in (next, leads, (after, is, stands))
 

@@ -1,5 +1,7 @@
 -- What the turns of a batch make of a core and its session: it is sealed, settled, taken back or given up.
-use Rattle.std.proofs.Common.{◌≡◌, ℕ, ◌+◌, ◌≤◌, ◌==◌, Bool, true, false, not, [], ◌∷◌, ◌++◌, length, take, drop, Option, Some, None, Result, Ok, Err, inl, inr, refl, sym, ap, subst, ◌∙◌, append_assoc, length-append}
+use Rattle.std.proofs.Common.{◌≡◌, ℕ, ◌+◌, ◌≤◌, ◌==◌, Bool, true, false, not, [], ◌∷◌, ◌++◌, length, take, drop, Option}
+use Rattle.std.proofs.Common.{Some, None, Result, Ok, Err, inl, inr, refl, sym, ap, subst, ◌∙◌, append_assoc}
+use Rattle.std.proofs.Common.{length-append}
 use mathlib.Core.Logic.{∥∥₁_elim, ∥∥₁_map}
 use Rattle.std.specs.Prelude.{if◌then◌else◌, List, IsPermutation, IsSomeAnd, option_map}
 use Rattle.std.specs.Coded.{Coded, Coded-set, codes}
@@ -49,7 +51,9 @@ same_seal mark s = at s.world.halted (is_nothing_out s.world.out) (length s.worl
     at false true true = refl
     at false true false = refl
 
-may_seal : (mark : ℕ) (s : Session) (result : Result (Option BatchValue) Refusal) (next : World) → MayGive s.world (seal mark s.world) result next → MayTell (tells seal_reply s (seal 0 s.world)) (seal_reply result) (record s { world = next })
+may_seal : (mark : ℕ) (s : Session) (result : Result (Option BatchValue) Refusal) (next : World)
+    → MayGive s.world (seal mark s.world) result next
+    → MayTell (tells seal_reply s (seal 0 s.world)) (seal_reply result) (record s { world = next })
 may_seal mark s result next given =
     subst (λ answer. MayTell answer (seal_reply result) (record s { world = next })) (same_seal mark s) (tells_given seal_reply s (seal mark s.world) result next (λ r. refl) given)
 
@@ -99,7 +103,9 @@ unsealed_move mark w result next unsealed = at w.halted (is_nothing_out w.out) (
     at false true false (inr without) = without.1
 
 pub answers_sealed : {L : Type 0} (old new : Core L) (batch : BatchValue) → IsMove old.desk (seal old.desk.waiting.mark) (Ok (Some batch)) new.desk → new.desk.waiting.mark ≡ old.desk.waiting.mark
-    → new.desk.live ≡ old.desk.live → batch_out new.desk.waiting ≡ Some batch → new.permits.items ≡ old.permits.items → new.tickets ≡ old.tickets → new.held ≡ held.Batch batch → CoreAnswers old (λ s. tells seal_reply s (seal 0 s.world)) (seal_reply (Ok (Some batch))) new
+    → new.desk.live ≡ old.desk.live → batch_out new.desk.waiting ≡ Some batch → new.permits.items ≡ old.permits.items
+    → new.tickets ≡ old.tickets → new.held ≡ held.Batch batch
+    → CoreAnswers old (λ s. tells seal_reply s (seal 0 s.world)) (seal_reply (Ok (Some batch))) new
 answers_sealed old new batch moved mark live out permits tickets same = record {
   mark = mark;
   keeps = λ core. ∥∥₁_map core (λ (h : HoldsAll old). record {
@@ -123,7 +129,9 @@ answers_sealed old new batch moved mark live out permits tickets same = record {
 }
 
 pub answers_unsealed : {L : Type 0} (old new : Core L) (result : Result (Option BatchValue) Refusal) → is_sealed result ≡ false → IsMove old.desk (seal old.desk.waiting.mark) result new.desk
-    → new.desk.waiting.mark ≡ old.desk.waiting.mark → KeepsOut old.desk new.desk → new.permits.items ≡ old.permits.items → new.tickets ≡ old.tickets → new.held ≡ old.held → CoreAnswers old (λ s. tells seal_reply s (seal 0 s.world)) (seal_reply result) new
+    → new.desk.waiting.mark ≡ old.desk.waiting.mark → KeepsOut old.desk new.desk → new.permits.items ≡ old.permits.items
+    → new.tickets ≡ old.tickets → new.held ≡ old.held
+    → CoreAnswers old (λ s. tells seal_reply s (seal 0 s.world)) (seal_reply result) new
 answers_unsealed old new result unsealed moved mark out permits tickets same = record {
   mark = mark;
   keeps = holds_so old new out same permits;
@@ -292,7 +300,8 @@ is_haltable mark s (held.Batch batch) e h = record { out = are_places mark s.wor
 is_haltable mark s (held.Receipt receipt) e h = absurd (let no = e in cc)
 is_haltable mark s (held.Doubt doubt) e h = record { out = (ap is_nothing_out h.0, h.1); answer = ap (halts s) h.0 }
 
-pub answers_halted : {L : Type 0} (old new : Core L) (now gone : Held) (reply : Reply) → now ≡ old.held → gone ≡ held.Nothing → is_no_receipt now ≡ true → HandsOver (record old { held = gone }) (given_of now) reply new
+pub answers_halted : {L : Type 0} (old new : Core L) (now gone : Held) (reply : Reply) → now ≡ old.held
+    → gone ≡ held.Nothing → is_no_receipt now ≡ true → HandsOver (record old { held = gone }) (given_of now) reply new
     → new.desk.waiting.mark ≡ old.desk.waiting.mark → new.desk.live ≡ old.desk.live → (turns.IsHeldOf old.desk.waiting (given_of now) → (new.held ≡ gone) × (new.desk.waiting.out ≡ None))
     → new.permits.items ≡ old.permits.items → new.tickets ≡ old.tickets → CoreAnswers old (λ s. halts s s.world.out) reply new
 answers_halted old new now gone reply was nothing none over mark live gives permits tickets = record {
@@ -313,7 +322,8 @@ answers_halted old new now gone reply was nothing none over mark live gives perm
 }
 
 -- A receipt is held, so what is out isn't given up.
-pub answers_not_halted : {L : Type 0} (old middle : Core L) (gone : Held) (receipt : BatchValue) (reply : Reply) → held.Receipt receipt ≡ old.held → KeepsOn (record old { held = gone }) waiting_held.Nothing reply middle
+pub answers_not_halted : {L : Type 0} (old middle : Core L) (gone : Held) (receipt : BatchValue) (reply : Reply)
+    → held.Receipt receipt ≡ old.held → KeepsOn (record old { held = gone }) waiting_held.Nothing reply middle
     → (¬ turns.IsHeldOf old.desk.waiting waiting_held.Nothing → middle.desk ≡ old.desk) → middle.desk.waiting.mark ≡ old.desk.waiting.mark
     → middle.permits.items ≡ old.permits.items → middle.tickets ≡ old.tickets → CoreAnswers old (λ s. halts s s.world.out) reply (record middle { held = held.Receipt receipt })
 answers_not_halted old middle gone receipt reply was over kept mark permits tickets = record {

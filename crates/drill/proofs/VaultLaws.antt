@@ -36,7 +36,8 @@ steps_go w next [] rows g within h = h
 steps_go w next (k ∷ left) rows g within (inl e) = inl (e ∙ ap rows_of (same_first w next k g within.0))
 steps_go w next (k ∷ left) rows g within (inr h) = inr (steps_go w next left rows g within.1 h)
 
-holds_goes : {S : Type 0} (g : Ghosts S) (vault : VaultValue S) (w next : World) (left : List ℕ) → Goes w next → AllByRecursion (λ k. k ≤ length w.history) left → HoldsLeft g vault w left → HoldsLeft g vault next left
+holds_goes : {S : Type 0} (g : Ghosts S) (vault : VaultValue S) (w next : World) (left : List ℕ) → Goes w next
+    → AllByRecursion (λ k. k ≤ length w.history) left → HoldsLeft g vault w left → HoldsLeft g vault next left
 holds_goes g vault w next [] goes within h = h
 holds_goes g vault w next (k ∷ []) goes within h = subst (IsOpenAt g vault) (same_first w next k goes within.0) h
 holds_goes g vault w next (k ∷ other ∷ more) goes within (shut, may, stands) = (
@@ -45,7 +46,8 @@ holds_goes g vault w next (k ∷ other ∷ more) goes within (shut, may, stands)
   λ is_open. subst (Stands (state g vault.conn)) (ap rows_of (same_first w next k goes within.0)) (stands is_open),
 )
 
-vault_goes : {S : Type 0} (g : Ghosts S) (vault : VaultValue S) (w next : World) → Goes w next → w.settled ≤ w.sealed → w.sealed ≤ length w.history → VaultStandsFor g vault w → VaultStandsFor g vault next
+vault_goes : {S : Type 0} (g : Ghosts S) (vault : VaultValue S) (w next : World) → Goes w next → w.settled ≤ w.sealed
+    → w.sealed ≤ length w.history → VaultStandsFor g vault w → VaultStandsFor g vault next
 vault_goes g vault w next goes below within h = record {
   leaves = subst (λ o. LeavesBy o next) (sym goes.out) (leaves_goes w next w.out goes h.leaves);
   holds = subst (HoldsLeft g vault next) (sym goes.left) (holds_goes g vault w next w.left goes (each_left (λ k. k ≤ length w.history) w w.out h.leaves (omega arith) within) h.holds);
@@ -64,7 +66,8 @@ left_on_halt w Batch other left = inl left
 left_on_halt w Receipt other left = absurd (other refl)
 left_on_halt w Doubt other left = inr (refl, left)
 
-pub vault_follows : {S : Type 0} (g : Ghosts S) (vault : VaultValue S) (s next : Session) (event : Call) (reply : Reply) → is_commit event ≡ false → s.world.settled ≤ s.world.sealed → s.world.sealed ≤ length s.world.history
+pub vault_follows : {S : Type 0} (g : Ghosts S) (vault : VaultValue S) (s next : Session) (event : Call) (reply : Reply)
+    → is_commit event ≡ false → s.world.settled ≤ s.world.sealed → s.world.sealed ≤ length s.world.history
     → VaultStandsFor g vault s.world → MayTell (answer_to s event) reply next → VaultStandsFor g vault next.world
 vault_follows g vault s next event reply own below within h = follows (VaultStandsFor g vault) s next event reply own (record {
   stays = h;

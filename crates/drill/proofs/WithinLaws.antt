@@ -32,7 +32,9 @@ use Rattle.drill.specs.declared.events.Reply.TheVariants as reply
 use Rattle.drill.specs.declared.tickets.Given.{Given}
 use Rattle.drill.specs.declared.tickets.Given.TheVariants.{Submission, Command as OfCommand}
 use Rattle.drill.specs.Events.{Makes, Runs, look_reply, shown, shown_by_line}
-use Rattle.drill.specs.Moves.{Session, Answer, MayTell, answer_to, claim_reply, commits, endpoint_reply, event_reply, lacks, limits_reply, moves, permit_of, refusal_reply, seal_reply, spends, spent_reply, staged_reply, stages, stays, tells, told_reply, with_ticket}
+use Rattle.drill.specs.Moves.{Session, Answer, MayTell, answer_to, claim_reply, commits, endpoint_reply, event_reply}
+use Rattle.drill.specs.Moves.{lacks, limits_reply, moves, permit_of, refusal_reply, seal_reply, spends, spent_reply}
+use Rattle.drill.specs.Moves.{staged_reply, stages, stays, tells, told_reply, with_ticket}
 use Rattle.drill.specs.Runs.{Move}
 use Rattle.drill.specs.Tickets.{find_ticket}
 use Rattle.drill.specs.Within.{CallsChangePlacesWithCommits, HasMarksInOrder, RunsKeepMarksInOrder, commit, is_line_within, is_within}
@@ -120,7 +122,8 @@ record Stands (s : Session) (answer : Out → List ℕ → Answer) : Type 0 wher
 looks : (s : Session) (told : line_reply.Reply) → Stands s (λ o left. stays (session_with o left s) told)
 looks s told = record { said = told; next = s; memory = None; goes = (stays_so s.world).goes; is = λ o left out. refl }
 
-staged : {A : Type 0} (of : A → Given) (s : Session) (move : World → desk.Answer A) → Goes s.world (move s.world).next → ((o : Out) (left : List ℕ) → move (with_out o left s.world) ≡ answer_with o left (move s.world))
+staged : {A : Type 0} (of : A → Given) (s : Session) (move : World → desk.Answer A) → Goes s.world (move s.world).next
+    → ((o : Out) (left : List ℕ) → move (with_out o left s.world) ≡ answer_with o left (move s.world))
     → Stands s (λ o left. stages of (session_with o left s) (move (with_out o left s.world)))
 staged of s move goes same = record {
   said = staged_reply of (move s.world).reply;
@@ -196,13 +199,15 @@ told_with s next after said told None o other left more (inr none) = inr none
 told_with s next after said told (Some number) o other left more (inr (inl given)) = inr (inl (given.0, ap (session_with other more) given.1))
 told_with s next after said told (Some number) o other left more (inr (inr none)) = absurd none
 
-goes_told : (s next after : Session) (said told : line_reply.Reply) (memory : Option ℕ) → Goes s.world after.world → MayTell (record { reply = said; next = after; unserved = lacks s memory }) told next → Goes s.world next.world
+goes_told : (s next after : Session) (said told : line_reply.Reply) (memory : Option ℕ) → Goes s.world after.world
+    → MayTell (record { reply = said; next = after; unserved = lacks s memory }) told next → Goes s.world next.world
 goes_told s next after said told memory goes (inl given) = subst (λ (t : Session). Goes s.world t.world) (sym given.1) goes
 goes_told s next after said told None goes (inr none) = absurd none
 goes_told s next after said told (Some number) goes (inr (inl given)) = subst (λ (t : Session). Goes s.world t.world) (sym given.1) (stays_so s.world).goes
 goes_told s next after said told (Some number) goes (inr (inr none)) = absurd none
 
-line_with : (s next : Session) (event : line.Call) (told : line_reply.Reply) (o other : Out) (left more : List ℕ) → is_line_within event ≡ true → is_nothing_out o ≡ false → is_nothing_out other ≡ false
+line_with : (s next : Session) (event : line.Call) (told : line_reply.Reply) (o other : Out) (left more : List ℕ)
+    → is_line_within event ≡ true → is_nothing_out o ≡ false → is_nothing_out other ≡ false
     → Move (session_with o left s) event told next → Goes (with_out o left s.world) next.world × Move (session_with other more s) event told (session_with other more next)
 line_with s next event told o other left more within out some move =
     let h = stands s event within in
@@ -350,7 +355,8 @@ forth [] [] s last committed n out marks within run = run
 forth (event ∷ events) (told ∷ replies) s last committed n out marks within (mid, later, commits, (next, more, makes, rest, is), all) =
     let both = and_parts (is_within event) (list_all is_within events) within in
     let h = commit_behind s mid next event told committed out marks both.0 commits makes in
-    let run = forth events replies h.mid last committed (max (shown h.mid.world commit committed) more) (h.goes.out ∙ out) (marks_go s.world h.mid.world h.goes marks) both.1 (next, more, h.ends, rest, refl) in (
+    let run = forth events replies h.mid last committed (max (shown h.mid.world commit committed) more) (h.goes.out
+    ∙ out) (marks_go s.world h.mid.world h.goes marks) both.1 (next, more, h.ends, rest, refl) in (
       h.mid,
       max (shown h.mid.world commit committed) more,
       h.makes,
@@ -392,7 +398,9 @@ calls_change_places s last events replies committed n out marks within =
           arith,
           is,
           commit_shows s.world committed,
-          run_shows events replies (session_with o left s) last later (commits_out s.world committed o left (ap is_nothing_out out) how) marks within (subst (λ t. Runs t events replies last later) same run),
+          run_shows events replies (session_with o left s) last later
+              (commits_out s.world committed o left (ap is_nothing_out out) how) marks within
+              (subst (λ t. Runs t events replies last later) same run),
         )
 
 -- The marks stay in order

@@ -36,9 +36,10 @@ impl fmt::Display for AuditFault {
     }
 }
 
-/// Compares what the rows tell with what the desk tells of the records that it settled: the totals, the page of each endpoint, and
-/// the page of each event. Nothing is written. It reads all rows, and is meant for a desk of which nothing is changed meanwhile and
-/// nothing waits: what was committed and isn't settled is a `Mismatch`.
+/// Compares what the rows tell with what the desk tells of the records that it settled: the totals,
+/// the page of each endpoint, and the page of each event. Nothing is written. It reads all rows,
+/// and is meant for a desk of which nothing is changed meanwhile and nothing waits: what was
+/// committed and isn't settled is a `Mismatch`.
 pub fn audit<L: Ledger, S: Alter>(
     alloc: Global,
     vault: &mut Vault<S>,

@@ -1,4 +1,5 @@
-//! Runs of the relay's core by a script: each line is a call of the desk or a commit of the store, and is answered by its reply.
+//! Runs of the relay's core by a script: each line is a call of the desk or a commit of the store,
+//! and is answered by its reply.
 #![tactic(auto)]
 
 mod attempts;

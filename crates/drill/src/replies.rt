@@ -2,7 +2,8 @@
 ghost use Rattle.std.specs.Prelude.{◌≡◌, ◌+◌, length};
 ghost use Rattle.relay_types.specs.Records.{records_of};
 ghost use Rattle.script_lines.specs.declared.reply.Reply.TheVariants as says;
-ghost use Rattle.drill.specs.Moves.{fault_of, refusal_reply, told_as, event_reply, permit_reply, spent_reply, limits_reply, wrong_turn};
+ghost use Rattle.drill.specs.Moves.{fault_of, refusal_reply, told_as, event_reply, permit_reply, spent_reply};
+ghost use Rattle.drill.specs.Moves.{limits_reply, wrong_turn};
 
 use delivery_book::Row;
 use desk::{Job, Limits, Refusal, Spent};

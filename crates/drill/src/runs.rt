@@ -1,5 +1,6 @@
 //! Runs: calls of the core, one after another.
-ghost use Rattle.std.specs.Prelude.{◌≡◌, ◌+◌, ◌≤◌, ◌++◌, ◌∷◌, [], length, IfErr, IfOk, IsPermutation, OnOk, vec_capacity, vec_len};
+ghost use Rattle.std.specs.Prelude.{◌≡◌, ◌+◌, ◌≤◌, ◌++◌, ◌∷◌, [], length, IfErr, IfOk, IsPermutation, OnOk};
+ghost use Rattle.std.specs.Prelude.{vec_capacity, vec_len};
 ghost use Rattle.desk.specs.Desks.{HasNothingOut, IsAllOut, StandsFor};
 ghost use Rattle.desk.specs.World as model;
 ghost use Rattle.drill.specs.Cores.{HasRoom, IsCore, TakesRoom};
@@ -19,8 +20,8 @@ use sqlite::Alter;
 use std::alloc::{AllocError, Global};
 use std::sync::ledger::Ledger;
 
-/// What a run leaves: the desk and the store, what they handed out and didn't take back, and a reply to each event. `Desk::close`
-/// takes all but the store and the replies.
+/// What a run leaves: the desk and the store, what they handed out and didn't take back, and a
+/// reply to each event. `Desk::close` takes all but the store and the replies.
 pub struct World<L: Ledger, S: Alter> {
     pub desk: Desk<L>,
     pub vault: Vault<S>,
@@ -30,9 +31,11 @@ pub struct World<L: Ledger, S: Alter> {
     pub replies: Vec<Reply>,
 }
 
-/// Makes the calls one after another, from an opening: desk and vault of one mark, and nothing handed out. What a call hands out is kept and
-/// goes to the call that takes it: a batch to `commit`, `unseal` or `halt`, a receipt to `settle`, a doubt to `halt`, a permit to the spend that
-/// names its delivery, a ticket's number to `told`. All memory of its own is taken first; where it is refused, nothing was done.
+/// Makes the calls one after another, from an opening: desk and vault of one mark, and nothing
+/// handed out. What a call hands out is kept and goes to the call that takes it: a batch to
+/// `commit`, `unseal` or `halt`, a receipt to `settle`, a doubt to `halt`, a permit to the spend
+/// that names its delivery, a ticket's number to `told`. All memory of its own is taken first;
+/// where it is refused, nothing was done.
 pub fn run<L: Ledger, S: Alter>(
     alloc: Global,
     desk: Desk<L>,
@@ -56,7 +59,8 @@ pub fn run<L: Ledger, S: Alter>(
     }
 }
 
-// What a run takes of memory: its events, which share all texts and bodies, and places for what they are told and given.
+// What a run takes of memory: its events, which share all texts and bodies, and places for what
+// they are told and given.
 struct Places<L: Ledger> {
     events: Vec<Event>,
     replies: Vec<Reply>,

@@ -52,7 +52,8 @@ module _ (requests outcomes len capacity after kept : ℕ) where
         places = omega (arith, h.places, room);
       })
 
-  pub outcome_gone : (x : List Record) (xs : History) → IsQueue requests outcomes len capacity (x ∷ xs) → is_outcome x ≡ true → after + 1 ≡ len → capacity ≤ kept → IsQueue requests (outcomes - 1) after kept xs
+  pub outcome_gone : (x : List Record) (xs : History) → IsQueue requests outcomes len capacity (x ∷ xs) → is_outcome x
+      ≡ true → after + 1 ≡ len → capacity ≤ kept → IsQueue requests (outcomes - 1) after kept xs
   outcome_gone x xs h is less room =
       let counts = outcome_counts x is in
       let first = counts_first x xs in
@@ -76,7 +77,9 @@ module _ (requests outcomes len capacity after kept : ℕ) where
       let counts = request_counts x (no_request x is h.placed.0.0) in
       omega (arith, h.counts_requests, (counts_first x xs).0, counts.0, same)
 
-  pub request_gone : (x : List Record) (xs : History) (n : ℕ) → IsQueue requests outcomes len capacity (x ∷ xs) → is_outcome x ≡ false → n ≡ length x → after + 1 ≡ len → capacity ≤ kept → IsQueue (requests - n) outcomes after kept xs
+  pub request_gone : (x : List Record) (xs : History) (n : ℕ) → IsQueue requests outcomes len capacity (x ∷ xs)
+      → is_outcome x ≡ false → n ≡ length x → after + 1 ≡ len → capacity ≤ kept
+      → IsQueue (requests - n) outcomes after kept xs
   request_gone x xs n h is same less room =
       let counts = request_counts x (no_request x is h.placed.0.0) in
       let first = counts_first x xs in

@@ -1,5 +1,7 @@
 -- Laws on lists of steps: how many records they have, and how many of each kind they are.
-use Rattle.std.proofs.Common.{◌≡◌, ℕ, zero, suc, ◌+◌, ◌-◌, ◌<◌, ◌&&◌, Bool, true, false, nat_le, List, [], ◌∷◌, ◌++◌, Some, length, take, drop, refl, sym, ◌∙◌, ap, arith, inl, inr, ◌≤◌, length-append, append-nil, append_assoc, add-one}
+use Rattle.std.proofs.Common.{◌≡◌, ℕ, zero, suc, ◌+◌, ◌-◌, ◌<◌, ◌&&◌, Bool, true, false, nat_le, List, [], ◌∷◌, ◌++◌}
+use Rattle.std.proofs.Common.{Some, length, take, drop, refl, sym, ◌∙◌, ap, arith, inl, inr, ◌≤◌, length-append}
+use Rattle.std.proofs.Common.{append-nil, append_assoc, add-one}
 use Rattle.std.specs.Prelude.{count_by, cond, not, slice_get, if◌then◌else◌, IsTrue}
 use Rattle.std.specs.List.{list_all, AllByRecursion}
 use Rattle.std.proofs.lemmas.Bool.{le-leb, leb-true, leb-false}
@@ -142,9 +144,13 @@ pub fitting_most : (most : ℕ) (steps : History) → length (records_of (take (
 fitting_most most [] = omega arith
 fitting_most most (x ∷ xs) = at (nat_le (length x) most) refl (fitting_most (most - length x) xs)
   where
-    at : (b : Bool) → nat_le (length x) most ≡ b → length (records_of (take (fitting (most - length x) xs) xs)) ≤ most - length x → length (records_of (take (if b then fitting (most - length x) xs + 1 else 0) (x ∷ xs))) ≤ most
+    at : (b : Bool) → nat_le (length x) most ≡ b → length (records_of (take (fitting (most - length x) xs) xs))
+        ≤ most - length x → length (records_of (take (if b then fitting (most - length x) xs + 1 else 0) (x ∷ xs)))
+        ≤ most
     at true is rest =
-        let longer : length (records_of (take (fitting (most - length x) xs + 1) (x ∷ xs))) ≡ length (x ++ records_of (take (fitting (most - length x) xs) xs)) = ap (λ n. length (records_of (take n (x ∷ xs)))) (add-one (fitting (most - length x) xs)) in
+        let longer : length (records_of (take (fitting (most - length x) xs + 1) (x ∷ xs)))
+        ≡ length (x ++ records_of (take (fitting (most - length x) xs) xs)) =
+        ap (λ n. length (records_of (take n (x ∷ xs)))) (add-one (fitting (most - length x) xs)) in
         omega (arith, rest, longer, leb-true (length x) most is, length-append x (records_of (take (fitting (most - length x) xs) xs)))
     at false is rest = omega arith
 

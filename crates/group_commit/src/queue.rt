@@ -1,8 +1,10 @@
 //! Steps in the order in which they came, with places for requests and for outcomes.
-ghost use Rattle.std.specs.Prelude.{◌≡◌, ◌≤◌, ◌<◌, ◌+◌, [], ◌∷◌, ◌++◌, true, false, length, take, drop, slice_get, option_map, ◌↔◌, IsTrue, IfOk};
+ghost use Rattle.std.specs.Prelude.{◌≡◌, ◌≤◌, ◌<◌, ◌+◌, [], ◌∷◌, ◌++◌, true, false, length, take, drop, slice_get};
+ghost use Rattle.std.specs.Prelude.{option_map, ◌↔◌, IsTrue, IfOk};
 ghost use Rattle.relay_types.specs.Records.{records_of};
 ghost use Rattle.relay_types.specs.declared.limits.TheConstants.{MAX_STEP_RECORDS};
-ghost use Rattle.group_commit.specs.Steps.{is_request, is_outcome, is_outcome_record, requests_in, outcomes_in, fitting};
+ghost use Rattle.group_commit.specs.Steps.{is_request, is_outcome, is_outcome_record, requests_in, outcomes_in};
+ghost use Rattle.group_commit.specs.Steps.{fitting};
 
 use crate::limits::{MAX_WAITING_OUTCOMES, MAX_WAITING_REQUESTS};
 use relay_types::{Record, Step};

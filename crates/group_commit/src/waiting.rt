@@ -1,10 +1,12 @@
 //! The steps that wait, and the batch of the first of them that is out.
-ghost use Rattle.std.specs.Prelude.{◌≡◌, ◌≤◌, ◌<◌, ◌-◌, ◌+◌, [], ◌∷◌, None, Some, true, false, length, slice_get, option_map, ◌↔◌, IfOk, IfErr, IfSome, IsOk, IsErr, IsSome, IsTrue, OnOk, OnErr};
+ghost use Rattle.std.specs.Prelude.{◌≡◌, ◌≤◌, ◌<◌, ◌-◌, ◌+◌, [], ◌∷◌, None, Some, true, false, length, slice_get};
+ghost use Rattle.std.specs.Prelude.{option_map, ◌↔◌, IfOk, IfErr, IfSome, IsOk, IsErr, IsSome, IsTrue, OnOk, OnErr};
 ghost use Rattle.relay_types.specs.declared.limits.TheConstants.{MAX_RECORDS};
 ghost use Rattle.spool.specs.declared.limits.TheConstants.{MAX_BATCH_RECORDS};
 ghost use Rattle.spool.specs.Batches.{doubt_of};
 ghost use Rattle.group_commit.specs.Steps.{is_request, is_outcome, requests_in, outcomes_in, IsLongestPrefix};
-ghost use Rattle.group_commit.specs.Waits.{batch_of, batch_out, record_count, sealed_count, with_step, with_batch_out, with_settled, with_nothing_out};
+ghost use Rattle.group_commit.specs.Waits.{batch_of, batch_out, record_count, sealed_count, with_step, with_batch_out};
+ghost use Rattle.group_commit.specs.Waits.{with_settled, with_nothing_out};
 ghost use Rattle.group_commit.specs.Turns.{IsReceiptOf, ArePlacesOf, IsHeldOf};
 
 use crate::fault::{SealFault, WaitingFull, WrongTurn};
@@ -17,8 +19,8 @@ use spool::{Batch, Doubt, MAX_BATCH_RECORDS, Receipt};
 use std::alloc::{AllocError, Global};
 use std::marker::Model;
 
-/// The steps behind the settled ones, in their order. A batch of the first of them may be out: it is with the committer,
-/// until it comes back as a receipt, as itself or as a doubt.
+/// The steps behind the settled ones, in their order. A batch of the first of them may be out: it
+/// is with the committer, until it comes back as a receipt, as itself or as a doubt.
 #[derive(Drop)]
 pub struct Waiting {
     mark: u64,
@@ -88,8 +90,8 @@ impl Waiting {
         self.queue.push_outcome(step);
     }
 
-    /// A batch of the longest prefix of the waiting steps that has at most 256 records: `None` if no step waits. No step
-    /// is cut. It copies no body.
+    /// A batch of the longest prefix of the waiting steps that has at most 256 records: `None` if
+    /// no step waits. No step is cut. It copies no body.
     pub fn seal(&mut self) -> Result<Option<Batch>, SealFault>
         ensures batch_out { (result ≡ Err SealFault.BatchOut) ↔ IsSome self.old.out }
         ensures nothing { (result ≡ Ok None) ↔ ((self.old.out ≡ None) × (self.old.waiting ≡ [])) }

@@ -10,8 +10,9 @@ use base64::engine::general_purpose::STANDARD;
 use relay_types::{Body, Moment, MsgId, Secrets};
 use std::alloc::{AllocError, Global};
 
-/// The value of the header `webhook-signature` of a post (Standard Webhooks 1.0.0): one signature of `id.timestamp.body`
-/// for each secret, the newest first, with one space between. It fails only for want of memory.
+/// The value of the header `webhook-signature` of a post (Standard Webhooks 1.0.0): one signature
+/// of `id.timestamp.body` for each secret, the newest first, with one space between. It fails only
+/// for want of memory.
 pub fn signature_header(
     alloc: Global,
     secrets: &Secrets,

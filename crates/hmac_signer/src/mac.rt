@@ -11,8 +11,8 @@ const INNER_PAD: u8 = 0x36;
 
 const OUTER_PAD: u8 = 0x5C;
 
-/// The HMAC-SHA256 (RFC 2104) of the joined pieces under a key of any length. It depends on the joined text alone, not on
-/// where it is cut, and takes no memory.
+/// The HMAC-SHA256 (RFC 2104) of the joined pieces under a key of any length. It depends on the
+/// joined text alone, not on where it is cut, and takes no memory.
 pub fn hmac(key: &[u8], pieces: &[&[u8]]) -> [u8; 32]
     ensures { result ≡ hmac key.now (flat_map (λ piece. piece.now) pieces.now) }
 {

@@ -88,8 +88,8 @@ where
     reply
 }
 
-// The path with its query, as it was sent up to a `#`. Of a target in absolute form it is what follows the authority, and a target that
-// is an authority alone has none.
+// The path with its query, as it was sent up to a `#`. Of a target in absolute form it is what
+// follows the authority, and a target that is an authority alone has none.
 fn path_of(uri: &Uri) -> &[u8]
     ensures { result.now ≡ path_shown uri.now }
 {

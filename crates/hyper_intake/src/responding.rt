@@ -13,7 +13,8 @@ use std::borrow::CowStr;
 // What is answered where the text of a reply finds no memory.
 const OUT_OF_MEMORY: &[u8] = b"{\"error\":\"OutOfMemory\"}";
 
-// The response: status, type, when to come again, and the body. `hyper` adds its length, and that the connection closes.
+// The response: status, type, when to come again, and the body. `hyper` adds its length, and that
+// the connection closes.
 pub(crate) fn response_of(
     alloc: Global,
     reply: Reply,

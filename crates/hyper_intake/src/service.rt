@@ -27,7 +27,8 @@ use std::sync::ledger::Ledger;
 use std::sync::{Arc, Mutex, Wait};
 use std::time::Clock;
 
-/// Answers the requests of a connection over the desk that threads share, and counts them. A call waits until what it stages is settled.
+/// Answers the requests of a connection over the desk that threads share, and counts them. A call
+/// waits until what it stages is settled.
 #[derive(Drop)]
 pub struct Intake<R, L: Ledger, I: LogId> {
     rt: R,
@@ -63,7 +64,8 @@ pub struct Answering<R, L: Ledger, I: LogId, C> {
     body: C,
 }
 
-/// Why a request has no response, and its connection is closed. Nothing was staged, or memory was refused for the response.
+/// Why a request has no response, and its connection is closed. Nothing was staged, or memory was
+/// refused for the response.
 #[derive(Clone, Copy, Debug, PartialEq, Eq)]
 pub enum Unanswered {
     /// The body ended early, or wasn't one.

@@ -22,8 +22,8 @@ use std::time::{Clock, Duration, Instant};
 use tokio::net::TcpStream;
 use tokio::runtime::LocalRuntime;
 
-// Looks the subscriber up, sends the request and waits for the head of its answer, all within the timeout: its status, and the time from before
-// the connection until it was read.
+// Looks the subscriber up, sends the request and waits for the head of its answer, all within the
+// timeout: its status, and the time from before the connection until it was read.
 pub(crate) fn exchange<R>(
     rt: &R,
     resolver: &Resolver<R>,

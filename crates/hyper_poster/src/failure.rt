@@ -9,7 +9,8 @@ use std::alloc::AllocError;
 use std::io;
 use std::io::ErrorKind;
 
-/// The process, or the system, has as many open files as it may have, and there is no room for a socket (errno of Linux).
+/// The process, or the system, has as many open files as it may have, and there is no room for a
+/// socket (errno of Linux).
 const EMFILE: i32 = 24;
 
 const ENFILE: i32 = 23;

@@ -1,4 +1,5 @@
-//! The addresses of hosts. The system looks a name up for as long as it likes, so each name is looked up on a thread of its own.
+//! The addresses of hosts. The system looks a name up for as long as it likes, so each name is
+//! looked up on a thread of its own.
 ghost use Rattle.std.specs.Prelude.{◌≡◌, ◌≢◌, IsSome};
 ghost use Rattle.std.specs.IoError.{raw_os_error};
 ghost use Rattle.hyper_poster.specs.Failures.{IsRefusedHere};
@@ -208,7 +209,8 @@ fn addresses_of<R: Net>(rt: &R, host: &str, port: u16) -> Result<HostAddrs, Fail
         .map_err(|error| why_not_found(rt, error))
 }
 
-// How a failed look-up counts. A resolver without a free descriptor reports an unknown name, with no number, so a socket is asked for then.
+// How a failed look-up counts. A resolver without a free descriptor reports an unknown name, with
+// no number, so a socket is asked for then.
 fn why_not_found<R: Net>(rt: &R, error: io::Error) -> Failure
     ensures here { IsRefusedHere error → result ≡ Failure.Unsent }
     ensures numbered { IsSome (raw_os_error error) → result ≡ Failure.Unsent → IsRefusedHere error }

@@ -44,7 +44,8 @@ where
         + Send
         + 'static,
 {
-    /// A poster whose subscribers have so long for the head of their answer, from before their host is looked up. It starts a thread.
+    /// A poster whose subscribers have so long for the head of their answer, from before their host
+    /// is looked up. It starts a thread.
     pub fn new(rt: R, timeout: Duration) -> Result<HyperPoster<R>, AllocError>
         ensures { as_nanos timeout / 1_000 < 2 ^ 64 → IfOk result (λ poster. poster ≡ as_nanos timeout / 1_000) }
     {

@@ -12,7 +12,8 @@ use run_log::{Log, LogId, Prefix};
 use std::marker::Model;
 use std::sync::ledger::Ledger;
 
-/// An event that was acknowledged: the number of its record, its endpoint, its id and its body. `Ack::compare` alone makes it.
+/// An event that was acknowledged: the number of its record, its endpoint, its id and its body.
+/// `Ack::compare` alone makes it.
 #[derive(Drop)]
 pub struct Acknowledged {
     ticket: Ticket,

@@ -4,8 +4,9 @@ use crate::confirmed::Confirmed;
 use crate::reply::Reply;
 use run_log::LogId;
 
-/// A reply, and what it tells: the acknowledgement of an event that is settled, the confirmation of a change that is. Where memory lacks for
-/// the reply's text it is a 503, and they come all the same.
+/// A reply, and what it tells: the acknowledgement of an event that is settled, the confirmation of
+/// a change that is. Where memory lacks for the reply's text it is a 503, and they come all the
+/// same.
 #[derive(Drop)]
 pub struct Answered<I: LogId> {
     pub reply: Reply,

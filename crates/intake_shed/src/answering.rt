@@ -24,8 +24,9 @@ use std::alloc::Global;
 use std::sync::Wait;
 use std::sync::ledger::Ledger;
 
-/// Answers a request. An event or a change is answered once it is settled, or won't be; a page is one of what is settled then. An
-/// event that isn't given an id gets the fresh one. Where memory is refused for the reply, what was done stays done.
+/// Answers a request. An event or a change is answered once it is settled, or won't be; a page is
+/// one of what is settled then. An event that isn't given an id gets the fresh one. Where memory is
+/// refused for the reply, what was done stays done.
 pub fn answer<L: Ledger, I: LogId, R: Wait>(
     rt: &R,
     alloc: Global,

@@ -1,5 +1,6 @@
-//! What a request over HTTP asks for, what it is refused with, and the replies, without a socket; and the answer to it over a desk
-//! that threads share. The calls that wait are `submit_and_wait`, `command_and_wait` and `answer`.
+//! What a request over HTTP asks for, what it is refused with, and the replies, without a socket;
+//! and the answer to it over a desk that threads share. The calls that wait are `submit_and_wait`,
+//! `command_and_wait` and `answer`.
 #![tactic(auto)]
 
 mod ack;

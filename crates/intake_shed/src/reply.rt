@@ -49,8 +49,8 @@ impl ReplyText {
         self.text.as_str()
     }
 
-    /// The text, without a copy: borrowed where it stands in the program, as that of each refusal does, or else as it was
-    /// made.
+    /// The text, without a copy: borrowed where it stands in the program, as that of each refusal
+    /// does, or else as it was made.
     pub fn into_cow(self) -> CowStr<'static>
         ensures { cow_str_bytes result ≡ self }
     {

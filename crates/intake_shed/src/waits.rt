@@ -21,8 +21,8 @@ const NO_MEMORY: Refusal = Refusal {
     fault: Fault::OutOfMemory,
 };
 
-/// Submits an event, and waits until it is settled or won't be. The body is shared first, and only memory may be refused
-/// there; once the end was asked for nothing is taken.
+/// Submits an event, and waits until it is settled or won't be. The body is shared first, and only
+/// memory may be refused there; once the end was asked for nothing is taken.
 pub fn submit_and_wait<L: Ledger, I: LogId, R: Wait>(
     rt: &R,
     shared: &Shared<L, I>,

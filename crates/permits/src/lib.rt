@@ -1,5 +1,6 @@
-//! Permits to post. A pool hands one out for each attempt that may run and takes it back once the attempt is over. A permit
-//! can't be dropped, copied or made anywhere else, and holds one unit of a ledger whose book stands in its pool.
+//! Permits to post. A pool hands one out for each attempt that may run and takes it back once the
+//! attempt is over. A permit can't be dropped, copied or made anywhere else, and holds one unit of
+//! a ledger whose book stands in its pool.
 #![tactic(auto)]
 
 mod permit;

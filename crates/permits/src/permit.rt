@@ -7,8 +7,9 @@ use relay_types::Name;
 use std::marker::Model;
 use std::sync::ledger::{Book, Ledger, Share, Total};
 
-/// The leave to post one attempt. `Pool::acquire` alone makes one and `Pool::give_back` alone ends one. It holds one part of
-/// the ledger, with one unit. Contracts see it as its row, whose in-flight number is 1 to 256.
+/// The leave to post one attempt. `Pool::acquire` alone makes one and `Pool::give_back` alone ends
+/// one. It holds one part of the ledger, with one unit. Contracts see it as its row, whose
+/// in-flight number is 1 to 256.
 pub struct Permit<L: Ledger> {
     held: Row,
     unit: Share<L>,

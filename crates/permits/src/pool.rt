@@ -1,5 +1,6 @@
 //! The pool.
-ghost use Rattle.std.specs.Prelude.{◌≡◌, ◌<◌, ◌≤◌, ◌+◌, ◌↔◌, [], ◌∷◌, ◌++◌, ℕ, length, None, Some, remove, position, IfOk, IfErr, OnErr, OnOk, IsErr};
+ghost use Rattle.std.specs.Prelude.{◌≡◌, ◌<◌, ◌≤◌, ◌+◌, ◌↔◌, [], ◌∷◌, ◌++◌, ℕ, length, None, Some, remove, position};
+ghost use Rattle.std.specs.Prelude.{IfOk, IfErr, OnErr, OnOk, IsErr};
 ghost use Rattle.permits.specs.Refusals.{IsAtLimit, IsFull, IsAlreadyOut};
 ghost use Rattle.permits.specs.Rows.{in_flight_of, is_out, next_row, same_row};
 
@@ -34,7 +35,8 @@ impl<L: Ledger> Model for Pool<L> {
 
     ghost view = { λ p. p.rows.items };
 
-    // The book's total is the number of rows. For each row one part has left the rest, which has no unit. There is room for all.
+    // The book's total is the number of rows. For each row one part has left the rest, which has no
+    // unit. There is room for all.
     ghost invariant = { λ p. record {
       total : p.book.total ≡ vec_len p.rows;
       parts : p.rest.parts + vec_len p.rows ≡ PARTS;
@@ -192,8 +194,8 @@ impl<L: Ledger> Pool<L> {
         self.rows.len() - permits.len()
     }
 
-    /// Closes the ledger, whose total is then fixed at the number of rows. `live` tells it: permits that are out can't be given
-    /// back any more.
+    /// Closes the ledger, whose total is then fixed at the number of rows. `live` tells it: permits
+    /// that are out can't be given back any more.
     pub fn close(self) -> Total<L>
         ensures { result.amount ≡ length self }
     {

@@ -44,10 +44,12 @@ own_rows db rows (inl second) = inr second.schema_is
 own_rows db rows (inr first) = inl first.schema_is
 
 -- the relay's tables of these rows are what the connection shows
-pub finds_rows : (image : Image) (s : State) → IsLive s → Opens s → FindsIn image s → (rows : Rows) → HoldsRows image rows → IsTables s.now rows
+pub finds_rows : (image : Image) (s : State) → IsLive s → Opens s → FindsIn image s → (rows : Rows)
+    → HoldsRows image rows → IsTables s.now rows
 finds_rows image s live opens finds rows (db, holds, tables) =
     subst (λ (it : Database). IsTables it rows) (sym opens.clean)
-    (opened_tables s.committed rows (live opens.is_open).1 (subst (λ (trees : Trees). AreTablesOf trees rows) (sym (finds.holds db holds)) tables))
+    (opened_tables s.committed rows (live opens.is_open).1
+    (subst (λ (trees : Trees). AreTablesOf trees rows) (sym (finds.holds db holds)) tables))
 
 pub finds_first : (image : Image) (s : State) → IsLive s → Opens s → FindsIn image s → (rows : Rows)
     → HoldsFirstRows image rows → IsFirstTables s.now rows
@@ -70,8 +72,16 @@ module _ {S : Type 0} (g : Ghosts S) (desk : DeskValue) (vault : VaultValue S) w
   of_tables db (inl (none, made)) history legal have = not_both db.schema none (own_rows db _ have)
   of_tables db (inr (stand, reopened)) history legal have = (reopened (own_rows db _ have)).each history legal have
 
-  pub file_opened : (image : Image) (s : State) → IsLive s → Opens s → FindsIn image s → IsMadeOrReopened g s.now desk vault → IsFileOpened g image desk vault
-  file_opened image s live opens finds made = record { found = s.now; finds = finds_trees image s opens finds; opens = made; each = each; left = left }
+  pub file_opened : (image : Image) (s : State) → IsLive s → Opens s → FindsIn image s
+      → IsMadeOrReopened g s.now desk vault → IsFileOpened g image desk vault
+  file_opened image s live opens finds made = record {
+    found = s.now;
+    finds = finds_trees image s opens finds;
+    opens =
+        made;
+    each = each;
+    left = left;
+  }
     where
       each : (history : History) → IsLegal (records_of history) → HoldsEither image (rows_of (records_of history))
           → AreOpenedAt g desk vault history
@@ -83,7 +93,8 @@ module _ {S : Type 0} (g : Ghosts S) (desk : DeskValue) (vault : VaultValue S) w
           (λ history of is. each history of (inl (subst (HoldsRows image) is held)))
 
 -- What a refusal says of what was found is said of what the file and its log held.
-pub file_refused : (image : Image) (old new : State) (fault : OpenFault) (is_new : Bool) → IsLive old → Opens old → FindsIn image old
+pub file_refused : (image : Image) (old new : State) (fault : OpenFault) (is_new : Bool) → IsLive old → Opens old
+    → FindsIn image old
     → (IsOwn old.now.schema → IsUnopened old new fault) → (HaveHistory old.now → IsReadingRefusal old new fault)
     → (HaveFirstHistory old.now → IsNotMigrated old new fault)
     → (IsTrue is_new → old.now.schema ≡ no_schema → IsOfReading fault) → IsFileRefused image is_new old new fault
@@ -91,7 +102,11 @@ file_refused image old new fault is_new live opens finds says sound first made =
   finds = finds_trees image old opens finds;
   says = says;
   made = made;
-  sound = λ history legal held. sound (records_of history, legal, finds_rows image old live opens finds (rows_of (records_of history)) held);
+  sound = λ history legal held. sound (
+    records_of history,
+    legal,
+    finds_rows image old live opens finds (rows_of (records_of history)) held,
+  );
   first = λ history legal held. first (
     records_of history,
     legal,
@@ -116,6 +131,7 @@ may_migrate old new (Store cause) may = may
 may_migrate old new OutOfMemory may = may
 
 -- what is said of an error is so of what follows from it
-pub refused_so : {A E : Type 0} (P Q : E → Type 0) (result : Result A E) → ((e : E) → P e → Q e) → IfErr result P → IfErr result Q
+pub refused_so : {A E : Type 0} (P Q : E → Type 0) (result : Result A E) → ((e : E) → P e → Q e) → IfErr result P
+    → IfErr result Q
 refused_so P Q (Ok value) so h = h
 refused_so P Q (Err e) so h = so e h

@@ -2,7 +2,8 @@
 use Rattle.std.proofs.Common.{◌≡◌, ℕ, Bool, cond, List, Option, Some, inl, inr, sym, ap, subst, ◌∙◌}
 use Rattle.std.specs.Prelude.{◌≢◌, IfSome}
 use Rattle.sqlite.specs.Disk.{MoreFaults}
-use Rattle.sqlite.specs.Files.{FailsToOpenAs, FailsToOpenFiles, HoldsDatabase, faults_left, faults_of, image_of, tally_left}
+use Rattle.sqlite.specs.Files.{FailsToOpenAs, FailsToOpenFiles, HoldsDatabase, faults_left, faults_of, image_of}
+use Rattle.sqlite.specs.Files.{tally_left}
 use Rattle.sqlite.specs.Recovery.{Image}
 use Rattle.sqlite.specs.State.{store_error}
 use Rattle.sqlite.specs.Tree.{Trees}
@@ -48,14 +49,21 @@ module _ {D : Type 0} {g : disk.Ghosts D} (files : Files D) (rest : Leftover D g
   of_kind stored.Broken is more = inr (inl (is, more))
   of_kind stored.Unstorable is more = inr (inl (is, more))
 
-  named_so : (kind : StoreError) (error : Error) → (error ≢ SqliteFailure code.NotADatabase → fault ≡ unopened_fault error) → (db : Trees) → HoldsDatabase (image_of g files) db
+  named_so : (kind : StoreError) (error : Error)
+      → (error ≢ SqliteFailure code.NotADatabase → fault ≡ unopened_fault error) → (db : Trees)
+      → HoldsDatabase (image_of g files) db
       → FailsToOpenAs kind files rest error → IsOfDiskAs kind files rest fault
-  named_so kind error told db holds (inl memory) = inl (told (λ e. not_unfit stored.OutOfMemory (sym memory ∙ e)) ∙ ap unopened_fault memory)
+  named_so kind error told db holds (inl memory) = inl (told (λ e. not_unfit stored.OutOfMemory (sym memory ∙ e))
+      ∙ ap unopened_fault memory)
   named_so kind error told db holds (inr (inl (refused, none))) = absurd (none (inl (db, holds)))
-  named_so kind error told db holds (inr (inr (inl (is, more)))) = of_kind kind (told (λ e. not_unfit kind (sym is ∙ e)) ∙ ap unopened_fault is) more
-  named_so kind error told db holds (inr (inr (inr (full, limit)))) = inr (inr (told (λ e. not_unfit stored.Full (sym full ∙ e)) ∙ ap unopened_fault full, limit))
+  named_so kind error told db holds (inr (inr (inl (is, more)))) = of_kind kind (told (λ e. not_unfit kind (sym is ∙ e))
+      ∙ ap unopened_fault is) more
+  named_so kind error told db holds (inr (inr (inr (full, limit)))) =
+      inr (inr (told (λ e. not_unfit stored.Full (sym full ∙ e)) ∙ ap unopened_fault full, limit))
 
   -- files that held a database are refused only for memory or for the disk
-  pub of_disk : (error : Error) → (error ≢ SqliteFailure code.NotADatabase → fault ≡ unopened_fault error) → (db : Trees) → HoldsDatabase (image_of g files) db
+  pub of_disk : (error : Error) → (error ≢ SqliteFailure code.NotADatabase → fault ≡ unopened_fault error)
+      → (db : Trees) → HoldsDatabase (image_of g files) db
       → FailsToOpenFiles files rest error → IsOfDisk files rest fault
-  of_disk error told db holds fails = named_so (named (tally_of_files g (files.log, files.db)) (tally_left rest)) error told db holds fails
+  of_disk error told db holds fails =
+      named_so (named (tally_of_files g (files.log, files.db)) (tally_left rest)) error told db holds fails

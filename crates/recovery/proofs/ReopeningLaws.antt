@@ -41,8 +41,14 @@ records_of_each [] = refl
 records_of_each (entry ∷ records) = ap (λ rest. entry ∷ rest) (records_of_each records)
 
 -- what was adopted, and the desk of what the vault holds
-pub is_reopened : {S : Type 0} (g : Ghosts S) (db : Database) (vault : VaultValue S) (desk : DeskValue) (new : VaultValue S) → IsMigrated g db vault → OpensHeld g vault desk new → IsReopened g db desk new
-is_reopened g db vault desk new adopted opens = record { rows = adopted.rows; sound = adopted.stand; stands = stands; each = each }
+pub is_reopened : {S : Type 0} (g : Ghosts S) (db : Database) (vault : VaultValue S) (desk : DeskValue)
+    (new : VaultValue S) → IsMigrated g db vault → OpensHeld g vault desk new → IsReopened g db desk new
+is_reopened g db vault desk new adopted opens = record {
+  rows = adopted.rows;
+  sound = adopted.stand;
+  stands = stands;
+  each = each;
+}
   where
     each : (history : History) → IsLegal (records_of history) → HaveRows db (rows_of (records_of history))
         → AreOpenedAt g desk new history
@@ -52,7 +58,8 @@ is_reopened g db vault desk new adopted opens = record { rows = adopted.rows; so
         → AreOpenedAt g desk new (steps_from adopted.rows)
     of_rows keyed sound have =
         let law = of_a_history adopted.rows keyed sound in
-        let same : history_from adopted.rows ≡ records_of (steps_from adopted.rows) = sym (records_of_each (history_from adopted.rows)) in
+        let same : history_from adopted.rows ≡ records_of (steps_from adopted.rows) =
+        sym (records_of_each (history_from adopted.rows)) in
         each (steps_from adopted.rows) (subst IsLegal same law.0)
         (subst (λ (records : List Record). HaveRows db (rows_of records)) same
         (subst (HaveRows db) (sym law.1) have))
@@ -65,14 +72,19 @@ is_reopened g db vault desk new adopted opens = record { rows = adopted.rows; so
 
 records_of_both : (xs ys : History) → records_of (xs ++ ys) ≡ records_of xs ++ records_of ys
 records_of_both [] ys = refl
-records_of_both (x ∷ xs) ys = ap (λ rest. x ++ rest) (records_of_both xs ys) ∙ sym (append_assoc x (records_of xs) (records_of ys))
+records_of_both (x ∷ xs) ys = ap (λ rest. x ++ rest) (records_of_both xs ys)
+    ∙ sym (append_assoc x (records_of xs) (records_of ys))
 
 legal_first : (steps : ℕ) (history : History) → IsLegal (records_of history) → IsLegal (records_of (take steps history))
-legal_first steps history legal = legal_front (records_of (take steps history)) (records_of (drop steps history)) (subst IsLegal (ap records_of (sym (take-append-drop steps history)) ∙ records_of_both (take steps history) (drop steps history)) legal)
+legal_first steps history legal = legal_front (records_of (take steps history)) (records_of (drop steps history))
+    (subst IsLegal (ap records_of (sym (take-append-drop steps history))
+    ∙ records_of_both (take steps history) (drop steps history)) legal)
 
 -- what a stop left of a world is one of the legal histories of the rows
-pub opens_one : {S : Type 0} (g : Ghosts S) (desk : DeskValue) (vault : VaultValue S) (w : World) → IsLegal (all_records w) → (rows : Rows) → AreLeft w rows
-    → ((history : History) → IsLegal (records_of history) → rows ≡ rows_of (records_of history) → AreOpenedAt g desk vault history) → AreOpenedAtOne g desk vault w w.left
+pub opens_one : {S : Type 0} (g : Ghosts S) (desk : DeskValue) (vault : VaultValue S) (w : World)
+    → IsLegal (all_records w) → (rows : Rows) → AreLeft w rows
+    → ((history : History) → IsLegal (records_of history) → rows ≡ rows_of (records_of history)
+    → AreOpenedAt g desk vault history) → AreOpenedAtOne g desk vault w w.left
 opens_one g desk vault w legal rows left opened = at w.left left
   where
     at : (numbers : List ℕ) → AreOfSteps w numbers rows → AreOpenedAtOne g desk vault w numbers
@@ -99,7 +111,8 @@ module _ {A E : Type 0} (P Q R : E → Type 0) (M : A → Type 0) where
   of_refusal (Err e) then p q = then e p q
 
 module _ {A E : Type 0} (P R U : A → Type 0) (Q M V : E → Type 0) where
-  pub of_both : (r : Result A E) → ((x : A) → P x → R x → U x) → ((e : E) → Q e → M e → V e) → MatchResult r P Q → MatchResult r R M → MatchResult r U V
+  pub of_both : (r : Result A E) → ((x : A) → P x → R x → U x) → ((e : E) → Q e → M e → V e) → MatchResult r P Q
+      → MatchResult r R M → MatchResult r U V
   of_both (Ok x) answers refuses p r = answers x p r
   of_both (Err e) answers refuses q m = refuses e q m
 
@@ -139,16 +152,20 @@ of_reading a b Damaged none = none
 of_reading a b (Store cause) h = was_refusal a b cause h.1
 of_reading a b OutOfMemory h = tt
 
-pub unloaded : (a b : State) (fault : LoadFault) (told : OpenFault) → told ≡ unloaded_fault fault → (fault ≡ load.Closed → ⊥)
+pub unloaded : (a b : State) (fault : LoadFault) (told : OpenFault) → told ≡ unloaded_fault fault
+    → (fault ≡ load.Closed → ⊥)
     → IsLoadRefusal a b fault → IsReadingRefusal a b told
 unloaded a b load.Closed told same not_closed h = absurd (not_closed refl)
 unloaded a b (load.Store error) told same not_closed h = subst (IsReadingRefusal a b) (sym same) h
 unloaded a b load.OutOfMemory told same not_closed h = subst (IsReadingRefusal a b) (sym same) tt
 
 -- a load that is told as want of memory saw the store open
-pub seen_open : (P : Type 0) (fault : LoadFault) (told : OpenFault) → told ≡ unloaded_fault fault → told ≡ OutOfMemory → (IsSeen (Err fault) → P) → P
-seen_open P load.Closed told same memory seen = absurd (let no : Store (SqliteFailure code.Closed) ≡ OutOfMemory = sym same ∙ memory in cc)
-seen_open P (load.Store error) told same memory seen = absurd (let no : Store error ≡ OutOfMemory = sym same ∙ memory in cc)
+pub seen_open : (P : Type 0) (fault : LoadFault) (told : OpenFault) → told ≡ unloaded_fault fault → told ≡ OutOfMemory
+    → (IsSeen (Err fault) → P) → P
+seen_open P load.Closed told same memory seen = absurd (let no : Store (SqliteFailure code.Closed) ≡ OutOfMemory =
+    sym same ∙ memory in cc)
+seen_open P (load.Store error) told same memory seen = absurd (let no : Store error ≡ OutOfMemory = sym same
+    ∙ memory in cc)
 seen_open P load.OutOfMemory told same memory seen = seen tt
 
 -- behind a read that left the store open

@@ -52,7 +52,8 @@ abbrev pub IsFoundOpened : {S : Type 0} → Ghosts S → Held S → DeskValue �
 IsFoundOpened g conn desk vault = IsMadeOrReopened g (state g conn).now desk vault
 
 -- What the opening of a file gives.
-pub record IsFileOpened {S : Type 0} (g : Ghosts S) (image : Image) (desk : DeskValue) (vault : VaultValue S) : Type 0 where
+pub record IsFileOpened {S : Type 0} (g : Ghosts S) (image : Image) (desk : DeskValue)
+    (vault : VaultValue S) : Type 0 where
   pub found : Database
   -- what was found is what the file and its log held
   pub finds : AreFoundIn image found.trees
@@ -83,13 +84,17 @@ pub record IsFileRefused (image : Image) (is_new : Bool) (old new : State) (faul
 abbrev pub IsFileUnopened : {D : Type 0} → disk.Ghosts D → Image → Bool → OpenFault → Type 0
 IsFileUnopened {D} g image is_new fault =
     IsUnconnected g image fault
-    ⊎ ((old new : Held (FileStore D g)) × (IsCleanAt over_files new → IsFileRefused image is_new (file_state old) (file_state new) fault))
+    ⊎ ((old new : Held (FileStore D g))
+    × (IsCleanAt over_files new → IsFileRefused image is_new (file_state old) (file_state new) fault))
 
 -- it is opened, or this is why it isn't
-abbrev pub OpensOr : {D : Type 0} {g : disk.Ghosts D} → Image → Bool → Result (DeskValue × VaultValue (FileStore D g)) OpenFault → Type 0
+abbrev pub OpensOr : {D : Type 0} {g : disk.Ghosts D} → Image → Bool
+    → Result (DeskValue × VaultValue (FileStore D g)) OpenFault → Type 0
 OpensOr {D} {g} image is_new result = IfErr result (IsFileUnopened g image is_new)
 
 -- The file at a path is opened, or this is why it isn't: the look at the path gave no file that may be a database, or
 -- as above.
-abbrev pub OpensPathOr : {D : Type 0} {g : disk.Ghosts D} → Image → Result (DeskValue × VaultValue (FileStore D g)) OpenFault → Type 0
-OpensPathOr {D} {g} image result = IfErr result (λ fault. IsOfLook fault ⊎ ((is_new : Bool) × IsFileUnopened g image is_new fault))
+abbrev pub OpensPathOr : {D : Type 0} {g : disk.Ghosts D} → Image
+    → Result (DeskValue × VaultValue (FileStore D g)) OpenFault → Type 0
+OpensPathOr {D} {g} image result =
+    IfErr result (λ fault. IsOfLook fault ⊎ ((is_new : Bool) × IsFileUnopened g image is_new fault))

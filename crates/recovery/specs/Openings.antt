@@ -9,7 +9,8 @@ use Rattle.spool.specs.declared.ends.OpenFault.{OpenFault}
 use Rattle.spool.specs.declared.ends.OpenFault.TheVariants.{NotOurs, NewerVersion, OldVersion, Damaged, Store}
 use Rattle.spool.specs.declared.ends.OpenFault.TheVariants.{OutOfMemory}
 
--- Why a store without tables wasn't opened. A table of ours is told as such, or memory was refused before the look at the store.
+-- Why a store without tables wasn't opened. A table of ours is told as such, or memory was refused before the look at
+-- the store.
 abbrev pub IsRefusedAs : Schema → OpenFault → Type 0
 IsRefusedAs schema NotOurs = IsTrue (has_ours schema)
 IsRefusedAs schema NewerVersion = ⊥

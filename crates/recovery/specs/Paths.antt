@@ -47,7 +47,8 @@ IsOfOpen NotOurs = Unit {0}
 IsOfOpen NewerVersion = Unit {0}
 IsOfOpen OldVersion = Unit {0}
 IsOfOpen Damaged = Unit {0}
-IsOfOpen (Store error) = (error ≡ SqliteFailure code.CannotOpen) ⊎ ((error ≡ SqliteFailure code.DatabaseBusy) ⊎ (cause error ≡ of.Store))
+IsOfOpen (Store error) = (error ≡ SqliteFailure code.CannotOpen)
+    ⊎ ((error ≡ SqliteFailure code.DatabaseBusy) ⊎ (cause error ≡ of.Store))
 IsOfOpen OutOfMemory = Unit {0}
 
 -- as what the store's refusal of an open is told, if it isn't that the file is none of SQLite's

@@ -23,7 +23,8 @@ use Rattle.recovery.specs.Left.{VaultStandsFor, FindsLeft}
 -- the opening of a history: all of it is settled, nothing is out, no attempt is under way, and the clock stands at its
 -- greatest moment
 abbrev pub opening_of : History → World
-opening_of history = opened history (greatest_of (rows_of (records_of history)).deliveries (rows_of (records_of history)).attempts)
+opening_of history =
+    opened history (greatest_of (rows_of (records_of history)).deliveries (rows_of (records_of history)).attempts)
 
 -- desk and vault stand for the opening of the history
 abbrev pub AreOpenedAt : {S : Type 0} → Ghosts S → DeskValue → VaultValue S → History → Type 0
@@ -40,7 +41,8 @@ steps_from rows = map (λ entry. entry ∷ []) (history_from rows)
 
 -- The tables, of either version, have sound rows, and desk and vault stand for the opening of their history, and of
 -- each legal history that has these rows.
-pub record IsReopened {S : Type 0} (g : Ghosts S) (db : Database) (desk : DeskValue) (vault : VaultValue S) : Type 0 where
+pub record IsReopened {S : Type 0} (g : Ghosts S) (db : Database) (desk : DeskValue)
+    (vault : VaultValue S) : Type 0 where
   pub rows : Rows
   pub sound : AreSoundRows db rows
   pub stands : AreOpenedAt g desk vault (steps_from rows)
@@ -50,12 +52,14 @@ pub record IsReopened {S : Type 0} (g : Ghosts S) (db : Database) (desk : DeskVa
 -- they stand for the opening of the first steps of the world, for one of these numbers of steps
 abbrev pub AreOpenedAtOne : {S : Type 0} → Ghosts S → DeskValue → VaultValue S → World → (numbers : List ℕ) → Type 0
 AreOpenedAtOne g desk vault w [] = ⊥
-AreOpenedAtOne g desk vault w (steps ∷ others) = AreOpenedAt g desk vault (take steps w.history) ⊎ AreOpenedAtOne g desk vault w others
+AreOpenedAtOne g desk vault w (steps ∷ others) = AreOpenedAt g desk vault (take steps w.history)
+    ⊎ AreOpenedAtOne g desk vault w others
 
 -- Of each world of a legal history: where the connection was opened on what a stop left of it, they stand for the
 -- opening of what was left.
 abbrev pub ReopensLeft : {S : Type 0} → Ghosts S → Held S → DeskValue → VaultValue S → Type 0
-ReopensLeft g conn desk vault = (w : World) → IsLegal (all_records w) → FindsLeft g conn w → AreOpenedAtOne g desk vault w w.left
+ReopensLeft g conn desk vault = (w : World) → IsLegal (all_records w) → FindsLeft g conn w
+    → AreOpenedAtOne g desk vault w w.left
 
 -- it was refused by the store or for memory
 abbrev pub IsOfReading : OpenFault → Type 0

@@ -32,7 +32,8 @@ use std::io::ErrorKind;
 use std::os::unix::fs::OpenOptionsExt;
 use std::sync::ledger::{Blank, Ledger};
 
-// What a file of SQLite begins with has so many bytes. A shorter one isn't opened: of one byte an open would make a store.
+// What a file of SQLite begins with has so many bytes. A shorter one isn't opened: of one byte an
+// open would make a store.
 const HEADER_LENGTH: u64 = 16;
 
 // The rights of a file that its owner alone reads and writes (POSIX.1-2017).
@@ -48,13 +49,15 @@ pub fn is_new_file(rt: &HostRuntime, path: &str) -> Result<bool, OpenFault>
     is_new_at(length_of(rt, path)?)
 }
 
-/// Opens the file at the path, and returns its desk and its vault. If there is no file, or an empty one, it makes a store
-/// of the empty history. It opens every other file as `reopen` does, and writes it only if its tables are of version 1.
-/// `start` represents what the file and its log hold.
+/// Opens the file at the path, and returns its desk and its vault. If there is no file, or an empty
+/// one, it makes a store of the empty history. It opens every other file as `reopen` does, and
+/// writes it only if its tables are of version 1. `start` represents what the file and its log
+/// hold.
 ///
-/// A file that no SQLite wrote is `NotOurs`, and so is one without the relay's tables. A crash may leave such a file while
-/// it is made: delete it by hand. A file that can't be opened is `Store` with its cause: `DatabaseBusy` if another program
-/// has it open, `CannotOpen` for a log without its file. SQLite may make its log beside the file.
+/// A file that no SQLite wrote is `NotOurs`, and so is one without the relay's tables. A crash may
+/// leave such a file while it is made: delete it by hand. A file that can't be opened is `Store`
+/// with its cause: `DatabaseBusy` if another program has it open, `CannotOpen` for a log without
+/// its file. SQLite may make its log beside the file.
 pub fn open_path<L: Ledger, T: Start>(
     rt: &HostRuntime,
     blank: Blank,
@@ -124,9 +127,9 @@ pub fn connect<T: Start>(
     }
 }
 
-/// Opens what was found, and returns its desk and its vault. A new store without any table becomes the relay's, as by
-/// `create`; every other is opened as by `reopen`. Each refusal gives the connection back. `is_autocommit` tests that the
-/// connection is outside a transaction.
+/// Opens what was found, and returns its desk and its vault. A new store without any table becomes
+/// the relay's, as by `create`; every other is opened as by `reopen`. Each refusal gives the
+/// connection back. `is_autocommit` tests that the connection is outside a transaction.
 pub fn open<L: Ledger, S: Alter>(
     alloc: Global,
     blank: Blank,
@@ -166,7 +169,8 @@ pub fn open<L: Ledger, S: Alter>(
     }
 }
 
-// Makes the file where nothing stands at the path. It will hold secrets, so nobody but its owner may read it, and its log gets the same rights.
+// Makes the file where nothing stands at the path. It will hold secrets, so nobody but its owner
+// may read it, and its log gets the same rights.
 fn make_private(rt: &HostRuntime, path: &str) -> Result<(), OpenFault>
     ensures fault { IfErr result IsOfPath }
 {
@@ -197,8 +201,8 @@ fn is_new_at(length: u64) -> Result<bool, OpenFault>
     Ok(length == 0)
 }
 
-// How long the file at the path is in bytes, and 0 where nothing stands there. A log that lies beside no file holds what somebody's store
-// held, and an open would cut it.
+// How long the file at the path is in bytes, and 0 where nothing stands there. A log that lies
+// beside no file holds what somebody's store held, and an open would cut it.
 fn length_of(rt: &HostRuntime, path: &str) -> Result<u64, OpenFault>
     ensures fault { IfErr result IsOfPath }
 {
@@ -229,8 +233,8 @@ fn length_at(rt: &HostRuntime, path: &str) -> Result<Option<u64>, OpenFault>
     }
 }
 
-// As what the store's refusal of an open is told, by what it left of the files. If the store was read, and its rows break its schema,
-// `meta` tells whose it is.
+// As what the store's refusal of an open is told, by what it left of the files. If the store was
+// read, and its rows break its schema, `meta` tells whose it is.
 fn refusal_of<T: Start>(alloc: Global, error: Error, left: &mut Leftover<FileFrom<T>>) -> OpenFault
     ensures rows { IsOfRows result → error ≡ Error.SqliteFailure ErrorCode.NotADatabase }
     ensures unfit { error ≡ Error.SqliteFailure ErrorCode.NotADatabase → IsToldUnfit left.old result }

@@ -15,10 +15,11 @@ use sqlite::{Alter, Connection};
 use std::alloc::Global;
 use std::sync::ledger::{Blank, Ledger};
 
-/// Makes the tables of a store that has none, in one transaction: the desk and the vault of the empty history. Each refusal
-/// gives the connection back. A store where a table, an index or a view already has the name of one of the relay's tables is
-/// `NotOurs`, and it isn't touched. Want of memory leaves the tables as they were, and may come first. The caller sees by
-/// `is_autocommit` that the connection is outside a transaction.
+/// Makes the tables of a store that has none, in one transaction: the desk and the vault of the
+/// empty history. Each refusal gives the connection back. A store where a table, an index or a view
+/// already has the name of one of the relay's tables is `NotOurs`, and it isn't touched. Want of
+/// memory leaves the tables as they were, and may come first. The caller sees by `is_autocommit`
+/// that the connection is outside a transaction.
 pub fn create<L: Ledger, S: Alter>(
     alloc: Global,
     blank: Blank,

@@ -19,12 +19,13 @@ use sqlite::{Alter, Connection};
 use std::alloc::Global;
 use std::sync::ledger::Ledger;
 
-/// Opens a store that has tables, whoever wrote them, and returns its desk and its vault. All records are settled, no
-/// batch is out, no attempt is under way, and the clock is at the greatest moment of its events and attempts. Tables of
-/// version 1 become those of version 2 in one transaction, as by `Vault::migrate`; nothing else is written. A store
-/// without the relay's `meta` is `NotOurs`, and so is one that lacks another of its tables. It passes over tables of
-/// others. Each refusal gives the connection back. Running out of memory may come first, and the tables may already be of
-/// version 2. `is_autocommit` tests that the connection is outside a transaction.
+/// Opens a store that has tables, whoever wrote them, and returns its desk and its vault. All
+/// records are settled, no batch is out, no attempt is under way, and the clock is at the greatest
+/// moment of its events and attempts. Tables of version 1 become those of version 2 in one
+/// transaction, as by `Vault::migrate`; nothing else is written. A store without the relay's `meta`
+/// is `NotOurs`, and so is one that lacks another of its tables. It passes over tables of others.
+/// Each refusal gives the connection back. Running out of memory may come first, and the tables may
+/// already be of version 2. `is_autocommit` tests that the connection is outside a transaction.
 pub fn reopen<L: Ledger, S: Alter>(
     alloc: Global,
     pool: Pool<L>,

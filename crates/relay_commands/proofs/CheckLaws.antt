@@ -27,17 +27,31 @@ use Rattle.recovery.specs.Reopenings.{IsUnopened, opening_of, steps_from}
 use Rattle.recovery.proofs.FileLaws.{finds_either, finds_trees, not_both, own_rows}
 use Rattle.relay_commands.specs.Checks.{AreTotalsFound, AreTotalsIn, IsCounted, IsCountedIn, SaysOf}
 
-pub totals_found : {S : Type 0} (g : Ghosts S) (db : Database) (desk : DeskValue) (vault : VaultValue S) (t : Totals) → IsMadeOrReopened g db desk vault → OverWorlds desk (λ w. t ≡ totals (settled_records w)) → AreTotalsFound db t
+pub totals_found : {S : Type 0} (g : Ghosts S) (db : Database) (desk : DeskValue) (vault : VaultValue S) (t : Totals)
+    → IsMadeOrReopened g db desk vault → OverWorlds desk (λ w. t ≡ totals (settled_records w)) → AreTotalsFound db t
 totals_found g db desk vault t (inl (none, made)) are = inl (none, are (opening_of []) made.0)
 totals_found g db desk vault t (inr (stand, reopened)) are = inr (
   stand,
   λ ours.
       let it = reopened ours in
-      record { rows = it.rows; sound = it.sound; counts = are (opening_of (steps_from it.rows)) it.stands.0; each = λ history legal have. are (opening_of history) (it.each history legal have).0 },
+      record {
+        rows = it.rows;
+        sound = it.sound;
+        counts = are (opening_of (steps_from it.rows)) it.stands.0;
+        each =
+            λ history legal have. are (opening_of history) (it.each history legal have).0;
+      },
 )
 
-pub totals_in : (image : Image) (s : State) (t : Totals) → IsLive s → Opens s → FindsIn image s → AreTotalsFound s.now t → AreTotalsIn image t
-totals_in image s t live opens finds counts = record { found = s.now; finds = finds_trees image s opens finds; counts = counts; each = each }
+pub totals_in : (image : Image) (s : State) (t : Totals) → IsLive s → Opens s → FindsIn image s → AreTotalsFound s.now t
+    → AreTotalsIn image t
+totals_in image s t live opens finds counts = record {
+  found = s.now;
+  finds = finds_trees image s opens finds;
+  counts =
+      counts;
+  each = each;
+}
   where
     of_tables : AreTotalsFound s.now t → (history : History) → IsLegal (records_of history)
         → HaveRows s.now (rows_of (records_of history)) → t ≡ totals (settled_records (opening_of history))
@@ -61,8 +75,10 @@ says_of old new Damaged (inr (none, rows, sound)) = absurd none
 says_of old new (Store error) unopened = tt
 says_of old new OutOfMemory unopened = tt
 
-pub counted_in : {D : Type 0} {g : disk.Ghosts D} (image : Image) (old new : Held (FileStore D g)) (counted : Result Totals OpenFault) → (IsCleanAt over_files new → IsCleanAt over_files old)
-    → (IsCleanAt over_files old → IsOpened old) → (IsCleanAt over_files old → FindsIn image (file_state old)) → IsCounted over_files old new counted
+pub counted_in : {D : Type 0} {g : disk.Ghosts D} (image : Image) (old new : Held (FileStore D g))
+    (counted : Result Totals OpenFault) → (IsCleanAt over_files new → IsCleanAt over_files old)
+    → (IsCleanAt over_files old → IsOpened old) → (IsCleanAt over_files old → FindsIn image (file_state old))
+    → IsCounted over_files old new counted
     → IsCountedIn image (Some new) counted
 counted_in image old new (Ok t) clean opened finds is = λ now.
     let before = clean now in

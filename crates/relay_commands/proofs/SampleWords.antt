@@ -18,7 +18,9 @@ three_clean a b c ha hb hc = rw (ha, hb, hc) refl
 
 sample_parts : (text : List ℕ) (x : Sample) → ReadsSample text x → HasParts 32 text (sample_words x)
 sample_parts text x (given, is, sample) =
-    let clean : IsTrue (list_all (has_no 32) (sample_words x)) = three_clean (decimal x.rtt) (decimal x.inflight) (end_word x.dropped) (clean-decimal x.rtt (omega (arith, sample.1))) (clean-decimal x.inflight (omega (arith, sample.3))) (clean_end x.dropped) in
+    let clean : IsTrue (list_all (has_no 32) (sample_words x)) = three_clean (decimal x.rtt) (decimal x.inflight)
+    (end_word x.dropped) (clean-decimal x.rtt (omega (arith, sample.1)))
+    (clean-decimal x.inflight (omega (arith, sample.3))) (clean_end x.dropped) in
     (is ∙ ap (λ ws. line ws) sample.0, (λ none. cc), clean)
 
 pub the_sample : (text : List ℕ) (words : List (List ℕ)) (x : Sample) → HasParts 32 text words → ReadsSample text x → IsSample words x

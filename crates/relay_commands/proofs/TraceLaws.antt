@@ -36,7 +36,10 @@ numbers_are most maximum state xs is has =
 -- what is told of an estimator is what is told after its samples
 told : (explains : Bool) (maximum : ℕ) (e : EstimatorValue) (xs : List Sample) → e.maximum ≡ maximum → StandsFor e xs → Explains e xs
     → with_feed (line (estimator_words explains e)) ≡ sampled_text explains maximum xs
-told explains maximum e xs is stands whys = λ i. with_feed (line (told_words explains (numbers_are e.maximum maximum e.state xs is stands i) (numbers_are e.maximum maximum e.base (before_last xs) is whys.base i) (length (whys.last i))))
+told explains maximum e xs is stands whys =
+    λ i. with_feed
+    (line (told_words explains (numbers_are e.maximum maximum e.state xs is stands i)
+    (numbers_are e.maximum maximum e.base (before_last xs) is whys.base i) (length (whys.last i))))
 
 -- the samples of further lines, and what is told after each of them
 traced_after : (explains : Bool) (maximum : ℕ) (old new : Follower) (before : List Sample) (lines : List (List ℕ)) (written : List ℕ) → old.explains ≡ explains → old.estimator.maximum ≡ maximum
@@ -50,7 +53,9 @@ traced_after explains maximum old new before (text ∷ texts) written so is stan
     let longer = before ++ x ∷ [] in
     let (xs, more, e) = traced_after explains maximum next new longer texts rest (still ∙ so) (same ∙ is) (follows before stands) (goes_on before whys) each in
     let one : so_far ++ with_feed said ≡ trace_text explains maximum longer (length longer) =
-    ap (λ ys. so_far ++ ys) (ap with_feed answer ∙ ap (λ b. with_feed (line (estimator_words b next.estimator))) (still ∙ so) ∙ told explains maximum next.estimator longer (same ∙ is) (follows before stands) (goes_on before whys)) ∙ sym (text_more explains maximum before x) in (
+    ap (λ ys. so_far ++ ys) (ap with_feed answer ∙ ap (λ b. with_feed (line (estimator_words b next.estimator))) (still
+    ∙ so) ∙ told explains maximum next.estimator longer (same ∙ is) (follows before stands) (goes_on before whys))
+    ∙ sym (text_more explains maximum before x) in (
       x ∷ xs,
       (reads, more),
       ap (λ ys. so_far ++ ys) (grows ∙ sym (append_assoc said (10 ∷ []) rest)) ∙ sym (append_assoc so_far (with_feed said) rest) ∙ ap (λ ys. ys ++ rest) one ∙ e

@@ -1,5 +1,6 @@
 -- What `relayd check` writes, by how it ends.
-use Rattle.std.specs.Prelude.{◌≡◌, ◌≤◌, ◌⊎◌, ℕ, List, [], ◌∷◌, Option, Some, None, Result, Ok, Err, IsTrue, codes, decimal}
+use Rattle.std.specs.Prelude.{◌≡◌, ◌≤◌, ◌⊎◌, ℕ, List, [], ◌∷◌, Option, Some, None, Result, Ok, Err, IsTrue, codes}
+use Rattle.std.specs.Prelude.{decimal}
 use Rattle.std.specs.Io.KnownBytes.{Appends, Keeps}
 use Rattle.sqlite.specs.Store.{Ghosts}
 use Rattle.sqlite.specs.Effect.{Database}
@@ -37,7 +38,8 @@ use Rattle.relay_commands.specs.Reports.{Reports, open_fault}
 -- the totals as they are printed, and a line feed
 abbrev pub counts_text : Totals → List ℕ
 counts_text t = line
-    (codes "ok" ∷ codes "records" ∷ decimal t.records ∷ codes "endpoints" ∷ decimal t.endpoints ∷ codes "pending" ∷ decimal t.pending ∷ [])
+    (codes "ok" ∷ codes "records" ∷ decimal t.records ∷ codes "endpoints" ∷ decimal t.endpoints ∷ codes "pending"
+    ∷ decimal t.pending ∷ [])
 
 abbrev pub counts_line : Totals → List ℕ
 counts_line t = with_feed (counts_text t)
@@ -51,8 +53,8 @@ pub record AreTotalsOf (db : Database) (t : Totals) : Type 0 where
   pub each : (history : History) → IsLegal (records_of history) → HaveRows db (rows_of (records_of history))
       → t ≡ totals (settled_records (opening_of history))
 
--- Where there was no table, they are the totals of no record. Otherwise the five of version 1 stood with their keys, and
--- where the schema was the relay's, of either version, they are those of their history.
+-- Where there was no table, they are the totals of no record. Otherwise the five of version 1 stood with their keys,
+-- and where the schema was the relay's, of either version, they are those of their history.
 abbrev pub AreTotalsFound : Database → Totals → Type 0
 AreTotalsFound db t =
     ((db.schema ≡ no_schema) × (t ≡ totals []))
@@ -87,38 +89,44 @@ pub record IsRefusedIn (image : Image) (why : OpenFault) : Type 0 where
   pub finds : AreFoundIn image found.trees
   pub says : IsOwn found.schema → SaysOf found why
 
--- What was counted of the file that held so much, where it was opened, and while its disk returns what was written. Otherwise why it wasn't:
--- the look at the path gave no file, or there is no connection to it.
-abbrev pub IsCountedIn : {D : Type 0} {g : disk.Ghosts D} → Image → (opened : Option (Held (FileStore D g))) → Result Totals OpenFault → Type 0
+-- What was counted of the file that held so much, where it was opened, and while its disk returns what was written.
+-- Otherwise why it wasn't: the look at the path gave no file, or there is no connection to it.
+abbrev pub IsCountedIn : {D : Type 0} {g : disk.Ghosts D} → Image → (opened : Option (Held (FileStore D g)))
+    → Result Totals OpenFault → Type 0
 IsCountedIn image (Some conn) (Ok t) = IsCleanAt over_files conn → AreTotalsIn image t
 IsCountedIn image (Some conn) (Err why) = IsCleanAt over_files conn → IsRefusedIn image why
 IsCountedIn image None (Ok t) = ⊥
 IsCountedIn {D} {g} image None (Err why) = IsOfLook why ⊎ IsUnconnected g image why
 
--- what is written of the totals where their line isn't: a front of it where the writer failed, and nothing without memory
+-- what is written of the totals where their line isn't: a front of it where the writer failed, and nothing without
+-- memory
 abbrev pub WritesFront : Totals → Option (List ℕ) → Option (List ℕ) → CommandFault → Type 0
 WritesFront t old new (Ended Write) = AppendsFront old new (counts_line t)
 WritesFront t old new (Ended OutOfMemory) = Keeps old new
 WritesFront t old new fault = ⊥
 
 -- What is written at an end: the line of the totals, and nothing where the store wasn't opened.
-abbrev pub ChecksSo : Result Totals OpenFault → Option (List ℕ) → Option (List ℕ) → Result (Unit {0}) CommandFault → Type 0
+abbrev pub ChecksSo : Result Totals OpenFault → Option (List ℕ) → Option (List ℕ) → Result (Unit {0}) CommandFault
+    → Type 0
 ChecksSo (Ok t) old new (Ok done) = Appends old new (counts_line t)
 ChecksSo (Ok t) old new (Err fault) = WritesFront t old new fault
 ChecksSo (Err why) old new end = (end ≡ Err (open_fault why)) × Keeps old new
 
 -- The exit status and standard error tell of the same end, at which this was written of what was read.
-abbrev pub ReportsChecked : Result Totals OpenFault → Option (List ℕ) → Option (List ℕ) → Option (List ℕ) → Option (List ℕ) → ℕ → Type 0
+abbrev pub ReportsChecked : Result Totals OpenFault → Option (List ℕ) → Option (List ℕ) → Option (List ℕ)
+    → Option (List ℕ) → ℕ → Type 0
 ReportsChecked counted old new untold told status = Reports (ChecksSo counted old new) untold told status
 
 -- the same, of what was counted of the store of a connection
 abbrev pub ChecksTo : {S : Type 0} → Ghosts S → (conn back : Held S) → Option (List ℕ) → Option (List ℕ)
     → Option (List ℕ) → Option (List ℕ) → ℕ → Type 0
 ChecksTo g conn back old new untold told status =
-    (counted : Result Totals OpenFault) × IsCounted g conn back counted × ReportsChecked counted old new untold told status
+    (counted : Result Totals OpenFault) × IsCounted g conn back counted
+    × ReportsChecked counted old new untold told status
 
 -- the same, of what was counted of a file
 abbrev pub ChecksFileTo : {D : Type 0} {g : disk.Ghosts D} → Image → (opened : Option (Held (FileStore D g)))
     → Option (List ℕ) → Option (List ℕ) → Option (List ℕ) → Option (List ℕ) → ℕ → Type 0
 ChecksFileTo image opened old new untold told status =
-    (counted : Result Totals OpenFault) × IsCountedIn image opened counted × ReportsChecked counted old new untold told status
+    (counted : Result Totals OpenFault) × IsCountedIn image opened counted
+    × ReportsChecked counted old new untold told status

@@ -43,7 +43,8 @@ open_fault opening.Damaged = File Damaged
 open_fault (opening.Store error) = store_fault error
 open_fault opening.OutOfMemory = Ended command.OutOfMemory
 
--- the exit status of an end: 0 done, 1 an argument is refused, 2 what was read, 4 the relay doesn't take what is in the file, 3 the rest
+-- the exit status of an end: 0 done, 1 an argument is refused, 2 what was read, 4 the relay doesn't take what is in the
+-- file, 3 the rest
 abbrev pub exit_status : Result (Unit {0}) CommandFault → ℕ
 exit_status (Ok done) = 0
 exit_status (Err (Argument fault)) = 1
@@ -78,8 +79,8 @@ fault_line text = with_feed (codes "relayd: " ++ text)
 abbrev pub told_line : CommandFault → List ℕ
 told_line fault = fault_line (told_text fault)
 
--- What standard error gets: nothing where the command is done, and else a front of the fault's line (all of it where the
--- writer takes it).
+-- What standard error gets: nothing where the command is done, and else a front of the fault's line (all of it where
+-- the writer takes it).
 abbrev pub Tells : Result (Unit {0}) CommandFault → Option (List ℕ) → Option (List ℕ) → Type 0
 Tells (Ok done) old new = Keeps old new
 Tells (Err fault) old new = AppendsFront old new (told_line fault)
@@ -89,7 +90,8 @@ abbrev pub Reports : (Result (Unit {0}) CommandFault → Type 0) → Option (Lis
 Reports Holds old new status =
     (end : Result (Unit {0}) CommandFault) × (status ≡ exit_status end) × Tells end old new × Holds end
 
--- the exit status where the parser answers so in place of a command; help and the version are written, or the writer failed
+-- the exit status where the parser answers so in place of a command; help and the version are written, or the writer
+-- failed
 abbrev pub IsShownAs : ErrorKind → ℕ → Type 0
 IsShownAs kind.DisplayHelp status = (status ≡ 0) ⊎ (status ≡ 3)
 IsShownAs kind.DisplayVersion status = (status ≡ 0) ⊎ (status ≡ 3)

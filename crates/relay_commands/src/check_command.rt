@@ -43,11 +43,12 @@ impl fmt::Display for Checked {
     }
 }
 
-/// If there is no file at the path, or an empty one, it makes a store of the empty history, and tables of version 1
-/// become those of version 2. Nothing else is written, except that SQLite may make its log beside the file. Opens the store in
-/// the file and writes how many records, endpoints and pending events it holds: 0 done, 4 the relay doesn't take the
-/// file, 3 every other fault. `start` stands for what the file and its log hold. The connection comes back where the
-/// file was opened.
+/// If there is no file at the path, or an empty one, it makes a store of the empty history, and
+/// tables of version 1 become those of version 2. Nothing else is written, except that SQLite may
+/// make its log beside the file. Opens the store in the file and writes how many records, endpoints
+/// and pending events it holds: 0 done, 4 the relay doesn't take the file, 3 every other fault.
+/// `start` stands for what the file and its log hold. The connection comes back where the file was
+/// opened.
 pub fn check_file<T: Start, O: Write, E: Write>(
     rt: &HostRuntime,
     path: &str,
@@ -71,8 +72,8 @@ pub fn check_file<T: Start, O: Write, E: Write>(
     }
 }
 
-/// The same of the store of a connection, which is made where it `is_new` and has no table. The connection comes back. The caller
-/// sees by `is_autocommit` that it is outside a transaction.
+/// The same of the store of a connection, which is made where it `is_new` and has no table. The
+/// connection comes back. The caller sees by `is_autocommit` that it is outside a transaction.
 pub fn check_store<S: Alter, O: Write, E: Write>(
     alloc: Global,
     conn: Connection<S>,

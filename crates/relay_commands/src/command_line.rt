@@ -80,8 +80,9 @@ pub enum Outcome<'a> {
     Serve(ServeWords<'a>),
 }
 
-/// Runs the command that the words name, the first of which is the program's own: 0 done, 1 usage, 2 what was read,
-/// 4 a file that the relay doesn't take, 3 every other fault. Help and the version go to the output. Of `serve` it reads the words alone.
+/// Runs the command that the words name, the first of which is the program's own: 0 done, 1 usage,
+/// 2 what was read, 4 a file that the relay doesn't take, 3 every other fault. Help and the version
+/// go to the output. Of `serve` it reads the words alone.
 pub fn run<'a, S: AsStr, R: Read, O: Write, E: Write>(
     rt: &HostRuntime,
     words: &'a [S],

@@ -4,7 +4,8 @@ ghost use Rattle.std.specs.Io.KnownBytes.{Appends};
 ghost use Rattle.text_lines.specs.Streams.{AppendsFront};
 ghost use Rattle.text_lines.specs.declared.fault.StreamFault.TheVariants as command;
 ghost use Rattle.relay_commands.specs.declared.ends.CommandFault.TheVariants.{Ended};
-ghost use Rattle.relay_commands.specs.Reports.{argument_fault, open_fault, store_fault, file_fault_name, store_fault_name, exit_status, told_text, fault_line, Tells};
+ghost use Rattle.relay_commands.specs.Reports.{argument_fault, open_fault, store_fault, file_fault_name};
+ghost use Rattle.relay_commands.specs.Reports.{store_fault_name, exit_status, told_text, fault_line, Tells};
 
 use arrayvec::ArrayString;
 use relay_types::ReadFault;
@@ -94,7 +95,8 @@ pub enum CommandFault {
 }
 
 impl CommandFault {
-    /// The exit status of a command that ends so: 1 for an argument, 2 for what was read, 4 for what is in a file, 3 for the rest.
+    /// The exit status of a command that ends so: 1 for an argument, 2 for what was read, 4 for
+    /// what is in a file, 3 for the rest.
     fn status(self) -> u8
         ensures status { result ≡ exit_status (Err self) }
         ensures most { result ≤ 4 }
@@ -178,8 +180,8 @@ fn store_fault(error: Error) -> CommandFault
     }
 }
 
-/// Tells the fault of an end, and gives its exit status: 0 done, 1 an argument is refused, 2 what was read, 4 the relay doesn't take
-/// the file, 3 the rest.
+/// Tells the fault of an end, and gives its exit status: 0 done, 1 an argument is refused, 2 what
+/// was read, 4 the relay doesn't take the file, 3 the rest.
 pub fn end<E: Write>(errors: &mut E, end: Result<(), CommandFault>) -> u8
     ensures status { result ≡ exit_status end }
     ensures tells { Tells end (E.contents errors.old) (E.contents errors.new) }
@@ -194,7 +196,8 @@ pub fn end<E: Write>(errors: &mut E, end: Result<(), CommandFault>) -> u8
     }
 }
 
-/// Tells what is at fault: `relayd: `, its text and a line feed, 64 bytes at most. No memory is taken, since there may be none.
+/// Tells what is at fault: `relayd: `, its text and a line feed, 64 bytes at most. No memory is
+/// taken, since there may be none.
 pub fn tell_fault<F: fmt::Display, E: Write>(errors: &mut E, fault: &F) -> Result<(), StreamFault>
     ensures told { OnOk result (IfSome (F.output fault.now)
         (λ text. Appends (E.contents errors.old) (E.contents errors.new) (fault_line text))) }

@@ -7,7 +7,8 @@ use sqlite::Connection;
 use std::alloc::Global;
 use std::io::{Read, Write};
 
-/// Runs the script on the reader over a store in memory, and writes its replies: 0 done, 2 what was read, 3 every other fault.
+/// Runs the script on the reader over a store in memory, and writes its replies: 0 done, 2 what was
+/// read, 3 every other fault.
 pub fn replay<R: Read, O: Write, E: Write>(
     alloc: Global,
     input: &mut R,

@@ -1,10 +1,12 @@
 //! `relayd sign`: the signature header of one post.
-ghost use Rattle.std.specs.Prelude.{◌≡◌, ◌↔◌, ℕ, List, ◌<◌, ◌≤◌, ◌+◌, ◌++◌, ◌⊎◌, false, length, IsTrue, IfSome, IfOk, IfErr, OnOk, OnErr, vec_len};
+ghost use Rattle.std.specs.Prelude.{◌≡◌, ◌↔◌, ℕ, List, ◌<◌, ◌≤◌, ◌+◌, ◌++◌, ◌⊎◌, false, length, IsTrue, IfSome, IfOk};
+ghost use Rattle.std.specs.Prelude.{IfErr, OnOk, OnErr, vec_len};
 ghost use Rattle.std.specs.Io.KnownBytes.{Appends, Keeps};
 ghost use Rattle.relay_types.specs.Values.{is_msg_id};
 ghost use Rattle.text_lines.specs.Parts.{texts};
 ghost use Rattle.text_lines.specs.Words.{AreSecretTexts};
-ghost use Rattle.relay_commands.specs.Signs.{AreAsked, IsMomentText, HasIdAndMoment, signed_line, Signs, SignsFront, IsNoBody, SignsSo, SignsTo};
+ghost use Rattle.relay_commands.specs.Signs.{AreAsked, IsMomentText, HasIdAndMoment, signed_line, Signs, SignsFront};
+ghost use Rattle.relay_commands.specs.Signs.{IsNoBody, SignsSo, SignsTo};
 ghost use Rattle.text_lines.specs.Streams.{AppendsFront};
 
 use crate::ends::{CommandFault, end};
@@ -27,8 +29,9 @@ pub struct SignWords {
     pub secrets: Secrets,
 }
 
-/// Writes the header's value for the body on the reader, by the id, the moment and the secrets, the newest first: 0 done,
-/// 1 an argument isn't what its reader takes, 2 the body is too long, 3 every other fault.
+/// Writes the header's value for the body on the reader, by the id, the moment and the secrets, the
+/// newest first: 0 done, 1 an argument isn't what its reader takes, 2 the body is too long, 3 every
+/// other fault.
 pub fn sign<R: Read, O: Write, E: Write>(
     alloc: Global,
     id: &str,

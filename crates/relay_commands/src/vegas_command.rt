@@ -3,7 +3,8 @@ ghost use Rattle.std.specs.Prelude.{◌≡◌, ◌<◌, ◌≤◌, Bool, [], ◌
 ghost use Rattle.text_lines.specs.Parts.{line};
 ghost use Rattle.vegas.specs.declared.sample.Sample.{Sample as Taken};
 ghost use Rattle.vegas.specs.Estimators.{sample_of};
-ghost use Rattle.relay_commands.specs.Traces.{Traces, TracesSo, TracesTo, AnswersSample, ReadsSample, IsNoSample, HasThreeWords, IsSample, answer_words, end_word, estimator_words};
+ghost use Rattle.relay_commands.specs.Traces.{Traces, TracesSo, TracesTo, AnswersSample, ReadsSample, IsNoSample};
+ghost use Rattle.relay_commands.specs.Traces.{HasThreeWords, IsSample, answer_words, end_word, estimator_words};
 
 use crate::ends::{CommandFault, end};
 use relay_types::MaxLimit;
@@ -116,9 +117,10 @@ impl Answerer for Follower {
     }
 }
 
-/// Takes a sample from each line of the reader, and writes the limit, which is at most the maximum, and the no-load time after
-/// it: 0 done, 1 no maximum, 2 what was read, 3 every other fault. To explain them it also writes the limit, the no-load time and the probe
-/// count before the last samples, and how many these are.
+/// Takes a sample from each line of the reader, and writes the limit, which is at most the maximum,
+/// and the no-load time after it: 0 done, 1 no maximum, 2 what was read, 3 every other fault. To
+/// explain them it also writes the limit, the no-load time and the probe count before the last
+/// samples, and how many these are.
 pub fn vegas<R: Read, O: Write, E: Write>(
     alloc: Global,
     max: &str,

@@ -34,8 +34,9 @@ impl<R: RandomSource> RandomBytes for HostRandom<'_, R> {
     }
 }
 
-/// An id that nobody used before, as far as chance goes: `msg_` and a UUID of version 4 (RFC 9562, section 5.4), with hyphens and in lower
-/// case. It fails where the system's source of random bytes does.
+/// An id that nobody used before, as far as chance goes: `msg_` and a UUID of version 4 (RFC 9562,
+/// section 5.4), with hyphens and in lower case. It fails where the system's source of random bytes
+/// does.
 pub fn fresh_id<R: RandomSource>(rt: &R) -> io::Result<MsgId>
     ensures { IfOk result IsMadeId }
 {

@@ -7,7 +7,8 @@ use delivery::Clock;
 use relay_types::{MAX_MOMENT, Moment};
 use std::time::{Clock as SystemClock, SystemTime};
 
-/// The system's clock. If it can't be read, or is before 1970, the moment is 0. After the greatest moment it is that one.
+/// The system's clock. If it can't be read, or is before 1970, the moment is 0. After the greatest
+/// moment it is that one.
 #[derive(Clone, Copy)]
 pub struct HostClock<'a, R> {
     rt: &'a R,

@@ -42,8 +42,9 @@ pub trait Place {
         ensures { finds self.old self.new result };
 }
 
-/// A file and its log at their paths. Device and number, as `stat` gives them (POSIX.1-2017), distinguish them from others. The log of a file
-/// to which the path leads by a link isn't looked at.
+/// A file and its log at their paths. Device and number, as `stat` gives them (POSIX.1-2017),
+/// distinguish them from others. The log of a file to which the path leads by a link isn't looked
+/// at.
 #[derive(Drop)]
 pub struct FilePlace<'a, F: Files + Clock> {
     files: &'a F,
@@ -77,7 +78,8 @@ impl<'a, F: Files + Clock> FilePlace<'a, F> {
         })
     }
 
-    /// Takes what is there now for what was opened. If it can't be looked at, the next look takes it. It leaves what a look leaves.
+    /// Takes what is there now for what was opened. If it can't be looked at, the next look takes
+    /// it. It leaves what a look leaves.
     pub fn remember(&mut self)
         ensures { (sight : Sight) × IsSightOf self.old self.new sight }
     {
@@ -129,8 +131,9 @@ impl<F: Files + Clock> Place for FilePlace<'_, F> {
 
     ghost finds = { IsSightOf };
 
-    /// The first look that sees the file takes what stands there for what was opened. A log that wasn't there before is the file's own from
-    /// then on. A file that can't be looked at is looked at again, for ten seconds at most.
+    /// The first look that sees the file takes what stands there for what was opened. A log that
+    /// wasn't there before is the file's own from then on. A file that can't be looked at is looked
+    /// at again, for ten seconds at most.
     fn look(&mut self) -> Sight {
         for _ in 1..LOOKS {
             match self.glance() {

@@ -9,7 +9,8 @@ use crate::place::{Place, Sight};
 use delivery::Keeper;
 use spool::{Batch, CommitEnd, Receipt, Unchanged};
 
-/// A keeper that commits while what was opened is at its place. Otherwise it hands the batch back, as out of turn or as out of memory.
+/// A keeper that commits while what was opened is at its place. Otherwise it hands the batch back,
+/// as out of turn or as out of memory.
 #[derive(Drop)]
 pub struct Placed<K: Keeper + Drop, P: Place + Drop> {
     keeper: K,

@@ -23,7 +23,8 @@ const REQUEST_SECONDS: u64 = 30;
 
 const PAUSE_MILLIS: u64 = 10;
 
-/// Takes one connection after another, until the end was asked for. Where the system refuses one it goes on after a moment.
+/// Takes one connection after another, until the end was asked for. Where the system refuses one it
+/// goes on after a moment.
 pub(crate) fn take_requests<R, L, I>(
     rt: &R,
     listener: &TcpListener,
@@ -94,8 +95,8 @@ where
     Ok(())
 }
 
-/// Makes the threads that wait for a connection look whether the end was asked for, until all of them have ended. If the system has no
-/// socket for that, it tries again after a moment.
+/// Makes the threads that wait for a connection look whether the end was asked for, until all of
+/// them have ended. If the system has no socket for that, it tries again after a moment.
 pub(crate) fn wake<L: Ledger, I: LogId, R: Wait + Clock + Net>(
     rt: &R,
     bound: SocketAddr,

@@ -66,8 +66,8 @@ impl From<AllocError> for ServeFault {
     }
 }
 
-/// Tells the fault of a relay's end, and gives the exit status: 0 where it was asked to end, 1 a bad address, 4 a file that isn't the
-/// relay's, 3 the rest.
+/// Tells the fault of a relay's end, and gives the exit status: 0 where it was asked to end, 1 a
+/// bad address, 4 a file that isn't the relay's, 3 the rest.
 pub fn end_serving<E: Write>(errors: &mut E, ended: Result<Served, ServeFault>) -> u8
     ensures status { result ≡ serving_status ended }
     ensures tells { TellsEnd ended (E.contents errors.old) (E.contents errors.new) }

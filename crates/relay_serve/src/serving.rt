@@ -41,7 +41,8 @@ use std::time::Clock;
 
 const MARK: u64 = 0;
 
-/// Opens the file, and serves at the address until so many requests are answered as the settings say, or the committer gives up.
+/// Opens the file, and serves at the address until so many requests are answered as the settings
+/// say, or the committer gives up.
 pub fn serve<R>(host: &HostRuntime, rt: &R, asked: &ServeWords<'_>) -> Result<Served, ServeFault>
 where
     R: Wait
@@ -122,9 +123,10 @@ where
     ended
 }
 
-/// Serves a desk and its vault, which commits only where its place stands, on the listener, until so many requests are answered as the
-/// settings say, or the committer gives up. All threads have ended then, and the vault comes back, with the acknowledged event that has the
-/// greatest number. If the relay ended as it was asked to, the rows have to say what the desk says.
+/// Serves a desk and its vault, which commits only where its place stands, on the listener, until
+/// so many requests are answered as the settings say, or the committer gives up. All threads have
+/// ended then, and the vault comes back, with the acknowledged event that has the greatest number.
+/// If the relay ended as it was asked to, the rows have to say what the desk says.
 pub fn serve_opened<L, S, P, R>(
     rt: &R,
     listener: &TcpListener,

@@ -19,9 +19,10 @@ use std::thread;
 use std::thread::Threads;
 use std::time::Clock;
 
-/// Runs the threads of the intake and the workers, and the committer on this one, until the end was asked for or the committer gives up.
-/// All other threads have ended then. If the end was asked for, the committer runs once more, and commits what posts under way came to
-/// meanwhile. It gives the keeper back, as the committer does.
+/// Runs the threads of the intake and the workers, and the committer on this one, until the end was
+/// asked for or the committer gives up. All other threads have ended then. If the end was asked
+/// for, the committer runs once more, and commits what posts under way came to meanwhile. It gives
+/// the keeper back, as the committer does.
 pub(crate) fn run_threads<L, I, K, R>(
     rt: &R,
     listener: &TcpListener,

@@ -15,7 +15,8 @@ use std::sync::ledger::Ledger;
 use std::thread::Threads;
 use std::time::{Clock, Duration};
 
-/// Posts what is due, until the end was asked for or the desk is halted. It rests where nothing is due, and where memory was refused.
+/// Posts what is due, until the end was asked for or the desk is halted. It rests where nothing is
+/// due, and where memory was refused.
 pub(crate) fn work<L, I, R>(rt: &R, relay: &Relay<L, I>, timeout: u64)
 where
     L: Ledger,

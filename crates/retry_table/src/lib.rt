@@ -1,5 +1,6 @@
-//! What came of a post, and what follows from it: what its permit is spent as, what it tells of the endpoint's speed, which
-//! status is recorded, what that status means for the event, and how long to wait after a failure. Nothing here takes memory.
+//! What came of a post, and what follows from it: what its permit is spent as, what it tells of the
+//! endpoint's speed, which status is recorded, what that status means for the event, and how long
+//! to wait after a failure. Nothing here takes memory.
 #![tactic(auto)]
 
 mod delay;

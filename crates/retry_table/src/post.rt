@@ -38,9 +38,10 @@ pub struct Measured {
     pub dropped: bool,
 }
 
-/// What the permit of a post is spent as, and the status of the outcome to record: 0 where none came, and no outcome at all
-/// for a post that was not sent. Overload is 429 Too Many Requests (RFC 6585, section 4), 502 Bad Gateway, 503 Service
-/// Unavailable and 504 Gateway Timeout (RFC 9110, section 15.6).
+/// What the permit of a post is spent as, and the status of the outcome to record: 0 where none
+/// came, and no outcome at all for a post that was not sent. Overload is 429 Too Many Requests (RFC
+/// 6585, section 4), 502 Bad Gateway, 503 Service Unavailable and 504 Gateway Timeout (RFC 9110,
+/// section 15.6).
 pub fn judge(post: &PostResult) -> (Spend, Option<u16>)
     ensures spend { result.0 ≡ spend_of post.now }
     ensures status { result.1 ≡ recorded_status post.now }

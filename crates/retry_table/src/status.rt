@@ -3,8 +3,8 @@ ghost use Rattle.std.specs.Prelude.{◌≡◌, ◌≤◌, ◌↔◌, IsSome, IfS
 
 use std::marker::Model;
 
-/// The status code of an HTTP response, 100 to 999. RFC 9110, section 15, gives the classes from 1xx to 5xx; a code from
-/// 600 on has no meaning there, but an answer can hold it.
+/// The status code of an HTTP response, 100 to 999. RFC 9110, section 15, gives the classes from
+/// 1xx to 5xx; a code from 600 on has no meaning there, but an answer can hold it.
 #[derive(Clone, Copy, PartialEq, Eq, Debug)]
 pub struct Status {
     number: u16,

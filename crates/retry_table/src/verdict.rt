@@ -13,8 +13,8 @@ pub enum Verdict {
     Failed,
 }
 
-/// What a recorded status means; 0, where none came, is a failure. 2xx is success and 410 Gone is likely to be permanent
-/// (RFC 9110, sections 15.3 and 15.5.11).
+/// What a recorded status means; 0, where none came, is a failure. 2xx is success and 410 Gone is
+/// likely to be permanent (RFC 9110, sections 15.3 and 15.5.11).
 pub fn verdict_of(status: u16) -> Verdict
     ensures delivered { (result ≡ Verdict.Delivered) ↔ IsTrue (is_delivered_status status) }
     ensures gone { (result ≡ Verdict.Gone) ↔ IsTrue (is_gone_status status) }

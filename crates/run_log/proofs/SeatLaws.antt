@@ -14,7 +14,9 @@ use Rattle.run_log.proofs.PrefixLaws.{prefix_self, prefix_nil, prefix_more, pref
 off : false ≡ true → ⊥
 off e = true≢false (sym e)
 
-fits_set : (seat : ℕ) (now : List Record) (views : List View) (by : ℕ) (w : View) → ((j : ℕ) (u : View) → j ≢ by → get_elem? views j ≡ some u → IsView seat now j u) → IsView seat now by w → (j : ℕ) (u : View) → get_elem? (set views by w) j ≡ some u → IsView seat now j u
+fits_set : (seat : ℕ) (now : List Record) (views : List View) (by : ℕ) (w : View)
+    → ((j : ℕ) (u : View) → j ≢ by → get_elem? views j ≡ some u → IsView seat now j u) → IsView seat now by w
+    → (j : ℕ) (u : View) → get_elem? (set views by w) j ≡ some u → IsView seat now j u
 fits_set seat now views by w others mine j u e =
     ⊎_elim
     (λ (x : (j ≡ by) × (w ≡ u)). subst (λ (y : ℕ × View). IsView seat now y.0 y.1) (λ i. (sym x.0 i, x.1 i)) mine)
@@ -84,7 +86,9 @@ copies id v s h at =
 pub hears : (id : ℕ) (v : View) (other : ℕ) (w : View) → Joins {S = Unit {0}} KeepsRule id v other w (with_other v w) (reading [])
 hears id v other w s h at apart there =
     let mine = h.2 id v at in
-    let theirs = ⊎_elim (λ (t : (other ≡ id) × (with_other v w ≡ w)). absurd (apart t.0)) (λ (t : (other ≢ id) × (get_elem? s.views other ≡ some w)). h.2 other w t.1) (at_set s.views id other (with_other v w) w there) in (
+    let theirs = ⊎_elim (λ (t : (other ≡ id) × (with_other v w ≡ w)). absurd (apart t.0))
+    (λ (t : (other ≢ id) × (get_elem? s.views other ≡ some w)). h.2 other w t.1)
+    (at_set s.views id other (with_other v w) w there) in (
       h.0,
       h.1,
       fits_set h.0 h.1 (set s.views id (with_other v w)) other (reading [])

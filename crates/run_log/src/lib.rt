@@ -1,5 +1,6 @@
-//! The log of a run: the records that its committer has committed, in their order. One writer appends to it, and everybody else knows
-//! a prefix of it. It is in the proofs alone; what is left of it in the program is one word that is stored and loaded.
+//! The log of a run: the records that its committer has committed, in their order. One writer
+//! appends to it, and everybody else knows a prefix of it. It is in the proofs alone; what is left
+//! of it in the program is one word that is stored and loaded.
 #![tactic(auto)]
 
 ghost use Rattle.std.specs.Prelude.{◌≡◌, ◌++◌, [], IfOk, List};
@@ -117,7 +118,8 @@ impl LogId for Brand {
     ghost staged = { no_table };
 }
 
-/// The log of the records that were staged in a run, whether or not they were committed. It goes on from the same histories.
+/// The log of the records that were staged in a run, whether or not they were committed. It goes on
+/// from the same histories.
 pub struct Staged<I: LogId> {
     of: PhantomData<I>,
 }

@@ -20,14 +20,17 @@ apart a b word different h k = true_not_false (sym (bytes_equal a b (sym h ∙ k
 
 -- ---- what holds of each call of a first word
 
-pub only_put : (P : Call → Type 0) (word : List ℕ) (words : List (List ℕ)) → word ≡ codes "put" → ((name target : List ℕ) (max : ℕ) (secrets : List (List ℕ)) → IsPut words name target max secrets → P (on.Put name target max secrets))
+pub only_put : (P : Call → Type 0) (word : List ℕ) (words : List (List ℕ)) → word ≡ codes "put"
+    → ((name target : List ℕ) (max : ℕ) (secrets : List (List ℕ)) → IsPut words name target max secrets
+    → P (on.Put name target max secrets))
     → (call : Call) → word ≡ call_word call → AreArguments words call → P call
 only_put P word words is own (on.Put name target max secrets) e h = own name target max secrets h
 only_put P word words is own (on.Enabled name true) e h = absurd (apart (codes "put") (codes "enable") word refl is e)
 only_put P word words is own (on.Enabled name false) e h = absurd (apart (codes "put") (codes "disable") word refl is e)
 only_put P word words is own call e h = absurd (apart (codes "put") (call_word call) word refl is e)
 
-pub only_secrets : (P : Call → Type 0) (word : List ℕ) (words : List (List ℕ)) → word ≡ codes "secrets" → ((name : List ℕ) (secrets : List (List ℕ)) → IsSecrets words name secrets → P (on.Secrets name secrets))
+pub only_secrets : (P : Call → Type 0) (word : List ℕ) (words : List (List ℕ)) → word ≡ codes "secrets"
+    → ((name : List ℕ) (secrets : List (List ℕ)) → IsSecrets words name secrets → P (on.Secrets name secrets))
     → (call : Call) → word ≡ call_word call → AreArguments words call → P call
 only_secrets P word words is own (on.Secrets name secrets) e h = own name secrets h
 only_secrets P word words is own (on.Enabled name true) e h = absurd (apart (codes "secrets") (codes "enable") word refl is e)
@@ -46,7 +49,8 @@ only_disable P word words is own (on.Enabled name false) e h = own name h
 only_disable P word words is own (on.Enabled name true) e h = absurd (apart (codes "disable") (codes "enable") word refl is e)
 only_disable P word words is own call e h = absurd (apart (codes "disable") (call_word call) word refl is e)
 
-pub only_submit : (P : Call → Type 0) (word : List ℕ) (words : List (List ℕ)) → word ≡ codes "submit" → ((now : ℕ) (name id body : List ℕ) → IsSubmit words now name id body → P (on.Submit now name id body))
+pub only_submit : (P : Call → Type 0) (word : List ℕ) (words : List (List ℕ)) → word ≡ codes "submit"
+    → ((now : ℕ) (name id body : List ℕ) → IsSubmit words now name id body → P (on.Submit now name id body))
     → (call : Call) → word ≡ call_word call → AreArguments words call → P call
 only_submit P word words is own (on.Submit now name id body) e h = own now name id body h
 only_submit P word words is own (on.Enabled name true) e h = absurd (apart (codes "submit") (codes "enable") word refl is e)
@@ -67,7 +71,8 @@ only_claim P word words is own (on.Enabled name true) e h = absurd (apart (codes
 only_claim P word words is own (on.Enabled name false) e h = absurd (apart (codes "claim") (codes "disable") word refl is e)
 only_claim P word words is own call e h = absurd (apart (codes "claim") (call_word call) word refl is e)
 
-pub only_spend : (P : Call → Type 0) (word : List ℕ) (words : List (List ℕ)) → word ≡ codes "spend" → ((delivery now : ℕ) (post : PostResult) → IsSpend words delivery now post → P (on.Spend delivery now post))
+pub only_spend : (P : Call → Type 0) (word : List ℕ) (words : List (List ℕ)) → word ≡ codes "spend"
+    → ((delivery now : ℕ) (post : PostResult) → IsSpend words delivery now post → P (on.Spend delivery now post))
     → (call : Call) → word ≡ call_word call → AreArguments words call → P call
 only_spend P word words is own (on.Spend delivery now post) e h = own delivery now post h
 only_spend P word words is own (on.Enabled name true) e h = absurd (apart (codes "spend") (codes "enable") word refl is e)
@@ -81,7 +86,9 @@ only_limits P word words is own (on.Enabled name true) e h = absurd (apart (code
 only_limits P word words is own (on.Enabled name false) e h = absurd (apart (codes "limits") (codes "disable") word refl is e)
 only_limits P word words is own call e h = absurd (apart (codes "limits") (call_word call) word refl is e)
 
-pub only_show : (P : Call → Type 0) (word : List ℕ) (words : List (List ℕ)) → word ≡ codes "show" → ((name : List ℕ) → IsNamed words name → P (on.ShowEndpoint name)) → ((name id : List ℕ) → IsShow words name id → P (on.Show name id))
+pub only_show : (P : Call → Type 0) (word : List ℕ) (words : List (List ℕ)) → word ≡ codes "show"
+    → ((name : List ℕ) → IsNamed words name → P (on.ShowEndpoint name))
+    → ((name id : List ℕ) → IsShow words name id → P (on.Show name id))
     → (call : Call) → word ≡ call_word call → AreArguments words call → P call
 only_show P word words is endpoint own (on.ShowEndpoint name) e h = endpoint name h
 only_show P word words is endpoint own (on.Show name id) e h = own name id h
@@ -136,7 +143,8 @@ two_texts (a ∷ []) d h = cc
 two_texts (a ∷ b ∷ []) d h = refl
 two_texts (a ∷ b ∷ c ∷ more) d h = absurd (omega (arith, h))
 
-pub texts_from_two : (words : List (Bor (List ℕ))) (d : Bor (List ℕ)) → 2 ≤ length words → texts words ≡ (get_or words 0 d).now ∷ (get_or words 1 d).now ∷ texts (take (length words - 2) (drop 2 words))
+pub texts_from_two : (words : List (Bor (List ℕ))) (d : Bor (List ℕ)) → 2 ≤ length words → texts words
+    ≡ (get_or words 0 d).now ∷ (get_or words 1 d).now ∷ texts (take (length words - 2) (drop 2 words))
 texts_from_two [] d h = absurd (omega (arith, h))
 texts_from_two (a ∷ []) d h = absurd (omega (arith, h))
 texts_from_two (a ∷ b ∷ more) d h = ap (λ (rest : List (Bor (List ℕ))). a.now ∷ b.now ∷ texts rest) (sym (ap (λ n. take n more) (less (length more)) ∙ take-length more))
@@ -180,5 +188,6 @@ new_secrets a b name secrets (word, reads, e, valid) =
 pub lacks_secrets : (name word : List ℕ) → IsTrue (is_name name) → (secrets : List (List ℕ)) × IsSecretsWord word secrets → MayLackForSecrets (name ∷ word ∷ [])
 lacks_secrets name word named (secrets, reads) = (name, secrets, (word, reads, refl, named))
 
-pub lacks_submit : (words : List (Bor (List ℕ))) (a b c d : List ℕ) → texts words ≡ a ∷ b ∷ c ∷ d ∷ [] → (moment : ℕ) × (a ≡ decimal moment) × IsTrue (is_moment moment && (is_name b && is_msg_id c)) → MayLackForSubmit (texts words)
+pub lacks_submit : (words : List (Bor (List ℕ))) (a b c d : List ℕ) → texts words ≡ a ∷ b ∷ c ∷ d ∷ [] → (moment : ℕ)
+    × (a ≡ decimal moment) × IsTrue (is_moment moment && (is_name b && is_msg_id c)) → MayLackForSubmit (texts words)
 lacks_submit words a b c d is (moment, same, valid) = (moment, b, c, d, is ∙ ap (λ w. w ∷ b ∷ c ∷ d ∷ []) same, valid)

@@ -19,7 +19,9 @@ use Rattle.script_lines.specs.declared.call.Call.TheVariants as on
 use Rattle.script_lines.specs.declared.call.Line.{Line}
 use Rattle.script_lines.specs.declared.call.Line.TheVariants as as_line
 use Rattle.script_lines.specs.Script.{IsPut, IsSecrets, IsNamed, IsTold, IsSubmit, IsClaim, IsResult, IsSpend, IsShow, call_word, AreArguments, IsCall, ReadsLine, IsLine, HasOneLineAtMost}
-use Rattle.script_lines.proofs.CallLaws.{only_put, only_secrets, only_enable, only_disable, only_submit, only_told, only_claim, only_spend, only_limits, only_show, only_seal, only_commit, only_settle, only_unseal, only_halt}
+use Rattle.script_lines.proofs.CallLaws.{only_put, only_secrets, only_enable, only_disable, only_submit, only_told}
+use Rattle.script_lines.proofs.CallLaws.{only_claim, only_spend, only_limits, only_show, only_seal, only_commit}
+use Rattle.script_lines.proofs.CallLaws.{only_settle, only_unseal, only_halt}
 use Rattle.script_lines.proofs.CleanCalls.{the_call, parts_of_call}
 
 same_put : (words : List (List ℕ)) (name target : List ℕ) (max : ℕ) (secrets : List (List ℕ)) (name' target' : List ℕ) (max' : ℕ) (secrets' : List (List ℕ)) → IsPut words name target max secrets

@@ -1,11 +1,15 @@
 //! The lines of a script: the calls that they stand for.
-ghost use Rattle.std.specs.Prelude.{◌≡◌, ℕ, List, [], ◌∷◌, ◌<◌, ◌^◌, ◌&&◌, false, IsTrue, IfErr, IfOk, IsErr, codes, decimal};
+ghost use Rattle.std.specs.Prelude.{◌≡◌, ℕ, List, [], ◌∷◌, ◌<◌, ◌^◌, ◌&&◌, false, IsTrue, IfErr, IfOk, IsErr, codes};
+ghost use Rattle.std.specs.Prelude.{decimal};
 ghost use Rattle.relay_types.specs.Values.{is_between, is_moment, is_msg_id, is_name, is_target};
 ghost use Rattle.text_lines.specs.Parts.{texts};
-ghost use Rattle.script_lines.specs.Script.{ReadsLine, IsLine, HasOneLineAtMost, HasFewWords, IsCall, MayLack, call_word, AreArguments};
+ghost use Rattle.script_lines.specs.Script.{ReadsLine, IsLine, HasOneLineAtMost, HasFewWords, IsCall, MayLack};
+ghost use Rattle.script_lines.specs.Script.{call_word, AreArguments};
 ghost use Rattle.script_lines.specs.Script.{MayLackForPut, MayLackForSecrets, MayLackForSubmit};
-ghost use Rattle.script_lines.specs.Script.{AreOfPut, AreOfSecrets, AreOfSubmit, AreOfSpend, AreOfShow, IsNamed, IsTold, IsClaim, IsResult};
-ghost use Rattle.script_lines.specs.Script.{AreOfNoPut, AreOfNoSecrets, AreOfNoSubmit, AreOfNoSpend, AreOfNoResult, AreOfNoName, AreOfNoEvent};
+ghost use Rattle.script_lines.specs.Script.{AreOfPut, AreOfSecrets, AreOfSubmit, AreOfSpend, AreOfShow, IsNamed};
+ghost use Rattle.script_lines.specs.Script.{IsTold, IsClaim, IsResult};
+ghost use Rattle.script_lines.specs.Script.{AreOfNoPut, AreOfNoSecrets, AreOfNoSubmit, AreOfNoSpend, AreOfNoResult};
+ghost use Rattle.script_lines.specs.Script.{AreOfNoName, AreOfNoEvent};
 ghost use Rattle.script_lines.specs.declared.call.Call.{Call};
 ghost use Rattle.script_lines.specs.declared.call.Line.{Line};
 

@@ -41,7 +41,8 @@ module _ {P : Trees → Type 0} (a b c : State) (early : Survives a b P)
   fault_since store.Broken failed = failed_since failed
   fault_since store.Unstorable none = none
 
-module _ {P Q : Trees → Type 0} (a b c : State) (early : Survives a b P) (late : Survives b c Q) (clean : HasCleanDisk c) where
+module _ {P Q : Trees → Type 0} (a b c : State) (early : Survives a b P) (late : Survives b c Q)
+    (clean : HasCleanDisk c) where
   failed_both : HasFailed b c → HasFailed a c
   failed_both (inl failed) = inl (omega (arith, failed, early.counts))
   failed_both (inr shut) = at a.is_open refl

@@ -48,34 +48,45 @@ all_pass : {Y : Type 0} (p : Y → Bool) (ys : List Y) → AllByRecursion (λ y.
 all_pass p [] h = refl
 all_pass p (y ∷ ys) h = ap₂ (λ a b. a && b) h.0 (all_pass p ys h.1)
 
-any_stored : {Y : Type 0} (stored : Y → Row) (test : Row → Bool) (q : Y → Bool) → ((y : Y) → test (stored y) ≡ q y) → (ys : List Y) → list_any test (map stored ys) ≡ list_any q ys
+any_stored : {Y : Type 0} (stored : Y → Row) (test : Row → Bool) (q : Y → Bool) → ((y : Y) → test (stored y) ≡ q y)
+    → (ys : List Y) → list_any test (map stored ys) ≡ list_any q ys
 any_stored stored test q same [] = refl
 any_stored stored test q same (y ∷ ys) = ap₂ (λ a b. a || b) (same y) (any_stored stored test q same ys)
 
-module _ {Y : Type 0} (stored : Y → Row) (tree : List Row) (ys : List Y) (are : IsPermutation tree (map stored ys)) where
-  any_typed : (test : Row → Bool) (q : Y → Bool) → ((y : Y) → test (stored y) ≡ q y) → list_any test tree ≡ list_any q ys
-  any_typed test q same = list_any-IsPermutation test tree (map stored ys) are ∙ any_stored stored test q same ys
+module _ {Y : Type 0} (stored : Y → Row) (tree : List Row) (ys : List Y) (are : IsPermutation tree (map stored ys))
+  where
+    any_typed : (test : Row → Bool) (q : Y → Bool) → ((y : Y) → test (stored y) ≡ q y) → list_any test tree
+        ≡ list_any q ys
+    any_typed test q same = list_any-IsPermutation test tree (map stored ys) are ∙ any_stored stored test q same ys
 
-  each_stored : (P : Row → Type 0) → AllByRecursion P tree → AllByRecursion (λ y. P (stored y)) ys
-  each_stored P all = all_from_map P stored ys (all-permutation P tree (map stored ys) are all)
+    each_stored : (P : Row → Type 0) → AllByRecursion P tree → AllByRecursion (λ y. P (stored y)) ys
+    each_stored P all = all_from_map P stored ys (all-permutation P tree (map stored ys) are all)
 
-  -- no other row has the same key
-  all_apart : (places : List ℕ) (clash : Y → Y → Bool) → ((f e : Y) → (agree plain places (stored f) places (stored e) && differ (rowid (stored f)) (rowid (stored e))) ≡ clash f e)
-      → AllByRecursion (λ row. not (clashes plain places tree row) && true ≡ true) tree → IsTrue (list_all (λ e. not (list_any (λ f. clash f e) ys)) ys)
-  all_apart places clash same all =
-      all_pass (λ e. not (list_any (λ f. clash f e) ys)) ys
-      (all_weaker (λ e. not (clashes plain places tree (stored e)) && true ≡ true) (λ e. not (list_any (λ f. clash f e) ys) ≡ true)
-      (λ e apart. ap not (sym (any_typed (λ other. agree plain places other places (stored e) && differ (rowid other) (rowid (stored e))) (λ f. clash f e) (λ f. same f e))) ∙ sym (and_true _) ∙ apart)
-      ys (each_stored (λ row. not (clashes plain places tree row) && true ≡ true) all))
+    -- no other row has the same key
+    all_apart : (places : List ℕ) (clash : Y → Y → Bool)
+        → ((f e : Y) → (agree plain places (stored f) places (stored e) && differ (rowid (stored f)) (rowid (stored e)))
+        ≡ clash f e)
+        → AllByRecursion (λ row. not (clashes plain places tree row) && true ≡ true) tree
+        → IsTrue (list_all (λ e. not (list_any (λ f. clash f e) ys)) ys)
+    all_apart places clash same all =
+        all_pass (λ e. not (list_any (λ f. clash f e) ys)) ys
+        (all_weaker (λ e. not (clashes plain places tree (stored e)) && true ≡ true)
+        (λ e. not (list_any (λ f. clash f e) ys) ≡ true)
+        (λ e apart. ap
+        not (sym (any_typed (λ other. agree plain places other places (stored e)
+        && differ (rowid other) (rowid (stored e))) (λ f. clash f e) (λ f. same f e))) ∙ sym (and_true _) ∙ apart)
+        ys (each_stored (λ row. not (clashes plain places tree row) && true ≡ true) all))
 
-  -- the number is that of a row
-  abbrev is_held_at : Value → Bool
-  is_held_at v = (is_null v || false) || list_any (λ parent. equal Binary (column parent 0) v && true) tree
+    -- the number is that of a row
+    abbrev is_held_at : Value → Bool
+    is_held_at v = (is_null v || false) || list_any (λ parent. equal Binary (column parent 0) v && true) tree
 
-  found_at : (number : Y → ℕ) → ((y : Y) → column (stored y) 0 ≡ Int (pos (number y))) → (n : ℕ) → is_held_at (Int (pos n)) && true ≡ true → list_any (λ y. number y == n) ys ≡ true
-  found_at number is n held =
-      sym (any_typed (λ parent. equal Binary (column parent 0) (Int (pos n)) && true) (λ y. number y == n)
-      (λ y. and_true _ ∙ ap (λ v. equal Binary v (Int (pos n))) (is y) ∙ equal_numbers (number y) n)) ∙ sym (and_true _) ∙ held
+    found_at : (number : Y → ℕ) → ((y : Y) → column (stored y) 0 ≡ Int (pos (number y))) → (n : ℕ)
+        → is_held_at (Int (pos n)) && true ≡ true → list_any (λ y. number y == n) ys ≡ true
+    found_at number is n held =
+        sym (any_typed (λ parent. equal Binary (column parent 0) (Int (pos n)) && true) (λ y. number y == n)
+        (λ y. and_true _ ∙ ap (λ v. equal Binary v (Int (pos n))) (is y) ∙ equal_numbers (number y) n)) ∙ sym (and_true _)
+        ∙ held
 
 two_equal : {a b c x y z : Bool} → a ≡ x → b ≡ y → c ≡ z → ((a && (b && true)) && c) ≡ (x && (y && z))
 two_equal {a} {b} {c} p q r = regrouped a b c ∙ ap₂ (λ u v. u && v) p (ap₂ (λ u v. u && v) q r)
@@ -85,24 +96,29 @@ two_equal {a} {b} {c} p q r = regrouped a b c ∙ ap₂ (λ u v. u && v) p (ap�
     regrouped true false c = refl
     regrouped true true c = refl
 
-name_clash : (f e : EndpointRow) → (agree plain (2 ∷ []) (endpoint_stored f) (2 ∷ []) (endpoint_stored e) && differ (rowid (endpoint_stored f)) (rowid (endpoint_stored e)))
+name_clash : (f e : EndpointRow) → (agree plain (2 ∷ []) (endpoint_stored f) (2 ∷ []) (endpoint_stored e)
+    && differ (rowid (endpoint_stored f)) (rowid (endpoint_stored e)))
     ≡ (bytes_eq f.name e.name && not (f.put == e.put))
 unfolding first_key
 name_clash f e = ap₂ (λ a b. a && b) (and_true _ ∙ equal_words f.name e.name) (differ_numbers f.put e.put)
 
-id_clash : (g d : DeliveryRow) → (agree plain (2 ∷ 3 ∷ []) (delivery_stored g) (2 ∷ 3 ∷ []) (delivery_stored d) && differ (rowid (delivery_stored g)) (rowid (delivery_stored d)))
+id_clash : (g d : DeliveryRow) → (agree plain (2 ∷ 3 ∷ []) (delivery_stored g) (2 ∷ 3 ∷ []) (delivery_stored d)
+    && differ (rowid (delivery_stored g)) (rowid (delivery_stored d)))
     ≡ (g.endpoint == d.endpoint && (bytes_eq g.id d.id && not (g.seq == d.seq)))
 unfolding first_key
 id_clash g d = two_equal (equal_numbers g.endpoint d.endpoint) (equal_words g.id d.id) (differ_numbers g.seq d.seq)
 
-number_clash : (s t : AttemptRow) → (agree plain (2 ∷ 3 ∷ []) (attempt_stored s) (2 ∷ 3 ∷ []) (attempt_stored t) && differ (rowid (attempt_stored s)) (rowid (attempt_stored t)))
+number_clash : (s t : AttemptRow) → (agree plain (2 ∷ 3 ∷ []) (attempt_stored s) (2 ∷ 3 ∷ []) (attempt_stored t)
+    && differ (rowid (attempt_stored s)) (rowid (attempt_stored t)))
     ≡ (s.delivery == t.delivery && (s.number == t.number && not (s.seq == t.seq)))
 unfolding first_key
-number_clash s t = two_equal (equal_numbers s.delivery t.delivery) (equal_numbers s.number t.number) (differ_numbers s.seq t.seq)
+number_clash s t = two_equal (equal_numbers s.delivery t.delivery) (equal_numbers s.number t.number)
+    (differ_numbers s.seq t.seq)
 
 -- ---- the references
 
-behind_rowid : (P : Value → Type 0) (tree : List Row) → AllByRecursion (λ r. P (column r 1)) tree → AllByRecursion (λ r. P (column r 0)) (map (drop 1) tree)
+behind_rowid : (P : Value → Type 0) (tree : List Row) → AllByRecursion (λ r. P (column r 1)) tree
+    → AllByRecursion (λ r. P (column r 0)) (map (drop 1) tree)
 behind_rowid P [] all = tt
 behind_rowid P ([] ∷ tree) all = (all.0, behind_rowid P tree all.1)
 behind_rowid P ((v ∷ r) ∷ tree) all = (all.0, behind_rowid P tree all.1)
@@ -112,48 +128,67 @@ module _ (schema : Schema) (own : IsOwn schema) (version : ℕ) (db : Trees) (ro
   keeps : KeepsFive db
   keeps = keeps_five schema db own tables.sound
 
-  names_apart : IsTrue (list_all (λ e. not (list_any (λ f. bytes_eq f.name e.name && not (f.put == e.put)) rows.endpoints)) rows.endpoints)
+  names_apart : IsTrue
+      (list_all (λ e. not (list_any (λ f. bytes_eq f.name e.name && not (f.put == e.put)) rows.endpoints))
+      rows.endpoints)
   names_apart = all_apart endpoint_stored (db 1) rows.endpoints tables.endpoints (2 ∷ []) _ name_clash keeps.uniques.1.0
 
-  ids_apart : IsTrue (list_all (λ d. not (list_any (λ g. g.endpoint == d.endpoint && (bytes_eq g.id d.id && not (g.seq == d.seq))) rows.deliveries)) rows.deliveries)
+  ids_apart : IsTrue
+      (list_all (λ d. not (list_any (λ g. g.endpoint == d.endpoint && (bytes_eq g.id d.id && not (g.seq == d.seq)))
+      rows.deliveries)) rows.deliveries)
   ids_apart = all_apart delivery_stored (db 5) rows.deliveries tables.deliveries (2 ∷ 3 ∷ []) _ id_clash
       keeps.uniques.1.1.1.0
 
-  numbers_apart : IsTrue (list_all (λ t. not (list_any (λ s. s.delivery == t.delivery && (s.number == t.number && not (s.seq == t.seq))) rows.attempts)) rows.attempts)
+  numbers_apart : IsTrue
+      (list_all (λ t. not (list_any (λ s. s.delivery == t.delivery && (s.number == t.number && not (s.seq == t.seq)))
+      rows.attempts)) rows.attempts)
   numbers_apart = all_apart attempt_stored (db 7) rows.attempts tables.attempts (2 ∷ 3 ∷ []) _ number_clash
       keeps.uniques.1.1.1.1.0
 
-  is_endpoint : (n : ℕ) → is_held_at endpoint_stored (db 1) rows.endpoints tables.endpoints (Int (pos n)) && true ≡ true → is_put_at rows n ≡ true
+  is_endpoint : (n : ℕ) → is_held_at endpoint_stored (db 1) rows.endpoints tables.endpoints (Int (pos n)) && true ≡ true
+      → is_put_at rows n ≡ true
   is_endpoint = found_at endpoint_stored (db 1) rows.endpoints tables.endpoints (λ (e : EndpointRow). e.put) (λ e. refl)
 
-  is_delivery : (n : ℕ) → is_held_at delivery_stored (db 5) rows.deliveries tables.deliveries (Int (pos n)) && true ≡ true → is_delivery_at rows n ≡ true
-  is_delivery = found_at delivery_stored (db 5) rows.deliveries tables.deliveries (λ (d : DeliveryRow). d.seq) (λ d. refl)
+  is_delivery : (n : ℕ) → is_held_at delivery_stored (db 5) rows.deliveries tables.deliveries (Int (pos n))
+      && true ≡ true → is_delivery_at rows n ≡ true
+  is_delivery = found_at delivery_stored (db 5) rows.deliveries tables.deliveries (λ (d : DeliveryRow). d.seq)
+      (λ d. refl)
 
   deliveries_refer : IsTrue (list_all (λ d. is_put_at rows d.endpoint) rows.deliveries)
   unfolding first_key
   deliveries_refer =
       let held = keeps.deliveries in
       all_pass (λ (d : DeliveryRow). is_put_at rows d.endpoint) rows.deliveries
-      (all_weaker _ (λ (d : DeliveryRow). is_put_at rows d.endpoint ≡ true) (λ d. is_endpoint d.endpoint) rows.deliveries
-      (each_stored delivery_stored (db 5) rows.deliveries tables.deliveries (λ row. is_held_at endpoint_stored (db 1) rows.endpoints tables.endpoints (column row 2) && true ≡ true) held))
+      (all_weaker _ (λ (d : DeliveryRow). is_put_at rows d.endpoint ≡ true)
+      (λ d. is_endpoint d.endpoint) rows.deliveries
+      (each_stored delivery_stored (db 5) rows.deliveries tables.deliveries
+      (λ row. is_held_at endpoint_stored (db 1) rows.endpoints tables.endpoints (column row 2)
+      && true ≡ true) held))
 
   attempts_refer : IsTrue (list_all (λ t. is_delivery_at rows t.delivery) rows.attempts)
   unfolding first_key
   attempts_refer =
       let held = keeps.attempts in
       all_pass (λ (t : AttemptRow). is_delivery_at rows t.delivery) rows.attempts
-      (all_weaker _ (λ (t : AttemptRow). is_delivery_at rows t.delivery ≡ true) (λ t. is_delivery t.delivery) rows.attempts
-      (each_stored attempt_stored (db 7) rows.attempts tables.attempts (λ row. is_held_at delivery_stored (db 5) rows.deliveries tables.deliveries (column row 2) && true ≡ true) held))
+      (all_weaker _ (λ (t : AttemptRow). is_delivery_at rows t.delivery ≡ true)
+      (λ t. is_delivery t.delivery) rows.attempts
+      (each_stored attempt_stored (db 7) rows.attempts tables.attempts
+      (λ row. is_held_at delivery_stored (db 5) rows.deliveries tables.deliveries (column row 2)
+      && true ≡ true) held))
 
   -- the secrets are those of endpoints
   pub secrets_refer : (s : SecretRow) → Has rows.secrets s → is_put_at rows s.endpoint ≡ true
   unfolding first_key
   secrets_refer s there =
       let held = keeps.secrets in
-      let behind = behind_rowid (λ v. is_held_at endpoint_stored (db 1) rows.endpoints tables.endpoints v && true ≡ true) (db 3) held in
+      let behind = behind_rowid (λ v. is_held_at endpoint_stored (db 1) rows.endpoints tables.endpoints v
+      && true ≡ true) (db 3) held in
       is_endpoint s.endpoint
-      (all_has (λ (t : SecretRow). is_held_at endpoint_stored (db 1) rows.endpoints tables.endpoints (Int (pos t.endpoint)) && true ≡ true) rows.secrets s
-      (each_stored secret_stored (map (drop 1) (db 3)) rows.secrets tables.secrets (λ row. is_held_at endpoint_stored (db 1) rows.endpoints tables.endpoints (column row 0) && true ≡ true) behind) there)
+      (all_has (λ (t : SecretRow). is_held_at endpoint_stored (db 1) rows.endpoints tables.endpoints
+      (Int (pos t.endpoint)) && true ≡ true) rows.secrets s
+      (each_stored secret_stored (map (drop 1) (db 3)) rows.secrets tables.secrets
+      (λ row. is_held_at endpoint_stored (db 1) rows.endpoints tables.endpoints (column row 0)
+      && true ≡ true) behind) there)
 
   pub keyed_by : IsRisingFrom (λ (e : EndpointRow). e.put) 0 rows.endpoints
       → IsRisingFrom (λ (d : DeliveryRow). d.seq) 0 rows.deliveries

@@ -1,5 +1,6 @@
 -- Rows that show no values are in no sound tables.
-use Rattle.std.proofs.Common.{◌≡◌, ◌<◌, inl, inr, ℕ, ◌==◌, ◌^◌, Bool, true, false, ◌&&◌, ◌||◌, List, [], ◌∷◌, None, length, map, IsTrue, refl, subst, arith, leb-true, eqb-true}
+use Rattle.std.proofs.Common.{◌≡◌, ◌<◌, inl, inr, ℕ, ◌==◌, ◌^◌, Bool, true, false, ◌&&◌, ◌||◌, List, [], ◌∷◌, None}
+use Rattle.std.proofs.Common.{length, map, IsTrue, refl, subst, arith, leb-true, eqb-true}
 use Rattle.std.specs.List.{AllByRecursion, list_all}
 use Rattle.std.specs.Prelude.{nat_le}
 use Rattle.sqlite.specs.Effect.{Database}
@@ -9,7 +10,8 @@ use Rattle.relay_types.specs.Legal.{is_status}
 use Rattle.relay_types.specs.Lookups.{secrets_at}
 use Rattle.relay_types.specs.Rows.{Rows, EndpointRow, SecretRow, DeliveryRow, AttemptRow}
 use Rattle.relay_types.specs.Sound.{is_attempt_row, is_endpoint_row, secret_rows_at}
-use Rattle.relay_types.specs.Values.{is_between, is_name, is_target, is_max_limit, is_msg_id, is_body, is_moment, is_secret, are_secrets}
+use Rattle.relay_types.specs.Values.{is_between, is_name, is_target, is_max_limit, is_msg_id, is_body, is_moment}
+use Rattle.relay_types.specs.Values.{is_secret, are_secrets}
 use Rattle.relay_types.proofs.KnownLaws.{and_first, and_second}
 use Rattle.sound_rows.specs.Numbers.{of_endpoint, of_delivery, of_attempt}
 use Rattle.sound_rows.specs.declared.numbers.Endpoint.{Endpoint}
@@ -23,7 +25,8 @@ use Rattle.sound_tables.specs.Tables.{endpoint_columns, delivery_columns, attemp
 use Rattle.sound_tables.proofs.ShownLemmas.{all_show, secrets_show}
 use Rattle.sound_tables.proofs.SoundLemmas.{each_true, values_of, all_attempt_rows, attempt_parts}
 
-endpoint_shown : (rows : Rows) (e : EndpointRow) → is_endpoint_row rows e ≡ true → (x : Endpoint) × ShowsEndpoint (endpoint_columns (endpoint_stored e)) x
+endpoint_shown : (rows : Rows) (e : EndpointRow) → is_endpoint_row rows e ≡ true → (x : Endpoint)
+    × ShowsEndpoint (endpoint_columns (endpoint_stored e)) x
 endpoint_shown rows e h =
     let later = and_second (is_name e.name) _ h in (
       of_endpoint e,
@@ -40,7 +43,8 @@ endpoint_shown rows e h =
       },
     )
 
-delivery_shown : (d : DeliveryRow) → is_msg_id d.id && (is_body d.body && is_moment d.at) ≡ true → (x : Delivery) × ShowsDelivery (delivery_columns (delivery_stored d)) x
+delivery_shown : (d : DeliveryRow) → is_msg_id d.id && (is_body d.body && is_moment d.at) ≡ true → (x : Delivery)
+    × ShowsDelivery (delivery_columns (delivery_stored d)) x
 delivery_shown d h =
     let later = and_second (is_msg_id d.id) _ h in (
       of_delivery d,
@@ -60,7 +64,8 @@ low_status status h = at (status == 0) refl h
     at true e h = omega (arith, eqb-true status 0 e)
     at false e h = omega (arith, leb-true status 999 (and_second (nat_le 100 status) (nat_le status 999) h))
 
-attempt_shown : (rows : Rows) (t : AttemptRow) → is_attempt_row rows t ≡ true → (x : Attempt) × ShowsAttempt (attempt_columns (attempt_stored t)) x
+attempt_shown : (rows : Rows) (t : AttemptRow) → is_attempt_row rows t ≡ true → (x : Attempt)
+    × ShowsAttempt (attempt_columns (attempt_stored t)) x
 attempt_shown rows t h =
     let parts = attempt_parts rows t h in (
       of_attempt t,
@@ -74,13 +79,17 @@ attempt_shown rows t h =
       },
     )
 
-from_images : (rs : List SecretRow) → list_all is_secret (map (λ (r : SecretRow). r.secret) rs) ≡ true → AllByRecursion (λ (r : SecretRow). IsTrue (is_secret r.secret)) rs
+from_images : (rs : List SecretRow) → list_all is_secret (map (λ (r : SecretRow). r.secret) rs) ≡ true
+    → AllByRecursion (λ (r : SecretRow). IsTrue (is_secret r.secret)) rs
 from_images [] h = tt
 from_images (r ∷ rs) h = (and_first (is_secret r.secret) _ h, from_images rs (and_second (is_secret r.secret) _ h))
 
-own_secrets : (rows : Rows) (e : EndpointRow) → is_endpoint_row rows e ≡ true → AllByRecursion (λ (r : SecretRow). IsTrue (is_secret r.secret)) (secret_rows_at rows e.put)
+own_secrets : (rows : Rows) (e : EndpointRow) → is_endpoint_row rows e ≡ true
+    → AllByRecursion (λ (r : SecretRow). IsTrue (is_secret r.secret)) (secret_rows_at rows e.put)
 own_secrets rows e h =
-    from_images (secret_rows_at rows e.put) (and_second (is_between 1 MAX_SECRETS (length (secrets_at rows e.put))) _ (and_first (are_secrets (secrets_at rows e.put)) _ (and_second (is_max_limit e.max) _ (and_second (is_target e.url) _ (and_second (is_name e.name) _ h)))))
+    from_images (secret_rows_at rows e.put) (and_second (is_between 1 MAX_SECRETS (length (secrets_at rows e.put))) _
+    (and_first (are_secrets (secrets_at rows e.put)) _
+    (and_second (is_max_limit e.max) _ (and_second (is_target e.url) _ (and_second (is_name e.name) _ h)))))
 
 pub lacks_sound : (schema : Schema) (version : ℕ) (db : Database) → TellsStored db None → (rows : Rows)
     → ¬ AreSoundUnder schema version db rows
@@ -88,13 +97,25 @@ lacks_sound schema version db lacks rows it =
     let values = values_of rows it.sound in
     let endpoints_hold = each_true (is_endpoint_row rows) rows.endpoints values.endpoints in
     elim lacks [
-      | inl endpoints ↦ endpoints (all_show ShowsEndpoint endpoint_columns endpoint_stored (db.trees 1) rows.endpoints it.tables.tables.endpoints
+      | inl endpoints ↦ endpoints
+          (all_show ShowsEndpoint endpoint_columns endpoint_stored
+          (db.trees 1) rows.endpoints it.tables.tables.endpoints
           (all_weaker (λ e. is_endpoint_row rows e ≡ true) _ (endpoint_shown rows) rows.endpoints endpoints_hold))
-      | inr (inl secrets) ↦ secrets (secrets_show (db.trees 3) rows.secrets it.tables.tables.secrets it.tables.tables.secret_rowids
+      | inr (inl secrets) ↦ secrets
+          (secrets_show (db.trees 3) rows.secrets it.tables.tables.secrets it.tables.tables.secret_rowids
           (subst (AllByRecursion (λ (r : SecretRow). IsTrue (is_secret r.secret))) it.keyed.by_endpoint
-          (all-flat_map (λ (r : SecretRow). IsTrue (is_secret r.secret)) (λ (e : EndpointRow). secret_rows_at rows e.put) rows.endpoints (all_weaker (λ e. is_endpoint_row rows e ≡ true) _ (own_secrets rows) rows.endpoints endpoints_hold))))
-      | inr (inr (inl deliveries)) ↦ deliveries (all_show ShowsDelivery delivery_columns delivery_stored (db.trees 5) rows.deliveries it.tables.tables.deliveries
-          (all_weaker (λ (d : DeliveryRow). is_msg_id d.id && (is_body d.body && is_moment d.at) ≡ true) _ delivery_shown rows.deliveries (each_true (λ (d : DeliveryRow). is_msg_id d.id && (is_body d.body && is_moment d.at)) rows.deliveries values.deliveries)))
-      | inr (inr (inr attempts)) ↦ attempts (all_show ShowsAttempt attempt_columns attempt_stored (db.trees 7) rows.attempts it.tables.tables.attempts
-          (all_weaker (λ t. is_attempt_row rows t ≡ true) _ (attempt_shown rows) rows.attempts (each_true (is_attempt_row rows) rows.attempts (all_attempt_rows rows it.sound))))
+          (all-flat_map (λ (r : SecretRow). IsTrue (is_secret r.secret))
+          (λ (e : EndpointRow). secret_rows_at rows e.put) rows.endpoints
+          (all_weaker (λ e. is_endpoint_row rows e ≡ true) _ (own_secrets rows) rows.endpoints endpoints_hold))))
+      | inr (inr (inl deliveries)) ↦ deliveries
+          (all_show ShowsDelivery delivery_columns delivery_stored
+          (db.trees 5) rows.deliveries it.tables.tables.deliveries
+          (all_weaker (λ (d : DeliveryRow). is_msg_id d.id && (is_body d.body && is_moment d.at)
+          ≡ true) _ delivery_shown rows.deliveries
+          (each_true (λ (d : DeliveryRow). is_msg_id d.id && (is_body d.body && is_moment d.at)) rows.deliveries
+          values.deliveries)))
+      | inr (inr (inr attempts)) ↦ attempts
+          (all_show ShowsAttempt attempt_columns attempt_stored (db.trees 7) rows.attempts it.tables.tables.attempts
+          (all_weaker (λ t. is_attempt_row rows t ≡ true) _ (attempt_shown rows) rows.attempts
+          (each_true (is_attempt_row rows) rows.attempts (all_attempt_rows rows it.sound))))
     ]

@@ -15,9 +15,15 @@ use Rattle.sound_tables.proofs.BothRefused.{refusal_since}
 use Rattle.sound_tables.proofs.ReadingLemmas.{IsStill, looks_failed}
 
 -- the first look changed nothing
-module _ {S : Type 0} (g : Ghosts S) (a m b : Held S) (first : Looks g a m) (same : HasCleanDisk (state g m) → IsUnchanged (state g a) (state g m)) (second : Looks g m b) where
+module _ {S : Type 0} (g : Ghosts S) (a m b : Held S) (first : Looks g a m) (same : HasCleanDisk (state g m)
+    → IsUnchanged (state g a) (state g m)) (second : Looks g m b) where
   still : IsStill g a m
-  still = record { mode = first.mode; survives = first.survives; was_open = λ clean is_open. (same clean).0.was_open; same = λ clean is_open. same clean }
+  still = record {
+    mode = first.mode;
+    survives = first.survives;
+    was_open = λ clean is_open. (same clean).0.was_open;
+    same = λ clean is_open. same clean;
+  }
 
   pub looks_both : Looks g a b
   looks_both = looks_failed g a m b still second.mode second.survives second.left
@@ -37,7 +43,8 @@ module _ {S : Type 0} (g : Ghosts S) (a m b : Held S) (first : Looks g a m) (sam
   same_both clean later = unchanged_then _ _ _ (same (clean_early clean)) later
 
   -- what the second look was refused for, both were
-  pub refused_since : (e : Error) → HasCleanDisk (state g b) → IsRefusal (state g m) (state g b) e → IsRefusal (state g a) (state g b) e
+  pub refused_since : (e : Error) → HasCleanDisk (state g b) → IsRefusal (state g m) (state g b) e
+      → IsRefusal (state g a) (state g b) e
   refused_since e clean = refusal_since (state g a) (state g m) (state g b) first.survives second.survives clean e
 
   pub are_read : (version records : ℕ) (rows : StoredRows) → IsLive (state g a) → HasCleanDisk (state g b)

@@ -21,30 +21,36 @@ zip_length [] (m ∷ ms) zip = absurd zip
 zip_length (r ∷ rows) [] zip = absurd zip
 zip_length (r ∷ rows) (m ∷ ms) zip = ap suc (zip_length rows ms zip.1)
 
-pub not_one : (db : Database) (ms : List Meta) → HasShown ShowsMeta meta_columns (db.trees 0) ms → length ms ≢ 1 → (m : Meta) → ¬ HasMeta db m
+pub not_one : (db : Database) (ms : List Meta) → HasShown ShowsMeta meta_columns (db.trees 0) ms → length ms ≢ 1
+    → (m : Meta) → ¬ HasMeta db m
 not_one db ms shown many m has =
     let one : length (map meta_columns (db.trees 0)) ≡ 1 = ap (λ t. length (map meta_columns t)) has.1 in
     let same = length_permutation (map meta_columns (db.trees 0)) shown.0 shown.1 in
     let as_long = zip_length shown.0 ms shown.2 in
     many (omega (arith, one, same, as_long))
 
-pub one_shown : (db : Database) (ms : List Meta) (d : Meta) → HasShown ShowsMeta meta_columns (db.trees 0) ms → length ms ≡ 1 → HasMeta db (get_or ms 0 d)
+pub one_shown : (db : Database) (ms : List Meta) (d : Meta) → HasShown ShowsMeta meta_columns (db.trees 0) ms
+    → length ms ≡ 1 → HasMeta db (get_or ms 0 d)
 one_shown db [] d shown one = absurd (omega (arith, one))
 one_shown db (m ∷ n ∷ ms) d shown one = absurd (omega (arith, one))
 one_shown db (m ∷ []) d shown one = at (db.trees 0) shown.0 refl shown.1 shown.2
   where
-    at : (tree rows : List Row) → db.trees 0 ≡ tree → IsPermutation (map meta_columns tree) rows → AllZip ShowsMeta rows (m ∷ []) → HasMeta db m
+    at : (tree rows : List Row) → db.trees 0 ≡ tree → IsPermutation (map meta_columns tree) rows
+        → AllZip ShowsMeta rows (m ∷ []) → HasMeta db m
     at tree [] is same zip = absurd zip
     at tree (r ∷ s ∷ rows) is same zip = absurd zip.1
     at [] (r ∷ []) is same zip = absurd (let n = length_permutation [] (r ∷ []) same in omega (arith, n))
-    at (row ∷ more ∷ tree) (r ∷ []) is same zip = absurd (let n = length_permutation (map meta_columns (row ∷ more ∷ tree)) (r ∷ []) same in omega (arith, n))
+    at (row ∷ more ∷ tree) (r ∷ []) is same zip =
+        absurd (let n = length_permutation (map meta_columns (row ∷ more ∷ tree)) (r ∷ []) same in omega (arith, n))
     at (row ∷ []) (r ∷ []) is same zip =
         let each = all-permutation (λ w. w ≡ meta_columns row) (meta_columns row ∷ []) (r ∷ []) same (refl, tt) in
         (row, is, subst (λ w. ShowsMeta w m) each.0 zip.0)
 
 -- a row that shows no meta isn't the relay's
 pub none_shown : (db : Database) → LacksShown ShowsMeta meta_columns (db.trees 0) → (m : Meta) → ¬ HasMeta db m
-none_shown db lacks m has = lacks (subst (Rattle.std.specs.List.AllByRecursion (λ r. (x : Meta) × ShowsMeta (meta_columns r) x)) (sym has.1) ((m, has.2), tt))
+none_shown db lacks m has =
+    lacks (subst (Rattle.std.specs.List.AllByRecursion (λ r. (x : Meta) × ShowsMeta (meta_columns r) x)) (sym has.1)
+    ((m, has.2), tt))
 
 pub one_version : (n version : ℕ) → pos n ≡ pos version → version ≡ n
 one_version n version same = let both : n ≡ version = cc in sym both

@@ -1,5 +1,8 @@
 -- Lists in the order of their keys.
-use Rattle.std.proofs.Common.{◌≡◌, ◌≢◌, ⊎_elim, ◌<◌, ◌≤◌, ◌↔◌, ℕ, suc, ◌+◌, ◌==◌, Bool, true, false, ◌||◌, List, [], ◌∷◌, ◌++◌, length, get_or, filter, flat_map, int_lt, ltb, IsTrue, refl, sym, ap, subst, ◌∙◌, arith, ltb-true, lt-ltb, ne_eqb, eq-eqb, eqb-true, Less, nat_cmp, is_lt, IsPermutation, IsSorted}
+use Rattle.std.proofs.Common.{◌≡◌, ◌≢◌, ⊎_elim, ◌<◌, ◌≤◌, ◌↔◌, ℕ, suc, ◌+◌, ◌==◌, Bool, true, false, ◌||◌, List, []}
+use Rattle.std.proofs.Common.{◌∷◌, ◌++◌, length, get_or, filter, flat_map, int_lt, ltb, IsTrue, refl, sym, ap, subst}
+use Rattle.std.proofs.Common.{◌∙◌, arith, ltb-true, lt-ltb, ne_eqb, eq-eqb, eqb-true, Less, nat_cmp, is_lt}
+use Rattle.std.proofs.Common.{IsPermutation, IsSorted}
 use Rattle.std.specs.List.{AllByRecursion, IsAllAdjacentAnswer, list_any}
 use Rattle.std.specs.Ordering.{on}
 use Rattle.std.proofs.lemmas.Bool.{cases_lt}
@@ -22,9 +25,16 @@ pub one_more : (k : ℕ) → suc k + 1 ≡ suc (k + 1)
 one_more k = omega arith
 
 module _ {X : Type 0} (number : X → ℕ) where
-  rising_next : (n : ℕ) (xs : List X) → ((d : X) → 0 < length xs → n ≤ number (get_or xs 0 d)) → ((k : ℕ) (d : X) → k + 1 < length xs → number (get_or xs k d) < number (get_or xs (k + 1) d)) → IsRisingFrom number n xs
+  rising_next : (n : ℕ) (xs : List X) → ((d : X) → 0 < length xs → n ≤ number (get_or xs 0 d))
+      → ((k : ℕ) (d : X) → k + 1 < length xs → number (get_or xs k d) < number (get_or xs (k + 1) d))
+      → IsRisingFrom number n xs
   rising_next n [] first next = tt
-  rising_next n (x ∷ xs) first next = (first x (omega arith), rising_next (number x + 1) xs (λ d l. omega (arith, next 0 d (omega (arith, l)))) (λ k d l. subst (λ j. number (get_or (x ∷ xs) (suc k) d) < number (get_or (x ∷ xs) j d)) (one_more k) (next (suc k) d (omega (arith, l)))))
+  rising_next n (x ∷ xs) first next = (
+    first x (omega arith),
+    rising_next (number x + 1) xs (λ d l. omega (arith, next 0 d (omega (arith, l))))
+        (λ k d l. subst (λ j. number (get_or (x ∷ xs) (suc k) d) < number (get_or (x ∷ xs) j d)) (one_more k)
+        (next (suc k) d (omega (arith, l)))),
+  )
 
   -- what is told of each number and the next is told of all
   pub rises_so : (xs : List X) (r : Bool) → IsAllAdjacentAnswer (λ x y b. b ≡ ltb (number x) (number y)) xs r → IsTrue r ↔ IsRisingFrom number 0 xs
@@ -66,7 +76,8 @@ module _ {X : Type 0} (number : X → ℕ) where
   Climbs n [] = Unit {0}
   Climbs n (x ∷ xs) = (n ≤ number x) × Climbs (number x) xs
 
-  climbs_next : (n : ℕ) (xs : List X) → ((d : X) → 0 < length xs → n ≤ number (get_or xs 0 d)) → ((k : ℕ) (d : X) → k + 1 < length xs → number (get_or xs k d) ≤ number (get_or xs (k + 1) d)) → Climbs n xs
+  climbs_next : (n : ℕ) (xs : List X) → ((d : X) → 0 < length xs → n ≤ number (get_or xs 0 d))
+      → ((k : ℕ) (d : X) → k + 1 < length xs → number (get_or xs k d) ≤ number (get_or xs (k + 1) d)) → Climbs n xs
   climbs_next n [] first next = tt
   climbs_next n (x ∷ xs) first next = (
     first x (omega arith),
@@ -95,7 +106,9 @@ module _ {X : Type 0} (number : X → ℕ) where
         → flat_map (λ p. filter (λ y. number y == put p) (x ∷ xs)) ps ≡ flat_map (λ p. filter (λ y. number y == put p) xs) ps
     passed_over n x xs [] l rises = refl
     passed_over n x xs (p ∷ ps) l rises =
-        rw (ne_eqb (number x) (put p) (λ same. absurd (omega (arith, same, l, rises.0)))) (ap (λ rest. filter (λ y. number y == put p) xs ++ rest) (passed_over (put p + 1) x xs ps (omega (arith, l, rises.0)) rises.1))
+        rw (ne_eqb (number x) (put p) (λ same. absurd (omega (arith, same, l, rises.0))))
+        (ap (λ rest. filter (λ y. number y == put p) xs ++ rest)
+        (passed_over (put p + 1) x xs ps (omega (arith, l, rises.0)) rises.1))
 
     not_there : (m n : ℕ) (ps : List P) → m < n → IsRisingFrom put n ps → list_any (λ p. put p == m) ps ≡ false
     not_there m n [] l rises = refl
@@ -115,7 +128,9 @@ module _ {X : Type 0} (number : X → ℕ) where
         after : (y : X) → put p < number y → list_any (λ q. put q == number y) (p ∷ ps) ≡ true → list_any (λ q. put q == number y) ps ≡ true
         after y l h = sym (ap (λ b. b || list_any (λ q. put q == number y) ps) (ne_eqb (put p) (number y) (λ same. omega (arith, same, l)))) ∙ h
 
-        others : (m : ℕ) (ys : List X) → put p < m → Climbs m ys → AllByRecursion (λ y. list_any (λ q. put q == number y) (p ∷ ps) ≡ true) ys → AllByRecursion (λ y. list_any (λ q. put q == number y) ps ≡ true) ys
+        others : (m : ℕ) (ys : List X) → put p < m → Climbs m ys
+            → AllByRecursion (λ y. list_any (λ q. put q == number y) (p ∷ ps) ≡ true) ys
+            → AllByRecursion (λ y. list_any (λ q. put q == number y) ps ≡ true) ys
         others m [] l up each = tt
         others m (y ∷ ys) l up each = (after y (omega (arith, l, up.0)) each.0, others (number y) ys (omega (arith, l, up.0)) up.1 each.1)
 

@@ -1,5 +1,8 @@
 -- The secrets in their places, as they were read and as they are stored.
-use Rattle.std.proofs.Common.{◌≡◌, ◌≢◌, ⊎_elim, ◌<◌, ◌≤◌, ℕ, suc, ◌+◌, ◌==◌, Bool, true, false, ◌&&◌, cond, List, [], ◌∷◌, ◌++◌, length, get_or, take, drop, map, filter, flat_map, add-zero, zero-add, append-nil, length-append, take-append-drop, IsTrue, refl, sym, ap, subst, ◌∙◌, arith, eqb-true, eq-eqb, ne_eqb, Ordering, Less, nat_cmp, is_lt, IsPermutation, IsSorted}
+use Rattle.std.proofs.Common.{◌≡◌, ◌≢◌, ⊎_elim, ◌<◌, ◌≤◌, ℕ, suc, ◌+◌, ◌==◌, Bool, true, false, ◌&&◌, cond, List, []}
+use Rattle.std.proofs.Common.{◌∷◌, ◌++◌, length, get_or, take, drop, map, filter, flat_map, add-zero, zero-add}
+use Rattle.std.proofs.Common.{append-nil, length-append, take-append-drop, IsTrue, refl, sym, ap, subst, ◌∙◌, arith}
+use Rattle.std.proofs.Common.{eqb-true, eq-eqb, ne_eqb, Ordering, Less, nat_cmp, is_lt, IsPermutation, IsSorted}
 use Rattle.std.specs.List.{AllByRecursion, AllZip, enumerate_from, list_all}
 use Rattle.std.specs.Ordering.{ordering_then}
 use Rattle.std.specs.Cmp.{IsTotalOrder}
@@ -72,7 +75,8 @@ own_zip put (r ∷ rs) [] zip = absurd zip
 own_zip put (r ∷ rs) (s ∷ ss) zip = at (r.endpoint == put) (s.endpoint == put) (ap (λ n. n == put) zip.0.0) (own_zip put rs ss zip.1)
   where
     at : (b c : Bool) → b ≡ c → AllZip IsSamePlace (filter (λ t. t.endpoint == put) rs) (filter (λ t. t.endpoint == put) ss)
-        → AllZip IsSamePlace (cond b (r ∷ filter (λ t. t.endpoint == put) rs) (filter (λ t. t.endpoint == put) rs)) (cond c (s ∷ filter (λ t. t.endpoint == put) ss) (filter (λ t. t.endpoint == put) ss))
+        → AllZip IsSamePlace (cond b (r ∷ filter (λ t. t.endpoint == put) rs) (filter (λ t. t.endpoint == put) rs))
+        (cond c (s ∷ filter (λ t. t.endpoint == put) ss) (filter (λ t. t.endpoint == put) ss))
     at true true e rest = (zip.0, rest)
     at true false e rest = absurd (cc e)
     at false true e rest = absurd (cc e)
@@ -93,7 +97,9 @@ zip_places n (r ∷ rs) (s ∷ ss) zip = λ i. (zip.0.1 i == n) && zip_places (n
 
 module _ (put : Seq) (rs : List SecretRow) (ss : List Secret) (zip : AllZip IsSamePlace rs ss) where
   -- the places of the rows, told by the values
-  pub places_same : is_between 1 MAX_SECRETS (length (map (λ (r : SecretRow). r.secret) (filter (λ r. r.endpoint == put) rs))) && rows.are_places (filter (λ r. r.endpoint == put) rs) ≡ are_places (places_of put ss)
+  pub places_same : is_between 1 MAX_SECRETS
+      (length (map (λ (r : SecretRow). r.secret) (filter (λ r. r.endpoint == put) rs)))
+      && rows.are_places (filter (λ r. r.endpoint == put) rs) ≡ are_places (places_of put ss)
   places_same =
       let own = own_zip put rs ss zip in
       λ i. is_between 1 MAX_SECRETS (zip_length _ _ own i) && zip_places 0 _ _ own i
@@ -123,14 +129,17 @@ not_before a b p q h = ⊎_elim
     (cases_lt a b)
 
 pub endpoints_climb : (ss : List Secret) → IsSorted by_place ss → Climbs (λ (s : Secret). s.endpoint) 0 ss
-endpoints_climb ss up = climbs (λ (s : Secret). s.endpoint) ss (λ k d l. not_before (get_or ss (k + 1) d).endpoint (get_or ss k d).endpoint (get_or ss (k + 1) d).place (get_or ss k d).place (up k d (omega arith) l))
+endpoints_climb ss up =
+    climbs (λ (s : Secret). s.endpoint) ss (λ k d l. not_before (get_or ss (k + 1) d).endpoint (get_or ss k d).endpoint
+    (get_or ss (k + 1) d).place (get_or ss k d).place (up k d (omega arith) l))
 
 -- two rows in the order of places
 abbrev pub AreBefore : SecretRow → SecretRow → Type 0
 AreBefore r s = pair_cmp (row_pair r) (row_pair s) ≡ Less
 
 level : (a b p q : ℕ) → a ≡ b → p < q → ordering_then (nat_cmp a b) (nat_cmp p q) ≡ Less
-level a b p q same l = by_ranked (a < b) (a ≡ b) (b < a) (nat_cmp a b) (ranked a b (nat_cmp a b) refl) (λ e low. absurd (omega (arith, same, low))) (λ e _. ap (λ o. ordering_then o (nat_cmp p q)) e ∙ less p q l)
+level a b p q same l = by_ranked (a < b) (a ≡ b) (b < a) (nat_cmp a b) (ranked a b (nat_cmp a b) refl)
+    (λ e low. absurd (omega (arith, same, low))) (λ e _. ap (λ o. ordering_then o (nat_cmp p q)) e ∙ less p q l)
     (λ e high. absurd (omega (arith, same, high)))
 
 own_all : (put : Seq) (rs : List SecretRow) → AllByRecursion (λ (r : SecretRow). r.endpoint ≡ put) (filter (λ r. r.endpoint == put) rs)
@@ -146,7 +155,8 @@ module _ (put : Seq) where
   abbrev AreNumbered : ℕ → List SecretRow → Type 0
   AreNumbered n rs = list_all (λ (r : ℕ × SecretRow). r.1.place == r.0) (enumerate_from n rs) ≡ true
 
-  behind : (m n : ℕ) (rs : List SecretRow) → m < n → AllByRecursion (λ (r : SecretRow). r.endpoint ≡ put) rs → AreNumbered n rs → AllByRecursion (λ (r : SecretRow). (r.endpoint ≡ put) × (m < r.place)) rs
+  behind : (m n : ℕ) (rs : List SecretRow) → m < n → AllByRecursion (λ (r : SecretRow). r.endpoint ≡ put) rs
+      → AreNumbered n rs → AllByRecursion (λ (r : SecretRow). (r.endpoint ≡ put) × (m < r.place)) rs
   behind m n [] l own numbered = tt
   behind m n (r ∷ rs) l own numbered =
       let place = eqb-true r.place n (and_first (r.place == n) _ numbered) in
@@ -157,7 +167,9 @@ module _ (put : Seq) where
   numbered_ascend n (r ∷ rs) own numbered =
       let place = eqb-true r.place n (and_first (r.place == n) _ numbered) in
       let later = and_second (r.place == n) _ numbered in (
-        all_weaker (λ (s : SecretRow). (s.endpoint ≡ put) × (r.place < s.place)) (AreBefore r) (λ s h. level r.endpoint s.endpoint r.place s.place (own.0 ∙ sym h.0) h.1) rs (behind r.place (n + 1) rs (omega (arith, place)) own.1 later),
+        all_weaker (λ (s : SecretRow). (s.endpoint ≡ put) × (r.place < s.place)) (AreBefore r)
+            (λ s h. level r.endpoint s.endpoint r.place s.place (own.0 ∙ sym h.0) h.1) rs
+            (behind r.place (n + 1) rs (omega (arith, place)) own.1 later),
         numbered_ascend (n + 1) rs own.1 later,
       )
 
@@ -207,7 +219,8 @@ numbered_both n (x ∷ xs) ys =
     let further : n + 1 + length xs ≡ n + suc (length xs) = omega arith in
     at (x == n) (numbered_both (n + 1) xs ys ∙ ap (λ m. numbered (n + 1) xs && numbered m ys) further)
   where
-    at : (b : Bool) → numbered (n + 1) (xs ++ ys) ≡ numbered (n + 1) xs && numbered (n + suc (length xs)) ys → b && numbered (n + 1) (xs ++ ys) ≡ (b && numbered (n + 1) xs) && numbered (n + suc (length xs)) ys
+    at : (b : Bool) → numbered (n + 1) (xs ++ ys) ≡ numbered (n + 1) xs && numbered (n + suc (length xs)) ys → b
+        && numbered (n + 1) (xs ++ ys) ≡ (b && numbered (n + 1) xs) && numbered (n + suc (length xs)) ys
     at true next = next
     at false next = refl
 
@@ -241,7 +254,9 @@ module _ (put : Seq) (ss : List Secret) (i : ℕ) (d : Secret) (within : i < len
       pub places_refused : (get_or ss i d).place ≢ next → false ≡ are_places (places_of put ss)
       places_refused apart = sym (
           ap (λ b. is_between 1 MAX_SECRETS (length (places_of put ss)) && b)
-          (ap (numbered 0) whole ∙ numbered_both 0 (places_of put (take (i + 1) ss)) (places_of put (drop (i + 1) ss)) ∙ ap (λ b. b && numbered (0 + length (places_of put (take (i + 1) ss))) (places_of put (drop (i + 1) ss))) refused)
+          (ap (numbered 0) whole ∙ numbered_both 0 (places_of put (take (i + 1) ss)) (places_of put (drop (i + 1) ss))
+          ∙ ap (λ b. b && numbered (0 + length (places_of put (take (i + 1) ss))) (places_of put (drop (i + 1) ss)))
+          refused)
           ∙ and_false (is_between 1 MAX_SECRETS (length (places_of put ss))))
         where
           and_false : (b : Bool) → b && false ≡ false

@@ -52,14 +52,16 @@ never_returns : (r : Checked Compiled) → ((c : Compiled) → r ≡ Ok c → c.
 never_returns (Ok c) plain some = absurd (let none = rw (plain c refl) at some in cc)
 never_returns (Err e) plain some = some
 
-pub begun_text : {S : Type 0} (g : Ghosts S) (sql : List ℕ) (params : Row) (old new : Held S) → IsPlainText sql → HasBegun g sql params old new → HasGiven g sql params new [] × IsUnchanged (state g old) (state g new)
+pub begun_text : {S : Type 0} (g : Ghosts S) (sql : List ℕ) (params : Row) (old new : Held S) → IsPlainText sql
+    → HasBegun g sql params old new → HasGiven g sql params new [] × IsUnchanged (state g old) (state g new)
 begun_text g sql params old new plain (inl h) = h
 begun_text g sql params old new plain (inr h) = absurd (never_returns _ (plain old.schema) h.0)
 
 pub commits_nothing : (sql : List ℕ) (params : Row) (old new : State) → IsPlainText sql → Survives old new (CommitsShowing sql params old) → Survives old new (λ _. ⊥)
 unfolding CommitsShowing
 commits_nothing sql params old new plain =
-    survives_weaker old new _ _ (λ _ db h. never_returns (Ok h.0) (λ c same. let one : h.0 ≡ c = let e = same in cc in subst (λ (x : Compiled). x.returning ≡ None) one (plain old.now.schema h.0 h.1.is)) h.2)
+    survives_weaker old new _ _ (λ _ db h. never_returns (Ok h.0) (λ c same. let one : h.0 ≡ c = let e = same in cc in
+    subst (λ (x : Compiled). x.returning ≡ None) one (plain old.now.schema h.0 h.1.is)) h.2)
 
 -- ---- why a query that reads fails
 

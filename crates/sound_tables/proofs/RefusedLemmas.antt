@@ -1,5 +1,6 @@
 -- Sound tables are refused as none of what refusals say of tables.
-use Rattle.std.proofs.Common.{◌≡◌, ◌≢◌, ◌⊎◌, inl, inr, ℕ, pos, [], ◌∷◌, Result, Ok, Err, IfErr, refl, sym, ap, subst, ◌∙◌, arith}
+use Rattle.std.proofs.Common.{◌≡◌, ◌≢◌, ◌⊎◌, inl, inr, ℕ, pos, [], ◌∷◌, Result, Ok, Err, IfErr, refl, sym, ap, subst}
+use Rattle.std.proofs.Common.{◌∙◌, arith}
 use Rattle.sqlite.specs.Effect.{Database}
 use Rattle.sqlite.specs.Order.{Row}
 use Rattle.sqlite.specs.State.{State, store_error}
@@ -150,11 +151,15 @@ pub unsound_under : (v : Version) (db : Database) → ((rows : Rows) → ¬ AreS
 unsound_under v db none rows it = none rows (subst (λ schema. AreSoundUnder schema (number_of v) db rows)
     (sym it.tables.schema_is) it)
 
-pub never_failed : {A : Type 0} (a b : State) (r : Result A TableFault) → IfErr r (λ why. (error : Error) → why ≢ Failed error) → IfErr r (FailsOnlySo a b)
+pub never_failed : {A : Type 0} (a b : State) (r : Result A TableFault)
+    → IfErr r (λ why. (error : Error) → why ≢ Failed error) → IfErr r (FailsOnlySo a b)
 never_failed a b (Ok x) never = tt
 never_failed a b (Err fault) never = λ error is. absurd (never error is)
 
-pub only_memory : {A : Type 0} (a b : State) (r : Result A TableFault) → IfErr r (λ why. (why ≡ Damaged) ⊎ (why ≡ Failed (SqliteFailure code.OutOfMemory))) → IfErr r (FailsOnlySo a b)
+pub only_memory : {A : Type 0} (a b : State) (r : Result A TableFault)
+    → IfErr r (λ why. (why ≡ Damaged) ⊎ (why ≡ Failed (SqliteFailure code.OutOfMemory))) → IfErr r (FailsOnlySo a b)
 only_memory a b (Ok x) told = tt
-only_memory a b (Err fault) (inl damaged) = λ error is. absurd (let no : Failed error ≡ Damaged = sym is ∙ damaged in cc)
-only_memory a b (Err fault) (inr memory) = λ error is. inl (let same : Failed error ≡ Failed (SqliteFailure code.OutOfMemory) = sym is ∙ memory in cc)
+only_memory a b (Err fault) (inl damaged) = λ error is. absurd (let no : Failed error ≡ Damaged = sym is
+    ∙ damaged in cc)
+only_memory a b (Err fault) (inr memory) =
+    λ error is. inl (let same : Failed error ≡ Failed (SqliteFailure code.OutOfMemory) = sym is ∙ memory in cc)

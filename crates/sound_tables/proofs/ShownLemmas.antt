@@ -76,22 +76,41 @@ endpoint_told r e shown = λ i. record {
   secrets_by = ap number_in shown.numbers.secrets_by i;
 }
 
-pub endpoints_read : (tree : List Row) (es : List EndpointRow) (xs : List Endpoint) → IsPermutation tree (map endpoint_stored es) → HasShown ShowsEndpoint endpoint_columns tree xs → IsPermutation (map of_endpoint es) xs
+pub endpoints_read : (tree : List Row) (es : List EndpointRow) (xs : List Endpoint)
+    → IsPermutation tree (map endpoint_stored es) → HasShown ShowsEndpoint endpoint_columns tree xs
+    → IsPermutation (map of_endpoint es) xs
 endpoints_read tree es xs same shown =
-    subst (IsPermutation (map of_endpoint es)) (same_list xs) (read_of_stored ShowsEndpoint endpoint_columns (λ x. x) endpoint_in endpoint_told (λ r. r) endpoint_stored of_endpoint (λ r. endpoint_in (endpoint_columns r)) (λ r. refl)
-    (λ e i. record { put = e.put; enabled = flag_back e.enabled i; enabled_by = e.enabled_by; secrets_by = e.secrets_by }) tree es xs (subst (λ l. IsPermutation l (map endpoint_stored es)) (sym (same_list tree)) same) shown)
+    subst (IsPermutation (map of_endpoint es)) (same_list xs)
+    (read_of_stored ShowsEndpoint endpoint_columns (λ x. x) endpoint_in endpoint_told
+    (λ r. r) endpoint_stored of_endpoint (λ r. endpoint_in (endpoint_columns r)) (λ r. refl)
+    (λ e i. record {
+      put = e.put;
+      enabled = flag_back e.enabled i;
+      enabled_by = e.enabled_by;
+      secrets_by =
+          e.secrets_by;
+    }) tree es xs (subst (λ l. IsPermutation l (map endpoint_stored es)) (sym (same_list tree)) same)
+    shown)
 
-pub deliveries_read : (tree : List Row) (ds : List DeliveryRow) (xs : List Delivery) → IsPermutation tree (map delivery_stored ds) → HasShown ShowsDelivery delivery_columns tree xs → IsPermutation (map of_delivery ds) xs
+pub deliveries_read : (tree : List Row) (ds : List DeliveryRow) (xs : List Delivery)
+    → IsPermutation tree (map delivery_stored ds) → HasShown ShowsDelivery delivery_columns tree xs
+    → IsPermutation (map of_delivery ds) xs
 deliveries_read tree ds xs same shown =
-    subst (IsPermutation (map of_delivery ds)) (same_list xs) (read_of_stored ShowsDelivery delivery_columns (λ x. x) delivery_in told (λ r. r) delivery_stored of_delivery (λ r. delivery_in (delivery_columns r)) (λ r. refl)
+    subst (IsPermutation (map of_delivery ds)) (same_list xs)
+    (read_of_stored ShowsDelivery delivery_columns (λ x. x) delivery_in told (λ r. r) delivery_stored of_delivery
+    (λ r. delivery_in (delivery_columns r)) (λ r. refl)
     (λ d. refl) tree ds xs (subst (λ l. IsPermutation l (map delivery_stored ds)) (sym (same_list tree)) same) shown)
   where
     told : (r : Row) (d : Delivery) → ShowsDelivery r d → delivery_in r ≡ d
     told r d shows = λ i. record { seq = ap number_in shows.seq i; endpoint = ap number_in shows.endpoint i }
 
-pub attempts_read : (tree : List Row) (ts : List AttemptRow) (xs : List Attempt) → IsPermutation tree (map attempt_stored ts) → HasShown ShowsAttempt attempt_columns tree xs → IsPermutation (map of_attempt ts) xs
+pub attempts_read : (tree : List Row) (ts : List AttemptRow) (xs : List Attempt)
+    → IsPermutation tree (map attempt_stored ts) → HasShown ShowsAttempt attempt_columns tree xs
+    → IsPermutation (map of_attempt ts) xs
 attempts_read tree ts xs same shown =
-    subst (IsPermutation (map of_attempt ts)) (same_list xs) (read_of_stored ShowsAttempt attempt_columns (λ x. x) attempt_in told (λ r. r) attempt_stored of_attempt (λ r. attempt_in (attempt_columns r)) (λ r. refl)
+    subst (IsPermutation (map of_attempt ts)) (same_list xs)
+    (read_of_stored ShowsAttempt attempt_columns (λ x. x) attempt_in told (λ r. r) attempt_stored of_attempt
+    (λ r. attempt_in (attempt_columns r)) (λ r. refl)
     (λ t. refl) tree ts xs (subst (λ l. IsPermutation l (map attempt_stored ts)) (sym (same_list tree)) same) shown)
   where
     told : (r : Row) (t : Attempt) → ShowsAttempt r t → attempt_in r ≡ t
@@ -111,7 +130,9 @@ behind_rowid (v ∷ r) = refl
 place_told : (r : Row) (s : Secret) → ShowsSecret r s → place_in r ≡ pair s
 place_told r s shows = λ i. (ap number_in shows.endpoint i, ap number_in shows.place i)
 
-pub secrets_read : (tree : List Row) (rs : List SecretRow) (ss : List Secret) → IsPermutation (map (drop 1) tree) (map secret_stored rs) → HasShown ShowsSecret secret_columns tree ss → IsPermutation (map row_pair rs) (map pair ss)
+pub secrets_read : (tree : List Row) (rs : List SecretRow) (ss : List Secret)
+    → IsPermutation (map (drop 1) tree) (map secret_stored rs) → HasShown ShowsSecret secret_columns tree ss
+    → IsPermutation (map row_pair rs) (map pair ss)
 secrets_read tree rs ss same shown = read_of_stored ShowsSecret secret_columns pair place_in place_told (drop 1) secret_stored row_pair place_behind behind_rowid (λ r. refl) tree rs ss same shown
 
 -- ---- rows that keep their rules all show values
@@ -127,11 +148,15 @@ int_of (Real x) h = absurd (cc h)
 int_of (Text t) h = absurd (cc h)
 int_of (Blob b) h = absurd (cc h)
 
-pub secrets_show : (tree : List Row) (rs : List SecretRow) → IsPermutation (map (drop 1) tree) (map secret_stored rs) → HasRowids tree → AllByRecursion (λ (r : SecretRow). IsTrue (is_secret r.secret)) rs
+pub secrets_show : (tree : List Row) (rs : List SecretRow) → IsPermutation (map (drop 1) tree) (map secret_stored rs)
+    → HasRowids tree → AllByRecursion (λ (r : SecretRow). IsTrue (is_secret r.secret)) rs
     → AllByRecursion (λ r. (s : Secret) × ShowsSecret (secret_columns r) s) tree
 secrets_show tree rs same ids each =
     all_both IsNumbered Tells (λ r. (s : Secret) × ShowsSecret (secret_columns r) s) shows tree ids.numbered
-    (all_from_map Behind (drop 1) tree (all-permutation Behind _ _ (IsPermutation-sym _ _ same) (all-map Behind secret_stored rs (all_weaker (λ (r : SecretRow). IsTrue (is_secret r.secret)) (λ r. Behind (secret_stored r)) (λ r rules. (r, refl, rules)) rs each))))
+    (all_from_map Behind (drop 1) tree
+    (all-permutation Behind _ _ (IsPermutation-sym _ _ same)
+    (all-map Behind secret_stored rs (all_weaker (λ (r : SecretRow). IsTrue (is_secret r.secret))
+    (λ r. Behind (secret_stored r)) (λ r rules. (r, refl, rules)) rs each))))
   where
     IsNumbered : Row → Type 0
     IsNumbered r = IsTrue (is_int (rowid r))

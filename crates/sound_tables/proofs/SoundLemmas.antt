@@ -1,5 +1,7 @@
 -- Which rows the tables have, by what is read of them.
-use Rattle.std.proofs.Common.{◌≡◌, inl, inr, ℕ, ◌+◌, ◌==◌, pos, Bool, true, false, cond, ◌&&◌, List, [], ◌∷◌, length, map, drop, filter, flat_map, MatchBool, IsTrue, refl, sym, ap, subst, ◌∙◌, IsPermutation, IsSorted}
+use Rattle.std.proofs.Common.{◌≡◌, inl, inr, ℕ, ◌+◌, ◌==◌, pos, Bool, true, false, cond, ◌&&◌, List, [], ◌∷◌, length}
+use Rattle.std.proofs.Common.{map, drop, filter, flat_map, MatchBool, IsTrue, refl, sym, ap, subst, ◌∙◌, IsPermutation}
+use Rattle.std.proofs.Common.{IsSorted}
 use Rattle.std.specs.List.{AllByRecursion, AllZip, list_all, list_any}
 use Rattle.std.specs.Prelude.{nat_lt}
 use Rattle.std.proofs.lemmas.List.Folds.{list_all-map}
@@ -11,7 +13,8 @@ use Rattle.sqlite_value.specs.Order.{column}
 use Rattle.sqlite_trees.specs.Tree.{IsAscending}
 use Rattle.sqlite_rules.specs.Lists.{Has}
 use Rattle.relay_types.specs.declared.limits.TheConstants.{MAX_SECRETS}
-use Rattle.relay_types.specs.Values.{Seq, is_name, is_target, is_max_limit, is_msg_id, is_body, is_moment, is_secret, is_between, are_secrets}
+use Rattle.relay_types.specs.Values.{Seq, is_name, is_target, is_max_limit, is_msg_id, is_body, is_moment, is_secret}
+use Rattle.relay_types.specs.Values.{is_between, are_secrets}
 use Rattle.relay_types.specs.Rows.{Rows, EndpointRow, SecretRow, DeliveryRow, AttemptRow}
 use Rattle.relay_types.specs.Legal.{is_status}
 use Rattle.relay_types.specs.Lookups.{secrets_at}
@@ -27,7 +30,8 @@ use Rattle.sound_rows.specs.declared.numbers.Attempt.{Attempt}
 use Rattle.sound_rows.specs.declared.numbers.Numbers.{Numbers}
 use Rattle.sqlite.specs.Schema.{Schema}
 use Rattle.spool_sql.specs.Tables.{IsOwn}
-use Rattle.spool_sql.specs.Stored.{AreTables, endpoint_stored, secret_stored, delivery_stored, attempt_stored, meta_stored}
+use Rattle.spool_sql.specs.Stored.{AreTables, endpoint_stored, secret_stored, delivery_stored, attempt_stored}
+use Rattle.spool_sql.specs.Stored.{meta_stored}
 use Rattle.sound_tables.specs.Checks.{AreInOrder, AreRead, AreSoundUnder, HasSound}
 use Rattle.sound_tables.specs.Places.{are_places, by_place, places_of}
 use Rattle.sound_tables.specs.Shown.{ShowsMeta}
@@ -35,15 +39,18 @@ use Rattle.sound_tables.specs.Tables.{meta_columns}
 use Rattle.sound_tables.specs.declared.secret.Secret.{Secret}
 use Rattle.sound_tables.specs.declared.stored.StoredRows.{StoredRows}
 use Rattle.sound_tables.proofs.OrderLemmas.{one_order, grouped}
-use Rattle.sound_tables.proofs.PlaceLemmas.{IsSamePlace, AreBefore, zip_permutation, same_places, all_secrets, zip_climbs, places_same, endpoints_climb, flat_ascend, places_in_order}
+use Rattle.sound_tables.proofs.PlaceLemmas.{IsSamePlace, AreBefore, zip_permutation, same_places, all_secrets}
+use Rattle.sound_tables.proofs.PlaceLemmas.{zip_climbs, places_same, endpoints_climb, flat_ascend, places_in_order}
 use Rattle.sound_tables.proofs.ShownLemmas.{endpoints_read, deliveries_read, attempts_read, secrets_read}
-use Rattle.sound_tables.proofs.StoredLemmas.{StandsAt, meta_is, endpoints_of, secrets_of, deliveries_of, attempts_of, rowids_of}
+use Rattle.sound_tables.proofs.StoredLemmas.{StandsAt, meta_is, endpoints_of, secrets_of, deliveries_of, attempts_of}
+use Rattle.sound_tables.proofs.StoredLemmas.{rowids_of}
 use Rattle.sound_tables.proofs.FiveLemmas.{KeepsFive, keeps_five}
 use Rattle.sound_tables.proofs.KeyLemmas.{secrets_refer, keyed_by}
 
 -- ---- lists
 
-rising_back : {X Y : Type 0} (f : X → Y) (number : Y → ℕ) (n : ℕ) (xs : List X) → IsRisingFrom number n (map f xs) → IsRisingFrom (λ x. number (f x)) n xs
+rising_back : {X Y : Type 0} (f : X → Y) (number : Y → ℕ) (n : ℕ) (xs : List X) → IsRisingFrom number n (map f xs)
+    → IsRisingFrom (λ x. number (f x)) n xs
 rising_back f number n [] rises = tt
 rising_back f number n (x ∷ xs) rises = (rises.0, rising_back f number (number (f x) + 1) xs rises.1)
 
@@ -62,28 +69,35 @@ true_each : {X : Type 0} (p : X → Bool) (xs : List X) → AllByRecursion (λ x
 true_each p [] all = refl
 true_each p (x ∷ xs) all = both_true (p x) (list_all p xs) all.0 (true_each p xs all.1)
 
-zip_all : {X : Type 0} (p q r : X → Bool) (xs : List X) → ((x : X) → p x ≡ true → q x ≡ true → r x ≡ true) → list_all p xs ≡ true → list_all q xs ≡ true → list_all r xs ≡ true
+zip_all : {X : Type 0} (p q r : X → Bool) (xs : List X) → ((x : X) → p x ≡ true → q x ≡ true → r x ≡ true)
+    → list_all p xs ≡ true → list_all q xs ≡ true → list_all r xs ≡ true
 zip_all p q r [] each a b = refl
 zip_all p q r (x ∷ xs) each a b =
-    both_true (r x) (list_all r xs) (each x (and_first (p x) (list_all p xs) a) (and_first (q x) (list_all q xs) b)) (zip_all p q r xs each (and_second (p x) (list_all p xs) a) (and_second (q x) (list_all q xs) b))
+    both_true (r x) (list_all r xs) (each x (and_first (p x) (list_all p xs) a) (and_first (q x) (list_all q xs) b))
+    (zip_all p q r xs each (and_second (p x) (list_all p xs) a) (and_second (q x) (list_all q xs) b))
 
-weaker_all : {X : Type 0} (p q : X → Bool) (xs : List X) → ((x : X) → p x ≡ true → q x ≡ true) → list_all p xs ≡ true → list_all q xs ≡ true
+weaker_all : {X : Type 0} (p q : X → Bool) (xs : List X) → ((x : X) → p x ≡ true → q x ≡ true) → list_all p xs ≡ true
+    → list_all q xs ≡ true
 weaker_all p q xs each h = zip_all p p q xs (λ x a b. each x a) h h
 
 -- ---- the values of an endpoint, with those of its secrets
 
-own_rules : (put : Seq) (rs : List SecretRow) → AllByRecursion (λ (r : SecretRow). IsTrue (is_secret r.secret)) rs → list_all is_secret (map (λ (s : SecretRow). s.secret) (filter (λ s. s.endpoint == put) rs)) ≡ true
+own_rules : (put : Seq) (rs : List SecretRow) → AllByRecursion (λ (r : SecretRow). IsTrue (is_secret r.secret)) rs
+    → list_all is_secret (map (λ (s : SecretRow). s.secret) (filter (λ s. s.endpoint == put) rs)) ≡ true
 own_rules put [] each = refl
 own_rules put (r ∷ rs) each = at (r.endpoint == put) (own_rules put rs each.1)
   where
     at : (b : Bool) → list_all is_secret (map (λ (s : SecretRow). s.secret) (filter (λ s. s.endpoint == put) rs)) ≡ true
-        → list_all is_secret (map (λ (s : SecretRow). s.secret) (cond b (r ∷ filter (λ s. s.endpoint == put) rs) (filter (λ s. s.endpoint == put) rs))) ≡ true
+        → list_all is_secret
+        (map (λ (s : SecretRow). s.secret)
+        (cond b (r ∷ filter (λ s. s.endpoint == put) rs) (filter (λ s. s.endpoint == put) rs))) ≡ true
     at true rest = both_true (is_secret r.secret) _ each.0 rest
     at false rest = rest
 
 -- ---- the values of sound rows
 
-pub attempt_parts : (rows : Rows) (t : AttemptRow) → is_attempt_row rows t ≡ true → (is_status t.status ≡ true) × (is_moment t.at ≡ true)
+pub attempt_parts : (rows : Rows) (t : AttemptRow) → is_attempt_row rows t ≡ true → (is_status t.status ≡ true)
+    × (is_moment t.at ≡ true)
 attempt_parts rows t h =
     let second = and_second (nat_lt t.delivery t.seq) _ h in
     let third = and_second (t.number == length (sound.attempts_before rows t) + 1) _ second in
@@ -92,48 +106,73 @@ attempt_parts rows t h =
 
 module _ (rows : Rows) (is : IsTrue (are_sound rows)) where
   -- from here on, and from the endpoints on
-  apart : sound.are_numbers_apart rows && (sound.are_endpoint_rows rows && (list_all (sound.is_secrets_place rows) rows.endpoints && (list_all (sound.is_flag_place rows) rows.endpoints && (list_all is_delivery_row rows.deliveries
+  apart : sound.are_numbers_apart rows
+      && (sound.are_endpoint_rows rows
+      && (list_all (sound.is_secrets_place rows) rows.endpoints
+      && (list_all (sound.is_flag_place rows) rows.endpoints && (list_all is_delivery_row rows.deliveries
       && (list_all (is_attempt_row rows) rows.attempts && sound.are_others_overtaken rows))))) ≡ true
   apart = and_second (sound.are_numbers_below rows) _ is
 
-  endpoint_rows : sound.are_endpoint_rows rows && (list_all (sound.is_secrets_place rows) rows.endpoints && (list_all (sound.is_flag_place rows) rows.endpoints && (list_all is_delivery_row rows.deliveries
+  endpoint_rows : sound.are_endpoint_rows rows
+      && (list_all (sound.is_secrets_place rows) rows.endpoints
+      && (list_all (sound.is_flag_place rows) rows.endpoints && (list_all is_delivery_row rows.deliveries
       && (list_all (is_attempt_row rows) rows.attempts && sound.are_others_overtaken rows)))) ≡ true
   endpoint_rows = and_second (sound.are_numbers_apart rows) _ apart
 
-  delivery_rows : list_all is_delivery_row rows.deliveries && (list_all (is_attempt_row rows) rows.attempts && sound.are_others_overtaken rows) ≡ true
+  delivery_rows : list_all is_delivery_row rows.deliveries
+      && (list_all (is_attempt_row rows) rows.attempts && sound.are_others_overtaken rows) ≡ true
   delivery_rows =
-      and_second (list_all (sound.is_flag_place rows) rows.endpoints) _ (and_second (list_all (sound.is_secrets_place rows) rows.endpoints) _ (and_second (sound.are_endpoint_rows rows) _ endpoint_rows))
+      and_second (list_all (sound.is_flag_place rows) rows.endpoints) _
+      (and_second (list_all (sound.is_secrets_place rows) rows.endpoints) _
+      (and_second (sound.are_endpoint_rows rows) _ endpoint_rows))
 
   pub all_attempt_rows : list_all (is_attempt_row rows) rows.attempts ≡ true
-  all_attempt_rows = and_first (list_all (is_attempt_row rows) rows.attempts) _ (and_second (list_all is_delivery_row rows.deliveries) _ delivery_rows)
+  all_attempt_rows = and_first (list_all (is_attempt_row rows) rows.attempts) _
+      (and_second (list_all is_delivery_row rows.deliveries) _ delivery_rows)
 
   pub values_of : AreValues rows
   values_of = record {
-    endpoints = and_second _ (list_all (is_endpoint_row rows) rows.endpoints) (and_first (sound.are_endpoint_rows rows) _ endpoint_rows);
-    deliveries = weaker_all is_delivery_row (λ d. is_msg_id d.id && (is_body d.body && is_moment d.at)) rows.deliveries (λ d h. and_second _ (is_msg_id d.id && (is_body d.body && is_moment d.at)) h)
+    endpoints = and_second _ (list_all (is_endpoint_row rows) rows.endpoints)
+        (and_first (sound.are_endpoint_rows rows) _ endpoint_rows);
+    deliveries = weaker_all is_delivery_row (λ d. is_msg_id d.id && (is_body d.body && is_moment d.at)) rows.deliveries
+        (λ d h. and_second _ (is_msg_id d.id && (is_body d.body && is_moment d.at)) h)
         (and_first (list_all is_delivery_row rows.deliveries) _ delivery_rows);
-    attempts = weaker_all (is_attempt_row rows) (λ t. is_moment t.at) rows.attempts (λ t h. (attempt_parts rows t h).1) all_attempt_rows;
+    attempts = weaker_all (is_attempt_row rows) (λ t. is_moment t.at) rows.attempts
+        (λ t h. (attempt_parts rows t h).1) all_attempt_rows;
   }
 
 -- ---- what is read of a database, as rows
 
 module _ (schema : Schema) (version : ℕ) (own : IsOwn schema) (db : Database) (records : ℕ) (stored : StoredRows)
     (read : AreRead schema version db records stored) (order : AreInOrder stored)
-    (numbers : Numbers) (records_are : numbers.records ≡ records) (endpoints_are : numbers.endpoints.items ≡ stored.endpoints.items) (deliveries_are : numbers.deliveries.items ≡ stored.deliveries.items) (attempts_are : numbers.attempts.items ≡ stored.attempts.items)
+    (numbers : Numbers) (records_are : numbers.records ≡ records) (endpoints_are : numbers.endpoints.items
+    ≡ stored.endpoints.items) (deliveries_are : numbers.deliveries.items ≡ stored.deliveries.items)
+    (attempts_are : numbers.attempts.items ≡ stored.attempts.items)
   where
     keeps : KeepsFive db.trees
     keeps = keeps_five schema db.trees own read.obeys
 
-    module _ (ss : List Secret) (moved : IsPermutation stored.secrets.items ss) (up : IsSorted by_place ss) (placed : list_all (λ (e : Endpoint). are_places (places_of e.put ss)) stored.endpoints.items ≡ true) (told : (rows : Rows) → AreNumbersOf numbers rows → AreKeyed rows → AreValues rows → true ≡ are_sound rows) where
-      module _ (es : List EndpointRow) (es_stored : IsPermutation (db.trees 1) (map endpoint_stored es)) (es_are : map of_endpoint es ≡ stored.endpoints.items)
-          (es_rules : IsTrue (list_all (λ (e : EndpointRow). is_name e.name && (is_target e.url && is_max_limit e.max)) es)) (rs : List SecretRow) (rs_stored : IsPermutation (map (drop 1) (db.trees 3)) (map secret_stored rs)) (rs_are : AllZip StandsAt rs ss)
-          (ds : List DeliveryRow) (ds_stored : IsPermutation (db.trees 5) (map delivery_stored ds)) (ds_are : map of_delivery ds ≡ stored.deliveries.items)
-          (ds_rules : IsTrue (list_all (λ (d : DeliveryRow). is_msg_id d.id && (is_body d.body && is_moment d.at)) ds)) (ts : List AttemptRow) (ts_stored : IsPermutation (db.trees 7) (map attempt_stored ts))
-          (ts_are : map of_attempt ts ≡ stored.attempts.items) (ts_rules : IsTrue (list_all (λ (t : AttemptRow). is_moment t.at) ts)) where
+    module _ (ss : List Secret) (moved : IsPermutation stored.secrets.items ss) (up : IsSorted by_place ss)
+        (placed : list_all (λ (e : Endpoint). are_places (places_of e.put ss)) stored.endpoints.items ≡ true)
+        (told : (rows : Rows) → AreNumbersOf numbers rows → AreKeyed rows → AreValues rows
+        → true ≡ are_sound rows) where
+      module _ (es : List EndpointRow) (es_stored : IsPermutation (db.trees 1) (map endpoint_stored es))
+          (es_are : map of_endpoint es ≡ stored.endpoints.items)
+          (es_rules : IsTrue
+          (list_all (λ (e : EndpointRow). is_name e.name && (is_target e.url && is_max_limit e.max)) es))
+          (rs : List SecretRow) (rs_stored : IsPermutation (map (drop 1) (db.trees 3)) (map secret_stored rs))
+          (rs_are : AllZip StandsAt rs ss)
+          (ds : List DeliveryRow) (ds_stored : IsPermutation (db.trees 5) (map delivery_stored ds))
+          (ds_are : map of_delivery ds ≡ stored.deliveries.items)
+          (ds_rules : IsTrue (list_all (λ (d : DeliveryRow). is_msg_id d.id && (is_body d.body && is_moment d.at)) ds))
+          (ts : List AttemptRow) (ts_stored : IsPermutation (db.trees 7) (map attempt_stored ts))
+          (ts_are : map of_attempt ts ≡ stored.attempts.items)
+          (ts_rules : IsTrue (list_all (λ (t : AttemptRow). is_moment t.at) ts)) where
         same : AllZip IsSamePlace rs ss
         same = same_places rs ss rs_are
 
-        tables : AreTables schema version db.trees (record { records = records; endpoints = es; secrets = rs; deliveries = ds; attempts = ts })
+        tables : AreTables schema version db.trees
+            (record { records = records; endpoints = es; secrets = rs; deliveries = ds; attempts = ts })
         tables = record {
           sound = read.obeys;
           meta = meta_is db.trees keeps read.meta.0 _ version records read.meta.1 read.meta.2 refl refl refl;
@@ -145,10 +184,12 @@ module _ (schema : Schema) (version : ℕ) (own : IsOwn schema) (db : Database) 
         }
 
         puts : IsRisingFrom (λ (e : EndpointRow). e.put) 0 es
-        puts = rising_back of_endpoint (λ (e : Endpoint). e.put) 0 es (subst (IsRisingFrom (λ (e : Endpoint). e.put) 0) (sym es_are) order.puts)
+        puts = rising_back of_endpoint (λ (e : Endpoint). e.put) 0 es
+            (subst (IsRisingFrom (λ (e : Endpoint). e.put) 0) (sym es_are) order.puts)
 
         by_endpoint : flat_map (λ (e : EndpointRow). filter (λ s. s.endpoint == e.put) rs) es ≡ rs
-        by_endpoint = grouped (λ (s : SecretRow). s.endpoint) (λ (e : EndpointRow). e.put) 0 es rs puts (zip_climbs 0 rs ss same (endpoints_climb ss up))
+        by_endpoint = grouped (λ (s : SecretRow). s.endpoint) (λ (e : EndpointRow). e.put) 0 es rs puts
+            (zip_climbs 0 rs ss same (endpoints_climb ss up))
             (all_has (λ (s : SecretRow). list_any (λ (e : EndpointRow). e.put == s.endpoint) es ≡ true) rs
             (secrets_refer schema own version db.trees _ tables))
 
@@ -156,13 +197,23 @@ module _ (schema : Schema) (version : ℕ) (own : IsOwn schema) (db : Database) 
         keyed = keyed_by schema own version db.trees _ tables puts
             (rising_back of_delivery (λ (d : Delivery). d.seq) 0 ds
             (subst (IsRisingFrom (λ (d : Delivery). d.seq) 0) (sym ds_are) order.deliveries))
-            (rising_back of_attempt (λ (t : Attempt). t.seq) 0 ts (subst (IsRisingFrom (λ (t : Attempt). t.seq) 0) (sym ts_are) order.attempts)) by_endpoint
+            (rising_back of_attempt (λ (t : Attempt). t.seq) 0 ts
+            (subst (IsRisingFrom (λ (t : Attempt). t.seq) 0) (sym ts_are) order.attempts)) by_endpoint
 
         their_places : list_all (λ (e : EndpointRow). are_places (places_of e.put ss)) es ≡ true
-        their_places = sym (list_all-map (λ (e : Endpoint). are_places (places_of e.put ss)) of_endpoint es) ∙ ap (list_all (λ (e : Endpoint). are_places (places_of e.put ss))) es_are ∙ placed
+        their_places = sym (list_all-map (λ (e : Endpoint). are_places (places_of e.put ss)) of_endpoint es)
+            ∙ ap (list_all (λ (e : Endpoint). are_places (places_of e.put ss))) es_are ∙ placed
 
-        whole : (e : EndpointRow) → is_name e.name && (is_target e.url && is_max_limit e.max) ≡ true → are_places (places_of e.put ss) ≡ true
-            → is_endpoint_row (record { records = records; endpoints = es; secrets = rs; deliveries = ds; attempts = ts }) e ≡ true
+        whole : (e : EndpointRow) → is_name e.name && (is_target e.url && is_max_limit e.max) ≡ true
+            → are_places (places_of e.put ss) ≡ true
+            → is_endpoint_row (record {
+              records = records;
+              endpoints = es;
+              secrets = rs;
+              deliveries = ds;
+              attempts =
+                  ts;
+            }) e ≡ true
         whole e rules places =
             let own = filter (λ (s : SecretRow). s.endpoint == e.put) rs in
             let secrets = map (λ (s : SecretRow). s.secret) own in
@@ -172,24 +223,45 @@ module _ (schema : Schema) (version : ℕ) (own : IsOwn schema) (db : Database) 
             both_true (is_name e.name) _ (and_first (is_name e.name) (is_target e.url && is_max_limit e.max) rules)
             (both_true (is_target e.url) _ (and_first (is_target e.url) (is_max_limit e.max) later)
             (both_true (is_max_limit e.max) _ (and_second (is_target e.url) (is_max_limit e.max) later)
-            (both_true (are_secrets secrets) _ (both_true (is_between 1 MAX_SECRETS (length secrets)) _ many (own_rules e.put rs (all_secrets rs ss rs_are)))
+            (both_true (are_secrets secrets) _ (both_true (is_between 1 MAX_SECRETS (length secrets)) _ many
+            (own_rules e.put rs (all_secrets rs ss rs_are)))
             (and_second (is_between 1 MAX_SECRETS (length secrets)) (sound.are_places own) all))))
 
         values : AreValues (record { records = records; endpoints = es; secrets = rs; deliveries = ds; attempts = ts })
         values = record {
-          endpoints = zip_all (λ (e : EndpointRow). is_name e.name && (is_target e.url && is_max_limit e.max)) (λ (e : EndpointRow). are_places (places_of e.put ss))
-              (is_endpoint_row (record { records = records; endpoints = es; secrets = rs; deliveries = ds; attempts = ts })) es whole es_rules their_places;
+          endpoints = zip_all (λ (e : EndpointRow). is_name e.name && (is_target e.url && is_max_limit e.max))
+              (λ (e : EndpointRow). are_places (places_of e.put ss))
+              (is_endpoint_row (record {
+                records = records;
+                endpoints = es;
+                secrets = rs;
+                deliveries = ds;
+                attempts =
+                    ts;
+              })) es whole es_rules their_places;
           deliveries = ds_rules;
           attempts = ts_rules;
         }
 
-        are_numbers : AreNumbersOf numbers (record { records = records; endpoints = es; secrets = rs; deliveries = ds; attempts = ts })
-        are_numbers = λ i. record { records = records_are i; endpoints = (endpoints_are ∙ sym es_are) i; deliveries = (deliveries_are ∙ sym ds_are) i; attempts = (attempts_are ∙ sym ts_are) i }
+        are_numbers : AreNumbersOf numbers
+            (record { records = records; endpoints = es; secrets = rs; deliveries = ds; attempts = ts })
+        are_numbers = λ i. record {
+          records = records_are i;
+          endpoints = (endpoints_are ∙ sym es_are) i;
+          deliveries =
+              (deliveries_are ∙ sym ds_are) i;
+          attempts = (attempts_are ∙ sym ts_are) i;
+        }
 
         has_rows : HasSound (AreSoundUnder schema version) db records
         has_rows = (
           record { records = records; endpoints = es; secrets = rs; deliveries = ds; attempts = ts },
-          record { tables = record { schema_is = read.schema_is; tables = tables }; keyed = keyed; sound = sym (told _ are_numbers keyed values) },
+          record {
+            tables = record { schema_is = read.schema_is; tables = tables };
+            keyed = keyed;
+            sound =
+                sym (told _ are_numbers keyed values);
+          },
           refl,
         )
 
@@ -200,7 +272,9 @@ module _ (schema : Schema) (version : ℕ) (own : IsOwn schema) (db : Database) 
           let ds = deliveries_of db.trees keeps stored.deliveries.items read.shown.deliveries in
           let ts = attempts_of db.trees keeps stored.attempts.items read.shown.attempts in
           let beside = zip_permutation StandsAt stored.secrets.items ss moved rs.0 rs.2 in
-          has_rows es.0 es.1 es.2 es.3 beside.0 (IsPermutation-trans _ _ _ rs.1 (IsPermutation-map secret_stored _ _ beside.1)) beside.2 ds.0 ds.1 ds.2 ds.3 ts.0 ts.1 ts.2 ts.3
+          has_rows es.0 es.1 es.2 es.3 beside.0
+          (IsPermutation-trans _ _ _ rs.1 (IsPermutation-map secret_stored _ _ beside.1)) beside.2 ds.0 ds.1 ds.2
+          ds.3 ts.0 ts.1 ts.2 ts.3
 
     -- ---- and the rows that sound tables have are read so
 
@@ -216,57 +290,90 @@ module _ (schema : Schema) (version : ℕ) (own : IsOwn schema) (db : Database) 
               → ShowsMeta (meta_columns row) (record { key = pos 1; version = pos version; records = pos records })
               → records ≡ rows.records
           at row is shown =
-              let told : Int (pos rows.records) ≡ Int (pos records) = sym (ap (λ r. column (meta_columns r) 3) is) ∙ shown.records in
+              let told : Int (pos rows.records) ≡ Int (pos records) = sym (ap (λ r. column (meta_columns r) 3) is)
+              ∙ shown.records in
               cc
 
       endpoints_same : stored.endpoints.items ≡ map of_endpoint rows.endpoints
-      endpoints_same = one_order (λ (e : Endpoint). e.put) (map of_endpoint rows.endpoints) stored.endpoints.items (rising_map of_endpoint (λ (e : Endpoint). e.put) 0 rows.endpoints it.keyed.puts_rise)
-          (endpoints_read (db.trees 1) rows.endpoints stored.endpoints.items it.tables.tables.endpoints read.shown.endpoints) order.puts
+      endpoints_same = one_order (λ (e : Endpoint). e.put) (map of_endpoint rows.endpoints) stored.endpoints.items
+          (rising_map of_endpoint (λ (e : Endpoint). e.put) 0 rows.endpoints it.keyed.puts_rise)
+          (endpoints_read (db.trees 1) rows.endpoints stored.endpoints.items it.tables.tables.endpoints
+          read.shown.endpoints) order.puts
 
       deliveries_same : stored.deliveries.items ≡ map of_delivery rows.deliveries
-      deliveries_same = one_order (λ (d : Delivery). d.seq) (map of_delivery rows.deliveries) stored.deliveries.items (rising_map of_delivery (λ (d : Delivery). d.seq) 0 rows.deliveries it.keyed.deliveries_rise)
-          (deliveries_read (db.trees 5) rows.deliveries stored.deliveries.items it.tables.tables.deliveries read.shown.deliveries) order.deliveries
+      deliveries_same = one_order (λ (d : Delivery). d.seq) (map of_delivery rows.deliveries) stored.deliveries.items
+          (rising_map of_delivery (λ (d : Delivery). d.seq) 0 rows.deliveries it.keyed.deliveries_rise)
+          (deliveries_read (db.trees 5) rows.deliveries stored.deliveries.items it.tables.tables.deliveries
+          read.shown.deliveries) order.deliveries
 
       attempts_same : stored.attempts.items ≡ map of_attempt rows.attempts
-      attempts_same = one_order (λ (t : Attempt). t.seq) (map of_attempt rows.attempts) stored.attempts.items (rising_map of_attempt (λ (t : Attempt). t.seq) 0 rows.attempts it.keyed.attempts_rise)
-          (attempts_read (db.trees 7) rows.attempts stored.attempts.items it.tables.tables.attempts read.shown.attempts) order.attempts
+      attempts_same = one_order (λ (t : Attempt). t.seq) (map of_attempt rows.attempts) stored.attempts.items
+          (rising_map of_attempt (λ (t : Attempt). t.seq) 0 rows.attempts it.keyed.attempts_rise)
+          (attempts_read (db.trees 7) rows.attempts stored.attempts.items it.tables.tables.attempts read.shown.attempts)
+          order.attempts
 
       numbers_same : AreNumbersOf numbers rows
-      numbers_same = λ i. record { records = (records_are ∙ records_same) i; endpoints = (endpoints_are ∙ endpoints_same) i; deliveries = (deliveries_are ∙ deliveries_same) i; attempts = (attempts_are ∙ attempts_same) i }
+      numbers_same = λ i. record {
+        records = (records_are ∙ records_same) i;
+        endpoints =
+            (endpoints_are ∙ endpoints_same) i;
+        deliveries = (deliveries_are ∙ deliveries_same) i;
+        attempts =
+            (attempts_are ∙ attempts_same) i;
+      }
 
       -- the numbers of sound rows are told to be sound
-      pub numbers_sound : (answer : Bool) → ((all : Rows) → AreNumbersOf numbers all → AreKeyed all → AreValues all → answer ≡ are_sound all) → answer ≡ true
+      pub numbers_sound : (answer : Bool) → ((all : Rows) → AreNumbersOf numbers all → AreKeyed all → AreValues all
+          → answer ≡ are_sound all) → answer ≡ true
       numbers_sound answer told = told rows numbers_same it.keyed (values_of rows it.sound) ∙ it.sound
 
       -- and the secrets to be in their places
-      pub secrets_placed : (ss : List Secret) → IsPermutation stored.secrets.items ss → IsSorted by_place ss → list_all (λ (e : Endpoint). are_places (places_of e.put ss)) stored.endpoints.items ≡ true
+      pub secrets_placed : (ss : List Secret) → IsPermutation stored.secrets.items ss → IsSorted by_place ss
+          → list_all (λ (e : Endpoint). are_places (places_of e.put ss)) stored.endpoints.items ≡ true
       secrets_placed ss moved up =
-          ap (list_all (λ (e : Endpoint). are_places (places_of e.put ss))) endpoints_same ∙ list_all-map (λ (e : Endpoint). are_places (places_of e.put ss)) of_endpoint rows.endpoints
-          ∙ weaker_all (is_endpoint_row rows) (λ (e : EndpointRow). are_places (places_of e.put ss)) rows.endpoints places (values_of rows it.sound).endpoints
+          ap (list_all (λ (e : Endpoint). are_places (places_of e.put ss))) endpoints_same
+          ∙ list_all-map (λ (e : Endpoint). are_places (places_of e.put ss)) of_endpoint rows.endpoints
+          ∙ weaker_all (is_endpoint_row rows) (λ (e : EndpointRow). are_places (places_of e.put ss)) rows.endpoints
+          places (values_of rows it.sound).endpoints
         where
-          secrets_of_row : (e : EndpointRow) → is_endpoint_row rows e ≡ true → are_secrets (secrets_at rows e.put) && sound.are_places (secret_rows_at rows e.put) ≡ true
-          secrets_of_row e h = and_second (is_max_limit e.max) _ (and_second (is_target e.url) _ (and_second (is_name e.name) _ h))
+          secrets_of_row : (e : EndpointRow) → is_endpoint_row rows e ≡ true → are_secrets (secrets_at rows e.put)
+              && sound.are_places (secret_rows_at rows e.put) ≡ true
+          secrets_of_row e h =
+              and_second (is_max_limit e.max) _ (and_second (is_target e.url) _ (and_second (is_name e.name) _ h))
 
           strict : IsAscending AreBefore rows.secrets
-          strict = subst (IsAscending AreBefore) it.keyed.by_endpoint (flat_ascend (λ (e : EndpointRow). e.put) rows.secrets 0 rows.endpoints it.keyed.puts_rise
-              (each_true (λ e. sound.are_places (secret_rows_at rows e.put)) rows.endpoints (weaker_all (is_endpoint_row rows) (λ e. sound.are_places (secret_rows_at rows e.put)) rows.endpoints (λ e h. and_second (are_secrets (secrets_at rows e.put)) _ (secrets_of_row e h)) (values_of rows it.sound).endpoints))).0
+          strict = subst (IsAscending AreBefore) it.keyed.by_endpoint
+              (flat_ascend (λ (e : EndpointRow). e.put) rows.secrets 0 rows.endpoints it.keyed.puts_rise
+              (each_true (λ e. sound.are_places (secret_rows_at rows e.put)) rows.endpoints
+              (weaker_all (is_endpoint_row rows) (λ e. sound.are_places (secret_rows_at rows e.put)) rows.endpoints
+              (λ e h. and_second (are_secrets (secrets_at rows e.put)) _ (secrets_of_row e h))
+              (values_of rows it.sound).endpoints))).0
 
           beside : AllZip IsSamePlace rows.secrets ss
-          beside = places_in_order stored.secrets.items ss rows.secrets moved up strict (secrets_read (db.trees 3) rows.secrets stored.secrets.items it.tables.tables.secrets read.shown.secrets)
+          beside = places_in_order stored.secrets.items ss rows.secrets moved up strict
+              (secrets_read (db.trees 3) rows.secrets stored.secrets.items it.tables.tables.secrets read.shown.secrets)
 
           places : (e : EndpointRow) → is_endpoint_row rows e ≡ true → are_places (places_of e.put ss) ≡ true
           places e h =
               sym (places_same e.put rows.secrets ss beside)
-              ∙ both_true (is_between 1 MAX_SECRETS (length (secrets_at rows e.put))) (sound.are_places (secret_rows_at rows e.put))
-              (and_first (is_between 1 MAX_SECRETS (length (secrets_at rows e.put))) _ (and_first (are_secrets (secrets_at rows e.put)) _ (secrets_of_row e h))) (and_second (are_secrets (secrets_at rows e.put)) _ (secrets_of_row e h))
+              ∙ both_true (is_between 1 MAX_SECRETS (length (secrets_at rows e.put)))
+              (sound.are_places (secret_rows_at rows e.put))
+              (and_first (is_between 1 MAX_SECRETS (length (secrets_at rows e.put))) _
+              (and_first (are_secrets (secrets_at rows e.put)) _ (secrets_of_row e h)))
+              (and_second (are_secrets (secrets_at rows e.put)) _ (secrets_of_row e h))
 
-    pub judged : (ss : List Secret) (answer placed : Bool) → IsPermutation stored.secrets.items ss → IsSorted by_place ss → ((all : Rows) → AreNumbersOf numbers all → AreKeyed all → AreValues all → answer ≡ are_sound all)
+    pub judged : (ss : List Secret) (answer placed : Bool) → IsPermutation stored.secrets.items ss
+        → IsSorted by_place ss → ((all : Rows) → AreNumbersOf numbers all → AreKeyed all → AreValues all
+        → answer ≡ are_sound all)
         → placed ≡ list_all (λ (e : Endpoint). are_places (places_of e.put ss)) stored.endpoints.items → answer ≡
         true → MatchBool placed (HasSound (AreSoundUnder schema version) db records)
         ((rows : Rows) → ¬ AreSoundUnder schema version db rows)
-    judged ss answer true moved up told is agreed = has_sound ss moved up (sym is) (λ all n k v. sym agreed ∙ told all n k v)
-    judged ss answer false moved up told is agreed = λ rows it. absurd (let never : false ≡ true = is ∙ secrets_placed rows it ss moved up in cc)
+    judged ss answer true moved up told is agreed = has_sound ss moved up (sym is) (λ all n k v. sym agreed
+        ∙ told all n k v)
+    judged ss answer false moved up told is agreed = λ rows it. absurd (let never : false ≡ true = is
+        ∙ secrets_placed rows it ss moved up in cc)
 
     pub none_sound : (answer : Bool) → ((all : Rows) → AreNumbersOf numbers all → AreKeyed all → AreValues all
         → answer ≡ are_sound all) → answer ≡ false → (rows : Rows) → ¬ AreSoundUnder schema version db rows
-    none_sound answer told denied rows it = absurd (let never : false ≡ true = sym denied ∙ numbers_sound rows it answer told in cc)
+    none_sound answer told denied rows it = absurd (let never : false ≡ true = sym denied
+        ∙ numbers_sound rows it answer told in cc)

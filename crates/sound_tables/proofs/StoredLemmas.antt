@@ -1,5 +1,7 @@
 -- What rows that show values are, in trees that obey the schema.
-use Rattle.std.proofs.Common.{◌≡◌, ◌≢◌, ◌&&◌, ◌+◌, ◌<◌, ◌≤◌, ℕ, zero, suc, ℤ, pos, List, [], ◌∷◌, map, filter, drop, length, slice_index_or, Bool, true, false, not, cond, Option, Some, None, IsTrue, int_lt, int_cmp, is_eq, refl, sym, ap, ap₂, subst, ◌∙◌, arith}
+use Rattle.std.proofs.Common.{◌≡◌, ◌≢◌, ◌&&◌, ◌+◌, ◌<◌, ◌≤◌, ℕ, zero, suc, ℤ, pos, List, [], ◌∷◌, map, filter, drop}
+use Rattle.std.proofs.Common.{length, slice_index_or, Bool, true, false, not, cond, Option, Some, None, IsTrue, int_lt}
+use Rattle.std.proofs.Common.{int_cmp, is_eq, refl, sym, ap, ap₂, subst, ◌∙◌, arith}
 use Rattle.std.specs.List.{AllByRecursion, AllZip, list_all}
 use Rattle.std.specs.List.Sorted.{IsPermutation}
 use Rattle.std.proofs.lemmas.Int.{ints}
@@ -12,7 +14,8 @@ use Rattle.sqlite_value.specs.Order.{column, value_cmp}
 use Rattle.sqlite_value.proofs.OrderLemmas.{value_cmp-Int}
 use Rattle.sqlite_trees.specs.Tree.{Trees, IsAscending, rowid, has_rowid}
 use Rattle.sqlite_trees.specs.View.{is_int}
-use Rattle.sqlite_trees.proofs.ListLemmas.{all_weaker, all_from_map, all-permutation, filter-map, filter_none, IsPermutation-filter, pull_back}
+use Rattle.sqlite_trees.proofs.ListLemmas.{all_weaker, all_from_map, all-permutation, filter-map, filter_none}
+use Rattle.sqlite_trees.proofs.ListLemmas.{IsPermutation-filter, pull_back}
 use Rattle.sqlite_sql.specs.Ops.{binary, is_null, is_false, from_truth}
 use Rattle.sqlite_sql.specs.declared.ops.BinaryOp.TheVariants.{Compare}
 use Rattle.sqlite_sql.specs.declared.ops.CompareOp.TheVariants.{Eq}
@@ -29,10 +32,12 @@ use Rattle.sound_rows.specs.declared.numbers.Endpoint.{Endpoint}
 use Rattle.sound_rows.specs.declared.numbers.Delivery.{Delivery}
 use Rattle.sound_rows.specs.declared.numbers.Attempt.{Attempt}
 use Rattle.spool_sql.specs.Tables.{first_schema, meta, endpoints, secrets, deliveries, attempts}
-use Rattle.spool_sql.specs.Stored.{HasRowids, meta_stored, endpoint_stored, secret_stored, delivery_stored, attempt_stored}
+use Rattle.spool_sql.specs.Stored.{HasRowids, meta_stored, endpoint_stored, secret_stored, delivery_stored}
+use Rattle.spool_sql.specs.Stored.{attempt_stored}
 use Rattle.sound_tables.specs.Reading.{Shows}
 use Rattle.sound_tables.specs.Shown.{ShowsMeta, ShowsEndpoint, ShowsSecret, ShowsDelivery, ShowsAttempt}
-use Rattle.sound_tables.specs.Tables.{HasShown, meta_columns, endpoint_columns, secret_columns, delivery_columns, attempt_columns}
+use Rattle.sound_tables.specs.Tables.{HasShown, meta_columns, endpoint_columns, secret_columns, delivery_columns}
+use Rattle.sound_tables.specs.Tables.{attempt_columns}
 use Rattle.sound_tables.specs.declared.meta.Meta.{Meta}
 use Rattle.sound_tables.specs.declared.secret.Secret.{Secret}
 use Rattle.sound_tables.proofs.FiveLemmas.{KeepsFive}
@@ -64,7 +69,8 @@ within key at [] [] h = omega arith
 within key at [] (v ∷ vs) h = absurd (let f = h in cc)
 within key at (c ∷ cs) [] h = omega arith
 within key at (c ∷ cs) (v ∷ vs) h =
-    let rest = within key (at + 1) cs vs (both (cond (is_key key at) (is_null v) (suits c v)) (are_typed key (at + 1) cs vs) h).1 in omega (arith, rest)
+    let rest = within key (at + 1) cs vs
+    (both (cond (is_key key at) (is_null v) (suits c v)) (are_typed key (at + 1) cs vs) h).1 in omega (arith, rest)
 
 reaches : (r : Row) (at : ℕ) → column r at ≢ Null → at < length r
 reaches [] at some = absurd (some refl)
@@ -72,7 +78,8 @@ reaches (v ∷ r) zero some = omega arith
 reaches (v ∷ r) (suc at) some = let rest = reaches r at some in omega (arith, rest)
 
 -- a row with a value in its last column is that of all its columns
-all_columns : (key : Option ℕ) (cs : List Column) (n : ℕ) (r : Row) → length cs ≡ n → are_typed key 0 cs (drop 1 r) ≡ true → column r n ≢ Null → r ≡ columns_from r 0 (suc n)
+all_columns : (key : Option ℕ) (cs : List Column) (n : ℕ) (r : Row) → length cs ≡ n → are_typed key 0 cs (drop 1 r)
+    ≡ true → column r n ≢ Null → r ≡ columns_from r 0 (suc n)
 all_columns key cs n [] count typed some = absurd (some refl)
 all_columns key cs n (v ∷ r) count typed some =
     let most = within key 0 cs r typed in
@@ -88,7 +95,8 @@ null_is (Text t) e = absurd (let f = e in cc)
 null_is (Blob b) e = absurd (let f = e in cc)
 
 -- the column that the rowid stands for
-key_column : (cs : List Column) (r : Row) → length cs ≢ 0 → are_typed (Some 0) 0 cs (drop 1 r) ≡ true → column r 1 ≡ Null
+key_column : (cs : List Column) (r : Row) → length cs ≢ 0 → are_typed (Some 0) 0 cs (drop 1 r) ≡ true → column r 1
+    ≡ Null
 key_column cs [] some typed = refl
 key_column cs (a ∷ []) some typed = refl
 key_column [] (a ∷ v ∷ r) some typed = absurd (some refl)
@@ -102,9 +110,11 @@ blob_not_null v b is none = absurd (let f : Blob b ≡ Null = sym is ∙ none in
 
 -- ---- where each row that shows a value is a typed one, the rows of the tree are
 
-module _ {X Y : Type 0} (is_shown : Shows X) (of seen : Row → Row) (stored : Y → Row) (R : Y → X → Type 0) (Good : Row → Type 0)
+module _ {X Y : Type 0} (is_shown : Shows X) (of seen : Row → Row) (stored : Y → Row) (R : Y → X → Type 0) (Good : Row
+    → Type 0)
     (typed : (r : Row) (x : X) → Good r → is_shown (of r) x → (y : Y) × (seen r ≡ stored y) × R y x) where
-  each_typed : (rows : List Row) (xs : List X) → AllByRecursion Good rows → AllZip is_shown (map of rows) xs → (ys : List Y) × (map seen rows ≡ map stored ys) × AllZip R ys xs
+  each_typed : (rows : List Row) (xs : List X) → AllByRecursion Good rows → AllZip is_shown (map of rows) xs
+      → (ys : List Y) × (map seen rows ≡ map stored ys) × AllZip R ys xs
   each_typed [] [] good zip = ([], refl, tt)
   each_typed [] (x ∷ xs) good zip = absurd zip
   each_typed (r ∷ rows) [] good zip = absurd zip
@@ -113,30 +123,37 @@ module _ {X Y : Type 0} (is_shown : Shows X) (of seen : Row → Row) (stored : Y
       let rest = each_typed rows xs good.1 zip.1 in
       (one.0 ∷ rest.0, ap₂ ◌∷◌ one.1 rest.1, (one.2, rest.2))
 
-  all_typed : (tree : List Row) (xs : List X) → AllByRecursion Good tree → HasShown is_shown of tree xs → (ys : List Y) × IsPermutation (map seen tree) (map stored ys) × AllZip R ys xs
+  all_typed : (tree : List Row) (xs : List X) → AllByRecursion Good tree → HasShown is_shown of tree xs → (ys : List Y)
+      × IsPermutation (map seen tree) (map stored ys) × AllZip R ys xs
   all_typed tree xs good shown =
       let back = pull_back of (map of tree) shown.0 shown.1 tree refl in
-      let these = each_typed back.0 xs (all-permutation Good tree back.0 back.1 good) (subst (λ rows. AllZip is_shown rows xs) back.2 shown.2) in
+      let these = each_typed back.0 xs (all-permutation Good tree back.0 back.1 good)
+      (subst (λ rows. AllZip is_shown rows xs) back.2 shown.2) in
       (these.0, subst (IsPermutation (map seen tree)) these.1 (IsPermutation-map seen _ _ back.1), these.2)
 
 each_itself : {X : Type 0} (xs : List X) → map (λ x. x) xs ≡ xs
 each_itself [] = refl
 each_itself (x ∷ xs) = ap (λ rest. x ∷ rest) (each_itself xs)
 
-numbers_are : {X Y : Type 0} (number : Y → X) (ok : Y → Bool) (ys : List Y) (xs : List X) → AllZip (λ y x. (number y ≡ x) × IsTrue (ok y)) ys xs → (map number ys ≡ xs) × IsTrue (list_all ok ys)
+numbers_are : {X Y : Type 0} (number : Y → X) (ok : Y → Bool) (ys : List Y) (xs : List X)
+    → AllZip (λ y x. (number y ≡ x) × IsTrue (ok y)) ys xs → (map number ys ≡ xs) × IsTrue (list_all ok ys)
 numbers_are number ok [] [] zip = (refl, refl)
 numbers_are number ok [] (x ∷ xs) zip = absurd zip
 numbers_are number ok (y ∷ ys) [] zip = absurd zip
 numbers_are number ok (y ∷ ys) (x ∷ xs) zip =
-    let rest = numbers_are number ok ys xs zip.1 in (ap₂ ◌∷◌ zip.0.0 rest.0, and_also (ok y) (list_all ok ys) zip.0.1 rest.1)
+    let rest = numbers_are number ok ys xs zip.1 in
+    (ap₂ ◌∷◌ zip.0.0 rest.0, and_also (ok y) (list_all ok ys) zip.0.1 rest.1)
 
 -- the same of a tree whose whole rows are those that are typed
-module _ {X Y : Type 0} (is_shown : Shows X) (of : Row → Row) (stored : Y → Row) (number : Y → X) (ok : Y → Bool) (Good : Row → Type 0)
-    (typed : (r : Row) (x : X) → Good r → is_shown (of r) x → (y : Y) × (r ≡ stored y) × ((number y ≡ x) × IsTrue (ok y))) where
+module _ {X Y : Type 0} (is_shown : Shows X) (of : Row → Row) (stored : Y → Row) (number : Y → X) (ok : Y → Bool)
+    (Good : Row → Type 0)
+    (typed : (r : Row) (x : X) → Good r → is_shown (of r) x → (y : Y) × (r ≡ stored y)
+    × ((number y ≡ x) × IsTrue (ok y))) where
   whole_typed : (tree : List Row) (xs : List X) → AllByRecursion Good tree → HasShown is_shown of tree xs
       → (ys : List Y) × IsPermutation tree (map stored ys) × (map number ys ≡ xs) × IsTrue (list_all ok ys)
   whole_typed tree xs good shown =
-      let these = all_typed is_shown of (λ r. r) stored (λ y x. (number y ≡ x) × IsTrue (ok y)) Good typed tree xs good shown in
+      let these = all_typed is_shown of (λ r. r) stored (λ y x. (number y ≡ x)
+      × IsTrue (ok y)) Good typed tree xs good shown in
       let are = numbers_are number ok these.0 xs these.2 in
       (these.0, subst (λ rows. IsPermutation rows (map stored these.0)) (each_itself tree) these.1, are.0, are.1)
 
@@ -169,12 +186,23 @@ endpoint_typed r e good shown =
     let fits = typed_by endpoints r good in
     let all = all_columns (Some 0) endpoints.columns 7 r refl fits (int_not_null _ _ n.secrets_by) in
     let none = key_column endpoints.columns r (λ e. absurd (omega (arith, e))) fits in (
-      record { put = e.put; name = n.name.0; url = shown.url.0; max = n.max.0; enabled = e.enabled; enabled_by = e.enabled_by; secrets_by = e.secrets_by },
-      all ∙ (λ i. n.put i ∷ none i ∷ n.name.1 i ∷ shown.url.1 i ∷ n.max.1 i ∷ n.enabled i ∷ n.enabled_by i ∷ n.secrets_by i ∷ []),
+      record {
+        put = e.put;
+        name = n.name.0;
+        url = shown.url.0;
+        max = n.max.0;
+        enabled = e.enabled;
+        enabled_by =
+            e.enabled_by;
+        secrets_by = e.secrets_by;
+      },
+      all ∙ (λ i. n.put i ∷ none i ∷ n.name.1 i ∷ shown.url.1 i ∷ n.max.1 i ∷ n.enabled i ∷ n.enabled_by i
+          ∷ n.secrets_by i ∷ []),
       (refl, and_also (is_name n.name.0) _ n.name.2 (and_also (is_target shown.url.0) _ shown.url.2 n.max.2)),
     )
 
-secret_typed : (r : Row) (s : Secret) → IsTypedFor secrets r → ShowsSecret (secret_columns r) s → (y : SecretRow) × (drop 1 r ≡ secret_stored y) × StandsAt y s
+secret_typed : (r : Row) (s : Secret) → IsTypedFor secrets r → ShowsSecret (secret_columns r) s → (y : SecretRow)
+    × (drop 1 r ≡ secret_stored y) × StandsAt y s
 secret_typed r s good shown =
     let all = all_columns None secrets.columns 3 r refl (typed_by secrets r good) (blob_not_null _ _ shown.secret.1) in (
       record { endpoint = s.endpoint; place = s.place; secret = shown.secret.0 },
@@ -204,7 +232,8 @@ attempt_typed r t good shown =
       (refl, shown.at.2),
     )
 
-meta_typed : (r : Row) (m : Meta) (version n : ℕ) → IsTypedFor meta r → ShowsMeta (meta_columns r) m → m.key ≡ pos 1 → m.version ≡ pos version → m.records ≡ pos n → r ≡ meta_stored version n
+meta_typed : (r : Row) (m : Meta) (version n : ℕ) → IsTypedFor meta r → ShowsMeta (meta_columns r) m → m.key ≡ pos 1
+    → m.version ≡ pos version → m.records ≡ pos n → r ≡ meta_stored version n
 meta_typed r m version n good shown key of_version records =
     let fits = typed_by meta r good in
     let all = all_columns (Some 0) meta.columns 4 r refl fits (int_not_null _ _ shown.records) in
@@ -228,17 +257,29 @@ checked_one z e = same_int z (pos 1) (ap is_eq (sym (value_cmp-Int z (pos 1))) �
 below : (a b c : ℤ) → int_lt a b ≡ true → int_lt b c ≡ true → int_lt a c ≡ true
 below a b c p q = grind (arith, ints)
 
-rising_from : (ss : List Secret) → ((i : ℕ) (d : Secret) → suc i < length ss → int_lt (slice_index_or ss i d).rowid (slice_index_or ss (suc i) d).rowid ≡ true) → AreRising ss
+rising_from : (ss : List Secret)
+    → ((i : ℕ) (d : Secret) → suc i < length ss
+    → int_lt (slice_index_or ss i d).rowid (slice_index_or ss (suc i) d).rowid ≡ true) → AreRising ss
 rising_from [] next = tt
 rising_from (s ∷ []) next = (tt, tt)
 rising_from (s ∷ t ∷ ss) next =
     let first = next 0 s (omega arith) in
-    let rest = rising_from (t ∷ ss) (λ i d inside. next (suc i) d (omega (arith, inside))) in
-    ((first, all_weaker (λ (u : Secret). int_lt t.rowid u.rowid ≡ true) (λ (u : Secret). int_lt s.rowid u.rowid ≡ true) (λ u above. below s.rowid t.rowid u.rowid first above) ss rest.0), rest)
+    let rest = rising_from (t ∷ ss) (λ i d inside. next (suc i) d (omega (arith, inside))) in (
+      (
+        first,
+        all_weaker (λ (u : Secret). int_lt t.rowid u.rowid ≡ true) (λ (u : Secret). int_lt s.rowid u.rowid ≡ true)
+            (λ u above. below s.rowid t.rowid u.rowid first above) ss rest.0,
+      ),
+      rest,
+    )
 
 -- each rowid is below the next
-pub rising_by_next : (ss : List Secret) → ((i : ℕ) (d : Secret) → i + 1 < length ss → int_lt (slice_index_or ss i d).rowid (slice_index_or ss (i + 1) d).rowid ≡ true) → AreRising ss
-rising_by_next ss next = rising_from ss (λ i d inside. let more : i + 1 ≡ suc i = omega arith in subst (λ k. int_lt (slice_index_or ss i d).rowid (slice_index_or ss k d).rowid ≡ true) more (next i d (omega (arith, inside))))
+pub rising_by_next : (ss : List Secret)
+    → ((i : ℕ) (d : Secret) → i + 1 < length ss
+    → int_lt (slice_index_or ss i d).rowid (slice_index_or ss (i + 1) d).rowid ≡ true) → AreRising ss
+rising_by_next ss next = rising_from ss (λ i d inside. let more : i + 1 ≡ suc i = omega arith in
+    subst (λ k. int_lt (slice_index_or ss i d).rowid (slice_index_or ss k d).rowid ≡ true) more
+    (next i d (omega (arith, inside))))
 
 module _ (db : Trees) (keeps : KeepsFive db) where
   -- the key is 1
@@ -246,9 +287,11 @@ module _ (db : Trees) (keeps : KeepsFive db) where
   meta_key row m one shown =
       let checked = (subst (AllByRecursion (λ r. passes Check first_schema db (record meta { tree = 0 }) r ≡ true)) one
       keeps.checks.0).0 in
-      checked_one m.key (subst (λ v. not (is_false (binary (Compare Eq Binary) v (Int (pos 1)))) && true ≡ true) shown.key checked)
+      checked_one m.key (subst (λ v. not (is_false (binary (Compare Eq Binary) v (Int (pos 1))))
+      && true ≡ true) shown.key checked)
 
-  pub meta_is : (row : Row) (m : Meta) (version n : ℕ) → db 0 ≡ row ∷ [] → ShowsMeta (meta_columns row) m → m.key ≡ pos 1 → m.version ≡ pos version → m.records ≡ pos n → db 0 ≡ meta_stored version n ∷ []
+  pub meta_is : (row : Row) (m : Meta) (version n : ℕ) → db 0 ≡ row ∷ [] → ShowsMeta (meta_columns row) m
+      → m.key ≡ pos 1 → m.version ≡ pos version → m.records ≡ pos n → db 0 ≡ meta_stored version n ∷ []
   meta_is row m version n one shown key of_version records =
       let good = (subst (AllByRecursion (IsTypedFor meta)) one keeps.types.0).0 in
       one ∙ ap (λ r. r ∷ []) (meta_typed row m version n good shown key of_version records)
@@ -282,7 +325,8 @@ module _ (db : Trees) (keeps : KeepsFive db) where
 
 -- ---- the rowids of a tree
 
-has_int : (rows : List Row) (ss : List Secret) → AllZip ShowsSecret rows ss → AllByRecursion (λ r. IsTrue (is_int (rowid r))) rows
+has_int : (rows : List Row) (ss : List Secret) → AllZip ShowsSecret rows ss
+    → AllByRecursion (λ r. IsTrue (is_int (rowid r))) rows
 has_int [] ss zip = tt
 has_int (r ∷ rows) [] zip = absurd zip
 has_int (r ∷ rows) (s ∷ ss) zip = (ap is_int zip.0.rowid, has_int rows ss zip.1)
@@ -294,30 +338,39 @@ module _ (id : ℤ) where
   pub has_id : (r : Row) (s : Secret) → ShowsSecret r s → has_rowid id r ≡ is_eq (int_cmp s.rowid id)
   has_id r s shown = ap (λ v. is_eq (value_cmp v (Int id))) shown.rowid ∙ ap is_eq (value_cmp-Int s.rowid id)
 
-  none_above : (s : Secret) → is_eq (int_cmp s.rowid id) ≡ true → (rows : List Row) (ss : List Secret) → AllZip ShowsSecret rows ss
-      → AllByRecursion (λ (t : Secret). int_lt s.rowid t.rowid ≡ true) ss → AllByRecursion (λ r. has_rowid id r ≡ false) rows
+  none_above : (s : Secret) → is_eq (int_cmp s.rowid id) ≡ true → (rows : List Row) (ss : List Secret)
+      → AllZip ShowsSecret rows ss
+      → AllByRecursion (λ (t : Secret). int_lt s.rowid t.rowid ≡ true) ss
+      → AllByRecursion (λ r. has_rowid id r ≡ false) rows
   none_above s same [] ss zip above = tt
   none_above s same (r ∷ rows) [] zip above = absurd zip
-  none_above s same (r ∷ rows) (t ∷ ss) zip above = (has_id r t zip.0 ∙ past s.rowid t.rowid id same above.0, none_above s same rows ss zip.1 above.1)
+  none_above s same (r ∷ rows) (t ∷ ss) zip above =
+      (has_id r t zip.0 ∙ past s.rowid t.rowid id same above.0, none_above s same rows ss zip.1 above.1)
 
-  once_in : (rows : List Row) (ss : List Secret) → AllZip ShowsSecret rows ss → AreRising ss → length (filter (has_rowid id) rows) ≤ 1
+  once_in : (rows : List Row) (ss : List Secret) → AllZip ShowsSecret rows ss → AreRising ss
+      → length (filter (has_rowid id) rows) ≤ 1
   once_in [] ss zip rising = omega arith
   once_in (r ∷ rows) [] zip rising = absurd zip
   once_in (r ∷ rows) (s ∷ ss) zip rising = at (has_rowid id r) refl (once_in rows ss zip.1 rising.1)
     where
-      at : (b : Bool) → has_rowid id r ≡ b → length (filter (has_rowid id) rows) ≤ 1 → length (cond b (r ∷ filter (has_rowid id) rows) (filter (has_rowid id) rows)) ≤ 1
+      at : (b : Bool) → has_rowid id r ≡ b → length (filter (has_rowid id) rows) ≤ 1
+          → length (cond b (r ∷ filter (has_rowid id) rows) (filter (has_rowid id) rows)) ≤ 1
       at true is rest =
-          let none = filter_none (has_rowid id) rows (none_above s (sym (has_id r s zip.0) ∙ is) rows ss zip.1 rising.0) in
+          let none = filter_none (has_rowid id) rows
+          (none_above s (sym (has_id r s zip.0) ∙ is) rows ss zip.1 rising.0) in
           let empty = ap length none in omega (arith, empty)
       at false is rest = rest
 
-pub rowids_of : (tree : List Row) (ss : List Secret) → HasShown ShowsSecret secret_columns tree ss → AreRising ss → HasRowids tree
+pub rowids_of : (tree : List Row) (ss : List Secret) → HasShown ShowsSecret secret_columns tree ss → AreRising ss
+    → HasRowids tree
 rowids_of tree ss shown rising = record {
   numbered =
       all_from_map (λ r. IsTrue (is_int (rowid r))) secret_columns tree
-      (all-permutation (λ r. IsTrue (is_int (rowid r))) shown.0 (map secret_columns tree) (IsPermutation-sym _ _ shown.1) (has_int shown.0 ss shown.2));
+      (all-permutation (λ r. IsTrue (is_int (rowid r))) shown.0 (map secret_columns tree)
+      (IsPermutation-sym _ _ shown.1) (has_int shown.0 ss shown.2));
   once = λ id.
-      let same = length_permutation _ _ (IsPermutation-filter (has_rowid id) (map secret_columns tree) shown.0 shown.1) in
+      let same = length_permutation _ _
+      (IsPermutation-filter (has_rowid id) (map secret_columns tree) shown.0 shown.1) in
       let kept = ap length (filter-map (has_rowid id) secret_columns tree) in
       let many = length-map (filter (has_rowid id) tree) secret_columns in
       let most = once_in id shown.0 ss shown.2 rising in omega (arith, same, kept, many, most);

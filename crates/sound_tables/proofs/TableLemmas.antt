@@ -44,19 +44,22 @@ module _ (Known : Schema → Type 0) (text : List ℕ) (t : ℕ) (shown : List T
   is_plain : IsPlain (understood schema text)
   is_plain = subst IsPlain (sym under.is) (refl, refl)
 
-  answered : (rows : List Row) → Answers s.now (record { lets = []; body = whole t shown }) [] rows → IsPermutation (map (shows [] shown) (s.now.trees t)) rows
+  answered : (rows : List Row) → Answers s.now (record { lets = []; body = whole t shown }) [] rows
+      → IsPermutation (map (shows [] shown) (s.now.trees t)) rows
   answered rows h =
       subst (λ tree. IsPermutation (map (shows [] shown) tree) rows) (every_row (s.now.trees t))
       (scanned_by in_order t [] shown schema s.now.trees [] rows h)
 
-  pub shown_whole : (b : State) (rows : List Row) → Shown text [] s b rows → IsPermutation (map (shows [] shown) (s.now.trees t)) rows
+  pub shown_whole : (b : State) (rows : List Row) → Shown text [] s b rows
+      → IsPermutation (map (shows [] shown) (s.now.trees t)) rows
   shown_whole b rows h = answered rows (reads_as text [] s b schema refl _ is_select is_plain under.unlisted rows h)
 
   pub shown_by_first : ShowsKey shown → (b : State) (rows : List Row) → Shown text [] s b rows → AreByFirst rows
   shown_by_first first b rows h = by_first t shown first schema s.now.trees rows
       (reads_as text [] s b schema refl _ is_select is_plain under.unlisted rows h)
 
-  pub begun_whole : (rows : List Row) → Begins text [] s rows → (tail : List Row) × IsPermutation (map (shows [] shown) (s.now.trees t)) (rows ++ tail)
+  pub begun_whole : (rows : List Row) → Begins text [] s rows → (tail : List Row)
+      × IsPermutation (map (shows [] shown) (s.now.trees t)) (rows ++ tail)
   begun_whole rows h =
       let it = begins_as text [] s s schema refl _ is_select is_plain under.unlisted rows h in
       (it.1.0, answered (rows ++ it.1.0) (record { typed = it.0; answer = it.1.1 }))
@@ -72,7 +75,9 @@ module _ (Known : Schema → Type 0) (text : List ℕ) (t : ℕ) (shown : List T
     taken = λ limit e. taken_by limit e;
   }
     where
-      taken_by : (limit : Option ℕ) (e : Error) → RefusesToRead limit (Select (record { lets = []; body = whole t shown }) names) s.now [] e → (e ≡ SqliteFailure OperationInterrupted) × IsSome limit
+      taken_by : (limit : Option ℕ) (e : Error)
+          → RefusesToRead limit (Select (record { lets = []; body = whole t shown }) names) s.now [] e
+          → (e ≡ SqliteFailure OperationInterrupted) × IsSome limit
       taken_by limit e (inl mismatch) = absurd (let no = mismatch.1 in let yes = under.typed in cc)
       taken_by limit e (inr (inl (_, inl none))) = absurd none
       taken_by limit e (inr (inl (_, inr fold))) = absurd fold.4
@@ -80,13 +85,17 @@ module _ (Known : Schema → Type 0) (text : List ℕ) (t : ℕ) (shown : List T
 
 -- ---- rows that each show a value, or one that shows none
 
-all_shown : {X : Type 0} (is_shown : Shows X) (of : Row → Row) (tree : List Row) → AllByRecursion (λ r. (x : X) × is_shown (of r) x) tree → AllByRecursion (λ r. (x : X) × is_shown r x) (map of tree)
+all_shown : {X : Type 0} (is_shown : Shows X) (of : Row → Row) (tree : List Row)
+    → AllByRecursion (λ r. (x : X) × is_shown (of r) x) tree
+    → AllByRecursion (λ r. (x : X) × is_shown r x) (map of tree)
 all_shown is_shown of [] all = tt
 all_shown is_shown of (r ∷ tree) all = (all.0, all_shown is_shown of tree all.1)
 
-chosen : {X : Type 0} (is_shown : Shows X) (rows tail : List Row) → AllByRecursion (λ r. (x : X) × is_shown r x) (rows ++ tail) → (xs : List X) × AllZip is_shown rows xs
+chosen : {X : Type 0} (is_shown : Shows X) (rows tail : List Row)
+    → AllByRecursion (λ r. (x : X) × is_shown r x) (rows ++ tail) → (xs : List X) × AllZip is_shown rows xs
 chosen is_shown [] tail all = ([], tt)
-chosen is_shown (r ∷ rows) tail all = let rest = chosen is_shown rows tail all.1 in (all.0.0 ∷ rest.0, (all.0.1, rest.1))
+chosen is_shown (r ∷ rows) tail all = let rest = chosen is_shown rows tail all.1 in
+    (all.0.0 ∷ rest.0, (all.0.1, rest.1))
 
 module _ {X : Type 0} (is_shown : Shows X) (Known : Schema → Type 0) (text : List ℕ) (t : ℕ) (shown : List Term)
     (names : List (List ℕ)) (reads : ReadsTree Known text (whole t shown) names) (first : ShowsKey shown) (a b : State)
@@ -100,19 +109,23 @@ module _ {X : Type 0} (is_shown : Shows X) (Known : Schema → Type 0) (text : L
         text t shown names reads a has first b h.1.0 h.1.1,
   )
 
-  pub lacks_shown : (xs : List X) → Fits is_shown text a b xs false → LacksShown is_shown (shows [] shown) (a.now.trees t)
+  pub lacks_shown : (xs : List X) → Fits is_shown text a b xs false
+      → LacksShown is_shown (shows [] shown) (a.now.trees t)
   lacks_shown xs h all =
       let it = begun_whole Known text t shown names reads a has h.1.0 h.1.1 in
-      let each = all-permutation (λ r. (x : X) × is_shown r x) _ _ it.1 (all_shown is_shown (shows [] shown) (a.now.trees t) all) in
+      let each = all-permutation (λ r. (x : X) × is_shown r x) _ _ it.1
+      (all_shown is_shown (shows [] shown) (a.now.trees t) all) in
       let some = chosen is_shown h.1.0 it.0 each in
       h.1.2 some.0 some.1
 
-  pub tells : (r : Result (Option (Vec X Global)) Error) → IfOk r (Finds is_shown text a b) → IfOk r (Tells is_shown (shows [] shown) (a.now.trees t))
+  pub tells : (r : Result (Option (Vec X Global)) Error) → IfOk r (Finds is_shown text a b)
+      → IfOk r (Tells is_shown (shows [] shown) (a.now.trees t))
   tells (Ok (Some xs)) h = has_shown xs.items h
   tells (Ok None) h = lacks_shown [] h
   tells (Err e) h = tt
 
-pub unchanged_by : {X : Type 0} (is_shown : Shows X) (text : List ℕ) (a b : State) (r : Result (Option (Vec X Global)) Error) → IfOk r (Finds is_shown text a b) → OnOk r (IsUnchanged a b)
+pub unchanged_by : {X : Type 0} (is_shown : Shows X) (text : List ℕ) (a b : State)
+    (r : Result (Option (Vec X Global)) Error) → IfOk r (Finds is_shown text a b) → OnOk r (IsUnchanged a b)
 unchanged_by is_shown text a b (Ok (Some xs)) h = h.0
 unchanged_by is_shown text a b (Ok None) h = h.0
 unchanged_by is_shown text a b (Err e) h = tt

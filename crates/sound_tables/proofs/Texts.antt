@@ -24,7 +24,15 @@ abbrev pub whole : ℕ → List Term → Query
 whole t shown = scan_by in_order t [] shown
 
 abbrev pub compiled_as : List ℕ → Query → List (List ℕ) → Compiled
-compiled_as text q names = record { command = Select (record { lets = []; body = q }) names; names = []; formats = []; returning = None; start = 0; end = length text; tail = length text }
+compiled_as text q names = record {
+  command = Select (record { lets = []; body = q }) names;
+  names = [];
+  formats = [];
+  returning = None;
+  start = 0;
+  end = length text;
+  tail = length text;
+}
 
 -- under this schema the text is this query
 pub record ReadsUnder (schema : Schema) (text : List ℕ) (q : Query) (names : List (List ℕ)) : Type 0 where

@@ -17,7 +17,8 @@ use Rattle.spool_sql.specs.declared.cause.Cause.TheVariants.{Other}
 use Rattle.spool_sql.specs.Readable.{IsRefusal}
 use Rattle.spool_sql.specs.Stored.{IsTables, IsTablesOf}
 use Rattle.sound_tables.specs.Shown.{ShowsMeta, ShowsEndpoint, ShowsSecret, ShowsDelivery, ShowsAttempt}
-use Rattle.sound_tables.specs.Tables.{HasShown, LacksShown, Tells, meta_columns, endpoint_columns, secret_columns, delivery_columns, attempt_columns}
+use Rattle.sound_tables.specs.Tables.{HasShown, LacksShown, Tells, meta_columns, endpoint_columns, secret_columns}
+use Rattle.sound_tables.specs.Tables.{delivery_columns, attempt_columns}
 use Rattle.sound_tables.specs.declared.meta.Meta.{Meta}
 use Rattle.sound_tables.specs.declared.secret.Secret.{Secret}
 use Rattle.sound_tables.specs.declared.stored.StoredRows.{StoredRows}
@@ -129,7 +130,8 @@ TellsEndpoints db endpoints secrets =
 
 abbrev pub TellsEvents : Database → Option (Vec Delivery Global) → Option (Vec Attempt Global) → Type 0
 TellsEvents db deliveries attempts =
-    Tells ShowsDelivery delivery_columns (db.trees 5) deliveries × Tells ShowsAttempt attempt_columns (db.trees 7) attempts
+    Tells ShowsDelivery delivery_columns (db.trees 5) deliveries
+    × Tells ShowsAttempt attempt_columns (db.trees 7) attempts
 
 -- the rows of the four tables beside meta show these values
 pub record AreShown (db : Database) (rows : StoredRows) : Type 0 where

@@ -41,7 +41,8 @@ is_one names name = false
 
 -- the column at this place names a row of the parent, by this column of it
 abbrev pub is_reference : Reference → (place : ℕ) → (parent column : List ℕ) → Bool
-is_reference r place parent column = pointwise nat_eq r.columns (place ∷ []) && (same_name r.parent parent && is_one r.parent_columns column)
+is_reference r place parent column = pointwise nat_eq r.columns (place ∷ [])
+    && (same_name r.parent parent && is_one r.parent_columns column)
 
 abbrev pub refers : Table → (place : ℕ) → (parent column : List ℕ) → Bool
 refers table place parent column = list_any (λ r. is_reference r place parent column) table.references
@@ -50,13 +51,16 @@ abbrev pub is_endpoints : Table → Bool
 is_endpoints t = same_name t.name (codes "endpoints") && (is_numbered t.key && is_unique t (2 ∷ []))
 
 abbrev pub is_secrets : Table → Bool
-is_secrets t = same_name t.name (codes "secrets") && (is_unique t (1 ∷ 2 ∷ []) && refers t 1 (codes "endpoints") (codes "put"))
+is_secrets t = same_name t.name (codes "secrets")
+    && (is_unique t (1 ∷ 2 ∷ []) && refers t 1 (codes "endpoints") (codes "put"))
 
 abbrev pub is_deliveries : Table → Bool
-is_deliveries t = same_name t.name (codes "deliveries") && (is_numbered t.key && (is_unique t (2 ∷ 3 ∷ []) && refers t 2 (codes "endpoints") (codes "put")))
+is_deliveries t = same_name t.name (codes "deliveries")
+    && (is_numbered t.key && (is_unique t (2 ∷ 3 ∷ []) && refers t 2 (codes "endpoints") (codes "put")))
 
 abbrev pub is_attempts : Table → Bool
-is_attempts t = same_name t.name (codes "attempts") && (is_numbered t.key && (is_unique t (2 ∷ 3 ∷ []) && refers t 2 (codes "deliveries") (codes "seq")))
+is_attempts t = same_name t.name (codes "attempts")
+    && (is_numbered t.key && (is_unique t (2 ∷ 3 ∷ []) && refers t 2 (codes "deliveries") (codes "seq")))
 
 abbrev pub is_topics : Table → Bool
 is_topics t =

@@ -13,7 +13,8 @@ AreByFirst rows = IsSorted (λ r s. value_cmp (column r 0) (column s 0)) rows
 
 -- each row shows one of these values, in the order of its first column, where a query shows so much of a row
 abbrev pub HasShown : {X : Type 0} → Shows X → (of : Row → Row) → (tree : List Row) → List X → Type 0
-HasShown shows of tree xs = (rows : List Row) × IsPermutation (map of tree) rows × AllZip shows rows xs × AreByFirst rows
+HasShown shows of tree xs = (rows : List Row) × IsPermutation (map of tree) rows × AllZip shows rows xs
+    × AreByFirst rows
 
 -- not every row shows a value
 abbrev pub LacksShown : {X : Type 0} → Shows X → (of : Row → Row) → (tree : List Row) → Type 0

@@ -1,5 +1,6 @@
 -- What is told of a store whose rows don't obey the schema that it lists, by its table `meta`.
-use Rattle.std.specs.Prelude.{◌≡◌, ◌+◌, ◌<◌, ◌≤◌, ◌&&◌, ℕ, pos, Bool, false, List, [], ◌∷◌, map, filter, find, take, codes, bytes_eq, Option, Some, None}
+use Rattle.std.specs.Prelude.{◌≡◌, ◌+◌, ◌<◌, ◌≤◌, ◌&&◌, ℕ, pos, Bool, false, List, [], ◌∷◌, map, filter, find, take}
+use Rattle.std.specs.Prelude.{codes, bytes_eq, Option, Some, None}
 use Rattle.sqlite_value.specs.declared.value.Value.{Value}
 use Rattle.sqlite_value.specs.declared.value.Value.TheVariants.{Null, Int, Real, Text, Blob}
 use Rattle.sqlite_value.specs.Order.{Row, column}
@@ -34,12 +35,14 @@ is_meta_object row = is_text (column row 1) (codes "table") && is_text (column r
 -- the first table that is listed as `meta` is this tree
 abbrev pub ListsMeta : View → ℕ → Type 0
 ListsMeta v tree =
-    (object : Row) × (find is_meta_object (objects_of v) ≡ Some object) × (column object 0 ≡ Int (pos (tree + 1))) × (tree < 65536)
+    (object : Row) × (find is_meta_object (objects_of v) ≡ Some object) × (column object 0 ≡ Int (pos (tree + 1)))
+    × (tree < 65536)
 
 -- the row with the key 1 of this tree, which is a table, names the relay
 abbrev pub KeepsMeta : View → ℕ → Meta → Type 0
 KeepsMeta v tree m =
-    (v.shape tree ≡ Table) × ((row : Row) × (filter (has_rowid (pos 1)) (v.trees tree) ≡ row ∷ []) × ShowsMeta (meta_columns row) m)
+    (v.shape tree ≡ Table) × ((row : Row) × (filter (has_rowid (pos 1)) (v.trees tree) ≡ row ∷ [])
+    × ShowsMeta (meta_columns row) m)
 
 abbrev pub NamesRelay : View → Meta → Type 0
 NamesRelay v m = (tree : ℕ) × ListsMeta v tree × KeepsMeta v tree m
@@ -57,7 +60,8 @@ abbrev pub ReadsRelay : View → Option Meta → Type 0
 ReadsRelay v (Some m) = NamesRelay v m
 ReadsRelay v None = (m : Meta) → NamesRelay v m → ⊥
 
--- As what the store is told: it doesn't name the relay; it names it, of a later version; or of no later version. Or a look at it was refused.
+-- As what the store is told: it doesn't name the relay; it names it, of a later version; or of no later version. Or a
+-- look at it was refused.
 abbrev pub IsToldUnsound : View → TableFault → Type 0
 IsToldUnsound v NotOurs = (m : Meta) → NamesRelay v m → ⊥
 IsToldUnsound v NewerVersion = (m : Meta) × NamesRelay v m × (version : ℕ) × (m.version ≡ pos version) × (2 < version)

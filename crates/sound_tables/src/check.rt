@@ -22,11 +22,12 @@ use crate::version::Version;
 use sqlite::{Alter, Connection};
 use std::alloc::Global;
 
-/// Checks that the rows are those of a legal history, and returns its number of records. It reads each table once, row by
-/// row, whoever wrote it, and writes nothing. It reads `meta` first, so tables of another version are reported as such
-/// whatever is in them. A store that lacks one of the six tables is `NotOurs`, and one whose tables lack a key or a
-/// reference is `Damaged`. It passes over other tables. It takes memory for the numbers in the rows, and time in
-/// proportion to `n log n`.
+/// Checks that the rows are those of a legal history, and returns its number of records. It reads
+/// each table once, row by row, whoever wrote it, and writes nothing. It reads `meta` first, so
+/// tables of another version are reported as such whatever is in them. A store that lacks one of
+/// the six tables is `NotOurs`, and one whose tables lack a key or a reference is `Damaged`. It
+/// passes over other tables. It takes memory for the numbers in the rows, and time in proportion to
+/// `n log n`.
 pub fn check_tables<S: Alter>(conn: &mut Connection<S>, alloc: Global) -> Result<u64, TableFault>
     ensures looks { Looks S.Store conn.old conn.new }
     ensures ours { has_meta (state S.Store conn.old).now.schema ≡ false → result ≡ Err TableFault.NotOurs }

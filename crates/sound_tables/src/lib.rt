@@ -1,5 +1,5 @@
-//! The tables of a store that anyone may have written, read row by row: what the rows show, where their values keep their
-//! rules.
+//! The tables of a store that anyone may have written, read row by row: what the rows show, where
+//! their values keep their rules.
 #![tactic(auto)]
 
 mod attempt;

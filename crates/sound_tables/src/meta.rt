@@ -7,7 +7,8 @@ use crate::value::{int_at, text_at};
 use sqlite::Row;
 use std::alloc::{AllocError, Global};
 
-/// The row of the relay's `meta`: its key, the version of the tables and how many records they hold, as they stand there.
+/// The row of the relay's `meta`: its key, the version of the tables and how many records they
+/// hold, as they stand there.
 #[derive(Clone, Copy)]
 pub(crate) struct Meta {
     pub key: i64,

@@ -8,8 +8,8 @@ use crate::secret::Secret;
 use relay_types::MAX_SECRETS;
 use sound_rows::Endpoint;
 
-/// Whether each endpoint has 1 to 4 secrets, at the places 0, 1, .. It brings the secrets into the order of their endpoints
-/// and places.
+/// Whether each endpoint has 1 to 4 secrets, at the places 0, 1, .. It brings the secrets into the
+/// order of their endpoints and places.
 pub(crate) fn are_in_places(endpoints: &[Endpoint], secrets: &mut [Secret]) -> bool
     ensures permutation { IsPermutation secrets.old secrets.new }
     ensures sorted { IsSorted by_place secrets.new }

@@ -18,8 +18,9 @@ pub(crate) trait Reading: Drop {
         ensures { IfOk result (IsReadAs is_shown row.now) };
 }
 
-/// What the rows show that the query answers, one for each, or nothing where a row shows none. It holds a few rows at a
-/// time beside what they show, and stops at the first that shows nothing. Memory has no room for what a `u64` doesn't count.
+/// What the rows show that the query answers, one for each, or nothing where a row shows none. It
+/// holds a few rows at a time beside what they show, and stops at the first that shows nothing.
+/// Memory has no room for what a `u64` doesn't count.
 pub(crate) fn read_table<S: Alter, T: Reading>(
     conn: &mut Connection<S>,
     sql: &str,

@@ -22,8 +22,9 @@ use sqlite_value::row::Row;
 use sqlite_value::value::ValueRef;
 use std::alloc::{AllocError, Global};
 
-/// What is told of a store of which `sqlite` said that its rows don't obey its schema: `Damaged` where its `meta` names the relay, but
-/// `NewerVersion` where it names a later version, and `NotOurs` where it doesn't name the relay. Nothing is written.
+/// What is told of a store of which `sqlite` said that its rows don't obey its schema: `Damaged`
+/// where its `meta` names the relay, but `NewerVersion` where it names a later version, and
+/// `NotOurs` where it doesn't name the relay. Nothing is written.
 pub fn judge_unsound<S: Alter>(store: &mut S, alloc: Global) -> TableFault
     ensures rows { IsClean (S.Store.view store.new) → IsToldUnsound (S.Store.view store.old) result }
     ensures failed { TellsFailed (S.Store.blamed store.new) result }

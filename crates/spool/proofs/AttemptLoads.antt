@@ -105,14 +105,17 @@ no_more f (x ∷ xs) = at (f x) (no_more f xs)
     at (Some y) rest = omega (arith, rest)
 
 -- an endpoint that has the name is found by its number
-by_number : (n : ℕ) (name : Text) (es : List Endpoint) (found : Endpoint) → Rises n es → finds name es ≡ Some found → (find (λ (e : Endpoint). e.put == found.put) es ≡ Some found) × (found.name ≡ name)
+by_number : (n : ℕ) (name : Text) (es : List Endpoint) (found : Endpoint) → Rises n es → finds name es ≡ Some found
+    → (find (λ (e : Endpoint). e.put == found.put) es ≡ Some found) × (found.name ≡ name)
 by_number n name [] found rises is = absurd (let no = is in cc)
 by_number n name (e ∷ es) found rises is = at (λ later. by_number (e.put + 1) name es found rises.1 later) (bytes_eq e.name name) refl is
   where
     some_is : Some e ≡ Some found → e ≡ found
     some_is h = cc
 
-    at : (finds name es ≡ Some found → (find (λ (x : Endpoint). x.put == found.put) es ≡ Some found) × (found.name ≡ name)) → (b : Bool) → bytes_eq e.name name ≡ b → (if b then Some e else finds name es) ≡ Some found → (find (λ (x : Endpoint). x.put == found.put) (e ∷ es) ≡ Some found) × (found.name ≡ name)
+    at : (finds name es ≡ Some found → (find (λ (x : Endpoint). x.put == found.put) es ≡ Some found)
+        × (found.name ≡ name)) → (b : Bool) → bytes_eq e.name name ≡ b → (if b then Some e else finds name es)
+        ≡ Some found → (find (λ (x : Endpoint). x.put == found.put) (e ∷ es) ≡ Some found) × (found.name ≡ name)
     at more true same h = subst (λ (t : Endpoint). (find (λ (x : Endpoint). x.put == t.put) (e ∷ es) ≡ Some t) × (t.name ≡ name)) (some_is h)
         (ap (λ b. if b then Some e else find (λ (x : Endpoint). x.put == e.put) es) (eq-eqb e.put e.put refl), (bytes_eq-Decides e.name name).0 same)
     at more false other h =
@@ -129,7 +132,9 @@ name_back records name known = at (endpoint_of records name) refl known
     at (Some e) is there =
         let found = by_number 0 name (endpoints records) e (puts_rise records) is in
         ap (λ o. name_put (rows_of records).endpoints (option_map_or (λ (x : Endpoint). x.put) o 0)) is
-        ∙ ap (λ o. option_map_or (λ (x : EndpointRow). x.name) o []) (find_map (endpoint_row records) (λ (x : EndpointRow). x.put == e.put) (endpoints records) ∙ ap (option_map (endpoint_row records)) found.0)
+        ∙ ap (λ o. option_map_or (λ (x : EndpointRow). x.name) o [])
+        (find_map (endpoint_row records) (λ (x : EndpointRow). x.put == e.put) (endpoints records)
+        ∙ ap (option_map (endpoint_row records)) found.0)
         ∙ found.1
 
 -- Entries
@@ -139,7 +144,9 @@ module _ (records : List Record) where
   tied d = attempts_tied d 0 records
 
   entries_tied : (m n : ℕ) (some : List Record) → take m records ≡ records → AllKnown records some
-      → map (attempted_entry records (rows_of records).attempts) (filter_map (delivery_row records) (enumerate_from n some)) ≡ filter_map (entry_by (attempts_of records) (attempts_of (take m records))) (enumerate_from n some)
+      → map (attempted_entry records (rows_of records).attempts)
+      (filter_map (delivery_row records) (enumerate_from n some))
+      ≡ filter_map (entry_by (attempts_of records) (attempts_of (take m records))) (enumerate_from n some)
   entries_tied m n [] whole known = refl
   entries_tied m n (Put name target max secrets ∷ rest) whole known = entries_tied m (n + 1) rest whole known.1
   entries_tied m n (Secrets name secrets ∷ rest) whole known = entries_tied m (n + 1) rest whole known.1
@@ -178,11 +185,15 @@ module _ (records : List Record) where
   map_after f before after same [] = refl
   map_after f before after same (d ∷ ds) = λ i. same d i ∷ map_after f before after same ds i
 
-  pub attempts_more : (row : AttemptRow) (old new : Deliveries) → new.book ≡ with_outcome_restored old.book row.delivery row.status row.at → new.clock ≡ max old.clock row.at → Attempts old new (row ∷ []) records
+  pub attempts_more : (row : AttemptRow) (old new : Deliveries)
+      → new.book ≡ with_outcome_restored old.book row.delivery row.status row.at → new.clock ≡ max old.clock row.at
+      → Attempts old new (row ∷ []) records
   attempts_more row old new book clock before after parted h = record {
     entries = ap (λ (b : BookValue). b.entries) book
         ∙ ap (map (at_delivery row.delivery (with_attempt_restored row.status row.at))) h.entries
-        ∙ map_after (at_delivery row.delivery (with_attempt_restored row.status row.at)) (attempted_entry records before) (attempted_entry records (before ++ row ∷ [])) (attempted_more before row) (rows_of records).deliveries;
+        ∙ map_after (at_delivery row.delivery (with_attempt_restored row.status row.at))
+        (attempted_entry records before) (attempted_entry records (before ++ row ∷ [])) (attempted_more before row)
+        (rows_of records).deliveries;
     unsettled = ap (λ (b : BookValue). b.unsettled) book ∙ h.unsettled;
     next_seq = omega (arith, ap (λ (b : BookValue). b.next_seq) book, h.next_seq);
     settled_seq = ap (λ (b : BookValue). b.settled_seq) book ∙ h.settled_seq;
@@ -296,7 +307,8 @@ module _ (records : List Record) where
           (lt-ltb (length mine) MAX_RECORDS few)
 
   -- no attempt is read yet
-  pub attempts_none : (loaded : Deliveries) → IsLegal records → AreAccepted loaded records (rows_of records).deliveries → IsReadTo (λ (a : AttemptRow). a.seq) (rows_of records).attempts (HaveAttempts loaded records) 0
+  pub attempts_none : (loaded : Deliveries) → IsLegal records → AreAccepted loaded records (rows_of records).deliveries
+      → IsReadTo (λ (a : AttemptRow). a.seq) (rows_of records).attempts (HaveAttempts loaded records) 0
   attempts_none loaded legal h =
       read_none (λ (a : AttemptRow). a.seq) (rows_of records).attempts (HaveAttempts loaded records)
       (rising_higher (λ (a : AttemptRow). a.seq) 0 (length records) MAX_RECORDS (rows_of records).attempts (legal_length records legal) attempts_rise) (record {

@@ -55,11 +55,14 @@ none_settled [] = refl
 none_settled (e ∷ es) = ap (λ rest. e ∷ rest) (none_settled es)
 
 module _ (records : List Record) where
-  entries_back : (es : List Endpoint) → map (entry_of_row records) (map (endpoint_row records) es) ≡ map (entry_for records) es
+  entries_back : (es : List Endpoint) → map (entry_of_row records) (map (endpoint_row records) es)
+      ≡ map (entry_for records) es
   entries_back [] = refl
   entries_back (e ∷ es) = ap (λ rest. entry_for records e ∷ rest) (entries_back es)
 
-  endpoints_stand : (loaded : Endpoints) (book : endpoint.BookValue) → IsLegal records → AreRestored loaded records (rows_of records).endpoints → book ≡ endpoint.with_settled loaded.book (length records)
+  endpoints_stand : (loaded : Endpoints) (book : endpoint.BookValue) → IsLegal records
+      → AreRestored loaded records (rows_of records).endpoints
+      → book ≡ endpoint.with_settled loaded.book (length records)
       → endpoint_book.StandsFor book records (length records)
   endpoints_stand loaded book legal h is = stands-restored book records legal (record {
     entries = ap (λ (b : endpoint.BookValue). b.entries) is
@@ -70,11 +73,13 @@ module _ (records : List Record) where
     settled_seq = ap (λ (b : endpoint.BookValue). b.settled_seq) is;
   })
 
-  deliveries_stand : (loaded : Deliveries) (book : delivery.BookValue) → IsLegal records → AreAttempted loaded records → book ≡ delivery.with_settled loaded.book (length records)
+  deliveries_stand : (loaded : Deliveries) (book : delivery.BookValue) → IsLegal records → AreAttempted loaded records
+      → book ≡ delivery.with_settled loaded.book (length records)
       → delivery_book.StandsFor book records (length records)
   deliveries_stand loaded book legal h is = stands_restored book records legal (record {
     entries = ap (λ (b : delivery.BookValue). b.entries) is
-        ∙ ap (λ os. map (at_outcomes (front_below (length records) os) with_latest_settled) loaded.book.entries) h.unsettled
+        ∙ ap (λ os. map (at_outcomes (front_below (length records) os) with_latest_settled) loaded.book.entries)
+        h.unsettled
         ∙ none_settled loaded.book.entries ∙ h.entries;
     unsettled = ap (λ (b : delivery.BookValue). b.unsettled) is ∙ ap (rest_from (length records)) h.unsettled;
     next_seq = omega (arith, ap (λ (b : delivery.BookValue). b.next_seq) is, h.next_seq);
@@ -82,17 +87,24 @@ module _ (records : List Record) where
   })
 
 -- what was read, once all of it is settled
-pub books_read : (db : Database) (endpoints : Endpoints) (deliveries : Deliveries) (count : ℕ) (read : Result Books RowFault)
-    → IfOk read (λ books. books.endpoints ≡ endpoint.with_settled endpoints.book count) → IfOk read (λ books. books.deliveries ≡ delivery.with_settled deliveries.book count)
+pub books_read : (db : Database) (endpoints : Endpoints) (deliveries : Deliveries) (count : ℕ)
+    (read : Result Books RowFault)
+    → IfOk read (λ books. books.endpoints ≡ endpoint.with_settled endpoints.book count)
+    → IfOk read (λ books. books.deliveries ≡ delivery.with_settled deliveries.book count)
     → IfOk read (λ books. books.records ≡ count) → IfOk read (λ books. books.clock ≡ deliveries.clock)
-    → ((records : List Record) → IsLegal records → IsTables db (rows_of records) → AreRestored endpoints records (rows_of records).endpoints × (AreAttempted deliveries records × (count ≡ length records)))
-    → IfOk read (λ books. (records : List Record) → IsLegal records → IsTables db (rows_of records) → AreBooks books records)
+    → ((records : List Record) → IsLegal records → IsTables db (rows_of records)
+    → AreRestored endpoints records (rows_of records).endpoints
+    × (AreAttempted deliveries records × (count ≡ length records)))
+    → IfOk read (λ books. (records : List Record) → IsLegal records → IsTables db (rows_of records)
+    → AreBooks books records)
 books_read db endpoints deliveries count (Err fault) first second third fourth known = tt
 books_read db endpoints deliveries count (Ok books) first second third fourth known = λ records legal tables.
     let all = known records legal tables in
     record {
-      endpoints = endpoints_stand records endpoints books.endpoints legal all.0 (first ∙ ap (endpoint.with_settled endpoints.book) all.1.1);
-      deliveries = deliveries_stand records deliveries books.deliveries legal all.1.0 (second ∙ ap (delivery.with_settled deliveries.book) all.1.1);
+      endpoints = endpoints_stand records endpoints books.endpoints legal all.0 (first
+          ∙ ap (endpoint.with_settled endpoints.book) all.1.1);
+      deliveries = deliveries_stand records deliveries books.deliveries legal all.1.0 (second
+          ∙ ap (delivery.with_settled deliveries.book) all.1.1);
       records = third ∙ all.1.1;
       clock = fourth ∙ all.1.0.clock;
     }
@@ -108,30 +120,38 @@ module _ {S : Type 0} (g : Ghosts S) (old new : VaultValue S) where
   abbrev IsSettled : State → Type 0
   IsSettled s = (db : Trees) → IsTrue s.is_open → s.may_leave db → db ≡ s.committed.trees
 
-  holds_still : KeepsOpen before after → new.next ≡ old.next → IsTrue after.is_open → (history : List Record) → Holds g old history → Holds g new history
+  holds_still : KeepsOpen before after → new.next ≡ old.next → IsTrue after.is_open → (history : List Record)
+      → Holds g old history → Holds g new history
   holds_still keeps next is_open history held = record {
     legal = held.legal;
     stands = (keeps is_open).1 (rows_of history) held.stands;
     next = next ∙ held.next;
   }
 
-  holds_seen : KeepsOpen before after → new.next ≡ old.next → IsTrue after.is_open → IsSettled after → (history : List Record) → Holds g old history → HoldsOnDisk g new history
+  holds_seen : KeepsOpen before after → new.next ≡ old.next → IsTrue after.is_open → IsSettled after
+      → (history : List Record) → Holds g old history → HoldsOnDisk g new history
   holds_seen keeps next is_open settled history held =
       let still = holds_still keeps next is_open history held in
       (still, leaves_commit after (rows_of history) still.stands settled)
 
-  pub leaves_held : (result : Result Books LoadFault) → (result ≡ Err Closed → ⊥) → (IsSeen result → IsTrue after.is_open) → KeepsOpen before after → Survives before after (λ _. ⊥) → HasCleanDisk after → new.next ≡ old.next
+  pub leaves_held : (result : Result Books LoadFault) → (result ≡ Err Closed → ⊥)
+      → (IsSeen result → IsTrue after.is_open) → KeepsOpen before after → Survives before after (λ _. ⊥)
+      → HasCleanDisk after → new.next ≡ old.next
       → IsSettled before → IsSettled after → LeavesHeld g old new result
-  leaves_held (Ok books) tried seen keeps survives clean next was_settled settled = holds_seen keeps next (seen tt) settled
+  leaves_held (Ok books) tried seen keeps survives clean next was_settled settled =
+      holds_seen keeps next (seen tt) settled
   leaves_held (Err Closed) tried seen keeps survives clean next was_settled settled = absurd (tried refl)
-  leaves_held (Err OutOfMemory) tried seen keeps survives clean next was_settled settled = holds_seen keeps next (seen tt) settled
+  leaves_held (Err OutOfMemory) tried seen keeps survives clean next was_settled settled =
+      holds_seen keeps next (seen tt) settled
   leaves_held (Err (Store error)) tried seen keeps survives clean next was_settled settled = λ history held. (
     (λ is_open. holds_still keeps next is_open history held),
-    leaves_along before after (λ r. r ≡ rows_of history) survives clean (leaves_commit before (rows_of history) held.stands was_settled),
+    leaves_along before after (λ r. r ≡ rows_of history) survives clean
+        (leaves_commit before (rows_of history) held.stands was_settled),
   )
 
 -- What a read leaves, whatever it is answered
-pub only_read : (old new : State) → KeepsOpen old new → Survives old new (λ _. ⊥) → HasCleanDisk new → IsOnlyRead old new
+pub only_read : (old new : State) → KeepsOpen old new → Survives old new (λ _. ⊥) → HasCleanDisk new
+    → IsOnlyRead old new
 only_read old new keeps survives clean = record {
   stays = keeps;
   leaves = λ db may. elim (survives.crash clean db may) [ inl was ↦ was | inr none ↦ absurd none ];

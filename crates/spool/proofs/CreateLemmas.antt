@@ -16,7 +16,8 @@ abbrev IsSettled : State → Type 0
 IsSettled s = (db : Trees) → IsTrue s.is_open → s.may_leave db → db ≡ s.committed.trees
 
 -- why they weren't made
-pub unmade : {P : Trees → Type 0} (old mid new : State) (error told : Error) → (HasCleanDisk mid → IsCause old mid error)
+pub unmade : {P : Trees → Type 0} (old mid new : State) (error told : Error)
+    → (HasCleanDisk mid → IsCause old mid error)
     → Survives old mid P → Survives mid new (λ _. ⊥) → HasCleanDisk new
     → TellsFault mid new error (Store told) → IsCause old new told
 unmade old mid new error told cause first later clean (inl (is, other, same)) =
@@ -39,8 +40,14 @@ leaves_told old mid new error OutOfMemory free back cause first later clean told
     let was = back unchanged.0.was_open in
     record {
       is_open = unchanged.0.is_open;
-      back = record { now = unchanged.0.now_is ∙ was.now; committed = unchanged.0.committed_is ∙ was.committed; autocommit = unchanged.0.mode ∙ was.autocommit };
-      leaves = λ db may. settled db unchanged.0.is_open may ∙ (λ i. ((unchanged.0.committed_is ∙ was.committed) i).trees);
+      back = record {
+        now = unchanged.0.now_is ∙ was.now;
+        committed = unchanged.0.committed_is
+            ∙ was.committed;
+        autocommit = unchanged.0.mode ∙ was.autocommit;
+      };
+      leaves = λ db may. settled db unchanged.0.is_open may
+          ∙ (λ i. ((unchanged.0.committed_is ∙ was.committed) i).trees);
     }
 leaves_told old mid new error (Store fault) free back cause first later clean told same settled = (
   λ db may.

@@ -117,10 +117,12 @@ module _ (records : List Record) where
       differs same = omega (arith, same, above)
 
   -- what is looked up of an endpoint of the table
-  pub secrets_found : (before after : List EndpointRow) (row : EndpointRow) (found : List (List ℕ)) → (rows_of records).endpoints ≡ before ++ (row ∷ after) → AreSecretsOf row.put (rows_of records) found
+  pub secrets_found : (before after : List EndpointRow) (row : EndpointRow) (found : List (List ℕ))
+      → (rows_of records).endpoints ≡ before ++ (row ∷ after) → AreSecretsOf row.put (rows_of records) found
       → found ≡ secrets_of records row.name
   secrets_found before after row found is h =
-      h.3 ∙ ap (map (λ (s : SecretRow). s.secret)) (rising_order (λ (s : SecretRow). s.place) 0 (0 + length own) (secret_rows row.put own) h.0 (places_rise row.put 0 own) (subst (λ s. IsPermutation s h.0) those h.1) h.2)
+      h.3 ∙ ap (map (λ (s : SecretRow). s.secret)) (rising_order (λ (s : SecretRow). s.place) 0 (0 + length own)
+      (secret_rows row.put own) h.0 (places_rise row.put 0 own) (subst (λ s. IsPermutation s h.0) those h.1) h.2)
       ∙ secrets_back row.put 0 own
     where
       own : List (List ℕ)
@@ -149,7 +151,9 @@ module _ (records : List Record) where
       at_seq k (Outcome delivery attempt status at) e is = absurd (let no = is in cc)
 
   -- the endpoint of one more row, with its secrets
-  pub restored_more : (row : EndpointRow) (secrets : List (List ℕ)) (old new : Endpoints) → ((before after : List EndpointRow) → (rows_of records).endpoints ≡ before ++ (row ∷ after) → secrets ≡ secrets_of records row.name)
+  pub restored_more : (row : EndpointRow) (secrets : List (List ℕ)) (old new : Endpoints)
+      → ((before after : List EndpointRow) → (rows_of records).endpoints ≡ before ++ (row ∷ after)
+      → secrets ≡ secrets_of records row.name)
       → new.book ≡ with_restored old.book (restored_entry row.put row.name row.url row.max secrets row.enabled) → new.names.items ≡ old.names.items ++ known_of row ∷ []
       → Restores old new (row ∷ []) records
   restored_more row secrets old new given book names before after is h = record {
@@ -215,7 +219,9 @@ module _ (records : List Record) where
   restored_within loaded h = h.left [] (sym (append-nil (rows_of records).endpoints))
 
 -- nothing is read yet
-pub restored_none : (records : List Record) (loaded : Endpoints) → IsLegal records → loaded.book ≡ empty_book → loaded.names.items ≡ [] → IsReadTo (λ (e : EndpointRow). e.put) (rows_of records).endpoints (AreRestored loaded records) 0
+pub restored_none : (records : List Record) (loaded : Endpoints) → IsLegal records → loaded.book ≡ empty_book
+    → loaded.names.items ≡ [] → IsReadTo (λ (e : EndpointRow). e.put) (rows_of records).endpoints
+    (AreRestored loaded records) 0
 restored_none records loaded legal book names =
     read_none (λ (e : EndpointRow). e.put) (rows_of records).endpoints (AreRestored loaded records)
     (rising_higher (λ (e : EndpointRow). e.put) 0 (length records) MAX_RECORDS (rows_of records).endpoints (legal_length records legal) (endpoints_rise records)) (record {

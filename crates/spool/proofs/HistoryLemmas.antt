@@ -23,7 +23,8 @@ use Rattle.spool.specs.declared.ends.OpenFault.TheVariants.{NotOurs, NewerVersio
 use Rattle.spool.specs.declared.ends.OpenFault.TheVariants.{OutOfMemory}
 
 are_sound : (db : Database) (history : HaveHistory db) → AreSoundTables db (rows_of history.0)
-are_sound db history = let laws = legal_sound history.0 history.1 in record { tables = history.2; keyed = laws.1; sound = laws.0 }
+are_sound db history = let laws = legal_sound history.0 history.1 in
+    record { tables = history.2; keyed = laws.1; sound = laws.0 }
 
 first_sound : (db : Database) (history : HaveFirstHistory db) → AreSoundFirstTables db (rows_of history.0)
 first_sound db history = let laws = legal_sound history.0 history.1 in record

@@ -1,5 +1,7 @@
 -- The look-ups in the rows of a legal history tell which record may follow it.
-use Rattle.std.proofs.Common.{◌≡◌, ◌≤◌, ◌==◌, ℕ, suc, ◌+◌, Bool, true, false, ◌&&◌, ◌||◌, not, nat_lt, cond, List, [], ◌∷◌, ◌++◌, length, map, Option, Some, None, refl, sym, ap, subst, ◌∙◌, arith, append-nil, append_assoc}
+use Rattle.std.proofs.Common.{◌≡◌, ◌≤◌, ◌==◌, ℕ, suc, ◌+◌, Bool, true, false, ◌&&◌, ◌||◌, not, nat_lt, cond, List, []}
+use Rattle.std.proofs.Common.{◌∷◌, ◌++◌, length, map, Option, Some, None, refl, sym, ap, subst, ◌∙◌, arith, append-nil}
+use Rattle.std.proofs.Common.{append_assoc}
 use Rattle.std.specs.Prelude.{is_some, find, filter, filter_map, bytes_eq, slice_get, option_map, option_and_then, if◌then◌else◌}
 use Rattle.std.specs.List.{enumerate_from, cons_option, list_any}
 use Rattle.std.specs.Option.{option_map_or}
@@ -47,7 +49,9 @@ StandsAt n some e = (k : ℕ) × (e.put ≡ n + k) × (option_and_then name_in (
 later : (n : ℕ) (r : Record) (some : List Record) (e : Endpoint) → StandsAt (n + 1) some e → StandsAt n (r ∷ some) e
 later n r some e h = (suc h.0, omega (arith, h.1), h.2)
 
-stands_at : (n : ℕ) (some : List Record) (name : List ℕ) (e : Endpoint) → find (λ (t : Endpoint). bytes_eq t.name name) (filter_map endpoint_by (enumerate_from n some)) ≡ Some e → StandsAt n some e × (bytes_eq e.name name ≡ true)
+stands_at : (n : ℕ) (some : List Record) (name : List ℕ) (e : Endpoint)
+    → find (λ (t : Endpoint). bytes_eq t.name name) (filter_map endpoint_by (enumerate_from n some)) ≡ Some e
+    → StandsAt n some e × (bytes_eq e.name name ≡ true)
 stands_at n [] name e is = absurd (let h = is in cc)
 stands_at n (Put other target max secrets ∷ rest) name e is = at (bytes_eq other name) refl is (stands_at (n + 1) rest name e)
   where
@@ -113,7 +117,8 @@ known_in records name id n (Secrets other secrets ∷ rest) has known = known_in
 known_in records name id n (Enabled other flag ∷ rest) has known = known_in records name id (n + 1) rest has known.1
 known_in records name id n (Outcome delivery attempt status at ∷ rest) has known = known_in records name id (n + 1) rest has known.1
 
-has_event-is : (records : List Record) (name id : List ℕ) → AllKnown records records → has_endpoint records name ≡ true → has_event (rows_of records) (put_by_name (rows_of records) name) id ≡ is_some (known_as records name id)
+has_event-is : (records : List Record) (name id : List ℕ) → AllKnown records records → has_endpoint records name ≡ true
+    → has_event (rows_of records) (put_by_name (rows_of records) name) id ≡ is_some (known_as records name id)
 has_event-is records name id known has =
     ap (λ p. has_event (rows_of records) p id) (put_by_name-is records name)
     ∙ sym (some_map (λ (e : ℕ × Record). e.0) (find (λ (e : ℕ × Record). is_accept_as name id e.1) (numbered records)) ∙ known_in records name id 0 records has known)
@@ -166,12 +171,16 @@ once_more es new once lacks other = rw (filter-append (λ (e : Endpoint). bytes_
   where
     at : (b : Bool) → bytes_eq new.name other ≡ b → length (filter (λ (e : Endpoint). bytes_eq e.name other) es ++ cond b (new ∷ []) []) ≤ 1
     at true e =
-        let none : filter (λ (e : Endpoint). bytes_eq e.name other) es ≡ [] = subst (λ n. filter (λ (e : Endpoint). bytes_eq e.name n) es ≡ []) ((bytes_eq-Decides new.name other).0 e) (none_named es new.name lacks) in
+        let none : filter (λ (e : Endpoint). bytes_eq e.name other) es
+        ≡ [] = subst (λ n. filter (λ (e : Endpoint). bytes_eq e.name n) es ≡ [])
+        ((bytes_eq-Decides new.name other).0 e) (none_named es new.name lacks) in
         rw none (omega arith)
     at false e = rw (append-nil (filter (λ (e : Endpoint). bytes_eq e.name other) es)) (once other)
 
 once_step : (before : List Record) (entry : Record) → Once (endpoints before) → may_follow before entry ≡ true → Once (endpoints before ++ cons_option (endpoint_by (length before, entry)) [])
-once_step before (Put name target max secrets) once follows = once_more (endpoints before) (record { put = length before; name = name; target = target; max = max }) once (lacks (has_endpoint before name) (and_first (not (has_endpoint before name)) _ follows))
+once_step before (Put name target max secrets) once follows =
+    once_more (endpoints before) (record { put = length before; name = name; target = target; max = max }) once
+    (lacks (has_endpoint before name) (and_first (not (has_endpoint before name)) _ follows))
   where
     lacks : (b : Bool) → not b ≡ true → b ≡ false
     lacks true e = absurd (let f = e in cc)
@@ -186,14 +195,20 @@ all_once before [] once h = subst (λ r. Once (endpoints r)) (sym (append-nil be
 all_once before (entry ∷ later) once h =
     let follows = and_first (may_follow before entry) (may_all_follow (before ++ entry ∷ []) later) h in
     let rest = and_second (may_follow before entry) (may_all_follow (before ++ entry ∷ []) later) h in
-    subst (λ r. Once (endpoints r)) (append_assoc before (entry ∷ []) later) (all_once (before ++ entry ∷ []) later (subst Once (sym (endpoints-snoc before entry)) (once_step before entry once follows)) rest)
+    subst (λ r. Once (endpoints r)) (append_assoc before (entry ∷ []) later)
+    (all_once (before ++ entry ∷ []) later
+    (subst Once (sym (endpoints-snoc before entry)) (once_step before entry once follows)) rest)
 
-filter_map_row : (records : List Record) (name : List ℕ) (es : List Endpoint) → length (filter (λ (e : EndpointRow). bytes_eq e.name name) (map (endpoint_row records) es)) ≡ length (filter (λ (e : Endpoint). bytes_eq e.name name) es)
+filter_map_row : (records : List Record) (name : List ℕ) (es : List Endpoint)
+    → length (filter (λ (e : EndpointRow). bytes_eq e.name name) (map (endpoint_row records) es))
+    ≡ length (filter (λ (e : Endpoint). bytes_eq e.name name) es)
 filter_map_row records name [] = refl
 filter_map_row records name (e ∷ es) = at (bytes_eq e.name name) (filter_map_row records name es)
   where
     at : (b : Bool) → length (filter (λ (t : EndpointRow). bytes_eq t.name name) (map (endpoint_row records) es)) ≡ length (filter (λ (t : Endpoint). bytes_eq t.name name) es)
-        → length (cond b (endpoint_row records e ∷ filter (λ (t : EndpointRow). bytes_eq t.name name) (map (endpoint_row records) es)) (filter (λ (t : EndpointRow). bytes_eq t.name name) (map (endpoint_row records) es)))
+        → length (cond b (endpoint_row records e ∷ filter (λ (t : EndpointRow). bytes_eq t.name name)
+        (map (endpoint_row records) es))
+        (filter (λ (t : EndpointRow). bytes_eq t.name name) (map (endpoint_row records) es)))
         ≡ length (cond b (e ∷ filter (λ (t : Endpoint). bytes_eq t.name name) es) (filter (λ (t : Endpoint). bytes_eq t.name name) es))
     at true h = ap suc h
     at false h = h

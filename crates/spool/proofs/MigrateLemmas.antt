@@ -1,5 +1,6 @@
 -- How tables become those of version 2, by the calls that do it.
-use Rattle.std.proofs.Common.{◌≡◌, ◌≢◌, ◌⊎◌, ◌≤◌, ◌&&◌, inl, inr, ℕ, List, [], ◌∷◌, length, true, false, Result, Ok, Err}
+use Rattle.std.proofs.Common.{◌≡◌, ◌≢◌, ◌⊎◌, ◌≤◌, ◌&&◌, inl, inr, ℕ, List, [], ◌∷◌, length, true, false, Result, Ok}
+use Rattle.std.proofs.Common.{Err}
 use Rattle.std.proofs.Common.{IfErr, IsTrue, codes, refl, sym, ap, subst, ◌∙◌, arith}
 use Rattle.std.specs.Prelude.{IsErr}
 use Rattle.sqlite.specs.declared.error.Error.{Error}

@@ -1,5 +1,7 @@
 -- What the look-ups of an event tell of the Outcome that may follow.
-use Rattle.std.proofs.Common.{◌≡◌, ◌<◌, ◌≤◌, ◌==◌, ℕ, zero, suc, ◌+◌, Bool, true, false, ◌&&◌, ◌||◌, not, nat_lt, nat_le, min, cond, List, [], ◌∷◌, map, length, Option, Some, None, refl, sym, ap, subst, ◌∙◌, arith}
+use Rattle.std.proofs.Common.{◌≡◌, ◌<◌, ◌≤◌, ◌==◌, ℕ, zero, suc, ◌+◌, Bool, true, false, ◌&&◌, ◌||◌, not, nat_lt}
+use Rattle.std.proofs.Common.{nat_le, min, cond, List, [], ◌∷◌, map, length, Option, Some, None, refl, sym, ap, subst}
+use Rattle.std.proofs.Common.{◌∙◌, arith}
 use Rattle.std.specs.Prelude.{slice_get, is_some, filter, filter_map, count_by, option_map, option_and_then, if◌then◌else◌}
 use Rattle.std.specs.Option.{option_map_or}
 use Rattle.std.specs.List.{enumerate_from, cons_option, list_any}
@@ -42,17 +44,21 @@ module _ (all : List Record) (seq : ℕ) where
   none_behind n (Enabled name flag ∷ rest) h = none_behind (n + 1) rest (omega (arith, h))
   none_behind n (Outcome delivery attempt status at ∷ rest) h = none_behind (n + 1) rest (omega (arith, h))
 
-  one_at_most : (n d : ℕ) (some : List Record) → seq ≡ n + d → map endpoint_in (rows_from n some) ≡ cons_option (option_map (λ (a : Accepted). put_of all a.endpoint) (option_and_then accepted_by (slice_get some d))) []
+  one_at_most : (n d : ℕ) (some : List Record) → seq ≡ n + d → map endpoint_in (rows_from n some)
+      ≡ cons_option
+      (option_map (λ (a : Accepted). put_of all a.endpoint) (option_and_then accepted_by (slice_get some d))) []
   one_at_most n d [] is = refl
   one_at_most n zero (Accept name id body at ∷ rest) is =
-      ap (λ b. map endpoint_in (cond b (record { seq = n; endpoint = put_of all name; id = id; at = at; body = body } ∷ rows_from (n + 1) rest) (rows_from (n + 1) rest))) (eq-eqb n seq (omega (arith, is)))
+      ap (λ b. map endpoint_in (cond b (record { seq = n; endpoint = put_of all name; id = id; at = at; body = body }
+      ∷ rows_from (n + 1) rest) (rows_from (n + 1) rest))) (eq-eqb n seq (omega (arith, is)))
       ∙ ap (λ rows. put_of all name ∷ map endpoint_in rows) (none_behind (n + 1) rest (omega (arith, is)))
   one_at_most n zero (Put name target max secrets ∷ rest) is = ap (map endpoint_in) (none_behind (n + 1) rest (omega (arith, is)))
   one_at_most n zero (Secrets name secrets ∷ rest) is = ap (map endpoint_in) (none_behind (n + 1) rest (omega (arith, is)))
   one_at_most n zero (Enabled name flag ∷ rest) is = ap (map endpoint_in) (none_behind (n + 1) rest (omega (arith, is)))
   one_at_most n zero (Outcome delivery attempt status at ∷ rest) is = ap (map endpoint_in) (none_behind (n + 1) rest (omega (arith, is)))
   one_at_most n (suc d) (Accept name id body at ∷ rest) is =
-      ap (λ b. map endpoint_in (cond b (record { seq = n; endpoint = put_of all name; id = id; at = at; body = body } ∷ rows_from (n + 1) rest) (rows_from (n + 1) rest))) (ne_eqb n seq (λ same. omega (arith, same, is)))
+      ap (λ b. map endpoint_in (cond b (record { seq = n; endpoint = put_of all name; id = id; at = at; body = body }
+      ∷ rows_from (n + 1) rest) (rows_from (n + 1) rest))) (ne_eqb n seq (λ same. omega (arith, same, is)))
       ∙ one_at_most (n + 1) d rest (omega (arith, is))
   one_at_most n (suc d) (Put name target max secrets ∷ rest) is = one_at_most (n + 1) d rest (omega (arith, is))
   one_at_most n (suc d) (Secrets name secrets ∷ rest) is = one_at_most (n + 1) d rest (omega (arith, is))
@@ -63,7 +69,9 @@ module _ (all : List Record) (seq : ℕ) where
 abbrev endpoint_put : List Record → ℕ → Option ℕ
 endpoint_put records d = option_map (λ (a : Accepted). put_of records a.endpoint) (accepted records d)
 
-endpoints_of_event : (records : List Record) (d : ℕ) → map (λ (r : DeliveryRow). r.endpoint) (filter (λ (r : DeliveryRow). r.seq == d) (rows_of records).deliveries) ≡ cons_option (endpoint_put records d) []
+endpoints_of_event : (records : List Record) (d : ℕ)
+    → map (λ (r : DeliveryRow). r.endpoint) (filter (λ (r : DeliveryRow). r.seq == d) (rows_of records).deliveries)
+    ≡ cons_option (endpoint_put records d) []
 endpoints_of_event records d = one_at_most records d 0 d records (omega arith)
 
 short : (o : Option ℕ) → length (cons_option o []) ≤ 1
@@ -130,7 +138,9 @@ count_status test attempts = sym (length-filter test (statuses_of attempts)) ∙
     as_many (a ∷ rest) = at (test a.status) (as_many rest)
       where
         at : (b : Bool) → length (filter test (statuses_of rest)) ≡ length (filter (λ (x : Attempt). test x.status) rest)
-            → length (cond b (a.status ∷ filter test (statuses_of rest)) (filter test (statuses_of rest))) ≡ length (cond b (a ∷ filter (λ (x : Attempt). test x.status) rest) (filter (λ (x : Attempt). test x.status) rest))
+            → length (cond b (a.status ∷ filter test (statuses_of rest)) (filter test (statuses_of rest)))
+            ≡ length (cond b (a ∷ filter (λ (x : Attempt). test x.status) rest)
+            (filter (λ (x : Attempt). test x.status) rest))
         at true same = ap suc same
         at false same = same
 
@@ -150,16 +160,24 @@ pending_state false false = refl
 are_pending-is : (records : List Record) (d : ℕ) (statuses : List ℕ) → IsPermutation (statuses_of (attempts_of records d)) statuses → are_pending statuses ≡ is_in_state Pending (state_of records d)
 are_pending-is records d statuses same =
     let attempts = attempts_of records d in
-    let delivered : list_any is_delivered_status statuses ≡ is_delivered records d = sym (list_any-IsPermutation is_delivered_status (statuses_of attempts) statuses same) ∙ any_status is_delivered_status attempts in
-    let failed : count_by is_failed_status statuses ≡ failures_of records d = sum_by-IsPermutation (λ s. cond (is_failed_status s) 1 0) (statuses_of attempts) statuses same ∙ count_status is_failed_status attempts in
+    let delivered : list_any is_delivered_status statuses ≡ is_delivered records d =
+    sym (list_any-IsPermutation is_delivered_status (statuses_of attempts) statuses same)
+    ∙ any_status is_delivered_status attempts in
+    let failed : count_by is_failed_status statuses ≡ failures_of records d =
+    sum_by-IsPermutation (λ s. cond (is_failed_status s) 1 0) (statuses_of attempts) statuses same
+    ∙ count_status is_failed_status attempts in
     (λ i. not (delivered i) && nat_lt (failed i) MAX_FAILURES)
     ∙ ap (λ b. not (is_delivered records d) && b) (fewer_is (failures_of records d))
     ∙ sym (pending_state (is_delivered records d) (nat_le MAX_FAILURES (failures_of records d)))
 
-may_be_next-is : (records : List Record) (d attempt status : ℕ) (statuses : List ℕ) → true ≡ is_some (accepted records d) → AreStatusesOf d (rows_of records) statuses → may_be_next statuses attempt status ≡ may_attempt records d attempt status
+may_be_next-is : (records : List Record) (d attempt status : ℕ) (statuses : List ℕ)
+    → true ≡ is_some (accepted records d) → AreStatusesOf d (rows_of records) statuses
+    → may_be_next statuses attempt status ≡ may_attempt records d attempt status
 may_be_next-is records d attempt status statuses taken h =
     let same : IsPermutation (statuses_of (attempts_of records d)) statuses = subst (λ xs. IsPermutation xs statuses) (statuses_in d 0 records) h in
-    let long : length statuses ≡ length (attempts_of records d) = length_permutation (statuses_of (attempts_of records d)) statuses same ∙ length-map (attempts_of records d) (λ (a : Attempt). a.status) in
+    let long : length statuses ≡ length (attempts_of records d) =
+    length_permutation (statuses_of (attempts_of records d)) statuses same
+    ∙ length-map (attempts_of records d) (λ (a : Attempt). a.status) in
     λ i. (taken i && are_pending-is records d statuses same i) && (attempt == long i + 1 && is_status status)
 
 -- ---- what they tell of an Outcome
@@ -180,7 +198,8 @@ attempting-unknown records d attempt status h =
     ap (λ b. attempted ((b && is_in_state Pending (state_of records d)) && (attempt == length (attempts_of records d) + 1 && is_status status)) records d)
     (none_if_unknown (accepted records d) records (found_endpoint records d None h))
 
-pub attempting-found : (records : List Record) (d attempt status put : ℕ) (statuses : List ℕ) (allowed : Bool) → IsEndpointOf d (rows_of records) (Some put) → AreStatusesOf d (rows_of records) statuses
+pub attempting-found : (records : List Record) (d attempt status put : ℕ) (statuses : List ℕ) (allowed : Bool)
+    → IsEndpointOf d (rows_of records) (Some put) → AreStatusesOf d (rows_of records) statuses
     → allowed ≡ may_be_next statuses attempt status → (if allowed then Some put else None) ≡ attempting records d attempt status
 attempting-found records d attempt status put statuses allowed h of is =
     let known = found_endpoint records d (Some put) h in
@@ -195,7 +214,8 @@ attempting-none records d attempt status h = at (may_attempt records d attempt s
     at true e = absurd (let h = e in cc)
     at false e = refl
 
-attempting-some : (records : List Record) (d attempt status put : ℕ) → Some put ≡ attempting records d attempt status → (true ≡ may_attempt records d attempt status) × (put ≡ put_by_delivery (rows_of records) d)
+attempting-some : (records : List Record) (d attempt status put : ℕ) → Some put ≡ attempting records d attempt status
+    → (true ≡ may_attempt records d attempt status) × (put ≡ put_by_delivery (rows_of records) d)
 attempting-some records d attempt status put h = at (may_attempt records d attempt status) h
   where
     at : (b : Bool) → Some put ≡ attempted b records d → (true ≡ b) × (put ≡ put_by_delivery (rows_of records) d)
@@ -215,7 +235,8 @@ unnamed records d attempt status h =
     at true e = absurd (omega (arith, h, below_if_accepted records d e))
     at false e = refl
 
-pub attempted-none : (records : List Record) (next delivery attempt status : ℕ) → next ≡ length records → None ≡ attempting records (min delivery next) attempt status → false ≡ may_attempt records delivery attempt status
+pub attempted-none : (records : List Record) (next delivery attempt status : ℕ) → next ≡ length records
+    → None ≡ attempting records (min delivery next) attempt status → false ≡ may_attempt records delivery attempt status
 attempted-none records next delivery attempt status is h = at (nat_lt delivery next) refl
   where
     at : (b : Bool) → nat_lt delivery next ≡ b → false ≡ may_attempt records delivery attempt status

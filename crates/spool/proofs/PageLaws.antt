@@ -227,12 +227,17 @@ module _ {X : Type 0} (number : X → ℕ) where
       → page ≡ take page_rows left → left ≡ page ++ drop page_rows left
   parted_page from xs read left page h is = sym (take-append-drop page_rows left) ∙ ap (λ ys. ys ++ drop page_rows left) (sym is)
 
-  pub behind_some : (from next : ℕ) (xs read left page : List X) (last : X) → IsLeft number from xs read left → IsPage number from xs page → slice_get page (length page - 1) ≡ Some last → next ≡ number last + 1
+  pub behind_some : (from next : ℕ) (xs read left page : List X) (last : X) → IsLeft number from xs read left
+      → IsPage number from xs page → slice_get page (length page - 1) ≡ Some last → next ≡ number last + 1
       → IsBehind next xs read left page
   behind_some from next xs read left page last h p is at =
       let parted = parted_page from xs read left page h (page_is from xs read left page h p) in
-      let there : IsLeft number from xs read (page ++ drop page_rows left) = subst (IsLeft number from xs read) parted h in
-      (drop page_rows left, parted, subst (λ n. IsLeft number n xs (read ++ page) (drop page_rows left)) (behind_last-is from page last is ∙ sym at) (left_behind from xs read page (drop page_rows left) there))
+      let there : IsLeft number from xs read (page ++ drop page_rows left) = subst (IsLeft number from xs read) parted h in (
+        drop page_rows left,
+        parted,
+        subst (λ n. IsLeft number n xs (read ++ page) (drop page_rows left))
+            (behind_last-is from page last is ∙ sym at) (left_behind from xs read page (drop page_rows left) there),
+      )
 
   pub behind_none : (from : ℕ) (xs read left page : List X) → from ≤ MAX_RECORDS → IsLeft number from xs read left → IsPage number from xs page → page ≡ [] → IsBehind MAX_RECORDS xs read left page
   behind_none from xs read left page l h p none =

@@ -62,7 +62,9 @@ module _ {X : Type 0} (number : X → Seq) (table : List X) where
 
   -- one page more, looked up behind the reads before, and taken in
   pub page_then : (a b m z : State) (rows : Rows) (P Q : List X → Type 0) (from next : Seq) (page : List X) → IsQuiet a b → Spares b m → (HasCleanDisk m → IsUnchanged b m) → Spares m z
-      → (HasCleanDisk b → IsTables a.now rows → IsReadTo P from) → (HasCleanDisk m → IsTables b.now rows → IsPage number from table page) → (HasCleanDisk z → IsTables m.now rows → ReadsOn table P Q page)
+      → (HasCleanDisk b → IsTables a.now rows → IsReadTo P from)
+      → (HasCleanDisk m → IsTables b.now rows → IsPage number from table page)
+      → (HasCleanDisk z → IsTables m.now rows → ReadsOn table P Q page)
       → ((read left : List X) → IsLeft number from table read left → IsPage number from table page → IsBehind number next table read left page) → HasCleanDisk z → IsTables a.now rows → IsReadTo Q next
   page_then a b m z rows P Q from next page quiet look same step so_far found reads behind clean tables =
       let at_m = clean_before m z step clean in

@@ -59,7 +59,8 @@ has_name-found rows name found h =
 pub may_put-taken : (rows : Rows) (name : List ℕ) (found : Option ℕ) → IsPutOf name rows found → is_some found ≡ true → false ≡ allows_put rows name
 may_put-taken rows name found h is = ap (λ b. not b && nat_lt (length rows.endpoints) MAX_ENDPOINTS) (sym is ∙ has_name-found rows name found h)
 
-pub may_put-free : (rows : Rows) (name : List ℕ) (found : Option ℕ) (count : ℕ) → IsPutOf name rows found → is_some found ≡ false → count ≡ length rows.endpoints → nat_lt count MAX_ENDPOINTS ≡ allows_put rows name
+pub may_put-free : (rows : Rows) (name : List ℕ) (found : Option ℕ) (count : ℕ) → IsPutOf name rows found
+    → is_some found ≡ false → count ≡ length rows.endpoints → nat_lt count MAX_ENDPOINTS ≡ allows_put rows name
 may_put-free rows name found count h is counted = ap (λ n. nat_lt n MAX_ENDPOINTS) counted ∙ ap (λ b. not b && nat_lt (length rows.endpoints) MAX_ENDPOINTS) (sym is ∙ has_name-found rows name found h)
 
 -- a list of one number at most has one order

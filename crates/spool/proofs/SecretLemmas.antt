@@ -1,5 +1,7 @@
 -- The rows of an endpoint's secrets, written one after another.
-use Rattle.std.proofs.Common.{◌≡◌, ◌<◌, ℕ, zero, suc, ◌+◌, true, List, [], ◌∷◌, ◌++◌, map, length, take, Some, None, IsTrue, inl, refl, sym, ap, subst, ◌∙◌, arith, add-zero, add-one, append-nil, append_assoc}
+use Rattle.std.proofs.Common.{◌≡◌, ◌<◌, ℕ, zero, suc, ◌+◌, true, List, [], ◌∷◌, ◌++◌, map, length, take, Some, None}
+use Rattle.std.proofs.Common.{IsTrue, inl, refl, sym, ap, subst, ◌∙◌, arith, add-zero, add-one, append-nil}
+use Rattle.std.proofs.Common.{append_assoc}
 use Rattle.std.specs.Prelude.{slice_get}
 use Rattle.std.specs.List.{enumerate_from, list_all}
 use Rattle.sqlite.specs.State.{State}
@@ -56,7 +58,8 @@ alters_more a b c put k xs x is so_far one =
     record {
       on = both.on;
       makes = λ rows t. subst (λ all. IsTables c.now (record rows { secrets = all }))
-          (append_assoc rows.secrets (secret_rows put (take k xs)) (record { endpoint = put; place = k; secret = x } ∷ []) ∙ ap (λ more. rows.secrets ++ more) (sym (secret_rows-more put k xs x is))) (both.makes rows t);
+          (append_assoc rows.secrets (secret_rows put (take k xs)) (record { endpoint = put; place = k; secret = x }
+          ∷ []) ∙ ap (λ more. rows.secrets ++ more) (sym (secret_rows-more put k xs x is))) (both.makes rows t);
     }
 
 -- a place below the length has a secret
@@ -71,7 +74,9 @@ all_next (y ∷ ys) zero x is all one = and_both (is_secret y) true (ap is_secre
   where
     same : {a b : List ℕ} → Some a ≡ Some b → a ≡ b
     same e = cc
-all_next (y ∷ ys) (suc k) x is all one = and_both (is_secret y) (list_all is_secret (take (suc k) ys)) (and_first (is_secret y) _ all) (all_next ys k x is (and_second (is_secret y) (list_all is_secret (take k ys)) all) one)
+all_next (y ∷ ys) (suc k) x is all one = and_both (is_secret y) (list_all is_secret (take (suc k) ys))
+    (and_first (is_secret y) _ all)
+    (all_next ys k x is (and_second (is_secret y) (list_all is_secret (take k ys)) all) one)
 
 pub all_more : (xs : List (List ℕ)) (k : ℕ) (x : List ℕ) → slice_get xs k ≡ Some x → IsTrue (list_all is_secret (take k xs)) → IsTrue (is_secret x) → IsTrue (list_all is_secret (take (k + 1) xs))
 all_more xs k x is all one = ap (λ n. list_all is_secret (take n xs)) (add-one k) ∙ all_next xs k x is all one

@@ -30,7 +30,8 @@ use Rattle.spool.specs.Books.{KeepsOpen}
 use Rattle.spool.specs.Commits.{HoldsOnDisk}
 use Rattle.spool.specs.Vaults.{VaultValue, HoldsAt}
 
--- The tables have sound rows, and the vault holds each legal history that has these rows. There is one: `history_from` of the rows.
+-- The tables have sound rows, and the vault holds each legal history that has these rows. There is one: `history_from`
+-- of the rows.
 pub record IsAdopted {S : Type 0} (g : Ghosts S) (db : Database) (v : VaultValue S) : Type 0 where
   pub rows : Rows
   pub stand : tables.AreSoundTables db rows
@@ -45,7 +46,8 @@ pub record IsOnlyRead (old new : State) : Type 0 where
 abbrev pub IsReadOpen : State → State → Type 0
 IsReadOpen old new = IsOnlyRead old new × IsTrue new.is_open
 
--- What each refusal says of the tables. A fault of the store is that of a statement, or of the look at the store behind them.
+-- What each refusal says of the tables. A fault of the store is that of a statement, or of the look at the store behind
+-- them.
 abbrev pub IsUnadopted : (old new : State) → OpenFault → Type 0
 IsUnadopted old new NotOurs = tables.IsRefusedAt old.now table.NotOurs
 IsUnadopted old new NewerVersion = tables.IsRefusedAt old.now table.NewerVersion
@@ -58,8 +60,8 @@ IsUnadopted old new OutOfMemory = Unit {0}
 abbrev pub HaveHistory : Database → Type 0
 HaveHistory db = (records : List Record) × IsLegal records × IsTables db (rows_of records)
 
--- Tables that have the rows of a legal history are refused only for memory, or because the store failed under this name, or a query took
--- more steps than the connection may.
+-- Tables that have the rows of a legal history are refused only for memory, or because the store failed under this
+-- name, or a query took more steps than the connection may.
 abbrev pub IsOfStore : (old new : State) → OpenFault → Type 0
 IsOfStore old new NotOurs = ⊥
 IsOfStore old new NewerVersion = ⊥
@@ -110,7 +112,8 @@ LeavesRead old new OutOfMemory = IsOnlyRead old new
 pub record AreAdopted (old new : State) (count : ℕ) : Type 0 where
   pub rows : Rows
   pub stand : tables.AreSoundTables old.now rows
-  pub holds : (records : List Record) → IsLegal records → IsTables old.now (rows_of records) → HoldsAt new count records × MayLeave new (λ r. r ≡ rows_of records)
+  pub holds : (records : List Record) → IsLegal records → IsTables old.now (rows_of records) → HoldsAt new count records
+      × MayLeave new (λ r. r ≡ rows_of records)
 
 -- as what a refused statement is told, by its cause: under the relay's schema there is no other
 abbrev pub fault_by : Error → Cause → OpenFault
@@ -135,8 +138,8 @@ unloaded_fault load.OutOfMemory = OutOfMemory
 abbrev pub IsToldAs : Result ℕ TableFault → OpenFault → Type 0
 IsToldAs checked told = (fault : TableFault) × (checked ≡ Err fault) × (told ≡ fault_of fault)
 
--- What is told of a check with this answer. A fault of the store, and want of memory, is the check's own, or that of the look at the
--- store behind it. If it is the check's, the store told no other since.
+-- What is told of a check with this answer. A fault of the store, and want of memory, is the check's own, or that of
+-- the look at the store behind it. If it is the check's, the store told no other since.
 abbrev pub TellsCheck : State → State → Result ℕ TableFault → Result ℕ OpenFault → Type 0
 TellsCheck old new checked (Ok records) = (checked ≡ Ok records) × IsUnchanged old new
 TellsCheck old new checked (Err NotOurs) = IsToldAs checked NotOurs × IsUnchanged old new
@@ -144,7 +147,8 @@ TellsCheck old new checked (Err NewerVersion) = IsToldAs checked NewerVersion ×
 TellsCheck old new checked (Err OldVersion) = IsToldAs checked OldVersion × IsUnchanged old new
 TellsCheck old new checked (Err Damaged) = IsToldAs checked Damaged × IsUnchanged old new
 TellsCheck old new checked (Err OutOfMemory) =
-    (IsToldAs checked OutOfMemory × IsUnchanged old new) ⊎ ((error : Error) × (cause error ≡ of.Memory) × Fails old new ⊥ error)
+    (IsToldAs checked OutOfMemory × IsUnchanged old new)
+    ⊎ ((error : Error) × (cause error ≡ of.Memory) × Fails old new ⊥ error)
 TellsCheck old new checked (Err (Store error)) =
     (IsToldAs checked (Store error) × KeepsOpen old new × (new.blamed ≡ old.blamed))
     ⊎ ((cause error ≡ of.Store) × Fails old new ⊥ error)

@@ -42,8 +42,8 @@ AreBooksOn s books = (history : List Record) → IsLegal history → Stands s (r
 abbrev pub AreBooksOf : {S : Type 0} → Ghosts S → VaultValue S → Books → Type 0
 AreBooksOf g v books = (history : List Record) → Holds g v history → AreBooks books history
 
--- Whatever the rows were: both books stand at the number of records, all of them settled, no outcome waits, and a history may have
--- so many.
+-- Whatever the rows were: both books stand at the number of records, all of them settled, no outcome waits, and a
+-- history may have so many.
 pub record AreSettled (books : Books) : Type 0 where
   pub endpoints_next : books.endpoints.next_seq ≡ books.records
   pub endpoints_settled : books.endpoints.settled_seq ≡ books.records
@@ -108,8 +108,8 @@ AsksForLookBehind (Err fault) = cause (error_of fault) ≡ Memory
 abbrev pub IsOwnFault : Result Books RowFault → Error → Type 0
 IsOwnFault read told = (fault : RowFault) × (read ≡ Err fault) × (told ≡ error_of fault) × (¬ (cause told ≡ Memory))
 
--- What is told of reads with this answer. A fault of the store has their own error, or that of the look at the store behind
--- them, where the store failed.
+-- What is told of reads with this answer. A fault of the store has their own error, or that of the look at the store
+-- behind them, where the store failed.
 abbrev pub TellsLoad : State → State → Result Books RowFault → Result Books LoadFault → Type 0
 TellsLoad old new read (Ok books) = read ≡ Ok books
 TellsLoad old new read (Err Closed) = ⊥

@@ -1,5 +1,6 @@
 -- What a transaction makes of the rows of a legal history: the statements, the commit, and what a stop leaves of it.
-use Rattle.std.specs.Prelude.{◌≡◌, ◌⊎◌, ℕ, ◌+◌, ◌==◌, Bool, true, false, ◌&&◌, not, nat_lt, List, ◌++◌, length, count_by, is_some, IsTrue, Option, Some, None, Result, Ok, Err, IfOk, if◌then◌else◌}
+use Rattle.std.specs.Prelude.{◌≡◌, ◌⊎◌, ℕ, ◌+◌, ◌==◌, Bool, true, false, ◌&&◌, not, nat_lt, List, ◌++◌, length}
+use Rattle.std.specs.Prelude.{count_by, is_some, IsTrue, Option, Some, None, Result, Ok, Err, IfOk, if◌then◌else◌}
 use Rattle.std.specs.List.{list_any}
 use Rattle.sqlite.specs.declared.error.Error.{Error}
 use Rattle.sqlite.specs.State.{State, HasCleanDisk, Fails}
@@ -15,7 +16,8 @@ use Rattle.relay_types.specs.Endpoints.{endpoints, has_endpoint}
 use Rattle.relay_types.specs.Legal.{is_status, is_legal, IsLegal}
 use Rattle.relay_types.specs.Rows.{Rows, put_of, put_by_delivery, rows_of, secret_rows}
 use Rattle.spool_sql.specs.Readable.{IsRefusal}
-use Rattle.spool_sql.specs.Stored.{IsTables, AreTablesOf, with_records, with_endpoint, new_endpoint, with_enabled, with_secrets_by, without_secrets}
+use Rattle.spool_sql.specs.Stored.{IsTables, AreTablesOf, with_records, with_endpoint, new_endpoint, with_enabled}
+use Rattle.spool_sql.specs.Stored.{with_secrets_by, without_secrets}
 use Rattle.spool_sql.specs.Steps.{GoesOn, IfClean, Stands, MayLeave}
 use Rattle.spool_sql.specs.Causes.{cause}
 use Rattle.spool_sql.specs.declared.cause.Cause.TheVariants.{Memory}
@@ -39,15 +41,18 @@ accepting records name id = if may_accept records name id then Some (put_of reco
 
 -- whether an attempt of this number and status may be recorded behind the records for the event
 abbrev pub may_attempt : (records : List Record) (delivery attempt status : ℕ) → Bool
-may_attempt records delivery attempt status = is_pending records delivery && (attempt == length (attempts_of records delivery) + 1 && is_status status)
+may_attempt records delivery attempt status = is_pending records delivery
+    && (attempt == length (attempts_of records delivery) + 1 && is_status status)
 
 -- the number of the Put of the event's endpoint, if the attempt may be recorded
 abbrev pub attempting : (records : List Record) (delivery attempt status : ℕ) → Option ℕ
-attempting records delivery attempt status = if may_attempt records delivery attempt status then Some (put_by_delivery (rows_of records) delivery) else None
+attempting records delivery attempt status =
+    if may_attempt records delivery attempt status then Some (put_by_delivery (rows_of records) delivery) else None
 
 -- whether an event is pending whose attempts had these statuses: none delivered it, and fewer failed than may fail
 abbrev pub are_pending : List ℕ → Bool
-are_pending statuses = not (list_any is_delivered_status statuses) && nat_lt (count_by is_failed_status statuses) MAX_FAILURES
+are_pending statuses = not (list_any is_delivered_status statuses)
+    && nat_lt (count_by is_failed_status statuses) MAX_FAILURES
 
 -- whether an attempt of this number and status may be the next one behind those of these statuses
 abbrev pub may_be_next : (statuses : List ℕ) (attempt status : ℕ) → Bool
@@ -72,14 +77,17 @@ disabled_if_gone put status by rows = if is_gone_status status then with_enabled
 
 -- ---- inside a transaction
 
--- The tables have the rows of this legal history, but for the number of records: it is `count` until the transaction writes it.
+-- The tables have the rows of this legal history, but for the number of records: it is `count` until the transaction
+-- writes it.
 pub record HasRows (db : Database) (count : ℕ) (records : List Record) : Type 0 where
   pub legal : IsLegal records
   pub tables : IsTables db (with_records count (rows_of records))
 
 -- while the disk has returned what was written, an answer says so much of each legal history whose rows the tables have
 abbrev pub LooksAt : {S X : Type 0} → Ghosts S → Held S → Held S → Result X Error → (X → List Record → Type 0) → Type 0
-LooksAt g old new result P = IfClean g old new (λ a b. IfOk result (λ x. (count : ℕ) (records : List Record) → HasRows a.now count records → P x records))
+LooksAt g old new result P =
+    IfClean g old new (λ a b. IfOk result (λ x. (count : ℕ) (records : List Record) → HasRows a.now count records
+    → P x records))
 
 -- and an error is that of a refusal
 abbrev pub IsLookRefusal : (old new : State) → Error → Type 0
@@ -89,25 +97,31 @@ IsLookRefusal old new error =
 -- the records with these numbers are written, and their number isn't, exactly where the longer history is legal
 pub record Enters (old new : State) (next : ℕ) (entries : List Record) (legal : Bool) : Type 0 where
   pub on : GoesOn old new
-  pub judges : (count : ℕ) (records : List Record) → next ≡ length records → HasRows old.now count records → legal ≡ is_legal (records ++ entries)
-  pub makes : IsTrue legal → (count : ℕ) (records : List Record) → next ≡ length records → HasRows old.now count records → HasRows new.now count (records ++ entries)
+  pub judges : (count : ℕ) (records : List Record) → next ≡ length records → HasRows old.now count records
+      → legal ≡ is_legal (records ++ entries)
+  pub makes : IsTrue legal → (count : ℕ) (records : List Record) → next ≡ length records → HasRows old.now count records
+      → HasRows new.now count (records ++ entries)
 
 -- the same where the number of records is written too
 pub record EntersWhole (old new : State) (next : ℕ) (entries : List Record) (legal : Bool) : Type 0 where
   pub on : GoesOn old new
-  pub judges : (records : List Record) → IsLegal records → next ≡ length records → IsTables old.now (rows_of records) → legal ≡ is_legal (records ++ entries)
-  pub makes : IsTrue legal → (records : List Record) → IsLegal records → next ≡ length records → IsTables old.now (rows_of records) → IsTables new.now (rows_of (records ++ entries))
+  pub judges : (records : List Record) → IsLegal records → next ≡ length records → IsTables old.now (rows_of records)
+      → legal ≡ is_legal (records ++ entries)
+  pub makes : IsTrue legal → (records : List Record) → IsLegal records → next ≡ length records
+      → IsTables old.now (rows_of records) → IsTables new.now (rows_of (records ++ entries))
 
 -- ---- between transactions
 
 -- the records with these numbers are committed exactly where the longer history is legal
 pub record Commits (old new : State) (next : ℕ) (entries : List Record) (legal : Bool) : Type 0 where
   pub judges : (records : List Record) → HoldsAt old next records → legal ≡ is_legal (records ++ entries)
-  pub makes : IsTrue legal → (records : List Record) → HoldsAt old next records → Stands new (rows_of (records ++ entries))
+  pub makes : IsTrue legal → (records : List Record) → HoldsAt old next records
+      → Stands new (rows_of (records ++ entries))
 
 -- What a commit of the records writes to the disk. Records that aren't legal are never committed.
 abbrev pub CommitsAll : State → ℕ → List Record → Trees → Type 0
-CommitsAll old next entries db = (records : List Record) → HoldsAt old next records → IsLegal (records ++ entries) × AreTablesOf db (rows_of (records ++ entries))
+CommitsAll old next entries db = (records : List Record) → HoldsAt old next records → IsLegal (records ++ entries)
+    × AreTablesOf db (rows_of (records ++ entries))
 
 -- the connection stands as it stood
 abbrev pub StaysAs : State → State → Type 0
@@ -117,18 +131,22 @@ StaysAs old new = (rows : Rows) → Stands old rows → Stands new rows
 abbrev pub Rests : State → Rows → Type 0
 Rests s rows = Stands s rows × MayLeave s (λ r. r ≡ rows)
 
--- A stop leaves the rows of the history, or it goes on legally with these records, and a stop leaves the rows of both. If the store is
--- still open, the rows of the history stand.
+-- A stop leaves the rows of the history, or it goes on legally with these records, and a stop leaves the rows of both.
+-- If the store is still open, the rows of the history stand.
 pub record RestsInDoubt (s : State) (records entries : List Record) : Type 0 where
-  pub leaves : MayLeave s (λ r. (r ≡ rows_of records) ⊎ (IsLegal (records ++ entries) × (r ≡ rows_of (records ++ entries))))
+  pub leaves : MayLeave s (λ r. (r ≡ rows_of records)
+      ⊎ (IsLegal (records ++ entries) × (r ≡ rows_of (records ++ entries))))
   pub stands : IsTrue s.is_open → Stands s (rows_of records)
 
 -- how the write of records ends
 abbrev pub WriteEndsAs : State → State → ℕ → List Record → WriteEnd → Type 0
-WriteEndsAs old new next entries Committed = (records : List Record) → HoldsAt old next records → IsLegal (records ++ entries) × Rests new (rows_of (records ++ entries))
-WriteEndsAs old new next entries Illegal = (records : List Record) → HoldsAt old next records → (¬ IsLegal (records ++ entries)) × Rests new (rows_of records)
+WriteEndsAs old new next entries Committed = (records : List Record) → HoldsAt old next records
+    → IsLegal (records ++ entries) × Rests new (rows_of (records ++ entries))
+WriteEndsAs old new next entries Illegal = (records : List Record) → HoldsAt old next records
+    → (¬ IsLegal (records ++ entries)) × Rests new (rows_of records)
 WriteEndsAs old new next entries OutOfMemory = (rows : Rows) → Stands old rows → Rests new rows
-WriteEndsAs old new next entries (Doubtful cause) = (records : List Record) → HoldsAt old next records → RestsInDoubt new records entries
+WriteEndsAs old new next entries (Doubtful cause) = (records : List Record) → HoldsAt old next records
+    → RestsInDoubt new records entries
 
 -- ---- why it isn't known how the write ended
 

@@ -35,7 +35,8 @@ LeavesOpen g old new result = IfClean g old new (λ a b. OnOk result (IsTrue a.i
 -- an answer says so much of each legal history whose rows the tables have
 abbrev pub Reads : {S X E : Type 0} → Ghosts S → Held S → Held S → Result X E → (X → List Record → Type 0) → Type 0
 Reads g old new result P =
-    HasCleanDisk (state g new) → IfOk result (λ x. (records : List Record) → IsLegal records → IsTables (state g old).now (rows_of records) → P x records)
+    HasCleanDisk (state g new) → IfOk result (λ x. (records : List Record) → IsLegal records
+    → IsTables (state g old).now (rows_of records) → P x records)
 
 -- Of each legal history whose rows an open store has, and of which so much is given, no row is told as unreadable: a
 -- read is refused for memory, or by the store.
@@ -78,7 +79,8 @@ pub record AreRestored (loaded : Endpoints) (records : List Record) (rows : List
 
 -- these rows of the table were read behind those before
 abbrev pub Restores : (old new : Endpoints) → List EndpointRow → List Record → Type 0
-Restores old new more records = ReadsOn (rows_of records).endpoints (AreRestored old records) (AreRestored new records) more
+Restores old new more records = ReadsOn (rows_of records).endpoints (AreRestored old records)
+    (AreRestored new records) more
 
 -- these rows are the next ones
 abbrev pub NextToRestore : (loaded : Endpoints) → List EndpointRow → List Record → Type 0
@@ -122,7 +124,8 @@ pub record AreAccepted (loaded : Deliveries) (records : List Record) (rows : Lis
 
 -- these rows of the table were read behind those before
 abbrev pub Accepts : (old new : Deliveries) → List DeliveryRow → List Record → Type 0
-Accepts old new more records = ReadsOn (rows_of records).deliveries (AreAccepted old records) (AreAccepted new records) more
+Accepts old new more records = ReadsOn (rows_of records).deliveries (AreAccepted old records)
+    (AreAccepted new records) more
 
 -- these rows are the next ones
 abbrev pub NextToAccept : (loaded : Deliveries) → List DeliveryRow → List Record → Type 0

@@ -62,7 +62,8 @@ pub record KeepsTables (old new : State) : Type 0 where
 
 -- a stop leaves what it left before, or, where no table of ours was there, what the commit writes
 abbrev pub MayBeMade : State → State → Type 0
-MayBeMade old new = (db : Trees) → new.may_leave db → old.may_leave db ⊎ ((has_ours old.now.schema ≡ false) × Founded old db)
+MayBeMade old new = (db : Trees) → new.may_leave db → old.may_leave db
+    ⊎ ((has_ours old.now.schema ≡ false) × Founded old db)
 
 -- What each refusal leaves. A fault of the store is the one that it told last, or nothing was written to the disk.
 abbrev pub LeavesAt : State → State → OpenFault → Type 0

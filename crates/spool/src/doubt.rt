@@ -5,8 +5,8 @@ ghost use Rattle.spool.specs.Batches.{doubt_of};
 use crate::batch::Batch;
 use std::marker::Model;
 
-/// Places of which nobody knows whether they stand in the store. `Vault::commit` alone makes one. It can't be dropped or
-/// copied: who has it halts the desk by it, or ends it by `end`.
+/// Places of which nobody knows whether they stand in the store. `Vault::commit` alone makes one.
+/// It can't be dropped or copied: who has it halts the desk by it, or ends it by `end`.
 pub struct Doubt {
     mark: u64,
     from: u64,

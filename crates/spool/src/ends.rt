@@ -19,7 +19,8 @@ pub enum OpenFault {
     NotOurs,
     /// The tables are of a later version.
     NewerVersion,
-    /// The tables are the relay's, and their rows aren't such as a legal history has, or they lack a key or a reference.
+    /// The tables are the relay's, and their rows aren't such as a legal history has, or they lack
+    /// a key or a reference.
     Damaged,
     /// The store refused a call for a fault of its own. What a stop may leave stands in the file.
     Store(Error),

@@ -1,5 +1,5 @@
-//! An Outcome inside the transaction that writes it: whether it may follow the rows, its row, and what it changes of its
-//! endpoint.
+//! An Outcome inside the transaction that writes it: whether it may follow the rows, its row, and
+//! what it changes of its endpoint.
 ghost use Rattle.std.specs.Prelude.{◌≡◌, ◌<◌, ◌^◌, [], ◌∷◌, count_by, IfOk, IfErr, IfSome, IsTrue};
 ghost use Rattle.std.specs.List.{list_any};
 ghost use Rattle.relay_types.specs.declared.record.Record.TheVariants as on;
@@ -14,8 +14,8 @@ use retry_table::{Status, Verdict, verdict_of};
 use spool_sql::{Seq, insert_attempt, select_endpoint, select_statuses, update_enabled};
 use sqlite::{Alter, Error, Transaction};
 
-// Writes the Outcome with this number, if it may follow the rows. A number from its own on names no event yet, as its own names
-// none.
+// Writes the Outcome with this number, if it may follow the rows. A number from its own on names no
+// event yet, as its own names none.
 pub(crate) fn write_outcome<S: Alter>(
     tx: &mut Transaction<'_, S>,
     seq: Seq,
@@ -110,8 +110,8 @@ fn is_status(status: u16) -> bool
     status == 0 || Status::of(status).is_some()
 }
 
-// Disables the endpoint that the record with number `put` made, where the status is that of a gone one. The record with number
-// `by` decides it.
+// Disables the endpoint that the record with number `put` made, where the status is that of a gone
+// one. The record with number `by` decides it.
 fn disable_if_gone<S: Alter>(
     tx: &mut Transaction<'_, S>,
     put: Seq,

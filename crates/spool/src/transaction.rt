@@ -6,7 +6,8 @@ ghost use Rattle.relay_types.specs.declared.limits.TheConstants.{MAX_RECORDS};
 ghost use Rattle.relay_types.specs.Records.{records_of};
 ghost use Rattle.spool_sql.specs.Steps.{IfClean, SurvivesAs};
 ghost use Rattle.spool.specs.Books.{KeepsOpen};
-ghost use Rattle.spool.specs.Entering.{Commits, CommitsAll, HasCause, IsCause, StaysAs, WriteEndsAs, IsUnwritten, Tells};
+ghost use Rattle.spool.specs.Entering.{Commits, CommitsAll, HasCause, IsCause, StaysAs, WriteEndsAs, IsUnwritten};
+ghost use Rattle.spool.specs.Entering.{Tells};
 
 use crate::records::write_records;
 use relay_types::Step;

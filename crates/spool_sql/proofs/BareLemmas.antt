@@ -35,7 +35,9 @@ planned_bare p formats (Ok None) (Err f) c e h = absurd (let g = h in cc)
 planned_bare p formats (Ok (Some s)) k c e h = absurd (let g = e in cc)
 planned_bare p formats (Err f) k c e h = absurd (let g = e in cc)
 
-parsed_bare : (schema : Schema) (r : Checked Parsed) → ((base : ℕ) → returning_of r schema base ≡ Ok None) → (c : Compiled) → and_then r (λ p. and_then (planned schema p) (λ plan. Ok (with_command p plan))) ≡ Ok c → c.returning ≡ None
+parsed_bare : (schema : Schema) (r : Checked Parsed) → ((base : ℕ) → returning_of r schema base ≡ Ok None)
+    → (c : Compiled) → and_then r (λ p. and_then (planned schema p) (λ plan. Ok (with_command p plan))) ≡ Ok c
+    → c.returning ≡ None
 unfolding planned meaning
 parsed_bare schema (Ok p) bare c h = planned_bare p _ _ _ c (bare _) h
 parsed_bare schema (Err e) bare c h = absurd (let f = h in cc)
@@ -82,5 +84,7 @@ failed_keeps text bare params old new e (inr h) = keeps_if old new (inl h.5)
 pub spares_found : (text : List ℕ) → IsBare text → (params : Row) (old new : State) (rows : List Row) → (HasCleanDisk new → Shown text params old new rows) → Survives old new (λ _. ⊥) → Spares old new
 spares_found text bare params old new rows h survives = record { kept = λ clean. keeps_if old new (inl (unchanged_by text bare params old new rows (h clean))); survives = survives }
 
-pub spares_failed : (text : List ℕ) → IsBare text → (params : Row) (old new : State) (e : Error) → (HasCleanDisk new → FailsToQuery text params old new e ⊎ IsTooLate text params old new e) → Survives old new (λ _. ⊥) → Spares old new
+pub spares_failed : (text : List ℕ) → IsBare text → (params : Row) (old new : State) (e : Error)
+    → (HasCleanDisk new → FailsToQuery text params old new e ⊎ IsTooLate text params old new e)
+    → Survives old new (λ _. ⊥) → Spares old new
 spares_failed text bare params old new e h survives = record { kept = λ clean. failed_keeps text bare params old new e (h clean); survives = survives }

@@ -1,5 +1,7 @@
 -- What an UPDATE or a DELETE with WHERE leaves of a table.
-use Rattle.std.proofs.Common.{◌≡◌, ◌≤◌, ◌⊎◌, inl, inr, ℕ, ℤ, length, arith, List, [], ◌∷◌, ◌++◌, map, filter, drop, Bool, true, false, cond, not, ◌||◌, ◌&&◌, if◌then◌else◌, slice_get, Some, None, Ok, refl, sym, ap, ap₂, subst, subst₂, ◌∙◌, append_assoc, append-nil}
+use Rattle.std.proofs.Common.{◌≡◌, ◌≤◌, ◌⊎◌, inl, inr, ℕ, ℤ, length, arith, List, [], ◌∷◌, ◌++◌, map, filter, drop}
+use Rattle.std.proofs.Common.{Bool, true, false, cond, not, ◌||◌, ◌&&◌, if◌then◌else◌, slice_get, Some, None, Ok, refl}
+use Rattle.std.proofs.Common.{sym, ap, ap₂, subst, subst₂, ◌∙◌, append_assoc, append-nil}
 use Rattle.std.specs.declared.cmp.Ordering.{Ordering}
 use Rattle.std.specs.declared.cmp.Ordering.TheVariants.{Less, Equal, Greater}
 use Rattle.std.specs.Ordering.{is_eq}
@@ -9,7 +11,9 @@ use Rattle.std.proofs.lemmas.List.Elements.{filter-append}
 use Rattle.std.specs.FinMap.{int_cmp-IsAntisymmetric}
 use Rattle.std.specs.List.Sorted.{IsPermutation}
 use Rattle.std.proofs.lemmas.Bool.{cases_Bool, false_from_ne_true}
-use Rattle.std.proofs.lemmas.List.Sorted.{IsPermutation-refl, IsPermutation-sym, IsPermutation-trans, IsPermutation-cons, IsPermutation-map, IsPermutation-append, IsPermutation-middle, length_permutation, list_any-IsPermutation}
+use Rattle.std.proofs.lemmas.List.Sorted.{IsPermutation-refl, IsPermutation-sym, IsPermutation-trans}
+use Rattle.std.proofs.lemmas.List.Sorted.{IsPermutation-cons, IsPermutation-map, IsPermutation-append}
+use Rattle.std.proofs.lemmas.List.Sorted.{IsPermutation-middle, length_permutation, list_any-IsPermutation}
 use Rattle.sqlite_trees.proofs.ListLemmas.{IsPermutation-same, IsPermutation-filter, all-filter, filter_same, pull_back}
 use Rattle.sqlite.specs.Order.{Row}
 use Rattle.sqlite.specs.declared.types.Value.TheVariants.{Int}
@@ -233,7 +237,9 @@ module _ {X : Type 0} (row : X → Row) (table : Table) (params : Row) (tests sh
   left_typed xs found all =
       let p = passes params tests in
       let ids : IsPermutation (map (λ r. id_in (rowid r)) (filter p (map row xs))) (ids_of found) =
-      subst (λ l. IsPermutation l (ids_of found)) (map_map (shows params shown) (λ r. id_in (rowid r)) (filter p (map row xs)) ∙ id_same (filter p (map row xs))) (IsPermutation-map (λ r. id_in (rowid r)) _ _ all) in
+      subst (λ l. IsPermutation l (ids_of found))
+      (map_map (shows params shown) (λ r. id_in (rowid r)) (filter p (map row xs))
+      ∙ id_same (filter p (map row xs))) (IsPermutation-map (λ r. id_in (rowid r)) _ _ all) in
       left_over p (map row xs) (ids_of found) ids
       (λ r there here. let x = has_image row xs r there in subst (λ s. has_rowid (id_in (rowid s)) s ≡ true) (sym x.2) (own x.0))
       (λ r s there other here tie.
@@ -292,7 +298,10 @@ module _ (schema : Schema) (sql : List ℕ) (params : Row) (at : ℕ) (q : Progr
       let w = runs_as sql params old new schema has (Delete at q) means.is means.plain count h in
       let text = statement_of sql (understood schema sql) in
       let task : Task = record { limit = old.step_limit; keys = Enforced; schema = schema; table = table; params = params } in
-      let on : OnRows task (mode_of old) None (Delete at q) db (Ok (w.tally, new.now)) = rw listed at (subst (λ s. Does old.step_limit (mode_of old) params (record old.now { schema = s }) text None (Delete at q) (Ok (w.tally, new.now))) has w.changed) in
+      let on : OnRows task (mode_of old) None (Delete at q) db (Ok (w.tally, new.now)) =
+      rw listed at
+      (subst (λ s. Does old.step_limit (mode_of old) params (record old.now { schema = s }) text None (Delete at q)
+      (Ok (w.tally, new.now))) has w.changed) in
       let made = left_as task (mode_of old) (Delete at q) db w.tally new.now on in
       let edit = deleted_by task q db made.0 made.1 in
       let the = edit_of db table (ids_of edit.0) Given 0 [] in

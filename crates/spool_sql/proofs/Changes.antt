@@ -1,5 +1,6 @@
 -- The UPDATE statements with WHERE, and the DELETE statement.
-use Rattle.std.proofs.Common.{◌≡◌, ◌==◌, ℕ, pos, List, [], ◌∷◌, map, filter, drop, codes, Bool, true, false, not, refl, sym, ap, subst, ◌∙◌, Ok, arith}
+use Rattle.std.proofs.Common.{◌≡◌, ◌==◌, ℕ, pos, List, [], ◌∷◌, map, filter, drop, codes, Bool, true, false, not, refl}
+use Rattle.std.proofs.Common.{sym, ap, subst, ◌∙◌, Ok, arith}
 use Rattle.std.specs.Int.{from_bool}
 use Rattle.std.specs.List.Sorted.{IsPermutation}
 use Rattle.std.proofs.lemmas.Bool.Decides.{nat_tests}
@@ -94,7 +95,9 @@ module _ (old new : State) where
   changes_endpoint : (sql : List ℕ) (params : Row) (at : ℕ) (more : List Term)
       → Means relay_schema sql (Update 1 (changed_endpoints at more)) → (put : ℕ) (edit : EndpointRow → EndpointRow)
       → ((e : EndpointRow) → passes params (is_given 0 at) (endpoint_stored e) ≡ (e.put == put))
-      → ((e : EndpointRow) → cast_row (record endpoints { tree = 1 }) (drop 1 (shows params (col 1 0 ∷ more) (endpoint_stored e))) ≡ endpoint_stored (edit e))
+      → ((e : EndpointRow)
+      → cast_row (record endpoints { tree = 1 }) (drop 1 (shows params (col 1 0 ∷ more) (endpoint_stored e)))
+      ≡ endpoint_stored (edit e))
       → (count : ℕ) → Executes sql params old new (Ok count) → (rows : Rows) → IsTables old.now rows
       → IsTables new.now (record rows { endpoints = change_where (λ e. e.put == put) edit rows.endpoints })
   changes_endpoint sql params at more means put edit passed changed count h rows t =
@@ -108,7 +111,8 @@ module _ (old new : State) where
         schema_is = w.schema_is;
         tables = other_endpoints 2 old.now.trees new.now.trees rows t.tables w.sound (others_of old new 1 _ w) all
             (subst (λ x. IsPermutation x (map endpoint_stored all)) (sym w.rows_are)
-            (updated_typed endpoint_stored table params (is_given 0 at) (col 1 0 ∷ more) (λ (e : EndpointRow). e.put == put) edit passed changed (λ r. refl)
+            (updated_typed endpoint_stored table params (is_given 0 at) (col 1 0 ∷ more)
+            (λ (e : EndpointRow). e.put == put) edit passed changed (λ r. refl)
             (λ e. own_number e.put) (λ e f. same_number put e.put f.put) old.now.trees rows.endpoints u.0
             t.tables.five.endpoints found u.3));
       }
@@ -120,7 +124,14 @@ module _ (old new : State) where
       changes_endpoint enabled_update (enabled_values put flag by) 2 enabled_terms enabled_update_means put
       (λ e. record e { enabled = flag; enabled_by = by })
       (λ e. and_true _ ∙ equal_numbers e.put put)
-      (λ e. rw (cast_null, cast_int (pos e.put), cast_int (pos e.max), cast_int (pos (flag_number flag)), cast_int (pos by), cast_int (pos e.secrets_by)) refl)
+      (λ e. rw (
+        cast_null,
+        cast_int (pos e.put),
+        cast_int (pos e.max),
+        cast_int (pos (flag_number flag)),
+        cast_int (pos by),
+        cast_int (pos e.secrets_by),
+      ) refl)
 
   pub makes_secrets_by : (put by count : ℕ) → Executes secrets_by_update (secrets_by_values put by) old new (Ok count)
       → Makes old new (with_secrets_by put by)
@@ -128,7 +139,14 @@ module _ (old new : State) where
       changes_endpoint secrets_by_update (secrets_by_values put by) 1 secrets_by_terms secrets_by_update_means put
       (λ e. record e { secrets_by = by })
       (λ e. and_true _ ∙ equal_numbers e.put put)
-      (λ e. rw (cast_null, cast_int (pos e.put), cast_int (pos e.max), cast_int (pos (flag_number e.enabled)), cast_int (pos e.enabled_by), cast_int (pos by)) refl)
+      (λ e. rw (
+        cast_null,
+        cast_int (pos e.put),
+        cast_int (pos e.max),
+        cast_int (pos (flag_number e.enabled)),
+        cast_int (pos e.enabled_by),
+        cast_int (pos by),
+      ) refl)
 
 -- ---- the secrets of an endpoint
 
@@ -136,19 +154,28 @@ module _ (old new : State) where
 abbrev names_endpoint : ℕ → Row → Bool
 names_endpoint endpoint v = passes (Int (pos endpoint) ∷ []) (is_given 0 0) v
 
-behind_rowid : (endpoint : ℕ) (r : Row) → passes (Int (pos endpoint) ∷ []) (is_given 1 0) r ≡ names_endpoint endpoint (drop 1 r)
+behind_rowid : (endpoint : ℕ) (r : Row) → passes (Int (pos endpoint) ∷ []) (is_given 1 0) r
+    ≡ names_endpoint endpoint (drop 1 r)
 behind_rowid endpoint [] = refl
 behind_rowid endpoint (v ∷ r) = refl
 
-kept_behind : (endpoint : ℕ) (tree : List Row) → map (drop 1) (filter (λ r. not (passes (Int (pos endpoint) ∷ []) (is_given 1 0) r)) tree) ≡ filter (λ v. not (names_endpoint endpoint v)) (map (drop 1) tree)
-kept_behind endpoint tree = sym (filtered (drop 1) (λ v. not (names_endpoint endpoint v)) (λ r. not (passes (Int (pos endpoint) ∷ []) (is_given 1 0) r)) (λ r. ap not (sym (behind_rowid endpoint r))) tree)
+kept_behind : (endpoint : ℕ) (tree : List Row)
+    → map (drop 1) (filter (λ r. not (passes (Int (pos endpoint) ∷ []) (is_given 1 0) r)) tree)
+    ≡ filter (λ v. not (names_endpoint endpoint v)) (map (drop 1) tree)
+kept_behind endpoint tree =
+    sym (filtered (drop 1) (λ v. not (names_endpoint endpoint v))
+    (λ r. not (passes (Int (pos endpoint) ∷ []) (is_given 1 0) r)) (λ r. ap not (sym (behind_rowid endpoint r))) tree)
 
-other_secrets_left : (endpoint : ℕ) (tree : List Row) (all : List SecretRow) → IsPermutation (map (drop 1) tree) (map secret_stored all)
-    → IsPermutation (map (drop 1) (filter (λ r. not (passes (Int (pos endpoint) ∷ []) (is_given 1 0) r)) tree)) (map secret_stored (filter (λ (s : SecretRow). not (s.endpoint == endpoint)) all))
+other_secrets_left : (endpoint : ℕ) (tree : List Row) (all : List SecretRow)
+    → IsPermutation (map (drop 1) tree) (map secret_stored all)
+    → IsPermutation (map (drop 1) (filter (λ r. not (passes (Int (pos endpoint) ∷ []) (is_given 1 0) r)) tree))
+    (map secret_stored (filter (λ (s : SecretRow). not (s.endpoint == endpoint)) all))
 other_secrets_left endpoint tree all are =
-    subst (λ l. IsPermutation l (map secret_stored (filter (λ (s : SecretRow). not (s.endpoint == endpoint)) all))) (sym (kept_behind endpoint tree))
+    subst (λ l. IsPermutation l (map secret_stored (filter (λ (s : SecretRow). not (s.endpoint == endpoint)) all)))
+    (sym (kept_behind endpoint tree))
     (subst (IsPermutation (filter (λ v. not (names_endpoint endpoint v)) (map (drop 1) tree)))
-    (filtered secret_stored (λ v. not (names_endpoint endpoint v)) (λ (s : SecretRow). not (s.endpoint == endpoint)) (λ s. ap not (and_true _ ∙ equal_numbers s.endpoint endpoint)) all)
+    (filtered secret_stored (λ v. not (names_endpoint endpoint v)) (λ (s : SecretRow). not (s.endpoint == endpoint))
+    (λ s. ap not (and_true _ ∙ equal_numbers s.endpoint endpoint)) all)
     (IsPermutation-filter (λ v. not (names_endpoint endpoint v)) _ _ are))
 
 secrets_delete_means : Means relay_schema secrets_delete (Delete 2 deleted_secrets)
@@ -167,7 +194,8 @@ module _ (old new : State) where
       let w = u.2 in
       let p = passes params (is_given 1 0) in
       let these : IsPermutation (map (λ r. id_in (rowid r)) (filter p tree)) (ids_of u.0) =
-      subst (λ l. IsPermutation l (ids_of u.0)) (map_map (shows params (col 1 0 ∷ [])) (λ r. id_in (rowid r)) (filter p tree)) (IsPermutation-map (λ r. id_in (rowid r)) _ _ found) in
+      subst (λ l. IsPermutation l (ids_of u.0)) (map_map (shows params (col 1 0 ∷ [])) (λ r. id_in (rowid r))
+      (filter p tree)) (IsPermutation-map (λ r. id_in (rowid r)) _ _ found) in
       let left = left_in_table tree t.tables.five.secret_rowids p (ids_of u.0) these in
       let now : new.now.trees 3 ≡ filter (λ r. not (p r)) tree = w.rows_are ∙ left in
       let all = filter (λ (s : SecretRow). not (s.endpoint == endpoint)) rows.secrets in

@@ -68,11 +68,13 @@ pub makes_relay : created first_schema topics ≡ relay_schema
 unfolding digits
 makes_relay = refl
 
-with_last : {X : Type 0} (P : X → Type 0) (xs : List X) (y : X) → AllByRecursion P xs → P y → AllByRecursion P (xs ++ y ∷ [])
+with_last : {X : Type 0} (P : X → Type 0) (xs : List X) (y : X) → AllByRecursion P xs → P y
+    → AllByRecursion P (xs ++ y ∷ [])
 with_last P [] y all last = (last, tt)
 with_last P (x ∷ xs) y all last = (all.0, with_last P xs y all.1 last)
 
-still_empty : (tables : List Table) (old new : Trees) → KeepsRows tables old new → AllByRecursion (λ (t : Table). old t.tree ≡ []) tables → AllByRecursion (λ (t : Table). new t.tree ≡ []) tables
+still_empty : (tables : List Table) (old new : Trees) → KeepsRows tables old new
+    → AllByRecursion (λ (t : Table). old t.tree ≡ []) tables → AllByRecursion (λ (t : Table). new t.tree ≡ []) tables
 still_empty [] old new kept empty = tt
 still_empty (t ∷ tables) old new kept empty = (kept.0 ∙ empty.0, still_empty tables old new kept.1 empty.1)
 

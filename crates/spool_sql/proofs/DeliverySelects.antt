@@ -1,5 +1,6 @@
 -- The SELECT statements of one event.
-use Rattle.std.proofs.Common.{◌≡◌, ◌==◌, ◌^◌, ℕ, pos, List, [], ◌∷◌, map, filter, codes, Option, slice_get, option_map, refl, sym, subst, ◌∙◌}
+use Rattle.std.proofs.Common.{◌≡◌, ◌==◌, ◌^◌, ℕ, pos, List, [], ◌∷◌, map, filter, codes, Option, slice_get, option_map}
+use Rattle.std.proofs.Common.{refl, sym, subst, ◌∙◌}
 use Rattle.std.specs.List.{AllByRecursion}
 use Rattle.std.specs.List.Sorted.{IsPermutation}
 use Rattle.std.proofs.lemmas.List.Sorted.{IsPermutation-map}
@@ -18,7 +19,8 @@ use Rattle.spool_sql.specs.Stored.{IsTables, IsEndpointOf, AreStatusesOf, number
 use Rattle.relay_types.specs.declared.limits.TheConstants.{MAX_RECORDS}
 use Rattle.spool_sql.specs.Readable.{IsReadableDelivery, IsReadableAttempt, ShowsBelow}
 use Rattle.spool_sql.proofs.BareLemmas.{IsBare}
-use Rattle.spool_sql.proofs.SelectLemmas.{Asks, finds, finds_all, found_in, map_map, equal_numbers, and_true, first_number}
+use Rattle.spool_sql.proofs.SelectLemmas.{Asks, finds, finds_all, found_in, map_map, equal_numbers, and_true}
+use Rattle.spool_sql.proofs.SelectLemmas.{first_number}
 use Rattle.spool_sql.proofs.UpdateLemmas.{scan, shows}
 
 abbrev pub endpoint_select : List ℕ
@@ -50,8 +52,10 @@ unfolding understood everything
 statuses_select_bare schema base = refl
 
 -- what a row that shows one number says
-numbers_of : {X : Type 0} (n : X → ℕ) (xs : List X) (found : List Row) → IsPermutation (map (λ x. Int (pos (n x)) ∷ []) xs) found → IsPermutation (map n xs) (map number_of found)
-numbers_of n xs found same = subst (λ l. IsPermutation l (map number_of found)) (map_map (λ x. Int (pos (n x)) ∷ []) number_of xs) (IsPermutation-map number_of _ _ same)
+numbers_of : {X : Type 0} (n : X → ℕ) (xs : List X) (found : List Row)
+    → IsPermutation (map (λ x. Int (pos (n x)) ∷ []) xs) found → IsPermutation (map n xs) (map number_of found)
+numbers_of n xs found same = subst (λ l. IsPermutation l (map number_of found))
+    (map_map (λ x. Int (pos (n x)) ∷ []) number_of xs) (IsPermutation-map number_of _ _ same)
 
 module _ (old new : State) (found : List Row) (rows : Rows) (t : IsTables old.now rows) (delivery : ℕ) where
   abbrev params : Row
@@ -59,7 +63,8 @@ module _ (old new : State) (found : List Row) (rows : Rows) (t : IsTables old.no
 
   endpoint_found : Asks relay_schema endpoint_select (scan 5 by_seq (col 1 2 ∷ [])) (codes "endpoint" ∷ [])
       → Shown endpoint_select params old new found
-      → IsPermutation (map (λ (d : DeliveryRow). shows params (col 1 2 ∷ []) (delivery_stored d)) (filter (λ (d : DeliveryRow). d.seq == delivery) rows.deliveries)) found
+      → IsPermutation (map (λ (d : DeliveryRow). shows params (col 1 2 ∷ []) (delivery_stored d))
+      (filter (λ (d : DeliveryRow). d.seq == delivery) rows.deliveries)) found
   endpoint_found asks h =
       finds delivery_stored params by_seq (col 1 2 ∷ []) (λ (d : DeliveryRow). d.seq == delivery)
       (λ d. and_true _ ∙ equal_numbers d.seq delivery) (old.now.trees 5) rows.deliveries found
@@ -68,7 +73,8 @@ module _ (old new : State) (found : List Row) (rows : Rows) (t : IsTables old.no
 
   statuses_found : Asks relay_schema statuses_select (scan 7 by_delivery (col 1 4 ∷ [])) (codes "status" ∷ [])
       → Shown statuses_select params old new found
-      → IsPermutation (map (λ (a : AttemptRow). shows params (col 1 4 ∷ []) (attempt_stored a)) (filter (λ (a : AttemptRow). a.delivery == delivery) rows.attempts)) found
+      → IsPermutation (map (λ (a : AttemptRow). shows params (col 1 4 ∷ []) (attempt_stored a))
+      (filter (λ (a : AttemptRow). a.delivery == delivery) rows.attempts)) found
   statuses_found asks h =
       finds attempt_stored params by_delivery (col 1 4 ∷ []) (λ (a : AttemptRow). a.delivery == delivery)
       (λ a. and_true _ ∙ equal_numbers a.delivery delivery) (old.now.trees 7) rows.attempts found
@@ -78,14 +84,20 @@ module _ (old new : State) (found : List Row) (rows : Rows) (t : IsTables old.no
   pub tells_endpoint : Asks relay_schema endpoint_select (scan 5 by_seq (col 1 2 ∷ [])) (codes "endpoint" ∷ [])
       → Shown endpoint_select params old new found
       → (put : Option ℕ) → put ≡ option_map number_of (slice_get found 0) → IsEndpointOf delivery rows put
-  tells_endpoint asks h put is =
-      (map number_of found, numbers_of (λ (d : DeliveryRow). d.endpoint) _ found (endpoint_found asks h), is ∙ sym (first_number found))
+  tells_endpoint asks h put is = (
+    map number_of found,
+    numbers_of (λ (d : DeliveryRow). d.endpoint) _ found (endpoint_found asks h),
+    is
+        ∙ sym (first_number found),
+  )
 
   pub shows_endpoint : Asks relay_schema endpoint_select (scan 5 by_seq (col 1 2 ∷ [])) (codes "endpoint" ∷ [])
       → Shown endpoint_select params old new found → AllByRecursion IsReadableDelivery rows.deliveries
       → AllByRecursion (ShowsBelow MAX_RECORDS) found
   shows_endpoint asks h good =
-      finds_all delivery_stored params (col 1 2 ∷ []) (λ (d : DeliveryRow). d.seq == delivery) IsReadableDelivery (ShowsBelow MAX_RECORDS) (λ d is. (d.endpoint, refl, is.endpoint)) rows.deliveries found (endpoint_found asks h) good
+      finds_all delivery_stored params (col 1 2 ∷ []) (λ (d : DeliveryRow). d.seq == delivery) IsReadableDelivery
+      (ShowsBelow MAX_RECORDS) (λ d is. (d.endpoint, refl, is.endpoint)) rows.deliveries found
+      (endpoint_found asks h) good
 
   pub tells_statuses : Asks relay_schema statuses_select (scan 7 by_delivery (col 1 4 ∷ [])) (codes "status" ∷ [])
       → Shown statuses_select params old new found
@@ -96,4 +108,5 @@ module _ (old new : State) (found : List Row) (rows : Rows) (t : IsTables old.no
       → Shown statuses_select params old new found → AllByRecursion IsReadableAttempt rows.attempts
       → AllByRecursion (ShowsBelow (2 ^ 16)) found
   shows_statuses asks h good =
-      finds_all attempt_stored params (col 1 4 ∷ []) (λ (a : AttemptRow). a.delivery == delivery) IsReadableAttempt (ShowsBelow (2 ^ 16)) (λ a is. (a.status, refl, is.status)) rows.attempts found (statuses_found asks h) good
+      finds_all attempt_stored params (col 1 4 ∷ []) (λ (a : AttemptRow). a.delivery == delivery) IsReadableAttempt
+      (ShowsBelow (2 ^ 16)) (λ a is. (a.status, refl, is.status)) rows.attempts found (statuses_found asks h) good

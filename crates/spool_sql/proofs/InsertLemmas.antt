@@ -75,7 +75,9 @@ inserted_by task from db w bare h =
     let written = went counter.2 in
     let counted = went written.2 in
     let ids : rowids_for task.table (count_of counter.0) ≡ Chosen = given_ids task.table.is_counted _ bare in
-    let kept : counted.0 ≡ written.0 = same_value (second _ (CountsIn task written.0 counter.0 _ (sequence task.schema)) (Gives written.0) (Ok counted.0) (no_count task.table.is_counted _ bare) counted.1) in
+    let kept : counted.0 ≡ written.0 =
+    same_value (second _ (CountsIn task written.0 counter.0 _ (sequence task.schema)) (Gives written.0)
+    (Ok counted.0) (no_count task.table.is_counted _ bare) counted.1) in
     let trees : w.trees ≡ written.0 = ap (λ (it : Written). it.trees) (same_value counted.2) ∙ kept in
     let edit = λ (ids : Rowids). edit_of db task.table [] ids 0 given.0 in
     (given.0, given.1, subst₂ (λ i t. Goes task.schema task.keys db (edit i) (Ok t)) ids (sym trees) written.1)
@@ -93,7 +95,10 @@ module _ (schema : Schema) (sql : List ℕ) (params : Row) (at : ℕ) (terms : L
       let w = runs_as sql params old new schema has command means.is means.plain count h in
       let text = statement_of sql (understood schema sql) in
       let task : Task = record { limit = old.step_limit; keys = Enforced; schema = schema; table = table; params = params } in
-      let on : OnRows task (mode_of old) None command db (Ok (w.tally, new.now)) = rw listed at (subst (λ s. Does old.step_limit (mode_of old) params (record old.now { schema = s }) text None command (Ok (w.tally, new.now))) has w.changed) in
+      let on : OnRows task (mode_of old) None command db (Ok (w.tally, new.now)) =
+      rw listed at
+      (subst (λ s. Does old.step_limit (mode_of old) params (record old.now { schema = s }) text None command
+      (Ok (w.tally, new.now))) has w.changed) in
       let made = left_as task (mode_of old) command db w.tally new.now on in
       let edit = inserted_by task (Values terms width) db made.0 uncounted made.1 in
       let only : edit.0 ≡ value_rows (stamped table params) width (length terms / width) terms = edit.1.1 in

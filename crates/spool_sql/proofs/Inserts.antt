@@ -1,5 +1,6 @@
 -- The INSERT statements.
-use Rattle.std.proofs.Common.{◌≡◌, ℕ, ◌/◌, pos, ℤ, List, [], ◌∷◌, ◌++◌, map, length, drop, codes, Bool, true, false, cond, Ok, refl, sym, ap, subst, ◌∙◌, arith}
+use Rattle.std.proofs.Common.{◌≡◌, ℕ, ◌/◌, pos, ℤ, List, [], ◌∷◌, ◌++◌, map, length, drop, codes, Bool, true, false}
+use Rattle.std.proofs.Common.{cond, Ok, refl, sym, ap, subst, ◌∙◌, arith}
 use Rattle.sqlite.specs.declared.types.Value.{Value}
 use Rattle.sqlite.specs.declared.types.Value.TheVariants.{Null, Int, Text, Blob}
 use Rattle.sqlite.specs.Order.{Row}
@@ -68,7 +69,8 @@ abbrev three : List Term
 three = lit Null ∷ col 0 0 ∷ col 0 1 ∷ col 0 2 ∷ []
 
 abbrev first_terms : ℕ → List Term
-first_terms version = lit (Int (pos 1)) ∷ lit Null ∷ lit (Text (codes "webhook-relay")) ∷ lit (Int (pos version)) ∷ lit (Int (pos 0)) ∷ []
+first_terms version = lit (Int (pos 1)) ∷ lit Null ∷ lit (Text (codes "webhook-relay")) ∷ lit (Int (pos version))
+    ∷ lit (Int (pos 0)) ∷ []
 
 deliveries_insert_means : Means relay_schema deliveries_insert (Insert 3 (Values five 6))
 unfolding understood everything
@@ -99,7 +101,8 @@ abbrev pub delivery_values : DeliveryRow → Row
 delivery_values d = Int (pos d.seq) ∷ Int (pos d.endpoint) ∷ Text d.id ∷ Int (pos d.at) ∷ Blob d.body ∷ []
 
 abbrev pub attempt_values : AttemptRow → Row
-attempt_values a = Int (pos a.seq) ∷ Int (pos a.delivery) ∷ Int (pos a.number) ∷ Int (pos a.status) ∷ Int (pos a.at) ∷ []
+attempt_values a = Int (pos a.seq) ∷ Int (pos a.delivery) ∷ Int (pos a.number) ∷ Int (pos a.status) ∷ Int (pos a.at)
+    ∷ []
 
 abbrev pub endpoint_values : ℕ → List ℕ → List ℕ → ℕ → Row
 endpoint_values put name url max = Int (pos put) ∷ Text name ∷ Text url ∷ Int (pos max) ∷ []
@@ -111,19 +114,40 @@ secret_values s = Int (pos s.endpoint) ∷ Int (pos s.place) ∷ Blob s.secret �
 abbrev hidden : SecretRow → Trees → Row
 hidden s db = Int (next_rowid (db 3)) ∷ secret_stored s
 
-delivery_news : (d : DeliveryRow) (db : Trees) → (edit_of db (record deliveries { tree = 5 }) [] Chosen 0 (value_rows (stamped (record deliveries { tree = 5 }) (delivery_values d)) 6 (length five / 6) five)).news ≡ delivery_stored d ∷ []
+delivery_news : (d : DeliveryRow) (db : Trees)
+    → (edit_of db (record deliveries { tree = 5 }) [] Chosen 0
+    (value_rows (stamped (record deliveries { tree = 5 }) (delivery_values d)) 6 (length five / 6) five)).news
+    ≡ delivery_stored d ∷ []
 delivery_news d db = rw (cast_null, cast_int (pos d.seq), cast_int (pos d.endpoint), cast_int (pos d.at)) refl
 
-attempt_news : (a : AttemptRow) (db : Trees) → (edit_of db (record attempts { tree = 7 }) [] Chosen 0 (value_rows (stamped (record attempts { tree = 7 }) (attempt_values a)) 6 (length five / 6) five)).news ≡ attempt_stored a ∷ []
-attempt_news a db = rw (cast_null, cast_int (pos a.seq), cast_int (pos a.delivery), cast_int (pos a.number), cast_int (pos a.status), cast_int (pos a.at)) refl
+attempt_news : (a : AttemptRow) (db : Trees)
+    → (edit_of db (record attempts { tree = 7 }) [] Chosen 0
+    (value_rows (stamped (record attempts { tree = 7 }) (attempt_values a)) 6 (length five / 6) five)).news
+    ≡ attempt_stored a ∷ []
+attempt_news a db = rw (
+  cast_null,
+  cast_int (pos a.seq),
+  cast_int (pos a.delivery),
+  cast_int (pos a.number),
+  cast_int (pos a.status),
+  cast_int (pos a.at),
+) refl
 
-endpoint_news : (put : ℕ) (name url : List ℕ) (max : ℕ) (db : Trees) → (edit_of db (record endpoints { tree = 1 }) [] Chosen 0 (value_rows (stamped (record endpoints { tree = 1 }) (endpoint_values put name url max)) 8 (length seven / 8) seven)).news ≡ endpoint_stored (new_endpoint put name url max) ∷ []
+endpoint_news : (put : ℕ) (name url : List ℕ) (max : ℕ) (db : Trees)
+    → (edit_of db (record endpoints { tree = 1 }) [] Chosen 0
+    (value_rows (stamped (record endpoints { tree = 1 }) (endpoint_values put name url max)) 8
+    (length seven / 8) seven)).news ≡ endpoint_stored (new_endpoint put name url max) ∷ []
 endpoint_news put name url max db = rw (cast_null, cast_int (pos put), cast_int (pos max), cast_int (pos 1)) refl
 
-secret_news : (s : SecretRow) (db : Trees) → (edit_of db (record secrets { tree = 3 }) [] Chosen 0 (value_rows (stamped (record secrets { tree = 3 }) (secret_values s)) 4 (length three / 4) three)).news ≡ hidden s db ∷ []
+secret_news : (s : SecretRow) (db : Trees)
+    → (edit_of db (record secrets { tree = 3 }) [] Chosen 0
+    (value_rows (stamped (record secrets { tree = 3 }) (secret_values s)) 4 (length three / 4) three)).news
+    ≡ hidden s db ∷ []
 secret_news s db = rw (cast_null, cast_int (pos s.endpoint), cast_int (pos s.place)) refl
 
-meta_news : (version : ℕ) (db : Trees) → (edit_of db meta [] Chosen 0 (value_rows (stamped meta []) 5 (length (first_terms version) / 5) (first_terms version))).news ≡ meta_stored version 0 ∷ []
+meta_news : (version : ℕ) (db : Trees)
+    → (edit_of db meta [] Chosen 0 (value_rows (stamped meta []) 5 (length (first_terms version) / 5)
+    (first_terms version))).news ≡ meta_stored version 0 ∷ []
 meta_news version db = rw (cast_null, cast_int (pos 1), cast_int (pos version), cast_int (pos 0)) refl
 
 -- ---- what they make of the relay's tables

@@ -47,7 +47,8 @@ module _ {X : Type 0} (row : X → Row) (number : X → ℕ) (t at : ℕ) (tests
 
   order_is : (x y : X) → is_lt (output_cmp query (out x) (out y)) ≡ is_lt (nat_cmp (number x) (number y))
   order_is x y =
-      ap is_lt (then-Equal (value_cmp (column (row x) at) (column (row y) at)) ∙ ap₂ value_cmp (numbered x) (numbered y) ∙ value_cmp-Int (pos (number x)) (pos (number y))) ∙ int_order (number x) (number y)
+      ap is_lt (then-Equal (value_cmp (column (row x) at) (column (row y) at)) ∙ ap₂ value_cmp (numbered x) (numbered y)
+      ∙ value_cmp-Int (pos (number x)) (pos (number y))) ∙ int_order (number x) (number y)
 
   rises : (all : List X) → IsSorted (output_cmp query) (map out all) → IsNonDecreasingBy number all
   rises all up = IsNonDecreasingBy-from_sort number all (λ k d low high.

@@ -1,5 +1,6 @@
 -- Why a query of the relay's tables is refused, whatever its parameters are.
-use Rattle.std.proofs.Common.{◌≡◌, ◌≤◌, ◌==◌, ◌&&◌, ◌⊎◌, inl, inr, ℕ, List, [], length, Bool, true, false, nat_le, Option, None, Ok, Err, refl, sym, ap, subst, ◌∙◌, arith, append-nil}
+use Rattle.std.proofs.Common.{◌≡◌, ◌≤◌, ◌==◌, ◌&&◌, ◌⊎◌, inl, inr, ℕ, List, [], length, Bool, true, false, nat_le}
+use Rattle.std.proofs.Common.{Option, None, Ok, Err, refl, sym, ap, subst, ◌∙◌, arith, append-nil}
 use Rattle.std.specs.Prelude.{IsSome}
 use Rattle.std.proofs.lemmas.Bool.Decides.{nat_tests}
 use Rattle.sqlite_trees.specs.Tree.{Trees}
@@ -18,7 +19,8 @@ use Rattle.sqlite.specs.Order.{Row}
 use Rattle.sqlite.specs.Clock.{timed}
 use Rattle.sqlite.specs.Effect.{Database, RefusesToRead}
 use Rattle.sqlite.specs.Listing.{understood, reads_listing, IsSourceOf}
-use Rattle.sqlite.specs.State.{State, FailsToQuery, FailsToShow, IsTooLate, IsNotRun, IsNoStatement, Fails, HasCause, store_error}
+use Rattle.sqlite.specs.State.{State, FailsToQuery, FailsToShow, IsTooLate, IsNotRun, IsNoStatement, Fails, HasCause}
+use Rattle.sqlite.specs.State.{store_error}
 use Rattle.spool_sql.specs.Tables.{relay_schema}
 use Rattle.spool_sql.specs.Readable.{HasFailed, HasFault, IsRefusal, WasRefusal}
 use Rattle.spool_sql.proofs.BareLemmas.{IsBare, understood_bare}
@@ -68,7 +70,9 @@ within m n e = grind (arith, nat_tests, e)
 equal : (m n : ℕ) → (m == n) ≡ true → m ≡ n
 equal m n e = grind (arith, nat_tests, e)
 
-not_one : (sql : List ℕ) (params : Row) (s : State) (e : Error) → is_one (length sql) (length params) (understood s.now.schema sql) ≡ true → IsPlain (understood s.now.schema sql) → ¬ IsNoStatement s sql params e
+not_one : (sql : List ℕ) (params : Row) (s : State) (e : Error)
+    → is_one (length sql) (length params) (understood s.now.schema sql) ≡ true → IsPlain (understood s.now.schema sql)
+    → ¬ IsNoStatement s sql params e
 not_one sql params s e one plain (inl h) = absurd (let f = rw h.1 at one in cc)
 not_one sql params s e one plain (inr h) =
     let here : nat_le (length sql) h.0.tail && (length params == length h.0.names) ≡ true = rw h.1 at one in
@@ -79,23 +83,30 @@ not_one sql params s e one plain (inr h) =
     ]
 
 -- a query over one table that groups nothing sums nothing
-sums_nothing : (q : Query) (t : ℕ) → q.from ≡ inner t end → q.group ≡ None → (params : Row) (db : Trees) → ¬ ProgramOverflows db params [] [] q
+sums_nothing : (q : Query) (t : ℕ) → q.from ≡ inner t end → q.group ≡ None → (params : Row) (db : Trees)
+    → ¬ ProgramOverflows db params [] [] q
 sums_nothing q t from group params db (inl h) = absurd (rw group at h)
 sums_nothing q t from group params db (inr h) = let fold = rw from at h in absurd fold.4
 
-module _ (sql : List ℕ) (bare : IsBare sql) (q : Query) (names : List (List ℕ)) (asks : Asks relay_schema sql q names) (params : Row)
+module _ (sql : List ℕ) (bare : IsBare sql) (q : Query) (names : List (List ℕ)) (asks : Asks relay_schema sql q names)
+    (params : Row)
     (one : is_one (length sql) (length params) (understood relay_schema sql) ≡ true)
     (typed : accepts_program relay_schema [] q params ≡ true)
     (t : ℕ) (from : q.from ≡ inner t end) (group : q.group ≡ None) where
-  stopped : (a b : State) (db : Database) (limit : Option ℕ) (e : Error) → db.schema ≡ relay_schema → limit ≡ a.step_limit → RefusesToRead limit (Select (record { lets = []; body = q }) names) db params e → IsRefusal a b e
-  stopped a b db limit e has same (inl mismatch) = absurd (let no = mismatch.1 in let yes = ap (λ schema. accepts_program schema [] q params) has ∙ typed in cc)
+  stopped : (a b : State) (db : Database) (limit : Option ℕ) (e : Error) → db.schema ≡ relay_schema
+      → limit ≡ a.step_limit → RefusesToRead limit (Select (record { lets = []; body = q }) names) db params e
+      → IsRefusal a b e
+  stopped a b db limit e has same (inl mismatch) =
+      absurd (let no = mismatch.1 in let yes = ap (λ schema. accepts_program schema [] q params) has ∙ typed in cc)
   stopped a b db limit e has same (inr (inl over)) = absurd (sums_nothing q t from group params db.trees over.1)
   stopped a b db limit e has same (inr (inr h)) = inr (inr (h.0, subst IsSome same h.1))
 
-  pub refused_for : (a b : State) (e : Error) → a.now.schema ≡ relay_schema → FailsToQuery sql params a b e ⊎ IsTooLate sql params a b e → IsRefusal a b e
+  pub refused_for : (a b : State) (e : Error) → a.now.schema ≡ relay_schema → FailsToQuery sql params a b e
+      ⊎ IsTooLate sql params a b e → IsRefusal a b e
   unfolding FailsToQuery IsNotRun
   refused_for a b e has (inl (inl (inl n))) =
-      absurd (not_one sql params a e (ap (λ s. is_one (length sql) (length params) (understood s sql)) has ∙ one) (subst (λ s. IsPlain (understood s sql)) (sym has) asks.means.plain) n.0)
+      absurd (not_one sql params a e (ap (λ s. is_one (length sql) (length params) (understood s sql)) has ∙ one)
+      (subst (λ s. IsPlain (understood s sql)) (sym has) asks.means.plain) n.0)
   refused_for a b e has (inl (inl (inr f))) = of_failure a b e f
   refused_for a b e has (inl (inr h)) =
       let known = sym h.1.is ∙ ap (λ s. understood s sql) has in
@@ -104,8 +115,11 @@ module _ (sql : List ℕ) (bare : IsBare sql) (q : Query) (names : List (List �
       let told = subst (FailsToShow a b sql h.0 (timed params h.0.formats h.1.now) e) none h.2 in
       let unlisted = ap (λ s. reads_listing s sql) has ∙ asks.unlisted in
       let db : told.0 ≡ a.now = subst (λ listed. IsSourceOf listed a.now told.0) unlisted told.1 in
-      let full : timed params h.0.formats h.1.now ≡ params = ap (λ (f : List (List ℕ)). timed params f h.1.now) plain.1 ∙ append-nil params in
+      let full : timed params h.0.formats h.1.now ≡ params = ap (λ (f : List (List ℕ)). timed params f h.1.now) plain.1
+      ∙ append-nil params in
       let refused = subst (λ (p : Row). RefusesToRead a.step_limit h.0.command told.0 p e) full told.2 in
-      stopped a b told.0 a.step_limit e (ap (λ (d : Database). d.schema) db ∙ has) refl (subst (λ (k : Command). RefusesToRead a.step_limit k told.0 params e) (ap command_of known ∙ asks.means.is) refused)
+      stopped a b told.0 a.step_limit e (ap (λ (d : Database). d.schema) db ∙ has) refl
+      (subst (λ (k : Command). RefusesToRead a.step_limit k told.0 params e) (ap command_of known
+      ∙ asks.means.is) refused)
   refused_for a b e has (inr late) =
       absurd (let none = understood_bare sql bare a.now.schema late.0 late.1.is in let some = rw none at late.2 in cc)

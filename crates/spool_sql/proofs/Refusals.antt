@@ -10,11 +10,15 @@ use Rattle.relay_types.specs.Rows.{Rows}
 use Rattle.spool_sql.specs.Stored.{IsTables}
 use Rattle.spool_sql.specs.Readable.{IsRefusal}
 use Rattle.spool_sql.proofs.RefusalLemmas.{refused_for}
-use Rattle.spool_sql.proofs.SelectLemmas.{named_select, named_select_asks, named_select_bare, endpoints_select, endpoints_select_asks, endpoints_select_bare, delivery_select, delivery_select_asks, delivery_select_bare, delivery_params}
+use Rattle.spool_sql.proofs.SelectLemmas.{named_select, named_select_asks, named_select_bare, endpoints_select}
+use Rattle.spool_sql.proofs.SelectLemmas.{endpoints_select_asks, endpoints_select_bare, delivery_select}
+use Rattle.spool_sql.proofs.SelectLemmas.{delivery_select_asks, delivery_select_bare, delivery_params}
 use Rattle.spool_sql.proofs.DeliverySelects.{endpoint_select, endpoint_select_asks, endpoint_select_bare, statuses_select, statuses_select_asks, statuses_select_bare}
 use Rattle.spool_sql.proofs.SecretSelects.{secrets_select, secrets_select_asks, secrets_select_bare}
 use Rattle.spool_sql.proofs.MetaSelects.{records_select, records_select_asks, records_select_bare}
-use Rattle.spool_sql.proofs.Pages.{endpoints_page, endpoints_page_asks, endpoints_page_bare, deliveries_select, deliveries_select_asks, deliveries_select_bare, attempts_select, attempts_select_asks, attempts_select_bare}
+use Rattle.spool_sql.proofs.Pages.{endpoints_page, endpoints_page_asks, endpoints_page_bare, deliveries_select}
+use Rattle.spool_sql.proofs.Pages.{deliveries_select_asks, deliveries_select_bare, attempts_select}
+use Rattle.spool_sql.proofs.Pages.{attempts_select_asks, attempts_select_bare}
 
 -- of tables of the relay's schema, each error of this query is that of a refusal
 abbrev pub RefusesQuery : List ℕ → Row → Type 1

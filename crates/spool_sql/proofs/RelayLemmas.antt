@@ -20,7 +20,8 @@ use Rattle.spool_sql.proofs.InsertLemmas.{Wrote}
 
 -- no foreign key acts on a row
 idle_by : (b : Bool) (tree : ℕ) (olds news : List Row)
-    → flat_map (λ child. filter_map (λ ref. work_by 0 tree (pairs olds news) child ref (deed_for Enforced b ref) (parent_key relay_schema.tables ref)) child.references) relay_schema.tables ≡ []
+    → flat_map (λ child. filter_map (λ ref. work_by 0 tree (pairs olds news) child ref (deed_for Enforced b ref)
+    (parent_key relay_schema.tables ref)) child.references) relay_schema.tables ≡ []
 idle_by true tree olds news = refl
 idle_by false tree olds news = refl
 

@@ -1,5 +1,7 @@
 -- The SELECT statements.
-use Rattle.std.proofs.Common.{◌≡◌, ◌==◌, ◌&&◌, ◌||◌, ℕ, pos, List, [], ◌∷◌, map, filter, length, codes, bytes_eq, Bool, true, false, cond, Some, not, Option, slice_get, option_map, find, ◌≤◌, refl, sym, ap, subst, ◌∙◌, arith}
+use Rattle.std.proofs.Common.{◌≡◌, ◌==◌, ◌&&◌, ◌||◌, ℕ, pos, List, [], ◌∷◌, map, filter, length, codes, bytes_eq, Bool}
+use Rattle.std.proofs.Common.{true, false, cond, Some, not, Option, slice_get, option_map, find, ◌≤◌, refl, sym, ap}
+use Rattle.std.proofs.Common.{subst, ◌∙◌, arith}
 use Rattle.std.proofs.lemmas.Bool.Decides.{nat_tests}
 use Rattle.std.specs.List.{AllByRecursion, list_any}
 use Rattle.std.specs.List.Sorted.{IsPermutation}
@@ -100,11 +102,14 @@ and_true false = refl
 
 -- ---- the typed rows that a query over one table finds
 
-pub filtered : {X : Type 0} (row : X → Row) (p : Row → Bool) (q : X → Bool) → ((x : X) → p (row x) ≡ q x) → (xs : List X) → filter p (map row xs) ≡ map row (filter q xs)
+pub filtered : {X : Type 0} (row : X → Row) (p : Row → Bool) (q : X → Bool) → ((x : X) → p (row x) ≡ q x)
+    → (xs : List X) → filter p (map row xs) ≡ map row (filter q xs)
 filtered row p q same [] = refl
 filtered row p q same (x ∷ xs) = tested (p (row x)) (q x) (same x) (filtered row p q same xs)
   where
-    tested : (a b : Bool) → a ≡ b → filter p (map row xs) ≡ map row (filter q xs) → cond a (row x ∷ filter p (map row xs)) (filter p (map row xs)) ≡ map row (cond b (x ∷ filter q xs) (filter q xs))
+    tested : (a b : Bool) → a ≡ b → filter p (map row xs) ≡ map row (filter q xs)
+        → cond a (row x ∷ filter p (map row xs)) (filter p (map row xs))
+        ≡ map row (cond b (x ∷ filter q xs) (filter q xs))
     tested true true e rest = ap (λ zs. row x ∷ zs) rest
     tested false false e rest = rest
     tested true false e rest = absurd (let f = e in cc)
@@ -114,25 +119,37 @@ pub map_map : {X Y Z : Type 0} (f : X → Y) (g : Y → Z) (xs : List X) → map
 map_map f g [] = refl
 map_map f g (x ∷ xs) = ap (λ zs. g (f x) ∷ zs) (map_map f g xs)
 
-pub finds : {X : Type 0} (row : X → Row) (params : Row) (tests shown : List Term) (q : X → Bool) → ((x : X) → passes params tests (row x) ≡ q x) → (tree : List Row) (xs : List X) (found : List Row)
-    → IsPermutation tree (map row xs) → IsPermutation (map (shows params shown) (filter (passes params tests) tree)) found → IsPermutation (map (λ x. shows params shown (row x)) (filter q xs)) found
+pub finds : {X : Type 0} (row : X → Row) (params : Row) (tests shown : List Term) (q : X → Bool)
+    → ((x : X) → passes params tests (row x) ≡ q x) → (tree : List Row) (xs : List X) (found : List Row)
+    → IsPermutation tree (map row xs)
+    → IsPermutation (map (shows params shown) (filter (passes params tests) tree)) found
+    → IsPermutation (map (λ x. shows params shown (row x)) (filter q xs)) found
 finds row params tests shown q same tree xs found are all =
-    let typed = IsPermutation-map (shows params shown) _ _ (IsPermutation-filter (passes params tests) _ _ (IsPermutation-sym _ _ are)) in
-    let these = ap (map (shows params shown)) (filtered row (passes params tests) q same xs) ∙ map_map row (shows params shown) (filter q xs) in
+    let typed = IsPermutation-map (shows params shown) _ _
+    (IsPermutation-filter (passes params tests) _ _ (IsPermutation-sym _ _ are)) in
+    let these = ap (map (shows params shown)) (filtered row (passes params tests) q same xs)
+    ∙ map_map row (shows params shown) (filter q xs) in
     subst (λ l. IsPermutation l found) these (IsPermutation-trans _ _ _ typed all)
 
 -- each row of the answer shows a typed row, and what is so of all typed rows
-pub finds_all : {X : Type 0} (row : X → Row) (params : Row) (shown : List Term) (q : X → Bool) (Good : X → Type 0) (Shows : Row → Type 0) → ((x : X) → Good x → Shows (shows params shown (row x)))
-    → (xs : List X) (found : List Row) → IsPermutation (map (λ x. shows params shown (row x)) (filter q xs)) found → AllByRecursion Good xs → AllByRecursion Shows found
+pub finds_all : {X : Type 0} (row : X → Row) (params : Row) (shown : List Term) (q : X → Bool) (Good : X → Type 0)
+    (Shows : Row → Type 0) → ((x : X) → Good x → Shows (shows params shown (row x)))
+    → (xs : List X) (found : List Row) → IsPermutation (map (λ x. shows params shown (row x)) (filter q xs)) found
+    → AllByRecursion Good xs → AllByRecursion Shows found
 finds_all row params shown q Good Shows shows_good xs found same good =
-    all-permutation Shows _ found same (all-map Shows (λ x. shows params shown (row x)) (filter q xs) (all_weaker Good (λ x. Shows (shows params shown (row x))) shows_good (filter q xs) (all-filter Good q xs good)))
+    all-permutation Shows _ found same (all-map Shows (λ x. shows params shown (row x)) (filter q xs)
+    (all_weaker Good (λ x. Shows (shows params shown (row x))) shows_good (filter q xs)
+    (all-filter Good q xs good)))
 
 -- ---- a query over one table, whatever the version of the tables
 
-module _ (schema : Schema) (sql : List ℕ) (tree : ℕ) (tests shown : List Term) (names : List (List ℕ)) (asks : Asks schema sql (scan tree tests shown) names) (params : Row) where
-  pub found_in : (old new : State) (found : List Row) → old.now.schema ≡ schema → Shown sql params old new found → IsPermutation (map (shows params shown) (filter (passes params tests) (old.now.trees tree))) found
+module _ (schema : Schema) (sql : List ℕ) (tree : ℕ) (tests shown : List Term) (names : List (List ℕ))
+    (asks : Asks schema sql (scan tree tests shown) names) (params : Row) where
+  pub found_in : (old new : State) (found : List Row) → old.now.schema ≡ schema → Shown sql params old new found
+      → IsPermutation (map (shows params shown) (filter (passes params tests) (old.now.trees tree))) found
   found_in old new found has h =
-      scanned tree tests shown old.now.schema old.now.trees params found (reads_as sql params old new schema has _ asks.means.is asks.means.plain asks.unlisted found h)
+      scanned tree tests shown old.now.schema old.now.trees params found
+      (reads_as sql params old new schema has _ asks.means.is asks.means.plain asks.unlisted found h)
 
 abbrev pub put_shown : EndpointRow → Row
 put_shown e = Int (pos e.put) ∷ []
@@ -148,7 +165,8 @@ any_kept : {X : Type 0} (q : X → Bool) (xs : List X) → not (length (filter q
 any_kept q [] = refl
 any_kept q (x ∷ xs) = tested (q x) (any_kept q xs)
   where
-    tested : (b : Bool) → not (length (filter q xs) == 0) ≡ list_any q xs → not (length (cond b (x ∷ filter q xs) (filter q xs)) == 0) ≡ (b || list_any q xs)
+    tested : (b : Bool) → not (length (filter q xs) == 0) ≡ list_any q xs
+        → not (length (cond b (x ∷ filter q xs) (filter q xs)) == 0) ≡ (b || list_any q xs)
     tested true e = grind (arith, nat_tests)
     tested false e = e
 
@@ -156,8 +174,11 @@ pub first_number : (found : List Row) → slice_get (map number_of found) 0 ≡ 
 first_number [] = refl
 first_number (r ∷ rest) = refl
 
-puts_of : (name : List ℕ) (rows : Rows) (found : List Row) → IsPermutation (map put_shown (endpoints_named name rows)) found → IsPermutation (map (λ (e : EndpointRow). e.put) (endpoints_named name rows)) (map number_of found)
-puts_of name rows found same = subst (λ l. IsPermutation l (map number_of found)) (map_map put_shown number_of (endpoints_named name rows)) (IsPermutation-map number_of _ _ same)
+puts_of : (name : List ℕ) (rows : Rows) (found : List Row)
+    → IsPermutation (map put_shown (endpoints_named name rows)) found
+    → IsPermutation (map (λ (e : EndpointRow). e.put) (endpoints_named name rows)) (map number_of found)
+puts_of name rows found same = subst (λ l. IsPermutation l (map number_of found))
+    (map_map put_shown number_of (endpoints_named name rows)) (IsPermutation-map number_of _ _ same)
 
 -- ---- the three queries and what their answers say
 
@@ -175,7 +196,8 @@ module _ (old new : State) (found : List Row) (rows : Rows) (t : IsTables old.no
       → not (length found == 0) ≡ has_id rows endpoint id
   tells_delivery asks endpoint id h =
       let same = finds delivery_stored (delivery_params endpoint id) by_id (col 1 0 ∷ []) (is_delivery endpoint id)
-      (λ d. rw (equal_numbers d.endpoint endpoint, equal_texts d.id id) (ap (λ b. (d.endpoint == endpoint) && b) (and_true (bytes_eq d.id id))))
+      (λ d. rw (equal_numbers d.endpoint endpoint, equal_texts d.id id)
+      (ap (λ b. (d.endpoint == endpoint) && b) (and_true (bytes_eq d.id id))))
       (old.now.trees 5) rows.deliveries found t.tables.five.deliveries
       (found_in relay_schema delivery_select 5 by_id (col 1 0 ∷ []) _ asks (delivery_params endpoint id) old new
       found t.schema_is h) in
@@ -184,7 +206,8 @@ module _ (old new : State) (found : List Row) (rows : Rows) (t : IsTables old.no
 
   puts_found : Asks relay_schema named_select (scan 1 by_name (col 1 0 ∷ [])) (codes "put" ∷ []) → (name : List ℕ)
       → Shown named_select (Text name ∷ []) old new found
-      → IsPermutation (map (λ (e : EndpointRow). shows (Text name ∷ []) (col 1 0 ∷ []) (endpoint_stored e)) (endpoints_named name rows)) found
+      → IsPermutation (map (λ (e : EndpointRow). shows (Text name ∷ []) (col 1 0 ∷ []) (endpoint_stored e))
+      (endpoints_named name rows)) found
   puts_found asks name h =
       finds endpoint_stored (Text name ∷ []) by_name (col 1 0 ∷ []) (λ (e : EndpointRow). bytes_eq e.name name)
       (λ e. and_true _ ∙ equal_texts e.name name) (old.now.trees 1) rows.endpoints found t.tables.five.endpoints
@@ -194,7 +217,9 @@ module _ (old new : State) (found : List Row) (rows : Rows) (t : IsTables old.no
       → Shown named_select (Text name ∷ []) old new found → AllByRecursion IsReadableEndpoint rows.endpoints
       → AllByRecursion (ShowsBelow MAX_RECORDS) found
   shows_puts asks name h good =
-      finds_all endpoint_stored (Text name ∷ []) (col 1 0 ∷ []) (λ (e : EndpointRow). bytes_eq e.name name) IsReadableEndpoint (ShowsBelow MAX_RECORDS) (λ e is. (e.put, refl, is.put)) rows.endpoints found (puts_found asks name h) good
+      finds_all endpoint_stored (Text name ∷ []) (col 1 0 ∷ []) (λ (e : EndpointRow). bytes_eq e.name name)
+      IsReadableEndpoint (ShowsBelow MAX_RECORDS) (λ e is. (e.put, refl, is.put)) rows.endpoints found
+      (puts_found asks name h) good
 
   pub tells_put : Asks relay_schema named_select (scan 1 by_name (col 1 0 ∷ [])) (codes "put" ∷ []) → (name : List ℕ)
       → Shown named_select (Text name ∷ []) old new found
@@ -208,17 +233,23 @@ pub first_found : {X : Type 0} (q : X → Bool) (xs : List X) → find q xs ≡ 
 first_found q [] = refl
 first_found q (x ∷ xs) = tested (q x) (first_found q xs)
   where
-    tested : (b : Bool) → find q xs ≡ slice_get (filter q xs) 0 → cond b (Some x) (find q xs) ≡ slice_get (cond b (x ∷ filter q xs) (filter q xs)) 0
+    tested : (b : Bool) → find q xs ≡ slice_get (filter q xs) 0 → cond b (Some x) (find q xs)
+        ≡ slice_get (cond b (x ∷ filter q xs) (filter q xs)) 0
     tested true e = refl
     tested false e = e
 
-pub one_at_most : (es : List EndpointRow) (puts : List ℕ) → length es ≤ 1 → IsPermutation (map (λ (e : EndpointRow). e.put) es) puts → slice_get puts 0 ≡ option_map (λ (e : EndpointRow). e.put) (slice_get es 0)
+pub one_at_most : (es : List EndpointRow) (puts : List ℕ) → length es ≤ 1
+    → IsPermutation (map (λ (e : EndpointRow). e.put) es) puts → slice_get puts 0
+    ≡ option_map (λ (e : EndpointRow). e.put) (slice_get es 0)
 one_at_most [] [] few same = refl
 one_at_most [] (p ∷ puts) few same = absurd (let e = length_permutation _ (p ∷ puts) same in omega (arith, e))
 one_at_most (e ∷ []) puts few same = ap (λ l. slice_get l 0) (one_permutation e.put puts same)
 one_at_most (e ∷ f ∷ es) puts few same = absurd (omega (arith, few))
 
-pub put_found : (name : List ℕ) (rows : Rows) (put : Option ℕ) → length (endpoints_named name rows) ≤ 1 → IsPutOf name rows put
+pub put_found : (name : List ℕ) (rows : Rows) (put : Option ℕ) → length (endpoints_named name rows) ≤ 1
+    → IsPutOf name rows put
     → put ≡ option_map (λ (e : EndpointRow). e.put) (find (λ (e : EndpointRow). bytes_eq e.name name) rows.endpoints)
 put_found name rows put few it =
-    it.2 ∙ one_at_most (endpoints_named name rows) it.0 few it.1 ∙ ap (option_map (λ (e : EndpointRow). e.put)) (sym (first_found (λ (e : EndpointRow). bytes_eq e.name name) rows.endpoints))
+    it.2 ∙ one_at_most (endpoints_named name rows) it.0 few it.1
+    ∙ ap (option_map (λ (e : EndpointRow). e.put))
+    (sym (first_found (λ (e : EndpointRow). bytes_eq e.name name) rows.endpoints))

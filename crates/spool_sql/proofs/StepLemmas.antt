@@ -1,9 +1,11 @@
 -- One statement after another.
-use Rattle.std.proofs.Common.{◌≡◌, ◌⊎◌, inl, inr, ℕ, List, Ok, Err, Result, IfOk, OnOk, IsTrue, refl, sym, subst, ◌∙◌, arith}
+use Rattle.std.proofs.Common.{◌≡◌, ◌⊎◌, inl, inr, ℕ, List, Ok, Err, Result, IfOk, OnOk, IsTrue, refl, sym, subst, ◌∙◌}
+use Rattle.std.proofs.Common.{arith}
 use Rattle.sqlite.specs.declared.error.Error.{Error}
 use Rattle.sqlite.specs.Tree.{Trees}
 use Rattle.sqlite.specs.Order.{Row}
-use Rattle.sqlite.specs.State.{State, HasCleanDisk, IsLive, IsUnchanged, IsRolledBack, KeepsCommit, Survives, ExecutesInside}
+use Rattle.sqlite.specs.State.{State, HasCleanDisk, IsLive, IsUnchanged, IsRolledBack, KeepsCommit, Survives}
+use Rattle.sqlite.specs.State.{ExecutesInside}
 use Rattle.sqlite.proofs.StateLemmas.{survives_then}
 use Rattle.sqlite_catalog.proofs.ReadLemmas.{lists_once}
 use Rattle.relay_types.specs.Rows.{Rows}
@@ -18,13 +20,18 @@ keeps_if a b (inl same) = record { was_open = λ _. same.0.was_open; committed =
 keeps_if a b (inr back) = record { was_open = back.was_open; committed = λ is_open. (back.undone is_open).1 }
 
 -- a statement inside a transaction keeps the commit
-pub kept_inside : (sql : List ℕ) (params : Row) (a b : State) (r : Result ℕ Error) → ExecutesInside 0 sql params a b r → KeepsCommit a b
+pub kept_inside : (sql : List ℕ) (params : Row) (a b : State) (r : Result ℕ Error) → ExecutesInside 0 sql params a b r
+    → KeepsCommit a b
 kept_inside sql params a b (Ok count) h = record { was_open = λ _. h.1.was_open; committed = λ _. h.1.committed_is }
 kept_inside sql params a b (Err e) (inl h) = keeps_if a b h.1
 kept_inside sql params a b (Err e) (inr h) = keeps_if a b (inl h.2)
 
 keeps_then : (a b c : State) → KeepsCommit a b → KeepsCommit b c → KeepsCommit a c
-keeps_then a b c p q = record { was_open = λ is_open. p.was_open (q.was_open is_open); committed = λ is_open. q.committed is_open ∙ p.committed (q.was_open is_open) }
+keeps_then a b c p q = record {
+  was_open = λ is_open. p.was_open (q.was_open is_open);
+  committed =
+      λ is_open. q.committed is_open ∙ p.committed (q.was_open is_open);
+}
 
 pub spares_then : (a b c : State) → Spares a b → Spares b c → Spares a c
 spares_then a b c p q = record {
@@ -33,10 +40,24 @@ spares_then a b c p q = record {
 }
 
 goes_on_then : (a b c : State) → GoesOn a b → GoesOn b c → GoesOn a c
-goes_on_then a b c p q = record { was_open = p.was_open; is_open = q.is_open; now_is = refl; committed_is = q.committed_is ∙ p.committed_is; mode = q.mode }
+goes_on_then a b c p q = record {
+  was_open = p.was_open;
+  is_open = q.is_open;
+  now_is = refl;
+  committed_is =
+      q.committed_is ∙ p.committed_is;
+  mode = q.mode;
+}
 
 goes_on_same : (a b c : State) → GoesOn a b → IsUnchanged b c → GoesOn a c
-goes_on_same a b c p same = record { was_open = p.was_open; is_open = same.0.is_open; now_is = refl; committed_is = same.0.committed_is ∙ p.committed_is; mode = same.0.mode ∙ p.mode }
+goes_on_same a b c p same = record {
+  was_open = p.was_open;
+  is_open = same.0.is_open;
+  now_is = refl;
+  committed_is =
+      same.0.committed_is ∙ p.committed_is;
+  mode = same.0.mode ∙ p.mode;
+}
 
 pub alters_then : (a b c : State) (f g : Rows → Rows) → Alters a b f → Alters b c g → Alters a c (λ rows. g (f rows))
 alters_then a b c f g p q = record {
@@ -56,7 +77,8 @@ becomes_same {X} {Y} a b c p same = record {
       (sym same.0.now_is) (p.makes rows t);
 }
 
-pub alters_last : (a b c : State) (f g : Rows → Rows) (r : Result (Unit {0}) Error) → Alters a b f → OnOk r (Alters b c g) → OnOk r (Alters a c (λ rows. g (f rows)))
+pub alters_last : (a b c : State) (f g : Rows → Rows) (r : Result (Unit {0}) Error) → Alters a b f
+    → OnOk r (Alters b c g) → OnOk r (Alters a c (λ rows. g (f rows)))
 alters_last a b c f g (Ok done) p q = alters_then a b c f g p q
 alters_last a b c f g (Err e) p q = tt
 
@@ -76,7 +98,13 @@ opened_first d rows sound t = record {
 pub reopens : (s : State) → IsLive s → Reopens s
 reopens s live rows opened t =
     let tables = opened_tables s.committed rows (live opened.is_open).1 t in
-    record { is_open = opened.is_open; autocommit = opened.autocommit; now = subst (λ d. IsTables d rows) (sym opened.clean) tables; committed = tables }
+    record {
+      is_open = opened.is_open;
+      autocommit = opened.autocommit;
+      now =
+          subst (λ d. IsTables d rows) (sym opened.clean) tables;
+      committed = tables;
+    }
 
 pub stands_along : (a b : State) (rows : Rows) → Stands a rows → IsUnchanged a b → Stands b rows
 stands_along a b rows s same = record {
@@ -87,12 +115,15 @@ stands_along a b rows s same = record {
 }
 
 -- while the store is open, a crash leaves the last commit
-pub leaves_commit : (s : State) (rows : Rows) → Stands s rows → ((db : Trees) → IsTrue s.is_open → s.may_leave db → db ≡ s.committed.trees) → MayLeave s (λ r. r ≡ rows)
+pub leaves_commit : (s : State) (rows : Rows) → Stands s rows
+    → ((db : Trees) → IsTrue s.is_open → s.may_leave db → db ≡ s.committed.trees) → MayLeave s (λ r. r ≡ rows)
 leaves_commit s rows at settled db may = (rows, refl, rw (settled db at.is_open may) at.committed.tables)
 
 -- what a call left that commits nothing
-pub leaves_along : (a b : State) (P : Rows → Type 0) → Survives a b (λ _. ⊥) → HasCleanDisk b → MayLeave a P → MayLeave b P
-leaves_along a b P s clean before db may = elim (s.crash clean db may) [ inl was ↦ before db was | inr none ↦ absurd none ]
+pub leaves_along : (a b : State) (P : Rows → Type 0) → Survives a b (λ _. ⊥) → HasCleanDisk b → MayLeave a P
+    → MayLeave b P
+leaves_along a b P s clean before db may =
+    elim (s.crash clean db may) [ inl was ↦ before db was | inr none ↦ absurd none ]
 
 pub ok_then : {X E : Type 0} (r : Result X E) (P Q : X → Type 0) → IfOk r P → ((x : X) → P x → Q x) → IfOk r Q
 ok_then (Ok x) P Q h f = f x h
@@ -113,4 +144,9 @@ pub founds_then : (s t : Schema) (a b c : State) → Grows s t a b → Founds t 
 founds_then s t a b c p q = record { on = goes_on_then a b c p.on q.on; founds = λ begun. q.founds (p.begins begun) }
 
 pub founds_same : (s : Schema) (a b c : State) → Founds s a b → IsUnchanged b c → Founds s a c
-founds_same s a b c p same = record { on = goes_on_same a b c p.on same; founds = λ begun. subst (λ d. IsTables d first_rows) (sym same.0.now_is) (p.founds begun) }
+founds_same s a b c p same =
+    record {
+      on = goes_on_same a b c p.on same;
+      founds = λ begun. subst (λ d. IsTables d first_rows) (sym same.0.now_is)
+          (p.founds begun);
+    }

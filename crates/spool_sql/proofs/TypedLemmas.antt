@@ -16,7 +16,9 @@ neither : (a b : Bool) → not (a || b) && true ≡ true → (a ≡ false) × (n
 neither false b e = (refl, e)
 neither true b e = absurd (let f = e in cc)
 
-placed : (new r : Row) (rs : List Row) (o : Ordering) → is_eq o ≡ false → IsPermutation (put_row new rs) (rs ++ new ∷ []) → IsPermutation (match_ordering o (r ∷ put_row new rs) (new ∷ rs) (new ∷ r ∷ rs)) (r ∷ rs ++ new ∷ [])
+placed : (new r : Row) (rs : List Row) (o : Ordering) → is_eq o ≡ false
+    → IsPermutation (put_row new rs) (rs ++ new ∷ [])
+    → IsPermutation (match_ordering o (r ∷ put_row new rs) (new ∷ rs) (new ∷ r ∷ rs)) (r ∷ rs ++ new ∷ [])
 placed new r rs Less free rest = IsPermutation-cons r _ _ rest
 placed new r rs Equal free rest = absurd (let f = free in cc)
 placed new r rs Greater free rest = IsPermutation-append_comm (new ∷ []) (r ∷ rs)
@@ -35,7 +37,9 @@ map_last f (y ∷ ys) x = ap (λ zs. f y ∷ zs) (map_last f ys x)
 pub put_typed : {X : Type 0} (row : X → Row) (new : X) (tree : List Row) (xs : List X) → are_fresh tree (row new ∷ []) ≡ true → IsPermutation tree (map row xs)
     → IsPermutation (put_row (row new) tree) (map row (xs ++ new ∷ []))
 put_typed row new tree xs free same =
-    subst (IsPermutation (put_row (row new) tree)) (map_last row xs new) (IsPermutation-trans _ _ _ (put_fresh (row new) tree free) (IsPermutation-append tree (map row xs) (row new ∷ []) (row new ∷ []) same (IsPermutation-refl _)))
+    subst (IsPermutation (put_row (row new) tree)) (map_last row xs new)
+    (IsPermutation-trans _ _ _ (put_fresh (row new) tree free)
+    (IsPermutation-append tree (map row xs) (row new ∷ []) (row new ∷ []) same (IsPermutation-refl _)))
 
 map_append : {X Y : Type 0} (f : X → Y) (xs ys : List X) → map f (xs ++ ys) ≡ map f xs ++ map f ys
 map_append f [] ys = refl
@@ -45,6 +49,8 @@ map_append f (x ∷ xs) ys = ap (λ zs. f x ∷ zs) (map_append f xs ys)
 pub put_hidden : {X : Type 0} (row : X → Row) (new : X) (id : Value) (tree : List Row) (xs : List X) → are_fresh tree ((id ∷ row new) ∷ []) ≡ true → IsPermutation (map (drop 1) tree) (map row xs)
     → IsPermutation (map (drop 1) (put_row (id ∷ row new) tree)) (map row (xs ++ new ∷ []))
 put_hidden row new id tree xs free same =
-    let moved = subst (IsPermutation (map (drop 1) (put_row (id ∷ row new) tree))) (map_append (drop 1) tree ((id ∷ row new) ∷ [])) (IsPermutation-map (drop 1) _ _ (put_fresh (id ∷ row new) tree free)) in
+    let moved = subst (IsPermutation (map (drop 1) (put_row (id ∷ row new) tree)))
+    (map_append (drop 1) tree ((id ∷ row new) ∷ []))
+    (IsPermutation-map (drop 1) _ _ (put_fresh (id ∷ row new) tree free)) in
     subst (IsPermutation (map (drop 1) (put_row (id ∷ row new) tree))) (map_last row xs new)
     (IsPermutation-trans _ _ _ moved (IsPermutation-append (map (drop 1) tree) (map row xs) (row new ∷ []) (row new ∷ []) same (IsPermutation-refl _)))

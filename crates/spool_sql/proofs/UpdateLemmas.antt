@@ -1,5 +1,6 @@
 -- What an UPDATE does to a database of the relay.
-use Rattle.std.proofs.Common.{◌≡◌, ◌≢◌, ℕ, ◌-◌, ◌^◌, pos, negsuc, List, [], ◌∷◌, ◌++◌, map, filter, flat_map, slice_get, unwrap_or, Bool, true, false, cond, Some, None, Ok, refl, sym, ap, subst, subst₂, ◌∙◌}
+use Rattle.std.proofs.Common.{◌≡◌, ◌≢◌, ℕ, ◌-◌, ◌^◌, pos, negsuc, List, [], ◌∷◌, ◌++◌, map, filter, flat_map, slice_get}
+use Rattle.std.proofs.Common.{unwrap_or, Bool, true, false, cond, Some, None, Ok, refl, sym, ap, subst, subst₂, ◌∙◌}
 use Rattle.std.specs.List.{AllByRecursion, list_all}
 use Rattle.std.specs.List.Sorted.{IsPermutation}
 use Rattle.std.proofs.lemmas.List.Sorted.{IsPermutation-map}
@@ -81,12 +82,15 @@ scanned_by order t tests shown schema db params rows h =
     let q = scan_by order t tests shown in
     let a : IsAnswer q (overlay db []) params rows = h.answer Null in
     let there : overlay db [] t ≡ db t = no_tables _ (db t) (t - 2 ^ 31) in
-    let staged : a.staged ≡ map (λ r. params ∷ r ∷ []) (filter (passes params tests) (db t)) = a.grouped ∙ matched params tests (overlay db [] t) ∙ ap (λ x. map (λ r. params ∷ r ∷ []) (filter (passes params tests) x)) there in
+    let staged : a.staged ≡ map (λ r. params ∷ r ∷ []) (filter (passes params tests) (db t)) = a.grouped
+    ∙ matched params tests (overlay db [] t)
+    ∙ ap (λ x. map (λ r. params ∷ r ∷ []) (filter (passes params tests) x)) there in
     let kept : a.kept ≡ map (output q) (map (λ r. params ∷ r ∷ []) (filter (passes params tests) (db t))) = a.distinct ∙ ap (map (output q)) staged in
     let moved = IsPermutation-map (λ (o : Output). o.1) _ _ (subst (λ k. IsPermutation k a.ordered) kept a.same) in
     subst₂ IsPermutation (shown_of order t tests shown params (filter (passes params tests) (db t))) (sym a.shown) moved
 
-pub scanned : (t : ℕ) (tests shown : List Term) (schema : Schema) (db : Trees) (params : Row) (rows : List Row) → Answers (record { schema = schema; trees = db }) (record { lets = []; body = scan t tests shown }) params rows
+pub scanned : (t : ℕ) (tests shown : List Term) (schema : Schema) (db : Trees) (params : Row) (rows : List Row)
+    → Answers (record { schema = schema; trees = db }) (record { lets = []; body = scan t tests shown }) params rows
     → IsPermutation (map (shows params shown) (filter (passes params tests) (db t))) rows
 scanned = scanned_by []
 
@@ -127,7 +131,10 @@ module _ (schema : Schema) (sql : List ℕ) (params : Row) (at : ℕ) (q : Progr
       let w = runs_as sql params old new schema has (Update at q) means.is means.plain count h in
       let text = statement_of sql (understood schema sql) in
       let task : Task = record { limit = old.step_limit; keys = Enforced; schema = schema; table = table; params = params } in
-      let on : OnRows task (mode_of old) None (Update at q) db (Ok (w.tally, new.now)) = rw listed at (subst (λ s. Does old.step_limit (mode_of old) params (record old.now { schema = s }) text None (Update at q) (Ok (w.tally, new.now))) has w.changed) in
+      let on : OnRows task (mode_of old) None (Update at q) db (Ok (w.tally, new.now)) =
+      rw listed at
+      (subst (λ s. Does old.step_limit (mode_of old) params (record old.now { schema = s }) text None (Update at q)
+      (Ok (w.tally, new.now))) has w.changed) in
       let made = left_as task (mode_of old) (Update at q) db w.tally new.now on in
       let edit = updated_by task q db made.0 made.1 in
       let the = edit_of db table (ids_of edit.0) Given 1 edit.0 in

@@ -81,7 +81,8 @@ version_update_means : Means relay_schema version_update (Update 0 (of_meta vers
 unfolding understood everything
 version_update_means = record { is = refl; plain = (refl, refl) }
 
-pub makes_records : (old new : State) (n count : ℕ) → Executes meta_update (Int (pos n) ∷ []) old new (Ok count) → Makes old new (with_records n)
+pub makes_records : (old new : State) (n count : ℕ) → Executes meta_update (Int (pos n) ∷ []) old new (Ok count)
+    → Makes old new (with_records n)
 makes_records old new n count h rows t =
     sets_meta meta_update counted meta_update_means n old new count h 2 2 n rows t
     (rw (t.tables.five.meta, left_alone 2 rows.records, cast_null, cast_int (pos 1), cast_int (pos 2), cast_int (pos n))

@@ -66,7 +66,8 @@ abbrev pub IsAt : Row → ℕ → Value → Type 0
 IsAt row at value = (at < length row) × (column row at ≡ value)
 
 abbrev pub endpoint_shown : EndpointRow → Row
-endpoint_shown e = Int (pos e.put) ∷ Words e.name ∷ Words e.url ∷ Int (pos e.max) ∷ Int (pos (flag_number e.enabled)) ∷ Int (pos e.enabled_by) ∷ Int (pos e.secrets_by) ∷ []
+endpoint_shown e = Int (pos e.put) ∷ Words e.name ∷ Words e.url ∷ Int (pos e.max) ∷ Int (pos (flag_number e.enabled))
+    ∷ Int (pos e.enabled_by) ∷ Int (pos e.secrets_by) ∷ []
 
 abbrev pub delivery_shown : DeliveryRow → Row
 delivery_shown d = Int (pos d.seq) ∷ Int (pos d.endpoint) ∷ Words d.id ∷ Int (pos d.at) ∷ Bytes d.body ∷ []
@@ -143,7 +144,8 @@ WasRowRefusal old new Unreadable = ⊥
 module _ {S X E : Type 0} (g : Ghosts S) (old new : Held S) (result : Result X E) where
   -- of tables whose rows can be read back, an error says so much
   abbrev pub RefusesFor : (State → State → E → Type 0) → Type 0
-  RefusesFor P = HasCleanDisk (state g new) → IfErr result (λ e. (rows : Rows) → IsTables (state g old).now rows → AreReadable rows → P (state g old) (state g new) e)
+  RefusesFor P = HasCleanDisk (state g new) → IfErr result (λ e. (rows : Rows) → IsTables (state g old).now rows
+      → AreReadable rows → P (state g old) (state g new) e)
 
 -- what a query of the relay's tables is refused for
 abbrev pub IsRefusedFor : {S X : Type 0} → Ghosts S → Held S → Held S → Result X Error → Type 0

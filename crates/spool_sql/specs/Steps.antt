@@ -135,7 +135,8 @@ module _ {S X E : Type 0} (g : Ghosts S) (old new : Held S) (result : Result X E
 
   -- an answer says so much of the rows
   abbrev pub LooksUp : (X → Rows → Type 0) → Type 0
-  LooksUp P = HasCleanDisk (state g new) → IfOk result (λ found. (rows : Rows) → IsTables (state g old).now rows → P found rows)
+  LooksUp P = HasCleanDisk (state g new) → IfOk result (λ found. (rows : Rows) → IsTables (state g old).now rows
+      → P found rows)
 
 -- an error is a failure of the store, under its name
 abbrev pub FailsAsStore : {S X : Type 0} → Ghosts S → Held S → Held S → Result X Error → Type 0

@@ -1,6 +1,7 @@
 -- How the rows of a history are stored in the relay's tables.
 use Rattle.std.specs.List.{AllByRecursion, list_any}
-use Rattle.std.specs.Prelude.{◌≡◌, ◌≤◌, ℕ, ℤ, ◌==◌, ◌&&◌, not, pos, Bool, true, cond, List, [], ◌∷◌, ◌++◌, length, map, drop, filter, codes, bytes_eq, Option, slice_get, nat_le, take, IsTrue}
+use Rattle.std.specs.Prelude.{◌≡◌, ◌≤◌, ℕ, ℤ, ◌==◌, ◌&&◌, not, pos, Bool, true, cond, List, [], ◌∷◌, ◌++◌, length, map}
+use Rattle.std.specs.Prelude.{drop, filter, codes, bytes_eq, Option, slice_get, nat_le, take, IsTrue}
 use Rattle.sqlite.specs.declared.types.Value.TheVariants.{Null, Int, Text as Words, Blob as Bytes}
 use Rattle.sqlite.specs.Order.{Row}
 use Rattle.sqlite.specs.Effect.{Database}
@@ -21,19 +22,22 @@ use Rattle.spool_sql.specs.Tables.{first_schema, relay_schema}
 
 -- the one row of meta: the application, the version of the tables and how many records they hold
 abbrev pub meta_stored : ℕ → ℕ → Row
-meta_stored version records = Int (pos 1) ∷ Null ∷ Words (codes "webhook-relay") ∷ Int (pos version) ∷ Int (pos records) ∷ []
+meta_stored version records = Int (pos 1) ∷ Null ∷ Words (codes "webhook-relay") ∷ Int (pos version) ∷ Int (pos records)
+    ∷ []
 
 abbrev pub flag_number : Bool → ℕ
 flag_number flag = cond flag 1 0
 
 abbrev pub endpoint_stored : EndpointRow → Row
-endpoint_stored e = Int (pos e.put) ∷ Null ∷ Words e.name ∷ Words e.url ∷ Int (pos e.max) ∷ Int (pos (flag_number e.enabled)) ∷ Int (pos e.enabled_by) ∷ Int (pos e.secrets_by) ∷ []
+endpoint_stored e = Int (pos e.put) ∷ Null ∷ Words e.name ∷ Words e.url ∷ Int (pos e.max)
+    ∷ Int (pos (flag_number e.enabled)) ∷ Int (pos e.enabled_by) ∷ Int (pos e.secrets_by) ∷ []
 
 abbrev pub delivery_stored : DeliveryRow → Row
 delivery_stored d = Int (pos d.seq) ∷ Null ∷ Int (pos d.endpoint) ∷ Words d.id ∷ Int (pos d.at) ∷ Bytes d.body ∷ []
 
 abbrev pub attempt_stored : AttemptRow → Row
-attempt_stored a = Int (pos a.seq) ∷ Null ∷ Int (pos a.delivery) ∷ Int (pos a.number) ∷ Int (pos a.status) ∷ Int (pos a.at) ∷ []
+attempt_stored a = Int (pos a.seq) ∷ Null ∷ Int (pos a.delivery) ∷ Int (pos a.number) ∷ Int (pos a.status)
+    ∷ Int (pos a.at) ∷ []
 
 -- what follows the rowid, which nobody sees
 abbrev pub secret_stored : SecretRow → Row
@@ -90,7 +94,15 @@ with_records n rows = record rows { records = n }
 
 -- as its Put makes it
 abbrev pub new_endpoint : ℕ → List ℕ → List ℕ → ℕ → EndpointRow
-new_endpoint put name url max = record { put = put; name = name; url = url; max = max; enabled = true; enabled_by = put; secrets_by = put }
+new_endpoint put name url max = record {
+  put = put;
+  name = name;
+  url = url;
+  max = max;
+  enabled = true;
+  enabled_by = put;
+  secrets_by = put;
+}
 
 abbrev pub with_endpoint : EndpointRow → Rows → Rows
 with_endpoint e rows = record rows { endpoints = rows.endpoints ++ e ∷ [] }
@@ -115,7 +127,8 @@ endpoints_named name rows = filter (λ (e : EndpointRow). bytes_eq e.name name) 
 
 -- the number of an endpoint of this name, none where no endpoint has it
 abbrev pub IsPutOf : List ℕ → Rows → Option ℕ → Type 0
-IsPutOf name rows found = (puts : List ℕ) × IsPermutation (map (λ (e : EndpointRow). e.put) (endpoints_named name rows)) puts × (found ≡ slice_get puts 0)
+IsPutOf name rows found = (puts : List ℕ)
+    × IsPermutation (map (λ (e : EndpointRow). e.put) (endpoints_named name rows)) puts × (found ≡ slice_get puts 0)
 
 abbrev pub is_delivery : ℕ → List ℕ → DeliveryRow → Bool
 is_delivery endpoint id d = (d.endpoint == endpoint) && bytes_eq d.id id
@@ -142,20 +155,24 @@ with_secrets_by put by rows = record rows {
 }
 
 abbrev pub without_secrets : Seq → Rows → Rows
-without_secrets endpoint rows = record rows { secrets = filter (λ (s : SecretRow). not (s.endpoint == endpoint)) rows.secrets }
+without_secrets endpoint rows =
+    record rows { secrets = filter (λ (s : SecretRow). not (s.endpoint == endpoint)) rows.secrets }
 
 -- ---- what is asked of one event
 
 -- the number of the endpoint of this event, none where no record took it in
 abbrev pub IsEndpointOf : Seq → Rows → Option Seq → Type 0
 IsEndpointOf delivery rows found =
-    (puts : List Seq) × IsPermutation (map (λ (d : DeliveryRow). d.endpoint) (filter (λ (d : DeliveryRow). d.seq == delivery) rows.deliveries)) puts
+    (puts : List Seq)
+    × IsPermutation
+    (map (λ (d : DeliveryRow). d.endpoint) (filter (λ (d : DeliveryRow). d.seq == delivery) rows.deliveries)) puts
     × (found ≡ slice_get puts 0)
 
 -- the status of each attempt at this event, in any order
 abbrev pub AreStatusesOf : Seq → Rows → List ℕ → Type 0
 AreStatusesOf delivery rows found =
-    IsPermutation (map (λ (a : AttemptRow). a.status) (filter (λ (a : AttemptRow). a.delivery == delivery) rows.attempts)) found
+    IsPermutation
+    (map (λ (a : AttemptRow). a.status) (filter (λ (a : AttemptRow). a.delivery == delivery) rows.attempts)) found
 
 -- ---- a table, page by page
 
@@ -165,7 +182,8 @@ page_rows = 256
 -- the first rows of a table from a number on, in the order of their numbers
 abbrev pub IsPage : {X : Type 0} → (number : X → Seq) → (from : Seq) → (xs page : List X) → Type 0
 IsPage number from xs page =
-    (all : List _) × IsPermutation (filter (λ x. nat_le from (number x)) xs) all × IsNonDecreasingBy number all × (page ≡ take page_rows all)
+    (all : List _) × IsPermutation (filter (λ x. nat_le from (number x)) xs) all × IsNonDecreasingBy number all
+    × (page ≡ take page_rows all)
 
 -- the row that shows these columns in turn
 abbrev pub delivery_in : Row → DeliveryRow
@@ -218,5 +236,6 @@ attempt_of a = record { seq = a.seq; delivery = a.delivery; number = a.number; s
 -- the secrets of this endpoint, in the order of their places
 abbrev pub AreSecretsOf : Seq → Rows → List Text → Type 0
 AreSecretsOf endpoint rows found =
-    (all : List SecretRow) × IsPermutation (filter (λ (s : SecretRow). s.endpoint == endpoint) rows.secrets) all × IsNonDecreasingBy (λ (s : SecretRow). s.place) all
+    (all : List SecretRow) × IsPermutation (filter (λ (s : SecretRow). s.endpoint == endpoint) rows.secrets) all
+    × IsNonDecreasingBy (λ (s : SecretRow). s.place) all
     × (found ≡ map (λ (s : SecretRow). s.secret) all)

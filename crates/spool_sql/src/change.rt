@@ -9,7 +9,8 @@ use crate::seq::Seq;
 use crate::value::int;
 use sqlite::{Alter, Error, Transaction};
 
-/// Sets whether the endpoint that the record with number `put` made is enabled, which the record with number `by` decides.
+/// Sets whether the endpoint that the record with number `put` made is enabled, which the record
+/// with number `by` decides.
 pub fn update_enabled<S: Alter>(
     tx: &mut Transaction<'_, S>,
     put: Seq,

@@ -3,8 +3,10 @@ ghost use Rattle.std.specs.Prelude.{◌≡◌, ℕ, pos, [], ◌∷◌, map, opt
 ghost use Rattle.std.specs.List.{AllByRecursion};
 ghost use Rattle.sqlite.specs.declared.types.Value.TheVariants.{Int};
 ghost use Rattle.sqlite_value.specs.Order.{column, bytes};
-ghost use Rattle.spool_sql.specs.Readable.{AreRowsRefusedFor, IsMemory, IsMemoryFault, IsRefusedFor, ShowsAttempt, ShowsDelivery, ShowsEndpoint, ShowsSecret};
-ghost use Rattle.spool_sql.specs.Stored.{IsPage, AreSecretsOf, number_of, endpoint_in, endpoint_of, delivery_in, delivery_of, attempt_in, attempt_of};
+ghost use Rattle.spool_sql.specs.Readable.{AreRowsRefusedFor, IsMemory, IsMemoryFault, IsRefusedFor, ShowsAttempt};
+ghost use Rattle.spool_sql.specs.Readable.{ShowsDelivery, ShowsEndpoint, ShowsSecret};
+ghost use Rattle.spool_sql.specs.Stored.{IsPage, AreSecretsOf, number_of, endpoint_in, endpoint_of, delivery_in};
+ghost use Rattle.spool_sql.specs.Stored.{delivery_of, attempt_in, attempt_of};
 ghost use Rattle.spool_sql.specs.Steps.{LeavesAll, LooksUp, IsOfSame, SparesCommit};
 
 use crate::row::{

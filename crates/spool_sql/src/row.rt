@@ -4,8 +4,10 @@ ghost use Rattle.sqlite.specs.declared.types.Value.TheVariants.{Int, Text, Blob}
 ghost use Rattle.sqlite_value.specs.Order.{column, bytes};
 ghost use Rattle.sqlite_trees.specs.Objects.{number_in};
 ghost use Rattle.relay_types.specs.Values.{is_body, is_max_limit, is_moment, is_msg_id, is_name, is_secret, is_target};
-ghost use Rattle.spool_sql.specs.Readable.{IsAt, IsMemoryFault, IsSeq, ShowsAttempt, ShowsDelivery, ShowsEndpoint, ShowsSecret};
-ghost use Rattle.spool_sql.specs.Stored.{endpoint_in, endpoint_of, delivery_in, delivery_of, attempt_in, attempt_of, flag_number};
+ghost use Rattle.spool_sql.specs.Readable.{IsAt, IsMemoryFault, IsSeq, ShowsAttempt, ShowsDelivery, ShowsEndpoint};
+ghost use Rattle.spool_sql.specs.Readable.{ShowsSecret};
+ghost use Rattle.spool_sql.specs.Stored.{endpoint_in, endpoint_of, delivery_in, delivery_of, attempt_in, attempt_of};
+ghost use Rattle.spool_sql.specs.Stored.{flag_number};
 
 use crate::seq::Seq;
 use relay_types::{Body, MAX_RECORDS, MaxLimit, Moment, MsgId, Name, ReadFault, Secret, Target};
@@ -34,8 +36,8 @@ impl From<Error> for RowFault {
     }
 }
 
-/// An endpoint, which the record with number `put` made. The record with number `enabled_by` decides whether it is enabled,
-/// and that with number `secrets_by` gave its secrets.
+/// An endpoint, which the record with number `put` made. The record with number `enabled_by`
+/// decides whether it is enabled, and that with number `secrets_by` gave its secrets.
 #[derive(Drop)]
 pub struct EndpointRow {
     pub put: Seq,

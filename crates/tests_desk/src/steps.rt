@@ -114,7 +114,8 @@ pub(crate) enum Step {
     /// Spends the permit of the job at this place of those that are kept, at this moment: what came of the post, the
     /// number of the outcome that waits, the endpoint's limit, and how many of it are under way.
     Spend(usize, Went, u64, Spend, Option<u64>, u32, u32),
-    /// The same, of the last permit that is out, after which its event is given up: its outcome's number, and the limit.
+    /// The same, of the last permit that is out, after which its event is given up: its outcome's
+    /// number, and the limit.
     Exhaust(usize, Went, u64, u64, u32),
     /// Spends the permits of all jobs that are kept, which weren't sent.
     SpendAll(u64),

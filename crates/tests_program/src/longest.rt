@@ -5,7 +5,8 @@ use crate::streams::{check, tell};
 use std::alloc::Global;
 use std::test::Fail;
 
-/// How long the values of a script are: the characters of the name and of the id, the bytes of the URL, of the newest secret and of the body.
+/// How long the values of a script are: the characters of the name and of the id, the bytes of the
+/// URL, of the newest secret and of the body.
 #[derive(Clone, Copy)]
 struct Lengths {
     name: usize,

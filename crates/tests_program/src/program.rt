@@ -582,7 +582,8 @@ struct Bound {
 
 const SIGN: &[&str] = &["relayd", "sign", "msg_1", "1000", SECRET];
 
-// A line has 140,000 bytes at most, and a body 65,536, that of an event in hexadecimal too. The signature is that of Python's hmac.
+// A line has 140,000 bytes at most, and a body 65,536, that of an event in hexadecimal too. The
+// signature is that of Python's hmac.
 static BOUNDS: &[Bound] = &[
     Bound {
         words: REPLAY,

@@ -1,4 +1,5 @@
-// A reader and writers in memory that give or take little at a call, are interrupted or fail, and what a command tells through them.
+// A reader and writers in memory that give or take little at a call, are interrupted or fail, and
+// what a command tells through them.
 
 use relay_commands::{Outcome, ServeWords, run};
 use std::alloc::Global;

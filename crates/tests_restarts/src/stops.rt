@@ -17,8 +17,8 @@ use std::sync::ledger::{Blank, Ledger};
 
 pub(crate) type Failing = FileStore<Fuse<Memory>>;
 
-/// An endpoint, three events, and an attempt at the first of them, each settled before the next. The replies are those of a run that
-/// nothing stops.
+/// An endpoint, three events, and an attempt at the first of them, each settled before the next.
+/// The replies are those of a run that nothing stops.
 const RUN: [Call; 16] = [
     Call::Line(PUT, "staged 0"),
     Call::Line("seal", "sealed 0..1"),
@@ -46,7 +46,8 @@ const RUN: [Call; 16] = [
 
 static PATHS: [Path; 1] = [&RUN];
 
-/// A batch of the run: at which places it is sealed and settled, what is printed there, and how many records there are behind it.
+/// A batch of the run: at which places it is sealed and settled, what is printed there, and how
+/// many records there are behind it.
 struct Step {
     sealed: (usize, &'static str),
     settled: (usize, &'static str),

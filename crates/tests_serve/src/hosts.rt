@@ -8,7 +8,8 @@ use std::process::Abort;
 use std::test::Fail;
 use std::time::{Clock as SystemClock, Duration};
 
-/// The bytes of the example of RFC 9562 (appendix A.3), with other bits in place of the six that say the version and the variant.
+/// The bytes of the example of RFC 9562 (appendix A.3), with other bits in place of the six that
+/// say the version and the variant.
 const BYTES: [u8; 16] = [
     0x91, 0x91, 0x08, 0xf7, 0x52, 0xd1, 0xf3, 0x20, 0xdb, 0xac, 0xf8, 0x47, 0xdb, 0x41, 0x48, 0xa8,
 ];

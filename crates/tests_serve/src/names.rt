@@ -33,7 +33,8 @@ enum LookUp {
     Refused(i32),
     /// It fails without a number. A socket is refused with this one, or isn't refused.
     Unknown(Option<i32>),
-    /// Two addresses, after so many milliseconds. Nobody listens at the first, and who listens at the second takes as long to answer.
+    /// Two addresses, after so many milliseconds. Nobody listens at the first, and who listens at
+    /// the second takes as long to answer.
     Two(u64),
 }
 

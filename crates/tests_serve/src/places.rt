@@ -12,8 +12,8 @@ use std::sync::atomic::{AtomicBool, AtomicU64, Ordering};
 use std::test::Fail;
 use std::time::{Clock, Duration};
 
-/// A file that is at its path, maybe with a log, once so many looks at it were refused with this number (errno of Linux), and a clock by which
-/// nobody waits.
+/// A file that is at its path, maybe with a log, once so many looks at it were refused with this
+/// number (errno of Linux), and a clock by which nobody waits.
 #[derive(Drop)]
 struct Hidden {
     number: i32,
@@ -104,7 +104,8 @@ impl Clock for Hidden {
     }
 }
 
-/// How many looks are refused once the file is known, with which number, and what the next look finds, after so many milliseconds.
+/// How many looks are refused once the file is known, with which number, and what the next look
+/// finds, after so many milliseconds.
 struct Case {
     name: &'static str,
     refusals: u64,
@@ -279,7 +280,8 @@ fn a_file_that_is_replaced_is_gone(rt: HostRuntime) -> Result<(), Fail> {
     Ok(())
 }
 
-/// Where the link at the path leads when it is remembered and at the next look, and what that finds. Both files have the same number.
+/// Where the link at the path leads when it is remembered and at the next look, and what that
+/// finds. Both files have the same number.
 struct LinkCase {
     name: &'static str,
     leads: (&'static str, &'static str),

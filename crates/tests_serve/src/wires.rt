@@ -4,7 +4,8 @@ use std::alloc::Global;
 use std::io::{self, Read, Write};
 use std::net::{Net, Shutdown, SocketAddr, TcpListener, TcpStream};
 
-/// Sends the bytes over a connection of their own, and gives what comes until it is closed. It closes its own side where it says so.
+/// Sends the bytes over a connection of their own, and gives what comes until it is closed. It
+/// closes its own side where it says so.
 pub(crate) fn exchange<N: Net<Stream = TcpStream>>(
     net: &N,
     alloc: Global,

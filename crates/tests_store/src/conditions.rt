@@ -1,4 +1,5 @@
-//! Files that break one condition on rows, each beside one that keeps it: the conditions of `docs/FORMATS.md`, by their numbers.
+//! Files that break one condition on rows, each beside one that keeps it: the conditions of
+//! `docs/FORMATS.md`, by their numbers.
 
 use crate::openings::{ATTEMPTED, File, ROWS, Start, check_all};
 

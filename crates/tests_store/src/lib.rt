@@ -1,4 +1,5 @@
-//! The tests of the store: `spool_sql`, `spool` and `recovery`. Nothing stands on this crate, and its tests call public items only.
+//! The tests of the store: `spool_sql`, `spool` and `recovery`. Nothing stands on this crate, and
+//! its tests call public items only.
 #![tactic(auto)]
 
 #[cfg(test)]

@@ -8,7 +8,8 @@ use relay_types::{Body, MsgId, Name, Secrets, Target};
 use spool::Books;
 use std::test::Fail;
 
-/// Whether all answers of the books are the same that concern the drawn names and ids, and the numbers up to that of the next record.
+/// Whether all answers of the books are the same that concern the drawn names and ids, and the
+/// numbers up to that of the next record.
 pub(crate) fn same_books(one: &Books, other: &Books) -> Result<bool, Fail> {
     let is_same = one.records == other.records
         && one.clock == other.clock

@@ -40,7 +40,8 @@ impl<L: Ledger, I: LogId, R: Wait + Clock + Abort> Place<'_, L, I, R> {
     }
 }
 
-/// Whether the reply has this status, `Retry-After: 1` or not, and this text. An acknowledgement comes with a 202 alone.
+/// Whether the reply has this status, `Retry-After: 1` or not, and this text. An acknowledgement
+/// comes with a 202 alone.
 pub(crate) fn is_answered<I: LogId>(
     answered: &Answered<I>,
     status: u16,

@@ -30,7 +30,8 @@ fn id_of(rt: &impl Abort, alloc: Global, submitter: u64, number: u64) -> MsgId {
     MsgId::read(text.as_bytes()).expect(rt, "an id")
 }
 
-// Submits an event, and waits until it is acknowledged: whether the acknowledgement is its own, and the event has a page then.
+// Submits an event, and waits until it is acknowledged: whether the acknowledgement is its own, and
+// the event has a page then.
 fn is_acknowledged<L: Ledger, I: LogId, R: Wait + Clock + Abort>(
     place: &Place<'_, L, I, R>,
     submitter: u64,

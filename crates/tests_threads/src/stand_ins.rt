@@ -12,8 +12,9 @@ use std::sync::ledger::Ledger;
 use std::sync::{Arc, Wait};
 use std::time::Clock as SystemClock;
 
-/// Stands before another keeper: refuses so many commits for want of memory, then commits and counts. After a commit it may refuse as many
-/// again. It may hold its first commit until another record is staged meanwhile.
+/// Stands before another keeper: refuses so many commits for want of memory, then commits and
+/// counts. After a commit it may refuse as many again. It may hold its first commit until another
+/// record is staged meanwhile.
 #[derive(Drop)]
 pub(crate) struct Watched<K: Keeper + Drop, R> {
     pub(crate) keeper: K,

@@ -47,7 +47,8 @@ pub(crate) enum Step {
     Rest,
     /// One more has come to an end.
     End,
-    /// It waits until the event with this number and this id is settled, or the desk is halted: then nothing is known of it.
+    /// It waits until the event with this number and this id is settled, or the desk is halted:
+    /// then nothing is known of it.
     Told(u64, &'static [u8]),
     /// The same of a command.
     ToldCommand(u64),

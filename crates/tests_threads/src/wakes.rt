@@ -1,4 +1,5 @@
-//! Who wakes whom: a thread waits, another makes a change, and the wait ends. Where a wake-up is lost, the turns run out.
+//! Who wakes whom: a thread waits, another makes a change, and the wait ends. Where a wake-up is
+//! lost, the turns run out.
 
 use crate::cases::{Committer, Course, Ending, in_memory};
 use crate::courses::{End, is_ended};

@@ -1,5 +1,7 @@
 -- The lines of a text, read and answered one after another.
-use Rattle.std.proofs.Common.{◌≡◌, ℕ, ◌+◌, ◌≤◌, ◌==◌, Bool, true, false, ◌⊎◌, inl, inr, List, [], ◌∷◌, ◌++◌, length, Option, Some, None, Result, Ok, Err, IsTrue, refl, sym, ap, subst, ◌∙◌, arith, le-leb, append_assoc, append-nil, length-append}
+use Rattle.std.proofs.Common.{◌≡◌, ℕ, ◌+◌, ◌≤◌, ◌==◌, Bool, true, false, ◌⊎◌, inl, inr, List, [], ◌∷◌, ◌++◌, length}
+use Rattle.std.proofs.Common.{Option, Some, None, Result, Ok, Err, IsTrue, refl, sym, ap, subst, ◌∙◌, arith, le-leb}
+use Rattle.std.proofs.Common.{append_assoc, append-nil, length-append}
 use Rattle.std.specs.Prelude.{OnOk, OnErr, IfErr, nat_le}
 use Rattle.std.specs.List.{list_all}
 use Rattle.std.specs.Io.KnownBytes.{Appends, Keeps, IsAtEnd}
@@ -80,7 +82,14 @@ goes_on text lines rest (inl before) = at s.last refl
     s = split rest
 
     at : (last : List ℕ) → s.last ≡ last → (more : List (List ℕ)) × HasLines text (lines ++ more)
-    at [] e = (s.first, (both_clean lines s.first before.1 s.clean, inl (before.0 ∙ ap (λ xs. fed lines ++ xs) (s.is ∙ ap (λ xs. fed s.first ++ xs) e ∙ append-nil (fed s.first)) ∙ sym (fed-append lines s.first))))
+    at [] e = (
+      s.first,
+      (
+        both_clean lines s.first before.1 s.clean,
+        inl (before.0 ∙ ap (λ xs. fed lines ++ xs) (s.is ∙ ap (λ xs. fed s.first ++ xs) e ∙ append-nil (fed s.first))
+            ∙ sym (fed-append lines s.first)),
+      ),
+    )
     at (c ∷ last) e = (
       s.first ++ (c ∷ last) ∷ [],
       (
@@ -90,7 +99,9 @@ goes_on text lines rest (inl before) = at s.last refl
           c ∷ last,
           (λ h. cc),
           sym (append_assoc lines s.first ((c ∷ last) ∷ [])),
-          before.0 ∙ ap (λ xs. fed lines ++ xs) (s.is ∙ ap (λ xs. fed s.first ++ xs) e) ∙ sym (append_assoc (fed lines) (fed s.first) (c ∷ last)) ∙ ap (λ xs. xs ++ c ∷ last) (sym (fed-append lines s.first)),
+          before.0 ∙ ap (λ xs. fed lines ++ xs) (s.is ∙ ap (λ xs. fed s.first ++ xs) e)
+              ∙ sym (append_assoc (fed lines) (fed s.first) (c ∷ last))
+              ∙ ap (λ xs. xs ++ c ∷ last) (sym (fed-append lines s.first)),
         ),
       ),
     )
@@ -173,10 +184,24 @@ takes {Holds} text had old new before after contents p line clean number short f
     at None e = absurd (let h : TakesLine (Some p.rest) None new.line = subst (λ o. TakesLine (Some p.rest) o new.line) e (subst (λ o. TakesLine o (left new after) new.line) p.is_left line) in h)
     at (Some rest) e =
         let h : TakesLine (Some p.rest) (Some rest) new.line = subst (λ o. TakesLine (Some p.rest) o new.line) e (subst (λ o. TakesLine o (left new after) new.line) p.is_left line) in
-        record { lines = p.lines; rest = rest; written = p.written; is_left = e; taken = HasLinesBefore-more text p.lines p.rest rest new.line p.taken h clean; within = within_more p.lines new.line p.within (omega (arith, number, p.count, few)) short; count = number ∙ ap (λ n. n + 1) p.count; holds = p.holds; is_written = p.is_written }
+        record {
+          lines = p.lines;
+          rest = rest;
+          written = p.written;
+          is_left = e;
+          taken =
+              HasLinesBefore-more text p.lines p.rest rest new.line p.taken h clean;
+          within =
+              within_more p.lines new.line p.within (omega (arith, number, p.count, few)) short;
+          count = number
+              ∙ ap (λ n. n + 1) p.count;
+          holds = p.holds;
+          is_written = p.is_written;
+        }
 
 -- the line is answered
-pub answered : {Before After : List (List ℕ) → List ℕ → Type 0} (text had : List ℕ) (reading : LinesValue) (remaining old new : Option (List ℕ)) (answer : List ℕ) (t : Taken Before text had reading remaining old)
+pub answered : {Before After : List (List ℕ) → List ℕ → Type 0} (text had : List ℕ) (reading : LinesValue)
+    (remaining old new : Option (List ℕ)) (answer : List ℕ) (t : Taken Before text had reading remaining old)
     → After (t.lines ++ reading.line ∷ []) (t.written ++ answer) → Appends old new answer → Progress After text had reading remaining new
 answered text had reading remaining old new answer t holds grows = record {
   lines = t.lines ++ reading.line ∷ [];
@@ -193,25 +218,32 @@ answered text had reading remaining old new answer t holds grows = record {
 -- ---- the ends
 
 -- the reader's end
-pub whole : {Holds : List (List ℕ) → List ℕ → Type 0} (Says : List (List ℕ) → List ℕ → Type 0) (text had : List ℕ) (reading : LinesValue) (remaining contents : Option (List ℕ)) (p : Progress Holds text had reading remaining contents)
+pub whole : {Holds : List (List ℕ) → List ℕ → Type 0} (Says : List (List ℕ) → List ℕ → Type 0) (text had : List ℕ)
+    (reading : LinesValue) (remaining contents : Option (List ℕ))
+    (p : Progress Holds text had reading remaining contents)
     → Says p.lines p.written → IsAtEnd (left reading remaining) → Written (IsWhole Says text) had contents
 whole Says text had reading remaining contents p says end =
     let none : p.rest ≡ [] = subst IsAtEnd p.is_left end in
     (p.written, p.is_written, (p.lines, HasLines-from_all text p.lines (subst (HasLinesBefore text p.lines) none p.taken), p.within, says))
 
-up_to_line : (Says : List (List ℕ) → List ℕ → Type 0) (text : List ℕ) (lines : List (List ℕ)) (rest written : List ℕ) → HasLinesBefore text lines rest → AreWithinBounds lines → Says lines written → IsUpToLine Says text written
+up_to_line : (Says : List (List ℕ) → List ℕ → Type 0) (text : List ℕ) (lines : List (List ℕ)) (rest written : List ℕ)
+    → HasLinesBefore text lines rest → AreWithinBounds lines → Says lines written → IsUpToLine Says text written
 up_to_line Says text lines rest written taken within says =
     let all = goes_on text lines rest taken in
     (lines, all.0, all.1, within, says)
 
-too_long_at : (Says : List (List ℕ) → List ℕ → Type 0) (text : List ℕ) (lines : List (List ℕ)) (rest written : List ℕ) → HasLinesBefore text lines rest → AreWithinBounds lines → IsTooLong (length lines) (Some rest) → Says lines written
+too_long_at : (Says : List (List ℕ) → List ℕ → Type 0) (text : List ℕ) (lines : List (List ℕ)) (rest written : List ℕ)
+    → HasLinesBefore text lines rest → AreWithinBounds lines → IsTooLong (length lines) (Some rest) → Says lines written
     → IsUpToTooLong Says text written
 too_long_at Says text lines rest written (inl (is, clean)) within long says = (lines, rest, is, clean, within, long, says)
 too_long_at Says text lines rest written (inr (none, all)) within long says = absurd (IsTooLong-none (length lines) (subst (λ bytes. IsTooLong (length lines) (Some bytes)) none long))
 
 -- a fault before the next line is read
-pub ends_between : {Holds : List (List ℕ) → List ℕ → Type 0} (Says : List (List ℕ) → List ℕ → Type 0) (IsBad : List ℕ → Type 0) (text had : List ℕ) (reading : LinesValue) (remaining contents : Option (List ℕ)) (fault : StreamFault)
-    (p : Progress Holds text had reading remaining contents) → Says p.lines p.written → (fault ≡ TooLong) ⊎ ((fault ≡ Read) ⊎ (fault ≡ OutOfMemory)) → (fault ≡ TooLong → IsTooLong reading.count (left reading remaining))
+pub ends_between : {Holds : List (List ℕ) → List ℕ → Type 0} (Says : List (List ℕ) → List ℕ → Type 0) (IsBad : List ℕ
+    → Type 0) (text had : List ℕ) (reading : LinesValue) (remaining contents : Option (List ℕ)) (fault : StreamFault)
+    (p : Progress Holds text had reading remaining contents) → Says p.lines p.written → (fault ≡ TooLong)
+    ⊎ ((fault ≡ Read) ⊎ (fault ≡ OutOfMemory))
+    → (fault ≡ TooLong → IsTooLong reading.count (left reading remaining))
     → Written (IsWrittenAtEnd Says IsBad (Err fault) text) had contents
 ends_between Says IsBad text had reading remaining contents fault p says why long = (p.written, p.is_written, at why)
   where
@@ -235,8 +267,17 @@ ends_at_once Says IsBad text had contents fault says output why = ([], output �
 before_line : {Holds : List (List ℕ) → List ℕ → Type 0} (Says : List (List ℕ) → List ℕ → Type 0) (text had : List ℕ) (reading : LinesValue) (remaining old new : Option (List ℕ))
     (t : Taken Holds text had reading remaining old) → Says t.lines t.written → Keeps old new → Written (IsUpToLine Says text) had new
 before_line Says text had reading remaining old new t says same =
-    let all = goes_on text (t.lines ++ reading.line ∷ []) t.rest t.taken in
-    (t.written, kept old new (had ++ t.written) t.is_written same, (t.lines, reading.line ∷ all.0, subst (HasLines text) (append_assoc t.lines (reading.line ∷ []) all.0) all.1, within_front t.lines reading.line t.within, says))
+    let all = goes_on text (t.lines ++ reading.line ∷ []) t.rest t.taken in (
+      t.written,
+      kept old new (had ++ t.written) t.is_written same,
+      (
+        t.lines,
+        reading.line ∷ all.0,
+        subst (HasLines text) (append_assoc t.lines (reading.line ∷ []) all.0) all.1,
+        within_front t.lines reading.line t.within,
+        says,
+      ),
+    )
 
 cut_line : {Holds : List (List ℕ) → List ℕ → Type 0} (Says : List (List ℕ) → List ℕ → Type 0) (Gives : List ℕ → Type 0) (text had : List ℕ) (reading : LinesValue) (remaining old new : Option (List ℕ))
     (t : Taken Holds text had reading remaining old) → Says t.lines t.written → ((answer : List ℕ) → Gives answer → Says (t.lines ++ reading.line ∷ []) (t.written ++ answer)) → CutsLine Gives old new
@@ -248,18 +289,45 @@ cut_line Says Gives text had reading remaining old new t says more (inr (answer,
     let all = goes_on text (t.lines ++ reading.line ∷ []) t.rest t.taken in (
       t.written ++ front,
       Appends-known old new (had ++ t.written) front t.is_written grows ∙ ap Some (append_assoc had t.written front),
-      (rest, (t.lines ++ reading.line ∷ [], all.0, all.1, t.within, subst (Says (t.lines ++ reading.line ∷ [])) (ap (λ xs. t.written ++ xs) is ∙ sym (append_assoc t.written front rest)) (more answer gives))),
+      (
+        rest,
+        (
+          t.lines ++ reading.line ∷ [],
+          all.0,
+          all.1,
+          t.within,
+          subst (Says (t.lines ++ reading.line ∷ []))
+              (ap (λ xs. t.written ++ xs) is ∙ sym (append_assoc t.written front rest)) (more answer gives),
+        ),
+      ),
     )
 
-bad_line : {Holds : List (List ℕ) → List ℕ → Type 0} (Says : List (List ℕ) → List ℕ → Type 0) (IsBad : List ℕ → Type 0) (text had : List ℕ) (reading : LinesValue) (remaining old new : Option (List ℕ)) (number : ℕ)
+bad_line : {Holds : List (List ℕ) → List ℕ → Type 0} (Says : List (List ℕ) → List ℕ → Type 0) (IsBad : List ℕ → Type 0)
+    (text had : List ℕ) (reading : LinesValue) (remaining old new : Option (List ℕ)) (number : ℕ)
     (t : Taken Holds text had reading remaining old) → Says t.lines t.written → (number ≡ reading.count) × IsBad reading.line × Keeps old new → Written (IsUpToBad Says IsBad number text) had new
 bad_line Says IsBad text had reading remaining old new number t says (is, bad, same) =
-    let all = goes_on text (t.lines ++ reading.line ∷ []) t.rest t.taken in
-    (t.written, kept old new (had ++ t.written) t.is_written same, (t.lines, reading.line, all.0, subst (HasLines text) (append_assoc t.lines (reading.line ∷ []) all.0) all.1, t.within, is ∙ t.count, bad, says))
+    let all = goes_on text (t.lines ++ reading.line ∷ []) t.rest t.taken in (
+      t.written,
+      kept old new (had ++ t.written) t.is_written same,
+      (
+        t.lines,
+        reading.line,
+        all.0,
+        subst (HasLines text) (append_assoc t.lines (reading.line ∷ []) all.0) all.1,
+        t.within,
+        is ∙ t.count,
+        bad,
+        says,
+      ),
+    )
 
 -- a fault of the line
-pub ends_at_line : {Holds : List (List ℕ) → List ℕ → Type 0} (Says : List (List ℕ) → List ℕ → Type 0) (IsBad Gives : List ℕ → Type 0) (text had : List ℕ) (reading : LinesValue) (remaining old new : Option (List ℕ)) (fault : StreamFault)
-    (t : Taken Holds text had reading remaining old) → Says t.lines t.written → ((answer : List ℕ) → Gives answer → Says (t.lines ++ reading.line ∷ []) (t.written ++ answer)) → EndsLine Gives IsBad reading old new (Err fault)
+pub ends_at_line : {Holds : List (List ℕ) → List ℕ → Type 0} (Says : List (List ℕ) → List ℕ → Type 0)
+    (IsBad Gives : List ℕ → Type 0) (text had : List ℕ) (reading : LinesValue) (remaining old new : Option (List ℕ))
+    (fault : StreamFault)
+    (t : Taken Holds text had reading remaining old) → Says t.lines t.written
+    → ((answer : List ℕ) → Gives answer → Says (t.lines ++ reading.line ∷ []) (t.written ++ answer))
+    → EndsLine Gives IsBad reading old new (Err fault)
     → Written (IsWrittenAtEnd Says IsBad (Err fault) text) had new
 ends_at_line Says IsBad Gives text had reading remaining old new (BadLine number) t says more h = bad_line Says IsBad text had reading remaining old new number t says h
 ends_at_line Says IsBad Gives text had reading remaining old new TooLong t says more h = absurd h
@@ -269,7 +337,9 @@ ends_at_line Says IsBad Gives text had reading remaining old new Lost t says mor
 ends_at_line Says IsBad Gives text had reading remaining old new OutOfMemory t says more h = before_line Says text had reading remaining old new t says h
 
 -- a bad line is the one fault of a line that comes between two lines
-pub ends_between_lines : {Holds : List (List ℕ) → List ℕ → Type 0} (Says : List (List ℕ) → List ℕ → Type 0) (IsBad Gives : List ℕ → Type 0) (text had : List ℕ) (reading : LinesValue) (remaining old new : Option (List ℕ)) (fault : StreamFault)
+pub ends_between_lines : {Holds : List (List ℕ) → List ℕ → Type 0} (Says : List (List ℕ) → List ℕ → Type 0)
+    (IsBad Gives : List ℕ → Type 0) (text had : List ℕ) (reading : LinesValue) (remaining old new : Option (List ℕ))
+    (fault : StreamFault)
     (t : Taken Holds text had reading remaining old) → ((number : ℕ) → fault ≡ BadLine number → Says t.lines t.written) → IsBetweenLines (Err fault) → EndsLine Gives IsBad reading old new (Err fault)
     → Written (IsWrittenAtEnd Says IsBad (Err fault) text) had new
 ends_between_lines Says IsBad Gives text had reading remaining old new (BadLine number) t says between h = bad_line Says IsBad text had reading remaining old new number t (says number refl) h
@@ -280,13 +350,15 @@ ends_between_lines Says IsBad Gives text had reading remaining old new Lost t sa
 ends_between_lines Says IsBad Gives text had reading remaining old new OutOfMemory t says between h = absurd between
 
 -- what a written answer comes to
-pub written_line : (Gives IsBad : List ℕ → Type 0) (lines : LinesValue) (old new : Option (List ℕ)) (answer : List ℕ) (end : Result (Unit {0}) StreamFault) → Gives answer → OnOk end (Appends old new answer)
+pub written_line : (Gives IsBad : List ℕ → Type 0) (lines : LinesValue) (old new : Option (List ℕ)) (answer : List ℕ)
+    (end : Result (Unit {0}) StreamFault) → Gives answer → OnOk end (Appends old new answer)
     → OnErr end (AppendsFront old new answer) → (end ≡ Err OutOfMemory → Keeps old new) → IfErr end (λ fault. (fault ≡ Write) ⊎ (fault ≡ OutOfMemory)) → EndsLine Gives IsBad lines old new end
 written_line Gives IsBad lines old new answer (Ok done) gives all front lacked why = (answer, gives, all)
 written_line Gives IsBad lines old new answer (Err fault) gives all front lacked (inl e) = subst (λ f. EndsLine Gives IsBad lines old new (Err f)) (sym e) (inr (answer, gives, front))
 written_line Gives IsBad lines old new answer (Err fault) gives all front lacked (inr e) = subst (λ f. EndsLine Gives IsBad lines old new (Err f)) (sym e) (lacked (ap Err e))
 
 -- a fault that is handed on
-pub exits : (Says : List (List ℕ) → List ℕ → Type 0) (IsBad : List ℕ → Type 0) (end : Result (Unit {0}) StreamFault) (text had : List ℕ) (contents : Option (List ℕ)) (fault : StreamFault) → end ≡ Err fault
+pub exits : (Says : List (List ℕ) → List ℕ → Type 0) (IsBad : List ℕ → Type 0) (end : Result (Unit {0}) StreamFault)
+    (text had : List ℕ) (contents : Option (List ℕ)) (fault : StreamFault) → end ≡ Err fault
     → Written (IsWrittenAtEnd Says IsBad (Err fault) text) had contents → Written (IsWrittenAtEnd Says IsBad end text) had contents
 exits Says IsBad end text had contents fault is h = (h.0, h.1, subst (λ e. IsWrittenAtEnd Says IsBad e text h.0) (sym is) h.2)

@@ -1,5 +1,7 @@
 -- The first line feed of a text, and what is read up to it.
-use Rattle.std.proofs.Common.{◌≡◌, ◌≢◌, ℕ, ◌+◌, ◌<◌, ◌≤◌, ◌==◌, Bool, false, not, cond, ltb, List, [], ◌∷◌, ◌++◌, length, take, drop, get_or, Option, Some, None, MatchOption, IsTrue, inl, inr, refl, sym, ap, ◌∙◌, arith, add-one, suc, append_assoc, take-append-drop}
+use Rattle.std.proofs.Common.{◌≡◌, ◌≢◌, ℕ, ◌+◌, ◌<◌, ◌≤◌, ◌==◌, Bool, false, not, cond, ltb, List, [], ◌∷◌, ◌++◌}
+use Rattle.std.proofs.Common.{length, take, drop, get_or, Option, Some, None, MatchOption, IsTrue, inl, inr, refl, sym}
+use Rattle.std.proofs.Common.{ap, ◌∙◌, arith, add-one, suc, append_assoc, take-append-drop}
 use Rattle.std.specs.Prelude.{slice_range}
 use Rattle.std.specs.List.{position, position_or_len}
 use Rattle.std.specs.Io.KnownBytes.{Consumes}
@@ -83,7 +85,8 @@ IsTooLong-from_line count (Some bytes) (Some xs) [] many taken some = absurd (so
 IsTooLong-from_line count (Some bytes) (Some xs) (c ∷ line) many taken some = inl (many, λ none. not_empty [] c (line ++ xs) (sym taken ∙ none))
 
 -- the same where it ends with the piece
-pub IsTooLong-from_piece : (count : ℕ) (old : Option (List ℕ)) (reading next : LinesValue) (remaining : Option (List ℕ)) → MAX_LINES ≤ count → Consumes old (left reading remaining) reading.line → TakesPiece reading next
+pub IsTooLong-from_piece : (count : ℕ) (old : Option (List ℕ)) (reading next : LinesValue) (remaining : Option (List ℕ))
+    → MAX_LINES ≤ count → Consumes old (left reading remaining) reading.line → TakesPiece reading next
     → IsTooLong count old
 IsTooLong-from_piece count None reading next remaining many taken piece = inl (many, tt)
 IsTooLong-from_piece count (Some bytes) reading next None many taken piece = absurd taken

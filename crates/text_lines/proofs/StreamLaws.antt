@@ -1,5 +1,6 @@
 -- Writes and reads joined.
-use Rattle.std.proofs.Common.{◌≡◌, ℕ, ◌-◌, subst, List, [], ◌++◌, length, take, drop, Option, Some, None, Result, Ok, Err, IfSome, OnOk, OnErr, refl, sym, ap, ◌∙◌, append_assoc, append-nil, take-append-drop}
+use Rattle.std.proofs.Common.{◌≡◌, ℕ, ◌-◌, subst, List, [], ◌++◌, length, take, drop, Option, Some, None, Result, Ok}
+use Rattle.std.proofs.Common.{Err, IfSome, OnOk, OnErr, refl, sym, ap, ◌∙◌, append_assoc, append-nil, take-append-drop}
 use Rattle.std.proofs.lemmas.List.{take_rest}
 use Rattle.std.specs.Io.KnownBytes.{Appends, Keeps}
 use Rattle.std.proofs.KnownBytes.{Appends-nil, Appends-trans}
@@ -54,6 +55,7 @@ pub Keeps-known : (old new : Option (List ℕ)) (had : List ℕ) → old ≡ Som
 Keeps-known old new had is h = Appends-known old new had [] is (Appends-from_kept old new h)
 
 -- all bytes are written, or a front of them
-pub AppendsFront-from_end : {T E : Type 0} (r : Result T E) (old new : Option (List ℕ)) (bytes : List ℕ) → OnOk r (Appends old new bytes) → OnErr r (AppendsFront old new bytes) → AppendsFront old new bytes
+pub AppendsFront-from_end : {T E : Type 0} (r : Result T E) (old new : Option (List ℕ)) (bytes : List ℕ)
+    → OnOk r (Appends old new bytes) → OnErr r (AppendsFront old new bytes) → AppendsFront old new bytes
 AppendsFront-from_end (Ok x) old new bytes all front = ([], (bytes, sym (append-nil bytes), all))
 AppendsFront-from_end (Err e) old new bytes all front = front

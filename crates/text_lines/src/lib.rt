@@ -1,5 +1,5 @@
-//! The lines and words that commands read and write: a reader's lines within bounds, the words of a line and what they stand
-//! for, and lines that are written.
+//! The lines and words that commands read and write: a reader's lines within bounds, the words of a
+//! line and what they stand for, and lines that are written.
 #![tactic(auto)]
 
 mod answering;

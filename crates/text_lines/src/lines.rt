@@ -1,9 +1,11 @@
 //! The lines of a reader, within bounds.
-ghost use Rattle.std.specs.Prelude.{◌≡◌, ◌≢◌, ◌==◌, ◌⊎◌, true, false, ◌≤◌, ◌<◌, ◌+◌, [], ◌∷◌, ◌++◌, length, take, drop, vec_len, IsTrue, IfOk, OnOk, OnErr, IfErr, MatchOption};
+ghost use Rattle.std.specs.Prelude.{◌≡◌, ◌≢◌, ◌==◌, ◌⊎◌, true, false, ◌≤◌, ◌<◌, ◌+◌, [], ◌∷◌, ◌++◌, length, take, drop};
+ghost use Rattle.std.specs.Prelude.{vec_len, IsTrue, IfOk, OnOk, OnErr, IfErr, MatchOption};
 ghost use Rattle.std.specs.List.{position};
 ghost use Rattle.std.specs.Option.{unwrap_or};
 ghost use Rattle.std.specs.Io.KnownBytes.{Consumes, Keeps, IsAtEnd};
-ghost use Rattle.text_lines.specs.Streams.{LinesValue, left, has_no_feed, IsFeedAt, TakesPiece, PassesBound, TakesLine, IsTooLong};
+ghost use Rattle.text_lines.specs.Streams.{LinesValue, left, has_no_feed, IsFeedAt, TakesPiece, PassesBound, TakesLine};
+ghost use Rattle.text_lines.specs.Streams.{IsTooLong};
 
 use crate::fault::StreamFault;
 use crate::limits::{MAX_LINE_BYTES, MAX_LINES, MAX_READS};
@@ -14,8 +16,8 @@ use std::marker::Model;
 // The bytes of one read.
 const CHUNK: usize = 65_536;
 
-/// The lines of a reader, one after another. A line ends in a line feed, which the last one may lack. After a fault no further
-/// line comes.
+/// The lines of a reader, one after another. A line ends in a line feed, which the last one may
+/// lack. After a fault no further line comes.
 #[derive(Drop)]
 pub struct Lines {
     chunk: Vec<u8>,

@@ -1,5 +1,6 @@
 //! The words of a line.
-ghost use Rattle.std.specs.Prelude.{◌≡◌, ◌↔◌, ◌⊎◌, ℕ, ◌<◌, ◌^◌, List, length, false, IsTrue, MatchBool, IfOk, IfErr, IfSome, decimal, map};
+ghost use Rattle.std.specs.Prelude.{◌≡◌, ◌↔◌, ◌⊎◌, ℕ, ◌<◌, ◌^◌, List, length, false, IsTrue, MatchBool, IfOk, IfErr};
+ghost use Rattle.std.specs.Prelude.{IfSome, decimal, map};
 ghost use Rattle.relay_types.specs.SecretText.{ReadsSecret};
 ghost use Rattle.relay_types.specs.Values.{is_between, is_moment, is_max_limit, is_body};
 ghost use Rattle.text_lines.specs.Parts.{HasParts, texts};

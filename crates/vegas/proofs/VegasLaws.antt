@@ -1,5 +1,7 @@
 -- The numbers of a list with one more sample follow from those of the list.
-use Rattle.std.proofs.Common.{◌≡◌, ℕ, zero, suc, ◌+◌, ◌-◌, ◌*◌, ◌≤◌, ◌<◌, min, Bool, true, false, ◌||◌, List, [], ◌∷◌, ◌++◌, Option, Some, None, nat_le, nat_lt, ◌==◌, if◌then◌else◌, take, drop, length, refl, sym, ◌∙◌, ap, arith, length-append, inl, inr, subst}
+use Rattle.std.proofs.Common.{◌≡◌, ℕ, zero, suc, ◌+◌, ◌-◌, ◌*◌, ◌≤◌, ◌<◌, min, Bool, true, false, ◌||◌, List, [], ◌∷◌}
+use Rattle.std.proofs.Common.{◌++◌, Option, Some, None, nat_le, nat_lt, ◌==◌, if◌then◌else◌, take, drop, length, refl}
+use Rattle.std.proofs.Common.{sym, ◌∙◌, ap, arith, length-append, inl, inr, subst}
 use Rattle.std.specs.Prelude.{slice_get, ◌⊎◌, ◌≢◌}
 use Rattle.std.specs.Option.{option_map_or}
 use Rattle.std.proofs.Math.Dec.{leb}
@@ -151,7 +153,9 @@ unfolding limit_of noload_of probes_of
 last_place-snoc most xs x =
     ap (place_after most (xs ++ x ∷ [])) (length-snoc xs x)
     ∙ place_after-snoc most xs x
-    ∙ ap (λ noload. chosen_place most x (last_place most xs) (suc (length xs)) noload (nat_le (30 * (last_place most xs).limit) (suc (length xs) - (last_place most xs).probe)) (suc (length xs) == 1 || nat_lt (round_trip x) noload)) same
+    ∙ ap (λ noload. chosen_place most x (last_place most xs) (suc (length xs)) noload
+    (nat_le (30 * (last_place most xs).limit) (suc (length xs) - (last_place most xs).probe)) (suc (length xs) == 1
+    || nat_lt (round_trip x) noload)) same
     ∙ ap (λ count. chosen_place most x (last_place most xs) (suc (length xs)) (noload_of most xs) (nat_le (30 * (last_place most xs).limit) count) (is_low most xs x)) counted
   where
     same : noload_after xs (last_place most xs).probe (suc (length xs) - 1) ≡ noload_after xs (last_place most xs).probe (length xs)

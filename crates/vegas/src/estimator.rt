@@ -12,8 +12,9 @@ use relay_types::{MAX_LIMIT, MaxLimit};
 use std::alloc::{AllocError, Global};
 use std::marker::Model;
 
-/// The limit of one endpoint. It holds its maximum and three running numbers; contracts say that these are those of the list
-/// of samples that it was given. To explain them it keeps the last 64 samples, and the numbers before them as its base.
+/// The limit of one endpoint. It holds its maximum and three running numbers; contracts say that
+/// these are those of the list of samples that it was given. To explain them it keeps the last 64
+/// samples, and the numbers before them as its base.
 #[derive(Drop)]
 pub struct Estimator {
     maximum: MaxLimit,
@@ -76,9 +77,9 @@ impl Estimator {
         self.state.noload
     }
 
-    /// Why the limit is what it is: the numbers before the last samples, and these samples, the oldest first. They are the
-    /// last 64, or all where there were fewer, as they were handed in. From those numbers they lead to the limit of now.
-    /// It takes no memory.
+    /// Why the limit is what it is: the numbers before the last samples, and these samples, the
+    /// oldest first. They are the last 64, or all where there were fewer, as they were handed in.
+    /// From those numbers they lead to the limit of now. It takes no memory.
     pub fn explain(&self) -> (State, &HeapCircularBuffer<Sample>)
         ensures base { result.0 ≡ self.now.base }
         ensures last { result.1.now.items ≡ self.now.last }
@@ -91,13 +92,15 @@ impl Estimator {
         (self.base, &self.last)
     }
 
-    /// Takes one more sample: a round trip in microseconds, how many posts were in flight as it began (its own counted), and
-    /// whether the endpoint dropped it. A round trip of 0 counts as 1, one above an hour as an hour. It takes no memory.
+    /// Takes one more sample: a round trip in microseconds, how many posts were in flight as it
+    /// began (its own counted), and whether the endpoint dropped it. A round trip of 0 counts as 1,
+    /// one above an hour as an hour. It takes no memory.
     ///
-    /// After 30 samples for each of the limit a probe takes the round trip as the new no-load time. Otherwise the first or a
-    /// lower round trip becomes the no-load time. The limit stays at both, even at a drop. Any other sample moves the limit: a
-    /// drop lowers it by a step; with less than half of the limit in flight it stays; a queue of at most one step raises it by
-    /// six steps, one below three steps by one, and one above six steps lowers it by one.
+    /// After 30 samples for each of the limit a probe takes the round trip as the new no-load time.
+    /// Otherwise the first or a lower round trip becomes the no-load time. The limit stays at both,
+    /// even at a drop. Any other sample moves the limit: a drop lowers it by a step; with less than
+    /// half of the limit in flight it stays; a queue of at most one step raises it by six steps,
+    /// one below three steps by one, and one above six steps lowers it by one.
     pub fn sample(&mut self, rtt: u64, inflight: u32, dropped: bool)
         requires { inflight ≤ MAX_LIMIT }
         ensures maximum { self.new.maximum ≡ self.old.maximum }

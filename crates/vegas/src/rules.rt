@@ -21,8 +21,8 @@ pub(crate) fn step_size(limit: u32) -> u32
     limit.ilog10().max(1)
 }
 
-/// How many of as many posts as the limit wait in the endpoint's queue, rounded up: the share of the round trip that is not
-/// the no-load time, both in microseconds.
+/// How many of as many posts as the limit wait in the endpoint's queue, rounded up: the share of
+/// the round trip that is not the no-load time, both in microseconds.
 pub(crate) fn queue(limit: u32, round_trip: u64, noload: u64) -> u32
     requires limit { limit ≤ MAX_LIMIT }
     requires some { 1 ≤ round_trip }

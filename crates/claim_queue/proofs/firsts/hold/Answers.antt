@@ -12,7 +12,9 @@ returns-clause-order c =
     let place = c.place_of-place.result in
     let pairs = c.args.firsts.now.items in
     let items = c.insert.ensures.items ∙ ap (λ b. if b then insert pairs place c.args.pair else pairs) (c.insert.ensures.succeeds c.requires.place) in
-    subst AreInOrder (sym items) (order_entered pairs c.deref.result.now place c.args.pair c.turn.result c.deref.ensures.value c.turn.ensures c.requires.order c.requires.unheld c.place_of-place.ensures.bound c.place_of-place.ensures.point)
+    subst AreInOrder (sym items)
+    (order_entered pairs c.deref.result.now place c.args.pair c.turn.result c.deref.ensures.value c.turn.ensures
+    c.requires.order c.requires.unheld c.place_of-place.ensures.bound c.place_of-place.ensures.point)
 
 pub returns-clause-pairs : goal.returns-clause-pairs
 returns-clause-pairs c =

@@ -6,4 +6,7 @@ use Rattle.claim_queue.proofs.firsts.place_of.Goals as goal
 
 pub returns-clause-point : goal.returns-clause-point
 returns-clause-point c =
-    IsPartitionPoint-from_clause (λ held. comes_before (turn_of held) c.args.turn) _ _ c.partition_point.ensures.partitioned (partitioned turn_of c.args.firsts.now c.args.turn (λ i j d less within. (c.requires i j d less within).0)) (λ a r q k. search rules)
+    IsPartitionPoint-from_clause (λ held. comes_before (turn_of held) c.args.turn) _ _
+    c.partition_point.ensures.partitioned
+    (partitioned turn_of c.args.firsts.now c.args.turn (λ i j d less within. (c.requires i j d less within).0))
+    (λ a r q k. search rules)

@@ -6,7 +6,12 @@ use Rattle.desk.proofs.opening.tell_rooms.Goals as goal
 pub loop-name-preserved : goal.loop-name-preserved
 loop-name-preserved g c = record {
   pairs = λ pair. c.tell_room.ensures.pairs pair ∙ c.in_ok-reserve.ensures.pairs pair ∙ c.loop-name.invariant.pairs pair;
-  places = λ name. omega (arith, c.loop-name.invariant.places name, told_places c.loop-name.queue c.reserve.new.self c.tell_room.new.queue _ _ c.in_ok-reserve.ensures.mark c.tell_room.ensures.mark name);
+  places = λ name. omega (
+    arith,
+    c.loop-name.invariant.places name,
+    told_places c.loop-name.queue c.reserve.new.self c.tell_room.new.queue _ _ c.in_ok-reserve.ensures.mark
+        c.tell_room.ensures.mark name,
+  );
   told = told_next c.loop-name.queue c.reserve.new.self c.tell_room.new.queue c.args.endpoints.now c.args.limiters.now c.names-name-items.result.now c.loop-name.name-index _ c.args.pool.now
       c.requires.none_out c.names-name-items.ensures.value c.loop-name-test.true c.name-item.is c.in_ok-reserve.ensures.mark c.tell_room.ensures.mark c.loop-name.invariant.told;
 }

@@ -7,4 +7,10 @@ invariant_of-result g c = record { stands = c.of.ensures.core }
 
 pub returns-in-Ok-clause-stands : goal.returns-in-Ok-clause-stands
 returns-in-Ok-clause-stands g c clean none =
-    record { stands = c.of.ensures.stands (opened [] 0) c.in-Ok.ensures.desk refl refl; holds = c.in-Ok.ensures.vault clean none; mark = c.of.ensures.mark ∙ c.in-Ok.ensures.mark.0 ∙ sym c.in-Ok.ensures.mark.1 }
+    record {
+      stands = c.of.ensures.stands (opened [] 0) c.in-Ok.ensures.desk refl refl;
+      holds =
+          c.in-Ok.ensures.vault clean none;
+      mark = c.of.ensures.mark ∙ c.in-Ok.ensures.mark.0
+          ∙ sym c.in-Ok.ensures.mark.1;
+    }

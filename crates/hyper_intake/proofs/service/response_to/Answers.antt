@@ -55,9 +55,21 @@ returns g c =
       c.match-read_body.reply,
       c.in_ok-response_of.ensures,
       elim c.match-read_body.branch [
-        | in-Whole+in-Some-1 w ↦ inl (sent.Whole w.as_slice.result, whole w.as_slice.result (w.in-Whole.is ∙ ap Whole (sym w.as_slice.ensures)), subst (RepliesTo c.args.head.now (sent.Whole w.as_slice.result)) (sym w.reply-is) w.reply_to-reply.ensures)
-        | in-Whole+in-None-1 w ↦ inl (sent.Whole w.as_slice.result, whole w.as_slice.result (w.in-Whole.is ∙ ap Whole (sym w.as_slice.ensures)), subst (RepliesTo c.args.head.now (sent.Whole w.as_slice.result)) (sym w.reply-is) w.reply_to-reply.ensures)
-        | in-TooLong w ↦ inl (sent.TooLong, long_came c.args.gathered c.read_body.result read.whole read.cut w.in-TooLong.is, subst (RepliesTo c.args.head.now sent.TooLong) (sym w.reply-is) w.reply_to-reply-in-TooLong.ensures)
+        | in-Whole+in-Some-1 w ↦ inl (
+          sent.Whole w.as_slice.result,
+          whole w.as_slice.result (w.in-Whole.is ∙ ap Whole (sym w.as_slice.ensures)),
+          subst (RepliesTo c.args.head.now (sent.Whole w.as_slice.result)) (sym w.reply-is) w.reply_to-reply.ensures,
+        )
+        | in-Whole+in-None-1 w ↦ inl (
+          sent.Whole w.as_slice.result,
+          whole w.as_slice.result (w.in-Whole.is ∙ ap Whole (sym w.as_slice.ensures)),
+          subst (RepliesTo c.args.head.now (sent.Whole w.as_slice.result)) (sym w.reply-is) w.reply_to-reply.ensures,
+        )
+        | in-TooLong w ↦ inl (
+          sent.TooLong,
+          long_came c.args.gathered c.read_body.result read.whole read.cut w.in-TooLong.is,
+          subst (RepliesTo c.args.head.now sent.TooLong) (sym w.reply-is) w.reply_to-reply-in-TooLong.ensures,
+        )
         | in-NoMemory w ↦ inr (w.reply-is ∙ w.reply-reply.ensures)
       ],
     )

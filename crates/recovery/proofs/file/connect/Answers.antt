@@ -17,5 +17,7 @@ returns-in-Err-default-Some-clause-refused g c =
       named = c.in-Err-default-Some.ensures.named;
       unfit = c.refusal_of.ensures.unfit;
       told = c.refusal_of.ensures.told;
-      sound = λ clean trees holds. of_disk found.0 c.in-Err-default-Some.left c.refusal_of.result c.in-Err-default-Some.error c.refusal_of.ensures.told trees (subst (λ i. HoldsDatabase i trees) (sym same) holds) (found.3 clean).0;
+      sound = λ clean trees holds. of_disk found.0 c.in-Err-default-Some.left c.refusal_of.result
+          c.in-Err-default-Some.error c.refusal_of.ensures.told trees
+          (subst (λ i. HoldsDatabase i trees) (sym same) holds) (found.3 clean).0;
     })

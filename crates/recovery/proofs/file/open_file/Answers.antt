@@ -9,7 +9,9 @@ pub returns-in-Ok-clause-opened : goal.returns-in-Ok-clause-opened
 returns-in-Ok-clause-opened g c clean =
     let before = c.in-Ok.ensures.clean clean in
     let opened = c.in_ok-conn.ensures.opened before in
-    file_opened over_files c.in-Ok.opening.0 c.in-Ok.opening.1 (image_at g.T.Start) (file_state c.in_ok-conn.conn) opened.1 opened.0 (c.in_ok-conn.ensures.finds before) (c.in-Ok.ensures.opened clean)
+    file_opened over_files c.in-Ok.opening.0 c.in-Ok.opening.1 (image_at g.T.Start)
+    (file_state c.in_ok-conn.conn) opened.1 opened.0 (c.in_ok-conn.ensures.finds before)
+    (c.in-Ok.ensures.opened clean)
 
 pub returns-in-Err-clause-refused : goal.returns-in-Err-clause-refused
 returns-in-Err-clause-refused g c = inr (
@@ -18,7 +20,8 @@ returns-in-Err-clause-refused g c = inr (
   λ clean.
       let before = c.in-Err.ensures.clean clean in
       let opened = c.in_ok-conn.ensures.opened before in
-      file_refused (image_at g.T.Start) (file_state c.in_ok-conn.conn) (file_state c.in-Err._back) c.in-Err.fault c.args.is_new opened.1 opened.0 (c.in_ok-conn.ensures.finds before)
+      file_refused (image_at g.T.Start) (file_state c.in_ok-conn.conn) (file_state c.in-Err._back) c.in-Err.fault
+      c.args.is_new opened.1 opened.0 (c.in_ok-conn.ensures.finds before)
       (c.in-Err.ensures.refused clean) (c.in-Err.ensures.sound clean) (c.in-Err.ensures.first clean)
       (λ new none. (c.in-Err.ensures.made new none).0),
 )

@@ -2,7 +2,8 @@ use Rattle.std.proofs.Common.{inl, inr}
 use Rattle.std.proofs.lemmas.Result.{err_from_is_err_and}
 use Rattle.sqlite.specs.Held.{state}
 use Rattle.recovery.proofs.ReopeningLaws.{is_reopened, reopens_left, of_answer, of_refusal, of_both, migrated_then}
-use Rattle.recovery.proofs.ReopeningLaws.{leaves_then, not_migrated, of_migrating, of_reading, reading_since, with_cause}
+use Rattle.recovery.proofs.ReopeningLaws.{leaves_then, not_migrated, of_migrating, of_reading, reading_since}
+use Rattle.recovery.proofs.ReopeningLaws.{with_cause}
 use Rattle.recovery.proofs.reopening.reopen.Goals as goal
 
 pub returns-clause-opened : goal.returns-clause-opened
@@ -72,8 +73,12 @@ returns-in_err-vault-clause-first g c =
 pub returns-in_err-vault-clause-sound : goal.returns-in_err-vault-clause-sound
 returns-in_err-vault-clause-sound g c =
     let p = err_from_is_err_and c.from_residual.result c.from_residual.ensures.1 in
-    rw (p.1, p.2) (λ clean history. of_reading (state g.S.Store c.args.conn) (state g.S.Store c.in_err-vault.field-0.0.0) c.in_err-vault.field-0.0.1 (c.in_err-vault.ensures.sound clean history))
+    rw (p.1, p.2)
+    (λ clean history. of_reading (state g.S.Store c.args.conn) (state g.S.Store c.in_err-vault.field-0.0.0)
+    c.in_err-vault.field-0.0.1 (c.in_err-vault.ensures.sound clean history))
 
 pub returns-clause-clean : goal.returns-clause-clean
-returns-clause-clean g c = of_both _ _ _ _ _ _ c.with_desk.result (λ opening clean same new. c.in_ok-vault.ensures.clean (clean new)) (λ back clean same new. c.in_ok-vault.ensures.clean (clean new))
+returns-clause-clean g c =
+    of_both _ _ _ _ _ _ c.with_desk.result (λ opening clean same new. c.in_ok-vault.ensures.clean (clean new))
+    (λ back clean same new. c.in_ok-vault.ensures.clean (clean new))
     c.with_desk.ensures.clean c.with_desk.ensures.clean

@@ -11,10 +11,14 @@ use Rattle.relay_commands.proofs.vegas_command.trace.Goals as goal
 pub returns-in_err-new : goal.returns-in_err-new
 returns-in_err-new g c text had input output =
     let p = err_from_is_err_and c.from_residual.result c.from_residual.ensures.1 in
-    exits (Traced c.args.explains c.args.max) IsNoSample c.from_residual.result text had _ p.0 p.1 (ends_at_once (Traced c.args.explains c.args.max) IsNoSample text had _ p.0 (Traced-none c.args.explains c.args.max) output (inr p.2))
+    exits (Traced c.args.explains c.args.max) IsNoSample c.from_residual.result text had _ p.0 p.1
+    (ends_at_once (Traced c.args.explains c.args.max) IsNoSample text had _ p.0
+    (Traced-none c.args.explains c.args.max) output (inr p.2))
 
 pub returns : goal.returns
 returns g c =
     let first : Follower = record { estimator = c.in_ok-new.field-0; explains = c.args.explains } in
-    Ends-more (AnswersFrom AnswersSample first) (Traced c.args.explains c.args.max) IsNoSample (λ lines written. Traced-from_answers c.args.max first c.in_ok-new.ensures.maximum c.in_ok-new.ensures.empty c.in_ok-new.ensures.explains lines written)
+    Ends-more (AnswersFrom AnswersSample first) (Traced c.args.explains c.args.max) IsNoSample
+    (λ lines written. Traced-from_answers c.args.max first c.in_ok-new.ensures.maximum c.in_ok-new.ensures.empty
+    c.in_ok-new.ensures.explains lines written)
     _ _ _ c.answer_lines.result (c.answer_lines.ensures.ends tt)

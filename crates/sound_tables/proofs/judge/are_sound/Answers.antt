@@ -9,12 +9,22 @@ use Rattle.sound_tables.proofs.judge.are_sound.Goals as goal
 
 pub returns : goal.returns
 returns c schema version db own read =
-    let numbers : Numbers = record { records = c.args.records; endpoints = c.args.rows.endpoints; deliveries = c.args.rows.deliveries; attempts = c.args.rows.attempts } in
+    let numbers : Numbers = record {
+      records = c.args.records;
+      endpoints = c.args.rows.endpoints;
+      deliveries =
+          c.args.rows.deliveries;
+      attempts = c.args.rows.attempts;
+    } in
     elim c.if-branch.branch [
       | then-branch w ↦
           let moved : IsPermutation c.args.rows.secrets.items w.are_in_places.new.secrets = search rules in
-          let placed : w.are_in_places.result ≡ list_all (λ (e : Endpoint). are_places (places_of e.put w.are_in_places.new.secrets)) c.args.rows.endpoints.items =
-          w.are_in_places.ensures.placed ∙ ap (list_all (λ (e : Endpoint). are_places (places_of e.put w.are_in_places.new.secrets))) w.deref.ensures.value in
+          let placed : w.are_in_places.result
+          ≡ list_all (λ (e : Endpoint). are_places (places_of e.put w.are_in_places.new.secrets))
+          c.args.rows.endpoints.items =
+          w.are_in_places.ensures.placed
+          ∙ ap (list_all (λ (e : Endpoint). are_places (places_of e.put w.are_in_places.new.secrets)))
+          w.deref.ensures.value in
           rw w.result-is (judged schema version own db c.args.records c.args.rows read c.requires numbers refl refl refl
           refl _ _ w.are_in_places.result moved w.are_in_places.ensures.sorted c.in_ok-are_sound.ensures.sound
           placed w.if-branch.true)

@@ -14,7 +14,9 @@ loop-secret-preserved c = elim c.if-secret-put.branch [
       rw w.next-is (record {
         counted = omega (arith, grown, c.loop-secret.invariant.counted);
         within = omega (arith, c.loop-secret.invariant.within);
-        placed = numbered_grown c.args.put c.args.secrets.now c.loop-secret.secret-index _ c.loop-secret-test.true w.if-secret-put.true c.loop-secret.next c.loop-secret.invariant.counted c.loop-secret.invariant.placed w.if-secret-next.false;
+        placed = numbered_grown c.args.put c.args.secrets.now c.loop-secret.secret-index _ c.loop-secret-test.true
+            w.if-secret-put.true c.loop-secret.next c.loop-secret.invariant.counted c.loop-secret.invariant.placed
+            w.if-secret-next.false;
       })
   | else-secret-put w ↦
       let skipped = places_skipped c.args.put c.args.secrets.now c.loop-secret.secret-index _ c.loop-secret-test.true w.if-secret-put.false in

@@ -67,7 +67,8 @@ returns-in_default-clause-taken g c clean sql taken =
     let had = c.each.invariant.taken early sql taken in
     let before = c.each.invariant.still.same early (given_open g.S.Store sql [] _ _ taken.has) in
     let same = unchanged_then a m b before (step.same clean) in
-    let shown = subst (GivesOn g.S.Store sql [] c.each.rows.conn.now c.advance.new.self.conn.now had.given) (sym c.get.ensures ∙ ap option_copied c.in_default.is) (step.ok clean sql [] had.given had.has) in
+    let shown = subst (GivesOn g.S.Store sql [] c.each.rows.conn.now c.advance.new.self.conn.now had.given)
+    (sym c.get.ensures ∙ ap option_copied c.in_default.is) (step.ok clean sql [] had.given had.has) in
     (same, (had.given, shown_from sql [] m a b had.given had.plain before.0.now_is same shown, had.shown))
 
 pub returns-in_err-shown-clause-looks : goal.returns-in_err-shown-clause-looks
@@ -90,7 +91,8 @@ returns-in_default-2-clause-taken g c clean sql taken =
     let had = c.each.invariant.taken early sql taken in
     let before = c.each.invariant.still.same early (given_open g.S.Store sql [] _ _ taken.has) in
     let same = unchanged_then a m b before (step.same clean) in
-    let given = subst (GivesOn g.S.Store sql [] c.each.rows.conn.now c.advance.new.self.conn.now had.given) (sym c.get.ensures ∙ ap option_copied c.in-Some.is) (step.ok clean sql [] had.given had.has) in
+    let given = subst (GivesOn g.S.Store sql [] c.each.rows.conn.now c.advance.new.self.conn.now had.given)
+    (sym c.get.ensures ∙ ap option_copied c.in-Some.is) (step.ok clean sql [] had.given had.has) in
     let none = subst (IsReadAs g.T.Reading.is_shown c.in-Some.row.now) c.in_default-2.is c.in_ok-shown.ensures in (
       same,
       (

@@ -14,5 +14,7 @@ returns-clause-found g c clean has =
     let first = c.in_ok-endpoints.ensures in
     let later = c.in_ok-deliveries.ensures in
     let still = schema_still g.S.Store a m b first.looks first.same later.looks IsOwn clean has in
-    c.all_of.ensures (state g.S.Store a).now (first.found (clean_early g.S.Store a m b first.looks first.same later.looks clean) has)
-    (subst (λ (db : Database). TellsEvents db c.in_ok-deliveries.deliveries c.in_ok-deliveries.attempts) (same_now g.S.Store a m b first.looks first.same later.looks clean) (later.found clean still))
+    c.all_of.ensures (state g.S.Store a).now
+    (first.found (clean_early g.S.Store a m b first.looks first.same later.looks clean) has)
+    (subst (λ (db : Database). TellsEvents db c.in_ok-deliveries.deliveries c.in_ok-deliveries.attempts)
+    (same_now g.S.Store a m b first.looks first.same later.looks clean) (later.found clean still))

@@ -16,7 +16,8 @@ returns-clause-found g c clean has =
     (c.read_table.ensures.taken clean)
 
 pub returns-clause-same : goal.returns-clause-same
-returns-clause-same g c clean = unchanged_by ShowsDelivery deliveries_text (state g.S.Store c.args.conn.now) (state g.S.Store c.read_table.new.conn) c.read_table.result (c.read_table.ensures.taken clean)
+returns-clause-same g c clean = unchanged_by ShowsDelivery deliveries_text (state g.S.Store c.args.conn.now)
+    (state g.S.Store c.read_table.new.conn) c.read_table.result (c.read_table.ensures.taken clean)
 
 pub returns-clause-fault : goal.returns-clause-fault
 returns-clause-fault g c clean has = refused_only IsOwn deliveries_text 5 deliveries_columns _ deliveries_read

@@ -15,7 +15,8 @@ returns-clause-found g c clean has =
     (state g.S.Store c.read_table.new.conn) has c.read_table.result (c.read_table.ensures.taken clean)
 
 pub returns-clause-same : goal.returns-clause-same
-returns-clause-same g c clean = unchanged_by ShowsMeta meta_text (state g.S.Store c.args.conn.now) (state g.S.Store c.read_table.new.conn) c.read_table.result (c.read_table.ensures.taken clean)
+returns-clause-same g c clean = unchanged_by ShowsMeta meta_text (state g.S.Store c.args.conn.now)
+    (state g.S.Store c.read_table.new.conn) c.read_table.result (c.read_table.ensures.taken clean)
 
 pub returns-clause-fault : goal.returns-clause-fault
 returns-clause-fault g c clean has = refused_only IsOwn meta_text 0 meta_columns _ meta_read

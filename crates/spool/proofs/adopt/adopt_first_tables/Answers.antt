@@ -32,7 +32,8 @@ returns-clause-read g c clean =
 pub returns-clause-back : goal.returns-clause-back
 returns-clause-back g c clean =
     check_back (state g.S.Store c.args.conn.now) (state g.S.Store c.check_first_tables-five.new.conn)
-    (state g.S.Store c.end_check.new.conn) c.check_first_tables-five.ensures.looks.survives c.end_check.ensures.survives clean
+    (state g.S.Store c.end_check.new.conn) c.check_first_tables-five.ensures.looks.survives c.end_check.ensures.survives
+    clean
     c.check_first_tables-five.ensures.looks.left c.requires
     (c.is_autocommit.ensures.settled (c.is_autocommit.ensures.value ∙ ap not c.requires))
     (c.end_check.ensures.ended clean)

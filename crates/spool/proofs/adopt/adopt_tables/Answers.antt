@@ -37,7 +37,8 @@ returns-clause-old g c clean is =
 pub returns-clause-back : goal.returns-clause-back
 returns-clause-back g c clean =
     check_back (state g.S.Store c.args.conn.now) (state g.S.Store c.check_tables-checked.new.conn)
-    (state g.S.Store c.end_check.new.conn) c.check_tables-checked.ensures.looks.survives c.end_check.ensures.survives clean
+    (state g.S.Store c.end_check.new.conn) c.check_tables-checked.ensures.looks.survives c.end_check.ensures.survives
+    clean
     c.check_tables-checked.ensures.looks.left c.requires
     (c.is_autocommit.ensures.settled (c.is_autocommit.ensures.value ∙ ap not c.requires))
     (c.end_check.ensures.ended clean)

@@ -11,7 +11,8 @@ returns-in-Err-clause-ends g c clean =
     let mid = state g.S.Store c.create_in_transaction.new.conn in
     let new = state g.S.Store c.fault_of.new.conn in
     let early : HasCleanDisk mid = omega (arith, clean, c.fault_of.ensures.survives.clean) in
-    let free : has_ours old.now.schema ≡ false = rw c.schema.ensures.value at (sym c.has_ours.ensures ∙ c.if-has_ours.false) in
+    let free : has_ours old.now.schema ≡ false = rw c.schema.ensures.value at (sym c.has_ours.ensures
+    ∙ c.if-has_ours.false) in
     leaves_told old mid new c.in-Err.error c.fault_of.result free (c.in-Err.ensures.undone early) c.in-Err.ensures.cause
     c.in-Err.ensures.survives c.fault_of.ensures.survives clean c.fault_of.ensures.told
     (c.fault_of.ensures.same clean) (g.met.S.Store.settled c.fault_of.new.conn.store)

@@ -16,5 +16,7 @@ returns-clause-done g c clean inside =
     let z = state g.S.Store c.update_enabled.new.tx.conn.now in
     let at_b : HasCleanDisk b = omega (arith, clean, c.in_ok-update_enabled.ensures.spares.survives.clean) in
     let same = c.in_ok-put.ensures.unchanged at_b in
-    enabled_made a b z c.args.seq c.args.name.now c.args.flag c.in-Some.put inside same (rw c.in-Some.is at (c.in_ok-put.ensures.found at_b)) c.in_ok-put.ensures.named c.in_ok-update_enabled.ensures.room
+    enabled_made a b z c.args.seq c.args.name.now c.args.flag c.in-Some.put inside same
+    (rw c.in-Some.is at (c.in_ok-put.ensures.found at_b)) c.in_ok-put.ensures.named
+    c.in_ok-update_enabled.ensures.room
     (c.in_ok-update_enabled.ensures.done clean (same.0.mode ∙ inside))

@@ -11,10 +11,16 @@ use Rattle.spool.proofs.ReadableLemmas.{legal_readable, refused_behind}
 use Rattle.spool.proofs.load.read_tables.Goals as goal
 
 pub returns-in_err-records-clause-spares : goal.returns-in_err-records-clause-spares
-returns-in_err-records-clause-spares g c = spares_then _ _ _ (spares_then _ _ _ (spares_then _ _ _ c.load_endpoints.ensures.spares c.load_deliveries.ensures.spares) c.load_attempts.ensures.spares) c.select_records.ensures.spares
+returns-in_err-records-clause-spares g c =
+    spares_then _ _ _
+    (spares_then _ _ _ (spares_then _ _ _ c.load_endpoints.ensures.spares c.load_deliveries.ensures.spares)
+    c.load_attempts.ensures.spares) c.select_records.ensures.spares
 
 pub returns-clause-spares : goal.returns-clause-spares
-returns-clause-spares g c = spares_then _ _ _ (spares_then _ _ _ (spares_then _ _ _ c.load_endpoints.ensures.spares c.load_deliveries.ensures.spares) c.load_attempts.ensures.spares) c.select_records.ensures.spares
+returns-clause-spares g c =
+    spares_then _ _ _
+    (spares_then _ _ _ (spares_then _ _ _ c.load_endpoints.ensures.spares c.load_deliveries.ensures.spares)
+    c.load_attempts.ensures.spares) c.select_records.ensures.spares
 
 pub returns-clause-found : goal.returns-clause-found
 returns-clause-found g c clean =

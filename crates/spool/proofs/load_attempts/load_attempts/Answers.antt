@@ -35,7 +35,9 @@ loop-from-preserved g c =
         quiet = quiet;
         bound = w.in_ok-from-in-Some.ensures.room;
         done = λ clean records legal tables accepted.
-            page_then (λ (a : AttemptRow). a.seq) (rows_of records).attempts a b m m (rows_of records) (HaveAttempts c.loop-from.loaded records) (HaveAttempts c.restore_page.new.loaded records) c.loop-from.from _ (map attempt_of items)
+            page_then (λ (a : AttemptRow). a.seq) (rows_of records).attempts a b m m (rows_of records)
+            (HaveAttempts c.loop-from.loaded records) (HaveAttempts c.restore_page.new.loaded records)
+            c.loop-from.from _ (map attempt_of items)
             so_far.quiet look.spares look.unchanged (spares_none m)
             (λ early tables. so_far.done early records legal tables accepted)
             (λ early tables. rw c.of.ensures at (look.found early (rows_of records) tables))
@@ -48,7 +50,9 @@ loop-from-preserved g c =
         quiet = quiet;
         bound = omega arith;
         done = λ clean records legal tables accepted.
-            page_then (λ (a : AttemptRow). a.seq) (rows_of records).attempts a b m m (rows_of records) (HaveAttempts c.loop-from.loaded records) (HaveAttempts c.restore_page.new.loaded records) c.loop-from.from _ (map attempt_of items)
+            page_then (λ (a : AttemptRow). a.seq) (rows_of records).attempts a b m m (rows_of records)
+            (HaveAttempts c.loop-from.loaded records) (HaveAttempts c.restore_page.new.loaded records)
+            c.loop-from.from _ (map attempt_of items)
             so_far.quiet look.spares look.unchanged (spares_none m)
             (λ early tables. so_far.done early records legal tables accepted)
             (λ early tables. rw c.of.ensures at (look.found early (rows_of records) tables))
@@ -60,7 +64,9 @@ loop-from-preserved g c =
 
 pub returns-clause-found : goal.returns-clause-found
 returns-clause-found g c clean records legal tables accepted =
-    attempts_all records c.loop-from.loaded legal (read_whole (λ (a : AttemptRow). a.seq) (rows_of records).attempts (HaveAttempts c.loop-from.loaded records) c.loop-from.from (omega (arith, c.loop-from-test.false)) (c.loop-from.invariant.done clean records legal tables accepted))
+    attempts_all records c.loop-from.loaded legal (read_whole (λ (a : AttemptRow). a.seq) (rows_of records).attempts
+    (HaveAttempts c.loop-from.loaded records) c.loop-from.from (omega (arith, c.loop-from-test.false))
+    (c.loop-from.invariant.done clean records legal tables accepted))
 
 pub returns-in_err-page-clause-refused : goal.returns-in_err-page-clause-refused
 returns-in_err-page-clause-refused g c clean =

@@ -26,13 +26,17 @@ loop-row-preserved c records are =
     let step = c.in_ok-accept.ensures in
     let is = subst (λ put. IsNameOf c.args.names.now put name) c.get.ensures.number c.in-Some-name_of.ensures.found in
     subst (λ more. Accepts c.args.loaded.now c.accept.new.self more records) (sym (map-append delivery_of c.loop-row.yielded (c.in-Some.row ∷ [])))
-    (reads_then (rows_of records).deliveries (AreAccepted c.args.loaded.now records) (AreAccepted c.loop-row.loaded records) (AreAccepted c.accept.new.self records) (map delivery_of c.loop-row.yielded) (row ∷ [])
+    (reads_then (rows_of records).deliveries (AreAccepted c.args.loaded.now records)
+    (AreAccepted c.loop-row.loaded records) (AreAccepted c.accept.new.self records)
+    (map delivery_of c.loop-row.yielded) (row ∷ [])
     (c.loop-row.invariant records are) (accepted_more records c.args.names.now row name c.loop-row.loaded c.accept.new.self are is step.book step.clock))
 
 pub returns-clause-found : goal.returns-clause-found
 returns-clause-found c records are =
     let given = c.into_iter-row-iterator.ensures.into_iter_gives in
-    let ended = YieldsList-end (YieldsList-from_vec c.args.page.items given.0 (given.1 ∙ c.args.page.ok.0)) c.loop-row.yielded c.loop-row.row-iterator c.loop-row.yielded_by c.next.result c.next.new.self c.in-None.is c.next.ensures.steps in
+    let ended = YieldsList-end (YieldsList-from_vec c.args.page.items given.0 (given.1 ∙ c.args.page.ok.0))
+    c.loop-row.yielded c.loop-row.row-iterator c.loop-row.yielded_by c.next.result c.next.new.self c.in-None.is
+    c.next.ensures.steps in
     let all : c.loop-row.yielded ≡ c.args.page.items = sym (map_itself c.loop-row.yielded) ∙ ended.0 in
     subst (λ items. Accepts c.args.loaded.now c.loop-row.loaded (map delivery_of items) records) all (c.loop-row.invariant records are)
 

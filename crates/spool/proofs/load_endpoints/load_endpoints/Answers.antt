@@ -41,8 +41,12 @@ loop-from-preserved g c =
         settled = step.settled;
         bound = w.in_ok-from-in-Some.ensures.room;
         done = λ clean records legal.
-            page_then (λ (e : EndpointRow). e.put) (rows_of records).endpoints a b m z (rows_of records) (AreRestored c.loop-from.loaded records) (AreRestored c.restore_page.new.loaded records) c.loop-from.from _ (map endpoint_of items)
-            so_far.quiet look.spares look.unchanged step.spares (λ early. so_far.done early records legal) (λ early tables. rw c.of.ensures at (look.found early (rows_of records) tables)) (λ late. step.found late records legal)
+            page_then (λ (e : EndpointRow). e.put) (rows_of records).endpoints a b m z (rows_of records)
+            (AreRestored c.loop-from.loaded records) (AreRestored c.restore_page.new.loaded records)
+            c.loop-from.from _ (map endpoint_of items)
+            so_far.quiet look.spares look.unchanged step.spares (λ early. so_far.done early records legal)
+            (λ early tables. rw c.of.ensures at (look.found early (rows_of records) tables))
+            (λ late. step.found late records legal)
             (λ read left h page. behind_some (λ (e : EndpointRow). e.put) c.loop-from.from _ (rows_of records).endpoints read left (map endpoint_of items) (endpoint_of w.in-Some.last.now) h page
             (last_read endpoint_of items w.in-Some.last.now (rw c.deref.ensures.value at (rw w.in-Some.is at c.last.ensures.value))) w.in_ok-from-in-Some.ensures.number) clean;
       })
@@ -52,8 +56,12 @@ loop-from-preserved g c =
         settled = step.settled;
         bound = omega arith;
         done = λ clean records legal.
-            page_then (λ (e : EndpointRow). e.put) (rows_of records).endpoints a b m z (rows_of records) (AreRestored c.loop-from.loaded records) (AreRestored c.restore_page.new.loaded records) c.loop-from.from _ (map endpoint_of items)
-            so_far.quiet look.spares look.unchanged step.spares (λ early. so_far.done early records legal) (λ early tables. rw c.of.ensures at (look.found early (rows_of records) tables)) (λ late. step.found late records legal)
+            page_then (λ (e : EndpointRow). e.put) (rows_of records).endpoints a b m z (rows_of records)
+            (AreRestored c.loop-from.loaded records) (AreRestored c.restore_page.new.loaded records)
+            c.loop-from.from _ (map endpoint_of items)
+            so_far.quiet look.spares look.unchanged step.spares (λ early. so_far.done early records legal)
+            (λ early tables. rw c.of.ensures at (look.found early (rows_of records) tables))
+            (λ late. step.found late records legal)
             (λ read left h page. behind_none (λ (e : EndpointRow). e.put) c.loop-from.from (rows_of records).endpoints read left (map endpoint_of items) so_far.bound h page
             (none_read endpoint_of items (rw c.deref.ensures.value at (rw w.in-None.is at c.last.ensures.value)))) clean;
       })
@@ -61,7 +69,9 @@ loop-from-preserved g c =
 
 pub returns-clause-found : goal.returns-clause-found
 returns-clause-found g c clean records legal tables =
-    read_whole (λ (e : EndpointRow). e.put) (rows_of records).endpoints (AreRestored c.loop-from.loaded records) c.loop-from.from (omega (arith, c.loop-from-test.false)) (c.loop-from.invariant.done clean records legal tables)
+    read_whole (λ (e : EndpointRow). e.put) (rows_of records).endpoints
+    (AreRestored c.loop-from.loaded records) c.loop-from.from (omega (arith, c.loop-from-test.false))
+    (c.loop-from.invariant.done clean records legal tables)
 
 pub returns-in_err-page-clause-refused : goal.returns-in_err-page-clause-refused
 returns-in_err-page-clause-refused g c clean =

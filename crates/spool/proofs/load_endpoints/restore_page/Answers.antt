@@ -28,7 +28,9 @@ loop-row-preserved g c =
           let before = clean_before b z step.spares clean in
           let there = tables_along a b (rows_of records) so_far.quiet before (step.unchanged clean).0.was_open tables in
           subst (λ more. Restores c.args.loaded.now c.restore_endpoint.new.loaded more records) (sym (map-append endpoint_of c.loop-row.yielded (c.in-Some.row ∷ [])))
-          (reads_then (rows_of records).endpoints (AreRestored c.args.loaded.now records) (AreRestored c.loop-row.loaded records) (AreRestored c.restore_endpoint.new.loaded records) (map endpoint_of c.loop-row.yielded) (endpoint_of c.in-Some.row ∷ [])
+          (reads_then (rows_of records).endpoints (AreRestored c.args.loaded.now records)
+          (AreRestored c.loop-row.loaded records) (AreRestored c.restore_endpoint.new.loaded records)
+          (map endpoint_of c.loop-row.yielded) (endpoint_of c.in-Some.row ∷ [])
           (so_far.done before records legal tables) (step.found clean records legal there));
     }
 
@@ -43,7 +45,9 @@ loop-row-init g c = record {
 pub returns-clause-found : goal.returns-clause-found
 returns-clause-found g c clean records legal tables =
     let given = c.into_iter-row-iterator.ensures.into_iter_gives in
-    let ended = YieldsList-end (YieldsList-from_vec c.args.page.items given.0 (given.1 ∙ c.args.page.ok.0)) c.loop-row.yielded c.loop-row.row-iterator c.loop-row.yielded_by c.next.result c.next.new.self c.in-None.is c.next.ensures.steps in
+    let ended = YieldsList-end (YieldsList-from_vec c.args.page.items given.0 (given.1 ∙ c.args.page.ok.0))
+    c.loop-row.yielded c.loop-row.row-iterator c.loop-row.yielded_by c.next.result c.next.new.self c.in-None.is
+    c.next.ensures.steps in
     let all : c.loop-row.yielded ≡ c.args.page.items = sym (map_itself c.loop-row.yielded) ∙ ended.0 in
     subst (λ items. Restores c.args.loaded.now c.loop-row.loaded (map endpoint_of items) records) all (c.loop-row.invariant.done clean records legal tables)
 

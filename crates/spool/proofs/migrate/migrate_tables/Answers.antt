@@ -97,7 +97,8 @@ returns-then-is_old-clause-left g c clean =
     let first = c.in-Err.ensures in
     let later = c.migrate_first_tables.ensures in
     let early : HasCleanDisk m = omega (arith, clean, later.survives.clean) in
-    left_behind a m b (first.old early (ap Err is)) first.survives early c.migrate_first_tables.result (later.left clean)
+    left_behind a m b (first.old early (ap Err is)) first.survives early c.migrate_first_tables.result
+    (later.left clean)
 
 pub returns-then-is_old-clause-back : goal.returns-then-is_old-clause-back
 returns-then-is_old-clause-back g c clean =
@@ -109,7 +110,8 @@ returns-then-is_old-clause-back g c clean =
     let later = c.migrate_first_tables.ensures in
     let early : HasCleanDisk m = omega (arith, clean, later.survives.clean) in
     let back = first.back early (first.old early (ap Err is)).0.is_open in
-    on_err c.migrate_first_tables.result _ _ (later.back clean) (λ undone is_open. back_then a m b back (undone is_open))
+    on_err c.migrate_first_tables.result _ _ (later.back clean)
+    (λ undone is_open. back_then a m b back (undone is_open))
 
 pub returns-then-is_old-clause-survives : goal.returns-then-is_old-clause-survives
 returns-then-is_old-clause-survives g c =

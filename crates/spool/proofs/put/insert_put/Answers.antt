@@ -13,4 +13,7 @@ returns-clause-done g c clean inside =
     let z = state g.S.Store c.insert_secrets.new.tx.conn.now in
     let at_b : HasCleanDisk b = omega (arith, clean, c.insert_secrets.ensures.spares.survives.clean) in
     let one = c.in_ok-insert_endpoint.ensures.done at_b inside in
-    alters_last a b z (with_endpoint (new_endpoint c.args.seq c.args.name.now c.args.target.now c.args.max)) (with_secrets c.args.seq c.args.secrets.now) c.insert_secrets.result one (on_ok c.insert_secrets.result _ _ (c.insert_secrets.ensures.done clean one.on.mode) (λ more. more one.on.is_open))
+    alters_last a b z (with_endpoint (new_endpoint c.args.seq c.args.name.now c.args.target.now c.args.max))
+    (with_secrets c.args.seq c.args.secrets.now) c.insert_secrets.result one
+    (on_ok c.insert_secrets.result _ _ (c.insert_secrets.ensures.done clean one.on.mode)
+    (λ more. more one.on.is_open))

@@ -16,5 +16,6 @@ returns-clause-done g c clean inside =
     let z = state g.S.Store c.insert_put.new.tx.conn.now in
     let at_b : HasCleanDisk b = omega (arith, clean, c.in_ok-insert_put.ensures.spares.survives.clean) in
     let same = c.in_ok-may_put.ensures.unchanged at_b in
-    put_made a b z c.args.seq c.args.name.now c.args.target.now c.args.max c.args.secrets.now inside same (λ count records has. sym c.if-not-branch.false ∙ c.in_ok-may_put.ensures.legal at_b count records has)
+    put_made a b z c.args.seq c.args.name.now c.args.target.now c.args.max c.args.secrets.now inside same
+    (λ count records has. sym c.if-not-branch.false ∙ c.in_ok-may_put.ensures.legal at_b count records has)
     c.in_ok-insert_put.ensures.limits c.in_ok-insert_put.ensures.room (c.in_ok-insert_put.ensures.done clean (same.0.mode ∙ inside))

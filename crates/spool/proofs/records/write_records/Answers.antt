@@ -30,7 +30,9 @@ returns-then-not-branch-clause-done g c clean inside =
     let at = got_step k c.args.steps.now c.step-item.result c.loop-step-test.true c.step-item.is in
     let split = records_split k c.args.steps.now step_records at in
     let at_b : HasCleanDisk b = omega (arith, clean, c.in_ok-write_step.ensures.spares.survives.clean) in
-    let one = subst (λ rs. Enters b z c.loop-step.place rs false) c.records-records.ensures.records (rw c.if-not-branch.true at (c.in_ok-write_step.ensures.done clean (c.loop-step.invariant.inside at_b inside))) in
+    let one = subst (λ rs. Enters b z c.loop-step.place rs false) c.records-records.ensures.records
+    (rw c.if-not-branch.true at
+    (c.in_ok-write_step.ensures.done clean (c.loop-step.invariant.inside at_b inside))) in
     let so_far = c.loop-step.invariant.done at_b inside ((c.loop-step.invariant.spares.kept at_b).was_open one.on.was_open) in
     let stopped = enters_then a b z c.args.next c.loop-step.place (records_of (take k c.args.steps.now)) step_records false c.loop-step.invariant.place so_far one in
     subst (λ all. EntersWhole a z c.args.next all false) (append_assoc (records_of (take k c.args.steps.now)) step_records split.0 ∙ sym split.1)

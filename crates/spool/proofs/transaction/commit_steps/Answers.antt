@@ -26,7 +26,8 @@ returns-in_err-commit-clause-survives g c =
     let old = c.args.conn.now in
     let mid = state g.S.Store c.write_records.new.tx.conn.now in
     let begun = c.transaction-tx.ensures.begun in
-    let whole = survives_all g.S.Store old mid (state g.S.Store c.commit.new.self.0) c.args.next (records_of c.args.steps.now) c.in_ok-legal.legal c.if-legal.true (rw begun at c.in_ok-legal.ensures.spares)
+    let whole = survives_all g.S.Store old mid (state g.S.Store c.commit.new.self.0) c.args.next
+    (records_of c.args.steps.now) c.in_ok-legal.legal c.if-legal.true (rw begun at c.in_ok-legal.ensures.spares)
     (λ clean. (rw begun at c.in_ok-legal.ensures.done) clean refl) c.commit.ensures.survives in
     let same : c.commit.new.self.0 ≡ c.conn-then-legal-1.given.0 = search rules in
     subst (λ h. Survives (state g.S.Store old) (state g.S.Store h) (CommitsAll (state g.S.Store old) c.args.next (records_of c.args.steps.now))) same whole
@@ -36,7 +37,8 @@ returns-then-legal-clause-survives g c =
     let old = c.args.conn.now in
     let mid = state g.S.Store c.write_records.new.tx.conn.now in
     let begun = c.transaction-tx.ensures.begun in
-    let whole = survives_all g.S.Store old mid (state g.S.Store c.commit.new.self.0) c.args.next (records_of c.args.steps.now) c.in_ok-legal.legal c.if-legal.true (rw begun at c.in_ok-legal.ensures.spares)
+    let whole = survives_all g.S.Store old mid (state g.S.Store c.commit.new.self.0) c.args.next
+    (records_of c.args.steps.now) c.in_ok-legal.legal c.if-legal.true (rw begun at c.in_ok-legal.ensures.spares)
     (λ clean. (rw begun at c.in_ok-legal.ensures.done) clean refl) c.commit.ensures.survives in
     let same : c.commit.new.self.0 ≡ c.conn-then-legal-1.given.0 = search rules in
     subst (λ h. Survives (state g.S.Store old) (state g.S.Store h) (CommitsAll (state g.S.Store old) c.args.next (records_of c.args.steps.now))) same whole
@@ -50,6 +52,8 @@ returns-in_err-commit-clause-cause g c clean =
     let late : HasCleanDisk (state g.S.Store c.commit.new.self.0) = rw same clean in
     let early : HasCleanDisk mid = omega (arith, late, c.commit.ensures.survives.clean) in
     let entered = (rw begun at c.in_ok-legal.ensures.done) early refl in
-    let refused = commit_refused g.S.Store old mid (state g.S.Store c.commit.new.self.0) c.in_err-commit.field-0.0 entered.on.mode (rw begun at c.in_ok-legal.ensures.spares) (c.in_err-commit.ensures.err late) c.commit.ensures.survives late in
+    let refused = commit_refused g.S.Store old mid (state g.S.Store c.commit.new.self.0) c.in_err-commit.field-0.0
+    entered.on.mode (rw begun at c.in_ok-legal.ensures.spares)
+    (c.in_err-commit.ensures.err late) c.commit.ensures.survives late in
     handed_on c.from_residual-in_err-commit.result c.in_err-commit.field-0.0 (IsCause (state g.S.Store old) (state g.S.Store c.conn-then-legal-1.given.0)) c.from_residual-in_err-commit.ensures.1
     (inl (subst (λ h. IsRefusal (state g.S.Store old) (state g.S.Store h) c.in_err-commit.field-0.0) same refused))

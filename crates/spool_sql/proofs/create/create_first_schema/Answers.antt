@@ -20,9 +20,12 @@ returns-clause-done g c clean inside =
     let c2 : HasCleanDisk s2 = omega (arith, c3, c.create_secrets.ensures.spares.survives.clean) in
     let c1 : HasCleanDisk s1 = omega (arith, c2, c.create_endpoints.ensures.spares.survives.clean) in
     let one = c.in_ok-create_meta.ensures.done c1 inside in
-    let two = grows_then no_schema schema_1 schema_2 s0 s1 s2 one (c.in_ok-create_endpoints.ensures.done c2 one.on.mode) in
-    let three = grows_then no_schema schema_2 schema_3 s0 s2 s3 two (c.in_ok-create_secrets.ensures.done c3 two.on.mode) in
-    let four = grows_then no_schema schema_3 schema_4 s0 s3 s4 three (c.in_ok-create_deliveries.ensures.done c4 three.on.mode) in
+    let two = grows_then no_schema schema_1 schema_2 s0 s1 s2 one
+    (c.in_ok-create_endpoints.ensures.done c2 one.on.mode) in
+    let three = grows_then no_schema schema_2 schema_3 s0 s2 s3 two
+    (c.in_ok-create_secrets.ensures.done c3 two.on.mode) in
+    let four = grows_then no_schema schema_3 schema_4 s0 s3 s4 three
+    (c.in_ok-create_deliveries.ensures.done c4 three.on.mode) in
     on_ok c.create_attempts.result _ _ (c.create_attempts.ensures.done clean four.on.mode)
     (λ five. grows_then no_schema schema_4 first_schema s0 s4 s5 four
     (subst (λ s. Grows schema_4 s s4 s5) makes_first five))
@@ -35,5 +38,6 @@ returns-clause-spares g c =
     let s3 = state g.S.Store c.create_secrets.new.tx.conn.now in
     let s4 = state g.S.Store c.create_deliveries.new.tx.conn.now in
     let s5 = state g.S.Store c.create_attempts.new.tx.conn.now in
-    spares_then s0 s1 s5 c.create_meta.ensures.spares (spares_then s1 s2 s5 c.create_endpoints.ensures.spares (spares_then s2 s3 s5 c.create_secrets.ensures.spares
+    spares_then s0 s1 s5 c.create_meta.ensures.spares
+    (spares_then s1 s2 s5 c.create_endpoints.ensures.spares (spares_then s2 s3 s5 c.create_secrets.ensures.spares
     (spares_then s3 s4 s5 c.create_deliveries.ensures.spares c.create_attempts.ensures.spares)))

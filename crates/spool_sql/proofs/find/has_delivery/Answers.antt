@@ -11,7 +11,8 @@ use Rattle.spool_sql.proofs.find.has_delivery.Goals as goal
 
 pub returns-clause-unchanged : goal.returns-clause-unchanged
 returns-clause-unchanged g c clean =
-    unchanged_by delivery_select delivery_select_bare _ (state g.S.Store c.args.tx.now.conn.now) (state g.S.Store c.query_all.new.self.conn.now) _ (c.in_ok-rows.ensures.ok clean)
+    unchanged_by delivery_select delivery_select_bare _ (state g.S.Store c.args.tx.now.conn.now)
+    (state g.S.Store c.query_all.new.self.conn.now) _ (c.in_ok-rows.ensures.ok clean)
 
 pub returns-clause-found : goal.returns-clause-found
 returns-clause-found g c clean rows t =
@@ -23,15 +24,21 @@ returns-clause-found g c clean rows t =
 
 pub returns-clause-spares : goal.returns-clause-spares
 returns-clause-spares g c =
-    spares_found delivery_select delivery_select_bare _ (state g.S.Store c.args.tx.now.conn.now) (state g.S.Store c.query_all.new.self.conn.now) _ (λ clean. c.in_ok-rows.ensures.ok clean) c.query_all.ensures.survives
+    spares_found delivery_select delivery_select_bare _ (state g.S.Store c.args.tx.now.conn.now)
+    (state g.S.Store c.query_all.new.self.conn.now) _
+    (λ clean. c.in_ok-rows.ensures.ok clean) c.query_all.ensures.survives
 
 pub returns-in_err-rows-clause-spares : goal.returns-in_err-rows-clause-spares
 returns-in_err-rows-clause-spares g c =
-    spares_failed delivery_select delivery_select_bare _ (state g.S.Store c.args.tx.now.conn.now) (state g.S.Store c.query_all.new.self.conn.now) _ (λ clean. c.in_err-rows.ensures.err clean) c.query_all.ensures.survives
+    spares_failed delivery_select delivery_select_bare _ (state g.S.Store c.args.tx.now.conn.now)
+    (state g.S.Store c.query_all.new.self.conn.now) _ (λ clean. c.in_err-rows.ensures.err clean)
+    c.query_all.ensures.survives
 
 pub returns-in_err-rows-clause-refused : goal.returns-in_err-rows-clause-refused
 returns-in_err-rows-clause-refused g c clean =
     let a = state g.S.Store c.args.tx.now.conn.now in
     let b = state g.S.Store c.query_all.new.self.conn.now in
-    handed_on c.from_residual.result c.in_err-rows.field-0.0 (λ e. (rows : Rows) → IsTables a.now rows → AreReadable rows → IsRefusal a b e) c.from_residual.ensures.1
-    (λ rows t readable. has_refused c.args.endpoint c.args.id.now a b _ rows t (rw (c.value.ensures.value, c.as_bytes.ensures.text) at (c.in_err-rows.ensures.err clean)))
+    handed_on c.from_residual.result c.in_err-rows.field-0.0 (λ e. (rows : Rows) → IsTables a.now rows
+    → AreReadable rows → IsRefusal a b e) c.from_residual.ensures.1
+    (λ rows t readable. has_refused c.args.endpoint c.args.id.now a b _ rows t
+    (rw (c.value.ensures.value, c.as_bytes.ensures.text) at (c.in_err-rows.ensures.err clean)))

@@ -12,7 +12,8 @@ use Rattle.spool_sql.proofs.find.select_put.Goals as goal
 
 pub returns-clause-unchanged : goal.returns-clause-unchanged
 returns-clause-unchanged g c clean =
-    ok_always c.first_seq.result (unchanged_by named_select named_select_bare _ (state g.S.Store c.args.tx.now.conn.now) (state g.S.Store c.query_all.new.self.conn.now) _ (c.in_ok-rows.ensures.ok clean))
+    ok_always c.first_seq.result (unchanged_by named_select named_select_bare _ (state g.S.Store c.args.tx.now.conn.now)
+    (state g.S.Store c.query_all.new.self.conn.now) _ (c.in_ok-rows.ensures.ok clean))
 
 pub returns-clause-found : goal.returns-clause-found
 returns-clause-found g c clean =
@@ -23,24 +24,31 @@ returns-clause-found g c clean =
 
 pub returns-clause-spares : goal.returns-clause-spares
 returns-clause-spares g c =
-    spares_found named_select named_select_bare _ (state g.S.Store c.args.tx.now.conn.now) (state g.S.Store c.query_all.new.self.conn.now) _ (λ clean. c.in_ok-rows.ensures.ok clean) c.query_all.ensures.survives
+    spares_found named_select named_select_bare _ (state g.S.Store c.args.tx.now.conn.now)
+    (state g.S.Store c.query_all.new.self.conn.now) _
+    (λ clean. c.in_ok-rows.ensures.ok clean) c.query_all.ensures.survives
 
 pub returns-in_err-rows-clause-spares : goal.returns-in_err-rows-clause-spares
 returns-in_err-rows-clause-spares g c =
-    spares_failed named_select named_select_bare _ (state g.S.Store c.args.tx.now.conn.now) (state g.S.Store c.query_all.new.self.conn.now) _ (λ clean. c.in_err-rows.ensures.err clean) c.query_all.ensures.survives
+    spares_failed named_select named_select_bare _ (state g.S.Store c.args.tx.now.conn.now)
+    (state g.S.Store c.query_all.new.self.conn.now) _ (λ clean. c.in_err-rows.ensures.err clean)
+    c.query_all.ensures.survives
 
 pub returns-in_err-rows-clause-refused : goal.returns-in_err-rows-clause-refused
 returns-in_err-rows-clause-refused g c clean =
     let a = state g.S.Store c.args.tx.now.conn.now in
     let b = state g.S.Store c.query_all.new.self.conn.now in
-    handed_on c.from_residual.result c.in_err-rows.field-0.0 (λ e. (rows : Rows) → IsTables a.now rows → AreReadable rows → IsRefusal a b e) c.from_residual.ensures.1
-    (λ rows t readable. named_refused c.args.name.now a b _ rows t (rw c.as_bytes.ensures.text at (c.in_err-rows.ensures.err clean)))
+    handed_on c.from_residual.result c.in_err-rows.field-0.0 (λ e. (rows : Rows) → IsTables a.now rows
+    → AreReadable rows → IsRefusal a b e) c.from_residual.ensures.1
+    (λ rows t readable. named_refused c.args.name.now a b _ rows t
+    (rw c.as_bytes.ensures.text at (c.in_err-rows.ensures.err clean)))
 
 pub returns-clause-refused : goal.returns-clause-refused
 returns-clause-refused g c clean =
     let a = state g.S.Store c.args.tx.now.conn.now in
     let b = state g.S.Store c.query_all.new.self.conn.now in
-    err_then c.first_seq.result _ (λ e. (rows : Rows) → IsTables a.now rows → AreReadable rows → IsRefusal a b e) c.first_seq.ensures.refused
+    err_then c.first_seq.result _ (λ e. (rows : Rows) → IsTables a.now rows → AreReadable rows
+    → IsRefusal a b e) c.first_seq.ensures.refused
     (λ e memory rows t readable. inl (memory (rw c.deref.ensures.value
     (shows_puts a b _ rows t named_select_asks c.args.name.now
     (rw c.as_bytes.ensures.text at (c.in_ok-rows.ensures.ok clean)) readable.endpoints))))

@@ -15,21 +15,28 @@ use Rattle.spool_sql.proofs.read.select_deliveries.Goals as goal
 
 pub returns-clause-unchanged : goal.returns-clause-unchanged
 returns-clause-unchanged g c clean =
-    ok_always c.read_deliveries.result (unchanged_by deliveries_select deliveries_select_bare _ (state g.S.Store c.args.tx.now.conn.now) (state g.S.Store c.query_all.new.self.conn.now) _ (c.in_ok-rows.ensures.ok clean))
+    ok_always c.read_deliveries.result
+    (unchanged_by deliveries_select deliveries_select_bare _ (state g.S.Store c.args.tx.now.conn.now)
+    (state g.S.Store c.query_all.new.self.conn.now) _ (c.in_ok-rows.ensures.ok clean))
 
 pub returns-clause-found : goal.returns-clause-found
 returns-clause-found g c clean =
     ok_then c.read_deliveries.result _ _ c.read_deliveries.ensures.value (λ page is rows t.
     subst (IsPage (λ (d : DeliveryRow). d.seq) c.args.from rows.deliveries) (sym (is ∙ ap (map delivery_in) c.deref.ensures.value))
-    (tells_deliveries (state g.S.Store c.args.tx.now.conn.now) (state g.S.Store c.query_all.new.self.conn.now) c.in_ok-rows.rows.items rows t c.args.from (rw c.value.ensures.value at (c.in_ok-rows.ensures.ok clean))))
+    (tells_deliveries (state g.S.Store c.args.tx.now.conn.now) (state g.S.Store c.query_all.new.self.conn.now)
+    c.in_ok-rows.rows.items rows t c.args.from (rw c.value.ensures.value at (c.in_ok-rows.ensures.ok clean))))
 
 pub returns-clause-spares : goal.returns-clause-spares
 returns-clause-spares g c =
-    spares_found deliveries_select deliveries_select_bare _ (state g.S.Store c.args.tx.now.conn.now) (state g.S.Store c.query_all.new.self.conn.now) _ (λ clean. c.in_ok-rows.ensures.ok clean) c.query_all.ensures.survives
+    spares_found deliveries_select deliveries_select_bare _ (state g.S.Store c.args.tx.now.conn.now)
+    (state g.S.Store c.query_all.new.self.conn.now) _
+    (λ clean. c.in_ok-rows.ensures.ok clean) c.query_all.ensures.survives
 
 pub returns-in_err-rows-clause-spares : goal.returns-in_err-rows-clause-spares
 returns-in_err-rows-clause-spares g c =
-    spares_failed deliveries_select deliveries_select_bare _ (state g.S.Store c.args.tx.now.conn.now) (state g.S.Store c.query_all.new.self.conn.now) _ (λ clean. c.in_err-rows.ensures.err clean) c.query_all.ensures.survives
+    spares_failed deliveries_select deliveries_select_bare _ (state g.S.Store c.args.tx.now.conn.now)
+    (state g.S.Store c.query_all.new.self.conn.now) _ (λ clean. c.in_err-rows.ensures.err clean)
+    c.query_all.ensures.survives
 
 pub returns-in_err-rows-clause-refused : goal.returns-in_err-rows-clause-refused
 returns-in_err-rows-clause-refused g c clean =
@@ -43,4 +50,7 @@ returns-clause-refused g c clean =
     let a = state g.S.Store c.args.tx.now.conn.now in
     let b = state g.S.Store c.query_all.new.self.conn.now in
     err_then c.read_deliveries.result _ (λ e. (rows : Rows) → IsTables a.now rows → AreReadable rows → IsRowRefusal a b e) c.read_deliveries.ensures.refused
-    (λ e memory rows t readable. row_memory a b e (memory (rw c.deref.ensures.value (shows_deliveries a b _ rows t c.args.from (rw c.value.ensures.value at (c.in_ok-rows.ensures.ok clean)) readable))))
+    (λ e memory rows t readable. row_memory a b e
+    (memory (rw c.deref.ensures.value
+    (shows_deliveries a b _ rows t c.args.from (rw c.value.ensures.value at (c.in_ok-rows.ensures.ok clean))
+    readable))))

@@ -16,21 +16,28 @@ use Rattle.spool_sql.proofs.read.select_secrets.Goals as goal
 
 pub returns-clause-unchanged : goal.returns-clause-unchanged
 returns-clause-unchanged g c clean =
-    ok_always c.read_secrets.result (unchanged_by secrets_select secrets_select_bare _ (state g.S.Store c.args.tx.now.conn.now) (state g.S.Store c.query_all.new.self.conn.now) _ (c.in_ok-rows.ensures.ok clean))
+    ok_always c.read_secrets.result
+    (unchanged_by secrets_select secrets_select_bare _ (state g.S.Store c.args.tx.now.conn.now)
+    (state g.S.Store c.query_all.new.self.conn.now) _ (c.in_ok-rows.ensures.ok clean))
 
 pub returns-clause-found : goal.returns-clause-found
 returns-clause-found g c clean =
     ok_then c.read_secrets.result _ _ c.read_secrets.ensures.value (λ found is rows t.
     subst (AreSecretsOf c.args.endpoint rows) (sym (is ∙ ap (map (λ (row : Row). bytes (column row 0))) c.deref.ensures.value))
-    (tells_secrets (state g.S.Store c.args.tx.now.conn.now) (state g.S.Store c.query_all.new.self.conn.now) c.in_ok-rows.rows.items rows t c.args.endpoint (rw c.value.ensures.value at (c.in_ok-rows.ensures.ok clean))))
+    (tells_secrets (state g.S.Store c.args.tx.now.conn.now) (state g.S.Store c.query_all.new.self.conn.now)
+    c.in_ok-rows.rows.items rows t c.args.endpoint (rw c.value.ensures.value at (c.in_ok-rows.ensures.ok clean))))
 
 pub returns-clause-spares : goal.returns-clause-spares
 returns-clause-spares g c =
-    spares_found secrets_select secrets_select_bare _ (state g.S.Store c.args.tx.now.conn.now) (state g.S.Store c.query_all.new.self.conn.now) _ (λ clean. c.in_ok-rows.ensures.ok clean) c.query_all.ensures.survives
+    spares_found secrets_select secrets_select_bare _ (state g.S.Store c.args.tx.now.conn.now)
+    (state g.S.Store c.query_all.new.self.conn.now) _
+    (λ clean. c.in_ok-rows.ensures.ok clean) c.query_all.ensures.survives
 
 pub returns-in_err-rows-clause-spares : goal.returns-in_err-rows-clause-spares
 returns-in_err-rows-clause-spares g c =
-    spares_failed secrets_select secrets_select_bare _ (state g.S.Store c.args.tx.now.conn.now) (state g.S.Store c.query_all.new.self.conn.now) _ (λ clean. c.in_err-rows.ensures.err clean) c.query_all.ensures.survives
+    spares_failed secrets_select secrets_select_bare _ (state g.S.Store c.args.tx.now.conn.now)
+    (state g.S.Store c.query_all.new.self.conn.now) _ (λ clean. c.in_err-rows.ensures.err clean)
+    c.query_all.ensures.survives
 
 pub returns-in_err-rows-clause-refused : goal.returns-in_err-rows-clause-refused
 returns-in_err-rows-clause-refused g c clean =
@@ -44,4 +51,7 @@ returns-clause-refused g c clean =
     let a = state g.S.Store c.args.tx.now.conn.now in
     let b = state g.S.Store c.query_all.new.self.conn.now in
     err_then c.read_secrets.result _ (λ e. (rows : Rows) → IsTables a.now rows → AreReadable rows → IsRowRefusal a b e) c.read_secrets.ensures.refused
-    (λ e memory rows t readable. row_memory a b e (memory (rw c.deref.ensures.value (shows_secrets a b _ rows t c.args.endpoint (rw c.value.ensures.value at (c.in_ok-rows.ensures.ok clean)) readable))))
+    (λ e memory rows t readable. row_memory a b e
+    (memory (rw c.deref.ensures.value
+    (shows_secrets a b _ rows t c.args.endpoint (rw c.value.ensures.value at (c.in_ok-rows.ensures.ok clean))
+    readable))))

@@ -10,8 +10,26 @@ pub returns-clause-done : goal.returns-clause-done
 returns-clause-done g c clean inside =
     let old = state g.S.Store c.args.tx.now.conn.now in
     let new = state g.S.Store c.execute.new.self.conn.now in
-    let ran = rw (c.value.ensures.value, c.value-2.ensures.value, c.as_bytes.ensures.text, c.int.ensures, c.seconds.ensures.number, c.as_bytes-2.ensures.bytes) at (c.in_ok-execute.ensures.runs clean inside) in
-    record { on = ran.1; makes = makes_delivery old new (record { seq = c.args.seq; endpoint = c.args.endpoint; id = c.args.id.now; at = c.args.at; body = c.args.body.now }) c.in_ok-execute.field-0 ran.0 }
+    let ran = rw (
+      c.value.ensures.value,
+      c.value-2.ensures.value,
+      c.as_bytes.ensures.text,
+      c.int.ensures,
+      c.seconds.ensures.number,
+      c.as_bytes-2.ensures.bytes,
+    ) at (c.in_ok-execute.ensures.runs clean inside) in
+    record {
+      on = ran.1;
+      makes =
+          makes_delivery old new (record {
+            seq = c.args.seq;
+            endpoint = c.args.endpoint;
+            id = c.args.id.now;
+            at =
+                c.args.at;
+            body = c.args.body.now;
+          }) c.in_ok-execute.field-0 ran.0;
+    }
 
 pub returns-in_err-execute-clause-refused : goal.returns-in_err-execute-clause-refused
 returns-in_err-execute-clause-refused g c clean inside =

@@ -10,8 +10,19 @@ pub returns-clause-done : goal.returns-clause-done
 returns-clause-done g c clean inside =
     let old = state g.S.Store c.args.tx.now.conn.now in
     let new = state g.S.Store c.execute.new.self.conn.now in
-    let ran = rw (c.value.ensures.value, c.as_bytes.ensures.text, c.as_bytes-2.ensures.text, c.int.ensures, c.from.ensures, c.get.ensures.number) at (c.in_ok-execute.ensures.runs clean inside) in
-    record { on = ran.1; makes = makes_endpoint old new c.args.put c.args.name.now c.args.target.now c.args.max c.in_ok-execute.field-0 ran.0 }
+    let ran = rw (
+      c.value.ensures.value,
+      c.as_bytes.ensures.text,
+      c.as_bytes-2.ensures.text,
+      c.int.ensures,
+      c.from.ensures,
+      c.get.ensures.number,
+    ) at (c.in_ok-execute.ensures.runs clean inside) in
+    record {
+      on = ran.1;
+      makes =
+          makes_endpoint old new c.args.put c.args.name.now c.args.target.now c.args.max c.in_ok-execute.field-0 ran.0;
+    }
 
 pub returns-in_err-execute-clause-refused : goal.returns-in_err-execute-clause-refused
 returns-in_err-execute-clause-refused g c clean inside =

@@ -25,7 +25,8 @@ insert-requires-clause-place c =
     let held = c.index_mut-lane.result.now in
     let at = c.in-Some.ensures ∙ ap (position (is_of c.args.endpoint)) c.deref.ensures.value in
     let is = c.index_mut-lane.ensures.value in
-    subst (λ n. 0 < n) (free_at lanes c.args.endpoint held (lane_at lanes c.args.endpoint c.in-Some.place held at is).0) (subst (λ q. 0 < free_places q c.args.endpoint) (sym c.self.view_is) c.requires.place)
+    subst (λ n. 0 < n) (free_at lanes c.args.endpoint held (lane_at lanes c.args.endpoint c.in-Some.place held at is).0)
+    (subst (λ q. 0 < free_places q c.args.endpoint) (sym c.self.view_is) c.requires.place)
 
 pub insert-requires-clause-unheld : goal.insert-requires-clause-unheld
 insert-requires-clause-unheld c =
@@ -33,7 +34,9 @@ insert-requires-clause-unheld c =
     let held = c.index_mut-lane.result.now in
     let at = c.in-Some.ensures ∙ ap (position (is_of c.args.endpoint)) c.deref.ensures.value in
     let is = c.index_mut-lane.ensures.value in
-    none_in lanes c.in-Some.place held c.args.seq (none_has lanes c.args.seq (subst (λ q. IsNew q c.args.seq) (sym c.self.view_is) c.requires.unheld)) is (lane_at lanes c.args.endpoint c.in-Some.place held at is).1
+    none_in lanes c.in-Some.place held c.args.seq
+    (none_has lanes c.args.seq (subst (λ q. IsNew q c.args.seq) (sym c.self.view_is) c.requires.unheld)) is
+    (lane_at lanes c.args.endpoint c.in-Some.place held at is).1
 
 pub renew-requires-clause-held : goal.renew-requires-clause-held
 renew-requires-clause-held c =
@@ -49,7 +52,10 @@ renew-requires-clause-unheld c =
     let held = c.index_mut-lane.result.now in
     let at = c.in-Some.ensures ∙ ap (position (is_of c.args.endpoint)) c.deref.ensures.value in
     let is = c.index_mut-lane.ensures.value in
-    own_held lanes c.self.inside.firsts.items _ _ c.args.endpoint held c.insert.new.self c.self.invariant (lane_at lanes c.args.endpoint c.in-Some.place held at is).0 (ap (λ (m : Mark). m.endpoint) c.insert.ensures.mark) c.first-before.result c.first-after.result c.first-before.ensures c.first-after.ensures
+    own_held lanes c.self.inside.firsts.items _ _ c.args.endpoint held c.insert.new.self c.self.invariant
+    (lane_at lanes c.args.endpoint c.in-Some.place held at is).0
+    (ap (λ (m : Mark). m.endpoint) c.insert.ensures.mark) c.first-before.result c.first-after.result
+    c.first-before.ensures c.first-after.ensures
 
 pub invariant_of-self : goal.invariant_of-self
 invariant_of-self c =
@@ -58,7 +64,9 @@ invariant_of-self c =
     let at = c.in-Some.ensures ∙ ap (position (is_of c.args.endpoint)) c.deref.ensures.value in
     let is = c.index_mut-lane.ensures.value in
     renewed lanes c.self.inside.firsts.items _ _ c.args.endpoint c.in-Some.place held c.insert.new.self c.renew.new.firsts.items _ _ c.first-before.result c.first-after.result
-    c.self.invariant at is (ap (λ (m : Mark). m.endpoint) c.insert.ensures.mark) c.insert.ensures.sound c.first-before.ensures c.first-after.ensures c.renew.ensures.order c.renew.ensures.pairs c.renew.ensures.len c.renew.ensures.capacity
+    c.self.invariant at is (ap (λ (m : Mark). m.endpoint) c.insert.ensures.mark) c.insert.ensures.sound
+    c.first-before.ensures c.first-after.ensures c.renew.ensures.order c.renew.ensures.pairs c.renew.ensures.len
+    c.renew.ensures.capacity
 
 pub returns-in-Some-clause-pairs : goal.returns-in-Some-clause-pairs
 returns-in-Some-clause-pairs c =
@@ -67,7 +75,9 @@ returns-in-Some-clause-pairs c =
     let at = c.in-Some.ensures ∙ ap (position (is_of c.args.endpoint)) c.deref.ensures.value in
     let is = c.index_mut-lane.ensures.value in
     subst (λ q. Gains q (queue_of (slice_set lanes c.in-Some.place c.insert.new.self)) (pair_of c.args.endpoint c.args.due c.args.seq)) c.self.view_is
-    (now_held lanes c.args.endpoint c.in-Some.place held c.insert.new.self (record { due = c.args.due; seq = c.args.seq }) (λ a b. a || b) c.self.invariant.apart at is (ap (λ (m : Mark). m.endpoint) c.insert.ensures.mark) or_none c.insert.ensures.turns)
+    (now_held lanes c.args.endpoint c.in-Some.place held c.insert.new.self
+    (record { due = c.args.due; seq = c.args.seq }) (λ a b. a || b) c.self.invariant.apart at is
+    (ap (λ (m : Mark). m.endpoint) c.insert.ensures.mark) or_none c.insert.ensures.turns)
 
 pub returns-in-Some-clause-mark : goal.returns-in-Some-clause-mark
 returns-in-Some-clause-mark c =

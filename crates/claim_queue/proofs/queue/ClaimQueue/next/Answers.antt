@@ -27,8 +27,12 @@ returns-in_default-clause-none c =
     let firsts = c.self.inside.firsts.items in
     subst (λ q. (false ≡ false → NothingIsReady q c.args.now) × (NothingIsReady q c.args.now → false ≡ false)) c.self.view_is (
       λ h. elim c.in_default.branch [
-        | in_default-via-in-Some+else-pair-now w ↦ none_due lanes firsts _ _ c.args.now w.in-Some.pair.now c.self.invariant (sym (w.in-Some.ensures.value ∙ ap (λ pairs. slice_get pairs 0) c.deref.ensures.value)) w.if-pair-now.false
-        | in_default-via-in_default w ↦ none_first lanes firsts _ _ c.args.now c.self.invariant (sym (sym (ap option_copied w.in_default.is) ∙ c.first.ensures.value ∙ ap (λ pairs. slice_get pairs 0) c.deref.ensures.value))
+        | in_default-via-in-Some+else-pair-now w ↦ none_due lanes firsts _ _ c.args.now w.in-Some.pair.now
+            c.self.invariant (sym (w.in-Some.ensures.value ∙ ap (λ pairs. slice_get pairs 0) c.deref.ensures.value))
+            w.if-pair-now.false
+        | in_default-via-in_default w ↦ none_first lanes firsts _ _ c.args.now c.self.invariant
+            (sym (sym (ap option_copied w.in_default.is) ∙ c.first.ensures.value
+            ∙ ap (λ pairs. slice_get pairs 0) c.deref.ensures.value))
       ],
       λ none. refl,
     )

@@ -25,7 +25,9 @@ remove-requires-clause-held c =
     let held = c.index_mut-lane.result.now in
     let at = c.in-Some.ensures ∙ ap (position (is_of c.args.endpoint)) c.deref.ensures.value in
     let is = c.index_mut-lane.ensures.value in
-    sym (held_in lanes held (pair_of c.args.endpoint c.args.due c.args.seq) c.self.invariant.apart (lane_at lanes c.args.endpoint c.in-Some.place held at is).0) ∙ ap (λ q. is_held q (pair_of c.args.endpoint c.args.due c.args.seq)) c.self.view_is ∙ c.requires.held
+    sym (held_in lanes held (pair_of c.args.endpoint c.args.due c.args.seq) c.self.invariant.apart
+    (lane_at lanes c.args.endpoint c.in-Some.place held at is).0)
+    ∙ ap (λ q. is_held q (pair_of c.args.endpoint c.args.due c.args.seq)) c.self.view_is ∙ c.requires.held
 
 pub renew-requires-clause-held : goal.renew-requires-clause-held
 renew-requires-clause-held c =
@@ -41,7 +43,10 @@ renew-requires-clause-unheld c =
     let held = c.index_mut-lane.result.now in
     let at = c.in-Some.ensures ∙ ap (position (is_of c.args.endpoint)) c.deref.ensures.value in
     let is = c.index_mut-lane.ensures.value in
-    own_held lanes c.self.inside.firsts.items _ _ c.args.endpoint held c.remove.new.self c.self.invariant (lane_at lanes c.args.endpoint c.in-Some.place held at is).0 (ap (λ (m : Mark). m.endpoint) c.remove.ensures.mark) c.first-before.result c.first-after.result c.first-before.ensures c.first-after.ensures
+    own_held lanes c.self.inside.firsts.items _ _ c.args.endpoint held c.remove.new.self c.self.invariant
+    (lane_at lanes c.args.endpoint c.in-Some.place held at is).0
+    (ap (λ (m : Mark). m.endpoint) c.remove.ensures.mark) c.first-before.result c.first-after.result
+    c.first-before.ensures c.first-after.ensures
 
 pub invariant_of-self : goal.invariant_of-self
 invariant_of-self c =
@@ -50,7 +55,9 @@ invariant_of-self c =
     let at = c.in-Some.ensures ∙ ap (position (is_of c.args.endpoint)) c.deref.ensures.value in
     let is = c.index_mut-lane.ensures.value in
     renewed lanes c.self.inside.firsts.items _ _ c.args.endpoint c.in-Some.place held c.remove.new.self c.renew.new.firsts.items _ _ c.first-before.result c.first-after.result
-    c.self.invariant at is (ap (λ (m : Mark). m.endpoint) c.remove.ensures.mark) c.remove.ensures.sound c.first-before.ensures c.first-after.ensures c.renew.ensures.order c.renew.ensures.pairs c.renew.ensures.len c.renew.ensures.capacity
+    c.self.invariant at is (ap (λ (m : Mark). m.endpoint) c.remove.ensures.mark) c.remove.ensures.sound
+    c.first-before.ensures c.first-after.ensures c.renew.ensures.order c.renew.ensures.pairs c.renew.ensures.len
+    c.renew.ensures.capacity
 
 pub returns-in-Some-clause-pairs : goal.returns-in-Some-clause-pairs
 returns-in-Some-clause-pairs c =
@@ -59,7 +66,9 @@ returns-in-Some-clause-pairs c =
     let at = c.in-Some.ensures ∙ ap (position (is_of c.args.endpoint)) c.deref.ensures.value in
     let is = c.index_mut-lane.ensures.value in
     subst (λ q. Loses q (queue_of (slice_set lanes c.in-Some.place c.remove.new.self)) (pair_of c.args.endpoint c.args.due c.args.seq)) c.self.view_is
-    (now_held lanes c.args.endpoint c.in-Some.place held c.remove.new.self (record { due = c.args.due; seq = c.args.seq }) (λ a b. a && not b) c.self.invariant.apart at is (ap (λ (m : Mark). m.endpoint) c.remove.ensures.mark) and_all c.remove.ensures.turns)
+    (now_held lanes c.args.endpoint c.in-Some.place held c.remove.new.self
+    (record { due = c.args.due; seq = c.args.seq }) (λ a b. a && not b) c.self.invariant.apart at is
+    (ap (λ (m : Mark). m.endpoint) c.remove.ensures.mark) and_all c.remove.ensures.turns)
 
 pub returns-in-Some-clause-mark : goal.returns-in-Some-clause-mark
 returns-in-Some-clause-mark c =
@@ -85,4 +94,6 @@ pub returns-in_default : goal.returns-in_default
 returns-in_default c =
     let lanes = c.self.inside.lanes.items in
     let none = none_at lanes c.args.endpoint (sym c.in_default.is ∙ c.place_of.ensures ∙ ap (position (is_of c.args.endpoint)) c.deref.ensures.value) in
-    absurd (let clash = sym (held_in_none lanes (pair_of c.args.endpoint c.args.due c.args.seq) c.self.invariant.apart none) ∙ ap (λ q. is_held q (pair_of c.args.endpoint c.args.due c.args.seq)) c.self.view_is ∙ c.requires.held in cc)
+    absurd (let clash =
+    sym (held_in_none lanes (pair_of c.args.endpoint c.args.due c.args.seq) c.self.invariant.apart none)
+    ∙ ap (λ q. is_held q (pair_of c.args.endpoint c.args.due c.args.seq)) c.self.view_is ∙ c.requires.held in cc)

@@ -23,7 +23,8 @@ invariant_of-self c =
     let held = c.index_mut.result.now in
     let at = c.in-Some.ensures ∙ ap (position (is_of c.args.endpoint)) c.deref.ensures.value in
     let is = c.index_mut.ensures.value in
-    kept lanes c.self.inside.firsts.items _ _ c.args.endpoint c.in-Some.place held c.reserve.new.self c.self.invariant at is c.reserve.ensures.sound c.reserve.ensures.endpoint c.reserve.ensures.room c.reserve.ensures.turns
+    kept lanes c.self.inside.firsts.items _ _ c.args.endpoint c.in-Some.place held c.reserve.new.self c.self.invariant
+    at is c.reserve.ensures.sound c.reserve.ensures.endpoint c.reserve.ensures.room c.reserve.ensures.turns
 
 pub returns-in-Some-clause-pairs : goal.returns-in-Some-clause-pairs
 returns-in-Some-clause-pairs c =
@@ -32,7 +33,9 @@ returns-in-Some-clause-pairs c =
     let at = c.in-Some.ensures ∙ ap (position (is_of c.args.endpoint)) c.deref.ensures.value in
     let is = c.index_mut.ensures.value in
     on_ok_weaker c.reserve.result (λ _. subst (λ q. HasSamePairs q (queue_of (slice_set lanes c.in-Some.place c.reserve.new.self))) c.self.view_is
-    (λ pair. same_pairs lanes c.in-Some.place held c.reserve.new.self pair is (lane_at lanes c.args.endpoint c.in-Some.place held at is).1 c.reserve.ensures.endpoint c.reserve.ensures.turns)) c.reserve.ensures.mark
+    (λ pair. same_pairs lanes c.in-Some.place held c.reserve.new.self pair is
+    (lane_at lanes c.args.endpoint c.in-Some.place held at is).1 c.reserve.ensures.endpoint
+    c.reserve.ensures.turns)) c.reserve.ensures.mark
 
 pub returns-in-Some-clause-mark : goal.returns-in-Some-clause-mark
 returns-in-Some-clause-mark c =
@@ -49,7 +52,12 @@ returns-in-Some-clause-enough c =
     let held = c.index_mut.result.now in
     let at = c.in-Some.ensures ∙ ap (position (is_of c.args.endpoint)) c.deref.ensures.value in
     let is = c.index_mut.ensures.value in
-    λ h. c.reserve.ensures.enough (omega (arith, h.free, ap (λ q. free_places q c.args.endpoint) c.self.view_is, free_at lanes c.args.endpoint held (lane_at lanes c.args.endpoint c.in-Some.place held at is).0))
+    λ h. c.reserve.ensures.enough (omega (
+      arith,
+      h.free,
+      ap (λ q. free_places q c.args.endpoint) c.self.view_is,
+      free_at lanes c.args.endpoint held (lane_at lanes c.args.endpoint c.in-Some.place held at is).0,
+    ))
 
 pub returns-in-Some-clause-err : goal.returns-in-Some-clause-err
 returns-in-Some-clause-err c =
@@ -57,7 +65,9 @@ returns-in-Some-clause-err c =
     let held = c.index_mut.result.now in
     let at = c.in-Some.ensures ∙ ap (position (is_of c.args.endpoint)) c.deref.ensures.value in
     let is = c.index_mut.ensures.value in
-    on_err_weaker c.reserve.result (λ same. seen_the_same lanes c.in-Some.place held c.reserve.new.self is (lane_at lanes c.args.endpoint c.in-Some.place held at is).1 same c.reserve.ensures.turns ∙ c.self.view_is) c.reserve.ensures.err
+    on_err_weaker c.reserve.result (λ same. seen_the_same lanes c.in-Some.place held c.reserve.new.self is
+    (lane_at lanes c.args.endpoint c.in-Some.place held at is).1 same c.reserve.ensures.turns
+    ∙ c.self.view_is) c.reserve.ensures.err
 
 pub returns-in_err-reserve-clause-enough : goal.returns-in_err-reserve-clause-enough
 returns-in_err-reserve-clause-enough c =

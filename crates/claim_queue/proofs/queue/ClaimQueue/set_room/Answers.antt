@@ -21,7 +21,10 @@ renew-requires-clause-unheld c =
     let held = c.index_mut-lane.result.now in
     let at = c.in-Some.ensures ∙ ap (position (is_of c.args.endpoint)) c.deref.ensures.value in
     let is = c.index_mut-lane.ensures.value in
-    own_held lanes c.self.inside.firsts.items _ _ c.args.endpoint held (record held { mark = with_room c.args.room held.mark }) c.self.invariant (lane_at lanes c.args.endpoint c.in-Some.place held at is).0 refl c.first-before.result c.first-after.result c.first-before.ensures c.first-after.ensures
+    own_held lanes c.self.inside.firsts.items _ _ c.args.endpoint held
+    (record held { mark = with_room c.args.room held.mark }) c.self.invariant
+    (lane_at lanes c.args.endpoint c.in-Some.place held at is).0 refl c.first-before.result c.first-after.result
+    c.first-before.ensures c.first-after.ensures
 
 pub invariant_of-self : goal.invariant_of-self
 invariant_of-self c =
@@ -32,7 +35,8 @@ invariant_of-self c =
     let new : Lane = record held { mark = with_room c.args.room held.mark } in
     let sound = c.self.invariant.sound c.args.endpoint held (lane_at lanes c.args.endpoint c.in-Some.place held at is).0 in
     renewed lanes c.self.inside.firsts.items _ _ c.args.endpoint c.in-Some.place held new c.renew.new.firsts.items _ _ c.first-before.result c.first-after.result
-    c.self.invariant at is refl (record { order = sound.order; within = sound.within }) c.first-before.ensures c.first-after.ensures c.renew.ensures.order c.renew.ensures.pairs c.renew.ensures.len c.renew.ensures.capacity
+    c.self.invariant at is refl (record { order = sound.order; within = sound.within }) c.first-before.ensures
+    c.first-after.ensures c.renew.ensures.order c.renew.ensures.pairs c.renew.ensures.len c.renew.ensures.capacity
 
 pub returns-in-Some-clause-pairs : goal.returns-in-Some-clause-pairs
 returns-in-Some-clause-pairs c =

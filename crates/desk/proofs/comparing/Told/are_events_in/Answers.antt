@@ -18,5 +18,7 @@ pub returns-clause-same : goal.returns-clause-same
 returns-clause-same c = λ done name id known.
     let entries = c.args.self.now.deliveries.now.entries in
     event_among (SameEvent c.args.self.now c.args.other.now) entries name id
-    (subst (AllByRecursion (λ (e : Entry). SameEvent c.args.self.now c.args.other.now e.name e.id)) (take_all c.loop-place.place entries (omega (arith, c.loop-place-test.false, c.len-place-end.ensures.count))) c.loop-place.invariant.same)
+    (subst (AllByRecursion (λ (e : Entry). SameEvent c.args.self.now c.args.other.now e.name e.id))
+    (take_all c.loop-place.place entries (omega (arith, c.loop-place-test.false, c.len-place-end.ensures.count)))
+    c.loop-place.invariant.same)
     (found_known (λ (e : Entry). e.seq) (find (is_entry_as name id) entries) known)

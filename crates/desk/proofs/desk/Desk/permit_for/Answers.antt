@@ -42,5 +42,7 @@ invariant_of-self g c =
     (starts_from c.args.endpoint c.args.delivery c.self.view_is c.requires.ready)
     (subst (λ (v : DeskValue). record_count v.waiting + length v.live < MAX_RECORDS) (sym c.self.view_is) c.requires.room)
     c.in-Ok.ensures.ok c.let_go.ensures.pair c.let_go.ensures.places c.tell_room.ensures.pairs
-    (subst (λ (limiters : List Limiter). ChangesMark c.let_go.new.queue c.tell_room.new.queue c.args.endpoint (with_room (room_by c.self.inside.endpoints limiters c.acquire.new.self c.args.endpoint))) c.deref-2.ensures.value
+    (subst (λ (limiters : List Limiter). ChangesMark c.let_go.new.queue c.tell_room.new.queue c.args.endpoint
+    (with_room (room_by c.self.inside.endpoints limiters c.acquire.new.self c.args.endpoint)))
+    c.deref-2.ensures.value
     c.tell_room.ensures.mark)

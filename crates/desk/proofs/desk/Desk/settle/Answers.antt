@@ -8,7 +8,9 @@ use Rattle.desk.proofs.desk.Desk.settle.Goals as goal
 
 pub returns-in_err-settled-clause-moves : goal.returns-in_err-settled-clause-moves
 returns-in_err-settled-clause-moves g c =
-    comes_back c.self.view_is c.settle.new.self (waiting.IsReceiptOf c.self.inside.waiting c.args.receipt) (λ v w. IsReceiptOf v.waiting.mark w c.args.receipt) with_sealed_settled c.from_residual.result c.from_residual.ensures.0
+    comes_back c.self.view_is c.settle.new.self (waiting.IsReceiptOf c.self.inside.waiting c.args.receipt)
+    (λ v w. IsReceiptOf v.waiting.mark w c.args.receipt) with_sealed_settled c.from_residual.result
+    c.from_residual.ensures.0
     (λ w h. receipt_is c.args.receipt h) (λ is. let wrong : false ≡ true = c.in_err-settled.ensures.turn.1 is in cc) c.in_err-settled.ensures.err
 
 pub settle_to-requires-2 : goal.settle_to-requires-2

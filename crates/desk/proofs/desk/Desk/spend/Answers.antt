@@ -19,7 +19,9 @@ module _ (g : Over) (c : In_ok-row g) where
   old = the_view (param 0 g.row.L) g.L.Ledger c.self.inside
 
   back : IsReturned c.in_ok-row.row old.live c.give_back.new.self
-  back = back_from c.in_ok-row.row c.args.permit old.live c.give_back.new.self c.in_ok-row.ensures.returned (λ none. let no : false ≡ true = c.in_ok-row.ensures.foreign.1 none in cc) c.in_ok-row.ensures.ok c.self.invariant.tied.queued.under_way.once
+  back = back_from c.in_ok-row.row c.args.permit old.live c.give_back.new.self c.in_ok-row.ensures.returned
+      (λ none. let no : false ≡ true = c.in_ok-row.ensures.foreign.1 none in cc) c.in_ok-row.ensures.ok
+      c.self.invariant.tied.queued.under_way.once
 
   live : IsLive old c.in_ok-row.row c.give_back.new.self
   live = is_live old c.self.inside.queue c.in_ok-row.row c.give_back.new.self c.self.invariant.tied back
@@ -47,7 +49,15 @@ module _ (g : Over) (c : After-limit_of-limit g) where
             let stage = w.stage_status-staged in
             told_over d new row rest c.args.post c.moment-at.result c.if-self.staged c.judge-status.result.1 stage.new.endpoints stage.new.deliveries stage.new.waiting w.sample.new.limiters
             w.if-self.false
-            (ap view w.self-inside-is ∙ ap (λ (ls : List Limiter). record d { clock = c.moment-at.result; endpoints = stage.new.endpoints; deliveries = stage.new.deliveries; waiting = stage.new.waiting; live = rest; limiters = ls })
+            (ap view w.self-inside-is
+            ∙ ap (λ (ls : List Limiter). record d {
+              clock = c.moment-at.result;
+              endpoints = stage.new.endpoints;
+              deliveries = stage.new.deliveries;
+              waiting = stage.new.waiting;
+              live = rest;
+              limiters = ls;
+            })
             (written (vec_len c.self.inside.limiters) w.deref_mut.result.now w.sample.new.limiters c.self.inside.limiters.items row c.args.post w.sample.ensures w.deref_mut.ensures.len))
             (subst (λ (ls : List Limiter). AreSampled ls w.sample.new.limiters row c.args.post) w.deref_mut.ensures.value w.sample.ensures)
             c.judge-status.ensures.status stage.ensures.some stage.ensures.none (w.staged-is ∙ stage.ensures.staged)
@@ -68,17 +78,22 @@ module _ (g : Over) (c : After-tell_room g) where
       let m = new g at.After-limit_of-limit in
       is_desk_left (old g at.In_ok-row) m c.self.inside.queue c.hold.new.queue c.tell_room.new.queue c.in_ok-row.row c.give_back.new.self c.args.post c.moment-at.result c.if-self.staged
       c.self.invariant (back g at.In_ok-row) (over g at.After-limit_of-limit) (holds g at.After-hold) c.hold.ensures.places c.tell_room.ensures.pairs
-      (subst (λ (ls : List Limiter). ChangesMark c.hold.new.queue c.tell_room.new.queue c.in_ok-row.row.endpoint (with_room (room_by m.endpoints ls m.live c.in_ok-row.row.endpoint))) c.deref-2.ensures.value c.tell_room.ensures.mark)
+      (subst (λ (ls : List Limiter). ChangesMark c.hold.new.queue c.tell_room.new.queue c.in_ok-row.row.endpoint
+      (with_room (room_by m.endpoints ls m.live c.in_ok-row.row.endpoint))) c.deref-2.ensures.value
+      c.tell_room.ensures.mark)
 
 pub returns-in_err-row-clause-moves : goal.returns-in_err-row-clause-moves
 returns-in_err-row-clause-moves g c =
-    foreign_spends c.self.view_is c.args.permit c.args.post c.args.now c.from_residual.result c.give_back.new.self c.from_residual.ensures.0 c.in_err-row.ensures.err (c.in_err-row.ensures.foreign.0 refl)
+    foreign_spends c.self.view_is c.args.permit c.args.post c.args.now c.from_residual.result c.give_back.new.self
+    c.from_residual.ensures.0 c.in_err-row.ensures.err (c.in_err-row.ensures.foreign.0 refl)
 
 pub sample-requires-clause-known : goal.sample-requires-clause-known
 sample-requires-clause-known g c =
     let at = (goal.at.sample-requires-clause-known g c).In_ok-row in
     let d = old g at in
-    limiter_known c.deref_mut.result.now d.endpoints c.in_ok-row.row.endpoint (subst (λ (ls : List Limiter). AreLimiters ls d.endpoints) (sym c.deref_mut.ensures.value) c.self.invariant.tied.limited) (live g at).known
+    limiter_known c.deref_mut.result.now d.endpoints c.in_ok-row.row.endpoint
+    (subst (λ (ls : List Limiter). AreLimiters ls d.endpoints)
+    (sym c.deref_mut.ensures.value) c.self.invariant.tied.limited) (live g at).known
 
 pub stage_status-staged-requires-clause-ready : goal.stage_status-staged-requires-clause-ready
 stage_status-staged-requires-clause-ready g c =
@@ -101,7 +116,8 @@ hold-requires-clause-places g c =
 pub tell_room-requires : goal.tell_room-requires
 tell_room-requires g c =
     let at = goal.at.tell_room-requires g c in
-    reserved_left (old g at.In_ok-row) (new g at.After-limit_of-limit) c.self.inside.queue c.hold.new.queue c.in_ok-row.row c.give_back.new.self c.self.invariant (back g at.In_ok-row) (holds g at.After-hold)
+    reserved_left (old g at.In_ok-row) (new g at.After-limit_of-limit) c.self.inside.queue c.hold.new.queue
+    c.in_ok-row.row c.give_back.new.self c.self.invariant (back g at.In_ok-row) (holds g at.After-hold)
 
 pub invariant_of-self-2 : goal.invariant_of-self-2
 invariant_of-self-2 g c = after g (goal.at.invariant_of-self-2 g c).After-tell_room
@@ -110,7 +126,9 @@ pub returns-clause-moves : goal.returns-clause-moves
 returns-clause-moves g c =
     let moment_is : IsTrue (is_moment c.moment-at.result) = search (rules, c.moment-at.type_inv) in
     let at = goal.at.returns-clause-moves g c in
-    spends (old g at.In_ok-row) c.args.self.now c.self.view_is (new g at.After-limit_of-limit) c.self.inside.queue c.tell_room.new.queue c.in_ok-row.row c.args.permit c.give_back.new.self c.args.post c.args.now c.moment-at.result
+    spends (old g at.In_ok-row) c.args.self.now c.self.view_is (new g at.After-limit_of-limit) c.self.inside.queue
+    c.tell_room.new.queue c.in_ok-row.row c.args.permit c.give_back.new.self c.args.post c.args.now
+    c.moment-at.result
     c.if-self.staged c.limit_of-limit.result c.in_flight.result c.is_exhausted.result
     c.self.invariant (back g at.In_ok-row) c.in_ok-row.ensures.returned (over g at.After-limit_of-limit) (after g at.After-tell_room)
     (c.moment-at.ensures ∙ ap (λ (v : DeskValue). max c.args.now v.clock) (sym c.self.view_is)) moment_is

@@ -5,7 +5,9 @@ use Rattle.desk.proofs.desk.Desk.stage_accept.Goals as goal
 
 pub invariant_of-self-2 : goal.invariant_of-self-2
 invariant_of-self-2 g c =
-    desk_accept c.records-seq.result c.args.name c.args.id _ c.args.body c.args.at c.pending-pending.result c.records-seq.ensures.count c.in_ok-kept.ensures c.in_ok-stage_accept.ensures.accepted c.push_request.ensures.staged
+    desk_accept c.records-seq.result c.args.name c.args.id _ c.args.body c.args.at c.pending-pending.result
+    c.records-seq.ensures.count c.in_ok-kept.ensures c.in_ok-stage_accept.ensures.accepted
+    c.push_request.ensures.staged
     c.pending-pending.ensures.value
     (omega (arith, c.requires.room, ap (λ (v : DeskValue). record_count v.waiting + length v.live) c.self.view_is))
     c.in_ok-reserve.ensures.pairs c.in_ok-reserve.ensures.mark c.self.invariant

@@ -12,12 +12,18 @@ pub invariant_of-self-2 : goal.invariant_of-self-2
 invariant_of-self-2 g c =
     desk_put c.reserve-2.new.self c.records-seq.result c.args.name _ c.args.target c.args.max c.args.secrets (new_limiter c.args.name c.args.max) c.records-seq.ensures.count
     c.in_ok-stage_put.ensures.put c.push_request.ensures.staged
-    (c.push_reserved.ensures.items ∙ ap (λ (ls : List Limiter). ls ++ record { endpoint = c.args.name; estimator = c.in_ok-estimator.estimator } ∷ []) c.in_ok-reserve.ensures.items ∙ ap (λ (l : Limiter). c.self.inside.limiters.items ++ l ∷ []) (limiter_is c.in_ok-estimator.estimator c.args.name c.args.max c.in_ok-estimator.ensures.maximum c.in_ok-estimator.ensures.empty c.in_ok-estimator.ensures.explains))
+    (c.push_reserved.ensures.items
+    ∙ ap (λ (ls : List Limiter). ls ++ record { endpoint = c.args.name; estimator = c.in_ok-estimator.estimator }
+    ∷ []) c.in_ok-reserve.ensures.items ∙ ap (λ (l : Limiter). c.self.inside.limiters.items ++ l ∷ [])
+    (limiter_is c.in_ok-estimator.estimator c.args.name c.args.max c.in_ok-estimator.ensures.maximum
+    c.in_ok-estimator.ensures.empty c.in_ok-estimator.ensures.explains))
     (λ i. (c.args.name, c.args.max))
     (omega (arith, c.requires.room, ap (λ (v : DeskValue). record_count v.waiting + length v.live) c.self.view_is))
     c.in_ok-kept.ensures (ap (λ (v : DeskValue). is_known v.endpoints c.args.name) c.self.view_is ∙ c.requires.unknown)
     c.in_ok-reserve-2.ensures.pairs c.in_ok-reserve-2.ensures.mark c.tell_room.ensures.pairs
-    (subst (λ ls. ChangesMark c.reserve-2.new.self c.tell_room.new.queue c.args.name (with_room (room_by c.stage_put.new.self ls c.self.inside.pool c.args.name))) c.deref.ensures.value c.tell_room.ensures.mark)
+    (subst (λ ls. ChangesMark c.reserve-2.new.self c.tell_room.new.queue c.args.name
+    (with_room (room_by c.stage_put.new.self ls c.self.inside.pool c.args.name))) c.deref.ensures.value
+    c.tell_room.ensures.mark)
     c.self.invariant
 
 pub invariant_of-self-in_err-stage_put : goal.invariant_of-self-in_err-stage_put
@@ -27,7 +33,18 @@ invariant_of-self-in_err-stage_put g c =
     (desk_reserved c.args.name 0 c.in_ok-reserve-2.ensures.pairs c.in_ok-reserve-2.ensures.mark c.self.invariant))
 
 pub returns-clause-staged : goal.returns-clause-staged
-returns-clause-staged g c = rw (c.push_request.ensures.staged, c.in_ok-stage_put.ensures.put, longer, c.in_ok-kept.ensures, c.records-seq.ensures.count) (ap (λ (v : DeskValue). with_put v c.args.name c.args.target c.args.max c.args.secrets) c.self.view_is)
+returns-clause-staged g c = rw (
+  c.push_request.ensures.staged,
+  c.in_ok-stage_put.ensures.put,
+  longer,
+  c.in_ok-kept.ensures,
+  c.records-seq.ensures.count,
+)
+    (ap (λ (v : DeskValue). with_put v c.args.name c.args.target c.args.max c.args.secrets) c.self.view_is)
   where
     longer : c.push_reserved.new.self.items ≡ c.self.inside.limiters.items ++ new_limiter c.args.name c.args.max ∷ []
-    longer = c.push_reserved.ensures.items ∙ ap (λ (ls : List Limiter). ls ++ record { endpoint = c.args.name; estimator = c.in_ok-estimator.estimator } ∷ []) c.in_ok-reserve.ensures.items ∙ ap (λ (l : Limiter). c.self.inside.limiters.items ++ l ∷ []) (limiter_is c.in_ok-estimator.estimator c.args.name c.args.max c.in_ok-estimator.ensures.maximum c.in_ok-estimator.ensures.empty c.in_ok-estimator.ensures.explains)
+    longer = c.push_reserved.ensures.items
+        ∙ ap (λ (ls : List Limiter). ls ++ record { endpoint = c.args.name; estimator = c.in_ok-estimator.estimator }
+        ∷ []) c.in_ok-reserve.ensures.items ∙ ap (λ (l : Limiter). c.self.inside.limiters.items ++ l ∷ [])
+        (limiter_is c.in_ok-estimator.estimator c.args.name c.args.max c.in_ok-estimator.ensures.maximum
+        c.in_ok-estimator.ensures.empty c.in_ok-estimator.ensures.explains)

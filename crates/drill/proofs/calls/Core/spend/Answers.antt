@@ -8,7 +8,9 @@ use Rattle.drill.proofs.calls.Core.spend.Goals as goal
 
 pub returns-in_default-clause-answers : goal.returns-in_default-clause-answers
 returns-in_default-clause-answers g c =
-    answers_no_permit c.args.self.now c.args.delivery c.args.now c.args.post (ap (position (λ row. row.delivery == c.args.delivery)) (sym c.deref.ensures.value) ∙ sym c.place_of.ensures ∙ c.in_default.is)
+    answers_no_permit c.args.self.now c.args.delivery c.args.now c.args.post
+    (ap (position (λ row. row.delivery == c.args.delivery)) (sym c.deref.ensures.value) ∙ sym c.place_of.ensures
+    ∙ c.in_default.is)
 
 pub unreachable-requires : goal.unreachable-requires
 unreachable-requires g c = ∥∥₁_elim c.requires (λ x y. absurd x) (λ (h : HoldsAll c.args.self.now).

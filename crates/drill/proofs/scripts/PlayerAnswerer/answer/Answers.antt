@@ -7,7 +7,18 @@ use Rattle.drill.proofs.scripts.PlayerAnswerer.answer.Goals as goal
 
 pub returns-in-Call-clause-answers : goal.returns-in-Call-clause-answers
 returns-in-Call-clause-answers g c = λ clean.
-    on_ok _ _ c.call.result (λ reply takes. (reply_text reply, refl, (Call c.in-Call.event, reply, subst (IsLine c.args.line.now) c.in-Call.is c.in_ok-event.ensures.stands, takes, refl))) (c.call.ensures.takes clean)
+    on_ok _ _ c.call.result
+    (λ reply takes. (
+      reply_text reply,
+      refl,
+      (
+        Call c.in-Call.event,
+        reply,
+        subst (IsLine c.args.line.now) c.in-Call.is c.in_ok-event.ensures.stands,
+        takes,
+        refl,
+      ),
+    )) (c.call.ensures.takes clean)
 
 pub returns-in-Stop-clause-answers : goal.returns-in-Stop-clause-answers
 returns-in-Stop-clause-answers g c = λ clean.

@@ -8,11 +8,15 @@ returns-clause-history g c clean =
     let old : VaultValue g.row.S.Denot = record { conn = c.self.inside.conn; mark = c.self.inside.mark; next = c.self.inside.next; closed = c.self.inside.closed } in
     let late = rw c.end_commit.ensures.conn at clean in
     let ended = rw (← c.end_commit.ensures.conn, c.steps.ensures.steps) at (c.write_steps-end.ensures.ends late) in
-    rw (← c.self.view_is, c.end_commit.ensures.answer) (leaves_history g.S.Store old c.end_commit.new.self c.args.batch c.write_steps-end.result (rw c.end_commit.ensures.answer at c.end_commit.ensures.next) ended)
+    rw (← c.self.view_is, c.end_commit.ensures.answer)
+    (leaves_history g.S.Store old c.end_commit.new.self c.args.batch c.write_steps-end.result
+    (rw c.end_commit.ensures.answer at c.end_commit.ensures.next) ended)
 
 pub returns-clause-rows : goal.returns-clause-rows
 returns-clause-rows g c clean =
-    rw c.end_commit.ensures.answer (leaves_rows g.S.Store c.args.self.now c.end_commit.new.self c.args.batch c.write_steps-end.result (rw c.end_commit.ensures.answer at (returns-clause-history g c clean)))
+    rw c.end_commit.ensures.answer
+    (leaves_rows g.S.Store c.args.self.now c.end_commit.new.self c.args.batch c.write_steps-end.result
+    (rw c.end_commit.ensures.answer at (returns-clause-history g c clean)))
 
 pub returns-clause-cause : goal.returns-clause-cause
 returns-clause-cause g c clean =

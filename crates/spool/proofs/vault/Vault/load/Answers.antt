@@ -12,7 +12,9 @@ returns-clause-history g c clean =
     let old : VaultValue g.row.S.Denot = record { conn = c.self.inside.conn; mark = c.self.inside.mark; next = c.self.inside.next; closed = c.self.inside.closed } in
     let new : VaultValue g.row.S.Denot = record { conn = c.load_books.new.conn; mark = c.self.inside.mark; next = c.self.inside.next; closed = c.self.inside.closed } in
     let read = c.load_books.ensures in
-    rw (← c.self.view_is) (leaves_held g.S.Store old new c.load_books.result read.tried (read.seen clean) (read.stays clean) read.survives clean refl (g.met.S.Store.settled old.conn.store) (g.met.S.Store.settled new.conn.store))
+    rw (← c.self.view_is) (leaves_held g.S.Store old new c.load_books.result read.tried (read.seen clean)
+    (read.stays clean) read.survives clean refl (g.met.S.Store.settled old.conn.store)
+    (g.met.S.Store.settled new.conn.store))
 
 pub returns-clause-read : goal.returns-clause-read
 returns-clause-read g c clean =
