@@ -14,6 +14,12 @@ PAGES = [ROOT / "README.md", ROOT / "CHANGELOG.md", *sorted((ROOT / "docs").glob
 TOOLS = ("bench", "docs", "gate", "memory", "script", "serve", "store")
 
 
+def read_crates():
+    """For each crate of crates.txt, the crates and libraries that it uses."""
+    lines = [it.split("#")[0] for it in (ROOT / "crates.txt").read_text().split("\n")]
+    return {head.split()[0]: used.split() for head, _, used in (it.partition(":") for it in lines) if head.strip()}
+
+
 def subcommands_of(tool):
     """The file of each subcommand of a tool, by its name."""
     files = sorted((SCRIPTS / "lib" / tool).iterdir())

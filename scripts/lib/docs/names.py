@@ -33,7 +33,7 @@ import pathlib
 import re
 import sys
 
-from lib.command import PAGES, ROOT, TOOLS, subcommands_of
+from lib.command import PAGES, ROOT, TOOLS, read_crates, subcommands_of
 
 SKIPPED = {".git", "out", "target", "__pycache__", "must-fail", "wrong", "wrong-by-tests"}
 PLACES = {"src", "specs", "proofs", "must-fail", "wrong", "wrong-by-tests", "out", "data"}
@@ -63,12 +63,6 @@ def uncommented(path, text):
     """The text without the comments of Rattle code."""
     mark = {".rt": "//", ".antt": "--"}.get(path.suffix)
     return re.sub(rf"(?m)(^|\s){mark}.*$", r"\1", text) if mark else text
-
-
-def read_crates():
-    """For each crate of crates.txt, the crates and libraries that it uses."""
-    lines = [it.split("#")[0] for it in (ROOT / "crates.txt").read_text().split("\n")]
-    return {head.split()[0]: used.split() for head, _, used in (it.partition(":") for it in lines) if head.strip()}
 
 
 def members_in(text):

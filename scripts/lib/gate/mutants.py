@@ -33,7 +33,7 @@ import sys
 import tempfile
 import time
 
-from lib.command import ROOT
+from lib.command import ROOT, read_crates
 from lib.gate.jobs import crates_at_once
 
 PARTS = ("src", "specs", "proofs")
@@ -348,8 +348,7 @@ def main():
     while words[:1] and words[0] in OPTIONS and words[1:] and words[1].isdigit():
         asked[words[0]], words = int(words[1]), words[2:]
     seconds, at_once, jobs = asked.values()
-    lines = [line.partition("#")[0] for line in (ROOT / "crates.txt").read_text().splitlines()]
-    listed = {head.split()[0]: libraries.split() for head, _, libraries in (it.partition(":") for it in lines) if head.split()}
+    listed = read_crates()
     has_any = [it for it in listed if any(any((ROOT / "crates" / it).glob(f"{part}/*.edit")) for part in FOLDERS)]
     names = words or has_any
     unknown = [it for it in names if it not in has_any]

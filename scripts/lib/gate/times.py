@@ -2,10 +2,12 @@
 
 For each crate, the slowest first: the time from the first to the last of its proof, of the proof of
 its tests and of its mutants, the processor time that they took, and that of compiling and running
-it. It looks at the processes that the gate started, twice a second, and changes nothing of what the
-gate does. Its exit status is the gate's. All times are in seconds.
+it. Then the longest chain of crates that wait for one another, by the time of their proofs. It
+looks at the processes that the gate started, twice a second, and changes nothing of what the gate
+does. Its exit status is the gate's. All times are in seconds.
 Usage: scripts/gate times
 """
+import functools
 import os
 import pathlib
 import re
@@ -14,7 +16,7 @@ import subprocess
 import threading
 import time
 
-from lib.command import ROOT
+from lib.command import ROOT, read_crates
 
 KINDS = ("proof", "tests", "edits", "runs")
 PAUSE = 0.5
@@ -118,6 +120,19 @@ def table(times, wall, processor):
     yield f"The gate took {wall / 60:.1f} minutes, and {processor / 60:.1f} of processor time, on {len(os.sched_getaffinity(0))} processors."
 
 
+def longest_chain(times):
+    """The crates that are proved one after another, the lowest first, and how long their proofs take."""
+    below = read_crates()
+
+    @functools.cache
+    def up_to(crate):
+        chains = [up_to(it) for it in below[crate] if it in below]
+        crates, seconds = max(chains, key=lambda it: it[1], default=((), 0))
+        return (*crates, crate), seconds + times.wall((crate, "proof"))
+
+    return max(map(up_to, below), key=lambda it: it[1])
+
+
 def main():
     os.chdir(ROOT)
     times = Times()
@@ -141,4 +156,6 @@ def main():
     print()
     for line in table(times, time.monotonic() - began, used.ru_utime + used.ru_stime):
         print(line)
+    crates, seconds = longest_chain(times)
+    print(f"The longest chain took {seconds / 60:.1f} minutes: {', '.join(crates)}.")
     return status if status >= 0 else 128 - status
