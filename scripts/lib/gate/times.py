@@ -157,5 +157,6 @@ def main():
     for line in table(times, time.monotonic() - began, used.ru_utime + used.ru_stime):
         print(line)
     crates, seconds = longest_chain(times)
-    print(f"The longest chain took {seconds / 60:.1f} minutes: {', '.join(crates)}.")
+    if seconds:
+        print(f"The longest chain took {seconds / 60:.1f} minutes: {', '.join(crates)}.")
     return status if status >= 0 else 128 - status
