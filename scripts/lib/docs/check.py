@@ -1,4 +1,4 @@
-"""Every example of the pages prints what they say; then `names` and `words`.
+"""Every example of the pages prints what they say; then `names`, `words` and `crates`.
 
 The pages are README.md, CHANGELOG.md and docs/*.md. An example is a block of a page, indented by four spaces or
 between fences, with a line that begins with `$ `. Such a line is a command. A line that ends in
@@ -30,7 +30,7 @@ from lib.serving import free_port
 SECONDS = 60
 MARK = "== example "
 TOPS = ["Makefile", "crates.txt", "docs", "misuse", "packaging", "scripts", "vectors"]
-CHECKS = ["names", "words"]
+CHECKS = ["names", "words", "crates"]
 
 
 def blocks_of(text):
