@@ -7,7 +7,7 @@ use Rattle.std.proofs.lemmas.Bool.{eq-eqb, ne_eqb, eqb-true, ltb-true, ltb-false
 use Rattle.std.proofs.lemmas.List.{append_assoc, take-append-le, drop-append-le, length-drop}
 use Rattle.std.proofs.lemmas.List.Elements.{filter_map-append}
 use Rattle.relay_types.specs.declared.record.Record.{Record}
-use Rattle.relay_types.specs.declared.record.Record.TheVariants.{Put, Secrets, Enabled, Accept, Outcome}
+use Rattle.relay_types.specs.declared.record.Record.TheVariants.{Put, Secrets, Enabled, Accept, Outcome, Subscribed}
 use Rattle.relay_types.specs.declared.state.State.TheVariants.{Pending}
 use Rattle.relay_types.specs.Records.{Accepted, Attempt, accepted_by, attempt_by, numbered}
 use Rattle.relay_types.specs.Deliveries.{accepted, attempts_of, is_in_state, is_pending, state_of}
@@ -51,6 +51,7 @@ no_attempt : (r : Record) → delivery_by r ≡ None → (d : ℕ) → attempt_b
 no_attempt (Put name target max secrets) h d = refl
 no_attempt (Secrets name secrets) h d = refl
 no_attempt (Enabled name flag) h d = refl
+no_attempt (Subscribed topic name flag) h d = refl
 no_attempt (Accept name id body at) h d = refl
 no_attempt (Outcome delivery attempt status at) h d = absurd (let e = h in cc)
 
@@ -137,6 +138,7 @@ others_accept : (r : Record) → IsTrue (is_other r) → accepted_by r ≡ None
 others_accept (Put name target max secrets) h = refl
 others_accept (Secrets name secrets) h = refl
 others_accept (Enabled name flag) h = refl
+others_accept (Subscribed topic name flag) h = refl
 others_accept (Accept name id body at) h = cc
 others_accept (Outcome delivery attempt status at) h = cc
 
@@ -144,6 +146,7 @@ others_end : (r : Record) → IsTrue (is_other r) → delivery_by r ≡ None
 others_end (Put name target max secrets) h = refl
 others_end (Secrets name secrets) h = refl
 others_end (Enabled name flag) h = refl
+others_end (Subscribed topic name flag) h = refl
 others_end (Accept name id body at) h = refl
 others_end (Outcome delivery attempt status at) h = cc
 
@@ -280,6 +283,7 @@ none_past records [] d known past = refl
 none_past records (Put name target max secrets ∷ rest) d known past = none_past records rest d known.1 past
 none_past records (Secrets name secrets ∷ rest) d known past = none_past records rest d known.1 past
 none_past records (Enabled name flag ∷ rest) d known past = none_past records rest d known.1 past
+none_past records (Subscribed topic name flag ∷ rest) d known past = none_past records rest d known.1 past
 none_past records (Accept name id body at ∷ rest) d known past = none_past records rest d known.1 past
 none_past records (Outcome delivery attempt status at ∷ rest) d known past =
     rw (ne_eqb delivery d (λ same. absurd (omega (arith, same, past, below_if_accepted records delivery known.0)))) (none_past records rest d known.1 past)

@@ -7,7 +7,7 @@ use Rattle.std.proofs.lemmas.Bool.{eq-eqb, eqb-true, ne_eqb, le-leb, leb-true, l
 use Rattle.std.proofs.lemmas.List.Elements.{filter-append, filter_map-append}
 use Rattle.std.proofs.lemmas.List.Folds.{find-append}
 use Rattle.relay_types.specs.declared.record.Record.{Record}
-use Rattle.relay_types.specs.declared.record.Record.TheVariants.{Put, Secrets, Enabled, Accept, Outcome}
+use Rattle.relay_types.specs.declared.record.Record.TheVariants.{Put, Secrets, Enabled, Accept, Outcome, Subscribed}
 use Rattle.relay_types.specs.Records.{Attempt, attempt_by}
 use Rattle.relay_types.specs.Deliveries.{attempts_of}
 use Rattle.relay_types.proofs.GrowthLaws.{attempts_of-snoc, enumerate_from-snoc}
@@ -40,6 +40,7 @@ pub waiting_other : (book : BookValue) (records : List Record) (entry : Record) 
 waiting_other book records (Put name target max secrets) other h = same_waiting book records (Put name target max secrets) refl refl (λ d. refl) h
 waiting_other book records (Secrets name secrets) other h = same_waiting book records (Secrets name secrets) refl refl (λ d. refl) h
 waiting_other book records (Enabled name flag) other h = same_waiting book records (Enabled name flag) refl refl (λ d. refl) h
+waiting_other book records (Subscribed topic name flag) other h = same_waiting book records (Subscribed topic name flag) refl refl (λ d. refl) h
 waiting_other book records (Accept name id body at) other h = let wrong : false ≡ true = other in cc
 waiting_other book records (Outcome delivery attempt status at) other h = let wrong : false ≡ true = other in cc
 
@@ -165,6 +166,7 @@ event_number n (Accept name id body at) e h = grind arith
 event_number n (Put name target max secrets) e h = let wrong : None ≡ Some e = h in cc
 event_number n (Secrets name secrets) e h = let wrong : None ≡ Some e = h in cc
 event_number n (Enabled name flag) e h = let wrong : None ≡ Some e = h in cc
+event_number n (Subscribed topic name flag) e h = let wrong : None ≡ Some e = h in cc
 event_number n (Outcome delivery attempt status at) e h = let wrong : None ≡ Some e = h in cc
 
 all_events : (n from : ℕ) (records : List Record) → from ≤ n → filter (is_from from) (events_from n records) ≡ events_from n records
@@ -192,6 +194,7 @@ settles_fresh outcomes n (Accept name id body at ∷ rest) = λ i. fresh (at_out
 settles_fresh outcomes n (Put name target max secrets ∷ rest) = settles_fresh outcomes (n + 1) rest
 settles_fresh outcomes n (Secrets name secrets ∷ rest) = settles_fresh outcomes (n + 1) rest
 settles_fresh outcomes n (Enabled name flag ∷ rest) = settles_fresh outcomes (n + 1) rest
+settles_fresh outcomes n (Subscribed topic name flag ∷ rest) = settles_fresh outcomes (n + 1) rest
 settles_fresh outcomes n (Outcome delivery attempt status at ∷ rest) = settles_fresh outcomes (n + 1) rest
 
 settles_keeps : (outcomes : List Unsettled) (e : Entry) → (at_outcomes outcomes with_latest_settled e).seq ≡ e.seq
@@ -207,7 +210,9 @@ settled_tries n (Put name target max secrets ∷ rest) d (Some e) own tries = tr
 settled_tries n (Secrets name secrets ∷ rest) d None own tries = tries
 settled_tries n (Secrets name secrets ∷ rest) d (Some e) own tries = tries
 settled_tries n (Enabled name flag ∷ rest) d None own tries = tries
+settled_tries n (Subscribed topic name flag ∷ rest) d None own tries = tries
 settled_tries n (Enabled name flag ∷ rest) d (Some e) own tries = tries
+settled_tries n (Subscribed topic name flag ∷ rest) d (Some e) own tries = tries
 settled_tries n (Accept name id body at ∷ rest) d None own tries = tries
 settled_tries n (Accept name id body at ∷ rest) d (Some e) own tries = tries
 settled_tries n (Outcome delivery attempt status at ∷ rest) d None own tries = grind arith

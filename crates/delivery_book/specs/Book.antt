@@ -2,7 +2,7 @@
 use Rattle.std.specs.Prelude.{◌≡◌, ℕ, ◌≤◌, ◌&&◌, ◌==◌, Bool, true, false, List, [], ◌∷◌, ◌++◌, length, take, drop, Option, Some, None, option_map, filter_map, count_by}
 use Rattle.std.specs.List.{enumerate_from}
 use Rattle.relay_types.specs.declared.record.Record.{Record}
-use Rattle.relay_types.specs.declared.record.Record.TheVariants.{Put, Secrets, Enabled, Accept, Outcome}
+use Rattle.relay_types.specs.declared.record.Record.TheVariants.{Accept, Outcome}
 use Rattle.relay_types.specs.declared.state.State.{State}
 use Rattle.relay_types.specs.declared.state.State.TheVariants.{Pending, Delivered, Exhausted}
 use Rattle.relay_types.specs.Values.{Text, Seq}
@@ -38,10 +38,7 @@ entries_of records settled =
 -- the delivery that the record speaks of, if it is an Outcome
 abbrev pub delivery_by : Record → Option Seq
 delivery_by (Outcome delivery attempt status at) = Some delivery
-delivery_by (Put name target max secrets) = None
-delivery_by (Secrets name secrets) = None
-delivery_by (Enabled name flag) = None
-delivery_by (Accept name id body at) = None
+delivery_by entry = None
 
 abbrev pub outcome_by : (Seq × Record) → Option Unsettled
 outcome_by e = option_map (λ d. record { seq = e.0; delivery = d }) (delivery_by e.1)
@@ -83,9 +80,7 @@ Settles old seq new = OverHistories old (λ records settled. seq ≤ length reco
 abbrev pub is_other : Record → Bool
 is_other (Accept name id body at) = false
 is_other (Outcome delivery attempt status at) = false
-is_other (Put name target max secrets) = true
-is_other (Secrets name secrets) = true
-is_other (Enabled name flag) = true
+is_other entry = true
 
 -- whether the delivery is pending, and no outcome of it waits behind the settled records
 abbrev pub is_free : List Record → (settled : ℕ) → Seq → Bool

@@ -1,5 +1,5 @@
 -- Facts about filters and options.
-use Rattle.std.proofs.Common.{◌≡◌, Bool, true, false, not, List, [], ◌∷◌, Option, Some, None, refl, ◌∙◌, ap, arith}
+use Rattle.std.proofs.Common.{◌≡◌, Bool, map, true, false, not, List, [], ◌∷◌, Option, Some, None, refl, ◌∙◌, ap, arith}
 use Rattle.std.specs.Prelude.{filter, option_map, is_some, Result, Ok, Err, OnErr}
 use Rattle.std.specs.Option.{option_map_or}
 
@@ -10,6 +10,10 @@ filter-commutes p q (x ∷ xs) = grind (arith, filter-commutes p q xs)
 pub filter-against : {X : Type 0} (p : X → Bool) (xs : List X) → filter p (filter (λ x. not (p x)) xs) ≡ []
 filter-against p [] = refl
 filter-against p (x ∷ xs) = grind (arith, filter-against p xs)
+
+pub filter_mapped : {X Y : Type 0} (p : Y → Bool) (f : X → Y) (xs : List X) → filter p (map f xs) ≡ map f (filter (λ x. p (f x)) xs)
+filter_mapped p f [] = refl
+filter_mapped p f (x ∷ xs) = grind (arith, filter_mapped p f xs)
 
 pub some_told : {X Y : Type 0} (f : X → Y) (o : Option X) (y d : Y) → Some y ≡ option_map f o → option_map_or f o d ≡ y
 some_told f None y d e = absurd (let h = e in cc)

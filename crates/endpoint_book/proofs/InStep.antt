@@ -22,6 +22,10 @@ numbered_put : (next later : ℕ) (es : List Entry) (e : Entry) → next ≤ lat
 numbered_put next later [] e within last h = grind arith
 numbered_put next later (x ∷ es) e within last h = grind (arith, numbered_put next later es e within last)
 
+numbered_more : (next later : ℕ) (es : List Entry) → next ≤ later → list_all (λ e. nat_lt e.put next) es ≡ true → list_all (λ e. nat_lt e.put later) es ≡ true
+numbered_more next later [] within h = refl
+numbered_more next later (e ∷ es) within h = grind (arith, numbered_more next later es within)
+
 -- All changes stand below the next record
 
 abbrev pub IsWithin : BookValue → Type 0
@@ -29,6 +33,13 @@ IsWithin book = ((place : ℕ) → book.changes ≡ filter (is_below place) book
 
 beyond : (book : BookValue) (place : ℕ) (name : List ℕ) (o : Option Shown) → IsWithin book → book.next_seq ≤ place → shown_at place book.changes name o ≡ shown_at book.next_seq book.changes name o
 beyond book place name o within later = grind (arith, append-nil, shown_below)
+
+-- a later next record
+pub step_later : (book : BookValue) (later : ℕ) → IsInStep book → IsWithin book → book.next_seq ≤ later → IsInStep (record book { next_seq = later })
+step_later book later step within above = record {
+  numbered = numbered_more book.next_seq later book.entries above step.numbered;
+  caught_up = λ name. beyond book later name (settled_in book name) within above ∙ step.caught_up name;
+}
 
 -- One more change
 

@@ -1,6 +1,7 @@
 pub mod Filters
 pub mod Trees
 pub mod Names
+pub mod Pairs
 pub mod Queues
 pub mod Books
 pub mod Shown

@@ -35,6 +35,20 @@ pub changes-push : (cs : List Change) (c : Change) (flags puts capacity next set
     → AreChanges (cs ++ c ∷ []) more_flags more_puts room (c.seq + 1) settled
 changes-push cs c flags puts capacity next settled more_flags more_puts room h above f p few fits = grind (arith, common_steps, length-append cs (c ∷ []), one_most (is_flag c))
 
+-- the same changes, with a later next record
+pub changes-later : (cs : List Change) (flags puts capacity next settled later : ℕ) → AreChanges cs flags puts capacity next settled → next ≤ later → AreChanges cs flags puts capacity later settled
+changes-later cs flags puts capacity next settled later h within = record {
+  parted = h.parted;
+  below_next = λ p le. h.below_next p (omega (arith, le, within));
+  waiting = h.waiting;
+  settled_next = omega (arith, h.settled_next, within);
+  sparse = λ p. omega (arith, h.sparse p, within);
+  flags_are = h.flags_are;
+  puts_are = h.puts_are;
+  few = h.few;
+  room = h.room;
+}
+
 pub changes-keep : (cs : List Change) (flags puts capacity next settled place : ℕ) → AreChanges cs flags puts capacity next settled → settled ≤ place
     → AreChanges (filter (is_from place) cs) (count_by is_flag (filter (is_from place) cs)) (count_by is_put (filter (is_from place) cs)) capacity (max next place) place
 changes-keep cs flags puts capacity next settled place h later = record {

@@ -1,5 +1,5 @@
--- A book in which the endpoints of a legal history were restored stands for it.
-use Rattle.std.proofs.Common.{◌≡◌, ◌∙◌, refl, sym, ap, arith}
+-- A book in which the endpoints and the topics of a legal history were restored stands for it.
+use Rattle.std.proofs.Common.{◌≡◌, ◌∙◌, refl, sym, ap, arith, subst}
 use Rattle.std.proofs.Common.{ℕ, ◌+◌, ◌≤◌, true, false, List, [], ◌∷◌, Option, Some, None, length, map}
 use Rattle.std.specs.Prelude.{find, option_map}
 use Rattle.std.specs.Option.{option_map_or}
@@ -16,8 +16,10 @@ use Rattle.endpoint_book.specs.declared.entry.Entry.{Entry}
 use Rattle.endpoint_book.specs.declared.entry.Shown.{Shown}
 use Rattle.endpoint_book.specs.Entries.{BookValue, is_named}
 use Rattle.endpoint_book.specs.Book.{StandsFor, endpoint_by_entry, shown_of}
+use Rattle.endpoint_book.specs.Topics.{restored_topics}
 use Rattle.endpoint_book.specs.Laws.{entry_for, IsRestored}
 use Rattle.endpoint_book.proofs.Filters.{none_if}
+use Rattle.endpoint_book.proofs.Pairs.{topics-restored}
 
 -- Of a name that no endpoint has, no record of a legal history speaks, as there is no row of it
 
@@ -39,7 +41,7 @@ found-named records name e is = (found_by_number 0 name (endpoints records) e (p
 
 module _ (records : List Record) (legal : IsLegal records) (next : ℕ) (below : next ≤ length records) where
   abbrev restored : BookValue
-  restored = record { entries = map (entry_for records) (endpoints records); changes = []; next_seq = next; settled_seq = length records }
+  restored = record { entries = map (entry_for records) (endpoints records); changes = []; topics = restored_topics records; next_seq = next; settled_seq = length records }
 
   entry-restored : (name : List ℕ)
       → find (is_named name) (map (entry_for records) (endpoints records)) ≡ option_map (entry_for records) (endpoint_of records name)
@@ -74,6 +76,7 @@ module _ (records : List Record) (legal : IsLegal records) (next : ℕ) (below :
       enabled = λ name. told (λ (e : Entry). e.enabled) true (is_enabled records) name (λ e. refl) (unknown-enabled records name legal);
       secrets = λ name. told (λ (e : Entry). e.secrets) [] (secrets_of records) name (λ e. refl) (unknown-secrets records name legal);
       endpoints = same-endpoints (endpoints records);
+      topics = topics-restored records;
     };
     shows = λ place later. record {
       shown = λ name. shown-restored name ∙ ap (λ rs. shown_of rs name) (sym (take_all place records later));
@@ -85,4 +88,7 @@ module _ (records : List Record) (legal : IsLegal records) (next : ℕ) (below :
   }
 
 pub stands-restored : (book : BookValue) (records : List Record) → IsLegal records → IsRestored book records → StandsFor book records (length records)
-stands-restored book records legal h = grind (arith, stands)
+stands-restored book records legal h =
+    subst (λ b. StandsFor b records (length records))
+    (λ i. record { entries = sym h.entries i; changes = sym h.changes i; topics = sym h.topics i; next_seq = book.next_seq; settled_seq = sym h.settled_seq i })
+    (stands records legal book.next_seq h.next_seq)

@@ -23,6 +23,7 @@ use Rattle.endpoint_book.specs.declared.entry.Kind.TheVariants.{Put, Secrets, Fl
 use Rattle.endpoint_book.specs.Entries.{BookValue, entry_of, is_known, is_named, now_of, is_flag, is_put, is_flag_kind, is_put_kind, is_from, shown_with, change_at, with_put, with_change, with_flag, with_secrets}
 use Rattle.endpoint_book.specs.Book.{StandsFor, Tells, Shows, endpoint_by_entry, enabled_in, secrets_in, settled_in, count_from, sets_flag}
 use Rattle.endpoint_book.proofs.Names.{change_at-name}
+use Rattle.endpoint_book.proofs.Pairs.{flag_unnamed, names_topic, topics-same}
 use Rattle.endpoint_book.proofs.Queues.{below_more, from_more}
 use Rattle.endpoint_book.proofs.Shown.{shown_at-above, shown_at-below}
 use Rattle.endpoint_book.proofs.Histories.{shown-now}
@@ -129,13 +130,18 @@ module _ (book : BookValue) (seq : ℕ) (name : List ℕ) (kind : Kind) (change 
   made-changed known asked = grind (arith, entry-changed asked, bytes_decides)
 
   stands-change : (records : List Record) (settled : ℕ) (r : Record) → StandsFor book records settled → IsLegal (records ++ r ∷ []) → seq ≡ length records → is_known book name ≡ true
-      → ((e : Entry) → (change e).settled ≡ e.settled) → endpoint_by (length records, r) ≡ None → is_put_kind kind ≡ false → cond (is_flag_kind kind) 1 0 ≤ cond (sets_flag r) 1 0
+      → ((e : Entry) → (change e).settled ≡ e.settled) → endpoint_by (length records, r) ≡ None → is_put_kind kind ≡ false → cond (is_flag_kind kind) 1 0 ≤ cond (sets_flag r) 1 0 → names_topic r ≡ false
       → ((asked : List ℕ) → enabled_in (with_change book seq name kind change) asked ≡ is_enabled (records ++ r ∷ []) asked)
       → ((asked : List ℕ) → secrets_in (with_change book seq name kind change) asked ≡ secrets_of (records ++ r ∷ []) asked)
       → StandsFor (with_change book seq name kind change) (records ++ r ∷ []) settled
-  stands-change records settled r h legal at_end known settles puts no_put flag enabled secrets =
+  stands-change records settled r h legal at_end known settles puts no_put flag unnamed enabled secrets =
       stands-more book records settled r (record { seq = seq; name = name; kind = kind; shown = shown_with change (entry_of book name) }) (map (λ e. change_at name change e.name e) book.entries) h legal at_end
-      (record { enabled = enabled; secrets = secrets; endpoints = keeps-endpoints name change keeps book.entries ∙ h.tells.endpoints ∙ same-endpoints records r puts })
+      (record {
+        enabled = enabled;
+        secrets = secrets;
+        endpoints = keeps-endpoints name change keeps book.entries ∙ h.tells.endpoints ∙ same-endpoints records r puts;
+        topics = topics-same book.topics records r unnamed h.tells.topics;
+      })
       (field-kept (λ e. e.settled) None settles) (made-changed known) (grind (arith, length-map book.entries (λ e. change_at name change e.name e))) flag
 
 -- a record that enables or disables the endpoint
@@ -147,7 +153,7 @@ stands-flag : (book : BookValue) (records : List Record) (settled : ℕ) (r : Re
 stands-flag book records settled r place name flag h legal at_end known puts gives sets says =
     let below = known_below records records (legal_known records h.legal) in
     let change : Entry → Entry = λ e. record e { enabled = flag } in
-    stands-change book place name Flag change (λ e. refl) records settled r h legal at_end known (λ e. refl) puts refl (grind arith)
+    stands-change book place name Flag change (λ e. refl) records settled r h legal at_end known (λ e. refl) puts refl (grind arith) (flag_unnamed r sets)
     (λ asked. grind (arith, field-set book place name Flag change (λ e. refl) (λ e. e.enabled) true flag (λ e. refl) known asked, says asked, h.tells.enabled asked, is_enabled-snoc records r asked below))
     (λ asked. grind (arith, field-kept book place name Flag change (λ e. refl) (λ e. e.secrets) [] (λ e. refl) asked, gives asked, h.tells.secrets asked, secrets_of-snoc records r asked))
 
@@ -178,7 +184,7 @@ stands-secrets book records settled place name secrets h at_end legal known =
     let r : Record = on.Secrets name secrets in
     let below = known_below records records (legal_known records h.legal) in
     let change : Entry → Entry = λ e. record e { secrets = secrets } in
-    stands-change book place name Secrets change (λ e. refl) records settled r h legal at_end known (λ e. refl) refl refl (omega arith)
+    stands-change book place name Secrets change (λ e. refl) records settled r h legal at_end known (λ e. refl) refl refl (omega arith) refl
     (λ asked. grind (arith, field-kept book place name Secrets change (λ e. refl) (λ e. e.enabled) true (λ e. refl) asked, h.tells.enabled asked, is_enabled-snoc records r asked below))
     (λ asked. grind (arith, field-set book place name Secrets change (λ e. refl) (λ e. e.secrets) [] secrets (λ e. refl) known asked, h.tells.secrets asked, secrets_of-snoc records r asked))
 
@@ -210,5 +216,6 @@ stands-put book records settled place name target limit secrets h at_end legal u
       enabled = λ asked. grind (arith, entry_put book e unknown asked, bytes_decides name asked, h.tells.enabled asked, is_enabled-snoc records r asked below);
       secrets = λ asked. grind (arith, secrets_put book e unknown asked, h.tells.secrets asked, secrets_of-snoc records r asked);
       endpoints = grind (arith, map-append endpoint_by_entry book.entries (e ∷ []), h.tells.endpoints, endpoints-snoc records r);
+      topics = topics-same book.topics records r refl h.tells.topics;
     })
     (put_settled book e unknown refl) (made_put book e unknown) (length-append book.entries (e ∷ [])) (omega arith)

@@ -1,7 +1,8 @@
 -- What a book has of the records that wait, as one more waits and as they are settled.
-use Rattle.std.proofs.Common.{◌≡◌, ℕ, zero, suc, ◌+◌, ◌<◌, ◌≤◌, Bool, true, false, not, List, [], ◌∷◌, ◌++◌, append-nil, Option, Some, None, length, take, drop, map, refl, sym, ◌∙◌, ap, arith, IfSome, length-append, ⊎_elim}
+use Rattle.std.proofs.Common.{◌≡◌, ℕ, zero, suc, ◌+◌, ◌<◌, ◌≤◌, Bool, true, false, ◌&&◌, not, List, [], ◌∷◌, ◌++◌, append-nil, Option, Some, None, length, take, drop, map, refl, sym, ◌∙◌, ap, arith, subst, IfSome, length-append, ⊎_elim}
 use Rattle.std.specs.Prelude.{filter, filter_map, is_some, bytes_eq, nat_lt, option_map, unwrap_or, if◌then◌else◌}
 use Rattle.std.specs.List.{cons_option, enumerate_from, list_all}
+use Rattle.std.specs.Option.{option_or}
 use Rattle.std.proofs.lemmas.Bool.{cases_lt, ltb-false}
 use Rattle.std.proofs.lemmas.List.{take-append-le, take-append-drop, take_all, map-append}
 use Rattle.std.proofs.lemmas.Simd.{map-map}
@@ -12,24 +13,23 @@ use Rattle.relay_types.specs.declared.record.Record.TheVariants as on
 use Rattle.relay_types.specs.Lists.{last_of}
 use Rattle.relay_types.specs.Judging.{is_gone_status}
 use Rattle.relay_types.specs.Endpoints.{Endpoint, endpoint_by, secrets_by}
+use Rattle.relay_types.specs.Subscriptions.{subscribed_by}
 use Rattle.relay_types.proofs.GrowthLaws.{enumerate_from-snoc}
 use Rattle.endpoint_book.specs.declared.entry.Change.{Change}
 use Rattle.endpoint_book.specs.declared.entry.Entry.{Entry}
 use Rattle.endpoint_book.specs.declared.entry.Kind.TheVariants.{Put}
 use Rattle.endpoint_book.specs.declared.entry.Shown.{Shown}
-use Rattle.endpoint_book.specs.Entries.{BookValue, change_at, entry_of, is_below, is_from, is_known, new_entry, now_of, settled_at, shown_at, shown_with, with_change, with_flag, with_put, with_secrets, with_settled}
+use Rattle.endpoint_book.specs.Entries.{BookValue, change_at, entry_of, is_below, is_from, is_known, new_entry, now_of, settled_at, shown_at, shown_with, with_change, with_flag, with_put, with_secrets, with_settled, with_topic}
+use Rattle.endpoint_book.specs.Topics.{TopicsValue, flag_of, last_flag, with_pair}
 use Rattle.endpoint_book.specs.Book.{endpoint_by_entry, is_other, secrets_in, settled_in}
 use Rattle.endpoint_book.specs.Waiting.{HasChanges, IsInStep, Told, changed_by, changes_from, endpoints_from, is_changed_by, is_put_from, kind_of, shown_after, shown_behind, told_by, told_of}
 use Rattle.endpoint_book.proofs.Shown.{from_all, shown_at-above, shown_at-below, shown_in_turn}
 use Rattle.endpoint_book.proofs.InStep.{entry_settled, latest_same, put_kept, settled_moved}
 use Rattle.endpoint_book.proofs.Staged.{entry-changed, field-kept, keeps-endpoints, known-same, made-changed, made_put, more, put_settled, secrets_put}
-use Rattle.endpoint_book.proofs.Filters.{none_if}
+use Rattle.endpoint_book.proofs.Filters.{filter_mapped, none_if}
+use Rattle.endpoint_book.proofs.Pairs.{flag-put, last_flag-snoc, names_topic, none_said, other_unnamed}
 
 -- Lists
-
-filter_mapped : {X Y : Type 0} (p : Y → Bool) (f : X → Y) (xs : List X) → filter p (map f xs) ≡ map f (filter (λ x. p (f x)) xs)
-filter_mapped p f [] = refl
-filter_mapped p f (x ∷ xs) = grind (arith, filter_mapped p f xs)
 
 filter_weaker : {X : Type 0} (p q : X → Bool) (xs : List X) → ((x : X) → p x ≡ true → q x ≡ true) → filter p (filter q xs) ≡ filter p xs
 filter_weaker p q [] weaker = refl
@@ -112,6 +112,15 @@ none_before : (at : ℕ → Option (List ℕ)) (name : List ℕ) (k : ℕ) (reco
 none_before at name k records o none =
     grind (arith, take-append-drop k records, after-append at name (take k records) (drop k records) o, stays at name (drop k records) (shown_after at name (take k records) o))
 
+-- a record that changes an endpoint names no topic
+changed_unnamed : (at : ℕ → Option (List ℕ)) (entry : Record) (name : List ℕ) → changed_by at entry ≡ Some name → names_topic entry ≡ false
+changed_unnamed at (on.Subscribed topic other flag) name h = absurd (let no = h in cc)
+changed_unnamed at (on.Put other target most secrets) name h = refl
+changed_unnamed at (on.Secrets other secrets) name h = refl
+changed_unnamed at (on.Enabled other flag) name h = refl
+changed_unnamed at (on.Accept other id body moment) name h = refl
+changed_unnamed at (on.Outcome delivery attempt status moment) name h = refl
+
 -- More records are settled
 
 module _ (at : ℕ → Option (List ℕ)) (book : BookValue) (records : List Record) (k place : ℕ) (is : place ≡ book.settled_seq + k) (h : HasChanges at book records) where
@@ -145,6 +154,18 @@ module _ (at : ℕ → Option (List ℕ)) (book : BookValue) (records : List Rec
         last_of-append (filter_map (secrets_by name) (take k records)) (filter_map (secrets_by name) (drop k records)),
       )
 
+  topics_settled : (topic name : List ℕ) → IfSome (last_flag (drop k records) topic name) (λ flag. flag_of book.topics topic name ≡ Some flag)
+  topics_settled topic name = by (last_flag (drop k records) topic name) refl
+    where
+      by : (o : Option Bool) → last_flag (drop k records) topic name ≡ o → IfSome o (λ flag. flag_of book.topics topic name ≡ Some flag)
+      by None e = tt
+      by (Some flag) e =
+          subst (λ o. IfSome o (λ f. flag_of book.topics topic name ≡ Some f))
+          (ap (λ rs. last_flag rs topic name) (sym (take-append-drop k records))
+          ∙ ap last_of (filter_map-append (subscribed_by topic name) (take k records) (drop k records))
+          ∙ last_of-append (filter_map (subscribed_by topic name) (take k records)) (filter_map (subscribed_by topic name) (drop k records)) flag e)
+          (h.topics topic name)
+
 pub changes_settled : (at : ℕ → Option (List ℕ)) (book : BookValue) (records : List Record) (k place : ℕ) → place ≡ book.settled_seq + k → HasChanges at book records → HasChanges at (with_settled book place) (drop k records)
 changes_settled at book records k place is h = record {
   changes = sym (filter_mapped (λ (t : Told). not (nat_lt t.seq place)) told_of book.changes)
@@ -172,6 +193,7 @@ changes_settled at book records k place is h = record {
         after-append at name (take k records) (drop k records) (settled_in book name),
       );
   secrets = secrets_settled at book records k place is h;
+  topics = topics_settled at book records k place is h;
 }
 
 -- One more record
@@ -189,6 +211,17 @@ module _ (at : ℕ → Option (List ℕ)) (book : BookValue) (records : List Rec
         last_of-append (filter_map (secrets_by name) records) (cons_option (secrets_by name entry) []),
       )
 
+  -- and the flag of a topic
+  topics_more : (ts : TopicsValue) (topic name : List ℕ) → flag_of ts topic name ≡ option_or (subscribed_by topic name entry) (flag_of book.topics topic name) → HasChanges at book records
+      → IfSome (last_flag (records ++ entry ∷ []) topic name) (λ flag. flag_of ts topic name ≡ Some flag)
+  topics_more ts topic name is h =
+      subst (λ o. IfSome o (λ flag. flag_of ts topic name ≡ Some flag)) (sym (last_flag-snoc records entry topic name)) (by (subscribed_by topic name entry) is (h.topics topic name))
+    where
+      by : (o : Option Bool) → flag_of ts topic name ≡ option_or o (flag_of book.topics topic name) → IfSome (last_flag records topic name) (λ flag. flag_of book.topics topic name ≡ Some flag)
+          → IfSome (option_or o (last_flag records topic name)) (λ flag. flag_of ts topic name ≡ Some flag)
+      by (Some flag) given told = given
+      by None given told = subst (λ o. IfSome (last_flag records topic name) (λ flag. o ≡ Some flag)) (sym given) told
+
   -- one that changes no endpoint
   after_idle : changed_by at entry ≡ None → (name : List ℕ) (k : ℕ) (o : Option Shown) → shown_after at name (take k (records ++ entry ∷ [])) o ≡ shown_after at name (take k records) o
   after_idle none name k o =
@@ -202,13 +235,16 @@ module _ (at : ℕ → Option (List ℕ)) (book : BookValue) (records : List Rec
         after-append at name records (entry ∷ []) o,
       )
 
-  changes_idle : changed_by at entry ≡ None → ((n : ℕ) → endpoint_by (n, entry) ≡ None) → ((name : List ℕ) → secrets_by name entry ≡ None) → HasChanges at book records → HasChanges at book (records ++ entry ∷ [])
-  changes_idle none no_put gives h = record {
+  changes_idle : (ts : TopicsValue) (next : ℕ) → changed_by at entry ≡ None → ((n : ℕ) → endpoint_by (n, entry) ≡ None) → ((name : List ℕ) → secrets_by name entry ≡ None)
+      → ((topic name : List ℕ) → flag_of ts topic name ≡ option_or (subscribed_by topic name entry) (flag_of book.topics topic name))
+      → HasChanges at book records → HasChanges at (record book { topics = ts; next_seq = next }) (records ++ entry ∷ [])
+  changes_idle ts next none no_put gives flags h = record {
     changes = grind (arith, h.changes, given-snoc (told_by at) book.settled_seq records entry, append-nil (changes_from at book.settled_seq records));
     puts = grind (arith, h.puts, given-snoc endpoint_by book.settled_seq records entry, no_put (book.settled_seq + length records), append-nil (endpoints_from book.settled_seq records));
     shown = λ name k. h.shown name k ∙ sym (after_idle none name k (settled_in book name));
     latest = λ name. grind (arith, h.latest name, after-append at name records (entry ∷ []) (settled_in book name));
     secrets = λ name. secrets_more book name (grind (arith, gives name)) h;
+    topics = λ topic name. topics_more ts topic name (flags topic name) h;
   }
 
   -- one that changes an endpoint, with its change and the entries that it leaves
@@ -225,6 +261,7 @@ module _ (at : ℕ → Option (List ℕ)) (book : BookValue) (records : List Rec
     shown = λ name k. ⊎_elim (later name k) (sooner name k) (cases_lt (length records) k);
     latest = latest;
     secrets = λ name. secrets_more (more book es c) name (gives name) h;
+    topics = λ topic name. topics_more book.topics topic name (ap (λ o. option_or o (flag_of book.topics topic name)) (sym (none_said entry topic name (changed_unnamed at entry c.name named)))) h;
   }
     where
       s : ℕ
@@ -245,7 +282,20 @@ module _ (at : ℕ → Option (List ℕ)) (book : BookValue) (records : List Rec
 
 -- an Accept, and an Outcome that isn't gone
 pub changes_other : (at : ℕ → Option (List ℕ)) (book : BookValue) (records : List Record) (entry : Record) → is_other entry ≡ true → HasChanges at book records → HasChanges at book (records ++ entry ∷ [])
-changes_other at book records entry other h = changes_idle at book records entry (grind arith) (λ n. grind arith) (λ name. grind arith) h
+changes_other at book records entry other h =
+    changes_idle at book records entry book.topics book.next_seq (grind arith) (λ n. grind arith) (λ name. grind arith)
+    (λ topic name. ap (λ o. option_or o (flag_of book.topics topic name)) (sym (none_said entry topic name (other_unnamed entry other)))) h
+
+-- a Subscribed
+pub changes_topic : (at : ℕ → Option (List ℕ)) (book : BookValue) (records : List Record) (seq : ℕ) (topic name : List ℕ) (flag : Bool)
+    → HasChanges at book records → HasChanges at (with_topic book seq topic name flag) (records ++ on.Subscribed topic name flag ∷ [])
+changes_topic at book records seq topic name flag h =
+    changes_idle at book records (on.Subscribed topic name flag) (with_pair book.topics topic name flag) (seq + 1) refl (λ n. refl) (λ asked. refl)
+    (λ other asked. flag-put book.topics topic name flag other asked ∙ by other asked (bytes_eq topic other && bytes_eq name asked)) h
+  where
+    by : (other asked : List ℕ) (b : Bool) → (if b then Some flag else flag_of book.topics other asked) ≡ option_or (if b then Some flag else None) (flag_of book.topics other asked)
+    by other asked true = refl
+    by other asked false = refl
 
 -- A change of the endpoint of one name
 
@@ -328,6 +378,7 @@ changes_named at to book records same h = record {
       let all : take (length records) records ≡ records = take_all (length records) records (omega arith) in
       h.latest name ∙ ap (λ rs. shown_after at name rs (settled_in book name)) (sym all) ∙ shown_alike at to name (length records) records (settled_in book name) same ∙ ap (λ rs. shown_after to name rs (settled_in book name)) all;
   secrets = h.secrets;
+  topics = h.topics;
 }
 
 -- Nothing waits
@@ -343,6 +394,7 @@ changes_none at book step none all = record {
   shown = λ name k. ap (λ cs. shown_at (book.settled_seq + k) cs name (settled_in book name)) none ∙ few name k;
   latest = λ name. sym (step.caught_up name) ∙ ap (λ cs. shown_at book.next_seq cs name (settled_in book name)) none;
   secrets = λ name. tt;
+  topics = λ topic name. tt;
 }
   where
     few : (name : List ℕ) (k : ℕ) → settled_in book name ≡ shown_after at name (take k []) (settled_in book name)

@@ -12,6 +12,7 @@ use Rattle.endpoint_book.specs.declared.entry.Entry.{Entry}
 use Rattle.endpoint_book.specs.declared.entry.Shown.{Shown}
 use Rattle.endpoint_book.specs.declared.view.EndpointView.{EndpointView}
 use Rattle.endpoint_book.specs.Entries.{BookValue, entry_of, is_flag, is_put, is_from, shown_at}
+use Rattle.endpoint_book.specs.Topics.{TellsTopics}
 
 -- What the book says, in the words of histories.
 
@@ -42,15 +43,14 @@ shown_of records name = option_map (λ _. record {
 abbrev pub sets_flag : Record → Bool
 sets_flag (on.Enabled name flag) = true
 sets_flag (on.Outcome delivery attempt status at) = is_gone_status status
-sets_flag (on.Put name target max secrets) = false
-sets_flag (on.Secrets name secrets) = false
-sets_flag (on.Accept name id body at) = false
+sets_flag entry = false
 
 -- what the book has of all records
 pub record Tells (book : BookValue) (records : List Record) : Type 0 where
   pub enabled : (name : Text) → enabled_in book name ≡ is_enabled records name
   pub secrets : (name : Text) → secrets_in book name ≡ secrets_of records name
   pub endpoints : map endpoint_by_entry book.entries ≡ endpoints records
+  pub topics : TellsTopics book.topics records
 
 -- what the book will have of the settled records, once they are those below this place
 pub record Shows (book : BookValue) (place : Seq) (records : List Record) : Type 0 where
@@ -141,10 +141,8 @@ settled_view book name = option_and_then (λ e. option_map (view_by e) e.settled
 abbrev pub told : EndpointView → View
 told v = record { name = v.name; target = v.target.now; max = v.max; enabled = v.enabled; secrets = v.secrets }
 
--- a record that changes no endpoint
+-- a record that changes no endpoint and names no topic
 abbrev pub is_other : Record → Bool
 is_other (on.Accept name id body at) = true
 is_other (on.Outcome delivery attempt status at) = not (is_gone_status status)
-is_other (on.Put name target max secrets) = false
-is_other (on.Secrets name secrets) = false
-is_other (on.Enabled name flag) = false
+is_other entry = false

@@ -1,4 +1,4 @@
--- What the book keeps: an entry for each endpoint, in the order of their Puts, and the changes that aren't settled.
+-- What the book keeps: an entry for each endpoint, in the order of their Puts, the changes that aren't settled, and the topics.
 use Rattle.std.specs.Prelude.{◌≡◌, ℕ, ◌+◌, ◌&&◌, Bool, true, false, not, nat_lt, List, [], ◌∷◌, ◌++◌, Option, Some, None, length, map, filter, find, is_some, bytes_eq, count_by, max, if◌then◌else◌}
 use Rattle.std.specs.Option.{option_map_or}
 use Rattle.relay_types.specs.Values.{Text, Seq}
@@ -7,16 +7,18 @@ use Rattle.endpoint_book.specs.declared.entry.Entry.{Entry}
 use Rattle.endpoint_book.specs.declared.entry.Kind.{Kind}
 use Rattle.endpoint_book.specs.declared.entry.Kind.TheVariants.{Put, Secrets, Flag}
 use Rattle.endpoint_book.specs.declared.entry.Shown.{Shown}
+use Rattle.endpoint_book.specs.Topics.{TopicsValue, with_pair}
 
 -- the least place that the next record may have, and the place below which the records are settled, beside them
 pub record BookValue : Type 0 where
   pub entries : List Entry
   pub changes : List Change
+  pub topics : TopicsValue
   pub next_seq : Seq
   pub settled_seq : Seq
 
 abbrev pub empty_book : BookValue
-empty_book = record { entries = []; changes = []; next_seq = 0; settled_seq = 0 }
+empty_book = record { entries = []; changes = []; topics = []; next_seq = 0; settled_seq = 0 }
 
 abbrev pub is_named : (name : Text) (entry : Entry) → Bool
 is_named name e = bytes_eq e.name name
@@ -134,6 +136,17 @@ with_flag book seq name flag = with_change book seq name Flag (λ e. record e { 
 
 abbrev pub with_secrets : (book : BookValue) (seq : Seq) (name : Text) (secrets : List Text) → BookValue
 with_secrets book seq name secrets = with_change book seq name Secrets (λ e. record e { secrets = secrets })
+
+-- the book in which this endpoint is subscribed to the topic or not, where the records that said so are settled
+abbrev pub with_restored_topic : (book : BookValue) (topic name : Text) (flag : Bool) → BookValue
+with_restored_topic book topic name flag = record book { topics = with_pair book.topics topic name flag }
+
+-- the book in which it is, by the record with this sequence number
+abbrev pub with_topic : (book : BookValue) (seq : Seq) (topic name : Text) (flag : Bool) → BookValue
+with_topic book seq topic name flag = record book {
+  topics = with_pair book.topics topic name flag;
+  next_seq = seq + 1;
+}
 
 -- the book whose records below this place are settled
 abbrev pub with_settled : (book : BookValue) (place : Seq) → BookValue

@@ -11,6 +11,7 @@ use Rattle.endpoint_book.specs.declared.entry.Change.{Change}
 use Rattle.endpoint_book.specs.declared.entry.Entry.{Entry}
 use Rattle.endpoint_book.specs.declared.limits.TheConstants.{MAX_FLAGS}
 use Rattle.endpoint_book.specs.declared.key.NameKey.{NameKey}
+use Rattle.endpoint_book.specs.Topics.{TopicsValue}
 use Rattle.endpoint_book.specs.Waiting.{IsInStep}
 use Rattle.endpoint_book.specs.Entries.{is_flag, is_put, is_below, is_from, settled_at, change_at}
 
@@ -67,15 +68,16 @@ pub record AreChanges (changes : List Change) (flags puts capacity : ℕ) (next_
   pub few : flags ≤ MAX_FLAGS
   pub room : length changes + MAX_FLAGS ≤ capacity + flags
 
--- what holds of the fields of a book
+-- what holds of the fields of a book, whatever its topics are
 pub record IsBook (entries : Entries) (names : List Text) (changes : List Change) (flags puts capacity : ℕ)
     (next_seq settled_seq : Seq) : Type 0 where
   pub are_names : AreNames (entry_in entries) names
   pub are_changes : AreChanges changes flags puts capacity next_seq settled_seq
   pub puts_within : puts ≤ length names
-  pub in_step : IsInStep (record {
+  pub in_step : (topics : TopicsValue) → IsInStep (record {
     entries = listed entries names;
     changes = changes;
+    topics = topics;
     next_seq = next_seq;
     settled_seq = settled_seq;
   })

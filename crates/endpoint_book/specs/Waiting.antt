@@ -14,6 +14,7 @@ use Rattle.endpoint_book.specs.declared.entry.Kind.{Kind}
 use Rattle.endpoint_book.specs.declared.entry.Kind.TheVariants.{Put, Secrets, Flag}
 use Rattle.endpoint_book.specs.declared.entry.Shown.{Shown}
 use Rattle.endpoint_book.specs.Entries.{BookValue, entry_of, now_of, shown_at}
+use Rattle.endpoint_book.specs.Topics.{flag_of, last_flag}
 use Rattle.endpoint_book.specs.Book.{endpoint_by_entry, secrets_in, settled_in}
 
 -- Each endpoint has a Put below the next record, and shows by all records what the changes make of what the settled ones show.
@@ -29,16 +30,14 @@ abbrev pub changed_by : (endpoint_at : Seq → Option Text) → Record → Optio
 changed_by endpoint_at (on.Put name target max secrets) = Some name
 changed_by endpoint_at (on.Secrets name secrets) = Some name
 changed_by endpoint_at (on.Enabled name flag) = Some name
-changed_by endpoint_at (on.Accept name id body at) = None
 changed_by endpoint_at (on.Outcome delivery attempt status at) =
     if is_gone_status status then endpoint_at delivery else None
+changed_by endpoint_at entry = None
 
 abbrev pub kind_of : Record → Kind
 kind_of (on.Put name target max secrets) = Put
 kind_of (on.Secrets name secrets) = Secrets
-kind_of (on.Enabled name flag) = Flag
-kind_of (on.Accept name id body at) = Flag
-kind_of (on.Outcome delivery attempt status at) = Flag
+kind_of entry = Flag
 
 abbrev pub with_count : ℕ → Shown → Shown
 with_count count shown = record shown { secrets = count }
@@ -51,8 +50,8 @@ abbrev pub shown_behind : Record → Option Shown → Option Shown
 shown_behind (on.Put name target max secrets) shown = Some (record { enabled = true; secrets = length secrets })
 shown_behind (on.Secrets name secrets) shown = option_map (with_count (length secrets)) shown
 shown_behind (on.Enabled name flag) shown = option_map (with_enabled flag) shown
-shown_behind (on.Accept name id body at) shown = shown
 shown_behind (on.Outcome delivery attempt status at) shown = option_map (with_enabled false) shown
+shown_behind entry shown = shown
 
 abbrev pub is_changed_by : (endpoint_at : Seq → Option Text) (name : Text) → Record → Bool
 is_changed_by endpoint_at name entry = option_map_or (λ changed. bytes_eq changed name) (changed_by endpoint_at entry) false
@@ -90,7 +89,8 @@ is_put_from seq entry = not (nat_lt entry.put seq)
 
 -- These records wait, and `endpoint_at` tells the endpoint of a delivery. Of them are the changes and the endpoints that the book
 -- has and that aren't settled, and no others. Once the first of them are settled, it will show of each endpoint what these make of
--- what it shows now. By all records each endpoint shows what all of them make of this, and has the secrets that were given last.
+-- what it shows now. By all records each endpoint shows what all of them make of this, and has the secrets that were given last, and
+-- each topic and endpoint has the flag that was given last.
 pub record HasChanges (endpoint_at : Seq → Option Text) (book : BookValue) (records : List Record) : Type 0 where
   pub changes : map told_of book.changes ≡ changes_from endpoint_at book.settled_seq records
   pub puts : map endpoint_by_entry (filter (is_put_from book.settled_seq) book.entries) ≡ endpoints_from book.settled_seq records
@@ -100,3 +100,4 @@ pub record HasChanges (endpoint_at : Seq → Option Text) (book : BookValue) (re
       → option_map now_of (entry_of book name) ≡ shown_after endpoint_at name records (settled_in book name)
   pub secrets : (name : Text)
       → IfSome (last_of (filter_map (secrets_by name) records)) (λ given. secrets_in book name ≡ given)
+  pub topics : (topic name : Text) → IfSome (last_flag records topic name) (λ flag. flag_of book.topics topic name ≡ Some flag)

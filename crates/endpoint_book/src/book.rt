@@ -1,10 +1,15 @@
 //! The book itself.
-ghost use Rattle.std.specs.Prelude.{◌≡◌, ◌≤◌, ◌<◌, ◌+◌, [], false, length, map, count_by, option_copied, option_map};
+ghost use Rattle.std.specs.Prelude.{◌≡◌, ◌≤◌, ◌<◌, ◌+◌, [], false, length, map, count_by, filter, is_some, option_copied, option_map};
 ghost use Rattle.std.specs.Prelude.{IsTrue, IfOk, OnOk, OnErr};
 ghost use Rattle.relay_types.specs.declared.record.Record.TheVariants as on;
 ghost use Rattle.relay_types.specs.Endpoints.{endpoints, endpoint_of, has_endpoint, is_enabled};
+ghost use Rattle.relay_types.specs.Subscriptions.{is_pair_named, is_subscribed, subscribers, subscriptions};
+ghost use Rattle.relay_types.specs.declared.limits.TheConstants.{MAX_SUBSCRIPTIONS};
+ghost use Rattle.endpoint_book.specs.Topics.{flag_of, has_place, is_on};
+ghost use Rattle.endpoint_book.specs.Subscribers.{still_subscribed};
 ghost use Rattle.endpoint_book.specs.Entries.{AreFound, empty_book, new_entry, restored_entry, entry_of, is_known, is_put, flags_in};
 ghost use Rattle.endpoint_book.specs.Entries.{with_put, with_restored, with_flag, with_secrets, with_settled};
+ghost use Rattle.endpoint_book.specs.Entries.{with_restored_topic, with_topic};
 ghost use Rattle.endpoint_book.specs.Book.{StandsFor, Stages, StagesGone, Settles, OfAll, OfSettled, OfWaiting};
 ghost use Rattle.endpoint_book.specs.Waiting.{IsInStep};
 ghost use Rattle.endpoint_book.specs.Book.{secrets_if_known, view_of, settled_view, told, enabled_in, sets_flag};
@@ -13,19 +18,22 @@ use crate::changes::{count_flags, count_puts, keep_from, settle_below};
 use crate::entries::Entries;
 use crate::entry::{Change, Entry, Kind, Shown};
 use crate::limits::MAX_FLAGS;
+use crate::subscribers::Subscribers;
+use crate::topics::Topics;
 use crate::view::EndpointView;
-use relay_types::{MAX_RECORDS, MaxLimit, Name, Secrets, Target};
+use relay_types::{MAX_RECORDS, MAX_SUBSCRIPTIONS, MaxLimit, Name, Secrets, Target};
 use std::alloc::{AllocError, Global};
 use std::marker::Model;
 
-/// The endpoints of a history: their targets, limits and secrets, whether they are enabled, and what the settled
-/// records show of them. Records of deliveries concern no endpoint and need no call, but for an Outcome which says that
-/// the endpoint is gone.
+/// The endpoints of a history: their targets, limits and secrets, whether they are enabled, to which topics they are
+/// subscribed, and what the settled records show of them, which is nothing of topics. Records of deliveries concern no
+/// endpoint and need no call, but for an Outcome which says that the endpoint is gone.
 #[derive(Drop)]
 pub struct EndpointBook {
     entries: Entries,
     names: Vec<Name>,
     changes: Vec<Change>,
+    topics: Topics,
     flags: usize,
     puts: usize,
     next_seq: u64,
@@ -42,6 +50,7 @@ impl Model for EndpointBook {
     ghost view = { λ b. record {
       entries = listed b.entries b.names.items;
       changes = b.changes.items;
+      topics = b.topics;
       next_seq = b.next_seq;
       settled_seq = b.settled_seq;
     } };
@@ -61,6 +70,7 @@ impl EndpointBook {
             entries: Entries::new(alloc),
             names: Vec::new(alloc),
             changes,
+            topics: Topics::new(alloc),
             flags: 0,
             puts: 0,
             next_seq: 0,
@@ -225,6 +235,42 @@ impl EndpointBook {
         }
     }
 
+    /// Subscribes an endpoint to a topic, or ends that, by the record with this sequence number. `next_seq`, `is_named` and
+    /// `free_subscriptions` test the conditions. An error is want of memory.
+    pub fn stage_subscribed(
+        &mut self,
+        seq: u64,
+        topic: Name,
+        name: Name,
+        flag: bool,
+    ) -> Result<(), AllocError>
+        requires room { seq < MAX_RECORDS }
+        requires above { self.old.next_seq ≤ seq }
+        requires free { IsTrue (has_place self.old.topics topic name) }
+        ensures subscribed { OnOk result (self.new ≡ with_topic self.old seq topic name flag) }
+        ensures stands { OnOk result (Stages self.old self.new seq (on.Subscribed topic name flag)) }
+        ensures unchanged { OnErr result (self.new ≡ self.old) }
+    {
+        self.topics.set(topic, name, flag)?;
+        self.next_seq = seq + 1;
+        Ok(())
+    }
+
+    /// Subscribes an endpoint to a topic, or not, as the records left it, which are settled. So a book is made of what a
+    /// store holds. `is_named` and `free_subscriptions` test the condition. An error is want of memory.
+    pub fn restore_subscribed(
+        &mut self,
+        topic: Name,
+        name: Name,
+        flag: bool,
+    ) -> Result<(), AllocError>
+        requires free { IsTrue (has_place self.old.topics topic name) }
+        ensures subscribed { OnOk result (self.new ≡ with_restored_topic self.old topic name flag) }
+        ensures unchanged { OnErr result (self.new ≡ self.old) }
+    {
+        self.topics.set(topic, name, flag)
+    }
+
     /// The records below this number are settled from now on. It takes no memory.
     pub fn settle_to(&mut self, seq: u64)
         requires { self.old.settled_seq ≤ seq }
@@ -262,6 +308,45 @@ impl EndpointBook {
         ensures stands { OfWaiting self.now (λ records. MAX_FLAGS ≤ result + count_by sets_flag records) }
     {
         MAX_FLAGS - self.flags
+    }
+
+    /// How many more pairs of a topic and an endpoint records may name. A pair stays named if it isn't subscribed any
+    /// more.
+    pub fn free_subscriptions(&self) -> usize
+        ensures free { result + length self.now.topics ≡ MAX_SUBSCRIPTIONS }
+        ensures stands { OfAll self.now (λ records. result + length (subscriptions records) ≡ MAX_SUBSCRIPTIONS) }
+    {
+        MAX_SUBSCRIPTIONS - self.topics.len()
+    }
+
+    /// Whether a record named this topic and this endpoint, subscribed or not.
+    pub fn is_named(&self, topic: Name, name: Name) -> bool
+        ensures value { result ≡ is_some (flag_of self.now.topics topic name) }
+        ensures stands { OfAll self.now (λ records. result ≡ is_pair_named records topic name) }
+    {
+        self.topics.is_named(topic, name)
+    }
+
+    /// Whether the endpoint is subscribed to the topic, by all records.
+    pub fn is_subscribed(&self, topic: Name, name: Name) -> bool
+        ensures value { result ≡ is_on self.now.topics topic name }
+        ensures stands { OfAll self.now (λ records. result ≡ is_subscribed records topic name) }
+    {
+        self.topics.is_on(topic, name)
+    }
+
+    /// The endpoints that are subscribed to the topic, by all records, in the order of their Puts. It takes no memory.
+    pub fn subscribers(&self, topic: Name) -> Subscribers<'_>
+        ensures value { still_subscribed result
+            ≡ filter (is_on self.now.topics topic) (map (λ e. e.name) self.now.entries) }
+        ensures stands { OfAll self.now (λ records.
+            still_subscribed result ≡ map (λ e. e.name) (subscribers records topic)) }
+    {
+        Subscribers {
+            topics: &self.topics,
+            topic,
+            names: self.names.as_slice(),
+        }
     }
 
     /// Whether there is an endpoint of this name.

@@ -9,9 +9,12 @@ mod entry;
 mod key;
 mod law;
 mod limits;
+mod subscribers;
+mod topics;
 mod view;
 
 pub use crate::book::EndpointBook;
 pub use crate::law::{idle_records_leave, other_records_leave, restored_books_stand};
 pub use crate::limits::MAX_FLAGS;
+pub use crate::subscribers::Subscribers;
 pub use crate::view::EndpointView;

@@ -159,13 +159,7 @@ pub(crate) fn is_outcome(step: &Step) -> bool
 fn is_outcome_record(entry: &Record) -> bool
     ensures { result ≡ is_outcome_record entry.now }
 {
-    match entry {
-        Record::Outcome { .. } => true,
-        Record::Put { .. }
-        | Record::Secrets { .. }
-        | Record::Enabled { .. }
-        | Record::Accept { .. } => false,
-    }
+    matches!(entry, Record::Outcome { .. })
 }
 
 fn fitting(steps: &VecDeque<Step>, most: usize) -> usize

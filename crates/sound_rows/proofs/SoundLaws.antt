@@ -1,22 +1,24 @@
 -- What is asked of rows, and what of their numbers.
-use Rattle.std.proofs.Common.{◌≡◌, ℕ, ◌+◌, ◌==◌, Bool, true, false, ◌&&◌, ◌||◌, List, [], ◌∷◌, length, map, refl, sym, ap, ◌∙◌, cond}
+use Rattle.std.proofs.Common.{◌≡◌, ℕ, ◌+◌, ◌==◌, Bool, true, false, Result, Ok, Err, IfOk, ◌&&◌, ◌||◌, List, [], ◌∷◌, length, map, refl, sym, ap, ◌∙◌, cond}
 use Rattle.std.specs.Prelude.{not, nat_le, nat_lt, filter, count_by}
 use Rattle.std.specs.List.{list_any, list_all, range_with_len}
 use Rattle.std.proofs.lemmas.List.{length-map}
 use Rattle.std.proofs.lemmas.List.Folds.{fold-map, list_all-map}
-use Rattle.relay_types.specs.declared.limits.TheConstants.{MAX_ENDPOINTS, MAX_FAILURES, MAX_RECORDS}
-use Rattle.relay_types.specs.Values.{is_msg_id, is_body, is_moment}
+use Rattle.relay_types.specs.declared.limits.TheConstants.{MAX_ENDPOINTS, MAX_FAILURES, MAX_RECORDS, MAX_SUBSCRIPTIONS}
+use Rattle.relay_types.specs.Values.{is_msg_id, is_body, is_moment, is_name}
 use Rattle.relay_types.specs.Judging.{is_delivered_status, is_gone_status, is_failed_status}
 use Rattle.relay_types.specs.Legal.{is_status}
-use Rattle.relay_types.specs.Rows.{Rows, EndpointRow, DeliveryRow, AttemptRow}
+use Rattle.relay_types.specs.Rows.{Rows, EndpointRow, DeliveryRow, AttemptRow, TopicRow}
 use Rattle.relay_types.specs.Sound as rows
 use Rattle.relay_types.proofs.KnownLaws.{and_first, and_second}
 use Rattle.relay_types.proofs.FilterLaws.{rising_map}
 use Rattle.sound_rows.specs.declared.numbers.Endpoint.{Endpoint}
 use Rattle.sound_rows.specs.declared.numbers.Delivery.{Delivery}
 use Rattle.sound_rows.specs.declared.numbers.Attempt.{Attempt}
-use Rattle.sound_rows.specs.Numbers.{Kept, numbers_of, of_endpoint, of_delivery, of_attempt, AreAscending, AreValues}
-use Rattle.sound_rows.specs.Checks.{are_below, is_put, is_delivery, is_attempt, is_taken, are_apart, is_secrets_place, is_gone_attempt, is_flag_given, are_flag_places, are_behind, before, is_turn, is_named, is_overtaken, are_others_overtaken, are_numbers_sound}
+use Rattle.sound_rows.specs.declared.numbers.Topic.{Topic}
+use Rattle.sound_rows.specs.declared.numbers.Numbers.{Numbers}
+use Rattle.sound_rows.specs.Numbers.{Kept, numbers_of, of_endpoint, of_delivery, of_attempt, of_topic, AreAscending, AreNumbersOf, AreValues}
+use Rattle.sound_rows.specs.Checks.{are_below, is_put, is_delivery, is_attempt, is_topic, is_taken, are_apart, is_secrets_place, is_gone_attempt, is_flag_given, are_flag_places, are_behind, are_topics_placed, before, is_turn, is_named, is_overtaken, are_others_overtaken, are_numbers_sound}
 use Rattle.sound_rows.proofs.SearchLaws.{rising_ascends}
 
 -- Lists that are mapped
@@ -89,26 +91,34 @@ module _ (all : Rows) where
   attempt_same : (n : ℕ) → is_attempt (numbers_of all) n ≡ rows.is_attempt_at all n
   attempt_same n = any_map of_attempt (λ t. t.seq == n) all.attempts
 
+  topic_same : (n : ℕ) → is_topic (numbers_of all) n ≡ rows.is_topic_at all n
+  topic_same n = any_map of_topic (λ t. t.set_by == n) all.topics
+
   taken_same : (n : ℕ) → is_taken (numbers_of all) n ≡ rows.is_taken all n
-  taken_same n = λ i. put_same n i || (delivery_same n i || attempt_same n i)
+  taken_same n = λ i. put_same n i || (delivery_same n i || (attempt_same n i || topic_same n i))
 
   below_same : are_below (numbers_of all) ≡ rows.are_numbers_below all
   below_same = λ i.
       nat_le all.records MAX_RECORDS
       && (list_all-map (λ (e : Endpoint). nat_lt e.put all.records && (nat_lt e.enabled_by all.records && nat_lt e.secrets_by all.records)) of_endpoint all.endpoints i
-      && (list_all-map (λ (d : Delivery). nat_lt d.seq all.records) of_delivery all.deliveries i && list_all-map (λ (t : Attempt). nat_lt t.seq all.records) of_attempt all.attempts i))
+      && (list_all-map (λ (d : Delivery). nat_lt d.seq all.records) of_delivery all.deliveries i
+      && (list_all-map (λ (t : Attempt). nat_lt t.seq all.records) of_attempt all.attempts i && list_all-map (λ (t : Topic). nat_lt t.set_by all.records) of_topic all.topics i)))
 
   apart_same : are_apart (numbers_of all) ≡ rows.are_numbers_apart all
-  apart_same = λ i. endpoints i && deliveries i
+  apart_same = λ i. endpoints i && (deliveries i && attempts i)
     where
-      endpoints : list_all (λ (e : Endpoint). not (is_delivery (numbers_of all) e.put || is_attempt (numbers_of all) e.put)) (map of_endpoint all.endpoints)
-          ≡ list_all (λ (e : EndpointRow). not (rows.is_delivery_at all e.put || rows.is_attempt_at all e.put)) all.endpoints
-      endpoints = list_all-map (λ (e : Endpoint). not (is_delivery (numbers_of all) e.put || is_attempt (numbers_of all) e.put)) of_endpoint all.endpoints
-          ∙ ap (λ f. list_all f all.endpoints) (λ i e. not (delivery_same e.put i || attempt_same e.put i))
+      endpoints : list_all (λ (e : Endpoint). not (is_delivery (numbers_of all) e.put || (is_attempt (numbers_of all) e.put || is_topic (numbers_of all) e.put))) (map of_endpoint all.endpoints)
+          ≡ list_all (λ (e : EndpointRow). not (rows.is_delivery_at all e.put || (rows.is_attempt_at all e.put || rows.is_topic_at all e.put))) all.endpoints
+      endpoints = list_all-map (λ (e : Endpoint). not (is_delivery (numbers_of all) e.put || (is_attempt (numbers_of all) e.put || is_topic (numbers_of all) e.put))) of_endpoint all.endpoints
+          ∙ ap (λ f. list_all f all.endpoints) (λ i e. not (delivery_same e.put i || (attempt_same e.put i || topic_same e.put i)))
 
-      deliveries : list_all (λ (d : Delivery). not (is_attempt (numbers_of all) d.seq)) (map of_delivery all.deliveries)
-          ≡ list_all (λ (d : DeliveryRow). not (rows.is_attempt_at all d.seq)) all.deliveries
-      deliveries = list_all-map (λ (d : Delivery). not (is_attempt (numbers_of all) d.seq)) of_delivery all.deliveries ∙ ap (λ f. list_all f all.deliveries) (λ i d. not (attempt_same d.seq i))
+      deliveries : list_all (λ (d : Delivery). not (is_attempt (numbers_of all) d.seq || is_topic (numbers_of all) d.seq)) (map of_delivery all.deliveries)
+          ≡ list_all (λ (d : DeliveryRow). not (rows.is_attempt_at all d.seq || rows.is_topic_at all d.seq)) all.deliveries
+      deliveries = list_all-map (λ (d : Delivery). not (is_attempt (numbers_of all) d.seq || is_topic (numbers_of all) d.seq)) of_delivery all.deliveries
+          ∙ ap (λ f. list_all f all.deliveries) (λ i d. not (attempt_same d.seq i || topic_same d.seq i))
+
+      attempts : list_all (λ (t : Attempt). not (is_topic (numbers_of all) t.seq)) (map of_attempt all.attempts) ≡ list_all (λ (t : AttemptRow). not (rows.is_topic_at all t.seq)) all.attempts
+      attempts = list_all-map (λ (t : Attempt). not (is_topic (numbers_of all) t.seq)) of_attempt all.attempts ∙ ap (λ f. list_all f all.attempts) (λ i t. not (topic_same t.seq i))
 
   endpoint_any : (test : Endpoint → Bool) → list_any test (map of_endpoint all.endpoints) ≡ list_any (λ e. test (of_endpoint e)) all.endpoints
   endpoint_any test = any_map of_endpoint test all.endpoints
@@ -155,6 +165,13 @@ module _ (all : Rows) where
       and_true true = refl
       and_true false = refl
 
+  topics_same : AreValues all → are_topics_placed (numbers_of all) ≡ rows.are_topic_rows all
+  topics_same values = λ i. nat_le (length-map all.topics of_topic i) MAX_SUBSCRIPTIONS && placed i
+    where
+      placed : list_all (λ (t : Topic). nat_lt t.endpoint t.set_by) (map of_topic all.topics) ≡ list_all rows.is_topic_row all.topics
+      placed = list_all-map (λ (t : Topic). nat_lt t.endpoint t.set_by) of_topic all.topics
+          ∙ all_same (λ (t : TopicRow). nat_lt t.endpoint t.set_by) (λ t. is_name t.topic) rows.is_topic_row all.topics values.topics (λ t h. ap (λ b. b && nat_lt t.endpoint t.set_by) (sym h))
+
   -- Attempts
 
   before_same : (t : AttemptRow) → before (map of_attempt all.attempts) (of_attempt t) ≡ map of_attempt (rows.attempts_before all t)
@@ -188,8 +205,16 @@ module _ (all : Rows) where
   named_same : (n : ℕ) → is_named (numbers_of all) n ≡ rows.is_named all n
   named_same n = λ i. taken_same n i || endpoint_any (λ e. e.enabled_by == n || e.secrets_by == n) i
 
+  overtaken_same : (n : ℕ) (e : EndpointRow) → is_overtaken (map of_topic all.topics) n (of_endpoint e) ≡ rows.is_overtaken_at all n e
+  overtaken_same n e = λ i.
+      nat_lt e.put n
+      && (nat_lt n e.enabled_by || (nat_lt n e.secrets_by || any_map of_topic (λ t. t.endpoint == e.put && nat_lt n t.set_by) all.topics i))
+
   others_same : are_others_overtaken (numbers_of all) ≡ rows.are_others_overtaken all
-  others_same = ap (λ f. list_all f (range_with_len 0 all.records)) (λ i n. named_same n i || endpoint_any (is_overtaken n) i)
+  others_same = ap (λ f. list_all f (range_with_len 0 all.records)) (λ i n. named_same n i || overtaken_any n i)
+    where
+      overtaken_any : (n : ℕ) → list_any (is_overtaken (map of_topic all.topics) n) (map of_endpoint all.endpoints) ≡ list_any (rows.is_overtaken_at all n) all.endpoints
+      overtaken_any n = endpoint_any (is_overtaken (map of_topic all.topics) n) ∙ ap (λ f. list_any f all.endpoints) (λ i e. overtaken_same n e i)
 
   -- All of them
 
@@ -197,20 +222,31 @@ module _ (all : Rows) where
   sound_same values = (λ i.
       below_same i
       && ((apart_same i && (few_same values i && (endpoints_all (is_secrets_place (numbers_of all)) (rows.is_secrets_place all) secrets_same i
-      && ((flag_places (numbers_of all) ∙ endpoints_all (is_flag_place (numbers_of all)) (rows.is_flag_place all) flag_same) i && behind_same values i))))
+      && ((flag_places (numbers_of all) ∙ endpoints_all (is_flag_place (numbers_of all)) (rows.is_flag_place all) flag_same) i && (behind_same values i && topics_same values i)))))
       && (turns_same values i && others_same i)))
       ∙ ap (λ b. rows.are_numbers_below all && b) (regroup (rows.are_numbers_apart all) (rows.are_endpoint_rows all) (list_all (rows.is_secrets_place all) all.endpoints) (list_all (rows.is_flag_place all) all.endpoints)
-      (list_all rows.is_delivery_row all.deliveries) (list_all (rows.is_attempt_row all) all.attempts && rows.are_others_overtaken all))
+      (list_all rows.is_delivery_row all.deliveries) (rows.are_topic_rows all) (list_all (rows.is_attempt_row all) all.attempts) (rows.are_others_overtaken all))
     where
-      regroup : (a b c d e r : Bool) → (a && (b && (c && (d && e)))) && r ≡ a && (b && (c && (d && (e && r))))
-      regroup false b c d e r = refl
-      regroup true false c d e r = refl
-      regroup true true false d e r = refl
-      regroup true true true false e r = refl
-      regroup true true true true e r = refl
+      regroup : (a b c d e t r o : Bool) → (a && (b && (c && (d && (e && t))))) && (r && o) ≡ a && (b && (c && (d && (e && (r && (t && o))))))
+      regroup false b c d e t r o = refl
+      regroup true false c d e t r o = refl
+      regroup true true false d e t r o = refl
+      regroup true true true false e t r o = refl
+      regroup true true true true false t r o = refl
+      regroup true true true true true true r o = refl
+      regroup true true true true true false true o = refl
+      regroup true true true true true false false o = refl
 
   pub keyed_ascends : rows.AreKeyed all → AreAscending (numbers_of all)
   keyed_ascends keyed = record {
     deliveries = rising_ascends (λ (d : Delivery). d.seq) 0 (map of_delivery all.deliveries) (rising_map of_delivery (λ (d : Delivery). d.seq) 0 all.deliveries keyed.deliveries_rise);
     attempts = rising_ascends (λ (t : Attempt). t.seq) 0 (map of_attempt all.attempts) (rising_map of_attempt (λ (t : Attempt). t.seq) 0 all.attempts keyed.attempts_rise);
+    topics = rising_ascends (λ (t : Topic). t.set_by) 0 (map of_topic all.topics) (rising_map of_topic (λ (t : Topic). t.set_by) 0 all.topics keyed.topics_rise);
   }
+
+-- what is answered of the numbers is so of all rows that have them
+pub told_of_rows : {E : Type 0} (numbers : Numbers) (r : Result Bool E) (x : Bool) → IfOk r (λ answer. answer ≡ x)
+    → ((all : Rows) → AreNumbersOf numbers all → rows.AreKeyed all → AreValues all → x ≡ rows.are_sound all)
+    → IfOk r (λ answer. (all : Rows) → AreNumbersOf numbers all → rows.AreKeyed all → AreValues all → answer ≡ rows.are_sound all)
+told_of_rows numbers (Err e) x is told = tt
+told_of_rows numbers (Ok answer) x is told = λ all same keyed values. is ∙ told all same keyed values

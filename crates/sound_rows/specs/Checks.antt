@@ -1,12 +1,14 @@
 -- The conditions on rows that speak of numbers alone, asked of the numbers.
 use Rattle.std.specs.Prelude.{◌≡◌, ◌<◌, ◌≤◌, ℕ, ◌+◌, Bool, true, false, ◌&&◌, ◌||◌, ◌==◌, not, nat_le, nat_lt, List, length, filter, count_by, if◌then◌else◌}
 use Rattle.std.specs.List.{list_any, list_all, range_with_len}
-use Rattle.relay_types.specs.declared.limits.TheConstants.{MAX_ENDPOINTS, MAX_FAILURES, MAX_RECORDS}
+use Rattle.relay_types.specs.declared.limits.TheConstants.{MAX_ENDPOINTS, MAX_FAILURES, MAX_RECORDS, MAX_SUBSCRIPTIONS}
 use Rattle.relay_types.specs.Judging.{is_delivered_status, is_gone_status, is_failed_status}
 use Rattle.relay_types.specs.Legal.{is_status}
 use Rattle.sound_rows.specs.declared.numbers.Endpoint.{Endpoint}
 use Rattle.sound_rows.specs.declared.numbers.Attempt.{Attempt}
+use Rattle.sound_rows.specs.declared.numbers.Topic.{Topic}
 use Rattle.sound_rows.specs.Numbers.{Kept}
+use Rattle.sound_rows.specs.declared.overtaken.Span.{Span}
 use Rattle.sound_rows.specs.declared.turns.Progress.{Progress}
 
 abbrev pub are_below : Kept → Bool
@@ -14,9 +16,10 @@ are_below k =
     nat_le k.records MAX_RECORDS
     && (list_all (λ e. nat_lt e.put k.records && (nat_lt e.enabled_by k.records && nat_lt e.secrets_by k.records))
     k.endpoints
-    && (list_all (λ d. nat_lt d.seq k.records) k.deliveries && list_all (λ t. nat_lt t.seq k.records) k.attempts))
+    && (list_all (λ d. nat_lt d.seq k.records) k.deliveries
+    && (list_all (λ t. nat_lt t.seq k.records) k.attempts && list_all (λ t. nat_lt t.set_by k.records) k.topics)))
 
--- whether a Put, an Accept, an Outcome, or one of these three stands at this number
+-- whether a Put, an Accept, an Outcome, the record of a topic, or one of these four stands at this number
 abbrev pub is_put : Kept → ℕ → Bool
 is_put k n = list_any (λ e. e.put == n) k.endpoints
 
@@ -26,17 +29,23 @@ is_delivery k n = list_any (λ d. d.seq == n) k.deliveries
 abbrev pub is_attempt : Kept → ℕ → Bool
 is_attempt k n = list_any (λ t. t.seq == n) k.attempts
 
+abbrev pub is_topic : Kept → ℕ → Bool
+is_topic k n = list_any (λ t. t.set_by == n) k.topics
+
 abbrev pub is_taken : Kept → ℕ → Bool
-is_taken k n = is_put k n || (is_delivery k n || is_attempt k n)
+is_taken k n = is_put k n || (is_delivery k n || (is_attempt k n || is_topic k n))
 
 abbrev pub are_puts_apart : Kept → Bool
-are_puts_apart k = list_all (λ e. not (is_delivery k e.put || is_attempt k e.put)) k.endpoints
+are_puts_apart k = list_all (λ e. not (is_delivery k e.put || (is_attempt k e.put || is_topic k e.put))) k.endpoints
 
 abbrev pub are_deliveries_apart : Kept → Bool
-are_deliveries_apart k = list_all (λ d. not (is_attempt k d.seq)) k.deliveries
+are_deliveries_apart k = list_all (λ d. not (is_attempt k d.seq || is_topic k d.seq)) k.deliveries
+
+abbrev pub are_attempts_apart : Kept → Bool
+are_attempts_apart k = list_all (λ t. not (is_topic k t.seq)) k.attempts
 
 abbrev pub are_apart : Kept → Bool
-are_apart k = are_puts_apart k && are_deliveries_apart k
+are_apart k = are_puts_apart k && (are_deliveries_apart k && are_attempts_apart k)
 
 abbrev pub is_secrets_place : Kept → Endpoint → Bool
 is_secrets_place k e =
@@ -71,6 +80,10 @@ are_flag_places k = list_all (is_flag_given k) k.endpoints && not (list_any (is_
 
 abbrev pub are_behind : Kept → Bool
 are_behind k = list_all (λ d. nat_lt d.endpoint d.seq) k.deliveries
+
+abbrev pub are_topics_placed : Kept → Bool
+are_topics_placed k =
+    nat_le (length k.topics) MAX_SUBSCRIPTIONS && list_all (λ t. nat_lt t.endpoint t.set_by) k.topics
 
 -- the attempts at the same event before this one
 abbrev pub before : List Attempt → Attempt → List Attempt
@@ -107,24 +120,38 @@ is_turn ts t = may_come (progress_of (before ts t)) t
 abbrev pub is_named : Kept → ℕ → Bool
 is_named k n = is_taken k n || list_any (λ e. e.enabled_by == n || e.secrets_by == n) k.endpoints
 
-abbrev pub is_overtaken : ℕ → Endpoint → Bool
-is_overtaken n e = nat_lt e.put n && (nat_lt n e.enabled_by || nat_lt n e.secrets_by)
+-- whether the topic is one of the endpoint with this Put, and a record behind this number decides it
+abbrev pub is_decided_behind : (put n : ℕ) → Topic → Bool
+is_decided_behind put n t = t.endpoint == put && nat_lt n t.set_by
+
+abbrev pub is_overtaken : List Topic → ℕ → Endpoint → Bool
+is_overtaken topics n e = nat_lt e.put n
+    && (nat_lt n e.enabled_by || (nat_lt n e.secrets_by || list_any (is_decided_behind e.put n) topics))
 
 abbrev pub is_explained : Kept → ℕ → Bool
-is_explained k n = is_named k n || list_any (is_overtaken n) k.endpoints
+is_explained k n = is_named k n || list_any (is_overtaken k.topics n) k.endpoints
 
 abbrev pub are_others_overtaken : Kept → Bool
 are_others_overtaken k = list_all (is_explained k) (range_with_len 0 k.records)
 
+-- the number stands in the span of an endpoint
+abbrev pub is_within : ℕ → Span → Bool
+is_within n s = nat_lt s.put n && nat_lt n s.upto
+
+-- these spans have the numbers at which records of the endpoints may have been overtaken, and no others
+abbrev pub AreSpans : List Topic → List Endpoint → List Span → Type 0
+AreSpans topics endpoints spans =
+    (n : ℕ) → list_any (is_within n) spans ≡ list_any (is_overtaken topics n) endpoints
+
 -- the records of an endpoint from this number on, up to that one, may have been overtaken
-pub record OvertakesBy (e : Endpoint) (from upto : ℕ) : Type 0 where
+pub record OvertakesBy (s : Span) (from upto : ℕ) : Type 0 where
   pub some : from < upto
-  pub all : (n : ℕ) → from ≤ n → n < upto → is_overtaken n e ≡ true
+  pub all : (n : ℕ) → from ≤ n → n < upto → is_within n s ≡ true
 
 -- those of some endpoint
-pub record Overtakes (endpoints : List Endpoint) (from upto : ℕ) : Type 0 where
+pub record Overtakes (spans : List Span) (from upto : ℕ) : Type 0 where
   pub some : from < upto
-  pub all : (n : ℕ) → from ≤ n → n < upto → list_any (is_overtaken n) endpoints ≡ true
+  pub all : (n : ℕ) → from ≤ n → n < upto → list_any (is_within n) spans ≡ true
 
 -- each of the records from this number on, up to that one, has a row that names it, or may have been overtaken
 pub record Explains (k : Kept) (from upto : ℕ) : Type 0 where
@@ -136,7 +163,7 @@ abbrev pub have_places : Kept → Bool
 have_places k =
     are_apart k
     && (nat_le (length k.endpoints) MAX_ENDPOINTS
-    && (list_all (is_secrets_place k) k.endpoints && (are_flag_places k && are_behind k)))
+    && (list_all (is_secrets_place k) k.endpoints && (are_flag_places k && (are_behind k && are_topics_placed k))))
 
 -- all that is asked
 abbrev pub are_numbers_sound : Kept → Bool

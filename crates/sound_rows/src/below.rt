@@ -4,7 +4,7 @@ ghost use Rattle.std.specs.List.{list_all};
 ghost use Rattle.sound_rows.specs.Numbers.{kept};
 ghost use Rattle.sound_rows.specs.Checks.{are_below};
 
-use crate::numbers::{Attempt, Delivery, Endpoint, Numbers};
+use crate::numbers::{Attempt, Delivery, Endpoint, Numbers, Topic};
 use relay_types::MAX_RECORDS;
 
 impl Numbers {
@@ -16,6 +16,7 @@ impl Numbers {
             && are_endpoints_below(&self.endpoints, self.records)
             && are_deliveries_below(&self.deliveries, self.records)
             && are_attempts_below(&self.attempts, self.records)
+            && are_topics_below(&self.topics, self.records)
     }
 }
 
@@ -36,4 +37,10 @@ fn are_attempts_below(attempts: &[Attempt], records: u64) -> bool
     ensures { result ≡ list_all (λ t. nat_lt t.seq records) attempts.now }
 {
     attempts.iter().all(|t| t.seq < records)
+}
+
+fn are_topics_below(topics: &[Topic], records: u64) -> bool
+    ensures { result ≡ list_all (λ t. nat_lt t.set_by records) topics.now }
+{
+    topics.iter().all(|t| t.set_by < records)
 }

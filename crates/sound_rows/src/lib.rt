@@ -13,4 +13,4 @@ mod sound;
 mod status;
 mod turns;
 
-pub use crate::numbers::{Attempt, Delivery, Endpoint, Numbers};
+pub use crate::numbers::{Attempt, Delivery, Endpoint, Numbers, Topic};

@@ -27,12 +27,21 @@ pub struct Attempt {
     pub status: u16,
 }
 
+/// A topic of the endpoint that the record with number `endpoint` made: the record with number `set_by` decides whether the
+/// endpoint is subscribed to it.
+#[derive(Clone, Copy)]
+pub struct Topic {
+    pub endpoint: u64,
+    pub set_by: u64,
+}
+
 /// What the tables tell of the numbers of a history: how many records it has, and the numbers in the rows of each table,
-/// in the order of their keys.
+/// in the order of their keys, but for topics in that of the records that decide them.
 #[derive(Drop)]
 pub struct Numbers {
     pub records: u64,
     pub endpoints: Vec<Endpoint>,
     pub deliveries: Vec<Delivery>,
     pub attempts: Vec<Attempt>,
+    pub topics: Vec<Topic>,
 }

@@ -2,14 +2,16 @@
 ghost use Rattle.std.specs.Prelude.{◌↔◌, IsTrue};
 ghost use Rattle.sound_rows.specs.Numbers.{AreAscending, IsAscending, kept};
 
-use crate::numbers::{Attempt, Delivery, Numbers};
+use crate::numbers::{Attempt, Delivery, Numbers, Topic};
 
 impl Numbers {
-    // Whether the events and the attempts stand in the order of their numbers.
+    // Whether the events, the attempts and the topics stand in the order of their numbers.
     pub(crate) fn are_ascending(&self) -> bool
         ensures { IsTrue result ↔ AreAscending (kept self.now) }
     {
-        do_deliveries_ascend(&self.deliveries) && do_attempts_ascend(&self.attempts)
+        do_deliveries_ascend(&self.deliveries)
+            && do_attempts_ascend(&self.attempts)
+            && do_topics_ascend(&self.topics)
     }
 }
 
@@ -32,6 +34,19 @@ fn do_attempts_ascend(attempts: &[Attempt]) -> bool
     let mut index = 1;
     while index < attempts.len() {
         if attempts[index].seq <= attempts[index - 1].seq {
+            return false;
+        }
+        index += 1;
+    }
+    true
+}
+
+fn do_topics_ascend(topics: &[Topic]) -> bool
+    ensures { IsTrue result ↔ IsAscending (λ t. t.set_by) topics.now }
+{
+    let mut index = 1;
+    while index < topics.len() {
+        if topics[index].set_by <= topics[index - 1].set_by {
             return false;
         }
         index += 1;

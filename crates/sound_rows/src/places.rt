@@ -2,15 +2,15 @@
 ghost use Rattle.std.specs.Prelude.{◌≡◌, ◌==◌, ◌&&◌, nat_lt, not};
 ghost use Rattle.std.specs.List.{list_any, list_all};
 ghost use Rattle.sound_rows.specs.Numbers.{AreAscending, kept};
-ghost use Rattle.sound_rows.specs.Checks.{are_behind, are_flag_places, have_places, is_flag_command, is_flag_given, is_gone_attempt, is_overlooked, is_secrets_place};
+ghost use Rattle.sound_rows.specs.Checks.{are_behind, are_flag_places, are_topics_placed, have_places, is_flag_command, is_flag_given, is_gone_attempt, is_overlooked, is_secrets_place};
 
 use crate::numbers::{Attempt, Delivery, Endpoint, Numbers};
 use crate::search::{is_delivery_of, place_of_attempt, place_of_delivery};
 use crate::status::is_gone;
-use relay_types::MAX_ENDPOINTS;
+use relay_types::{MAX_ENDPOINTS, MAX_SUBSCRIPTIONS};
 
 impl Numbers {
-    // Whether the rows of endpoints and events may stand where they do, beside what comes of the events.
+    // Whether the rows of endpoints, events and topics may stand where they do, beside what comes of the events.
     pub(crate) fn have_places(&self) -> bool
         requires { AreAscending (kept self.now) }
         ensures { result ≡ have_places (kept self.now) }
@@ -20,6 +20,7 @@ impl Numbers {
             && self.are_secrets_places()
             && self.are_flag_places()
             && self.are_behind()
+            && self.are_topics_placed()
     }
 
     // Whether each event stands behind its endpoint's Put.
@@ -27,6 +28,20 @@ impl Numbers {
         ensures { result ≡ are_behind (kept self.now) }
     {
         self.deliveries.iter().all(|d| d.endpoint < d.seq)
+    }
+
+    // Whether there are not too many topics, each decided by a record behind its endpoint's Put.
+    fn are_topics_placed(&self) -> bool
+        ensures { result ≡ are_topics_placed (kept self.now) }
+    {
+        self.topics.len() <= MAX_SUBSCRIPTIONS && self.are_topics_behind()
+    }
+
+    // Whether each topic's record stands behind its endpoint's Put.
+    fn are_topics_behind(&self) -> bool
+        ensures { result ≡ list_all (λ t. nat_lt t.endpoint t.set_by) (kept self.now).topics }
+    {
+        self.topics.iter().all(|t| t.endpoint < t.set_by)
     }
 
     // Whether each endpoint's secrets were given by its Put, or by a later record that gave nothing else.

@@ -3,7 +3,7 @@ ghost use Rattle.std.specs.Prelude.{◌≡◌, ◌==◌, ◌&&◌};
 ghost use Rattle.std.specs.List.{list_any};
 ghost use Rattle.sound_rows.specs.Numbers.{FirstBelow, IsAscending, RestFrom};
 
-use crate::numbers::{Attempt, Delivery};
+use crate::numbers::{Attempt, Delivery, Topic};
 
 impl Delivery {
     /// Whether it is the event with this number, of the endpoint that the record with number `put` made.
@@ -47,6 +47,17 @@ pub(crate) fn has_attempt(attempts: &[Attempt], seq: u64) -> bool
     }
 }
 
+/// Whether the record with this number decides a topic.
+pub(crate) fn has_topic(topics: &[Topic], set_by: u64) -> bool
+    requires { IsAscending (λ t. t.set_by) topics.now }
+    ensures { result ≡ list_any (λ t. t.set_by == set_by) topics.now }
+{
+    match topics.get(place_of_topic(topics, set_by)) {
+        Some(found) => found.set_by == set_by,
+        None => false,
+    }
+}
+
 /// How many events have lower numbers.
 pub(crate) fn place_of_delivery(deliveries: &[Delivery], seq: u64) -> usize
     requires { IsAscending (λ d. d.seq) deliveries.now }
@@ -63,4 +74,13 @@ pub(crate) fn place_of_attempt(attempts: &[Attempt], seq: u64) -> usize
     ensures above { RestFrom (λ t. t.seq) result seq attempts.now }
 {
     attempts.partition_point(|t| t.seq < seq)
+}
+
+/// How many topics are decided by records with lower numbers.
+pub(crate) fn place_of_topic(topics: &[Topic], set_by: u64) -> usize
+    requires { IsAscending (λ t. t.set_by) topics.now }
+    ensures below { FirstBelow (λ t. t.set_by) result set_by topics.now }
+    ensures above { RestFrom (λ t. t.set_by) result set_by topics.now }
+{
+    topics.partition_point(|t| t.set_by < set_by)
 }

@@ -10,7 +10,7 @@ use std::alloc::{AllocError, Global};
 
 impl Numbers {
     /// Whether rows with these numbers are such as a legal history has, where the values in them keep their rules and the
-    /// tables keep their keys. It takes memory for what came of each event, and time in proportion to `n log n`, for the
+    /// tables keep their keys. It takes memory for what came of each event and for each endpoint, and time in proportion to `n log n`, for the
     /// endpoints are few. An error is want of memory.
     pub fn are_sound(&self, alloc: Global) -> Result<bool, AllocError>
         ensures order { IfOk result (λ answer. ¬ AreAscending (kept self.now) → answer ≡ false) }
@@ -27,6 +27,9 @@ impl Numbers {
             return Ok(false);
         }
         let are_in_turn = are_in_turn(&self.attempts, alloc)?;
-        Ok(are_in_turn && self.are_others_overtaken())
+        if !are_in_turn {
+            return Ok(false);
+        }
+        self.are_others_overtaken(alloc)
     }
 }

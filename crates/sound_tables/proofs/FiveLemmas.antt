@@ -1,5 +1,6 @@
--- What the rows of the five tables obey, under either schema of the relay's.
-use Rattle.std.proofs.Common.{◌≡◌, ◌&&◌, ◌||◌, inl, inr, ℕ, List, [], ◌∷◌, codes, true, Option, Some, refl, subst}
+-- What the rows of the tables obey, under either schema of the relay's.
+use Rattle.std.proofs.Common.{◌≡◌, ◌&&◌, ◌||◌, not, inl, inr, ℕ, List, [], ◌∷◌, codes, drop, true, Option, Some}
+use Rattle.std.proofs.Common.{refl, subst}
 use Rattle.std.specs.List.{AllByRecursion}
 use Rattle.sqlite.specs.Order.{Row}
 use Rattle.sqlite.specs.Schema.{Schema}
@@ -7,9 +8,9 @@ use Rattle.sqlite_value.specs.Keys.{joined, plain}
 use Rattle.sqlite_trees.specs.Tree.{Trees}
 use Rattle.sqlite_schema.specs.declared.schema.Constraint.TheVariants.{Check, Datatype, ForeignKey, Unique}
 use Rattle.sqlite_schema.specs.Names.{same_name}
-use Rattle.sqlite_schema.specs.Rules.{Keeps, has_null, is_held, parent_key, ParentKey}
+use Rattle.sqlite_schema.specs.Rules.{Keeps, are_typed, clashes, has_null, is_held, parent_key, ParentKey}
 use Rattle.sqlite_catalog.specs.Listing.{IsSound}
-use Rattle.spool_sql.specs.Tables.{IsOwn, first_schema, relay_schema, reference_to}
+use Rattle.spool_sql.specs.Tables.{IsOwn, first_schema, relay_schema, reference_to, topics}
 
 abbrev pub parent_in : ℕ → Option ParentKey
 parent_in tree = Some (tree, 0 ∷ [], plain)
@@ -72,6 +73,23 @@ relay_keeps db sound =
       secrets = subst (λ key. Refers db 1 key (db 3)) (to_endpoints 1) refers.1.1.0;
       deliveries = subst (λ key. Refers db 2 key (db 5)) (to_endpoints 2) refers.1.1.1.0;
       attempts = subst (λ key. Refers db 2 key (db 7)) (to_deliveries 2) refers.1.1.1.1.0;
+    }
+
+-- the rules of the sixth table
+pub record KeepsTopics (db : Trees) : Type 0 where
+  pub types : AllByRecursion (λ r. are_typed topics.key 0 topics.columns (drop 1 r) && true ≡ true) (db 9)
+  pub uniques : AllByRecursion (λ row. not (clashes plain (1 ∷ 2 ∷ []) (db 9) row) && true ≡ true) (db 9)
+  pub endpoints : Refers db 2 (parent_in 1) (db 9)
+
+pub keeps_topics : (db : Trees) → IsSound relay_schema db → KeepsTopics db
+keeps_topics db sound =
+    let types = sound.obeys.rules Datatype in
+    let uniques = sound.obeys.rules Unique in
+    let refers = sound.obeys.rules ForeignKey in
+    record {
+      types = types.1.1.1.1.1.0;
+      uniques = uniques.1.1.1.1.1.0;
+      endpoints = subst (λ key. Refers db 2 key (db 9)) (to_endpoints 2) refers.1.1.1.1.1.0;
     }
 
 pub keeps_five : (schema : Schema) (db : Trees) → IsOwn schema → IsSound schema db → KeepsFive db

@@ -1,6 +1,7 @@
 -- What the keys of the schema say of the rows that the tables have.
 use Rattle.std.proofs.Common.{◌≡◌, ◌==◌, ◌&&◌, ◌||◌, ℕ, pos, List, [], ◌∷◌, map, drop, flat_map, bytes_eq, Bool, true}
-use Rattle.std.proofs.Common.{false, not, Some, IsTrue, is_eq, refl, sym, ap, ap₂, ◌∙◌, arith}
+use Rattle.std.proofs.Common.{false, not, Some, IsTrue, is_eq, refl, sym, ap, ap₂, ◌∙◌, arith, ℤ, int_cmp, Ordering}
+use Rattle.std.proofs.Common.{Less, Equal, Greater}
 use Rattle.std.specs.List.{AllByRecursion, list_any, list_all}
 use Rattle.std.specs.List.Sorted.{IsPermutation}
 use Rattle.std.specs.Ordering.{is_ne}
@@ -20,13 +21,14 @@ use Rattle.sqlite_sql.specs.Ops.{binary, from_truth, is_null, is_true}
 use Rattle.sqlite_schema.specs.Rules.{agree, clashes, differ, equal}
 use Rattle.sqlite_rules.specs.Lists.{Has}
 use Rattle.sqlite_rules.proofs.ListLemmas.{all_has}
-use Rattle.relay_types.specs.Rows.{Rows, EndpointRow, SecretRow, DeliveryRow, AttemptRow}
+use Rattle.relay_types.specs.Rows.{Rows, EndpointRow, SecretRow, DeliveryRow, AttemptRow, TopicRow, is_pair_row}
 use Rattle.relay_types.specs.Sound.{AreKeyed, IsRisingFrom, is_put_at, is_delivery_at, secret_rows_at}
 use Rattle.sqlite.specs.Schema.{Schema}
 use Rattle.spool_sql.specs.Tables.{IsOwn}
 use Rattle.spool_sql.specs.Stored.{AreTables, endpoint_stored, secret_stored, delivery_stored, attempt_stored}
 use Rattle.spool_sql.proofs.SelectLemmas.{equal_numbers, and_true}
-use Rattle.sound_tables.proofs.FiveLemmas.{KeepsFive, keeps_five}
+use Rattle.sound_tables.proofs.FiveLemmas.{KeepsFive, KeepsTopics, keeps_five}
+use Rattle.sound_tables.proofs.StoredLemmas.{Numbered, numbered_stored}
 
 -- ---- values that are compared
 
@@ -42,9 +44,13 @@ differ_numbers : (m n : ℕ) → differ (Int (pos m)) (Int (pos n)) ≡ not (m =
 unfolding binary
 differ_numbers m n = told _ ∙ ap is_ne (value_cmp-Int (pos m) (pos n)) ∙ grind (arith, nat_tests)
 
+-- two rows of topics tell of the same topic and endpoint
+abbrev pub meets : TopicRow → TopicRow → Bool
+meets s t = is_pair_row t.topic t.endpoint s && not (s.set_by == t.set_by)
+
 -- ---- tests of all rows
 
-all_pass : {Y : Type 0} (p : Y → Bool) (ys : List Y) → AllByRecursion (λ y. p y ≡ true) ys → list_all p ys ≡ true
+pub all_pass : {Y : Type 0} (p : Y → Bool) (ys : List Y) → AllByRecursion (λ y. p y ≡ true) ys → list_all p ys ≡ true
 all_pass p [] h = refl
 all_pass p (y ∷ ys) h = ap₂ (λ a b. a && b) h.0 (all_pass p ys h.1)
 
@@ -85,7 +91,8 @@ module _ {Y : Type 0} (stored : Y → Row) (tree : List Row) (ys : List Y) (are 
         → is_held_at (Int (pos n)) && true ≡ true → list_any (λ y. number y == n) ys ≡ true
     found_at number is n held =
         sym (any_typed (λ parent. equal Binary (column parent 0) (Int (pos n)) && true) (λ y. number y == n)
-        (λ y. and_true _ ∙ ap (λ v. equal Binary v (Int (pos n))) (is y) ∙ equal_numbers (number y) n)) ∙ sym (and_true _)
+        (λ y. and_true _ ∙ ap (λ v. equal Binary v (Int (pos n))) (is y) ∙ equal_numbers (number y) n))
+        ∙ sym (and_true _)
         ∙ held
 
 two_equal : {a b c x y z : Bool} → a ≡ x → b ≡ y → c ≡ z → ((a && (b && true)) && c) ≡ (x && (y && z))
@@ -114,6 +121,32 @@ number_clash : (s t : AttemptRow) → (agree plain (2 ∷ 3 ∷ []) (attempt_sto
 unfolding first_key
 number_clash s t = two_equal (equal_numbers s.delivery t.delivery) (equal_numbers s.number t.number)
     (differ_numbers s.seq t.seq)
+
+ne_is_not : (o : Ordering) → is_ne o ≡ not (is_eq o)
+ne_is_not Less = refl
+ne_is_not Equal = refl
+ne_is_not Greater = refl
+
+differ_ints : (m n : ℤ) → differ (Int m) (Int n) ≡ not (is_eq (int_cmp m n))
+unfolding binary
+differ_ints m n = told _ ∙ ap is_ne (value_cmp-Int m n) ∙ ne_is_not (int_cmp m n)
+
+-- one row of topics keeps the other out: it has the same topic and endpoint, but another rowid
+abbrev pub keeps_out : Numbered → Numbered → Bool
+keeps_out f e =
+    bytes_eq f.1.topic e.1.topic && (f.1.endpoint == e.1.endpoint && not (is_eq (int_cmp f.0 e.0)))
+
+pair_clash : (f e : Numbered) → (agree plain (1 ∷ 2 ∷ []) (numbered_stored f) (1 ∷ 2 ∷ []) (numbered_stored e)
+    && differ (rowid (numbered_stored f)) (rowid (numbered_stored e)))
+    ≡ keeps_out f e
+unfolding first_key
+pair_clash f e = two_equal (equal_words f.1.topic e.1.topic) (equal_numbers f.1.endpoint e.1.endpoint)
+    (differ_ints f.0 e.0)
+
+pub none_kept_out : (db : Trees) → KeepsTopics db → (ys : List Numbered)
+    → IsPermutation (db 9) (map numbered_stored ys)
+    → IsTrue (list_all (λ e. not (list_any (λ f. keeps_out f e) ys)) ys)
+none_kept_out db keeps ys are = all_apart numbered_stored (db 9) ys are (1 ∷ 2 ∷ []) _ pair_clash keeps.uniques
 
 -- ---- the references
 
@@ -176,6 +209,16 @@ module _ (schema : Schema) (own : IsOwn schema) (version : ℕ) (db : Trees) (ro
       (λ row. is_held_at delivery_stored (db 5) rows.deliveries tables.deliveries (column row 2)
       && true ≡ true) held))
 
+  -- the topics are those of endpoints
+  pub topics_refer : KeepsTopics db → (ys : List Numbered) → IsPermutation (db 9) (map numbered_stored ys)
+      → AllByRecursion (λ (y : Numbered). is_put_at rows y.1.endpoint ≡ true) ys
+  unfolding first_key
+  topics_refer keeps_them ys are =
+      let held = keeps_them.endpoints in
+      all_weaker _ (λ (y : Numbered). is_put_at rows y.1.endpoint ≡ true) (λ y. is_endpoint y.1.endpoint) ys
+      (each_stored numbered_stored (db 9) ys are
+      (λ row. is_held_at endpoint_stored (db 1) rows.endpoints tables.endpoints (column row 2) && true ≡ true) held)
+
   -- the secrets are those of endpoints
   pub secrets_refer : (s : SecretRow) → Has rows.secrets s → is_put_at rows s.endpoint ≡ true
   unfolding first_key
@@ -193,16 +236,22 @@ module _ (schema : Schema) (own : IsOwn schema) (version : ℕ) (db : Trees) (ro
   pub keyed_by : IsRisingFrom (λ (e : EndpointRow). e.put) 0 rows.endpoints
       → IsRisingFrom (λ (d : DeliveryRow). d.seq) 0 rows.deliveries
       → IsRisingFrom (λ (t : AttemptRow). t.seq) 0 rows.attempts
+      → IsRisingFrom (λ (t : TopicRow). t.set_by) 0 rows.topics
       → flat_map (λ (e : EndpointRow). secret_rows_at rows e.put) rows.endpoints ≡ rows.secrets
+      → IsTrue (list_all (λ t. not (list_any (λ s. meets s t) rows.topics)) rows.topics)
+      → IsTrue (list_all (λ t. is_put_at rows t.endpoint) rows.topics)
       → AreKeyed rows
-  keyed_by puts deliveries attempts by_endpoint = record {
+  keyed_by puts deliveries attempts topics by_endpoint pairs subscribed = record {
     puts_rise = puts;
     deliveries_rise = deliveries;
     attempts_rise = attempts;
+    topics_rise = topics;
     by_endpoint = by_endpoint;
     names = names_apart;
     ids = ids_apart;
     numbers = numbers_apart;
+    pairs = pairs;
     endpoints = deliveries_refer;
+    subscribed = subscribed;
     deliveries = attempts_refer;
   }

@@ -4,7 +4,7 @@ use Rattle.sqlite.specs.Schema.{Schema}
 use Rattle.sqlite_schema.specs.Names.{same_name}
 use Rattle.spool_sql.specs.Tables.{IsOwn, first_schema, relay_schema}
 use Rattle.sound_tables.specs.Keys.{has_first_names, has_first_tables, has_meta, has_names, has_tables}
-use Rattle.sound_tables.specs.Versions.{has_names_of, has_tables_of, schema_of}
+use Rattle.sound_tables.specs.Versions.{IsReadable, has_names_of, has_tables_of, schema_of}
 use Rattle.sound_tables.specs.declared.version.Version.{Version}
 use Rattle.sound_tables.specs.declared.version.Version.TheVariants.{First, Second}
 
@@ -71,3 +71,10 @@ never_unkeyed Second schema (inr is) named lacks = lacks_none has_tables relay_s
 pub own_schema : (v : Version) (schema : Schema) → schema ≡ schema_of v → IsOwn schema
 own_schema First schema is = inl is
 own_schema Second schema is = inr is
+
+-- one that has the names of a version can be read as that
+pub named_readable : (v : Version) (schema : Schema) → IsOwn schema → has_names_of v schema ≡ true
+    → IsReadable v schema
+named_readable First schema own named = own
+named_readable Second schema (inl is) named = never (has_names schema) named (ap has_names is ∙ no_topics)
+named_readable Second schema (inr is) named = is

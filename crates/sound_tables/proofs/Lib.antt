@@ -18,3 +18,5 @@ pub mod MetaLemmas
 pub mod UnsoundLemmas
 pub mod RefusedLemmas
 pub mod JudgedLemmas
+pub mod VersionLemmas
+pub mod TopicLemmas

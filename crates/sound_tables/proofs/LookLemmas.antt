@@ -1,5 +1,5 @@
 -- One look at the database after another.
-use Rattle.std.proofs.Common.{◌≡◌, ℕ, Result, Ok, Err, IfOk, IfErr, OnOk, MatchResult, refl, sym, subst, arith}
+use Rattle.std.proofs.Common.{◌≡◌, ℕ, Result, Ok, Err, IfOk, IfErr, OnOk, MatchResult, sym, subst, arith}
 use Rattle.sqlite_trees.specs.declared.store.Store.{Ghosts}
 use Rattle.sqlite.specs.Held.{Held, state}
 use Rattle.sqlite.specs.Effect.{Database}
@@ -11,6 +11,8 @@ use Rattle.sqlite.specs.Schema.{Schema}
 use Rattle.sound_tables.specs.Checks.{AreRead, AreShown, HasRecords}
 use Rattle.sound_tables.specs.declared.stored.StoredRows.{StoredRows}
 use Rattle.sound_tables.specs.Reading.{Looks}
+use Rattle.sound_tables.specs.Versions.{number_of}
+use Rattle.sound_tables.specs.declared.version.Version.{Version}
 use Rattle.sound_tables.proofs.BothRefused.{refusal_since}
 use Rattle.sound_tables.proofs.ReadingLemmas.{IsStill, looks_failed}
 
@@ -47,14 +49,13 @@ module _ {S : Type 0} (g : Ghosts S) (a m b : Held S) (first : Looks g a m) (sam
       → IsRefusal (state g a) (state g b) e
   refused_since e clean = refusal_since (state g a) (state g m) (state g b) first.survives second.survives clean e
 
-  pub are_read : (version records : ℕ) (rows : StoredRows) → IsLive (state g a) → HasCleanDisk (state g b)
-      → HasRecords version (state g a).now records → AreShown (state g m).now rows
-      → AreRead (state g a).now.schema version (state g a).now records rows
-  are_read version records rows live clean meta shown = record {
-    schema_is = refl;
+  pub are_read : (v : Version) (records : ℕ) (rows : StoredRows) → IsLive (state g a) → HasCleanDisk (state g b)
+      → HasRecords (number_of v) (state g a).now records → AreShown v (state g m).now rows
+      → AreRead v (state g a).now records rows
+  are_read v records rows live clean meta shown = record {
     obeys = (live (same (clean_early clean)).0.was_open).0;
     meta = meta;
-    shown = subst (λ (db : Database). AreShown db rows) (same_now clean) shown;
+    shown = subst (λ (db : Database). AreShown v db rows) (same_now clean) shown;
   }
 
 pub told_ok : {A E : Type 0} (r : Result A E) (P : A → Type 0) (Q : E → Type 0) → MatchResult r P Q → IfOk r P

@@ -7,7 +7,7 @@ use Rattle.sqlite.specs.Order.{Row}
 use Rattle.sqlite.specs.Effect.{Database}
 use Rattle.sqlite_trees.proofs.ListLemmas.{all-permutation}
 use Rattle.relay_types.specs.Rows.{Rows}
-use Rattle.sound_tables.specs.Checks.{AreSoundFive, HasMeta, HasRecords, Refuses}
+use Rattle.sound_tables.specs.Checks.{AreSoundAt, HasMeta, HasRecords, Refuses}
 use Rattle.sound_tables.specs.Versions.{number_of}
 use Rattle.sound_tables.specs.declared.version.Version.{Version}
 use Rattle.sound_tables.specs.declared.fault.TableFault.TheVariants.{Damaged}
@@ -57,7 +57,7 @@ one_version n version same = let both : n ≡ version = cc in sym both
 
 -- tables of the version that is asked for, which have no sound rows
 pub damaged : (v : Version) (db : Database) (records : ℕ) → HasRecords (number_of v) db records
-    → ((rows : Rows) → ¬ AreSoundFive v db rows) → Refuses v (AreSoundFive v) db Damaged
+    → ((rows : Rows) → ¬ AreSoundAt v db rows) → Refuses v (AreSoundAt v) db Damaged
 damaged v db records has none = (
   (
     record { key = pos 1; version = pos (number_of v); records = pos records },

@@ -1,7 +1,7 @@
 -- The rows of sound tables are read in the order of their keys.
 use Rattle.std.proofs.Common.{◌≡◌, ◌<◌, ◌≤◌, ◌+◌, ℕ, ℤ, zero, suc, pos, Bool, true, false, cond, List, [], ◌∷◌, map}
 use Rattle.std.proofs.Common.{filter, length, get_or, int_lt, int_cmp, nat_cmp, is_lt, is_eq, refl, sym, ap, ap₂, subst}
-use Rattle.std.proofs.Common.{◌∙◌, arith, IsPermutation, IsSorted}
+use Rattle.std.proofs.Common.{◌∙◌, arith, IsSorted}
 use Rattle.std.specs.List.{AllZip}
 use Rattle.std.specs.Ordering.{on}
 use Rattle.std.proofs.lemmas.Int.{ints}
@@ -13,7 +13,7 @@ use Rattle.sqlite.specs.Effect.{Database}
 use Rattle.sqlite.specs.declared.types.Value.TheVariants.{Int}
 use Rattle.sqlite_value.specs.Order.{column, value_cmp}
 use Rattle.sqlite_value.proofs.OrderLemmas.{value_cmp-Int}
-use Rattle.sqlite_trees.specs.Tree.{has_rowid}
+use Rattle.sqlite_trees.specs.Tree.{has_rowid, rowid}
 use Rattle.sqlite_trees.proofs.ListLemmas.{filter-map, IsPermutation-filter}
 use Rattle.relay_types.specs.Rows.{Rows}
 use Rattle.relay_types.proofs.FilterLaws.{rising_map}
@@ -22,16 +22,20 @@ use Rattle.sound_rows.specs.declared.numbers.Endpoint.{Endpoint}
 use Rattle.sound_rows.specs.declared.numbers.Delivery.{Delivery}
 use Rattle.sound_rows.specs.declared.numbers.Attempt.{Attempt}
 use Rattle.spool_sql.specs.Stored.{HasRowids}
-use Rattle.sqlite.specs.Schema.{Schema}
-use Rattle.sound_tables.specs.Checks.{AreInOrder, AreShown, AreSoundUnder}
+use Rattle.sound_tables.specs.Checks.{AreInOrder, AreShown, AreSoundAt, HasTopics}
 use Rattle.sound_tables.specs.Reading.{Shows}
-use Rattle.sound_tables.specs.Shown.{ShowsEndpoint, ShowsSecret, ShowsDelivery, ShowsAttempt}
-use Rattle.sound_tables.specs.Tables.{AreByFirst, HasShown, secret_columns}
+use Rattle.sound_tables.specs.Shown.{ShowsEndpoint, ShowsSecret, ShowsDelivery, ShowsAttempt, ShowsTopic}
+use Rattle.sound_tables.specs.Tables.{AreByFirst, HasShown}
+use Rattle.sound_tables.specs.Versions.{IsTablesAt}
 use Rattle.sound_tables.specs.declared.secret.Secret.{Secret}
 use Rattle.sound_tables.specs.declared.stored.StoredRows.{StoredRows}
+use Rattle.sound_tables.specs.declared.topic.Topic.{Topic}
+use Rattle.sound_tables.specs.declared.version.Version.{Version}
+use Rattle.sound_tables.specs.declared.version.Version.TheVariants.{First, Second}
 use Rattle.sound_tables.proofs.OrderLemmas.{one_more, one_sorted}
 use Rattle.sound_tables.proofs.ShownLemmas.{endpoints_read, deliveries_read, attempts_read}
 use Rattle.sound_tables.proofs.StoredLemmas.{AreRising, has_id, rising_by_next}
+use Rattle.sound_tables.proofs.VersionLemmas.{five_at}
 
 -- ---- what is shown by rows in the order of their keys
 
@@ -85,54 +89,69 @@ same_id a = grind (arith, ints)
 neither_less : (a b : ℤ) → is_lt (int_cmp b a) ≡ false → int_lt a b ≡ false → is_eq (int_cmp b a) ≡ true
 neither_less a b up not_less = grind (arith, ints)
 
-rowids_rise : (tree : List Row) (ss : List Secret) → HasRowids tree → HasShown ShowsSecret secret_columns tree ss
-    → AreRising ss
-rowids_rise tree ss ids shown =
-    rising_by_next ss (λ k d l. at k d l (int_lt (get_or ss k d).rowid (get_or ss (k + 1) d).rowid) refl)
-  where
-    once : (id : ℤ) → length (filter (has_rowid id) shown.0) ≤ 1
-    once id =
-        let same = length_permutation _ _
-        (IsPermutation-filter (has_rowid id) (map secret_columns tree) shown.0 shown.1) in
-        let kept = ap length (filter-map (has_rowid id) secret_columns tree) in
-        let many = length-map (filter (has_rowid id) tree) secret_columns in
-        let most = ids.once id in omega (arith, same, kept, many, most)
+module _ {X : Type 0} (is_shown : Shows X) (id_of : X → ℤ) (behind : Row → Row)
+    (told : (r : Row) (x : X) → is_shown r x → rowid r ≡ Int (id_of x)) where
+  pub rowids_rise : (tree : List Row) (xs : List X) → HasRowids tree
+      → HasShown is_shown (λ r. rowid r ∷ behind r) tree xs → AreRising id_of xs
+  rowids_rise tree xs ids shown =
+      rising_by_next id_of xs (λ k d l. at k d l (int_lt (id_of (get_or xs k d)) (id_of (get_or xs (k + 1) d))) refl)
+    where
+      once : (id : ℤ) → length (filter (has_rowid id) shown.0) ≤ 1
+      once id =
+          let same = length_permutation _ _
+          (IsPermutation-filter (has_rowid id) (map (λ r. rowid r ∷ behind r) tree) shown.0 shown.1) in
+          let kept = ap length (filter-map (has_rowid id) (λ r. rowid r ∷ behind r) tree) in
+          let many = length-map (filter (has_rowid id) tree) (λ r. rowid r ∷ behind r) in
+          let most = ids.once id in omega (arith, same, kept, many, most)
 
-    at : (k : ℕ) (d : Secret) → k + 1 < length ss → (b : Bool)
-        → int_lt (get_or ss k d).rowid (get_or ss (k + 1) d).rowid ≡ b
-        → int_lt (get_or ss k d).rowid (get_or ss (k + 1) d).rowid ≡ true
-    at k d l true less = less
-    at k d l false not_less =
-        let s = get_or ss k d in
-        let t = get_or ss (k + 1) d in
-        let one = zip_at ShowsSecret shown.0 ss k [] d shown.2 (omega (arith, l)) in
-        let two = zip_at ShowsSecret shown.0 ss (k + 1) [] d shown.2 l in
-        let up : is_lt (int_cmp t.rowid s.rowid) ≡ false =
-        by_key ShowsSecret (λ x. x.rowid) (λ r x shows. shows.rowid) shown.0 ss shown.2 shown.3 k d
-        (omega arith) l in
-        let both = two_in (has_rowid s.rowid) shown.0 k [] two.0 (has_id s.rowid _ s one.1 ∙ same_id s.rowid)
-        (has_id s.rowid _ t two.1 ∙ neither_less s.rowid t.rowid up not_less) in
-        absurd (omega (arith, both, once s.rowid))
+      at : (k : ℕ) (d : X) → k + 1 < length xs → (b : Bool)
+          → int_lt (id_of (get_or xs k d)) (id_of (get_or xs (k + 1) d)) ≡ b
+          → int_lt (id_of (get_or xs k d)) (id_of (get_or xs (k + 1) d)) ≡ true
+      at k d l true less = less
+      at k d l false not_less =
+          let s = get_or xs k d in
+          let t = get_or xs (k + 1) d in
+          let one = zip_at is_shown shown.0 xs k [] d shown.2 (omega (arith, l)) in
+          let two = zip_at is_shown shown.0 xs (k + 1) [] d shown.2 l in
+          let up : is_lt (int_cmp (id_of t) (id_of s)) ≡ false = by_key is_shown id_of told shown.0 xs shown.2 shown.3 k
+          d (omega arith) l in
+          let both = two_in (has_rowid (id_of s)) shown.0 k [] two.0
+          (has_id is_shown id_of behind told (id_of s) _ s one.1 ∙ same_id (id_of s))
+          (has_id is_shown id_of behind told (id_of s) _ t two.1 ∙ neither_less (id_of s) (id_of t) up not_less) in
+          absurd (omega (arith, both, once (id_of s)))
+
+topics_in_order : (v : Version) (db : Database) (ts : List Topic) (rows : Rows) → HasTopics v db ts
+    → IsTablesAt v db rows → AreRising (λ (t : Topic). t.rowid) ts
+topics_in_order First db ts rows none it = subst (AreRising (λ (t : Topic). t.rowid)) (sym none) tt
+topics_in_order Second db ts rows shown it =
+    rowids_rise ShowsTopic (λ (t : Topic). t.rowid) (λ r. column r 1 ∷ column r 2 ∷ column r 3 ∷ column r 4 ∷ [])
+    (λ r t shows. shows.rowid) (db.trees 9) ts it.tables.topic_rowids shown
 
 -- what is read of sound tables rises
-pub sound_in_order : (schema : Schema) (version : ℕ) (db : Database) (stored : StoredRows) (rows : Rows)
-    → AreShown db stored → AreSoundUnder schema version db rows → AreInOrder stored
-sound_in_order schema version db stored rows shown it = record {
+pub sound_in_order : (v : Version) (db : Database) (stored : StoredRows) (rows : Rows) → AreShown v db stored
+    → AreSoundAt v db rows → AreInOrder stored
+sound_in_order v db stored rows shown it = record {
   puts = one_sorted (λ (e : Endpoint). e.put) (map of_endpoint rows.endpoints) stored.endpoints.items
       (rising_map of_endpoint (λ (e : Endpoint). e.put) 0 rows.endpoints it.keyed.puts_rise)
-      (endpoints_read (db.trees 1) rows.endpoints stored.endpoints.items it.tables.tables.endpoints shown.endpoints)
+      (endpoints_read (db.trees 1) rows.endpoints stored.endpoints.items (five_at v db rows it.tables).tables.endpoints
+      shown.endpoints)
       (by_number ShowsEndpoint (λ (e : Endpoint). e.put) (λ r e shows. shows.numbers.put) _
       (db.trees 1) stored.endpoints.items shown.endpoints);
-  rowids = rowids_rise (db.trees 3) stored.secrets.items it.tables.tables.secret_rowids shown.secrets;
+  rowids = rowids_rise ShowsSecret (λ (s : Secret). s.rowid) (λ r. column r 1 ∷ column r 2 ∷ column r 3 ∷ [])
+      (λ r s shows. shows.rowid) (db.trees 3) stored.secrets.items (five_at v db rows it.tables).tables.secret_rowids
+      shown.secrets;
   deliveries = one_sorted (λ (d : Delivery). d.seq) (map of_delivery rows.deliveries) stored.deliveries.items
       (rising_map of_delivery (λ (d : Delivery). d.seq) 0 rows.deliveries it.keyed.deliveries_rise)
-      (deliveries_read (db.trees 5) rows.deliveries stored.deliveries.items it.tables.tables.deliveries
+      (deliveries_read (db.trees 5) rows.deliveries stored.deliveries.items
+      (five_at v db rows it.tables).tables.deliveries
       shown.deliveries)
       (by_number ShowsDelivery (λ (d : Delivery). d.seq) (λ r d shows. shows.seq) _
       (db.trees 5) stored.deliveries.items shown.deliveries);
   attempts = one_sorted (λ (t : Attempt). t.seq) (map of_attempt rows.attempts) stored.attempts.items
       (rising_map of_attempt (λ (t : Attempt). t.seq) 0 rows.attempts it.keyed.attempts_rise)
-      (attempts_read (db.trees 7) rows.attempts stored.attempts.items it.tables.tables.attempts shown.attempts)
-      (by_number ShowsAttempt (λ (t : Attempt). t.seq) (λ r t shows. shows.seq) _
-      (db.trees 7) stored.attempts.items shown.attempts);
+      (attempts_read (db.trees 7) rows.attempts stored.attempts.items (five_at v db rows it.tables).tables.attempts
+      shown.attempts)
+      (by_number ShowsAttempt (λ (t : Attempt). t.seq) (λ r t shows. shows.seq) _ (db.trees 7) stored.attempts.items
+      shown.attempts);
+  topics = topics_in_order v db stored.topics.items rows shown.topics it.tables;
 }

@@ -1,5 +1,6 @@
 -- What is read of tables that have these rows.
-use Rattle.std.proofs.Common.{◌≡◌, ℕ, ◌==◌, Bool, true, false, not, List, [], ◌∷◌, map, drop, IsTrue, refl, sym, ap, ap₂, subst, ◌∙◌, IsPermutation}
+use Rattle.std.proofs.Common.{◌≡◌, ◌≢◌, ℕ, ◌==◌, Bool, true, false, not, List, [], ◌∷◌, map, drop, IsTrue, refl, sym}
+use Rattle.std.proofs.Common.{ap, ap₂, subst, ◌∙◌, IsPermutation}
 use Rattle.std.specs.List.{AllByRecursion, AllZip}
 use Rattle.std.proofs.lemmas.List.Sorted.{IsPermutation-map, IsPermutation-sym, IsPermutation-trans}
 use Rattle.sqlite.specs.Order.{Row}
@@ -9,22 +10,29 @@ use Rattle.sqlite_value.specs.Order.{column}
 use Rattle.sqlite_trees.specs.Tree.{rowid}
 use Rattle.sqlite_trees.specs.View.{is_int}
 use Rattle.sqlite_trees.specs.Objects.{number_in}
-use Rattle.sqlite_trees.proofs.ListLemmas.{map-map, all_weaker, all_both, all-map, all_from_map, all-permutation, IsPermutation-same}
-use Rattle.relay_types.specs.Values.{is_secret}
-use Rattle.relay_types.specs.Rows.{EndpointRow, SecretRow, DeliveryRow, AttemptRow}
-use Rattle.sound_rows.specs.Numbers.{of_endpoint, of_delivery, of_attempt}
+use Rattle.sqlite_trees.proofs.ListLemmas.{map-map, all_weaker, all_both, all-map, all_from_map, all-permutation}
+use Rattle.sqlite_trees.proofs.ListLemmas.{IsPermutation-same}
+use Rattle.relay_types.specs.Values.{is_name, is_secret}
+use Rattle.relay_types.specs.Rows.{EndpointRow, SecretRow, DeliveryRow, AttemptRow, TopicRow}
+use Rattle.sound_rows.specs.Numbers.{of_endpoint, of_delivery, of_attempt, of_topic}
 use Rattle.sound_rows.specs.declared.numbers.Endpoint.{Endpoint}
 use Rattle.sound_rows.specs.declared.numbers.Delivery.{Delivery}
 use Rattle.sound_rows.specs.declared.numbers.Attempt.{Attempt}
-use Rattle.spool_sql.specs.Stored.{HasRowids, flag_number, endpoint_stored, secret_stored, delivery_stored, attempt_stored}
+use Rattle.sound_rows.specs.declared.numbers.Topic.{Topic as Decided}
+use Rattle.spool_sql.specs.Stored.{HasRowids, flag_number, endpoint_stored, secret_stored, delivery_stored}
+use Rattle.spool_sql.specs.Stored.{attempt_stored, topic_stored}
+use Rattle.sound_tables.specs.Checks.{numbers_of}
 use Rattle.sound_tables.specs.Reading.{Shows}
-use Rattle.sound_tables.specs.Shown.{ShowsEndpoint, ShowsSecret, ShowsDelivery, ShowsAttempt}
+use Rattle.sound_tables.specs.Shown.{ShowsEndpoint, ShowsSecret, ShowsDelivery, ShowsAttempt, ShowsTopic}
 use Rattle.sound_tables.specs.Tables.{HasShown, endpoint_columns, secret_columns, delivery_columns, attempt_columns}
+use Rattle.sound_tables.specs.Tables.{topic_columns}
 use Rattle.sound_tables.specs.declared.secret.Secret.{Secret}
+use Rattle.sound_tables.specs.declared.topic.Topic.{Topic}
 use Rattle.sound_tables.proofs.PlaceLemmas.{pair, row_pair}
 
 -- what is told by a row's columns is read of the stored rows in some order
-module _ {X K : Type 0} (shows : Shows X) (of : Row → Row) (view : X → K) (decode : Row → K) (told : (r : Row) (x : X) → shows r x → decode r ≡ view x) where
+module _ {X K : Type 0} (shows : Shows X) (of : Row → Row) (view : X → K) (decode : Row → K) (told : (r : Row) (x : X)
+    → shows r x → decode r ≡ view x) where
   decoded : (rows : List Row) (xs : List X) → AllZip shows rows xs → map decode rows ≡ map view xs
   decoded [] [] zip = refl
   decoded [] (x ∷ xs) zip = absurd zip
@@ -36,15 +44,20 @@ module _ {X K : Type 0} (shows : Shows X) (of : Row → Row) (view : X → K) (d
   pointwise f g same (a ∷ list) = ap₂ ◌∷◌ (same a) (pointwise f g same list)
 
   -- `cut` is what the stored rows say of a row of the tree
-  pub read_of_stored : {R : Type 0} (cut : Row → Row) (stored : R → Row) (kept : R → K) (behind : Row → K) → ((r : Row) → decode (of r) ≡ behind (cut r)) → ((e : R) → behind (stored e) ≡ kept e)
-      → (tree : List Row) (es : List R) (xs : List X) → IsPermutation (map cut tree) (map stored es) → HasShown shows of tree xs → IsPermutation (map kept es) (map view xs)
+  pub read_of_stored : {R : Type 0} (cut : Row → Row) (stored : R → Row) (kept : R → K) (behind : Row → K)
+      → ((r : Row) → decode (of r) ≡ behind (cut r)) → ((e : R) → behind (stored e) ≡ kept e)
+      → (tree : List Row) (es : List R) (xs : List X) → IsPermutation (map cut tree) (map stored es)
+      → HasShown shows of tree xs → IsPermutation (map kept es) (map view xs)
   read_of_stored cut stored kept behind cuts keeps tree es xs same shown =
       let seen = IsPermutation-map decode _ _ shown.1 in
       let was = IsPermutation-map behind _ _ same in
-      let one : map decode (map of tree) ≡ map behind (map cut tree) = map-map decode of tree ∙ pointwise _ _ cuts tree ∙ sym (map-map behind cut tree) in
+      let one : map decode (map of tree) ≡ map behind (map cut tree) = map-map decode of tree ∙ pointwise _ _ cuts tree
+      ∙ sym (map-map behind cut tree) in
       let two : map behind (map stored es) ≡ map kept es = map-map behind stored es ∙ pointwise _ _ keeps es in
-      IsPermutation-trans _ _ _ (IsPermutation-same _ _ (sym two)) (IsPermutation-trans _ _ _ (IsPermutation-sym _ _ was)
-      (IsPermutation-trans _ _ _ (IsPermutation-same _ _ (sym one)) (IsPermutation-trans _ _ _ seen (IsPermutation-same _ _ (decoded shown.0 xs shown.2)))))
+      IsPermutation-trans _ _ _ (IsPermutation-same _ _ (sym two))
+      (IsPermutation-trans _ _ _ (IsPermutation-sym _ _ was)
+      (IsPermutation-trans _ _ _ (IsPermutation-same _ _ (sym one))
+      (IsPermutation-trans _ _ _ seen (IsPermutation-same _ _ (decoded shown.0 xs shown.2)))))
 
 same_list : {X : Type 0} (xs : List X) → map (λ x. x) xs ≡ xs
 same_list [] = refl
@@ -60,13 +73,24 @@ flag_back true = refl
 flag_back false = refl
 
 abbrev endpoint_in : Row → Endpoint
-endpoint_in r = record { put = number_in (column r 0); enabled = flag (column r 4); enabled_by = number_in (column r 5); secrets_by = number_in (column r 6) }
+endpoint_in r = record {
+  put = number_in (column r 0);
+  enabled = flag (column r 4);
+  enabled_by = number_in (column r 5);
+  secrets_by = number_in (column r 6);
+}
 
 abbrev delivery_in : Row → Delivery
 delivery_in r = record { seq = number_in (column r 0); endpoint = number_in (column r 1) }
 
 abbrev attempt_in : Row → Attempt
-attempt_in r = record { seq = number_in (column r 0); delivery = number_in (column r 1); number = number_in (column r 2); status = number_in (column r 3) }
+attempt_in r = record {
+  seq = number_in (column r 0);
+  delivery = number_in (column r 1);
+  number =
+      number_in (column r 2);
+  status = number_in (column r 3);
+}
 
 endpoint_told : (r : Row) (e : Endpoint) → ShowsEndpoint r e → endpoint_in r ≡ e
 endpoint_told r e shown = λ i. record {
@@ -114,7 +138,13 @@ attempts_read tree ts xs same shown =
     (λ t. refl) tree ts xs (subst (λ l. IsPermutation l (map attempt_stored ts)) (sym (same_list tree)) same) shown)
   where
     told : (r : Row) (t : Attempt) → ShowsAttempt r t → attempt_in r ≡ t
-    told r t shows = λ i. record { seq = ap number_in shows.seq i; delivery = ap number_in shows.delivery i; number = ap number_in shows.number i; status = ap number_in shows.status i }
+    told r t shows = λ i. record {
+      seq = ap number_in shows.seq i;
+      delivery = ap number_in shows.delivery i;
+      number =
+          ap number_in shows.number i;
+      status = ap number_in shows.status i;
+    }
 
 -- the endpoint and the place, in all columns and in those behind the rowid
 abbrev place_in : Row → ℕ × ℕ
@@ -133,13 +163,41 @@ place_told r s shows = λ i. (ap number_in shows.endpoint i, ap number_in shows.
 pub secrets_read : (tree : List Row) (rs : List SecretRow) (ss : List Secret)
     → IsPermutation (map (drop 1) tree) (map secret_stored rs) → HasShown ShowsSecret secret_columns tree ss
     → IsPermutation (map row_pair rs) (map pair ss)
-secrets_read tree rs ss same shown = read_of_stored ShowsSecret secret_columns pair place_in place_told (drop 1) secret_stored row_pair place_behind behind_rowid (λ r. refl) tree rs ss same shown
+secrets_read tree rs ss same shown = read_of_stored ShowsSecret secret_columns pair place_in place_told
+    (drop 1) secret_stored row_pair place_behind behind_rowid (λ r. refl) tree rs ss same shown
+
+-- what is kept of a topic, in all columns and in those behind the rowid
+abbrev topic_in : Row → Decided
+topic_in r = record { endpoint = number_in (column r 2); set_by = number_in (column r 4) }
+
+abbrev topic_behind : Row → Decided
+topic_behind r = record { endpoint = number_in (column r 1); set_by = number_in (column r 3) }
+
+topic_behind_rowid : (r : Row) → topic_in r ≡ topic_behind (drop 1 r)
+topic_behind_rowid [] = refl
+topic_behind_rowid (v ∷ r) = refl
+
+topic_told : (r : Row) (t : Topic) → ShowsTopic r t → topic_in r ≡ numbers_of t
+topic_told r t shows = λ i. record {
+  endpoint = ap number_in shows.endpoint i;
+  set_by = ap number_in shows.set_by i;
+}
+
+pub topics_read : (tree : List Row) (rs : List TopicRow) (ts : List Topic)
+    → IsPermutation (map (drop 1) tree) (map topic_stored rs) → HasShown ShowsTopic topic_columns tree ts
+    → IsPermutation (map of_topic rs) (map numbers_of ts)
+topics_read tree rs ts same shown =
+    read_of_stored ShowsTopic topic_columns numbers_of topic_in topic_told (drop 1) topic_stored of_topic topic_behind
+    topic_behind_rowid (λ r. refl) tree rs ts same shown
 
 -- ---- rows that keep their rules all show values
 
-module _ {X : Type 0} (shows : Shows X) (of : Row → Row) {R : Type 0} (stored : R → Row) (tree : List Row) (es : List R) (same : IsPermutation tree (map stored es)) where
-  pub all_show : AllByRecursion (λ e. (x : X) × shows (of (stored e)) x) es → AllByRecursion (λ r. (x : X) × shows (of r) x) tree
-  all_show each = all-permutation (λ r. (x : X) × shows (of r) x) _ _ (IsPermutation-sym _ _ same) (all-map (λ r. (x : X) × shows (of r) x) stored es each)
+module _ {X : Type 0} (shows : Shows X) (of : Row → Row) {R : Type 0} (stored : R → Row) (tree : List Row) (es : List R)
+    (same : IsPermutation tree (map stored es)) where
+  pub all_show : AllByRecursion (λ e. (x : X) × shows (of (stored e)) x) es
+      → AllByRecursion (λ r. (x : X) × shows (of r) x) tree
+  all_show each = all-permutation (λ r. (x : X) × shows (of r) x) _ _ (IsPermutation-sym _ _ same)
+      (all-map (λ r. (x : X) × shows (of r) x) stored es each)
 
 int_of : (v : Value) → IsTrue (is_int v) → (n : _) × (v ≡ Int n)
 int_of (Int n) h = (n, refl)
@@ -148,34 +206,61 @@ int_of (Real x) h = absurd (cc h)
 int_of (Text t) h = absurd (cc h)
 int_of (Blob b) h = absurd (cc h)
 
+-- rows that nobody sees the rowids of, whose other columns are those of such a row
+module _ {X R : Type 0} (shows : Shows X) (of : Row → Row) (stored : R → Row) (Rules : R → Type 0)
+    (each : (v : Value) (r : Row) (id : _) → v ≡ Int id → (e : R) → r ≡ stored e → Rules e
+    → (x : X) × shows (of (v ∷ r)) x)
+    (some : (e : R) → stored e ≢ []) where
+  pub behind_show : (tree : List Row) (rs : List R) → IsPermutation (map (drop 1) tree) (map stored rs)
+      → HasRowids tree → AllByRecursion Rules rs → AllByRecursion (λ r. (x : X) × shows (of r) x) tree
+  behind_show tree rs same ids rules =
+      all_both IsNumbered Tells (λ r. (x : X) × shows (of r) x) shown tree ids.numbered
+      (all_from_map Behind (drop 1) tree
+      (all-permutation Behind _ _ (IsPermutation-sym _ _ same)
+      (all-map Behind stored rs (all_weaker Rules (λ r. Behind (stored r)) (λ r holds. (r, refl, holds)) rs rules))))
+    where
+      IsNumbered : Row → Type 0
+      IsNumbered r = IsTrue (is_int (rowid r))
+
+      Behind : Row → Type 0
+      Behind r = (e : R) × (r ≡ stored e) × Rules e
+
+      Tells : Row → Type 0
+      Tells r = Behind (drop 1 r)
+
+      shown : (r : Row) → IsNumbered r → Tells r → (x : X) × shows (of r) x
+      shown [] id h = absurd (some h.0 (sym h.1))
+      shown (v ∷ r) id h = let n = int_of v id in each v r n.0 n.1 h.0 h.1 h.2
+
 pub secrets_show : (tree : List Row) (rs : List SecretRow) → IsPermutation (map (drop 1) tree) (map secret_stored rs)
     → HasRowids tree → AllByRecursion (λ (r : SecretRow). IsTrue (is_secret r.secret)) rs
     → AllByRecursion (λ r. (s : Secret) × ShowsSecret (secret_columns r) s) tree
-secrets_show tree rs same ids each =
-    all_both IsNumbered Tells (λ r. (s : Secret) × ShowsSecret (secret_columns r) s) shows tree ids.numbered
-    (all_from_map Behind (drop 1) tree
-    (all-permutation Behind _ _ (IsPermutation-sym _ _ same)
-    (all-map Behind secret_stored rs (all_weaker (λ (r : SecretRow). IsTrue (is_secret r.secret))
-    (λ r. Behind (secret_stored r)) (λ r rules. (r, refl, rules)) rs each))))
-  where
-    IsNumbered : Row → Type 0
-    IsNumbered r = IsTrue (is_int (rowid r))
+secrets_show =
+    behind_show ShowsSecret secret_columns secret_stored (λ (r : SecretRow). IsTrue (is_secret r.secret))
+    (λ v r id numbered e is rules. (
+      record { rowid = id; endpoint = e.endpoint; place = e.place },
+      record {
+        rowid = numbered;
+        endpoint = ap (λ t. column t 0) is;
+        place = ap (λ t. column t 1) is;
+        secret = (e.secret, ap (λ t. column t 2) is, rules);
+      },
+    ))
+    (λ e none. cc)
 
-    Behind : Row → Type 0
-    Behind r = (s : SecretRow) × (r ≡ secret_stored s) × IsTrue (is_secret s.secret)
-
-    Tells : Row → Type 0
-    Tells r = Behind (drop 1 r)
-
-    shows : (r : Row) → IsNumbered r → Tells r → (s : Secret) × ShowsSecret (secret_columns r) s
-    shows [] id h = absurd (cc h.1)
-    shows (v ∷ r) id h =
-        let n = int_of v id in (
-          record { rowid = n.0; endpoint = h.0.endpoint; place = h.0.place },
-          record {
-            rowid = n.1;
-            endpoint = ap (λ t. column t 0) h.1;
-            place = ap (λ t. column t 1) h.1;
-            secret = (h.0.secret, ap (λ t. column t 2) h.1, h.2);
-          },
-        )
+pub topics_show : (tree : List Row) (rs : List TopicRow) → IsPermutation (map (drop 1) tree) (map topic_stored rs)
+    → HasRowids tree → AllByRecursion (λ (r : TopicRow). IsTrue (is_name r.topic)) rs
+    → AllByRecursion (λ r. (t : Topic) × ShowsTopic (topic_columns r) t) tree
+topics_show =
+    behind_show ShowsTopic topic_columns topic_stored (λ (r : TopicRow). IsTrue (is_name r.topic))
+    (λ v r id numbered e is rules. (
+      record { rowid = id; endpoint = e.endpoint; set_by = e.set_by },
+      record {
+        rowid = numbered;
+        topic = (e.topic, ap (λ t. column t 0) is, rules);
+        endpoint = ap (λ t. column t 1) is;
+        subscribed = (e.subscribed, ap (λ t. column t 2) is);
+        set_by = ap (λ t. column t 3) is;
+      },
+    ))
+    (λ e none. cc)

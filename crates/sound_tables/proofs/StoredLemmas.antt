@@ -26,21 +26,22 @@ use Rattle.sqlite_schema.specs.declared.schema.Constraint.TheVariants.{Check}
 use Rattle.sqlite_schema.specs.Names.{is_key}
 use Rattle.sqlite_schema.specs.Rules.{are_typed, passes, suits}
 use Rattle.relay_types.specs.Values.{is_name, is_target, is_max_limit, is_msg_id, is_body, is_moment, is_secret}
-use Rattle.relay_types.specs.Rows.{EndpointRow, SecretRow, DeliveryRow, AttemptRow}
+use Rattle.relay_types.specs.Rows.{EndpointRow, SecretRow, DeliveryRow, AttemptRow, TopicRow}
 use Rattle.sound_rows.specs.Numbers.{of_endpoint, of_delivery, of_attempt}
 use Rattle.sound_rows.specs.declared.numbers.Endpoint.{Endpoint}
 use Rattle.sound_rows.specs.declared.numbers.Delivery.{Delivery}
 use Rattle.sound_rows.specs.declared.numbers.Attempt.{Attempt}
-use Rattle.spool_sql.specs.Tables.{first_schema, meta, endpoints, secrets, deliveries, attempts}
+use Rattle.spool_sql.specs.Tables.{first_schema, meta, endpoints, secrets, deliveries, attempts, topics}
 use Rattle.spool_sql.specs.Stored.{HasRowids, meta_stored, endpoint_stored, secret_stored, delivery_stored}
-use Rattle.spool_sql.specs.Stored.{attempt_stored}
+use Rattle.spool_sql.specs.Stored.{attempt_stored, topic_stored}
 use Rattle.sound_tables.specs.Reading.{Shows}
-use Rattle.sound_tables.specs.Shown.{ShowsMeta, ShowsEndpoint, ShowsSecret, ShowsDelivery, ShowsAttempt}
+use Rattle.sound_tables.specs.Shown.{ShowsMeta, ShowsEndpoint, ShowsSecret, ShowsDelivery, ShowsAttempt, ShowsTopic}
 use Rattle.sound_tables.specs.Tables.{HasShown, meta_columns, endpoint_columns, secret_columns, delivery_columns}
-use Rattle.sound_tables.specs.Tables.{attempt_columns}
+use Rattle.sound_tables.specs.Tables.{attempt_columns, topic_columns}
 use Rattle.sound_tables.specs.declared.meta.Meta.{Meta}
 use Rattle.sound_tables.specs.declared.secret.Secret.{Secret}
-use Rattle.sound_tables.proofs.FiveLemmas.{KeepsFive}
+use Rattle.sound_tables.specs.declared.topic.Topic.{Topic}
+use Rattle.sound_tables.proofs.FiveLemmas.{KeepsFive, KeepsTopics}
 
 both : (a b : Bool) → a && b ≡ true → (a ≡ true) × (b ≡ true)
 both true b e = (refl, e)
@@ -164,8 +165,18 @@ abbrev pub StandsAt : SecretRow → Secret → Type 0
 StandsAt row s = (row.endpoint ≡ s.endpoint) × (row.place ≡ s.place) × IsTrue (is_secret row.secret)
 
 -- each rowid is below all later ones
-abbrev pub AreRising : List Secret → Type 0
-AreRising = IsAscending (λ (s t : Secret). int_lt s.rowid t.rowid ≡ true)
+abbrev pub AreRising : {X : Type 0} → (X → ℤ) → List X → Type 0
+AreRising id_of = IsAscending (λ s t. int_lt (id_of s) (id_of t) ≡ true)
+
+-- a row of topics with its rowid
+abbrev pub Numbered : Type 0
+Numbered = ℤ × TopicRow
+
+abbrev pub numbered_stored : Numbered → Row
+numbered_stored y = Int y.0 ∷ topic_stored y.1
+
+abbrev pub topic_of : Numbered → Topic
+topic_of y = record { rowid = y.0; endpoint = y.1.endpoint; set_by = y.1.set_by }
 
 abbrev IsTypedFor : Table → Row → Type 0
 IsTypedFor table r = are_typed table.key 0 table.columns (drop 1 r) && true ≡ true
@@ -204,7 +215,8 @@ endpoint_typed r e good shown =
 secret_typed : (r : Row) (s : Secret) → IsTypedFor secrets r → ShowsSecret (secret_columns r) s → (y : SecretRow)
     × (drop 1 r ≡ secret_stored y) × StandsAt y s
 secret_typed r s good shown =
-    let all = all_columns None secrets.columns 3 r refl (typed_by secrets r good) (blob_not_null _ _ shown.secret.1) in (
+    let fits = typed_by secrets r good in
+    let all = all_columns None secrets.columns 3 r refl fits (blob_not_null _ _ shown.secret.1) in (
       record { endpoint = s.endpoint; place = s.place; secret = shown.secret.0 },
       ap (drop 1) all ∙ (λ i. shown.endpoint i ∷ shown.place i ∷ shown.secret.1 i ∷ []),
       (refl, refl, shown.secret.2),
@@ -232,6 +244,18 @@ attempt_typed r t good shown =
       (refl, shown.at.2),
     )
 
+topic_typed : (r : Row) (t : Topic) → IsTypedFor topics r → ShowsTopic (topic_columns r) t
+    → (y : Numbered) × (r ≡ numbered_stored y) × ((topic_of y ≡ t) × IsTrue (is_name y.1.topic))
+topic_typed r t good shown =
+    let all = all_columns None topics.columns 4 r refl (typed_by topics r good) (int_not_null _ _ shown.set_by) in (
+      (
+        t.rowid,
+        record { topic = shown.topic.0; endpoint = t.endpoint; subscribed = shown.subscribed.0; set_by = t.set_by },
+      ),
+      all ∙ (λ i. shown.rowid i ∷ shown.topic.1 i ∷ shown.endpoint i ∷ shown.subscribed.1 i ∷ shown.set_by i ∷ []),
+      (refl, shown.topic.2),
+    )
+
 meta_typed : (r : Row) (m : Meta) (version n : ℕ) → IsTypedFor meta r → ShowsMeta (meta_columns r) m → m.key ≡ pos 1
     → m.version ≡ pos version → m.records ≡ pos n → r ≡ meta_stored version n
 meta_typed r m version n good shown key of_version records =
@@ -257,29 +281,30 @@ checked_one z e = same_int z (pos 1) (ap is_eq (sym (value_cmp-Int z (pos 1))) �
 below : (a b c : ℤ) → int_lt a b ≡ true → int_lt b c ≡ true → int_lt a c ≡ true
 below a b c p q = grind (arith, ints)
 
-rising_from : (ss : List Secret)
-    → ((i : ℕ) (d : Secret) → suc i < length ss
-    → int_lt (slice_index_or ss i d).rowid (slice_index_or ss (suc i) d).rowid ≡ true) → AreRising ss
-rising_from [] next = tt
-rising_from (s ∷ []) next = (tt, tt)
-rising_from (s ∷ t ∷ ss) next =
-    let first = next 0 s (omega arith) in
-    let rest = rising_from (t ∷ ss) (λ i d inside. next (suc i) d (omega (arith, inside))) in (
-      (
-        first,
-        all_weaker (λ (u : Secret). int_lt t.rowid u.rowid ≡ true) (λ (u : Secret). int_lt s.rowid u.rowid ≡ true)
-            (λ u above. below s.rowid t.rowid u.rowid first above) ss rest.0,
-      ),
-      rest,
-    )
+module _ {X : Type 0} (id_of : X → ℤ) where
+  rising_from : (ss : List X)
+      → ((i : ℕ) (d : X) → suc i < length ss
+      → int_lt (id_of (slice_index_or ss i d)) (id_of (slice_index_or ss (suc i) d)) ≡ true) → AreRising id_of ss
+  rising_from [] next = tt
+  rising_from (s ∷ []) next = (tt, tt)
+  rising_from (s ∷ t ∷ ss) next =
+      let first = next 0 s (omega arith) in
+      let rest = rising_from (t ∷ ss) (λ i d inside. next (suc i) d (omega (arith, inside))) in (
+        (
+          first,
+          all_weaker (λ u. int_lt (id_of t) (id_of u) ≡ true) (λ u. int_lt (id_of s) (id_of u) ≡ true)
+              (λ u above. below (id_of s) (id_of t) (id_of u) first above) ss rest.0,
+        ),
+        rest,
+      )
 
--- each rowid is below the next
-pub rising_by_next : (ss : List Secret)
-    → ((i : ℕ) (d : Secret) → i + 1 < length ss
-    → int_lt (slice_index_or ss i d).rowid (slice_index_or ss (i + 1) d).rowid ≡ true) → AreRising ss
-rising_by_next ss next = rising_from ss (λ i d inside. let more : i + 1 ≡ suc i = omega arith in
-    subst (λ k. int_lt (slice_index_or ss i d).rowid (slice_index_or ss k d).rowid ≡ true) more
-    (next i d (omega (arith, inside))))
+  -- each rowid is below the next
+  pub rising_by_next : (ss : List X)
+      → ((i : ℕ) (d : X) → i + 1 < length ss
+      → int_lt (id_of (slice_index_or ss i d)) (id_of (slice_index_or ss (i + 1) d)) ≡ true) → AreRising id_of ss
+  rising_by_next ss next = rising_from ss (λ i d inside. let more : i + 1 ≡ suc i = omega arith in
+      subst (λ k. int_lt (id_of (slice_index_or ss i d)) (id_of (slice_index_or ss k d)) ≡ true) more
+      (next i d (omega (arith, inside))))
 
 module _ (db : Trees) (keeps : KeepsFive db) where
   -- the key is 1
@@ -323,55 +348,79 @@ module _ (db : Trees) (keeps : KeepsFive db) where
       whole_typed ShowsAttempt attempt_columns attempt_stored of_attempt (λ (t : AttemptRow). is_moment t.at)
       (IsTypedFor attempts) attempt_typed (db 7) ts keeps.types.1.1.1.1.0 shown
 
--- ---- the rowids of a tree
+pub topics_of : (db : Trees) → KeepsTopics db → (ts : List Topic) → HasShown ShowsTopic topic_columns (db 9) ts
+    → (ys : List Numbered) × IsPermutation (db 9) (map numbered_stored ys) × (map topic_of ys ≡ ts)
+    × IsTrue (list_all (λ (y : Numbered). is_name y.1.topic) ys)
+topics_of db keeps ts shown =
+    whole_typed ShowsTopic topic_columns numbered_stored topic_of (λ (y : Numbered). is_name y.1.topic)
+    (IsTypedFor topics) topic_typed (db 9) ts keeps.types shown
 
-has_int : (rows : List Row) (ss : List Secret) → AllZip ShowsSecret rows ss
-    → AllByRecursion (λ r. IsTrue (is_int (rowid r))) rows
-has_int [] ss zip = tt
-has_int (r ∷ rows) [] zip = absurd zip
-has_int (r ∷ rows) (s ∷ ss) zip = (ap is_int zip.0.rowid, has_int rows ss zip.1)
+-- ---- the rowids of a tree
 
 past : (a b id : ℤ) → is_eq (int_cmp a id) ≡ true → int_lt a b ≡ true → is_eq (int_cmp b id) ≡ false
 past a b id same above = grind (arith, ints)
 
-module _ (id : ℤ) where
-  pub has_id : (r : Row) (s : Secret) → ShowsSecret r s → has_rowid id r ≡ is_eq (int_cmp s.rowid id)
-  has_id r s shown = ap (λ v. is_eq (value_cmp v (Int id))) shown.rowid ∙ ap is_eq (value_cmp-Int s.rowid id)
+-- what is read of rows, their rowids first
+module _ {X : Type 0} (is_shown : Shows X) (id_of : X → ℤ) (behind : Row → Row)
+    (told : (r : Row) (x : X) → is_shown r x → rowid r ≡ Int (id_of x)) where
+  abbrev columns_of : Row → Row
+  columns_of r = rowid r ∷ behind r
 
-  none_above : (s : Secret) → is_eq (int_cmp s.rowid id) ≡ true → (rows : List Row) (ss : List Secret)
-      → AllZip ShowsSecret rows ss
-      → AllByRecursion (λ (t : Secret). int_lt s.rowid t.rowid ≡ true) ss
+  has_int : (rows : List Row) (xs : List X) → AllZip is_shown rows xs
+      → AllByRecursion (λ r. IsTrue (is_int (rowid r))) rows
+  has_int [] xs zip = tt
+  has_int (r ∷ rows) [] zip = absurd zip
+  has_int (r ∷ rows) (x ∷ xs) zip = (ap is_int (told r x zip.0), has_int rows xs zip.1)
+
+  pub has_id : (id : ℤ) (r : Row) (x : X) → is_shown r x → has_rowid id r ≡ is_eq (int_cmp (id_of x) id)
+  has_id id r x shown = ap (λ v. is_eq (value_cmp v (Int id))) (told r x shown) ∙ ap is_eq (value_cmp-Int (id_of x) id)
+
+  none_above : (id : ℤ) (x : X) → is_eq (int_cmp (id_of x) id) ≡ true → (rows : List Row) (xs : List X)
+      → AllZip is_shown rows xs → AllByRecursion (λ y. int_lt (id_of x) (id_of y) ≡ true) xs
       → AllByRecursion (λ r. has_rowid id r ≡ false) rows
-  none_above s same [] ss zip above = tt
-  none_above s same (r ∷ rows) [] zip above = absurd zip
-  none_above s same (r ∷ rows) (t ∷ ss) zip above =
-      (has_id r t zip.0 ∙ past s.rowid t.rowid id same above.0, none_above s same rows ss zip.1 above.1)
+  none_above id x same [] xs zip above = tt
+  none_above id x same (r ∷ rows) [] zip above = absurd zip
+  none_above id x same (r ∷ rows) (y ∷ ys) zip above =
+      (has_id id r y zip.0 ∙ past (id_of x) (id_of y) id same above.0, none_above id x same rows ys zip.1 above.1)
 
-  once_in : (rows : List Row) (ss : List Secret) → AllZip ShowsSecret rows ss → AreRising ss
+  once_in : (id : ℤ) (rows : List Row) (xs : List X) → AllZip is_shown rows xs → AreRising id_of xs
       → length (filter (has_rowid id) rows) ≤ 1
-  once_in [] ss zip rising = omega arith
-  once_in (r ∷ rows) [] zip rising = absurd zip
-  once_in (r ∷ rows) (s ∷ ss) zip rising = at (has_rowid id r) refl (once_in rows ss zip.1 rising.1)
+  once_in id [] xs zip rising = omega arith
+  once_in id (r ∷ rows) [] zip rising = absurd zip
+  once_in id (r ∷ rows) (x ∷ xs) zip rising = at (has_rowid id r) refl (once_in id rows xs zip.1 rising.1)
     where
       at : (b : Bool) → has_rowid id r ≡ b → length (filter (has_rowid id) rows) ≤ 1
           → length (cond b (r ∷ filter (has_rowid id) rows) (filter (has_rowid id) rows)) ≤ 1
       at true is rest =
           let none = filter_none (has_rowid id) rows
-          (none_above s (sym (has_id r s zip.0) ∙ is) rows ss zip.1 rising.0) in
+          (none_above id x (sym (has_id id r x zip.0) ∙ is) rows xs zip.1 rising.0) in
           let empty = ap length none in omega (arith, empty)
       at false is rest = rest
 
-pub rowids_of : (tree : List Row) (ss : List Secret) → HasShown ShowsSecret secret_columns tree ss → AreRising ss
-    → HasRowids tree
-rowids_of tree ss shown rising = record {
-  numbered =
-      all_from_map (λ r. IsTrue (is_int (rowid r))) secret_columns tree
-      (all-permutation (λ r. IsTrue (is_int (rowid r))) shown.0 (map secret_columns tree)
-      (IsPermutation-sym _ _ shown.1) (has_int shown.0 ss shown.2));
-  once = λ id.
-      let same = length_permutation _ _
-      (IsPermutation-filter (has_rowid id) (map secret_columns tree) shown.0 shown.1) in
-      let kept = ap length (filter-map (has_rowid id) secret_columns tree) in
-      let many = length-map (filter (has_rowid id) tree) secret_columns in
-      let most = once_in id shown.0 ss shown.2 rising in omega (arith, same, kept, many, most);
-}
+  pub rowids_of : (tree : List Row) (xs : List X) → HasShown is_shown columns_of tree xs → AreRising id_of xs
+      → HasRowids tree
+  rowids_of tree xs shown rising = record {
+    numbered =
+        all_from_map (λ r. IsTrue (is_int (rowid r))) columns_of tree
+        (all-permutation (λ r. IsTrue (is_int (rowid r))) shown.0 (map columns_of tree)
+        (IsPermutation-sym _ _ shown.1) (has_int shown.0 xs shown.2));
+    once = λ id.
+        let same = length_permutation _ _
+        (IsPermutation-filter (has_rowid id) (map columns_of tree) shown.0 shown.1) in
+        let kept = ap length (filter-map (has_rowid id) columns_of tree) in
+        let many = length-map (filter (has_rowid id) tree) columns_of in
+        let most = once_in id shown.0 xs shown.2 rising in omega (arith, same, kept, many, most);
+  }
+
+-- of the two tables whose rowids nobody sees
+pub secret_rowids : (tree : List Row) (ss : List Secret) → HasShown ShowsSecret secret_columns tree ss
+    → AreRising (λ (s : Secret). s.rowid) ss → HasRowids tree
+secret_rowids =
+    rowids_of ShowsSecret (λ (s : Secret). s.rowid) (λ r. column r 1 ∷ column r 2 ∷ column r 3 ∷ [])
+    (λ r s shown. shown.rowid)
+
+pub topic_rowids : (tree : List Row) (ts : List Topic) → HasShown ShowsTopic topic_columns tree ts
+    → AreRising (λ (t : Topic). t.rowid) ts → HasRowids tree
+topic_rowids =
+    rowids_of ShowsTopic (λ (t : Topic). t.rowid) (λ r. column r 1 ∷ column r 2 ∷ column r 3 ∷ column r 4 ∷ [])
+    (λ r t shown. shown.rowid)

@@ -1,11 +1,10 @@
 -- What a whole table shows.
-use Rattle.std.proofs.Common.{◌≡◌, ◌≢◌, inl, inr, ℕ, length, List, [], ◌∷◌, ◌++◌, map, filter, true, false, Option}
+use Rattle.std.proofs.Common.{◌≡◌, inl, inr, ℕ, List, [], ◌∷◌, ◌++◌, map, filter, true, false, Option}
 use Rattle.std.proofs.Common.{None, Some, Result, Ok, Err, IfOk, IfErr, OnOk, refl, sym, ap, subst, arith}
 use Rattle.std.specs.List.{AllByRecursion, AllZip}
 use Rattle.std.specs.Prelude.{IsSome, Vec}
 use Rattle.std.specs.declared.alloc.Global.{Global}
 use Rattle.std.specs.List.Sorted.{IsPermutation}
-use Rattle.std.proofs.lemmas.List.Sorted.{length_permutation}
 use Rattle.sqlite_trees.proofs.ListLemmas.{all-permutation}
 use Rattle.sqlite.specs.Order.{Row}
 use Rattle.sqlite.specs.Term.{Term}
@@ -139,15 +138,3 @@ module _ (Known : Schema → Type 0) (text : List ℕ) (t : ℕ) (shown : List T
       → IfErr r (IsRefusal a b)
   refused_only a b known (Ok x) h = tt
   refused_only a b known (Err e) h = h (answerable Known text t shown names reads a known)
-
--- ---- a table that has no row
-
-pub none_there : {X : Type 0} (of : Row → Row) (tree : List Row) (xs : List X) → HasShown (λ _ _. ⊥) of tree xs
-    → tree ≡ []
-none_there of [] xs shown = refl
-none_there of (r ∷ tree) xs ([], same, zip, up) = absurd (let more = length_permutation _ _ same in omega (arith, more))
-none_there of (r ∷ tree) [] (s ∷ rows, same, zip, up) = absurd zip
-none_there of (r ∷ tree) (x ∷ xs) (s ∷ rows, same, zip, up) = absurd zip.0
-
-pub some_there : (X : Type 0) (of : Row → Row) (tree : List Row) → LacksShown {X = X} (λ _ _. ⊥) of tree → tree ≢ []
-some_there X of tree lacks none = lacks (subst (AllByRecursion (λ r. (x : X) × ⊥)) (sym none) tt)

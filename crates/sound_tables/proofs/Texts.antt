@@ -190,12 +190,15 @@ meta_read = record {
 }
 
 abbrev pub topics_text : List ℕ
-topics_text = codes "SELECT rowid FROM topics ORDER BY rowid"
+topics_text = codes "SELECT rowid, topic, endpoint, subscribed, set_by FROM topics ORDER BY rowid"
 
 abbrev pub topics_columns : List Term
-topics_columns = col 1 0 ∷ []
+topics_columns = col 1 0 ∷ col 1 1 ∷ col 1 2 ∷ col 1 3 ∷ col 1 4 ∷ []
 
-topics_under : ReadsUnder relay_schema topics_text (whole 9 topics_columns) (codes "rowid" ∷ [])
+abbrev topics_names : List (List ℕ)
+topics_names = codes "rowid" ∷ codes "topic" ∷ codes "endpoint" ∷ codes "subscribed" ∷ codes "set_by" ∷ []
+
+topics_under : ReadsUnder relay_schema topics_text (whole 9 topics_columns) topics_names
 unfolding understood everything
 topics_under = record { is = refl; unlisted = refl; typed = refl }
 
@@ -203,9 +206,9 @@ topics_bare : IsBare topics_text
 unfolding understood everything
 topics_bare schema base = refl
 
-pub topics_read : ReadsTree IsRelays topics_text (whole 9 topics_columns) (codes "rowid" ∷ [])
+pub topics_read : ReadsTree IsRelays topics_text (whole 9 topics_columns) topics_names
 topics_read = record {
   bare = topics_bare;
-  under = λ schema is. subst (λ s. ReadsUnder s topics_text (whole 9 topics_columns) (codes "rowid" ∷ [])) (sym is)
+  under = λ schema is. subst (λ s. ReadsUnder s topics_text (whole 9 topics_columns) topics_names) (sym is)
       topics_under;
 }

@@ -1,5 +1,5 @@
 -- What the rows of the tables show, where their values keep their rules.
-use Rattle.std.specs.Prelude.{◌≡◌, ◌<◌, ◌^◌, ℕ, pos, List, codes, IsTrue}
+use Rattle.std.specs.Prelude.{◌≡◌, ◌<◌, ◌^◌, ℕ, pos, Bool, List, codes, IsTrue}
 use Rattle.sqlite.specs.Order.{Row}
 use Rattle.sqlite.specs.declared.types.Value.TheVariants.{Int, Text as Words, Blob as Bytes}
 use Rattle.sqlite_value.specs.Order.{column}
@@ -53,6 +53,9 @@ pub record ShowsAttempt (row : Row) (t : Attempt) : Type 0 where
   pub at : (at : ℕ) × (column row 4 ≡ Int (pos at)) × IsTrue (is_moment at)
   pub fits : t.status < 2 ^ 16
 
--- no record gives the table of topics a row yet, so none of its rows shows one
-abbrev pub ShowsTopic : Row → Topic → Type 0
-ShowsTopic row topic = ⊥
+pub record ShowsTopic (row : Row) (t : Topic) : Type 0 where
+  pub rowid : column row 0 ≡ Int t.rowid
+  pub topic : (topic : List ℕ) × (column row 1 ≡ Words topic) × IsTrue (is_name topic)
+  pub endpoint : column row 2 ≡ Int (pos t.endpoint)
+  pub subscribed : (flag : Bool) × (column row 3 ≡ Int (pos (flag_number flag)))
+  pub set_by : column row 4 ≡ Int (pos t.set_by)

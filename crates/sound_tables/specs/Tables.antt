@@ -42,4 +42,4 @@ abbrev pub attempt_columns : Row → Row
 attempt_columns r = column r 0 ∷ column r 2 ∷ column r 3 ∷ column r 4 ∷ column r 5 ∷ []
 
 abbrev pub topic_columns : Row → Row
-topic_columns r = column r 0 ∷ []
+topic_columns r = column r 0 ∷ column r 1 ∷ column r 2 ∷ column r 3 ∷ column r 4 ∷ []

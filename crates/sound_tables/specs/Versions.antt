@@ -1,7 +1,10 @@
 -- The two versions of the tables.
-use Rattle.std.specs.Prelude.{ℕ, Bool}
+use Rattle.std.specs.Prelude.{◌≡◌, ℕ, Bool}
+use Rattle.sqlite.specs.Effect.{Database}
 use Rattle.sqlite.specs.Schema.{Schema}
-use Rattle.spool_sql.specs.Tables.{first_schema, relay_schema}
+use Rattle.relay_types.specs.Rows.{Rows}
+use Rattle.spool_sql.specs.Stored.{IsFirstTables, IsTables}
+use Rattle.spool_sql.specs.Tables.{IsOwn, first_schema, relay_schema}
 use Rattle.sound_tables.specs.Keys.{has_first_names, has_first_tables, has_names, has_tables}
 use Rattle.sound_tables.specs.declared.version.Version.{Version}
 use Rattle.sound_tables.specs.declared.version.Version.TheVariants.{First, Second}
@@ -22,3 +25,13 @@ has_names_of Second = has_names
 abbrev pub has_tables_of : Version → Schema → Bool
 has_tables_of First = has_first_tables
 has_tables_of Second = has_tables
+
+-- a connection sees the tables of this version, which have these rows
+abbrev pub IsTablesAt : Version → Database → Rows → Type 0
+IsTablesAt First = IsFirstTables
+IsTablesAt Second = IsTables
+
+-- under these schemas of the relay's the tables of a version can be read
+abbrev pub IsReadable : Version → Schema → Type 0
+IsReadable First schema = IsOwn schema
+IsReadable Second schema = schema ≡ relay_schema

@@ -5,9 +5,9 @@ ghost use Rattle.sqlite.specs.State.{IsLive, IsUnchanged};
 ghost use Rattle.relay_types.specs.Rows.{Rows};
 ghost use Rattle.spool_sql.specs.Steps.{IfClean};
 ghost use Rattle.spool_sql.specs.Tables.{IsOwn, first_schema, relay_schema};
-ghost use Rattle.sound_tables.specs.Checks.{AreSoundFirstTables, AreSoundFive, AreSoundTables, HasSound};
+ghost use Rattle.sound_tables.specs.Checks.{AreSoundAt, AreSoundFirstTables, AreSoundTables, HasSound};
 ghost use Rattle.sound_tables.specs.Checks.{IsFirstRefusedAt, IsRefusedAt, Refuses};
-ghost use Rattle.sound_tables.specs.Checks.{RefusesFirst, RefusesFive, RefusesOld, RefusesSound};
+ghost use Rattle.sound_tables.specs.Checks.{RefusesAt, RefusesFirst, RefusesOld, RefusesSound};
 ghost use Rattle.sound_tables.specs.Keys.{has_first_tables, has_meta, has_tables};
 ghost use Rattle.sound_tables.specs.Reading.{Looks};
 ghost use Rattle.sound_tables.specs.Versions.{has_names_of, has_tables_of, schema_of};
@@ -17,7 +17,6 @@ use crate::judge::judge;
 use crate::keys::{has_names, has_tables};
 use crate::records::read_records;
 use crate::stored::read_stored;
-use crate::tables::read_topics;
 use crate::version::Version;
 use sqlite::{Alter, Connection};
 use std::alloc::Global;
@@ -42,12 +41,7 @@ pub fn check_tables<S: Alter>(conn: &mut Connection<S>, alloc: Global) -> Result
     ensures old { IfClean S.Store conn.old conn.new
         (λ a b. result ≡ Err TableFault.OldVersion → IsUnchanged a b) }
 {
-    let records = check_five(conn, Version::Second, alloc)?;
-    match read_topics(conn, alloc) {
-        Ok(Some(_none)) => Ok(records),
-        Ok(None) => Err(TableFault::Damaged),
-        Err(why) => Err(TableFault::Failed(why)),
-    }
+    check_version(conn, Version::Second, alloc)
 }
 
 /// The same of the five tables of version 1.
@@ -65,11 +59,11 @@ pub fn check_first_tables<S: Alter>(
     ensures sound { IfClean S.Store conn.old conn.new (λ a b. IfErr result (RefusesFirst a b)) }
     ensures same { IfClean S.Store conn.old conn.new (λ a b. OnOk result (IsUnchanged a b)) }
 {
-    check_five(conn, Version::First, alloc)
+    check_version(conn, Version::First, alloc)
 }
 
-// Checks that the five tables are of this version and that their rows are those of a legal history.
-fn check_five<S: Alter>(
+// Checks that the tables are those of this version and that their rows are those of a legal history.
+fn check_version<S: Alter>(
     conn: &mut Connection<S>,
     version: Version,
     alloc: Global,
@@ -78,10 +72,10 @@ fn check_five<S: Alter>(
     ensures ours { has_meta (state S.Store conn.old).now.schema ≡ false → result ≡ Err TableFault.NotOurs }
     ensures whole { has_tables_of version (state S.Store conn.old).now.schema ≡ false → IsErr result }
     ensures found { IfClean S.Store conn.old conn.new (λ a _. a.now.schema ≡ schema_of version
-        → IfOk result (HasSound (AreSoundFive version) a.now)) }
+        → IfOk result (HasSound (AreSoundAt version) a.now)) }
     ensures refused { IfClean S.Store conn.old conn.new (λ a _. IsOwn a.now.schema
-        → IfErr result (Refuses version (AreSoundFive version) a.now)) }
-    ensures sound { IfClean S.Store conn.old conn.new (λ a b. IfErr result (RefusesFive version a b)) }
+        → IfErr result (Refuses version (AreSoundAt version) a.now)) }
+    ensures sound { IfClean S.Store conn.old conn.new (λ a b. IfErr result (RefusesAt version a b)) }
     ensures first { IfClean S.Store conn.old conn.new (λ a b. IfErr result (RefusesOld a b)) }
     ensures same { IfClean S.Store conn.old conn.new (λ a b. OnOk result (IsUnchanged a b)) }
     ensures old { IfClean S.Store conn.old conn.new
@@ -98,7 +92,7 @@ fn check_five<S: Alter>(
     if !is_keyed {
         return Err(TableFault::Damaged);
     }
-    match read_stored(conn, alloc) {
+    match read_stored(conn, version, alloc) {
         Ok(Some(rows)) => judge(records, rows, alloc),
         Ok(None) => Err(TableFault::Damaged),
         Err(error) => Err(TableFault::Failed(error)),

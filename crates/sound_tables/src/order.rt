@@ -6,6 +6,7 @@ ghost use Rattle.sound_tables.specs.Checks.{AreInOrder};
 
 use crate::secret::Secret;
 use crate::stored::StoredRows;
+use crate::topic::Topic;
 use sound_rows::{Attempt, Delivery, Endpoint};
 
 impl StoredRows {
@@ -17,6 +18,7 @@ impl StoredRows {
             && do_rowids_rise(&self.secrets)
             && do_deliveries_rise(&self.deliveries)
             && do_attempts_rise(&self.attempts)
+            && do_topics_rise(&self.topics)
     }
 }
 
@@ -42,4 +44,10 @@ fn do_attempts_rise(attempts: &[Attempt]) -> bool
     ensures { IsTrue result ↔ IsRisingFrom (λ (t : Attempt). t.seq) 0 attempts.now }
 {
     attempts.is_sorted_by(|t, next| t.seq < next.seq)
+}
+
+fn do_topics_rise(topics: &[Topic]) -> bool
+    ensures { IsTrue result ↔ IsAscending (λ (s t : Topic). int_lt s.rowid t.rowid ≡ true) topics.now }
+{
+    topics.is_sorted_by(|t, next| t.rowid < next.rowid)
 }

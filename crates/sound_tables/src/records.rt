@@ -5,7 +5,7 @@ ghost use Rattle.sqlite.specs.State.{IsUnchanged};
 ghost use Rattle.sqlite.specs.declared.error.Error.{Error};
 ghost use Rattle.spool_sql.specs.Steps.{IfClean};
 ghost use Rattle.spool_sql.specs.Tables.{IsOwn};
-ghost use Rattle.sound_tables.specs.Checks.{AreSoundFive, HasMeta, HasRecords, IsRefusedMeta, RefusesFive, RefusesOld};
+ghost use Rattle.sound_tables.specs.Checks.{AreSoundAt, HasMeta, HasRecords, IsRefusedMeta, RefusesAt, RefusesOld};
 ghost use Rattle.sound_tables.specs.Reading.{Looks};
 ghost use Rattle.sound_tables.specs.Shown.{ShowsMeta};
 ghost use Rattle.sound_tables.specs.Tables.{Tells, meta_columns};
@@ -28,8 +28,8 @@ pub(crate) fn read_records<S: Alter>(
     ensures found { IfClean S.Store conn.old conn.new (λ a _. IsOwn a.now.schema
         → IfOk result (HasRecords (number_of version) a.now)) }
     ensures refused { IfClean S.Store conn.old conn.new (λ a _. IsOwn a.now.schema
-        → IfErr result (IsRefusedMeta version (AreSoundFive version) a.now)) }
-    ensures sound { IfClean S.Store conn.old conn.new (λ a b. IfErr result (RefusesFive version a b)) }
+        → IfErr result (IsRefusedMeta version (AreSoundAt version) a.now)) }
+    ensures sound { IfClean S.Store conn.old conn.new (λ a b. IfErr result (RefusesAt version a b)) }
     ensures first { IfClean S.Store conn.old conn.new (λ a b. IfErr result (RefusesOld a b)) }
     ensures same { IfClean S.Store conn.old conn.new (λ a b. OnOk result (IsUnchanged a b)) }
     ensures old { IfClean S.Store conn.old conn.new
@@ -43,7 +43,7 @@ pub(crate) fn read_records<S: Alter>(
 
 fn records_in(rows: Option<Vec<Meta>>, version: Version) -> Result<u64, TableFault>
     ensures judged { (db : Database) → Tells ShowsMeta meta_columns (db.trees 0) rows
-        → MatchResult result (HasRecords (number_of version) db) (IsRefusedMeta version (AreSoundFive version) db) }
+        → MatchResult result (HasRecords (number_of version) db) (IsRefusedMeta version (AreSoundAt version) db) }
     ensures told { IfErr result (λ why. (error : Error) → why ≢ TableFault.Failed error) }
 {
     let Some(rows) = rows else {
@@ -57,7 +57,7 @@ fn records_in(rows: Option<Vec<Meta>>, version: Version) -> Result<u64, TableFau
 
 fn records_of(meta: Meta, version: Version) -> Result<u64, TableFault>
     ensures judged { (db : Database) → HasMeta db meta
-        → MatchResult result (HasRecords (number_of version) db) (IsRefusedMeta version (AreSoundFive version) db) }
+        → MatchResult result (HasRecords (number_of version) db) (IsRefusedMeta version (AreSoundAt version) db) }
     ensures told { IfErr result (λ why. (error : Error) → why ≢ TableFault.Failed error) }
 {
     if meta.version > version.number() {

@@ -113,7 +113,7 @@ pub(crate) fn read_attempts<S: Alter>(
     )
 }
 
-/// The rows of `topics`: none, or nothing at all if it has one.
+/// Where the topics of `topics` stand, or nothing where a row is none.
 pub(crate) fn read_topics<S: Alter>(
     conn: &mut Connection<S>,
     alloc: Global,
@@ -125,5 +125,9 @@ pub(crate) fn read_topics<S: Alter>(
     ensures fault { IfClean S.Store conn.old conn.new (λ a b. a.now.schema ≡ relay_schema
         → IfErr result (IsRefusal a b)) }
 {
-    read_table(conn, "SELECT rowid FROM topics ORDER BY rowid", alloc)
+    read_table(
+        conn,
+        "SELECT rowid, topic, endpoint, subscribed, set_by FROM topics ORDER BY rowid",
+        alloc,
+    )
 }

@@ -11,7 +11,7 @@ use Rattle.std.proofs.lemmas.List.Elements.{filter_map-append}
 use Rattle.std.proofs.lemmas.List.Sums.{sum_by-cons}
 use Rattle.std.proofs.lemmas.Slice.Eq.{bytes_eq-Decides}
 use Rattle.relay_types.specs.declared.record.Record.{Record}
-use Rattle.relay_types.specs.declared.record.Record.TheVariants.{Put, Secrets, Enabled, Accept, Outcome}
+use Rattle.relay_types.specs.declared.record.Record.TheVariants.{Put, Secrets, Enabled, Accept, Outcome, Subscribed}
 use Rattle.relay_types.specs.declared.limits.TheConstants.{MAX_FAILURES, MAX_RECORDS}
 use Rattle.relay_types.specs.declared.state.State.TheVariants.{Exhausted, Pending}
 use Rattle.relay_types.specs.Judging.{is_delivered_status, is_failed_status}
@@ -51,6 +51,7 @@ attempts_tied d n [] = refl
 attempts_tied d n (Put name target max secrets ∷ rest) = attempts_tied d (n + 1) rest
 attempts_tied d n (Secrets name secrets ∷ rest) = attempts_tied d (n + 1) rest
 attempts_tied d n (Enabled name flag ∷ rest) = attempts_tied d (n + 1) rest
+attempts_tied d n (Subscribed topic name flag ∷ rest) = attempts_tied d (n + 1) rest
 attempts_tied d n (Accept name id body at ∷ rest) = attempts_tied d (n + 1) rest
 attempts_tied d n (Outcome delivery attempt status at ∷ rest) =
     ap (cons_option (if delivery == d then Some (record { number = attempt; status = status; at = at }) else None)) (attempts_tied d (n + 1) rest)
@@ -124,7 +125,7 @@ by_number n name (e ∷ es) found rises is = at (λ later. by_number (e.put + 1)
         (ap (λ b. if b then Some e else find (λ (x : Endpoint). x.put == found.put) es) (ne_eqb e.put found.put (λ same. omega (arith, same, above))) ∙ rest.0, rest.1)
 
 -- so the name of an endpoint is that of its number
-name_back : (records : List Record) (name : Text) → has_endpoint records name ≡ true → name_put (rows_of records).endpoints (put_of records name) ≡ name
+pub name_back : (records : List Record) (name : Text) → has_endpoint records name ≡ true → name_put (rows_of records).endpoints (put_of records name) ≡ name
 name_back records name known = at (endpoint_of records name) refl known
   where
     at : (o : Option Endpoint) → endpoint_of records name ≡ o → is_some o ≡ true → name_put (rows_of records).endpoints (option_map_or (λ (e : Endpoint). e.put) (endpoint_of records name) 0) ≡ name
@@ -151,6 +152,7 @@ module _ (records : List Record) where
   entries_tied m n (Put name target max secrets ∷ rest) whole known = entries_tied m (n + 1) rest whole known.1
   entries_tied m n (Secrets name secrets ∷ rest) whole known = entries_tied m (n + 1) rest whole known.1
   entries_tied m n (Enabled name flag ∷ rest) whole known = entries_tied m (n + 1) rest whole known.1
+  entries_tied m n (Subscribed topic name flag ∷ rest) whole known = entries_tied m (n + 1) rest whole known.1
   entries_tied m n (Outcome delivery attempt status at ∷ rest) whole known = entries_tied m (n + 1) rest whole known.1
   entries_tied m n (Accept name id body at ∷ rest) whole known = λ i. record {
     seq = n;
@@ -222,6 +224,7 @@ module _ (records : List Record) where
       at_seq k (Put name target max secrets) a is = absurd (let no = is in cc)
       at_seq k (Secrets name secrets) a is = absurd (let no = is in cc)
       at_seq k (Enabled name flag) a is = absurd (let no = is in cc)
+      at_seq k (Subscribed topic name flag) a is = absurd (let no = is in cc)
       at_seq k (Accept name id body at) a is = absurd (let no = is in cc)
 
   -- Why a row of a legal history is taken in

@@ -29,10 +29,9 @@ use Rattle.spool_sql.specs.Readable.{WasRefusal, WasRowRefusal}
 use Rattle.spool_sql.specs.Steps.{Spares, Stands}
 use Rattle.spool_sql.proofs.RefusalLemmas.{of_failure, was_refusal}
 use Rattle.spool_sql.specs.Stored.{IsTables}
-use Rattle.spool.specs.Loading.{AreAccepted, AreAttempted, AreNames, AreRestored, IsReadRefusal, WasReadRefusal}
-use Rattle.spool.specs.Loading.{entry_of_row}
+use Rattle.spool.specs.Loading.{AreAccepted, AreAttempted, AreNames, AreRestored, AreSubscribed, IsReadRefusal}
+use Rattle.spool.specs.Loading.{WasReadRefusal, entry_of_row}
 use Rattle.spool_sql.proofs.StepLemmas.{leaves_along, leaves_commit}
-use Rattle.spool.proofs.EndpointLoads.{restored_within}
 use Rattle.spool.proofs.PageLaws.{legal_length}
 use Rattle.spool.proofs.QuietReads.{IsQuiet, clean_before, quiet_then, tables_along}
 use Rattle.sound_tables.proofs.BothRefused.{refusal_since, was_until}
@@ -61,15 +60,15 @@ module _ (records : List Record) where
   entries_back (e ∷ es) = ap (λ rest. entry_for records e ∷ rest) (entries_back es)
 
   endpoints_stand : (loaded : Endpoints) (book : endpoint.BookValue) → IsLegal records
-      → AreRestored loaded records (rows_of records).endpoints
-      → book ≡ endpoint.with_settled loaded.book (length records)
+      → AreSubscribed loaded records → book ≡ endpoint.with_settled loaded.book (length records)
       → endpoint_book.StandsFor book records (length records)
   endpoints_stand loaded book legal h is = stands-restored book records legal (record {
     entries = ap (λ (b : endpoint.BookValue). b.entries) is
         ∙ ap (λ cs. map (λ (e : EndpointEntry). settled_at (length records) cs e.name e) loaded.book.entries) h.changes
         ∙ none_changed (length records) loaded.book.entries ∙ h.entries ∙ entries_back (endpoints records);
     changes = ap (λ (b : endpoint.BookValue). b.changes) is ∙ ap (filter (is_from (length records))) h.changes;
-    next_seq = omega (arith, ap (λ (b : endpoint.BookValue). b.next_seq) is, restored_within records loaded h);
+    topics = ap (λ (b : endpoint.BookValue). b.topics) is ∙ h.topics;
+    next_seq = omega (arith, ap (λ (b : endpoint.BookValue). b.next_seq) is, h.next_seq);
     settled_seq = ap (λ (b : endpoint.BookValue). b.settled_seq) is;
   })
 
@@ -93,8 +92,7 @@ pub books_read : (db : Database) (endpoints : Endpoints) (deliveries : Deliverie
     → IfOk read (λ books. books.deliveries ≡ delivery.with_settled deliveries.book count)
     → IfOk read (λ books. books.records ≡ count) → IfOk read (λ books. books.clock ≡ deliveries.clock)
     → ((records : List Record) → IsLegal records → IsTables db (rows_of records)
-    → AreRestored endpoints records (rows_of records).endpoints
-    × (AreAttempted deliveries records × (count ≡ length records)))
+    → AreSubscribed endpoints records × (AreAttempted deliveries records × (count ≡ length records)))
     → IfOk read (λ books. (records : List Record) → IsLegal records → IsTables db (rows_of records)
     → AreBooks books records)
 books_read db endpoints deliveries count (Err fault) first second third fourth known = tt
@@ -198,32 +196,38 @@ load_refused a m z early late clean read (Err (Store error)) refused (inl (fault
 
 -- All that was read, one table behind another
 
-module _ (a b d e z : State) (endpoints : Endpoints) (deliveries attempted : Deliveries) (count : ℕ)
-    (quiet_b : IsQuiet a b) (quiet_d : IsQuiet b d) (quiet_e : IsQuiet d e) (look : Spares e z)
+module _ (a b t d e z : State) (restored endpoints : Endpoints) (deliveries attempted : Deliveries) (count : ℕ)
+    (quiet_b : IsQuiet a b) (quiet_t : IsQuiet b t) (quiet_d : IsQuiet t d) (quiet_e : IsQuiet d e) (look : Spares e z)
     (same : HasCleanDisk z → IsUnchanged e z)
     (first : HasCleanDisk b → (records : List Record) → IsLegal records → IsTables a.now (rows_of records)
-    → AreRestored endpoints records (rows_of records).endpoints)
-    (second : HasCleanDisk d → (records : List Record) → IsLegal records → IsTables b.now (rows_of records)
+    → AreRestored restored records (rows_of records).endpoints)
+    (topics : HasCleanDisk t → (records : List Record) → IsLegal records → IsTables b.now (rows_of records)
+    → AreRestored restored records (rows_of records).endpoints → AreSubscribed endpoints records)
+    (second : HasCleanDisk d → (records : List Record) → IsLegal records → IsTables t.now (rows_of records)
     → AreNames endpoints.names.items records → AreAccepted deliveries records (rows_of records).deliveries)
     (third : HasCleanDisk e → (records : List Record) → IsLegal records → IsTables d.now (rows_of records)
     → AreAccepted deliveries records (rows_of records).deliveries → AreAttempted attempted records)
     (last : HasCleanDisk z → (rows : Rows) → IsTables e.now rows → count ≡ rows.records) where
   pub all_read : HasCleanDisk z → (records : List Record) → IsLegal records → IsTables a.now (rows_of records)
-      → AreRestored endpoints records (rows_of records).endpoints
+      → AreSubscribed endpoints records
       × (AreAttempted attempted records × (count ≡ length records))
   all_read clean records legal tables =
       let at_e = clean_before e z look clean in
       let at_d = clean_before d e quiet_e.spares at_e in
-      let at_b = clean_before b d quiet_d.spares at_d in
+      let at_t = clean_before t d quiet_d.spares at_d in
+      let at_b = clean_before b t quiet_t.spares at_t in
       let open_e = (same clean).0.was_open in
       let open_d = (quiet_e.spares.kept at_e).was_open open_e in
-      let open_b = (quiet_d.spares.kept at_d).was_open open_d in
-      let quiet_ad = quiet_then a b d quiet_b quiet_d in
+      let open_t = (quiet_d.spares.kept at_d).was_open open_d in
+      let open_b = (quiet_t.spares.kept at_t).was_open open_t in
+      let quiet_at = quiet_then a b t quiet_b quiet_t in
+      let quiet_ad = quiet_then a t d quiet_at quiet_d in
       let quiet_ae = quiet_then a d e quiet_ad quiet_e in
       let rows = rows_of records in
-      let restored = first at_b records legal tables in
-      let accepted = second at_d records legal (tables_along a b rows quiet_b at_b open_b tables) restored.names in (
-        restored,
+      let subscribed = topics at_t records legal (tables_along a b rows quiet_b at_b open_b tables)
+      (first at_b records legal tables) in
+      let accepted = second at_d records legal (tables_along a t rows quiet_at at_t open_t tables) subscribed.names in (
+        subscribed,
         (
           third at_e records legal (tables_along a d rows quiet_ad at_d open_d tables) accepted,
           last clean rows
@@ -236,7 +240,7 @@ module _ (a b d e z : State) (endpoints : Endpoints) (deliveries attempted : Del
       → ¬ ((count < max endpoints.book.next_seq attempted.book.next_seq) ⊎ (MAX_RECORDS < count))
   all_settle clean records legal tables why =
       let all = all_read clean records legal tables in
-      let within = restored_within records endpoints all.0 in
+      let within = all.0.next_seq in
       let few = legal_length records legal in
       elim why [
         | inl below ↦ omega (arith, below, all.1.1, within, all.1.0.next_seq)

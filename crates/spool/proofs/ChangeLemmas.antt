@@ -77,7 +77,8 @@ tables_permuted db rows secrets same t = record {
       attempts = t.tables.five.attempts;
       secret_rowids = t.tables.five.secret_rowids;
     };
-    no_topics = t.tables.no_topics;
+    topics = t.tables.topics;
+    topic_rowids = t.tables.topic_rowids;
   };
 }
 

@@ -7,7 +7,7 @@ use Rattle.std.specs.Option.{option_map_or}
 use Rattle.std.proofs.lemmas.Bool.{eq-eqb, eqb-true, not-true}
 use Rattle.std.proofs.lemmas.List.{map-append}
 use Rattle.relay_types.specs.declared.record.Record.{Record}
-use Rattle.relay_types.specs.declared.record.Record.TheVariants.{Put, Secrets, Enabled, Accept, Outcome}
+use Rattle.relay_types.specs.declared.record.Record.TheVariants.{Put, Secrets, Enabled, Accept, Outcome, Subscribed}
 use Rattle.relay_types.specs.declared.limits.TheConstants.{MAX_RECORDS}
 use Rattle.relay_types.specs.Values.{Text, Seq, Seconds}
 use Rattle.relay_types.specs.Legal.{IsLegal}
@@ -64,6 +64,7 @@ module _ (records : List Record) where
       at_seq k (Put name target max secrets) d is = absurd (let no = is in cc)
       at_seq k (Secrets name secrets) d is = absurd (let no = is in cc)
       at_seq k (Enabled name flag) d is = absurd (let no = is in cc)
+      at_seq k (Subscribed topic name flag) d is = absurd (let no = is in cc)
       at_seq k (Outcome delivery attempt status at) d is = absurd (let no = is in cc)
 
   -- the event of one more row, for the endpoint of this name

@@ -9,7 +9,7 @@ use Rattle.std.proofs.lemmas.Bool.{eq-eqb, ne_eqb}
 use Rattle.std.proofs.lemmas.List.{map-append}
 use Rattle.std.proofs.lemmas.List.Elements.{filter-append}
 use Rattle.relay_types.specs.declared.record.Record.{Record}
-use Rattle.relay_types.specs.declared.record.Record.TheVariants.{Put, Secrets, Enabled, Accept, Outcome}
+use Rattle.relay_types.specs.declared.record.Record.TheVariants.{Put, Secrets, Enabled, Accept, Outcome, Subscribed}
 use Rattle.relay_types.specs.Endpoints.{Endpoint, endpoint_by, endpoints, secrets_of}
 use Rattle.relay_types.specs.declared.limits.TheConstants.{MAX_RECORDS}
 use Rattle.relay_types.specs.Legal.{IsLegal}
@@ -147,6 +147,7 @@ module _ (records : List Record) where
       at_seq k (Put name target max secrets) e is = ap (λ (x : Endpoint). x.put) (sym (some_is is))
       at_seq k (Secrets name secrets) e is = absurd (let no = is in cc)
       at_seq k (Enabled name flag) e is = absurd (let no = is in cc)
+      at_seq k (Subscribed topic name flag) e is = absurd (let no = is in cc)
       at_seq k (Accept name id body at) e is = absurd (let no = is in cc)
       at_seq k (Outcome delivery attempt status at) e is = absurd (let no = is in cc)
 
@@ -161,6 +162,7 @@ module _ (records : List Record) where
         ∙ (λ i. h.entries i ++ restored_entry row.put row.name row.url row.max (given before after is i) row.enabled ∷ [])
         ∙ sym (map-append (entry_of_row records) before (row ∷ []));
     changes = ap (λ (b : BookValue). b.changes) book ∙ h.changes;
+    topics = ap (λ (b : BookValue). b.topics) book ∙ h.topics;
     left = λ rest parted.
         subst (λ next. IsRising (λ (e : EndpointRow). e.put) next (length records) rest)
         (sym (ap (λ (b : BookValue). b.next_seq) book))
@@ -227,6 +229,7 @@ restored_none records loaded legal book names =
     (rising_higher (λ (e : EndpointRow). e.put) 0 (length records) MAX_RECORDS (rows_of records).endpoints (legal_length records legal) (endpoints_rise records)) (record {
       entries = ap (λ (b : BookValue). b.entries) book;
       changes = ap (λ (b : BookValue). b.changes) book;
+      topics = ap (λ (b : BookValue). b.topics) book;
       left = λ after parted.
           subst (λ next. IsRising (λ (e : EndpointRow). e.put) next (length records) after)
           (sym (ap (λ (b : BookValue). b.next_seq) book))

@@ -11,7 +11,7 @@ use Rattle.std.proofs.lemmas.List.Elements.{filter-append}
 use Rattle.std.proofs.lemmas.Slice.Eq.{bytes_eq-Decides}
 use Rattle.relay_types.specs.declared.limits.TheConstants.{MAX_ENDPOINTS}
 use Rattle.relay_types.specs.declared.record.Record.{Record}
-use Rattle.relay_types.specs.declared.record.Record.TheVariants.{Put, Secrets, Enabled, Accept, Outcome}
+use Rattle.relay_types.specs.declared.record.Record.TheVariants.{Put, Accept}
 use Rattle.relay_types.specs.Records.{numbered}
 use Rattle.relay_types.specs.Deliveries.{is_accept_as, known_as}
 use Rattle.relay_types.specs.Endpoints.{Endpoint, endpoint_by, endpoints, endpoint_of, has_endpoint}
@@ -34,10 +34,7 @@ has_name-is records name = ap is_some (find_map (endpoint_row records) (λ (e : 
 
 abbrev name_in : Record → Option (List ℕ)
 name_in (Put name target max secrets) = Some name
-name_in (Secrets name secrets) = None
-name_in (Enabled name flag) = None
-name_in (Accept name id body at) = None
-name_in (Outcome delivery attempt status at) = None
+name_in entry = None
 
 some_is : {X : Type 0} {x y : X} → Some x ≡ Some y → x ≡ y
 some_is e = cc
@@ -70,10 +67,7 @@ stands_at n (Put other target max secrets ∷ rest) name e is = at (bytes_eq oth
     at false same is rest_is =
         let found = rest_is is in
         (later n (Put other target max secrets) rest e found.0, found.1)
-stands_at n (Secrets other secrets ∷ rest) name e is = let found = stands_at (n + 1) rest name e is in (later n (Secrets other secrets) rest e found.0, found.1)
-stands_at n (Enabled other flag ∷ rest) name e is = let found = stands_at (n + 1) rest name e is in (later n (Enabled other flag) rest e found.0, found.1)
-stands_at n (Accept other id body at ∷ rest) name e is = let found = stands_at (n + 1) rest name e is in (later n (Accept other id body at) rest e found.0, found.1)
-stands_at n (Outcome delivery attempt status at ∷ rest) name e is = let found = stands_at (n + 1) rest name e is in (later n (Outcome delivery attempt status at) rest e found.0, found.1)
+stands_at n (entry ∷ rest) name e is = let found = stands_at (n + 1) rest name e is in (later n entry rest e found.0, found.1)
 
 same_name : (records : List Record) (a b : List ℕ) (e f : Endpoint) → endpoint_of records a ≡ Some e → endpoint_of records b ≡ Some f → e.put ≡ f.put → a ≡ b
 same_name records a b e f is_e is_f same =
@@ -112,10 +106,7 @@ known_in records name id n (Accept other other_id body at ∷ rest) has known =
     step : (b : Bool) (o : Option (ℕ × Record)) → is_some (if b then Some (n, Accept other other_id body at) else o) ≡ b || is_some o
     step true o = refl
     step false o = refl
-known_in records name id n (Put other target max secrets ∷ rest) has known = known_in records name id (n + 1) rest has known.1
-known_in records name id n (Secrets other secrets ∷ rest) has known = known_in records name id (n + 1) rest has known.1
-known_in records name id n (Enabled other flag ∷ rest) has known = known_in records name id (n + 1) rest has known.1
-known_in records name id n (Outcome delivery attempt status at ∷ rest) has known = known_in records name id (n + 1) rest has known.1
+known_in records name id n (entry ∷ rest) has known = known_in records name id (n + 1) rest has known.1
 
 has_event-is : (records : List Record) (name id : List ℕ) → AllKnown records records → has_endpoint records name ≡ true
     → has_event (rows_of records) (put_by_name (rows_of records) name) id ≡ is_some (known_as records name id)
@@ -185,10 +176,7 @@ once_step before (Put name target max secrets) once follows =
     lacks : (b : Bool) → not b ≡ true → b ≡ false
     lacks true e = absurd (let f = e in cc)
     lacks false e = refl
-once_step before (Secrets name secrets) once follows = subst Once (sym (append-nil (endpoints before))) once
-once_step before (Enabled name flag) once follows = subst Once (sym (append-nil (endpoints before))) once
-once_step before (Accept name id body at) once follows = subst Once (sym (append-nil (endpoints before))) once
-once_step before (Outcome delivery attempt status at) once follows = subst Once (sym (append-nil (endpoints before))) once
+once_step before entry once follows = subst Once (sym (append-nil (endpoints before))) once
 
 all_once : (before later : List Record) → Once (endpoints before) → may_all_follow before later ≡ true → Once (endpoints (before ++ later))
 all_once before [] once h = subst (λ r. Once (endpoints r)) (sym (append-nil before)) once

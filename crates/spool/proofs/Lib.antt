@@ -14,8 +14,10 @@ pub mod ReadableLemmas
 pub mod EndpointLoads
 pub mod DeliveryLoads
 pub mod AttemptLoads
+pub mod TopicLoads
 pub mod BookLoads
 pub mod HistoryLemmas
 pub mod CheckReads
 pub mod MigrateLemmas
 pub mod EitherLemmas
+pub mod SubscribedLemmas

@@ -280,10 +280,11 @@ unmigrated a b Damaged other ((m, has, told), none) = ((m, has, λ version is. t
 
     never : (rows : Rows) → ¬ AreSoundRows a.now rows
     never rows (inl sound) = none rows sound
-    never rows (inr first) = elim (told 1 (meta_tells first_schema 1 a.now rows first.tables m has)) [
-      | inl none_is ↦ absurd (omega (arith, none_is))
-      | inr both ↦ absurd (omega (arith, both))
-    ]
+    never rows (inr first) = elim (told 1 (meta_tells first_schema 1 a.now rows
+        (record { schema_is = first.tables.schema_is; tables = first.tables.tables.five }) m has)) [
+          | inl none_is ↦ absurd (omega (arith, none_is))
+          | inr both ↦ absurd (omega (arith, both))
+        ]
 unmigrated a b (Store error) other h = inl h
 unmigrated a b OutOfMemory other h = tt
 
@@ -379,7 +380,7 @@ made_whole a b records (inl is) free found made =
             legal = legal;
             stands = stands;
             next = sym same ∙ same_count rows.records (length entries)
-                (sym sound.tables.tables.meta ∙ first.tables.meta);
+                (sym sound.tables.tables.five.meta ∙ first.tables.five.meta);
           },
           leaves,
         )

@@ -13,7 +13,7 @@ use Rattle.std.proofs.lemmas.List.Sorted.{length_permutation, sum_by-IsPermutati
 use Rattle.std.proofs.lemmas.Bool.{lt-ltb, le-ltb, leb-true, leb-false, ltb-true, ltb-false, ne_eqb, eq-eqb}
 use Rattle.relay_types.specs.declared.limits.TheConstants.{MAX_FAILURES}
 use Rattle.relay_types.specs.declared.record.Record.{Record}
-use Rattle.relay_types.specs.declared.record.Record.TheVariants.{Put, Secrets, Enabled, Accept, Outcome}
+use Rattle.relay_types.specs.declared.record.Record.TheVariants.{Accept, Outcome}
 use Rattle.relay_types.specs.Judging.{is_delivered_status, is_failed_status}
 use Rattle.relay_types.specs.Records.{Accepted, Attempt, accepted_by, attempt_by}
 use Rattle.relay_types.specs.Deliveries.{accepted, attempts_of, failures_of, is_delivered, state_of, is_in_state, is_pending}
@@ -39,10 +39,7 @@ module _ (all : List Record) (seq : ℕ) where
   none_behind n (Accept name id body at ∷ rest) h =
       ap (λ b. cond b (record { seq = n; endpoint = put_of all name; id = id; at = at; body = body } ∷ rows_from (n + 1) rest) (rows_from (n + 1) rest)) (ne_eqb n seq (λ same. omega (arith, same, h)))
       ∙ none_behind (n + 1) rest (omega (arith, h))
-  none_behind n (Put name target max secrets ∷ rest) h = none_behind (n + 1) rest (omega (arith, h))
-  none_behind n (Secrets name secrets ∷ rest) h = none_behind (n + 1) rest (omega (arith, h))
-  none_behind n (Enabled name flag ∷ rest) h = none_behind (n + 1) rest (omega (arith, h))
-  none_behind n (Outcome delivery attempt status at ∷ rest) h = none_behind (n + 1) rest (omega (arith, h))
+  none_behind n (entry ∷ rest) h = none_behind (n + 1) rest (omega (arith, h))
 
   one_at_most : (n d : ℕ) (some : List Record) → seq ≡ n + d → map endpoint_in (rows_from n some)
       ≡ cons_option
@@ -52,18 +49,12 @@ module _ (all : List Record) (seq : ℕ) where
       ap (λ b. map endpoint_in (cond b (record { seq = n; endpoint = put_of all name; id = id; at = at; body = body }
       ∷ rows_from (n + 1) rest) (rows_from (n + 1) rest))) (eq-eqb n seq (omega (arith, is)))
       ∙ ap (λ rows. put_of all name ∷ map endpoint_in rows) (none_behind (n + 1) rest (omega (arith, is)))
-  one_at_most n zero (Put name target max secrets ∷ rest) is = ap (map endpoint_in) (none_behind (n + 1) rest (omega (arith, is)))
-  one_at_most n zero (Secrets name secrets ∷ rest) is = ap (map endpoint_in) (none_behind (n + 1) rest (omega (arith, is)))
-  one_at_most n zero (Enabled name flag ∷ rest) is = ap (map endpoint_in) (none_behind (n + 1) rest (omega (arith, is)))
-  one_at_most n zero (Outcome delivery attempt status at ∷ rest) is = ap (map endpoint_in) (none_behind (n + 1) rest (omega (arith, is)))
+  one_at_most n zero (entry ∷ rest) is = ap (map endpoint_in) (none_behind (n + 1) rest (omega (arith, is)))
   one_at_most n (suc d) (Accept name id body at ∷ rest) is =
       ap (λ b. map endpoint_in (cond b (record { seq = n; endpoint = put_of all name; id = id; at = at; body = body }
       ∷ rows_from (n + 1) rest) (rows_from (n + 1) rest))) (ne_eqb n seq (λ same. omega (arith, same, is)))
       ∙ one_at_most (n + 1) d rest (omega (arith, is))
-  one_at_most n (suc d) (Put name target max secrets ∷ rest) is = one_at_most (n + 1) d rest (omega (arith, is))
-  one_at_most n (suc d) (Secrets name secrets ∷ rest) is = one_at_most (n + 1) d rest (omega (arith, is))
-  one_at_most n (suc d) (Enabled name flag ∷ rest) is = one_at_most (n + 1) d rest (omega (arith, is))
-  one_at_most n (suc d) (Outcome delivery attempt status at ∷ rest) is = one_at_most (n + 1) d rest (omega (arith, is))
+  one_at_most n (suc d) (entry ∷ rest) is = one_at_most (n + 1) d rest (omega (arith, is))
 
 -- the number of the Put of the event's endpoint
 abbrev endpoint_put : List Record → ℕ → Option ℕ
@@ -121,10 +112,7 @@ statuses_in d n (Outcome delivery attempt status at ∷ rest) = by (delivery == 
         ≡ statuses_of (cons_option (if b then Some (record { number = attempt; status = status; at = at }) else None) (filter_map (attempt_by d) rest))
     by true same = ap (λ more. status ∷ more) same
     by false same = same
-statuses_in d n (Put name target max secrets ∷ rest) = statuses_in d (n + 1) rest
-statuses_in d n (Secrets name secrets ∷ rest) = statuses_in d (n + 1) rest
-statuses_in d n (Enabled name flag ∷ rest) = statuses_in d (n + 1) rest
-statuses_in d n (Accept name id body at ∷ rest) = statuses_in d (n + 1) rest
+statuses_in d n (entry ∷ rest) = statuses_in d (n + 1) rest
 
 any_status : (test : ℕ → Bool) (attempts : List Attempt) → list_any test (statuses_of attempts) ≡ list_any (λ (a : Attempt). test a.status) attempts
 any_status test [] = refl

@@ -12,14 +12,14 @@ use Rattle.relay_types.specs.Rows.{Rows, EndpointRow, SecretRow, rows_of}
 use Rattle.relay_types.specs.Sound.{AreKeyed, secret_rows_at}
 use Rattle.relay_types.specs.Values.{Seq, is_secret, is_msg_id, is_body, is_moment, is_between}
 use Rattle.relay_types.proofs.ConditionLaws.{endpoint_below, delivery_below, attempt_below, endpoint_values}
-use Rattle.relay_types.proofs.ConditionLaws.{delivery_values, attempt_values}
+use Rattle.relay_types.proofs.ConditionLaws.{delivery_values, attempt_values, topic_below, topic_values}
 use Rattle.relay_types.proofs.KeyLaws.{legal_sound}
 use Rattle.relay_types.proofs.KnownLaws.{and_first, and_second}
 use Rattle.relay_types.proofs.TableLaws.{In}
 use Rattle.spool_sql.specs.declared.row.RowFault.{RowFault}
 use Rattle.spool_sql.specs.declared.row.RowFault.TheVariants.{Failed, Unreadable}
 use Rattle.spool_sql.specs.Readable.{AreReadable, IsReadableEndpoint, IsReadableSecret, IsReadableDelivery}
-use Rattle.spool_sql.specs.Readable.{IsReadableAttempt, IsRowRefusal}
+use Rattle.spool_sql.specs.Readable.{IsReadableAttempt, IsReadableTopic, IsRowRefusal}
 use Rattle.spool_sql.specs.Steps.{Spares}
 use Rattle.spool_sql.specs.Stored.{IsPage, IsTables, with_records}
 use Rattle.sound_tables.proofs.BothRefused.{refusal_since}
@@ -99,6 +99,14 @@ module _ (records : List Record) (legal : IsLegal records) where
           status = small_status t.status values.2;
           at = values.3;
         });
+    topics = all_of IsReadableTopic rows.topics (λ t i.
+        let below = topic_below rows keyed sound t i in
+        let values = topic_values rows keyed sound t i in
+        record {
+          topic = values.0;
+          endpoint = omega (arith, below, values.1, few);
+          set_by = omega (arith, below, few);
+        });
   }
 
   -- with any number of records
@@ -108,6 +116,7 @@ module _ (records : List Record) (legal : IsLegal records) where
     secrets = legal_readable.secrets;
     deliveries = legal_readable.deliveries;
     attempts = legal_readable.attempts;
+    topics = legal_readable.topics;
   }
 
 -- What refused one of two calls refused both

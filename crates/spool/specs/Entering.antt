@@ -1,5 +1,5 @@
 -- What a transaction makes of the rows of a legal history: the statements, the commit, and what a stop leaves of it.
-use Rattle.std.specs.Prelude.{◌≡◌, ◌⊎◌, ℕ, ◌+◌, ◌==◌, Bool, true, false, ◌&&◌, not, nat_lt, List, ◌++◌, length}
+use Rattle.std.specs.Prelude.{◌≡◌, ◌⊎◌, ℕ, ◌+◌, ◌==◌, Bool, true, false, ◌&&◌, ◌||◌, not, nat_lt, List, ◌++◌, length}
 use Rattle.std.specs.Prelude.{count_by, is_some, IsTrue, Option, Some, None, Result, Ok, Err, IfOk, if◌then◌else◌}
 use Rattle.std.specs.List.{list_any}
 use Rattle.sqlite.specs.declared.error.Error.{Error}
@@ -8,13 +8,14 @@ use Rattle.sqlite.specs.Held.{Held}
 use Rattle.sqlite.specs.Effect.{Database}
 use Rattle.sqlite_trees.specs.declared.store.Store.{Ghosts}
 use Rattle.sqlite.specs.Tree.{Trees}
-use Rattle.relay_types.specs.declared.limits.TheConstants.{MAX_ENDPOINTS, MAX_FAILURES}
+use Rattle.relay_types.specs.declared.limits.TheConstants.{MAX_ENDPOINTS, MAX_FAILURES, MAX_SUBSCRIPTIONS}
 use Rattle.relay_types.specs.declared.record.Record.{Record}
 use Rattle.relay_types.specs.Judging.{is_delivered_status, is_gone_status, is_failed_status}
 use Rattle.relay_types.specs.Deliveries.{known_as, is_pending, attempts_of}
 use Rattle.relay_types.specs.Endpoints.{endpoints, has_endpoint}
 use Rattle.relay_types.specs.Legal.{is_status, is_legal, IsLegal}
 use Rattle.relay_types.specs.Rows.{Rows, put_of, put_by_delivery, rows_of, secret_rows}
+use Rattle.relay_types.specs.Subscriptions.{is_pair_named, subscriptions}
 use Rattle.spool_sql.specs.Readable.{IsRefusal}
 use Rattle.spool_sql.specs.Stored.{IsTables, AreTablesOf, with_records, with_endpoint, new_endpoint, with_enabled}
 use Rattle.spool_sql.specs.Stored.{with_secrets_by, without_secrets}
@@ -38,6 +39,15 @@ may_accept records name id = has_endpoint records name && not (is_some (known_as
 -- the number of that endpoint's Put, if the event may be taken in
 abbrev pub accepting : List Record → List ℕ → List ℕ → Option ℕ
 accepting records name id = if may_accept records name id then Some (put_of records name) else None
+
+-- whether the endpoint of this name may be subscribed to the topic behind the records
+abbrev pub may_subscribe : List Record → List ℕ → List ℕ → Bool
+may_subscribe records topic name = has_endpoint records name
+    && (is_pair_named records topic name || nat_lt (length (subscriptions records)) MAX_SUBSCRIPTIONS)
+
+-- the number of that endpoint's Put, if it may be
+abbrev pub subscribing : List Record → List ℕ → List ℕ → Option ℕ
+subscribing records topic name = if may_subscribe records topic name then Some (put_of records name) else None
 
 -- whether an attempt of this number and status may be recorded behind the records for the event
 abbrev pub may_attempt : (records : List Record) (delivery attempt status : ℕ) → Bool

@@ -1,5 +1,5 @@
 -- What a load reads of the tables, and the books that it gives.
-use Rattle.std.specs.Prelude.{◌≡◌, ◌≤◌, ◌==◌, ◌++◌, ℕ, false, List, [], ◌∷◌, map, max, find, length, slice_get}
+use Rattle.std.specs.Prelude.{◌≡◌, ◌≤◌, ◌==◌, ◌++◌, ℕ, false, List, [], ◌∷◌, map, max, find, fold, length, slice_get}
 use Rattle.std.specs.Prelude.{filter_map, Option, Some, None, Result, IfOk, IfErr, OnOk, IsTrue, if◌then◌else◌}
 use Rattle.std.specs.Option.{option_map_or}
 use Rattle.sqlite.specs.State.{State, HasCleanDisk, IsUnchanged}
@@ -10,9 +10,10 @@ use Rattle.relay_types.specs.Values.{Text, Seq, Seconds}
 use Rattle.relay_types.specs.Records.{Attempt}
 use Rattle.relay_types.specs.Endpoints.{secrets_of}
 use Rattle.relay_types.specs.Legal.{IsLegal}
-use Rattle.relay_types.specs.Rows.{EndpointRow, DeliveryRow, AttemptRow, rows_of}
+use Rattle.relay_types.specs.Rows.{EndpointRow, DeliveryRow, AttemptRow, TopicRow, rows_of}
 use Rattle.endpoint_book.specs.declared.entry.Entry.{Entry}
 use Rattle.endpoint_book.specs.Entries.{BookValue, is_known, restored_entry}
+use Rattle.endpoint_book.specs.Topics.{TopicsValue, restored_topics, with_pair}
 use Rattle.delivery_book.specs.declared.entry.Entry.{Entry as DeliveryEntry}
 use Rattle.delivery_book.specs.declared.progress.Progress.{Progress}
 use Rattle.delivery_book.specs.Entries.{BookValue as DeliveryBookValue, known_in, new_entry, progress_of}
@@ -72,6 +73,7 @@ entry_of_row records e = restored_entry e.put e.name e.url e.max (secrets_of rec
 pub record AreRestored (loaded : Endpoints) (records : List Record) (rows : List EndpointRow) : Type 0 where
   pub entries : loaded.book.entries ≡ map (entry_of_row records) rows
   pub changes : loaded.book.changes ≡ []
+  pub topics : loaded.book.topics ≡ []
   pub left : (after : List EndpointRow) → (rows_of records).endpoints ≡ rows ++ after
       → IsRising (λ (e : EndpointRow). e.put) loaded.book.next_seq (length records) after
   pub settled_seq : loaded.book.settled_seq ≤ length records
@@ -86,6 +88,48 @@ Restores old new more records = ReadsOn (rows_of records).endpoints (AreRestored
 abbrev pub NextToRestore : (loaded : Endpoints) → List EndpointRow → List Record → Type 0
 NextToRestore loaded more records = ComeNext (rows_of records).endpoints (AreRestored loaded records) more
 
+-- ---- topics
+
+-- these are the numbers and names of the endpoints of these records
+abbrev pub AreNames : List Known → List Record → Type 0
+AreNames names records = names ≡ map known_of (rows_of records).endpoints
+
+-- the name of the endpoint with this number
+abbrev pub name_put : List EndpointRow → (put : Seq) → Text
+name_put rows put = option_map_or (λ e. e.name) (find (λ e. e.put == put) rows) []
+
+-- who is subscribed to what by these rows
+abbrev pub topics_by : List EndpointRow → List TopicRow → TopicsValue
+topics_by endpoints rows =
+    fold (λ topics t. with_pair topics t.topic (name_put endpoints t.endpoint) t.subscribed) [] rows
+
+-- all endpoints were read, and the topics of these rows
+pub record HaveTopics (loaded : Endpoints) (records : List Record) (rows : List TopicRow) : Type 0 where
+  pub entries : loaded.book.entries ≡ map (entry_of_row records) (rows_of records).endpoints
+  pub changes : loaded.book.changes ≡ []
+  pub topics : loaded.book.topics ≡ topics_by (rows_of records).endpoints rows
+  pub next_seq : loaded.book.next_seq ≤ length records
+  pub settled_seq : loaded.book.settled_seq ≤ length records
+  pub names : AreNames loaded.names.items records
+
+-- these rows of the table were read behind those before
+abbrev pub Subscribes : (old new : Endpoints) → List TopicRow → List Record → Type 0
+Subscribes old new more records =
+    ReadsOn (rows_of records).topics (HaveTopics old records) (HaveTopics new records) more
+
+-- these rows are the next ones
+abbrev pub NextToSubscribe : (loaded : Endpoints) → List TopicRow → List Record → Type 0
+NextToSubscribe loaded more records = ComeNext (rows_of records).topics (HaveTopics loaded records) more
+
+-- all endpoints and topics of these records were read, and nothing else
+pub record AreSubscribed (loaded : Endpoints) (records : List Record) : Type 0 where
+  pub entries : loaded.book.entries ≡ map (entry_of_row records) (rows_of records).endpoints
+  pub changes : loaded.book.changes ≡ []
+  pub topics : loaded.book.topics ≡ restored_topics records
+  pub next_seq : loaded.book.next_seq ≤ length records
+  pub settled_seq : loaded.book.settled_seq ≤ length records
+  pub names : AreNames loaded.names.items records
+
 -- ---- events
 
 -- the greatest of these moments, 0 where there is none
@@ -93,17 +137,9 @@ abbrev pub greatest : List Seconds → Seconds
 greatest [] = 0
 greatest (at ∷ rest) = max at (greatest rest)
 
--- these are the numbers and names of the endpoints of these records
-abbrev pub AreNames : List Known → List Record → Type 0
-AreNames names records = names ≡ map known_of (rows_of records).endpoints
-
 -- an endpoint of this number has this name
 abbrev pub IsNameOf : List Known → (put : Seq) (name : Text) → Type 0
 IsNameOf names put name = (at : ℕ) × (slice_get names at ≡ Some (record { put = put; name = name }))
-
--- the name of the endpoint with this number
-abbrev pub name_put : List EndpointRow → (put : Seq) → Text
-name_put rows put = option_map_or (λ e. e.name) (find (λ e. e.put == put) rows) []
 
 -- the event of this number, endpoint and id may be the next one of the book
 abbrev pub MayAccept : DeliveryBookValue → (seq : Seq) (name id : Text) → Type 0

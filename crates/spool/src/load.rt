@@ -18,6 +18,7 @@ use crate::ends::LoadFault;
 use crate::load_attempts::load_attempts;
 use crate::load_deliveries::load_deliveries;
 use crate::load_endpoints::{Endpoints, load_endpoints};
+use crate::load_topics::load_topics;
 use delivery_book::DeliveryBook;
 use endpoint_book::EndpointBook;
 use relay_types::{MAX_RECORDS, Moment};
@@ -72,7 +73,8 @@ fn read_books<S: Alter>(conn: &mut Connection<S>, alloc: Global) -> Result<Books
     read_tables(&mut tx, alloc)
 }
 
-// The books of the tables: first the endpoints, then the events with their names, then what came of these.
+// The books of the tables: first the endpoints with their topics, then the events with their names,
+// then what came of these.
 fn read_tables<S: Alter>(tx: &mut Transaction<'_, S>, alloc: Global) -> Result<Books, RowFault>
     ensures same_reference { IsOfSame tx.old.conn tx.new.conn }
     ensures found { Reads S.Store tx.old.conn.now tx.new.conn.now result (λ books records. AreBooks books records) }
@@ -80,7 +82,8 @@ fn read_tables<S: Alter>(tx: &mut Transaction<'_, S>, alloc: Global) -> Result<B
     ensures settled { IfOk result AreSettled }
     ensures spares { SparesCommit S.Store tx.old.conn.now tx.new.conn.now }
 {
-    let endpoints = load_endpoints(tx, alloc)?;
+    let mut endpoints = load_endpoints(tx, alloc)?;
+    load_topics(tx, &mut endpoints, alloc)?;
     let mut deliveries = load_deliveries(tx, &endpoints.names, alloc)?;
     load_attempts(tx, &mut deliveries, alloc)?;
     let records = select_records(tx)?;

@@ -49,7 +49,7 @@ impl Deliveries {
 }
 
 // The name of the endpoint with this number, by halves.
-fn name_of(names: &[Known], put: u64) -> Option<Name>
+pub(crate) fn name_of(names: &[Known], put: u64) -> Option<Name>
     ensures found { IfSome result (IsNameOf names.now put) }
     ensures missing { result ≡ None → IsRising (λ known. known.put) 0 MAX_RECORDS names.now
         → list_any (λ known. known.put == put) names.now ≡ false }

@@ -4,37 +4,36 @@ use Rattle.std.proofs.Common.{sym, ap, subst, ◌∙◌, Ok, arith}
 use Rattle.std.specs.Int.{from_bool}
 use Rattle.std.specs.List.Sorted.{IsPermutation}
 use Rattle.std.proofs.lemmas.Bool.Decides.{nat_tests}
-use Rattle.std.proofs.lemmas.List.Sorted.{IsPermutation-map}
-use Rattle.sqlite_trees.proofs.ListLemmas.{IsPermutation-filter}
 use Rattle.sqlite.specs.Collation.TheVariants.{Binary}
 use Rattle.sqlite_sql.specs.declared.ops.BinaryOp.TheVariants.{Compare}
 use Rattle.sqlite_sql.specs.declared.ops.CompareOp.TheVariants.{Eq}
-use Rattle.sqlite.specs.declared.types.Value.TheVariants.{Null, Int}
+use Rattle.sqlite.specs.declared.types.Value.TheVariants.{Null, Int, Text}
 use Rattle.sqlite_value.proofs.OrderLemmas.{value_cmp-Int}
 use Rattle.std.specs.Ordering.{is_eq}
 use Rattle.sqlite_value.specs.Order.{value_cmp}
 use Rattle.sqlite.specs.Order.{Row}
-use Rattle.sqlite.specs.Tree.{rowid, has_rowid}
+use Rattle.sqlite.specs.Tree.{has_rowid}
 use Rattle.sqlite.specs.Term.{Term, lit, col, op2}
 use Rattle.sqlite_schema.specs.declared.program.Program.{Program}
 use Rattle.sqlite_rules.specs.Cast.{cast_row}
-use Rattle.sqlite_rules.specs.Edit.{id_in}
-use Rattle.sqlite_rules.specs.Calls.{ids_of}
 use Rattle.sqlite.specs.Command.TheVariants.{Update, Delete}
 use Rattle.sqlite.specs.Listing.{understood}
 use Rattle.sqlite.specs.State.{State, Executes}
 use Rattle.sqlite_tied.specs.Compute.{everything}
-use Rattle.relay_types.specs.Rows.{Rows, EndpointRow, SecretRow, change_where}
-use Rattle.spool_sql.specs.Tables.{relay_schema, endpoints, secrets}
-use Rattle.spool_sql.specs.Stored.{IsTables, HasRowids, endpoint_stored, secret_stored, flag_number, with_enabled}
-use Rattle.spool_sql.specs.Stored.{with_secrets_by, without_secrets}
+use Rattle.relay_types.specs.Rows.{Rows, EndpointRow, SecretRow, TopicRow, change_where, is_pair_row}
+use Rattle.spool_sql.specs.Tables.{relay_schema, endpoints, secrets, topics}
+use Rattle.spool_sql.specs.Stored.{IsTables, endpoint_stored, secret_stored, topic_stored, flag_number, with_enabled}
+use Rattle.spool_sql.specs.Stored.{with_secrets_by, without_secrets, without_topic}
 use Rattle.spool_sql.specs.Steps.{Makes}
 use Rattle.spool_sql.proofs.InsertLemmas.{Means}
 use Rattle.spool_sql.proofs.Inserts.{cast_int, cast_null}
-use Rattle.spool_sql.proofs.RelayLemmas.{idle, others_of, other_endpoints, other_secrets}
-use Rattle.spool_sql.proofs.SelectLemmas.{filtered, map_map, equal_ints, equal_numbers, and_true}
+use Rattle.spool_sql.proofs.RelayLemmas.{idle, others_of, other_endpoints, other_secrets, other_topics, hidden_secrets}
+use Rattle.spool_sql.proofs.RelayLemmas.{hidden_topics}
+use Rattle.spool_sql.proofs.HiddenLemmas.{HasHidden, deletes_hidden}
+use Rattle.spool_sql.proofs.SelectLemmas.{equal_ints, equal_numbers, and_true}
 use Rattle.spool_sql.proofs.UpdateLemmas.{scan, shows, passes, scanned, updates}
-use Rattle.spool_sql.proofs.ChangeLemmas.{updated_typed, left_in_table, left_rowids, deletes}
+use Rattle.spool_sql.proofs.ChangeLemmas.{updated_typed, deletes}
+use Rattle.spool_sql.proofs.TopicSelects.{of_pair, passes_pair}
 
 abbrev pub enabled_update : List ℕ
 enabled_update = codes "UPDATE endpoints SET enabled = ?1, enabled_by = ?2 WHERE put = ?3"
@@ -44,6 +43,9 @@ secrets_by_update = codes "UPDATE endpoints SET secrets_by = ?1 WHERE put = ?2"
 
 abbrev pub secrets_delete : List ℕ
 secrets_delete = codes "DELETE FROM secrets WHERE endpoint = ?1"
+
+abbrev pub topic_delete : List ℕ
+topic_delete = codes "DELETE FROM topics WHERE topic = ?1 AND endpoint = ?2"
 
 -- the column is this parameter
 abbrev is_given : ℕ → ℕ → List Term
@@ -60,6 +62,9 @@ secrets_by_terms = col 1 0 ∷ lit Null ∷ col 1 2 ∷ col 1 3 ∷ col 1 4 ∷ 
 
 abbrev deleted_secrets : Program
 deleted_secrets = record { lets = []; body = scan 3 (is_given 1 0) (col 1 0 ∷ []) }
+
+abbrev deleted_topic : Program
+deleted_topic = record { lets = []; body = scan 9 of_pair (col 1 0 ∷ []) }
 
 abbrev pub enabled_values : ℕ → Bool → ℕ → Row
 enabled_values put flag by = Int (pos (flag_number flag)) ∷ Int (pos by) ∷ Int (pos put) ∷ []
@@ -148,61 +153,50 @@ module _ (old new : State) where
         cast_int (pos by),
       ) refl)
 
--- ---- the secrets of an endpoint
-
--- what follows a rowid names this endpoint
-abbrev names_endpoint : ℕ → Row → Bool
-names_endpoint endpoint v = passes (Int (pos endpoint) ∷ []) (is_given 0 0) v
-
-behind_rowid : (endpoint : ℕ) (r : Row) → passes (Int (pos endpoint) ∷ []) (is_given 1 0) r
-    ≡ names_endpoint endpoint (drop 1 r)
-behind_rowid endpoint [] = refl
-behind_rowid endpoint (v ∷ r) = refl
-
-kept_behind : (endpoint : ℕ) (tree : List Row)
-    → map (drop 1) (filter (λ r. not (passes (Int (pos endpoint) ∷ []) (is_given 1 0) r)) tree)
-    ≡ filter (λ v. not (names_endpoint endpoint v)) (map (drop 1) tree)
-kept_behind endpoint tree =
-    sym (filtered (drop 1) (λ v. not (names_endpoint endpoint v))
-    (λ r. not (passes (Int (pos endpoint) ∷ []) (is_given 1 0) r)) (λ r. ap not (sym (behind_rowid endpoint r))) tree)
-
-other_secrets_left : (endpoint : ℕ) (tree : List Row) (all : List SecretRow)
-    → IsPermutation (map (drop 1) tree) (map secret_stored all)
-    → IsPermutation (map (drop 1) (filter (λ r. not (passes (Int (pos endpoint) ∷ []) (is_given 1 0) r)) tree))
-    (map secret_stored (filter (λ (s : SecretRow). not (s.endpoint == endpoint)) all))
-other_secrets_left endpoint tree all are =
-    subst (λ l. IsPermutation l (map secret_stored (filter (λ (s : SecretRow). not (s.endpoint == endpoint)) all)))
-    (sym (kept_behind endpoint tree))
-    (subst (IsPermutation (filter (λ v. not (names_endpoint endpoint v)) (map (drop 1) tree)))
-    (filtered secret_stored (λ v. not (names_endpoint endpoint v)) (λ (s : SecretRow). not (s.endpoint == endpoint))
-    (λ s. ap not (and_true _ ∙ equal_numbers s.endpoint endpoint)) all)
-    (IsPermutation-filter (λ v. not (names_endpoint endpoint v)) _ _ are))
+-- ---- the secrets of an endpoint, and the row of a topic and an endpoint
 
 secrets_delete_means : Means relay_schema secrets_delete (Delete 2 deleted_secrets)
 unfolding understood everything
 secrets_delete_means = record { is = refl; plain = (refl, refl) }
+
+topic_delete_means : Means relay_schema topic_delete (Delete 5 deleted_topic)
+unfolding understood everything
+topic_delete_means = record { is = refl; plain = (refl, refl) }
 
 module _ (old new : State) where
   pub makes_without_secrets : (endpoint count : ℕ)
       → Executes secrets_delete (Int (pos endpoint) ∷ []) old new (Ok count) → Makes old new (without_secrets endpoint)
   makes_without_secrets endpoint count h rows t =
       let params : Row = Int (pos endpoint) ∷ [] in
-      let tree = old.now.trees 3 in
       let u = deletes relay_schema secrets_delete params 2 deleted_secrets (record secrets { tree = 3 })
       secrets_delete_means refl idle old new count t.schema_is h in
       let found = scanned 3 (is_given 1 0) (col 1 0 ∷ []) relay_schema old.now.trees params u.0 u.1 in
       let w = u.2 in
-      let p = passes params (is_given 1 0) in
-      let these : IsPermutation (map (λ r. id_in (rowid r)) (filter p tree)) (ids_of u.0) =
-      subst (λ l. IsPermutation l (ids_of u.0)) (map_map (shows params (col 1 0 ∷ [])) (λ r. id_in (rowid r))
-      (filter p tree)) (IsPermutation-map (λ r. id_in (rowid r)) _ _ found) in
-      let left = left_in_table tree t.tables.five.secret_rowids p (ids_of u.0) these in
-      let now : new.now.trees 3 ≡ filter (λ r. not (p r)) tree = w.rows_are ∙ left in
+      let left = deletes_hidden secret_stored params (is_given 1 0) (λ (s : SecretRow). s.endpoint == endpoint)
+      (λ id s. and_true _ ∙ equal_numbers s.endpoint endpoint) rows.secrets (old.now.trees 3) u.0
+      (hidden_secrets old.now.trees rows t.tables.five) found in
       let all = filter (λ (s : SecretRow). not (s.endpoint == endpoint)) rows.secrets in
       record {
         schema_is = w.schema_is;
         tables = other_secrets 2 old.now.trees new.now.trees rows t.tables w.sound (others_of old new 3 _ w) all
-            (subst (λ x. IsPermutation (map (drop 1) x) (map secret_stored all)) (sym now)
-            (other_secrets_left endpoint tree rows.secrets t.tables.five.secrets))
-            (subst HasRowids (sym w.rows_are) (left_rowids (ids_of u.0) tree t.tables.five.secret_rowids));
+            (subst (HasHidden secret_stored all) (sym w.rows_are) left);
+      }
+
+  pub makes_without_topic : (topic : List ℕ) (endpoint count : ℕ)
+      → Executes topic_delete (Text topic ∷ Int (pos endpoint) ∷ []) old new (Ok count)
+      → Makes old new (without_topic topic endpoint)
+  makes_without_topic topic endpoint count h rows t =
+      let params : Row = Text topic ∷ Int (pos endpoint) ∷ [] in
+      let u = deletes relay_schema topic_delete params 5 deleted_topic (record topics { tree = 9 })
+      topic_delete_means refl idle old new count t.schema_is h in
+      let found = scanned 9 of_pair (col 1 0 ∷ []) relay_schema old.now.trees params u.0 u.1 in
+      let w = u.2 in
+      let left = deletes_hidden topic_stored params of_pair (is_pair_row topic endpoint)
+      (λ id x. passes_pair topic endpoint id x) rows.topics (old.now.trees 9) u.0
+      (hidden_topics old.now.trees rows t.tables) found in
+      let all = filter (λ (x : TopicRow). not (is_pair_row topic endpoint x)) rows.topics in
+      record {
+        schema_is = w.schema_is;
+        tables = other_topics 2 old.now.trees new.now.trees rows t.tables w.sound (others_of old new 9 _ w) all
+            (subst (HasHidden topic_stored all) (sym w.rows_are) left);
       }

@@ -13,8 +13,10 @@ use Rattle.spool_sql.specs.Tables.{meta, endpoints, secrets, deliveries, attempt
 use Rattle.spool_sql.specs.Tables.{schema_2, schema_3, schema_4, first_schema, relay_schema}
 use Rattle.sqlite.specs.Table.{Table}
 use Rattle.sqlite.specs.Schema.{Schema}
-use Rattle.std.proofs.Common.{List, [], ◌∷◌, ◌++◌, ℕ, None, false, sym, ap, subst, ◌∙◌}
+use Rattle.std.proofs.Common.{List, [], ◌∷◌, ◌++◌, ℕ, None, false, map, drop, sym, ap, subst, subst₂, ◌∙◌, arith}
 use Rattle.std.specs.List.{AllByRecursion}
+use Rattle.std.specs.List.Sorted.{IsPermutation}
+use Rattle.std.proofs.lemmas.List.Sorted.{IsPermutation-refl}
 use Rattle.sqlite_catalog.specs.Change.{next_tree, KeepsRows}
 use Rattle.sqlite.specs.Tree.{Trees}
 use Rattle.sqlite.specs.Effect.{Database}
@@ -24,7 +26,7 @@ use Rattle.sqlite.proofs.Callers.{runs_as}
 use Rattle.sqlite_catalog.specs.Listing.{IsSound}
 use Rattle.relay_types.specs.Rows.{Rows}
 use Rattle.spool_sql.specs.Steps.{IsBegun}
-use Rattle.spool_sql.specs.Stored.{IsFirstTables, IsSixTables}
+use Rattle.spool_sql.specs.Stored.{IsFirstTables, IsSixTables, HasRowids, topic_stored}
 use Rattle.spool_sql.proofs.RelayLemmas.{same_five}
 use Rattle.spool_sql.proofs.InsertLemmas.{went, same_value}
 
@@ -135,8 +137,10 @@ module _ (old new : State) (count : ℕ) (h : Executes topics_text [] old new (O
       record {
         schema_is = made.schema_is ∙ makes_relay;
         tables = record {
-          five = same_five 1 old.now.trees new.now.trees rows t.tables
+          five = same_five 1 old.now.trees new.now.trees rows t.tables.five
               (subst (λ s. IsSound s new.now.trees) makes_relay made.sound) made.kept;
-          no_topics = made.fresh;
+          topics = subst₂ (λ tree xs. IsPermutation (map (drop 1) tree) (map topic_stored xs)) (sym made.fresh)
+              (sym t.tables.no_topics) (IsPermutation-refl []);
+          topic_rowids = subst HasRowids (sym made.fresh) (record { numbered = tt; once = λ id. omega arith });
         };
       }

@@ -16,22 +16,23 @@ use Rattle.sqlite.specs.Rowids.TheVariants.{Chosen}
 use Rattle.sqlite.specs.Rows.{stamped}
 use Rattle.sqlite.specs.Effect.{value_rows}
 use Rattle.sqlite.specs.Tree.{Trees, put_row}
-use Rattle.spool_sql.proofs.ChangeLemmas.{put_rowids}
 use Rattle.sqlite.specs.Listing.{understood}
 use Rattle.sqlite_tied.specs.Compute.{everything}
-use Rattle.spool_sql.specs.Tables.{relay_schema, meta, endpoints, secrets, deliveries, attempts}
+use Rattle.spool_sql.specs.Tables.{relay_schema, meta, endpoints, secrets, deliveries, attempts, topics}
 use Rattle.std.specs.List.Sorted.{IsPermutation}
 use Rattle.std.proofs.lemmas.List.Sorted.{IsPermutation-refl}
 use Rattle.sqlite.specs.State.{State, Executes}
-use Rattle.relay_types.specs.Rows.{SecretRow, DeliveryRow, AttemptRow}
+use Rattle.relay_types.specs.Rows.{SecretRow, DeliveryRow, AttemptRow, TopicRow}
 use Rattle.spool_sql.specs.Stored.{IsTables, HasRowids, meta_stored, endpoint_stored, delivery_stored, attempt_stored}
-use Rattle.spool_sql.specs.Stored.{secret_stored}
-use Rattle.spool_sql.specs.Stored.{new_endpoint, with_endpoint, with_secret, with_delivery, with_attempt, first_rows}
+use Rattle.spool_sql.specs.Stored.{secret_stored, topic_stored, flag_number}
+use Rattle.spool_sql.specs.Stored.{new_endpoint, with_endpoint, with_secret, with_delivery, with_attempt, with_topic}
+use Rattle.spool_sql.specs.Stored.{first_rows}
 use Rattle.spool_sql.specs.Steps.{Makes, IsBegun}
 use Rattle.spool_sql.proofs.InsertLemmas.{Means, inserts}
 use Rattle.spool_sql.proofs.RelayLemmas.{idle, others_of, other_endpoints, other_secrets, other_deliveries}
-use Rattle.spool_sql.proofs.RelayLemmas.{other_attempts}
-use Rattle.spool_sql.proofs.TypedLemmas.{put_typed, put_hidden}
+use Rattle.spool_sql.proofs.RelayLemmas.{other_attempts, other_topics, hidden_secrets, hidden_topics}
+use Rattle.spool_sql.proofs.HiddenLemmas.{HasHidden, inserts_hidden}
+use Rattle.spool_sql.proofs.TypedLemmas.{put_typed}
 
 either : (b : Bool) (x : Value) → cond b x x ≡ x
 either true x = refl
@@ -59,6 +60,9 @@ endpoints_insert = codes "INSERT INTO endpoints VALUES(?1, ?2, ?3, ?4, 1, ?1, ?1
 abbrev pub secrets_insert : List ℕ
 secrets_insert = codes "INSERT INTO secrets VALUES(?1, ?2, ?3)"
 
+abbrev pub topics_insert : List ℕ
+topics_insert = codes "INSERT INTO topics VALUES(?1, ?2, ?3, ?4)"
+
 abbrev five : List Term
 five = col 0 0 ∷ lit Null ∷ col 0 1 ∷ col 0 2 ∷ col 0 3 ∷ col 0 4 ∷ []
 
@@ -67,6 +71,9 @@ seven = col 0 0 ∷ lit Null ∷ col 0 1 ∷ col 0 2 ∷ col 0 3 ∷ lit (Int (p
 
 abbrev three : List Term
 three = lit Null ∷ col 0 0 ∷ col 0 1 ∷ col 0 2 ∷ []
+
+abbrev four : List Term
+four = lit Null ∷ col 0 0 ∷ col 0 1 ∷ col 0 2 ∷ col 0 3 ∷ []
 
 abbrev first_terms : ℕ → List Term
 first_terms version = lit (Int (pos 1)) ∷ lit Null ∷ lit (Text (codes "webhook-relay")) ∷ lit (Int (pos version))
@@ -87,6 +94,10 @@ endpoints_insert_means = record { is = refl; plain = (refl, refl) }
 secrets_insert_means : Means relay_schema secrets_insert (Insert 2 (Values three 4))
 unfolding understood everything
 secrets_insert_means = record { is = refl; plain = (refl, refl) }
+
+topics_insert_means : Means relay_schema topics_insert (Insert 5 (Values four 5))
+unfolding understood everything
+topics_insert_means = record { is = refl; plain = (refl, refl) }
 
 abbrev pub meta_insert : List ℕ
 meta_insert = codes "INSERT INTO meta VALUES(1, 'webhook-relay', 2, 0)"
@@ -110,9 +121,15 @@ endpoint_values put name url max = Int (pos put) ∷ Text name ∷ Text url ∷ 
 abbrev pub secret_values : SecretRow → Row
 secret_values s = Int (pos s.endpoint) ∷ Int (pos s.place) ∷ Blob s.secret ∷ []
 
+abbrev pub topic_values : TopicRow → Row
+topic_values x = Text x.topic ∷ Int (pos x.endpoint) ∷ Int (pos (flag_number x.subscribed)) ∷ Int (pos x.set_by) ∷ []
+
 -- with a rowid that the store chooses
 abbrev hidden : SecretRow → Trees → Row
 hidden s db = Int (next_rowid (db 3)) ∷ secret_stored s
+
+abbrev hidden_topic : TopicRow → Trees → Row
+hidden_topic x db = Int (next_rowid (db 9)) ∷ topic_stored x
 
 delivery_news : (d : DeliveryRow) (db : Trees)
     → (edit_of db (record deliveries { tree = 5 }) [] Chosen 0
@@ -144,6 +161,13 @@ secret_news : (s : SecretRow) (db : Trees)
     (value_rows (stamped (record secrets { tree = 3 }) (secret_values s)) 4 (length three / 4) three)).news
     ≡ hidden s db ∷ []
 secret_news s db = rw (cast_null, cast_int (pos s.endpoint), cast_int (pos s.place)) refl
+
+topic_news : (x : TopicRow) (db : Trees)
+    → (edit_of db (record topics { tree = 9 }) [] Chosen 0
+    (value_rows (stamped (record topics { tree = 9 }) (topic_values x)) 5 (length four / 5) four)).news
+    ≡ hidden_topic x db ∷ []
+topic_news x db =
+    rw (cast_null, cast_int (pos x.endpoint), cast_int (pos (flag_number x.subscribed)), cast_int (pos x.set_by)) refl
 
 meta_news : (version : ℕ) (db : Trees)
     → (edit_of db meta [] Chosen 0 (value_rows (stamped meta []) 5 (length (first_terms version) / 5)
@@ -209,11 +233,24 @@ module _ (old new : State) where
         schema_is = w.schema_is;
         tables = other_secrets 2 old.now.trees new.now.trees rows t.tables w.sound (others_of old new 3 _ w)
             (rows.secrets ++ s ∷ [])
-            (subst (λ x. IsPermutation (map (drop 1) x) (map secret_stored (rows.secrets ++ s ∷ []))) (sym w.rows_are)
-            (put_hidden secret_stored s (Int (next_rowid (old.now.trees 3))) (old.now.trees 3) rows.secrets u.1
-            t.tables.five.secrets))
-            (subst (HasRowids) (sym w.rows_are) (put_rowids (next_rowid (old.now.trees 3)) (secret_stored s)
-            (old.now.trees 3) u.1 t.tables.five.secret_rowids));
+            (subst (HasHidden secret_stored (rows.secrets ++ s ∷ [])) (sym w.rows_are)
+            (inserts_hidden secret_stored s (next_rowid (old.now.trees 3)) rows.secrets (old.now.trees 3) u.1
+            (hidden_secrets old.now.trees rows t.tables.five)));
+      }
+
+  pub makes_topic : (x : TopicRow) (count : ℕ) → Executes topics_insert (topic_values x) old new (Ok count)
+      → Makes old new (with_topic x)
+  makes_topic x count h rows t =
+      let u = inserts relay_schema topics_insert (topic_values x) 5 four 5 (record topics { tree = 9 })
+      topics_insert_means refl refl (hidden_topic x) (topic_news x) idle old new count t.schema_is h in
+      let w = u.0 in
+      record {
+        schema_is = w.schema_is;
+        tables = other_topics 2 old.now.trees new.now.trees rows t.tables w.sound (others_of old new 9 _ w)
+            (rows.topics ++ x ∷ [])
+            (subst (HasHidden topic_stored (rows.topics ++ x ∷ [])) (sym w.rows_are)
+            (inserts_hidden topic_stored x (next_rowid (old.now.trees 9)) rows.topics (old.now.trees 9) u.1
+            (hidden_topics old.now.trees rows t.tables)));
       }
 
   -- of the tables as they are made
@@ -241,6 +278,10 @@ module _ (old new : State) where
             secret_rowids = subst (HasRowids) (sym (o.secrets (λ e. absurd (omega (arith, e))) ∙ b.empty.1.1.0))
                 (record { numbered = tt; once = λ id. omega arith });
           };
-          no_topics = o.topics (λ e. absurd (omega (arith, e))) ∙ b.empty.1.1.1.1.1.0;
+          topics = subst (λ x. IsPermutation (map (drop 1) x) [])
+              (sym (o.topics (λ e. absurd (omega (arith, e))) ∙ b.empty.1.1.1.1.1.0)) none;
+          topic_rowids = subst (HasRowids)
+              (sym (o.topics (λ e. absurd (omega (arith, e))) ∙ b.empty.1.1.1.1.1.0))
+              (record { numbered = tt; once = λ id. omega arith });
         };
       }

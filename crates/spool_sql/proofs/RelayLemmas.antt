@@ -3,8 +3,9 @@ use Rattle.std.proofs.Common.{◌≡◌, ◌≢◌, ℕ, ◌==◌, List, [], ◌
 use Rattle.std.proofs.Common.{sym, subst, ◌∙◌, arith}
 use Rattle.std.specs.List.{filter_map}
 use Rattle.std.specs.List.Sorted.{IsPermutation}
+use Rattle.std.proofs.lemmas.Bool.Decides.{nat_tests}
 use Rattle.sqlite.specs.Order.{Row}
-use Rattle.sqlite.specs.Table.{Table}
+use Rattle.sqlite.specs.Schema.{Schema}
 use Rattle.sqlite.specs.Tree.{Trees}
 use Rattle.sqlite.specs.State.{State}
 use Rattle.sqlite_schema.specs.declared.schema.Keys.TheVariants.{Enforced}
@@ -12,11 +13,12 @@ use Rattle.sqlite_schema.specs.Rules.{parent_key}
 use Rattle.sqlite_rules.specs.Action.{works, work_by, pairs, deed_for}
 use Rattle.sqlite_catalog.specs.Change.{KeepsRows}
 use Rattle.sqlite_catalog.specs.Listing.{IsSound}
-use Rattle.relay_types.specs.Rows.{Rows, EndpointRow, SecretRow, DeliveryRow, AttemptRow}
+use Rattle.relay_types.specs.Rows.{Rows, EndpointRow, SecretRow, DeliveryRow, AttemptRow, TopicRow}
 use Rattle.spool_sql.specs.Tables.{first_schema, relay_schema}
 use Rattle.spool_sql.specs.Stored.{AreTables, AreSixTables, HasRowids, meta_stored, endpoint_stored, delivery_stored}
-use Rattle.spool_sql.specs.Stored.{attempt_stored, secret_stored, with_records}
+use Rattle.spool_sql.specs.Stored.{attempt_stored, secret_stored, topic_stored, with_records}
 use Rattle.spool_sql.proofs.InsertLemmas.{Wrote}
+use Rattle.spool_sql.proofs.HiddenLemmas.{HasHidden}
 
 -- no foreign key acts on a row
 idle_by : (b : Bool) (tree : ℕ) (olds news : List Row)
@@ -50,6 +52,15 @@ others_of old new tree rows w =
       topics = o.1.1.1.1.1.0;
     }
 
+-- the rows of the two tables whose rowids nobody names
+pub hidden_secrets : {schema : Schema} {version : ℕ} (db : Trees) (rows : Rows) → AreTables schema version db rows
+    → HasHidden secret_stored rows.secrets (db 3)
+hidden_secrets db rows t = record { shown = t.secrets; rowids = t.secret_rowids }
+
+pub hidden_topics : {version : ℕ} (db : Trees) (rows : Rows) → AreSixTables version db rows
+    → HasHidden topic_stored rows.topics (db 9)
+hidden_topics db rows t = record { shown = t.topics; rowids = t.topic_rowids }
+
 -- the five tables of version 1 with the rows that they had, whatever stands beside them now
 pub same_five : (version : ℕ) (old new : Trees) (rows : Rows) → AreTables first_schema version old rows
     → IsSound relay_schema new → KeepsRows first_schema.tables old new → AreTables relay_schema version new rows
@@ -63,16 +74,18 @@ same_five version old new rows t sound kept = record {
   secret_rowids = subst HasRowids (sym kept.1.1.0) t.secret_rowids;
 }
 
+-- ---- one table has other rows, and the others have theirs
+
+differs : (m n : ℕ) → (m == n) ≡ false → m ≢ n
+differs m n apart e = grind (arith, nat_tests, apart, e)
+
 module _ (version : ℕ) (old new : Trees) (rows : Rows) (t : AreSixTables version old rows)
     (sound : IsSound relay_schema new) where
   same_endpoints : new 1 ≡ old 1 → IsPermutation (new 1) (map endpoint_stored rows.endpoints)
   same_endpoints is = subst (λ x. IsPermutation x (map endpoint_stored rows.endpoints)) (sym is) t.five.endpoints
 
-  same_secrets : new 3 ≡ old 3 → IsPermutation (map (drop 1) (new 3)) (map secret_stored rows.secrets)
-  same_secrets is = subst (λ x. IsPermutation (map (drop 1) x) (map secret_stored rows.secrets)) (sym is) t.five.secrets
-
-  same_rowids : new 3 ≡ old 3 → HasRowids (new 3)
-  same_rowids is = subst (HasRowids) (sym is) t.five.secret_rowids
+  same_secrets : new 3 ≡ old 3 → HasHidden secret_stored rows.secrets (new 3)
+  same_secrets is = subst (HasHidden secret_stored rows.secrets) (sym is) (hidden_secrets old rows t.five)
 
   same_deliveries : new 5 ≡ old 5 → IsPermutation (new 5) (map delivery_stored rows.deliveries)
   same_deliveries is = subst (λ x. IsPermutation x (map delivery_stored rows.deliveries)) (sym is) t.five.deliveries
@@ -80,78 +93,117 @@ module _ (version : ℕ) (old new : Trees) (rows : Rows) (t : AreSixTables versi
   same_attempts : new 7 ≡ old 7 → IsPermutation (new 7) (map attempt_stored rows.attempts)
   same_attempts is = subst (λ x. IsPermutation x (map attempt_stored rows.attempts)) (sym is) t.five.attempts
 
+  same_topics : new 9 ≡ old 9 → HasHidden topic_stored rows.topics (new 9)
+  same_topics is = subst (HasHidden topic_stored rows.topics) (sym is) (hidden_topics old rows t)
+
   pub other_meta : Others old new 0 → (later n : ℕ) → new 0 ≡ meta_stored later n ∷ []
       → AreSixTables later new (with_records n rows)
-  other_meta o later n is = record {
-    five = record {
-      sound = sound;
-      meta = is;
-      endpoints = same_endpoints (o.endpoints (λ e. absurd (omega (arith, e))));
-      secrets = same_secrets (o.secrets (λ e. absurd (omega (arith, e))));
-      deliveries = same_deliveries (o.deliveries (λ e. absurd (omega (arith, e))));
-      attempts = same_attempts (o.attempts (λ e. absurd (omega (arith, e))));
-      secret_rowids = same_rowids (o.secrets (λ e. absurd (omega (arith, e))));
-    };
-    no_topics = o.topics (λ e. absurd (omega (arith, e))) ∙ t.no_topics;
-  }
+  other_meta o later n is =
+      let secrets = same_secrets (o.secrets (differs 3 0 refl)) in
+      let topics = same_topics (o.topics (differs 9 0 refl)) in
+      record {
+        five = record {
+          sound = sound;
+          meta = is;
+          endpoints = same_endpoints (o.endpoints (differs 1 0 refl));
+          secrets = secrets.shown;
+          deliveries = same_deliveries (o.deliveries (differs 5 0 refl));
+          attempts = same_attempts (o.attempts (differs 7 0 refl));
+          secret_rowids = secrets.rowids;
+        };
+        topics = topics.shown;
+        topic_rowids = topics.rowids;
+      }
 
   pub other_endpoints : Others old new 1 → (all : List EndpointRow) → IsPermutation (new 1) (map endpoint_stored all)
       → AreSixTables version new (record rows { endpoints = all })
-  other_endpoints o all are = record {
-    five = record {
-      sound = sound;
-      meta = o.meta (λ e. absurd (omega (arith, e))) ∙ t.five.meta;
-      endpoints = are;
-      secrets = same_secrets (o.secrets (λ e. absurd (omega (arith, e))));
-      deliveries = same_deliveries (o.deliveries (λ e. absurd (omega (arith, e))));
-      attempts = same_attempts (o.attempts (λ e. absurd (omega (arith, e))));
-      secret_rowids = same_rowids (o.secrets (λ e. absurd (omega (arith, e))));
-    };
-    no_topics = o.topics (λ e. absurd (omega (arith, e))) ∙ t.no_topics;
-  }
-
-  pub other_secrets : Others old new 3 → (all : List SecretRow)
-      → IsPermutation (map (drop 1) (new 3)) (map secret_stored all) → HasRowids (new 3)
-      → AreSixTables version new (record rows { secrets = all })
-  other_secrets o all are rowids = record {
-    five = record {
-      sound = sound;
-      meta = o.meta (λ e. absurd (omega (arith, e))) ∙ t.five.meta;
-      endpoints = same_endpoints (o.endpoints (λ e. absurd (omega (arith, e))));
-      secrets = are;
-      deliveries = same_deliveries (o.deliveries (λ e. absurd (omega (arith, e))));
-      attempts = same_attempts (o.attempts (λ e. absurd (omega (arith, e))));
-      secret_rowids = rowids;
-    };
-    no_topics = o.topics (λ e. absurd (omega (arith, e))) ∙ t.no_topics;
-  }
+  other_endpoints o all are =
+      let secrets = same_secrets (o.secrets (differs 3 1 refl)) in
+      let topics = same_topics (o.topics (differs 9 1 refl)) in
+      record {
+        five = record {
+          sound = sound;
+          meta = o.meta (differs 0 1 refl) ∙ t.five.meta;
+          endpoints = are;
+          secrets = secrets.shown;
+          deliveries = same_deliveries (o.deliveries (differs 5 1 refl));
+          attempts = same_attempts (o.attempts (differs 7 1 refl));
+          secret_rowids = secrets.rowids;
+        };
+        topics = topics.shown;
+        topic_rowids = topics.rowids;
+      }
 
   pub other_deliveries : Others old new 5 → (all : List DeliveryRow) → IsPermutation (new 5) (map delivery_stored all)
       → AreSixTables version new (record rows { deliveries = all })
-  other_deliveries o all are = record {
-    five = record {
-      sound = sound;
-      meta = o.meta (λ e. absurd (omega (arith, e))) ∙ t.five.meta;
-      endpoints = same_endpoints (o.endpoints (λ e. absurd (omega (arith, e))));
-      secrets = same_secrets (o.secrets (λ e. absurd (omega (arith, e))));
-      deliveries = are;
-      attempts = same_attempts (o.attempts (λ e. absurd (omega (arith, e))));
-      secret_rowids = same_rowids (o.secrets (λ e. absurd (omega (arith, e))));
-    };
-    no_topics = o.topics (λ e. absurd (omega (arith, e))) ∙ t.no_topics;
-  }
+  other_deliveries o all are =
+      let secrets = same_secrets (o.secrets (differs 3 5 refl)) in
+      let topics = same_topics (o.topics (differs 9 5 refl)) in
+      record {
+        five = record {
+          sound = sound;
+          meta = o.meta (differs 0 5 refl) ∙ t.five.meta;
+          endpoints = same_endpoints (o.endpoints (differs 1 5 refl));
+          secrets = secrets.shown;
+          deliveries = are;
+          attempts = same_attempts (o.attempts (differs 7 5 refl));
+          secret_rowids = secrets.rowids;
+        };
+        topics = topics.shown;
+        topic_rowids = topics.rowids;
+      }
 
   pub other_attempts : Others old new 7 → (all : List AttemptRow) → IsPermutation (new 7) (map attempt_stored all)
       → AreSixTables version new (record rows { attempts = all })
-  other_attempts o all are = record {
-    five = record {
-      sound = sound;
-      meta = o.meta (λ e. absurd (omega (arith, e))) ∙ t.five.meta;
-      endpoints = same_endpoints (o.endpoints (λ e. absurd (omega (arith, e))));
-      secrets = same_secrets (o.secrets (λ e. absurd (omega (arith, e))));
-      deliveries = same_deliveries (o.deliveries (λ e. absurd (omega (arith, e))));
-      attempts = are;
-      secret_rowids = same_rowids (o.secrets (λ e. absurd (omega (arith, e))));
-    };
-    no_topics = o.topics (λ e. absurd (omega (arith, e))) ∙ t.no_topics;
-  }
+  other_attempts o all are =
+      let secrets = same_secrets (o.secrets (differs 3 7 refl)) in
+      let topics = same_topics (o.topics (differs 9 7 refl)) in
+      record {
+        five = record {
+          sound = sound;
+          meta = o.meta (differs 0 7 refl) ∙ t.five.meta;
+          endpoints = same_endpoints (o.endpoints (differs 1 7 refl));
+          secrets = secrets.shown;
+          deliveries = same_deliveries (o.deliveries (differs 5 7 refl));
+          attempts = are;
+          secret_rowids = secrets.rowids;
+        };
+        topics = topics.shown;
+        topic_rowids = topics.rowids;
+      }
+
+  pub other_secrets : Others old new 3 → (all : List SecretRow) → HasHidden secret_stored all (new 3)
+      → AreSixTables version new (record rows { secrets = all })
+  other_secrets o all are =
+      let topics = same_topics (o.topics (differs 9 3 refl)) in
+      record {
+        five = record {
+          sound = sound;
+          meta = o.meta (differs 0 3 refl) ∙ t.five.meta;
+          endpoints = same_endpoints (o.endpoints (differs 1 3 refl));
+          secrets = are.shown;
+          deliveries = same_deliveries (o.deliveries (differs 5 3 refl));
+          attempts = same_attempts (o.attempts (differs 7 3 refl));
+          secret_rowids = are.rowids;
+        };
+        topics = topics.shown;
+        topic_rowids = topics.rowids;
+      }
+
+  pub other_topics : Others old new 9 → (all : List TopicRow) → HasHidden topic_stored all (new 9)
+      → AreSixTables version new (record rows { topics = all })
+  other_topics o all are =
+      let secrets = same_secrets (o.secrets (differs 3 9 refl)) in
+      record {
+        five = record {
+          sound = sound;
+          meta = o.meta (differs 0 9 refl) ∙ t.five.meta;
+          endpoints = same_endpoints (o.endpoints (differs 1 9 refl));
+          secrets = secrets.shown;
+          deliveries = same_deliveries (o.deliveries (differs 5 9 refl));
+          attempts = same_attempts (o.attempts (differs 7 9 refl));
+          secret_rowids = secrets.rowids;
+        };
+        topics = are.shown;
+        topic_rowids = are.rowids;
+      }

@@ -85,7 +85,7 @@ told : (b : Bool) → is_true (from_truth (Some b)) ≡ b
 told true = refl
 told false = refl
 
-equal_texts : (s t : List ℕ) → is_true (binary (Compare Eq Binary) (Text s) (Text t)) ≡ bytes_eq s t
+pub equal_texts : (s t : List ℕ) → is_true (binary (Compare Eq Binary) (Text s) (Text t)) ≡ bytes_eq s t
 unfolding binary
 equal_texts s t = told _ ∙ ap is_eq (value_cmp-Text s t) ∙ is_eq-slice_cmp s t
 
@@ -157,11 +157,11 @@ put_shown e = Int (pos e.put) ∷ []
 abbrev pub delivery_params : ℕ → List ℕ → Row
 delivery_params endpoint id = Int (pos endpoint) ∷ Text id ∷ []
 
-all_kept : {X : Type 0} (xs : List X) → filter (λ _. true) xs ≡ xs
+pub all_kept : {X : Type 0} (xs : List X) → filter (λ _. true) xs ≡ xs
 all_kept [] = refl
 all_kept (x ∷ xs) = ap (λ zs. x ∷ zs) (all_kept xs)
 
-any_kept : {X : Type 0} (q : X → Bool) (xs : List X) → not (length (filter q xs) == 0) ≡ list_any q xs
+pub any_kept : {X : Type 0} (q : X → Bool) (xs : List X) → not (length (filter q xs) == 0) ≡ list_any q xs
 any_kept q [] = refl
 any_kept q (x ∷ xs) = tested (q x) (any_kept q xs)
   where

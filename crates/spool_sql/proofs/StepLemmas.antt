@@ -91,7 +91,7 @@ opened_tables d rows sound t = record {
 
 pub opened_first : (d : Database) (rows : Rows) → IsDatabase d → AreFirstTablesOf d.trees rows → IsFirstTables d rows
 opened_first d rows sound t = record {
-  schema_is = lists_once _ d.schema first_schema sound.lists t.sound.lists;
+  schema_is = lists_once _ d.schema first_schema sound.lists t.five.sound.lists;
   tables = t;
 }
 

@@ -17,7 +17,7 @@ use Rattle.sqlite.specs.Held.{Held, state}
 use Rattle.sqlite_value.specs.Order.{column}
 use Rattle.relay_types.specs.declared.limits.TheConstants.{MAX_RECORDS}
 use Rattle.relay_types.specs.Values.{Seq, is_name, is_target, is_max_limit, is_secret, is_msg_id, is_body, is_moment}
-use Rattle.relay_types.specs.Rows.{Rows, EndpointRow, SecretRow, DeliveryRow, AttemptRow}
+use Rattle.relay_types.specs.Rows.{Rows, EndpointRow, SecretRow, DeliveryRow, AttemptRow, TopicRow}
 use Rattle.spool_sql.specs.declared.row.RowFault.{RowFault}
 use Rattle.spool_sql.specs.declared.row.RowFault.TheVariants.{Failed, Unreadable}
 use Rattle.spool_sql.specs.Stored.{IsTables, flag_number}
@@ -52,12 +52,18 @@ pub record IsReadableAttempt (a : AttemptRow) : Type 0 where
   pub status : a.status < 2 ^ 16
   pub at : IsTrue (is_moment a.at)
 
+pub record IsReadableTopic (t : TopicRow) : Type 0 where
+  pub topic : IsTrue (is_name t.topic)
+  pub endpoint : IsSeq t.endpoint
+  pub set_by : IsSeq t.set_by
+
 -- the values of all rows keep their limits
 pub record AreReadable (rows : Rows) : Type 0 where
   pub endpoints : AllByRecursion IsReadableEndpoint rows.endpoints
   pub secrets : AllByRecursion IsReadableSecret rows.secrets
   pub deliveries : AllByRecursion IsReadableDelivery rows.deliveries
   pub attempts : AllByRecursion IsReadableAttempt rows.attempts
+  pub topics : AllByRecursion IsReadableTopic rows.topics
 
 -- ---- the rows that a query shows of them
 
@@ -75,6 +81,9 @@ delivery_shown d = Int (pos d.seq) ∷ Int (pos d.endpoint) ∷ Words d.id ∷ I
 abbrev pub attempt_shown : AttemptRow → Row
 attempt_shown a = Int (pos a.seq) ∷ Int (pos a.delivery) ∷ Int (pos a.number) ∷ Int (pos a.status) ∷ Int (pos a.at) ∷ []
 
+abbrev pub topic_shown : TopicRow → Row
+topic_shown t = Words t.topic ∷ Int (pos t.endpoint) ∷ Int (pos (flag_number t.subscribed)) ∷ Int (pos t.set_by) ∷ []
+
 -- a row of a query shows one of them that can be read back
 abbrev pub ShowsEndpoint : Row → Type 0
 ShowsEndpoint row = (e : EndpointRow) × (row ≡ endpoint_shown e) × IsReadableEndpoint e
@@ -87,6 +96,9 @@ ShowsDelivery row = (d : DeliveryRow) × (row ≡ delivery_shown d) × IsReadabl
 
 abbrev pub ShowsAttempt : Row → Type 0
 ShowsAttempt row = (a : AttemptRow) × (row ≡ attempt_shown a) × IsReadableAttempt a
+
+abbrev pub ShowsTopic : Row → Type 0
+ShowsTopic row = (t : TopicRow) × (row ≡ topic_shown t) × IsReadableTopic t
 
 -- a row of a query shows one number below a bound
 abbrev pub ShowsBelow : ℕ → Row → Type 0

@@ -12,7 +12,8 @@ use Rattle.sqlite_trees.specs.View.{is_int}
 use Rattle.sqlite_catalog.specs.Listing.{IsSound}
 use Rattle.std.specs.List.Sorted.{IsPermutation, IsNonDecreasingBy}
 use Rattle.relay_types.specs.Values.{Seq, Text}
-use Rattle.relay_types.specs.Rows.{Rows, EndpointRow, SecretRow, DeliveryRow, AttemptRow, change_where}
+use Rattle.relay_types.specs.Rows.{Rows, EndpointRow, SecretRow, DeliveryRow, AttemptRow, TopicRow, change_where}
+use Rattle.relay_types.specs.Rows.{is_pair_row}
 use Rattle.sqlite_value.specs.Order.{column, bytes}
 use Rattle.sqlite_trees.specs.Objects.{number_in}
 use Rattle.spool_sql.specs.declared.row as row
@@ -43,12 +44,16 @@ attempt_stored a = Int (pos a.seq) ∷ Null ∷ Int (pos a.delivery) ∷ Int (po
 abbrev pub secret_stored : SecretRow → Row
 secret_stored s = Int (pos s.endpoint) ∷ Int (pos s.place) ∷ Bytes s.secret ∷ []
 
+abbrev pub topic_stored : TopicRow → Row
+topic_stored t = Words t.topic ∷ Int (pos t.endpoint) ∷ Int (pos (flag_number t.subscribed)) ∷ Int (pos t.set_by) ∷ []
+
 -- each row of a tree has a number as its rowid, which no other row has
 pub record HasRowids (tree : List Row) : Type 0 where
   pub numbered : AllByRecursion (λ r. IsTrue (is_int (rowid r))) tree
   pub once : (id : ℤ) → length (filter (has_rowid id) tree) ≤ 1
 
--- the trees list the tables of a schema and obey it, meta tells their version, and they have these rows in any order
+-- The trees list the tables of a schema and obey it, meta tells their version, and the five tables that both versions
+-- have stand for these rows in any order.
 pub record AreTables (schema : Schema) (version : ℕ) (db : Trees) (rows : Rows) : Type 0 where
   pub sound : IsSound schema db
   pub meta : db 0 ≡ meta_stored version rows.records ∷ []
@@ -58,22 +63,26 @@ pub record AreTables (schema : Schema) (version : ℕ) (db : Trees) (rows : Rows
   pub attempts : IsPermutation (db 7) (map attempt_stored rows.attempts)
   pub secret_rowids : HasRowids (db 3)
 
--- a connection sees these tables
+-- a connection sees these five
 pub record IsTablesOf (schema : Schema) (version : ℕ) (db : Database) (rows : Rows) : Type 0 where
   pub schema_is : db.schema ≡ schema
   pub tables : AreTables schema version db.trees rows
 
--- the five tables of version 1
-abbrev pub AreFirstTablesOf : Trees → Rows → Type 0
-AreFirstTablesOf = AreTables first_schema 1
+-- the tables of version 1: the five, and no row of a topic
+pub record AreFirstTablesOf (db : Trees) (rows : Rows) : Type 0 where
+  pub five : AreTables first_schema 1 db rows
+  pub no_topics : rows.topics ≡ []
 
-abbrev pub IsFirstTables : Database → Rows → Type 0
-IsFirstTables = IsTablesOf first_schema 1
+-- a connection sees these
+pub record IsFirstTables (db : Database) (rows : Rows) : Type 0 where
+  pub schema_is : db.schema ≡ first_schema
+  pub tables : AreFirstTablesOf db.trees rows
 
--- beside the five tables, of which meta tells this version, that of topics has no row
+-- beside the five tables, of which meta tells this version, that of topics has these rows in any order
 pub record AreSixTables (version : ℕ) (db : Trees) (rows : Rows) : Type 0 where
   pub five : AreTables relay_schema version db rows
-  pub no_topics : db 9 ≡ []
+  pub topics : IsPermutation (map (drop 1) (db 9)) (map topic_stored rows.topics)
+  pub topic_rowids : HasRowids (db 9)
 
 -- a connection sees these six
 pub record IsSixTables (version : ℕ) (db : Database) (rows : Rows) : Type 0 where
@@ -116,9 +125,12 @@ with_delivery d rows = record rows { deliveries = rows.deliveries ++ d ∷ [] }
 abbrev pub with_attempt : AttemptRow → Rows → Rows
 with_attempt a rows = record rows { attempts = rows.attempts ++ a ∷ [] }
 
+abbrev pub with_topic : TopicRow → Rows → Rows
+with_topic t rows = record rows { topics = rows.topics ++ t ∷ [] }
+
 -- the rows of the history with no record
 abbrev pub first_rows : Rows
-first_rows = record { records = 0; endpoints = []; secrets = []; deliveries = []; attempts = [] }
+first_rows = record { records = 0; endpoints = []; secrets = []; deliveries = []; attempts = []; topics = [] }
 
 -- ---- what is asked of the rows
 
@@ -136,6 +148,10 @@ is_delivery endpoint id d = (d.endpoint == endpoint) && bytes_eq d.id id
 -- whether the endpoint that the record with this number made has an event of this id
 abbrev pub has_id : Rows → ℕ → List ℕ → Bool
 has_id rows endpoint id = list_any (is_delivery endpoint id) rows.deliveries
+
+-- whether a row tells of this topic and of the endpoint that the record with this number made
+abbrev pub has_pair : Rows → Text → Seq → Bool
+has_pair rows topic endpoint = list_any (is_pair_row topic endpoint) rows.topics
 
 -- the number that a row shows first
 abbrev pub number_of : Row → ℕ
@@ -157,6 +173,10 @@ with_secrets_by put by rows = record rows {
 abbrev pub without_secrets : Seq → Rows → Rows
 without_secrets endpoint rows =
     record rows { secrets = filter (λ (s : SecretRow). not (s.endpoint == endpoint)) rows.secrets }
+
+abbrev pub without_topic : Text → Seq → Rows → Rows
+without_topic topic endpoint rows =
+    record rows { topics = filter (λ (t : TopicRow). not (is_pair_row topic endpoint t)) rows.topics }
 
 -- ---- what is asked of one event
 
@@ -215,6 +235,14 @@ attempt_in r = record {
   at = number_in (column r 4);
 }
 
+abbrev pub topic_in : Row → TopicRow
+topic_in r = record {
+  topic = bytes (column r 0);
+  endpoint = number_in (column r 1);
+  subscribed = not (number_in (column r 2) == 0);
+  set_by = number_in (column r 3);
+}
+
 -- a row as it is read
 abbrev pub endpoint_of : row.EndpointRow.EndpointRow → EndpointRow
 endpoint_of e = record {
@@ -232,6 +260,9 @@ delivery_of d = record { seq = d.seq; endpoint = d.endpoint; id = d.id; at = d.a
 
 abbrev pub attempt_of : row.AttemptRow.AttemptRow → AttemptRow
 attempt_of a = record { seq = a.seq; delivery = a.delivery; number = a.number; status = a.status; at = a.at }
+
+abbrev pub topic_of : row.TopicRow.TopicRow → TopicRow
+topic_of t = record { topic = t.topic; endpoint = t.endpoint; subscribed = t.subscribed; set_by = t.set_by }
 
 -- the secrets of this endpoint, in the order of their places
 abbrev pub AreSecretsOf : Seq → Rows → List Text → Type 0

@@ -1,13 +1,15 @@
 //! The rows that are changed or taken out.
 ghost use Rattle.std.specs.Prelude.{◌<◌, pos, [], ◌∷◌, codes};
-ghost use Rattle.sqlite.specs.declared.types.Value.TheVariants.{Int};
+ghost use Rattle.sqlite.specs.declared.types.Value.TheVariants.{Int, Text};
 ghost use Rattle.relay_types.specs.declared.limits.TheConstants.{MAX_RECORDS};
-ghost use Rattle.spool_sql.specs.Stored.{flag_number, with_enabled, with_secrets_by, without_secrets};
+ghost use Rattle.spool_sql.specs.Stored.{flag_number, with_enabled, with_secrets_by, without_secrets, without_topic};
 ghost use Rattle.spool_sql.specs.Steps.{Changes, IsOfSame, IsRefusedOf, SparesCommit};
 
 use crate::seq::Seq;
 use crate::value::int;
+use relay_types::Name;
 use sqlite::{Alter, Error, Transaction};
+use sqlite_value::value::ValueRef;
 
 /// Sets whether the endpoint that the record with number `put` made is enabled, which the record
 /// with number `by` decides.
@@ -65,6 +67,26 @@ pub fn delete_secrets<S: Alter>(tx: &mut Transaction<'_, S>, endpoint: Seq) -> R
     tx.execute(
         "DELETE FROM secrets WHERE endpoint = ?1",
         &[endpoint.value()],
+    )?;
+    Ok(())
+}
+
+/// Takes out whether the endpoint that the record with number `endpoint` made is subscribed to this topic.
+pub fn delete_topic<S: Alter>(
+    tx: &mut Transaction<'_, S>,
+    topic: &Name,
+    endpoint: Seq,
+) -> Result<(), Error>
+    ensures same_reference { IsOfSame tx.old.conn tx.new.conn }
+    ensures done { Changes S.Store tx.old.conn.now tx.new.conn.now result (without_topic topic.now endpoint) }
+    ensures refused { IsRefusedOf S.Store tx.old.conn.now tx.new.conn.now result
+        (codes "DELETE FROM topics WHERE topic = ?1 AND endpoint = ?2")
+        (Text topic.now ∷ Int (pos endpoint) ∷ []) }
+    ensures spares { SparesCommit S.Store tx.old.conn.now tx.new.conn.now }
+{
+    tx.execute(
+        "DELETE FROM topics WHERE topic = ?1 AND endpoint = ?2",
+        &[ValueRef::Text(topic.as_bytes()), endpoint.value()],
     )?;
     Ok(())
 }

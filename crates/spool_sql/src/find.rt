@@ -4,7 +4,7 @@ ghost use Rattle.std.specs.List.{AllByRecursion};
 ghost use Rattle.relay_types.specs.Values.{is_name};
 ghost use Rattle.relay_types.specs.declared.limits.TheConstants.{MAX_RECORDS};
 ghost use Rattle.spool_sql.specs.Readable.{IsMemory, IsRefusedFor, ShowsBelow};
-ghost use Rattle.spool_sql.specs.Stored.{IsPutOf, has_id, number_of};
+ghost use Rattle.spool_sql.specs.Stored.{IsPutOf, has_id, has_pair, number_of};
 ghost use Rattle.spool_sql.specs.Steps.{LeavesAll, LooksUp, IsOfSame, SparesCommit};
 
 use crate::seq::Seq;
@@ -74,4 +74,37 @@ pub fn has_delivery<S: Alter>(
         &[endpoint.value(), ValueRef::Text(id.as_bytes())],
     )?;
     Ok(!rows.is_empty())
+}
+
+/// Whether the tables tell if the endpoint that the record with number `endpoint` made is subscribed to this topic.
+pub fn has_topic<S: Alter>(
+    tx: &mut Transaction<'_, S>,
+    topic: &Name,
+    endpoint: Seq,
+) -> Result<bool, Error>
+    ensures same_reference { IsOfSame tx.old.conn tx.new.conn }
+    ensures unchanged { LeavesAll S.Store tx.old.conn.now tx.new.conn.now result }
+    ensures found { LooksUp S.Store tx.old.conn.now tx.new.conn.now result
+        (λ found rows. found ≡ has_pair rows topic.now endpoint) }
+    ensures refused { IsRefusedFor S.Store tx.old.conn.now tx.new.conn.now result }
+    ensures spares { SparesCommit S.Store tx.old.conn.now tx.new.conn.now }
+{
+    let rows = tx.query_all(
+        "SELECT endpoint FROM topics WHERE topic = ?1 AND endpoint = ?2",
+        &[ValueRef::Text(topic.as_bytes()), endpoint.value()],
+    )?;
+    Ok(!rows.is_empty())
+}
+
+/// Of how many pairs of a topic and an endpoint the tables tell.
+pub fn count_topics<S: Alter>(tx: &mut Transaction<'_, S>) -> Result<usize, Error>
+    ensures same_reference { IsOfSame tx.old.conn tx.new.conn }
+    ensures unchanged { LeavesAll S.Store tx.old.conn.now tx.new.conn.now result }
+    ensures counted { LooksUp S.Store tx.old.conn.now tx.new.conn.now result
+        (λ count rows. count ≡ length rows.topics) }
+    ensures refused { IsRefusedFor S.Store tx.old.conn.now tx.new.conn.now result }
+    ensures spares { SparesCommit S.Store tx.old.conn.now tx.new.conn.now }
+{
+    let rows = tx.query_all("SELECT endpoint FROM topics", &[])?;
+    Ok(rows.len())
 }

@@ -16,17 +16,18 @@ mod value;
 mod write;
 
 pub use crate::cause::{Cause, cause_of};
-pub use crate::change::{delete_secrets, update_enabled, update_secrets_by};
+pub use crate::change::{delete_secrets, delete_topic, update_enabled, update_secrets_by};
 pub use crate::create::create_tables;
 pub use crate::delivery::{select_endpoint, select_statuses};
-pub use crate::find::{count_endpoints, has_delivery, select_put};
+pub use crate::find::{count_endpoints, count_topics, has_delivery, has_topic, select_put};
 pub use crate::migrate::{create_topics, update_version};
 pub use crate::opened::{is_empty, prepare_probe, probe};
 pub use crate::read::{
     select_attempts, select_deliveries, select_endpoints, select_records, select_secrets,
+    select_topics,
 };
-pub use crate::row::{AttemptRow, DeliveryRow, EndpointRow, RowFault};
+pub use crate::row::{AttemptRow, DeliveryRow, EndpointRow, RowFault, TopicRow};
 pub use crate::seq::Seq;
 pub use crate::write::{
-    insert_attempt, insert_delivery, insert_endpoint, insert_secret, update_records,
+    insert_attempt, insert_delivery, insert_endpoint, insert_secret, insert_topic, update_records,
 };

@@ -4,14 +4,14 @@ ghost use Rattle.std.specs.List.{AllByRecursion};
 ghost use Rattle.sqlite.specs.declared.types.Value.TheVariants.{Int};
 ghost use Rattle.sqlite_value.specs.Order.{column, bytes};
 ghost use Rattle.spool_sql.specs.Readable.{AreRowsRefusedFor, IsMemory, IsMemoryFault, IsRefusedFor, ShowsAttempt};
-ghost use Rattle.spool_sql.specs.Readable.{ShowsDelivery, ShowsEndpoint, ShowsSecret};
+ghost use Rattle.spool_sql.specs.Readable.{ShowsDelivery, ShowsEndpoint, ShowsSecret, ShowsTopic};
 ghost use Rattle.spool_sql.specs.Stored.{IsPage, AreSecretsOf, number_of, endpoint_in, endpoint_of, delivery_in};
-ghost use Rattle.spool_sql.specs.Stored.{delivery_of, attempt_in, attempt_of};
+ghost use Rattle.spool_sql.specs.Stored.{delivery_of, attempt_in, attempt_of, topic_in, topic_of};
 ghost use Rattle.spool_sql.specs.Steps.{LeavesAll, LooksUp, IsOfSame, SparesCommit};
 
 use crate::row::{
-    AttemptRow, DeliveryRow, EndpointRow, RowFault, read_attempt, read_delivery, read_endpoint,
-    read_secret,
+    AttemptRow, DeliveryRow, EndpointRow, RowFault, TopicRow, read_attempt, read_delivery,
+    read_endpoint, read_secret, read_topic,
 };
 use crate::seq::Seq;
 use relay_types::Secret;
@@ -166,6 +166,38 @@ fn read_attempts(rows: &[Row], alloc: Global) -> Result<Vec<AttemptRow>, RowFaul
     let mut found = Vec::with_capacity(alloc, rows.len()).map_err(Error::from)?;
     for row in rows {
         found.push(read_attempt(row)?).map_err(Error::from)?;
+    }
+    Ok(found)
+}
+
+/// The first 256 topics of endpoints that records with numbers from `from` on decided, in the order of these numbers.
+pub fn select_topics<S: Alter>(
+    tx: &mut Transaction<'_, S>,
+    from: Seq,
+    alloc: Global,
+) -> Result<Vec<TopicRow>, RowFault>
+    ensures same_reference { IsOfSame tx.old.conn tx.new.conn }
+    ensures unchanged { LeavesAll S.Store tx.old.conn.now tx.new.conn.now result }
+    ensures found { LooksUp S.Store tx.old.conn.now tx.new.conn.now result
+        (λ page rows. IsPage (λ t. t.set_by) from rows.topics (map topic_of page.items)) }
+    ensures refused { AreRowsRefusedFor S.Store tx.old.conn.now tx.new.conn.now result }
+    ensures spares { SparesCommit S.Store tx.old.conn.now tx.new.conn.now }
+{
+    let rows = tx.query_all(
+        "SELECT topic, endpoint, subscribed, set_by FROM topics WHERE set_by >= ?1 ORDER BY set_by LIMIT 256",
+        &[from.value()],
+    )?;
+    read_topics(&rows, alloc)
+}
+
+// The topics that the rows show.
+fn read_topics(rows: &[Row], alloc: Global) -> Result<Vec<TopicRow>, RowFault>
+    ensures value { IfOk result (λ found. map topic_of found.items ≡ map topic_in rows.now) }
+    ensures refused { IfErr result (λ fault. AllByRecursion ShowsTopic rows.now → IsMemoryFault fault) }
+{
+    let mut found = Vec::with_capacity(alloc, rows.len()).map_err(Error::from)?;
+    for row in rows {
+        found.push(read_topic(row)?).map_err(Error::from)?;
     }
     Ok(found)
 }

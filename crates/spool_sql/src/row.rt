@@ -5,9 +5,9 @@ ghost use Rattle.sqlite_value.specs.Order.{column, bytes};
 ghost use Rattle.sqlite_trees.specs.Objects.{number_in};
 ghost use Rattle.relay_types.specs.Values.{is_body, is_max_limit, is_moment, is_msg_id, is_name, is_secret, is_target};
 ghost use Rattle.spool_sql.specs.Readable.{IsAt, IsMemoryFault, IsSeq, ShowsAttempt, ShowsDelivery, ShowsEndpoint};
-ghost use Rattle.spool_sql.specs.Readable.{ShowsSecret};
+ghost use Rattle.spool_sql.specs.Readable.{ShowsSecret, ShowsTopic};
 ghost use Rattle.spool_sql.specs.Stored.{endpoint_in, endpoint_of, delivery_in, delivery_of, attempt_in, attempt_of};
-ghost use Rattle.spool_sql.specs.Stored.{flag_number};
+ghost use Rattle.spool_sql.specs.Stored.{flag_number, topic_in, topic_of};
 
 use crate::seq::Seq;
 use relay_types::{Body, MAX_RECORDS, MaxLimit, Moment, MsgId, Name, ReadFault, Secret, Target};
@@ -68,6 +68,16 @@ pub struct AttemptRow {
     pub number: u64,
     pub status: u16,
     pub at: Moment,
+}
+
+/// Whether the endpoint that the record with number `endpoint` made is subscribed to a topic, as the record with number
+/// `set_by` decides.
+#[derive(Drop)]
+pub struct TopicRow {
+    pub topic: Name,
+    pub endpoint: Seq,
+    pub subscribed: bool,
+    pub set_by: Seq,
 }
 
 fn read_seq(row: &Row, at: usize) -> Result<Seq, RowFault>
@@ -228,5 +238,18 @@ pub(crate) fn read_attempt(row: &Row) -> Result<AttemptRow, RowFault>
         number: row.get(2)?,
         status,
         at: read_moment(row, 4)?,
+    })
+}
+
+// The topic of an endpoint that the row shows.
+pub(crate) fn read_topic(row: &Row) -> Result<TopicRow, RowFault>
+    ensures value { IfOk result (λ topic. topic_of topic ≡ topic_in row.now) }
+    ensures refused { IfErr result (λ fault. ShowsTopic row.now → IsMemoryFault fault) }
+{
+    Ok(TopicRow {
+        topic: read_name(row, 0)?,
+        endpoint: read_seq(row, 1)?,
+        subscribed: read_flag(row, 2)?,
+        set_by: read_seq(row, 3)?,
     })
 }

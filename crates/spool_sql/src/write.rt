@@ -4,7 +4,7 @@ ghost use Rattle.sqlite.specs.declared.types.Value.TheVariants.{Int, Text, Blob}
 ghost use Rattle.relay_types.specs.declared.limits.TheConstants.{MAX_RECORDS};
 ghost use Rattle.relay_types.specs.Values.{is_name, is_target, is_max_limit, is_secret, is_msg_id, is_body, is_moment};
 ghost use Rattle.spool_sql.specs.Stored.{new_endpoint, with_endpoint, with_secret, with_delivery, with_attempt};
-ghost use Rattle.spool_sql.specs.Stored.{with_records};
+ghost use Rattle.spool_sql.specs.Stored.{flag_number, with_records, with_topic};
 ghost use Rattle.spool_sql.specs.Steps.{Changes, IsOfSame, IsRefusedOf, SparesCommit};
 
 use crate::seq::Seq;
@@ -133,6 +133,37 @@ pub fn insert_attempt<S: Alter>(
             int(number),
             int(u64::from(status)),
             int(at.seconds()),
+        ],
+    )?;
+    Ok(())
+}
+
+/// Adds whether the endpoint that the record with number `endpoint` made is subscribed to a topic, which the record
+/// with number `set_by` decides.
+pub fn insert_topic<S: Alter>(
+    tx: &mut Transaction<'_, S>,
+    topic: &Name,
+    endpoint: Seq,
+    subscribed: bool,
+    set_by: Seq,
+) -> Result<(), Error>
+    ensures same_reference { IsOfSame tx.old.conn tx.new.conn }
+    ensures done { Changes S.Store tx.old.conn.now tx.new.conn.now result
+        (with_topic (record { topic = topic.now; endpoint = endpoint; subscribed = subscribed; set_by = set_by })) }
+    ensures room { set_by < MAX_RECORDS }
+    ensures limits { IsTrue (is_name topic.now) }
+    ensures refused { IsRefusedOf S.Store tx.old.conn.now tx.new.conn.now result
+        (codes "INSERT INTO topics VALUES(?1, ?2, ?3, ?4)")
+        (Text topic.now ∷ Int (pos endpoint) ∷ Int (pos (flag_number subscribed)) ∷ Int (pos set_by) ∷ []) }
+    ensures spares { SparesCommit S.Store tx.old.conn.now tx.new.conn.now }
+{
+    tx.execute(
+        "INSERT INTO topics VALUES(?1, ?2, ?3, ?4)",
+        &[
+            ValueRef::Text(topic.as_bytes()),
+            endpoint.value(),
+            int(u64::from(subscribed)),
+            set_by.value(),
         ],
     )?;
     Ok(())

@@ -21,7 +21,7 @@ pub returns-clause-stands : goal.returns-clause-stands
 returns-clause-stands c = λ records settled h. returns-clause-value c ∙ names-told c.args.self.now records h.tells
 
 pub returns-clause-in_step : goal.returns-clause-in_step
-returns-clause-in_step c = subst IsInStep c.self.view_is c.self.invariant.in_step
+returns-clause-in_step c = subst IsInStep c.self.view_is (c.self.invariant.in_step c.self.inside.topics)
 
 pub returns-clause-all_settled : goal.returns-clause-all_settled
 returns-clause-all_settled c = λ same.

@@ -30,8 +30,8 @@ pub returns-clause-value : goal.returns-clause-value
 returns-clause-value c =
     let b = c.self.inside in
     let p = c.args.seq in
-    (λ i. record { entries = listed c.settle_below.new.entries b.names.items; changes = c.keep_from.ensures.changes i; next_seq = c.max-self-inside.ensures i; settled_seq = p })
-    ∙ settled-value c.args.self.now b.entries c.settle_below.new.entries b.names.items b.changes.items b.next_seq b.settled_seq p c.self.invariant.are_names c.self.view_is
+    (λ i. record { entries = listed c.settle_below.new.entries b.names.items; changes = c.keep_from.ensures.changes i; topics = b.topics; next_seq = c.max-self-inside.ensures i; settled_seq = p })
+    ∙ settled-value c.args.self.now b.entries c.settle_below.new.entries b.names.items b.topics b.changes.items b.next_seq b.settled_seq p c.self.invariant.are_names c.self.view_is
     (λ asked. c.settle_below.ensures asked ∙ ap (λ cs. option_map (settled_at p cs asked) (entry_in b.entries asked)) c.deref.ensures.value)
 
 pub returns-clause-flags : goal.returns-clause-flags

@@ -25,6 +25,7 @@ returns-in_err-put-clause-unchanged c =
     ((λ i. record {
       entries = (ap (λ g. filter_map g c.reserve.new.self.items) (λ j asked. c.in_err-put.ensures.unchanged asked j) ∙ ap (listed b.entries) c.reserve.ensures.items) i;
       changes = c.reserve-2.ensures.items i;
+      topics = b.topics;
       next_seq = b.next_seq;
       settled_seq = b.settled_seq;
     })
@@ -36,7 +37,7 @@ invariant_of-self-2 c =
     let a = c.args in
     let room = vec_capacity c.push_reserved-2.new.self in
     let e : Entry = record { put = a.seq; name = a.name; target = a.target; max = a.max; enabled = true; secrets = a.secrets; settled = None } in
-    let there = entry-value a.self.now b.entries b.names.items b.changes.items b.next_seq b.settled_seq a.name c.self.invariant.are_names c.self.view_is in
+    let there = entry-value a.self.now b.entries b.names.items b.topics b.changes.items b.next_seq b.settled_seq a.name c.self.invariant.are_names c.self.view_is in
     subst (λ ns. IsBook c.put.new.self ns c.push_reserved-2.new.self.items b.flags (b.puts + 1) room (a.seq + 1) b.settled_seq) (sym (c.push_reserved.ensures.items ∙ ap (λ ns. ns ++ a.name ∷ []) c.reserve.ensures.items))
     (subst (λ cs. IsBook c.put.new.self (b.names.items ++ a.name ∷ []) cs b.flags (b.puts + 1) room (a.seq + 1) b.settled_seq)
     (sym (c.push_reserved-2.ensures.items ∙ λ i. c.reserve-2.ensures.items i ++ record { seq = a.seq; name = a.name; kind = Put; shown = record { enabled = true; secrets = c.count.ensures.count i } } ∷ []))
@@ -49,14 +50,15 @@ returns-clause-put c =
     let b = c.self.inside in
     let a = c.args in
     let e : Entry = record { put = a.seq; name = a.name; target = a.target; max = a.max; enabled = true; secrets = a.secrets; settled = None } in
-    let there = entry-value a.self.now b.entries b.names.items b.changes.items b.next_seq b.settled_seq a.name c.self.invariant.are_names c.self.view_is in
+    let there = entry-value a.self.now b.entries b.names.items b.topics b.changes.items b.next_seq b.settled_seq a.name c.self.invariant.are_names c.self.view_is in
     (λ i. record {
       entries = listed c.put.new.self ((c.push_reserved.ensures.items ∙ ap (λ ns. ns ++ a.name ∷ []) c.reserve.ensures.items) i);
       changes = (c.push_reserved-2.ensures.items ∙ λ j. c.reserve-2.ensures.items j ++ record { seq = a.seq; name = a.name; kind = Put; shown = record { enabled = true; secrets = c.count.ensures.count j } } ∷ []) i;
+      topics = b.topics;
       next_seq = a.seq + 1;
       settled_seq = b.settled_seq;
     })
-    ∙ put-value a.self.now b.entries c.put.new.self b.names.items b.changes.items e b.next_seq b.settled_seq c.self.invariant.are_names c.self.view_is (there ∙ none_if _ c.requires.unknown) (λ asked. c.in_ok-put.ensures.put asked)
+    ∙ put-value a.self.now b.entries c.put.new.self b.names.items b.topics b.changes.items e b.next_seq b.settled_seq c.self.invariant.are_names c.self.view_is (there ∙ none_if _ c.requires.unknown) (λ asked. c.in_ok-put.ensures.put asked)
 
 pub returns-clause-stands : goal.returns-clause-stands
 returns-clause-stands c =

@@ -31,10 +31,11 @@ returns-in-Some-clause-given c =
     (λ i. record {
       entries = listed c.give.new.self b.names.items;
       changes = (c.push_reserved.ensures.items ∙ ap (λ cs. cs ++ change ∷ []) c.in_ok-reserve.ensures.items) i;
+      topics = b.topics;
       next_seq = c.args.seq + 1;
       settled_seq = b.settled_seq;
     })
-    ∙ change-value c.args.self.now b.entries c.give.new.self b.names.items b.changes.items change b.next_seq b.settled_seq (λ (e : Entry). record e { secrets = c.args.secrets })
+    ∙ change-value c.args.self.now b.entries c.give.new.self b.names.items b.topics b.changes.items change b.next_seq b.settled_seq (λ (e : Entry). record e { secrets = c.args.secrets })
     c.self.invariant.are_names c.self.view_is (λ asked. c.give.ensures.entries asked) c.in-Some.ensures.shown
 
 pub returns-in-Some-clause-stands : goal.returns-in-Some-clause-stands
@@ -48,16 +49,16 @@ pub returns-in_default-clause-given : goal.returns-in_default-clause-given
 returns-in_default-clause-given c =
     let b = c.self.inside in
     absurd (not_there (λ (e : Entry). now_of (record e { secrets = c.args.secrets })) _ _ (sym c.in_default.is ∙ c.give.ensures.shown)
-    (entry-value c.args.self.now b.entries b.names.items b.changes.items b.next_seq b.settled_seq c.args.name c.self.invariant.are_names c.self.view_is) c.requires.known)
+    (entry-value c.args.self.now b.entries b.names.items b.topics b.changes.items b.next_seq b.settled_seq c.args.name c.self.invariant.are_names c.self.view_is) c.requires.known)
 
 pub returns-in_default-clause-stands : goal.returns-in_default-clause-stands
 returns-in_default-clause-stands c =
     let b = c.self.inside in
     absurd (not_there (λ (e : Entry). now_of (record e { secrets = c.args.secrets })) _ _ (sym c.in_default.is ∙ c.give.ensures.shown)
-    (entry-value c.args.self.now b.entries b.names.items b.changes.items b.next_seq b.settled_seq c.args.name c.self.invariant.are_names c.self.view_is) c.requires.known)
+    (entry-value c.args.self.now b.entries b.names.items b.topics b.changes.items b.next_seq b.settled_seq c.args.name c.self.invariant.are_names c.self.view_is) c.requires.known)
 
 pub invariant_of-self-in_default : goal.invariant_of-self-in_default
 invariant_of-self-in_default c =
     let b = c.self.inside in
     absurd (not_there (λ (e : Entry). now_of (record e { secrets = c.args.secrets })) _ _ (sym c.in_default.is ∙ c.give.ensures.shown)
-    (entry-value c.args.self.now b.entries b.names.items b.changes.items b.next_seq b.settled_seq c.args.name c.self.invariant.are_names c.self.view_is) c.requires.known)
+    (entry-value c.args.self.now b.entries b.names.items b.topics b.changes.items b.next_seq b.settled_seq c.args.name c.self.invariant.are_names c.self.view_is) c.requires.known)

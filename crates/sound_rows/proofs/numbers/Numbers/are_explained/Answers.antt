@@ -2,7 +2,7 @@ use Rattle.std.proofs.Common.{arith, sym}
 use Rattle.sound_rows.specs.Numbers.{kept}
 use Rattle.sound_rows.specs.Checks.{is_explained}
 use Rattle.sound_rows.proofs.TurnLaws.{all_range, none_range}
-use Rattle.sound_rows.proofs.numbers.Numbers.are_others_overtaken.Goals as goal
+use Rattle.sound_rows.proofs.numbers.Numbers.are_explained.Goals as goal
 
 pub returns : goal.returns
 returns c = sym (all_range (is_explained (kept c.args.self.now)) 0 c.args.self.now.records (λ n l u. c.loop-number.invariant n (omega (arith, u, c.loop-number-test.false))))

@@ -1,7 +1,7 @@
 use Rattle.std.proofs.Common.{◌≡◌, ◌<◌, ◌-◌, ℕ, true}
 use Rattle.sound_rows.specs.Numbers.{kept}
 use Rattle.sound_rows.specs.Checks.{is_explained}
-use Rattle.sound_rows.proofs.numbers.Numbers.are_others_overtaken.Given as goal
+use Rattle.sound_rows.proofs.numbers.Numbers.are_explained.Given as goal
 
 abbrev pub invariant-loop-number : goal.invariant-loop-number
 invariant-loop-number l = (n : ℕ) → n < l.number → is_explained (kept l.self) n ≡ true

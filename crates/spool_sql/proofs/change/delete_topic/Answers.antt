@@ -1,0 +1,27 @@
+use Rattle.std.proofs.Common.{pos, [], ◌∷◌, codes, Err}
+use Rattle.sqlite.specs.declared.types.Value.TheVariants.{Int, Text}
+use Rattle.sqlite.specs.State.{ExecutesInside}
+use Rattle.spool_sql.proofs.ReadableLemmas.{handed_on}
+use Rattle.sqlite.specs.Held.{state}
+use Rattle.spool_sql.proofs.Changes.{makes_without_topic}
+use Rattle.spool_sql.proofs.change.delete_topic.Goals as goal
+
+pub returns-clause-done : goal.returns-clause-done
+returns-clause-done g c clean inside =
+    let old = state g.S.Store c.args.tx.now.conn.now in
+    let new = state g.S.Store c.execute.new.self.conn.now in
+    let ran = rw (c.as_bytes.ensures.text, c.value.ensures.value) at (c.in_ok-execute.ensures.runs clean inside) in
+    record {
+      on = ran.1;
+      makes = makes_without_topic old new c.args.topic.now c.args.endpoint c.in_ok-execute.field-0 ran.0;
+    }
+
+pub returns-in_err-execute-clause-refused : goal.returns-in_err-execute-clause-refused
+returns-in_err-execute-clause-refused g c clean inside =
+    let old = state g.S.Store c.args.tx.now.conn.now in
+    let new = state g.S.Store c.execute.new.self.conn.now in
+    handed_on c.from_residual.result c.in_err-execute.field-0.0
+    (λ e. ExecutesInside 0 (codes "DELETE FROM topics WHERE topic = ?1 AND endpoint = ?2")
+    (Text c.args.topic.now ∷ Int (pos c.args.endpoint) ∷ []) old new (Err e))
+    c.from_residual.ensures.1
+    (rw (c.as_bytes.ensures.text, c.value.ensures.value) at (c.in_err-execute.ensures.runs clean inside))
