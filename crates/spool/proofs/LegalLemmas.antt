@@ -67,7 +67,9 @@ stands_at n (Put other target max secrets ∷ rest) name e is = at (bytes_eq oth
     at false same is rest_is =
         let found = rest_is is in
         (later n (Put other target max secrets) rest e found.0, found.1)
-stands_at n (entry ∷ rest) name e is = let found = stands_at (n + 1) rest name e is in (later n entry rest e found.0, found.1)
+stands_at n (entry ∷ rest) name e is =
+    let found = stands_at (n + 1) rest name e is in
+    (later n entry rest e found.0, found.1)
 
 same_name : (records : List Record) (a b : List ℕ) (e f : Endpoint) → endpoint_of records a ≡ Some e → endpoint_of records b ≡ Some f → e.put ≡ f.put → a ≡ b
 same_name records a b e f is_e is_f same =
@@ -130,24 +132,6 @@ allows_accept-is records name id legal = by (has_endpoint records name) refl
 
 pub allowed_for-is : (records : List Record) (name id : List ℕ) → IsLegal records → allowed_for (rows_of records) name id ≡ accepting records name id
 allowed_for-is records name id legal = λ i. if allows_accept-is records name id legal i then Some (put_by_name-is records name i) else None
-
--- what the answer tells of an Accept
-pub accepting-none : (records : List Record) (name id : List ℕ) → None ≡ accepting records name id → false ≡ may_accept records name id
-accepting-none records name id h = at (may_accept records name id) h
-  where
-    at : (b : Bool) → None ≡ (if b then Some (put_of records name) else None) → false ≡ b
-    at true e = absurd (let h = e in cc)
-    at false e = refl
-
-pub accepting-some : (records : List Record) (name id : List ℕ) (put : ℕ) → Some put ≡ accepting records name id → (true ≡ may_accept records name id) × (put ≡ put_of records name)
-accepting-some records name id put h = at (may_accept records name id) h
-  where
-    at : (b : Bool) → Some put ≡ (if b then Some (put_of records name) else None) → (true ≡ b) × (put ≡ put_of records name)
-    at true e = (refl, same e)
-      where
-        same : Some put ≡ Some (put_of records name) → put ≡ put_of records name
-        same h = cc
-    at false e = absurd (let h = e in cc)
 
 -- No two endpoints of a legal history have one name
 

@@ -23,7 +23,7 @@ use Rattle.relay_types.specs.Rows.{DeliveryRow, AttemptRow, delivery_row, attemp
 use Rattle.relay_types.proofs.KnownLaws.{and_first, below_if_accepted}
 use Rattle.spool_sql.specs.Stored.{IsEndpointOf, AreStatusesOf}
 use Rattle.spool.specs.Entering.{are_pending, may_be_next, may_attempt, attempting}
-use Rattle.spool.proofs.RowLemmas.{find_is_first, same_if_short}
+use Rattle.spool.proofs.RowLemmas.{answer-none, answer-some, find_is_first, same_if_short}
 
 -- ---- the event with a number
 
@@ -195,24 +195,6 @@ attempting-found records d attempt status put statuses allowed h of is =
     let all = is ∙ may_be_next-is records d attempt status statuses (some_if_known (accepted records d) records put known) of in
     λ i. if all i then Some (same i) else None
 
-attempting-none : (records : List Record) (d attempt status : ℕ) → None ≡ attempting records d attempt status → false ≡ may_attempt records d attempt status
-attempting-none records d attempt status h = at (may_attempt records d attempt status) h
-  where
-    at : (b : Bool) → None ≡ attempted b records d → false ≡ b
-    at true e = absurd (let h = e in cc)
-    at false e = refl
-
-attempting-some : (records : List Record) (d attempt status put : ℕ) → Some put ≡ attempting records d attempt status
-    → (true ≡ may_attempt records d attempt status) × (put ≡ put_by_delivery (rows_of records) d)
-attempting-some records d attempt status put h = at (may_attempt records d attempt status) h
-  where
-    at : (b : Bool) → Some put ≡ attempted b records d → (true ≡ b) × (put ≡ put_by_delivery (rows_of records) d)
-    at true e = (refl, same e)
-      where
-        same : Some put ≡ Some (put_by_delivery (rows_of records) d) → put ≡ put_by_delivery (rows_of records) d
-        same h = cc
-    at false e = absurd (let h = e in cc)
-
 -- ---- a number from the Outcome's own on names no event
 
 unnamed : (records : List Record) (d attempt status : ℕ) → length records ≤ d → false ≡ may_attempt records d attempt status
@@ -228,14 +210,15 @@ pub attempted-none : (records : List Record) (next delivery attempt status : ℕ
 attempted-none records next delivery attempt status is h = at (nat_lt delivery next) refl
   where
     at : (b : Bool) → nat_lt delivery next ≡ b → false ≡ may_attempt records delivery attempt status
-    at true e = subst (λ d. false ≡ may_attempt records d attempt status) (min-eq_left (omega (arith, ltb-true delivery next e))) (attempting-none records (min delivery next) attempt status h)
+    at true e = subst (λ d. false ≡ may_attempt records d attempt status) (min-eq_left (omega (arith, ltb-true delivery next e)))
+        (answer-none (may_attempt records (min delivery next) attempt status) _ h)
     at false e = unnamed records delivery attempt status (omega (arith, is, ltb-false delivery next e))
 
 -- it is the number that the Outcome has, and the attempt may be recorded
 pub attempted-some : (records : List Record) (next delivery attempt status put : ℕ) → next ≡ length records → Some put ≡ attempting records (min delivery next) attempt status
     → (min delivery next ≡ delivery) × ((true ≡ may_attempt records delivery attempt status) × (put ≡ put_by_delivery (rows_of records) delivery))
 attempted-some records next delivery attempt status put is h =
-    let named = attempting-some records (min delivery next) attempt status put h in
+    let named = answer-some (may_attempt records (min delivery next) attempt status) _ put h in
     let same = at (nat_lt delivery next) refl (is_known (sym named.0)) in
     (same, subst (λ d. (true ≡ may_attempt records d attempt status) × (put ≡ put_by_delivery (rows_of records) d)) same named)
   where

@@ -32,6 +32,19 @@ allows_accept rows name id = has_name rows name && not (has_event rows (put_by_n
 abbrev pub allowed_for : Rows → List ℕ → List ℕ → Option ℕ
 allowed_for rows name id = if allows_accept rows name id then Some (put_by_name rows name) else None
 
+-- an answer that is given only where a test passes tells of the test
+pub answer-none : {X : Type 0} (b : Bool) (x : X) → None ≡ (if b then Some x else None) → false ≡ b
+answer-none true x e = absurd (let h = e in cc)
+answer-none false x e = refl
+
+pub answer-some : {X : Type 0} (b : Bool) (x found : X) → Some found ≡ (if b then Some x else None)
+    → (true ≡ b) × (found ≡ x)
+answer-some true x found e = (refl, same e)
+  where
+    same : Some found ≡ Some x → found ≡ x
+    same h = cc
+answer-some false x found e = absurd (let h = e in cc)
+
 -- the first that passes is the first of those that pass
 pub find_is_first : {X : Type 0} (test : X → Bool) (xs : List X) → find test xs ≡ slice_get (filter test xs) 0
 find_is_first test [] = refl

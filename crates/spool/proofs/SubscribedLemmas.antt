@@ -1,10 +1,10 @@
 -- Whether an endpoint may be subscribed to a topic, as the tables tell.
-use Rattle.std.proofs.Common.{◌≡◌, ◌≤◌, ◌<◌, ℕ, Bool, true, false, List, [], ◌∷◌, length, map, Some, None, refl, sym, ap, ◌∙◌}
-use Rattle.std.proofs.Common.{arith, lt-ltb}
-use Rattle.std.specs.Prelude.{◌&&◌, ◌||◌, ◌==◌, nat_lt, find, is_some, bytes_eq, Option, if◌then◌else◌}
+use Rattle.std.proofs.Common.{◌≡◌, ◌≤◌, ◌<◌, ℕ, Bool, true, false, List, [], ◌∷◌, length, map, Some, None, refl, sym}
+use Rattle.std.proofs.Common.{ap, ◌∙◌, arith}
+use Rattle.std.specs.Prelude.{◌&&◌, ◌||◌, nat_lt, find, is_some, bytes_eq, if◌then◌else◌}
 use Rattle.std.specs.List.{list_any}
 use Rattle.std.proofs.lemmas.List.{length-map}
-use Rattle.std.proofs.lemmas.Bool.Decides.{nat_tests}
+use Rattle.std.proofs.lemmas.Bool.{le-ltb, lt-ltb}
 use Rattle.relay_types.specs.declared.limits.TheConstants.{MAX_SUBSCRIPTIONS}
 use Rattle.relay_types.specs.declared.record.Record.{Record}
 use Rattle.relay_types.specs.Endpoints.{has_endpoint}
@@ -15,30 +15,8 @@ use Rattle.relay_types.proofs.KnownLaws.{legal_known}
 use Rattle.relay_types.proofs.SubscriptionLaws.{is_for, named-told}
 use Rattle.relay_types.proofs.TopicLaws.{AllThere, all_there, names_by_put}
 use Rattle.spool_sql.specs.Stored.{IsPutOf, has_pair}
-use Rattle.spool.specs.Entering.{may_subscribe, subscribing}
+use Rattle.spool.specs.Entering.{subscribing}
 use Rattle.spool.proofs.ChangeLemmas.{known_endpoint, unknown_endpoint}
-
--- what the answer tells of a Subscribed
-pub subscribing-none : (records : List Record) (topic name : List ℕ) → None ≡ subscribing records topic name
-    → false ≡ may_subscribe records topic name
-subscribing-none records topic name h = at (may_subscribe records topic name) h
-  where
-    at : (b : Bool) → None ≡ (if b then Some (put_of records name) else None) → false ≡ b
-    at true e = absurd (let h = e in cc)
-    at false e = refl
-
-pub subscribing-some : (records : List Record) (topic name : List ℕ) (put : ℕ)
-    → Some put ≡ subscribing records topic name
-    → (true ≡ may_subscribe records topic name) × (put ≡ put_of records name)
-subscribing-some records topic name put h = at (may_subscribe records topic name) h
-  where
-    at : (b : Bool) → Some put ≡ (if b then Some (put_of records name) else None)
-        → (true ≡ b) × (put ≡ put_of records name)
-    at true e = (refl, same e)
-      where
-        same : Some put ≡ Some (put_of records name) → put ≡ put_of records name
-        same h = cc
-    at false e = absurd (let h = e in cc)
 
 module _ (records : List Record) (legal : IsLegal records) (topic name : List ℕ) where
   any_pair : (ss : List Subscription) → has_endpoint records name ≡ true → AllThere records ss
@@ -91,8 +69,9 @@ module _ (records : List Record) (legal : IsLegal records) (topic name : List �
       → MAX_SUBSCRIPTIONS ≤ count → None ≡ subscribing records topic name
   full_told put count found pair counted full =
       let known = known_endpoint records name put legal found in
+      let is = rows_counted count counted in
       told_as false false (named_by put false known.1 pair (sym known.0))
-      (let is = rows_counted count counted in grind (arith, nat_tests, is, full)) (sym known.0)
+      (le-ltb (length (subscriptions records)) MAX_SUBSCRIPTIONS (omega (arith, is, full))) (sym known.0)
 
   some_told : (put : ℕ) → put ≡ put_of records name → Some (put_of records name) ≡ subscribing records topic name
       → Some put ≡ subscribing records topic name

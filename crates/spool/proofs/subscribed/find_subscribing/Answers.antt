@@ -1,11 +1,12 @@
-use Rattle.std.proofs.Common.{◌≡◌, Bool, true, false, refl, sym, subst, arith, ◌∙◌}
+use Rattle.std.proofs.Common.{sym, subst, arith, ◌∙◌}
 use Rattle.sqlite.specs.State.{HasCleanDisk}
 use Rattle.sqlite.specs.Held.{state}
 use Rattle.relay_types.specs.Rows.{rows_of}
 use Rattle.spool_sql.specs.Stored.{IsTables, with_records}
 use Rattle.spool.proofs.SubscribedLemmas.{full_told, named_told, room_told, unknown_told}
 use Rattle.spool.proofs.subscribed.find_subscribing.Goals as goal
-use Rattle.spool.proofs.subscribed.find_subscribing.Goals.{else-not-branch-via-then-not-branch+in_ok-count_topics+else-branch-ge-MAX_SUBSCRIPTIONS, else-not-branch-via-else-not-branch}
+use Rattle.spool.proofs.subscribed.find_subscribing.Goals.{else-not-branch-via-else-not-branch}
+use Rattle.spool.proofs.subscribed.find_subscribing.Goals.{else-not-branch-via-then-not-branch+in_ok-count_topics+else-branch-ge-MAX_SUBSCRIPTIONS}
 
 pub returns-in_default-clause-found : goal.returns-in_default-clause-found
 returns-in_default-clause-found g c clean count records has =

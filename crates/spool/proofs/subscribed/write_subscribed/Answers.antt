@@ -24,7 +24,12 @@ returns-clause-done g c clean inside =
     let same = c.in_ok-endpoint.ensures.unchanged at_b in
     let out = c.in_ok-delete_topic.ensures.done at_d (same.0.mode ∙ inside) in
     let both = alters_then b d z (without_topic c.args.topic.now c.in-Some.endpoint)
-    (with_topic (record { topic = c.args.topic.now; endpoint = c.in-Some.endpoint; subscribed = c.args.flag; set_by = c.args.seq }))
+    (with_topic (record {
+      topic = c.args.topic.now;
+      endpoint = c.in-Some.endpoint;
+      subscribed = c.args.flag;
+      set_by = c.args.seq;
+    }))
     out (c.in_ok-insert_topic.ensures.done clean out.on.mode) in
     subscribed_made a b z c.args.seq c.args.topic.now c.args.name.now c.args.flag c.in-Some.endpoint inside same
     (λ count records has. sym c.in-Some.is ∙ c.in_ok-endpoint.ensures.found at_b count records has)
