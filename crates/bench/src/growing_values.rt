@@ -10,7 +10,7 @@ use relay_types::{
 };
 use run_log::{LogId, NewLog};
 use script_lines::{Call, read_call, read_line};
-use sound_rows::{Attempt as AttemptRow, Delivery, Endpoint, Numbers};
+use sound_rows::{Attempt as AttemptRow, Delivery, Endpoint, Numbers, Topic};
 use std::alloc::{AllocError, Global};
 use std::io;
 use std::marker::Brand;
@@ -255,13 +255,14 @@ fn call_of(alloc: Global) -> Result<Call, Failed> {
     }
 }
 
-// Those of an endpoint, an event and a failed attempt.
+// Those of an endpoint, an event, a failed attempt and a topic.
 fn numbers_of(alloc: Global) -> Result<Numbers, Failed> {
     let mut numbers = Numbers {
-        records: 3,
+        records: 4,
         endpoints: Vec::new(alloc),
         deliveries: Vec::new(alloc),
         attempts: Vec::new(alloc),
+        topics: Vec::new(alloc),
     };
     let endpoint = Endpoint {
         put: 0,
@@ -279,9 +280,14 @@ fn numbers_of(alloc: Global) -> Result<Numbers, Failed> {
         seq: 1,
         endpoint: 0,
     };
+    let topic = Topic {
+        endpoint: 0,
+        set_by: 3,
+    };
     numbers.endpoints.push(endpoint).map_err(AllocError::from)?;
     numbers.deliveries.push(event).map_err(AllocError::from)?;
     numbers.attempts.push(attempt).map_err(AllocError::from)?;
+    numbers.topics.push(topic).map_err(AllocError::from)?;
     Ok(numbers)
 }
 

@@ -90,6 +90,7 @@ fn empty(alloc: Global) -> Numbers {
         endpoints: Vec::new(alloc),
         deliveries: Vec::new(alloc),
         attempts: Vec::new(alloc),
+        topics: Vec::new(alloc),
     }
 }
 
