@@ -2,6 +2,7 @@
 
 use crate::endpoints::{Put, Step, walk};
 use endpoint_book::MAX_FLAGS;
+use relay_types::MAX_SUBSCRIPTIONS;
 
 const HOOK: &[u8] = b"http://127.0.0.1:9000/hook";
 
@@ -17,7 +18,7 @@ const SHORT_PUT: Put = Put {
     secrets: &[1],
 };
 
-static AN_EMPTY_BOOK_HAS_NO_ENDPOINT: [Step; 11] = [
+static AN_EMPTY_BOOK_HAS_NO_ENDPOINT: [Step; 14] = [
     Step::Len(0, 0),
     Step::Names(&[]),
     Step::Next(0),
@@ -29,6 +30,9 @@ static AN_EMPTY_BOOK_HAS_NO_ENDPOINT: [Step; 11] = [
     Step::HasMax(b"a", None),
     Step::Shows(b"a", None),
     Step::IsEnabled(b"a", true),
+    Step::HasTopic(b"t", b"a", None),
+    Step::Subscribers(b"t", b""),
+    Step::FreeTopics(MAX_SUBSCRIPTIONS),
 ];
 
 #[test]
@@ -329,4 +333,123 @@ static EACH_SETTLED_RECORD_IS_SHOWN: [Step; 70] = [
 #[test]
 fn each_settled_record_is_shown(rt: HostRuntime) {
     walk(&rt, rt.alloc(), &EACH_SETTLED_RECORD_IS_SHOWN);
+}
+
+// Topics of endpoints: `b` is put before `a`, and subscribed after it.
+static SUBSCRIBERS_STAND_IN_THE_ORDER_OF_THEIR_PUTS: [Step; 17] = [
+    PUT_B,
+    PUT_A,
+    Step::Subscribe(2, b"t", b"a", true),
+    Step::Subscribers(b"t", b"a"),
+    Step::Subscribe(3, b"t", b"b", true),
+    Step::Subscribers(b"t", b"ba"),
+    PUT_C,
+    Step::Subscribe(5, b"t", b"c", true),
+    Step::Subscribers(b"t", b"bac"),
+    Step::Subscribe(6, b"t", b"a", false),
+    Step::Subscribers(b"t", b"bc"),
+    Step::Enable(7, b"c", false),
+    Step::Gone(8, b"b"),
+    Step::Subscribers(b"t", b"bc"),
+    Step::Subscribe(9, b"t", b"a", true),
+    Step::Subscribers(b"t", b"bac"),
+    Step::Subscribers(b"u", b""),
+];
+
+#[test]
+fn subscribers_stand_in_the_order_of_their_puts(rt: HostRuntime) {
+    walk(
+        &rt,
+        rt.alloc(),
+        &SUBSCRIBERS_STAND_IN_THE_ORDER_OF_THEIR_PUTS,
+    );
+}
+
+static THE_LAST_RECORD_OF_A_TOPIC_DECIDES: [Step; 21] = [
+    PUT_B,
+    PUT_A,
+    Step::Subscribe(2, b"t", b"a", true),
+    Step::HasTopic(b"t", b"a", Some(true)),
+    Step::HasTopic(b"t", b"b", None),
+    Step::HasTopic(b"u", b"a", None),
+    Step::HasTopic(b"a", b"t", None),
+    Step::Next(3),
+    Step::FreeTopics(MAX_SUBSCRIPTIONS - 1),
+    Step::Subscribe(3, b"t", b"a", false),
+    Step::HasTopic(b"t", b"a", Some(false)),
+    Step::FreeTopics(MAX_SUBSCRIPTIONS - 1),
+    Step::Subscribe(4, b"u", b"b", false),
+    Step::HasTopic(b"u", b"b", Some(false)),
+    Step::Subscribers(b"u", b""),
+    Step::FreeTopics(MAX_SUBSCRIPTIONS - 2),
+    Step::Subscribe(7, b"t", b"a", true),
+    Step::HasTopic(b"t", b"a", Some(true)),
+    Step::HasTopic(b"u", b"b", Some(false)),
+    Step::Next(8),
+    Step::FreeTopics(MAX_SUBSCRIPTIONS - 2),
+];
+
+#[test]
+fn the_last_record_of_a_topic_decides(rt: HostRuntime) {
+    walk(&rt, rt.alloc(), &THE_LAST_RECORD_OF_A_TOPIC_DECIDES);
+}
+
+static A_TOPIC_IS_NO_PART_OF_WHAT_IS_SHOWN: [Step; 12] = [
+    Step::Put(0, b"a", SHORT_PUT),
+    Step::Settle(1),
+    Step::Subscribe(1, b"t", b"a", true),
+    Step::HasTopic(b"t", b"a", Some(true)),
+    Step::SettledSeq(1),
+    Step::Free(MAX_FLAGS),
+    Step::Shows(b"a", Some((true, 1))),
+    Step::Settle(2),
+    Step::SettledSeq(2),
+    Step::HasTopic(b"t", b"a", Some(true)),
+    Step::Shows(b"a", Some((true, 1))),
+    Step::IsPutAs(b"a", b"http://h/", 7),
+];
+
+#[test]
+fn a_topic_is_no_part_of_what_is_shown(rt: HostRuntime) {
+    walk(&rt, rt.alloc(), &A_TOPIC_IS_NO_PART_OF_WHAT_IS_SHOWN);
+}
+
+static RESTORED_TOPICS_ARE_AS_THEY_WERE_LEFT: [Step; 10] = [
+    Step::Restore(3, b"a", RESTORED, false),
+    Step::RestoreTopic(b"t", b"a", true),
+    Step::RestoreTopic(b"u", b"a", false),
+    Step::HasTopic(b"t", b"a", Some(true)),
+    Step::HasTopic(b"u", b"a", Some(false)),
+    Step::Subscribers(b"t", b"a"),
+    Step::Subscribers(b"u", b""),
+    Step::FreeTopics(MAX_SUBSCRIPTIONS - 2),
+    Step::Next(4),
+    Step::SettledSeq(4),
+];
+
+#[test]
+fn restored_topics_are_as_they_were_left(rt: HostRuntime) {
+    walk(&rt, rt.alloc(), &RESTORED_TOPICS_ARE_AS_THEY_WERE_LEFT);
+}
+
+// The topic of record 1 is `aab`.
+static AS_MANY_TOPICS_ARE_NAMED_AS_THERE_IS_ROOM_FOR: [Step; 9] = [
+    Step::Put(0, b"a", SHORT_PUT),
+    Step::Topics(1, 4096, b"a"),
+    Step::FreeTopics(1),
+    Step::Subscribe(4096, b"t", b"a", true),
+    Step::FreeTopics(0),
+    Step::Subscribe(4097, b"aab", b"a", false),
+    Step::HasTopic(b"aab", b"a", Some(false)),
+    Step::HasTopic(b"ppp", b"a", Some(true)),
+    Step::FreeTopics(0),
+];
+
+#[test]
+fn as_many_topics_are_named_as_there_is_room_for(rt: HostRuntime) {
+    walk(
+        &rt,
+        rt.alloc(),
+        &AS_MANY_TOPICS_ARE_NAMED_AS_THERE_IS_ROOM_FOR,
+    );
 }

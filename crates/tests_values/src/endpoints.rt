@@ -1,5 +1,6 @@
 //! Steps of an endpoint book, and what is then told of it.
-ghost use Rattle.std.specs.Prelude.{◌≡◌, []};
+ghost use Rattle.std.specs.Prelude.{◌≡◌, [], IsTrue};
+ghost use Rattle.endpoint_book.specs.Topics.{has_place};
 
 use crate::cases::{done, holds, max_limit, name, secrets, target};
 use endpoint_book::EndpointBook;
@@ -44,6 +45,18 @@ pub(crate) enum Step {
     HasTarget(&'static [u8], Option<&'static [u8]>),
     /// The names of all endpoints, each one letter.
     Names(&'static [u8]),
+    /// A topic of the endpoint of this name, by the record of this sequence number.
+    Subscribe(u64, &'static [u8], &'static [u8], bool),
+    /// The same as its records left it.
+    RestoreTopic(&'static [u8], &'static [u8], bool),
+    /// As many other topics of the endpoint, from this sequence number up to that one.
+    Topics(u64, u64, &'static [u8]),
+    /// Whether the endpoint is subscribed to the topic, if a record named both.
+    HasTopic(&'static [u8], &'static [u8], Option<bool>),
+    /// The names of the topic's subscribers, each one letter.
+    Subscribers(&'static [u8], &'static [u8]),
+    /// How many more pairs of a topic and an endpoint may be named.
+    FreeTopics(usize),
 }
 
 /// The keys of the secrets that the tables name.
@@ -138,6 +151,62 @@ fn flags(rt: &impl Abort, book: &mut EndpointBook, from: u64, end: u64, name: Na
     }
 }
 
+/// Whether the topic and the endpoint were named, or there is room for another pair.
+fn may_subscribe(book: &EndpointBook, topic: Name, name: Name) -> bool
+    ensures { IsTrue result → IsTrue (has_place book.now.topics topic name) }
+{
+    book.is_named(topic, name) || book.free_subscriptions() > 0
+}
+
+fn subscribe(
+    rt: &impl Abort,
+    book: &mut EndpointBook,
+    seq: u64,
+    topic: Name,
+    name: Name,
+    flag: bool,
+) {
+    assert!(rt; seq < 1_000_000 && book.next_seq() <= seq);
+    assert!(rt; may_subscribe(book, topic, name));
+    done(rt, book.stage_subscribed(seq, topic, name, flag));
+}
+
+fn restore_topic(rt: &impl Abort, book: &mut EndpointBook, topic: Name, name: Name, flag: bool) {
+    assert!(rt; may_subscribe(book, topic, name));
+    done(rt, book.restore_subscribed(topic, name, flag));
+}
+
+/// The name of a topic: three letters, by the number.
+fn topic_of(rt: &impl Abort, number: u64) -> Name {
+    let high = b'a' + (number / 256 % 16) as u8;
+    let middle = b'a' + (number / 16 % 16) as u8;
+    let low = b'a' + (number % 16) as u8;
+    name(rt, &[high, middle, low])
+}
+
+fn subscribe_each(rt: &impl Abort, book: &mut EndpointBook, from: u64, end: u64, name: Name) {
+    for seq in from..end {
+        subscribe(rt, book, seq, topic_of(rt, seq), name, true);
+    }
+}
+
+fn has_topic(book: &EndpointBook, topic: Name, name: Name, wanted: Option<bool>) -> bool {
+    book.is_named(topic, name) == wanted.is_some()
+        && book.is_subscribed(topic, name) == wanted.unwrap_or(false)
+}
+
+fn are_subscribed(book: &EndpointBook, topic: Name, letters: &[u8]) -> bool {
+    let mut found = book.subscribers(topic);
+    let mut all = true;
+    for letter in letters {
+        all = match found.next() {
+            Some(name) => all && name.as_bytes() == [*letter].as_slice(),
+            None => false,
+        };
+    }
+    all && found.next().is_none()
+}
+
 fn shows(book: &EndpointBook, name: Name, wanted: Option<(bool, usize)>) -> bool {
     match (book.settled(name), wanted) {
         (Some(view), Some((enabled, count))) => view.enabled == enabled && view.secrets == count,
@@ -196,6 +265,13 @@ fn stage(rt: &impl Abort, alloc: Global, book: &mut EndpointBook, step: Step) {
         Step::Gone(seq, text) => gone(rt, book, seq, name(rt, text)),
         Step::Settle(place) => settle(rt, book, place),
         Step::Flags(from, end, text) => flags(rt, book, from, end, name(rt, text)),
+        Step::Subscribe(seq, topic, text, flag) => {
+            subscribe(rt, book, seq, name(rt, topic), name(rt, text), flag)
+        }
+        Step::RestoreTopic(topic, text, flag) => {
+            restore_topic(rt, book, name(rt, topic), name(rt, text), flag)
+        }
+        Step::Topics(from, end, text) => subscribe_each(rt, book, from, end, name(rt, text)),
         _ => {}
     }
 }
@@ -215,6 +291,11 @@ fn is_so(rt: &impl Abort, book: &EndpointBook, step: Step) -> bool {
         Step::HasMax(text, wanted) => has_max(book, name(rt, text), wanted),
         Step::HasTarget(text, wanted) => has_target(book, name(rt, text), wanted),
         Step::Names(letters) => are_named(book, letters),
+        Step::HasTopic(topic, text, wanted) => {
+            has_topic(book, name(rt, topic), name(rt, text), wanted)
+        }
+        Step::Subscribers(topic, letters) => are_subscribed(book, name(rt, topic), letters),
+        Step::FreeTopics(count) => book.free_subscriptions() == count,
         _ => true,
     }
 }

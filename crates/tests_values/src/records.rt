@@ -93,10 +93,12 @@ enum Kind {
     /// An event at this moment with this body.
     Accept(u64, &'static [u8]),
     Outcome(u64, u64, u16),
+    /// This topic of the endpoint of this name.
+    Subscribed(&'static [u8], &'static [u8], bool),
 }
 
 // Records of each kind, no two of which are the same.
-static KINDS: [Kind; 7] = [
+static KINDS: [Kind; 11] = [
     Kind::Put(20),
     Kind::Secrets(&[0]),
     Kind::Secrets(&[1, 1]),
@@ -104,7 +106,19 @@ static KINDS: [Kind; 7] = [
     Kind::Enabled(false),
     Kind::Accept(1000, &[7, 7]),
     Kind::Outcome(8, 1, 204),
+    Kind::Subscribed(b"t", b"a", true),
+    Kind::Subscribed(b"t", b"a", false),
+    Kind::Subscribed(b"u", b"a", true),
+    Kind::Subscribed(b"a", b"t", true),
 ];
+
+fn subscribed(rt: &impl Abort, topic: &[u8], text: &[u8], flag: bool) -> Record {
+    Record::Subscribed {
+        topic: name(rt, topic),
+        name: name(rt, text),
+        flag,
+    }
+}
 
 fn record(rt: &impl Abort, alloc: Global, kind: Kind) -> Record {
     let name = name(rt, b"a");
@@ -132,6 +146,7 @@ fn record(rt: &impl Abort, alloc: Global, kind: Kind) -> Record {
             status,
             at: moment(rt, 1000),
         },
+        Kind::Subscribed(topic, text, flag) => subscribed(rt, topic, text, flag),
     }
 }
 
@@ -152,6 +167,9 @@ fn is_of(rt: &impl Abort, record: &Record, kind: Kind) -> bool {
             },
             Kind::Outcome(number, count, answer),
         ) => *delivery == number && *attempt == count && *status == answer,
+        (Record::Subscribed { topic, name, flag }, Kind::Subscribed(of, text, wanted)) => {
+            topic.as_bytes() == of && name.as_bytes() == text && *flag == wanted
+        }
         _ => false,
     }
 }

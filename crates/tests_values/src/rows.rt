@@ -1,7 +1,8 @@
 //! Files: the numbers in their rows, and whether a legal history has them.
 
 use crate::cases::holds;
-use sound_rows::{Attempt, Delivery, Endpoint, Numbers};
+use relay_types::MAX_SUBSCRIPTIONS;
+use sound_rows::{Attempt, Delivery, Endpoint, Numbers, Topic};
 use std::alloc::Global;
 use std::process::Abort;
 
@@ -14,6 +15,12 @@ enum File {
     Alone(u64, Endpoint, bool),
     /// An endpoint at 0, an event of it at 1 and an attempt at 2 with this number and status.
     Attempted(Endpoint, u64, u16, bool),
+    /// So many records, endpoints, and for each topic its endpoint and the record that decides it.
+    Subscribed(u64, &'static [Endpoint], &'static [(u64, u64)], bool),
+    /// So many records: an endpoint, an event, an attempt, and a topic that this record decides.
+    Beside(u64, u64, bool),
+    /// An endpoint and so many topics of it.
+    Pairs(usize, bool),
 }
 
 /// An endpoint that is put first, enabled by its Put and with secrets of it.
@@ -56,6 +63,38 @@ const DISABLED: Endpoint = Endpoint {
     secrets_by: 0,
 };
 
+/// An endpoint that is put by record 1.
+const SECOND: Endpoint = Endpoint {
+    put: 1,
+    enabled: true,
+    enabled_by: 1,
+    secrets_by: 1,
+};
+
+/// An endpoint that is put by record 2.
+const THIRD: Endpoint = Endpoint {
+    put: 2,
+    enabled: true,
+    enabled_by: 2,
+    secrets_by: 2,
+};
+
+/// An endpoint that is put first, and enabled by record 3.
+const ENABLED: Endpoint = Endpoint {
+    put: 0,
+    enabled: true,
+    enabled_by: 3,
+    secrets_by: 0,
+};
+
+/// An endpoint that is put first, enabled by record 4 and with secrets of record 2.
+const CHANGED: Endpoint = Endpoint {
+    put: 0,
+    enabled: true,
+    enabled_by: 4,
+    secrets_by: 2,
+};
+
 static A_RECORD_OF_NO_ROW_NEEDS_A_COMMAND: [File; 6] = [
     File::Alone(1, FIRST, true),
     File::Alone(2, RENEWED, true),
@@ -82,6 +121,50 @@ static ATTEMPTS_ARE_NUMBERED_IN_TURN: [File; 4] = [
     File::Attempted(FIRST, 2, 200, false),
     File::Attempted(FIRST, 0, 200, false),
     File::Attempted(FIRST, 1, 99, false),
+];
+
+static A_TOPIC_IS_DECIDED_BEHIND_ITS_ENDPOINT: [File; 9] = [
+    File::Subscribed(2, &[FIRST], &[(0, 1)], true),
+    File::Subscribed(1, &[FIRST], &[(0, 1)], false),
+    File::Subscribed(1, &[FIRST], &[(0, 0)], false),
+    File::Subscribed(2, &[FIRST, SECOND], &[(0, 1)], false),
+    File::Subscribed(3, &[FIRST, SECOND], &[(0, 2)], true),
+    File::Subscribed(3, &[FIRST, SECOND], &[(1, 2)], true),
+    File::Subscribed(3, &[DISABLED, SECOND], &[(1, 0)], false),
+    File::Subscribed(4, &[ENABLED, THIRD], &[(2, 1)], false),
+    File::Subscribed(4, &[ENABLED, THIRD], &[], true),
+];
+
+static A_RECORD_DECIDES_ONE_TOPIC_AND_NOTHING_ELSE: [File; 13] = [
+    File::Subscribed(2, &[RENEWED], &[(0, 1)], false),
+    File::Subscribed(3, &[RENEWED], &[(0, 2)], true),
+    File::Subscribed(3, &[DISABLED], &[(0, 2)], false),
+    File::Subscribed(3, &[DISABLED], &[(0, 1)], true),
+    File::Subscribed(3, &[DISABLED, SECOND], &[(1, 2)], false),
+    File::Subscribed(4, &[DISABLED, SECOND], &[(1, 3)], true),
+    File::Subscribed(2, &[FIRST], &[(0, 1), (0, 1)], false),
+    File::Subscribed(3, &[FIRST], &[(0, 1), (0, 2)], true),
+    File::Subscribed(3, &[FIRST], &[(0, 2), (0, 1)], false),
+    File::Subscribed(3, &[FIRST, SECOND], &[(0, 2), (1, 2)], false),
+    File::Beside(3, 1, false),
+    File::Beside(3, 2, false),
+    File::Beside(4, 3, true),
+];
+
+static A_RECORD_OF_NO_ROW_MAY_BE_OF_A_TOPIC: [File; 8] = [
+    File::Subscribed(4, &[FIRST], &[(0, 3)], true),
+    File::Subscribed(5, &[FIRST], &[(0, 3)], false),
+    File::Subscribed(7, &[CHANGED], &[(0, 6)], true),
+    File::Subscribed(5, &[FIRST, SECOND], &[(0, 2), (1, 4)], true),
+    File::Subscribed(6, &[FIRST, SECOND], &[(0, 2), (1, 4)], false),
+    File::Subscribed(3, &[SECOND], &[(1, 2)], false),
+    File::Subscribed(1 << 62, &[FIRST], &[(0, (1 << 62) - 1)], true),
+    File::Subscribed(1 << 62, &[FIRST], &[(0, 1 << 62)], false),
+];
+
+static THERE_ARE_AS_MANY_TOPICS_AS_MAY_BE_NAMED: [File; 2] = [
+    File::Pairs(MAX_SUBSCRIPTIONS, true),
+    File::Pairs(MAX_SUBSCRIPTIONS + 1, false),
 ];
 
 fn empty(alloc: Global) -> Numbers {
@@ -113,6 +196,32 @@ fn attempt(rt: &impl Abort, numbers: &mut Numbers, number: u64, status: u16) {
     numbers.attempts.push(attempt).expect(rt, "memory");
 }
 
+fn subscribe(rt: &impl Abort, numbers: &mut Numbers, endpoint: u64, set_by: u64) {
+    let topic = Topic { endpoint, set_by };
+    numbers.topics.push(topic).expect(rt, "memory");
+}
+
+fn subscribe_all(
+    rt: &impl Abort,
+    numbers: &mut Numbers,
+    endpoints: &[Endpoint],
+    topics: &[(u64, u64)],
+) {
+    for endpoint in endpoints {
+        put(rt, numbers, *endpoint);
+    }
+    for (endpoint, set_by) in topics {
+        subscribe(rt, numbers, *endpoint, *set_by);
+    }
+}
+
+fn subscribe_each(rt: &impl Abort, numbers: &mut Numbers, count: usize) {
+    put(rt, numbers, FIRST);
+    for number in 0..count {
+        subscribe(rt, numbers, 0, number as u64 + 1);
+    }
+}
+
 fn are_sound(rt: &impl Abort, alloc: Global, numbers: &Numbers) -> bool {
     numbers.are_sound(alloc).expect(rt, "memory")
 }
@@ -133,6 +242,23 @@ fn fill(rt: &impl Abort, numbers: &mut Numbers, file: File) -> bool {
             numbers.records = 3;
             put(rt, numbers, endpoint);
             attempt(rt, numbers, number, status);
+            sound
+        }
+        File::Subscribed(records, endpoints, topics, sound) => {
+            numbers.records = records;
+            subscribe_all(rt, numbers, endpoints, topics);
+            sound
+        }
+        File::Beside(records, set_by, sound) => {
+            numbers.records = records;
+            put(rt, numbers, FIRST);
+            attempt(rt, numbers, 1, 500);
+            subscribe(rt, numbers, 0, set_by);
+            sound
+        }
+        File::Pairs(count, sound) => {
+            numbers.records = count as u64 + 1;
+            subscribe_each(rt, numbers, count);
             sound
         }
     }
@@ -164,4 +290,28 @@ fn an_answer_of_gone_disables(rt: HostRuntime) {
 #[test]
 fn attempts_are_numbered_in_turn(rt: HostRuntime) {
     walk(&rt, rt.alloc(), &ATTEMPTS_ARE_NUMBERED_IN_TURN);
+}
+
+#[test]
+fn a_topic_is_decided_behind_its_endpoint(rt: HostRuntime) {
+    walk(&rt, rt.alloc(), &A_TOPIC_IS_DECIDED_BEHIND_ITS_ENDPOINT);
+}
+
+#[test]
+fn a_record_decides_one_topic_and_nothing_else(rt: HostRuntime) {
+    walk(
+        &rt,
+        rt.alloc(),
+        &A_RECORD_DECIDES_ONE_TOPIC_AND_NOTHING_ELSE,
+    );
+}
+
+#[test]
+fn a_record_of_no_row_may_be_of_a_topic(rt: HostRuntime) {
+    walk(&rt, rt.alloc(), &A_RECORD_OF_NO_ROW_MAY_BE_OF_A_TOPIC);
+}
+
+#[test]
+fn there_are_as_many_topics_as_may_be_named(rt: HostRuntime) {
+    walk(&rt, rt.alloc(), &THERE_ARE_AS_MANY_TOPICS_AS_MAY_BE_NAMED);
 }
