@@ -10,7 +10,7 @@ pub(crate) const ENDPOINT: &str =
      UPDATE meta SET records = 1";
 
 /// Endpoints `a` and `b`.
-const TWO: &str = "INSERT INTO endpoints VALUES(0, 'a', 'http://h/', 100, 1, 0, 0); \
+pub(crate) const TWO: &str = "INSERT INTO endpoints VALUES(0, 'a', 'http://h/', 100, 1, 0, 0); \
      INSERT INTO secrets VALUES(0, 0, x'303132333435363738396162636465663031323334353637'); \
      INSERT INTO endpoints VALUES(1, 'b', 'http://h/', 100, 1, 1, 1); \
      INSERT INTO secrets VALUES(1, 0, x'303132333435363738396162636465663031323334353637'); \

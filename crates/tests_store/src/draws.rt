@@ -33,6 +33,8 @@ impl Numbers {
 /// The names of endpoints. No record speaks of the last.
 pub(crate) static LETTERS: [u8; 5] = [b'a', b'b', b'c', b'd', b'e'];
 
+pub(crate) static TOPICS: [&'static [u8]; 3] = [b"t", b"orders", b"a"];
+
 pub(crate) static IDS: [&'static [u8]; 2] = [b"msg_1", b"msg_2"];
 
 static STATUSES: [u16; 8] = [0, 204, 302, 404, 410, 500, 503, 600];
@@ -58,6 +60,10 @@ fn draw_endpoint(numbers: &mut Numbers, letter: u8, is_known: bool) -> Option<En
     match numbers.below(4) {
         0 => Some(Entry::Give(letter, draw_keys(numbers))),
         1 => Some(Entry::Enable(letter, numbers.below(3) > 0)),
+        2 => {
+            let topic = TOPICS[numbers.below(3) as usize];
+            Some(Entry::Subscribe(topic, letter, numbers.below(3) > 0))
+        }
         _ => None,
     }
 }

@@ -28,6 +28,8 @@ pub(crate) enum Entry {
     Accept(u8, &'static [u8], &'static [u8], u64),
     /// The event's number, the attempt's, the status and the moment.
     Outcome(u64, u64, u16, u64),
+    /// A topic of the endpoint.
+    Subscribe(&'static [u8], u8, bool),
 }
 
 pub(crate) fn name_of(letter: u8) -> Result<Name, Fail> {
@@ -105,6 +107,10 @@ fn give(letter: u8, keys: Keys) -> Result<Record, Fail> {
     })
 }
 
+pub(crate) fn subscribed(topic: Name, name: Name, flag: bool) -> Record {
+    Record::Subscribed { topic, name, flag }
+}
+
 pub(crate) fn record_of(alloc: Global, entry: Entry) -> Result<Record, Fail> {
     match entry {
         Entry::Put(letter, max, keys) => put(alloc, name_of(letter)?, max, secrets_of(keys)?),
@@ -117,5 +123,8 @@ pub(crate) fn record_of(alloc: Global, entry: Entry) -> Result<Record, Fail> {
             accept(alloc, name_of(letter)?, MsgId::read(id)?, body, at)
         }
         Entry::Outcome(delivery, attempt, status, at) => outcome(delivery, attempt, status, at),
+        Entry::Subscribe(topic, letter, flag) => {
+            Ok(subscribed(Name::read(topic)?, name_of(letter)?, flag))
+        }
     }
 }

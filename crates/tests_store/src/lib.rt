@@ -35,4 +35,6 @@ mod stories;
 #[cfg(test)]
 mod tables;
 #[cfg(test)]
+mod topics;
+#[cfg(test)]
 mod vaults;

@@ -51,6 +51,61 @@ fn every_record_is_read_back(rt: HostRuntime) -> Result<(), Fail> {
     walk(&rt, rt.alloc(), &EVERY_RECORD_IS_READ_BACK)
 }
 
+/// Subscribers stand in the order of their Puts.
+static TOPICS_ARE_READ_BACK: Story = Story {
+    limit: None,
+    steps: &[
+        Step::Enter(Entry::Put(b'b', 100, ONE), Told::Written),
+        Step::Enter(PUT, Told::Written),
+        Step::Enter(Entry::Subscribe(b"t", b'a', true), Told::Written),
+        Step::Enter(Entry::Subscribe(b"t", b'b', true), Told::Written),
+        Step::Enter(Entry::Subscribe(b"orders", b'a', false), Told::Written),
+        Step::Shows(&[
+            Look::Holds(5, 0, 2),
+            Look::Subscribers(b"t", b"ba"),
+            Look::Subscribers(b"orders", b""),
+            Look::HasTopic(b"orders", b'a', Some(false)),
+            Look::HasTopic(b"orders", b'b', None),
+            Look::FreeTopics(4093),
+        ]),
+        Step::Enter(Entry::Subscribe(b"t", b'b', false), Told::Written),
+        Step::Enter(Entry::Enable(b'a', false), Told::Written),
+        Step::Shows(&[
+            Look::Holds(7, 0, 2),
+            Look::Subscribers(b"t", b"a"),
+            Look::HasTopic(b"t", b'b', Some(false)),
+            Look::FreeTopics(4093),
+        ]),
+    ],
+    counts: &[],
+};
+
+#[test]
+fn topics_are_read_back(rt: HostRuntime) -> Result<(), Fail> {
+    walk(&rt, rt.alloc(), &TOPICS_ARE_READ_BACK)
+}
+
+/// 600 topics, in batches of 200.
+static MORE_THAN_TWO_PAGES_OF_TOPICS_ARE_LOADED: Story = Story {
+    limit: None,
+    steps: &[
+        Step::Enter(PUT, Told::Written),
+        Step::Topics(Span(0, 600, 200)),
+        Step::Enter(Entry::Subscribe(b"t0", b'a', true), Told::Written),
+        Step::Shows(&[
+            Look::Holds(602, 0, 1),
+            Look::Subscribed(600),
+            Look::FreeTopics(3496),
+        ]),
+    ],
+    counts: &[],
+};
+
+#[test]
+fn more_than_two_pages_of_topics_are_loaded(rt: HostRuntime) -> Result<(), Fail> {
+    walk(&rt, rt.alloc(), &MORE_THAN_TWO_PAGES_OF_TOPICS_ARE_LOADED)
+}
+
 /// A page has 256 rows. Each record is committed alone, and later ones have earlier moments.
 static TABLES_OF_MORE_THAN_A_PAGE_ARE_READ_BACK: Story = Story {
     limit: None,

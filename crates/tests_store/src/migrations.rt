@@ -353,8 +353,8 @@ fn a_store_that_lacks_a_table_is_not_ours(rt: HostRuntime) {
 
 const STAYS_2: &[Count] = &[("SELECT version FROM meta", 2)];
 
-/// Sound and damaged. No record gives the table of topics a row yet.
-static OF_VERSION_2: [Old; 9] = [
+/// Sound and damaged.
+static OF_VERSION_2: [Old; 10] = [
     Old(&[ATTEMPTED, TOPICS, IS_2], AN_ATTEMPT, AN_ATTEMPT, MIGRATED),
     Old(&[TOPICS, IS_2], "records 0", "records 0", MIGRATED),
     Old(
@@ -369,6 +369,23 @@ static OF_VERSION_2: [Old; 9] = [
             TOPICS,
             IS_2,
             "INSERT INTO topics VALUES('t', 0, 1, 3); UPDATE meta SET records = 4",
+        ],
+        "records 4 enabled pending due 1006 attempts 1",
+        "records 4 enabled pending due 1006 attempts 1",
+        &[
+            ("SELECT version FROM meta", 2),
+            (
+                "SELECT count(*) FROM topics WHERE topic = 't' AND endpoint = 0 AND subscribed = 1 AND set_by = 3",
+                1,
+            ),
+        ],
+    ),
+    Old(
+        &[
+            ATTEMPTED,
+            TOPICS,
+            IS_2,
+            "INSERT INTO topics VALUES('t', 0, 1, 2); UPDATE meta SET records = 4",
         ],
         DAMAGED,
         DAMAGED,

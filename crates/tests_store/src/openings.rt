@@ -1,6 +1,7 @@
 //! Stores whose rows anyone may have written, and what their opening answers.
 ghost use Rattle.std.specs.Prelude.{◌≡◌, []};
 
+use crate::conditions::ENDPOINT;
 use crate::database::{Count, answer, count_all};
 use crate::entries::{body_of, name_of};
 use crate::vaults::{MARK, opened};
@@ -31,6 +32,8 @@ pub(crate) enum Start {
     Body(usize),
     /// Those of so many endpoints with a secret each.
     Endpoints(u32),
+    /// Those of an endpoint that is subscribed to so many topics.
+    Topics(u32),
 }
 
 /// What is in a store, the queries that tell all of it, what its opening answers, and numbers that
@@ -99,6 +102,22 @@ fn with_endpoints(alloc: Global, count: u32) -> Result<String, Fail> {
     Ok(text)
 }
 
+fn with_topics(alloc: Global, count: u32) -> Result<String, Fail> {
+    let mut text = format!(in alloc; "BEGIN; UPDATE meta SET records = {count} + 1")?;
+    for n in 0..count {
+        let row = format!(in alloc; "; INSERT INTO topics VALUES('t{n}', 0, 1, {n} + 1)")?;
+        text.push_str(&row)?;
+    }
+    text.push_str("; COMMIT")?;
+    Ok(text)
+}
+
+fn fill_topics(alloc: Global, conn: &mut Connection<MemStore>, count: u32) -> Result<(), Fail> {
+    run(conn, ENDPOINT)?;
+    let text = with_topics(alloc, count)?;
+    run(conn, &text)
+}
+
 fn run(conn: &mut Connection<MemStore>, text: &str) -> Result<(), Fail> {
     Ok(conn.execute_batch(text)?)
 }
@@ -117,6 +136,7 @@ fn fill_start(alloc: Global, conn: &mut Connection<MemStore>, start: Start) -> R
             fill_body(alloc, conn, len)
         }
         Start::Endpoints(count) => fill_endpoints(alloc, conn, count),
+        Start::Topics(count) => fill_topics(alloc, conn, count),
     }
 }
 

@@ -1,6 +1,6 @@
 //! Whether two books give the same answers.
 
-use crate::draws::{IDS, LETTERS};
+use crate::draws::{IDS, LETTERS, TOPICS};
 use crate::entries::name_of;
 use delivery_book::{DeliveryBook, Row};
 use endpoint_book::{EndpointBook, EndpointView};
@@ -17,7 +17,7 @@ pub(crate) fn same_books(one: &Books, other: &Books) -> Result<bool, Fail> {
         && same_order(one.endpoints.names(), other.endpoints.names())
         && same_totals(&one.deliveries, &other.deliveries)
         && same_numbers(&one.deliveries, &other.deliveries, one.records);
-    Ok(same_names(one, other)? && is_same)
+    Ok(same_names(one, other)? && same_topics(&one.endpoints, &other.endpoints)? && is_same)
 }
 
 fn same_lengths(one: &EndpointBook, other: &EndpointBook) -> bool {
@@ -26,6 +26,7 @@ fn same_lengths(one: &EndpointBook, other: &EndpointBook) -> bool {
         && one.next_seq() == other.next_seq()
         && one.settled_seq() == other.settled_seq()
         && one.free_flags() == other.free_flags()
+        && one.free_subscriptions() == other.free_subscriptions()
 }
 
 fn same_order(one: &[Name], other: &[Name]) -> bool {
@@ -55,6 +56,35 @@ fn same_endpoint(one: &EndpointBook, other: &EndpointBook, name: Name) -> bool {
         && same_secrets(one.secrets(name), other.secrets(name))
         && same_target(one.target(name), other.target(name))
         && same_settled(one, other, name)
+}
+
+fn same_topics(one: &EndpointBook, other: &EndpointBook) -> Result<bool, Fail> {
+    let mut is_same = true;
+    for topic in &TOPICS {
+        let topic = Name::read(topic)?;
+        is_same = is_same && same_subscribers(one, other, topic);
+        for letter in &LETTERS {
+            is_same = is_same && same_topic(one, other, topic, name_of(*letter)?);
+        }
+    }
+    Ok(is_same)
+}
+
+fn same_topic(one: &EndpointBook, other: &EndpointBook, topic: Name, name: Name) -> bool {
+    one.is_named(topic, name) == other.is_named(topic, name)
+        && one.is_subscribed(topic, name) == other.is_subscribed(topic, name)
+}
+
+fn same_subscribers(one: &EndpointBook, other: &EndpointBook, topic: Name) -> bool {
+    let mut found = one.subscribers(topic);
+    let mut is_same = true;
+    for name in other.subscribers(topic) {
+        is_same = match found.next() {
+            Some(it) => is_same && it.is(name),
+            None => false,
+        };
+    }
+    is_same && found.next().is_none()
 }
 
 fn same_secrets(one: Option<Secrets>, other: Option<Secrets>) -> bool {

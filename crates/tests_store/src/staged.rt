@@ -59,6 +59,20 @@ fn disable(rt: &impl Abort, book: &mut EndpointBook, seq: u64, name: Name) {
     book.stage_gone(seq, name);
 }
 
+fn subscribe(
+    rt: &impl Abort,
+    book: &mut EndpointBook,
+    seq: u64,
+    topic: Name,
+    name: Name,
+    flag: bool,
+) -> Result<(), Fail> {
+    assert!(rt; seq < 1_000_000 && book.next_seq() <= seq && book.contains(name));
+    assert!(rt; book.free_subscriptions() > 0);
+    book.stage_subscribed(seq, topic, name, flag)?;
+    Ok(())
+}
+
 fn take_in(
     rt: &impl Abort,
     alloc: Global,
@@ -157,6 +171,10 @@ fn enter(rt: &impl Abort, alloc: Global, books: &mut Books, entry: Entry) -> Res
         }
         Entry::Accept(letter, id, bytes, at) => accept(rt, alloc, books, letter, id, bytes, at),
         Entry::Outcome(delivery, _, status, at) => outcome(rt, books, delivery, status, at),
+        Entry::Subscribe(topic, letter, flag) => {
+            let (topic, name) = (Name::read(topic)?, name_of(letter)?);
+            subscribe(rt, &mut books.endpoints, seq, topic, name, flag)
+        }
     }
 }
 

@@ -4,9 +4,9 @@ use crate::database::{Count, count_all, holds};
 use crate::entries::body_of;
 use relay_types::{MaxLimit, Moment, MsgId, Name, Secret, Target};
 use spool_sql::{
-    Cause, Seq, cause_of, count_endpoints, create_tables, create_topics, has_delivery,
-    insert_attempt, insert_delivery, insert_endpoint, insert_secret, is_empty, probe, select_put,
-    update_records, update_version,
+    Cause, Seq, cause_of, count_endpoints, count_topics, create_tables, create_topics,
+    delete_topic, has_delivery, has_topic, insert_attempt, insert_delivery, insert_endpoint,
+    insert_secret, insert_topic, is_empty, probe, select_put, update_records, update_version,
 };
 use sqlite::{Connection, Error, ErrorCode, MemStore, Transaction};
 use std::alloc::Global;
@@ -29,6 +29,10 @@ enum Call {
     Delivery(u32, u32, &'static [u8], u64),
     /// The number, the delivery, the attempt's number, the status and the moment.
     Attempt(u32, u32, u32, u16, u64),
+    /// The topic, the endpoint, whether it is subscribed, and the number of the record.
+    Topic(&'static [u8], u32, bool, u32),
+    /// The topic and the endpoint, whose row is taken out if there is one.
+    NoTopic(&'static [u8], u32),
     Records(u32),
 }
 
@@ -43,6 +47,9 @@ enum Step {
     Endpoints(usize),
     /// Whether the endpoint has an event of this id.
     Has(u32, &'static [u8], bool),
+    /// Whether there is a row of the topic and the endpoint.
+    HasTopic(&'static [u8], u32, bool),
+    TopicCount(usize),
 }
 
 fn seq(number: u32) -> Seq {
@@ -105,6 +112,26 @@ fn add_attempt(
     ))
 }
 
+fn add_topic(
+    tx: &mut Transaction<'_, MemStore>,
+    topic: &[u8],
+    endpoint: u32,
+    flag: bool,
+    set_by: u32,
+) -> Result<Result<(), Error>, Fail> {
+    let topic = Name::read(topic)?;
+    Ok(insert_topic(tx, &topic, seq(endpoint), flag, seq(set_by)))
+}
+
+fn remove_topic(
+    tx: &mut Transaction<'_, MemStore>,
+    topic: &[u8],
+    endpoint: u32,
+) -> Result<Result<(), Error>, Fail> {
+    let topic = Name::read(topic)?;
+    Ok(delete_topic(tx, &topic, seq(endpoint)))
+}
+
 fn make(
     alloc: Global,
     tx: &mut Transaction<'_, MemStore>,
@@ -122,6 +149,10 @@ fn make(
         Call::Attempt(number, delivery, attempt, status, at) => {
             add_attempt(tx, number, delivery, attempt, status, at)
         }
+        Call::Topic(topic, endpoint, flag, set_by) => {
+            add_topic(tx, topic, endpoint, flag, set_by)
+        }
+        Call::NoTopic(topic, endpoint) => remove_topic(tx, topic, endpoint),
         Call::Records(count) => Ok(update_records(tx, u64::from(count))),
     }
 }
@@ -156,6 +187,16 @@ fn has(
     Ok(has_delivery(tx, seq(endpoint), &id)? == wanted)
 }
 
+fn is_there(
+    tx: &mut Transaction<'_, MemStore>,
+    topic: &[u8],
+    endpoint: u32,
+    wanted: bool,
+) -> Result<bool, Fail> {
+    let topic = Name::read(topic)?;
+    Ok(has_topic(tx, &topic, seq(endpoint))? == wanted)
+}
+
 fn is_so(alloc: Global, tx: &mut Transaction<'_, MemStore>, step: Step) -> Result<bool, Fail> {
     match step {
         Step::Done(made) => Ok(make(alloc, tx, made)?.is_ok()),
@@ -163,6 +204,8 @@ fn is_so(alloc: Global, tx: &mut Transaction<'_, MemStore>, step: Step) -> Resul
         Step::Put(name, wanted) => is_put(tx, name, wanted),
         Step::Endpoints(count) => Ok(count_endpoints(tx)? == count),
         Step::Has(endpoint, id, wanted) => has(tx, endpoint, id, wanted),
+        Step::HasTopic(topic, endpoint, wanted) => is_there(tx, topic, endpoint, wanted),
+        Step::TopicCount(count) => Ok(count_topics(tx)? == count),
     }
 }
 
@@ -223,23 +266,25 @@ fn walk(rt: &impl Abort, alloc: Global, steps: &[Step], counts: &[Count]) -> Res
     look(rt, alloc, &mut conn, steps, counts)
 }
 
-/// An endpoint, two secrets of it, one event and one attempt at it.
-static FILLED: [Step; 7] = [
+/// An endpoint, two secrets of it, one event, one attempt at it, and two topics.
+static FILLED: [Step; 9] = [
     Step::Done(Call::Tables),
     Step::Done(Call::Endpoint(3, b"alpha", 10)),
     Step::Done(Call::Secret(3, 0, b"0123456789abcdef01234567")),
     Step::Done(Call::Secret(3, 1, b"89abcdef0123456789abcdef")),
     Step::Done(Call::Delivery(4, 3, b"msg_1", 1000)),
     Step::Done(Call::Attempt(5, 4, 1, 503, 1002)),
-    Step::Done(Call::Records(6)),
+    Step::Done(Call::Topic(b"t", 3, true, 7)),
+    Step::Done(Call::Topic(b"orders", 3, false, 6)),
+    Step::Done(Call::Records(8)),
 ];
 
 static NO_STEP: [Step; 0] = [];
 
-static ROWS: [Count; 12] = [
+static ROWS: [Count; 15] = [
     ("SELECT count(*) FROM meta", 1),
     (
-        "SELECT count(*) FROM meta WHERE k = 1 AND app = 'webhook-relay' AND version = 2 AND records = 6",
+        "SELECT count(*) FROM meta WHERE k = 1 AND app = 'webhook-relay' AND version = 2 AND records = 8",
         1,
     ),
     ("SELECT count(*) FROM endpoints", 1),
@@ -270,6 +315,15 @@ static ROWS: [Count; 12] = [
         "SELECT count(*) FROM attempts WHERE seq = 5 AND delivery = 4 AND number = 1 AND status = 503 AND at = 1002",
         1,
     ),
+    ("SELECT count(*) FROM topics", 2),
+    (
+        "SELECT count(*) FROM topics WHERE topic = 't' AND endpoint = 3 AND subscribed = 1 AND set_by = 7",
+        1,
+    ),
+    (
+        "SELECT count(*) FROM topics WHERE topic = 'orders' AND endpoint = 3 AND subscribed = 0 AND set_by = 6",
+        1,
+    ),
 ];
 
 #[test]
@@ -291,7 +345,34 @@ fn endpoints_and_events_are_found(rt: HostRuntime) -> Result<(), Fail> {
     walk(&rt, rt.alloc(), &FOUND, &ROWS)
 }
 
-static REPEATED: [Step; 8] = [
+static TOPICS: [Step; 19] = [
+    Step::TopicCount(2),
+    Step::HasTopic(b"t", 3, true),
+    Step::HasTopic(b"orders", 3, true),
+    Step::HasTopic(b"order", 3, false),
+    Step::HasTopic(b"t", 4, false),
+    Step::Done(Call::Endpoint(8, b"beta", 10)),
+    Step::Done(Call::Topic(b"t", 8, true, 9)),
+    Step::TopicCount(3),
+    Step::Done(Call::NoTopic(b"t", 3)),
+    Step::HasTopic(b"t", 3, false),
+    Step::HasTopic(b"t", 8, true),
+    Step::HasTopic(b"orders", 3, true),
+    Step::TopicCount(2),
+    Step::Done(Call::Topic(b"t", 3, false, 10)),
+    Step::HasTopic(b"t", 3, true),
+    Step::Done(Call::NoTopic(b"u", 3)),
+    Step::Done(Call::NoTopic(b"t", 3)),
+    Step::Done(Call::NoTopic(b"t", 3)),
+    Step::TopicCount(2),
+];
+
+#[test]
+fn topics_are_found_and_replaced(rt: HostRuntime) -> Result<(), Fail> {
+    walk(&rt, rt.alloc(), &TOPICS, &ROWS)
+}
+
+static REPEATED: [Step; 10] = [
     Step::Refused(Call::Tables),
     Step::Refused(Call::Topics),
     Step::Done(Call::Version),
@@ -300,6 +381,8 @@ static REPEATED: [Step; 8] = [
     Step::Refused(Call::Delivery(6, 3, b"msg_1", 1000)),
     Step::Refused(Call::Delivery(6, 7, b"msg_2", 1000)),
     Step::Refused(Call::Attempt(6, 4, 1, 200, 1000)),
+    Step::Refused(Call::Topic(b"t", 3, false, 9)),
+    Step::Refused(Call::Topic(b"t", 4, true, 9)),
 ];
 
 #[test]

@@ -3,10 +3,12 @@
 use crate::database::{Count, count_all, holds};
 use crate::entries::{Entry, Keys, name_of};
 use crate::vaults::{
-    Moments, Span, Spool, Told, end_all, id_of, put_all, same_told, take_in, take_next, take_turn,
+    Moments, Span, Spool, Told, end_all, id_of, put_all, same_told, subscribe_all, take_in,
+    take_next, take_turn, topic_of,
 };
 use delivery_book::DeliveryBook;
-use relay_types::State;
+use endpoint_book::EndpointBook;
+use relay_types::{Name, State};
 use spool::{Books, LoadFault};
 use std::alloc::Global;
 use std::process::Abort;
@@ -25,6 +27,8 @@ pub(crate) enum Step {
     Events(Span, Moments),
     /// A first outcome of each event with these numbers, which are written.
     Ends(Span, u16, Moments),
+    /// The endpoint `a` is subscribed to topics `t0`, `t1` and so on, which is written.
+    Topics(Span),
     Next(u64),
     IsClosed(bool),
     /// What the books that are loaded tell.
@@ -55,6 +59,14 @@ pub(crate) enum Look {
     Pending(u64),
     /// Event `msg_n` has the number n + 1 and one attempt, for each n below this.
     Attempted(u64),
+    /// Whether the endpoint is subscribed to the topic, if a record named both.
+    HasTopic(&'static [u8], u8, Option<bool>),
+    /// The names of the topic's subscribers, each one letter.
+    Subscribers(&'static [u8], &'static [u8]),
+    /// How many more pairs of a topic and an endpoint may be named.
+    FreeTopics(usize),
+    /// The endpoint `a` is subscribed to topic `tn`, for each n below this.
+    Subscribed(u64),
 }
 
 /// Steps on a new vault, and what its tables hold then. A statement fails that takes more steps than the limit.
@@ -98,6 +110,32 @@ fn are_attempted(alloc: Global, book: &DeliveryBook, count: u64) -> Result<bool,
     Ok(is_so)
 }
 
+fn has_topic(book: &EndpointBook, topic: Name, name: Name, wanted: Option<bool>) -> bool {
+    book.is_named(topic, name) == wanted.is_some()
+        && book.is_subscribed(topic, name) == wanted.unwrap_or(false)
+}
+
+fn are_subscribers(book: &EndpointBook, topic: Name, letters: &[u8]) -> bool {
+    let mut found = book.subscribers(topic);
+    let mut all = true;
+    for letter in letters {
+        all = match found.next() {
+            Some(name) => all && name.as_bytes() == [*letter].as_slice(),
+            None => false,
+        };
+    }
+    all && found.next().is_none()
+}
+
+fn are_subscribed(alloc: Global, book: &EndpointBook, count: u64) -> Result<bool, Fail> {
+    let name = name_of(b'a')?;
+    let mut is_so = true;
+    for number in 0..count {
+        is_so = book.is_subscribed(topic_of(alloc, number)?, name) && is_so;
+    }
+    Ok(is_so)
+}
+
 fn sees(alloc: Global, books: &Books, look: Look) -> Result<bool, Fail> {
     match look {
         Look::Holds(records, clock, len) => Ok(
@@ -114,6 +152,15 @@ fn sees(alloc: Global, books: &Books, look: Look) -> Result<bool, Fail> {
         }
         Look::Pending(count) => Ok(books.deliveries.pending_all() == count),
         Look::Attempted(count) => are_attempted(alloc, &books.deliveries, count),
+        Look::HasTopic(topic, letter, wanted) => {
+            let (topic, name) = (Name::read(topic)?, name_of(letter)?);
+            Ok(has_topic(&books.endpoints, topic, name, wanted))
+        }
+        Look::Subscribers(topic, letters) => {
+            Ok(are_subscribers(&books.endpoints, Name::read(topic)?, letters))
+        }
+        Look::FreeTopics(count) => Ok(books.endpoints.free_subscriptions() == count),
+        Look::Subscribed(count) => are_subscribed(alloc, &books.endpoints, count),
     }
 }
 
@@ -151,6 +198,7 @@ fn take(rt: &impl Abort, alloc: Global, spool: &mut Spool, step: Step) -> Result
         }
         Step::Events(span, moments) => take_in(rt, alloc, spool, span, moments),
         Step::Ends(span, status, moments) => end_all(rt, alloc, spool, span, status, moments),
+        Step::Topics(span) => subscribe_all(rt, alloc, spool, span),
         Step::Next(number) => Ok(spool.vault.next() == number),
         Step::IsClosed(flag) => Ok(spool.vault.is_closed() == flag),
         Step::Shows(looks) => shows(rt, alloc, spool, looks),
@@ -167,7 +215,17 @@ fn take_all(rt: &impl Abort, alloc: Global, spool: &mut Spool, steps: &[Step]) -
 
 /// Takes the steps in turn on a new vault.
 pub(crate) fn walk(rt: &impl Abort, alloc: Global, story: &Story) -> Result<(), Fail> {
-    let mut spool = Spool::new(alloc, story.limit)?;
+    walk_on(rt, alloc, Spool::new(alloc, story.limit)?, story)
+}
+
+/// Takes the steps in turn on this vault.
+pub(crate) fn walk_on(
+    rt: &impl Abort,
+    alloc: Global,
+    spool: Spool,
+    story: &Story,
+) -> Result<(), Fail> {
+    let mut spool = spool;
     let told = take_all(rt, alloc, &mut spool, story.steps);
     let mut conn = spool.release();
     match told {

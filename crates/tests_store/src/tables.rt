@@ -4,10 +4,12 @@
 
 use crate::database::count_all;
 use crate::entries::{Entry, Keys};
-use crate::stories::{Step, Story, walk};
-use crate::vaults::{MARK, Told, opened};
+use crate::openings::{Start, made};
+use crate::stories::{Look, Step, Story, walk, walk_on};
+use crate::vaults::{MARK, Spool, Told, opened};
 use spool::{OpenFault, Unchanged, Vault};
-use sqlite::Connection;
+use sqlite::{Connection, MemStore};
+use std::alloc::Global;
 use std::test::Fail;
 
 pub(crate) const KEYS: Keys = Keys::Two(
@@ -229,6 +231,87 @@ static SECRETS_ARE_REPLACED_BY_FEWER: Story = Story {
 #[test]
 fn secrets_are_replaced_by_fewer(rt: HostRuntime) -> Result<(), Fail> {
     walk(&rt, rt.alloc(), &SECRETS_ARE_REPLACED_BY_FEWER)
+}
+
+static TOPICS_ARE_REPLACED: Story = Story {
+    limit: None,
+    steps: &[
+        Step::Enter(PUT_A, Told::Written),
+        Step::Enter(Entry::Subscribe(b"t", b'b', true), ILLEGAL),
+        Step::Enter(PUT_B, Told::Written),
+        Step::Enter(Entry::Subscribe(b"t", b'b', true), Told::Written),
+        Step::Enter(Entry::Subscribe(b"t", b'a', true), Told::Written),
+        Step::Enter(Entry::Subscribe(b"orders", b'a', false), Told::Written),
+        Step::Enter(Entry::Subscribe(b"t", b'b', false), Told::Written),
+        Step::Enter(Entry::Subscribe(b"t", b'a', true), Told::Written),
+        Step::Enter(Entry::Subscribe(b"t", b'c', true), ILLEGAL),
+        Step::Next(7),
+    ],
+    counts: &[
+        ("SELECT records FROM meta", 7),
+        ("SELECT count(*) FROM topics", 3),
+        (
+            "SELECT count(*) FROM topics WHERE topic = 't' AND endpoint = 0 AND subscribed = 1 AND set_by = 6",
+            1,
+        ),
+        (
+            "SELECT count(*) FROM topics WHERE topic = 't' AND endpoint = 1 AND subscribed = 0 AND set_by = 5",
+            1,
+        ),
+        (
+            "SELECT count(*) FROM topics WHERE topic = 'orders' AND endpoint = 0 AND subscribed = 0 AND set_by = 4",
+            1,
+        ),
+    ],
+};
+
+#[test]
+fn topics_are_replaced(rt: HostRuntime) -> Result<(), Fail> {
+    walk(&rt, rt.alloc(), &TOPICS_ARE_REPLACED)
+}
+
+/// Of an endpoint `a` that has topics `t0` to `t4094`.
+static AT_MOST_4096_TOPICS: Story = Story {
+    limit: None,
+    steps: &[
+        Step::Shows(&[Look::FreeTopics(1), Look::Subscribed(4095)]),
+        Step::Enter(Entry::Subscribe(b"t", b'a', false), Told::Written),
+        Step::Enter(Entry::Subscribe(b"u", b'a', true), ILLEGAL),
+        Step::Enter(Entry::Subscribe(b"u", b'b', true), ILLEGAL),
+        Step::Enter(Entry::Subscribe(b"t7", b'a', false), Told::Written),
+        Step::Enter(PUT_B, Told::Written),
+        Step::Enter(Entry::Subscribe(b"t", b'b', true), ILLEGAL),
+        Step::Enter(Entry::Subscribe(b"t", b'a', true), Told::Written),
+        Step::Shows(&[
+            Look::FreeTopics(0),
+            Look::HasTopic(b"t7", b'a', Some(false)),
+            Look::HasTopic(b"t", b'a', Some(true)),
+            Look::HasTopic(b"u", b'a', None),
+            Look::HasTopic(b"t", b'b', None),
+            Look::Subscribers(b"t4094", b"a"),
+        ]),
+    ],
+    counts: &[
+        ("SELECT records FROM meta", 4100),
+        ("SELECT count(*) FROM topics", 4096),
+    ],
+};
+
+fn adopted(alloc: Global, conn: Connection<MemStore>) -> Result<Vault<MemStore>, Fail> {
+    if !conn.is_autocommit() {
+        return Err(Fail::from("a transaction is open"));
+    }
+    match Vault::adopt(conn, MARK, alloc) {
+        Ok(vault) => Ok(vault),
+        Err((_, _)) => Err(Fail::from("adopt was refused")),
+    }
+}
+
+#[test]
+fn at_most_4096_topics(rt: HostRuntime) -> Result<(), Fail> {
+    let conn = made(&rt, rt.alloc(), Start::Topics(4095), &[]);
+    let spool = Spool::of(rt.alloc(), adopted(rt.alloc(), conn)?)?;
+    walk_on(&rt, rt.alloc(), spool, &AT_MOST_4096_TOPICS)
 }
 
 /// Nine failures and a gone, and then the tenth failure.

@@ -1,6 +1,6 @@
 //! Vaults over stores in memory, and what is committed to them.
 
-use crate::entries::{Entry, Keys, accept, name_of, put, record_of, secrets_of};
+use crate::entries::{Entry, Keys, accept, name_of, put, record_of, secrets_of, subscribed};
 use group_commit::Waiting;
 use relay_types::{Moment, MsgId, Name, Record, Step};
 use spool::{Batch, Books, CommitEnd, Receipt, Unchanged, Vault};
@@ -137,8 +137,12 @@ pub(crate) fn put_all(
 impl Spool {
     /// A new vault.
     pub(crate) fn new(alloc: Global, limit: Option<u64>) -> Result<Spool, Fail> {
+        Spool::of(alloc, opened(alloc, limit)?)
+    }
+
+    /// A vault for which nothing waits.
+    pub(crate) fn of(alloc: Global, vault: Vault<MemStore>) -> Result<Spool, Fail> {
         let waiting = Waiting::new(alloc, 0, MARK)?;
-        let vault = opened(alloc, limit)?;
         Ok(Spool { vault, waiting })
     }
 
@@ -244,6 +248,31 @@ pub(crate) fn take_in(
     for number in first..end {
         let id = id_of(alloc, number)?;
         spool.stage(rt, accept(alloc, name, id, b"{}", moment(moments, number))?);
+        if spool.waiting.len() >= size {
+            is_done = is_done && spool.is_written();
+        }
+    }
+    Ok(is_done && spool.is_written())
+}
+
+pub(crate) fn topic_of(alloc: Global, number: u64) -> Result<Name, Fail> {
+    let text = format!(in alloc; "t{number}")?;
+    Ok(Name::read(text.as_bytes())?)
+}
+
+/// Subscribes `a` to the topics with these numbers.
+pub(crate) fn subscribe_all(
+    rt: &impl Abort,
+    alloc: Global,
+    spool: &mut Spool,
+    span: Span,
+) -> Result<bool, Fail> {
+    let Span(first, end, size) = span;
+    let name = name_of(b'a')?;
+    spool.follow(rt, alloc)?;
+    let mut is_done = true;
+    for number in first..end {
+        spool.stage(rt, subscribed(topic_of(alloc, number)?, name, true));
         if spool.waiting.len() >= size {
             is_done = is_done && spool.is_written();
         }
