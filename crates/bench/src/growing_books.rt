@@ -31,7 +31,9 @@ pub(crate) enum BookCall {
     Queue,
     Reserve,
     Restore,
+    RestoreTopic,
     Secrets,
+    Subscribe,
     Waiting,
 }
 
@@ -47,8 +49,10 @@ impl BookCall {
             "Desk::new" => Some(BookCall::Desk),
             "EndpointBook::new" => Some(BookCall::Endpoints),
             "EndpointBook::restore" => Some(BookCall::Restore),
+            "EndpointBook::restore_subscribed" => Some(BookCall::RestoreTopic),
             "EndpointBook::stage_put" => Some(BookCall::Put),
             "EndpointBook::stage_secrets" => Some(BookCall::Secrets),
+            "EndpointBook::stage_subscribed" => Some(BookCall::Subscribe),
             "Pool::new" => Some(BookCall::Pool),
             "Waiting::new" => Some(BookCall::Waiting),
             _ => None,
@@ -115,7 +119,9 @@ impl Books {
             BookCall::Queue => Ok(ClaimQueue::new(alloc).free_places(self.name) as u64),
             BookCall::Reserve => self.reserve(),
             BookCall::Restore => Ok(self.restored(alloc)?.len() as u64),
+            BookCall::RestoreTopic => self.restore_topic(alloc),
             BookCall::Secrets => self.give(alloc),
+            BookCall::Subscribe => self.subscribe(),
             BookCall::Waiting => Ok(Waiting::new(alloc, 0, MARK)?.records()),
         }
     }
@@ -178,6 +184,26 @@ impl Books {
         }
         book.stage_secrets(seq, self.name, self.secrets)?;
         Ok(seq)
+    }
+
+    // The endpoint's topic has the name of the other one.
+    fn subscribe(&mut self) -> Result<u64, Told> {
+        let seq = self.endpoints.next_seq();
+        if seq >= MAX_RECORDS || self.endpoints.free_subscriptions() == 0 {
+            return Err(Told::Other);
+        }
+        self.endpoints
+            .stage_subscribed(seq, self.other, self.name, true)?;
+        Ok(seq)
+    }
+
+    fn restore_topic(&self, alloc: Global) -> Result<u64, Told> {
+        let mut book = self.restored(alloc)?;
+        if book.free_subscriptions() == 0 {
+            return Err(Told::Other);
+        }
+        book.restore_subscribed(self.other, self.name, true)?;
+        Ok(book.len() as u64)
     }
 
     fn reserve(&mut self) -> Result<u64, Told> {
