@@ -1,7 +1,7 @@
 """Random lines of scripts with the replies of the model in model.py."""
 import base64
 
-from lib.model import DELAYS, Accept, names_in, of, reply_to, subscriptions_in
+from lib.model import DELAYS, Accept, Desk, names_in, of, reply_to, subscriptions_in
 from lib.serving import HAS_TOPICS
 
 # How often each line comes in a short script and in a long one.
@@ -132,3 +132,12 @@ def made(rng, desk, long, kinds=KINDS):
     kind = rng.choices(list(kinds), [often[long] for often in kinds.values()])[0]
     texts = ["seal", "commit", "settle"] if kind == "turn" else [LINES[kind](rng, desk, long) if kind in LINES else kind]
     return [(text, reply_to(desk, text)) for text in texts]
+
+
+def history_of(rng, lines=60):
+    """The history after so many random lines, with topics."""
+    kinds, desk = {**KINDS, **OF_TOPICS}, Desk()
+    kinds = {kind: often for kind, often in kinds.items() if kind not in ("stop", "halt")}
+    for _ in range(lines):
+        made(rng, desk, False, kinds)
+    return desk.history

@@ -7,7 +7,7 @@ use relay_commands::{Outcome, run};
 use std::io;
 
 /// The files, each of which is checked as often as it is listed.
-static FILES: [[&str; 3]; 22] = [
+static FILES: [[&str; 3]; 26] = [
     // Not a database.
     ["relayd", "check", "one-byte"],
     ["relayd", "check", "short-text"],
@@ -17,13 +17,18 @@ static FILES: [[&str; 3]; 22] = [
     ["relayd", "check", "no-table"],
     ["relayd", "check", "later-version"],
     ["relayd", "check", "later-version-damaged"],
-    // Stores that are damaged, in a row and in a page.
+    // Stores that are damaged, in a row and in a page; a topic's number is an attempt's, or its name isn't one.
     ["relayd", "check", "damaged-row"],
     ["relayd", "check", "damaged-page"],
+    ["relayd", "check", "topics-damaged"],
+    ["relayd", "check", "topics-unnamed"],
     // Stores of seven records: as a relay left it, with the records in the log, and as SQLite copied it.
     ["relayd", "check", "sound"],
     ["relayd", "check", "sound"],
     ["relayd", "check", "sound-copied"],
+    // The same with topics.
+    ["relayd", "check", "topics"],
+    ["relayd", "check", "topics"],
     // The same of version 1. The first check makes version 2 of them.
     ["relayd", "check", "first-version"],
     ["relayd", "check", "first-version"],

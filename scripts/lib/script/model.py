@@ -1,16 +1,22 @@
 """The model itself, against worked scripts and requests. It needs no program.
 
-Scripts that end with a fault are left out, since the model reads good lines alone.
-Usage: scripts/script model [FOLDER | PAGE]..: if nothing is named, all of vectors/, and the scripts
-of limits, with fewer pending events
+Scripts that end with a fault are left out, since the model reads good lines alone. The rows of 200
+random histories, with topics, keep the conditions of docs/FORMATS.md, and the history that stands
+for them has these rows.
+Usage: scripts/script model [FOLDER | PAGE]..: if nothing is named, all of vectors/, the histories,
+and the scripts of limits, with fewer pending events
 """
 import pathlib
+import random
 import sys
 
 from lib.answers import answer, examples, once_settled, turn
 from lib.command import ROOT, Counts, first_difference
 from lib.limit_scripts import pairs, publishes, room
 from lib.model import Desk, reply_to
+from lib.random_lines import history_of
+from lib.rows import rows_of
+from lib.sound import Rows
 
 VECTORS = ROOT / "vectors"
 PLACES = [VECTORS / "replay", VECTORS / "topics", VECTORS / "requests.md", VECTORS / "topics" / "requests.md"]
@@ -39,6 +45,14 @@ def check_limits(counts):
         check_replies(counts, name, desk, *map(list, zip(*script.lines)))
 
 
+def check_histories(counts):
+    for seed in range(200):
+        rows = rows_of(history_of(random.Random(seed)))
+        broken = Rows(rows).broken()
+        counts.check(f"history {seed}: broken conditions", broken, [])
+        counts.check(f"history {seed}: the same rows", rows_of(Rows(rows).history()) if not broken else None, rows)
+
+
 def check_page(counts, page):
     """Compares the answer to each request of a page."""
     desk, listed = Desk(), list(examples(page.read_text()))
@@ -63,4 +77,5 @@ def main():
         check(counts, place)
     if not sys.argv[1:]:
         check_limits(counts)
+        check_histories(counts)
     return counts.end()

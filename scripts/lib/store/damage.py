@@ -2,8 +2,9 @@
 
 A change is of a byte, a page or the length, and `relayd check` looks at it. It damages FILE or
 FILE-wal of a store whose records are in its log, and of one whose log was copied into FILE, each of
-version 1 and of the latest. What is read has as many records, endpoints and pending events as
-Python's sqlite3 finds, also once it is migrated. It never crashes, takes a minute or a gigabyte.
+version 1, of the latest, and with topics. What is read has as many records, endpoints and pending
+events as Python's sqlite3 finds, also once it is migrated. It never crashes, takes a minute or a
+gigabyte.
 Usage: scripts/store damage RELAYD [COUNT [SEED]]: 2,000 if left out
 """
 import collections
@@ -23,6 +24,7 @@ from lib.serving import Relay, Subscriber, ask, put, submit, wait_until
 NAMES = {"NotOurs": 4, "NewerVersion": 4, "Damaged": 4, "Busy": 3, "CannotOpen": 3, "Corrupt": 3, "Full": 3, "Lost": 3, "OutOfMemory": 3}
 PAGE, GIGABYTE, SECONDS = 4096, 2**30, 60
 GONE, MOST_FAILURES = 410, 10
+KINDS = {"": "", "-first": " of version 1", "-topics": " with topics"}
 
 
 def make(relayd, path):
@@ -37,6 +39,14 @@ def make(relayd, path):
         submit(relay.address, "abc"[number % 3], os.urandom(number * 40), event)
     wait_until(lambda: len(subscriber.posts) >= 12, 10)
     relay.kill()
+
+
+def with_topics(rows):
+    """The rows with topics of two endpoints, which no request makes yet."""
+    key, app, version, records = rows["meta"][0]
+    (first, *_), (second, *_) = rows["endpoints"][:2]
+    topics = [(topic, put, flag, records + number) for number, (topic, put, flag) in enumerate([("t", first, 1), ("u", second, 0), ("t", second, 1)])]
+    return {**rows, "meta": [(key, app, version, records + len(topics))], "topics": topics}
 
 
 def fold(whole, folded):
@@ -113,12 +123,13 @@ def main():
         whole, folded, path, copy = (str(pathlib.Path(name, it)) for it in ("whole", "folded", "damaged", "copy"))
         make(relayd, whole)
         fold(whole, folded)
-        rows = of_first(rows_in(folded))
+        rows = rows_in(folded)
         for base in (whole, folded):
-            make_store(f"{base}-first", lambda conn: write_rows(conn, rows), base == whole)
+            make_store(f"{base}-first", lambda conn: write_rows(conn, of_first(rows)), base == whole)
+            make_store(f"{base}-topics", lambda conn: write_rows(conn, with_topics(rows)), base == whole)
         for number in range(count):
             base, end = draw.choice(((whole, ""), (whole, "-wal"), (whole, "-wal"), (folded, ""), (folded, ""), (folded, "")))
-            version = draw.choice(("", "-first"))
+            version = draw.choice([*KINDS])
             copy_store(base + version, path)
             data = bytearray(pathlib.Path(path + end).read_bytes())
             kind = change(draw, data)
@@ -128,7 +139,7 @@ def main():
             holds = answer in NAMES
             if isinstance(answer, tuple):
                 holds, answer = {found(copy), found(path)} <= {answer, None}, "read"
-            file = f"FILE{end}{' of version 1' * bool(version)}, the log " + ("beside it" if base == whole else "in FILE")
+            file = f"FILE{end}{KINDS[version]}, the log " + ("beside it" if base == whole else "in FILE")
             ends[kind, file, answer] += 1
             counts.check(f"change {number}, {kind} of {file}: {answer}", holds)
             for it in (path, path + "-wal", path + "-shm", copy, copy + "-wal", copy + "-shm"):

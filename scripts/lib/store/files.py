@@ -2,15 +2,18 @@
 
 It says the line or the fault that docs/FORMATS.md names, with the exit status. A store of version 1
 is migrated, and has the same rows then; every other file is as it was, byte for byte. If there is
-nothing, or an empty file, a store is made, which Python's SQLite then reads. Beside these what is
-said of a file that another program has open, and the copies of `packaging/backup`. Then the same of
-`bench open`, which opens a file by one call. Last, `relayd serve` migrates a store.
+nothing, or an empty file, a store is made, which Python's SQLite then reads. Then stores of 200
+random histories with topics, in each of which a cell was changed: the conditions of the page, which
+Python looks at, decide. Beside these what is said of a file that another program has open, and the
+copies of `packaging/backup`. Then the same of `bench open`, which opens a file by one call. Last,
+`relayd serve` migrates a store.
 Usage: scripts/store files RELAYD BENCH
 """
 import contextlib
 import fcntl
 import os
 import pathlib
+import random
 import re
 import sqlite3
 import subprocess
@@ -18,8 +21,11 @@ import tempfile
 
 from lib.command import ROOT, programs_of
 from lib.formats import FIRST, LATEST, make_tables, texts_of_tables
-from lib.rows import copy_store, is_migrated, make_store, rows_in, rows_of
+from lib.model import counts_in, names_in
+from lib.random_lines import history_of
+from lib.rows import copy_store, is_migrated, make_store, rows_in, rows_of, write_rows
 from lib.serving import ask, relay_of
+from lib.sound import Rows
 
 SECRET = "x'303132333435363738396162636465663031323334353637'"
 ENDPOINT = ("INSERT INTO endpoints VALUES(0, 'a', 'http://h/', 100, 1, 0, 0)", f"INSERT INTO secrets VALUES(0, 0, {SECRET})")
@@ -89,7 +95,42 @@ STORES = {
     "no key, and a number twice": ((*EVENT, "INSERT INTO deliveries VALUES(1, 0, 'msg_2', 1000, x'7b7d')"), 2, "Damaged", no_key),
     "no key, and an id twice": ((*EVENT, "INSERT INTO deliveries VALUES(2, 0, 'msg_1', 1000, x'7b7d')"), 3, "Damaged", no_key),
 }
-# The same by the version. The table of topics has no row yet, and beside tables of version 1 nothing has its name.
+
+
+def topics(records, *rows, changes=()):
+    """Statements that add rows of topics to an endpoint and set how many records there are, and how many."""
+    return (*ENDPOINT, *(f"INSERT INTO topics VALUES({row})" for row in rows), *changes), records
+
+
+# Topics of an endpoint, or of two, and what is said of them.
+BOTH = ("INSERT INTO endpoints VALUES(1, 'b', 'http://h/', 100, 1, 1, 1)", f"INSERT INTO secrets VALUES(1, 0, {SECRET})")
+MANY = "WITH RECURSIVE n(k) AS (SELECT 1 UNION ALL SELECT k + 1 FROM n WHERE k < %d) INSERT INTO topics SELECT 't' || k, 0, 1, k FROM n"
+OF_TOPICS = {
+    "a topic": (*topics(2, "'t', 0, 1, 1"), "ok records 2 endpoints 1 pending 0"),
+    "a topic that ended": (*topics(2, "'t', 0, 0, 1"), "ok records 2 endpoints 1 pending 0"),
+    "a topic of two endpoints": (*topics(4, "'t', 0, 1, 2", "'t', 1, 1, 3", changes=BOTH), "ok records 4 endpoints 2 pending 0"),
+    "numbers that a topic explains": (*topics(4, "'t', 0, 1, 3"), "ok records 4 endpoints 1 pending 0"),
+    "numbers behind each topic": (*topics(5, "'t', 0, 1, 3"), "Damaged"),
+    "a topic of 32 letters": (*topics(2, f"'{'x' * 32}', 0, 1, 1"), "ok records 2 endpoints 1 pending 0"),
+    "a topic of 33 letters": (*topics(2, f"'{'x' * 33}', 0, 1, 1"), "Damaged"),
+    "a topic without a letter": (*topics(2, "'', 0, 1, 1"), "Damaged"),
+    "a topic in capitals": (*topics(2, "'T', 0, 1, 1"), "Damaged"),
+    "a topic with another flag": (*topics(2, "'t', 0, 2, 1"), "Damaged"),
+    "a topic of no endpoint": (*topics(3, "'t', 7, 1, 1", "'t', 0, 1, 2"), "Damaged"),
+    "a topic with its endpoint's number": (*topics(1, "'t', 0, 1, 0"), "Damaged"),
+    "a topic with a number below that": (*topics(3, "'t', 1, 1, 0", changes=(*BOTH, "UPDATE endpoints SET enabled_by = 2 WHERE put = 0")), "Damaged"),
+    "a topic with the number of records": (*topics(2, "'t', 0, 1, 2"), "Damaged"),
+    "a topic with a negative number": (*topics(1, "'t', 0, 1, -1"), "Damaged"),
+    "a topic with another endpoint's number": (*topics(2, "'t', 0, 1, 1", changes=BOTH), "Damaged"),
+    "a topic with an event's number": ((*EVENT, "INSERT INTO topics VALUES('t', 0, 1, 1)"), 2, "Damaged"),
+    "a topic with an attempt's number": ((*DELIVERED, "INSERT INTO topics VALUES('t', 0, 1, 2)"), 3, "Damaged"),
+    "a topic with a flag's number": (*topics(3, "'t', 0, 1, 2", "'u', 0, 1, 1", changes=("UPDATE endpoints SET enabled_by = 2",)), "Damaged"),
+    "a topic with a list's number": (*topics(3, "'t', 0, 1, 2", "'u', 0, 1, 1", changes=("UPDATE endpoints SET secrets_by = 2",)), "Damaged"),
+    "two topics with one number": (*topics(2, "'t', 0, 1, 1", "'u', 0, 1, 1"), "Damaged"),
+    "4,096 topics": ((*ENDPOINT, MANY % 4096), 4097, "ok records 4097 endpoints 1 pending 0"),
+    "4,097 topics": ((*ENDPOINT, MANY % 4097), 4098, "Damaged"),
+}
+# The same by the version. Beside tables of version 1 nothing has the name of the table of topics.
 VERSIONS = {
     0: {"an event": (EVENT, 2, "Damaged")},
     FIRST: {
@@ -102,9 +143,8 @@ VERSIONS = {
     },
     LATEST: {
         **STORES,
+        **OF_TOPICS,
         "without topics": ((*EVENT, "DROP TABLE topics"), 2, "NotOurs"),
-        "a row of topics": ((*EVENT, "INSERT INTO topics VALUES('t', 0, 1, 1)"), 2, "Damaged"),
-        "a row of topics of no endpoint": ((*EVENT, "INSERT INTO topics VALUES('t', 7, 1, 1)"), 2, "Damaged"),
         "topics without a reference": ((*EVENT, "DROP TABLE topics", no_reference(TOPICS)), 2, "Damaged"),
         "topics without a key": ((*EVENT, "DROP TABLE topics", re.sub(", PRIMARY KEY.*\\)", ")", TOPICS)), 2, "Damaged"),
     },
@@ -213,6 +253,38 @@ def check_stores(tell, version, folder):
         path = make(pathlib.Path(folder, f"{number}.db"), filling(version, statements, records, *change))
         is_taken = version == FIRST and wanted not in STATUSES
         ends.append((check_migrated if is_taken else check_kept)(tell, path, wanted, f"version {version}: {what}"))
+    return ends
+
+
+def with_a_change(rng, rows):
+    """The rows with one cell changed, to a number near it, one of another row, or another text, but in `meta`."""
+    table = rng.choice([it for it in rows if rows[it] and it != "meta"])
+    place, column = rng.randrange(len(rows[table])), rng.randrange(len(rows[table][0]))
+    row, old = rows[table][place], rows[table][place][column]
+    others = [it[column] for it in rows[table]]
+    others += [old - 1, old + 1, 0, 1, 410, rows["meta"][0][3]] if isinstance(old, int) else [old[:-1], old + old[:1], old * 3]
+    row = (*row[:column], rng.choice(others), *row[column + 1 :])
+    return {**rows, table: [*rows[table][:place], row, *rows[table][place + 1 :]]}
+
+
+def check_changed(tell, folder):
+    """What is said of stores of random histories, in each of which a cell was changed."""
+    ends = []
+    for seed in range(200):
+        rng, path = random.Random(seed), pathlib.Path(folder, f"{seed}.db")
+        rows = rows_of(history_of(rng))
+        if not rows["endpoints"]:
+            continue
+        rows = with_a_change(rng, rows)
+        try:
+            make(path, lambda conn: write_rows(conn, rows))
+        except sqlite3.IntegrityError:
+            continue
+        wanted = "Damaged"
+        if not Rows(rows).broken():
+            history = Rows(rows).history()
+            wanted = f"ok records {len(history)} endpoints {len(names_in(history))} pending {counts_in(history)['pending']}"
+        ends.append(check_kept(tell, path, wanted, f"a cell of {seed}"))
     return ends
 
 
@@ -377,6 +449,7 @@ def main():
     ends = in_a_folder(check_served, relayd)
     for tell in (lambda path: checks(relayd, path), lambda path: opens(bench, path)):
         ends += in_a_folder(check_others, tell)
+        ends += in_a_folder(check_changed, tell)
         for version in VERSIONS:
             ends += in_a_folder(check_stores, tell, version)
         for version in (FIRST, LATEST):

@@ -76,6 +76,12 @@ def main():
         (DATA / "log-alone-wal").write_bytes((DATA / "sound-wal").read_bytes()[:LOG])
         copy_log(f"{folder}/copied")
         small_copy(f"{folder}/copied", copied)
+    # No row names record 7, which a later one of its endpoint's topics replaced.
+    topics = "INSERT INTO topics VALUES('orders', 0, 1, 9), ('orders', 1, 0, 8)"
+    small_copy(copied, DATA / "topics", "UPDATE meta SET records = 10", topics)
+    # Record 6 is an attempt.
+    small_copy(copied, DATA / "topics-damaged", "UPDATE meta SET records = 10", topics, "UPDATE topics SET set_by = 6 WHERE set_by = 8")
+    small_copy(copied, DATA / "topics-unnamed", "UPDATE meta SET records = 10", topics, "UPDATE topics SET topic = 'ORDERS'")
     # Nothing follows a status of 200, which the attempt at the first event got.
     small_copy(copied, DATA / "damaged-row", "UPDATE meta SET records = 8", "INSERT INTO attempts VALUES(7, 3, 2, 500, 2000000000)")
     small_copy(copied, DATA / "later-version", "UPDATE meta SET version = 3")
