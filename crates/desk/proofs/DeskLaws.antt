@@ -20,7 +20,8 @@ use Rattle.desk.proofs.Words.{new_submit_faults, repeats, changes, change, Sampl
 use Rattle.desk.proofs.Words.{samples_of, AreTied, StandsAt, StandsBy, endpoint_at, is_limiter_of, new_limiter}
 use Rattle.desk.proofs.Words.{AreLimits, AreBooks, OverWorlds, with_entry, with_put, with_secrets, with_enabled}
 use Rattle.desk.proofs.Words.{with_accept, nat_le, nat_eq, MAX_WAITING_REQUESTS, requests_in, is_waiting_full}
-use Rattle.desk.proofs.Words.{are_seqs_spent, nat_tests}
+use Rattle.desk.proofs.Words.{are_pairs_spent, are_seqs_spent, nat_tests, flags_in, has_place_for, is_pair_named}
+use Rattle.desk.proofs.Words.{subscriptions, MAX_SUBSCRIPTIONS, Subscribed, Stages, with_subscribed, ◌||◌, nat_lt}
 use Rattle.desk.specs.declared.ticket.Ticket.{Ticket}
 use Rattle.delivery_book.specs.declared.row.Counts.{Counts}
 use Rattle.desk.specs.Looks.{event_page, endpoint_page, totals}
@@ -30,6 +31,7 @@ use Rattle.std.specs.declared.alloc.AllocError.{AllocError}
 use Rattle.endpoint_book.proofs.Filters.{none_if}
 use Rattle.endpoint_book.proofs.Histories.{known-entry}
 use Rattle.endpoint_book.proofs.Staged.{stands-put, stands-secrets, stands-enabled}
+use Rattle.endpoint_book.proofs.Pairs.{named-told}
 use Rattle.delivery_book.proofs.Laws.{stands_accept, stands_other}
 use Rattle.delivery_book.proofs.Waiting.{waiting_other}
 use Rattle.desk.specs.declared.ticket.CommandTicket.{CommandTicket}
@@ -307,7 +309,27 @@ pub one_changes : (at : ℕ → Option (List ℕ)) (e : endpoint_entries.BookVal
     → HasChanges at e (records_of (with_step waiting (entry ∷ [])).waiting)
 one_changes at e waiting entry h = subst (HasChanges at e) (sym (records_of-snoc waiting.waiting entry)) h
 
--- the endpoints and the steps with one more record
+-- the endpoints and the steps with one more record, which makes one change of an endpoint at most
+pub endpoints_more : {e f : endpoint_entries.BookValue} {d : delivery_entries.BookValue} {waiting : WaitingValue}
+    {live : List Row} {limiters more : List Limiter} {queue later : QueueValue} (entry : Record)
+    → IsDesk e d waiting live limiters queue
+    → flags_in f ≤ flags_in e + 1 → f.next_seq ≡ record_count waiting + 1 → f.settled_seq ≡ e.settled_seq → is_other entry ≡ true
+    → HasChanges (endpoint_at d) f (records_of waiting.waiting ++ entry ∷ [])
+    → AreTied f d (with_step waiting (entry ∷ [])) live more later
+    → IsDesk f d (with_step waiting (entry ∷ [])) live more later
+endpoints_more {e} {f} {d} {waiting} entry h flags next settled other waits tied =
+    let others = waiting_other d (records_of waiting.waiting) entry other h.deliveries_wait in
+    record {
+      endpoints_staged = omega (arith, next, one_more waiting entry);
+      endpoints_settled = settled ∙ h.endpoints_settled;
+      flags_few = omega (arith, flags, next, settled, h.flags_few, h.endpoints_staged);
+      endpoints_wait = one_changes (endpoint_at d) f waiting entry waits;
+      deliveries_staged = omega (arith, h.deliveries_staged, one_more waiting entry);
+      deliveries_settled = h.deliveries_settled;
+      deliveries_wait = one_waits d waiting entry others;
+      tied = tied;
+    }
+
 pub endpoints_wait : {e f : endpoint_entries.BookValue} {d : delivery_entries.BookValue} {waiting : WaitingValue}
     {live : List Row} {limiters more : List Limiter} {queue later : QueueValue} (change : Change) (entry : Record)
     → IsDesk e d waiting live limiters queue
@@ -318,17 +340,7 @@ pub endpoints_wait : {e f : endpoint_entries.BookValue} {d : delivery_entries.Bo
 endpoints_wait {e} {f} {d} {waiting} change entry h changes next settled other waits tied =
     let flags = ap (count_by is_flag) changes ∙ count_by_snoc is_flag e.changes change in
     let one : cond (is_flag change) 1 0 ≤ 1 = grind arith in
-    let others = waiting_other d (records_of waiting.waiting) entry other h.deliveries_wait in
-    record {
-      endpoints_staged = omega (arith, next, one_more waiting entry);
-      endpoints_settled = settled ∙ h.endpoints_settled;
-      flags_few = omega (arith, flags, one, next, settled, h.flags_few, h.endpoints_staged);
-      endpoints_wait = one_changes (endpoint_at d) f waiting entry waits;
-      deliveries_staged = omega (arith, h.deliveries_staged, one_more waiting entry);
-      deliveries_settled = h.deliveries_settled;
-      deliveries_wait = one_waits d waiting entry others;
-      tied = tied;
-    }
+    endpoints_more entry h (omega (arith, flags, one)) next settled other waits tied
 
 -- the deliveries and the steps with one more record
 pub deliveries_wait : {e : endpoint_entries.BookValue} {d f : delivery_entries.BookValue} {waiting : WaitingValue}
@@ -433,6 +445,26 @@ stands_with_enabled d w name flag h room known limits =
       legal = legal;
     })
 
+-- whether there is a place for the pair, by the book and by the records
+pub place_is : {d : DeskValue} {w : World} (topic name : List ℕ) → StandsFor d w
+    → has_place_for d.endpoints.topics topic name ≡ (is_pair_named (all_records w) topic name || nat_lt (length (subscriptions (all_records w))) MAX_SUBSCRIPTIONS)
+place_is {d} {w} topic name h =
+    let told = h.books.of_endpoints.tells.topics in
+    λ i. named-told d.endpoints.topics (all_records w) topic name told i || nat_lt (told.count i) MAX_SUBSCRIPTIONS
+
+pub stands_with_subscribed : (d : DeskValue) (w : World) (topic name : List ℕ) (flag : Bool) → StandsFor d w → record_count d.waiting < MAX_RECORDS → IsTrue (is_known d.endpoints name)
+    → IsTrue (has_place_for d.endpoints.topics topic name) → IsTrue (is_within_limits (Subscribed topic name flag))
+    → Stages d.endpoints (with_subscribed d topic name flag).endpoints (record_count d.waiting) (Subscribed topic name flag)
+    → StandsFor (with_subscribed d topic name flag) (with_record w (Subscribed topic name flag))
+stands_with_subscribed d w topic name flag h room known free limits stages =
+    let entry = Subscribed topic name flag in
+    let legal = legal_with entry h room (λ i. (sym (known_is name h) ∙ known) i && (sym (place_is topic name h) ∙ free) i) limits in
+    stands_staged d w entry _ d.deliveries h (record {
+      of_endpoints = stages (all_records w) (length (settled_records w)) h.books.of_endpoints (count_is h) legal;
+      of_deliveries = stands_other d.deliveries (all_records w) (length (settled_records w)) entry h.books.of_deliveries refl;
+      legal = legal;
+    })
+
 pub stands_with_accept : (d : DeskValue) (w : World) (name id body : List ℕ) (at : ℕ) → StandsFor d w → record_count d.waiting < MAX_RECORDS → has_endpoint (all_records w) name ≡ true
     → known_as (all_records w) name id ≡ None → IsTrue (is_within_limits (Accept name id body at))
     → StandsFor (with_accept d name id body at) (with_record (record w { clock = at }) (Accept name id body at))
@@ -463,6 +495,20 @@ stages_or_lacks d new staged entry (Ok t) waits same is limits err =
       ap Ok (λ i. record { seq = (sym (count_is h) ∙ sym same) i }),
       subst (λ (v : DeskValue). StandsFor v (with_record w entry)) (sym is) (waits w h limits),
     )) err
+
+pub subscribes_or_lacks : (d new : DeskValue) (topic name : List ℕ) (flag : Bool) (made : Result CommandTicket AllocError) → record_count d.waiting < MAX_RECORDS → IsTrue (is_known d.endpoints name)
+    → IsTrue (has_place_for d.endpoints.topics topic name)
+    → IfOk made (λ t. t.seq ≡ record_count d.waiting) → OnOk made (new ≡ with_subscribed d topic name flag)
+    → OnOk made (Stages d.endpoints new.endpoints (record_count d.waiting) (Subscribed topic name flag))
+    → OnOk made (IsTrue (is_within_limits (Subscribed topic name flag))) → OnErr made (new ≡ d)
+    → IsMove d (λ w. or_out_of_memory 7 (stages w (Subscribed topic name flag))) (out_of_memory_at 7 made) new
+subscribes_or_lacks d new topic name flag (Err e) room known free same is staged limits err =
+    makes_or_lacks d new (λ w. stages w (Subscribed topic name flag)) 7 (Err e) tt err
+subscribes_or_lacks d new topic name flag (Ok t) room known free same is staged limits err =
+    let entry = Subscribed topic name flag in
+    let made = subst (λ (v : DeskValue). Stages d.endpoints v.endpoints (record_count d.waiting) entry) is staged in
+    stages_or_lacks d new (with_subscribed d topic name flag) entry (Ok t)
+    (λ w h kept. stands_with_subscribed d w topic name flag h room known free kept made) same is limits err
 
 -- Submissions
 
@@ -549,6 +595,10 @@ full_where free n e = grind (arith, nat_tests)
 
 pub is_full : {d : DeskValue} {w : World} (free : ℕ) → StandsFor d w → free + requests_in d.waiting.waiting ≡ MAX_WAITING_REQUESTS → nat_eq free 0 ≡ is_waiting_full w
 is_full {d} free h e = full_where free (requests_in d.waiting.waiting) e ∙ ap (λ steps. nat_le MAX_WAITING_REQUESTS (requests_in steps)) h.waiting.steps
+
+-- no place for another pair
+place_lacks : (named : Bool) (free n : ℕ) → free + n ≡ MAX_SUBSCRIPTIONS → (not named && nat_eq free 0) ≡ not (named || nat_lt n MAX_SUBSCRIPTIONS)
+place_lacks named free n e = grind (arith, nat_tests)
 
 pub is_spent : {d : DeskValue} {w : World} (numbers : ℕ) → StandsFor d w → numbers ≡ record_count d.waiting + length d.live → nat_le MAX_RECORDS numbers ≡ are_seqs_spent w
 is_spent {d} {w} numbers h e =

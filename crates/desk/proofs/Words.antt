@@ -32,18 +32,20 @@ pub use Rattle.relay_types.specs.Endpoints.{Endpoint, endpoint_of, endpoints, ha
 pub use Rattle.relay_types.specs.Judging.{is_gone_status}
 pub use Rattle.relay_types.specs.Legal.{IsLegal, is_status, is_within_limits, may_follow}
 pub use Rattle.relay_types.specs.Records.{Accepted, Attempt, History, accepted_by, records_of}
+pub use Rattle.relay_types.specs.Subscriptions.{is_pair_named, subscriptions}
 pub use Rattle.relay_types.specs.Values.{is_moment}
-pub use Rattle.relay_types.specs.declared.limits.TheConstants.{MAX_ENDPOINTS, MAX_RECORDS}
+pub use Rattle.relay_types.specs.declared.limits.TheConstants.{MAX_ENDPOINTS, MAX_RECORDS, MAX_SUBSCRIPTIONS}
 pub use Rattle.relay_types.specs.declared.record.Record.{Record}
-pub use Rattle.relay_types.specs.declared.record.Record.TheVariants.{Accept, Enabled, Outcome, Put, Secrets}
+pub use Rattle.relay_types.specs.declared.record.Record.TheVariants.{Accept, Enabled, Outcome, Put, Secrets, Subscribed}
 pub use Rattle.relay_types.specs.declared.state.State.TheVariants.{Exhausted, Pending}
 pub use Rattle.vegas.specs.Estimators.{EstimatorValue, Explains, StandsFor as StandsForSamples, sample_of}
 pub use Rattle.vegas.specs.declared.sample.Sample.{Sample}
 pub use Rattle.endpoint_book.proofs.Laws.{stands-other}
 pub use Rattle.endpoint_book.proofs.Waiting.{AreNamedAlike, changes_enabled, changes_gone, changes_named, changes_none}
-pub use Rattle.endpoint_book.proofs.Waiting.{changes_other, changes_put, changes_secrets, changes_settled}
-pub use Rattle.endpoint_book.specs.Book.{View, enabled_in, secrets_if_known, view_by, view_of}
-pub use Rattle.endpoint_book.specs.Entries.{change_at, entry_of, is_flag, is_known, is_named, with_flag}
+pub use Rattle.endpoint_book.proofs.Waiting.{changes_other, changes_put, changes_secrets, changes_settled, changes_topic}
+pub use Rattle.endpoint_book.specs.Book.{Stages, View, enabled_in, secrets_if_known, view_by, view_of}
+pub use Rattle.endpoint_book.specs.Entries.{change_at, entry_of, flags_in, is_flag, is_known, is_named, with_flag}
+pub use Rattle.endpoint_book.specs.Topics.{flag_of, has_place as has_place_for}
 pub use Rattle.endpoint_book.specs.Waiting.{IsInStep as AreInStep, HasChanges}
 pub use Rattle.endpoint_book.specs.declared.entry.Change.{Change}
 pub use Rattle.endpoint_book.specs.declared.entry.Entry.{Entry as EndpointEntry}
@@ -82,14 +84,15 @@ pub use Rattle.desk.specs.Desks.{AreBooks, AreLimits, ArePlacesOf, Checks, DeskV
 pub use Rattle.desk.specs.Desks.{IsHeldOf, IsMove, IsPostOf, IsReceiptOf, Opens, OverWorlds, Spends, StandsFor, Starts}
 pub use Rattle.desk.specs.Desks.{TakesOutcome, Turns, attempt_in, has_place, is_exhausted_in, may_start, may_start_at}
 pub use Rattle.desk.specs.Desks.{with_accept, with_enabled, with_entry, with_gone, with_live, with_put, with_secrets}
+pub use Rattle.desk.specs.Desks.{with_subscribed}
 pub use Rattle.desk.specs.Faults.{Faults, first_fault, out_of_memory_at, refusal}
 pub use Rattle.desk.specs.Kept.{AreTold, endpoint_in, endpoint_page, event_in, event_page, limits_by, shown_with}
 pub use Rattle.desk.specs.Kept.{totals, totals_in}
 pub use Rattle.desk.specs.Looks.{has_event, is_row_of}
-pub use Rattle.desk.specs.Moves.{Answer, MayGive, accepts, are_seqs_spent, at_moment, change, changes, is_nothing_out}
+pub use Rattle.desk.specs.Moves.{Answer, MayGive, accepts, are_pairs_spent, are_seqs_spent, at_moment, change, changes, is_nothing_out}
 pub use Rattle.desk.specs.Moves.{is_waiting_full, moment, new_submit_faults, next_seq, or_out_of_memory, pending_among}
 pub use Rattle.desk.specs.Moves.{put_faults, refused, repeats, seal, seal_faults, seal_waiting, sealed_batch}
-pub use Rattle.desk.specs.Moves.{set_faults, stages, submit, submit_faults, submit_known, submit_new, ticket, unless}
+pub use Rattle.desk.specs.Moves.{set_faults, stages, submit, subscribe_faults, submit_faults, submit_known, submit_new, ticket, unless}
 pub use Rattle.desk.specs.Moves.{with_batch, with_batch_back, with_halt, with_record, with_sealed_settled}
 pub use Rattle.desk.specs.Ties.{AreApart, AreHeld, AreLimiters, AreMarked, AreQueued, AreSampled, AreTied, AreUnderWay}
 pub use Rattle.desk.specs.Ties.{HasPlaces, HasRoomForAll, HasSameRooms, Holds, HoldsPair, KeepsPlaces, KeepsRooms}

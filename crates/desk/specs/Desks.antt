@@ -5,7 +5,7 @@ use Rattle.std.specs.Option.{option_map_or}
 use Rattle.relay_types.specs.declared.limits.TheConstants.{MAX_RECORDS}
 use Rattle.relay_types.specs.declared.record.Record.{Record}
 use Rattle.relay_types.specs.declared.state.State.TheVariants.{Exhausted}
-use Rattle.relay_types.specs.declared.record.Record.TheVariants.{Put, Secrets, Enabled, Accept, Outcome}
+use Rattle.relay_types.specs.declared.record.Record.TheVariants.{Put, Secrets, Enabled, Accept, Outcome, Subscribed}
 use Rattle.relay_types.specs.Values.{Text, Seq, Seconds}
 use Rattle.relay_types.specs.Records.{History, Accepted, records_of}
 use Rattle.relay_types.specs.Deliveries.{accepted, is_in_state}
@@ -266,6 +266,11 @@ with_secrets desk name secrets = record (with_entry desk (Secrets name secrets))
 abbrev pub with_enabled : DeskValue → (name : Text) (flag : Bool) → DeskValue
 with_enabled desk name flag = record (with_entry desk (Enabled name flag)) {
   endpoints = endpoint_entries.with_flag desk.endpoints (record_count desk.waiting) name flag;
+}
+
+abbrev pub with_subscribed : DeskValue → (topic name : Text) (flag : Bool) → DeskValue
+with_subscribed desk topic name flag = record (with_entry desk (Subscribed topic name flag)) {
+  endpoints = endpoint_entries.with_topic desk.endpoints (record_count desk.waiting) topic name flag;
 }
 
 abbrev pub with_accept : DeskValue → (name id body : Text) (at : Seconds) → DeskValue

@@ -1,7 +1,7 @@
 -- The refusals of a call, in the order in which they are checked.
 use Rattle.std.specs.Prelude.{ℕ, Bool, true, false, List, [], ◌∷◌, Result, Ok, Err, if◌then◌else◌}
 use Rattle.desk.specs.declared.command.Command.{Command}
-use Rattle.desk.specs.declared.command.Command.TheVariants.{PutEndpoint, SetSecrets, SetEnabled}
+use Rattle.desk.specs.declared.command.Command.TheVariants.{PutEndpoint, SetSecrets, SetEnabled, SetSubscribed}
 use Rattle.desk.specs.declared.refusal.Fault.{Fault}
 use Rattle.desk.specs.declared.refusal.Fault.TheVariants as fault
 use Rattle.desk.specs.declared.refusal.Refusal.{Refusal}
@@ -23,74 +23,55 @@ abbrev pub out_of_memory_at : {A E : Type 0} → ℕ → Result A E → Result A
 out_of_memory_at number (Ok made) = Ok made
 out_of_memory_at number (Err e) = Err (refusal number fault.OutOfMemory)
 
--- Whether a submission, a new endpoint, another change of an endpoint, a claim, or a sealing may be refused by this name.
+-- Whether a submission, a new endpoint, another change of an endpoint, a subscription, a claim, or a sealing may be refused
+-- by this name.
 
 abbrev pub may_refuse_event : Fault → Bool
 may_refuse_event fault.Halted = true
 may_refuse_event fault.UnknownEndpoint = true
 may_refuse_event fault.Conflict = true
-may_refuse_event fault.Exists = false
 may_refuse_event fault.EndpointBacklog = true
 may_refuse_event fault.Backlog = true
-may_refuse_event fault.TooManyEndpoints = false
 may_refuse_event fault.WaitingFull = true
 may_refuse_event fault.SeqExhausted = true
-may_refuse_event fault.BatchOut = false
 may_refuse_event fault.OutOfMemory = true
+may_refuse_event fault = false
 
 abbrev pub may_refuse_put : Fault → Bool
 may_refuse_put fault.Halted = true
-may_refuse_put fault.UnknownEndpoint = false
-may_refuse_put fault.Conflict = false
 may_refuse_put fault.Exists = true
-may_refuse_put fault.EndpointBacklog = false
-may_refuse_put fault.Backlog = false
 may_refuse_put fault.TooManyEndpoints = true
 may_refuse_put fault.WaitingFull = true
 may_refuse_put fault.SeqExhausted = true
-may_refuse_put fault.BatchOut = false
 may_refuse_put fault.OutOfMemory = true
+may_refuse_put fault = false
 
 abbrev pub may_refuse_set : Fault → Bool
 may_refuse_set fault.Halted = true
 may_refuse_set fault.UnknownEndpoint = true
-may_refuse_set fault.Conflict = false
-may_refuse_set fault.Exists = false
-may_refuse_set fault.EndpointBacklog = false
-may_refuse_set fault.Backlog = false
-may_refuse_set fault.TooManyEndpoints = false
 may_refuse_set fault.WaitingFull = true
 may_refuse_set fault.SeqExhausted = true
-may_refuse_set fault.BatchOut = false
 may_refuse_set fault.OutOfMemory = true
+may_refuse_set fault = false
+
+abbrev pub may_refuse_subscribe : Fault → Bool
+may_refuse_subscribe fault.TooManySubscriptions = true
+may_refuse_subscribe fault = may_refuse_set fault
 
 abbrev pub may_refuse_claim : Fault → Bool
 may_refuse_claim fault.Halted = true
-may_refuse_claim fault.UnknownEndpoint = false
-may_refuse_claim fault.Conflict = false
-may_refuse_claim fault.Exists = false
-may_refuse_claim fault.EndpointBacklog = false
-may_refuse_claim fault.Backlog = false
-may_refuse_claim fault.TooManyEndpoints = false
-may_refuse_claim fault.WaitingFull = false
 may_refuse_claim fault.SeqExhausted = true
-may_refuse_claim fault.BatchOut = false
 may_refuse_claim fault.OutOfMemory = true
+may_refuse_claim fault = false
 
 abbrev pub may_refuse_seal : Fault → Bool
 may_refuse_seal fault.Halted = true
-may_refuse_seal fault.UnknownEndpoint = false
-may_refuse_seal fault.Conflict = false
-may_refuse_seal fault.Exists = false
-may_refuse_seal fault.EndpointBacklog = false
-may_refuse_seal fault.Backlog = false
-may_refuse_seal fault.TooManyEndpoints = false
-may_refuse_seal fault.WaitingFull = false
-may_refuse_seal fault.SeqExhausted = false
 may_refuse_seal fault.BatchOut = true
 may_refuse_seal fault.OutOfMemory = true
+may_refuse_seal fault = false
 
 abbrev pub may_refuse : Command → Fault → Bool
 may_refuse (PutEndpoint name target max secrets) = may_refuse_put
 may_refuse (SetSecrets name secrets) = may_refuse_set
 may_refuse (SetEnabled name flag) = may_refuse_set
+may_refuse (SetSubscribed topic name flag) = may_refuse_subscribe

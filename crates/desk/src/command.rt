@@ -21,4 +21,10 @@ pub enum Command {
         name: Name,
         flag: bool,
     },
+    /// Whether it is subscribed to the topic.
+    SetSubscribed {
+        topic: Name,
+        name: Name,
+        flag: bool,
+    },
 }

@@ -1,16 +1,19 @@
 //! How the desk changes endpoints.
-ghost use Rattle.std.specs.Prelude.{◌≡◌, ◌<◌, ◌+◌, length, false, IsTrue, IfOk, IfErr, OnOk, OnErr};
+ghost use Rattle.std.specs.Prelude.{◌≡◌, ◌<◌, ◌+◌, length, false, not, IsTrue, IfOk, IfErr, OnOk, OnErr};
 ghost use Rattle.relay_types.specs.declared.limits.TheConstants.{MAX_RECORDS};
 ghost use Rattle.relay_types.specs.declared.record.Record.TheVariants as on;
 ghost use Rattle.relay_types.specs.Legal.{is_within_limits};
 ghost use Rattle.endpoint_book.specs.declared.limits.TheConstants.{MAX_FLAGS};
+ghost use Rattle.endpoint_book.specs.Book.{Stages};
 ghost use Rattle.endpoint_book.specs.Entries.{is_known};
+ghost use Rattle.endpoint_book.specs.Topics.{has_place};
 ghost use Rattle.group_commit.specs.declared.limits.TheConstants.{MAX_WAITING_REQUESTS};
 ghost use Rattle.group_commit.specs.Steps.{requests_in};
 ghost use Rattle.group_commit.specs.Waits.{batch_out, record_count};
-ghost use Rattle.desk.specs.Faults.{may_refuse, may_refuse_put, may_refuse_set};
-ghost use Rattle.desk.specs.Moves.{change, put_faults, set_faults};
-ghost use Rattle.desk.specs.Desks.{IsMove, Checks, KeepsOut, with_put, with_secrets, with_enabled};
+ghost use Rattle.desk.specs.Faults.{may_refuse, may_refuse_put, may_refuse_set, may_refuse_subscribe};
+ghost use Rattle.desk.specs.Moves.{are_pairs_spent, change, put_faults, set_faults, subscribe_faults};
+ghost use Rattle.desk.specs.Desks.{IsMove, Checks, KeepsOut, OverWorlds, with_put, with_secrets, with_enabled};
+ghost use Rattle.desk.specs.Desks.{with_subscribed};
 
 use crate::command::Command;
 use crate::desk::{Desk, push_request};
@@ -41,6 +44,7 @@ impl<L: Ledger> Desk<L> {
             } => self.put_endpoint(name, target, max, secrets),
             Command::SetSecrets { name, secrets } => self.set_secrets(name, secrets),
             Command::SetEnabled { name, flag } => self.set_enabled(name, flag),
+            Command::SetSubscribed { topic, name, flag } => self.set_subscribed(topic, name, flag),
         }
     }
 
@@ -83,6 +87,22 @@ impl<L: Ledger> Desk<L> {
         Ok(self.stage_enabled(name, flag))
     }
 
+    fn set_subscribed(
+        &mut self,
+        topic: Name,
+        name: Name,
+        flag: bool,
+    ) -> Result<CommandTicket, Refusal>
+        ensures moves { IsMove self.old (λ w. change w (Command.SetSubscribed topic name flag)) result self.new }
+        ensures names { IfErr result (λ why. IsTrue (may_refuse_subscribe why.fault)) }
+        ensures mark { self.new.waiting.mark ≡ self.old.waiting.mark }
+        ensures out { KeepsOut self.old self.new }
+        ensures err { OnErr result (self.new ≡ self.old) }
+    {
+        self.check_subscribe(topic, name)?;
+        or_out_of_memory(7, self.stage_subscribed(topic, name, flag))
+    }
+
     fn check_put(&self, name: Name) -> Result<(), Refusal>
         ensures faults { Checks self.now (λ w. put_faults w name) result }
         ensures names { IfErr result (λ why. IsTrue (may_refuse_put why.fault)) }
@@ -117,6 +137,35 @@ impl<L: Ledger> Desk<L> {
             (self.waiting.free_requests() == 0, 5, Fault::WaitingFull),
             (self.are_seqs_spent(), 6, Fault::SeqExhausted),
         ])
+    }
+
+    fn check_subscribe(&self, topic: Name, name: Name) -> Result<(), Refusal>
+        ensures faults { Checks self.now (λ w. subscribe_faults w topic name) result }
+        ensures names { IfErr result (λ why. IsTrue (may_refuse_subscribe why.fault)) }
+        ensures place { OnOk result (requests_in self.now.waiting.waiting < MAX_WAITING_REQUESTS) }
+        ensures room { OnOk result (record_count self.now.waiting + length self.now.live < MAX_RECORDS) }
+        ensures known { OnOk result (IsTrue (is_known self.now.endpoints name)) }
+        ensures free { OnOk result (IsTrue (has_place self.now.endpoints.topics topic name)) }
+    {
+        check(&[
+            (self.halted, 1, Fault::Halted),
+            (!self.endpoints.contains(name), 2, Fault::UnknownEndpoint),
+            (
+                self.lacks_place(topic, name),
+                8,
+                Fault::TooManySubscriptions,
+            ),
+            (self.waiting.free_requests() == 0, 5, Fault::WaitingFull),
+            (self.are_seqs_spent(), 6, Fault::SeqExhausted),
+        ])
+    }
+
+    // Whether no record named the topic and the endpoint, and there is no room for another pair.
+    fn lacks_place(&self, topic: Name, name: Name) -> bool
+        ensures place { result ≡ not (has_place self.now.endpoints.topics topic name) }
+        ensures stands { OverWorlds self.now (λ w. result ≡ are_pairs_spent w topic name) }
+    {
+        !self.endpoints.is_named(topic, name) && self.endpoints.free_subscriptions() == 0
     }
 
     // The steps that can fail for memory come first.
@@ -178,6 +227,29 @@ impl<L: Ledger> Desk<L> {
         let seq = self.waiting.records();
         self.endpoints.stage_secrets(seq, name, secrets)?;
         push_request(&mut self.waiting, Record::Secrets { name, secrets });
+        Ok(CommandTicket { seq })
+    }
+
+    fn stage_subscribed(
+        &mut self,
+        topic: Name,
+        name: Name,
+        flag: bool,
+    ) -> Result<CommandTicket, AllocError>
+        requires place { requests_in self.old.waiting.waiting < MAX_WAITING_REQUESTS }
+        requires room { record_count self.old.waiting + length self.old.live < MAX_RECORDS }
+        requires free { IsTrue (has_place self.old.endpoints.topics topic name) }
+        ensures ticket { IfOk result (λ ticket. ticket.seq ≡ record_count self.old.waiting) }
+        ensures staged { OnOk result (self.new ≡ with_subscribed self.old topic name flag) }
+        ensures stands { OnOk result (Stages self.old.endpoints self.new.endpoints (record_count self.old.waiting)
+            (on.Subscribed topic name flag)) }
+        ensures out { batch_out self.new.waiting ≡ batch_out self.old.waiting }
+        ensures limits { OnOk result (IsTrue (is_within_limits (on.Subscribed topic name flag))) }
+        ensures err { OnErr result (self.new ≡ self.old) }
+    {
+        let seq = self.waiting.records();
+        self.endpoints.stage_subscribed(seq, topic, name, flag)?;
+        push_request(&mut self.waiting, Record::Subscribed { topic, name, flag });
         Ok(CommandTicket { seq })
     }
 

@@ -14,6 +14,7 @@ pub enum Fault {
     EndpointBacklog,
     Backlog,
     TooManyEndpoints,
+    TooManySubscriptions,
     WaitingFull,
     SeqExhausted,
     BatchOut,
