@@ -55,6 +55,9 @@ clean-arguments words (on.Put name target max secrets) (word, reads, e, valid) =
 clean-arguments words (on.Secrets name secrets) (word, reads, e, valid) =
     subst (λ xs. IsTrue (list_all (has_no 32) xs)) (sym e) (two_clean name word (clean-name name valid) (clean-secrets_word word secrets reads))
 clean-arguments words (on.Enabled name flag) named = name_alone words name named
+clean-arguments words (on.Subscribed topic name flag) (e, valid) =
+    let both = and_parts (is_name topic) (is_name name) valid in
+    subst (λ xs. IsTrue (list_all (has_no 32) xs)) (sym e) (two_clean topic name (clean-name topic both.0) (clean-name name both.1))
 clean-arguments words (on.Submit now name id body) (word, reads, e, valid) =
     let one = and_parts (is_moment now) (is_name name && (is_msg_id id && is_body body)) valid in
     let two = and_parts (is_name name) (is_msg_id id && is_body body) one.1 in
@@ -81,6 +84,8 @@ clean-arguments words (on.Show name id) (e, valid) =
 clean-word : (call : Call) → IsTrue (has_no 32 (call_word call))
 clean-word (on.Enabled name true) = refl
 clean-word (on.Enabled name false) = refl
+clean-word (on.Subscribed topic name true) = refl
+clean-word (on.Subscribed topic name false) = refl
 clean-word call = refl
 
 some_word : (words rest : List (List ℕ)) (word : List ℕ) → words ≡ word ∷ rest → words ≢ []
@@ -114,6 +119,7 @@ length-arguments : (words : List (List ℕ)) (call : Call) → AreArguments word
 length-arguments words (on.Put name target max secrets) (word, reads, e, valid) = let n : length words ≡ 4 = ap length e in omega (arith, n)
 length-arguments words (on.Secrets name secrets) (word, reads, e, valid) = let n : length words ≡ 2 = ap length e in omega (arith, n)
 length-arguments words (on.Enabled name flag) (e, valid) = length-named words name e
+length-arguments words (on.Subscribed topic name flag) (e, valid) = let n : length words ≡ 2 = ap length e in omega (arith, n)
 length-arguments words (on.Submit now name id body) (word, reads, e, valid) = let n : length words ≡ 4 = ap length e in omega (arith, n)
 length-arguments words (on.Told seq) (e, small) = length-named words (decimal seq) e
 length-arguments words on.Seal e = length-alone words e

@@ -18,10 +18,10 @@ use Rattle.script_lines.specs.declared.call.Call.{Call}
 use Rattle.script_lines.specs.declared.call.Call.TheVariants as on
 use Rattle.script_lines.specs.declared.call.Line.{Line}
 use Rattle.script_lines.specs.declared.call.Line.TheVariants as as_line
-use Rattle.script_lines.specs.Script.{IsPut, IsSecrets, IsNamed, IsTold, IsSubmit, IsClaim, IsResult, IsSpend, IsShow, call_word, AreArguments, IsCall, ReadsLine, IsLine, HasOneLineAtMost}
+use Rattle.script_lines.specs.Script.{IsPut, IsSecrets, IsNamed, IsSubscribed, IsTold, IsSubmit, IsClaim, IsResult, IsSpend, IsShow, call_word, AreArguments, IsCall, ReadsLine, IsLine, HasOneLineAtMost}
 use Rattle.script_lines.proofs.CallLaws.{only_put, only_secrets, only_enable, only_disable, only_submit, only_told}
 use Rattle.script_lines.proofs.CallLaws.{only_claim, only_spend, only_limits, only_show, only_seal, only_commit}
-use Rattle.script_lines.proofs.CallLaws.{only_settle, only_unseal, only_halt}
+use Rattle.script_lines.proofs.CallLaws.{only_settle, only_unseal, only_halt, only_subscribe, only_unsubscribe}
 use Rattle.script_lines.proofs.CleanCalls.{the_call, parts_of_call}
 
 same_put : (words : List (List ℕ)) (name target : List ℕ) (max : ℕ) (secrets : List (List ℕ)) (name' target' : List ℕ) (max' : ℕ) (secrets' : List (List ℕ)) → IsPut words name target max secrets
@@ -57,6 +57,13 @@ same_show words name id name' id' (e, valid) (e', valid') =
     let names : name ≡ name' = cc in
     let ids : id ≡ id' = cc in
     λ i. on.Show (names i) (ids i)
+
+same_pair : (words : List (List ℕ)) (topic name topic' name' : List ℕ) (flag : Bool) → IsSubscribed words topic name → IsSubscribed words topic' name'
+    → on.Subscribed topic name flag ≡ on.Subscribed topic' name' flag
+same_pair words topic name topic' name' flag (e, valid) (e', valid') =
+    let topics : topic ≡ topic' = cc in
+    let names : name ≡ name' = cc in
+    λ i. on.Subscribed (topics i) (names i) flag
 
 same_secrets : (words : List (List ℕ)) (name : List ℕ) (secrets : List (List ℕ)) (name' : List ℕ) (secrets' : List (List ℕ)) → IsSecrets words name secrets → IsSecrets words name' secrets'
     → on.Secrets name secrets ≡ on.Secrets name' secrets'
@@ -140,6 +147,10 @@ same_arguments_of words (on.Enabled name true) b e h =
     only_enable (λ call. on.Enabled name true ≡ call) (codes "enable") words refl (λ name' k. ap (λ n. on.Enabled n true) (same_name words name name' h k)) b e
 same_arguments_of words (on.Enabled name false) b e h =
     only_disable (λ call. on.Enabled name false ≡ call) (codes "disable") words refl (λ name' k. ap (λ n. on.Enabled n false) (same_name words name name' h k)) b e
+same_arguments_of words (on.Subscribed topic name true) b e h =
+    only_subscribe (λ call. on.Subscribed topic name true ≡ call) (codes "subscribe") words refl (λ topic' name' k. same_pair words topic name topic' name' true h k) b e
+same_arguments_of words (on.Subscribed topic name false) b e h =
+    only_unsubscribe (λ call. on.Subscribed topic name false ≡ call) (codes "unsubscribe") words refl (λ topic' name' k. same_pair words topic name topic' name' false h k) b e
 same_arguments_of words (on.Submit now name id body) b e h =
     only_submit (λ call. on.Submit now name id body ≡ call) (codes "submit") words refl (λ now' name' id' body' k. same_submit words now name id body now' name' id' body' h k) b e
 same_arguments_of words (on.Told seq) b e h =
@@ -175,6 +186,8 @@ one_call text a b (words, e, call) other = same_call words a b call (the_call te
 other_word : (call : Call) → bytes_eq (call_word call) (codes "stop") ≡ false
 other_word (on.Enabled name true) = refl
 other_word (on.Enabled name false) = refl
+other_word (on.Subscribed topic name true) = refl
+other_word (on.Subscribed topic name false) = refl
 other_word call = refl
 
 pub stop_is_no_call : (call : Call) → ReadsLine (codes "stop") call → ⊥

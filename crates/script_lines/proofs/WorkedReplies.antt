@@ -11,6 +11,10 @@ refused_row : reply_text (says.Refused 3 fault.Exists) ≡ codes "refused 3 Exis
 unfolding digits
 refused_row = refl
 
+places_row : reply_text (says.Refused 8 fault.TooManySubscriptions) ≡ codes "refused 8 TooManySubscriptions"
+unfolding digits
+places_row = refl
+
 sealed_row : reply_text (says.Sealed 9 12) ≡ codes "sealed 9..12"
 unfolding digits
 sealed_row = refl

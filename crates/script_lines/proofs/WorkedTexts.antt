@@ -1,5 +1,5 @@
 -- Worked rows of a script's lines.
-use Rattle.std.proofs.Common.{[], ◌∷◌, false, codes, refl, lit<}
+use Rattle.std.proofs.Common.{[], ◌∷◌, true, false, codes, refl, lit<}
 use Rattle.std.specs.Fmt.{digits}
 use Rattle.script_lines.specs.declared.call.Call.TheVariants as on
 use Rattle.script_lines.specs.Script.{ReadsLine}
@@ -12,6 +12,12 @@ endpoint_row = (codes "show" ∷ codes "a" ∷ [], refl, (codes "a" ∷ [], refl
 
 disable_row : ReadsLine (codes "disable a") (on.Enabled (codes "a") false)
 disable_row = (codes "disable" ∷ codes "a" ∷ [], refl, (codes "a" ∷ [], refl, (refl, refl)))
+
+subscribe_row : ReadsLine (codes "subscribe t a") (on.Subscribed (codes "t") (codes "a") true)
+subscribe_row = (codes "subscribe" ∷ codes "t" ∷ codes "a" ∷ [], refl, (codes "t" ∷ codes "a" ∷ [], refl, (refl, refl)))
+
+unsubscribe_row : ReadsLine (codes "unsubscribe t a") (on.Subscribed (codes "t") (codes "a") false)
+unsubscribe_row = (codes "unsubscribe" ∷ codes "t" ∷ codes "a" ∷ [], refl, (codes "t" ∷ codes "a" ∷ [], refl, (refl, refl)))
 
 told_row : ReadsLine (codes "told 12") (on.Told 12)
 unfolding digits

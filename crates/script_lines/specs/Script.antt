@@ -1,6 +1,6 @@
 -- The lines of a script: which text stands for which call. A text that stands for none is a bad line. The grammar is told by
 -- printing: a line has these words, and one space between.
-use Rattle.std.specs.Prelude.{◌≡◌, ◌⊎◌, ℕ, ◌<◌, ◌≤◌, ◌^◌, true, false, ◌&&◌, List, [], ◌∷◌, length, IsTrue, codes, decimal}
+use Rattle.std.specs.Prelude.{◌≡◌, ◌⊎◌, ℕ, ◌<◌, ◌≤◌, ◌^◌, Bool, true, false, ◌&&◌, List, [], ◌∷◌, length, IsTrue, codes, decimal}
 use Rattle.relay_types.specs.Values.{Text, Seq, Seconds, is_name, is_msg_id, is_target, is_max_limit, is_body, is_moment, is_between}
 use Rattle.retry_table.specs.declared.post.PostResult.{PostResult}
 use Rattle.retry_table.specs.declared.post.PostResult.TheVariants.{Answered, TimedOut, Unreached, Unsent}
@@ -19,9 +19,12 @@ IsPut words name target max secrets = (word : List ℕ) × IsSecretsWord word se
 abbrev pub IsSecrets : (words : List Text) (name : Text) (secrets : List Text) → Type 0
 IsSecrets words name secrets = (word : List ℕ) × IsSecretsWord word secrets × (words ≡ name ∷ word ∷ []) × IsTrue (is_name name)
 
--- of a call that names an endpoint, and nothing else
+-- of a call that names an endpoint, and nothing else, and of one that names a topic too
 abbrev pub IsNamed : (words : List Text) (name : Text) → Type 0
 IsNamed words name = (words ≡ name ∷ []) × IsTrue (is_name name)
+
+abbrev pub IsSubscribed : (words : List Text) (topic name : Text) → Type 0
+IsSubscribed words topic name = (words ≡ topic ∷ name ∷ []) × IsTrue (is_name topic && is_name name)
 
 abbrev pub IsTold : (words : List Text) (seq : Seq) → Type 0
 IsTold words seq = (words ≡ decimal seq ∷ []) × (seq < 2 ^ 64)
@@ -66,6 +69,9 @@ AreOfNoSpend words = (delivery now : ℕ) (post : PostResult) → ¬ IsSpend wor
 abbrev pub AreOfNoName : List (List ℕ) → Type 0
 AreOfNoName words = (name : List ℕ) → ¬ IsNamed words name
 
+abbrev pub AreOfNoPair : List (List ℕ) → Type 0
+AreOfNoPair words = (topic name : List ℕ) → ¬ IsSubscribed words topic name
+
 abbrev pub AreOfNoEvent : List (List ℕ) → Type 0
 AreOfNoEvent words = (name id : List ℕ) → ¬ IsShow words name id
 
@@ -77,6 +83,10 @@ AreOfPut words call = ⊥
 abbrev pub AreOfSecrets : List (List ℕ) → Call → Type 0
 AreOfSecrets words (on.Secrets name secrets) = IsSecrets words name secrets
 AreOfSecrets words call = ⊥
+
+abbrev pub AreOfSubscribed : List (List ℕ) → (flag : Bool) → Call → Type 0
+AreOfSubscribed words flag (on.Subscribed topic name set) = (set ≡ flag) × IsSubscribed words topic name
+AreOfSubscribed words flag call = ⊥
 
 abbrev pub AreOfSubmit : List (List ℕ) → Call → Type 0
 AreOfSubmit words (on.Submit now name id body) = IsSubmit words now name id body
@@ -97,6 +107,8 @@ call_word (on.Put name target max secrets) = codes "put"
 call_word (on.Secrets name secrets) = codes "secrets"
 call_word (on.Enabled name true) = codes "enable"
 call_word (on.Enabled name false) = codes "disable"
+call_word (on.Subscribed topic name true) = codes "subscribe"
+call_word (on.Subscribed topic name false) = codes "unsubscribe"
 call_word (on.Submit now name id body) = codes "submit"
 call_word (on.Told seq) = codes "told"
 call_word on.Seal = codes "seal"
@@ -114,6 +126,7 @@ abbrev pub AreArguments : List (List ℕ) → Call → Type 0
 AreArguments words (on.Put name target max secrets) = IsPut words name target max secrets
 AreArguments words (on.Secrets name secrets) = IsSecrets words name secrets
 AreArguments words (on.Enabled name flag) = IsNamed words name
+AreArguments words (on.Subscribed topic name flag) = IsSubscribed words topic name
 AreArguments words (on.Submit now name id body) = IsSubmit words now name id body
 AreArguments words (on.Told seq) = IsTold words seq
 AreArguments words on.Seal = words ≡ []

@@ -33,6 +33,12 @@ pub enum Call {
         name: Name,
         flag: bool,
     },
+    /// Whether an endpoint is subscribed to a topic.
+    Subscribed {
+        topic: Name,
+        name: Name,
+        flag: bool,
+    },
     /// What is known of the ticket of this number.
     Told {
         seq: u64,
@@ -115,6 +121,11 @@ impl Call {
                 secrets: *secrets,
             }),
             Call::Enabled { name, flag } => Ok(Call::Enabled {
+                name: *name,
+                flag: *flag,
+            }),
+            Call::Subscribed { topic, name, flag } => Ok(Call::Subscribed {
+                topic: *topic,
                 name: *name,
                 flag: *flag,
             }),

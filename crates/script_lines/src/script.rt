@@ -6,10 +6,10 @@ ghost use Rattle.text_lines.specs.Parts.{texts};
 ghost use Rattle.script_lines.specs.Script.{ReadsLine, IsLine, HasOneLineAtMost, HasFewWords, IsCall, MayLack};
 ghost use Rattle.script_lines.specs.Script.{call_word, AreArguments};
 ghost use Rattle.script_lines.specs.Script.{MayLackForPut, MayLackForSecrets, MayLackForSubmit};
-ghost use Rattle.script_lines.specs.Script.{AreOfPut, AreOfSecrets, AreOfSubmit, AreOfSpend, AreOfShow, IsNamed};
+ghost use Rattle.script_lines.specs.Script.{AreOfPut, AreOfSecrets, AreOfSubscribed, AreOfSubmit, AreOfSpend, AreOfShow, IsNamed};
 ghost use Rattle.script_lines.specs.Script.{IsTold, IsClaim, IsResult};
 ghost use Rattle.script_lines.specs.Script.{AreOfNoPut, AreOfNoSecrets, AreOfNoSubmit, AreOfNoSpend, AreOfNoResult};
-ghost use Rattle.script_lines.specs.Script.{AreOfNoName, AreOfNoEvent};
+ghost use Rattle.script_lines.specs.Script.{AreOfNoName, AreOfNoPair, AreOfNoEvent};
 ghost use Rattle.script_lines.specs.declared.call.Call.{Call};
 ghost use Rattle.script_lines.specs.declared.call.Line.{Line};
 
@@ -90,6 +90,10 @@ fn read_worded(alloc: Global, word: &[u8], arguments: &[&[u8]]) -> Result<Call, 
             name: read_name(arguments)?,
             flag: false,
         })
+    } else if is_word(word, "subscribe") {
+        read_subscribed(arguments, true)
+    } else if is_word(word, "unsubscribe") {
+        read_subscribed(arguments, false)
     } else if is_word(word, "submit") {
         read_submit(alloc, arguments)
     } else if is_word(word, "told") {
@@ -215,6 +219,22 @@ fn read_name(arguments: &[&[u8]]) -> Result<Name, WordFault>
 {
     match arguments {
         [name] => Ok(Name::read(name)?),
+        _ => Err(WordFault::Bad),
+    }
+}
+
+// The endpoint that is subscribed to a topic, or not.
+fn read_subscribed(arguments: &[&[u8]], flag: bool) -> Result<Call, WordFault>
+    ensures stands { IfOk result (λ call. AreOfSubscribed (texts arguments.now) flag call) }
+    ensures bad { IsErr result → AreOfNoPair (texts arguments.now) }
+    ensures fault { IfErr result (λ fault. fault ≡ WordFault.Bad) }
+{
+    match arguments {
+        [topic, name] => Ok(Call::Subscribed {
+            topic: Name::read(topic)?,
+            name: Name::read(name)?,
+            flag,
+        }),
         _ => Err(WordFault::Bad),
     }
 }

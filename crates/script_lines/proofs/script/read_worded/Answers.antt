@@ -9,12 +9,12 @@ returns-then-is_word-clause-bad c = λ e. only_put (λ call. ⊥) c.args.word.no
 pub returns-then-is_word-2-clause-bad : goal.returns-then-is_word-2-clause-bad
 returns-then-is_word-2-clause-bad c = λ e. only_secrets (λ call. ⊥) c.args.word.now (texts c.args.arguments.now) (c.if-is_word-2.ensures.0 refl) (c.read_new_secrets.ensures.bad e)
 
-pub returns-then-is_word-5-clause-bad : goal.returns-then-is_word-5-clause-bad
-returns-then-is_word-5-clause-bad c = λ e. only_submit (λ call. ⊥) c.args.word.now (texts c.args.arguments.now) (c.if-is_word-5.ensures.0 refl) (c.read_submit.ensures.bad e)
+pub returns-then-is_word-7-clause-bad : goal.returns-then-is_word-7-clause-bad
+returns-then-is_word-7-clause-bad c = λ e. only_submit (λ call. ⊥) c.args.word.now (texts c.args.arguments.now) (c.if-is_word-7.ensures.0 refl) (c.read_submit.ensures.bad e)
 
-pub returns-then-is_word-8-clause-bad : goal.returns-then-is_word-8-clause-bad
-returns-then-is_word-8-clause-bad c = λ e.
-    only_spend (λ call. ⊥) c.args.word.now (texts c.args.arguments.now) (c.if-is_word-8.ensures.0 refl) (c.read_spend.ensures.bad (rw e refl))
+pub returns-then-is_word-10-clause-bad : goal.returns-then-is_word-10-clause-bad
+returns-then-is_word-10-clause-bad c = λ e.
+    only_spend (λ call. ⊥) c.args.word.now (texts c.args.arguments.now) (c.if-is_word-10.ensures.0 refl) (c.read_spend.ensures.bad (rw e refl))
 
 pub returns-then-is_word-clause-lacked : goal.returns-then-is_word-clause-lacked
 returns-then-is_word-clause-lacked c = λ e. inl (c.if-is_word.ensures.0 refl, c.read_put.ensures.lacked e)
@@ -22,5 +22,5 @@ returns-then-is_word-clause-lacked c = λ e. inl (c.if-is_word.ensures.0 refl, c
 pub returns-then-is_word-2-clause-lacked : goal.returns-then-is_word-2-clause-lacked
 returns-then-is_word-2-clause-lacked c = λ e. inr (inl (c.if-is_word-2.ensures.0 refl, c.read_new_secrets.ensures.lacked e))
 
-pub returns-then-is_word-5-clause-lacked : goal.returns-then-is_word-5-clause-lacked
-returns-then-is_word-5-clause-lacked c = λ e. inr (inr (c.if-is_word-5.ensures.0 refl, c.read_submit.ensures.lacked e))
+pub returns-then-is_word-7-clause-lacked : goal.returns-then-is_word-7-clause-lacked
+returns-then-is_word-7-clause-lacked c = λ e. inr (inr (c.if-is_word-7.ensures.0 refl, c.read_submit.ensures.lacked e))
