@@ -21,7 +21,7 @@ use Rattle.spool.specs.Batches.{doubt_of}
 use Rattle.script_lines.specs.declared.reply.Reply.{Reply}
 use Rattle.script_lines.specs.declared.reply.Reply.TheVariants as says
 use Rattle.desk.specs.declared.command.Command.{Command}
-use Rattle.desk.specs.declared.command.Command.TheVariants.{PutEndpoint, SetSecrets, SetEnabled}
+use Rattle.desk.specs.declared.command.Command.TheVariants.{PutEndpoint, SetSecrets, SetEnabled, SetSubscribed}
 use Rattle.desk.specs.declared.refusal.Fault.TheVariants as desk_fault
 use Rattle.desk.specs.declared.refusal.Refusal.{Refusal}
 use Rattle.desk.specs.Faults.{Faults, refusal}
@@ -102,6 +102,7 @@ goes_change w command = goes_unless (change_faults w command) w (changes w comma
     at (PutEndpoint name target max secrets) = goes_with w _ w.clock (λ d. refl)
     at (SetSecrets name secrets) = goes_with w _ w.clock (λ d. refl)
     at (SetEnabled name flag) = goes_with w _ w.clock (λ d. refl)
+    at (SetSubscribed topic name flag) = goes_with w _ w.clock (λ d. refl)
 
 lacks_stays : {A : Type 0} (o : Option ℕ) (result : Result A Refusal) (w next : World) → IsSomeAnd o (λ number. (result ≡ Err (refusal number desk_fault.OutOfMemory)) × (next ≡ w)) → next ≡ w
 lacks_stays None result w next h = absurd h

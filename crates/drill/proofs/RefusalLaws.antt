@@ -9,7 +9,7 @@ use Rattle.script_lines.specs.declared.reply.Reply as line_reply
 use Rattle.script_lines.specs.declared.reply.Reply.TheVariants as says
 use Rattle.spool.specs.Batches.{BatchValue}
 use Rattle.desk.specs.declared.command.Command.{Command}
-use Rattle.desk.specs.declared.command.Command.TheVariants.{PutEndpoint, SetSecrets, SetEnabled}
+use Rattle.desk.specs.declared.command.Command.TheVariants.{PutEndpoint, SetSecrets, SetEnabled, SetSubscribed}
 use Rattle.desk.specs.declared.refusal.Fault as desk_refusal
 use Rattle.desk.specs.declared.refusal.Fault.TheVariants as desk_fault
 use Rattle.desk.specs.declared.refusal.Refusal.{Refusal}
@@ -60,6 +60,7 @@ by_desk w event desk_fault.Exists = tt
 by_desk w event desk_fault.EndpointBacklog = tt
 by_desk w event desk_fault.Backlog = tt
 by_desk w event desk_fault.TooManyEndpoints = tt
+by_desk w event desk_fault.TooManySubscriptions = tt
 by_desk w event desk_fault.WaitingFull = tt
 by_desk w event desk_fault.SeqExhausted = tt
 by_desk w event desk_fault.BatchOut = tt
@@ -146,6 +147,7 @@ may_be_told s event = at event
     at (on_line.Put name target max secrets) = changed _ (PutEndpoint name target max secrets)
     at (on_line.Secrets name secrets) = changed _ (SetSecrets name secrets)
     at (on_line.Enabled name flag) = changed _ (SetEnabled name flag)
+    at (on_line.Subscribed topic name flag) = changed _ (SetSubscribed topic name flag)
     at (on_line.Submit now name id body) = (by_staged Submission s.world _ (submit s.world now name id body).reply, by_lack s _ (submit s.world now name id body).memory)
     at (on_line.Told seq) = (by_told s.world _ (find_ticket s.tickets seq), tt)
     at (on_line.Claim now) = (by_claim s.world now (claim s.world now).reply, by_lack s _ (claim s.world now).memory)

@@ -57,6 +57,7 @@ wants : (s : Session) (event : Call) → AreWants (answer_to s event).unserved
 wants s (on.Put name target max secrets) = lacks_wants s _
 wants s (on.Secrets name secrets) = lacks_wants s _
 wants s (on.Enabled name flag) = lacks_wants s _
+wants s (on.Subscribed topic name flag) = lacks_wants s _
 wants s (on.Submit now name id body) = lacks_wants s _
 wants s (on.Told seq) = tt
 wants s (on.Claim now) = lacks_wants s _

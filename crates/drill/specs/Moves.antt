@@ -16,7 +16,7 @@ use Rattle.script_lines.specs.declared.reply.Told.TheVariants as as_told
 use Rattle.script_lines.specs.declared.reply.Reply.{Reply}
 use Rattle.script_lines.specs.declared.reply.Reply.TheVariants as says
 use Rattle.desk.specs.declared.command.Command as desk_command
-use Rattle.desk.specs.declared.command.Command.TheVariants.{PutEndpoint, SetSecrets, SetEnabled}
+use Rattle.desk.specs.declared.command.Command.TheVariants.{PutEndpoint, SetSecrets, SetEnabled, SetSubscribed}
 use Rattle.desk.specs.declared.refusal.Fault as desk_refusal
 use Rattle.desk.specs.declared.refusal.Fault.TheVariants as desk_fault
 use Rattle.desk.specs.declared.refusal.Refusal.{Refusal}
@@ -66,6 +66,7 @@ fault_of desk_fault.Exists = fault.Exists
 fault_of desk_fault.EndpointBacklog = fault.EndpointBacklog
 fault_of desk_fault.Backlog = fault.Backlog
 fault_of desk_fault.TooManyEndpoints = fault.TooManyEndpoints
+fault_of desk_fault.TooManySubscriptions = fault.TooManySubscriptions
 fault_of desk_fault.WaitingFull = fault.WaitingFull
 fault_of desk_fault.SeqExhausted = fault.SeqExhausted
 fault_of desk_fault.BatchOut = fault.BatchOut
@@ -225,6 +226,7 @@ abbrev pub answer_to : Session → Call → Answer
 answer_to s (on.Put name target max secrets) = commands s (PutEndpoint name target max secrets)
 answer_to s (on.Secrets name secrets) = commands s (SetSecrets name secrets)
 answer_to s (on.Enabled name flag) = commands s (SetEnabled name flag)
+answer_to s (on.Subscribed topic name flag) = commands s (SetSubscribed topic name flag)
 answer_to s (on.Submit now name id body) = stages Submission s (desk.submit s.world now name id body)
 answer_to s (on.Told seq) = stays s (told_reply s.world (find_ticket s.tickets seq))
 answer_to s (on.Claim now) = tells claim_reply s (claim s.world now)

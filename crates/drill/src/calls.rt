@@ -114,6 +114,9 @@ impl<L: Ledger> Core<L> {
             }),
             Call::Secrets { name, secrets } => self.command(Command::SetSecrets { name, secrets }),
             Call::Enabled { name, flag } => self.command(Command::SetEnabled { name, flag }),
+            Call::Subscribed { topic, name, flag } => {
+                self.command(Command::SetSubscribed { topic, name, flag })
+            }
             Call::Submit {
                 now,
                 name,

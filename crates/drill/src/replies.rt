@@ -31,6 +31,7 @@ fn fault_of(fault: desk::Fault) -> Fault
         desk::Fault::EndpointBacklog => Fault::EndpointBacklog,
         desk::Fault::Backlog => Fault::Backlog,
         desk::Fault::TooManyEndpoints => Fault::TooManyEndpoints,
+        desk::Fault::TooManySubscriptions => Fault::TooManySubscriptions,
         desk::Fault::WaitingFull => Fault::WaitingFull,
         desk::Fault::SeqExhausted => Fault::SeqExhausted,
         desk::Fault::BatchOut => Fault::BatchOut,
