@@ -1,14 +1,14 @@
 -- What a desk and a receipt say of the log of a run.
 use Rattle.std.specs.Prelude.{◌≡◌, ℕ, ◌+◌, List, ◌++◌, length, slice_get, Option, Some, Result, Ok, Err}
 use Rattle.relay_types.specs.declared.record.Record.{Record}
-use Rattle.relay_types.specs.declared.record.Record.TheVariants.{Put, Secrets, Enabled}
+use Rattle.relay_types.specs.declared.record.Record.TheVariants.{Put, Secrets, Enabled, Subscribed}
 use Rattle.relay_types.specs.Records.{records_of}
 use Rattle.relay_types.specs.Lists.{last_of}
 use Rattle.relay_types.specs.Values.{Seq}
 use Rattle.spool.specs.declared.ends.CommitEnd.{CommitEnd}
 use Rattle.spool.specs.Batches.{BatchValue}
 use Rattle.desk.specs.declared.command.Command.{Command}
-use Rattle.desk.specs.declared.command.Command.TheVariants.{PutEndpoint, SetSecrets, SetEnabled}
+use Rattle.desk.specs.declared.command.Command.TheVariants.{PutEndpoint, SetSecrets, SetEnabled, SetSubscribed}
 use Rattle.desk.specs.declared.refusal.Refusal.{Refusal}
 use Rattle.desk.specs.declared.ticket.CommandTicket.{CommandTicket}
 use Rattle.desk.specs.World.{World, all_records, settled_records}
@@ -29,6 +29,7 @@ abbrev pub entry_of : Command → Record
 entry_of (PutEndpoint name target max secrets) = Put name target max secrets
 entry_of (SetSecrets name secrets) = Secrets name secrets
 entry_of (SetEnabled name flag) = Enabled name flag
+entry_of (SetSubscribed topic name flag) = Subscribed topic name flag
 
 -- the number of a change's record, the record, and a prefix of a log
 pub record ChangeValue : Type 0 where

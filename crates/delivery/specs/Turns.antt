@@ -22,16 +22,8 @@ halted = refusal 1 fault.Halted
 -- how a round ends whose claim is refused: of numbers that are all given out nothing more is posted
 abbrev pub round_of : Fault → Round
 round_of fault.Halted = round.Halted
-round_of fault.UnknownEndpoint = round.Idle
-round_of fault.Conflict = round.Idle
-round_of fault.Exists = round.Idle
-round_of fault.EndpointBacklog = round.Idle
-round_of fault.Backlog = round.Idle
-round_of fault.TooManyEndpoints = round.Idle
-round_of fault.WaitingFull = round.Idle
-round_of fault.SeqExhausted = round.Idle
-round_of fault.BatchOut = round.Idle
 round_of fault.OutOfMemory = round.NoMemory
+round_of fault = round.Idle
 
 -- how a round ends whose pass has seen more settled records than are found
 abbrev pub went_back : (seen found : ℕ) → Round
@@ -46,16 +38,8 @@ claimed_by (Err why) = claimed.Nothing (round_of why.fault)
 -- what a committer does whose seal is refused: nothing yet, while another one has a batch
 abbrev pub refused : Fault → Option Next
 refused fault.Halted = Some (next.End (end.Halted cause.Halted))
-refused fault.UnknownEndpoint = None
-refused fault.Conflict = None
-refused fault.Exists = None
-refused fault.EndpointBacklog = None
-refused fault.Backlog = None
-refused fault.TooManyEndpoints = None
-refused fault.WaitingFull = None
-refused fault.SeqExhausted = None
-refused fault.BatchOut = None
 refused fault.OutOfMemory = Some next.Refused
+refused fault = None
 
 -- It commits a batch. If nothing waits it does nothing yet, or is finished once the end was asked for.
 abbrev pub next_by : (closing : Bool) → Result (Option BatchValue) Refusal → Option Next
