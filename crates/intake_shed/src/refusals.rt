@@ -57,6 +57,9 @@ fn fault_reply(fault: Fault) -> Reply
         Fault::EndpointBacklog => Reply::refused_now("{\"error\":\"EndpointBacklog\"}"),
         Fault::Backlog => Reply::refused_now("{\"error\":\"Backlog\"}"),
         Fault::TooManyEndpoints => Reply::refused(409, "{\"error\":\"TooManyEndpoints\"}"),
+        Fault::TooManySubscriptions => {
+            Reply::refused(409, "{\"error\":\"TooManySubscriptions\"}")
+        }
         Fault::WaitingFull => Reply::refused_now("{\"error\":\"WaitingFull\"}"),
         Fault::SeqExhausted => Reply::refused_now("{\"error\":\"SeqExhausted\"}"),
         Fault::BatchOut => Reply::refused_now("{\"error\":\"BatchOut\"}"),
