@@ -69,6 +69,38 @@ pub(crate) fn enable<L: Ledger>(
     Ok(command(desk, Command::SetEnabled { name, flag }, wanted))
 }
 
+pub(crate) fn subscribe<L: Ledger>(
+    desk: &mut Desk<L>,
+    topic: &[u8],
+    name: &[u8],
+    flag: bool,
+    wanted: Answer,
+) -> Result<bool, Fail> {
+    let topic = Name::read(topic)?;
+    let name = Name::read(name)?;
+    let given = Command::SetSubscribed { topic, name, flag };
+    Ok(command(desk, given, wanted))
+}
+
+/// Subscribes endpoint `a` to topics `t0`, `t1` and so on, from this one on so many.
+pub(crate) fn subscribe_many<L: Ledger>(
+    desk: &mut Desk<L>,
+    alloc: Global,
+    from: u64,
+    count: u64,
+    first: u64,
+) -> Result<bool, Fail> {
+    for number in 0..count {
+        let place = from.saturating_add(number);
+        let topic = format!(in alloc; "t{place}")?;
+        let wanted = Answer::Record(first.saturating_add(number));
+        if !subscribe(desk, topic.as_bytes(), b"a", true, wanted)? {
+            return Ok(false);
+        }
+    }
+    Ok(true)
+}
+
 fn is_ticket(ticket: Ticket, name: Name, id: MsgId, wanted: Answer) -> bool {
     is_record(ticket.seq, wanted) && ticket.name.is(name) && ticket.id.is(id)
 }

@@ -334,7 +334,7 @@ fn a_spend_after_a_halt_stages_nothing(rt: HostRuntime) -> Result<(), Fail> {
 }
 
 /// At the desk of as many records as there may be.
-static REFUSALS_COME_IN_THEIR_ORDER: [Step; 6] = [
+static REFUSALS_COME_IN_THEIR_ORDER: [Step; 8] = [
     Step::Claim(999, Given::Nothing),
     Step::Claim(1000, Given::Refused(2, Fault::SeqExhausted)),
     Step::Submit(
@@ -345,6 +345,8 @@ static REFUSALS_COME_IN_THEIR_ORDER: [Step; 6] = [
         Answer::Refused(7, Fault::SeqExhausted),
     ),
     Step::Enable(b"a", true, Answer::Refused(6, Fault::SeqExhausted)),
+    Step::Subscribe(b"t", b"a", true, Answer::Refused(6, Fault::SeqExhausted)),
+    Step::Subscribe(b"t", b"b", true, Answer::Refused(2, Fault::UnknownEndpoint)),
     Step::HaltByNothing(true),
     Step::Claim(1000, Given::Refused(1, Fault::Halted)),
 ];

@@ -23,6 +23,8 @@ mod requests;
 #[cfg(test)]
 mod steps;
 #[cfg(test)]
+mod topics;
+#[cfg(test)]
 mod turns;
 #[cfg(test)]
 mod waits;

@@ -94,6 +94,11 @@ pub(crate) enum Step {
     /// Gives the endpoint these secrets.
     SetSecrets(&'static [u8], &'static [&'static [u8]], Answer),
     Enable(&'static [u8], bool, Answer),
+    /// Subscribes the endpoint of this name to the topic before it, or ends that.
+    Subscribe(&'static [u8], &'static [u8], bool, Answer),
+    /// Subscribes endpoint `a` to topics `t0`, `t1` and so on, from this one on so many. The first one's record has this
+    /// number.
+    Subscribes(u64, u64, u64),
     /// Submits an event at this moment, to this endpoint, with this id and body.
     Submit(u64, &'static [u8], &'static [u8], &'static [u8], Answer),
     /// Submits the twenty events `a` to `t` of 1000 to this endpoint. The first one's record has this number.

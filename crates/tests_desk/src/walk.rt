@@ -191,6 +191,12 @@ fn step<L: Ledger>(
             calls::set_secrets(desk, alloc, name, texts, answer)
         }
         Step::Enable(name, flag, answer) => calls::enable(desk, name, flag, answer),
+        Step::Subscribe(topic, name, flag, answer) => {
+            calls::subscribe(desk, topic, name, flag, answer)
+        }
+        Step::Subscribes(from, count, first) => {
+            calls::subscribe_many(desk, alloc, from, count, first)
+        }
         Step::Submit(now, name, id, text, answer) => {
             calls::submit(desk, alloc, now, name, id, text, answer)
         }
