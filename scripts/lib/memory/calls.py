@@ -169,12 +169,13 @@ SCRIPT = [
     ("spend 1 1001 500 100000", "success limit 20 inflight 0 staged 2"),
     ("secrets a " + SECRET, "staged 3"),
     ("enable a", "staged 4"),
-    ("submit 1001 a msg_2 -", "staged 5"),
-    ("seal", "sealed 2..6"),
-    ("commit", "committed 6"),
-    ("settle", "settled 6"),
-    ("told 5", "settled"),
-    ("stop", "reopened 6"),
+    ("subscribe t a", "staged 5"),
+    ("submit 1001 a msg_2 -", "staged 6"),
+    ("seal", "sealed 2..7"),
+    ("commit", "committed 7"),
+    ("settle", "settled 7"),
+    ("told 6", "settled"),
+    ("stop", "reopened 7"),
 ]
 LOOKS = ["show a", "show a msg_1", "show a msg_2", "limits a", "told 0", "told 1"]
 REFUSED_STOP = "refused stop"
