@@ -1,9 +1,10 @@
 -- A request stands on one line of the table at most.
-use Rattle.std.proofs.Common.{◌≡◌, ℕ, false, List, [], ◌++◌, IsTrue, codes, bytes_eq, refl, sym, ap, ◌∙◌}
+use Rattle.std.proofs.Common.{◌≡◌, ℕ, false, List, [], ◌++◌, take, IsTrue, codes, bytes_eq, refl, sym, ap, ◌∙◌}
 use Rattle.std.proofs.lemmas.Bool.{and_parts}
 use Rattle.text_lines.specs.Parts.{has_no}
 use Rattle.text_lines.proofs.NumberLaws.{bytes_not_equal}
-use Rattle.intake_shed.specs.Lines.{Line, Put, SetSecrets, SetEnabled, Submit, Totals, Endpoint, Event, IsLine, endpoint_path}
+use Rattle.intake_shed.specs.Lines.{Line, Put, SetSecrets, SetEnabled, SetSubscribed, Submit, Totals, Endpoint, Event}
+use Rattle.intake_shed.specs.Lines.{IsLine, endpoint_path}
 use Rattle.intake_shed.specs.Routes.{IsBehindName, StartsAt}
 use Rattle.intake_shed.proofs.PathLaws.{behind_name}
 
@@ -13,6 +14,12 @@ differ h k e = bytes_not_equal _ _ false e refl (sym h ∙ k)
 
 no_rest : (id : List ℕ) → [] ≡ codes "/events/" ++ id → ⊥
 no_rest id e = cc
+
+not_topics : (rest topic : List ℕ) → false ≡ bytes_eq (take 2 rest) (codes "/t") → rest ≡ codes "/topics/" ++ topic → ⊥
+not_topics rest topic e h = bytes_not_equal (take 2 rest) (codes "/t") false e refl (ap (take 2) h)
+
+same_topic : (a b : List ℕ) → codes "/topics/" ++ a ≡ codes "/topics/" ++ b → a ≡ b
+same_topic a b e = cc
 
 same_id : (a b : List ℕ) → codes "/events/" ++ a ≡ codes "/events/" ++ b → a ≡ b
 same_id a b e = cc
@@ -24,6 +31,8 @@ one_behind (Put x) Totals method name rest h k = absurd k
 one_behind (Put x) (Put y) method name rest (m, n, r) (m', n', r') = ap Put (sym n ∙ n')
 one_behind (Put x) (SetSecrets y) method name rest (m, n, r) (m', n', r') = absurd (differ r r' refl)
 one_behind (Put x) (SetEnabled y) method name rest (m, n, r) (m', n', r') = absurd (differ r r' refl)
+one_behind (Put x) (SetSubscribed y u) method name rest (m, n, r) (m', n', r', clear') =
+    absurd (not_topics [] u refl (sym r ∙ r'))
 one_behind (Put x) (Submit y) method name rest (m, n, r) (m', n', r') = absurd (differ m m' refl)
 one_behind (Put x) (Endpoint y) method name rest (m, n, r) (m', n', r') = absurd (differ m m' refl)
 one_behind (Put x) (Event y j) method name rest (m, n, r) (m', n', r', clear') = absurd (differ m m' refl)
@@ -31,6 +40,8 @@ one_behind (SetSecrets x) Totals method name rest h k = absurd k
 one_behind (SetSecrets x) (Put y) method name rest (m, n, r) (m', n', r') = absurd (differ r r' refl)
 one_behind (SetSecrets x) (SetSecrets y) method name rest (m, n, r) (m', n', r') = ap SetSecrets (sym n ∙ n')
 one_behind (SetSecrets x) (SetEnabled y) method name rest (m, n, r) (m', n', r') = absurd (differ r r' refl)
+one_behind (SetSecrets x) (SetSubscribed y u) method name rest (m, n, r) (m', n', r', clear') =
+    absurd (not_topics (codes "/secrets") u refl (sym r ∙ r'))
 one_behind (SetSecrets x) (Submit y) method name rest (m, n, r) (m', n', r') = absurd (differ m m' refl)
 one_behind (SetSecrets x) (Endpoint y) method name rest (m, n, r) (m', n', r') = absurd (differ m m' refl)
 one_behind (SetSecrets x) (Event y j) method name rest (m, n, r) (m', n', r', clear') = absurd (differ m m' refl)
@@ -38,13 +49,31 @@ one_behind (SetEnabled x) Totals method name rest h k = absurd k
 one_behind (SetEnabled x) (Put y) method name rest (m, n, r) (m', n', r') = absurd (differ r r' refl)
 one_behind (SetEnabled x) (SetSecrets y) method name rest (m, n, r) (m', n', r') = absurd (differ r r' refl)
 one_behind (SetEnabled x) (SetEnabled y) method name rest (m, n, r) (m', n', r') = ap SetEnabled (sym n ∙ n')
+one_behind (SetEnabled x) (SetSubscribed y u) method name rest (m, n, r) (m', n', r', clear') =
+    absurd (not_topics (codes "/enabled") u refl (sym r ∙ r'))
 one_behind (SetEnabled x) (Submit y) method name rest (m, n, r) (m', n', r') = absurd (differ m m' refl)
 one_behind (SetEnabled x) (Endpoint y) method name rest (m, n, r) (m', n', r') = absurd (differ m m' refl)
 one_behind (SetEnabled x) (Event y j) method name rest (m, n, r) (m', n', r', clear') = absurd (differ m m' refl)
+one_behind (SetSubscribed x t) Totals method name rest h k = absurd k
+one_behind (SetSubscribed x t) (Put y) method name rest (m, n, r, clear) (m', n', r') =
+    absurd (not_topics [] t refl (sym r' ∙ r))
+one_behind (SetSubscribed x t) (SetSecrets y) method name rest (m, n, r, clear) (m', n', r') =
+    absurd (not_topics (codes "/secrets") t refl (sym r' ∙ r))
+one_behind (SetSubscribed x t) (SetEnabled y) method name rest (m, n, r, clear) (m', n', r') =
+    absurd (not_topics (codes "/enabled") t refl (sym r' ∙ r))
+one_behind (SetSubscribed x t) (SetSubscribed y u) method name rest (m, n, r, clear) (m', n', r', clear') =
+    let e : x ≡ y = sym n ∙ n' in
+    let same : t ≡ u = same_topic t u (sym r ∙ r') in
+    cc
+one_behind (SetSubscribed x t) (Submit y) method name rest (m, n, r, clear) (m', n', r') = absurd (differ m m' refl)
+one_behind (SetSubscribed x t) (Endpoint y) method name rest (m, n, r, clear) (m', n', r') = absurd (differ m m' refl)
+one_behind (SetSubscribed x t) (Event y j) method name rest (m, n, r, clear) (m', n', r', clear') =
+    absurd (differ m m' refl)
 one_behind (Submit x) Totals method name rest h k = absurd k
 one_behind (Submit x) (Put y) method name rest (m, n, r) (m', n', r') = absurd (differ m m' refl)
 one_behind (Submit x) (SetSecrets y) method name rest (m, n, r) (m', n', r') = absurd (differ m m' refl)
 one_behind (Submit x) (SetEnabled y) method name rest (m, n, r) (m', n', r') = absurd (differ m m' refl)
+one_behind (Submit x) (SetSubscribed y u) method name rest (m, n, r) (m', n', r', clear') = absurd (differ m m' refl)
 one_behind (Submit x) (Submit y) method name rest (m, n, r) (m', n', r') = ap Submit (sym n ∙ n')
 one_behind (Submit x) (Endpoint y) method name rest (m, n, r) (m', n', r') = absurd (differ m m' refl)
 one_behind (Submit x) (Event y j) method name rest (m, n, r) (m', n', r', clear') = absurd (differ m m' refl)
@@ -52,6 +81,7 @@ one_behind (Endpoint x) Totals method name rest h k = absurd k
 one_behind (Endpoint x) (Put y) method name rest (m, n, r) (m', n', r') = absurd (differ m m' refl)
 one_behind (Endpoint x) (SetSecrets y) method name rest (m, n, r) (m', n', r') = absurd (differ m m' refl)
 one_behind (Endpoint x) (SetEnabled y) method name rest (m, n, r) (m', n', r') = absurd (differ m m' refl)
+one_behind (Endpoint x) (SetSubscribed y u) method name rest (m, n, r) (m', n', r', clear') = absurd (differ m m' refl)
 one_behind (Endpoint x) (Submit y) method name rest (m, n, r) (m', n', r') = absurd (differ m m' refl)
 one_behind (Endpoint x) (Endpoint y) method name rest (m, n, r) (m', n', r') = ap Endpoint (sym n ∙ n')
 one_behind (Endpoint x) (Event y j) method name rest (m, n, r) (m', n', r', clear') = absurd (no_rest j (sym r ∙ r'))
@@ -59,6 +89,8 @@ one_behind (Event x i) Totals method name rest h k = absurd k
 one_behind (Event x i) (Put y) method name rest (m, n, r, clear) (m', n', r') = absurd (differ m m' refl)
 one_behind (Event x i) (SetSecrets y) method name rest (m, n, r, clear) (m', n', r') = absurd (differ m m' refl)
 one_behind (Event x i) (SetEnabled y) method name rest (m, n, r, clear) (m', n', r') = absurd (differ m m' refl)
+one_behind (Event x i) (SetSubscribed y u) method name rest (m, n, r, clear) (m', n', r', clear') =
+    absurd (differ m m' refl)
 one_behind (Event x i) (Submit y) method name rest (m, n, r, clear) (m', n', r') = absurd (differ m m' refl)
 one_behind (Event x i) (Endpoint y) method name rest (m, n, r, clear) (m', n', r') = absurd (no_rest i (sym r' ∙ r))
 one_behind (Event x i) (Event y j) method name rest (m, n, r, clear) (m', n', r', clear') = let e : x ≡ y = sym n ∙ n' in let t : i ≡ j = same_id i j (sym r ∙ r') in cc
@@ -76,6 +108,9 @@ pub one_line : (a b : Line) (method path : List ℕ) → IsLine a method path �
 one_line (Put x) b method path h k = with_name (Put x) b method path x [] h.of_path (and_parts _ _ h.no_slash).0 tt h k
 one_line (SetSecrets x) b method path h k = with_name (SetSecrets x) b method path x (codes "/secrets") h.of_path (and_parts _ _ h.no_slash).0 refl h k
 one_line (SetEnabled x) b method path h k = with_name (SetEnabled x) b method path x (codes "/enabled") h.of_path (and_parts _ _ h.no_slash).0 refl h k
+one_line (SetSubscribed x t) b method path h k =
+    with_name (SetSubscribed x t) b method path x (codes "/topics/" ++ t)
+    h.of_path (and_parts _ _ h.no_slash).0 refl h k
 one_line (Submit x) b method path h k = with_name (Submit x) b method path x (codes "/events") h.of_path (and_parts _ _ h.no_slash).0 refl h k
 one_line (Endpoint x) b method path h k = with_name (Endpoint x) b method path x [] h.of_path (and_parts _ _ h.no_slash).0 tt h k
 one_line (Event x i) b method path h k =
@@ -84,6 +119,8 @@ one_line Totals Totals method path h k = refl
 one_line Totals (Put y) method path h k = absurd (not_totals path y [] h.of_path k.of_path)
 one_line Totals (SetSecrets y) method path h k = absurd (not_totals path y (codes "/secrets") h.of_path k.of_path)
 one_line Totals (SetEnabled y) method path h k = absurd (not_totals path y (codes "/enabled") h.of_path k.of_path)
+one_line Totals (SetSubscribed y u) method path h k =
+    absurd (not_totals path y (codes "/topics/" ++ u) h.of_path k.of_path)
 one_line Totals (Submit y) method path h k = absurd (not_totals path y (codes "/events") h.of_path k.of_path)
 one_line Totals (Endpoint y) method path h k = absurd (not_totals path y [] h.of_path k.of_path)
 one_line Totals (Event y j) method path h k = absurd (not_totals path y (codes "/events/" ++ j) h.of_path k.of_path)

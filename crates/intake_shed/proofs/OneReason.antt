@@ -1,5 +1,6 @@
 -- A request asks for one thing at most, or is refused for one check, and not both.
-use Rattle.std.proofs.Common.{◌≡◌, ◌≢◌, ℕ, Bool, true, false, List, [], ◌∷◌, Err, IsTrue, ◌&&◌, ◌⊎◌, inl, inr, refl, sym, ap, ◌∙◌, subst}
+use Rattle.std.proofs.Common.{◌≡◌, ◌≢◌, ℕ, Bool, true, false, List, [], ◌∷◌, Err, IsTrue, ◌&&◌, ◌⊎◌, inl, inr, codes}
+use Rattle.std.proofs.Common.{refl, sym, ap, ◌∙◌, subst}
 use Rattle.std.specs.List.{join_with_byte}
 use Rattle.std.proofs.lemmas.Bool.{and_parts}
 use Rattle.text_lines.specs.Words.{AreSecretTexts}
@@ -9,7 +10,8 @@ use Rattle.serde_json.specs.Data.{Num, unsigned, Data, boolean, number, string, 
 use Rattle.relay_types.specs.Values.{Text, is_target, is_max_limit}
 use Rattle.desk.specs.declared.command.Command.TheVariants as change
 use Rattle.intake_shed.specs.Bodies.{IsJson, HasPutMembers, HasSecrets, HasFlag, strings, is_max, AreNoSecrets, Says, IsBadMember, IsBadPut, IsBadSecrets, IsBadFlag, OfBody}
-use Rattle.intake_shed.specs.Lines.{Line, Put, SetSecrets, SetEnabled, Submit, Totals, Endpoint, Event, before_query, has_name}
+use Rattle.intake_shed.specs.Lines.{Line, Put, SetSecrets, SetEnabled, SetSubscribed, Submit, Totals, Endpoint, Event}
+use Rattle.intake_shed.specs.Lines.{before_query, has_name}
 use Rattle.intake_shed.specs.Replies.{ask_reply, out_of_memory}
 use Rattle.intake_shed.specs.Requests.{IsOn, AsksFor, IsOfBody, IsBadBody, IsBadOn, IsRefusedFor, IsNotReadFor, Gives, Tells}
 use Rattle.intake_shed.specs.Requests.{line_asked, has_room, has_id, has_parts, bytes_of}
@@ -50,8 +52,8 @@ same_array a b e =
 one_list : (value : Data) (a b : List Text) → HasSecrets value a → HasSecrets value b → a ≡ b
 one_list value a b h k = same_array a b (some_equal (sym h ∙ k))
 
-one_flag : (value : Data) (a b : Bool) → HasFlag value a → HasFlag value b → a ≡ b
-one_flag value a b h k =
+one_flag : (value : Data) (name : Text) (a b : Bool) → HasFlag value name a → HasFlag value name b → a ≡ b
+one_flag value name a b h k =
     let same : boolean a ≡ boolean b = some_equal (sym h ∙ k) in
     cc
 
@@ -194,19 +196,24 @@ one_secrets_fault body a b (inr (e, (v, json, (list, has, bad)))) (inl (f, lacks
 one_secrets_fault body a b (inr (e, h)) (inr (f, k)) = e ∙ sym f
 
 -- the body of a flag lacks it
-abbrev LacksFlag : (body : Text) → Type 0
-LacksFlag body = (value : Data) → IsJson body value → (flag : Bool) → ¬ HasFlag value flag
+abbrev LacksFlag : (name body : Text) → Type 0
+LacksFlag name body = (value : Data) → IsJson body value → (flag : Bool) → ¬ HasFlag value name flag
 
-flag_stage : (body : Text) (why : AskFault) → why ≢ fault.OutOfMemory → OfBody IsBadFlag body why → (why ≡ fault.BadBody) × LacksFlag body
-flag_stage body fault.NotFound m h = absurd h.2
-flag_stage body fault.BadName m h = absurd h.2
-flag_stage body fault.TooLong m h = absurd h.2
-flag_stage body fault.BadId m h = absurd h.2
-flag_stage body fault.BadBody m h = (refl, h)
-flag_stage body fault.BadUrl m h = absurd h.2
-flag_stage body fault.BadMax m h = absurd h.2
-flag_stage body fault.BadSecret m h = absurd h.2
-flag_stage body fault.OutOfMemory m h = absurd (m refl)
+flag_stage : (name body : Text) (why : AskFault) → why ≢ fault.OutOfMemory → OfBody (IsBadFlag name) body why
+    → (why ≡ fault.BadBody) × LacksFlag name body
+flag_stage name body fault.NotFound m h = absurd h.2
+flag_stage name body fault.BadName m h = absurd h.2
+flag_stage name body fault.TooLong m h = absurd h.2
+flag_stage name body fault.BadId m h = absurd h.2
+flag_stage name body fault.BadBody m h = (refl, h)
+flag_stage name body fault.BadUrl m h = absurd h.2
+flag_stage name body fault.BadMax m h = absurd h.2
+flag_stage name body fault.BadSecret m h = absurd h.2
+flag_stage name body fault.OutOfMemory m h = absurd (m refl)
+
+one_flag_fault : (name body : Text) (a b : AskFault) → a ≢ fault.OutOfMemory → b ≢ fault.OutOfMemory
+    → OfBody (IsBadFlag name) body a → OfBody (IsBadFlag name) body b → a ≡ b
+one_flag_fault name body a b m n h k = (flag_stage name body a m h).0 ∙ sym (flag_stage name body b n k).0
 
 -- the body of an event is never bad
 no_bad_event : (name body : Text) (why : AskFault) → why ≢ fault.OutOfMemory → IsBadBody (Submit name) body why → ⊥
@@ -224,7 +231,8 @@ one_bad_body : (line : Line) (body : Text) (a b : AskFault) → a ≢ fault.OutO
     → IsBadBody line body a → IsBadBody line body b → a ≡ b
 one_bad_body (Put name) body a b m n h k = one_put_fault body a b m n (put_stage body a m h) (put_stage body b n k)
 one_bad_body (SetSecrets name) body a b m n h k = one_secrets_fault body a b (secrets_stage body a m h) (secrets_stage body b n k)
-one_bad_body (SetEnabled name) body a b m n h k = (flag_stage body a m h).0 ∙ sym (flag_stage body b n k).0
+one_bad_body (SetEnabled name) body a b m n h k = one_flag_fault (codes "enabled") body a b m n h k
+one_bad_body (SetSubscribed name topic) body a b m n h k = one_flag_fault (codes "subscribed") body a b m n h k
 one_bad_body (Submit name) body a b m n h k = absurd (no_bad_event name body a m h)
 one_bad_body Totals body a b m n h k = absurd h
 one_bad_body (Endpoint name) body a b m n h k = absurd h
@@ -358,7 +366,9 @@ says_no_bad ask fresh (asked.Change (change.PutEndpoint name url limit secrets))
 says_no_bad ask fresh (asked.Change (change.SetSecrets name secrets)) why m (value, json, (texts, has, are)) h =
     says_secrets (bytes_of ask.body) texts secrets value why json has are (secrets_stage (bytes_of ask.body) why m h)
 says_no_bad ask fresh (asked.Change (change.SetEnabled name flag)) why m (value, json, has) h =
-    (flag_stage (bytes_of ask.body) why m h).1 value json flag has
+    (flag_stage (codes "enabled") (bytes_of ask.body) why m h).1 value json flag has
+says_no_bad ask fresh (asked.Change (change.SetSubscribed topic name flag)) why m (value, json, has) h =
+    (flag_stage (codes "subscribed") (bytes_of ask.body) why m h).1 value json flag has
 says_no_bad ask fresh (asked.Post name id body) why m says h = no_bad_event name (bytes_of ask.body) why m h
 says_no_bad ask fresh asked.Totals why m says h = h
 says_no_bad ask fresh (asked.Endpoint name) why m says h = h
@@ -386,19 +396,19 @@ abbrev name_of : Line → Text
 name_of (Put name) = name
 name_of (SetSecrets name) = name
 name_of (SetEnabled name) = name
+name_of (SetSubscribed name topic) = name
 name_of (Submit name) = name
 name_of Totals = []
 name_of (Endpoint name) = name
 name_of (Event name id) = name
 
 abbrev id_in : Line → Text
-id_in (Put name) = []
-id_in (SetSecrets name) = []
-id_in (SetEnabled name) = []
-id_in (Submit name) = []
-id_in Totals = []
-id_in (Endpoint name) = []
 id_in (Event name id) = id
+id_in line = []
+
+abbrev topic_of : Line → Text
+topic_of (SetSubscribed name topic) = topic
+topic_of line = []
 
 one_put : (x y u v : Text) (l k : ℕ) (s t : List Text) (body : Text) → x ≡ y
     → (value : Data) × IsJson body value × Says value (change.PutEndpoint x u l s)
@@ -424,19 +434,25 @@ one_set x y s t body e (value, json, (texts, has, are)) (value', json', (texts',
     let of_secrets : s ≡ t = one_secrets_list texts s t are (subst (λ ts. AreSecretTexts ts t) of_list are') in
     cc
 
-one_flagged : (x y : Text) (u v : Bool) (body : Text) → x ≡ y
-    → (value : Data) × IsJson body value × Says value (change.SetEnabled x u)
-    → (value : Data) × IsJson body value × Says value (change.SetEnabled y v)
-    → asked.Change (change.SetEnabled x u) ≡ asked.Change (change.SetEnabled y v)
-one_flagged x y u v body e (value, json, has) (value', json', has') =
+same_flag : (name body : Text) (u v : Bool) → (value : Data) × IsJson body value × HasFlag value name u
+    → (value : Data) × IsJson body value × HasFlag value name v → u ≡ v
+same_flag name body u v (value, json, has) (value', json', has') =
     let same : value' ≡ value = one_value body value' value json' json in
-    let of_flag : u ≡ v = one_flag value u v has (subst (λ d. HasFlag d v) same has') in
-    cc
+    one_flag value name u v has (subst (λ d. HasFlag d name v) same has')
+
+one_flagged : (x y : Text) (u v : Bool) → x ≡ y → u ≡ v
+    → asked.Change (change.SetEnabled x u) ≡ asked.Change (change.SetEnabled y v)
+one_flagged x y u v e of_flag = cc
+
+one_subscribed : (s t x y : Text) (u v : Bool) → s ≡ t → x ≡ y → u ≡ v
+    → asked.Change (change.SetSubscribed s x u) ≡ asked.Change (change.SetSubscribed t y v)
+one_subscribed s t x y u v of_topic e of_flag = cc
 
 one_of_body : (a b : Asked) (ask : Ask) (fresh : Text) → line_asked a ≡ line_asked b → IsOfBody ask fresh a → IsOfBody ask fresh b → a ≡ b
 one_of_body (asked.Change (change.PutEndpoint x u l s)) (asked.Change (change.PutEndpoint y v k t)) ask fresh e h g = one_put x y u v l k s t (bytes_of ask.body) (ap name_of e) h g
 one_of_body (asked.Change (change.PutEndpoint x u l s)) (asked.Change (change.SetSecrets y t)) ask fresh e h g = cc
 one_of_body (asked.Change (change.PutEndpoint x u l s)) (asked.Change (change.SetEnabled y v)) ask fresh e h g = cc
+one_of_body (asked.Change (change.PutEndpoint x u l s)) (asked.Change (change.SetSubscribed t y v)) ask fresh e h g = cc
 one_of_body (asked.Change (change.PutEndpoint x u l s)) (asked.Post y v t) ask fresh e h g = cc
 one_of_body (asked.Change (change.PutEndpoint x u l s)) asked.Totals ask fresh e h g = cc
 one_of_body (asked.Change (change.PutEndpoint x u l s)) (asked.Endpoint y) ask fresh e h g = cc
@@ -444,20 +460,34 @@ one_of_body (asked.Change (change.PutEndpoint x u l s)) (asked.Event y v) ask fr
 one_of_body (asked.Change (change.SetSecrets x s)) (asked.Change (change.PutEndpoint y v k t)) ask fresh e h g = cc
 one_of_body (asked.Change (change.SetSecrets x s)) (asked.Change (change.SetSecrets y t)) ask fresh e h g = one_set x y s t (bytes_of ask.body) (ap name_of e) h g
 one_of_body (asked.Change (change.SetSecrets x s)) (asked.Change (change.SetEnabled y v)) ask fresh e h g = cc
+one_of_body (asked.Change (change.SetSecrets x s)) (asked.Change (change.SetSubscribed t y v)) ask fresh e h g = cc
 one_of_body (asked.Change (change.SetSecrets x s)) (asked.Post y v t) ask fresh e h g = cc
 one_of_body (asked.Change (change.SetSecrets x s)) asked.Totals ask fresh e h g = cc
 one_of_body (asked.Change (change.SetSecrets x s)) (asked.Endpoint y) ask fresh e h g = cc
 one_of_body (asked.Change (change.SetSecrets x s)) (asked.Event y v) ask fresh e h g = cc
 one_of_body (asked.Change (change.SetEnabled x u)) (asked.Change (change.PutEndpoint y v k t)) ask fresh e h g = cc
 one_of_body (asked.Change (change.SetEnabled x u)) (asked.Change (change.SetSecrets y t)) ask fresh e h g = cc
-one_of_body (asked.Change (change.SetEnabled x u)) (asked.Change (change.SetEnabled y v)) ask fresh e h g = one_flagged x y u v (bytes_of ask.body) (ap name_of e) h g
+one_of_body (asked.Change (change.SetEnabled x u)) (asked.Change (change.SetEnabled y v)) ask fresh e h g =
+    one_flagged x y u v (ap name_of e) (same_flag (codes "enabled") (bytes_of ask.body) u v h g)
+one_of_body (asked.Change (change.SetEnabled x u)) (asked.Change (change.SetSubscribed t y v)) ask fresh e h g = cc
 one_of_body (asked.Change (change.SetEnabled x u)) (asked.Post y v t) ask fresh e h g = cc
 one_of_body (asked.Change (change.SetEnabled x u)) asked.Totals ask fresh e h g = cc
 one_of_body (asked.Change (change.SetEnabled x u)) (asked.Endpoint y) ask fresh e h g = cc
 one_of_body (asked.Change (change.SetEnabled x u)) (asked.Event y v) ask fresh e h g = cc
+one_of_body (asked.Change (change.SetSubscribed s x u)) (asked.Change (change.PutEndpoint y v k t)) ask fresh e h g = cc
+one_of_body (asked.Change (change.SetSubscribed s x u)) (asked.Change (change.SetSecrets y t)) ask fresh e h g = cc
+one_of_body (asked.Change (change.SetSubscribed s x u)) (asked.Change (change.SetEnabled y v)) ask fresh e h g = cc
+one_of_body (asked.Change (change.SetSubscribed s x u)) (asked.Change (change.SetSubscribed t y v)) ask fresh e h g =
+    one_subscribed s t x y u v (ap topic_of e) (ap name_of e)
+    (same_flag (codes "subscribed") (bytes_of ask.body) u v h g)
+one_of_body (asked.Change (change.SetSubscribed s x u)) (asked.Post y v t) ask fresh e h g = cc
+one_of_body (asked.Change (change.SetSubscribed s x u)) asked.Totals ask fresh e h g = cc
+one_of_body (asked.Change (change.SetSubscribed s x u)) (asked.Endpoint y) ask fresh e h g = cc
+one_of_body (asked.Change (change.SetSubscribed s x u)) (asked.Event y v) ask fresh e h g = cc
 one_of_body (asked.Post x u s) (asked.Change (change.PutEndpoint y v k t)) ask fresh e h g = cc
 one_of_body (asked.Post x u s) (asked.Change (change.SetSecrets y t)) ask fresh e h g = cc
 one_of_body (asked.Post x u s) (asked.Change (change.SetEnabled y v)) ask fresh e h g = cc
+one_of_body (asked.Post x u s) (asked.Change (change.SetSubscribed t y v)) ask fresh e h g = cc
 one_of_body (asked.Post x u s) (asked.Post y v t) ask fresh e h g = let n : x ≡ y = ap name_of e in let of_id : u ≡ v = h.0 ∙ sym g.0 in let of_body : s ≡ t = h.1 ∙ sym g.1 in cc
 one_of_body (asked.Post x u s) asked.Totals ask fresh e h g = cc
 one_of_body (asked.Post x u s) (asked.Endpoint y) ask fresh e h g = cc
@@ -465,6 +495,7 @@ one_of_body (asked.Post x u s) (asked.Event y v) ask fresh e h g = cc
 one_of_body asked.Totals (asked.Change (change.PutEndpoint y v k t)) ask fresh e h g = cc
 one_of_body asked.Totals (asked.Change (change.SetSecrets y t)) ask fresh e h g = cc
 one_of_body asked.Totals (asked.Change (change.SetEnabled y v)) ask fresh e h g = cc
+one_of_body asked.Totals (asked.Change (change.SetSubscribed t y v)) ask fresh e h g = cc
 one_of_body asked.Totals (asked.Post y v t) ask fresh e h g = cc
 one_of_body asked.Totals asked.Totals ask fresh e h g = refl
 one_of_body asked.Totals (asked.Endpoint y) ask fresh e h g = cc
@@ -472,6 +503,7 @@ one_of_body asked.Totals (asked.Event y v) ask fresh e h g = cc
 one_of_body (asked.Endpoint x) (asked.Change (change.PutEndpoint y v k t)) ask fresh e h g = cc
 one_of_body (asked.Endpoint x) (asked.Change (change.SetSecrets y t)) ask fresh e h g = cc
 one_of_body (asked.Endpoint x) (asked.Change (change.SetEnabled y v)) ask fresh e h g = cc
+one_of_body (asked.Endpoint x) (asked.Change (change.SetSubscribed t y v)) ask fresh e h g = cc
 one_of_body (asked.Endpoint x) (asked.Post y v t) ask fresh e h g = cc
 one_of_body (asked.Endpoint x) asked.Totals ask fresh e h g = cc
 one_of_body (asked.Endpoint x) (asked.Endpoint y) ask fresh e h g = let n : x ≡ y = ap name_of e in cc
@@ -479,6 +511,7 @@ one_of_body (asked.Endpoint x) (asked.Event y v) ask fresh e h g = cc
 one_of_body (asked.Event x u) (asked.Change (change.PutEndpoint y v k t)) ask fresh e h g = cc
 one_of_body (asked.Event x u) (asked.Change (change.SetSecrets y t)) ask fresh e h g = cc
 one_of_body (asked.Event x u) (asked.Change (change.SetEnabled y v)) ask fresh e h g = cc
+one_of_body (asked.Event x u) (asked.Change (change.SetSubscribed t y v)) ask fresh e h g = cc
 one_of_body (asked.Event x u) (asked.Post y v t) ask fresh e h g = cc
 one_of_body (asked.Event x u) asked.Totals ask fresh e h g = cc
 one_of_body (asked.Event x u) (asked.Endpoint y) ask fresh e h g = cc

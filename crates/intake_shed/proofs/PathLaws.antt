@@ -4,7 +4,8 @@ use Rattle.std.specs.List.{list_all, position_or_len}
 use Rattle.std.proofs.lemmas.Bool.{and_parts, and_from, eqb-true, eq-eqb}
 use Rattle.text_lines.specs.Parts.{has_no}
 use Rattle.text_lines.proofs.NumberLaws.{bytes_not_equal, true_not_false}
-use Rattle.intake_shed.specs.Lines.{Line, Put, SetSecrets, SetEnabled, Submit, Totals, Endpoint, Event, IsLine, endpoint_path}
+use Rattle.intake_shed.specs.Lines.{Line, Put, SetSecrets, SetEnabled, SetSubscribed, Submit, Totals, Endpoint, Event}
+use Rattle.intake_shed.specs.Lines.{IsLine, endpoint_path}
 use Rattle.intake_shed.specs.Routes.{IsBehindName, StartsAt}
 
 -- ---- what stands before the first mark, and from it on
@@ -76,6 +77,10 @@ behind_name (SetSecrets its) method path name rest e clean starts h =
 behind_name (SetEnabled its) method path name rest e clean starts h =
     let one = one_name path name its rest (codes "/enabled") e clean starts h.of_path (and_parts _ _ h.no_slash).0 refl in
     (h.of_method, one.0, one.1)
+behind_name (SetSubscribed its topic) method path name rest e clean starts h =
+    let one =
+    one_name path name its rest (codes "/topics/" ++ topic) e clean starts h.of_path (and_parts _ _ h.no_slash).0 refl in
+    (h.of_method, one.0, one.1, (and_parts _ _ (and_parts _ _ h.no_slash).1).0)
 behind_name (Submit its) method path name rest e clean starts h =
     let one = one_name path name its rest (codes "/events") e clean starts h.of_path (and_parts _ _ h.no_slash).0 refl in
     (h.of_method, one.0, one.1)
@@ -91,16 +96,26 @@ behind_name (Event its id) method path name rest e clean starts h =
 one_part : (name its : List ℕ) → name ≡ its → IsTrue (has_no 47 name) → IsTrue (list_all (has_no 47) (its ∷ []))
 one_part name its e clean = and_from _ _ (subst (λ x. IsTrue (has_no 47 x)) e clean) refl
 
+two_parts : (name its part : List ℕ) → name ≡ its → IsTrue (has_no 47 name) → IsTrue (has_no 47 part)
+    → IsTrue (list_all (has_no 47) (its ∷ part ∷ []))
+two_parts name its part e clean clear =
+    and_from _ _ (subst (λ x. IsTrue (has_no 47 x)) e clean) (and_from _ _ clear refl)
+
 pub is_line : (line : Line) (method path name rest : List ℕ) → path ≡ endpoint_path name rest → IsTrue (has_no 47 name) → IsBehindName line method name rest
     → IsLine line method path
 is_line (Put its) method path name rest e clean (m, n, r) = record { of_method = m; of_path = cc; no_slash = one_part name its n clean }
 is_line (SetSecrets its) method path name rest e clean (m, n, r) = record { of_method = m; of_path = cc; no_slash = one_part name its n clean }
 is_line (SetEnabled its) method path name rest e clean (m, n, r) = record { of_method = m; of_path = cc; no_slash = one_part name its n clean }
+is_line (SetSubscribed its topic) method path name rest e clean (m, n, r, clear) = record {
+  of_method = m;
+  of_path = cc;
+  no_slash = two_parts name its topic n clean clear;
+}
 is_line (Submit its) method path name rest e clean (m, n, r) = record { of_method = m; of_path = cc; no_slash = one_part name its n clean }
 is_line Totals method path name rest e clean h = absurd h
 is_line (Endpoint its) method path name rest e clean (m, n, r) = record { of_method = m; of_path = cc; no_slash = one_part name its n clean }
 is_line (Event its id) method path name rest e clean (m, n, r, clear) = record {
   of_method = m;
   of_path = cc;
-  no_slash = and_from _ _ (subst (λ x. IsTrue (has_no 47 x)) n clean) (and_from _ _ clear refl);
+  no_slash = two_parts name its id n clean clear;
 }

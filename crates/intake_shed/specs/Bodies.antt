@@ -8,7 +8,7 @@ use Rattle.serde_json.specs.Read.{read}
 use Rattle.relay_types.specs.Values.{Text, is_target, is_max_limit}
 use Rattle.text_lines.specs.Words.{AreSecretTexts}
 use Rattle.desk.specs.declared.command.Command.{Command}
-use Rattle.desk.specs.declared.command.Command.TheVariants.{PutEndpoint, SetSecrets, SetEnabled}
+use Rattle.desk.specs.declared.command.Command.TheVariants.{PutEndpoint, SetSecrets, SetEnabled, SetSubscribed}
 use Rattle.intake_shed.specs.declared.fault.AskFault.{AskFault}
 use Rattle.intake_shed.specs.declared.fault.AskFault.TheVariants.{BadBody, BadUrl, BadMax, BadSecret, OutOfMemory}
 
@@ -30,8 +30,8 @@ pub record HasPutMembers (value : Data) (url : Text) (max : Num) (secrets : List
 abbrev pub HasSecrets : (value : Data) (secrets : List Text) → Type 0
 HasSecrets value secrets = get (codes "secrets") value ≡ Some (array (strings secrets))
 
-abbrev pub HasFlag : (value : Data) (flag : Bool) → Type 0
-HasFlag value flag = get (codes "enabled") value ≡ Some (boolean flag)
+abbrev pub HasFlag : (value : Data) (name : Text) (flag : Bool) → Type 0
+HasFlag value name flag = get name value ≡ Some (boolean flag)
 
 -- whether the number is a whole one from 1 to 1000. One that is written with a point or an exponent is a float.
 abbrev pub is_max : Num → Bool
@@ -48,7 +48,8 @@ abbrev pub Says : (value : Data) → Command → Type 0
 Says value (PutEndpoint name target max secrets) = (texts : List Text) × HasPutMembers value target (unsigned max) texts
     × IsTrue (is_target target && is_max_limit max) × AreSecretTexts texts secrets
 Says value (SetSecrets name secrets) = (texts : List Text) × HasSecrets value texts × AreSecretTexts texts secrets
-Says value (SetEnabled name flag) = HasFlag value flag
+Says value (SetEnabled name flag) = HasFlag value (codes "enabled") flag
+Says value (SetSubscribed topic name flag) = HasFlag value (codes "subscribed") flag
 
 -- the first of these members that is bad: the url, the max, the secrets
 abbrev pub IsBadMember : (url : Text) (max : Num) (secrets : List Text) → AskFault → Type 0
@@ -71,10 +72,10 @@ IsBadSecrets value BadSecret = (secrets : List Text) × HasSecrets value secrets
 IsBadSecrets value OutOfMemory = Unit {0}
 IsBadSecrets value why = ⊥
 
-abbrev pub IsBadFlag : (value : Data) → AskFault → Type 0
-IsBadFlag value BadBody = (flag : Bool) → ¬ HasFlag value flag
-IsBadFlag value OutOfMemory = Unit {0}
-IsBadFlag value why = ⊥
+abbrev pub IsBadFlag : (name : Text) (value : Data) → AskFault → Type 0
+IsBadFlag name value BadBody = (flag : Bool) → ¬ HasFlag value name flag
+IsBadFlag name value OutOfMemory = Unit {0}
+IsBadFlag name value why = ⊥
 
 -- what a body is refused for, whose value is refused so; a body that has no value is BadBody
 abbrev pub OfBody : (IsBad : Data → AskFault → Type 0) → (body : Text) → AskFault → Type 0

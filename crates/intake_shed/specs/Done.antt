@@ -4,7 +4,7 @@ use Rattle.serde_json.specs.Data.{Data, string}
 use Rattle.serde_json.specs.Written.{compact_text}
 use Rattle.relay_types.specs.Values.{Text, Seq}
 use Rattle.desk.specs.declared.command.Command.{Command}
-use Rattle.desk.specs.declared.command.Command.TheVariants.{PutEndpoint, SetSecrets, SetEnabled}
+use Rattle.desk.specs.declared.command.Command.TheVariants.{PutEndpoint}
 use Rattle.status.specs.Pages.{object_of, natural}
 use Rattle.intake_shed.specs.Replies.{out_of_memory}
 use Rattle.intake_shed.specs.declared.reply.Reply.{Reply}
@@ -19,8 +19,7 @@ IsDone status text reply = (reply ≡ done status text) ⊎ (reply ≡ out_of_me
 -- a new endpoint is made, other changes are taken over
 abbrev pub change_status : Command → ℕ
 change_status (PutEndpoint name target max secrets) = 201
-change_status (SetSecrets name secrets) = 200
-change_status (SetEnabled name flag) = 200
+change_status command = 200
 
 -- a change is told by its record's number
 abbrev pub change_body : Seq → Data

@@ -1,6 +1,6 @@
 -- The lines of the table of requests. A path is told by printing: a request stands on a line where its method is the
 -- line's, and its path, with the query cut off, is the line's with these parts in it. Nothing is decoded.
-use Rattle.std.specs.Prelude.{◌≡◌, ◌==◌, true, Bool, List, [], ◌∷◌, ◌++◌, IsTrue, codes}
+use Rattle.std.specs.Prelude.{◌≡◌, ◌==◌, ◌&&◌, true, Bool, List, [], ◌∷◌, ◌++◌, IsTrue, codes}
 use Rattle.std.specs.List.{list_all, before_first}
 use Rattle.relay_types.specs.Values.{Text, is_name}
 use Rattle.text_lines.specs.Parts.{has_no}
@@ -10,6 +10,7 @@ pub data Line : Type 0 where
   Put : (name : Text) → Line
   SetSecrets : (name : Text) → Line
   SetEnabled : (name : Text) → Line
+  SetSubscribed : (name topic : Text) → Line
   Submit : (name : Text) → Line
   Totals : Line
   Endpoint : (name : Text) → Line
@@ -19,6 +20,7 @@ abbrev pub method_of : Line → Text
 method_of (Put name) = codes "PUT"
 method_of (SetSecrets name) = codes "PUT"
 method_of (SetEnabled name) = codes "PUT"
+method_of (SetSubscribed name topic) = codes "PUT"
 method_of (Submit name) = codes "POST"
 method_of Totals = codes "GET"
 method_of (Endpoint name) = codes "GET"
@@ -32,6 +34,7 @@ abbrev pub path_of : Line → Text
 path_of (Put name) = endpoint_path name []
 path_of (SetSecrets name) = endpoint_path name (codes "/secrets")
 path_of (SetEnabled name) = endpoint_path name (codes "/enabled")
+path_of (SetSubscribed name topic) = endpoint_path name (codes "/topics/" ++ topic)
 path_of (Submit name) = endpoint_path name (codes "/events")
 path_of Totals = codes "/v1/status"
 path_of (Endpoint name) = endpoint_path name []
@@ -42,6 +45,7 @@ abbrev pub parts_of : Line → List Text
 parts_of (Put name) = name ∷ []
 parts_of (SetSecrets name) = name ∷ []
 parts_of (SetEnabled name) = name ∷ []
+parts_of (SetSubscribed name topic) = name ∷ topic ∷ []
 parts_of (Submit name) = name ∷ []
 parts_of Totals = []
 parts_of (Endpoint name) = name ∷ []
@@ -57,11 +61,12 @@ pub record IsLine (line : Line) (method path : Text) : Type 0 where
   pub of_path : path ≡ path_of line
   pub no_slash : IsTrue (list_all (has_no 47) (parts_of line))
 
--- whether the name of the endpoint, if the line has one, is a name
+-- whether the names of the endpoint and of the topic, if the line has them, are names
 abbrev pub has_name : Line → Bool
 has_name (Put name) = is_name name
 has_name (SetSecrets name) = is_name name
 has_name (SetEnabled name) = is_name name
+has_name (SetSubscribed name topic) = is_name name && is_name topic
 has_name (Submit name) = is_name name
 has_name Totals = true
 has_name (Endpoint name) = is_name name

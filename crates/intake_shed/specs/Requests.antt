@@ -1,5 +1,6 @@
 -- What a request asks for, and what it is refused for: the first check that fails decides.
-use Rattle.std.specs.Prelude.{◌≡◌, ◌⊎◌, true, false, Bool, ◌&&◌, nat_le, List, [], ◌∷◌, length, Result, Ok, Err, IsTrue}
+use Rattle.std.specs.Prelude.{◌≡◌, ◌⊎◌, true, false, Bool, ◌&&◌, nat_le, List, [], ◌∷◌, length, codes}
+use Rattle.std.specs.Prelude.{Result, Ok, Err, IsTrue}
 use Rattle.serde_json.specs.Data.{Data}
 use Rattle.relay_types.specs.declared.limits.TheConstants.{MAX_BODY_BYTES}
 use Rattle.relay_types.specs.Values.{Text, is_msg_id}
@@ -7,7 +8,7 @@ use Rattle.text_lines.specs.Parts.{texts}
 use Rattle.desk.specs.declared.command.Command.{Command}
 use Rattle.desk.specs.declared.command.Command.TheVariants as change
 use Rattle.intake_shed.specs.Bodies.{IsJson, Says, IsBadPut, IsBadSecrets, IsBadFlag, OfBody}
-use Rattle.intake_shed.specs.Lines.{Line, Put, SetSecrets, SetEnabled, Submit, Totals, Endpoint, Event}
+use Rattle.intake_shed.specs.Lines.{Line, Put, SetSecrets, SetEnabled, SetSubscribed, Submit, Totals, Endpoint, Event}
 use Rattle.intake_shed.specs.Lines.{IsLine, before_query, has_name}
 use Rattle.intake_shed.specs.Replies.{ask_reply, out_of_memory}
 use Rattle.intake_shed.specs.declared.ask.Ask.{Ask}
@@ -45,15 +46,11 @@ id_of [] fresh = fresh
 id_of (id ∷ ids) fresh = id
 
 abbrev pub has_id : Line → Ask → Bool
-has_id (Put name) ask = true
-has_id (SetSecrets name) ask = true
-has_id (SetEnabled name) ask = true
 has_id (Submit name) ask = has_one_id (texts ask.ids.now)
-has_id Totals ask = true
-has_id (Endpoint name) ask = true
 has_id (Event name id) ask = is_msg_id id
+has_id line ask = true
 
--- the checks of a request's name, size and id
+-- the checks of a request's names, size and id
 abbrev pub has_parts : Line → Ask → Bool
 has_parts line ask = has_name line && (has_room ask.body && has_id line ask)
 
@@ -62,6 +59,7 @@ abbrev pub line_changed : Command → Line
 line_changed (change.PutEndpoint name target max secrets) = Put name
 line_changed (change.SetSecrets name secrets) = SetSecrets name
 line_changed (change.SetEnabled name flag) = SetEnabled name
+line_changed (change.SetSubscribed topic name flag) = SetSubscribed name topic
 
 abbrev pub line_asked : Asked → Line
 line_asked (asked.Change command) = line_changed command
@@ -88,7 +86,8 @@ pub record AsksFor (ask : Ask) (fresh : Text) (what : Asked) : Type 0 where
 abbrev pub IsBadBody : Line → (body : Text) → AskFault → Type 0
 IsBadBody (Put name) body why = OfBody IsBadPut body why
 IsBadBody (SetSecrets name) body why = OfBody IsBadSecrets body why
-IsBadBody (SetEnabled name) body why = OfBody IsBadFlag body why
+IsBadBody (SetEnabled name) body why = OfBody (IsBadFlag (codes "enabled")) body why
+IsBadBody (SetSubscribed name topic) body why = OfBody (IsBadFlag (codes "subscribed")) body why
 IsBadBody (Submit name) body fault.OutOfMemory = Unit {0}
 IsBadBody line body why = ⊥
 
@@ -105,7 +104,7 @@ IsRefusedFor ask fault.NotFound = (line : Line) → ¬ IsOn line ask
 IsRefusedFor ask fault.OutOfMemory = ⊥
 IsRefusedFor ask why = (line : Line) × IsOn line ask × IsBadOn line ask why
 
--- memory may be refused for a body that is read or copied, once the checks of name, size and id are passed
+-- memory may be refused for a body that is read or copied, once the checks of names, size and id are passed
 abbrev pub MayLackMemory : Ask → Type 0
 MayLackMemory ask = (line : Line) × IsOn line ask × IsBadOn line ask fault.OutOfMemory
 

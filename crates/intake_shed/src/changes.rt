@@ -1,11 +1,11 @@
 //! Which change of an endpoint a body asks for.
-ghost use Rattle.std.specs.Prelude.{◌≡◌, ◌⊎◌, false, Err, IsTrue, IfOk, IfErr};
+ghost use Rattle.std.specs.Prelude.{◌≡◌, ◌⊎◌, false, Err, IsTrue, IfOk, IfErr, codes};
 ghost use Rattle.serde_json.specs.Data.{Data, unsigned};
 ghost use Rattle.serde_json.specs.View.{view, number_view};
 ghost use Rattle.relay_types.specs.Values.{is_target, is_max_limit};
 ghost use Rattle.text_lines.specs.Parts.{texts};
 ghost use Rattle.text_lines.specs.Words.{AreSecretTexts};
-ghost use Rattle.intake_shed.specs.Lines.{Put, SetSecrets, SetEnabled};
+ghost use Rattle.intake_shed.specs.Lines.{Put, SetSecrets, SetEnabled, SetSubscribed};
 ghost use Rattle.intake_shed.specs.Bodies.{IsJson, Says, AreNoSecrets, is_max};
 ghost use Rattle.intake_shed.specs.Bodies.{IsBadMember, IsBadPut, IsBadSecrets, IsBadFlag, OfBody};
 ghost use Rattle.intake_shed.specs.Members.{IsPutOf};
@@ -43,11 +43,27 @@ pub(crate) fn read_secrets(alloc: Global, name: Name, body: &[u8]) -> Result<Com
 pub(crate) fn read_flag(alloc: Global, name: Name, body: &[u8]) -> Result<Command, AskFault>
     ensures line { IfOk result (λ command. line_changed command ≡ SetEnabled name) }
     ensures says { IfOk result (λ command. (value : Data) × IsJson body.now value × Says value command) }
-    ensures refused { IfErr result (λ why. OfBody IsBadFlag body.now why) }
+    ensures refused { IfErr result (λ why. OfBody (IsBadFlag (codes "enabled")) body.now why) }
 {
     let value = read_json(alloc, body)?;
-    let flag = flag_of(&value)?;
+    let flag = flag_of(&value, "enabled")?;
     Ok(Command::SetEnabled { name, flag })
+}
+
+/// Whether an endpoint is subscribed to a topic.
+pub(crate) fn read_subscribed(
+    alloc: Global,
+    topic: Name,
+    name: Name,
+    body: &[u8],
+) -> Result<Command, AskFault>
+    ensures line { IfOk result (λ command. line_changed command ≡ SetSubscribed name topic) }
+    ensures says { IfOk result (λ command. (value : Data) × IsJson body.now value × Says value command) }
+    ensures refused { IfErr result (λ why. OfBody (IsBadFlag (codes "subscribed")) body.now why) }
+{
+    let value = read_json(alloc, body)?;
+    let flag = flag_of(&value, "subscribed")?;
+    Ok(Command::SetSubscribed { topic, name, flag })
 }
 
 fn put_of(alloc: Global, name: Name, value: &Value) -> Result<Command, AskFault>

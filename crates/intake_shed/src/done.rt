@@ -16,7 +16,7 @@ pub fn change_status(command: &Command) -> u16
 {
     match command {
         Command::PutEndpoint { .. } => 201,
-        Command::SetSecrets { .. } | Command::SetEnabled { .. } => 200,
+        _ => 200,
     }
 }
 

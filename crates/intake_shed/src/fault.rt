@@ -11,7 +11,7 @@ use std::alloc::AllocError;
 pub enum AskFault {
     /// The table of requests has no such method and path.
     NotFound,
-    /// The path has no name of an endpoint.
+    /// The path has no name of an endpoint, or of a topic.
     BadName,
     /// The body has more than 65,536 bytes.
     TooLong,

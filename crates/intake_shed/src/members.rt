@@ -47,14 +47,14 @@ pub(crate) fn number_of<'a>(value: &'a Value, name: &str) -> Result<&'a Number, 
         .ok_or(AskFault::BadBody)
 }
 
-/// Whether the endpoint is to be posted to.
-pub(crate) fn flag_of(value: &Value) -> Result<bool, AskFault>
-    ensures value { IfOk result (λ flag. HasFlag (view value.now) flag) }
-    ensures bad { result ≡ Err AskFault.BadBody → (flag : Bool) → ¬ HasFlag (view value.now) flag }
+/// The flag that is the member of this name.
+pub(crate) fn flag_of(value: &Value, name: &str) -> Result<bool, AskFault>
+    ensures value { IfOk result (λ flag. HasFlag (view value.now) name.now flag) }
+    ensures bad { result ≡ Err AskFault.BadBody → (flag : Bool) → ¬ HasFlag (view value.now) name.now flag }
     ensures faults { IsBodyFault result }
 {
     value
-        .get("enabled")
+        .get(name)
         .and_then(Value::as_bool)
         .ok_or(AskFault::BadBody)
 }

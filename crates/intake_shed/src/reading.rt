@@ -11,7 +11,7 @@ ghost use Rattle.intake_shed.specs.declared.ask.Asked.{Asked};
 ghost use Rattle.intake_shed.specs.declared.fault.AskFault.{AskFault};
 
 use crate::ask::{Ask, AskBody, Asked};
-use crate::changes::{read_flag, read_put, read_secrets};
+use crate::changes::{read_flag, read_put, read_secrets, read_subscribed};
 use crate::fault::AskFault;
 use crate::reply::Reply;
 use crate::routes::{Route, read_route};
@@ -66,6 +66,12 @@ fn read_on(alloc: Global, route: Route<'_>, ask: &Ask<'_>, fresh: MsgId) -> Resu
             let body = read_size(&ask.body)?;
             Ok(Asked::Change(read_flag(alloc, name, body)?))
         }
+        Route::SetSubscribed(name, topic) => {
+            let name = read_name(name)?;
+            let topic = read_name(topic)?;
+            let body = read_size(&ask.body)?;
+            Ok(Asked::Change(read_subscribed(alloc, topic, name, body)?))
+        }
         Route::Submit(name) => {
             let name = read_name(name)?;
             let body = read_size(&ask.body)?;
@@ -93,7 +99,7 @@ fn read_on(alloc: Global, route: Route<'_>, ask: &Ask<'_>, fresh: MsgId) -> Resu
     }
 }
 
-// The name of the endpoint.
+// The name of the endpoint, or of the topic.
 fn read_name(name: &[u8]) -> Result<Name, AskFault>
     ensures value { IfOk result (λ read. read ≡ name.now) }
     ensures passes { OnOk result (IsTrue (is_name name.now)) }

@@ -13,6 +13,7 @@ pub(crate) enum Route<'a> {
     Put(&'a [u8]),
     SetSecrets(&'a [u8]),
     SetEnabled(&'a [u8]),
+    SetSubscribed(&'a [u8], &'a [u8]),
     Submit(&'a [u8]),
     Totals,
     Endpoint(&'a [u8]),
@@ -69,7 +70,8 @@ fn read_put<'a>(name: &'a [u8], rest: &'a [u8]) -> Option<Route<'a>>
     } else if is_word(rest, "/enabled") {
         Some(Route::SetEnabled(name))
     } else {
-        None
+        let topic = rest.strip_prefix(b"/topics/")?;
+        has_no(topic, b'/').then_some(Route::SetSubscribed(name, topic))
     }
 }
 
