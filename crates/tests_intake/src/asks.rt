@@ -37,6 +37,8 @@ pub(crate) enum Answer {
     Secrets(&'static [u8], usize),
     /// Whether this endpoint is posted to.
     Flag(&'static [u8], bool),
+    /// Whether this endpoint is subscribed to this topic.
+    Subscribed(&'static [u8], &'static [u8], bool),
 }
 
 /// Requests that are answered alike: each of these paths, with each of these bodies.
@@ -161,6 +163,15 @@ fn is_flag(found: Name, flag: bool, answer: Answer) -> bool {
     }
 }
 
+fn is_subscribed(found: Name, topic: Name, flag: bool, answer: Answer) -> bool {
+    match answer {
+        Answer::Subscribed(name, wanted, subscribed) => {
+            found.as_bytes() == name && topic.as_bytes() == wanted && flag == subscribed
+        }
+        _ => false,
+    }
+}
+
 fn is_change(command: &Command, answer: Answer) -> bool {
     match command {
         Command::PutEndpoint {
@@ -171,6 +182,9 @@ fn is_change(command: &Command, answer: Answer) -> bool {
         } => is_put(*name, target, *max, secrets, answer),
         Command::SetSecrets { name, secrets } => are_secrets(*name, secrets, answer),
         Command::SetEnabled { name, flag } => is_flag(*name, *flag, answer),
+        Command::SetSubscribed { topic, name, flag } => {
+            is_subscribed(*name, *topic, *flag, answer)
+        }
     }
 }
 

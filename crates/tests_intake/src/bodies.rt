@@ -17,6 +17,8 @@ const SECRETS: &[Text] = &[Text::Is(b"/v1/endpoints/a/secrets")];
 
 const ENABLED: &[Text] = &[Text::Is(b"/v1/endpoints/a/enabled")];
 
+const TOPIC: &[Text] = &[Text::Is(b"/v1/endpoints/a/topics/t")];
+
 const TRUE: Answer = Answer::Flag(b"a", true);
 
 const FALSE: Answer = Answer::Flag(b"a", false);
@@ -196,6 +198,55 @@ static FLAGS: [Case; 3] = [
 #[test]
 fn a_flag_is_a_bool(rt: HostRuntime) -> Result<(), Fail> {
     walk(&rt, rt.alloc(), &FLAGS)
+}
+
+// The path has the topic behind the endpoint, whose names may be alike.
+static SUBSCRIPTIONS: [Case; 4] = [
+    Case {
+        method: b"PUT",
+        paths: &[
+            Text::Is(b"/v1/endpoints/a/topics/t"),
+            Text::Is(b"/v1/endpoints/a/topics/t?x/y"),
+        ],
+        ids: &[b"a", b"b"],
+        bodies: &[
+            Text::Is(br#"{"subscribed":true}"#),
+            Text::Is(br#"{"subscribed":false,"more":[],"subscribed":true}"#),
+        ],
+        answer: Answer::Subscribed(b"a", b"t", true),
+    },
+    Case {
+        method: b"PUT",
+        paths: TOPIC,
+        ids: &[],
+        bodies: &[Text::Is(br#"{"enabled":true,"subscribed":false}"#)],
+        answer: Answer::Subscribed(b"a", b"t", false),
+    },
+    Case {
+        method: b"PUT",
+        paths: &[Text::Is(b"/v1/endpoints/topics/topics/topics")],
+        ids: &[],
+        bodies: &[Text::Is(br#"{"subscribed":true}"#)],
+        answer: Answer::Subscribed(b"topics", b"topics", true),
+    },
+    Case {
+        method: b"PUT",
+        paths: TOPIC,
+        ids: &[],
+        bodies: &[
+            Text::Is(br#"{"subscribed":1}"#),
+            Text::Is(br#"{"subscribed":"true"}"#),
+            Text::Is(br#"{"enabled":true}"#),
+            Text::Is(b"[true]"),
+            Text::Is(b""),
+        ],
+        answer: BAD_BODY,
+    },
+];
+
+#[test]
+fn a_subscription_has_a_topic_and_a_bool(rt: HostRuntime) -> Result<(), Fail> {
+    walk(&rt, rt.alloc(), &SUBSCRIPTIONS)
 }
 
 // The body's own object is counted.

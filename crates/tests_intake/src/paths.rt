@@ -32,7 +32,10 @@ static NOT_IN_THE_TABLE: [Case; 8] = [
     },
     Case {
         method: b"DELETE",
-        paths: &[Text::Is(b"/v1/status")],
+        paths: &[
+            Text::Is(b"/v1/status"),
+            Text::Is(b"/v1/endpoints/a/topics/t"),
+        ],
         ids: TWO_IDS,
         bodies: OBJECT,
         answer: NOT_FOUND,
@@ -65,6 +68,7 @@ static NOT_IN_THE_TABLE: [Case; 8] = [
             Text::Is(b"/v1/endpoints"),
             Text::Is(b"/v1/endpoints/a/"),
             Text::Is(b"/v1/endpoints/a/secrets"),
+            Text::Is(b"/v1/endpoints/a/topics/t"),
             Text::Is(b"/v1/endpoints/a/events"),
             Text::Is(b"/v1/endpoints/a/events/msg_1/"),
             Text::Is(b"/v1/endpoints/a/b/events/msg_1"),
@@ -78,6 +82,7 @@ static NOT_IN_THE_TABLE: [Case; 8] = [
         paths: &[
             Text::Is(b"/v1/endpoints/a"),
             Text::Is(b"/v1/endpoints/A/events/"),
+            Text::Is(b"/v1/endpoints/a/topics/t"),
         ],
         ids: TWO_IDS,
         bodies: OBJECT,
@@ -88,6 +93,11 @@ static NOT_IN_THE_TABLE: [Case; 8] = [
         paths: &[
             Text::Is(b"/v1/endpoints/A/events"),
             Text::Is(b"/v1/endpoints/a/enabled/"),
+            Text::Is(b"/v1/endpoints/a/topics"),
+            Text::Is(b"/v1/endpoints/a/topics/t/"),
+            Text::Is(b"/v1/endpoints/a/topics/t/u"),
+            Text::Is(b"/v1/endpoints/a/topic/t"),
+            Text::Is(b"/v1/endpoints/topics/t"),
         ],
         ids: TWO_IDS,
         bodies: OBJECT,
@@ -107,7 +117,8 @@ fn what_is_not_in_the_table_is_not_found(rt: HostRuntime) -> Result<(), Fail> {
     walk(&rt, rt.alloc(), &NOT_IN_THE_TABLE)
 }
 
-// A name is what stands between two slashes, before a query, and nothing in it is decoded. It may be empty.
+// A name is what stands between two slashes, before a query, and nothing in it is decoded. It may be empty. A topic's is
+// what stands behind the last slash.
 static BAD_NAMES: [Case; 3] = [
     Case {
         method: b"PUT",
@@ -117,6 +128,11 @@ static BAD_NAMES: [Case; 3] = [
             Text::Is(b"/v1/endpoints/%61"),
             Text::Is(b"/v1/endpoints//secrets"),
             Text::Is(b"/v1/endpoints/A/enabled?x"),
+            Text::Is(b"/v1/endpoints/A/topics/t"),
+            Text::Is(b"/v1/endpoints//topics/t"),
+            Text::Is(b"/v1/endpoints/a/topics/T"),
+            Text::Is(b"/v1/endpoints/a/topics/"),
+            Text::Is(b"/v1/endpoints/a/topics/%74?x"),
         ],
         ids: TWO_IDS,
         bodies: EMPTY,
@@ -286,14 +302,20 @@ static LONG_BODIES: [Case; 5] = [
     },
     Case {
         method: b"PUT",
-        paths: &[Text::Is(b"/v1/endpoints/A")],
+        paths: &[
+            Text::Is(b"/v1/endpoints/A"),
+            Text::Is(b"/v1/endpoints/a/topics/T"),
+        ],
         ids: TWO_IDS,
         bodies: TOO_MUCH,
         answer: BAD_NAME,
     },
     Case {
         method: b"PUT",
-        paths: &[Text::Is(b"/v1/endpoints/a")],
+        paths: &[
+            Text::Is(b"/v1/endpoints/a"),
+            Text::Is(b"/v1/endpoints/a/topics/t"),
+        ],
         ids: TWO_IDS,
         bodies: TOO_MUCH,
         answer: TOO_LONG,

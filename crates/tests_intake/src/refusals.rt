@@ -20,7 +20,7 @@ struct Case {
 }
 
 // A refused request may be made again later only where the relay is at fault.
-static REFUSALS: [Case; 11] = [
+static REFUSALS: [Case; 12] = [
     Case {
         fault: Fault::UnknownEndpoint,
         status: 404,
@@ -43,6 +43,12 @@ static REFUSALS: [Case; 11] = [
         fault: Fault::TooManyEndpoints,
         status: 409,
         text: b"{\"error\":\"TooManyEndpoints\"}",
+        retry: false,
+    },
+    Case {
+        fault: Fault::TooManySubscriptions,
+        status: 409,
+        text: b"{\"error\":\"TooManySubscriptions\"}",
         retry: false,
     },
     Case {
@@ -124,6 +130,14 @@ fn what_is_done_is_told_by_its_number(rt: HostRuntime) -> Result<(), Fail> {
     assert!(rt; is_reply(&changed, 201, false, b"{\"seq\":7}"));
     let name = Name::read(b"a")?;
     assert!(rt; change_status(&Command::SetEnabled { name, flag: true }) == 200);
+    let topic = name;
+    assert!(rt;
+        change_status(&Command::SetSubscribed {
+            topic,
+            name,
+            flag: true
+        }) == 200
+    );
     Ok(())
 }
 

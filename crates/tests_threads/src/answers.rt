@@ -15,7 +15,7 @@ const SECRETS: &[u8] = b"{\"secrets\":[\"whsec_MDEyMzQ1Njc4OTAxMjM0NTY3ODkwMTIz\
 
 const UNKNOWN_ENDPOINT: &str = "{\"error\":\"UnknownEndpoint\"}";
 
-const REQUESTS: [Step; 18] = [
+const REQUESTS: [Step; 22] = [
     Step::Ask(
         Request::Post(b"/v1/endpoints/a/events", &[b"msg_1"], b"{}"),
         404,
@@ -84,6 +84,30 @@ const REQUESTS: [Step; 18] = [
         UNKNOWN_ENDPOINT,
     ),
     Step::Ask(
+        Request::Put(b"/v1/endpoints/a/topics/t", b"{\"subscribed\":true}"),
+        200,
+        false,
+        "{\"seq\":5}",
+    ),
+    Step::Ask(
+        Request::Put(b"/v1/endpoints/a/topics/t", b"{\"subscribed\":false}"),
+        200,
+        false,
+        "{\"seq\":6}",
+    ),
+    Step::Ask(
+        Request::Put(b"/v1/endpoints/b/topics/t", b"{\"subscribed\":true}"),
+        404,
+        false,
+        UNKNOWN_ENDPOINT,
+    ),
+    Step::Ask(
+        Request::Get(b"/v1/endpoints/a/topics/t"),
+        404,
+        false,
+        "{\"error\":\"NotFound\"}",
+    ),
+    Step::Ask(
         Request::Get(b"/v1/endpoints/a"),
         200,
         false,
@@ -106,7 +130,7 @@ const REQUESTS: [Step; 18] = [
         Request::Get(b"/v1/status"),
         200,
         false,
-        "{\"delivered\":0,\"endpoints\":1,\"exhausted\":0,\"pending\":2,\"records\":5}",
+        "{\"delivered\":0,\"endpoints\":1,\"exhausted\":0,\"pending\":2,\"records\":7}",
     ),
     Step::Ask(
         Request::Get(b"/v1/statuses"),
@@ -157,7 +181,7 @@ const BACKLOG: [Step; 5] = [
 static ANSWERED: Course = Course {
     before: &[],
     committer: Committer::Runs,
-    threads: &[&REQUESTS, &[Step::Ended(17)]],
+    threads: &[&REQUESTS, &[Step::Ended(21)]],
 };
 
 #[test]
@@ -166,7 +190,7 @@ fn requests_are_answered(rt: HostRuntime) {
         &rt,
         rt.alloc(),
         &ANSWERED,
-        &End(Ending::Finished, 5, 5, false),
+        &End(Ending::Finished, 7, 7, false),
     );
 }
 
