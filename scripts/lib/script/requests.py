@@ -124,13 +124,13 @@ PATHS = {
     "put": (b"/v1/endpoints/%(name)b", 6),
     "secrets": (b"/v1/endpoints/%(name)b/secrets", 2),
     "enabled": (b"/v1/endpoints/%(name)b/enabled", 3),
+    "subscribed": (b"/v1/endpoints/%(name)b/topics/%(topic)b", 4),
     "submit": (b"/v1/endpoints/%(name)b/events", 6),
     "totals": (b"/v1/status", 2),
     "endpoint": (b"/v1/endpoints/%(name)b", 3),
     "event": (b"/v1/endpoints/%(name)b/events/%(id)b", 4),
 }
 if HAS_TOPICS:
-    PATHS["subscribed"] = b"/v1/endpoints/%(name)b/topics/%(topic)b", 4
     PATHS["publish"] = b"/v1/topics/%(topic)b/events", 6
 
 
