@@ -14,7 +14,7 @@ use std::process::Abort;
 #[derive(Clone, Copy)]
 struct Column(&'static str, &'static str);
 
-static COLUMNS: [Column; 24] = [
+static COLUMNS: [Column; 28] = [
     Column("meta", "k"),
     Column("meta", "app"),
     Column("meta", "version"),
@@ -39,6 +39,10 @@ static COLUMNS: [Column; 24] = [
     Column("attempts", "number"),
     Column("attempts", "status"),
     Column("attempts", "at"),
+    Column("topics", "topic"),
+    Column("topics", "endpoint"),
+    Column("topics", "subscribed"),
+    Column("topics", "set_by"),
 ];
 
 /// What is put behind the column of another row, or of the same one.
@@ -158,7 +162,7 @@ fn draw_change(
     conn: &mut Connection<MemStore>,
     numbers: &mut Numbers,
 ) -> Option<Change> {
-    let column = COLUMNS[numbers.below(24) as usize];
+    let column = COLUMNS[numbers.below(28) as usize];
     let rows = count(rt, alloc, conn, column.0);
     if rows == 0 {
         return None;

@@ -4,7 +4,7 @@ ghost use Rattle.std.specs.Prelude.{◌≡◌};
 use crate::draws::{Numbers, draw};
 use crate::given::{Text, add_given, spend};
 use crate::pages::{check_limits, check_pages, latest};
-use crate::stores::{MARK, again, all_rows, in_memory};
+use crate::stores::{MARK, again, all_rows, in_memory, number};
 use desk::Desk;
 use permits::{PARTS, Pool};
 use recovery::{create, reopen};
@@ -168,10 +168,57 @@ fn drawn(
     conn
 }
 
-/// The store of a history that is drawn from this number. Its desk was opened again half way.
+/// Adds a topic of one of the endpoints, behind up to two records that later ones of its topics overtook. No call of a
+/// desk does so.
+fn add_topic(
+    rt: &impl Abort,
+    alloc: Global,
+    conn: &mut Connection<MemStore>,
+    numbers: &mut Numbers,
+    endpoints: u64,
+    topic: u64,
+)
+    requires { 0 < endpoints }
+{
+    let place = numbers.below(endpoints);
+    let sql = format!(in alloc;
+        "SELECT put FROM endpoints ORDER BY put LIMIT 1 OFFSET {place}"
+    ).expect(rt, "memory");
+    let put = number(rt, conn, &sql);
+    let records = number(rt, conn, "SELECT records FROM meta");
+    let (flag, others) = (numbers.below(2), numbers.below(3));
+    let sql = format!(in alloc;
+        "INSERT INTO topics VALUES('t{topic}', {put}, {flag}, {records} + {others}); \
+         UPDATE meta SET records = {records} + {others} + 1"
+    )
+    .expect(rt, "memory");
+    conn.execute_batch(&sql).expect(rt, "a topic");
+}
+
+/// The store with up to three topics more, if it has endpoints.
+fn subscribed(
+    rt: &impl Abort,
+    alloc: Global,
+    conn: Connection<MemStore>,
+    numbers: &mut Numbers,
+) -> Connection<MemStore> {
+    let mut conn = conn;
+    let count = number(rt, &mut conn, "SELECT count(*) FROM endpoints");
+    let endpoints = u64::try_from(count).expect(rt, "a count");
+    if endpoints == 0 {
+        return conn;
+    }
+    for topic in 0..numbers.below(4) {
+        add_topic(rt, alloc, &mut conn, numbers, endpoints, topic);
+    }
+    conn
+}
+
+/// The store of a history that is drawn from this number. Its desk was opened again half way, where topics were added.
 pub(crate) fn history(rt: &impl Abort, alloc: Global, first: u64) -> Connection<MemStore> {
     let mut numbers = Numbers::from(first);
     let conn = drawn(rt, alloc, Way::Begun, in_memory(rt, alloc), &mut numbers);
+    let conn = subscribed(rt, alloc, conn, &mut numbers);
     drawn(rt, alloc, Way::GoneOn, conn, &mut numbers)
 }
 

@@ -6,7 +6,7 @@ use std::process::Abort;
 
 /// Each counts what breaks a rule of `docs/FORMATS.md`, "Rows that are opened", in rows that were those of a history
 /// with fewer than 1000 records before a cell was changed to a value of `cells`. The version first, then the conditions
-/// in their order.
+/// in their order, as those of version 1.
 static FAULTS: &[&str] = &[
     "SELECT count(*) FROM meta WHERE version < 1",
     // 1. The number of records, and those that stand in rows.
@@ -57,8 +57,12 @@ static FAULTS: &[&str] = &[
      WHERE o.delivery = t.delivery AND o.seq < t.seq AND o.status BETWEEN 200 AND 299)",
     "SELECT count(*) FROM attempts t WHERE 9 < (SELECT count(*) FROM attempts o WHERE o.delivery = t.delivery \
      AND o.seq < t.seq AND o.status <> 410 AND NOT o.status BETWEEN 200 AND 299)",
-    // 8. Numbers that no row names. So many records can't be explained.
+    // 8. So many records can't be explained.
     "SELECT count(*) FROM meta WHERE records > 1000",
+];
+
+/// 8. Numbers that no row names.
+static OF_VERSION_1: &[&str] = &[
     "WITH RECURSIVE below(p) AS (SELECT 0 FROM meta WHERE records > 0 \
      UNION ALL SELECT b.p + 1 FROM below b, meta m WHERE b.p + 1 < m.records AND b.p < 1000) \
      SELECT count(*) FROM below b WHERE NOT EXISTS (SELECT 1 FROM deliveries d WHERE d.seq = b.p) \
@@ -67,15 +71,46 @@ static FAULTS: &[&str] = &[
      OR (e.put < b.p AND (b.p < e.enabled_by OR b.p < e.secrets_by)))",
 ];
 
+/// What version 2 adds to them. The last takes the place of that of version 1.
+static OF_VERSION_2: &[&str] = &[
+    // 1, 2, 4 and 5. What a topic was set by.
+    "SELECT count(*) FROM topics o, meta m WHERE NOT o.set_by BETWEEN 0 AND m.records - 1",
+    "SELECT count(*) FROM topics o, endpoints e WHERE o.set_by IN (e.put, e.enabled_by, e.secrets_by)",
+    "SELECT count(*) FROM topics o JOIN deliveries d ON d.seq = o.set_by",
+    "SELECT count(*) FROM topics o JOIN attempts t ON t.seq = o.set_by",
+    "SELECT count(*) FROM topics o JOIN topics n ON n.set_by = o.set_by \
+     WHERE n.topic <> o.topic OR n.endpoint <> o.endpoint",
+    // 9. Topics.
+    "SELECT count(*) FROM topics WHERE topic IN ('', 'A', 'a b', 'http://x') OR NOT subscribed BETWEEN 0 AND 1 \
+     OR set_by <= endpoint",
+    // 8. Numbers that no row names.
+    "WITH RECURSIVE below(p) AS (SELECT 0 FROM meta WHERE records > 0 \
+     UNION ALL SELECT b.p + 1 FROM below b, meta m WHERE b.p + 1 < m.records AND b.p < 1000) \
+     SELECT count(*) FROM below b WHERE NOT EXISTS (SELECT 1 FROM deliveries d WHERE d.seq = b.p) \
+     AND NOT EXISTS (SELECT 1 FROM attempts t WHERE t.seq = b.p) \
+     AND NOT EXISTS (SELECT 1 FROM endpoints e WHERE e.put = b.p OR e.enabled_by = b.p OR e.secrets_by = b.p \
+     OR (e.put < b.p AND (b.p < e.enabled_by OR b.p < e.secrets_by))) \
+     AND NOT EXISTS (SELECT 1 FROM topics o WHERE o.set_by = b.p OR (o.endpoint < b.p AND b.p < o.set_by))",
+];
+
 const OURS: &str = "SELECT count(*) FROM meta WHERE app = 'webhook-relay'";
 
-fn is_sound(rt: &impl Abort, conn: &mut Connection<MemStore>) -> bool {
-    for fault in FAULTS {
+fn are_none(rt: &impl Abort, conn: &mut Connection<MemStore>, faults: &[&str]) -> bool {
+    for fault in faults {
         if number(rt, conn, fault) > 0 {
             return false;
         }
     }
     true
+}
+
+fn is_sound(rt: &impl Abort, conn: &mut Connection<MemStore>, version: i64) -> bool {
+    let others = if version == 2 {
+        OF_VERSION_2
+    } else {
+        OF_VERSION_1
+    };
+    are_none(rt, conn, FAULTS) && are_none(rt, conn, others)
 }
 
 /// The refusal that the rows call for. It is empty where they are to be opened.
@@ -87,7 +122,7 @@ pub(crate) fn refusal_of(rt: &impl Abort, conn: &mut Connection<MemStore>) -> &'
     if version > 2 {
         return "NewerVersion";
     }
-    if !is_sound(rt, conn) {
+    if !is_sound(rt, conn, version) {
         return "Damaged";
     }
     // Beside tables of version 1 the name of the sixth is taken.
