@@ -102,19 +102,23 @@ fn with_endpoints(alloc: Global, count: u32) -> Result<String, Fail> {
     Ok(text)
 }
 
-fn with_topics(alloc: Global, count: u32) -> Result<String, Fail> {
-    let mut text = format!(in alloc; "BEGIN; UPDATE meta SET records = {count} + 1")?;
-    for n in 0..count {
-        let row = format!(in alloc; "; INSERT INTO topics VALUES('t{n}', 0, 1, {n} + 1)")?;
-        text.push_str(&row)?;
-    }
-    text.push_str("; COMMIT")?;
-    Ok(text)
+fn add_topic(alloc: Global, conn: &mut Connection<MemStore>, number: u32) -> Result<(), Fail> {
+    let topic = format!(in alloc; "t{number}")?;
+    let values = [
+        ValueRef::Text(topic.as_bytes()),
+        ValueRef::Int(i64::from(number)),
+    ];
+    conn.execute("INSERT INTO topics VALUES(?1, 0, 1, ?2 + 1)", &values)?;
+    Ok(())
 }
 
 fn fill_topics(alloc: Global, conn: &mut Connection<MemStore>, count: u32) -> Result<(), Fail> {
     run(conn, ENDPOINT)?;
-    let text = with_topics(alloc, count)?;
+    run(conn, "BEGIN")?;
+    for number in 0..count {
+        add_topic(alloc, conn, number)?;
+    }
+    let text = format!(in alloc; "UPDATE meta SET records = {count} + 1; COMMIT")?;
     run(conn, &text)
 }
 
