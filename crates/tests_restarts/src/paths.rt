@@ -23,7 +23,7 @@ static FIRST_PATH: [Call; 9] = [
 ];
 
 /// Nothing is known yet, and nothing is held.
-static NOTHING: [Call; 24] = [
+static NOTHING: [Call; 27] = [
     Call::Line("show a", "absent"),
     Call::Line("show a msg_1", "absent"),
     Call::Line("limits a", "absent"),
@@ -35,6 +35,7 @@ static NOTHING: [Call; 24] = [
         "refused 2 UnknownEndpoint",
     ),
     Call::Line("disable a", "refused 2 UnknownEndpoint"),
+    Call::Line("subscribe t a", "refused 2 UnknownEndpoint"),
     Call::Line("submit 1000 a msg_1 -", "refused 2 UnknownEndpoint"),
     Call::Line("commit", "no-batch"),
     Call::Line("settle", "no-receipt"),
@@ -48,9 +49,11 @@ static NOTHING: [Call; 24] = [
     Call::SettledRecords(0),
     Call::IsHalted(false),
     Call::Line(PUT, "staged 0"),
+    Call::Line("subscribe t a", "staged 1"),
     Call::Line("halt", "halted"),
     Call::IsHalted(true),
     Call::Line(PUT_OTHER, "refused 1 Halted"),
+    Call::Line("unsubscribe t a", "refused 1 Halted"),
 ];
 
 /// An endpoint with two events is settled, and a third event is sealed.
