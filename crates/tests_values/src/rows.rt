@@ -257,7 +257,7 @@ fn fill(rt: &impl Abort, numbers: &mut Numbers, file: File) -> bool {
             sound
         }
         File::Pairs(count, sound) => {
-            numbers.records = count as u64 + 1;
+            numbers.records = (count as u64).saturating_add(1);
             subscribe_each(rt, numbers, count);
             sound
         }
