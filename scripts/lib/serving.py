@@ -20,7 +20,7 @@ from lib.command import ROOT, ran
 SECRET = "whsec_MDEyMzQ1Njc4OTAxMjM0NTY3ODkwMTIz"
 # The tokens of those who come through the proxy in front.
 SUBMITTER, OPERATOR = "5" * 64, "a" * 64
-# Whether the relay has topics: this line turns on all tests of them.
+# Whether events are published to topics: this line turns on all tests of that.
 HAS_TOPICS = False
 STARTED = []
 

@@ -236,7 +236,7 @@ impl EndpointBook {
     }
 
     /// Subscribes an endpoint to a topic, or ends that, by the record with this sequence number. `next_seq`, `is_named` and
-    /// `free_subscriptions` test the conditions. An error is want of memory.
+    /// `free_subscriptions` test the conditions. An error means that an allocation failed.
     pub fn stage_subscribed(
         &mut self,
         seq: u64,
@@ -257,7 +257,8 @@ impl EndpointBook {
     }
 
     /// Subscribes an endpoint to a topic, or not, as the records left it, which are settled. So a book is made of what a
-    /// store holds. `is_named` and `free_subscriptions` test the condition. An error is want of memory.
+    /// store holds. `is_named` and `free_subscriptions` test the condition. An error means that an
+    /// allocation failed.
     pub fn restore_subscribed(
         &mut self,
         topic: Name,

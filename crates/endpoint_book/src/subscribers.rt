@@ -33,7 +33,7 @@ impl<'a> Iterator for Subscribers<'a> {
     }
 }
 
-// The first of these endpoints that is subscribed to the topic, and those behind it.
+// The first of these endpoints that is subscribed to the topic, and those after it.
 fn first_on<'a>(topics: &Topics, topic: Name, names: &'a [Name]) -> Option<(Name, &'a [Name])>
     ensures { MatchOption result (filter (is_on topics.now topic) names.now ≡ [])
         (λ found. filter (is_on topics.now topic) names.now

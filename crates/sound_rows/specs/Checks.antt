@@ -120,7 +120,7 @@ is_turn ts t = may_come (progress_of (before ts t)) t
 abbrev pub is_named : Kept → ℕ → Bool
 is_named k n = is_taken k n || list_any (λ e. e.enabled_by == n || e.secrets_by == n) k.endpoints
 
--- whether the topic is one of the endpoint with this Put, and a record behind this number decides it
+-- whether the topic is one of the endpoint with this Put, and a record after this number decides it
 abbrev pub is_decided_behind : (put n : ℕ) → Topic → Bool
 is_decided_behind put n t = t.endpoint == put && nat_lt n t.set_by
 

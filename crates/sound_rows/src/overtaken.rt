@@ -43,7 +43,7 @@ impl Endpoint {
 }
 
 impl Numbers {
-    // Whether each record that no row names may have been overtaken. An error is want of memory.
+    // Whether each record that no row names may have been overtaken. An error means that an allocation failed.
     pub(crate) fn are_others_overtaken(&self, alloc: Global) -> Result<bool, AllocError>
         requires { AreAscending (kept self.now) }
         ensures { IfOk result (λ answer. answer ≡ are_others_overtaken (kept self.now)) }

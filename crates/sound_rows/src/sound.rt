@@ -9,9 +9,9 @@ use crate::turns::are_in_turn;
 use std::alloc::{AllocError, Global};
 
 impl Numbers {
-    /// Whether rows with these numbers are such as a legal history has, where the values in them keep their rules and the
-    /// tables keep their keys. It takes memory for what came of each event and for each endpoint, and time in proportion to `n log n`, for the
-    /// endpoints are few. An error is want of memory.
+    /// Whether rows with these numbers are such as a legal history has, if the values in them keep their rules and the
+    /// tables keep their keys. It takes memory for what came of each event and for each endpoint. With so few endpoints
+    /// its time is in proportion to `n log n`. An error means that an allocation failed.
     pub fn are_sound(&self, alloc: Global) -> Result<bool, AllocError>
         ensures order { IfOk result (λ answer. ¬ AreAscending (kept self.now) → answer ≡ false) }
         ensures sound { IfOk result (λ answer. (rows : Rows)

@@ -113,7 +113,7 @@ pub(crate) fn read_attempts<S: Alter>(
     )
 }
 
-/// Where the topics of `topics` stand, or nothing where a row is none.
+/// The rows of `topics`, or nothing if one of them isn't a row of ours.
 pub(crate) fn read_topics<S: Alter>(
     conn: &mut Connection<S>,
     alloc: Global,

@@ -55,7 +55,7 @@ fn subscribe_page(loaded: &mut Endpoints, page: Vec<TopicRow>) -> Result<(), Row
     Ok(())
 }
 
-/// Takes in the topics of the tables, where all their endpoints were taken in and nothing else.
+/// Takes in the topics of the tables, once all endpoints were taken in and nothing else.
 pub(crate) fn load_topics<S: Alter>(
     tx: &mut Transaction<'_, S>,
     loaded: &mut Endpoints,

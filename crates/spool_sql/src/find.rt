@@ -76,7 +76,7 @@ pub fn has_delivery<S: Alter>(
     Ok(!rows.is_empty())
 }
 
-/// Whether the tables tell if the endpoint that the record with number `endpoint` made is subscribed to this topic.
+/// Whether there is a row of this topic and the endpoint that the record with number `endpoint` made.
 pub fn has_topic<S: Alter>(
     tx: &mut Transaction<'_, S>,
     topic: &Name,
@@ -96,7 +96,7 @@ pub fn has_topic<S: Alter>(
     Ok(!rows.is_empty())
 }
 
-/// Of how many pairs of a topic and an endpoint the tables tell.
+/// How many rows there are of a topic and an endpoint.
 pub fn count_topics<S: Alter>(tx: &mut Transaction<'_, S>) -> Result<usize, Error>
     ensures same_reference { IsOfSame tx.old.conn tx.new.conn }
     ensures unchanged { LeavesAll S.Store tx.old.conn.now tx.new.conn.now result }

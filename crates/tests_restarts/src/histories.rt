@@ -168,8 +168,7 @@ fn drawn(
     conn
 }
 
-/// Adds a topic of one of the endpoints, behind up to two records that later ones of its topics overtook. No call of a
-/// desk does so.
+/// Adds a topic of one of the endpoints by SQL, after up to two records that later ones of its topics overtook.
 fn add_topic(
     rt: &impl Abort,
     alloc: Global,

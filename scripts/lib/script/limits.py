@@ -1,7 +1,7 @@
 """Scripts up to the relay's limits: endpoints, pending events, 1,000,000 lines.
 
-256 endpoints, 10,000 pending events of an endpoint, 50,000 of all. If the relay has topics: 4,096
-pairs of a topic and an endpoint, and publishes at each limit.
+256 endpoints, 10,000 pending events of an endpoint, 50,000 of all. If events are published to
+topics: 4,096 pairs of a topic and an endpoint, and publishes at each limit.
 Usage: scripts/script limits RELAYD
 """
 import subprocess

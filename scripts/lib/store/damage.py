@@ -42,7 +42,7 @@ def make(relayd, path):
 
 
 def with_topics(rows):
-    """The rows with topics of two endpoints, which no request makes yet."""
+    """The rows with topics of two endpoints."""
     key, app, version, records = rows["meta"][0]
     (first, *_), (second, *_) = rows["endpoints"][:2]
     topics = [(topic, put, flag, records + number) for number, (topic, put, flag) in enumerate([("t", first, 1), ("u", second, 0), ("t", second, 1)])]
