@@ -28,8 +28,7 @@ OF_TOPICS = {
     "subscribe": (8, 10),
     "publish": (8, 100),
 }
-if HAS_TOPICS:
-    KINDS.update(OF_TOPICS)
+KINDS.update({kind: often for kind, often in OF_TOPICS.items() if HAS_TOPICS or kind == "subscribe"})
 
 
 # Words

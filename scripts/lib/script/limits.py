@@ -1,7 +1,7 @@
 """Scripts up to the relay's limits: endpoints, pending events, 1,000,000 lines.
 
-256 endpoints, 10,000 pending events of an endpoint, 50,000 of all. If events are published to
-topics: 4,096 pairs of a topic and an endpoint, and publishes at each limit.
+256 endpoints, 10,000 pending events of an endpoint, 50,000 of all, 4,096 pairs of a topic and an
+endpoint. If events are published to topics: publishes at each limit.
 Usage: scripts/script limits RELAYD
 """
 import subprocess
@@ -42,9 +42,9 @@ def has_lines(relayd):
 
 def main():
     relayd = program_of(__doc__)
-    scripts = [room(MOST_PENDING, MOST_PENDING_ALL)]
+    scripts = [room(MOST_PENDING, MOST_PENDING_ALL), pairs(HAS_TOPICS)]
     if HAS_TOPICS:
-        scripts += [pairs(), publishes(MOST_PENDING, MOST_PENDING_ALL)]
+        scripts.append(publishes(MOST_PENDING, MOST_PENDING_ALL))
     ends = [has_lines(relayd), *(is_answered(relayd, it) for it in scripts)]
     print(f"{ends.count(True)} passed, {ends.count(False)} failed")
     return 0 if all(ends) else 1

@@ -754,9 +754,9 @@ def main():
         check_never_overrun(counts, relayd, folder)
         check_signatures(counts, relayd, folder)
         check_longest(counts, relayd, folder)
+        check_many_subscriptions(counts, relayd, folder)
         if HAS_TOPICS:
             check_topics(counts, relayd, folder)
-            check_many_subscriptions(counts, relayd, folder)
         check_end(counts, relayd, folder)
         check_exhausted(counts, relayd, folder)
         check_no_thread(counts, relayd, folder)

@@ -38,8 +38,9 @@ REPLAYED = {
 }
 
 
-# What each table holds after an endpoint, an event, a failed attempt, one that found the endpoint gone, a flag, a third attempt, and
-# other secrets: seven records, of which the fifth decides that the endpoint is enabled and the last gave its secrets.
+# What each table holds after an endpoint, an event, a failed attempt, one that found the endpoint gone, a flag, a third attempt,
+# other secrets, a topic that is subscribed and unsubscribed, and another topic: ten records, of which the fifth decides that the
+# endpoint is enabled, the seventh gave its secrets, and the last two decide its topics.
 EACH_REQUEST = [
     f"put a {URL} 100 whsec_{base64.b64encode(NEW).decode()}",
     "submit 1000 a msg_1 7b7b",
@@ -48,14 +49,17 @@ EACH_REQUEST = [
     "enable a",
     "claim 1007\nspend 1 1007 500 100000",
     f"secrets a whsec_{base64.b64encode(OLD).decode()},whsec_{base64.b64encode(NEW).decode()}",
+    "subscribe t a",
+    "unsubscribe t a",
+    "subscribe u a",
 ]
 EACH_RECORD = {
-    "meta": [(1, "webhook-relay", 2, 7)],
+    "meta": [(1, "webhook-relay", 2, 10)],
     "endpoints": [(0, "a", URL, 100, 1, 4, 6)],
     "secrets": [(0, 0, OLD), (0, 1, NEW)],
     "deliveries": [(1, 0, "msg_1", 1000, b"{{")],
     "attempts": [(2, 1, 1, 500, 1001), (3, 1, 2, 410, 1006), (5, 1, 3, 500, 1007)],
-    "topics": [],
+    "topics": [("t", 0, 0, 8), ("u", 0, 1, 9)],
 }
 
 
@@ -90,7 +94,8 @@ def main():
             path = f"{scratch}/{name}.db"
             given = "".join(f"{entry}\nseal\ncommit\nsettle\n" for entry in entries).encode()
             ran = subprocess.run([bench, "replay", path], input=given, capture_output=True)
-            if ran.returncode or ran.stdout.splitlines()[-1:] != [b"settled 7"]:
+            settled = f"settled {tables['meta'][0][3]}"
+            if ran.returncode or ran.stdout.decode().splitlines()[-1:] != [settled]:
                 print(f"bench replay: status {ran.returncode}, {ran.stdout.decode()}")
                 failed += 1
                 continue
