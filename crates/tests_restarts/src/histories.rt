@@ -1,5 +1,5 @@
 //! Random legal histories: a desk of the rows that they left shows and does what the desk does that made them.
-ghost use Rattle.std.specs.Prelude.{◌≡◌};
+ghost use Rattle.std.specs.Prelude.{◌≡◌, ◌<◌};
 
 use crate::draws::{Numbers, draw};
 use crate::given::{Text, add_given, spend};
