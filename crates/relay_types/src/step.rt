@@ -1,6 +1,8 @@
 //! Steps: what is written together or not at all.
 ghost use Rattle.std.specs.Prelude.{◌≡◌, ◌↔◌, ◌<◌, ◌≤◌, [], ◌∷◌, length, map, IfOk, IsTrue};
+ghost use Rattle.std.specs.List.{list_all};
 ghost use Rattle.relay_types.specs.Legal.{is_within_limits};
+ghost use Rattle.relay_types.specs.declared.record.Record.TheVariants.{Accept};
 ghost use Rattle.relay_types.specs.Steps.{IsStep, accepts};
 
 use crate::body::Body;
@@ -60,7 +62,8 @@ impl Step {
     ) -> Result<Step, AllocError>
         requires some { 0 < length names.now }
         requires most { length names.now ≤ MAX_STEP_RECORDS }
-        ensures { IfOk result (λ step. step ≡ accepts names.now id body.now at) }
+        ensures records { IfOk result (λ step. step ≡ accepts names.now id body.now at) }
+        ensures limits { IfOk result (λ step. IsTrue (list_all is_within_limits step)) }
     {
         let records = accepts(alloc, names, id, body, at)?;
         let held = Held::Many(Arc::new(alloc, records)?);
@@ -105,19 +108,22 @@ fn accepts(
     body: &Body,
     at: Moment,
 ) -> Result<Vec<Record>, AllocError>
-    ensures { IfOk result (λ records. records.items ≡ accepts names.now id body.now at) }
+    ensures records { IfOk result (λ records. records.items ≡ accepts names.now id body.now at) }
+    ensures limits { IfOk result (λ records. IsTrue (list_all is_within_limits records.items)) }
 {
     let mut records = Vec::with_capacity(alloc, names.len())?;
     for name in names {
-        let body = body.share()?;
-        records.push_reserved(Record::Accept {
-            name: *name,
-            id,
-            body,
-            at,
-        });
+        records.push_reserved(accept(*name, id, body, at)?);
     }
     Ok(records)
+}
+
+fn accept(name: Name, id: MsgId, body: &Body, at: Moment) -> Result<Record, AllocError>
+    ensures record { IfOk result (λ entry. entry ≡ Accept name id body.now at) }
+    ensures limits { IfOk result (λ entry. IsTrue (is_within_limits entry)) }
+{
+    let body = body.share()?;
+    Ok(Record::Accept { name, id, body, at })
 }
 
 fn are_same(one: &[Record], other: &[Record]) -> bool
