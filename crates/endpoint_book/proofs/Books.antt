@@ -12,7 +12,7 @@ use Rattle.endpoint_book.specs.Fields.{AreNames, AreChanges, IsBook, Changes, Pu
 use Rattle.endpoint_book.specs.Book.{endpoint_by_entry}
 use Rattle.endpoint_book.specs.Waiting.{IsInStep}
 use Rattle.endpoint_book.proofs.InStep.{IsWithin, step_changed, step_later, step_put, step_restored, step_settled}
-use Rattle.endpoint_book.proofs.Names.{found, changed-names, changed-listed, put-names, put-listed, change_at-name}
+use Rattle.endpoint_book.proofs.Names.{found, changed-names, changed-listed, names_apart, put-names, put-listed, change_at-name}
 use Rattle.endpoint_book.proofs.Queues.{changes-push, changes-keep, changes-later, puts_kept}
 
 -- the book with these fields, and its changes below the next record
@@ -71,6 +71,7 @@ pub book-change : (entries later : Entries) (names : List (List ℕ)) (cs : List
     → IsBook later names (cs ++ c ∷ []) more_flags puts room (c.seq + 1) settled
 book-change entries later names cs c flags puts capacity next settled more_flags room change h keeps changed above p f few fits shown fields settles = record {
   are_names = subst (λ g. AreNames g names) (λ i asked. sym (changed asked) i) (changed-names (entry_in entries) names (change_at c.name change) (change_at-name c.name change keeps) h.are_names);
+  apart = h.apart;
   are_changes = changes-push cs c flags puts capacity next settled more_flags puts room h.are_changes above f p few fits;
   puts_within = h.puts_within;
   in_step = λ ts. subst IsInStep (sym (change-value (value_of entries names ts cs next settled) entries later names ts cs c next settled change h.are_names refl changed shown))
@@ -88,6 +89,7 @@ pub book-put : (entries later : Entries) (names : List (List ℕ)) (cs : List Ch
     → IsBook later (names ++ e.name ∷ []) (cs ++ record { seq = e.put; name = e.name; kind = Put; shown = now_of e } ∷ []) flags (puts + 1) room (e.put + 1) settled
 book-put entries later names cs e flags puts capacity next settled room h unknown put above fits none = record {
   are_names = subst (λ g. AreNames g (names ++ e.name ∷ [])) (λ i asked. sym (put asked) i) (put-names (entry_in entries) names e unknown h.are_names);
+  apart = names_apart (entry_in entries) names e unknown h.are_names h.apart;
   are_changes =
       changes-push cs (record { seq = e.put; name = e.name; kind = Put; shown = now_of e }) flags puts capacity next settled flags (puts + 1) room h.are_changes above
       (omega arith) refl h.are_changes.few fits;
@@ -102,6 +104,7 @@ pub book-same : (entries later : Entries) (names : List (List ℕ)) (cs : List C
     → IsBook later names cs flags puts room next settled
 book-same entries later names cs flags puts capacity next settled room h same more = record {
   are_names = subst (λ g. AreNames g names) (λ i asked. sym (same asked) i) h.are_names;
+  apart = h.apart;
   are_changes = record {
     parted = h.are_changes.parted;
     below_next = h.are_changes.below_next;
@@ -122,6 +125,7 @@ pub book-later : (entries : Entries) (names : List (List ℕ)) (cs : List Change
     → IsBook entries names cs flags puts capacity next settled → next ≤ later → IsBook entries names cs flags puts capacity later settled
 book-later entries names cs flags puts capacity next settled later h above = record {
   are_names = h.are_names;
+  apart = h.apart;
   are_changes = changes-later cs flags puts capacity next settled later h.are_changes above;
   puts_within = h.puts_within;
   in_step = λ ts. step_later (value_of entries names ts cs next settled) later (h.in_step ts) (within ts h) above;
@@ -133,6 +137,7 @@ pub book-settled : (entries later : Entries) (names : List (List ℕ)) (cs : Lis
     → IsBook later names (filter (is_from place) cs) (count_by is_flag (filter (is_from place) cs)) (count_by is_put (filter (is_from place) cs)) capacity (max next place) place
 book-settled entries later names cs flags puts capacity next settled place h later_place changed = record {
   are_names = subst (λ g. AreNames g names) (λ i asked. sym (changed asked) i) (changed-names (entry_in entries) names (settled_at place cs) (λ name e. refl) h.are_names);
+  apart = h.apart;
   are_changes = changes-keep cs flags puts capacity next settled place h.are_changes later_place;
   puts_within = omega (arith, h.puts_within, h.are_changes.puts_are, puts_kept cs place);
   in_step = λ ts. subst IsInStep (sym (settled-value (value_of entries names ts cs next settled) entries later names ts cs next settled place h.are_names refl changed))
@@ -154,6 +159,7 @@ pub book-restored : (entries later : Entries) (names : List (List ℕ)) (cs : Li
     → next ≤ e.put → e.settled ≡ Some (now_of e) → IsBook later (names ++ e.name ∷ []) cs flags puts capacity (e.put + 1) (e.put + 1)
 book-restored entries later names cs e flags puts capacity next settled h none unknown put above shown = record {
   are_names = subst (λ g. AreNames g (names ++ e.name ∷ [])) (λ i asked. sym (put asked) i) (put-names (entry_in entries) names e unknown h.are_names);
+  apart = names_apart (entry_in entries) names e unknown h.are_names h.apart;
   are_changes = subst (λ ds. AreChanges ds flags puts capacity (e.put + 1) (e.put + 1)) (sym none)
       (changes-none flags puts capacity next settled (e.put + 1) (subst (λ ds. AreChanges ds flags puts capacity next settled) none h.are_changes));
   puts_within = omega (arith, h.puts_within, length-append names (e.name ∷ []));

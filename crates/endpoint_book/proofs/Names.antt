@@ -1,11 +1,13 @@
 -- The entries of the names, and what a change of one of them makes of the list.
-use Rattle.std.proofs.Common.{◌≡◌, ℕ, true, false, List, [], ◌∷◌, ◌++◌, Option, Some, None, refl, sym, ◌∙◌, ap, map, arith}
+use Rattle.std.proofs.Common.{◌≡◌, ◌≢◌, ℕ, zero, suc, ◌<◌, true, false, List, [], ◌∷◌, ◌++◌, Option, Some, None, length}
+use Rattle.std.proofs.Common.{get_or, refl, sym, ◌∙◌, ap, map, arith}
 use Rattle.std.specs.Prelude.{find, filter_map, is_some, bytes_eq, option_map, if◌then◌else◌}
-use Rattle.std.specs.List.{list_any, list_all}
+use Rattle.std.specs.List.{AllPairs, list_any, list_all}
 use Rattle.std.specs.Cmp.Lexicographic.{bytes_decides}
 use Rattle.std.proofs.lemmas.List.Elements.{filter_map-append}
 use Rattle.std.proofs.lemmas.List.Folds.{list_all-append, list_any-append}
-use Rattle.relay_types.proofs.KnownLaws.{and_both}
+use Rattle.std.proofs.lemmas.List.Quantifiers.{all_pairs_push}
+use Rattle.relay_types.proofs.KnownLaws.{and_both, and_first, and_second}
 use Rattle.endpoint_book.specs.declared.entry.Entry.{Entry}
 use Rattle.endpoint_book.specs.Entries.{is_named, change_at}
 use Rattle.endpoint_book.specs.Fields.{AreNames, with_entry}
@@ -74,6 +76,22 @@ put-listed g names e unknown h = grind (arith, filter_map-append, old_stay, itse
 
 pub put-names : (g : List ℕ → Option Entry) (names : List (List ℕ)) (e : Entry) → g e.name ≡ None → AreNames g names → AreNames (with_entry g e) (names ++ e.name ∷ [])
 put-names g names e unknown h = grind (arith, old_stay g e names unknown h.each, itself e.name, list_any-append, list_all-append, and_both, bytes_decides)
+
+-- a name that no entry has is none of the names
+none_named : (g : List ℕ → Option Entry) (x : List ℕ) (ns : List (List ℕ)) → g x ≡ None → list_all (λ n. is_some (g n)) ns ≡ true
+    → (k : ℕ) (d : List ℕ) → k < length ns → get_or ns k d ≢ x
+none_named g x [] none each k d lt = absurd (omega (arith, lt))
+none_named g x (n ∷ ns) none each zero d lt = λ same.
+    let there = and_first (is_some (g n)) _ each in
+    let lost = ap g same ∙ none in
+    absurd (grind (arith, there, lost))
+none_named g x (n ∷ ns) none each (suc k) d lt =
+    none_named g x ns none (and_second (is_some (g n)) _ each) k d (omega (arith, lt))
+
+pub names_apart : (g : List ℕ → Option Entry) (names : List (List ℕ)) (e : Entry) → g e.name ≡ None → AreNames g names
+    → AllPairs (λ a b. a ≢ b) names → AllPairs (λ a b. a ≢ b) (names ++ e.name ∷ [])
+names_apart g names e unknown h apart =
+    all_pairs_push (λ a b. a ≢ b) names e.name apart (none_named g e.name names unknown h.each)
 
 pub change_at-name : (name : List ℕ) (change : Entry → Entry) → ((e : Entry) → (change e).name ≡ e.name) → (asked : List ℕ) (e : Entry) → (change_at name change asked e).name ≡ e.name
 change_at-name name change keeps asked e = grind arith

@@ -1,6 +1,6 @@
 -- Topics with one more flag, and what one more record says of them.
-use Rattle.std.proofs.Common.{◌≡◌, ℕ, ◌+◌, Bool, true, false, ◌&&◌, ◌||◌, List, [], ◌∷◌, ◌++◌, Option, Some, None, length, refl, sym, ap, subst, cond, ◌∙◌, arith, append-nil, length-append}
-use Rattle.std.specs.Prelude.{is_some, bytes_eq, filter, filter_map, fold, unwrap_or, if◌then◌else◌}
+use Rattle.std.proofs.Common.{◌≡◌, ℕ, ◌+◌, Bool, true, false, ◌&&◌, ◌||◌, List, [], ◌∷◌, ◌++◌, Option, Some, None, length, refl, sym, ap, cond, ◌∙◌, arith, append-nil, length-append}
+use Rattle.std.specs.Prelude.{is_some, bytes_eq, filter, filter_map, unwrap_or, if◌then◌else◌}
 use Rattle.std.specs.List.{cons_option}
 use Rattle.std.specs.Option.{option_or}
 use Rattle.std.specs.BTreeMap.{insert_entry, is_at}
@@ -17,10 +17,10 @@ use Rattle.relay_types.specs.declared.record.Record.TheVariants.{Put, Secrets, E
 use Rattle.relay_types.specs.Lists.{last_of}
 use Rattle.relay_types.specs.Subscriptions.{Subscription, is_pair_named, is_subscribed, subscribed_by, subscriptions}
 use Rattle.relay_types.proofs.FilterLaws.{filter_all}
-use Rattle.relay_types.proofs.SubscriptionLaws.{fewer_before, fewer_kept, grows, is_kept, later, latest, named_keeps, named_last, own, same_texts, subscriptions_are, subscriptions-snoc}
+use Rattle.relay_types.proofs.SubscriptionLaws.{fewer_before, fewer_kept, grows, is_kept, named_keeps, named_last, own, subscriptions-snoc}
 use Rattle.endpoint_book.specs.declared.key.PairKey.{PairKey}
 use Rattle.endpoint_book.specs.Book.{is_other, sets_flag}
-use Rattle.endpoint_book.specs.Topics.{TellsTopics, TopicsValue, flag_of, is_on, last_flag, pair_cmp, restored_topics, with_pair}
+use Rattle.endpoint_book.specs.Topics.{TellsTopics, TopicsValue, flag_of, is_on, last_flag, pair_cmp, with_pair}
 
 -- Keys
 
@@ -89,7 +89,6 @@ flag-put ts topic name flag other asked =
     let q : PairKey = record { topic = other; name = asked } in
     found-put k q flag ts ∙ ap (λ b. cond b (Some flag) (flag_of ts other asked)) (turned k q)
 
--- a pair that wasn't named makes them one more
 count_new : (k : PairKey) (flag : Bool) (ts : TopicsValue) → lookup (is_at (pair_cmp k)) ts ≡ None → length (insert_entry pair_cmp ts k flag) ≡ length ts + 1
 count_new k flag [] none = refl
 count_new k flag (e ∷ es) none = at (pair_cmp k e.0) none (count_new k flag es)
@@ -99,6 +98,10 @@ count_new k flag (e ∷ es) none = at (pair_cmp k e.0) none (count_new k flag es
     at Less h more = omega arith
     at Equal h more = absurd (let no = h in cc)
     at Greater h more = let one = more h in omega (arith, one)
+
+-- a pair that wasn't there makes them one more
+pub count-put : (ts : TopicsValue) (topic name : List ℕ) (flag : Bool) → flag_of ts topic name ≡ None → length (with_pair ts topic name flag) ≡ length ts + 1
+count-put ts topic name flag none = count_new (record { topic = topic; name = name }) flag ts none
 
 -- One more record
 
@@ -205,111 +208,3 @@ topics-more ts records topic name flag told counted = record {
     by : (other asked : List ℕ) (b : Bool) → cond b (Some flag) (flag_of ts other asked) ≡ option_or (cond b (Some flag) None) (last_flag records other asked)
     by other asked true = refl
     by other asked false = told.flags other asked
-
--- The pairs of a history, put one after another
-
-abbrev put : TopicsValue → Subscription → TopicsValue
-put ts s = with_pair ts s.topic s.name s.flag
-
-lastly : (b flag : Bool) (flags : List Bool) (o : Option Bool) → option_or (last_of flags) (cond b (Some flag) o) ≡ option_or (last_of (cons_option (cond b (Some flag) None) flags)) o
-lastly true flag [] o = refl
-lastly true flag (f ∷ []) o = refl
-lastly true flag (f ∷ g ∷ flags) o = lastly true flag (g ∷ flags) o
-lastly false flag flags o = refl
-
-covered : (flag : Bool) (flags : List Bool) (o : Option Bool) → is_some (last_of flags) ≡ true → option_or (last_of flags) o ≡ option_or (last_of (flag ∷ flags)) o
-covered flag [] o h = absurd (let no = h in cc)
-covered flag (f ∷ flags) o h = refl
-
-flags_from : (n : ℕ) (records : List Record) (ts : TopicsValue) (topic name : List ℕ) → flag_of (fold put ts (later n records)) topic name ≡ option_or (last_flag records topic name) (flag_of ts topic name)
-flags_from n [] ts topic name = refl
-flags_from n (Subscribed its other flag ∷ rest) ts topic name = at (λ more. flags_from (n + 1) rest more topic name) (is_pair_named rest its other) refl
-  where
-    flags : List Bool
-    flags = filter_map (subscribed_by topic name) rest
-
-    same : Bool
-    same = bytes_eq its topic && bytes_eq other name
-
-    some : same ≡ true → is_pair_named rest its other ≡ true → is_some (last_of flags) ≡ true
-    some e is =
-        let texts = same_texts its topic other name e in
-        sym (named_last rest topic name) ∙ (λ i. is_pair_named rest (sym texts.0 i) (sym texts.1 i)) ∙ is
-
-    hidden : (b : Bool) → same ≡ b → is_pair_named rest its other ≡ true → option_or (last_of flags) (flag_of ts topic name) ≡ option_or (last_of (cons_option (cond b (Some flag) None) flags)) (flag_of ts topic name)
-    hidden true e is = covered flag flags (flag_of ts topic name) (some e is)
-    hidden false e is = refl
-
-    at : ((more : TopicsValue) → flag_of (fold put more (later (n + 1) rest)) topic name ≡ option_or (last_of flags) (flag_of more topic name)) → (b : Bool) → is_pair_named rest its other ≡ b
-        → flag_of (fold put ts (cons_option (cond b None (Some (record { topic = its; name = other; flag = flag; set_by = n }))) (later (n + 1) rest))) topic name
-        ≡ option_or (last_of (cons_option (cond same (Some flag) None) flags)) (flag_of ts topic name)
-    at told true is = told ts ∙ hidden same refl is
-    at told false is =
-        told (with_pair ts its other flag)
-        ∙ ap (option_or (last_of flags)) (flag-put ts its other flag topic name)
-        ∙ lastly same flag flags (flag_of ts topic name)
-flags_from n (Put other target max secrets ∷ rest) ts topic name = flags_from (n + 1) rest ts topic name
-flags_from n (Secrets other secrets ∷ rest) ts topic name = flags_from (n + 1) rest ts topic name
-flags_from n (Enabled other flag ∷ rest) ts topic name = flags_from (n + 1) rest ts topic name
-flags_from n (Accept other id body at ∷ rest) ts topic name = flags_from (n + 1) rest ts topic name
-flags_from n (Outcome delivery attempt status at ∷ rest) ts topic name = flags_from (n + 1) rest ts topic name
-
--- no pair of the records is there yet
-abbrev AreAbsent : TopicsValue → List Record → Type 0
-AreAbsent ts records = (topic name : List ℕ) → is_pair_named records topic name ≡ true → flag_of ts topic name ≡ None
-
-or_true : (a b : Bool) → b ≡ true → a || b ≡ true
-or_true true b h = refl
-or_true false b h = h
-
-count_from : (n : ℕ) (records : List Record) (ts : TopicsValue) → AreAbsent ts records → length (fold put ts (later n records)) ≡ length ts + length (later n records)
-count_from n [] ts absent = omega arith
-count_from n (Subscribed its other flag ∷ rest) ts absent = at (λ more none. count_from (n + 1) rest more none) (is_pair_named rest its other) refl
-  where
-    entry : Record
-    entry = Subscribed its other flag
-
-    behind : AreAbsent ts rest
-    behind topic name h = absent topic name (or_true (is_some (subscribed_by topic name entry)) (is_pair_named rest topic name) h)
-
-    new : flag_of ts its other ≡ None
-    new = absent its other (ap (λ b. is_some (cond b (Some flag) None) || is_pair_named rest its other) (λ i. (bytes_decides its its).1 refl i && (bytes_decides other other).1 refl i))
-
-    still : is_pair_named rest its other ≡ false → AreAbsent (with_pair ts its other flag) rest
-    still unnamed topic name h = flag-put ts its other flag topic name ∙ by (bytes_eq its topic && bytes_eq other name) refl
-      where
-        by : (b : Bool) → bytes_eq its topic && bytes_eq other name ≡ b → cond b (Some flag) (flag_of ts topic name) ≡ None
-        by true e =
-            let texts = same_texts its topic other name e in
-            absurd (let clash : false ≡ true = sym unnamed ∙ (λ i. is_pair_named rest (texts.0 i) (texts.1 i)) ∙ h in cc)
-        by false e = behind topic name h
-
-    at : ((more : TopicsValue) → AreAbsent more rest → length (fold put more (later (n + 1) rest)) ≡ length more + length (later (n + 1) rest)) → (b : Bool) → is_pair_named rest its other ≡ b
-        → length (fold put ts (cons_option (cond b None (Some (record { topic = its; name = other; flag = flag; set_by = n }))) (later (n + 1) rest)))
-        ≡ length ts + length (cons_option (cond b None (Some (record { topic = its; name = other; flag = flag; set_by = n }))) (later (n + 1) rest))
-    at counted true is = counted ts behind
-    at counted false is =
-        let all = counted (with_pair ts its other flag) (still is) in
-        let one : length (with_pair ts its other flag) ≡ length ts + 1 = count_new (record { topic = its; name = other }) flag ts new in
-        omega (arith, all, one)
-count_from n (Put other target max secrets ∷ rest) ts absent = count_from (n + 1) rest ts absent
-count_from n (Secrets other secrets ∷ rest) ts absent = count_from (n + 1) rest ts absent
-count_from n (Enabled other flag ∷ rest) ts absent = count_from (n + 1) rest ts absent
-count_from n (Accept other id body at ∷ rest) ts absent = count_from (n + 1) rest ts absent
-count_from n (Outcome delivery attempt status at ∷ rest) ts absent = count_from (n + 1) rest ts absent
-
-pub topics-restored : (records : List Record) → TellsTopics (restored_topics records) records
-topics-restored records = record {
-  flags = λ topic name.
-      ap (λ ss. flag_of (fold put [] ss) topic name) (subscriptions_are records)
-      ∙ flags_from 0 records [] topic name ∙ or_none (last_flag records topic name);
-  count =
-      let moved = ap (λ ss. length (fold put [] ss)) (subscriptions_are records) in
-      let all = count_from 0 records [] (λ topic name h. refl) in
-      let same = ap length (subscriptions_are records) in
-      omega (arith, moved, all, same);
-}
-  where
-    or_none : (o : Option Bool) → option_or o None ≡ o
-    or_none None = refl
-    or_none (Some f) = refl

@@ -16,10 +16,9 @@ use Rattle.endpoint_book.specs.declared.entry.Entry.{Entry}
 use Rattle.endpoint_book.specs.declared.entry.Shown.{Shown}
 use Rattle.endpoint_book.specs.Entries.{BookValue, is_named}
 use Rattle.endpoint_book.specs.Book.{StandsFor, endpoint_by_entry, shown_of}
-use Rattle.endpoint_book.specs.Topics.{restored_topics}
+use Rattle.endpoint_book.specs.Topics.{TellsTopics, TopicsValue}
 use Rattle.endpoint_book.specs.Laws.{entry_for, IsRestored}
 use Rattle.endpoint_book.proofs.Filters.{none_if}
-use Rattle.endpoint_book.proofs.Pairs.{topics-restored}
 
 -- Of a name that no endpoint has, no record of a legal history speaks, as there is no row of it
 
@@ -39,9 +38,10 @@ unknown-secrets records name legal unknown = cc (unknown-row records name unknow
 found-named : (records : List Record) (name : List ℕ) (e : Endpoint) → endpoint_of records name ≡ Some e → e.name ≡ name
 found-named records name e is = (found_by_number 0 name (endpoints records) e (puts_rise records) is).1
 
-module _ (records : List Record) (legal : IsLegal records) (next : ℕ) (below : next ≤ length records) where
+module _ (records : List Record) (legal : IsLegal records) (topics : TopicsValue) (tells : TellsTopics topics records)
+    (next : ℕ) (below : next ≤ length records) where
   abbrev restored : BookValue
-  restored = record { entries = map (entry_for records) (endpoints records); changes = []; topics = restored_topics records; next_seq = next; settled_seq = length records }
+  restored = record { entries = map (entry_for records) (endpoints records); changes = []; topics = topics; next_seq = next; settled_seq = length records }
 
   entry-restored : (name : List ℕ)
       → find (is_named name) (map (entry_for records) (endpoints records)) ≡ option_map (entry_for records) (endpoint_of records name)
@@ -76,7 +76,7 @@ module _ (records : List Record) (legal : IsLegal records) (next : ℕ) (below :
       enabled = λ name. told (λ (e : Entry). e.enabled) true (is_enabled records) name (λ e. refl) (unknown-enabled records name legal);
       secrets = λ name. told (λ (e : Entry). e.secrets) [] (secrets_of records) name (λ e. refl) (unknown-secrets records name legal);
       endpoints = same-endpoints (endpoints records);
-      topics = topics-restored records;
+      topics = tells;
     };
     shows = λ place later. record {
       shown = λ name. shown-restored name ∙ ap (λ rs. shown_of rs name) (sym (take_all place records later));
@@ -90,5 +90,5 @@ module _ (records : List Record) (legal : IsLegal records) (next : ℕ) (below :
 pub stands-restored : (book : BookValue) (records : List Record) → IsLegal records → IsRestored book records → StandsFor book records (length records)
 stands-restored book records legal h =
     subst (λ b. StandsFor b records (length records))
-    (λ i. record { entries = sym h.entries i; changes = sym h.changes i; topics = sym h.topics i; next_seq = book.next_seq; settled_seq = sym h.settled_seq i })
-    (stands records legal book.next_seq h.next_seq)
+    (λ i. record { entries = sym h.entries i; changes = sym h.changes i; topics = book.topics; next_seq = book.next_seq; settled_seq = sym h.settled_seq i })
+    (stands records legal book.topics h.topics book.next_seq h.next_seq)

@@ -1,6 +1,6 @@
 -- What holds of the fields of a book.
-use Rattle.std.specs.Prelude.{◌≡◌, ℕ, ◌+◌, ◌-◌, ◌≤◌, Bool, true, nat_eq, List, [], ◌++◌, Option, Some, option_map, length, filter, filter_map, is_some, bytes_eq, count_by, if◌then◌else◌}
-use Rattle.std.specs.List.{list_any, list_all}
+use Rattle.std.specs.Prelude.{◌≡◌, ◌≢◌, ℕ, ◌+◌, ◌-◌, ◌≤◌, Bool, true, nat_eq, List, [], ◌++◌, Option, Some, option_map, length, filter, filter_map, is_some, bytes_eq, count_by, if◌then◌else◌}
+use Rattle.std.specs.List.{AllPairs, list_any, list_all}
 use Rattle.std.specs.BTreeMap as tree
 use Rattle.std.specs.Cmp.Lexicographic.{pointwise, slice_cmp}
 use Rattle.std.specs.declared.cmp.Ordering.{Ordering}
@@ -72,6 +72,7 @@ pub record AreChanges (changes : List Change) (flags puts capacity : ℕ) (next_
 pub record IsBook (entries : Entries) (names : List Text) (changes : List Change) (flags puts capacity : ℕ)
     (next_seq settled_seq : Seq) : Type 0 where
   pub are_names : AreNames (entry_in entries) names
+  pub apart : AllPairs (λ a b. a ≢ b) names
   pub are_changes : AreChanges changes flags puts capacity next_seq settled_seq
   pub puts_within : puts ≤ length names
   pub in_step : (topics : TopicsValue) → IsInStep (record {

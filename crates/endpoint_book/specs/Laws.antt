@@ -7,7 +7,7 @@ use Rattle.relay_types.specs.Subscriptions.{subscriptions}
 use Rattle.relay_types.specs.Legal.{IsLegal}
 use Rattle.endpoint_book.specs.declared.entry.Entry.{Entry}
 use Rattle.endpoint_book.specs.Entries.{BookValue, restored_entry}
-use Rattle.endpoint_book.specs.Topics.{last_flag, restored_topics}
+use Rattle.endpoint_book.specs.Topics.{TellsTopics, last_flag}
 use Rattle.endpoint_book.specs.Book.{StandsFor, is_other}
 
 -- a book stands for the longer history too where the record changes no endpoint
@@ -38,7 +38,7 @@ entry_for records e =
 pub record IsRestored (book : BookValue) (records : List Record) : Type 0 where
   pub entries : book.entries ≡ map (entry_for records) (endpoints records)
   pub changes : book.changes ≡ []
-  pub topics : book.topics ≡ restored_topics records
+  pub topics : TellsTopics book.topics records
   pub next_seq : book.next_seq ≤ length records
   pub settled_seq : book.settled_seq ≡ length records
 

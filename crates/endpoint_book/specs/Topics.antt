@@ -1,5 +1,5 @@
 -- Who is subscribed to what: for each topic and endpoint that records named together, the flag that the last of these records gave.
-use Rattle.std.specs.Prelude.{◌≡◌, ◌&&◌, ◌||◌, Bool, false, nat_eq, nat_lt, List, [], length, fold, Option, is_some, filter_map, unwrap_or}
+use Rattle.std.specs.Prelude.{◌≡◌, ◌&&◌, ◌||◌, Bool, false, nat_eq, nat_lt, List, length, Option, is_some, filter_map, unwrap_or}
 use Rattle.std.specs.BTreeMap.{insert_entry, is_at}
 use Rattle.std.specs.Map.{lookup}
 use Rattle.std.specs.Cmp.Lexicographic.{pointwise, slice_cmp}
@@ -9,7 +9,7 @@ use Rattle.relay_types.specs.declared.limits.TheConstants.{MAX_SUBSCRIPTIONS}
 use Rattle.relay_types.specs.declared.record.Record.{Record}
 use Rattle.relay_types.specs.Values.{Text}
 use Rattle.relay_types.specs.Lists.{last_of}
-use Rattle.relay_types.specs.Subscriptions.{Subscription, subscribed_by, subscriptions}
+use Rattle.relay_types.specs.Subscriptions.{subscribed_by, subscriptions}
 use Rattle.endpoint_book.specs.declared.key.PairKey.{PairKey}
 
 -- keys are the same where their characters are, and stand in the order of these, the topic's before the endpoint's
@@ -47,7 +47,3 @@ last_flag records topic name = last_of (filter_map (subscribed_by topic name) re
 pub record TellsTopics (topics : TopicsValue) (records : List Record) : Type 0 where
   pub flags : (topic name : Text) → flag_of topics topic name ≡ last_flag records topic name
   pub count : length topics ≡ length (subscriptions records)
-
--- the pairs of these records, put one after another
-abbrev pub restored_topics : List Record → TopicsValue
-restored_topics records = fold (λ topics s. with_pair topics s.topic s.name s.flag) [] (subscriptions records)

@@ -1,6 +1,6 @@
 //! The book itself.
-ghost use Rattle.std.specs.Prelude.{◌≡◌, ◌≤◌, ◌<◌, ◌+◌, [], false, length, map, count_by, filter, is_some, option_copied, option_map};
-ghost use Rattle.std.specs.Prelude.{IsTrue, IfOk, OnOk, OnErr};
+ghost use Rattle.std.specs.Prelude.{◌≡◌, ◌≢◌, ◌≤◌, ◌<◌, ◌+◌, [], false, length, map, count_by, filter, is_some, option_copied};
+ghost use Rattle.std.specs.Prelude.{option_map, AllPairs, IsTrue, IfOk, OnOk, OnErr};
 ghost use Rattle.relay_types.specs.declared.record.Record.TheVariants as on;
 ghost use Rattle.relay_types.specs.Endpoints.{endpoints, endpoint_of, has_endpoint, is_enabled};
 ghost use Rattle.relay_types.specs.Subscriptions.{is_pair_named, is_subscribed, subscribers, subscriptions};
@@ -378,6 +378,7 @@ impl EndpointBook {
     /// The names of all endpoints, in the order of their Puts.
     pub fn names(&self) -> &[Name]
         ensures value { result.now ≡ map (λ e. e.name) self.now.entries }
+        ensures apart { AllPairs (λ a b. a ≢ b) result.now }
         ensures found { AreFound self.now }
         ensures in_step { IsInStep self.now }
         ensures all_settled { self.now.next_seq ≡ self.now.settled_seq → self.now.changes ≡ [] }

@@ -17,6 +17,7 @@ use Rattle.endpoint_book.specs.Entries.{is_from, settled_at}
 use Rattle.endpoint_book.specs.Entries as endpoint
 use Rattle.endpoint_book.specs.Laws.{entry_for}
 use Rattle.endpoint_book.specs.Book as endpoint_book
+use Rattle.endpoint_book.specs.Topics.{TellsTopics}
 use Rattle.endpoint_book.proofs.Restored.{stands-restored}
 use Rattle.delivery_book.specs.declared.entry.Entry.{Entry as DeliveryEntry}
 use Rattle.delivery_book.specs.Entries.{at_outcomes, front_below, rest_from, with_latest_settled}
@@ -67,7 +68,7 @@ module _ (records : List Record) where
         ∙ ap (λ cs. map (λ (e : EndpointEntry). settled_at (length records) cs e.name e) loaded.book.entries) h.changes
         ∙ none_changed (length records) loaded.book.entries ∙ h.entries ∙ entries_back (endpoints records);
     changes = ap (λ (b : endpoint.BookValue). b.changes) is ∙ ap (filter (is_from (length records))) h.changes;
-    topics = ap (λ (b : endpoint.BookValue). b.topics) is ∙ h.topics;
+    topics = subst (λ (b : endpoint.BookValue). TellsTopics b.topics records) (sym is) h.topics;
     next_seq = omega (arith, ap (λ (b : endpoint.BookValue). b.next_seq) is, h.next_seq);
     settled_seq = ap (λ (b : endpoint.BookValue). b.settled_seq) is;
   })

@@ -1,6 +1,7 @@
 -- What a load reads of the tables, and the books that it gives.
-use Rattle.std.specs.Prelude.{◌≡◌, ◌≤◌, ◌==◌, ◌++◌, ℕ, false, List, [], ◌∷◌, map, max, find, fold, length, slice_get}
-use Rattle.std.specs.Prelude.{filter_map, Option, Some, None, Result, IfOk, IfErr, OnOk, IsTrue, if◌then◌else◌}
+use Rattle.std.specs.Prelude.{◌≡◌, ◌≤◌, ◌==◌, ◌&&◌, ◌++◌, ℕ, Bool, false, List, [], ◌∷◌, map, max, find, length}
+use Rattle.std.specs.Prelude.{slice_get, bytes_eq, filter_map, option_map, Option, Some, None, Result}
+use Rattle.std.specs.Prelude.{IfOk, IfErr, OnOk, IsTrue, if◌then◌else◌}
 use Rattle.std.specs.Option.{option_map_or}
 use Rattle.sqlite.specs.State.{State, HasCleanDisk, IsUnchanged}
 use Rattle.sqlite.specs.Held.{Held, state}
@@ -13,7 +14,7 @@ use Rattle.relay_types.specs.Legal.{IsLegal}
 use Rattle.relay_types.specs.Rows.{EndpointRow, DeliveryRow, AttemptRow, TopicRow, rows_of}
 use Rattle.endpoint_book.specs.declared.entry.Entry.{Entry}
 use Rattle.endpoint_book.specs.Entries.{BookValue, is_known, restored_entry}
-use Rattle.endpoint_book.specs.Topics.{TopicsValue, restored_topics, with_pair}
+use Rattle.endpoint_book.specs.Topics.{TellsTopics, TopicsValue, flag_of}
 use Rattle.delivery_book.specs.declared.entry.Entry.{Entry as DeliveryEntry}
 use Rattle.delivery_book.specs.declared.progress.Progress.{Progress}
 use Rattle.delivery_book.specs.Entries.{BookValue as DeliveryBookValue, known_in, new_entry, progress_of}
@@ -98,16 +99,21 @@ AreNames names records = names ≡ map known_of (rows_of records).endpoints
 abbrev pub name_put : List EndpointRow → (put : Seq) → Text
 name_put rows put = option_map_or (λ e. e.name) (find (λ e. e.put == put) rows) []
 
--- who is subscribed to what by these rows
-abbrev pub topics_by : List EndpointRow → List TopicRow → TopicsValue
-topics_by endpoints rows =
-    fold (λ topics t. with_pair topics t.topic (name_put endpoints t.endpoint) t.subscribed) [] rows
+-- whether the row is of this topic and of the endpoint of this name
+abbrev pub is_topic_of : List EndpointRow → (topic name : Text) → TopicRow → Bool
+is_topic_of endpoints topic name t = bytes_eq t.topic topic && bytes_eq (name_put endpoints t.endpoint) name
+
+-- each topic and endpoint has the flag of its row, and none has one without a row
+pub record HaveFlags (topics : TopicsValue) (endpoints : List EndpointRow) (rows : List TopicRow) : Type 0 where
+  pub flags : (topic name : Text) → flag_of topics topic name
+      ≡ option_map (λ t. t.subscribed) (find (is_topic_of endpoints topic name) rows)
+  pub count : length topics ≡ length rows
 
 -- all endpoints were read, and the topics of these rows
 pub record HaveTopics (loaded : Endpoints) (records : List Record) (rows : List TopicRow) : Type 0 where
   pub entries : loaded.book.entries ≡ map (entry_of_row records) (rows_of records).endpoints
   pub changes : loaded.book.changes ≡ []
-  pub topics : loaded.book.topics ≡ topics_by (rows_of records).endpoints rows
+  pub topics : HaveFlags loaded.book.topics (rows_of records).endpoints rows
   pub next_seq : loaded.book.next_seq ≤ length records
   pub settled_seq : loaded.book.settled_seq ≤ length records
   pub names : AreNames loaded.names.items records
@@ -125,7 +131,7 @@ NextToSubscribe loaded more records = ComeNext (rows_of records).topics (HaveTop
 pub record AreSubscribed (loaded : Endpoints) (records : List Record) : Type 0 where
   pub entries : loaded.book.entries ≡ map (entry_of_row records) (rows_of records).endpoints
   pub changes : loaded.book.changes ≡ []
-  pub topics : loaded.book.topics ≡ restored_topics records
+  pub topics : TellsTopics loaded.book.topics records
   pub next_seq : loaded.book.next_seq ≤ length records
   pub settled_seq : loaded.book.settled_seq ≤ length records
   pub names : AreNames loaded.names.items records

@@ -40,7 +40,7 @@ impl Endpoints {
 
 // Takes in the topics of a page.
 fn subscribe_page(loaded: &mut Endpoints, page: Vec<TopicRow>) -> Result<(), RowFault>
-    ensures found { OnOk result ((records : List Record) → AreNames loaded.old.names.items records
+    ensures found { OnOk result ((records : List Record) → IsLegal records → AreNames loaded.old.names.items records
         → Subscribes loaded.old loaded.new (map topic_of page.items) records) }
     ensures refused { IfErr result (λ fault. (records : List Record) → IsLegal records
         → AreNames loaded.old.names.items records

@@ -42,7 +42,7 @@ loop-from-preserved g c =
             (λ early tables. so_far.done early records legal tables accepted)
             (λ early tables. rw c.of.ensures at (look.found early (rows_of records) tables))
             (λ late tables before after parted h.
-            c.in_ok-subscribe_page.ensures.found records h.names before after parted h)
+            c.in_ok-subscribe_page.ensures.found records legal h.names before after parted h)
             (λ read left h page. behind_some (λ (t : TopicRow). t.set_by) c.loop-from.from _ (rows_of records).topics
             read left (map topic_of items) (topic_of w.in-Some.last.now) h page
             (last_read topic_of items w.in-Some.last.now
@@ -61,7 +61,7 @@ loop-from-preserved g c =
             (λ early tables. so_far.done early records legal tables accepted)
             (λ early tables. rw c.of.ensures at (look.found early (rows_of records) tables))
             (λ late tables before after parted h.
-            c.in_ok-subscribe_page.ensures.found records h.names before after parted h)
+            c.in_ok-subscribe_page.ensures.found records legal h.names before after parted h)
             (λ read left h page. behind_none (λ (t : TopicRow). t.set_by) c.loop-from.from (rows_of records).topics
             read left (map topic_of items) so_far.bound h page
             (none_read topic_of items (rw c.deref.ensures.value at (rw w.in-None.is at c.last.ensures.value))))

@@ -20,7 +20,7 @@ use Rattle.spool.proofs.load_topics.subscribe_page.Goals as goal
 pub loop-row-init : goal.loop-row-init
 loop-row-init c = record {
   names = refl;
-  reads = λ records are. reads_none (rows_of records).topics (HaveTopics c.args.loaded.now records);
+  reads = λ records legal are. reads_none (rows_of records).topics (HaveTopics c.args.loaded.now records);
 }
 
 pub loop-row-preserved : goal.loop-row-preserved
@@ -33,25 +33,25 @@ loop-row-preserved c =
     (rw c.deref.ensures.value at c.in-Some-name_of.ensures.found) in
     record {
       names = step.names ∙ same;
-      reads = λ records are.
+      reads = λ records legal are.
           subst (λ more. Subscribes c.args.loaded.now c.subscribe.new.self more records)
           (sym (map-append topic_of c.loop-row.yielded (c.in-Some.row ∷ [])))
           (reads_then (rows_of records).topics (HaveTopics c.args.loaded.now records)
           (HaveTopics c.loop-row.loaded records) (HaveTopics c.subscribe.new.self records)
-          (map topic_of c.loop-row.yielded) (row ∷ []) (c.loop-row.invariant.reads records are)
-          (topics_more records row name c.loop-row.loaded c.subscribe.new.self
+          (map topic_of c.loop-row.yielded) (row ∷ []) (c.loop-row.invariant.reads records legal are)
+          (topics_more records legal row name c.loop-row.loaded c.subscribe.new.self
           (ap (λ ks. ks.items) same ∙ are) is step.book step.names));
     }
 
 pub returns-clause-found : goal.returns-clause-found
-returns-clause-found c records are =
+returns-clause-found c records legal are =
     let given = c.into_iter-row-iterator.ensures.into_iter_gives in
     let ended = YieldsList-end (YieldsList-from_vec c.args.page.items given.0 (given.1 ∙ c.args.page.ok.0))
     c.loop-row.yielded c.loop-row.row-iterator c.loop-row.yielded_by c.next.result c.next.new.self c.in-None.is
     c.next.ensures.steps in
     let all : c.loop-row.yielded ≡ c.args.page.items = sym (map_itself c.loop-row.yielded) ∙ ended.0 in
     subst (λ items. Subscribes c.args.loaded.now c.loop-row.loaded (map topic_of items) records) all
-    (c.loop-row.invariant.reads records are)
+    (c.loop-row.invariant.reads records legal are)
 
 pub returns-in_default-clause-refused : goal.returns-in_default-clause-refused
 returns-in_default-clause-refused c records legal are next =
@@ -61,7 +61,7 @@ returns-in_default-clause-refused c records legal are next =
     c.next.ensures.steps in
     let row = next_row (rows_of records).topics topic_of (HaveTopics c.args.loaded.now records)
     (HaveTopics c.loop-row.loaded records) c.loop-row.yielded c.args.page.items c.in-Some.row here
-    (c.loop-row.invariant.reads records are) next in
+    (c.loop-row.invariant.reads records legal are) next in
     let names : AreNames c.deref.result.now records =
     c.deref.ensures.value ∙ ap (λ ks. ks.items) c.loop-row.invariant.names ∙ are in
     absurd (no_topic_missing records legal c.deref.result.now (topic_of c.in-Some.row) names
@@ -85,4 +85,4 @@ returns-in_err-subscribe-clause-refused c =
     (place_next records legal c.loop-row.loaded (topic_of c.in-Some.row) name
     (next_row (rows_of records).topics topic_of (HaveTopics c.args.loaded.now records)
     (HaveTopics c.loop-row.loaded records) c.loop-row.yielded c.args.page.items c.in-Some.row here
-    (c.loop-row.invariant.reads records are) next)))
+    (c.loop-row.invariant.reads records legal are) next)))

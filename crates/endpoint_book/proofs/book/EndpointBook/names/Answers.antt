@@ -1,4 +1,5 @@
-use Rattle.std.proofs.Common.{◌≡◌, ◌++◌, ◌∙◌, ap, arith, map, subst, sym}
+use Rattle.std.specs.List.{AllPairs}
+use Rattle.std.proofs.Common.{◌≡◌, ◌≢◌, ◌++◌, ◌∙◌, ap, arith, map, subst, sym}
 use Rattle.endpoint_book.specs.Entries.{AreFound, BookValue}
 use Rattle.endpoint_book.specs.Waiting.{IsInStep}
 use Rattle.endpoint_book.specs.Fields.{entry_in}
@@ -12,6 +13,10 @@ returns-clause-value c =
     c.as_slice.ensures.value
     ∙ sym (named (entry_in b.entries) b.names.items c.self.invariant.are_names)
     ∙ ap (λ v. map (λ e. e.name) v.entries) c.self.view_is
+
+pub returns-clause-apart : goal.returns-clause-apart
+returns-clause-apart c =
+    subst (AllPairs (λ a b. a ≢ b)) (sym c.as_slice.ensures.value) c.self.invariant.apart
 
 pub returns-clause-found : goal.returns-clause-found
 returns-clause-found c =
