@@ -1,5 +1,6 @@
 -- The worlds for which a desk stands, what it tells of them, and how its calls move them on.
-use Rattle.desk.proofs.Words.{◌≡◌, ℕ, [], ◌∷◌, ◌++◌, take, drop, refl, sym, ◌∙◌, ap, append_assoc, take-append-drop}
+use Rattle.desk.proofs.Words.{◌≡◌, ℕ, [], ◌∷◌, ◌++◌, take, drop, refl, sym, ◌∙◌, ap, append-nil, append_assoc}
+use Rattle.desk.proofs.Words.{take-append-drop}
 use Rattle.desk.proofs.Words.{Record, History, records_of, zero, suc, ◌+◌, ◌≤◌, Bool, true, false, List, Option, Some}
 use Rattle.desk.proofs.Words.{None, arith, cond, ◌&&◌, map, add-zero, slice_get, filter, find, count_by, option_map}
 use Rattle.desk.proofs.Words.{option_and_then, is_some, enumerate_from, option_map_or, sum_by-cons, Pending, Accepted}
@@ -43,6 +44,9 @@ use Rattle.delivery_book.specs.Entries as delivery_entries
 pub records_of-append : (xs ys : History) → records_of (xs ++ ys) ≡ records_of xs ++ records_of ys
 records_of-append [] ys = refl
 records_of-append (x ∷ xs) ys = ap (λ rest. x ++ rest) (records_of-append xs ys) ∙ sym (append_assoc x (records_of xs) (records_of ys))
+
+pub records_of-step : (xs : History) (step : List Record) → records_of (xs ++ step ∷ []) ≡ records_of xs ++ step
+records_of-step xs step = records_of-append xs (step ∷ []) ∙ ap (λ rs. records_of xs ++ rs) (append-nil step)
 
 pub records_of-snoc : (xs : History) (entry : Record) → records_of (xs ++ (entry ∷ []) ∷ []) ≡ records_of xs ++ entry ∷ []
 records_of-snoc xs entry = records_of-append xs ((entry ∷ []) ∷ [])
@@ -363,6 +367,23 @@ deliveries_wait {e} {d} {f} {waiting} entry h next settled waits changes tied =
 pub legal_with : {d : DeskValue} {w : World} (entry : Record) → StandsFor d w → record_count d.waiting < MAX_RECORDS → IsTrue (may_follow (all_records w) entry) → IsTrue (is_within_limits entry)
     → IsLegal (all_records w ++ entry ∷ [])
 legal_with {d} {w} entry h room follows limits = legal_more (all_records w) entry h.books.legal follows limits (omega (arith, count_is h, room))
+
+-- the desk that stands for the world with one more step
+pub stands_step : (d : DeskValue) (w : World) (step : List Record) (endpoints : endpoint_entries.BookValue) (deliveries : delivery_entries.BookValue) → StandsFor d w
+    → AreBooks endpoints deliveries (all_records w ++ step) (length (settled_records w))
+    → StandsFor (record d { endpoints = endpoints; deliveries = deliveries; waiting = with_step d.waiting step }) (record w { history = w.history ++ step ∷ [] })
+stands_step d w step endpoints deliveries h books =
+    let later = record w { history = w.history ++ step ∷ [] } in
+    let settled : settled_records later ≡ settled_records w =
+    ap records_of (take-append-le w.settled w.history (step ∷ []) (settled_within h)) in
+    let counted = subst (AreBooks endpoints deliveries (all_records w ++ step)) (ap length (sym settled)) books in
+    let now = length (settled_records later) in
+    let recorded = subst (λ xs. AreBooks endpoints deliveries xs now) (sym (records_of-step w.history step)) counted in
+    let steps =
+    ap (λ steps. steps ++ step ∷ []) h.waiting.steps ∙ sym (drop-append-le w.settled w.history (step ∷ []) (settled_within h)) in
+    let within : w.sealed ≤ length (w.history ++ step ∷ []) =
+    omega (arith, h.waiting.sealed_within, length-append w.history (step ∷ [])) in
+    assumption (recorded, steps, h.waiting.settled_seq ∙ ap length (sym settled), within)
 
 -- the desk that stands for the world with one more record
 pub stands_staged : (d : DeskValue) (w : World) (entry : Record) (endpoints : endpoint_entries.BookValue) (deliveries : delivery_entries.BookValue) → StandsFor d w

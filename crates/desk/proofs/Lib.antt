@@ -9,5 +9,7 @@ mod SettleLaws
 mod OpeningLaws
 pub mod RowLaws
 mod RequestTies
+mod PublishTies
+mod PublishLaws
 mod SpendLaws
 mod ComparingLaws

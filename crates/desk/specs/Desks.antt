@@ -1,6 +1,7 @@
 -- What a desk keeps, the worlds for which it stands, and what its calls answer.
-use Rattle.std.specs.Prelude.{◌≡◌, ℕ, ◌+◌, ◌-◌, ◌≤◌, ◌<◌, Bool, true, false, ◌&&◌, nat_lt, List, [], ◌∷◌, ◌++◌, length}
-use Rattle.std.specs.Prelude.{drop, bytes_eq, Option, Some, None, is_some, IsTrue, Result, Ok, Err, if◌then◌else◌}
+use Rattle.std.specs.Prelude.{◌≡◌, ℕ, ◌+◌, ◌-◌, ◌≤◌, ◌<◌, Bool, true, false, ◌&&◌, not, nat_le, nat_lt, List, [], ◌∷◌}
+use Rattle.std.specs.Prelude.{◌++◌, length, drop, map, filter, bytes_eq, Option, Some, None, is_some, unwrap_or, IsTrue}
+use Rattle.std.specs.Prelude.{Result, Ok, Err, if◌then◌else◌}
 use Rattle.std.specs.Option.{option_map_or}
 use Rattle.relay_types.specs.declared.limits.TheConstants.{MAX_RECORDS}
 use Rattle.relay_types.specs.declared.record.Record.{Record}
@@ -12,8 +13,10 @@ use Rattle.relay_types.specs.Deliveries.{accepted, is_in_state}
 use Rattle.relay_types.specs.Endpoints.{secrets_of}
 use Rattle.relay_types.specs.Judging.{is_gone_status}
 use Rattle.relay_types.specs.Legal.{IsLegal}
+use Rattle.relay_types.specs.Steps.{accepts}
 use Rattle.endpoint_book.specs.Book as endpoint_book
 use Rattle.endpoint_book.specs.Entries as endpoint_entries
+use Rattle.endpoint_book.specs.Topics.{is_on}
 use Rattle.endpoint_book.specs.Waiting.{HasChanges}
 use Rattle.delivery_book.specs.Book as delivery_book
 use Rattle.delivery_book.specs.Entries as delivery_entries
@@ -29,16 +32,18 @@ use Rattle.group_commit.specs.Steps.{outcomes_in}
 use Rattle.group_commit.specs.Waits.{WaitingValue, batch_out, record_count, with_step}
 use Rattle.permits.specs.declared.row.Row.{Row}
 use Rattle.retry_table.specs.declared.post.PostResult.{PostResult}
-use Rattle.claim_queue.specs.Queues.{QueueValue}
+use Rattle.claim_queue.specs.Queues.{HasSamePairs, IsReservedFor, QueueValue, is_reserved}
 use Rattle.delivery_book.specs.declared.entry.Entry.{Entry}
 use Rattle.desk.specs.declared.refusal.Refusal.{Refusal}
 use Rattle.desk.specs.Faults.{Faults, first_fault}
 use Rattle.desk.specs.World.{World, Out, all_records, settled_records}
 use Rattle.desk.specs.declared.job.Post.{Post}
 use Rattle.desk.specs.declared.limiter.Limiter.{Limiter}
-use Rattle.desk.specs.Moves.{Answer, MayGive, is_nothing_out, sealed_batch, opened}
+use Rattle.desk.specs.declared.limits.TheConstants.{MAX_PENDING}
+use Rattle.desk.specs.declared.ticket.Ticket.{Ticket}
+use Rattle.desk.specs.Moves.{Answer, MayGive, is_nothing_out, sealed_batch, opened, ticket}
 use Rattle.desk.specs.Claims.{JobValue, SpentValue, samples_of, next_attempt, target_in, job_of, with_attempt, has_row, with_attempt_over, spent_by}
-use Rattle.desk.specs.Ties.{AreLimiters, AreTied, AreUnderWay, HasRoomForAll, StandsAt, endpoint_at, is_idle, new_limiter, room_by}
+use Rattle.desk.specs.Ties.{AreLimiters, AreTied, AreUnderWay, HasRoomForAll, HasSameRooms, KeepsPlaces, StandsAt, endpoint_at, is_idle, new_limiter, room_by}
 
 -- The books of all records, the steps that wait, the latest moment, whether nothing is taken any more, the permits that are out
 -- and the limits. What the queue holds follows from these.
@@ -277,4 +282,63 @@ abbrev pub with_accept : DeskValue → (name id body : Text) (at : Seconds) → 
 with_accept desk name id body at = record (with_entry desk (Accept name id body at)) {
   clock = at;
   deliveries = delivery_entries.with_event desk.deliveries (record_count desk.waiting) name id body at;
+}
+
+-- What the books say of an event for a topic
+
+-- the endpoints, and the subscribers of a topic among them, in the order of their Puts
+abbrev pub names_in : endpoint_entries.BookValue → List Text
+names_in book = map (λ e. e.name) book.entries
+
+abbrev pub subscribed_in : endpoint_entries.BookValue → (topic : Text) → List Text
+subscribed_in book topic = filter (is_on book.topics topic) (names_in book)
+
+-- whether the endpoint doesn't know an id, whether other bytes are known, and whether too many events are pending
+abbrev pub lacks_in : delivery_entries.BookValue → (id name : Text) → Bool
+lacks_in book id name = not (is_some (delivery_entries.known_in book name id))
+
+abbrev pub has_body_in : delivery_entries.BookValue → (delivery : Seq) (body : Text) → Bool
+has_body_in book d body = option_map_or (λ e. bytes_eq e.body body) (delivery_entries.entry_at book.entries d) false
+
+abbrev pub is_conflict_in : delivery_entries.BookValue → (known : Option Seq) (body : Text) → Bool
+is_conflict_in book known body = option_map_or (λ d. not (has_body_in book d body)) known false
+
+abbrev pub has_full_backlog_in : delivery_entries.BookValue → (name : Text) → Bool
+has_full_backlog_in book name = nat_le MAX_PENDING (delivery_entries.pending_in book name)
+
+-- the same, and the endpoint is a subscriber
+abbrev pub is_against_in : DeskValue → (topic id body name : Text) → Bool
+is_against_in desk topic id body name = is_on desk.endpoints.topics topic name
+    && is_conflict_in desk.deliveries (delivery_entries.known_in desk.deliveries name id) body
+
+abbrev pub is_lacking_in : DeskValue → (topic id name : Text) → Bool
+is_lacking_in desk topic id name = is_on desk.endpoints.topics topic name && lacks_in desk.deliveries id name
+
+abbrev pub is_full_in : DeskValue → (topic id name : Text) → Bool
+is_full_in desk topic id name = is_lacking_in desk topic id name && has_full_backlog_in desk.deliveries name
+
+-- the subscribers that don't know the id
+abbrev pub lacking_in : DeskValue → (topic id : Text) → List Text
+lacking_in desk topic id = filter (is_lacking_in desk topic id) (names_in desk.endpoints)
+
+-- the queue holds the same pairs, and no endpoint has another room or fewer places
+pub record HasMorePlaces (old new : QueueValue) : Type 0 where
+  pub pairs : HasSamePairs old new
+  pub rooms : HasSameRooms old new
+  pub reserved : (name : Text) → IsTrue (is_reserved old name) → IsTrue (is_reserved new name)
+  pub places : KeepsPlaces old new
+
+-- it has a place for one more event of the endpoint
+abbrev pub HasPlaceFor : QueueValue → delivery_entries.BookValue → (name : Text) → Type 0
+HasPlaceFor queue book name = IsReservedFor queue name (delivery_entries.pending_in book name + 1)
+
+-- the ticket of the event that the endpoint knows by this id; the number is 0 if it knows none
+abbrev pub ticket_by : delivery_entries.BookValue → (id name : Text) → Ticket
+ticket_by book id name = ticket (unwrap_or (delivery_entries.known_in book name id) 0) name id
+
+abbrev pub with_publish : DeskValue → (names : List Text) (id body : Text) (at : Seconds) → DeskValue
+with_publish desk names id body at = record desk {
+  clock = at;
+  waiting = with_step desk.waiting (accepts names id body at);
+  deliveries = delivery_entries.with_events desk.deliveries (record_count desk.waiting) (accepts names id body at);
 }

@@ -23,8 +23,8 @@ abbrev pub out_of_memory_at : {A E : Type 0} → ℕ → Result A E → Result A
 out_of_memory_at number (Ok made) = Ok made
 out_of_memory_at number (Err e) = Err (refusal number fault.OutOfMemory)
 
--- Whether a submission, a new endpoint, another change of an endpoint, a subscription, a claim, or a sealing may be refused
--- by this name.
+-- Whether a submission, an event for a topic, a new endpoint, another change of an endpoint, a subscription, a claim, or a
+-- sealing may be refused by this name.
 
 abbrev pub may_refuse_event : Fault → Bool
 may_refuse_event fault.Halted = true
@@ -36,6 +36,11 @@ may_refuse_event fault.WaitingFull = true
 may_refuse_event fault.SeqExhausted = true
 may_refuse_event fault.OutOfMemory = true
 may_refuse_event fault = false
+
+abbrev pub may_refuse_publish : Fault → Bool
+may_refuse_publish fault.UnknownTopic = true
+may_refuse_publish fault.UnknownEndpoint = false
+may_refuse_publish fault = may_refuse_event fault
 
 abbrev pub may_refuse_put : Fault → Bool
 may_refuse_put fault.Halted = true

@@ -17,6 +17,7 @@ ghost use Rattle.desk.specs.Moves.{is_conflict, has_body};
 ghost use Rattle.desk.specs.declared.limits.TheConstants.{MAX_PENDING};
 ghost use Rattle.permits.specs.declared.pool.TheConstants.{PARTS};
 ghost use Rattle.desk.specs.Desks.{StandsFor, Opens, IsMove, Checks, HasNothingOut, KeepsOut, OverWorlds, with_accept};
+ghost use Rattle.desk.specs.Desks.{has_body_in, is_conflict_in};
 
 use crate::limiter::Limiter;
 use crate::limits::{MAX_PENDING, MAX_PENDING_ALL};
@@ -161,7 +162,8 @@ impl<L: Ledger> Desk<L> {
 
     // Whether the delivery has these bytes.
     fn has_body(&self, delivery: u64, body: &Body) -> bool
-        ensures { OverWorlds self.now (λ w. result ≡ has_body body.now (accepted (all_records w) delivery)) }
+        ensures value { result ≡ has_body_in self.now.deliveries delivery body.now }
+        ensures stands { OverWorlds self.now (λ w. result ≡ has_body body.now (accepted (all_records w) delivery)) }
     {
         match self.deliveries.body(delivery) {
             Some(known) => known.is(body),
@@ -170,8 +172,9 @@ impl<L: Ledger> Desk<L> {
     }
 
     // Whether the delivery that is known has other bytes.
-    fn is_conflict(&self, known: Option<u64>, body: &Body) -> bool
-        ensures { OverWorlds self.now (λ w. result ≡ is_conflict (all_records w) known body.now) }
+    pub(crate) fn is_conflict(&self, known: Option<u64>, body: &Body) -> bool
+        ensures value { result ≡ is_conflict_in self.now.deliveries known body.now }
+        ensures stands { OverWorlds self.now (λ w. result ≡ is_conflict (all_records w) known body.now) }
     {
         match known {
             Some(delivery) => !self.has_body(delivery, body),

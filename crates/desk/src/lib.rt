@@ -14,6 +14,7 @@ mod limits;
 mod looks;
 mod opening;
 mod pages;
+mod publish;
 mod refusal;
 mod spent;
 mod ticket;

@@ -9,6 +9,7 @@ use std::alloc::AllocError;
 pub enum Fault {
     Halted,
     UnknownEndpoint,
+    UnknownTopic,
     Conflict,
     Exists,
     EndpointBacklog,

@@ -55,6 +55,7 @@ by_unserved w event (one ∷ others) told next h (inr more) = by_unserved w even
 by_desk : (w : World) (event : Event) (fault : desk_refusal.Fault) → CanRefuse w event (fault_of fault)
 by_desk w event desk_fault.Halted = tt
 by_desk w event desk_fault.UnknownEndpoint = tt
+by_desk w event desk_fault.UnknownTopic = tt
 by_desk w event desk_fault.Conflict = tt
 by_desk w event desk_fault.Exists = tt
 by_desk w event desk_fault.EndpointBacklog = tt

@@ -61,6 +61,7 @@ MayTell answer reply next = ((reply ≡ answer.reply) × (next ≡ answer.next))
 abbrev pub fault_of : desk_refusal.Fault → Fault
 fault_of desk_fault.Halted = fault.Halted
 fault_of desk_fault.UnknownEndpoint = fault.UnknownEndpoint
+fault_of desk_fault.UnknownTopic = fault.UnknownTopic
 fault_of desk_fault.Conflict = fault.Conflict
 fault_of desk_fault.Exists = fault.Exists
 fault_of desk_fault.EndpointBacklog = fault.EndpointBacklog

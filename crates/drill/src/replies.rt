@@ -26,6 +26,7 @@ fn fault_of(fault: desk::Fault) -> Fault
     match fault {
         desk::Fault::Halted => Fault::Halted,
         desk::Fault::UnknownEndpoint => Fault::UnknownEndpoint,
+        desk::Fault::UnknownTopic => Fault::UnknownTopic,
         desk::Fault::Conflict => Fault::Conflict,
         desk::Fault::Exists => Fault::Exists,
         desk::Fault::EndpointBacklog => Fault::EndpointBacklog,

@@ -39,6 +39,7 @@ ask_reply ask.OutOfMemory = out_of_memory
 abbrev pub fault_reply : Fault → Reply
 fault_reply desk.Halted = refused_now (codes "Halted")
 fault_reply desk.UnknownEndpoint = refused 404 (codes "UnknownEndpoint")
+fault_reply desk.UnknownTopic = refused 404 (codes "UnknownTopic")
 fault_reply desk.Conflict = refused 409 (codes "Conflict")
 fault_reply desk.Exists = refused 409 (codes "Exists")
 fault_reply desk.EndpointBacklog = refused_now (codes "EndpointBacklog")

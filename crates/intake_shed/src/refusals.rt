@@ -52,6 +52,7 @@ fn fault_reply(fault: Fault) -> Reply
     match fault {
         Fault::Halted => Reply::refused_now("{\"error\":\"Halted\"}"),
         Fault::UnknownEndpoint => Reply::refused(404, "{\"error\":\"UnknownEndpoint\"}"),
+        Fault::UnknownTopic => Reply::refused(404, "{\"error\":\"UnknownTopic\"}"),
         Fault::Conflict => Reply::refused(409, "{\"error\":\"Conflict\"}"),
         Fault::Exists => Reply::refused(409, "{\"error\":\"Exists\"}"),
         Fault::EndpointBacklog => Reply::refused_now("{\"error\":\"EndpointBacklog\"}"),

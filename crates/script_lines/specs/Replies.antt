@@ -15,6 +15,7 @@ use Rattle.script_lines.specs.declared.reply.Reply.TheVariants as says
 abbrev pub fault_text : Fault → List ℕ
 fault_text fault.Halted = codes "Halted"
 fault_text fault.UnknownEndpoint = codes "UnknownEndpoint"
+fault_text fault.UnknownTopic = codes "UnknownTopic"
 fault_text fault.Conflict = codes "Conflict"
 fault_text fault.Exists = codes "Exists"
 fault_text fault.EndpointBacklog = codes "EndpointBacklog"

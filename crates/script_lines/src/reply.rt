@@ -12,6 +12,7 @@ use std::fmt;
 pub enum Fault {
     Halted,
     UnknownEndpoint,
+    UnknownTopic,
     Conflict,
     Exists,
     EndpointBacklog,
@@ -122,6 +123,7 @@ fn fault_word(fault: Fault) -> &'static str
     match fault {
         Fault::Halted => "Halted",
         Fault::UnknownEndpoint => "UnknownEndpoint",
+        Fault::UnknownTopic => "UnknownTopic",
         Fault::Conflict => "Conflict",
         Fault::Exists => "Exists",
         Fault::EndpointBacklog => "EndpointBacklog",

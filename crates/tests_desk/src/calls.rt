@@ -2,7 +2,7 @@
 
 use crate::given::{body, post_of, put_command, secrets};
 use crate::kept::{Kept, numbers_of};
-use crate::steps::{Answer, Endpoint, Given, Over, Went};
+use crate::steps::{Answer, Endpoint, Given, Over, Published, Went};
 use desk::{Command, Desk, Job, Refusal, Spent, Ticket};
 use group_commit::{Held, WrongTurn};
 use permits::Foreign;
@@ -120,6 +120,40 @@ pub(crate) fn submit<L: Ledger>(
     match desk.submit(now, name, id, body(alloc, text)?) {
         Ok(ticket) => Ok(is_ticket(ticket, name, id, wanted)),
         Err(refusal) => Ok(is_refused(refusal, wanted)),
+    }
+}
+
+/// Whether these are the tickets of the event, in this order.
+fn are_tickets(tickets: &[Ticket], id: MsgId, wanted: &[(&[u8], u64)]) -> Result<bool, Fail> {
+    if tickets.len() != wanted.len() {
+        return Ok(false);
+    }
+    for (place, (name, seq)) in wanted.iter().enumerate() {
+        if !is_ticket(tickets[place], Name::read(name)?, id, Answer::Record(*seq)) {
+            return Ok(false);
+        }
+    }
+    Ok(true)
+}
+
+pub(crate) fn publish<L: Ledger>(
+    desk: &mut Desk<L>,
+    alloc: Global,
+    now: u64,
+    topic: &[u8],
+    id: &[u8],
+    text: &[u8],
+    wanted: Published,
+) -> Result<bool, Fail> {
+    let now = Moment::of(now)?;
+    let topic = Name::read(topic)?;
+    let id = MsgId::read(id)?;
+    match (desk.publish(now, topic, id, body(alloc, text)?), wanted) {
+        (Ok(tickets), Published::Tickets(wanted)) => are_tickets(tickets.as_slice(), id, wanted),
+        (Err(refusal), Published::Refused(number, fault)) => {
+            Ok(is_refused(refusal, Answer::Refused(number, fault)))
+        }
+        (Ok(_), Published::Refused(..)) | (Err(_), Published::Tickets(_)) => Ok(false),
     }
 }
 

@@ -30,7 +30,7 @@ const BEGUN: Totals = Totals {
 };
 
 /// The event of 1000, to which nothing was posted yet.
-const NEW: Event = Event {
+pub(crate) const NEW: Event = Event {
     state: State::Pending,
     due: Some(1000),
     attempts: 0,

@@ -19,6 +19,13 @@ pub(crate) enum Answer {
     Refused(u8, Fault),
 }
 
+/// What a publish answers: the endpoint and the number of each ticket, or its refusal.
+#[derive(Clone, Copy)]
+pub(crate) enum Published {
+    Tickets(&'static [(&'static [u8], u64)]),
+    Refused(u8, Fault),
+}
+
 /// What a claim answers.
 #[derive(Clone, Copy, PartialEq, Eq)]
 pub(crate) enum Given {
@@ -101,6 +108,8 @@ pub(crate) enum Step {
     Subscribes(u64, u64, u64),
     /// Submits an event at this moment, to this endpoint, with this id and body.
     Submit(u64, &'static [u8], &'static [u8], &'static [u8], Answer),
+    /// Publishes an event at this moment, to this topic, with this id and body.
+    Publish(u64, &'static [u8], &'static [u8], &'static [u8], Published),
     /// Submits the twenty events `a` to `t` of 1000 to this endpoint. The first one's record has this number.
     Submits(&'static [u8], u64),
     /// Seals: the number of the batch's first record, that after its last one, and how many steps it has.

@@ -1,7 +1,7 @@
 //! Subscriptions to topics, at the desk.
 
-use crate::events::HOOK;
-use crate::steps::{Answer, Page, Step};
+use crate::events::{HOOK, NEW};
+use crate::steps::{Answer, Event, Page, Published, Step};
 use crate::walk::{Start, take, take_and_reopen};
 use desk::{Fault, Told};
 use std::test::Fail;
@@ -9,6 +9,16 @@ use std::test::Fail;
 const UNKNOWN: Answer = Answer::Refused(2, Fault::UnknownEndpoint);
 
 const PAIRS_SPENT: Answer = Answer::Refused(8, Fault::TooManySubscriptions);
+
+const CONFLICT: Published = Published::Refused(3, Fault::Conflict);
+
+const NO_SUBSCRIBER: Published = Published::Refused(2, Fault::UnknownTopic);
+
+/// The event of 1001.
+const LATER: Event = Event {
+    due: Some(1001),
+    ..NEW
+};
 
 /// The page of an endpoint tells of no topic.
 const PAGE: Page = Page {
@@ -103,4 +113,138 @@ static AT_MOST_4096_PAIRS_ARE_NAMED: [Step; 46] = [
 #[test]
 fn at_most_4096_pairs_are_named(rt: HostRuntime) -> Result<(), Fail> {
     take(&rt, rt.alloc(), Start::Empty, &AT_MOST_4096_PAIRS_ARE_NAMED)
+}
+
+/// A subscriber that knows the id keeps its event. The tickets stand in the order of the Puts, whatever the names are and
+/// whoever subscribed first. A repeated publish moves the clock, and a disabled endpoint is a subscriber.
+static AN_EVENT_GOES_TO_EACH_SUBSCRIBER: [Step; 23] = [
+    Step::Put(b"z", HOOK, Answer::Record(0)),
+    Step::Put(b"a", HOOK, Answer::Record(1)),
+    Step::Subscribe(b"t", b"a", true, Answer::Record(2)),
+    Step::Subscribe(b"t", b"z", true, Answer::Record(3)),
+    Step::Enable(b"a", false, Answer::Record(4)),
+    Step::Submit(1000, b"a", b"msg_1", b"{}", Answer::Record(5)),
+    Step::Publish(1000, b"t", b"msg_1", b"{|", CONFLICT),
+    Step::Publish(
+        1000,
+        b"t",
+        b"msg_1",
+        b"{}",
+        Published::Tickets(&[(b"z", 6), (b"a", 5)]),
+    ),
+    Step::Publish(
+        1000,
+        b"t",
+        b"msg_2",
+        b"{}",
+        Published::Tickets(&[(b"z", 7), (b"a", 8)]),
+    ),
+    Step::Publish(1000, b"t", b"msg_1", b"{|", CONFLICT),
+    Step::Publish(1000, b"u", b"msg_1", b"{}", NO_SUBSCRIBER),
+    Step::Subscribe(b"t", b"z", false, Answer::Record(9)),
+    Step::Publish(
+        1001,
+        b"t",
+        b"msg_2",
+        b"{}",
+        Published::Tickets(&[(b"a", 8)]),
+    ),
+    Step::Publish(
+        1000,
+        b"t",
+        b"msg_3",
+        b"{}",
+        Published::Tickets(&[(b"a", 10)]),
+    ),
+    Step::Told(7, b"z", b"msg_2", Told::Waiting),
+    Step::Turn(11),
+    Step::Told(7, b"z", b"msg_2", Told::Settled),
+    Step::SettledBody(8, b"a", b"msg_2", Some(b"{}")),
+    Step::EventPage(b"a", b"msg_2", Some(NEW)),
+    Step::EventPage(b"a", b"msg_3", Some(LATER)),
+    Step::Subscribe(b"t", b"a", false, Answer::Record(11)),
+    Step::Publish(1001, b"t", b"msg_2", b"{}", NO_SUBSCRIBER),
+    Step::Records(12, 11),
+];
+
+#[test]
+fn an_event_goes_to_each_subscriber(rt: HostRuntime) -> Result<(), Fail> {
+    take(
+        &rt,
+        rt.alloc(),
+        Start::Empty,
+        &AN_EVENT_GOES_TO_EACH_SUBSCRIBER,
+    )
+}
+
+/// Each event takes a place.
+static THE_LAST_PLACES_ARE_TAKEN: [Step; 7] = [
+    Step::Put(b"a", HOOK, Answer::Record(0)),
+    Step::Put(b"b", HOOK, Answer::Record(1)),
+    Step::Subscribe(b"t", b"a", true, Answer::Record(2)),
+    Step::Subscribe(b"t", b"b", true, Answer::Record(3)),
+    Step::Subscribes(0, 762, 4),
+    Step::Publish(
+        1000,
+        b"t",
+        b"msg_1",
+        b"{}",
+        Published::Tickets(&[(b"a", 766), (b"b", 767)]),
+    ),
+    Step::Publish(
+        1000,
+        b"t",
+        b"msg_2",
+        b"{}",
+        Published::Refused(6, Fault::WaitingFull),
+    ),
+];
+
+#[test]
+fn the_last_places_are_taken(rt: HostRuntime) -> Result<(), Fail> {
+    take(&rt, rt.alloc(), Start::Empty, &THE_LAST_PLACES_ARE_TAKEN)
+}
+
+/// A publish that is refused takes no place.
+static A_PUBLISH_THAT_IS_REFUSED_TAKES_NO_PLACE: [Step; 12] = [
+    Step::Put(b"a", HOOK, Answer::Record(0)),
+    Step::Put(b"b", HOOK, Answer::Record(1)),
+    Step::Subscribe(b"t", b"a", true, Answer::Record(2)),
+    Step::Subscribe(b"t", b"b", true, Answer::Record(3)),
+    Step::Subscribes(0, 763, 4),
+    Step::Publish(
+        1000,
+        b"t",
+        b"msg_1",
+        b"{}",
+        Published::Refused(6, Fault::WaitingFull),
+    ),
+    Step::Submit(1000, b"a", b"msg_1", b"{}", Answer::Record(767)),
+    Step::Publish(
+        1000,
+        b"t",
+        b"msg_1",
+        b"{}",
+        Published::Refused(6, Fault::WaitingFull),
+    ),
+    Step::Records(768, 0),
+    Step::HaltByNothing(true),
+    Step::Publish(
+        1000,
+        b"u",
+        b"msg_1",
+        b"{}",
+        Published::Refused(1, Fault::Halted),
+    ),
+    Step::IsHalted(true),
+];
+
+#[test]
+fn a_publish_that_is_refused_takes_no_place(rt: HostRuntime) -> Result<(), Fail> {
+    take(
+        &rt,
+        rt.alloc(),
+        Start::Empty,
+        &A_PUBLISH_THAT_IS_REFUSED_TAKES_NO_PLACE,
+    )
 }

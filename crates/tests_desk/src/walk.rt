@@ -200,6 +200,9 @@ fn step<L: Ledger>(
         Step::Submit(now, name, id, text, answer) => {
             calls::submit(desk, alloc, now, name, id, text, answer)
         }
+        Step::Publish(now, topic, id, text, published) => {
+            calls::publish(desk, alloc, now, topic, id, text, published)
+        }
         Step::Submits(name, first) => calls::submit_twenty(desk, alloc, name, first),
         Step::Seal(sealed) => Ok(calls::seal(desk, &mut out.kept) == sealed),
         Step::Turn(records) => Ok(calls::turn(desk, vault, &mut out.kept, records)),

@@ -20,11 +20,17 @@ struct Case {
 }
 
 // A refused request may be made again later only where the relay is at fault.
-static REFUSALS: [Case; 12] = [
+static REFUSALS: [Case; 13] = [
     Case {
         fault: Fault::UnknownEndpoint,
         status: 404,
         text: b"{\"error\":\"UnknownEndpoint\"}",
+        retry: false,
+    },
+    Case {
+        fault: Fault::UnknownTopic,
+        status: 404,
+        text: b"{\"error\":\"UnknownTopic\"}",
         retry: false,
     },
     Case {

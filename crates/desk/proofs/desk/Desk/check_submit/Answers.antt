@@ -7,4 +7,4 @@ returns-clause-faults g c = λ w h.
     let here = seen c.self.view_is h in
     let halted = here.halted in
     let known = c.contains.ensures.stands (all_records w) (length (settled_records w)) here.books.of_endpoints in
-    cc (c.check.ensures, halted, known, c.is_conflict.ensures w h)
+    cc (c.check.ensures, halted, known, c.is_conflict.ensures.stands w h)
