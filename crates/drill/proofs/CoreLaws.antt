@@ -3,16 +3,27 @@ use Rattle.std.proofs.Common.{◌≡◌, ◌≤◌, ◌<◌, ◌+◌, ◌==◌, 
 use Rattle.std.proofs.Common.{length, take, drop, get_or, Option, Some, None, Result, Ok, Err, inl, inr, ⊎_elim, refl}
 use Rattle.std.proofs.Common.{sym, ap, subst, ◌∙◌, arith, append-nil, nat_eq, nat_lt}
 use mathlib.Core.Logic.{∥∥₁_map}
-use Rattle.std.specs.Prelude.{IsSomeAnd, count_by, find, position, remove, slice_get, if◌then◌else◌}
+use Rattle.std.specs.Prelude.{IsSomeAnd, count_by, filter, find, map, nat_le, position, remove, reverse, slice_get}
+use Rattle.std.specs.Prelude.{if◌then◌else◌}
 use Rattle.std.specs.List.{list_any, position_or_len}
 use Rattle.std.specs.Option.{option_map_or}
-use Rattle.std.proofs.lemmas.Bool.{and_parts, cases_lt, eqb-true, ltb-false, not-true}
-use Rattle.std.proofs.lemmas.List.{take-append-le}
+use Rattle.std.proofs.lemmas.Bool.{and_parts, cases_lt, eqb-true, leb-true, ltb-false, not-true}
+use Rattle.std.proofs.lemmas.List.{length-map, take-append-le, take_all}
 use Rattle.std.proofs.lemmas.List.Folds.{find_at, list_any_at}
 use Rattle.std.proofs.lemmas.List.Quantifiers.{position-Some}
-use Rattle.std.proofs.lemmas.List.Sums.{sum_by-remove, sum_by_push}
+use Rattle.std.proofs.lemmas.List.Sums.{count_by-le-length, length-filter, sum_by-remove, sum_by_push}
 use Rattle.std.proofs.lemmas.Option.{same_Some, slice_get-get_or, slice_get_past}
+use Rattle.relay_types.proofs.KeyLaws.{legal_sound}
+use Rattle.relay_types.proofs.KnownLaws.{and_first, and_second}
+use Rattle.relay_types.specs.declared.limits.TheConstants.{MAX_ENDPOINTS}
+use Rattle.relay_types.specs.declared.record.Record.{Record}
+use Rattle.relay_types.specs.Endpoints.{Endpoint, endpoints}
+use Rattle.relay_types.specs.Legal.{IsLegal}
 use Rattle.relay_types.specs.Records.{History, Accepted, records_of}
+use Rattle.relay_types.specs.Rows.{endpoint_row, rows_of}
+use Rattle.relay_types.specs.Sound.{are_endpoint_rows, are_numbers_apart, are_numbers_below}
+use Rattle.relay_types.specs.Steps.{accepts}
+use Rattle.relay_types.specs.Subscriptions.{is_subscribed}
 use Rattle.relay_types.specs.Deliveries.{accepted, attempts_of, deliveries, due_of, is_pending, known_as}
 use Rattle.permits.specs.declared.row.Row.{Row}
 use Rattle.permits.specs.Rows.{is_out, same_row}
@@ -24,10 +35,14 @@ use Rattle.desk.specs.declared.command.Command.{Command}
 use Rattle.desk.specs.declared.command.Command.TheVariants.{PutEndpoint, SetSecrets, SetEnabled, SetSubscribed}
 use Rattle.desk.specs.declared.refusal.Fault.TheVariants as desk_fault
 use Rattle.desk.specs.declared.refusal.Refusal.{Refusal}
+use Rattle.desk.specs.declared.ticket.Ticket.{Ticket}
 use Rattle.desk.specs.Faults.{Faults, refusal}
 use Rattle.desk.specs.World.{World, all_records, settled_records}
 use Rattle.desk.specs.Moves as desk
-use Rattle.desk.specs.Moves.{MayGive, refused, unless, submit, submit_faults, submit_new, new_submit_faults, repeats, change, changes, change_faults, sealed_batch, moment, are_seqs_spent}
+use Rattle.desk.specs.Moves.{MayGive, refused, unless, submit, submit_faults, submit_new, new_submit_faults, repeats}
+use Rattle.desk.specs.Moves.{change, changes, change_faults, sealed_batch, moment, are_seqs_spent, publish}
+use Rattle.desk.specs.Moves.{publish_faults, publish_to, new_publish_faults, lacking, subscribed, ticket_in}
+use Rattle.desk.specs.Moves.{at_moment, or_out_of_memory, tickets_in, with_accepts}
 use Rattle.desk.specs.Claims.{JobValue, SpentValue, is_live, is_claimable, is_claimable_for, claimables}
 use Rattle.desk.specs.Claims.{has_no_waiting_outcome, waits, choice, claim, claim_chosen, starts, rests, with_attempt}
 use Rattle.desk.specs.Claims.{has_row, with_attempt_over, without_row, outcome_by, sample_by}
@@ -39,8 +54,11 @@ use Rattle.drill.specs.declared.calls.Core.{Core}
 use Rattle.drill.specs.declared.held.Held.{Held}
 use Rattle.drill.specs.declared.held.Held.TheVariants as held
 use Rattle.drill.specs.declared.tickets.Given.{Given}
+use Rattle.drill.specs.declared.tickets.Given.TheVariants.{Submission}
 use Rattle.drill.specs.Tickets.{Keeps}
-use Rattle.drill.specs.Moves.{Session, MayTell, IsOneOf, stays, lacks, tells, stages, staged_reply, refusal_reply, with_ticket, claim_reply, spent_reply, spends, permit_of}
+use Rattle.drill.specs.Moves.{Session, MayTell, IsOneOf, stays, lacks, tells, stages, staged_reply, refusal_reply}
+use Rattle.drill.specs.Moves.{with_ticket, gives, published_reply, publishes, with_tickets, claim_reply, spent_reply}
+use Rattle.drill.specs.Moves.{spends, permit_of}
 use Rattle.drill.specs.Cores.{IsHeld, AreOnce, CoreStandsFor, HoldsAll, HoldsOut, IsCore, CoreAnswers, KeepsAll}
 
 -- Worlds after which what is out, settled and sealed is as before
@@ -104,6 +122,93 @@ goes_change w command = goes_unless (change_faults w command) w (changes w comma
     at (SetEnabled name flag) = goes_with w _ w.clock (λ d. refl)
     at (SetSubscribed topic name flag) = goes_with w _ w.clock (λ d. refl)
 
+-- no record of a new event is an attempt
+none_tried : (names : List (List ℕ)) (id body : List ℕ) (at d : ℕ) → attempts_of (accepts names id body at) d ≡ []
+none_tried [] id body at d = refl
+none_tried (name ∷ names) id body at d = none_tried names id body at d
+
+none_tried_in_step : (names : List (List ℕ)) (id body : List ℕ) (at d : ℕ)
+    → attempts_of (records_of (accepts names id body at ∷ [])) d ≡ []
+none_tried_in_step names id body at d = ap (λ records. attempts_of records d) (append-nil (accepts names id body at))
+    ∙ none_tried names id body at d
+
+pub goes_publish : (w : World) (now : ℕ) (topic id body : List ℕ) → Stages w (publish w now topic id body).next
+goes_publish w now topic id body = goes_unless (publish_faults w topic id body) w
+    (publish_to (lacking w topic id) w now topic id body) (at (lacking w topic id))
+  where
+    at : (names : List (List ℕ)) → Stages w (publish_to names w now topic id body).next
+    at [] = later w (moment w now)
+    at (name ∷ names) = goes_unless (new_publish_faults w (name ∷ names)) w _
+        (goes_with w (accepts (name ∷ names) id body (moment w now) ∷ []) (moment w now)
+        (none_tried_in_step (name ∷ names) id body (moment w now)))
+
+-- each subscriber is an endpoint, and no history has more than so many
+few_endpoints : (records : List Record) → IsLegal records → length (endpoints records) ≤ MAX_ENDPOINTS
+few_endpoints records legal =
+    let rows = rows_of records in
+    let fits = and_first (nat_le (length rows.endpoints) MAX_ENDPOINTS) _ (and_first (are_endpoint_rows rows) _
+    (and_second (are_numbers_apart rows) _ (and_second (are_numbers_below rows) _ (legal_sound records legal).0))) in
+    omega (
+      arith,
+      leb-true (length rows.endpoints) MAX_ENDPOINTS fits,
+      length-map (endpoints records) (endpoint_row records),
+    )
+
+few_subscribed : (w : World) (topic : List ℕ) → IsLegal (all_records w) → length (subscribed w topic) ≤ MAX_ENDPOINTS
+few_subscribed w topic legal =
+    let all = endpoints (all_records w) in
+    let test = λ (e : Endpoint). is_subscribed (all_records w) topic e.name in
+    omega (
+      arith,
+      few_endpoints (all_records w) legal,
+      length-map (filter test all) (λ (e : Endpoint). e.name),
+      length-filter test all,
+      count_by-le-length test all,
+    )
+
+-- so many tickets are given at most
+abbrev AreFew : Result (List Ticket) Refusal → Type 0
+AreFew (Ok tickets) = length tickets ≤ MAX_ENDPOINTS
+AreFew (Err refusal) = Unit {0}
+
+few_unless : (faults : Faults) (w : World) (answer : desk.Answer (List Ticket)) → AreFew answer.reply
+    → AreFew (unless faults w answer).reply
+few_unless [] w answer h = h
+few_unless ((there, number, why) ∷ rest) w answer h = at there (few_unless rest w answer h)
+  where
+    at : (b : Bool) → AreFew (unless rest w answer).reply
+        → AreFew (if b then refused w number why else unless rest w answer).reply
+    at true h = tt
+    at false h = h
+
+few_told : (w : World) (now : ℕ) (topic id body : List ℕ) → IsLegal (all_records w)
+    → AreFew (publish w now topic id body).reply
+few_told w now topic id body legal =
+    few_unless (publish_faults w topic id body) w (publish_to (lacking w topic id) w now topic id body)
+    (at (lacking w topic id))
+  where
+    each : (next : World) → length (map (ticket_in next id) (subscribed w topic)) ≤ MAX_ENDPOINTS
+    each next = omega (arith, few_subscribed w topic legal, length-map (subscribed w topic) (ticket_in next id))
+
+    at : (names : List (List ℕ)) → AreFew (publish_to names w now topic id body).reply
+    at [] = each (at_moment w now)
+    at (name ∷ names) = few_unless (new_publish_faults w (name ∷ names)) w
+        (or_out_of_memory 8 (tickets_in w topic id
+        (with_accepts (at_moment w now) (name ∷ names) id body (moment w now))))
+        (each (with_accepts (at_moment w now) (name ∷ names) id body (moment w now)))
+
+few_given : (w : World) (now : ℕ) (topic id body : List ℕ) (result : Result (List Ticket) Refusal) (next : World)
+    → IsLegal (all_records w)
+    → MayGive w (publish w now topic id body) result next → AreFew result
+few_given w now topic id body result next legal (inl given) =
+    subst AreFew (sym given.0) (few_told w now topic id body legal)
+few_given w now topic id body result next legal (inr lacks) = at (publish w now topic id body).memory lacks
+  where
+    at : (o : Option ℕ) → IsSomeAnd o (λ number. (result ≡ Err (refusal number desk_fault.OutOfMemory)) × (next ≡ w))
+        → AreFew result
+    at None none = absurd none
+    at (Some number) (e, f) = subst AreFew (sym e) tt
+
 lacks_stays : {A : Type 0} (o : Option ℕ) (result : Result A Refusal) (w next : World) → IsSomeAnd o (λ number. (result ≡ Err (refusal number desk_fault.OutOfMemory)) × (next ≡ w)) → next ≡ w
 lacks_stays None result w next h = absurd h
 lacks_stays (Some number) result w next h = h.1
@@ -151,31 +256,102 @@ holds_so old new (live, out) same permits core = ∥∥₁_map core (λ (h : Hol
 
 -- Steps that are staged
 
-may_stage : {A : Type 0} (of : A → Given) (s : Session) (answer : desk.Answer A) (result : Result A Refusal) (next : World) → MayGive s.world answer result next
-    → MayTell (stages of s answer) (staged_reply of result) (record { world = next; tickets = with_ticket of result s.tickets })
-may_stage of s answer result next (inl (e, f)) = inl (ap (staged_reply of) e, λ i. record { world = f i; tickets = with_ticket of (e i) s.tickets })
-may_stage of s answer result next (inr without) = inr (at answer.memory without)
+-- a refusal is told by its number and its name, and keeps no ticket
+abbrev Refuses : {A : Type 0} → (told : Result A Refusal → Reply) (kept : Result A Refusal → List Given → List Given)
+    → Type 0
+Refuses told kept = (why : Refusal) → (told (Err why) ≡ refusal_reply why)
+    × ((tickets : List Given) → kept (Err why) tickets ≡ tickets)
+
+may_give : {A : Type 0} (told : Result A Refusal → Reply) (kept : Result A Refusal → List Given → List Given)
+    (s : Session) (answer : desk.Answer A) (result : Result A Refusal) (next : World)
+    → Refuses told kept → MayGive s.world answer result next
+    → MayTell (gives told kept s answer) (told result) (record { world = next; tickets = kept result s.tickets })
+may_give told kept s answer result next refuses (inl (e, f)) =
+    inl (ap told e, λ i. record { world = f i; tickets = kept (e i) s.tickets })
+may_give told kept s answer result next refuses (inr without) = inr (at answer.memory without)
   where
     at : (o : Option ℕ) → IsSomeAnd o (λ number. (result ≡ Err (refusal number desk_fault.OutOfMemory)) × (next ≡ s.world))
-        → IsOneOf (lacks s o) (staged_reply of result) (record { world = next; tickets = with_ticket of result s.tickets })
+        → IsOneOf (lacks s o) (told result) (record { world = next; tickets = kept result s.tickets })
     at None h = h
-    at (Some number) (e, f) = inl (ap (staged_reply of) e, λ i. record { world = f i; tickets = with_ticket of (e i) s.tickets })
+    at (Some number) (e, f) =
+        let lack = refuses (refusal number desk_fault.OutOfMemory) in
+        inl (
+          ap told e
+              ∙ lack.0,
+          λ i. record { world = f i; tickets = (ap (λ r. kept r s.tickets) e ∙ lack.1 s.tickets) i },
+        )
 
-pub answers_staged : {L A : Type 0} (old new : Core L) (of : A → Given) (move : World → desk.Answer A) (result : Result A Refusal) → ((w : World) → Stages w (move w).next)
-    → IsMove old.desk move result new.desk → new.desk.waiting.mark ≡ old.desk.waiting.mark → KeepsOut old.desk new.desk → new.held ≡ old.held → new.permits.items ≡ old.permits.items
-    → ((given : List Given) → Keeps old.tickets given → Keeps new.tickets (with_ticket of result given)) → CoreAnswers old (λ s. stages of s (move s.world)) (staged_reply of result) new
-answers_staged old new of move result plain moved mark out same permits keeps = record {
+answers_given : {L A : Type 0} (old new : Core L) (told : Result A Refusal → Reply) (kept : Result A Refusal
+    → List Given → List Given) (move : World → desk.Answer A)
+    (result : Result A Refusal) (reply : Reply) → Refuses told kept → ((w : World) → Stages w (move w).next)
+    → IsMove old.desk move result new.desk → new.desk.waiting.mark ≡ old.desk.waiting.mark → KeepsOut old.desk new.desk
+    → new.held ≡ old.held → new.permits.items ≡ old.permits.items
+    → ((s : Session) → CoreStandsFor old s → (reply ≡ told result) × Keeps new.tickets (kept result s.tickets))
+    → CoreAnswers old (λ s. gives told kept s (move s.world)) reply new
+answers_given old new told kept move result reply refuses plain moved mark out same permits keeps = record {
   mark = mark;
   keeps = holds_so old new out same permits;
   moves = λ s on.
       let made = moved s.world on.desk in
-      let goes = goes_given s.world (move s.world) result made.0 (plain s.world) made.1 in (
-        record { world = made.0; tickets = with_ticket of result s.tickets },
-        may_stage of s (move s.world) result made.0 made.1,
-        core_goes old new s made.0 (with_ticket of result s.tickets) on goes.goes made.2 mark same (permits ∙ on.permits
-            ∙ sym goes.live) (subst AreOnce (sym goes.live) on.once) (keeps s.tickets on.tickets),
+      let goes = goes_given s.world (move s.world) result made.0 (plain s.world) made.1 in
+      let next : Session = record { world = made.0; tickets = kept result s.tickets } in
+      let is = keeps s on in (
+        next,
+        subst (λ r. MayTell (gives told kept s (move s.world)) r next) (sym is.0)
+            (may_give told kept s (move s.world) result made.0 refuses made.1),
+        core_goes old new s made.0 (kept result s.tickets) on goes.goes made.2 mark same (permits ∙ on.permits
+            ∙ sym goes.live) (subst AreOnce (sym goes.live) on.once) is.1,
       );
 }
+
+pub answers_staged : {L A : Type 0} (old new : Core L) (of : A → Given) (move : World → desk.Answer A)
+    (result : Result A Refusal) → ((w : World) → Stages w (move w).next)
+    → IsMove old.desk move result new.desk → new.desk.waiting.mark ≡ old.desk.waiting.mark → KeepsOut old.desk new.desk
+    → new.held ≡ old.held → new.permits.items ≡ old.permits.items
+    → ((given : List Given) → Keeps old.tickets given → Keeps new.tickets (with_ticket of result given))
+    → CoreAnswers old (λ s. stages of s (move s.world)) (staged_reply of result) new
+answers_staged old new of move result plain moved mark out same permits keeps =
+    answers_given old new (staged_reply of) (with_ticket of) move result (staged_reply of result)
+    (λ why. (refl, λ tickets. refl)) plain moved mark out same permits
+    (λ s on. (refl, keeps s.tickets on.tickets))
+
+-- an event for a topic is refused
+pub answers_unpublished : {L : Type 0} (old new : Core L) (now : ℕ) (topic id body : List ℕ) (why : Refusal)
+    → IsMove old.desk (λ w. publish w now topic id body) (Err why) new.desk → new.desk.waiting.mark
+    ≡ old.desk.waiting.mark
+    → KeepsOut old.desk new.desk → new.held ≡ old.held → new.permits.items ≡ old.permits.items → new.tickets
+    ≡ old.tickets
+    → CoreAnswers old (λ s. publishes s (publish s.world now topic id body)) (refusal_reply why) new
+answers_unpublished old new now topic id body why moved mark out same permits tickets =
+    answers_given old new published_reply with_tickets (λ w. publish w now topic id body) (Err why) (refusal_reply why)
+    (λ why. (refl, λ tickets. refl))
+    (λ w. goes_publish w now topic id body) moved mark out same permits
+    (λ s on. (refl, subst (λ t. Keeps t s.tickets) (sym tickets) on.tickets))
+
+-- its first tickets are kept and told, as many as there may be: that is all of them
+pub answers_published : {L : Type 0} (old new : Core L) (now : ℕ) (topic id body : List ℕ) (tickets few : List Ticket)
+    → IsMove old.desk (λ w. publish w now topic id body) (Ok tickets) new.desk → new.desk.waiting.mark
+    ≡ old.desk.waiting.mark
+    → KeepsOut old.desk new.desk → new.held ≡ old.held → new.permits.items ≡ old.permits.items
+    → few ≡ take MAX_ENDPOINTS tickets
+    → ((given : List Given) → Keeps old.tickets given → Keeps new.tickets (reverse (map Submission few) ++ given))
+    → CoreAnswers old (λ s. publishes s (publish s.world now topic id body))
+    (says.Published (map (λ ticket. ticket.seq) few)) new
+answers_published old new now topic id body tickets few moved mark out same permits first keeps =
+    answers_given old new published_reply with_tickets (λ w. publish w now topic id body) (Ok tickets)
+    (says.Published (map (λ ticket. ticket.seq) few))
+    (λ why. (refl, λ tickets. refl)) (λ w. goes_publish w now topic id body) moved mark out same permits
+    (λ s on.
+    let all = whole s on in (
+      ap (λ ts. says.Published (map (λ ticket. ticket.seq) ts)) all,
+      subst (λ ts. Keeps new.tickets (reverse (map Submission ts) ++ s.tickets)) all (keeps s.tickets on.tickets),
+    ))
+  where
+    whole : (s : Session) → CoreStandsFor old s → few ≡ tickets
+    whole s on =
+        let made = moved s.world on.desk in
+        first ∙ take_all MAX_ENDPOINTS tickets
+        (few_given s.world now topic id body (Ok tickets) made.0 on.desk.books.legal made.1)
 
 -- A look leaves the session as it is.
 pub answers_look : {L : Type 0} (core : Core L) (told : Session → Reply) (reply : Reply) → ((s : Session) → CoreStandsFor core s → reply ≡ told s) → CoreAnswers core (λ s. stays s (told s)) reply core

@@ -11,11 +11,13 @@ use Rattle.desk.specs.declared.command.Command.TheVariants.{PutEndpoint, SetSecr
 use Rattle.desk.specs.declared.refusal.Refusal.{Refusal}
 use Rattle.group_commit.proofs.StepLaws.{fitting_within}
 use Rattle.desk.specs.World.{World, Out, Nothing, Batch, Receipt, Doubt, max_sealed}
-use Rattle.desk.specs.Moves.{submit, change, with_batch, with_sealed_settled, with_batch_back, with_halt, is_nothing_out}
+use Rattle.desk.specs.Moves.{submit, publish, change, with_batch, with_sealed_settled, with_batch_back, with_halt}
+use Rattle.desk.specs.Moves.{is_nothing_out}
 use Rattle.desk.specs.Claims.{JobValue, claim, with_attempt_over}
 use Rattle.drill.specs.Moves.{Session, MayTell, IsOneOf, lacks, tells, seal_reply, answer_to, commands, commits, in_doubt, settles, unseals, halts, spends, permit_of, with_receipt}
 use Rattle.drill.specs.Cores.{is_commit}
-use Rattle.drill.proofs.CoreLaws.{Goes, Stages, IsClaimed, goes_change, goes_submit, goes_claim, goes_over, is_claim}
+use Rattle.drill.proofs.CoreLaws.{Goes, Stages, IsClaimed, goes_change, goes_publish, goes_submit, goes_claim}
+use Rattle.drill.proofs.CoreLaws.{goes_over, is_claim}
 use Rattle.drill.proofs.TurnLaws.{answer_by, is_nothing}
 
 -- a batch has steps of the history
@@ -106,6 +108,9 @@ follows_each P s next event reply own h = at event own
     at (on.Enabled name flag) own = changed (SetEnabled name flag)
     at (on.Subscribed topic name flag) own = changed (SetSubscribed topic name flag)
     at (on.Submit now name id body) own = told P s next _ reply _ _ h.stays (h.stages (submit s.world now name id body).next (goes_submit s.world now name id body))
+    at (on.Publish now topic id body) own =
+        told P s next _ reply _ _ h.stays
+        (h.stages (publish s.world now topic id body).next (goes_publish s.world now topic id body))
     at (on.Told seq) own = moved P next s reply _ h.stays
     at (on.Claim now) own = told P s next _ reply _ _ h.stays (h.claims (claim s.world now).reply (claim s.world now).next (is_claim s.world now))
     at (on.Spend delivery now post) own = follows_spend P s next reply delivery now post h (permit_of s.world delivery) refl

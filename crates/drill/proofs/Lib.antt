@@ -11,7 +11,9 @@ mod StopLaws
 mod RunLaws
 pub mod ReplayLaws
 mod WorkedRun
+mod WorkedPublish
 mod WithinLaws
 mod RefusalLaws
 mod LaterLaws
+mod PlaceLaws
 mod AuditLaws

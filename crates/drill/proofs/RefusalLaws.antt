@@ -14,10 +14,11 @@ use Rattle.desk.specs.declared.refusal.Fault as desk_refusal
 use Rattle.desk.specs.declared.refusal.Fault.TheVariants as desk_fault
 use Rattle.desk.specs.declared.refusal.Refusal.{Refusal}
 use Rattle.desk.specs.declared.spent.Limits.{Limits}
+use Rattle.desk.specs.declared.ticket.Ticket.{Ticket}
 use Rattle.delivery_book.specs.declared.row.Row as delivery
 use Rattle.desk.specs.Claims.{JobValue, claim, limits}
 use Rattle.desk.specs.Looks.{EndpointShown, endpoint_page, event_page}
-use Rattle.desk.specs.Moves.{submit, change, seal}
+use Rattle.desk.specs.Moves.{submit, publish, change, seal}
 use Rattle.desk.specs.World.{World, Out, Nothing, Batch, Receipt, Doubt, settled_records}
 use Rattle.drill.specs.declared.events.Event.{Event}
 use Rattle.drill.specs.declared.events.Event.TheVariants as on
@@ -28,7 +29,8 @@ use Rattle.drill.specs.declared.events.Reply.TheVariants as reply
 use Rattle.drill.specs.declared.tickets.Given.{Given}
 use Rattle.drill.specs.declared.tickets.Given.TheVariants.{Submission, Command as OfCommand}
 use Rattle.drill.specs.Events.{look_reply}
-use Rattle.drill.specs.Moves.{Session, Answer, IsOneOf, answer_to, fault_of, lacks, staged_reply, seal_reply}
+use Rattle.drill.specs.Moves.{Session, Answer, IsOneOf, answer_to, fault_of, lacks, published_reply, staged_reply}
+use Rattle.drill.specs.Moves.{seal_reply}
 use Rattle.drill.specs.Moves.{claim_reply, limits_reply, told_reply, endpoint_reply, event_reply, commits, settles}
 use Rattle.drill.specs.Moves.{unseals, halts, spends, permit_of}
 use Rattle.drill.specs.Refusals.{CanRefuse, RefusalsOfMoves}
@@ -74,6 +76,11 @@ by_lack s event (Some number) = (tt, tt)
 by_staged : {A : Type 0} (of : A → Given) (w : World) (event : line.Call) (result : Result A Refusal) → IsAllowed w event (staged_reply of result)
 by_staged of w event (Ok ticket) = tt
 by_staged of w event (Err refusal) = by_desk w (on.Line event) refusal.fault
+
+by_published : (w : World) (event : line.Call) (result : Result (List Ticket) Refusal)
+    → IsAllowed w event (published_reply result)
+by_published w event (Ok tickets) = tt
+by_published w event (Err refusal) = by_desk w (on.Line event) refusal.fault
 
 by_seal : (w : World) (result : Result (Option BatchValue) Refusal) → IsAllowed w on_line.Seal (seal_reply result)
 by_seal w (Ok None) = tt
@@ -150,6 +157,10 @@ may_be_told s event = at event
     at (on_line.Enabled name flag) = changed _ (SetEnabled name flag)
     at (on_line.Subscribed topic name flag) = changed _ (SetSubscribed topic name flag)
     at (on_line.Submit now name id body) = (by_staged Submission s.world _ (submit s.world now name id body).reply, by_lack s _ (submit s.world now name id body).memory)
+    at (on_line.Publish now topic id body) = (
+      by_published s.world _ (publish s.world now topic id body).reply,
+      by_lack s _ (publish s.world now topic id body).memory,
+    )
     at (on_line.Told seq) = (by_told s.world _ (find_ticket s.tickets seq), tt)
     at (on_line.Claim now) = (by_claim s.world now (claim s.world now).reply, by_lack s _ (claim s.world now).memory)
     at (on_line.Spend delivery now post) = by_spend s _ post now (permit_of s.world delivery)

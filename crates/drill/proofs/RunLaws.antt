@@ -59,6 +59,7 @@ wants s (on.Secrets name secrets) = lacks_wants s _
 wants s (on.Enabled name flag) = lacks_wants s _
 wants s (on.Subscribed topic name flag) = lacks_wants s _
 wants s (on.Submit now name id body) = lacks_wants s _
+wants s (on.Publish now topic id body) = lacks_wants s _
 wants s (on.Told seq) = tt
 wants s (on.Claim now) = lacks_wants s _
 wants s (on.Spend delivery now post) = spends_wants s post now (permit_of s.world delivery)

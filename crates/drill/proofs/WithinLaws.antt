@@ -1,5 +1,6 @@
 -- Calls that may be made during a commit change places with it: they read neither what is out nor what a stop leaves.
-use Rattle.std.proofs.Common.{◌≡◌, ◌≤◌, ◌==◌, ℕ, Bool, true, false, List, [], ◌∷◌, ◌++◌, length, take, max, Option, Some, None, ◌⊎◌, inl, inr, refl, sym, ap, subst, ◌∙◌, arith}
+use Rattle.std.proofs.Common.{◌≡◌, ◌≤◌, ◌==◌, ℕ, Bool, true, false, List, [], ◌∷◌, ◌++◌, length, take, max, Option}
+use Rattle.std.proofs.Common.{Some, None, Result, ◌⊎◌, inl, inr, refl, sym, ap, subst, ◌∙◌, arith}
 use Rattle.std.specs.Prelude.{if◌then◌else◌}
 use Rattle.std.specs.List.{list_all}
 use Rattle.std.specs.Option.{option_map_or}
@@ -17,11 +18,14 @@ use Rattle.script_lines.specs.declared.reply.Told.TheVariants as as_told
 use Rattle.desk.specs.declared.command.Command.{Command}
 use Rattle.desk.specs.declared.command.Command.TheVariants.{PutEndpoint, SetSecrets, SetEnabled, SetSubscribed}
 use Rattle.desk.specs.declared.refusal.Fault.TheVariants as desk_fault
+use Rattle.desk.specs.declared.refusal.Refusal.{Refusal}
 use Rattle.desk.specs.Claims.{choice, claim, claim_chosen, limits, outcome_by, rests, sample_by, spent_in, starts, with_attempt_over, without_row}
 use Rattle.desk.specs.Faults.{Faults, refusal}
 use Rattle.desk.specs.Looks.{endpoint_page, event_page}
 use Rattle.desk.specs.Moves as desk
-use Rattle.desk.specs.Moves.{are_seqs_spent, change, change_faults, changes, is_nothing_out, moment, new_submit_faults, opened, refused, repeats, seal, submit, submit_faults, submit_new, unless}
+use Rattle.desk.specs.Moves.{are_seqs_spent, change, change_faults, changes, is_nothing_out, lacking, moment}
+use Rattle.desk.specs.Moves.{new_publish_faults, new_submit_faults, opened, publish, publish_faults, publish_to}
+use Rattle.desk.specs.Moves.{refused, repeats, seal, submit, submit_faults, submit_new, unless}
 use Rattle.desk.specs.World.{World, Out, Batch, Receipt, Doubt, all_records, settled_records, sealed_records}
 use Rattle.drill.specs.declared.events.Event.{Event}
 use Rattle.drill.specs.declared.events.Event.TheVariants as on
@@ -34,12 +38,14 @@ use Rattle.drill.specs.declared.tickets.Given.TheVariants.{Submission, Command a
 use Rattle.drill.specs.Events.{Makes, Runs, look_reply, shown, shown_by_line}
 use Rattle.drill.specs.Moves.{Session, Answer, MayTell, answer_to, claim_reply, commits, endpoint_reply, event_reply}
 use Rattle.drill.specs.Moves.{lacks, limits_reply, moves, permit_of, refusal_reply, seal_reply, spends, spent_reply}
-use Rattle.drill.specs.Moves.{staged_reply, stages, stays, tells, told_reply, with_ticket}
+use Rattle.drill.specs.Moves.{gives, published_reply, staged_reply, stages, stays, tells, told_reply, with_ticket}
+use Rattle.drill.specs.Moves.{with_tickets}
 use Rattle.drill.specs.Runs.{Move}
 use Rattle.drill.specs.Tickets.{find_ticket}
 use Rattle.drill.specs.Within.{CallsChangePlacesWithCommits, HasMarksInOrder, RunsKeepMarksInOrder, commit, is_line_within, is_within}
 use Rattle.drill.specs.Worlds.{session_of}
-use Rattle.drill.proofs.CoreLaws.{Goes, goes_change, goes_claim, goes_over, goes_submit, is_claim, same_first, stays_so}
+use Rattle.drill.proofs.CoreLaws.{Goes, goes_change, goes_claim, goes_over, goes_publish, goes_submit, is_claim}
+use Rattle.drill.proofs.CoreLaws.{same_first, stays_so}
 use Rattle.drill.proofs.GoingLaws.{marks_go, opening_marks, run_goes_on}
 use Rattle.drill.proofs.ShownLaws.{event_shown}
 use Rattle.drill.proofs.TurnLaws.{answer_by}
@@ -78,6 +84,16 @@ submit_with w now name id body o left = unless_with o left (submit_faults w name
         ≡ answer_with o left (option_map_or (repeats w now name id) known (submit_new w now name id body))
     by None = unless_with o left (new_submit_faults w name) w _ _ refl
     by (Some d) = refl
+
+publish_with : (w : World) (now : ℕ) (topic id body : List ℕ) (o : Out) (left : List ℕ)
+    → publish (with_out o left w) now topic id body ≡ answer_with o left (publish w now topic id body)
+publish_with w now topic id body o left = unless_with o left (publish_faults w topic id body) w _ _
+    (by (lacking w topic id))
+  where
+    by : (names : List (List ℕ)) → publish_to names (with_out o left w) now topic id body
+        ≡ answer_with o left (publish_to names w now topic id body)
+    by [] = refl
+    by (name ∷ names) = unless_with o left (new_publish_faults w (name ∷ names)) w _ _ refl
 
 change_with : (command : Command) (w : World) (o : Out) (left : List ℕ) → change (with_out o left w) command ≡ answer_with o left (change w command)
 change_with (PutEndpoint name target max secrets) w o left = unless_with o left (change_faults w (PutEndpoint name target max secrets)) w _ _ refl
@@ -123,16 +139,23 @@ record Stands (s : Session) (answer : Out → List ℕ → Answer) : Type 0 wher
 looks : (s : Session) (told : line_reply.Reply) → Stands s (λ o left. stays (session_with o left s) told)
 looks s told = record { said = told; next = s; memory = None; goes = (stays_so s.world).goes; is = λ o left out. refl }
 
+given : {A : Type 0} (told : Result A Refusal → line_reply.Reply) (kept : Result A Refusal → List Given → List Given)
+    (s : Session) (move : World → desk.Answer A)
+    → Goes s.world (move s.world).next
+    → ((o : Out) (left : List ℕ) → move (with_out o left s.world) ≡ answer_with o left (move s.world))
+    → Stands s (λ o left. gives told kept (session_with o left s) (move (with_out o left s.world)))
+given told kept s move goes same = record {
+  said = told (move s.world).reply;
+  next = record { world = (move s.world).next; tickets = kept (move s.world).reply s.tickets };
+  memory = (move s.world).memory;
+  goes = goes;
+  is = λ o left out. ap (gives told kept (session_with o left s)) (same o left);
+}
+
 staged : {A : Type 0} (of : A → Given) (s : Session) (move : World → desk.Answer A) → Goes s.world (move s.world).next
     → ((o : Out) (left : List ℕ) → move (with_out o left s.world) ≡ answer_with o left (move s.world))
     → Stands s (λ o left. stages of (session_with o left s) (move (with_out o left s.world)))
-staged of s move goes same = record {
-  said = staged_reply of (move s.world).reply;
-  next = record { world = (move s.world).next; tickets = with_ticket of (move s.world).reply s.tickets };
-  memory = (move s.world).memory;
-  goes = goes;
-  is = λ o left out. ap (stages of (session_with o left s)) (same o left);
-}
+staged of s move goes same = given (staged_reply of) (with_ticket of) s move goes same
 
 claimed : (s : Session) (now : ℕ) → Stands s (λ o left. tells claim_reply (session_with o left s) (claim (with_out o left s.world) now))
 claimed s now = record {
@@ -179,6 +202,9 @@ stands s event within = at event within
     at (on_line.Enabled name flag) within = changed (SetEnabled name flag)
     at (on_line.Subscribed topic name flag) within = changed (SetSubscribed topic name flag)
     at (on_line.Submit now name id body) within = staged Submission s (λ w. submit w now name id body) (goes_submit s.world now name id body).goes (submit_with s.world now name id body)
+    at (on_line.Publish now topic id body) within =
+        given published_reply with_tickets s (λ w. publish w now topic id body)
+        (goes_publish s.world now topic id body).goes (publish_with s.world now topic id body)
     at (on_line.Told seq) within = looks s (told_reply s.world (find_ticket s.tickets seq))
     at (on_line.Claim now) within = claimed s now
     at (on_line.Spend delivery now post) within = spent s post now (permit_of s.world delivery)

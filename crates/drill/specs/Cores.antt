@@ -1,6 +1,9 @@
 -- The desk with what it has handed out, and the sessions for which they stand.
-use Rattle.std.specs.Prelude.{◌≡◌, ℕ, ◌+◌, ◌≤◌, Bool, true, false, List, Option, Some, None, option_map, count_by, ◌==◌, vec_len, vec_capacity}
+use Rattle.std.specs.Prelude.{◌≡◌, ℕ, ◌+◌, ◌≤◌, Bool, true, false, List, Option, Some, None, option_map, count_by, ◌==◌}
+use Rattle.std.specs.Prelude.{[], Vec, vec_len, vec_capacity}
+use Rattle.std.specs.declared.alloc.Global.{Global}
 use Rattle.std.specs.HashMap.{spare}
+use Rattle.relay_types.specs.declared.limits.TheConstants.{MAX_ENDPOINTS}
 use Rattle.relay_types.specs.Values.{Seq}
 use Rattle.permits.specs.declared.row.Row.{Row}
 use Rattle.spool.specs.Batches.{BatchValue, doubt_of}
@@ -11,6 +14,8 @@ use Rattle.script_lines.specs.declared.call.Call.{Call}
 use Rattle.script_lines.specs.declared.call.Call.TheVariants as on
 use Rattle.script_lines.specs.declared.reply.Reply.{Reply}
 use Rattle.script_lines.specs.declared.reply.Reply.TheVariants as says
+use Rattle.drill.specs.declared.events.Event.{Event}
+use Rattle.drill.specs.declared.events.Event.TheVariants as events
 use Rattle.drill.specs.declared.held.Held.{Held}
 use Rattle.drill.specs.declared.held.Held.TheVariants as held
 use Rattle.drill.specs.declared.calls.Core.{Core}
@@ -56,12 +61,31 @@ abbrev pub IsCore : {L : Type 0} → Core L → Type 0
 IsCore core = ∥ HoldsAll core ∥₁
 
 -- so many more tickets and permits can be kept without memory
-abbrev pub HasRoom : {L : Type 0} → Core L → (count : ℕ) → Type 0
-HasRoom core count = tickets.HasRoom core.tickets count × (vec_len core.permits + count ≤ vec_capacity core.permits)
+abbrev pub HasRoom : {L : Type 0} → Core L → (given permits : ℕ) → Type 0
+HasRoom core given permits = tickets.HasRoom core.tickets given
+    × (vec_len core.permits + permits ≤ vec_capacity core.permits)
 
--- a call took the room of one of them at most
-pub record TakesRoom {L : Type 0} (old new : Core L) : Type 0 where
-  pub tickets : spare old.tickets.given ≤ spare new.tickets.given + 1
+-- the most tickets that a call is given: an event for a topic has one for each subscriber
+abbrev pub most_tickets : Call → ℕ
+most_tickets (on.Publish now topic id body) = MAX_ENDPOINTS
+most_tickets event = 1
+
+-- there is room for the numbers that the call is told
+abbrev pub HasSeqs : Call → Vec ℕ Global → Type 0
+HasSeqs (on.Publish now topic id body) seqs = (seqs.items ≡ []) × (MAX_ENDPOINTS ≤ vec_capacity seqs)
+HasSeqs event seqs = Unit {0}
+
+abbrev pub most_tickets_of : Event → ℕ
+most_tickets_of (events.Line event) = most_tickets event
+most_tickets_of (events.Look asked) = 0
+
+abbrev pub HasSeqsOf : Event → Vec ℕ Global → Type 0
+HasSeqsOf (events.Line event) seqs = HasSeqs event seqs
+HasSeqsOf (events.Look asked) seqs = Unit {0}
+
+-- a call took the room of so many tickets at most, and of one permit
+pub record TakesRoom {L : Type 0} (count : ℕ) (old new : Core L) : Type 0 where
+  pub tickets : spare old.tickets.given ≤ spare new.tickets.given + count
   pub permits : vec_len new.permits ≤ vec_len old.permits + 1
   pub capacity : vec_capacity new.permits ≡ vec_capacity old.permits
 

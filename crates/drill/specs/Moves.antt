@@ -1,5 +1,6 @@
 -- The moves of a script's calls: what each is told, and the session after it. What the desk answers is told by a reply.
-use Rattle.std.specs.Prelude.{◌≡◌, ℕ, ◌+◌, ◌==◌, List, [], ◌∷◌, length, find, Option, Some, None, Result, Ok, Err, ◌⊎◌}
+use Rattle.std.specs.Prelude.{◌≡◌, ℕ, ◌+◌, ◌==◌, List, [], ◌∷◌, ◌++◌, length, find, map, reverse, Option, Some, None}
+use Rattle.std.specs.Prelude.{Result, Ok, Err, ◌⊎◌}
 use Rattle.relay_types.specs.Values.{Seq, Seconds}
 use Rattle.relay_types.specs.Records.{records_of}
 use Rattle.delivery_book.specs.declared.row.Row.{Row}
@@ -21,6 +22,7 @@ use Rattle.desk.specs.declared.refusal.Fault as desk_refusal
 use Rattle.desk.specs.declared.refusal.Fault.TheVariants as desk_fault
 use Rattle.desk.specs.declared.refusal.Refusal.{Refusal}
 use Rattle.desk.specs.declared.spent.Limits.{Limits}
+use Rattle.desk.specs.declared.ticket.Ticket.{Ticket}
 use Rattle.desk.specs.declared.ticket.Told as desk_ticket
 use Rattle.desk.specs.declared.ticket.Told.TheVariants as desk_told
 use Rattle.desk.specs.Claims.{JobValue, SpentValue, claim, limits, spent_by, with_attempt_over}
@@ -80,6 +82,11 @@ abbrev pub staged_reply : {A : Type 0} → (of : A → Given) → Result A Refus
 staged_reply of (Ok ticket) = says.Staged (seq_of (of ticket))
 staged_reply of (Err refusal) = refusal_reply refusal
 
+-- the number of each ticket, in their order
+abbrev pub published_reply : Result (List Ticket) Refusal → Reply
+published_reply (Ok tickets) = says.Published (map (λ ticket. ticket.seq) tickets)
+published_reply (Err refusal) = refusal_reply refusal
+
 abbrev pub seal_reply : Result (Option BatchValue) Refusal → Reply
 seal_reply (Ok None) = says.NothingWaits
 seal_reply (Ok (Some batch)) = says.Sealed batch.from (batch.from + length (records_of batch.steps))
@@ -137,17 +144,30 @@ abbrev pub lacks : Session → Option ℕ → List (Reply × Session)
 lacks s None = []
 lacks s (Some number) = (says.Refused number fault.OutOfMemory, s) ∷ []
 
+-- what the desk answers is told so, and of what it gave this is kept
+abbrev pub gives : {A : Type 0} → (told : Result A Refusal → Reply)
+    → (kept : Result A Refusal → List Given → List Given) → Session → desk.Answer A → Answer
+gives told kept s answer = record {
+  reply = told answer.reply;
+  next = record { world = answer.next; tickets = kept answer.reply s.tickets };
+  unserved = lacks s answer.memory;
+}
+
 -- the ticket is kept, if one was given
 abbrev pub with_ticket : {A : Type 0} → (of : A → Given) → Result A Refusal → List Given → List Given
 with_ticket of (Ok ticket) tickets = of ticket ∷ tickets
 with_ticket of (Err refusal) tickets = tickets
 
 abbrev pub stages : {A : Type 0} → (of : A → Given) → Session → desk.Answer A → Answer
-stages of s answer = record {
-  reply = staged_reply of answer.reply;
-  next = record { world = answer.next; tickets = with_ticket of answer.reply s.tickets };
-  unserved = lacks s answer.memory;
-}
+stages of s answer = gives (staged_reply of) (with_ticket of) s answer
+
+-- the tickets of all subscribers are kept, if they were given
+abbrev pub with_tickets : Result (List Ticket) Refusal → List Given → List Given
+with_tickets (Ok given) tickets = reverse (map Submission given) ++ tickets
+with_tickets (Err refusal) tickets = tickets
+
+abbrev pub publishes : Session → desk.Answer (List Ticket) → Answer
+publishes s answer = gives published_reply with_tickets s answer
 
 abbrev pub commands : Session → desk_command.Command → Answer
 commands s command = stages Command s (desk.change s.world command)
@@ -229,6 +249,7 @@ answer_to s (on.Secrets name secrets) = commands s (SetSecrets name secrets)
 answer_to s (on.Enabled name flag) = commands s (SetEnabled name flag)
 answer_to s (on.Subscribed topic name flag) = commands s (SetSubscribed topic name flag)
 answer_to s (on.Submit now name id body) = stages Submission s (desk.submit s.world now name id body)
+answer_to s (on.Publish now topic id body) = publishes s (desk.publish s.world now topic id body)
 answer_to s (on.Told seq) = stays s (told_reply s.world (find_ticket s.tickets seq))
 answer_to s (on.Claim now) = tells claim_reply s (claim s.world now)
 answer_to s (on.Spend delivery now post) = spends s (permit_of s.world delivery) post now

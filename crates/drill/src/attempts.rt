@@ -15,9 +15,9 @@ use std::sync::ledger::Ledger;
 impl<L: Ledger> Core<L> {
     // Holds the permit of the attempt that may begin.
     pub(crate) fn claim(&mut self, now: Moment) -> Reply
-        requires { HasRoom self.old 1 }
+        requires { HasRoom self.old 1 1 }
         ensures answers { CoreAnswers self.old (λ s. answer_to s (on.Claim now)) result self.new }
-        ensures room { TakesRoom self.old self.new }
+        ensures room { TakesRoom 1 self.old self.new }
     {
         match self.desk.claim(now) {
             Ok(Some(job)) => {
@@ -34,7 +34,7 @@ impl<L: Ledger> Core<L> {
     pub(crate) fn spend(&mut self, delivery: u64, now: Moment, post: PostResult) -> Reply
         requires { IsCore self.old }
         ensures answers { CoreAnswers self.old (λ s. answer_to s (on.Spend delivery now post)) result self.new }
-        ensures room { TakesRoom self.old self.new }
+        ensures room { TakesRoom 1 self.old self.new }
     {
         let Some(place) = place_of(&self.permits, delivery) else {
             return Reply::NoPermit;

@@ -4,7 +4,8 @@ ghost use Rattle.script_lines.specs.declared.call.Call.TheVariants as on;
 ghost use Rattle.desk.specs.World.{World, Nothing};
 ghost use Rattle.desk.specs.Desks.{HasNothingOut, StandsFor};
 ghost use Rattle.drill.specs.Moves.{answer_to};
-ghost use Rattle.drill.specs.Cores.{CoreStandsFor, CoreAnswers, IsCore, HasRoom, TakesRoom, KeepsAll, is_commit};
+ghost use Rattle.drill.specs.Cores.{CoreStandsFor, CoreAnswers, IsCore, HasRoom, HasSeqs, HasSeqsOf, TakesRoom};
+ghost use Rattle.drill.specs.Cores.{KeepsAll, is_commit, most_tickets, most_tickets_of};
 ghost use Rattle.drill.specs.Runners.{Answers};
 ghost use Rattle.drill.specs.Worlds.{TakesEvent};
 ghost use Rattle.recovery.specs.Left.{IsCleanAt};
@@ -47,28 +48,34 @@ impl<L: Ledger> Core<L> {
         }
     }
 
-    // Makes room for what so many calls may hand out.
-    pub(crate) fn reserve(&mut self, count: usize) -> Result<(), AllocError>
+    // Makes room for so many tickets and permits.
+    pub(crate) fn reserve(&mut self, tickets: usize, permits: usize) -> Result<(), AllocError>
         ensures same { KeepsAll self.old self.new }
-        ensures room { OnOk result (HasRoom self.new count) }
+        ensures room { OnOk result (HasRoom self.new tickets permits) }
     {
-        self.tickets.reserve(count)?;
-        self.permits.reserve(count)
+        self.tickets.reserve(tickets)?;
+        self.permits.reserve(permits)
     }
 
     // Gives the call to the desk or the store. There is room for what it hands out.
-    pub(crate) fn carry_out<S: Alter>(&mut self, vault: &mut Vault<S>, event: Call) -> Reply
-        requires room { HasRoom self.old 1 }
+    pub(crate) fn carry_out<S: Alter>(
+        &mut self,
+        vault: &mut Vault<S>,
+        event: Call,
+        seqs: Vec<u64>,
+    ) -> Reply
+        requires room { HasRoom self.old (most_tickets event) 1 }
+        requires seqs { HasSeqs event seqs }
         requires core { IsCore self.old }
         ensures answers { IsCleanAt S.Store vault.new.conn
             → Answers S.Store self.old vault.old (λ s. answer_to s event) result self.new vault.new }
         ensures core { IsCore self.new }
-        ensures room { TakesRoom self.old self.new }
+        ensures room { TakesRoom (most_tickets event) self.old self.new }
         ensures clean { IsCleanAt S.Store vault.new.conn → IsCleanAt S.Store vault.old.conn }
     {
         match event {
             Call::Commit => self.commit(vault),
-            other => self.call(other),
+            other => self.call(other, seqs),
         }
     }
 
@@ -77,28 +84,33 @@ impl<L: Ledger> Core<L> {
         &mut self,
         vault: &mut Vault<S>,
         event: events::Event,
+        seqs: Vec<u64>,
     ) -> events::Reply
-        requires room { HasRoom self.old 1 }
+        requires room { HasRoom self.old (most_tickets_of event) 1 }
+        requires seqs { HasSeqsOf event seqs }
         requires core { IsCore self.old }
         ensures answers { IsCleanAt S.Store vault.new.conn
             → TakesEvent S.Store self.old vault.old event result self.new vault.new }
         ensures core { IsCore self.new }
-        ensures room { TakesRoom self.old self.new }
+        ensures room { TakesRoom (most_tickets_of event) self.old self.new }
         ensures clean { IsCleanAt S.Store vault.new.conn → IsCleanAt S.Store vault.old.conn }
     {
         match event {
-            events::Event::Line(event) => events::Reply::Line(self.carry_out(vault, event)),
+            events::Event::Line(event) => {
+                events::Reply::Line(self.carry_out(vault, event, seqs))
+            }
             events::Event::Look(look) => look_at(&self.desk, look),
         }
     }
 
     // Gives the call to the desk.
-    fn call(&mut self, event: Call) -> Reply
-        requires room { HasRoom self.old 1 }
+    fn call(&mut self, event: Call, seqs: Vec<u64>) -> Reply
+        requires room { HasRoom self.old (most_tickets event) 1 }
+        requires seqs { HasSeqs event seqs }
         requires core { IsCore self.old }
         requires desk { is_commit event ≡ false }
         ensures answers { CoreAnswers self.old (λ s. answer_to s event) result self.new }
-        ensures room { TakesRoom self.old self.new }
+        ensures room { TakesRoom (most_tickets event) self.old self.new }
     {
         match event {
             Call::Put {
@@ -123,6 +135,12 @@ impl<L: Ledger> Core<L> {
                 id,
                 body,
             } => self.submit(now, name, id, body),
+            Call::Publish {
+                now,
+                topic,
+                id,
+                body,
+            } => self.publish(now, topic, id, body, seqs),
             Call::Told { seq } => self.told(seq),
             Call::Claim { now } => self.claim(now),
             Call::Spend {

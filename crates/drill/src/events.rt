@@ -33,7 +33,7 @@ pub enum Look {
 }
 
 /// What a call was told.
-#[derive(Clone, Copy, PartialEq, Eq)]
+#[derive(Drop)]
 pub enum Reply {
     /// What its line prints.
     Line(script_lines::Reply),

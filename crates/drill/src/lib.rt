@@ -13,6 +13,7 @@ mod law;
 mod looking;
 mod player;
 mod playing;
+mod prepared;
 mod replies;
 mod requests;
 mod runner;

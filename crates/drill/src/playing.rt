@@ -24,14 +24,14 @@ impl<L: Ledger, S: Alter> Player<L, S> {
     }
 
     // Makes one call.
-    pub(crate) fn call(&mut self, event: Call) -> Result<Reply, LineFault>
+    pub(crate) fn call(&mut self, alloc: Global, event: Call) -> Result<Reply, LineFault>
         ensures takes { IsStateClean S.Store self.new.state
             → IfOk result (λ reply. TakesLine S.Store self.old.state (as_line.Call event) reply self.new.state) }
         ensures fault { result ≢ Err LineFault.Bad }
         ensures clean { IsStateClean S.Store self.new.state → IsStateClean S.Store self.old.state }
     {
         match &mut self.state {
-            State::Open(runner) => Ok(runner.call(event)?),
+            State::Open(runner) => Ok(runner.call(alloc, event)?),
             State::Shut(_) | State::Between => Err(LineFault::Lost),
         }
     }

@@ -1,25 +1,27 @@
 //! What is asked of the desk: events, commands, and looks.
-ghost use Rattle.std.specs.Prelude.{◌≡◌, List, ◌∷◌};
+ghost use Rattle.std.specs.Prelude.{◌≡◌, ◌≤◌, List, [], ◌∷◌, ◌++◌, length, map, reverse, vec_capacity};
+ghost use Rattle.relay_types.specs.declared.limits.TheConstants.{MAX_ENDPOINTS};
 ghost use Rattle.script_lines.specs.declared.call.Call.TheVariants as on;
 ghost use Rattle.script_lines.specs.declared.reply.Reply.TheVariants as says;
 ghost use Rattle.drill.specs.declared.tickets.Given as given;
+ghost use Rattle.drill.specs.declared.tickets.Given.TheVariants.{Submission};
 ghost use Rattle.drill.specs.Moves.{answer_to, commands};
 ghost use Rattle.drill.specs.Tickets.{seq_of, Keeps};
-ghost use Rattle.drill.specs.Cores.{CoreAnswers, HasRoom, TakesRoom};
+ghost use Rattle.drill.specs.Cores.{CoreAnswers, HasRoom, HasSeqs, TakesRoom};
 
 use crate::calls::Core;
 use crate::replies::{event_reply, limits_reply, refusal_reply, told_reply};
 use crate::tickets::Given;
-use desk::Command;
-use relay_types::{Body, Moment, MsgId, Name};
-use script_lines::Reply;
+use desk::{Command, Ticket};
+use relay_types::{Body, MAX_ENDPOINTS, Moment, MsgId, Name};
+use script_lines::{Reply, Seqs};
 use std::sync::ledger::Ledger;
 
 impl<L: Ledger> Core<L> {
     pub(crate) fn command(&mut self, command: Command) -> Reply
-        requires { HasRoom self.old 1 }
+        requires { HasRoom self.old 1 1 }
         ensures answers { CoreAnswers self.old (λ s. commands s command) result self.new }
-        ensures room { TakesRoom self.old self.new }
+        ensures room { TakesRoom 1 self.old self.new }
     {
         match self.desk.command(command) {
             Ok(ticket) => self.keep(Given::Command(ticket)),
@@ -28,9 +30,9 @@ impl<L: Ledger> Core<L> {
     }
 
     pub(crate) fn submit(&mut self, now: Moment, name: Name, id: MsgId, body: Body) -> Reply
-        requires { HasRoom self.old 1 }
+        requires { HasRoom self.old 1 1 }
         ensures answers { CoreAnswers self.old (λ s. answer_to s (on.Submit now name id body)) result self.new }
-        ensures room { TakesRoom self.old self.new }
+        ensures room { TakesRoom 1 self.old self.new }
     {
         match self.desk.submit(now, name, id, body) {
             Ok(ticket) => self.keep(Given::Submission(ticket)),
@@ -38,14 +40,56 @@ impl<L: Ledger> Core<L> {
         }
     }
 
+    // Takes an event for the subscribers of a topic. There is room for their numbers.
+    pub(crate) fn publish(
+        &mut self,
+        now: Moment,
+        topic: Name,
+        id: MsgId,
+        body: Body,
+        seqs: Vec<u64>,
+    ) -> Reply
+        requires room { HasRoom self.old MAX_ENDPOINTS 0 }
+        requires seqs { HasSeqs (on.Publish now topic id body) seqs }
+        ensures answers { CoreAnswers self.old (λ s. answer_to s (on.Publish now topic id body)) result self.new }
+        ensures room { TakesRoom MAX_ENDPOINTS self.old self.new }
+    {
+        match self.desk.publish(now, topic, id, body) {
+            Ok(mut tickets) => {
+                tickets.truncate(MAX_ENDPOINTS);
+                self.keep_all(tickets.as_slice(), seqs)
+            }
+            Err(refusal) => refusal_reply(refusal),
+        }
+    }
+
+    // Keeps the tickets, and tells their numbers.
+    fn keep_all(&mut self, tickets: &[Ticket], seqs: Vec<u64>) -> Reply
+        requires room { HasRoom self.old (length tickets.now) 0 }
+        requires empty { seqs.items ≡ [] }
+        requires places { length tickets.now ≤ vec_capacity seqs }
+        ensures reply { result ≡ says.Published (map (λ ticket. ticket.seq) tickets.now) }
+        ensures kept { (given : List given.Given) → Keeps self.old.tickets given
+            → Keeps self.new.tickets (reverse (map Submission tickets.now) ++ given) }
+        ensures same { self.new ≡ record self.old { tickets = self.new.tickets } }
+        ensures room { TakesRoom (length tickets.now) self.old self.new }
+    {
+        let mut seqs = seqs;
+        for ticket in tickets {
+            self.tickets.keep(Given::Submission(*ticket));
+            seqs.push_reserved(ticket.seq);
+        }
+        Reply::Published(Seqs::of(seqs))
+    }
+
     // Keeps the ticket, and tells its number.
     fn keep(&mut self, ticket: Given) -> Reply
-        requires { HasRoom self.old 1 }
+        requires { HasRoom self.old 1 1 }
         ensures reply { result ≡ says.Staged (seq_of ticket) }
         ensures kept { (tickets : List given.Given)
             → Keeps self.old.tickets tickets → Keeps self.new.tickets (ticket ∷ tickets) }
         ensures same { self.new ≡ record self.old { tickets = self.new.tickets } }
-        ensures room { TakesRoom self.old self.new }
+        ensures room { TakesRoom 1 self.old self.new }
     {
         let seq = ticket.seq();
         self.tickets.keep(ticket);

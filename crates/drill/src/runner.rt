@@ -10,6 +10,7 @@ ghost use Rattle.drill.specs.Runners.{Answers, RunStandsFor};
 ghost use Rattle.recovery.specs.Left.{IsCleanAt, HasNoTable};
 
 use crate::calls::Core;
+use crate::prepared::{most_tickets, seqs_for};
 use permits::{PARTS, Pool};
 use recovery::{create, reopen};
 use script_lines::{Call, Reply};
@@ -28,14 +29,15 @@ pub(crate) struct Runner<L: Ledger, S: Alter> {
 }
 
 impl<L: Ledger, S: Alter> Runner<L, S> {
-    // Makes one call.
-    pub(crate) fn call(&mut self, event: Call) -> Result<Reply, AllocError>
+    // Makes one call. All memory of its own is taken first.
+    pub(crate) fn call(&mut self, alloc: Global, event: Call) -> Result<Reply, AllocError>
         ensures answers { IsCleanAt S.Store self.new.vault.conn → IfOk result (λ reply.
             Answers S.Store self.old.core self.old.vault (λ s. answer_to s event) reply self.new.core self.new.vault) }
         ensures clean { IsCleanAt S.Store self.new.vault.conn → IsCleanAt S.Store self.old.vault.conn }
     {
-        self.core.reserve(1)?;
-        Ok(self.core.carry_out(&mut self.vault, event))
+        let seqs = seqs_for(alloc, &event)?;
+        self.core.reserve(most_tickets(&event), 1)?;
+        Ok(self.core.carry_out(&mut self.vault, event, seqs))
     }
 
     // Closes the desk with all that is out, and opens the store again, under the next mark.

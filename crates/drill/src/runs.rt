@@ -1,10 +1,10 @@
 //! Runs: calls of the core, one after another.
-ghost use Rattle.std.specs.Prelude.{◌≡◌, ◌+◌, ◌≤◌, ◌++◌, ◌∷◌, [], length, IfErr, IfOk, IsPermutation, OnOk};
+ghost use Rattle.std.specs.Prelude.{◌≡◌, ◌+◌, ◌≤◌, ◌++◌, ◌∷◌, [], All, length, IfErr, IfOk, IsPermutation, OnOk};
 ghost use Rattle.std.specs.Prelude.{vec_capacity, vec_len};
 ghost use Rattle.desk.specs.Desks.{HasNothingOut, IsAllOut, StandsFor};
 ghost use Rattle.desk.specs.World as model;
 ghost use Rattle.drill.specs.Cores.{HasRoom, IsCore, TakesRoom};
-ghost use Rattle.drill.specs.Places.{HasPlaces};
+ghost use Rattle.drill.specs.Places.{HasPlaces, IsPrepared, all_tickets, events_of};
 ghost use Rattle.drill.specs.Tickets.{Keeps};
 ghost use Rattle.drill.specs.Worlds.{IsOpening, IsRunFrom, TakesEvents, session_of};
 ghost use Rattle.recovery.specs.Left.{IsCleanAt, VaultStandsFor};
@@ -12,6 +12,7 @@ ghost use Rattle.recovery.specs.Left.{IsCleanAt, VaultStandsFor};
 use crate::calls::Core;
 use crate::events::{Event, Reply};
 use crate::held::Held;
+use crate::prepared::{Prepared, most_tickets_of, seqs_of};
 use crate::tickets::Tickets;
 use desk::Desk;
 use permits::Permit;
@@ -59,10 +60,10 @@ pub fn run<L: Ledger, S: Alter>(
     }
 }
 
-// What a run takes of memory: its events, which share all texts and bodies, and places for what
+// What a run takes of memory: its calls, which share all texts and bodies, and places for what
 // they are told and given.
 struct Places<L: Ledger> {
-    events: Vec<Event>,
+    calls: Vec<Prepared>,
     replies: Vec<Reply>,
     tickets: Tickets,
     permits: Vec<Permit<L>>,
@@ -70,18 +71,18 @@ struct Places<L: Ledger> {
 
 impl<L: Ledger> Places<L> {
     fn of(alloc: Global, events: &[Event]) -> Result<Places<L>, AllocError>
-        ensures events { IfOk result (λ places. places.events.items ≡ events.now) }
+        ensures events { IfOk result (λ places. events_of places.calls.items ≡ events.now) }
         ensures tickets { IfOk result (λ places. Keeps places.tickets []) }
         ensures room { IfOk result HasPlaces }
         ensures empty { IfOk result (λ places. (places.replies.items ≡ []) × (places.permits.items ≡ [])) }
     {
-        let copies = share_all(alloc, events)?;
+        let calls = prepare_all(alloc, events)?;
         let replies = Vec::with_capacity(alloc, events.len())?;
         let mut tickets = Tickets::new(alloc);
-        tickets.reserve(events.len())?;
+        tickets.reserve(all_tickets(events)?)?;
         let permits = Vec::with_capacity(alloc, events.len())?;
         Ok(Places {
-            events: copies,
+            calls,
             replies,
             tickets,
             permits,
@@ -89,14 +90,29 @@ impl<L: Ledger> Places<L> {
     }
 }
 
-fn share_all(alloc: Global, events: &[Event]) -> Result<Vec<Event>, AllocError>
-    ensures { IfOk result (λ copies. copies.items ≡ events.now) }
+fn prepare_all(alloc: Global, events: &[Event]) -> Result<Vec<Prepared>, AllocError>
+    ensures events { IfOk result (λ calls. events_of calls.items ≡ events.now) }
+    ensures seqs { IfOk result (λ calls. All IsPrepared calls.items) }
 {
-    let mut copies = Vec::with_capacity(alloc, events.len())?;
+    let mut calls = Vec::with_capacity(alloc, events.len())?;
     for event in events {
-        copies.push_reserved(event.share()?);
+        calls.push_reserved(Prepared {
+            event: event.share()?,
+            seqs: seqs_of(alloc, event)?,
+        });
     }
-    Ok(copies)
+    Ok(calls)
+}
+
+// The most tickets that the calls are given. More than can be counted are more than memory has.
+fn all_tickets(events: &[Event]) -> Result<usize, AllocError>
+    ensures { IfOk result (λ count. count ≡ all_tickets events.now) }
+{
+    let mut count = 0usize;
+    for event in events {
+        count = count.checked_add(most_tickets_of(event)).ok_or(AllocError)?;
+    }
+    Ok(count)
 }
 
 // Makes the calls in the places that were made for them.
@@ -108,14 +124,14 @@ fn run_in<L: Ledger, S: Alter>(places: Places<L>, desk: Desk<L>, vault: Vault<S>
     requires empty { (places.replies.items ≡ []) × (places.permits.items ≡ []) }
     ensures runs { IsCleanAt S.Store result.vault.conn
         → (w : model.World) → IsOpening w → StandsFor desk w → VaultStandsFor S.Store vault w
-        → IsRunFrom S.Store (session_of w) places.events.items result }
-    ensures replies { length result.replies.items ≡ length places.events.items }
+        → IsRunFrom S.Store (session_of w) (events_of places.calls.items) result }
+    ensures replies { length result.replies.items ≡ length places.calls.items }
     ensures permits { IsPermutation result.permits.items result.desk.live }
     ensures out { IsAllOut result.desk.waiting result.receipt result.held }
     ensures clean { IsCleanAt S.Store result.vault.conn → IsCleanAt S.Store vault.conn }
 {
     let Places {
-        events,
+        calls,
         mut replies,
         tickets,
         permits,
@@ -127,7 +143,7 @@ fn run_in<L: Ledger, S: Alter>(places: Places<L>, desk: Desk<L>, vault: Vault<S>
         permits,
         tickets,
     };
-    make_calls(&mut core, &mut vault, events, &mut replies);
+    make_calls(&mut core, &mut vault, calls, &mut replies);
     let Core {
         desk,
         held,
@@ -149,21 +165,23 @@ fn run_in<L: Ledger, S: Alter>(places: Places<L>, desk: Desk<L>, vault: Vault<S>
 fn make_calls<L: Ledger, S: Alter>(
     core: &mut Core<L>,
     vault: &mut Vault<S>,
-    events: Vec<Event>,
+    calls: Vec<Prepared>,
     replies: &mut Vec<Reply>,
 )
     requires core { IsCore core.old }
-    requires room { HasRoom core.old (length events.items) }
-    requires places { length events.items ≤ vec_capacity replies.old }
+    requires room { HasRoom core.old (all_tickets (events_of calls.items)) (length calls.items) }
+    requires seqs { All IsPrepared calls.items }
+    requires places { length calls.items ≤ vec_capacity replies.old }
     requires empty { replies.old.items ≡ [] }
     ensures runs { IsCleanAt S.Store vault.new.conn
-        → TakesEvents S.Store core.old vault.old events.items replies.new.items core.new vault.new }
-    ensures replies { length replies.new.items ≡ length events.items }
+        → TakesEvents S.Store core.old vault.old (events_of calls.items) replies.new.items core.new vault.new }
+    ensures replies { length replies.new.items ≡ length calls.items }
     ensures core { IsCore core.new }
     ensures clean { IsCleanAt S.Store vault.new.conn → IsCleanAt S.Store vault.old.conn }
 {
-    for event in events {
-        let reply = core.take(vault, event);
+    for call in calls {
+        let Prepared { event, seqs } = call;
+        let reply = core.take(vault, event, seqs);
         replies.push_reserved(reply);
     }
 }

@@ -32,7 +32,7 @@ impl<L: Ledger, S: Alter> Answerer for Player<L, S> {
 
     fn answer(&mut self, alloc: Global, line: &[u8]) -> Result<Reply, LineFault> {
         match read_line(alloc, line)? {
-            Line::Call(event) => self.call(event),
+            Line::Call(event) => self.call(alloc, event),
             Line::Stop => self.stop(alloc),
         }
     }

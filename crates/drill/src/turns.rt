@@ -23,7 +23,7 @@ use std::sync::ledger::Ledger;
 impl<L: Ledger> Core<L> {
     pub(crate) fn seal(&mut self) -> Reply
         ensures answers { CoreAnswers self.old (λ s. answer_to s on.Seal) result self.new }
-        ensures room { TakesRoom self.old self.new }
+        ensures room { TakesRoom 1 self.old self.new }
     {
         match self.desk.seal() {
             Ok(Some(batch)) => {
@@ -42,7 +42,7 @@ impl<L: Ledger> Core<L> {
         ensures answers { IsCleanAt S.Store vault.new.conn
             → Answers S.Store self.old vault.old (λ s. answer_to s on.Commit) result self.new vault.new }
         ensures core { IsCore self.new }
-        ensures room { TakesRoom self.old self.new }
+        ensures room { TakesRoom 1 self.old self.new }
         ensures clean { IsCleanAt S.Store vault.new.conn → IsCleanAt S.Store vault.old.conn }
     {
         match mem::replace(&mut self.held, Held::Nothing) {
@@ -60,7 +60,7 @@ impl<L: Ledger> Core<L> {
 
     pub(crate) fn settle(&mut self) -> Reply
         ensures answers { CoreAnswers self.old (λ s. answer_to s on.Settle) result self.new }
-        ensures room { TakesRoom self.old self.new }
+        ensures room { TakesRoom 1 self.old self.new }
         ensures refused { (number : ℕ) (fault : Fault) → result ≡ says.Refused number fault → result ≡ wrong_turn }
     {
         match mem::replace(&mut self.held, Held::Nothing) {
@@ -82,7 +82,7 @@ impl<L: Ledger> Core<L> {
 
     pub(crate) fn unseal(&mut self) -> Reply
         ensures answers { CoreAnswers self.old (λ s. answer_to s on.Unseal) result self.new }
-        ensures room { TakesRoom self.old self.new }
+        ensures room { TakesRoom 1 self.old self.new }
         ensures refused { (number : ℕ) (fault : Fault) → result ≡ says.Refused number fault → result ≡ wrong_turn }
     {
         match mem::replace(&mut self.held, Held::Nothing) {
@@ -105,7 +105,7 @@ impl<L: Ledger> Core<L> {
 
     pub(crate) fn halt(&mut self) -> Reply
         ensures answers { CoreAnswers self.old (λ s. answer_to s on.Halt) result self.new }
-        ensures room { TakesRoom self.old self.new }
+        ensures room { TakesRoom 1 self.old self.new }
     {
         match mem::replace(&mut self.held, Held::Nothing) {
             Held::Nothing => self.hand_over(group_commit::Held::Nothing),

@@ -11,7 +11,7 @@ use Rattle.script_lines.specs.declared.call.Call.{Call}
 use Rattle.script_lines.specs.declared.call.Call.TheVariants as on
 use Rattle.retry_table.specs.declared.post.PostResult.{PostResult}
 use Rattle.text_lines.specs.Words.{IsSecretsWord}
-use Rattle.script_lines.specs.Script.{IsPut, IsSecrets, IsNamed, IsSubscribed, IsTold, IsSubmit, IsClaim, IsSpend, IsShow, MayLackForPut, MayLackForSecrets, MayLackForSubmit, call_word, AreArguments}
+use Rattle.script_lines.specs.Script.{IsPut, IsSecrets, IsNamed, IsSubscribed, IsTold, IsSubmit, IsClaim, IsSpend, IsShow, MayLackForSecrets, MayLackForSubmit, call_word, AreArguments}
 use Rattle.text_lines.proofs.NumberLaws.{bytes_equal, true_not_false}
 
 -- two words that differ are not one
@@ -85,6 +85,16 @@ only_submit P word words is own (on.Submit now name id body) e h = own now name 
 only_submit P word words is own (on.Enabled name flag) e h = absurd (apart_enabled (codes "submit") word name flag refl refl is e)
 only_submit P word words is own (on.Subscribed topic name flag) e h = absurd (apart_subscribed (codes "submit") word topic name flag refl refl is e)
 only_submit P word words is own call e h = absurd (apart (codes "submit") (call_word call) word refl is e)
+
+pub only_publish : (P : Call → Type 0) (word : List ℕ) (words : List (List ℕ)) → word ≡ codes "publish"
+    → ((now : ℕ) (topic id body : List ℕ) → IsSubmit words now topic id body → P (on.Publish now topic id body))
+    → (call : Call) → word ≡ call_word call → AreArguments words call → P call
+only_publish P word words is own (on.Publish now topic id body) e h = own now topic id body h
+only_publish P word words is own (on.Enabled name flag) e h =
+    absurd (apart_enabled (codes "publish") word name flag refl refl is e)
+only_publish P word words is own (on.Subscribed topic name flag) e h =
+    absurd (apart_subscribed (codes "publish") word topic name flag refl refl is e)
+only_publish P word words is own call e h = absurd (apart (codes "publish") (call_word call) word refl is e)
 
 pub only_told : (P : Call → Type 0) (word : List ℕ) (words : List (List ℕ)) → word ≡ codes "told" → ((seq : ℕ) → IsTold words seq → P (on.Told seq))
     → (call : Call) → word ≡ call_word call → AreArguments words call → P call

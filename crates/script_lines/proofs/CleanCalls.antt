@@ -11,7 +11,8 @@ use Rattle.script_lines.specs.declared.call.Call.{Call}
 use Rattle.script_lines.specs.declared.call.Call.TheVariants as on
 use Rattle.retry_table.specs.declared.post.PostResult.{PostResult}
 use Rattle.retry_table.specs.declared.post.PostResult.TheVariants.{Answered, TimedOut, Unreached, Unsent}
-use Rattle.script_lines.specs.Script.{IsNamed, IsResult, HasFewWords, call_word, AreArguments, IsCall, ReadsLine}
+use Rattle.script_lines.specs.Script.{IsNamed, IsSubmit, IsResult, HasFewWords, call_word, AreArguments, IsCall}
+use Rattle.script_lines.specs.Script.{ReadsLine}
 
 four_clean : (a b c d : List ℕ) → IsTrue (has_no 32 a) → IsTrue (has_no 32 b) → IsTrue (has_no 32 c) → IsTrue (has_no 32 d) → IsTrue (list_all (has_no 32) (a ∷ b ∷ c ∷ d ∷ []))
 four_clean a b c d ha hb hc hd = rw (ha, hb, hc, hd) refl
@@ -45,6 +46,16 @@ clean-result words (TimedOut rtt) (e, small) = subst (λ xs. IsTrue (list_all (h
 clean-result words Unreached e = subst (λ xs. IsTrue (list_all (has_no 32) xs)) (sym e) refl
 clean-result words Unsent e = subst (λ xs. IsTrue (list_all (has_no 32) xs)) (sym e) refl
 
+clean-event : (words : List (List ℕ)) (now : ℕ) (name id body : List ℕ) → IsSubmit words now name id body
+    → IsTrue (list_all (has_no 32) words)
+clean-event words now name id body (word, reads, e, valid) =
+    let one = and_parts (is_moment now) (is_name name && (is_msg_id id && is_body body)) valid in
+    let two = and_parts (is_name name) (is_msg_id id && is_body body) one.1 in
+    let three = and_parts (is_msg_id id) (is_body body) two.1 in
+    subst (λ xs. IsTrue (list_all (has_no 32) xs)) (sym e)
+    (four_clean (decimal now) name id word (clean-decimal now (at_most now (2 ^ 40) one.0 (lit< tt)))
+    (clean-name name two.0) (clean-id id three.0) (clean-body word body reads))
+
 clean-arguments : (words : List (List ℕ)) (call : Call) → AreArguments words call → IsTrue (list_all (has_no 32) words)
 clean-arguments words (on.Put name target max secrets) (word, reads, e, valid) =
     let one = and_parts (is_name name) (is_target target && is_max_limit max) valid in
@@ -58,12 +69,8 @@ clean-arguments words (on.Enabled name flag) named = name_alone words name named
 clean-arguments words (on.Subscribed topic name flag) (e, valid) =
     let both = and_parts (is_name topic) (is_name name) valid in
     subst (λ xs. IsTrue (list_all (has_no 32) xs)) (sym e) (two_clean topic name (clean-name topic both.0) (clean-name name both.1))
-clean-arguments words (on.Submit now name id body) (word, reads, e, valid) =
-    let one = and_parts (is_moment now) (is_name name && (is_msg_id id && is_body body)) valid in
-    let two = and_parts (is_name name) (is_msg_id id && is_body body) one.1 in
-    let three = and_parts (is_msg_id id) (is_body body) two.1 in
-    subst (λ xs. IsTrue (list_all (has_no 32) xs)) (sym e)
-    (four_clean (decimal now) name id word (clean-decimal now (at_most now (2 ^ 40) one.0 (lit< tt))) (clean-name name two.0) (clean-id id three.0) (clean-body word body reads))
+clean-arguments words (on.Submit now name id body) h = clean-event words now name id body h
+clean-arguments words (on.Publish now topic id body) h = clean-event words now topic id body h
 clean-arguments words (on.Told seq) (e, small) = subst (λ xs. IsTrue (list_all (has_no 32) xs)) (sym e) (one_clean (decimal seq) (clean-decimal seq small))
 clean-arguments words on.Seal e = none_clean words e
 clean-arguments words on.Commit e = none_clean words e
@@ -121,6 +128,8 @@ length-arguments words (on.Secrets name secrets) (word, reads, e, valid) = let n
 length-arguments words (on.Enabled name flag) (e, valid) = length-named words name e
 length-arguments words (on.Subscribed topic name flag) (e, valid) = let n : length words ≡ 2 = ap length e in omega (arith, n)
 length-arguments words (on.Submit now name id body) (word, reads, e, valid) = let n : length words ≡ 4 = ap length e in omega (arith, n)
+length-arguments words (on.Publish now topic id body) (word, reads, e, valid) = let n : length words
+    ≡ 4 = ap length e in omega (arith, n)
 length-arguments words (on.Told seq) (e, small) = length-named words (decimal seq) e
 length-arguments words on.Seal e = length-alone words e
 length-arguments words on.Commit e = length-alone words e

@@ -1,5 +1,6 @@
 mod CallLaws
 mod CleanCalls
 mod OneCall
+mod SeqsLaws
 mod WorkedReplies
 mod WorkedTexts

@@ -19,7 +19,8 @@ use Rattle.script_lines.specs.declared.call.Call.TheVariants as on
 use Rattle.script_lines.specs.declared.call.Line.{Line}
 use Rattle.script_lines.specs.declared.call.Line.TheVariants as as_line
 use Rattle.script_lines.specs.Script.{IsPut, IsSecrets, IsNamed, IsSubscribed, IsTold, IsSubmit, IsClaim, IsResult, IsSpend, IsShow, call_word, AreArguments, IsCall, ReadsLine, IsLine, HasOneLineAtMost}
-use Rattle.script_lines.proofs.CallLaws.{only_put, only_secrets, only_enable, only_disable, only_submit, only_told}
+use Rattle.script_lines.proofs.CallLaws.{only_put, only_secrets, only_enable, only_disable, only_submit, only_publish}
+use Rattle.script_lines.proofs.CallLaws.{only_told}
 use Rattle.script_lines.proofs.CallLaws.{only_claim, only_spend, only_limits, only_show, only_seal, only_commit}
 use Rattle.script_lines.proofs.CallLaws.{only_settle, only_unseal, only_halt, only_subscribe, only_unsubscribe}
 use Rattle.script_lines.proofs.CleanCalls.{the_call, parts_of_call}
@@ -39,15 +40,18 @@ same_put words name target max secrets name' target' max' secrets' (word, reads,
         let limit = and_parts (is_target target) (is_max_limit max) (and_parts (is_name name) (is_target target && is_max_limit max) valid).1 in
         at_most max 1000 (and_parts (nat_le 1 max) (nat_le max 1000) limit.1).1 (lit< tt)
 
-same_submit : (words : List (List ℕ)) (now : ℕ) (name id body : List ℕ) (now' : ℕ) (name' id' body' : List ℕ) → IsSubmit words now name id body → IsSubmit words now' name' id' body'
-    → on.Submit now name id body ≡ on.Submit now' name' id' body'
-same_submit words now name id body now' name' id' body' (word, reads, e, valid) (word', reads', e', valid') =
+-- an event's arguments make one call, whichever word stands before them
+same_event : (make : ℕ → List ℕ → List ℕ → List ℕ → Call) (words : List (List ℕ)) (now : ℕ) (name id body : List ℕ)
+    (now' : ℕ) (name' id' body' : List ℕ)
+    → IsSubmit words now name id body → IsSubmit words now' name' id' body' → make now name id body
+    ≡ make now' name' id' body'
+same_event make words now name id body now' name' id' body' (word, reads, e, valid) (word', reads', e', valid') =
     let moments : now ≡ now' = decimal_injective now now' (small now name id body valid) (small now' name' id' body' valid') (cc) in
     let names : name ≡ name' = cc in
     let ids : id ≡ id' = cc in
     let written : word' ≡ word = cc in
     let bodies : body ≡ body' = one_body word body body' reads (subst (λ w. IsBodyWord w body') written reads') in
-    λ i. on.Submit (moments i) (names i) (ids i) (bodies i)
+    λ i. make (moments i) (names i) (ids i) (bodies i)
   where
     small : (now : ℕ) (name id body : List ℕ) → IsTrue (is_moment now && (is_name name && (is_msg_id id && is_body body))) → now < 2 ^ 64
     small now name id body valid = at_most now (2 ^ 40) (and_parts (is_moment now) (is_name name && (is_msg_id id && is_body body)) valid).0 (lit< tt)
@@ -152,7 +156,11 @@ same_arguments_of words (on.Subscribed topic name true) b e h =
 same_arguments_of words (on.Subscribed topic name false) b e h =
     only_unsubscribe (λ call. on.Subscribed topic name false ≡ call) (codes "unsubscribe") words refl (λ topic' name' k. same_pair words topic name topic' name' false h k) b e
 same_arguments_of words (on.Submit now name id body) b e h =
-    only_submit (λ call. on.Submit now name id body ≡ call) (codes "submit") words refl (λ now' name' id' body' k. same_submit words now name id body now' name' id' body' h k) b e
+    only_submit (λ call. on.Submit now name id body ≡ call) (codes "submit") words refl
+    (λ now' name' id' body' k. same_event on.Submit words now name id body now' name' id' body' h k) b e
+same_arguments_of words (on.Publish now topic id body) b e h =
+    only_publish (λ call. on.Publish now topic id body ≡ call) (codes "publish") words refl
+    (λ now' topic' id' body' k. same_event on.Publish words now topic id body now' topic' id' body' h k) b e
 same_arguments_of words (on.Told seq) b e h =
     only_told (λ call. on.Told seq ≡ call) (codes "told") words refl (λ seq' k. ap on.Told (same_seq words seq seq' h k)) b e
 same_arguments_of words on.Seal b e h = only_seal (λ call. on.Seal ≡ call) (codes "seal") words refl (λ none. refl) b e

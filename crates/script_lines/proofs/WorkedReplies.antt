@@ -1,5 +1,5 @@
 -- Worked rows of the replies' texts.
-use Rattle.std.proofs.Common.{◌≡◌, Some, None, true, codes, refl}
+use Rattle.std.proofs.Common.{◌≡◌, [], ◌∷◌, Some, None, true, codes, refl}
 use Rattle.std.specs.Fmt.{digits}
 use Rattle.relay_types.specs.declared.state.State.TheVariants.{Pending, Delivered}
 use Rattle.script_lines.specs.declared.reply.Fault.TheVariants as fault
@@ -14,6 +14,14 @@ refused_row = refl
 places_row : reply_text (says.Refused 8 fault.TooManySubscriptions) ≡ codes "refused 8 TooManySubscriptions"
 unfolding digits
 places_row = refl
+
+published_row : reply_text (says.Published (5 ∷ 4 ∷ [])) ≡ codes "staged 5,4"
+unfolding digits
+published_row = refl
+
+one_published_row : reply_text (says.Published (7 ∷ [])) ≡ codes "staged 7"
+unfolding digits
+one_published_row = refl
 
 sealed_row : reply_text (says.Sealed 9 12) ≡ codes "sealed 9..12"
 unfolding digits

@@ -34,3 +34,16 @@ submit_row = (
     (codes "7B7d", ((7, 11, refl, refl, refl), ((7, 13, refl, refl, refl), tt)), refl, refl),
   ),
 )
+
+publish_row : ReadsLine (codes "publish 1000 t msg_1 7b7d")
+    (on.Publish 1000 (codes "t") (codes "msg_1") (123 ∷ 125 ∷ []))
+unfolding digits
+publish_row = (
+  codes "publish" ∷ codes "1000" ∷ codes "t" ∷ codes "msg_1" ∷ codes "7b7d" ∷ [],
+  refl,
+  (
+    codes "1000" ∷ codes "t" ∷ codes "msg_1" ∷ codes "7b7d" ∷ [],
+    refl,
+    (codes "7b7d", ((7, 11, refl, refl, refl), ((7, 13, refl, refl, refl), tt)), refl, refl),
+  ),
+)

@@ -1,5 +1,5 @@
 -- The reply lines of a script, without their line feed.
-use Rattle.std.specs.Prelude.{ℕ, Bool, List, [], ◌∷◌, ◌++◌, Option, Some, None, codes, decimal, if◌then◌else◌}
+use Rattle.std.specs.Prelude.{ℕ, Bool, List, [], ◌∷◌, ◌++◌, map, Option, Some, None, codes, decimal, if◌then◌else◌}
 use Rattle.std.specs.List.{join_with_byte}
 use Rattle.relay_types.specs.declared.state.State.{State}
 use Rattle.relay_types.specs.declared.state.State.TheVariants.{Pending, Delivered, Exhausted}
@@ -77,9 +77,14 @@ abbrev pub limit_words : (limit in_flight noload : ℕ) → List (List ℕ)
 limit_words limit in_flight noload =
     codes "limit" ∷ decimal limit ∷ codes "inflight" ∷ decimal in_flight ∷ codes "noload" ∷ decimal noload ∷ []
 
+-- numbers with a comma between each two
+abbrev pub numbers_text : List ℕ → List ℕ
+numbers_text numbers = join_with_byte 44 (map decimal numbers)
+
 -- The words of a reply.
 abbrev pub reply_words : Reply → List (List ℕ)
 reply_words (says.Staged seq) = codes "staged" ∷ decimal seq ∷ []
+reply_words (says.Published seqs) = codes "staged" ∷ numbers_text seqs ∷ []
 reply_words (says.ToldAs told) = told_text told ∷ []
 reply_words says.NothingWaits = codes "nothing" ∷ []
 reply_words (says.Sealed from to) = codes "sealed" ∷ range_text from to ∷ []

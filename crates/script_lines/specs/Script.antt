@@ -29,6 +29,7 @@ IsSubscribed words topic name = (words ≡ topic ∷ name ∷ []) × IsTrue (is_
 abbrev pub IsTold : (words : List Text) (seq : Seq) → Type 0
 IsTold words seq = (words ≡ decimal seq ∷ []) × (seq < 2 ^ 64)
 
+-- of an event, for an endpoint or for a topic, whose names have one form
 abbrev pub IsSubmit : (words : List Text) (now : Seconds) (name id body : Text) → Type 0
 IsSubmit words now name id body = (word : List ℕ) × IsBodyWord word body × (words ≡ decimal now ∷ name ∷ id ∷ word ∷ [])
     × IsTrue (is_moment now && (is_name name && (is_msg_id id && is_body body)))
@@ -92,6 +93,10 @@ abbrev pub AreOfSubmit : List (List ℕ) → Call → Type 0
 AreOfSubmit words (on.Submit now name id body) = IsSubmit words now name id body
 AreOfSubmit words call = ⊥
 
+abbrev pub AreOfPublish : List (List ℕ) → Call → Type 0
+AreOfPublish words (on.Publish now topic id body) = IsSubmit words now topic id body
+AreOfPublish words call = ⊥
+
 abbrev pub AreOfSpend : List (List ℕ) → Call → Type 0
 AreOfSpend words (on.Spend delivery now post) = IsSpend words delivery now post
 AreOfSpend words call = ⊥
@@ -110,6 +115,7 @@ call_word (on.Enabled name false) = codes "disable"
 call_word (on.Subscribed topic name true) = codes "subscribe"
 call_word (on.Subscribed topic name false) = codes "unsubscribe"
 call_word (on.Submit now name id body) = codes "submit"
+call_word (on.Publish now topic id body) = codes "publish"
 call_word (on.Told seq) = codes "told"
 call_word on.Seal = codes "seal"
 call_word on.Commit = codes "commit"
@@ -128,6 +134,7 @@ AreArguments words (on.Secrets name secrets) = IsSecrets words name secrets
 AreArguments words (on.Enabled name flag) = IsNamed words name
 AreArguments words (on.Subscribed topic name flag) = IsSubscribed words topic name
 AreArguments words (on.Submit now name id body) = IsSubmit words now name id body
+AreArguments words (on.Publish now topic id body) = IsSubmit words now topic id body
 AreArguments words (on.Told seq) = IsTold words seq
 AreArguments words on.Seal = words ≡ []
 AreArguments words on.Commit = words ≡ []
@@ -155,12 +162,14 @@ MayLackForSubmit words = (now : ℕ) × (name id body : List ℕ) × (words ≡ 
 abbrev pub MayLack : List ℕ → List (List ℕ) → Type 0
 MayLack word words =
     ((word ≡ codes "put") × MayLackForPut words)
-    ⊎ (((word ≡ codes "secrets") × MayLackForSecrets words) ⊎ ((word ≡ codes "submit") × MayLackForSubmit words))
+    ⊎ (((word ≡ codes "secrets") × MayLackForSecrets words)
+    ⊎ (((word ≡ codes "submit") ⊎ (word ≡ codes "publish")) × MayLackForSubmit words))
 
 -- the call has a target or a body, which several calls can share
 abbrev pub HasShared : Call → Type 0
 HasShared (on.Put name target max secrets) = Unit {0}
 HasShared (on.Submit now name id body) = Unit {0}
+HasShared (on.Publish now topic id body) = Unit {0}
 HasShared call = ⊥
 
 -- the words of a call

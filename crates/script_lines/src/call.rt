@@ -16,6 +16,13 @@ pub enum Call {
         id: MsgId,
         body: Body,
     },
+    /// An event for the subscribers of a topic.
+    Publish {
+        now: Moment,
+        topic: Name,
+        id: MsgId,
+        body: Body,
+    },
     /// A new endpoint.
     Put {
         name: Name,
@@ -102,6 +109,17 @@ impl Call {
             } => Ok(Call::Submit {
                 now: *now,
                 name: *name,
+                id: *id,
+                body: body.share()?,
+            }),
+            Call::Publish {
+                now,
+                topic,
+                id,
+                body,
+            } => Ok(Call::Publish {
+                now: *now,
+                topic: *topic,
                 id: *id,
                 body: body.share()?,
             }),

@@ -3,6 +3,7 @@ ghost use Rattle.std.specs.Prelude.{◌≡◌, Some};
 ghost use Rattle.std.specs.Str.{IsAscii};
 ghost use Rattle.script_lines.specs.Replies.{fault_text, state_text, told_text, flag_text, spend_text, reply_text};
 
+use crate::seqs::Seqs;
 use relay_types::{MsgId, Name, State};
 use retry_table::Spend;
 use std::fmt;
@@ -39,11 +40,13 @@ pub enum Told {
 }
 
 /// What a call answered.
-#[derive(Clone, Copy, PartialEq, Eq)]
+#[derive(Drop)]
 pub enum Reply {
     Staged {
         seq: u64,
     },
+    /// An event for a topic: the number of each subscriber's record, in the order of their Puts.
+    Published(Seqs),
     ToldAs(Told),
     NothingWaits,
     Sealed {
@@ -148,6 +151,7 @@ impl fmt::Display for Reply {
     fn fmt<W: fmt::Write>(&self, f: &mut fmt::Formatter<W>) -> fmt::Result {
         match self {
             Reply::Staged { seq } => write!(f, "staged {seq}"),
+            Reply::Published(seqs) => write!(f, "staged {seqs}"),
             Reply::ToldAs(told) => f.write_str(told_word(*told)),
             Reply::NothingWaits => f.write_str("nothing"),
             Reply::Sealed { from, to } => write!(f, "sealed {from}..{to}"),

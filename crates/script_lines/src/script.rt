@@ -6,15 +6,15 @@ ghost use Rattle.text_lines.specs.Parts.{texts};
 ghost use Rattle.script_lines.specs.Script.{ReadsLine, IsLine, HasOneLineAtMost, HasFewWords, IsCall, MayLack};
 ghost use Rattle.script_lines.specs.Script.{call_word, AreArguments};
 ghost use Rattle.script_lines.specs.Script.{MayLackForPut, MayLackForSecrets, MayLackForSubmit};
-ghost use Rattle.script_lines.specs.Script.{AreOfPut, AreOfSecrets, AreOfSubscribed, AreOfSubmit, AreOfSpend, AreOfShow, IsNamed};
-ghost use Rattle.script_lines.specs.Script.{IsTold, IsClaim, IsResult};
+ghost use Rattle.script_lines.specs.Script.{AreOfPut, AreOfSecrets, AreOfSubscribed, AreOfSubmit, AreOfPublish, AreOfSpend};
+ghost use Rattle.script_lines.specs.Script.{AreOfShow, IsNamed, IsSubmit, IsTold, IsClaim, IsResult};
 ghost use Rattle.script_lines.specs.Script.{AreOfNoPut, AreOfNoSecrets, AreOfNoSubmit, AreOfNoSpend, AreOfNoResult};
 ghost use Rattle.script_lines.specs.Script.{AreOfNoName, AreOfNoPair, AreOfNoEvent};
 ghost use Rattle.script_lines.specs.declared.call.Call.{Call};
 ghost use Rattle.script_lines.specs.declared.call.Line.{Line};
 
 use crate::call::{Call, Line};
-use relay_types::{Moment, MsgId, Name, ReadFault, Target};
+use relay_types::{Body, Moment, MsgId, Name, ReadFault, Target};
 use retry_table::{PostResult, Status};
 use std::alloc::Global;
 use text_lines::{
@@ -96,6 +96,8 @@ fn read_worded(alloc: Global, word: &[u8], arguments: &[&[u8]]) -> Result<Call, 
         read_subscribed(arguments, false)
     } else if is_word(word, "submit") {
         read_submit(alloc, arguments)
+    } else if is_word(word, "publish") {
+        read_publish(alloc, arguments)
     } else if is_word(word, "told") {
         Ok(Call::Told {
             seq: read_seq(arguments)?,
@@ -256,25 +258,73 @@ fn read_submit(alloc: Global, arguments: &[&[u8]]) -> Result<Call, WordFault>
     ensures bad { result ≡ Err WordFault.Bad → AreOfNoSubmit (texts arguments.now) }
     ensures lacked { result ≡ Err WordFault.OutOfMemory → MayLackForSubmit (texts arguments.now) }
 {
+    let Event {
+        now,
+        name,
+        id,
+        body,
+    } = read_event(alloc, arguments)?;
+    Ok(Call::Submit {
+        now,
+        name,
+        id,
+        body,
+    })
+}
+
+fn read_publish(alloc: Global, arguments: &[&[u8]]) -> Result<Call, WordFault>
+    ensures stands { IfOk result (λ call. AreOfPublish (texts arguments.now) call) }
+    ensures bad { result ≡ Err WordFault.Bad → AreOfNoSubmit (texts arguments.now) }
+    ensures lacked { result ≡ Err WordFault.OutOfMemory → MayLackForSubmit (texts arguments.now) }
+{
+    let Event {
+        now,
+        name: topic,
+        id,
+        body,
+    } = read_event(alloc, arguments)?;
+    Ok(Call::Publish {
+        now,
+        topic,
+        id,
+        body,
+    })
+}
+
+// The arguments of a call that takes an event: `name` is that of an endpoint or a topic.
+struct Event {
+    now: Moment,
+    name: Name,
+    id: MsgId,
+    body: Body,
+}
+
+fn read_event(alloc: Global, arguments: &[&[u8]]) -> Result<Event, WordFault>
+    ensures stands { IfOk result (λ event.
+        IsSubmit (texts arguments.now) event.now event.name event.id event.body) }
+    ensures bad { result ≡ Err WordFault.Bad → AreOfNoSubmit (texts arguments.now) }
+    ensures lacked { result ≡ Err WordFault.OutOfMemory → MayLackForSubmit (texts arguments.now) }
+{
     match arguments {
-        [now, name, id, body] => read_submit_words(alloc, now, name, id, body),
+        [now, name, id, body] => read_event_words(alloc, now, name, id, body),
         _ => Err(WordFault::Bad),
     }
 }
 
-fn read_submit_words(
+fn read_event_words(
     alloc: Global,
     now: &[u8],
     name: &[u8],
     id: &[u8],
     body: &[u8],
-) -> Result<Call, WordFault>
-    ensures stands { IfOk result (λ call. AreOfSubmit (now.now ∷ name.now ∷ id.now ∷ body.now ∷ []) call) }
+) -> Result<Event, WordFault>
+    ensures stands { IfOk result (λ event.
+        IsSubmit (now.now ∷ name.now ∷ id.now ∷ body.now ∷ []) event.now event.name event.id event.body) }
     ensures bad { result ≡ Err WordFault.Bad → AreOfNoSubmit (now.now ∷ name.now ∷ id.now ∷ body.now ∷ []) }
     ensures lacked { result ≡ Err WordFault.OutOfMemory → (moment : ℕ) × (now.now ≡ decimal moment)
         × IsTrue (is_moment moment && (is_name name.now && is_msg_id id.now)) }
 {
-    Ok(Call::Submit {
+    Ok(Event {
         now: read_moment(now)?,
         name: Name::read(name)?,
         id: MsgId::read(id)?,

@@ -102,14 +102,23 @@ fn draw_command(rt: &impl Abort, alloc: Global, numbers: &mut Numbers) -> Comman
     let name = draw_name(rt, numbers);
     let secrets = draw_secrets(rt, alloc, numbers);
     let url = draw_url(numbers);
-    match numbers.below(6) {
+    let flag = numbers.below(4) > 0;
+    match numbers.below(8) {
         0 | 1 => draw_put(rt, alloc, numbers, (name, url, secrets)),
         2 => Command::SetSecrets { name, secrets },
-        _ => Command::SetEnabled {
+        3 | 4 => Command::SetSubscribed {
+            topic: draw_name(rt, numbers),
             name,
-            flag: numbers.below(4) > 0,
+            flag,
         },
+        _ => Command::SetEnabled { name, flag },
     }
+}
+
+/// One of three ids.
+fn draw_id(rt: &impl Abort, numbers: &mut Numbers) -> MsgId {
+    let place = b'0' + numbers.below(3) as u8;
+    MsgId::read(&[b'M', place]).expect(rt, "an id")
 }
 
 /// Up to 8 bytes.
@@ -130,10 +139,23 @@ fn submit<L: Ledger>(
     now: Moment,
 ) {
     let name = draw_name(rt, numbers);
-    let place = b'0' + numbers.below(3) as u8;
-    let id = MsgId::read(&[b'M', place]).expect(rt, "an id");
+    let id = draw_id(rt, numbers);
     let body = draw_body(rt, alloc, numbers);
     let _ = desk.submit(now, name, id, body);
+}
+
+/// One of three events for the subscribers of a topic.
+fn publish<L: Ledger>(
+    rt: &impl Abort,
+    alloc: Global,
+    desk: &mut Desk<L>,
+    numbers: &mut Numbers,
+    now: Moment,
+) {
+    let topic = draw_name(rt, numbers);
+    let id = draw_id(rt, numbers);
+    let body = draw_body(rt, alloc, numbers);
+    let _ = desk.publish(now, topic, id, body);
 }
 
 fn answered(rt: &impl Abort, number: u16, rtt: u64) -> PostResult {
@@ -182,9 +204,10 @@ fn call<L: Ledger>(
     numbers: &mut Numbers,
     now: Moment,
 ) {
-    match numbers.below(8) {
+    match numbers.below(9) {
         0 | 1 => command(rt, alloc, desk, numbers),
         2 | 3 => submit(rt, alloc, desk, numbers, now),
+        4 => publish(rt, alloc, desk, numbers, now),
         _ => attempt(rt, desk, numbers, now),
     }
 }

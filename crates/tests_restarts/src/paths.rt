@@ -6,7 +6,7 @@ use crate::runs::check;
 pub(crate) const PUT: &str =
     "put a http://127.0.0.1:9000/hook 100 whsec_MDEyMzQ1Njc4OTAxMjM0NTY3ODkwMTIz";
 
-const PUT_OTHER: &str =
+pub(crate) const PUT_OTHER: &str =
     "put b http://127.0.0.1:9000/hook 100 whsec_MDEyMzQ1Njc4OTAxMjM0NTY3ODkwMTIz";
 
 /// An endpoint, and an event for it.
@@ -23,7 +23,7 @@ static FIRST_PATH: [Call; 9] = [
 ];
 
 /// Nothing is known yet, and nothing is held.
-static NOTHING: [Call; 27] = [
+static NOTHING: [Call; 29] = [
     Call::Line("show a", "absent"),
     Call::Line("show a msg_1", "absent"),
     Call::Line("limits a", "absent"),
@@ -37,6 +37,7 @@ static NOTHING: [Call; 27] = [
     Call::Line("disable a", "refused 2 UnknownEndpoint"),
     Call::Line("subscribe t a", "refused 2 UnknownEndpoint"),
     Call::Line("submit 1000 a msg_1 -", "refused 2 UnknownEndpoint"),
+    Call::Line("publish 1000 t msg_1 -", "refused 2 UnknownTopic"),
     Call::Line("commit", "no-batch"),
     Call::Line("settle", "no-receipt"),
     Call::Line("unseal", "no-batch"),
@@ -54,6 +55,7 @@ static NOTHING: [Call; 27] = [
     Call::IsHalted(true),
     Call::Line(PUT_OTHER, "refused 1 Halted"),
     Call::Line("unsubscribe t a", "refused 1 Halted"),
+    Call::Line("publish 1000 t msg_1 -", "refused 1 Halted"),
 ];
 
 /// An endpoint with two events is settled, and a third event is sealed.

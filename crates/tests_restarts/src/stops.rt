@@ -2,7 +2,7 @@
 ghost use Rattle.std.specs.Prelude.{◌≡◌, [], IfSome};
 
 use crate::calls::{Call, Path, events_of, is_line_at};
-use crate::paths::PUT;
+use crate::paths::{PUT, PUT_OTHER};
 use crate::runs::{begun, closed};
 use crate::stores::MARK;
 use drill::{Event, Reply};
@@ -17,31 +17,33 @@ use std::sync::ledger::{Blank, Ledger};
 
 pub(crate) type Failing = FileStore<Fuse<Memory>>;
 
-/// An endpoint, three events, and an attempt at the first of them, each settled before the next.
-/// The replies are those of a run that nothing stops.
-const RUN: [Call; 16] = [
+/// Two endpoints, subscribed to a topic; an event of one of them and one for both; and an attempt, each settled before the
+/// next. The replies are those of a run that nothing stops.
+const RUN: [Call; 18] = [
     Call::Line(PUT, "staged 0"),
-    Call::Line("seal", "sealed 0..1"),
-    Call::Line("commit", "committed 1"),
-    Call::Line("settle", "settled 1"),
-    Call::Line("submit 1000 a msg_1 7b7d", "staged 1"),
-    Call::Line("submit 1000 a msg_2 -", "staged 2"),
-    Call::Line("submit 1000 a msg_3 7b7d", "staged 3"),
-    Call::Line("seal", "sealed 1..4"),
+    Call::Line(PUT_OTHER, "staged 1"),
+    Call::Line("subscribe t b", "staged 2"),
+    Call::Line("subscribe t a", "staged 3"),
+    Call::Line("seal", "sealed 0..4"),
     Call::Line("commit", "committed 4"),
     Call::Line("settle", "settled 4"),
+    Call::Line("submit 1000 a msg_1 7b7d", "staged 4"),
+    Call::Line("publish 1000 t msg_2 7b7d", "staged 5,6"),
+    Call::Line("seal", "sealed 4..7"),
+    Call::Line("commit", "committed 7"),
+    Call::Line("settle", "settled 7"),
     Call::Line(
         "claim 1000",
-        "permit 1 a msg_1 attempt 1 at 1000 inflight 1",
+        "permit 4 a msg_1 attempt 1 at 1000 inflight 1",
     ),
     Call::Line(
-        "spend 1 1000 500 100000",
-        "success limit 20 inflight 0 staged 4",
+        "spend 4 1000 500 100000",
+        "success limit 20 inflight 0 staged 7",
     ),
-    Call::Line("seal", "sealed 4..5"),
-    Call::Line("commit", "committed 5"),
-    Call::Line("settle", "settled 5"),
-    Call::SettledRecords(5),
+    Call::Line("seal", "sealed 7..8"),
+    Call::Line("commit", "committed 8"),
+    Call::Line("settle", "settled 8"),
+    Call::SettledRecords(8),
 ];
 
 static PATHS: [Path; 1] = [&RUN];
@@ -56,19 +58,19 @@ struct Step {
 
 static STEPS: [Step; 3] = [
     Step {
-        sealed: (1, "sealed 0..1"),
-        settled: (3, "settled 1"),
-        records: 1,
-    },
-    Step {
-        sealed: (7, "sealed 1..4"),
-        settled: (9, "settled 4"),
+        sealed: (4, "sealed 0..4"),
+        settled: (6, "settled 4"),
         records: 4,
     },
     Step {
-        sealed: (12, "sealed 4..5"),
-        settled: (14, "settled 5"),
-        records: 5,
+        sealed: (9, "sealed 4..7"),
+        settled: (11, "settled 7"),
+        records: 7,
+    },
+    Step {
+        sealed: (14, "sealed 7..8"),
+        settled: (16, "settled 8"),
+        records: 8,
     },
 ];
 
@@ -162,9 +164,10 @@ fn left<L: Ledger, S: Alter + Drop>(
     }
 }
 
-/// Behind a run stand the records of whole batches: all that were settled, and none that wasn't sealed.
+/// Behind a run stand the records of whole batches, so the event for both is there twice or not at all: all that were
+/// settled, and none that wasn't sealed.
 fn check_records(rt: &impl Abort, records: u64, (settled, sealed): (u64, u64)) {
-    assert!(rt; matches!(records, 0 | 1 | 4 | 5), "{records} records");
+    assert!(rt; matches!(records, 0 | 4 | 7 | 8), "{records} records");
     assert!(rt;
         settled <= records && records <= sealed,
         "{settled} {records} {sealed}"
@@ -187,7 +190,7 @@ fn stops<L: Ledger>(
         Some((pool, conn, told)) => {
             let records = records_of(rt, alloc, pool, come_back(rt, alloc, conn));
             check_records(rt, records, told);
-            told.0 < 5
+            told.0 < 8
         }
         None => true,
     }
