@@ -32,6 +32,7 @@ pub(crate) enum DeskCall {
     AnswerEndpoint,
     AnswerEvent,
     AnswerPost,
+    AnswerPublish,
     AnswerStatus,
     Audit,
     Build,
@@ -53,6 +54,7 @@ impl DeskCall {
             "answer GET event" => Some(DeskCall::AnswerEvent),
             "answer GET status" => Some(DeskCall::AnswerStatus),
             "answer POST" => Some(DeskCall::AnswerPost),
+            "answer publish" => Some(DeskCall::AnswerPublish),
             "Outgoing::build" => Some(DeskCall::Build),
             "worker_round" => Some(DeskCall::Round),
             _ => DeskCall::of_page(word),
@@ -96,6 +98,14 @@ fn put(alloc: Global, given: Given) -> Result<Command, Failed> {
         max: MaxLimit::of(100)?,
         secrets: Secrets::of(&[secret])?,
     })
+}
+
+fn subscribe(given: Given) -> Command {
+    Command::SetSubscribed {
+        topic: given.name,
+        name: given.name,
+        flag: true,
+    }
 }
 
 /// A call that shows a page.
@@ -190,6 +200,7 @@ impl<L: Ledger, I: LogId, R: Wait> Attempt for Sharer<'_, '_, L, I, R> {
             DeskCall::AnswerEndpoint => self.ask(rt, b"GET", b"/v1/endpoints/a", &[]),
             DeskCall::AnswerEvent => self.ask(rt, b"GET", b"/v1/endpoints/a/events/msg_1", &[]),
             DeskCall::AnswerPost => self.ask(rt, b"POST", b"/v1/endpoints/a/events", &[b"msg_1"]),
+            DeskCall::AnswerPublish => self.ask(rt, b"POST", b"/v1/topics/a/events", &[b"msg_1"]),
             DeskCall::AnswerStatus => self.ask(rt, b"GET", b"/v1/status", &[]),
             DeskCall::Round => self.work(rt),
             _ => Told::Other,
@@ -276,7 +287,7 @@ impl<L: Ledger> Attempt for Building<'_, L> {
     }
 }
 
-// An endpoint and an event, which are committed and settled.
+// An endpoint, subscribed to a topic of its name, and an event, which are committed and settled.
 fn fill<L: Ledger, S: Alter>(
     alloc: Global,
     desk: &mut OpenDesk<L>,
@@ -284,6 +295,7 @@ fn fill<L: Ledger, S: Alter>(
 ) -> Result<(), Failed> {
     let given = given_names()?;
     desk.command(put(alloc, given)?)?;
+    desk.command(subscribe(given))?;
     desk.submit(given.now, given.name, given.id, body_of(alloc)?)?;
     let Some(batch) = desk.seal()? else {
         return Err(Failed);
@@ -362,6 +374,7 @@ fn over_desk<L: Ledger, R: Wait>(
         DeskCall::AnswerEndpoint
         | DeskCall::AnswerEvent
         | DeskCall::AnswerPost
+        | DeskCall::AnswerPublish
         | DeskCall::AnswerStatus
         | DeskCall::Round => { share(rt, wait, call, desk, given) }
         _ => try_twice(

@@ -3,8 +3,11 @@ ghost use Rattle.std.specs.Prelude.{◌≡◌};
 
 use crate::failed::Failed;
 use crate::growing::{Attempt, Told, told_of, try_twice};
+use desk::Ticket;
 use hmac_signer::signature_header;
-use intake_shed::{Ask, AskBody, Asked, Reply, accepted_reply, change_reply, read_ask};
+use intake_shed::{
+    Ask, AskBody, Asked, Reply, accepted_reply, change_reply, published_reply, read_ask,
+};
 use relay_types::{
     Body, MaxLimit, Moment, MsgId, Name, ReadFault, Record, Secret, Secrets, Step, Target,
 };
@@ -12,9 +15,9 @@ use run_log::{LogId, NewLog};
 use script_lines::{Call, read_call, read_line};
 use sound_rows::{Attempt as AttemptRow, Delivery, Endpoint, Numbers, Topic};
 use std::alloc::{AllocError, Global};
-use std::io;
 use std::marker::Brand;
 use std::sync::Arc;
+use std::{io, slice};
 use text_lines::{
     Lines, read_body, read_max, read_moment, read_secrets, secrets_of, split, write_line,
 };
@@ -48,6 +51,7 @@ pub(crate) enum ValueCall {
     LinesAdvance,
     LinesNew,
     NewLog,
+    Published,
     ReadBody,
     Readers,
     ReadCall,
@@ -73,6 +77,7 @@ impl ValueCall {
             "read_ask POST" => Some(ValueCall::AskPost),
             "read_ask PUT" => Some(ValueCall::AskPut),
             "change_reply" => Some(ValueCall::Change),
+            "published_reply" => Some(ValueCall::Published),
             "signature_header" => Some(ValueCall::Header),
             "read_line" => Some(ValueCall::Line),
             "read_call" => Some(ValueCall::ReadCall),
@@ -174,6 +179,16 @@ impl Values {
         })
     }
 
+    fn published(&self, alloc: Global) -> Result<u64, Told> {
+        let name = Name::read(b"a").map_err(|_| Told::Other)?;
+        let ticket = Ticket {
+            seq: 1,
+            name,
+            id: self.id,
+        };
+        reply_told(&published_reply(alloc, &self.id, slice::from_ref(&ticket)))
+    }
+
     fn made(&self, alloc: Global) -> Result<u64, Told> {
         match self.call {
             ValueCall::Accepted => reply_told(&accepted_reply(alloc, &self.id, 1)),
@@ -187,6 +202,7 @@ impl Values {
             ),
             ValueCall::AskPut => ask_told(alloc, b"PUT", b"/v1/endpoints/a", PUT_BODY, self.id),
             ValueCall::Change => reply_told(&change_reply(alloc, 201, 0)),
+            ValueCall::Published => self.published(alloc),
             ValueCall::Header => {
                 let header = signature_header(alloc, &self.secrets, &self.id, self.at, &self.body)?;
                 Ok(header.len() as u64)

@@ -7,7 +7,7 @@
 //!     halt                                 nothing is taken any more
 //!
 //! The reply to `ask` is a status, ` retry` where `Retry-After` goes with it, and the body; of a
-//! change or an event that the desk took it is `staged SEQ`, with the event's id.
+//! change or an event that the desk took it is `staged SEQ` or `staged SEQ,..`, with the event's id.
 ghost use Rattle.std.specs.Prelude.{◌≡◌};
 ghost use Rattle.permits.specs.declared.pool.TheConstants.{PARTS};
 
@@ -18,6 +18,7 @@ use group_commit::Held;
 use intake_shed::{Ask, AskBody, Asked, Reply, WaitFault, page_reply, read_ask, refusal_reply};
 use permits::PARTS;
 use relay_types::{Body, Moment, MsgId, Name};
+use script_lines::Seqs;
 use spool::{Batch, Vault};
 use sqlite::{Connection, MemStore};
 use std::alloc::{AllocError, Global};
@@ -102,6 +103,7 @@ impl<L: Ledger> Relay<L> {
         match asked {
             Asked::Change(command) => self.change(alloc, command),
             Asked::Post { name, id, body } => self.post(alloc, now, name, id, body),
+            Asked::Publish { topic, id, body } => self.publish(alloc, now, topic, id, body),
             Asked::Totals | Asked::Endpoint(_) | Asked::Event(_, _) => unreachable!(),
         }
     }
@@ -123,6 +125,23 @@ impl<L: Ledger> Relay<L> {
     ) -> Result<String, AllocError> {
         match self.desk.submit(now, name, id, body) {
             Ok(ticket) => format!(in alloc; "staged {} {}", ticket.seq, word_of(&ticket.id)),
+            Err(refusal) => reply_text(alloc, &refusal_reply(&WaitFault::Refused(refusal))),
+        }
+    }
+
+    fn publish(
+        &mut self,
+        alloc: Global,
+        now: Moment,
+        topic: Name,
+        id: MsgId,
+        body: Body,
+    ) -> Result<String, AllocError> {
+        match self.desk.publish(now, topic, id, body) {
+            Ok(tickets) => {
+                let seqs = tickets.iter().map(|ticket| ticket.seq).collect(alloc)?;
+                format!(in alloc; "staged {} {}", Seqs::of(seqs), word_of(&id))
+            }
             Err(refusal) => reply_text(alloc, &refusal_reply(&WaitFault::Refused(refusal))),
         }
     }

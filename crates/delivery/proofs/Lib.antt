@@ -3,3 +3,4 @@ pub mod KeeperLaws
 pub mod UrlLaws
 pub mod SettledLaws
 pub mod ToldLaws
+pub mod PublishedLaws

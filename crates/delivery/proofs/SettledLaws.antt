@@ -36,7 +36,7 @@ settled_on : (settled : ℕ) (history more : History) → settled ≤ length his
     → records_of (take settled (history ++ more)) ≡ records_of (take settled history)
 settled_on settled history more le = ap records_of (take-append-le settled history more le)
 
-flatten_both : (xs ys : History) → records_of (xs ++ ys) ≡ records_of xs ++ records_of ys
+pub flatten_both : (xs ys : History) → records_of (xs ++ ys) ≡ records_of xs ++ records_of ys
 flatten_both [] ys = refl
 flatten_both (step ∷ xs) ys =
     ap (λ rest. step ++ rest) (flatten_both xs ys) ∙ sym (append_assoc step (records_of xs) (records_of ys))
@@ -70,13 +70,13 @@ abbrev Stays : World → World → Type 0
 Stays w next = (next.history ≡ w.history) × (next.settled ≡ w.settled)
 
 -- there may be more steps, and as many are settled
-abbrev Grows : World → World → Type 0
+abbrev pub Grows : World → World → Type 0
 Grows w next = IsPrefix w.history next.history × (next.settled ≡ w.settled)
 
 stays_self : (w : World) → Stays w w
 stays_self w = (refl, refl)
 
-grows_self : (w : World) → Grows w w
+pub grows_self : (w : World) → Grows w w
 grows_self w = (([], append-nil w.history), refl)
 
 unless_leaves : {A : Type 0} (P : World → Type 0) (faults : Faults) (w : World) (answer : Answer A) → P w → P answer.next
@@ -232,9 +232,13 @@ module _ (is_base : List Record → Type 0) (start : ℕ) (old new : DeskValue) 
         ap records_of now.1.0 ∙ was.4,
       )
 
-  grows_on : ((w : World) → StandsFor old w → (next : World) × Grows w next × StandsFor new next)
-      → HasRecords is_base start new prefix (followed staged (prefix ++ records_of new.waiting.waiting))
-  grows_on moved base is =
+  -- what is so of the state after a call, beside what the desk has
+  pub grows_with : (P : World → Type 0)
+      → ((w : World) → StandsFor old w → (next : World) × Grows w next × P next × StandsFor new next)
+      → (base : List Record) → is_base base → (length base ≡ start) × (next : World) × StandsFor new next
+      × (settled_records next ≡ base ++ prefix)
+      × (all_records next ≡ base ++ followed staged (prefix ++ records_of new.waiting.waiting)) × P next
+  grows_with P moved base is =
       let was = has base is in
       let w = was.1 in
       let now = moved w was.2 in
@@ -242,7 +246,7 @@ module _ (is_base : List Record → Type 0) (start : ℕ) (old new : DeskValue) 
       let settled : settled_records now.0 ≡ base ++ prefix =
       ap (λ (s : ℕ × History). records_of (take s.0 s.1)) (λ i. (now.1.1 i, sym now.1.0.1 i))
       ∙ settled_on w.settled w.history more (marks old w was.2) ∙ was.3 in
-      let all = all_is new now.0 now.2 ∙ ap (λ (records : List Record). records ++ records_of new.waiting.waiting) settled
+      let all = all_is new now.0 now.3 ∙ ap (λ (records : List Record). records ++ records_of new.waiting.waiting) settled
       ∙ append_assoc base prefix (records_of new.waiting.waiting) in
       let longer : all_records now.0 ≡ base ++ (staged ++ records_of more) =
       ap records_of (sym now.1.0.1) ∙ flatten_both w.history more
@@ -251,11 +255,18 @@ module _ (is_base : List Record → Type 0) (start : ℕ) (old new : DeskValue) 
       (records_of more, append_cancel_left base _ _ (sym longer ∙ all)) in (
         was.0,
         now.0,
-        now.2,
+        now.3,
         settled,
         all ∙ ap (λ (records : List Record). base ++ records)
             (sym (followed_is staged (prefix ++ records_of new.waiting.waiting) begins)),
+        now.2,
       )
+
+  grows_on : ((w : World) → StandsFor old w → (next : World) × Grows w next × StandsFor new next)
+      → HasRecords is_base start new prefix (followed staged (prefix ++ records_of new.waiting.waiting))
+  grows_on moved base is =
+      let now = grows_with (λ next. Unit {0}) (λ w stands. let m = moved w stands in (m.0, m.1, tt, m.2)) base is in
+      (now.0, now.1, now.2, now.3, now.4)
 
   moved_stays : {A : Type 0} (move : World → Answer A) (reply : Result A Refusal) → ((w : World) → Stays w (move w).next)
       → IsMove old move reply new → HasRecords is_base start new prefix staged

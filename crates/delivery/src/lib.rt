@@ -24,5 +24,5 @@ pub use crate::pass::{Pass, WentBack};
 pub use crate::roles::{Clock, Poster};
 pub use crate::run::begin_run;
 pub use crate::shared::{REST_SECONDS, Shared};
-pub use crate::staged::StagedChange;
+pub use crate::staged::{Published, StagedChange};
 pub use crate::worker::{Round, worker_round};

@@ -1,17 +1,17 @@
 //! What lies under the lock. Each call is one of the desk's, or leaves the desk as it was.
 ghost use Rattle.std.specs.Prelude.{◌≡◌, ◌≢◌, ◌≤◌, ◌<◌, ◌↔◌, ◌∷◌, ◌++◌, [], true, false, length, IsTrue};
-ghost use Rattle.std.specs.Prelude.{Result, IfOk, IfErr, IsOk, OnErr, OnOk, Option, None, Some, IfSome};
+ghost use Rattle.std.specs.Prelude.{Any, Result, IfOk, IfErr, IsOk, OnErr, OnOk, Option, None, Some, IfSome};
 ghost use Rattle.relay_types.specs.Records.{records_of};
 ghost use Rattle.spool.specs.Batches.{BatchValue, doubt_of};
 ghost use Rattle.group_commit.specs.Turns as waiting;
 ghost use Rattle.group_commit.specs.Waits.{record_count, with_settled};
 ghost use Rattle.desk.specs.Desks.{IsCore, IsMove, Spends, Turns, IsReceiptOf, ArePlacesOf, IsHeldOf};
-ghost use Rattle.desk.specs.Faults.{may_refuse, may_refuse_event};
+ghost use Rattle.desk.specs.Faults.{may_refuse, may_refuse_event, may_refuse_publish};
 ghost use Rattle.desk.specs.Kept as kept;
-ghost use Rattle.desk.specs.Moves.{change, seal, submit, with_sealed_settled, with_batch_back, with_halt};
+ghost use Rattle.desk.specs.Moves.{change, publish, seal, submit, with_sealed_settled, with_batch_back, with_halt};
 ghost use Rattle.desk.specs.Claims.{JobValue, claim};
 ghost use Rattle.desk.specs.declared.refusal.Refusal.{Refusal};
-ghost use Rattle.delivery.specs.Logs.{HasChange, HasSettled, IsOfCommand, entry_of, ticket_of};
+ghost use Rattle.delivery.specs.Logs.{HasChange, HasSettled, IsOfCommand, entry_of, ticket_of, tickets_of};
 ghost use Rattle.delivery.specs.Keepers.{EndsByDesk};
 ghost use Rattle.delivery.specs.declared.committer.CommitterEnd.TheVariants.{Halted};
 ghost use Rattle.delivery.specs.Rounds.{EndsUnposted};
@@ -20,7 +20,7 @@ ghost use Rattle.delivery.specs.Turns.{claimed_by, halted, next_by, refused, rou
 use crate::committer::{CommitterEnd, HaltCause, Next};
 use crate::logged_keeper::Committed;
 use crate::pass::Pass;
-use crate::staged::{StagedChange, StagedLog};
+use crate::staged::{Published, StagedChange, StagedLog};
 use crate::worker::{Claimed, Round};
 use desk::{Command, CommandTicket, Desk, Fault, Job, Refusal, Spent, Ticket, Told};
 use group_commit::{Held, Settled, WrongTurn};
@@ -154,6 +154,33 @@ impl<L: Ledger, I: LogId> Locked<L, I> {
         }
     }
 
+    pub(crate) fn publish(
+        &mut self,
+        now: Moment,
+        topic: Name,
+        id: MsgId,
+        body: Body,
+    ) -> Result<Published<I>, Refusal>
+        ensures moves { self.old.closing ≡ false
+            → IsMove self.old.desk (λ w. publish w now topic id body) (tickets_of result) self.new.desk }
+        ensures event { IfOk result (λ given. (given.topic ≡ topic) × (given.id ≡ id) × (given.prefix ≡ self.new.staged)) }
+        ensures names { IfErr result (λ why. IsTrue (may_refuse_publish why.fault)) }
+        ensures closing { IsTrue self.old.closing → result ≡ Err halted }
+        ensures flag { self.new.closing ≡ self.old.closing }
+        ensures err { OnErr result (self.new ≡ self.old) }
+    {
+        if self.is_closing {
+            return Err(CLOSING);
+        }
+        match self.desk.publish(now, topic, id, body) {
+            Ok(tickets) => {
+                self.staged.follow(&self.prefix, &self.desk);
+                Ok(Published::new(topic, id, tickets, self.staged.prefix()))
+            }
+            Err(refusal) => Err(refusal),
+        }
+    }
+
     pub(crate) fn command(&mut self, command: Command) -> Result<StagedChange<I>, Refusal>
         ensures moves { self.old.closing ≡ false
             → IsMove self.old.desk (λ w. change w command) (ticket_of result) self.new.desk }
@@ -237,6 +264,17 @@ impl<L: Ledger, I: LogId> Locked<L, I> {
         ensures core { IsCore self.now.desk }
     {
         ticket.seq >= self.desk.settled_records() && self.desk.told(ticket) == Told::Waiting
+    }
+
+    // One of them waits.
+    #[tactic(auto, using(crate::proofs::ToldLaws::event_waits))]
+    pub(crate) fn is_any_waiting(&self, tickets: &[Ticket]) -> bool
+        ensures told { IsTrue result ↔ Any (λ t. kept.told self.now.desk t ≡ Told.Waiting) tickets.now }
+        ensures core { IsCore self.now.desk }
+    {
+        let settled = self.desk.settled_records();
+        tickets.iter().any(|ticket| ticket.seq >= settled
+            && self.desk.told(ticket) == Told::Waiting)
     }
 
     // Its number is one of those that wait, and the desk isn't halted.

@@ -1,11 +1,11 @@
 //! What threads share: the desk under one lock, and whom a change wakes.
 //!
 //! The committer waits on `staged` until a step waits, and everybody else on `changed` until something is settled, or nothing will be.
-ghost use Rattle.std.specs.Prelude.{◌≡◌, ◌≢◌, ◌≤◌, ◌<◌, IfErr, IfOk, IfSome, IsTrue, List, OnErr};
+ghost use Rattle.std.specs.Prelude.{◌≡◌, ◌≢◌, ◌≤◌, ◌<◌, All, IfErr, IfOk, IfSome, IsTrue, List, OnErr};
 ghost use Rattle.std.specs.Sync.Mutex.{mutex_guard_value};
 ghost use Rattle.relay_types.specs.declared.record.Record.{Record};
 ghost use Rattle.desk.specs.Desks.{IsCore};
-ghost use Rattle.desk.specs.Faults.{may_refuse, may_refuse_event};
+ghost use Rattle.desk.specs.Faults.{may_refuse, may_refuse_event, may_refuse_publish};
 ghost use Rattle.desk.specs.Kept as kept;
 ghost use Rattle.desk.specs.declared.ticket.Told.TheVariants.{Waiting};
 ghost use Rattle.delivery.specs.Logs.{HasSettled, IsOfCommand};
@@ -18,7 +18,7 @@ use crate::committer::{HaltCause, Next, pause};
 use crate::locked::{Ended, Locked};
 use crate::logged_keeper::Committed;
 use crate::pass::{Pass, WentBack};
-use crate::staged::StagedChange;
+use crate::staged::{Published, StagedChange};
 use crate::worker::Claimed;
 use desk::{Command, CommandTicket, Desk, Refusal, Spent, Ticket};
 use group_commit::{Held, WrongTurn};
@@ -98,6 +98,23 @@ impl<L: Ledger, I: LogId> Shared<L, I> {
         staged
     }
 
+    /// Takes an event for the subscribers of a topic, and wakes the committer.
+    pub fn publish<R: Wait>(
+        &self,
+        rt: &R,
+        now: Moment,
+        topic: Name,
+        id: MsgId,
+        body: Body,
+    ) -> Result<Published<I>, Refusal>
+        ensures event { IfOk result (λ given. (given.topic ≡ topic) × (given.id ≡ id)) }
+        ensures names { IfErr result (λ why. IsTrue (may_refuse_publish why.fault)) }
+    {
+        let published = self.locked.lock(rt).publish(now, topic, id, body);
+        self.staged.notify_one();
+        published
+    }
+
     /// Changes an endpoint, and wakes the committer.
     pub fn command<R: Wait>(&self, rt: &R, command: Command) -> Result<StagedChange<I>, Refusal>
         ensures change { IfOk result (λ change. IsOfCommand change command) }
@@ -116,6 +133,16 @@ impl<L: Ledger, I: LogId> Shared<L, I> {
         let locked = self.locked.lock(rt);
         self.changed
             .wait_while(rt, locked, |locked| locked.is_waiting(ticket))
+    }
+
+    /// Waits until each of these submissions is settled, or won't be.
+    pub fn wait_for_all<R: Wait>(&self, rt: &R, tickets: &[Ticket]) -> MutexGuard<'_, Locked<L, I>>
+        ensures over { All (λ t. kept.told (mutex_guard_value result).desk t ≢ Waiting) tickets.now }
+        ensures core { IsCore (mutex_guard_value result).desk }
+    {
+        let locked = self.locked.lock(rt);
+        self.changed
+            .wait_while(rt, locked, |locked| locked.is_any_waiting(tickets))
     }
 
     /// Waits until the command is settled, or won't be.

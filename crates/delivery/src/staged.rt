@@ -1,9 +1,10 @@
 //! The records that were staged in a run.
 ghost use Rattle.std.specs.Prelude.{◌≡◌, ◌++◌, [], length, drop};
 ghost use Rattle.relay_types.specs.Records.{records_of};
-ghost use Rattle.delivery.specs.Logs.{HasChange, change_of};
+ghost use Rattle.delivery.specs.Logs.{HasChange, HasTickets, change_of, published_of};
 
-use desk::{CommandTicket, Desk};
+use desk::{CommandTicket, Desk, Ticket};
+use relay_types::{MsgId, Name};
 use run_log::{Appending, Log, LogId, LogWriter, NewLog, Prefix, Staged};
 use std::marker::{Brand, Model};
 use std::sync::ledger::Ledger;
@@ -38,6 +39,67 @@ impl<I: LogId> StagedChange<I> {
         ensures { result.seq ≡ self.now.seq }
     {
         self.ticket
+    }
+}
+
+/// An event that was published: its topic, its id, the tickets of the topic's subscribers, and the prefix of the staged records by which
+/// these are its subscribers. `Shared::publish` alone gives one.
+#[derive(Drop)]
+pub struct Published<I: LogId> {
+    topic: Name,
+    id: MsgId,
+    tickets: Vec<Ticket>,
+    prefix: Prefix<Staged<I>>,
+}
+
+impl<I: LogId> Model for Published<I> {
+    ghost use Rattle.delivery.specs.Logs.{PublishedValue, HasTickets, published_of};
+
+    ghost Value = { PublishedValue };
+
+    ghost view = { λ p. published_of p.topic p.id p.tickets.items p.prefix };
+
+    ghost invariant = { λ p. HasTickets I.is_base (published_of p.topic p.id p.tickets.items p.prefix) p.prefix };
+}
+
+impl<I: LogId> Published<I> {
+    pub(crate) fn new(
+        topic: Name,
+        id: MsgId,
+        tickets: Vec<Ticket>,
+        prefix: Prefix<Staged<I>>,
+    ) -> Published<I>
+        requires { HasTickets I.is_base (published_of topic id tickets.items prefix) prefix }
+        ensures { result ≡ published_of topic id tickets.items prefix }
+    {
+        Published {
+            topic,
+            id,
+            tickets,
+            prefix,
+        }
+    }
+
+    /// The topic.
+    pub fn topic(&self) -> Name
+        ensures { result ≡ self.now.topic }
+    {
+        self.topic
+    }
+
+    /// The id.
+    pub fn id(&self) -> MsgId
+        ensures { result ≡ self.now.id }
+    {
+        self.id
+    }
+
+    /// The tickets, in the order of the subscribers' Puts.
+    pub fn tickets(&self) -> &[Ticket]
+        ensures value { result.now ≡ self.now.tickets }
+        ensures subscribers { HasTickets I.is_base self.now self.now.prefix }
+    {
+        self.tickets.as_slice()
     }
 }
 
@@ -86,6 +148,14 @@ impl<I: LogId> StagedLog<I> {
         ensures prefix { result ≡ self.new }
     {
         self.writer.append_as::<N>(&self.log);
+        self.writer.prefix(&self.log)
+    }
+
+    // All staged records so far.
+    pub(crate) fn prefix(&mut self) -> Prefix<Staged<I>>
+        ensures prefix { result ≡ self.old }
+        ensures same { self.new ≡ self.old }
+    {
         self.writer.prefix(&self.log)
     }
 

@@ -10,7 +10,7 @@ use Rattle.http_body_util.specs.declared.full.Full.{Full}
 use Rattle.http_body_util.specs.declared.limited.LimitedError.{LimitedError}
 use Rattle.http_body_util.specs.declared.limited.LimitedError.TheVariants.{LengthLimit, Body}
 use Rattle.delivery.specs.Logs.{ChangeValue}
-use Rattle.intake_shed.specs.Acks.{AckValue}
+use Rattle.intake_shed.specs.Acks.{AckValue, PublishAckValue}
 use Rattle.intake_shed.specs.Answers.{AnswersAsk, OrLacksMemory}
 use Rattle.intake_shed.specs.Requests.{IsRefusal}
 use Rattle.intake_shed.specs.declared.ask.Ask.{Ask}
@@ -31,8 +31,8 @@ pub record IsShown (head : Parts) (sent : AskBody) (ask : Ask) : Type 0 where
 -- The reply is that to what is asked, where an event without an id is given one that was made for it, or memory is lacking.
 abbrev pub RepliesTo : Parts → AskBody → Reply → Type 0
 RepliesTo head body reply = OrLacksMemory ((ask : Ask) × (fresh : Text) × (seen : ℕ) × (given : Option AckValue)
-    × (confirmed : Option ChangeValue) × IsShown head body ask × IsMadeId fresh
-    × (IsRefusal ask reply ⊎ AnswersAsk ask fresh seen reply given confirmed)) reply
+    × (published : Option PublishAckValue) × (confirmed : Option ChangeValue) × IsShown head body ask × IsMadeId fresh
+    × (IsRefusal ask reply ⊎ AnswersAsk ask fresh seen reply given published confirmed)) reply
 
 -- the body that came of it: whole, or longer than it may be; of one that was cut there is none
 abbrev pub IsBodyOf : Result Collected (LimitedError Error) → AskBody → Type 0

@@ -50,7 +50,7 @@ pub(crate) fn read_body(gathered: Gathered) -> BodyRead
     }
 }
 
-// The reply to the request. Its acknowledgement, if it has one, is handed in.
+// The reply to the request. Its acknowledgement, if it has one, is handed in; of an event for a topic that of the last record.
 pub(crate) fn reply_to<R, L, I>(
     rt: &R,
     shared: &Shared<L, I>,
@@ -80,10 +80,14 @@ where
     let Answered {
         reply,
         ack,
+        published,
         confirmed: _,
     } = answer(rt, rt.alloc(), shared, &ask, fresh, now, &mut Pass::new());
     if let Some(ack) = ack {
         latest.lock(rt).keep(ack);
+    }
+    if let Some(published) = published {
+        latest.lock(rt).keep(published.into_latest());
     }
     reply
 }

@@ -1,11 +1,12 @@
 -- The answer to what is asked for is that to the request.
-use Rattle.std.proofs.Common.{◌≡◌, ◌<◌, ℕ, Bool, true, false, Ok, Err, IsTrue, ◌⊎◌, inl, inr, refl, subst}
+use Rattle.std.proofs.Common.{◌≡◌, ◌<◌, ℕ, Ok, Err, IsTrue, ◌⊎◌, inl, inr, refl, subst}
 use Rattle.std.specs.Prelude.{Option, Some, Result, IfOk, IfErr}
 use Rattle.relay_types.specs.Values.{Text}
 use Rattle.desk.specs.declared.command.Command.{Command}
 use Rattle.delivery.specs.Logs.{ChangeValue}
-use Rattle.intake_shed.specs.Acks.{AckValue, IsOfEvent}
-use Rattle.intake_shed.specs.Answers.{Answers, AcceptsEvent, FailsBy, GivesPageAt, IsNoRefusal, IsTold, OrLacksMemory, may_fail, may_fail_event}
+use Rattle.intake_shed.specs.Acks.{AckValue, PublishAckValue, AreBelow, IsOfEvent, IsOfPublish}
+use Rattle.intake_shed.specs.Answers.{Answers, AcceptsEvent, AcceptsPublish, FailsBy, GivesPageAt, IsNoRefusal, IsPublishTold, IsTold}
+use Rattle.intake_shed.specs.Answers.{OrLacksMemory, may_fail, may_fail_event, may_fail_publish}
 use Rattle.intake_shed.specs.Pages.{asks_for_page}
 use Rattle.intake_shed.specs.Replies.{ask_reply, out_of_memory}
 use Rattle.intake_shed.specs.Requests.{Gives, Tells}
@@ -22,6 +23,11 @@ event_may_fail (wait.Refused refusal) h = absurd h
 event_may_fail wait.Unknown h = refl
 event_may_fail wait.WentBack h = refl
 
+pub publish_may_fail : (why : WaitFault) → IsNoRefusal why → IsTrue (may_fail_publish why)
+publish_may_fail (wait.Refused refusal) h = absurd h
+publish_may_fail wait.Unknown h = refl
+publish_may_fail wait.WentBack h = refl
+
 pub change_may_fail : (command : Command) (why : WaitFault) → IsNoRefusal why → IsTrue (may_fail command why)
 change_may_fail command (wait.Refused refusal) h = absurd h
 change_may_fail command wait.Unknown h = refl
@@ -35,14 +41,25 @@ pub told_event : (name id body : Text) (seen : ℕ) (waited : Result AckValue Wa
 told_event name id body seen (Ok ack) reply given event below may told is = inl (ack, is, event, below, told)
 told_event name id body seen (Err why) reply given event below may told is = inr (why, may, told)
 
+-- so is one for a topic
+pub told_publish : (topic id body : Text) (seen : ℕ) (waited : Result PublishAckValue WaitFault) (reply : Reply)
+    (published : Option PublishAckValue) → IfOk waited (λ ack. IsOfPublish ack topic id body)
+    → IfOk waited (λ ack. AreBelow seen ack.event.tickets) → IfErr waited (λ why. IsTrue (may_fail_publish why))
+    → IsPublishTold waited reply → IfOk waited (λ ack. published ≡ Some ack)
+    → AcceptsPublish topic id body seen reply published ⊎ FailsBy may_fail_publish reply
+told_publish topic id body seen (Ok ack) reply published event below may told is = inl (ack, is, event, below, told)
+told_publish topic id body seen (Err why) reply published event below may told is = inr (why, may, told)
+
 -- a page that is asked for
-pub page_answers : (what : Asked) (seen : ℕ) (reply : Reply) (given : Option AckValue) (confirmed : Option ChangeValue)
-    → IsTrue (asks_for_page what) → GivesPageAt what seen reply → Answers what seen reply given confirmed
-page_answers (asked.Change command) seen reply given confirmed asks page = cc
-page_answers (asked.Post name id body) seen reply given confirmed asks page = cc
-page_answers asked.Totals seen reply given confirmed asks page = page
-page_answers (asked.Endpoint name) seen reply given confirmed asks page = page
-page_answers (asked.Event name id) seen reply given confirmed asks page = page
+pub page_answers : (what : Asked) (seen : ℕ) (reply : Reply) (given : Option AckValue) (published : Option PublishAckValue)
+    (confirmed : Option ChangeValue) → IsTrue (asks_for_page what) → GivesPageAt what seen reply
+    → Answers what seen reply given published confirmed
+page_answers (asked.Change command) seen reply given published confirmed asks page = cc
+page_answers (asked.Post name id body) seen reply given published confirmed asks page = cc
+page_answers (asked.Publish topic id body) seen reply given published confirmed asks page = cc
+page_answers asked.Totals seen reply given published confirmed asks page = page
+page_answers (asked.Endpoint name) seen reply given published confirmed asks page = page
+page_answers (asked.Event name id) seen reply given published confirmed asks page = page
 
 abbrev was_read : Asked → Result Asked Reply
 was_read what = Ok what
@@ -57,12 +74,12 @@ same_reply : (a b : Reply) → was_refused a ≡ was_refused b → a ≡ b
 same_reply a b e = cc
 
 -- what is asked for is the one thing that the request asks for
-pub answers_what : (read what : Asked) (seen : ℕ) (reply : Reply) (given : Option AckValue) (confirmed : Option ChangeValue)
-    → Gives (Ok read) what → Answers read seen reply given confirmed
-    → OrLacksMemory (Answers what seen reply given confirmed) reply
-answers_what read what seen reply given confirmed (inl e) h =
-    inl (subst (λ (a : Asked). Answers a seen reply given confirmed) (same_asked read what e) h)
-answers_what read what seen reply given confirmed (inr e) h = cc
+pub answers_what : (read what : Asked) (seen : ℕ) (reply : Reply) (given : Option AckValue) (published : Option PublishAckValue)
+    (confirmed : Option ChangeValue) → Gives (Ok read) what → Answers read seen reply given published confirmed
+    → OrLacksMemory (Answers what seen reply given published confirmed) reply
+answers_what read what seen reply given published confirmed (inl e) h =
+    inl (subst (λ (a : Asked). Answers a seen reply given published confirmed) (same_asked read what e) h)
+answers_what read what seen reply given published confirmed (inr e) h = cc
 
 -- what isn't read though it asks for something lacks memory
 pub not_read_lacks : (what : Asked) (P : Type 0) (reply : Reply) → Gives (Err reply) what → OrLacksMemory P reply

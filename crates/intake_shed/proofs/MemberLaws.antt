@@ -4,11 +4,15 @@ use Rattle.std.proofs.lemmas.List.{take_more, map-append}
 use Rattle.std.specs.Borrow.{Bor}
 use Rattle.text_lines.specs.Parts.{texts}
 use Rattle.serde_json.specs.Data.{Data, null, boolean, number, string, array, object}
+use Rattle.serde_json.specs.Written.{has_float, items_have_float}
 use Rattle.serde_json.specs.Find.{as_str}
 use Rattle.serde_json.specs.View.{view, items_view}
 use Rattle.serde_json.specs.declared.value.Value.{Value}
 use Rattle.text_lines.proofs.NumberLaws.{none_some}
+use Rattle.desk.specs.declared.ticket.Ticket.{Ticket}
+use Rattle.status.specs.Pages.{natural}
 use Rattle.intake_shed.specs.Bodies.{strings}
+use Rattle.intake_shed.specs.Done.{naturals, published_body, seqs_of}
 use Rattle.intake_shed.specs.Requests.{has_one_id}
 
 pub is_string : (value : Data) (text : List ℕ) → Some text ≡ as_str value → value ≡ string text
@@ -62,3 +66,34 @@ pub many_ids : (ids : List (Bor (List ℕ))) → 2 ≤ length ids → has_one_id
 many_ids [] h = absurd (omega arith)
 many_ids (id ∷ []) h = absurd (omega arith)
 many_ids (id ∷ other ∷ ids) h = refl
+
+-- the numbers of tickets
+
+naturals-push : (values : List Value) (ns : List ℕ) (value : Value) (n : ℕ) → items_view values ≡ naturals ns → view value ≡ natural n
+    → items_view (values ++ value ∷ []) ≡ naturals (ns ++ n ∷ [])
+naturals-push [] [] value n h e = cc
+naturals-push [] (m ∷ ns) value n h e = cc
+naturals-push (v ∷ values) [] value n h e = cc
+naturals-push (v ∷ values) (m ∷ ns) value n h e =
+    let head : view v ≡ natural m = cc in
+    let tail : items_view values ≡ naturals ns = cc in
+    let rest = naturals-push values ns value n tail e in
+    cc
+
+-- one number more
+pub naturals-more : (tickets : List Ticket) (i : ℕ) (ticket : Ticket) (values new : List Value) (value : Value) → i < length tickets
+    → ticket ≡ get_or tickets i ticket → items_view values ≡ naturals (seqs_of (take i tickets)) → view value ≡ natural ticket.seq
+    → new ≡ values ++ value ∷ [] → items_view new ≡ naturals (seqs_of (take (i + 1) tickets))
+naturals-more tickets i ticket values new value lt at h is e =
+    let longer : take (i + 1) tickets ≡ take i tickets ++ ticket ∷ [] =
+    take_more tickets i ticket lt ∙ ap (λ t. take i tickets ++ t ∷ []) (sym at) in
+    let more : seqs_of (take (i + 1) tickets) ≡ seqs_of (take i tickets) ++ ticket.seq ∷ [] =
+    ap seqs_of longer ∙ map-append (λ (t : Ticket). t.seq) (take i tickets) (ticket ∷ []) in
+    rw (e, more) (naturals-push values (seqs_of (take i tickets)) value ticket.seq h is)
+
+no_float : (ns : List ℕ) → items_have_float (naturals ns) ≡ false
+no_float [] = refl
+no_float (n ∷ ns) = no_float ns
+
+pub floatless : (id : List ℕ) (seqs : List ℕ) → has_float (published_body id seqs) ≡ false
+floatless id seqs = rw (no_float seqs) refl

@@ -10,7 +10,7 @@ use Rattle.serde_json.specs.Data.{Num, unsigned, Data, boolean, number, string, 
 use Rattle.relay_types.specs.Values.{Text, is_target, is_max_limit}
 use Rattle.desk.specs.declared.command.Command.TheVariants as change
 use Rattle.intake_shed.specs.Bodies.{IsJson, HasPutMembers, HasSecrets, HasFlag, strings, is_max, AreNoSecrets, Says, IsBadMember, IsBadPut, IsBadSecrets, IsBadFlag, OfBody}
-use Rattle.intake_shed.specs.Lines.{Line, Put, SetSecrets, SetEnabled, SetSubscribed, Submit, Totals, Endpoint, Event}
+use Rattle.intake_shed.specs.Lines.{Line, Put, SetSecrets, SetEnabled, SetSubscribed, Submit, Publish, Totals, Endpoint, Event}
 use Rattle.intake_shed.specs.Lines.{before_query, has_name}
 use Rattle.intake_shed.specs.Replies.{ask_reply, out_of_memory}
 use Rattle.intake_shed.specs.Requests.{IsOn, AsksFor, IsOfBody, IsBadBody, IsBadOn, IsRefusedFor, IsNotReadFor, Gives, Tells}
@@ -227,6 +227,17 @@ no_bad_event name body fault.BadMax m h = h
 no_bad_event name body fault.BadSecret m h = h
 no_bad_event name body fault.OutOfMemory m h = m refl
 
+no_bad_publish : (topic body : Text) (why : AskFault) → why ≢ fault.OutOfMemory → IsBadBody (Publish topic) body why → ⊥
+no_bad_publish topic body fault.NotFound m h = h
+no_bad_publish topic body fault.BadName m h = h
+no_bad_publish topic body fault.TooLong m h = h
+no_bad_publish topic body fault.BadId m h = h
+no_bad_publish topic body fault.BadBody m h = h
+no_bad_publish topic body fault.BadUrl m h = h
+no_bad_publish topic body fault.BadMax m h = h
+no_bad_publish topic body fault.BadSecret m h = h
+no_bad_publish topic body fault.OutOfMemory m h = m refl
+
 one_bad_body : (line : Line) (body : Text) (a b : AskFault) → a ≢ fault.OutOfMemory → b ≢ fault.OutOfMemory
     → IsBadBody line body a → IsBadBody line body b → a ≡ b
 one_bad_body (Put name) body a b m n h k = one_put_fault body a b m n (put_stage body a m h) (put_stage body b n k)
@@ -234,6 +245,7 @@ one_bad_body (SetSecrets name) body a b m n h k = one_secrets_fault body a b (se
 one_bad_body (SetEnabled name) body a b m n h k = one_flag_fault (codes "enabled") body a b m n h k
 one_bad_body (SetSubscribed name topic) body a b m n h k = one_flag_fault (codes "subscribed") body a b m n h k
 one_bad_body (Submit name) body a b m n h k = absurd (no_bad_event name body a m h)
+one_bad_body (Publish topic) body a b m n h k = absurd (no_bad_publish topic body a m h)
 one_bad_body Totals body a b m n h k = absurd h
 one_bad_body (Endpoint name) body a b m n h k = absurd h
 one_bad_body (Event name id) body a b m n h k = absurd h
@@ -370,6 +382,7 @@ says_no_bad ask fresh (asked.Change (change.SetEnabled name flag)) why m (value,
 says_no_bad ask fresh (asked.Change (change.SetSubscribed topic name flag)) why m (value, json, has) h =
     (flag_stage (codes "subscribed") (bytes_of ask.body) why m h).1 value json flag has
 says_no_bad ask fresh (asked.Post name id body) why m says h = no_bad_event name (bytes_of ask.body) why m h
+says_no_bad ask fresh (asked.Publish topic id body) why m says h = no_bad_publish topic (bytes_of ask.body) why m h
 says_no_bad ask fresh asked.Totals why m says h = h
 says_no_bad ask fresh (asked.Endpoint name) why m says h = h
 says_no_bad ask fresh (asked.Event name id) why m says h = h
@@ -398,6 +411,7 @@ name_of (SetSecrets name) = name
 name_of (SetEnabled name) = name
 name_of (SetSubscribed name topic) = name
 name_of (Submit name) = name
+name_of (Publish topic) = topic
 name_of Totals = []
 name_of (Endpoint name) = name
 name_of (Event name id) = name
@@ -454,6 +468,7 @@ one_of_body (asked.Change (change.PutEndpoint x u l s)) (asked.Change (change.Se
 one_of_body (asked.Change (change.PutEndpoint x u l s)) (asked.Change (change.SetEnabled y v)) ask fresh e h g = cc
 one_of_body (asked.Change (change.PutEndpoint x u l s)) (asked.Change (change.SetSubscribed t y v)) ask fresh e h g = cc
 one_of_body (asked.Change (change.PutEndpoint x u l s)) (asked.Post y v t) ask fresh e h g = cc
+one_of_body (asked.Change (change.PutEndpoint x u l s)) (asked.Publish y v t) ask fresh e h g = cc
 one_of_body (asked.Change (change.PutEndpoint x u l s)) asked.Totals ask fresh e h g = cc
 one_of_body (asked.Change (change.PutEndpoint x u l s)) (asked.Endpoint y) ask fresh e h g = cc
 one_of_body (asked.Change (change.PutEndpoint x u l s)) (asked.Event y v) ask fresh e h g = cc
@@ -462,6 +477,7 @@ one_of_body (asked.Change (change.SetSecrets x s)) (asked.Change (change.SetSecr
 one_of_body (asked.Change (change.SetSecrets x s)) (asked.Change (change.SetEnabled y v)) ask fresh e h g = cc
 one_of_body (asked.Change (change.SetSecrets x s)) (asked.Change (change.SetSubscribed t y v)) ask fresh e h g = cc
 one_of_body (asked.Change (change.SetSecrets x s)) (asked.Post y v t) ask fresh e h g = cc
+one_of_body (asked.Change (change.SetSecrets x s)) (asked.Publish y v t) ask fresh e h g = cc
 one_of_body (asked.Change (change.SetSecrets x s)) asked.Totals ask fresh e h g = cc
 one_of_body (asked.Change (change.SetSecrets x s)) (asked.Endpoint y) ask fresh e h g = cc
 one_of_body (asked.Change (change.SetSecrets x s)) (asked.Event y v) ask fresh e h g = cc
@@ -471,6 +487,7 @@ one_of_body (asked.Change (change.SetEnabled x u)) (asked.Change (change.SetEnab
     one_flagged x y u v (ap name_of e) (same_flag (codes "enabled") (bytes_of ask.body) u v h g)
 one_of_body (asked.Change (change.SetEnabled x u)) (asked.Change (change.SetSubscribed t y v)) ask fresh e h g = cc
 one_of_body (asked.Change (change.SetEnabled x u)) (asked.Post y v t) ask fresh e h g = cc
+one_of_body (asked.Change (change.SetEnabled x u)) (asked.Publish y v t) ask fresh e h g = cc
 one_of_body (asked.Change (change.SetEnabled x u)) asked.Totals ask fresh e h g = cc
 one_of_body (asked.Change (change.SetEnabled x u)) (asked.Endpoint y) ask fresh e h g = cc
 one_of_body (asked.Change (change.SetEnabled x u)) (asked.Event y v) ask fresh e h g = cc
@@ -481,6 +498,7 @@ one_of_body (asked.Change (change.SetSubscribed s x u)) (asked.Change (change.Se
     one_subscribed s t x y u v (ap topic_of e) (ap name_of e)
     (same_flag (codes "subscribed") (bytes_of ask.body) u v h g)
 one_of_body (asked.Change (change.SetSubscribed s x u)) (asked.Post y v t) ask fresh e h g = cc
+one_of_body (asked.Change (change.SetSubscribed s x u)) (asked.Publish y v t) ask fresh e h g = cc
 one_of_body (asked.Change (change.SetSubscribed s x u)) asked.Totals ask fresh e h g = cc
 one_of_body (asked.Change (change.SetSubscribed s x u)) (asked.Endpoint y) ask fresh e h g = cc
 one_of_body (asked.Change (change.SetSubscribed s x u)) (asked.Event y v) ask fresh e h g = cc
@@ -489,14 +507,29 @@ one_of_body (asked.Post x u s) (asked.Change (change.SetSecrets y t)) ask fresh 
 one_of_body (asked.Post x u s) (asked.Change (change.SetEnabled y v)) ask fresh e h g = cc
 one_of_body (asked.Post x u s) (asked.Change (change.SetSubscribed t y v)) ask fresh e h g = cc
 one_of_body (asked.Post x u s) (asked.Post y v t) ask fresh e h g = let n : x ≡ y = ap name_of e in let of_id : u ≡ v = h.0 ∙ sym g.0 in let of_body : s ≡ t = h.1 ∙ sym g.1 in cc
+one_of_body (asked.Post x u s) (asked.Publish y v t) ask fresh e h g = cc
 one_of_body (asked.Post x u s) asked.Totals ask fresh e h g = cc
 one_of_body (asked.Post x u s) (asked.Endpoint y) ask fresh e h g = cc
 one_of_body (asked.Post x u s) (asked.Event y v) ask fresh e h g = cc
+one_of_body (asked.Publish x u s) (asked.Change (change.PutEndpoint y v k t)) ask fresh e h g = cc
+one_of_body (asked.Publish x u s) (asked.Change (change.SetSecrets y t)) ask fresh e h g = cc
+one_of_body (asked.Publish x u s) (asked.Change (change.SetEnabled y v)) ask fresh e h g = cc
+one_of_body (asked.Publish x u s) (asked.Change (change.SetSubscribed t y v)) ask fresh e h g = cc
+one_of_body (asked.Publish x u s) (asked.Post y v t) ask fresh e h g = cc
+one_of_body (asked.Publish x u s) (asked.Publish y v t) ask fresh e h g =
+    let n : x ≡ y = ap name_of e in
+    let of_id : u ≡ v = h.0 ∙ sym g.0 in
+    let of_body : s ≡ t = h.1 ∙ sym g.1 in
+    cc
+one_of_body (asked.Publish x u s) asked.Totals ask fresh e h g = cc
+one_of_body (asked.Publish x u s) (asked.Endpoint y) ask fresh e h g = cc
+one_of_body (asked.Publish x u s) (asked.Event y v) ask fresh e h g = cc
 one_of_body asked.Totals (asked.Change (change.PutEndpoint y v k t)) ask fresh e h g = cc
 one_of_body asked.Totals (asked.Change (change.SetSecrets y t)) ask fresh e h g = cc
 one_of_body asked.Totals (asked.Change (change.SetEnabled y v)) ask fresh e h g = cc
 one_of_body asked.Totals (asked.Change (change.SetSubscribed t y v)) ask fresh e h g = cc
 one_of_body asked.Totals (asked.Post y v t) ask fresh e h g = cc
+one_of_body asked.Totals (asked.Publish y v t) ask fresh e h g = cc
 one_of_body asked.Totals asked.Totals ask fresh e h g = refl
 one_of_body asked.Totals (asked.Endpoint y) ask fresh e h g = cc
 one_of_body asked.Totals (asked.Event y v) ask fresh e h g = cc
@@ -505,6 +538,7 @@ one_of_body (asked.Endpoint x) (asked.Change (change.SetSecrets y t)) ask fresh 
 one_of_body (asked.Endpoint x) (asked.Change (change.SetEnabled y v)) ask fresh e h g = cc
 one_of_body (asked.Endpoint x) (asked.Change (change.SetSubscribed t y v)) ask fresh e h g = cc
 one_of_body (asked.Endpoint x) (asked.Post y v t) ask fresh e h g = cc
+one_of_body (asked.Endpoint x) (asked.Publish y v t) ask fresh e h g = cc
 one_of_body (asked.Endpoint x) asked.Totals ask fresh e h g = cc
 one_of_body (asked.Endpoint x) (asked.Endpoint y) ask fresh e h g = let n : x ≡ y = ap name_of e in cc
 one_of_body (asked.Endpoint x) (asked.Event y v) ask fresh e h g = cc
@@ -513,6 +547,7 @@ one_of_body (asked.Event x u) (asked.Change (change.SetSecrets y t)) ask fresh e
 one_of_body (asked.Event x u) (asked.Change (change.SetEnabled y v)) ask fresh e h g = cc
 one_of_body (asked.Event x u) (asked.Change (change.SetSubscribed t y v)) ask fresh e h g = cc
 one_of_body (asked.Event x u) (asked.Post y v t) ask fresh e h g = cc
+one_of_body (asked.Event x u) (asked.Publish y v t) ask fresh e h g = cc
 one_of_body (asked.Event x u) asked.Totals ask fresh e h g = cc
 one_of_body (asked.Event x u) (asked.Endpoint y) ask fresh e h g = cc
 one_of_body (asked.Event x u) (asked.Event y v) ask fresh e h g = let n : x ≡ y = ap name_of e in let of_id : u ≡ v = ap id_in e in cc

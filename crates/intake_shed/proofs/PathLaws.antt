@@ -4,8 +4,8 @@ use Rattle.std.specs.List.{list_all, position_or_len}
 use Rattle.std.proofs.lemmas.Bool.{and_parts, and_from, eqb-true, eq-eqb}
 use Rattle.text_lines.specs.Parts.{has_no}
 use Rattle.text_lines.proofs.NumberLaws.{bytes_not_equal, true_not_false}
-use Rattle.intake_shed.specs.Lines.{Line, Put, SetSecrets, SetEnabled, SetSubscribed, Submit, Totals, Endpoint, Event}
-use Rattle.intake_shed.specs.Lines.{IsLine, endpoint_path}
+use Rattle.intake_shed.specs.Lines.{Line, Put, SetSecrets, SetEnabled, SetSubscribed, Submit, Publish, Totals, Endpoint, Event}
+use Rattle.intake_shed.specs.Lines.{IsLine, endpoint_path, topic_path}
 use Rattle.intake_shed.specs.Routes.{IsBehindName, StartsAt}
 
 -- ---- what stands before the first mark, and from it on
@@ -84,6 +84,8 @@ behind_name (SetSubscribed its topic) method path name rest e clean starts h =
 behind_name (Submit its) method path name rest e clean starts h =
     let one = one_name path name its rest (codes "/events") e clean starts h.of_path (and_parts _ _ h.no_slash).0 refl in
     (h.of_method, one.0, one.1)
+behind_name (Publish topic) method path name rest e clean starts h =
+    bytes_not_equal (topic_path topic) (endpoint_path name rest) false refl refl (sym h.of_path ∙ e)
 behind_name Totals method path name rest e clean starts h =
     bytes_not_equal (codes "/v1/status") (endpoint_path name rest) false refl refl (sym h.of_path ∙ e)
 behind_name (Endpoint its) method path name rest e clean starts h =
@@ -112,6 +114,7 @@ is_line (SetSubscribed its topic) method path name rest e clean (m, n, r, clear)
   no_slash = two_parts name its topic n clean clear;
 }
 is_line (Submit its) method path name rest e clean (m, n, r) = record { of_method = m; of_path = cc; no_slash = one_part name its n clean }
+is_line (Publish topic) method path name rest e clean h = absurd h
 is_line Totals method path name rest e clean h = absurd h
 is_line (Endpoint its) method path name rest e clean (m, n, r) = record { of_method = m; of_path = cc; no_slash = one_part name its n clean }
 is_line (Event its id) method path name rest e clean (m, n, r, clear) = record {
@@ -119,3 +122,45 @@ is_line (Event its id) method path name rest e clean (m, n, r, clear) = record {
   of_path = cc;
   no_slash = two_parts name its id n clean clear;
 }
+
+-- the line of a topic's path
+pub is_publish : (method topic rest : List ℕ) → IsTrue (has_no 47 topic) → method ≡ codes "POST" → rest ≡ codes "/events"
+    → IsLine (Publish topic) method (codes "/v1/topics/" ++ (topic ++ rest))
+is_publish method topic rest clean of_method of_rest = record {
+  of_method = of_method;
+  of_path = ap (λ (end : List ℕ). codes "/v1/topics/" ++ (topic ++ end)) of_rest;
+  no_slash = one_part topic topic refl clean;
+}
+
+one_topic : (topic its rest end : List ℕ) → codes "/v1/topics/" ++ (topic ++ rest) ≡ codes "/v1/topics/" ++ (its ++ end)
+    → IsTrue (has_no 47 topic) → StartsAt 47 rest → IsTrue (has_no 47 its) → StartsAt 47 end → (topic ≡ its) × (rest ≡ end)
+one_topic topic its rest end e clean starts cleaner begins =
+    let tail : topic ++ rest ≡ its ++ end = cc in
+    same_cut 47 topic its rest end clean cleaner starts begins tail
+
+pub same_topics : (topic its : List ℕ) → topic_path topic ≡ topic_path its → IsTrue (has_no 47 topic) → IsTrue (has_no 47 its)
+    → topic ≡ its
+same_topics topic its e clean cleaner =
+    (one_topic topic its (codes "/events") (codes "/events") e clean refl cleaner refl).0
+
+-- a line on which a topic's path stands is that of its events
+pub behind_topics : (line : Line) (method topic rest : List ℕ) → IsTrue (has_no 47 topic) → StartsAt 47 rest
+    → IsLine line method (codes "/v1/topics/" ++ (topic ++ rest)) → (method ≡ codes "POST") × (rest ≡ codes "/events")
+behind_topics (Publish its) method topic rest clean starts h =
+    (h.of_method, (one_topic topic its rest (codes "/events") h.of_path clean starts (and_parts _ _ h.no_slash).0 refl).1)
+behind_topics (Put its) method topic rest clean starts h = absurd
+    (bytes_not_equal (codes "/v1/topics/" ++ (topic ++ rest)) (endpoint_path its []) false refl refl h.of_path)
+behind_topics (SetSecrets its) method topic rest clean starts h = absurd
+    (bytes_not_equal (codes "/v1/topics/" ++ (topic ++ rest)) (endpoint_path its (codes "/secrets")) false refl refl h.of_path)
+behind_topics (SetEnabled its) method topic rest clean starts h = absurd
+    (bytes_not_equal (codes "/v1/topics/" ++ (topic ++ rest)) (endpoint_path its (codes "/enabled")) false refl refl h.of_path)
+behind_topics (SetSubscribed its u) method topic rest clean starts h = absurd
+    (bytes_not_equal (codes "/v1/topics/" ++ (topic ++ rest)) (endpoint_path its (codes "/topics/" ++ u)) false refl refl h.of_path)
+behind_topics (Submit its) method topic rest clean starts h = absurd
+    (bytes_not_equal (codes "/v1/topics/" ++ (topic ++ rest)) (endpoint_path its (codes "/events")) false refl refl h.of_path)
+behind_topics Totals method topic rest clean starts h = absurd
+    (bytes_not_equal (codes "/v1/topics/" ++ (topic ++ rest)) (codes "/v1/status") false refl refl h.of_path)
+behind_topics (Endpoint its) method topic rest clean starts h = absurd
+    (bytes_not_equal (codes "/v1/topics/" ++ (topic ++ rest)) (endpoint_path its []) false refl refl h.of_path)
+behind_topics (Event its id) method topic rest clean starts h = absurd
+    (bytes_not_equal (codes "/v1/topics/" ++ (topic ++ rest)) (endpoint_path its (codes "/events/" ++ id)) false refl refl h.of_path)

@@ -5,8 +5,8 @@ use Rattle.desk.specs.declared.command.Command.{Command}
 use Rattle.desk.specs.Desks.{DeskValue, IsCore}
 use Rattle.desk.specs.Faults as desk
 use Rattle.delivery.specs.Logs.{ChangeValue, IsOfCommand}
-use Rattle.intake_shed.specs.Acks.{AckValue, IsOfEvent}
-use Rattle.intake_shed.specs.Done.{IsDone, change_status, change_text, accepted_text}
+use Rattle.intake_shed.specs.Acks.{AckValue, PublishAckValue, AreBelow, IsOfEvent, IsOfPublish}
+use Rattle.intake_shed.specs.Done.{IsDone, change_status, change_text, accepted_text, published_text, seqs_of}
 use Rattle.intake_shed.specs.Pages.{RepliesBy}
 use Rattle.intake_shed.specs.Replies.{out_of_memory, refusal_reply}
 use Rattle.intake_shed.specs.Requests.{AsksFor}
@@ -22,6 +22,12 @@ abbrev pub may_fail_event : WaitFault → Bool
 may_fail_event (wait.Refused refusal) = desk.may_refuse_event refusal.fault
 may_fail_event wait.Unknown = true
 may_fail_event wait.WentBack = true
+
+-- the same of an event for a topic
+abbrev pub may_fail_publish : WaitFault → Bool
+may_fail_publish (wait.Refused refusal) = desk.may_refuse_publish refusal.fault
+may_fail_publish wait.Unknown = true
+may_fail_publish wait.WentBack = true
 
 -- the same of a change
 abbrev pub may_fail : Command → WaitFault → Bool
@@ -44,10 +50,22 @@ abbrev pub IsTold : Result AckValue WaitFault → Reply → Type 0
 IsTold (Ok ack) reply = IsDone 202 (accepted_text ack.id ack.seq) reply
 IsTold (Err why) reply = reply ≡ refusal_reply why
 
+-- the same of an event for a topic
+abbrev pub IsPublishTold : Result PublishAckValue WaitFault → Reply → Type 0
+IsPublishTold (Ok ack) reply = IsDone 202 (published_text ack.event.id (seqs_of ack.event.tickets)) reply
+IsPublishTold (Err why) reply = reply ≡ refusal_reply why
+
 -- An acknowledgement of the event comes with the reply, and was seen to be settled. The reply has its id and its number.
 abbrev pub AcceptsEvent : (name id body : Text) (seen : ℕ) → Reply → Option AckValue → Type 0
 AcceptsEvent name id body seen reply given = (ack : AckValue) × (given ≡ Some ack)
     × IsOfEvent ack name id body × (ack.seq < seen) × IsDone 202 (accepted_text ack.id ack.seq) reply
+
+-- An acknowledgement of the event for the topic comes with the reply, and was seen to be settled at each subscriber. The
+-- reply has its id and its numbers.
+abbrev pub AcceptsPublish : (topic id body : Text) (seen : ℕ) → Reply → Option PublishAckValue → Type 0
+AcceptsPublish topic id body seen reply published = (ack : PublishAckValue) × (published ≡ Some ack)
+    × IsOfPublish ack topic id body × AreBelow seen ack.event.tickets
+    × IsDone 202 (published_text ack.event.id (seqs_of ack.event.tickets)) reply
 
 -- A confirmation of the change comes with the reply, and was seen to be settled. The reply has its record's number.
 abbrev pub TakesChange : Command → (seen : ℕ) → Reply → Option ChangeValue → Type 0
@@ -61,19 +79,23 @@ GivesPageAt what seen reply =
     ⊎ (reply ≡ refusal_reply wait.WentBack)
 
 -- The answer to what is asked for, where so many records were then seen as settled.
-abbrev pub Answers : Asked → (seen : ℕ) → Reply → Option AckValue → Option ChangeValue → Type 0
-Answers (asked.Change command) seen reply given confirmed =
+abbrev pub Answers : Asked → (seen : ℕ) → Reply → Option AckValue → Option PublishAckValue → Option ChangeValue
+    → Type 0
+Answers (asked.Change command) seen reply given published confirmed =
     TakesChange command seen reply confirmed ⊎ FailsBy (may_fail command) reply
-Answers (asked.Post name id body) seen reply given confirmed =
+Answers (asked.Post name id body) seen reply given published confirmed =
     AcceptsEvent name id body seen reply given ⊎ FailsBy may_fail_event reply
-Answers asked.Totals seen reply given confirmed = GivesPageAt asked.Totals seen reply
-Answers (asked.Endpoint name) seen reply given confirmed = GivesPageAt (asked.Endpoint name) seen reply
-Answers (asked.Event name id) seen reply given confirmed = GivesPageAt (asked.Event name id) seen reply
+Answers (asked.Publish topic id body) seen reply given published confirmed =
+    AcceptsPublish topic id body seen reply published ⊎ FailsBy may_fail_publish reply
+Answers asked.Totals seen reply given published confirmed = GivesPageAt asked.Totals seen reply
+Answers (asked.Endpoint name) seen reply given published confirmed = GivesPageAt (asked.Endpoint name) seen reply
+Answers (asked.Event name id) seen reply given published confirmed = GivesPageAt (asked.Event name id) seen reply
 
 -- the same to a request
-abbrev pub AnswersAsk : Ask → (fresh : Text) (seen : ℕ) → Reply → Option AckValue → Option ChangeValue → Type 0
-AnswersAsk ask fresh seen reply given confirmed =
-    (what : Asked) × AsksFor ask fresh what × Answers what seen reply given confirmed
+abbrev pub AnswersAsk : Ask → (fresh : Text) (seen : ℕ) → Reply → Option AckValue → Option PublishAckValue
+    → Option ChangeValue → Type 0
+AnswersAsk ask fresh seen reply given published confirmed =
+    (what : Asked) × AsksFor ask fresh what × Answers what seen reply given published confirmed
 
 -- it is so, or memory is lacking
 abbrev pub OrLacksMemory : Type 0 → Reply → Type 0

@@ -12,6 +12,7 @@ pub data Line : Type 0 where
   SetEnabled : (name : Text) → Line
   SetSubscribed : (name topic : Text) → Line
   Submit : (name : Text) → Line
+  Publish : (topic : Text) → Line
   Totals : Line
   Endpoint : (name : Text) → Line
   Event : (name id : Text) → Line
@@ -22,6 +23,7 @@ method_of (SetSecrets name) = codes "PUT"
 method_of (SetEnabled name) = codes "PUT"
 method_of (SetSubscribed name topic) = codes "PUT"
 method_of (Submit name) = codes "POST"
+method_of (Publish topic) = codes "POST"
 method_of Totals = codes "GET"
 method_of (Endpoint name) = codes "GET"
 method_of (Event name id) = codes "GET"
@@ -30,12 +32,17 @@ method_of (Event name id) = codes "GET"
 abbrev pub endpoint_path : (name rest : Text) → Text
 endpoint_path name rest = codes "/v1/endpoints/" ++ (name ++ rest)
 
+-- the path of a topic's events
+abbrev pub topic_path : (topic : Text) → Text
+topic_path topic = codes "/v1/topics/" ++ (topic ++ codes "/events")
+
 abbrev pub path_of : Line → Text
 path_of (Put name) = endpoint_path name []
 path_of (SetSecrets name) = endpoint_path name (codes "/secrets")
 path_of (SetEnabled name) = endpoint_path name (codes "/enabled")
 path_of (SetSubscribed name topic) = endpoint_path name (codes "/topics/" ++ topic)
 path_of (Submit name) = endpoint_path name (codes "/events")
+path_of (Publish topic) = topic_path topic
 path_of Totals = codes "/v1/status"
 path_of (Endpoint name) = endpoint_path name []
 path_of (Event name id) = endpoint_path name (codes "/events/" ++ id)
@@ -47,6 +54,7 @@ parts_of (SetSecrets name) = name ∷ []
 parts_of (SetEnabled name) = name ∷ []
 parts_of (SetSubscribed name topic) = name ∷ topic ∷ []
 parts_of (Submit name) = name ∷ []
+parts_of (Publish topic) = topic ∷ []
 parts_of Totals = []
 parts_of (Endpoint name) = name ∷ []
 parts_of (Event name id) = name ∷ id ∷ []
@@ -68,6 +76,7 @@ has_name (SetSecrets name) = is_name name
 has_name (SetEnabled name) = is_name name
 has_name (SetSubscribed name topic) = is_name name && is_name topic
 has_name (Submit name) = is_name name
+has_name (Publish topic) = is_name topic
 has_name Totals = true
 has_name (Endpoint name) = is_name name
 has_name (Event name id) = is_name name

@@ -18,6 +18,7 @@ use Rattle.intake_shed.specs.declared.reply.Reply.{Reply}
 abbrev pub asks_for_page : Asked → Bool
 asks_for_page (asked.Change command) = false
 asks_for_page (asked.Post name id body) = false
+asks_for_page (asked.Publish topic id body) = false
 asks_for_page asked.Totals = true
 asks_for_page (asked.Endpoint name) = true
 asks_for_page (asked.Event name id) = true

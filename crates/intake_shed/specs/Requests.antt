@@ -8,7 +8,7 @@ use Rattle.text_lines.specs.Parts.{texts}
 use Rattle.desk.specs.declared.command.Command.{Command}
 use Rattle.desk.specs.declared.command.Command.TheVariants as change
 use Rattle.intake_shed.specs.Bodies.{IsJson, Says, IsBadPut, IsBadSecrets, IsBadFlag, OfBody}
-use Rattle.intake_shed.specs.Lines.{Line, Put, SetSecrets, SetEnabled, SetSubscribed, Submit, Totals, Endpoint, Event}
+use Rattle.intake_shed.specs.Lines.{Line, Put, SetSecrets, SetEnabled, SetSubscribed, Submit, Publish, Totals, Endpoint, Event}
 use Rattle.intake_shed.specs.Lines.{IsLine, before_query, has_name}
 use Rattle.intake_shed.specs.Replies.{ask_reply, out_of_memory}
 use Rattle.intake_shed.specs.declared.ask.Ask.{Ask}
@@ -47,6 +47,7 @@ id_of (id ∷ ids) fresh = id
 
 abbrev pub has_id : Line → Ask → Bool
 has_id (Submit name) ask = has_one_id (texts ask.ids.now)
+has_id (Publish topic) ask = has_one_id (texts ask.ids.now)
 has_id (Event name id) ask = is_msg_id id
 has_id line ask = true
 
@@ -64,6 +65,7 @@ line_changed (change.SetSubscribed topic name flag) = SetSubscribed name topic
 abbrev pub line_asked : Asked → Line
 line_asked (asked.Change command) = line_changed command
 line_asked (asked.Post name id body) = Submit name
+line_asked (asked.Publish topic id body) = Publish topic
 line_asked asked.Totals = Totals
 line_asked (asked.Endpoint name) = Endpoint name
 line_asked (asked.Event name id) = Event name id
@@ -72,6 +74,7 @@ line_asked (asked.Event name id) = Event name id
 abbrev pub IsOfBody : Ask → (fresh : Text) → Asked → Type 0
 IsOfBody ask fresh (asked.Change command) = (value : Data) × IsJson (bytes_of ask.body) value × Says value command
 IsOfBody ask fresh (asked.Post name id body) = (id ≡ id_of (texts ask.ids.now) fresh) × (body ≡ bytes_of ask.body)
+IsOfBody ask fresh (asked.Publish topic id body) = (id ≡ id_of (texts ask.ids.now) fresh) × (body ≡ bytes_of ask.body)
 IsOfBody ask fresh asked.Totals = Unit {0}
 IsOfBody ask fresh (asked.Endpoint name) = Unit {0}
 IsOfBody ask fresh (asked.Event name id) = Unit {0}
@@ -89,6 +92,7 @@ IsBadBody (SetSecrets name) body why = OfBody IsBadSecrets body why
 IsBadBody (SetEnabled name) body why = OfBody (IsBadFlag (codes "enabled")) body why
 IsBadBody (SetSubscribed name topic) body why = OfBody (IsBadFlag (codes "subscribed")) body why
 IsBadBody (Submit name) body fault.OutOfMemory = Unit {0}
+IsBadBody (Publish topic) body fault.OutOfMemory = Unit {0}
 IsBadBody line body why = ⊥
 
 -- what a request on this line is refused for: it passes the checks before, and not this one

@@ -58,7 +58,8 @@ impl Acknowledged {
     }
 }
 
-/// Shows that an event is settled, and that it is in the log of the run. `Ack::of` alone makes it.
+/// Shows that an event is settled, and that it is in the log of the run. `Ack::of` alone makes it, and
+/// `PublishAck::into_latest` of an event that is settled at all subscribers of its topic.
 #[derive(Drop)]
 pub struct Ack<I: LogId> {
     ticket: Ticket,
@@ -77,6 +78,17 @@ impl<I: LogId> Model for Ack<I> {
 }
 
 impl<I: LogId> Ack<I> {
+    pub(crate) fn new(ticket: Ticket, body: Body, prefix: Prefix<I>) -> Ack<I>
+        requires { IsLogged I.is_base (ack_of ticket body prefix) prefix }
+        ensures { result ≡ ack_of ticket body prefix }
+    {
+        Ack {
+            ticket,
+            body,
+            prefix,
+        }
+    }
+
     /// The acknowledgement of a submission that is settled with this body, or the body back.
     pub fn of<L: Ledger>(
         log: &Log<I>,
@@ -152,7 +164,7 @@ impl<I: LogId> Ack<I> {
 }
 
 // Whether the submission is settled with this body.
-fn is_settled<L: Ledger>(desk: &Desk<L>, ticket: &Ticket, body: &Body) -> bool
+pub(crate) fn is_settled<L: Ledger>(desk: &Desk<L>, ticket: &Ticket, body: &Body) -> bool
     ensures value { IsTrue result ↔ (kept.settled_body desk.now ticket.now ≡ Some body.now) }
     ensures stands { OverWorlds desk.now (λ w. IsTrue result ↔ (settled_body w ticket.now ≡ Some body.now)) }
     ensures below { IsTrue result → ticket.now.seq < desk.now.waiting.settled }

@@ -3,19 +3,20 @@ ghost use Rattle.std.specs.Prelude.{◌≡◌, ◌≤◌, ◌⊎◌, Some, IfOk,
 ghost use Rattle.intake_shed.specs.Pages.{asks_for_page};
 ghost use Rattle.intake_shed.specs.Replies.{ask_reply};
 ghost use Rattle.intake_shed.specs.Requests.{AsksFor, IsRefusal, IsRefusedFor};
-ghost use Rattle.intake_shed.specs.Answers.{Answers, AnswersAsk, FailsBy, GivesPageAt, IsTold, OrLacksMemory};
+ghost use Rattle.intake_shed.specs.Answers.{Answers, AnswersAsk, FailsBy, GivesPageAt, IsPublishTold, IsTold, OrLacksMemory};
 ghost use Rattle.intake_shed.specs.Answers.{TakesChange, may_fail};
 ghost use Rattle.intake_shed.specs.declared.fault.AskFault.{AskFault};
 
 use crate::ack::Ack;
 use crate::answered::Answered;
 use crate::ask::{Ask, Asked};
-use crate::done::{accepted_reply, change_reply, change_status};
+use crate::done::{accepted_reply, change_reply, change_status, published_reply};
 use crate::pages::page_reply;
+use crate::publish_ack::PublishAck;
 use crate::reading::read_ask;
 use crate::refusals::{WaitFault, refusal_reply};
 use crate::reply::Reply;
-use crate::waits::{command_and_wait, submit_and_wait};
+use crate::waits::{command_and_wait, publish_and_wait, submit_and_wait};
 use delivery::{Pass, Shared};
 use desk::Command;
 use relay_types::{Moment, MsgId};
@@ -36,9 +37,9 @@ pub fn answer<L: Ledger, I: LogId, R: Wait>(
     now: Moment,
     pass: &mut Pass,
 ) -> Answered<I>
-    ensures answers { IsRefusal ask.now result.reply ⊎ AnswersAsk ask.now fresh pass.new result.reply result.ack result.confirmed }
+    ensures answers { IsRefusal ask.now result.reply ⊎ AnswersAsk ask.now fresh pass.new result.reply result.ack result.published result.confirmed }
     ensures asks { (what : Asked) → AsksFor ask.now fresh what
-        → OrLacksMemory (Answers what pass.new result.reply result.ack result.confirmed) result.reply }
+        → OrLacksMemory (Answers what pass.new result.reply result.ack result.published result.confirmed) result.reply }
     ensures refuses { (why : AskFault) → IsRefusedFor ask.now why
         → OrLacksMemory (result.reply ≡ ask_reply why) result.reply }
     ensures pass { pass.old ≤ pass.new }
@@ -48,6 +49,7 @@ pub fn answer<L: Ledger, I: LogId, R: Wait>(
         Err(reply) => Answered {
             reply,
             ack: None,
+            published: None,
             confirmed: None,
         },
     }
@@ -61,7 +63,7 @@ fn answer_asked<L: Ledger, I: LogId, R: Wait>(
     now: Moment,
     pass: &mut Pass,
 ) -> Answered<I>
-    ensures answers { Answers asked pass.new result.reply result.ack result.confirmed }
+    ensures answers { Answers asked pass.new result.reply result.ack result.published result.confirmed }
     ensures pass { pass.old ≤ pass.new }
 {
     match asked {
@@ -70,9 +72,14 @@ fn answer_asked<L: Ledger, I: LogId, R: Wait>(
             let waited = submit_and_wait(rt, shared, now, name, id, body, pass);
             answer_event(alloc, waited)
         }
+        Asked::Publish { topic, id, body } => {
+            let waited = publish_and_wait(rt, shared, now, topic, id, body, pass);
+            answer_publish(alloc, waited)
+        }
         page => Answered {
             reply: answer_page(rt, alloc, shared, &page, pass),
             ack: None,
+            published: None,
             confirmed: None,
         },
     }
@@ -93,11 +100,13 @@ fn answer_change<L: Ledger, I: LogId, R: Wait>(
         Ok(confirmed) => Answered {
             reply: change_reply(alloc, status, confirmed.seq()),
             ack: None,
+            published: None,
             confirmed: Some(confirmed),
         },
         Err(fault) => Answered {
             reply: refusal_reply(&fault),
             ack: None,
+            published: None,
             confirmed: None,
         },
     }
@@ -112,11 +121,34 @@ fn answer_event<I: LogId>(alloc: Global, waited: Result<Ack<I>, WaitFault>) -> A
         Ok(ack) => Answered {
             reply: accepted_reply(alloc, &ack.id(), ack.seq()),
             ack: Some(ack),
+            published: None,
             confirmed: None,
         },
         Err(why) => Answered {
             reply: refusal_reply(&why),
             ack: None,
+            published: None,
+            confirmed: None,
+        },
+    }
+}
+
+// The same of an event for a topic.
+fn answer_publish<I: LogId>(alloc: Global, waited: Result<PublishAck<I>, WaitFault>) -> Answered<I>
+    ensures told { IsPublishTold waited result.reply }
+    ensures given { IfOk waited (λ ack. result.published ≡ Some ack) }
+{
+    match waited {
+        Ok(ack) => Answered {
+            reply: published_reply(alloc, &ack.id(), ack.tickets()),
+            ack: None,
+            published: Some(ack),
+            confirmed: None,
+        },
+        Err(why) => Answered {
+            reply: refusal_reply(&why),
+            ack: None,
+            published: None,
             confirmed: None,
         },
     }

@@ -34,6 +34,8 @@ pub enum Asked {
     Change(Command),
     /// An event for an endpoint.
     Post { name: Name, id: MsgId, body: Body },
+    /// An event for the subscribers of a topic.
+    Publish { topic: Name, id: MsgId, body: Body },
     /// The page of all endpoints and events.
     Totals,
     /// The page of an endpoint.
@@ -48,7 +50,7 @@ impl Asked {
         ensures { result ≡ asks_for_page self.now }
     {
         match self {
-            Asked::Change(_) | Asked::Post { .. } => false,
+            Asked::Change(_) | Asked::Post { .. } | Asked::Publish { .. } => false,
             Asked::Totals | Asked::Endpoint(_) | Asked::Event(_, _) => true,
         }
     }

@@ -1,10 +1,11 @@
 //! The replies to changes and events that are done.
 ghost use Rattle.std.specs.Prelude.{◌≡◌, IfOk, string_bytes};
-ghost use Rattle.serde_json.specs.View.{view};
+ghost use Rattle.serde_json.specs.View.{items_view, view};
 ghost use Rattle.intake_shed.specs.Done.{IsDone, change_status, change_body, change_text, accepted_body, accepted_text};
+ghost use Rattle.intake_shed.specs.Done.{naturals, published_body, published_text, seqs_of};
 
 use crate::reply::Reply;
-use desk::Command;
+use desk::{Command, Ticket};
 use relay_types::MsgId;
 use serde_json::{Value, json};
 use status::id_text;
@@ -61,4 +62,39 @@ fn accepted_body(alloc: Global, id: &MsgId, seq: u64) -> Result<Value, AllocErro
         "id": id_text(id),
         "seq": seq,
     })
+}
+
+/// The reply to an event that is settled at each subscriber of its topic: its id, and the numbers of its records. Without memory
+/// for the text it is that of OutOfMemory, and the event stays settled.
+pub fn published_reply(alloc: Global, id: &MsgId, tickets: &[Ticket]) -> Reply
+    ensures { IsDone 202 (published_text id.now (seqs_of tickets.now)) result }
+{
+    Reply::done(202, published_text(alloc, id, tickets))
+}
+
+fn published_text(alloc: Global, id: &MsgId, tickets: &[Ticket]) -> Result<String, AllocError>
+    ensures { IfOk result (λ text. string_bytes text ≡ published_text id.now (seqs_of tickets.now)) }
+{
+    published_body(alloc, id, tickets)?.to_string(alloc)
+}
+
+fn published_body(alloc: Global, id: &MsgId, tickets: &[Ticket]) -> Result<Value, AllocError>
+    ensures { IfOk result (λ value. view value ≡ published_body id.now (seqs_of tickets.now)) }
+{
+    let seqs = numbers(alloc, tickets)?;
+    json!(in alloc; {
+        "id": id_text(id),
+        "seqs": seqs,
+    })
+}
+
+// The numbers of the tickets.
+fn numbers(alloc: Global, tickets: &[Ticket]) -> Result<Vec<Value>, AllocError>
+    ensures { IfOk result (λ values. items_view values.items ≡ naturals (seqs_of tickets.now)) }
+{
+    let mut values = Vec::new(alloc);
+    for ticket in tickets {
+        values.push(Value::from(ticket.seq))?;
+    }
+    Ok(values)
 }

@@ -1,6 +1,6 @@
 //! What a request over HTTP asks for, what it is refused with, and the replies, without a socket;
 //! and the answer to it over a desk that threads share. The calls that wait are `submit_and_wait`,
-//! `command_and_wait` and `answer`.
+//! `publish_and_wait`, `command_and_wait` and `answer`.
 #![tactic(auto)]
 
 mod ack;
@@ -14,6 +14,7 @@ mod fault;
 mod latest;
 mod members;
 mod pages;
+mod publish_ack;
 mod reading;
 mod refusals;
 mod reply;
@@ -25,11 +26,12 @@ pub use crate::answered::Answered;
 pub use crate::answering::answer;
 pub use crate::ask::{Ask, AskBody, Asked};
 pub use crate::confirmed::Confirmed;
-pub use crate::done::{accepted_reply, change_reply, change_status};
+pub use crate::done::{accepted_reply, change_reply, change_status, published_reply};
 pub use crate::fault::AskFault;
 pub use crate::latest::LatestAck;
 pub use crate::pages::page_reply;
+pub use crate::publish_ack::PublishAck;
 pub use crate::reading::read_ask;
 pub use crate::refusals::{WaitFault, refusal_reply};
 pub use crate::reply::{Reply, ReplyText};
-pub use crate::waits::{command_and_wait, submit_and_wait};
+pub use crate::waits::{command_and_wait, publish_and_wait, submit_and_wait};

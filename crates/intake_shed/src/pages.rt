@@ -24,7 +24,7 @@ pub fn page_reply<L: Ledger>(alloc: Global, desk: &Desk<L>, asked: &Asked) -> Re
         Asked::Totals => Reply::done(200, totals_text(alloc, &desk.totals())),
         Asked::Endpoint(name) => endpoint_reply(alloc, desk, *name),
         Asked::Event(name, id) => event_reply(alloc, desk, *name, id),
-        Asked::Change(_) | Asked::Post { .. } => unreachable!(),
+        Asked::Change(_) | Asked::Post { .. } | Asked::Publish { .. } => unreachable!(),
     }
 }
 

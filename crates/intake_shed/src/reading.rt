@@ -82,6 +82,16 @@ fn read_on(alloc: Global, route: Route<'_>, ask: &Ask<'_>, fresh: MsgId) -> Resu
                 body: copy_body(alloc, body)?,
             })
         }
+        Route::Publish(topic) => {
+            let topic = read_name(topic)?;
+            let body = read_size(&ask.body)?;
+            let id = read_id(ask.ids, fresh)?;
+            Ok(Asked::Publish {
+                topic,
+                id,
+                body: copy_body(alloc, body)?,
+            })
+        }
         Route::Totals => {
             read_size(&ask.body)?;
             Ok(Asked::Totals)

@@ -15,6 +15,7 @@ pub(crate) enum Route<'a> {
     SetEnabled(&'a [u8]),
     SetSubscribed(&'a [u8], &'a [u8]),
     Submit(&'a [u8]),
+    Publish(&'a [u8]),
     Totals,
     Endpoint(&'a [u8]),
     Event(&'a [u8], &'a [u8]),
@@ -36,9 +37,22 @@ fn read_path<'a>(method: &[u8], path: &'a [u8]) -> Option<Route<'a>>
     if is_word(path, "/v1/status") {
         return is_word(method, "GET").then_some(Route::Totals);
     }
+    if let Some(named) = path.strip_prefix(b"/v1/topics/") {
+        return read_topic(method, named);
+    }
     let named = path.strip_prefix(b"/v1/endpoints/")?;
     let (name, rest) = split(named, b'/');
     read_behind_name(method, name, rest)
+}
+
+// The line of this method, of a topic's path from its name on.
+fn read_topic<'a>(method: &[u8], named: &'a [u8]) -> Option<Route<'a>>
+    ensures some { IfSome result (λ route. IsLine (line_of route) method.now (codes "/v1/topics/" ++ named.now)) }
+    ensures none { result ≡ None → (line : Line) → ¬ IsLine line method.now (codes "/v1/topics/" ++ named.now) }
+{
+    let (topic, rest) = split(named, b'/');
+    let is_publish = is_word(method, "POST") && is_word(rest, "/events");
+    is_publish.then_some(Route::Publish(topic))
 }
 
 // The line of this method, of the endpoint of this name and what stands behind it.

@@ -2,20 +2,21 @@
 ghost use Rattle.std.specs.Prelude.{◌≡◌, ◌≢◌, ◌<◌, ◌≤◌, ◌↔◌, Some, IsTrue, IfOk, IfErr};
 ghost use Rattle.desk.specs.Kept as kept;
 ghost use Rattle.delivery.specs.Logs.{IsOfCommand};
-ghost use Rattle.intake_shed.specs.Acks.{IsOfEvent, ack_of, confirmed_of};
-ghost use Rattle.intake_shed.specs.Answers.{IsNoRefusal, may_fail, may_fail_event};
+ghost use Rattle.intake_shed.specs.Acks.{AreBelow, AreSettled, IsOfEvent, IsOfPublish, ack_of, confirmed_of, publish_ack_of};
+ghost use Rattle.intake_shed.specs.Answers.{IsNoRefusal, may_fail, may_fail_event, may_fail_publish};
 
 use crate::ack::Ack;
 use crate::confirmed::Confirmed;
+use crate::publish_ack::PublishAck;
 use crate::refusals::WaitFault;
-use delivery::{Locked, Pass, Shared, StagedChange};
+use delivery::{Locked, Pass, Published, Shared, StagedChange};
 use desk::{Command, Fault, Refusal, Ticket};
 use relay_types::{Body, Moment, MsgId, Name};
 use run_log::{Log, LogId};
 use std::sync::Wait;
 use std::sync::ledger::Ledger;
 
-// What a submission is told where its body can't be shared.
+// What an event is told where its body can't be shared.
 const NO_MEMORY: Refusal = Refusal {
     number: 8,
     fault: Fault::OutOfMemory,
@@ -60,6 +61,52 @@ fn acknowledge<L: Ledger, I: LogId>(
     ensures pass { pass.old ≤ pass.new }
 {
     let Ok(ack) = Ack::of(log, locked, ticket, body) else {
+        return Err(WaitFault::Unknown);
+    };
+    pass.look(locked.desk())?;
+    Ok(ack)
+}
+
+/// Publishes an event, and waits until it is settled or won't be at each subscriber of the topic. The body is shared first,
+/// and only memory may be refused there; once the end was asked for nothing is taken.
+pub fn publish_and_wait<L: Ledger, I: LogId, R: Wait>(
+    rt: &R,
+    shared: &Shared<L, I>,
+    now: Moment,
+    topic: Name,
+    id: MsgId,
+    body: Body,
+    pass: &mut Pass,
+) -> Result<PublishAck<I>, WaitFault>
+    ensures event { IfOk result (λ ack. IsOfPublish ack topic id body) }
+    ensures seen { IfOk result (λ ack. AreBelow pass.new ack.event.tickets) }
+    ensures names { IfErr result (λ why. IsTrue (may_fail_publish why)) }
+    ensures pass { pass.old ≤ pass.new }
+{
+    let Ok(copy) = body.share() else {
+        return Err(WaitFault::Refused(NO_MEMORY));
+    };
+    let event = shared.publish(rt, now, topic, id, copy)?;
+    let mut locked = shared.wait_for_all(rt, event.tickets());
+    acknowledge_all(shared.log(), &mut *locked, event, body, pass)
+}
+
+// Acknowledges an event that is waited for no more: it is settled at each subscriber, or the desk halted.
+fn acknowledge_all<L: Ledger, I: LogId>(
+    log: &Log<I>,
+    locked: &mut Locked<L, I>,
+    event: Published<I>,
+    body: Body,
+    pass: &mut Pass,
+) -> Result<PublishAck<I>, WaitFault>
+    ensures ack { IfOk result (λ ack. ack ≡ publish_ack_of event body locked.old.prefix) }
+    ensures seen { IfOk result (λ ack. AreBelow pass.new ack.event.tickets) }
+    ensures unknown { (result ≡ Err WaitFault.Unknown)
+        ↔ ¬ AreSettled (kept.settled_body locked.old.desk) event.tickets body }
+    ensures refused { IfErr result IsNoRefusal }
+    ensures pass { pass.old ≤ pass.new }
+{
+    let Some(ack) = PublishAck::of(log, locked, event, body) else {
         return Err(WaitFault::Unknown);
     };
     pass.look(locked.desk())?;

@@ -31,6 +31,8 @@ pub(crate) enum Answer {
     Event(&'static [u8], &'static [u8]),
     /// An event for this endpoint, of this id, with the body that was sent.
     Post(&'static [u8], &'static [u8]),
+    /// An event for this topic, of this id, with the body that was sent.
+    Publish(&'static [u8], &'static [u8]),
     /// A new endpoint of this name, URL and maximum, with so many secrets.
     Put(&'static [u8], &'static [u8], u32, usize),
     /// So many other secrets of this endpoint.
@@ -137,6 +139,15 @@ fn is_post(found: Name, id: &MsgId, body: &Body, sent: &[u8], answer: Answer) ->
     }
 }
 
+fn is_publish(found: Name, id: &MsgId, body: &Body, sent: &[u8], answer: Answer) -> bool {
+    match answer {
+        Answer::Publish(topic, wanted) => {
+            found.as_bytes() == topic && id.as_bytes() == wanted && body.as_bytes() == sent
+        }
+        _ => false,
+    }
+}
+
 fn is_put(found: Name, target: &Target, max: MaxLimit, secrets: &Secrets, answer: Answer) -> bool {
     match answer {
         Answer::Put(name, url, most, count) => {
@@ -193,6 +204,7 @@ fn is_asked(asked: &Asked, sent: &[u8], answer: Answer) -> bool {
     match asked {
         Asked::Change(command) => is_change(command, answer),
         Asked::Post { name, id, body } => is_post(*name, id, body, sent, answer),
+        Asked::Publish { topic, id, body } => is_publish(*topic, id, body, sent, answer),
         Asked::Totals => matches!(answer, Answer::Totals),
         Asked::Endpoint(name) => is_endpoint(*name, answer),
         Asked::Event(name, id) => is_event(*name, id, answer),

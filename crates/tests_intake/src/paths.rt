@@ -19,7 +19,14 @@ const EMPTY: &[Text] = &[Text::Is(b"")];
 
 const OBJECT: &[Text] = &[Text::Is(b"{}")];
 
-const EVENTS: &[Text] = &[Text::Is(b"/v1/endpoints/a/events")];
+const EVENTS: &[Text] = &[
+    Text::Is(b"/v1/endpoints/a/events"),
+    Text::Is(b"/v1/topics/t/events"),
+];
+
+const TO_AN_ENDPOINT: &[Text] = &[Text::Is(b"/v1/endpoints/a/events")];
+
+const TO_A_TOPIC: &[Text] = &[Text::Is(b"/v1/topics/t/events?x")];
 
 // The table has no such line: a method in other letters, a slash more, a part more or less, an escape in a fixed part.
 static NOT_IN_THE_TABLE: [Case; 8] = [
@@ -72,6 +79,7 @@ static NOT_IN_THE_TABLE: [Case; 8] = [
             Text::Is(b"/v1/endpoints/a/events"),
             Text::Is(b"/v1/endpoints/a/events/msg_1/"),
             Text::Is(b"/v1/endpoints/a/b/events/msg_1"),
+            Text::Is(b"/v1/topics/t/events"),
         ],
         ids: TWO_IDS,
         bodies: OBJECT,
@@ -83,6 +91,10 @@ static NOT_IN_THE_TABLE: [Case; 8] = [
             Text::Is(b"/v1/endpoints/a"),
             Text::Is(b"/v1/endpoints/A/events/"),
             Text::Is(b"/v1/endpoints/a/topics/t"),
+            Text::Is(b"/v1/topics/t"),
+            Text::Is(b"/v1/topics/events"),
+            Text::Is(b"/v1/topics/t/events/"),
+            Text::Is(b"/v1/topics/t/u/events"),
         ],
         ids: TWO_IDS,
         bodies: OBJECT,
@@ -98,6 +110,7 @@ static NOT_IN_THE_TABLE: [Case; 8] = [
             Text::Is(b"/v1/endpoints/a/topics/t/u"),
             Text::Is(b"/v1/endpoints/a/topic/t"),
             Text::Is(b"/v1/endpoints/topics/t"),
+            Text::Is(b"/v1/topics/t/events"),
         ],
         ids: TWO_IDS,
         bodies: OBJECT,
@@ -151,7 +164,11 @@ static BAD_NAMES: [Case; 3] = [
     },
     Case {
         method: b"POST",
-        paths: &[Text::Is(b"/v1/endpoints/a b/events")],
+        paths: &[
+            Text::Is(b"/v1/endpoints/a b/events"),
+            Text::Is(b"/v1/topics/T/events"),
+            Text::Is(b"/v1/topics//events"),
+        ],
         ids: TWO_IDS,
         bodies: EMPTY,
         answer: BAD_NAME,
@@ -345,17 +362,17 @@ fn a_body_of_65_537_bytes_is_too_long(rt: HostRuntime) -> Result<(), Fail> {
 }
 
 // An event has the id that is given, or a fresh one, and its body is any 65,536 bytes or fewer.
-static SENT: [Case; 2] = [
+static SENT: [Case; 4] = [
     Case {
         method: b"POST",
-        paths: EVENTS,
+        paths: TO_AN_ENDPOINT,
         ids: &[b"msg_1"],
         bodies: EMPTY,
         answer: Answer::Post(b"a", b"msg_1"),
     },
     Case {
         method: b"POST",
-        paths: EVENTS,
+        paths: TO_AN_ENDPOINT,
         ids: NO_ID,
         bodies: &[
             Text::Is(b""),
@@ -363,6 +380,24 @@ static SENT: [Case; 2] = [
             Text::Long(b"", b'x', 65_536),
         ],
         answer: Answer::Post(b"a", b"fresh"),
+    },
+    Case {
+        method: b"POST",
+        paths: TO_A_TOPIC,
+        ids: &[b"msg_1"],
+        bodies: EMPTY,
+        answer: Answer::Publish(b"t", b"msg_1"),
+    },
+    Case {
+        method: b"POST",
+        paths: TO_A_TOPIC,
+        ids: NO_ID,
+        bodies: &[
+            Text::Is(b""),
+            Text::Is(b"\xff not JSON"),
+            Text::Long(b"", b'x', 65_536),
+        ],
+        answer: Answer::Publish(b"t", b"fresh"),
     },
 ];
 

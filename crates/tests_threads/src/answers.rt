@@ -15,7 +15,7 @@ const SECRETS: &[u8] = b"{\"secrets\":[\"whsec_MDEyMzQ1Njc4OTAxMjM0NTY3ODkwMTIz\
 
 const UNKNOWN_ENDPOINT: &str = "{\"error\":\"UnknownEndpoint\"}";
 
-const REQUESTS: [Step; 22] = [
+const REQUESTS: [Step; 26] = [
     Step::Ask(
         Request::Post(b"/v1/endpoints/a/events", &[b"msg_1"], b"{}"),
         404,
@@ -90,10 +90,34 @@ const REQUESTS: [Step; 22] = [
         "{\"seq\":5}",
     ),
     Step::Ask(
+        Request::Post(b"/v1/topics/t/events", &[b"msg_1"], b"{}"),
+        202,
+        false,
+        "{\"id\":\"msg_1\",\"seqs\":[1]}",
+    ),
+    Step::Ask(
+        Request::Post(b"/v1/topics/t/events", &[b"msg_3"], b"[]"),
+        202,
+        false,
+        "{\"id\":\"msg_3\",\"seqs\":[6]}",
+    ),
+    Step::Ask(
+        Request::Post(b"/v1/topics/t/events", &[b"msg_1"], b"[]"),
+        409,
+        false,
+        "{\"error\":\"Conflict\"}",
+    ),
+    Step::Ask(
         Request::Put(b"/v1/endpoints/a/topics/t", b"{\"subscribed\":false}"),
         200,
         false,
-        "{\"seq\":6}",
+        "{\"seq\":7}",
+    ),
+    Step::Ask(
+        Request::Post(b"/v1/topics/t/events", &[b"msg_1"], b"{}"),
+        404,
+        false,
+        "{\"error\":\"UnknownTopic\"}",
     ),
     Step::Ask(
         Request::Put(b"/v1/endpoints/b/topics/t", b"{\"subscribed\":true}"),
@@ -112,7 +136,7 @@ const REQUESTS: [Step; 22] = [
         200,
         false,
         "{\"delivered\":0,\"enabled\":false,\"exhausted\":0,\"max\":100,\"name\":\"a\",\
-            \"pending\":2,\"secrets\":2,\"url\":\"http://127.0.0.1:9000/hook\"}",
+            \"pending\":3,\"secrets\":2,\"url\":\"http://127.0.0.1:9000/hook\"}",
     ),
     Step::Ask(
         Request::Get(b"/v1/endpoints/b"),
@@ -130,7 +154,7 @@ const REQUESTS: [Step; 22] = [
         Request::Get(b"/v1/status"),
         200,
         false,
-        "{\"delivered\":0,\"endpoints\":1,\"exhausted\":0,\"pending\":2,\"records\":7}",
+        "{\"delivered\":0,\"endpoints\":1,\"exhausted\":0,\"pending\":3,\"records\":8}",
     ),
     Step::Ask(
         Request::Get(b"/v1/statuses"),
@@ -181,7 +205,7 @@ const BACKLOG: [Step; 5] = [
 static ANSWERED: Course = Course {
     before: &[],
     committer: Committer::Runs,
-    threads: &[&REQUESTS, &[Step::Ended(21)]],
+    threads: &[&REQUESTS, &[Step::Ended(25)]],
 };
 
 #[test]
@@ -190,7 +214,7 @@ fn requests_are_answered(rt: HostRuntime) {
         &rt,
         rt.alloc(),
         &ANSWERED,
-        &End(Ending::Finished, 7, 7, false),
+        &End(Ending::Finished, 8, 8, false),
     );
 }
 

@@ -52,5 +52,5 @@ pub(crate) fn is_answered<I: LogId>(
     reply.status == status
         && reply.retry == retry
         && reply.body.as_str() == text
-        && answered.ack.is_some() == (status == 202)
+        && (answered.ack.is_some() || answered.published.is_some()) == (status == 202)
 }

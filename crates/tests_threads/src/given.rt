@@ -20,6 +20,10 @@ pub(crate) enum Before {
     Submit(&'static [u8]),
     /// Endpoint `a` is disabled.
     Disable,
+    /// The endpoint of this name is subscribed to topic `t`.
+    Subscribe(&'static [u8]),
+    /// An event is published to topic `t`, with this id.
+    Publish(&'static [u8]),
     /// So many events of endpoint `a` are taken and settled, from `msg_1` on.
     Fill(u32),
     /// What waits is settled.
@@ -71,6 +75,19 @@ pub(crate) fn disable(rt: &impl Abort) -> Command {
         name: name(rt, b"a"),
         flag: false,
     }
+}
+
+fn subscribe(rt: &impl Abort, text: &[u8]) -> Command {
+    Command::SetSubscribed {
+        topic: name(rt, b"t"),
+        name: name(rt, text),
+        flag: true,
+    }
+}
+
+fn publish<L: Ledger>(rt: &impl Abort, alloc: Global, desk: &mut Desk<L>, text: &[u8]) {
+    let staged = desk.publish(now(rt), name(rt, b"t"), id(rt, text), body(rt, alloc));
+    holds(rt, staged.is_ok(), "the event is taken");
 }
 
 fn command<L: Ledger>(rt: &impl Abort, desk: &mut Desk<L>, command: Command) {
@@ -150,6 +167,8 @@ fn is_done<L: Ledger, S: Alter>(
         Before::Put(text) => command(rt, desk, put(rt, alloc, text)),
         Before::Submit(text) => submit(rt, alloc, desk, text),
         Before::Disable => command(rt, desk, disable(rt)),
+        Before::Subscribe(text) => command(rt, desk, subscribe(rt, text)),
+        Before::Publish(text) => publish(rt, alloc, desk, text),
         Before::Fill(count) => fill(rt, alloc, desk, vault, *count),
         Before::Turn => return turn(rt, desk, vault),
         Before::Halt => halt(rt, desk),

@@ -33,6 +33,8 @@ pub(crate) enum Step {
     Pause,
     /// An event of endpoint `a` is taken with this id and this number.
     Submit(&'static [u8], u64),
+    /// An event for topic `t` is taken with this id and, at its first subscriber, this number.
+    Publish(&'static [u8], u64),
     /// Endpoint `a` is disabled, with this number.
     Disable(u64),
     /// The end is asked for.
@@ -50,6 +52,8 @@ pub(crate) enum Step {
     /// It waits until the event with this number and this id is settled, or the desk is halted:
     /// then nothing is known of it.
     Told(u64, &'static [u8]),
+    /// The same of an event with these two numbers, at endpoints `a` and `b`.
+    ToldBoth([u64; 2], &'static [u8]),
     /// The same of a command.
     ToldCommand(u64),
     /// It waits until so many records are settled.
@@ -97,6 +101,7 @@ impl<L: Ledger, I: LogId, R: Wait + Clock + Abort> Place<'_, L, I, R> {
         match step {
             Step::Pause => pause(self.rt),
             Step::Submit(text, seq) => return self.is_submitted(text, *seq),
+            Step::Publish(text, seq) => return self.is_published(text, *seq),
             Step::Disable(seq) => return self.is_disabled(*seq),
             Step::Finish => self.shared.finish(self.rt),
             Step::Rest => self.rest(pass),
@@ -114,6 +119,7 @@ impl<L: Ledger, I: LogId, R: Wait + Clock + Abort> Place<'_, L, I, R> {
     fn has_come(&self, step: &Step) -> bool {
         match step {
             Step::Told(seq, text) => self.is_told(*seq, text),
+            Step::ToldBoth(seqs, text) => self.are_told(*seqs, text),
             Step::ToldCommand(seq) => self.is_command_told(*seq),
             Step::Settled(wanted) => self.are_settled(*wanted),
             Step::Begun(wanted) => have_come(self.rt, &self.seen.commits, *wanted),
@@ -151,6 +157,18 @@ impl<L: Ledger, I: LogId, R: Wait + Clock + Abort> Place<'_, L, I, R> {
         }
     }
 
+    fn is_published(&self, text: &[u8], seq: u64) -> bool {
+        let (topic, id) = (name(self.rt, b"t"), id(self.rt, text));
+        let body = body(self.rt, self.alloc);
+        match self.shared.publish(self.rt, now(self.rt), topic, id, body) {
+            Ok(published) => {
+                count(&self.seen.staged);
+                matches!(published.tickets().first(), Some(ticket) if ticket.seq == seq)
+            }
+            Err(_) => false,
+        }
+    }
+
     fn is_disabled(&self, seq: u64) -> bool {
         match self.shared.command(self.rt, disable(self.rt)) {
             Ok(change) => change.ticket().seq == seq,
@@ -177,13 +195,29 @@ impl<L: Ledger, I: LogId, R: Wait + Clock + Abort> Place<'_, L, I, R> {
     }
 
     fn is_told(&self, seq: u64, text: &[u8]) -> bool {
-        let ticket = Ticket {
-            seq,
-            name: name(self.rt, b"a"),
-            id: id(self.rt, text),
-        };
+        let ticket = self.ticket(seq, b"a", text);
         let locked = self.shared.wait_for(self.rt, &ticket);
         locked.desk().told(&ticket) == wanted_of(locked.desk())
+    }
+
+    fn are_told(&self, seqs: [u64; 2], text: &[u8]) -> bool {
+        let tickets = [
+            self.ticket(seqs[0], b"a", text),
+            self.ticket(seqs[1], b"b", text),
+        ];
+        let locked = self.shared.wait_for_all(self.rt, &tickets);
+        let wanted = wanted_of(locked.desk());
+        tickets
+            .iter()
+            .all(|ticket| locked.desk().told(ticket) == wanted)
+    }
+
+    fn ticket(&self, seq: u64, endpoint: &[u8], text: &[u8]) -> Ticket {
+        Ticket {
+            seq,
+            name: name(self.rt, endpoint),
+            id: id(self.rt, text),
+        }
     }
 
     fn is_command_told(&self, seq: u64) -> bool {

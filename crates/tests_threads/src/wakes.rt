@@ -17,10 +17,20 @@ struct Case(Course, End, u64);
 
 const ENDPOINT_AND_EVENT: &[Before] = &[Before::Put(b"a"), Before::Submit(b"msg_1"), Before::Turn];
 
+/// An event for two endpoints waits to be settled.
+const TO_BOTH: &[Before] = &[
+    Before::Put(b"a"),
+    Before::Put(b"b"),
+    Before::Subscribe(b"a"),
+    Before::Subscribe(b"b"),
+    Before::Turn,
+    Before::Publish(b"msg_1"),
+];
+
 /// An event waits to be settled.
 const WAITING: &[Before] = &[Before::Put(b"a"), Before::Turn, Before::Submit(b"msg_1")];
 
-static CASES: [Case; 11] = [
+static CASES: [Case; 14] = [
     // an event wakes the committer
     Case(
         Course {
@@ -29,6 +39,23 @@ static CASES: [Case; 11] = [
             threads: &[&[
                 Step::Pause,
                 Step::Submit(b"msg_2", 2),
+                Step::Settled(3),
+                Step::Pause,
+                Step::Finish,
+                Step::Ended(1),
+            ]],
+        },
+        End(Ending::Finished, 3, 3, false),
+        0,
+    ),
+    // an event for the subscribers of a topic wakes it
+    Case(
+        Course {
+            before: &[Before::Put(b"a"), Before::Subscribe(b"a"), Before::Turn],
+            committer: Committer::Runs,
+            threads: &[&[
+                Step::Pause,
+                Step::Publish(b"msg_1", 2),
                 Step::Settled(3),
                 Step::Pause,
                 Step::Finish,
@@ -137,6 +164,32 @@ static CASES: [Case; 11] = [
             ],
         },
         End(Ending::OutOfMemory, 1, 3, true),
+        0,
+    ),
+    // a batch that is settled wakes who waits for an event at two endpoints
+    Case(
+        Course {
+            before: TO_BOTH,
+            committer: Committer::Late,
+            threads: &[
+                &[Step::ToldBoth([4, 5], b"msg_1"), Step::End],
+                &[Step::Ended(1), Step::Finish, Step::Ended(2)],
+            ],
+        },
+        End(Ending::Finished, 6, 6, false),
+        0,
+    ),
+    // a desk that is halted does so too
+    Case(
+        Course {
+            before: TO_BOTH,
+            committer: Committer::Refused,
+            threads: &[
+                &[Step::ToldBoth([4, 5], b"msg_1"), Step::End],
+                &[Step::Ended(2), Step::Finish],
+            ],
+        },
+        End(Ending::OutOfMemory, 4, 6, true),
         0,
     ),
     // a worker that rests is woken by nobody, and looks again after a second

@@ -7,6 +7,7 @@ returns g c = inl (
   c.in-Ok-fresh_id.fresh,
   c.answer-reply.new.pass,
   c.answer-reply.result.ack,
+  c.answer-reply.result.published,
   c.answer-reply.result.confirmed,
   record {
     method = c.as_bytes.ensures.value ∙ c.as_str.ensures.value;
