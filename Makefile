@@ -48,6 +48,7 @@ fmt:
 # Prints one table of measurements, each beside a figure to compare it with.
 bench: $(BENCH) $(RELAYD)
 	scripts/bench core $(BENCH) $(RELAYD)
+	scripts/bench publish $(RELAYD)
 
 # Installs the same below PREFIX: the program, its manual page, its unit and the documents.
 install: $(RELAYD)

@@ -69,9 +69,9 @@ def room(pending, pending_all):
     return script
 
 
-def pairs(is_published):
+def pairs():
     """All pairs of a topic and an endpoint that there is room for, and then all requests that may wait. No pair more may be named, also to unsubscribe
-    it. If events are published, one of an id that is known is still taken."""
+    it. A publish of an id that is known is still taken."""
     script = Script()
     script.stages(put("a"))
     for number in range(MOST_PAIRS):
@@ -86,10 +86,9 @@ def pairs(is_published):
         script.wants(f"{call} more b", "refused 2 UnknownEndpoint")
         script.wants(f"{call} more a", "refused 8 TooManySubscriptions")
         script.wants(f"{call} t7 a", "refused 5 WaitingFull")
-    if is_published:
-        script.wants("publish 1000 more m0 7b7d", "refused 2 UnknownTopic")
-        script.wants("publish 1000 t7 m0 7b7d", f"staged {MOST_PAIRS + 1}")
-        script.wants("publish 1000 t7 more 7b7d", "refused 6 WaitingFull")
+    script.wants("publish 1000 more m0 7b7d", "refused 2 UnknownTopic")
+    script.wants("publish 1000 t7 m0 7b7d", f"staged {MOST_PAIRS + 1}")
+    script.wants("publish 1000 t7 more 7b7d", "refused 6 WaitingFull")
     return script
 
 

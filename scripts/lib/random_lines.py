@@ -2,7 +2,6 @@
 import base64
 
 from lib.model import DELAYS, Accept, Desk, names_in, of, reply_to, subscriptions_in
-from lib.serving import HAS_TOPICS
 
 # How often each line comes in a short script and in a long one.
 KINDS = {
@@ -23,12 +22,11 @@ KINDS = {
     "stop": (0.5, 0.05),
     "show_endpoint": (2, 2),
     "show": (4, 2),
-}
-OF_TOPICS = {
     "subscribe": (8, 10),
     "publish": (8, 100),
 }
-KINDS.update({kind: often for kind, often in OF_TOPICS.items() if HAS_TOPICS or kind == "subscribe"})
+# Those that a store of version 1 can't have come of.
+OF_TOPICS = ("subscribe", "publish")
 
 
 # Words
@@ -135,8 +133,7 @@ def made(rng, desk, long, kinds=KINDS):
 
 def history_of(rng, lines=60):
     """The history after so many random lines, with topics."""
-    kinds, desk = {**KINDS, **OF_TOPICS}, Desk()
-    kinds = {kind: often for kind, often in kinds.items() if kind not in ("stop", "halt")}
+    desk, kinds = Desk(), {kind: often for kind, often in KINDS.items() if kind not in ("stop", "halt")}
     for _ in range(lines):
         made(rng, desk, False, kinds)
     return desk.history

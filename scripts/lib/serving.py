@@ -20,8 +20,6 @@ from lib.command import ROOT, ran
 SECRET = "whsec_MDEyMzQ1Njc4OTAxMjM0NTY3ODkwMTIz"
 # The tokens of those who come through the proxy in front.
 SUBMITTER, OPERATOR = "5" * 64, "a" * 64
-# Whether events are published to topics: this line turns on all tests of that.
-HAS_TOPICS = False
 STARTED = []
 
 

@@ -1,9 +1,13 @@
 """What `scripts/serve check` tries of topics over real sockets. docs/FORMATS.md has the answers."""
+import concurrent.futures
 import contextlib
 import sqlite3
+import time
 
 from lib.answers import MOST_BODY
-from lib.serving import SECRET, Subscriber, ask, check_answer, post, publish, put, relay_of, submit, subscribe
+from lib.serving import SECRET, Subscriber, ask, check_answer, post, publish, put, relay_of, submit, subscribe, wait_until
+
+MOST_ENDPOINTS, MOST_PENDING = 256, 10_000
 
 
 def error(name):
@@ -79,6 +83,10 @@ def check_topics(counts, relayd, folder):
     with relay_of(relayd, file) as relay:
         address = relay.address
         check_answer(counts, "topics: an event after a restart", publish(address, "t", b"[]", "msg_2"), 202, b'{"id":"msg_2","seqs":[8,9]}')
+        put(address, "late", 9)
+        subscribe(address, "t", "late")
+        check_answer(counts, "topics: it again, with a new subscriber", publish(address, "t", b"[]", "msg_2"), 202, b'{"id":"msg_2","seqs":[8,9,14]}')
+        subscribe(address, "t", "late", False)
         for name, subscriber in subscribers.items():
             ask(address, "PUT", f"/v1/endpoints/{name}/enabled", b'{"enabled":true}')
             counts.check(f"topics: {name} gets all", subscriber.wait_for(len(events)))
@@ -93,6 +101,68 @@ def check_topics(counts, relayd, folder):
         counts.check("topics: a doesn't", subscribers["a"].wait_for(len(events) + 1, 1), False)
     for subscriber in subscribers.values():
         subscriber.close()
+
+
+def check_widest(counts, relayd, folder):
+    """An event for 256 subscribers, of which one is disabled. Once that one has 10,000 pending events it gets no new one, and so nobody does. Most
+    are written into the file, since they take long over HTTP."""
+    file, subscriber, names = f"{folder}/widest.db", Subscriber(), [f"e{number}" for number in range(MOST_ENDPOINTS)]
+    totals = lambda: ask(relay.address, "GET", "/v1/status").json()
+    first = b'{"id":"msg_1","seqs":[%s]}' % b",".join(b"%d" % (2 * MOST_ENDPOINTS + 1 + number) for number in range(MOST_ENDPOINTS))
+    with relay_of(relayd, file) as relay:
+        for name in names:
+            put(relay.address, name, subscriber.port)
+        for name in names:
+            subscribe(relay.address, "t", name)
+        ask(relay.address, "PUT", f"/v1/endpoints/{names[0]}/enabled", b'{"enabled":false}')
+        check_answer(counts, "widest: an event for 256", publish(relay.address, "t", b"{}", "msg_1"), 202, first)
+        counts.check("widest: all but one get it", wait_until(lambda: (totals()["delivered"], totals()["pending"]) == (MOST_ENDPOINTS - 1, 1), 20))
+    with contextlib.closing(sqlite3.connect(file)) as conn, conn:
+        (records,) = conn.execute("SELECT records FROM meta").fetchone()
+        rows = [(records + number, f"old-{number}", int(time.time())) for number in range(MOST_PENDING - 1)]
+        conn.executemany("INSERT INTO deliveries VALUES(?, 0, ?, ?, x'')", rows)
+        conn.execute("UPDATE meta SET records = records + ?", (len(rows),))
+    with relay_of(relayd, file) as relay:
+        before = totals()
+        answer = publish(relay.address, "t", b"{}", "msg_2")
+        check_answer(counts, "widest: a full backlog", answer, 503, error("EndpointBacklog"))
+        counts.check("widest: try again", answer.header("retry-after"), "1")
+        check_answer(counts, "widest: a known event", publish(relay.address, "t", b"{}", "msg_1"), 202, first)
+        counts.check("widest: nothing came of it", totals(), before)
+        subscribe(relay.address, "t", names[0], False)
+        counts.check("widest: an event for the others", len(publish(relay.address, "t", b"{}", "msg_2").json()["seqs"]), MOST_ENDPOINTS - 1)
+    subscriber.close()
+
+
+def check_changing(counts, relayd, folder):
+    """Events are published while endpoints come, subscribe and leave again: the file has each event at exactly the endpoints whose numbers its answer
+    names, in the order in which they were put."""
+    file, subscriber = f"{folder}/changing.db", Subscriber()
+
+    def change(relay, number):
+        for turn in range(40):
+            name = f"e{number}-{turn // 8}"
+            if turn % 8 == 0:
+                put(relay.address, name, subscriber.port)
+            subscribe(relay.address, "t", name, turn % 2 == 0)
+
+    def publish_each(relay, number):
+        ids = [f"msg_{number}-{turn}" for turn in range(40)]
+        return [(it, publish(relay.address, "t", it.encode(), it)) for it in ids]
+
+    with relay_of(relayd, file) as relay, concurrent.futures.ThreadPoolExecutor(8) as pool:
+        put(relay.address, "always", subscriber.port)
+        subscribe(relay.address, "t", "always")
+        changes = [pool.submit(change, relay, number) for number in range(4)]
+        told = [it for made in [pool.submit(publish_each, relay, number) for number in range(4)] for it in made.result()]
+        for it in changes:
+            it.result()
+    counts.check("changing: each event is taken", [answer.status for _, answer in told], [202] * len(told))
+    with contextlib.closing(sqlite3.connect(file)) as conn:
+        for event, answer in told:
+            found = conn.execute("SELECT seq, body FROM deliveries WHERE id = ? ORDER BY endpoint", (event,)).fetchall()
+            counts.check(f"changing: {event} is where its answer says", found, [(seq, event.encode()) for seq in answer.json()["seqs"]])
+    subscriber.close()
 
 
 def check_many_subscriptions(counts, relayd, folder):

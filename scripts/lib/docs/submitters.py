@@ -16,7 +16,7 @@ import threading
 
 from lib.command import ROOT, Counts, program_of
 from lib.languages import programs_in, with_go
-from lib.serving import HAS_TOPICS, Subscriber, ask, exchange, free_port, put, relay_of, subscribe, wait_until
+from lib.serving import Subscriber, ask, exchange, free_port, put, relay_of, subscribe, wait_until
 
 SECONDS = 300
 EVENT = b'{"order":1,"note":"\xc3\xa9"}\n\x00\xff'
@@ -138,8 +138,7 @@ def main():
                 check_again(counts, language, send, relay, subscriber)
                 check_later(counts, language, send, relay)
                 check_refused(counts, language, send, relay)
-                if HAS_TOPICS:
-                    check_published(counts, language, send, relay)
+                check_published(counts, language, send, relay)
                 events += 2
             totals = lambda: ask(relay.address, "GET", "/v1/endpoints/shop").json()
             counts.check("two events of each language are kept, and no other", wait_until(lambda: (totals()["delivered"], totals()["pending"]) == (events, 0), 60))

@@ -170,14 +170,20 @@ SCRIPT = [
     ("secrets a " + SECRET, "staged 3"),
     ("enable a", "staged 4"),
     ("subscribe t a", "staged 5"),
-    ("submit 1001 a msg_2 -", "staged 6"),
-    ("seal", "sealed 2..7"),
-    ("commit", "committed 7"),
-    ("settle", "settled 7"),
-    ("told 6", "settled"),
-    ("stop", "reopened 7"),
+    ("subscribe t a", "staged 6"),
+    ("submit 1001 a msg_2 -", "staged 7"),
+    ("put b http://127.0.0.1:9000/hook 100 " + SECRET, "staged 8"),
+    ("subscribe t b", "staged 9"),
+    ("publish 1001 t msg_2 -", "staged 7,10"),
+    ("publish 1001 t msg_2 -", "staged 7,10"),
+    ("publish 1001 t msg_3 -", "staged 11,12"),
+    ("seal", "sealed 2..13"),
+    ("commit", "committed 13"),
+    ("settle", "settled 13"),
+    ("told 12", "settled"),
+    ("stop", "reopened 13"),
 ]
-LOOKS = ["show a", "show a msg_1", "show a msg_2", "limits a", "told 0", "told 1"]
+LOOKS = ["show a", "show a msg_1", "show a msg_2", "show b msg_2", "limits a", "told 0", "told 1"]
 REFUSED_STOP = "refused stop"
 
 

@@ -1,14 +1,13 @@
 """Scripts up to the relay's limits: endpoints, pending events, 1,000,000 lines.
 
 256 endpoints, 10,000 pending events of an endpoint, 50,000 of all, 4,096 pairs of a topic and an
-endpoint. If events are published to topics: publishes at each limit.
+endpoint; publishes at each limit.
 Usage: scripts/script limits RELAYD
 """
 import subprocess
 
 from lib.command import program_of
 from lib.limit_scripts import pairs, publishes, room
-from lib.serving import HAS_TOPICS
 
 MOST_PENDING = 10_000
 MOST_PENDING_ALL = 50_000
@@ -42,9 +41,7 @@ def has_lines(relayd):
 
 def main():
     relayd = program_of(__doc__)
-    scripts = [room(MOST_PENDING, MOST_PENDING_ALL), pairs(HAS_TOPICS)]
-    if HAS_TOPICS:
-        scripts.append(publishes(MOST_PENDING, MOST_PENDING_ALL))
+    scripts = [room(MOST_PENDING, MOST_PENDING_ALL), pairs(), publishes(MOST_PENDING, MOST_PENDING_ALL)]
     ends = [has_lines(relayd), *(is_answered(relayd, it) for it in scripts)]
     print(f"{ends.count(True)} passed, {ends.count(False)} failed")
     return 0 if all(ends) else 1

@@ -41,7 +41,7 @@ def check_script(counts, script):
 
 def check_limits(counts):
     pending = SmallDesk.MOST_PENDING, SmallDesk.MOST_PENDING_ALL
-    for name, desk, script in (("room", SmallDesk(), room(*pending)), ("publishes", SmallDesk(), publishes(*pending)), ("pairs", Desk(), pairs(True))):
+    for name, desk, script in (("room", SmallDesk(), room(*pending)), ("publishes", SmallDesk(), publishes(*pending)), ("pairs", Desk(), pairs())):
         check_replies(counts, name, desk, *map(list, zip(*script.lines)))
 
 

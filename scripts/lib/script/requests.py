@@ -10,9 +10,9 @@ import subprocess
 from lib.answers import LINES, MOST_BODY, Request, answer, examples, once_settled, turn
 from lib.command import ROOT, program_of
 from lib.model import Desk
-from lib.serving import HAS_TOPICS, SECRET
+from lib.serving import SECRET
 
-PAGES = [ROOT / "vectors" / "requests.md", *[ROOT / "vectors" / "topics" / "requests.md"] * HAS_TOPICS]
+PAGES = [ROOT / "vectors" / "requests.md", ROOT / "vectors" / "topics" / "requests.md"]
 RUNS = 40
 ASKS = 50
 
@@ -126,12 +126,11 @@ PATHS = {
     "enabled": (b"/v1/endpoints/%(name)b/enabled", 3),
     "subscribed": (b"/v1/endpoints/%(name)b/topics/%(topic)b", 4),
     "submit": (b"/v1/endpoints/%(name)b/events", 6),
+    "publish": (b"/v1/topics/%(topic)b/events", 6),
     "totals": (b"/v1/status", 2),
     "endpoint": (b"/v1/endpoints/%(name)b", 3),
     "event": (b"/v1/endpoints/%(name)b/events/%(id)b", 4),
 }
-if HAS_TOPICS:
-    PATHS["publish"] = b"/v1/topics/%(topic)b/events", 6
 
 
 def name_of(rng, names):
@@ -170,7 +169,7 @@ def both_subscribed():
 def random_lines(rng):
     """The lines of a run, each with the model's reply: as many requests, and now and then a turn or a halt."""
     desk, asks = Desk(), 0
-    first = both_subscribed() if HAS_TOPICS and rng.random() < 0.5 else []
+    first = both_subscribed() if rng.random() < 0.5 else []
     while asks < ASKS:
         kind = rng.choices(["ask", "turn", "halt"], [80, 20, 0.2])[0]
         if kind == "ask":

@@ -2,17 +2,15 @@
 
 If both streams go to one file, the replies come first. A script is NAME.script, its replies
 NAME.replies; NAME.errors and NAME.status are there if standard error isn't empty and the status
-isn't 0. (first-event.sentences is for `scripts/script show`.) The scripts of vectors/topics are run
-too, if the relay has topics. Usage: scripts/script worked RELAYD
+isn't 0. (first-event.sentences is for `scripts/script show`.) Usage: scripts/script worked RELAYD
 """
 import pathlib
 import subprocess
 import tempfile
 
 from lib.command import ROOT, Counts, first_difference, program_of
-from lib.serving import HAS_TOPICS
 
-FOLDERS = ["replay", *["topics"] * HAS_TOPICS]
+FOLDERS = ["replay", "topics"]
 
 
 def beside(script, ending):

@@ -22,9 +22,9 @@ import time
 
 from lib.command import Counts, program_of
 from lib.process import NOBODY, descriptors_of, seconds_of
-from lib.serving import HAS_TOPICS, SECRET, STARTED, Answer, Relay, Subscriber, ask, check_answer, connect, exchange, put, read_all, request, submit
+from lib.serving import SECRET, STARTED, Answer, Relay, Subscriber, ask, check_answer, connect, exchange, put, read_all, request, submit
 from lib.serving import wait_until
-from lib.topics import check_many_subscriptions, check_topics
+from lib.topics import check_changing, check_many_subscriptions, check_topics, check_widest
 
 EVENTS = "/v1/endpoints/a/events"
 # Which standard streams a program is started without, in the words of a shell.
@@ -755,8 +755,9 @@ def main():
         check_signatures(counts, relayd, folder)
         check_longest(counts, relayd, folder)
         check_many_subscriptions(counts, relayd, folder)
-        if HAS_TOPICS:
-            check_topics(counts, relayd, folder)
+        check_topics(counts, relayd, folder)
+        check_widest(counts, relayd, folder)
+        check_changing(counts, relayd, folder)
         check_end(counts, relayd, folder)
         check_exhausted(counts, relayd, folder)
         check_no_thread(counts, relayd, folder)

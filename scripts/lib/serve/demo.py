@@ -1,15 +1,16 @@
 """Shows what a relay does, step by step, and ends by itself (`make demo`).
 
-An endpoint, events that are signed and delivered, an answer 500 that is tried again, a kill -9
-after which nothing acknowledged is missing, and an answer 410 that disables. Its exit status is 0
-if all of it was seen.
+An endpoint, events that are signed and delivered, an answer 500 that is tried again, an event that
+is published to three subscribers of which one fails and recovers, a kill -9 after which nothing
+acknowledged is missing, and an answer 410 that disables. Its exit status is 0 if all of it was
+seen.
 Usage: scripts/serve demo RELAYD
 """
 import tempfile
 import threading
 
 from lib.command import program_of
-from lib.serving import SECRET, Relay, Subscriber, ask, put, submit, wait_until
+from lib.serving import SECRET, Relay, Subscriber, ask, publish, put, submit, subscribe, wait_until
 
 
 def say(text):
@@ -30,18 +31,19 @@ class Steps:
 
 
 class Script:
-    """A subscriber whose answer is given beforehand: 200 to all but the ids that are named."""
+    """A subscriber whose answers are given beforehand: 200 to all but the ids that are named, alone or with a path."""
 
     def __init__(self):
         self.answers = {}
 
     def __call__(self, post):
-        waiting = self.answers.get(post.header("webhook-id"), [])
+        event, path = post.header("webhook-id"), post.line.split(" ")[1]
+        waiting = self.answers.get(event) or self.answers.get(f"{event} {path}", [])
         return waiting.pop(0) if waiting else 200
 
 
-def state(relay, event):
-    return ask(relay.address, "GET", f"/v1/endpoints/shop/events/{event}").json()
+def state(relay, event, name="shop"):
+    return ask(relay.address, "GET", f"/v1/endpoints/{name}/events/{event}").json()
 
 
 def is_enabled(relay):
@@ -74,6 +76,22 @@ def retried(steps, relay, subscriber, script):
     steps.see(f"It was posted again under the same id: `{page['state']}` after {page['attempts']} attempts", seen)
 
 
+def published(steps, relay, subscriber, script):
+    names = ["shop", "stock", "books"]
+    for name in names:
+        if name != "shop":
+            put(relay.address, name, subscriber.port, path=f"/{name}")
+        subscribe(relay.address, "paid", name)
+    script.answers["order-0 /stock"] = [500]
+    answer = publish(relay.address, "paid", b'{"order":0}', "order-0")
+    steps.see(f"`shop`, `stock` and `books` subscribe to `paid`. An event is published to it once: answer {answer.status} {answer.body.decode()}", answer.status == 202)
+    told = lambda: [state(relay, "order-0", name)["state"] for name in names]
+    seen = wait_until(lambda: told() == ["delivered", "pending", "delivered"] and state(relay, "order-0", "stock")["last_status"] == 500, 5)
+    steps.see(f"Two subscribers take it, and `stock` answers 500: {', '.join(told())}", seen)
+    seen = wait_until(lambda: told() == ["delivered"] * 3, 15)
+    steps.see("`stock` gets it again 5 seconds later, the other two don't", seen and len([it for it in subscriber.posts if it.header("webhook-id") == "order-0"]) == 4)
+
+
 def killed(steps, relay, relayd, file, subscriber):
     answer, may_answer = subscriber.reply, threading.Event()
     subscriber.reply = lambda post: answer(post) if may_answer.wait(60) else b""
@@ -84,7 +102,7 @@ def killed(steps, relay, relayd, file, subscriber):
     page = ask(relay.address, "GET", "/v1/status").json()
     steps.see(f"It is started again on the same file: {page['pending']} events wait, {page['delivered']} are delivered", page["pending"] == 20)
     may_answer.set()
-    done = lambda: ask(relay.address, "GET", "/v1/status").json()["delivered"] == 22
+    done = lambda: ask(relay.address, "GET", "/v1/status").json()["delivered"] == 25
     steps.see("All that was acknowledged is delivered, none is missing", wait_until(done, 20))
     return relay
 
@@ -111,6 +129,7 @@ def main():
         say(f"A relay serves at {host}:{port} on a fresh file, and a subscriber listens at port {subscriber.port}.")
         first_event(steps, relay, subscriber)
         retried(steps, relay, subscriber, script)
+        published(steps, relay, subscriber, script)
         relay = killed(steps, relay, relayd, file, subscriber)
         gone(steps, relay, script)
         relay.kill()

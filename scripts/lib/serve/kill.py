@@ -3,9 +3,9 @@
 16 submitters, subscribers of which some fail, and SIGKILL at a random moment. After each kill
 `relayd check` opens the file, and the relay is started again on it. In the end every event that was
 answered 202 is in the file with its bytes, was delivered under its own webhook-id with its bytes
-and a signature that verifies, and nothing was posted under an id that nobody gave. If the relay has
-topics, events are published too: one that was answered 202 is in the file at each subscriber, under
-the number that the answer names for it, and any other one is there at each subscriber or at none.
+and a signature that verifies, and nothing was posted under an id that nobody gave. Events are
+published too: one that was answered 202 is in the file at each subscriber, under the number that
+the answer names for it, and any other one is there at each subscriber or at none.
 Usage: scripts/serve kill RELAYD [KILLS [SEED]]: 20 kills if left out
 """
 import random
@@ -17,15 +17,13 @@ import time
 import zlib
 
 from lib.command import Counts, program_of, ran
-from lib.serving import HAS_TOPICS, SECRET, Relay, Subscriber, ask, post, put, subscribe, wait_until
+from lib.serving import SECRET, Relay, Subscriber, ask, post, put, subscribe, wait_until
 
 SUBMITTERS = 16
 NAMES = ("a", "b", "c", "d")
 # Where events are sent, and the endpoints that get them, in the order in which they are put.
-PLACES = {f"/v1/endpoints/{name}/events": (name,) for name in NAMES}
-SUBSCRIBERS = ("a", "b", "d") if HAS_TOPICS else ()
-if HAS_TOPICS:
-    PLACES["/v1/topics/t/events"] = SUBSCRIBERS
+SUBSCRIBERS = ("a", "b", "d")
+PLACES = {f"/v1/endpoints/{name}/events": (name,) for name in NAMES} | {"/v1/topics/t/events": SUBSCRIBERS}
 FAILURES = (500, 503, b"", b"abc", b"HTTP/1.1 2")
 
 
@@ -136,10 +134,9 @@ def conclude(counts, load, subscribers, relay, file):
     counts.check("every event is kept under its number", all(kept.get(it, (None,))[0] == load.acknowledged[it] for it in load.acknowledged))
     counts.check("every event is kept with its bytes", all(kept[it][1] == load.sent[it] for it in load.acknowledged if it in kept))
     counts.check("answers that name other numbers", load.strange, [])
-    if HAS_TOPICS:
-        where = [tuple(name for name in NAMES if (name, event) in kept) for event in load.published]
-        counts.check("publishes that are kept at some subscribers alone", [it for it in where if it not in ((), SUBSCRIBERS)], [])
-        print(f"{len(where)} published, {where.count(SUBSCRIBERS)} of them kept")
+    where = [tuple(name for name in NAMES if (name, event) in kept) for event in load.published]
+    counts.check("publishes that are kept at some subscribers alone", [it for it in where if it not in ((), SUBSCRIBERS)], [])
+    print(f"{len(where)} published, {where.count(SUBSCRIBERS)} of them kept")
     for name in NAMES:
         strange = [post for post in posts(name) if load.sent.get((name, post.header("webhook-id"))) != post.body]
         counts.check(f"nothing else is posted to {name}", len(strange), 0)
