@@ -271,7 +271,7 @@ pub publish_refused : (d : DeskValue) (now : ℕ) (topic id body : List ℕ) (r 
 publish_refused d now topic id body r checks =
     refuses d (λ w. publish_faults w topic id body) (λ w. publish_to (lacking w topic id) w now topic id body) r checks
 
--- a publish behind its first faults
+-- a publish after its first faults
 publish_passes : (d new : DeskValue) (now : ℕ) (topic id body : List ℕ) (u : Unit {0})
     (reply : Result (List Ticket) Refusal)
     → Checks d (λ w. publish_faults w topic id body) (Ok u)

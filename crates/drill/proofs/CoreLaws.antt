@@ -256,7 +256,7 @@ holds_so old new (live, out) same permits core = ∥∥₁_map core (λ (h : Hol
 
 -- Steps that are staged
 
--- a refusal is told by its number and its name, and keeps no ticket
+-- a refusal prints its number and its name, and keeps no ticket
 abbrev Refuses : {A : Type 0} → (told : Result A Refusal → Reply) (kept : Result A Refusal → List Given → List Given)
     → Type 0
 Refuses told kept = (why : Refusal) → (told (Err why) ≡ refusal_reply why)

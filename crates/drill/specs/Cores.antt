@@ -70,7 +70,7 @@ abbrev pub most_tickets : Call → ℕ
 most_tickets (on.Publish now topic id body) = MAX_ENDPOINTS
 most_tickets event = 1
 
--- there is room for the numbers that the call is told
+-- there is room for the numbers in the call's reply
 abbrev pub HasSeqs : Call → Vec ℕ Global → Type 0
 HasSeqs (on.Publish now topic id body) seqs = (seqs.items ≡ []) × (MAX_ENDPOINTS ≤ vec_capacity seqs)
 HasSeqs event seqs = Unit {0}

@@ -144,7 +144,7 @@ abbrev pub lacks : Session → Option ℕ → List (Reply × Session)
 lacks s None = []
 lacks s (Some number) = (says.Refused number fault.OutOfMemory, s) ∷ []
 
--- what the desk answers is told so, and of what it gave this is kept
+-- the reply to the desk's answer, and what is kept of what it gave
 abbrev pub gives : {A : Type 0} → (told : Result A Refusal → Reply)
     → (kept : Result A Refusal → List Given → List Given) → Session → desk.Answer A → Answer
 gives told kept s answer = record {

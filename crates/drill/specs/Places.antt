@@ -13,7 +13,7 @@ events_of calls = map (λ call. call.event) calls
 abbrev pub all_tickets : List Event → ℕ
 all_tickets events = sum_by most_tickets_of events
 
--- each call has room for the numbers that it is told
+-- each call has room for the numbers in its reply
 abbrev pub IsPrepared : Prepared → Type 0
 IsPrepared call = HasSeqsOf call.event call.seqs
 

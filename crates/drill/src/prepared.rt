@@ -1,4 +1,4 @@
-//! Calls with the room for what they are told.
+//! Calls with the room for their replies.
 ghost use Rattle.std.specs.Prelude.{◌≡◌, IfOk};
 ghost use Rattle.drill.specs.Cores.{HasSeqs, HasSeqsOf, most_tickets, most_tickets_of};
 
@@ -7,7 +7,7 @@ use relay_types::MAX_ENDPOINTS;
 use script_lines::Call;
 use std::alloc::{AllocError, Global};
 
-/// A call of the core, with room for the numbers that it is told.
+/// A call of the core, with room for the numbers in its reply.
 #[derive(Drop)]
 pub(crate) struct Prepared {
     pub(crate) event: Event,
@@ -33,7 +33,7 @@ pub(crate) fn most_tickets_of(event: &Event) -> usize
     }
 }
 
-// Room for the numbers that the call is told.
+// Room for the numbers in the call's reply.
 pub(crate) fn seqs_for(alloc: Global, call: &Call) -> Result<Vec<u64>, AllocError>
     ensures { IfOk result (λ seqs. HasSeqs call.now seqs) }
 {

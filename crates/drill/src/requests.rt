@@ -56,6 +56,7 @@ impl<L: Ledger> Core<L> {
     {
         match self.desk.publish(now, topic, id, body) {
             Ok(mut tickets) => {
+                // A topic has no more subscribers.
                 tickets.truncate(MAX_ENDPOINTS);
                 self.keep_all(tickets.as_slice(), seqs)
             }

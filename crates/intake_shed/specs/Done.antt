@@ -44,7 +44,7 @@ naturals (n ∷ ns) = item (natural n) (naturals ns)
 abbrev pub seqs_of : List Ticket → List Seq
 seqs_of tickets = map (λ t. t.seq) tickets
 
--- an event that was published is told by its id and the numbers of its records
+-- the reply to a publish has the event's id and the numbers of its records
 abbrev pub published_body : (id : Text) → List Seq → Data
 published_body id seqs = object_of ((codes "id", string id) ∷ (codes "seqs", array (naturals seqs)) ∷ [])
 

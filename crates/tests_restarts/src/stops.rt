@@ -164,7 +164,7 @@ fn left<L: Ledger, S: Alter + Drop>(
     }
 }
 
-/// Behind a run stand the records of whole batches, so the event for both is there twice or not at all: all that were
+/// After a run the records of whole batches are there, so the event for both is there twice or not at all: all that were
 /// settled, and none that wasn't sealed.
 fn check_records(rt: &impl Abort, records: u64, (settled, sealed): (u64, u64)) {
     assert!(rt; matches!(records, 0 | 4 | 7 | 8), "{records} records");
