@@ -19,13 +19,14 @@ use Rattle.delivery_book.specs.declared.entry.Entry.{Entry}
 use Rattle.delivery_book.specs.declared.entry.Unsettled.{Unsettled}
 use Rattle.delivery_book.specs.declared.keys.EventKey.{EventKey}
 use Rattle.delivery_book.specs.declared.tally.Tally.{Tally}
-use Rattle.delivery_book.specs.Entries.{new_entry, is_entry_as, state_in}
-use Rattle.delivery_book.specs.Fields.{IsBook, IsKeyed, IsIndex, HasMoreKeys, event_cmp, key_of}
+use Rattle.delivery_book.specs.Entries.{new_entry, is_entry_as, is_kept, state_in}
+use Rattle.delivery_book.specs.Fields.{AreNew, IsBook, IsKeyed, IsIndex, HasMoreKeys, event_cmp, is_known_as, is_taken_below, key_of}
 use Rattle.delivery_book.specs.Fields.{HasMore, HasSame, HasRoomForAll, KeepsRoom, in_state, counts_for, has_room}
 use Rattle.delivery_book.specs.Fields.{one_of}
 use Rattle.delivery_book.specs.Fields.{is_numbered, is_waiting, is_later, is_among, is_counted, settled_among}
 use Rattle.delivery_book.proofs.IndexLemmas.{indexed-append, keys-push, none_more}
 use Rattle.delivery_book.proofs.Updates.{IsFresh, all_at, all_weaker, caught-append}
+use Rattle.delivery_book.proofs.Marks.{apart-append, marks-append, order_later, unknown_taken}
 
 -- no entry has a number that is mapped away
 pub unmapped : (o : Option Entry) → option_map (λ e. e.seq) o ≡ None → o ≡ None
@@ -120,16 +121,16 @@ found_still : (entries events : List Entry) (o : Unsettled) → is_later entries
 found_still entries events o h = grind (arith, find-append)
 
 pub book-append : (index later : BTreeMap EventKey ℕ) (tally counted settled_tally opened_tally : Tally)
-    (entries events : List Entry) (unsettled : List Unsettled) (room more_room next settled n seq : ℕ)
-    → IsBook entries index tally settled_tally unsettled room next settled n → next ≤ seq → AreFrom seq events
-    → HasMoreKeys index events later → HasMore tally (settled_among events) counted → HasSame settled_tally opened_tally
+    (entries events : List Entry) (unsettled : List Unsettled) (room more_room next settled n seq : ℕ) (first : Option ℕ)
+    → IsBook entries index tally settled_tally unsettled room next settled n first → next ≤ seq → AreFrom seq events
+    → AreNew index events → HasMoreKeys index events later → HasMore tally (settled_among events) counted → HasSame settled_tally opened_tally
     → HasRoomForAll opened_tally events → KeepsRoom settled_tally opened_tally
     → length entries + length events ≤ more_room
-    → IsBook (entries ++ events) later counted opened_tally unsettled more_room (seq + length events) settled n
+    → IsBook (entries ++ events) later counted opened_tally unsettled more_room (seq + length events) settled n first
 book-append index later tally counted settled_tally opened_tally entries events unsettled room more_room next settled n
-    seq h up new more again same opened stays enough = record {
+    seq first h up new unknown more again same opened stays enough = record {
       keyed = keyed-append index later entries events next seq settled n h.keyed up new
-          (indexed-append index later entries events h.keyed.indexed more);
+          (indexed-append index later entries events h.keyed.indexed new.fresh more);
       latest = λ those asked. again those asked
           ∙ (λ i. h.latest those asked i + counted_alike those asked events new.fresh i)
           ∙ sym (sum_by-append (λ x. cond (is_counted (λ e. e.latest) those asked x) 1 0) entries events);
@@ -146,21 +147,38 @@ book-append index later tally counted settled_tally opened_tally entries events 
         caught_up = caught-append unsettled entries events h.queue.caught_up new.fresh;
         room = omega (arith, enough, length-append entries events);
       };
+      order = order_later unsettled next (seq + length events) (omega (arith, up)) h.order;
+      marks = marks-append entries events first next (seq + length events) h.marks (omega (arith, up))
+          (kept_all events new.fresh) (apart-append entries events h.marks.apart between unknown.apart);
     }
+  where
+    kept_all : (some : List Entry) → AllByRecursion IsFresh some → AllByRecursion (λ e. e.taken_by ≡ None) some
+    kept_all [] fresh = tt
+    kept_all (e ∷ es) fresh = (fresh.0.2, kept_all es fresh.1)
+
+    between : (i j : ℕ) (d : Entry) → i < length entries → j < length events
+        → is_entry_as (get_or events j d).name (get_or events j d).id (get_or entries i d) ≡ true
+        → is_taken_below (get_or events j d).seq (get_or entries i d) ≡ true
+    between i j d l m same =
+        let b = get_or events j d in
+        unknown_taken b.name b.id entries next b.seq i d
+        (unmapped (find (is_known_as (key_of b)) entries) (sym (h.keyed.indexed (key_of b)) ∙ unknown.unknown j d m))
+        h.marks.taken (omega (arith, up, new.numbers j d m)) l same
 
 -- one more event
-pub book-push : (index later : BTreeMap EventKey ℕ) (tally counted settled_tally opened_tally : Tally) (entries : List Entry) (unsettled : List Unsettled) (room more_room next settled n : ℕ) (seq : ℕ) (name id body : List ℕ) (at : ℕ)
-    → IsBook entries index tally settled_tally unsettled room next settled n → next ≤ seq → find (is_entry_as name id) entries ≡ None
+pub book-push : (index later : BTreeMap EventKey ℕ) (tally counted settled_tally opened_tally : Tally) (entries : List Entry) (unsettled : List Unsettled) (room more_room next settled n : ℕ) (seq : ℕ) (first : Option ℕ) (name id body : List ℕ) (at : ℕ)
+    → IsBook entries index tally settled_tally unsettled room next settled n first → next ≤ seq → find (λ x. is_entry_as name id x && is_kept x) entries ≡ None
     → ((q : EventKey) → get event_cmp later q ≡ cond (is_at (event_cmp (record { name = name; id = id })) q) (Some seq) (get event_cmp index q))
     → ((those : Option (List ℕ)) (asked : State) → in_state asked (counts_for counted those) ≡ in_state asked (counts_for tally those) + one_of name Pending those asked)
     → ((those : Option (List ℕ)) → counts_for opened_tally those ≡ counts_for settled_tally those) → has_room opened_tally name ≡ true
     → ((asked : List ℕ) → has_room settled_tally asked ≡ true → has_room opened_tally asked ≡ true) → length entries + 1 ≤ more_room
-    → IsBook (entries ++ new_entry seq name id body at ∷ []) later counted opened_tally unsettled more_room (seq + 1) settled n
-book-push index later tally counted settled_tally opened_tally entries unsettled room more_room next settled n seq name
+    → IsBook (entries ++ new_entry seq name id body at ∷ []) later counted opened_tally unsettled more_room (seq + 1) settled n first
+book-push index later tally counted settled_tally opened_tally entries unsettled room more_room next settled n seq first name
     id body at h l unknown updated again same opened stays enough =
     book-append index later tally counted settled_tally opened_tally entries (e ∷ []) unsettled room more_room next
-    settled n seq h l (record { numbers = numbers; fresh = ((refl, refl), tt) })
-    (keys-push index index later [] e (h.keyed.indexed (key_of e) ∙ ap (option_map (λ x. x.seq)) unknown) refl
+    settled n seq first h l (record { numbers = numbers; fresh = ((refl, refl, refl), tt) })
+    (record { unknown = alone; apart = λ i j d lt m. absurd (omega (arith, lt, m)) })
+    (keys-push index index later [] e missing refl
     (λ q. sym (none_more (get event_cmp index q))) updated)
     (λ those asked. again those asked
     ∙ ap (λ m. in_state asked (counts_for tally those) + m)
@@ -173,16 +191,23 @@ book-push index later tally counted settled_tally opened_tally entries unsettled
     one : Option (List ℕ) → State → Entry → ℕ
     one those asked x = cond (is_counted (λ y. y.settled) those asked x) 1 0
 
+    missing : get event_cmp index (key_of e) ≡ None
+    missing = h.keyed.indexed (key_of e) ∙ ap (option_map (λ x. x.seq)) unknown
+
+    alone : (k : ℕ) (d : Entry) → k < 1 → get event_cmp index (key_of (get_or (e ∷ []) k d)) ≡ None
+    alone zero d lt = missing
+    alone (suc k) d lt = absurd (omega (arith, lt))
+
     numbers : (k : ℕ) (d : Entry) → k < 1 → (get_or (e ∷ []) k d).seq ≡ seq + k
     numbers zero d lt = sym (add-zero seq)
     numbers (suc k) d lt = absurd (omega (arith, lt))
 
 -- the same keys and counts, with as much room or more
-pub book-same : (index kept : BTreeMap EventKey ℕ) (tally counted settled_tally opened_tally : Tally) (entries : List Entry) (unsettled : List Unsettled) (room more_room next settled n : ℕ)
-    → IsBook entries index tally settled_tally unsettled room next settled n → ((k : EventKey) → get event_cmp kept k ≡ get event_cmp index k) → ((those : Option (List ℕ)) → counts_for counted those ≡ counts_for tally those)
+pub book-same : (index kept : BTreeMap EventKey ℕ) (tally counted settled_tally opened_tally : Tally) (entries : List Entry) (unsettled : List Unsettled) (room more_room next settled n : ℕ) (first : Option ℕ)
+    → IsBook entries index tally settled_tally unsettled room next settled n first → ((k : EventKey) → get event_cmp kept k ≡ get event_cmp index k) → ((those : Option (List ℕ)) → counts_for counted those ≡ counts_for tally those)
     → ((those : Option (List ℕ)) → counts_for opened_tally those ≡ counts_for settled_tally those) → ((asked : List ℕ) → has_room settled_tally asked ≡ true → has_room opened_tally asked ≡ true)
-    → room ≤ more_room → IsBook entries kept counted opened_tally unsettled more_room next settled n
-book-same index kept tally counted settled_tally opened_tally entries unsettled room more_room next settled n h keys alike same stays enough = record {
+    → room ≤ more_room → IsBook entries kept counted opened_tally unsettled more_room next settled n first
+book-same index kept tally counted settled_tally opened_tally entries unsettled room more_room next settled n first h keys alike same stays enough = record {
   keyed = record {
     ascending = h.keyed.ascending;
     numbered = h.keyed.numbered;
@@ -196,4 +221,6 @@ book-same index kept tally counted settled_tally opened_tally entries unsettled 
   settled = λ those asked. ap (in_state asked) (same those) ∙ h.settled those asked;
   opened = all_weaker (λ e. has_room settled_tally e.name) (λ e. has_room opened_tally e.name) entries (λ e is. stays e.name is) h.opened;
   queue = record { later = h.queue.later; counted = h.queue.counted; caught_up = h.queue.caught_up; room = omega (arith, h.queue.room, enough) };
+  order = h.order;
+  marks = h.marks;
 }

@@ -1,17 +1,18 @@
 -- Facts about lists of entries in the order of their numbers.
 use Rattle.std.proofs.Common.{◌≡◌, ◌≢◌, ℕ, zero, suc, ◌+◌, ◌-◌, ◌<◌, ◌≤◌, Bool, true, false, List, [], ◌∷◌, Option, Some, None, length, take, drop, get_or, refl, sym, ◌∙◌, ap, ltb, eqb, arith, cond, ⊎_elim}
-use Rattle.std.specs.Prelude.{filter, count_by, is_some}
+use Rattle.std.specs.Prelude.{◌&&◌, filter, find, count_by, is_some, option_map}
+use Rattle.std.specs.Option.{option_and_then}
 use Rattle.std.specs.List.{list_all}
 use Rattle.std.specs.List.Sorted.{IsPartitionedBy}
 use Rattle.std.proofs.Math.Seq.{take-add}
-use Rattle.std.proofs.lemmas.Bool.{cond-true, cond-false, lt-ltb, le-ltb, ne_eqb, eq-eqb, cases_eq, cases_lt}
+use Rattle.std.proofs.lemmas.Bool.{cond-true, cond-false, lt-ltb, le-ltb, ne_eqb, eq-eqb, cases_eq, cases_lt, eqb-true}
 use Rattle.std.proofs.lemmas.List.Folds.{find_at}
 use Rattle.std.proofs.lemmas.List.Sums.{position_or_len_is, sum_by-append, sum_by-cons}
 use Rattle.std.proofs.lemmas.List.Sorted.{IsPartitionedBy-ltb}
 use Rattle.std.proofs.lemmas.Option.{slice_get-get_or}
 use Rattle.relay_types.proofs.KnownLaws.{and_first, and_second}
 use Rattle.delivery_book.specs.declared.entry.Entry.{Entry}
-use Rattle.delivery_book.specs.Entries.{entry_at}
+use Rattle.delivery_book.specs.Entries.{entry_at, is_kept, kept_at, row_in}
 use Rattle.delivery_book.specs.Fields.{IsAscending}
 
 -- the entry stands below this number
@@ -125,3 +126,57 @@ found_passes p (x ∷ xs) seq e all h = step (eqb x.seq seq) h (found_passes p x
     step : (b : Bool) → cond b (Some x) (entry_at xs seq) ≡ Some e → (entry_at xs seq ≡ Some e → p e ≡ true) → p e ≡ true
     step true q later = ap p (sym (one x e q)) ∙ and_first (p x) _ all
     step false q later = later q
+
+-- where nothing passes, nothing passes a test that asks more
+pub find_narrow : {X : Type 0} (p q : X → Bool) (xs : List X) → find p xs ≡ None → find (λ x. p x && q x) xs ≡ None
+find_narrow p q [] none = refl
+find_narrow p q (x ∷ xs) none = pick (p x) (q x) none (find_narrow p q xs)
+  where
+    pick : (a b : Bool) → cond a (Some x) (find p xs) ≡ None
+        → (find p xs ≡ None → find (λ y. p y && q y) xs ≡ None)
+        → cond (a && b) (Some x) (find (λ y. p y && q y) xs) ≡ None
+    pick true b is later = absurd (let f = is in cc)
+    pick false b is later = later is
+
+-- the entry of this number, if no Purge took it
+pub kept_at-is : (entries : List Entry) (seq : ℕ) → IsAscending entries
+    → kept_at entries seq ≡ option_and_then (λ (e : Entry). cond (is_kept e) (Some e) None) (entry_at entries seq)
+kept_at-is [] seq up = refl
+kept_at-is (x ∷ xs) seq up =
+    pick (eqb x.seq seq) (is_kept x) refl refl
+    (kept_at-is xs seq (λ i j d lt l. up (suc i) (suc j) d (omega (arith, lt)) (omega (arith, l))))
+  where
+    none : eqb x.seq seq ≡ true → kept_at xs seq ≡ None
+    none same =
+        find_narrow (λ (e : Entry). eqb e.seq seq) is_kept xs
+        (entry_at-none xs seq
+        (λ k d h other. omega (arith, other, eqb-true x.seq seq same, up 0 (suc k) d (omega arith) (omega (arith, h)))))
+
+    pick : (a b : Bool) → eqb x.seq seq ≡ a → is_kept x ≡ b
+        → kept_at xs seq ≡ option_and_then (λ (e : Entry). cond (is_kept e) (Some e) None) (entry_at xs seq)
+        → cond (a && b) (Some x) (kept_at xs seq)
+        ≡ option_and_then (λ (e : Entry). cond (is_kept e) (Some e) None) (cond a (Some x) (entry_at xs seq))
+    pick true true same kept later = sym (ap (λ (c : Bool). cond c (Some x) None) kept)
+    pick true false same kept later = none same ∙ sym (ap (λ (c : Bool). cond c (Some x) None) kept)
+    pick false b same kept later = later
+
+-- so is its row
+pub latest_is : (entries : List Entry) (seq : ℕ) (found : Option Entry) → IsAscending entries
+    → found ≡ entry_at entries seq
+    → option_and_then (λ (e : Entry). cond (is_kept e) (Some (row_in e.latest e)) None) found
+    ≡ option_map (λ e. row_in e.latest e) (kept_at entries seq)
+latest_is entries seq found up is =
+    ap (option_and_then (λ (e : Entry). cond (is_kept e) (Some (row_in e.latest e)) None)) is
+    ∙ shape (entry_at entries seq)
+    ∙ sym (ap (option_map (λ (e : Entry). row_in e.latest e)) (kept_at-is entries seq up))
+  where
+    pick : (e : Entry) (b : Bool)
+        → cond b (Some (row_in e.latest e)) None ≡ option_map (λ (x : Entry). row_in x.latest x) (cond b (Some e) None)
+    pick e true = refl
+    pick e false = refl
+
+    shape : (o : Option Entry)
+        → option_and_then (λ (e : Entry). cond (is_kept e) (Some (row_in e.latest e)) None) o
+        ≡ option_map (λ e. row_in e.latest e) (option_and_then (λ (e : Entry). cond (is_kept e) (Some e) None) o)
+    shape None = refl
+    shape (Some e) = pick e (is_kept e)

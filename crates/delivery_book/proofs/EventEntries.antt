@@ -10,8 +10,8 @@ use Rattle.std.proofs.lemmas.List.{length-take-le, take_more}
 use Rattle.relay_types.specs.Steps.{accepts}
 use Rattle.delivery_book.specs.declared.entry.Entry.{Entry}
 use Rattle.delivery_book.specs.declared.keys.EventKey.{EventKey}
-use Rattle.delivery_book.specs.Entries.{events_from, is_entry_as, new_entry}
-use Rattle.delivery_book.specs.Fields.{AreNew, IsIndex, key_of}
+use Rattle.delivery_book.specs.Entries.{events_from, is_entry_as, is_kept, new_entry}
+use Rattle.delivery_book.specs.Fields.{AreNew, IsIndex, is_known_as, key_of}
 use Rattle.delivery_book.proofs.Books.{AreFrom}
 use Rattle.delivery_book.proofs.Updates.{IsFresh}
 
@@ -60,7 +60,7 @@ module _ (id body : List ℕ) (at : ℕ) where
 
   fresh : (seq : ℕ) (names : List (List ℕ)) → AllByRecursion IsFresh (made seq names)
   fresh seq [] = tt
-  fresh seq (name ∷ names) = ((refl, refl), fresh (seq + 1) names)
+  fresh seq (name ∷ names) = ((refl, refl, refl), fresh (seq + 1) names)
 
   pub made_from : (seq : ℕ) (names : List (List ℕ)) → AreFrom seq (made seq names)
   made_from seq names = record {
@@ -72,12 +72,12 @@ module _ (id body : List ℕ) (at : ℕ) where
   pub made_new : (index : BTreeMap EventKey ℕ) (entries : List Entry) (seq : ℕ) (names : List (List ℕ))
       → IsIndex index entries
       → AllPairs (λ a b. a ≢ b) names
-      → All (λ name. option_map (λ e. e.seq) (find (is_entry_as name id) entries) ≡ None) names
+      → All (λ name. option_map (λ e. e.seq) (find (λ e. is_entry_as name id e && is_kept e) entries) ≡ None) names
       → AreNew index (made seq names)
   made_new index entries seq names indexed apart unknown = record {
     unknown = λ k d h.
         indexed (key_of (get_or (made seq names) k d))
-        ∙ ap (λ (e : Entry). option_map (λ (x : Entry). x.seq) (find (is_entry_as e.name e.id) entries))
+        ∙ ap (λ (e : Entry). option_map (λ (x : Entry). x.seq) (find (is_known_as (key_of e)) entries))
         (made_at seq names k d [] (within k h))
         ∙ unknown k [] (within k h);
     apart = λ i j d lt h.

@@ -1,8 +1,8 @@
 -- The keys of the index, as events are added and removed.
-use Rattle.std.proofs.Common.{◌≡◌, ◌&&◌, ℕ, ◌+◌, ◌<◌, Bool, true, false, List, [], ◌∷◌, ◌++◌, Option, Some, None}
-use Rattle.std.proofs.Common.{length, take, get_or, refl, sym, ◌∙◌, ap, subst, arith, cond, true≢false}
-use Rattle.std.specs.Prelude.{◌||◌, All, OnErr, OnOk, Result, Ok, Err, is_err, find, option_map, bytes_eq}
-use Rattle.std.specs.List.{list_any}
+use Rattle.std.proofs.Common.{◌≡◌, ◌&&◌, ℕ, suc, ◌+◌, ◌<◌, Bool, true, false, not, List, [], ◌∷◌, ◌++◌, Option, Some, None}
+use Rattle.std.proofs.Common.{length, map, take, get_or, refl, sym, ◌∙◌, ap, subst, arith, cond, true≢false}
+use Rattle.std.specs.Prelude.{◌||◌, All, AllPairs, OnErr, OnOk, Result, Ok, Err, is_err, is_some, filter, find, option_map, bytes_eq}
+use Rattle.std.specs.List.{AllByRecursion, list_any}
 use Rattle.std.specs.Option.{option_or}
 use Rattle.std.specs.Cmp.{first_so, second_so}
 use Rattle.std.specs.Cmp.Lexicographic.{bytes_decides, slice_cmp}
@@ -10,13 +10,18 @@ use Rattle.std.specs.BTreeMap.{BTreeMap, get, is_at}
 use Rattle.std.specs.declared.cmp.Ordering.{Ordering}
 use Rattle.std.specs.declared.cmp.Ordering.TheVariants.{Less, Equal, Greater}
 use Rattle.std.specs.Ordering.{is_eq, nat_cmp, ordering_then}
+use Rattle.std.proofs.lemmas.Bool.{false_from_ne_true}
 use Rattle.std.proofs.lemmas.Map.Text.{is_eq-slice_cmp}
 use Rattle.std.proofs.lemmas.List.{get_or_default, get_or-take, length-take-le, take_more}
-use Rattle.std.proofs.lemmas.List.Folds.{Any-from_list_any, find-append, list_any_more, list_any_none}
+use Rattle.std.proofs.lemmas.List.Folds.{Any-from_list_any, find-append, list_any-append, list_any_none}
+use Rattle.relay_types.proofs.KnownLaws.{and_first, and_second}
+use Rattle.relay_types.proofs.RowLaws.{find_map}
 use Rattle.delivery_book.specs.declared.entry.Entry.{Entry}
 use Rattle.delivery_book.specs.declared.keys.EventKey.{EventKey}
-use Rattle.delivery_book.specs.Entries.{is_entry_as}
-use Rattle.delivery_book.specs.Fields.{AreNew, HasLessKeys, HasMoreKeys, HasSameKeys, IsIndex, event_cmp, key_of}
+use Rattle.delivery_book.specs.Entries.{is_done_before, is_entry_as, is_kept, marked}
+use Rattle.delivery_book.specs.Fields.{AreApart, AreNew, HasLessKeys, HasMoreKeys, HasSameKeys, IsIndex, event_cmp, is_known_as, key_of}
+use Rattle.delivery_book.proofs.Updates.{IsFresh}
+use Rattle.delivery_book.proofs.Marks.{kept_left, marked_keeps, marked_way}
 
 ties : (a b : Ordering) → is_eq (ordering_then a b) ≡ is_eq a && is_eq b
 ties Less b = refl
@@ -40,7 +45,7 @@ pub none_more : {X : Type 0} (o : Option X) → option_or o None ≡ o
 none_more None = refl
 none_more (Some x) = refl
 
-none_found : (p : Entry → Bool) (entries : List Entry) → list_any p entries ≡ false → find p entries ≡ None
+pub none_found : {X : Type 0} (p : X → Bool) (entries : List X) → list_any p entries ≡ false → find p entries ≡ None
 none_found p [] h = refl
 none_found p (x ∷ xs) h = pick (p x) h (none_found p xs)
   where
@@ -48,6 +53,18 @@ none_found p (x ∷ xs) h = pick (p x) h (none_found p xs)
         → cond b (Some x) (find p xs) ≡ None
     pick true other later = absurd (true≢false other)
     pick false other later = later other
+
+-- where none passes, none passes a test that asks more
+pub any_fewer : {X : Type 0} (p q : X → Bool) (xs : List X) → ((x : X) → p x ≡ false → q x ≡ false)
+    → list_any p xs ≡ false → list_any q xs ≡ false
+any_fewer p q [] more h = refl
+any_fewer p q (x ∷ xs) more h = pick (p x) (q x) (more x) h (any_fewer p q xs more)
+  where
+    pick : (a b : Bool) → (a ≡ false → b ≡ false) → (a || list_any p xs) ≡ false
+        → (list_any p xs ≡ false → list_any q xs ≡ false) → (b || list_any q xs) ≡ false
+    pick true b fewer none later = absurd (true≢false none)
+    pick false true fewer none later = absurd (true≢false (fewer refl))
+    pick false false fewer none later = later none
 
 -- what a result says if it is no error, and if it is one
 pub on_ok : {T E : Type 0} (r : Result T E) (P : Type 0) → OnOk r P → is_err r ≡ false → P
@@ -113,24 +130,31 @@ keys-more index now later events i e new h is more updated =
         ∙ ap (λ (x : Entry). is_entry_as x.name x.id (get_or events k d)) (is ∙ get_or_default events i e d h)
         ∙ new.apart k i d within h
 
--- and of one that removes them
-pub keys-less : (index now later : BTreeMap EventKey ℕ) (events : List Entry) (i : ℕ) (e : Entry)
-    → i < length events → e ≡ get_or events i e → HasLessKeys index (take i events) now
+-- the index without the key of one more event
+pub keys-drop : (index now later : BTreeMap EventKey ℕ) (some : List Entry) (e : Entry) → HasLessKeys index some now
     → ((q : EventKey) → get event_cmp later q ≡ cond (is_at (event_cmp (key_of e)) q) None (get event_cmp now q))
-    → HasLessKeys index (take (i + 1) events) later
-keys-less index now later events i e h is less updated q =
+    → HasLessKeys index (some ++ e ∷ []) later
+keys-drop index now later some e less updated q =
     updated q
     ∙ (λ t. cond (same_at (key_of e) q t) None (less q t))
-    ∙ pick (is_entry_as q.name q.id e) (list_any (is_entry_as q.name q.id) (take i events))
-    ∙ ap (λ b. cond b None (get event_cmp index q))
-    (ap (λ x. list_any (is_entry_as q.name q.id) (take i events) || is_entry_as q.name q.id x) is
-    ∙ sym (list_any_more (is_entry_as q.name q.id) events i e h))
+    ∙ pick (is_entry_as q.name q.id e) (list_any (is_entry_as q.name q.id) some)
+    ∙ ap (λ b. cond b None (get event_cmp index q)) (sym (list_any-append (is_entry_as q.name q.id) some (e ∷ [])))
   where
-    pick : (a b : Bool) → cond a None (cond b None (get event_cmp index q)) ≡ cond (b || a) None (get event_cmp index q)
+    pick : (a b : Bool) → cond a None (cond b None (get event_cmp index q))
+        ≡ cond (b || (a || false)) None (get event_cmp index q)
     pick true true = refl
     pick true false = refl
     pick false true = refl
     pick false false = refl
+
+-- at a step of a loop that removes them
+pub keys-less : (index now later : BTreeMap EventKey ℕ) (events : List Entry) (i : ℕ) (e : Entry)
+    → i < length events → e ≡ get_or events i e → HasLessKeys index (take i events) now
+    → ((q : EventKey) → get event_cmp later q ≡ cond (is_at (event_cmp (key_of e)) q) None (get event_cmp now q))
+    → HasLessKeys index (take (i + 1) events) later
+keys-less index now later events i e h is less updated =
+    subst (λ es. HasLessKeys index es later) ((λ t. take i events ++ is t ∷ []) ∙ sym (take_more events i e h))
+    (keys-drop index now later (take i events) e less updated)
 
 -- the index without the keys of events that it had not had before
 pub keys-undone : (index now later : BTreeMap EventKey ℕ) (events : List Entry)
@@ -153,14 +177,127 @@ keys-undone index now later events unknown more less q = less q ∙ pick (list_a
 
 -- the index with the keys of more events is that of the longer list
 pub indexed-append : (index later : BTreeMap EventKey ℕ) (entries events : List Entry)
-    → IsIndex index entries → HasMoreKeys index events later → IsIndex later (entries ++ events)
-indexed-append index later entries events h more q =
+    → IsIndex index entries → AllByRecursion IsFresh events → HasMoreKeys index events later
+    → IsIndex later (entries ++ events)
+indexed-append index later entries events h fresh more q =
     more q
-    ∙ ap (λ o. option_or o (option_map (λ x. x.seq) (find (is_entry_as q.name q.id) events))) (h q)
-    ∙ either (find (is_entry_as q.name q.id) entries) (find (is_entry_as q.name q.id) events)
-    ∙ ap (option_map (λ x. x.seq)) (sym (find-append (is_entry_as q.name q.id) entries events))
+    ∙ (λ t. option_or (h q t) (option_map (λ x. x.seq) (all_kept events fresh t)))
+    ∙ either (find (is_known_as q) entries) (find (is_known_as q) events)
+    ∙ ap (option_map (λ x. x.seq)) (sym (find-append (is_known_as q) entries events))
   where
     either : (o r : Option Entry) → option_or (option_map (λ (x : Entry). x.seq) o) (option_map (λ x. x.seq) r)
         ≡ option_map (λ x. x.seq) (option_or o r)
     either None r = refl
     either (Some x) r = refl
+
+    kept : (a : Bool) (o : Option ℕ) → o ≡ None → a ≡ a && not (is_some o)
+    kept true o none = ap (λ (p : Option ℕ). not (is_some p)) (sym none)
+    kept false o none = refl
+
+    all_kept : (some : List Entry) → AllByRecursion IsFresh some
+        → find (is_entry_as q.name q.id) some ≡ find (is_known_as q) some
+    all_kept [] all = refl
+    all_kept (e ∷ es) all = λ t. cond (kept (is_entry_as q.name q.id e) e.taken_by all.0.2 t) (Some e) (all_kept es all.1 t)
+
+-- The index after a Purge
+
+-- a test that no two pass, and one that asks more
+pub find_once : {X : Type 0} (p r : X → Bool) (xs : List X) → AllPairs (λ a b. p a ≡ true → p b ≡ false) xs
+    → find (λ x. p x && not (r x)) xs ≡ cond (list_any (λ x. p x && r x) xs) None (find p xs)
+find_once p r [] apart = refl
+find_once p r (x ∷ xs) apart =
+    pick (p x) (r x) (λ is. list_any_none p xs (λ k d h. apart 0 (suc k) d (omega arith) (omega (arith, h)) is))
+    (find_once p r xs (λ i j d lt l. apart (suc i) (suc j) d (omega (arith, lt)) (omega (arith, l))))
+  where
+    fewer : (q : Bool → Bool → Bool) (a b : Bool) → ((c : Bool) → q false c ≡ false) → a ≡ false → q a b ≡ false
+    fewer q a b none is = ap (λ c. q c b) is ∙ none b
+
+    pick : (a b : Bool) → (a ≡ true → list_any p xs ≡ false)
+        → find (λ x. p x && not (r x)) xs ≡ cond (list_any (λ x. p x && r x) xs) None (find p xs)
+        → cond (a && not b) (Some x) (find (λ x. p x && not (r x)) xs)
+        ≡ cond ((a && b) || list_any (λ x. p x && r x) xs) None (cond a (Some x) (find p xs))
+    pick true true none later =
+        none_found (λ y. p y && not (r y)) xs
+        (any_fewer p (λ y. p y && not (r y)) xs (λ y. fewer (λ c d. c && not d) (p y) (r y) (λ c. refl)) (none refl))
+    pick true false none later =
+        ap (λ c. cond c None (Some x))
+        (sym (any_fewer p (λ y. p y && r y) xs (λ y. fewer (λ c d. c && d) (p y) (r y) (λ c. refl)) (none refl)))
+    pick false b none later = later
+
+module _ (seq moment : ℕ) (q : EventKey) where
+  -- no two entries of one event are known
+  pub known_once : (entries : List Entry) → AreApart entries
+      → AllPairs (λ a b. is_known_as q a ≡ true → is_known_as q b ≡ false) entries
+  known_once entries apart i j d lt l known =
+      false_from_ne_true (is_known_as q b) (λ also.
+      let key = same_key b q (and_first (is_entry_as q.name q.id b) _ also) in
+      let same = (λ t. is_entry_as (key t).name (key t).id a) ∙ and_first (is_entry_as q.name q.id a) _ known in
+      true≢false (sym (apart i j d lt l same) ∙ ap not (kept_left b.seq a (and_second (is_entry_as q.name q.id a) _ known))))
+    where
+      a : Entry
+      a = get_or entries i d
+
+      b : Entry
+      b = get_or entries j d
+
+  -- which is known after the Purge
+  still_known : (e : Entry)
+      → is_known_as q (marked seq moment e) ≡ is_known_as q e && not (is_done_before moment e.latest)
+  still_known e =
+      marked_way (λ x. is_known_as q x ≡ is_known_as q e && not (is_done_before moment e.latest)) seq moment e
+      (λ kept done. taken (is_entry_as q.name q.id e) (is_kept e) (is_done_before moment e.latest) done)
+      (other (is_entry_as q.name q.id e) (is_kept e) (is_done_before moment e.latest))
+    where
+      taken : (a b c : Bool) → c ≡ true → a && false ≡ (a && b) && not c
+      taken true true true is = refl
+      taken true false true is = refl
+      taken false b true is = refl
+      taken a b false is = absurd (true≢false (sym is))
+
+      other : (a b c : Bool) → b && c ≡ false → a && b ≡ (a && b) && not c
+      other true true true is = absurd (true≢false is)
+      other true true false is = refl
+      other true false c is = refl
+      other false b c is = refl
+
+  -- those that the Purge takes, of which there are any
+  done_any : (entries : List Entry)
+      → list_any (is_entry_as q.name q.id) (filter (λ e. is_kept e && is_done_before moment e.latest) entries)
+      ≡ list_any (λ e. is_known_as q e && is_done_before moment e.latest) entries
+  done_any [] = refl
+  done_any (x ∷ xs) =
+      pick (is_entry_as q.name q.id x) (is_kept x) (is_done_before moment x.latest) refl
+      ∙ ap (λ b. (is_known_as q x && is_done_before moment x.latest) || b) (done_any xs)
+    where
+      rest : List Entry
+      rest = filter (λ e. is_kept e && is_done_before moment e.latest) xs
+
+      pick : (a b c : Bool) → is_entry_as q.name q.id x ≡ a
+          → list_any (is_entry_as q.name q.id) (cond (b && c) (x ∷ rest) rest)
+          ≡ ((a && b) && c) || list_any (is_entry_as q.name q.id) rest
+      pick true true true is = ap (λ o. o || list_any (is_entry_as q.name q.id) rest) is
+      pick false true true is = ap (λ o. o || list_any (is_entry_as q.name q.id) rest) is
+      pick true true false is = refl
+      pick false true false is = refl
+      pick true false c is = refl
+      pick false false c is = refl
+
+-- the index without the keys of those that the Purge takes is that of the entries after it
+pub indexed-purge : (index later : BTreeMap EventKey ℕ) (entries : List Entry) (seq moment : ℕ) → IsIndex index entries
+    → AreApart entries → HasLessKeys index (filter (λ e. is_kept e && is_done_before moment e.latest) entries) later
+    → IsIndex later (map (marked seq moment) entries)
+indexed-purge index later entries seq moment h apart less q =
+    less q
+    ∙ (λ t. cond (done_any seq moment q entries t) None (h q t))
+    ∙ numbers (list_any (λ e. is_known_as q e && is_done_before moment e.latest) entries) (find (is_known_as q) entries)
+    ∙ sym (ap (option_map (λ (e : Entry). e.seq))
+    (find_map (marked seq moment) (is_known_as q) entries
+    ∙ ap (λ p. option_map (marked seq moment) (find p entries)) (λ t e. still_known seq moment q e t)
+    ∙ ap (option_map (marked seq moment))
+    (find_once (is_known_as q) (λ e. is_done_before moment e.latest) entries (known_once seq moment q entries apart))))
+  where
+    numbers : (b : Bool) (o : Option Entry) → cond b None (option_map (λ (e : Entry). e.seq) o)
+        ≡ option_map (λ e. e.seq) (option_map (marked seq moment) (cond b None o))
+    numbers true o = refl
+    numbers false None = refl
+    numbers false (Some e) = ap Some (sym (marked_keeps seq moment e).0)

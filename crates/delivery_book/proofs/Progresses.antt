@@ -28,6 +28,7 @@ progress_of-append at attempts a i = record {
   is_delivered = delivered i;
   due = due_by (delivered i) (failed i) (option_map_or (λ last. due_after last (failed i)) (last_of-append attempts a i) at);
   last_status = option_map (λ (t : Attempt). t.status) (last_of-append attempts a i);
+  last_at = option_map (λ (t : Attempt). t.at) (last_of-append attempts a i);
 }
   where
     failed : failed_among (attempts ++ a ∷ []) ≡ failed_among attempts + cond (is_failed_status a.status) 1 0
@@ -76,14 +77,14 @@ or_is : (p : Progress) (status : ℕ) (b : Bool) → state_in p ≡ Pending → 
 or_is p status b pending is = ap (λ d. d || is_delivered_status status) (pending_means p.is_delivered p.failures pending).0 ∙ is
 
 pub after_delivered : (p : Progress) (status at : ℕ) → state_in p ≡ Pending → is_delivered_status status ≡ true
-    → record p { attempts = p.attempts + 1; is_delivered = true; due = None; last_status = Some status } ≡ progress_after status at p
+    → record p { attempts = p.attempts + 1; is_delivered = true; due = None; last_status = Some status; last_at = Some at } ≡ progress_after status at p
 after_delivered p status at pending is =
     sym (λ i. progress_with (ended status at) (or_is p status true pending is i) (no_failure p status (ap (λ b. not (b || is_gone_status status)) is) i) (p.attempts + 1))
 
 pub after_gone : (p : Progress) (status at : ℕ) → state_in p ≡ Pending → is_delivered_status status ≡ false → is_gone_status status ≡ true
-    → record p { attempts = p.attempts + 1; due = Some at; last_status = Some status } ≡ progress_after status at p
+    → record p { attempts = p.attempts + 1; due = Some at; last_status = Some status; last_at = Some at } ≡ progress_after status at p
 after_gone p status at pending taken is = grind (arith, or_is, no_failure, pending_means)
 
 pub after_failed : (p : Progress) (status at : ℕ) → state_in p ≡ Pending → is_delivered_status status ≡ false → is_gone_status status ≡ false
-    → record p { attempts = p.attempts + 1; failures = p.failures + 1; due = due_by false (p.failures + 1) (at + delay_after (p.failures + 1)); last_status = Some status } ≡ progress_after status at p
+    → record p { attempts = p.attempts + 1; failures = p.failures + 1; due = due_by false (p.failures + 1) (at + delay_after (p.failures + 1)); last_status = Some status; last_at = Some at } ≡ progress_after status at p
 after_failed p status at pending taken wanted = grind (arith, or_is, pending_means)

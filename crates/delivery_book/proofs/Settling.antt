@@ -1,10 +1,17 @@
 -- What settling an outcome leaves to be settled.
-use Rattle.std.proofs.Common.{◌≡◌, ◌+◌, ◌<◌, true, false, List, [], ◌∷◌, Option, Some, None, length, map, refl, sym, ◌∙◌, ap, arith, cond}
+use Rattle.std.proofs.Common.{◌≡◌, ℕ, ◌+◌, ◌<◌, true, false, List, [], ◌∷◌, Option, Some, None, length, map, refl, sym, ◌∙◌, ap, arith, cond, ltb}
 use Rattle.std.specs.Prelude.{is_some, unwrap_or}
-use Rattle.std.proofs.lemmas.Bool.{lt-ltb}
+use Rattle.std.specs.List.{list_all}
+use Rattle.std.specs.Option.{option_map_or}
+use Rattle.std.proofs.lemmas.Bool.{lt-ltb, ltb-false}
 use Rattle.delivery_book.specs.declared.entry.Entry.{Entry}
 use Rattle.delivery_book.specs.declared.entry.Unsettled.{Unsettled}
-use Rattle.delivery_book.specs.Entries.{BookValue, with_latest_settled, at_delivery, at_outcomes, settle_first, settle_all}
+use Rattle.delivery_book.specs.Entries.{BookValue, with_latest_settled, at_delivery, at_outcomes, is_left, settle_first, settle_all}
+use Rattle.delivery_book.specs.Entries.{with_events_settled, with_settled, without_taken}
+use Rattle.delivery_book.specs.Fields.{is_not_before}
+use Rattle.delivery_book.proofs.Histories.{kept_left}
+use Rattle.delivery_book.proofs.Purges.{filter-passed, left_earlier}
+use Rattle.delivery_book.proofs.Updates.{all_weaker}
 
 pub map-same : {X : Type 0} (f : X → X) (xs : List X) → ((x : X) → f x ≡ x) → map f xs ≡ xs
 map-same f [] h = refl
@@ -51,3 +58,32 @@ stepped_on book next there is = pick (settle_first book book.unsettled) refl the
 -- and where there is none, all is settled
 pub stopped : (book next : BookValue) → is_some (settle_first book book.unsettled) ≡ false → next ≡ unwrap_or (settle_first book book.unsettled) book → next ≡ settle_all book book.unsettled
 stopped book next none is = grind (arith, settled_none)
+
+-- What settled Purges took
+
+-- nothing but outcomes is left to be settled, and none of them
+pub all_settled : (book next : BookValue) → is_some (settle_first book book.unsettled) ≡ false → next ≡ unwrap_or (settle_first book book.unsettled) book → settle_all next next.unsettled ≡ next
+all_settled book next none is = ap (λ (b : BookValue). settle_all b b.unsettled) (is ∙ same (settle_first book book.unsettled) none) ∙ sym (stopped book next none is)
+  where
+    same : (o : Option BookValue) → is_some o ≡ false → unwrap_or o book ≡ book
+    same None h = refl
+    same (Some b) h = absurd (let no = h in cc)
+
+-- after the loop
+pub looped : (old events l x : BookValue) (seq : ℕ) → events ≡ with_events_settled old seq → settle_all l l.unsettled ≡ settle_all events events.unsettled
+    → is_some (settle_first l l.unsettled) ≡ false → x ≡ unwrap_or (settle_first l l.unsettled) l → x ≡ settle_all (with_events_settled old seq) old.unsettled
+looped old events l x seq is kept none value = stopped l x none value ∙ kept ∙ ap (λ (b : BookValue). settle_all b b.unsettled) is
+
+pub swept : (old book : BookValue) (seq : ℕ) → book ≡ settle_all (with_events_settled old seq) old.unsettled → without_taken book book.settled_seq ≡ with_settled old seq
+swept old book seq is = ap (λ (b : BookValue). without_taken b b.settled_seq) is
+
+-- where no Purge below the number took an entry, nothing is given up
+pub unswept : (old book : BookValue) (seq : ℕ) (next_purge : Option ℕ) → book ≡ settle_all (with_events_settled old seq) old.unsettled
+    → option_map_or (λ n. ltb n seq) next_purge false ≡ false → list_all (is_not_before next_purge) book.entries ≡ true → book ≡ with_settled old seq
+unswept old book seq next_purge is above first =
+    (λ i. record book { entries = sym (filter-passed (is_left seq) book.entries (all_weaker (is_not_before next_purge) (is_left seq) book.entries (left next_purge above) first)) i })
+    ∙ ap (λ n. without_taken book n) (sym (ap (λ (b : BookValue). b.settled_seq) is)) ∙ swept old book seq is
+  where
+    left : (next : Option ℕ) → option_map_or (λ n. ltb n seq) next false ≡ false → (e : Entry) → is_not_before next e ≡ true → is_left seq e ≡ true
+    left None h e kept = kept_left seq e kept
+    left (Some n) h e later = left_earlier seq n e.taken_by (ltb-false n seq h) later

@@ -1,6 +1,6 @@
 -- What stays where one entry is changed in place.
 use Rattle.std.proofs.Common.{◌≡◌, ◌≢◌, ℕ, zero, suc, ◌+◌, ◌<◌, ◌≤◌, Bool, true, false, List, [], ◌∷◌, Option, Some, None, ◌++◌, length, take, drop, map, set, get_or, refl, sym, ◌∙◌, ap, eqb, arith, cond, ⊎_elim}
-use Rattle.std.specs.Prelude.{count_by, find, is_some, option_map, ◌||◌}
+use Rattle.std.specs.Prelude.{count_by, find, option_map, ◌||◌}
 use Rattle.std.specs.List.{AllByRecursion, list_all, list_any}
 use Rattle.std.specs.BTreeMap.{BTreeMap}
 use Rattle.std.proofs.lemmas.Bool.{eq-eqb, ne_eqb, cases_lt}
@@ -15,9 +15,9 @@ use Rattle.delivery_book.specs.declared.keys.EventKey.{EventKey}
 use Rattle.delivery_book.specs.declared.progress.Progress.{Progress}
 use Rattle.delivery_book.specs.declared.tally.Tally.{Tally}
 use Rattle.delivery_book.specs.declared.entry.Unsettled.{Unsettled}
-use Rattle.delivery_book.specs.Entries.{IsCaughtUp, at_delivery, entry_at, is_entry_as, state_in, with_attempt}
+use Rattle.delivery_book.specs.Entries.{IsCaughtUp, at_delivery, entry_at, state_in, with_attempt}
 use Rattle.delivery_book.specs.Entries.{with_attempt_restored, with_latest_settled}
-use Rattle.delivery_book.specs.Fields.{HasRoomForAll, KeepsRoom, IsAscending, IsIndex, IsKeyed, IsTally, is_numbered}
+use Rattle.delivery_book.specs.Fields.{HasRoomForAll, KeepsRoom, IsAscending, IsIndex, IsKeyed, IsTally, is_known_as, is_numbered}
 use Rattle.delivery_book.specs.Fields.{in_state, counts_for, has_room, is_among, one_of, is_counted}
 use Rattle.delivery_book.proofs.Entries.{get_or-any}
 
@@ -91,25 +91,42 @@ keeps_where d change keeps e = either_way (λ x. (x.seq ≡ e.seq) × (x.name �
 read : (g : Entry → Entry) (entries : List Entry) (k : ℕ) (d : Entry) → KeepsKeys g → k < length (map g entries) → (get_or (map g entries) k d).seq ≡ (get_or entries k d).seq
 read g entries k d keeps h = ap (λ (e : Entry). e.seq) (get_or-map g entries k d d (omega (arith, h, length-map entries g))) ∙ (keeps (get_or entries k d)).0
 
-pub entry_at-map : (g : Entry → Entry) (entries : List Entry) (seq : ℕ) → KeepsKeys g → is_some (entry_at (map g entries) seq) ≡ is_some (entry_at entries seq)
-entry_at-map g entries seq keeps = grind (arith, find_map)
-
-indexed-map : (g : Entry → Entry) (index : BTreeMap EventKey ℕ) (entries : List Entry) → KeepsKeys g → IsIndex index entries → IsIndex index (map g entries)
-indexed-map g index entries keeps h k =
+-- where the marks stay too, the index is that of the changed entries
+pub indexed-map : (g : Entry → Entry) (index : BTreeMap EventKey ℕ) (entries : List Entry) → KeepsKeys g
+    → ((e : Entry) → (g e).taken_by ≡ e.taken_by) → IsIndex index entries → IsIndex index (map g entries)
+indexed-map g index entries keeps same h k =
     h k
-    ∙ sym (ap (option_map (λ (e : Entry). e.seq)) (find_map g (is_entry_as k.name k.id) entries ∙ ap (λ p. option_map g (find p entries)) alike)
-    ∙ numbers (find (is_entry_as k.name k.id) entries))
+    ∙ sym (ap (option_map (λ (e : Entry). e.seq)) (find_map g (is_known_as k) entries ∙ ap (λ p. option_map g (find p entries)) alike)
+    ∙ numbers (find (is_known_as k) entries))
   where
-    alike : (λ e. is_entry_as k.name k.id (g e)) ≡ is_entry_as k.name k.id
-    alike i e = is_entry_as k.name k.id (record e { name = (keeps e).1 i; id = (keeps e).2 i })
+    alike : (λ e. is_known_as k (g e)) ≡ is_known_as k
+    alike i e = is_known_as k (record e { name = (keeps e).1 i; id = (keeps e).2 i; taken_by = same e i })
 
     numbers : (o : Option Entry) → option_map (λ (e : Entry). e.seq) (option_map g o) ≡ option_map (λ (e : Entry). e.seq) o
     numbers None = refl
     numbers (Some e) = ap Some (keeps e).0
 
-pub keyed-map : (g : Entry → Entry) (entries : List Entry) (index : BTreeMap EventKey ℕ) (next later settled n : ℕ) → KeepsKeys g → settled ≤ later
-    → list_all (is_numbered later) (map g entries) ≡ true → IsKeyed entries index next settled n → IsKeyed (map g entries) index later settled n
-keyed-map g entries index next later settled n keeps l numbered h = grind (arith, length-map entries g, indexed-map g index entries keeps h.indexed, read)
+pub keyed-map : (g : Entry → Entry) (entries : List Entry) (index kept : BTreeMap EventKey ℕ) (next later settled n : ℕ)
+    → KeepsKeys g → settled ≤ later → list_all (is_numbered later) (map g entries) ≡ true → IsIndex kept (map g entries)
+    → IsKeyed entries index next settled n → IsKeyed (map g entries) kept later settled n
+keyed-map g entries index kept next later settled n keeps l numbered indexed h = record {
+  ascending = λ i j d lt m.
+      let inside : j < length entries = omega (arith, m, length-map entries g) in
+      omega (
+        arith,
+        read g entries i d keeps (omega (arith, lt, m)),
+        read g entries j d keeps m,
+        h.ascending i j d lt inside,
+      );
+  numbered = numbered;
+  settled_next = l;
+  indexed = indexed;
+  settled_within = omega (arith, h.settled_within, length-map entries g);
+  settled_below = λ k d m.
+      omega (arith, read g entries k d keeps (omega (arith, m, h.settled_within, length-map entries g)), h.settled_below k d m);
+  settled_above = λ k d m o.
+      omega (arith, read g entries k d keeps o, h.settled_above k d m (omega (arith, o, length-map entries g)));
+}
 
 pub all_numbered : (g : Entry → Entry) (entries : List Entry) (next later : ℕ) → ((e : Entry) → is_numbered next e ≡ true → is_numbered later (g e) ≡ true)
     → list_all (is_numbered next) entries ≡ true → list_all (is_numbered later) (map g entries) ≡ true
@@ -123,7 +140,7 @@ pub tally-set : (tally less more : Tally) (picked : Entry → Progress) (entries
 tally-set tally less more picked entries i x y h is named counts fewer again those asked = grind (arith, sum_by-set)
 
 -- each entry is counted where it is
-counted_once : (picked : Entry → Progress) (those : Option (List ℕ)) (x : Entry) → is_among those x.name ≡ true → ◌≡◌ {A = ℕ} (cond (is_counted picked those (state_in (picked x)) x) 1 0) 1
+pub counted_once : (picked : Entry → Progress) (those : Option (List ℕ)) (x : Entry) → is_among those x.name ≡ true → ◌≡◌ {A = ℕ} (cond (is_counted picked those (state_in (picked x)) x) 1 0) 1
 counted_once picked those x among = grind arith
 
 pub counted_there : (tally : Tally) (picked : Entry → Progress) (entries : List Entry) (i : ℕ) (x : Entry) (those : Option (List ℕ)) → i < length entries → x ≡ get_or entries i x → IsTally tally picked entries
@@ -162,16 +179,6 @@ room-more now later entries i e h is all stays here =
     (λ x was. stays x.name was) all)
     (ap (λ (x : Entry). has_room later x.name) (sym is) ∙ here)
 
--- an entry that stands somewhere is found
-pub some_at : (entries : List Entry) (i : ℕ) (x : Entry) (seq : ℕ) → i < length entries → x ≡ get_or entries i x → x.seq ≡ seq → is_some (entry_at entries seq) ≡ true
-some_at [] i x seq h is same = absurd (omega (arith, h))
-some_at (e ∷ es) zero x seq h is same = ap (λ b. is_some (cond b (Some e) (entry_at es seq))) (eq-eqb e.seq seq (sym (ap (λ (y : Entry). y.seq) is) ∙ same))
-some_at (e ∷ es) (suc i) x seq h is same = pick (eqb e.seq seq) (some_at es i x seq (omega (arith, h)) is same)
-  where
-    pick : (b : Bool) → is_some (entry_at es seq) ≡ true → is_some (cond b (Some e) (entry_at es seq)) ≡ true
-    pick true later = refl
-    pick false later = later
-
 -- what a search found in the list that was read, said of the entries
 pub found_in : (looked entries : List Entry) (i seq : ℕ) (x : Entry) → looked ≡ entries → i < length looked → ((d : Entry) → entry_at looked seq ≡ Some (get_or looked i d)) → ((d : Entry) → (get_or looked i d).seq ≡ seq)
     → x ≡ get_or entries i x → (i < length entries) × (x.seq ≡ seq) × (entry_at entries seq ≡ Some x)
@@ -183,13 +190,13 @@ read_same entries i x y h is also = is ∙ get_or-any entries i x y h ∙ sym al
 
 -- Entries that have come as far by the settled records as by all, unless an outcome of theirs waits
 
-each_map : {X : Type 0} (P Q : X → Type 0) (g : X → X) (xs : List X) → ((x : X) → P x → Q (g x)) → AllByRecursion P xs → AllByRecursion Q (map g xs)
+pub each_map : {X : Type 0} (P Q : X → Type 0) (g : X → X) (xs : List X) → ((x : X) → P x → Q (g x)) → AllByRecursion P xs → AllByRecursion Q (map g xs)
 each_map P Q g [] step h = tt
 each_map P Q g (x ∷ xs) step h = (step x h.0, each_map P Q g xs step h.1)
 
--- the entry has no attempt, by all records and by the settled ones
+-- the entry has no attempt, by all records and by the settled ones, and no Purge took it
 abbrev pub IsFresh : Entry → Type 0
-IsFresh e = (e.latest ≡ e.settled) × (e.latest.attempts ≡ 0)
+IsFresh e = (e.latest ≡ e.settled) × (e.latest.attempts ≡ 0) × (e.taken_by ≡ None)
 
 pub caught-append : (unsettled : List Unsettled) (entries events : List Entry)
     → AllByRecursion (IsCaughtUp unsettled) entries → AllByRecursion IsFresh events

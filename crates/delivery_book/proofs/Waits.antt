@@ -5,7 +5,7 @@ use Rattle.std.specs.List.{enumerate_from, cons_option, list_any}
 use Rattle.std.proofs.lemmas.Bool.{lt-ltb, le-ltb}
 use Rattle.std.proofs.lemmas.List.Elements.{filter_map-append}
 use Rattle.relay_types.specs.declared.record.Record.{Record}
-use Rattle.relay_types.specs.declared.record.Record.TheVariants.{Put, Secrets, Enabled, Accept, Outcome, Subscribed}
+use Rattle.relay_types.specs.declared.record.Record.TheVariants.{Put, Secrets, Enabled, Accept, Outcome, Subscribed, Purge}
 use Rattle.relay_types.specs.Deliveries.{attempts_of}
 use Rattle.relay_types.proofs.GrowthLaws.{enumerate_from-snoc}
 use Rattle.delivery_book.specs.declared.entry.Unsettled.{Unsettled}
@@ -64,4 +64,5 @@ named-attempts n (Secrets name secrets ∷ rest) d = named-attempts (n + 1) rest
 named-attempts n (Enabled name flag ∷ rest) d = named-attempts (n + 1) rest d
 named-attempts n (Subscribed topic name flag ∷ rest) d = named-attempts (n + 1) rest d
 named-attempts n (Accept name id body at ∷ rest) d = named-attempts (n + 1) rest d
+named-attempts n (Purge moment ∷ rest) d = named-attempts (n + 1) rest d
 named-attempts n (Outcome delivery attempt status at ∷ rest) d = grind (arith, named-attempts (n + 1) rest d)

@@ -1,23 +1,24 @@
 -- The histories for which a book stands, and what it tells of them.
-use Rattle.std.specs.Prelude.{◌≡◌, ℕ, ◌≤◌, ◌&&◌, ◌==◌, Bool, true, false, List, [], ◌∷◌, ◌++◌, length, take, drop, Option, Some, None, option_map, filter_map, count_by}
+use Rattle.std.specs.Prelude.{◌≡◌, ℕ, ◌≤◌, ◌&&◌, ◌==◌, Bool, true, false, List, [], ◌∷◌, ◌++◌, length, take, drop, Option, Some, None, option_map, filter, filter_map, count_by, if◌then◌else◌}
 use Rattle.std.specs.List.{enumerate_from}
 use Rattle.relay_types.specs.declared.record.Record.{Record}
-use Rattle.relay_types.specs.declared.record.Record.TheVariants.{Accept, Outcome}
+use Rattle.relay_types.specs.declared.record.Record.TheVariants.{Accept, Outcome, Purge}
 use Rattle.relay_types.specs.declared.state.State.{State}
 use Rattle.relay_types.specs.declared.state.State.TheVariants.{Pending, Delivered, Exhausted}
 use Rattle.relay_types.specs.Values.{Text, Seq}
 use Rattle.relay_types.specs.Lists.{last_of}
 use Rattle.relay_types.specs.Records.{Accepted, Attempt, accepted_by, numbered}
-use Rattle.relay_types.specs.Deliveries.{accepted, deliveries, deliveries_of, attempts_of, state_of, is_in_state, is_pending, due_if_pending}
+use Rattle.relay_types.specs.Deliveries.{accept_at, accepted, purged_by, is_purged, deliveries, deliveries_of, attempts_of, state_of, is_in_state, is_pending, due_if_pending}
 use Rattle.delivery_book.specs.declared.entry.Entry.{Entry}
 use Rattle.delivery_book.specs.declared.entry.Unsettled.{Unsettled}
 use Rattle.delivery_book.specs.declared.row.Counts.{Counts}
 use Rattle.delivery_book.specs.declared.row.Row.{Row}
-use Rattle.delivery_book.specs.Entries.{BookValue, progress_of}
+use Rattle.delivery_book.specs.Entries.{BookValue, is_left, progress_of}
 
--- the entry of an Accept with this number, where these are the latest attempts at each delivery, and the settled ones
-abbrev pub entry_for : (latest settled : Seq → List Attempt) → Seq → Accepted → Entry
-entry_for latest settled seq a = record {
+-- the entry of an Accept with this number, where these are the latest attempts at each delivery, the settled ones, and the Purge
+-- that took it
+abbrev pub entry_for : (latest settled : Seq → List Attempt) (taken : Seq → Option Seq) → Seq → Accepted → Entry
+entry_for latest settled taken seq a = record {
   seq = seq;
   name = a.endpoint;
   id = a.id;
@@ -25,15 +26,17 @@ entry_for latest settled seq a = record {
   at = a.at;
   latest = progress_of a.at (latest seq);
   settled = progress_of a.at (settled seq);
+  taken_by = taken seq;
 }
 
-abbrev pub entry_by : (latest settled : Seq → List Attempt) → (Seq × Record) → Option Entry
-entry_by latest settled e = option_map (entry_for latest settled e.0) (accepted_by e.1)
+abbrev pub entry_by : (latest settled : Seq → List Attempt) (taken : Seq → Option Seq) → (Seq × Record) → Option Entry
+entry_by latest settled taken e = option_map (entry_for latest settled taken e.0) (accepted_by e.1)
 
--- the entries of a history of which so many records are settled
+-- the entries of a history of which so many records are settled: what a settled Purge took is given up
 abbrev pub entries_of : List Record → (settled : ℕ) → List Entry
 entries_of records settled =
-    filter_map (entry_by (attempts_of records) (attempts_of (take settled records))) (numbered records)
+    filter (is_left settled)
+    (filter_map (entry_by (attempts_of records) (attempts_of (take settled records)) (purged_by records)) (numbered records))
 
 -- the delivery that the record speaks of, if it is an Outcome
 abbrev pub delivery_by : Record → Option Seq
@@ -80,6 +83,7 @@ Settles old seq new = OverHistories old (λ records settled. seq ≤ length reco
 abbrev pub is_other : Record → Bool
 is_other (Accept name id body at) = false
 is_other (Outcome delivery attempt status at) = false
+is_other (Purge moment) = false
 is_other entry = true
 
 -- whether the delivery is pending, and no outcome of it waits behind the settled records
@@ -101,6 +105,11 @@ row_of records d = option_map (λ a. record {
 -- the body of its event
 abbrev pub body_of : List Record → Seq → Option Text
 body_of records d = option_map (λ a. a.body) (accepted records d)
+
+-- the body of its event, until a Purge that took it is settled
+abbrev pub body_left : List Record → (settled : ℕ) → Seq → Option Text
+body_left records settled d =
+    option_map (λ a. a.body) (if is_purged (take settled records) d then None else accept_at records d)
 
 -- how many of these deliveries are in this state, and how many in each
 abbrev pub count_in : State → List Record → List Seq → ℕ

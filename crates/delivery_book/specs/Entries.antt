@@ -1,6 +1,6 @@
 -- What the book keeps: an entry for each event, in the order in which they were taken in, and the outcomes that wait.
-use Rattle.std.specs.Prelude.{◌≡◌, ℕ, ◌+◌, ◌≤◌, ◌&&◌, ◌||◌, ◌==◌, Bool, false, nat_le, nat_lt, List, [], ◌∷◌, ◌++◌}
-use Rattle.std.specs.Prelude.{length, map, Option, Some, None, is_some, option_map, bytes_eq, filter_map, find}
+use Rattle.std.specs.Prelude.{◌≡◌, ℕ, ◌+◌, ◌≤◌, ◌&&◌, ◌||◌, ◌==◌, not, Bool, true, false, nat_le, nat_lt, List, [], ◌∷◌, ◌++◌}
+use Rattle.std.specs.Prelude.{length, map, Option, Some, None, is_some, option_map, bytes_eq, filter, filter_map, find}
 use Rattle.std.specs.Prelude.{count_by, max, IsTrue, if◌then◌else◌}
 use Rattle.std.specs.List.{AllByRecursion, enumerate_from, list_all, list_any}
 use Rattle.std.specs.Option.{option_map_or}
@@ -47,6 +47,7 @@ progress_of at attempts = record {
   due = due_by (is_delivered_among attempts) (failed_among attempts)
       (option_map_or (λ last. due_after last (failed_among attempts)) (last_of attempts) at);
   last_status = option_map (λ a. a.status) (last_of attempts);
+  last_at = option_map (λ a. a.at) (last_of attempts);
 }
 
 -- after so many attempts, of which this was the last
@@ -57,6 +58,7 @@ progress_with last is_delivered failures attempts = record {
   is_delivered = is_delivered;
   due = due_by is_delivered failures (due_after last failures);
   last_status = Some last.status;
+  last_at = Some last.at;
 }
 
 -- after one more attempt, whatever its number
@@ -67,7 +69,20 @@ progress_after status at p =
     (p.failures + (if is_failed_status status then 1 else 0))
     (p.attempts + 1)
 
+-- whether the delivery has ended, by an attempt before this moment
+abbrev pub is_done_before : (moment : Seconds) → Progress → Bool
+is_done_before moment p =
+    not (is_in_state Pending (state_in p)) && option_map_or (λ at. nat_lt at moment) p.last_at false
+
 -- Entries
+
+-- whether no Purge took the delivery
+abbrev pub is_kept : Entry → Bool
+is_kept entry = not (is_some entry.taken_by)
+
+-- whether no Purge below this number took it
+abbrev pub is_left : Seq → Entry → Bool
+is_left seq entry = option_map_or (nat_le seq) entry.taken_by true
 
 -- whether the delivery is pending, and none of its outcomes waits to be settled
 abbrev pub is_open : Entry → Bool
@@ -95,6 +110,7 @@ new_entry seq name id body at = record {
   at = at;
   latest = progress_of at [];
   settled = progress_of at [];
+  taken_by = None;
 }
 
 -- the entry of an event before any attempt
@@ -129,9 +145,17 @@ at_outcomes outcomes change entry =
 abbrev pub is_entry_as : (name id : Text) → Entry → Bool
 is_entry_as name id entry = bytes_eq entry.name name && bytes_eq entry.id id
 
--- the entry of this number
+-- the entry, taken by the Purge of this number if it has ended before this moment, and none took it yet
+abbrev pub marked : (seq : Seq) (moment : Seconds) → Entry → Entry
+marked seq moment entry =
+    if is_kept entry && is_done_before moment entry.latest then record entry { taken_by = Some seq } else entry
+
+-- the entry of this number, and if no Purge took it
 abbrev pub entry_at : List Entry → Seq → Option Entry
 entry_at entries seq = find (λ entry. entry.seq == seq) entries
+
+abbrev pub kept_at : List Entry → Seq → Option Entry
+kept_at entries seq = find (λ entry. entry.seq == seq && is_kept entry) entries
 
 -- The book
 
@@ -146,9 +170,20 @@ pub record BookValue : Type 0 where
 abbrev pub empty_book : BookValue
 empty_book = record { entries = []; unsettled = []; next_seq = 0; settled_seq = 0 }
 
--- the number of the event that the endpoint knows by this id
+-- the number of the event that the endpoint knows by this id, by all records and by the settled ones, which no settled Purge
+-- took
 abbrev pub known_in : BookValue → (name id : Text) → Option Seq
-known_in book name id = option_map (λ entry. entry.seq) (find (is_entry_as name id) book.entries)
+known_in book name id =
+    option_map (λ entry. entry.seq) (find (λ entry. is_entry_as name id entry && is_kept entry) book.entries)
+
+abbrev pub is_settled_as : (name id : Text) (settled : Seq) → Entry → Bool
+is_settled_as name id settled entry =
+    is_entry_as name id entry && (nat_lt entry.seq settled && is_left settled entry)
+
+abbrev pub known_settled_in : BookValue → (name id : Text) → Option Seq
+known_settled_in book name id =
+    option_map (λ entry. entry.seq)
+    (find (is_settled_as name id book.settled_seq) book.entries)
 
 -- whether the delivery is pending, and none of its outcomes waits to be settled
 abbrev pub takes_outcome : BookValue → (delivery : Seq) → Bool
@@ -162,15 +197,26 @@ HasOneEach book = (delivery : Seq) → count_by (λ entry. entry.seq == delivery
 abbrev pub IsCaughtUp : List Unsettled → Entry → Type 0
 IsCaughtUp outcomes entry = list_any (λ o. o.delivery == entry.seq) outcomes ≡ false → entry.latest ≡ entry.settled
 
+-- the outcome is of a delivery that no earlier Purge took
+abbrev pub is_of_left : List Entry → Unsettled → Bool
+is_of_left entries o = option_map_or (is_left o.seq) (entry_at entries o.delivery) false
+
+-- whether it has ended, if a Purge took it
+abbrev pub is_ended : Entry → Bool
+is_ended entry = is_kept entry || not (is_in_state Pending (state_in entry.latest))
+
 -- Each delivery has a number below that of the next record, and one without an outcome that waits has come as far by the settled
--- records as by all.
+-- records as by all. An outcome that waits is of a delivery that no earlier Purge took, and what a Purge took
+-- has ended.
 pub record IsInStep (book : BookValue) : Type 0 where
   pub numbered : IsTrue (list_all (λ entry. nat_lt entry.seq book.next_seq) book.entries)
   pub caught_up : AllByRecursion (IsCaughtUp book.unsettled) book.entries
+  pub left : IsTrue (list_all (is_of_left book.entries) book.unsettled)
+  pub ended : IsTrue (list_all is_ended book.entries)
 
 -- the delivery as all records have it, and as the settled ones have it
 abbrev pub latest_row : BookValue → (delivery : Seq) → Option Row
-latest_row book delivery = option_map (λ e. row_in e.latest e) (entry_at book.entries delivery)
+latest_row book delivery = option_map (λ e. row_in e.latest e) (kept_at book.entries delivery)
 
 abbrev pub settled_row : BookValue → (delivery : Seq) → Option Row
 settled_row book delivery =
@@ -230,6 +276,13 @@ with_outcome_restored book delivery status at = record book {
   entries = map (at_delivery delivery (with_attempt_restored status at)) book.entries;
 }
 
+-- the book with a Purge of this number, which takes what has ended before the moment
+abbrev pub with_purge : BookValue → (seq : Seq) (moment : Seconds) → BookValue
+with_purge book seq moment = record book {
+  entries = map (marked seq moment) book.entries;
+  next_seq = seq + 1;
+}
+
 -- the outcomes in front that are below this number, and those behind them
 abbrev pub front_below : Seq → List Unsettled → List Unsettled
 front_below seq [] = []
@@ -259,6 +312,10 @@ settle_all book outcomes = record book {
   unsettled = rest_from book.settled_seq outcomes;
 }
 
+-- the book that has given up what the Purges below this number took
+abbrev pub without_taken : BookValue → Seq → BookValue
+without_taken book seq = record book { entries = filter (is_left seq) book.entries }
+
 -- the book whose records below this number are settled
 abbrev pub with_settled : BookValue → Seq → BookValue
-with_settled book seq = settle_all (with_events_settled book seq) book.unsettled
+with_settled book seq = without_taken (settle_all (with_events_settled book seq) book.unsettled) seq

@@ -3,7 +3,7 @@ use Rattle.std.specs.Prelude.{◌≡◌, ℕ, ◌+◌, ◌^◌, ◌<◌, ◌≤�
 use Rattle.std.specs.Prelude.{length, take, Option, Some, None, option_map, unwrap_or, is_some, slice_index_or}
 use Rattle.std.specs.Prelude.{filter, find, count_by, bytes_eq, All, AllPairs, IsTrue, if◌then◌else◌}
 use Rattle.std.specs.List.{AllByRecursion, list_all, list_any}
-use Rattle.std.specs.Option.{option_or}
+use Rattle.std.specs.Option.{option_or, option_map_or}
 use Rattle.std.specs.BTreeMap.{BTreeMap}
 use Rattle.std.specs.BTreeMap as tree
 use Rattle.std.specs.Cmp.Lexicographic.{pointwise, slice_cmp}
@@ -22,7 +22,7 @@ use Rattle.delivery_book.specs.declared.keys.EventKey.{EventKey}
 use Rattle.delivery_book.specs.declared.progress.Progress.{Progress}
 use Rattle.delivery_book.specs.declared.row.Counts.{Counts}
 use Rattle.delivery_book.specs.declared.tally.Tally.{Tally}
-use Rattle.delivery_book.specs.Entries.{BookValue, IsCaughtUp, is_entry_as, entry_at, state_in}
+use Rattle.delivery_book.specs.Entries.{BookValue, IsCaughtUp, is_entry_as, is_kept, is_left, is_of_left, state_in}
 
 -- Keys
 
@@ -116,6 +116,11 @@ CanCount tally entries =
     (those : Option Text) (asked : State)
     → in_state asked (counts_for tally those) + settled_among entries those asked < 2 ^ 64
 
+-- these entries are among those that the tally has counted
+abbrev pub HasCounted : Tally → List Entry → Type 0
+HasCounted tally entries =
+    (those : Option Text) (asked : State) → settled_among entries those asked ≤ in_state asked (counts_for tally those)
+
 abbrev pub IsTally : Tally → (picked : Entry → Progress) → List Entry → Type 0
 IsTally tally picked entries =
     (those : Option Text) (asked : State)
@@ -141,11 +146,14 @@ RestFrom n seq entries =
 abbrev pub is_numbered : (next : Seq) → Entry → Bool
 is_numbered next entry = nat_lt entry.seq next && not (nat_lt (next + MAX_RECORDS) entry.latest.attempts)
 
--- the index has the number of each event, and of no other
+-- the entry is of the event with this key, and no Purge took it
+abbrev pub is_known_as : EventKey → Entry → Bool
+is_known_as k entry = is_entry_as k.name k.id entry && is_kept entry
+
+-- the index has the number of each event that no Purge took, and of no other
 abbrev pub IsIndex : BTreeMap EventKey ℕ → List Entry → Type 0
 IsIndex index entries =
-    (k : EventKey)
-    → tree.get event_cmp index k ≡ option_map (λ e. e.seq) (find (is_entry_as k.name k.id) entries)
+    (k : EventKey) → tree.get event_cmp index k ≡ option_map (λ e. e.seq) (find (is_known_as k) entries)
 
 -- the index has the numbers of these events too
 abbrev pub HasMoreKeys : (old : BTreeMap EventKey ℕ) → (events : List Entry) → (new : BTreeMap EventKey ℕ) → Type 0
@@ -175,9 +183,39 @@ pub record AreNew (index : BTreeMap EventKey ℕ) (events : List Entry) : Type 0
 abbrev pub is_waiting : Entry → Bool
 is_waiting entry = not (entry.latest.attempts == entry.settled.attempts)
 
--- the outcome is one of an entry that stands before it
+-- the outcome is one of an entry that stands before it, and no Purge took this before
 abbrev pub is_later : List Entry → Unsettled → Bool
-is_later entries o = is_some (entry_at entries o.delivery) && nat_lt o.delivery o.seq
+is_later entries o = is_of_left entries o && nat_lt o.delivery o.seq
+
+-- Purges that wait
+
+-- a Purge below this number took the entry
+abbrev pub is_taken_below : Seq → Entry → Bool
+is_taken_below seq entry = not (is_left seq entry)
+
+-- the earlier of two entries of one event was taken before the later came
+abbrev pub AreApart : List Entry → Type 0
+AreApart entries =
+    AllPairs (λ a b. is_entry_as b.name b.id a ≡ true → is_taken_below b.seq a ≡ true) entries
+
+-- no Purge took the entry before this one; if there is none, it is kept
+abbrev pub is_not_before : (next_purge : Option Seq) → Entry → Bool
+is_not_before next_purge entry = option_map_or (λ purge. is_left purge entry) next_purge (is_kept entry)
+
+abbrev pub AreFirst : (next_purge : Option Seq) → List Entry → Type 0
+AreFirst next_purge entries = IsTrue (list_all (is_not_before next_purge) entries)
+
+-- a Purge that took the entry has a number between the entry's and this one, and the delivery has ended
+abbrev pub is_rightly_taken : (next : Seq) → Entry → Bool
+is_rightly_taken next entry =
+    option_map_or (λ purge. nat_lt entry.seq purge && (nat_lt purge next && not (is_in_state Pending (state_in entry.latest))))
+    entry.taken_by true
+
+-- what holds of the entries that Purges took, none of them before this one
+pub record AreMarked (entries : List Entry) (next_purge : Option Seq) (next_seq : Seq) : Type 0 where
+  pub apart : AreApart entries
+  pub taken : IsTrue (list_all (is_rightly_taken next_seq) entries)
+  pub first : AreFirst next_purge entries
 
 -- The book
 
@@ -199,11 +237,19 @@ pub record IsQueue (entries : List Entry) (unsettled : List Unsettled) (capacity
   pub caught_up : AllByRecursion (IsCaughtUp unsettled) entries
   pub room : length entries ≤ capacity
 
+-- the outcomes that wait are in the order of their numbers, which are below this one
+pub record AreInOrder (unsettled : List Unsettled) (next_seq : Seq) : Type 0 where
+  pub rising : AllPairs (λ a b. a.seq < b.seq) unsettled
+  pub below : IsTrue (list_all (λ o. nat_lt o.seq next_seq) unsettled)
+
 -- what holds of the fields of a book
 pub record IsBook (entries : List Entry) (index : BTreeMap EventKey ℕ) (tally settled_tally : Tally)
-    (unsettled : List Unsettled) (capacity : ℕ) (next_seq settled_seq : Seq) (settled_entries : ℕ) : Type 0 where
+    (unsettled : List Unsettled) (capacity : ℕ) (next_seq settled_seq : Seq) (settled_entries : ℕ)
+    (next_purge : Option Seq) : Type 0 where
   pub keyed : IsKeyed entries index next_seq settled_seq settled_entries
   pub latest : IsTally tally (λ e. e.latest) entries
   pub settled : IsTally settled_tally (λ e. e.settled) (take settled_entries entries)
   pub opened : HasRoomForAll settled_tally entries
   pub queue : IsQueue entries unsettled capacity
+  pub order : AreInOrder unsettled next_seq
+  pub marks : AreMarked entries next_purge next_seq

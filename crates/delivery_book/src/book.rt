@@ -3,33 +3,35 @@ ghost use Rattle.std.specs.Prelude.{◌≡◌, ◌≢◌, ◌≤◌, ◌<◌, �
 ghost use Rattle.std.specs.Prelude.{unwrap_or, slice_get};
 ghost use Rattle.std.specs.Prelude.{option_copied, option_map, All, AllPairs, IfSome, OnOk, OnErr};
 ghost use Rattle.relay_types.specs.declared.limits.TheConstants.{MAX_RECORDS};
-ghost use Rattle.relay_types.specs.declared.record.Record.TheVariants.{Accept, Outcome};
+ghost use Rattle.relay_types.specs.declared.record.Record.TheVariants.{Accept, Outcome, Purge};
 ghost use Rattle.relay_types.specs.Deliveries.{known_as};
 ghost use Rattle.relay_types.specs.Steps.{accepts};
 ghost use Rattle.delivery_book.specs.Entries.{empty_book, with_event, with_events, with_outcome, with_outcome_restored};
-ghost use Rattle.delivery_book.specs.Entries.{with_events_settled, settle_first, with_settled, known_in};
+ghost use Rattle.delivery_book.specs.Entries.{with_events_settled, settle_first, rest_from, with_settled, without_taken, with_purge};
+ghost use Rattle.delivery_book.specs.Entries.{known_in, known_settled_in};
 ghost use Rattle.delivery_book.specs.Entries.{takes_outcome, may_restore, HasOneEach, IsInStep};
 ghost use Rattle.delivery_book.specs.Entries.{entry_at, latest_row, settled_row, pending_in, next_settled};
 ghost use Rattle.delivery_book.specs.Fields.{settled_counts};
 ghost use Rattle.delivery_book.specs.Book.{StandsFor, OverHistories, Takes, TakesAll, Settles, is_free, row_of};
-ghost use Rattle.delivery_book.specs.Book.{body_of, counts_of, counts_of_all};
+ghost use Rattle.delivery_book.specs.Book.{body_left, counts_of, counts_of_all};
 
 use crate::entry::{Entry, Unsettled};
 use crate::events::events_of;
-use crate::index::add_events;
+use crate::index::{add_events, remove_done};
 use crate::keys::EventKey;
 use crate::progress::Progress;
+use crate::purge::{earlier, first_purge, is_below, keep_left, mark_done};
 use crate::row::{Counts, Row};
 use crate::search::{count_below, entry_at, index_of};
-use crate::tally::{Tally, add_settled, add_settled_between};
+use crate::tally::{Tally, add_settled, add_settled_between, count_out};
 use relay_types::{Body, MAX_RECORDS, Moment, MsgId, Name, State};
 use std::alloc::{AllocError, Global};
 use std::collections::{BTreeMap, VecDeque};
 use std::marker::Model;
 
-/// The deliveries of a history, and what came of each. Every event that was taken in stays in memory with its body, and its id
-/// is known for good. A delivery is named by the sequence number of its record. The book is handed numbers that rise and may
-/// skip some: records of endpoints concern no delivery and need no call.
+/// The deliveries of a history, and what came of each. An event that was taken in stays in memory with its body until a
+/// Purge that took it is settled. Its id is known until a Purge takes it. A delivery is named by the sequence number of its
+/// record. The book is handed numbers that rise and may skip some: records of endpoints concern no delivery and need no call.
 #[derive(Drop)]
 pub struct DeliveryBook {
     entries: Vec<Entry>,
@@ -40,6 +42,8 @@ pub struct DeliveryBook {
     next_seq: u64,
     settled_seq: u64,
     settled_entries: usize,
+    /// No Purge that waits and took a delivery has a lower number.
+    next_purge: Option<u64>,
 }
 
 impl Model for DeliveryBook {
@@ -58,7 +62,7 @@ impl Model for DeliveryBook {
     ghost use Rattle.delivery_book.specs.Fields.{IsBook};
 
     ghost invariant = { λ b. IsBook b.entries.items b.index b.tally b.settled_tally b.unsettled.items
-        (deque_capacity b.unsettled) b.next_seq b.settled_seq b.settled_entries };
+        (deque_capacity b.unsettled) b.next_seq b.settled_seq b.settled_entries b.next_purge };
 }
 
 impl DeliveryBook {
@@ -76,6 +80,7 @@ impl DeliveryBook {
             next_seq: 0,
             settled_seq: 0,
             settled_entries: 0,
+            next_purge: None,
         }
     }
 
@@ -112,6 +117,7 @@ impl DeliveryBook {
             at,
             latest: fresh,
             settled: fresh,
+            taken_by: None,
         });
         self.next_seq = seq + 1;
         Ok(())
@@ -173,6 +179,20 @@ impl DeliveryBook {
         self.next_seq = seq + 1;
     }
 
+    /// Takes in the Purge of this number: it takes each delivery that has ended, the last attempt before this moment. Their ids
+    /// are free from now on. They are given up once the Purge is settled. `next_seq` tests the condition. It takes no memory.
+    pub fn stage_purge(&mut self, seq: u64, before: Moment)
+        requires room { seq < MAX_RECORDS }
+        requires above { self.old.next_seq ≤ seq }
+        ensures value { self.new ≡ with_purge self.old seq before }
+        ensures stands { Takes self.old seq (Purge before) self.new }
+    {
+        remove_done(&mut self.index, &self.entries, before);
+        mark_done(&mut self.entries, seq, before);
+        self.next_purge = earlier(self.next_purge, Some(seq));
+        self.next_seq = seq + 1;
+    }
+
     /// Takes in an outcome of this delivery, whatever its number, as settled at once. So a book is made of what a store holds:
     /// its events are taken in first, then their outcomes in the order of their numbers, and it is settled last.
     /// `may_restore` tests the condition. It takes no memory.
@@ -192,7 +212,7 @@ impl DeliveryBook {
         self.tally.add(name, state);
     }
 
-    /// The records below this number are settled from now on. It takes no memory.
+    /// The records below this number are settled from now on. What Purges among them took is given up. It takes no memory.
     pub fn settle_to(&mut self, seq: u64)
         requires { self.old.settled_seq ≤ seq }
         ensures value { self.new ≡ with_settled self.old seq }
@@ -200,6 +220,22 @@ impl DeliveryBook {
     {
         self.settle_events(seq);
         while self.settle_outcome() {}
+        if is_below(self.next_purge, seq) {
+            self.give_up_taken();
+        }
+    }
+
+    /// Gives up the deliveries that settled Purges took, with their bodies.
+    fn give_up_taken(&mut self)
+        requires settled { rest_from self.old.settled_seq self.old.unsettled ≡ self.old.unsettled }
+        ensures { self.new ≡ without_taken self.old self.old.settled_seq }
+    {
+        let seq = self.settled_seq;
+        count_out(&mut self.tally, &self.entries, seq);
+        count_out(&mut self.settled_tally, &self.entries, seq);
+        keep_left(&mut self.entries, seq);
+        self.settled_entries = count_below(&self.entries, seq);
+        self.next_purge = first_purge(&self.entries);
     }
 
     /// Counts the events below this number as settled, as far as their settled outcomes have brought them.
@@ -250,7 +286,8 @@ impl DeliveryBook {
 
     /// The number below which the records are settled.
     pub fn settled_seq(&self) -> u64
-        ensures { result ≡ self.now.settled_seq }
+        ensures value { result ≡ self.now.settled_seq }
+        ensures once { HasOneEach self.now }
     {
         self.settled_seq
     }
@@ -290,7 +327,35 @@ impl DeliveryBook {
         self.index.get(&EventKey { name, id: *id }).copied()
     }
 
-    /// How many deliveries there are.
+    /// The delivery of the event that the endpoint knows by this id, as the settled records have it. While a Purge waits, it may
+    /// have to look through all entries for one that the Purge took.
+    pub fn find_settled(&self, name: Name, id: &MsgId) -> Option<u64>
+        ensures known { result ≡ known_settled_in self.now name id.now }
+        ensures stands { OverHistories self.now (λ records settled. result ≡ known_as (take settled records) name id.now) }
+    {
+        let known = self.find(name, id);
+        if is_below(known, self.settled_seq) {
+            return known;
+        }
+        if self.next_purge.is_none() {
+            return None;
+        }
+        self.find_taken(name, id)
+    }
+
+    /// The same, by a look through the settled entries.
+    fn find_taken(&self, name: Name, id: &MsgId) -> Option<u64>
+        ensures { result ≡ known_settled_in self.now name id.now }
+    {
+        for entry in &self.entries[..self.settled_entries] {
+            if entry.is_event(name, id) && entry.is_left(self.settled_seq) {
+                return Some(entry.seq);
+            }
+        }
+        None
+    }
+
+    /// How many deliveries there are, those included that a Purge took which isn't settled.
     pub fn len(&self) -> usize
         ensures count { result ≡ length self.now.entries }
         ensures in_step { IsInStep self.now }
@@ -311,7 +376,8 @@ impl DeliveryBook {
 
     /// The delivery that is concerned where the next record is settled: the record takes it in, or tells of an attempt at it.
     pub fn next_settled(&self) -> Option<u64>
-        ensures { result ≡ next_settled self.now }
+        ensures value { result ≡ next_settled self.now }
+        ensures in_step { IsInStep self.now }
     {
         if entry_at(&self.entries, self.settled_seq).is_some() {
             return Some(self.settled_seq);
@@ -326,10 +392,11 @@ impl DeliveryBook {
     pub fn row(&self, delivery: u64) -> Option<Row>
         ensures value { result ≡ latest_row self.now delivery }
         ensures few { IfSome result (λ row. row.attempts ≤ self.now.next_seq + MAX_RECORDS) }
+        ensures in_step { IsInStep self.now }
         ensures stands { OverHistories self.now (λ records settled. result ≡ row_of records delivery) }
     {
         match entry_at(&self.entries, delivery) {
-            Some(entry) => Some(entry.row(entry.latest)),
+            Some(entry) => entry.latest_row(),
             None => None,
         }
     }
@@ -350,10 +417,10 @@ impl DeliveryBook {
         }
     }
 
-    /// The body of the delivery's event.
+    /// The body of the delivery's event, until a Purge that took it is settled.
     pub fn body(&self, delivery: u64) -> Option<&Body>
         ensures value { option_copied result ≡ option_map (λ e. e.body) (entry_at self.now.entries delivery) }
-        ensures stands { OverHistories self.now (λ records settled. option_copied result ≡ body_of records delivery) }
+        ensures stands { OverHistories self.now (λ records settled. option_copied result ≡ body_left records settled delivery) }
     {
         match entry_at(self.entries.as_slice(), delivery) {
             Some(entry) => Some(&entry.body),

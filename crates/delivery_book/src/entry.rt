@@ -1,6 +1,6 @@
 //! What the book keeps of one event.
-ghost use Rattle.std.specs.Prelude.{◌≡◌};
-ghost use Rattle.delivery_book.specs.Entries.{is_open, row_in};
+ghost use Rattle.std.specs.Prelude.{◌≡◌, ◌&&◌, Some, None, if◌then◌else◌};
+ghost use Rattle.delivery_book.specs.Entries.{is_done_before, is_entry_as, is_kept, is_left, is_open, marked, row_in};
 ghost use Rattle.delivery_book.specs.Fields.{key_of};
 
 use crate::keys::EventKey;
@@ -18,6 +18,8 @@ pub struct Entry {
     pub(crate) at: Moment,
     pub(crate) latest: Progress,
     pub(crate) settled: Progress,
+    /// The Purge that took the delivery, while it waits to be settled.
+    pub(crate) taken_by: Option<u64>,
 }
 
 impl Entry {
@@ -27,6 +29,57 @@ impl Entry {
     {
         matches!(self.latest.state(), State::Pending)
             && self.latest.attempts == self.settled.attempts
+    }
+
+    /// Whether no Purge took the delivery.
+    pub(crate) fn is_kept(&self) -> bool
+        ensures { result ≡ is_kept self.now }
+    {
+        self.taken_by.is_none()
+    }
+
+    /// Whether no Purge below this number took the delivery.
+    pub(crate) fn is_left(&self, seq: u64) -> bool
+        ensures { result ≡ is_left seq self.now }
+    {
+        match self.taken_by {
+            Some(purge) => seq <= purge,
+            None => true,
+        }
+    }
+
+    /// Whether a Purge takes the delivery: it is kept, and has ended by an attempt before this moment.
+    pub(crate) fn is_done_before(&self, moment: Moment) -> bool
+        ensures { result ≡ is_kept self.now && is_done_before moment self.now.latest }
+    {
+        self.is_kept() && self.latest.is_done_before(moment)
+    }
+
+    /// The Purge of this number takes the delivery, if it is kept and has ended by an attempt before this moment.
+    pub(crate) fn mark(&mut self, seq: u64, moment: Moment)
+        ensures { self.new ≡ marked seq moment self.old }
+    {
+        if self.is_done_before(moment) {
+            self.taken_by = Some(seq);
+        }
+    }
+
+    /// The delivery as all records have it, if no Purge took it.
+    pub(crate) fn latest_row(&self) -> Option<Row>
+        ensures { result ≡ (if is_kept self.now then Some (row_in self.now.latest self.now) else None) }
+    {
+        if self.is_kept() {
+            Some(self.row(self.latest))
+        } else {
+            None
+        }
+    }
+
+    /// Whether it is the endpoint's event with this id.
+    pub(crate) fn is_event(&self, name: Name, id: &MsgId) -> bool
+        ensures { result ≡ is_entry_as name id.now self.now }
+    {
+        self.name.is(name) && self.id.is(*id)
     }
 
     /// The key of its event.

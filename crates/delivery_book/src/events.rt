@@ -33,6 +33,7 @@ pub(crate) fn events_of(
             at,
             latest: fresh,
             settled: fresh,
+            taken_by: None,
         });
     }
     Ok(events)

@@ -1,9 +1,11 @@
 //! The index of events by endpoint and id.
+ghost use Rattle.std.specs.Prelude.{◌&&◌, filter, OnErr, OnOk};
+ghost use Rattle.delivery_book.specs.Entries.{is_kept, is_done_before};
 ghost use Rattle.delivery_book.specs.Fields.{AreNew, HasLessKeys, HasMoreKeys, HasSameKeys};
-ghost use Rattle.std.specs.Prelude.{OnErr, OnOk};
 
 use crate::entry::Entry;
 use crate::keys::EventKey;
+use relay_types::Moment;
 use std::alloc::AllocError;
 use std::collections::BTreeMap;
 
@@ -32,5 +34,17 @@ fn remove_events(index: &mut BTreeMap<EventKey, u64>, events: &[Entry])
 {
     for event in events {
         let _ = index.remove(&event.key());
+    }
+}
+
+/// Removes the numbers of the events that a Purge takes: those that have ended by an attempt before this moment. It takes no
+/// memory.
+pub(crate) fn remove_done(index: &mut BTreeMap<EventKey, u64>, entries: &[Entry], moment: Moment)
+    ensures { HasLessKeys index.old (filter (λ e. is_kept e && is_done_before moment e.latest) entries.now) index.new }
+{
+    for entry in entries {
+        if entry.is_done_before(moment) {
+            let _ = index.remove(&entry.key());
+        }
     }
 }

@@ -8,6 +8,7 @@ mod index;
 mod keys;
 mod law;
 mod progress;
+mod purge;
 mod row;
 mod search;
 mod tally;

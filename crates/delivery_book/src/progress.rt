@@ -2,7 +2,7 @@
 ghost use Rattle.std.specs.Prelude.{◌≡◌, ◌≤◌, ◌+◌, ◌<◌, ◌^◌, [], false};
 ghost use Rattle.relay_types.specs.Judging.{delay_after};
 ghost use Rattle.relay_types.specs.declared.state.State.TheVariants.{Pending};
-ghost use Rattle.delivery_book.specs.Entries.{progress_of, state_in, due_by, progress_after};
+ghost use Rattle.delivery_book.specs.Entries.{progress_of, state_in, due_by, is_done_before, progress_after};
 
 use relay_types::{MAX_FAILURES, Moment, State};
 use retry_table::{Verdict, delay_after, verdict_of};
@@ -16,6 +16,8 @@ pub struct Progress {
     /// When the next attempt is due, while one is to come.
     pub(crate) due: Option<u64>,
     pub(crate) last_status: Option<u16>,
+    /// When the last attempt ended, in seconds.
+    pub(crate) last_at: Option<u64>,
 }
 
 impl Progress {
@@ -29,6 +31,7 @@ impl Progress {
             is_delivered: false,
             due: Some(at.seconds()),
             last_status: None,
+            last_at: None,
         }
     }
 
@@ -44,6 +47,16 @@ impl Progress {
         }
     }
 
+    /// Whether the delivery has ended, by an attempt before this moment.
+    pub(crate) fn is_done_before(self, moment: Moment) -> bool
+        ensures { result ≡ is_done_before moment self }
+    {
+        match self.last_at {
+            Some(at) if at < moment.seconds() => !matches!(self.state(), State::Pending),
+            _ => false,
+        }
+    }
+
     /// After one more attempt, which ended with this status.
     pub(crate) fn after(self, status: u16, at: Moment) -> Progress
         requires pending { state_in self ≡ Pending }
@@ -53,6 +66,7 @@ impl Progress {
         let counted = Progress {
             attempts: self.attempts + 1,
             last_status: Some(status),
+            last_at: Some(at.seconds()),
             ..self
         };
         match verdict_of(status) {

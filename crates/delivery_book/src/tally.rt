@@ -1,9 +1,10 @@
 //! How many deliveries there are of each endpoint and of all, by state.
-ghost use Rattle.std.specs.Prelude.{◌≡◌, ◌+◌, ◌≤◌, ◌<◌, ◌^◌, Option, Some, None, true, length, slice_range, OnOk};
+ghost use Rattle.std.specs.Prelude.{◌≡◌, ◌+◌, ◌≤◌, ◌<◌, ◌^◌, Option, Some, None, true, length, filter, slice_range, OnOk};
 ghost use Rattle.relay_types.specs.declared.state.State.{State};
 ghost use Rattle.relay_types.specs.Values.{Text};
 ghost use Rattle.delivery_book.specs.Fields.{in_state, one_if, one_of, counts_for, no_counts, settled_among, has_room};
-ghost use Rattle.delivery_book.specs.Fields.{AtCounts, HasMore, HasSame, KeepsRoom, HasRoomForAll, CanCount};
+ghost use Rattle.delivery_book.specs.Fields.{AtCounts, HasMore, HasSame, KeepsRoom, HasRoomForAll, CanCount, HasCounted};
+ghost use Rattle.delivery_book.specs.Fields.{is_taken_below};
 
 use crate::entry::Entry;
 use crate::keys::EndpointKey;
@@ -160,4 +161,17 @@ pub(crate) fn add_settled_between(tally: &mut Tally, entries: &[Entry], from: us
     ensures stays { KeepsRoom tally.old tally.new }
 {
     add_settled(tally, &entries[from..to]);
+}
+
+/// Counts the deliveries out that Purges below this number took.
+pub(crate) fn count_out(tally: &mut Tally, entries: &[Entry], seq: u64)
+    requires { HasCounted tally.old (filter (is_taken_below seq) entries.now) }
+    ensures less { HasMore tally.new (settled_among (filter (is_taken_below seq) entries.now)) tally.old }
+    ensures stays { KeepsRoom tally.old tally.new }
+{
+    for entry in entries {
+        if !entry.is_left(seq) {
+            tally.remove(entry.name, entry.settled.state());
+        }
+    }
 }

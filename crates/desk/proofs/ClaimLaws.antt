@@ -19,10 +19,13 @@ use Rattle.desk.proofs.Words.{waits_as, StandsFor, max, inl, Result, Ok, Err, If
 use Rattle.desk.proofs.Words.{first_fault, out_of_memory_at, Answer, are_seqs_spent, moment, JobValue, claim}
 use Rattle.desk.proofs.Words.{claim_chosen, rests, starts, Checks, IsMove, OverWorlds, Starts, due_if_pending, state_of}
 use Rattle.desk.proofs.Words.{secrets_of, secrets_if_known, body_of, row_of, Row, next_row, job_of, target_in, IsPostOf}
-use Rattle.desk.proofs.Words.{with_live, limits, limits_by}
+use Rattle.desk.proofs.Words.{with_live, limits, limits_by, IsInStep, not, is_pending, accept_at, accepted-before, accepted_is}
+use Rattle.desk.proofs.Words.{body_left, is_purged, purged_by, there_if_kept, unpurged_if}
+use Rattle.desk.specs.Claims.{has_no_waiting_outcome}
+use Rattle.desk.proofs.TakenLaws.{latest_open, unpurged_while_pending}
 use Rattle.relay_types.specs.Lists.{last_of}
 use Rattle.endpoint_book.proofs.Histories.{field-told}
-use Rattle.delivery_book.proofs.Histories.{entry_at-entries, accepted-take}
+use Rattle.delivery_book.proofs.Histories.{entry_at-entries}
 use Rattle.delivery_book.proofs.Progresses.{attempts_of-append, empty_if}
 use Rattle.desk.specs.Claims.{with_attempt}
 use Rattle.endpoint_book.proofs.Filters.{some_told}
@@ -31,8 +34,9 @@ use Rattle.endpoint_book.specs.Entries as endpoint_entries
 use Rattle.desk.proofs.LeastLaws as least
 use Rattle.desk.specs.declared.refusal.Fault.TheVariants as fault
 use Rattle.desk.proofs.DeskLaws.{known_is, settled_first, settled_front, becomes, lacks, leaves, makes, passes, seen}
-use Rattle.desk.proofs.DeskLaws.{stands_later, stands_as}
-use Rattle.desk.proofs.LeastLaws.{Among, IsFirstBy, among_filter, accepted_among, least_is, none_pass, places_rise}
+use Rattle.desk.proofs.DeskLaws.{body_if_kept, stands_later, stands_as}
+use Rattle.desk.proofs.LeastLaws.{Among, IsFirstBy, among_filter, accepted_among, least_is, none_pass, places_from}
+use Rattle.desk.proofs.LeastLaws.{places_rise}
 use Rattle.desk.proofs.LeastLaws.{rises_filter}
 
 pub found_seq : (entries : List Entry) (s : ℕ) (e : Entry) → entry_at entries s ≡ Some e → e.seq ≡ s
@@ -86,16 +90,29 @@ starts_from {d} name s same may_v =
     })
 
 -- a delivery that may start is one of its own endpoint
-pub starts_at : {d v : DeskValue} (s : ℕ) (row : BookRow) → d ≡ v → may_start v s ≡ true
+pub starts_at : {d v : DeskValue} (s : ℕ) (row : BookRow) → d ≡ v → may_start v s ≡ true → IsInStep d.deliveries
     → Some row ≡ latest_row d.deliveries s → may_start_at v row.endpoint s ≡ true
-starts_at {d} s row same may_v rows =
+starts_at {d} s row same may_v step rows =
     let may : may_start d s ≡ true = ap (λ (x : DeskValue). may_start x s) same ∙ may_v in
     ap (λ (x : DeskValue). may_start_at x row.endpoint s) (sym same) ∙ by_option (entry_at d.deliveries.entries s)
     (λ e. absurd (grind (arith, may, e)))
     (λ x e.
-    let named : x.name ≡ row.endpoint = grind (arith, rows, e) in
+    let takes : is_open x ≡ true = grind (arith, may, e) in
+    let latest = latest_open d.deliveries s x step.ended e takes in
+    let named : x.name ≡ row.endpoint = grind (arith, rows, latest) in
     let own = (bytes_eq-Decides x.name row.endpoint).1 named in
     grind (arith, may, e, own))
+
+-- one that may start has a row
+pub no_latest_row : {d v : DeskValue} (s : ℕ) → d ≡ v → may_start v s ≡ true → IsInStep d.deliveries → None ≡ latest_row d.deliveries s → ⊥
+no_latest_row {d} s same may_v step none =
+    let may : may_start d s ≡ true = ap (λ (x : DeskValue). may_start x s) same ∙ may_v in
+    by_option (entry_at d.deliveries.entries s)
+    (λ e. absurd (grind (arith, may, e)))
+    (λ x e.
+    let takes : is_open x ≡ true = grind (arith, may, e) in
+    let latest = latest_open d.deliveries s x step.ended e takes in
+    absurd (grind (arith, none, latest)))
 
 -- the limiter of an endpoint has the maximum of its entry
 pub limiter_entry : (limiters : List Limiter) (book : endpoint_entries.BookValue) (name : List ℕ) → AreLimiters limiters book
@@ -256,18 +273,48 @@ due_told p x y e = grind (arith, nat_tests)
 
 -- Deliveries
 
--- the entry of a delivery, in each world
+-- the entry of a delivery, in each world: that of its Accept, unless a settled Purge took it
+abbrev pub entry_of_world : World → ℕ → Accepted → Entry
+entry_of_world w s =
+    entry_for (attempts_of (all_records w)) (attempts_of (settled_records w)) (purged_by (all_records w)) s
+
+abbrev pub accept_left : World → ℕ → Option Accepted
+accept_left w s = if is_purged (settled_records w) s then None else accept_at (all_records w) s
+
 pub entry_is : {d : DeskValue} {w : World} (s : ℕ) → StandsFor d w
-    → entry_at d.deliveries.entries s ≡ option_map (entry_for (attempts_of (all_records w)) (attempts_of (settled_records w)) s) (accepted (all_records w) s)
+    → entry_at d.deliveries.entries s ≡ option_map (entry_of_world w s) (accept_left w s)
 entry_is {d} {w} s h =
     ap (λ es. entry_at es s) h.books.of_deliveries.entries
     ∙ entry_at-entries (all_records w) (length (settled_records w)) s
-    ∙ ap (λ records. option_map (entry_for (attempts_of (all_records w)) (attempts_of records) s) (accepted (all_records w) s)) (settled_front w)
+    ∙ ap (λ records. option_map (entry_for (attempts_of (all_records w)) (attempts_of records) (purged_by (all_records w)) s)
+    (if is_purged records s then None else accept_at (all_records w) s)) (settled_front w)
 
-pub accepted_settled : (w : World) (s : ℕ) (a : Accepted) → accepted (settled_records w) s ≡ Some a → (s < length (settled_records w)) × (accepted (all_records w) s ≡ Some a)
+-- an Accept is at the same number among the settled records
+accept_settled : (w : World) (s : ℕ) → s < length (settled_records w) → accept_at (all_records w) s ≡ accept_at (settled_records w) s
+accept_settled w s below =
+    ap (λ records. accept_at records s) (settled_first w) ∙ accepted-before (settled_records w) (waiting_records w) s below
+
+-- a settled delivery that no settled Purge took
+pub accepted_settled : (w : World) (s : ℕ) (a : Accepted) → accepted (settled_records w) s ≡ Some a
+    → (s < length (settled_records w)) × (accept_at (all_records w) s ≡ Some a) × (is_purged (settled_records w) s ≡ false)
 accepted_settled w s a e =
-    let below = below_if_accepted (settled_records w) s (ap is_some e) in
-    (below, sym (accepted-take (all_records w) (length (settled_records w)) s below) ∙ ap (λ records. accepted records s) (settled_front w) ∙ e)
+    let there : is_some (accepted (settled_records w) s) ≡ true = ap is_some e in
+    let below = below_if_accepted (settled_records w) s (there_if_kept (settled_records w) s there) in
+    let kept = unpurged_if (settled_records w) s there in
+    (below, accept_settled w s below ∙ sym (accepted_is (settled_records w) s kept) ∙ e, kept)
+
+-- its entry
+pub entry_settled : {d : DeskValue} {w : World} (s : ℕ) (a : Accepted) → StandsFor d w → accepted (settled_records w) s ≡ Some a
+    → entry_at d.deliveries.entries s ≡ Some (entry_of_world w s a)
+entry_settled {d} {w} s a h e =
+    let there = accepted_settled w s a e in
+    entry_is s h ∙ (λ i. option_map (entry_of_world w s) (if there.2 i then None else there.1 i))
+
+-- the Accept of an entry that is settled
+pub settled_left : (w : World) (s : ℕ) (a : Accepted) → s < length (settled_records w) → accept_left w s ≡ Some a
+    → accepted (settled_records w) s ≡ Some a
+settled_left w s a below e =
+    ap (λ o. if is_purged (settled_records w) s then None else o) (sym (accept_settled w s below)) ∙ e
 
 attempts_split : (w : World) (s : ℕ) → attempts_of (all_records w) s ≡ attempts_of (settled_records w) s ++ attempts_of (waiting_records w) s
 attempts_split w s = ap (λ records. attempts_of records s) (settled_first w) ∙ attempts_of-append (settled_records w) (waiting_records w) s
@@ -287,7 +334,7 @@ waits_is {d} {w} s a h e =
     let split = attempts_split w s in
     let counts = ap length split ∙ length-append settled waiting in
     let pair = pair_of a.endpoint (due_of (settled_records w) s) s in
-    let entry = entry_is s h ∙ ap (option_map (entry_for (attempts_of (all_records w)) (attempts_of (settled_records w)) s)) there.1 in
+    let entry = entry_settled s a h e in
     let first : nat_lt s d.deliveries.settled_seq ≡ true = lt-ltb s d.deliveries.settled_seq (omega (arith, there.0, h.books.of_deliveries.settled_seq)) in
     let named : bytes_eq a.endpoint a.endpoint ≡ true = (bytes_eq-Decides a.endpoint a.endpoint).1 refl in
     let due = due_is w s a e in
@@ -300,7 +347,7 @@ waits_is {d} {w} s a h e =
   where
     due_is : (w : World) (s : ℕ) (a : Accepted) → accepted (settled_records w) s ≡ Some a
         → option_map_or (λ due. nat_eq due (due_of (settled_records w) s))
-        (entry_for (attempts_of (all_records w)) (attempts_of (settled_records w)) s a).settled.due false
+        (entry_of_world w s a).settled.due false
         ≡ is_pending_after (attempts_of (settled_records w) s)
     due_is w s a e = due_told (is_pending_after (attempts_of (settled_records w) s)) _ _
         (ap (λ o. option_map_or (λ last. due_after last (failures_of (settled_records w) s)) (last_of (attempts_of (settled_records w) s)) (option_map_or (λ (t : Accepted). t.at) o 0)) (sym e))
@@ -315,14 +362,13 @@ record IsOwn (w : World) (name : List ℕ) (due s : ℕ) (a : Accepted) : Type 0
 held_is_own : {d : DeskValue} {w : World} (name : List ℕ) (due s : ℕ) → StandsFor d w → waits_as d.deliveries d.live (pair_of name due s) ≡ true → (a : Accepted) × IsOwn w name due s a
 held_is_own {d} {w} name due s h held =
     let entry = entry_is s h in
-    by_option (accepted (all_records w) s) (λ none. absurd (grind (arith, entry, none, held))) (λ a e.
+    by_option (accept_left w s) (λ none. absurd (grind (arith, entry, none, held))) (λ a e.
     let pair = pair_of name due s in
-    let x = entry_for (attempts_of (all_records w)) (attempts_of (settled_records w)) s a in
+    let x = entry_of_world w s a in
     let own : (nat_lt s d.deliveries.settled_seq ≡ true) × (is_pair_of pair x ≡ true) = grind (arith, entry, e, held) in
     let below : s < length (settled_records w) =
     omega (arith, ltb-true s d.deliveries.settled_seq own.0, h.books.of_deliveries.settled_seq) in
-    let there : accepted (settled_records w) s ≡ Some a = ap (λ records. accepted records s) (sym (settled_front w))
-    ∙ accepted-take (all_records w) (length (settled_records w)) s below ∙ e in (
+    let there = settled_left w s a below e in (
       a,
       record {
         there = there;
@@ -352,7 +398,7 @@ limit_is {d} {w} name h are known =
     let stands = subst (λ o. StandsBy o (samples_of w name)) found (h.limits name) in
     grind (arith, same, known, found, stands.limit))
 
-accepted_known : (records some : List Record) (d : ℕ) (a : Accepted) → AllKnown records some → accepted some d ≡ Some a → has_endpoint records a.endpoint ≡ true
+accepted_known : (records some : List Record) (d : ℕ) (a : Accepted) → AllKnown records some → accept_at some d ≡ Some a → has_endpoint records a.endpoint ≡ true
 accepted_known records [] d a known is = absurd (let e = is in cc)
 accepted_known records (Accept name id body at ∷ rest) zero a known is = ap (λ (t : Accepted). has_endpoint records t.endpoint) (sym (same_Some _ a is)) ∙ known.0
 accepted_known records (r ∷ rest) zero a known is = absurd (let e = is in cc)
@@ -383,6 +429,19 @@ claimable_is {d} {w} {queue} now s a h tied place e =
     let has = place_is h ∙ place in
     grind (arith, e, held, room, has)
 
+-- no Purge took a delivery that waits for its next attempt
+unpurged_if_waits : (w : World) (s : ℕ) → waits w s ≡ true → is_purged (all_records w) s ≡ false
+unpurged_if_waits w s may =
+    let pending = and_first (is_pending (settled_records w) s) _ may in
+    let none = and_first (has_no_waiting_outcome w s) _ (and_second (is_pending (settled_records w) s) _ may) in
+    let same : attempts_of (all_records w) s ≡ attempts_of (settled_records w) s =
+    attempts_split w s
+    ∙ ap (λ more. attempts_of (settled_records w) s ++ more)
+    (empty_if (attempts_of (waiting_records w) s) (eqb-true (length (attempts_of (waiting_records w) s)) 0 none))
+    ∙ append-nil (attempts_of (settled_records w) s) in
+    unpurged_while_pending (all_records w) s
+    (ap is_pending_after same ∙ and_second (is_some (accepted (settled_records w) s)) _ pending)
+
 -- where the settled records don't have a delivery, it isn't claimable
 pub claimable_there : (w : World) (now s : ℕ) → is_claimable w now s ≡ true → (a : Accepted) × (accepted (settled_records w) s ≡ Some a)
 claimable_there w now s c =
@@ -399,11 +458,16 @@ next_is_choice {d} {w} {queue} now name s h tied place next =
     ap (λ (p : List ℕ × ℕ). is_ready queue now (pair_of p.0 p.1 s)) (λ i. (sym own.named i, sym own.timed i)) ∙ next.ready in
     let claimable = claimable_is now s a h tied place own.there ∙ ready in
     let first_place : 0 + s ≡ s = omega arith in
+    let settled = accepted_settled w s a own.there in
     least_is (due_of (settled_records w)) 0 (claimables w now) s
-    (rises_filter (is_claimable w now) 0 (deliveries (settled_records w)) (places_rise is_accept 0 (settled_records w)))
+    (rises_filter (is_claimable w now) 0 (deliveries (settled_records w))
+    (rises_filter (λ n. not (is_purged (settled_records w) n)) 0 (places_from is_accept 0 (settled_records w))
+    (places_rise is_accept 0 (settled_records w))))
     (among_filter (is_claimable w now) s (deliveries (settled_records w))
-    (subst (λ k. Among k (deliveries (settled_records w))) first_place
-    (accepted_among 0 s (settled_records w) a own.there)) claimable)
+    (among_filter (λ n. not (is_purged (settled_records w) n)) s (places_from is_accept 0 (settled_records w))
+    (subst (λ k. Among k (places_from is_accept 0 (settled_records w))) first_place
+    (accepted_among 0 s (settled_records w) a
+    (sym (accept_settled w s settled.0) ∙ settled.1))) (ap not settled.2)) claimable)
     (λ m among. first own.timed m (least.passes (is_claimable w now) m (deliveries (settled_records w)) among))
   where
     first : next.due ≡ due_of (settled_records w) s → (m : ℕ) → is_claimable w now m ≡ true → IsFirstBy (due_of (settled_records w)) s m
@@ -471,8 +535,12 @@ started at d w = option_map_or (starts w at d) (accepted (all_records w) d) (res
 choice_there : (w : World) (at delivery : ℕ) → Some delivery ≡ choice w at → (a : Accepted) × (accepted (all_records w) delivery ≡ Some a)
 choice_there w at delivery e =
     let among = least.chosen_among (due_of (settled_records w)) (claimables w at) delivery (sym e) in
-    let there = claimable_there w at delivery (least.passes (is_claimable w at) delivery (deliveries (settled_records w)) among) in
-    (there.0, (accepted_settled w delivery there.0 there.1).1)
+    let claimable = least.passes (is_claimable w at) delivery (deliveries (settled_records w)) among in
+    let there = claimable_there w at delivery claimable in
+    let settled = accepted_settled w delivery there.0 there.1 in
+    let may : waits w delivery ≡ true = grind (arith, claimable, there.1) in
+    let kept = unpurged_if_waits w delivery may in
+    (there.0, accepted_is (all_records w) delivery kept ∙ settled.1)
 
 abbrev failing : {A : Type 0} → Refusal → Result A Refusal
 failing r = Err r
@@ -520,6 +588,14 @@ claim_starts d new now at u v delivery job checks later chooses spent starting =
 
 -- What a job shows is what the records say of its delivery
 
+-- what has a row was taken by no Purge, so its body is in memory
+body_kept : (w : World) (d : ℕ) (row : BookRow) → Some row ≡ row_of (all_records w) d
+    → body_left (all_records w) (length (settled_records w)) d ≡ body_of (all_records w) d
+body_kept w d row rows =
+    let there : is_some (accepted (all_records w) d) ≡ true =
+    by_option (accepted (all_records w) d) (λ none. absurd (grind (arith, rows, none))) (λ a e. ap is_some e) in
+    body_if_kept w d (unpurged_if (all_records w) d there)
+
 abbrev row_by : (records : List Record) (d : ℕ) → Accepted → BookRow
 row_by records d a = record {
   endpoint = a.endpoint;
@@ -534,10 +610,12 @@ row_by records d a = record {
 secrets_told : (b : Bool) (secrets known : List (List ℕ)) → Some secrets ≡ (if b then Some known else None) → secrets ≡ known
 secrets_told b secrets known e = grind arith
 
-pub post_is : (w : World) (at d : ℕ) (row : BookRow) (target body : List ℕ) (secrets : List (List ℕ)) → Some row ≡ row_of (all_records w) d → Some body ≡ body_of (all_records w) d
+pub post_is : (w : World) (at d : ℕ) (row : BookRow) (target body : List ℕ) (secrets : List (List ℕ)) → Some row ≡ row_of (all_records w) d
+    → Some body ≡ body_left (all_records w) (length (settled_records w)) d
     → Some target ≡ option_map (λ e. e.target) (endpoint_of (all_records w) row.endpoint) → Some secrets ≡ secrets_if_known (all_records w) row.endpoint
     → IsPostOf w at d (record { endpoint = row.endpoint; id = row.id; attempt = row.attempts + 1; at = at; target = target; secrets = secrets; body = body })
-post_is w at d row target body secrets rows bodies targets known = by (accepted (all_records w) d) refl rows bodies
+post_is w at d row target body secrets rows bodies targets known =
+    by (accepted (all_records w) d) refl rows (bodies ∙ body_kept w d row rows)
   where
     by : (o : Option Accepted) → accepted (all_records w) d ≡ o → Some row ≡ option_map (row_by (all_records w) d) o → Some body ≡ option_map (λ a. a.body) o
         → IsPostOf w at d (record { endpoint = row.endpoint; id = row.id; attempt = row.attempts + 1; at = at; target = target; secrets = secrets; body = body })

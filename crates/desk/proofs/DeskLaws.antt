@@ -1,12 +1,12 @@
 -- The worlds for which a desk stands, what it tells of them, and how its calls move them on.
 use Rattle.desk.proofs.Words.{◌≡◌, ℕ, [], ◌∷◌, ◌++◌, take, drop, refl, sym, ◌∙◌, ap, append-nil, append_assoc}
 use Rattle.desk.proofs.Words.{take-append-drop}
-use Rattle.desk.proofs.Words.{Record, History, records_of, zero, suc, ◌+◌, ◌≤◌, Bool, true, false, List, Option, Some}
-use Rattle.desk.proofs.Words.{None, arith, cond, ◌&&◌, map, add-zero, slice_get, filter, find, count_by, option_map}
+use Rattle.desk.proofs.Words.{Record, History, records_of, suc, ◌+◌, ◌≤◌, Bool, true, false, List, Option, Some}
+use Rattle.desk.proofs.Words.{None, arith, cond, ◌&&◌, map, add-zero, slice_get, filter, count_by, option_map}
 use Rattle.desk.proofs.Words.{option_and_then, is_some, enumerate_from, option_map_or, sum_by-cons, Pending, Accepted}
-use Rattle.desk.proofs.Words.{accepted_by, accepted, is_accept, is_accept_of, is_accept_as, deliveries, deliveries_of}
+use Rattle.desk.proofs.Words.{accepted_by, accepted, is_accept, is_accept_of, deliveries, deliveries_of}
 use Rattle.desk.proofs.Words.{known_as, is_in_state, state_of, row_of, counts_of, counts_of_all, pending_among}
-use Rattle.desk.proofs.Words.{by_option, length, subst, take-append_seam, endpoints, View, view_of, body_of}
+use Rattle.desk.proofs.Words.{length, subst, take-append_seam, endpoints, View, view_of, body_of}
 use Rattle.desk.proofs.Words.{record_count, length-records_of-split, World, all_records, settled_records}
 use Rattle.desk.proofs.Words.{waiting_records, is_row_of, has_event, QueueValue, DeskValue, IsCore, IsDesk, StandsFor}
 use Rattle.desk.proofs.Words.{BookRow, inl, inr, Result, Ok, Err, IfOk, OnErr, IsSomeAnd, Refusal, Faults, refusal}
@@ -21,8 +21,10 @@ use Rattle.desk.proofs.Words.{new_submit_faults, repeats, changes, change, Sampl
 use Rattle.desk.proofs.Words.{samples_of, AreTied, StandsAt, StandsBy, endpoint_at, is_limiter_of, new_limiter}
 use Rattle.desk.proofs.Words.{AreLimits, AreBooks, OverWorlds, with_entry, with_put, with_secrets, with_enabled}
 use Rattle.desk.proofs.Words.{with_accept, nat_le, nat_eq, MAX_WAITING_REQUESTS, requests_in, is_waiting_full}
-use Rattle.desk.proofs.Words.{are_pairs_spent, are_seqs_spent, nat_tests, flags_in, has_place_for, is_pair_named}
+use Rattle.desk.proofs.Words.{are_seqs_spent, nat_tests, flags_in, has_place_for, is_pair_named}
 use Rattle.desk.proofs.Words.{subscriptions, MAX_SUBSCRIPTIONS, Subscribed, Stages, with_subscribed, ◌||◌, nat_lt}
+use Rattle.desk.proofs.Words.{Purge, Takes, accept_at, accepted-before, below_if_accepted, body_left, if◌then◌else◌}
+use Rattle.desk.proofs.Words.{is_event_of, is_purged, there_if_kept, unpurged_front, with_purged}
 use Rattle.desk.specs.declared.ticket.Ticket.{Ticket}
 use Rattle.delivery_book.specs.declared.row.Counts.{Counts}
 use Rattle.desk.specs.Looks.{event_page, endpoint_page, totals}
@@ -58,51 +60,8 @@ records_of-split n xs = ap records_of (sym (take-append-drop n xs)) ∙ records_
 
 -- An event's number among the first records
 
-abbrev known_from : (Record → Bool) → ℕ → List Record → Option ℕ
-known_from test n records = option_map (λ (e : ℕ × Record). e.0) (find (λ e. test e.1) (enumerate_from n records))
-
-known_least : (test : Record → Bool) (n j : ℕ) (records : List Record) → known_from test n records ≡ Some j → n ≤ j
-known_least test n j [] e = cc
-known_least test n j (r ∷ rest) e = grind (arith, e, known_least test (n + 1) j rest)
-
-unknown_first : (test : Record → Bool) (n : ℕ) (xs ys : List Record) → known_from test n (xs ++ ys) ≡ None → known_from test n xs ≡ None
-unknown_first test n [] ys e = refl
-unknown_first test n (x ∷ xs) ys e = grind (arith, e, unknown_first test (n + 1) xs ys)
-
-known_first : (test : Record → Bool) (n k j : ℕ) (xs ys : List Record) (a : Accepted) → j ≡ n + k → known_from test n (xs ++ ys) ≡ Some j
-    → option_and_then accepted_by (slice_get xs k) ≡ Some a → known_from test n xs ≡ Some j
-known_first test n k j [] ys a p e h = cc
-known_first test n zero j (x ∷ xs) ys a p e h = grind (arith, p, e, known_least test (n + 1) j (xs ++ ys))
-known_first test n (suc k) j (x ∷ xs) ys a p e h =
-    let later =
-    λ (t : known_from test (n + 1) (xs ++ ys) ≡ Some j). known_first test (n + 1) k j xs ys a (omega (arith, p)) t h in
-    grind (arith, e, later)
-
-unknown_later : (test : Record → Bool) → ((r : Record) → test r ≡ true → is_some (accepted_by r) ≡ true) → (n k j : ℕ) (xs ys : List Record) → j ≡ n + k → known_from test n (xs ++ ys) ≡ Some j
-    → option_and_then accepted_by (slice_get xs k) ≡ None → known_from test n xs ≡ None
-unknown_later test accepts n k j [] ys p e h = refl
-unknown_later test accepts n zero j (x ∷ xs) ys p e h =
-    grind (arith, p, e, h, accepts x, known_least test (n + 1) j (xs ++ ys))
-unknown_later test accepts n (suc k) j (x ∷ xs) ys p e h =
-    let later = λ (t : known_from test (n + 1) (xs ++ ys) ≡ Some j).
-    unknown_later test accepts (n + 1) k j xs ys (omega (arith, p)) t h in
-    grind (arith, p, e, later)
-
 there_if : (o : Option Accepted) (f : Accepted → Bool) → option_map_or f o false ≡ true → is_some o ≡ true
 there_if o f e = grind arith
-
-pub event_unknown : (first rest : List Record) (name id : List ℕ) → known_as (first ++ rest) name id ≡ None → None ≡ option_and_then (row_of first) (known_as first name id)
-event_unknown first rest name id e = ap (option_and_then (row_of first)) (sym (unknown_first (is_accept_as name id) 0 first rest e))
-
-pub event_known : (first rest : List Record) (name id : List ℕ) (d : ℕ) → known_as (first ++ rest) name id ≡ Some d
-    → row_of first d ≡ option_and_then (row_of first) (known_as first name id)
-event_known first rest name id d e = by_option (accepted first d)
-    (λ h.
-    let unknown =
-    unknown_later (is_accept_as name id) (λ r t. there_if (accepted_by r) _ t) 0 d d first rest (omega arith) e h in
-    grind (arith, h, unknown))
-    (λ a h. let known = known_first (is_accept_as name id) 0 d d first rest a (omega arith) e h in
-    grind (arith, h, known))
 
 -- Pending deliveries
 
@@ -110,31 +69,56 @@ abbrev places_from : (Record → Bool) → ℕ → List Record → List ℕ
 places_from test n records = map (λ (e : ℕ × Record). e.0) (filter (λ e. test e.1) (enumerate_from n records))
 
 pending_from : (records : List Record) (of : ℕ → Bool) (test : Record → Bool) → ((r : Record) → test r ≡ true → is_some (accepted_by r) ≡ true) → (n : ℕ) (rest : List Record)
-    → ((k : ℕ) → accepted records (n + k) ≡ option_and_then accepted_by (slice_get rest k))
-    → count_by of (places_from test n rest) ≡ count_by (λ d. is_some (accepted records d) && of d) (places_from test n rest)
+    → ((k : ℕ) → accept_at records (n + k) ≡ option_and_then accepted_by (slice_get rest k))
+    → count_by of (places_from test n rest) ≡ count_by (λ d. is_some (accept_at records d) && of d) (places_from test n rest)
 pending_from records of test accepts n [] at = refl
 pending_from records of test accepts n (r ∷ rest) at =
     let later = pending_from records of test accepts (n + 1) rest (λ k.
-    let moved : n + 1 + k ≡ n + suc k = omega arith in ap (accepted records) moved ∙ at (suc k)) in
+    let moved : n + 1 + k ≡ n + suc k = omega arith in ap (accept_at records) moved ∙ at (suc k)) in
     let places = places_from test (n + 1) rest in
     let ofs = sum_by-cons (λ d. cond (of d) 1 0) n places in
-    let both = sum_by-cons (λ d. cond (is_some (accepted records d) && of d) 1 0) n places in
+    let both = sum_by-cons (λ d. cond (is_some (accept_at records d) && of d) 1 0) n places in
     by_bool (test r) (λ q.
-    let here : is_some (accepted records n) ≡ true =
-    ap is_some (ap (accepted records) (sym (add-zero n)) ∙ at 0) ∙ accepts r q in
+    let here : is_some (accept_at records n) ≡ true =
+    ap is_some (ap (accept_at records) (sym (add-zero n)) ∙ at 0) ∙ accepts r q in
     rw q (ofs ∙ (λ i. cond (sym here i && of n) 1 0 + later i) ∙ sym both))
     (λ q. rw q later)
 
-starts : (records : List Record) (k : ℕ) → accepted records (0 + k) ≡ option_and_then accepted_by (slice_get records k)
-starts records k = let moved : 0 + k ≡ k = omega arith in ap (accepted records) moved
+starts : (records : List Record) (k : ℕ) → accept_at records (0 + k) ≡ option_and_then accepted_by (slice_get records k)
+starts records k = let moved : 0 + k ≡ k = omega arith in ap (accept_at records) moved
+
+-- those that pass another test, counted among those that aren't gone
+count_kept : (of gone : ℕ → Bool) (ds : List ℕ) → count_by of (filter (λ d. not (gone d)) ds) ≡ count_by (λ d. not (gone d) && of d) ds
+count_kept of gone [] = refl
+count_kept of gone (d ∷ ds) =
+    let both = sum_by-cons (λ n. cond (not (gone n) && of n) 1 0) d ds in
+    let alone = sum_by-cons (λ n. cond (of n) 1 0) d (filter (λ n. not (gone n)) ds) in
+    grind (arith, both, alone, count_kept of gone ds)
+
+-- a delivery that wasn't taken is one of the records
+there_or_gone : (there gone of : Bool) (o : Option Accepted) → is_some o ≡ there
+    → (there && (not gone && of)) ≡ (not gone && (is_some (if gone then None else o) && of))
+there_or_gone there gone of o is = grind arith
+
+pending_among_kept : (records : List Record) (of : ℕ → Bool) (test : Record → Bool)
+    → ((r : Record) → test r ≡ true → is_some (accepted_by r) ≡ true)
+    → count_by of (filter (λ d. not (is_purged records d)) (places_from test 0 records))
+    ≡ count_by (λ d. is_some (accepted records d) && of d) (filter (λ d. not (is_purged records d)) (places_from test 0 records))
+pending_among_kept records of test accepts =
+    let ds = places_from test 0 records in
+    count_kept of (is_purged records) ds
+    ∙ pending_from records (λ d. not (is_purged records d) && of d) test accepts 0 records (starts records)
+    ∙ ap (λ (test : ℕ → Bool). count_by test ds)
+    (λ i d. there_or_gone (is_some (accept_at records d)) (is_purged records d) (of d) (accept_at records d) refl i)
+    ∙ sym (count_kept (λ d. is_some (accepted records d) && of d) (is_purged records) ds)
 
 pub pending_is : (records : List Record) (name : List ℕ) → (counts_of records name).pending ≡ pending_among records (deliveries_of records name)
 pending_is records name =
-    pending_from records (λ d. is_in_state Pending (state_of records d)) (is_accept_of name)
-    (λ r t. there_if (accepted_by r) _ t) 0 records (starts records)
+    pending_among_kept records (λ d. is_in_state Pending (state_of records d)) (is_accept_of name)
+    (λ r t. there_if (accepted_by r) _ t)
 
 pub pending_all_is : (records : List Record) → (counts_of_all records).pending ≡ pending_among records (deliveries records)
-pending_all_is records = pending_from records (λ d. is_in_state Pending (state_of records d)) is_accept (λ r t. t) 0 records (starts records)
+pending_all_is records = pending_among_kept records (λ d. is_in_state Pending (state_of records d)) is_accept (λ r t. t)
 
 -- What a desk tells of each world for which it stands
 
@@ -162,27 +146,42 @@ is_core {d} same h = subst (λ (x : DeskValue). IsCore x) same (assumption)
 pub row_is_event : (records : List Record) (ticket : Ticket) → is_row_of ticket (row_of records ticket.seq) ≡ has_event records ticket
 row_is_event records ticket = grind arith
 
-accepted_first : (first rest : List Record) (d : ℕ) (a : Accepted) → accepted first d ≡ Some a → accepted (first ++ rest) d ≡ Some a
-accepted_first [] rest d a e = cc
-accepted_first (x ∷ xs) rest zero a e = e
-accepted_first (x ∷ xs) rest (suc d) a e = accepted_first xs rest d a e
+-- the body of a settled event is in memory
+pub body_is : (w : World) (ticket : Ticket) → has_event (settled_records w) ticket ≡ true
+    → body_left (all_records w) (length (settled_records w)) ticket.seq ≡ body_of (settled_records w) ticket.seq
+body_is w ticket e =
+    let d = ticket.seq in
+    let some : is_some (accepted (settled_records w) d) ≡ true =
+    there_if (accepted (settled_records w) d) (is_event_of ticket) e in
+    let there : accept_at (all_records w) d ≡ accept_at (settled_records w) d =
+    ap (λ records. accept_at records d) (settled_first w)
+    ∙ accepted-before (settled_records w) (waiting_records w) d
+    (below_if_accepted (settled_records w) d (there_if_kept (settled_records w) d some)) in
+    (λ i. option_map (λ (a : Accepted). a.body) (if is_purged (settled_front w i) d then None else there i))
 
--- the body of an event among the first records is the same among all
-pub body_first : (first rest : List Record) (ticket : Ticket) → has_event first ticket ≡ true → body_of (first ++ rest) ticket.seq ≡ body_of first ticket.seq
-body_first first rest ticket e = grind (arith, accepted_first first rest ticket.seq)
+-- the body of what no Purge took is in memory
+pub body_if_kept : (w : World) (delivery : ℕ) → is_purged (all_records w) delivery ≡ false
+    → body_left (all_records w) (length (settled_records w)) delivery ≡ body_of (all_records w) delivery
+body_if_kept w delivery kept =
+    let front = unpurged_front (settled_records w) (waiting_records w) delivery
+    (ap (λ records. is_purged records delivery) (sym (settled_first w)) ∙ kept) in
+    ap (λ records. option_map (λ (a : Accepted). a.body) (if is_purged records delivery then None else accept_at (all_records w) delivery))
+    (settled_front w)
+    ∙ ap (λ b. option_map (λ (a : Accepted). a.body) (if b then None else accept_at (all_records w) delivery)) (front ∙ sym kept)
 
 -- Pages
 
-pub page_absent : (w : World) (name id : List ℕ) → None ≡ known_as (all_records w) name id → None ≡ event_page (settled_records w) name id
+pub page_absent : (w : World) (name id : List ℕ)
+    → None ≡ known_as (take (length (settled_records w)) (all_records w)) name id → None ≡ event_page (settled_records w) name id
 page_absent w name id e =
-    event_unknown (settled_records w) (waiting_records w) name id (ap (λ records. known_as records name id) (sym (settled_first w)) ∙ sym e)
+    ap (option_and_then (row_of (settled_records w))) (e ∙ ap (λ records. known_as records name id) (settled_front w))
 
 pub page_found : (w : World) (name id : List ℕ) (delivery : ℕ) {row : Option BookRow}
-    → Some delivery ≡ known_as (all_records w) name id
+    → Some delivery ≡ known_as (take (length (settled_records w)) (all_records w)) name id
     → row ≡ row_of (take (length (settled_records w)) (all_records w)) delivery → row ≡ event_page (settled_records w) name id
 page_found w name id delivery e f =
     f ∙ ap (λ records. row_of records delivery) (settled_front w)
-    ∙ event_known (settled_records w) (waiting_records w) name id delivery (ap (λ records. known_as records name id) (sym (settled_first w)) ∙ sym e)
+    ∙ ap (option_and_then (row_of (settled_records w))) (e ∙ ap (λ records. known_as records name id) (settled_front w))
 
 pub totals_are : (w : World) (counts : Counts) (put records : ℕ) → counts ≡ counts_of_all (take (length (settled_records w)) (all_records w))
     → put ≡ length (endpoints (take (length (settled_records w)) (all_records w))) → records ≡ length (settled_records w)
@@ -530,6 +529,21 @@ subscribes_or_lacks d new topic name flag (Ok t) room known free same is staged 
     let made = subst (λ (v : DeskValue). Stages d.endpoints v.endpoints (record_count d.waiting) entry) is staged in
     stages_or_lacks d new (with_subscribed d topic name flag) entry (Ok t)
     (λ w h kept. stands_with_subscribed d w topic name flag h room known free kept made) same is limits err
+
+-- a Purge is staged, and takes no memory
+pub stands_with_purged : (d new : DeskValue) (w : World) (before : ℕ) → StandsFor d w → record_count d.waiting < MAX_RECORDS
+    → IsTrue (is_within_limits (Purge before)) → new ≡ with_purged d before
+    → Takes d.deliveries (record_count d.waiting) (Purge before) new.deliveries → StandsFor new (with_record w (Purge before))
+stands_with_purged d new w before h room limits is takes =
+    let entry = Purge before in
+    let legal = legal_with entry h room refl limits in
+    let made = subst (λ (v : DeskValue). Takes d.deliveries (record_count d.waiting) entry v.deliveries) is takes in
+    subst (λ (v : DeskValue). StandsFor v (with_record w entry)) (sym is)
+    (stands_staged d w entry d.endpoints _ h (record {
+      of_endpoints = stands-other d.endpoints (all_records w) (length (settled_records w)) entry h.books.of_endpoints legal refl;
+      of_deliveries = made (all_records w) (length (settled_records w)) h.books.of_deliveries (count_is h);
+      legal = legal;
+    }))
 
 -- Submissions
 

@@ -73,7 +73,7 @@ least_is key from (n ∷ rest) s h (inr r) first =
 
 -- Deliveries
 
-abbrev places_from : (Record → Bool) → ℕ → List Record → List ℕ
+abbrev pub places_from : (Record → Bool) → ℕ → List Record → List ℕ
 places_from test n records = map (λ (e : ℕ × Record). e.0) (filter (λ e. test e.1) (enumerate_from n records))
 
 pub places_rise : (test : Record → Bool) (n : ℕ) (records : List Record) → Rises n (places_from test n records)

@@ -1,5 +1,6 @@
 mod Cases
 mod Words
+pub mod TakenLaws
 mod DeskLaws
 pub mod TurnLaws
 pub mod LeastLaws
@@ -9,6 +10,7 @@ mod SettleLaws
 mod OpeningLaws
 pub mod RowLaws
 mod RequestTies
+mod PurgeTies
 mod PublishTies
 mod PublishLaws
 mod SpendLaws

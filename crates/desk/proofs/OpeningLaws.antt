@@ -7,12 +7,12 @@ use Rattle.desk.proofs.Words.{drop_all, take_more, take_all, find-append, list_a
 use Rattle.desk.proofs.Words.{slice_get_within, slice_get-get_or, map-map, bytes_eq-Decides, records_of, and_first}
 use Rattle.desk.proofs.Words.{and_second, EstimatorValue, StandsForSamples, Explains, Books, WaitingValue, AreInStep}
 use Rattle.desk.proofs.Words.{changes_none, EndpointEntry, Entry, DeliveryRow, BookValue, HasOneEach, IsInStep}
-use Rattle.desk.proofs.Words.{empty_book, entry_at, is_pending_of, latest_row, pending_in, row_in, all_weaker, Row}
+use Rattle.desk.proofs.Words.{empty_book, entry_at, is_pending_of, pending_in, settled_row, all_weaker, Row}
 use Rattle.desk.proofs.Words.{Pair, QueueValue, empty_queue, ChangesMark, IsNew, SetsMark, free_places, has_room_in}
 use Rattle.desk.proofs.Words.{is_held, is_reserved, pair_of, reserved_mark, with_room, Limiter, IsDesk, Opens}
 use Rattle.desk.proofs.Words.{AreLimiters, AreMarked, AreQueued, HasPlaces, Holds, KeepsPlaces, StandsAt, bound_by}
 use Rattle.desk.proofs.Words.{endpoint_at, idle_pair, is_unheld, new_limiter, room_by, waits_as, entry_of, nat_tests}
-use Rattle.desk.proofs.Words.{by_bool, by_option}
+use Rattle.desk.proofs.Words.{by_bool, by_option, nat_lt, option_and_then, row_if_settled}
 use Rattle.vegas.specs.Vegas.{limit_of, noload_of, probes_of}
 use Rattle.std.proofs.lemmas.List.Elements.{filter_map-append}
 use Rattle.spool.specs.Books.{AreSettled}
@@ -57,12 +57,25 @@ own_place (y ∷ ys) (suc i) x few h =
     let later = own_place ys i x (omega (arith, few, counted)) h in
     (grind (arith, other, later.0), grind (arith, other, later.1))
 
--- the row of the entry at a place
+-- the row of the entry at a place, and that there is one if all entries are settled
 pub row_there : (book : BookValue) (place d : ℕ) → HasOneEach book → Some d ≡ option_map (λ e. e.seq) (slice_get book.entries place)
-    → latest_row book d ≡ option_map (λ e. row_in e.latest e) (slice_get book.entries place)
+    → settled_row book d ≡ option_and_then (row_if_settled book.settled_seq) (slice_get book.entries place)
 row_there book place d once h = by_option (slice_get book.entries place)
     (λ e. grind (arith, h, e))
     (λ x e. grind (arith, h, e, (own_place book.entries place x (once x.seq) e).0))
+
+all_at : (p : Entry → Bool) (xs : List Entry) (i : ℕ) (x : Entry) → list_all p xs ≡ true → slice_get xs i ≡ Some x → p x ≡ true
+all_at p [] i x all h = absurd (let wrong : None ≡ Some x = h in cc)
+all_at p (y ∷ ys) zero x all h = ap p (sym (same_some y x h)) ∙ and_first (p y) _ all
+all_at p (y ∷ ys) (suc i) x all h = all_at p ys i x (and_second (p y) _ all) h
+
+pub no_row_there : (book : BookValue) (place : ℕ) → IsInStep book → book.next_seq ≡ book.settled_seq → place < length book.entries
+    → None ≡ option_and_then (row_if_settled book.settled_seq) (slice_get book.entries place) → ⊥
+no_row_there book place step same within none = by_option (slice_get book.entries place)
+    (λ e. nothing_there (λ (x : Entry). x) book.entries place within (sym (ap (option_map (λ (x : Entry). x)) e)))
+    (λ x e.
+    let below = all_at (λ (y : Entry). nat_lt y.seq book.next_seq) book.entries place x step.numbered e in
+    absurd (grind (arith, nat_tests, none, e, below, same)))
 
 -- Deliveries that are held, one after the other
 
@@ -109,7 +122,7 @@ has_all book queue e = nat_le (pending_in book e.name) (free_places queue e.name
 
 -- the places of the endpoint of one more entry are made
 pub all_more : (old new : QueueValue) (book : BookValue) (i pending : ℕ) (row : DeliveryRow)
-    → Some row ≡ option_map (λ e. row_in e.latest e) (slice_get book.entries i) → pending ≡ pending_in book row.endpoint
+    → Some row ≡ option_and_then (row_if_settled book.settled_seq) (slice_get book.entries i) → pending ≡ pending_in book row.endpoint
     → SetsMark old new (reserved_mark old row.endpoint pending) → list_all (has_all book old) (take i book.entries) ≡ true → list_all (has_all book new) (take (i + 1) book.entries) ≡ true
 all_more old new book i pending row there is sets all =
     by_option (slice_get book.entries i) (λ e. absurd (grind (arith, there, e))) (λ x e.
@@ -327,7 +340,7 @@ is_desk_new {endpoints} {deliveries} {waiting} {live} {limiters} {queue} mark no
       endpoints_wait = changes_none (endpoint_at empty_book) endpoint_entries.empty_book (record { numbered = refl; caught_up = λ name. refl }) refl refl;
       deliveries_staged = omega arith;
       deliveries_settled = refl;
-      deliveries_wait = waiting_none empty_book (record { numbered = refl; caught_up = tt }) refl refl;
+      deliveries_wait = waiting_none empty_book (record { numbered = refl; caught_up = tt; left = refl; ended = refl }) refl refl;
       tied = record {
         limited = refl;
         room = record { places = omega arith; numbers = omega arith };

@@ -8,7 +8,7 @@ use Rattle.desk.proofs.Words.{find-append, length-append, Result, Ok, Err, OnOk,
 use Rattle.desk.proofs.Words.{MAX_RECORDS, Record, Accept, accepted, known_as, Endpoint, endpoints, has_endpoint}
 use Rattle.desk.proofs.Words.{IsLegal, is_within_limits, legal_more, stands-other, is_known, is_named, EndpointEntry}
 use Rattle.desk.proofs.Words.{Entry, BookValue, entry_at, is_entry_as, known_in, new_entry, with_event, record_count}
-use Rattle.desk.proofs.Words.{Pending, World, all_records, settled_records, DeskValue, StandsFor, IsMove, Checks}
+use Rattle.desk.proofs.Words.{World, all_records, settled_records, DeskValue, StandsFor, IsMove, Checks}
 use Rattle.desk.proofs.Words.{Refusal, refusal, out_of_memory_at, Answer, or_out_of_memory, moment, at_moment}
 use Rattle.std.proofs.Common.{set}
 use Rattle.std.specs.Prelude.{◌≢◌, ◌-◌, ◌^◌, min, All, AllPairs, Vec}
@@ -27,11 +27,13 @@ use Rattle.endpoint_book.specs.Book.{StandsFor as StandsForEndpoints}
 use Rattle.endpoint_book.specs.Entries as endpoint_entries
 use Rattle.endpoint_book.specs.Topics.{is_on}
 use Rattle.endpoint_book.proofs.Filters.{filter_mapped}
+use Rattle.desk.proofs.Words.{IfSome, is_kept, is_purged}
+use Rattle.desk.proofs.TakenLaws.{known_unpurged}
 use Rattle.endpoint_book.proofs.Histories.{known-entry, names-told}
 use Rattle.endpoint_book.proofs.Pairs.{subscribed-told}
 use Rattle.delivery_book.specs.Book.{StandsFor as StandsForDeliveries}
 use Rattle.delivery_book.proofs.Laws.{stands_accept, stands_accepts}
-use Rattle.delivery_book.proofs.Tellings.{stands_body, stands_known, stands_latest_counts}
+use Rattle.delivery_book.proofs.Tellings.{stands_body, stands_known, stands_pending}
 use Rattle.desk.specs.declared.limits.TheConstants.{MAX_PENDING}
 use Rattle.desk.specs.declared.refusal.Fault.TheVariants as fault
 use Rattle.desk.specs.declared.ticket.Ticket.{Ticket}
@@ -41,7 +43,7 @@ use Rattle.desk.specs.Moves.{with_accepts}
 use Rattle.desk.specs.Desks.{has_body_in, has_full_backlog_in, is_against_in, is_conflict_in, is_full_in, is_lacking_in}
 use Rattle.desk.specs.Desks.{lacking_in, lacks_in, names_in, subscribed_in, ticket_by, with_publish}
 use Rattle.desk.proofs.DeskLaws.{becomes, count_is, lacks, leaves, makes, passes, pending_is, refuses, stands_later}
-use Rattle.desk.proofs.DeskLaws.{stands_step}
+use Rattle.desk.proofs.DeskLaws.{body_if_kept, stands_step}
 use Rattle.desk.proofs.PublishTies.{differ}
 use Rattle.desk.proofs.RequestTies.{found_apart}
 
@@ -93,11 +95,12 @@ ticket_is : {d : DeskValue} {w : World} (id name : List ℕ) → StandsFor d w
     → ticket_by d.deliveries id name ≡ ticket_in w id name
 ticket_is id name h = λ i. ticket (unwrap_or (known_by name id h i) 0) name id
 
-has_body_is : {d : DeskValue} {w : World} (delivery : ℕ) (body : List ℕ) → StandsFor d w
+has_body_is : {d : DeskValue} {w : World} (delivery : ℕ) (body : List ℕ) → StandsFor d w → is_purged (all_records w) delivery ≡ false
     → has_body_in d.deliveries delivery body ≡ has_body body (accepted (all_records w) delivery)
-has_body_is {d} {w} delivery body h =
+has_body_is {d} {w} delivery body h kept =
     by_text (λ e. e.body) (λ a. a.body) (entry_at d.deliveries.entries delivery) (accepted (all_records w) delivery)
-    (stands_body d.deliveries (all_records w) (length (settled_records w)) delivery h.books.of_deliveries)
+    (stands_body d.deliveries (all_records w) (length (settled_records w)) delivery h.books.of_deliveries
+    ∙ body_if_kept w delivery kept)
   where
     by_text : {X Y : Type 0} (f : X → List ℕ) (g : Y → List ℕ) (x : Option X) (y : Option Y)
         → option_map f x ≡ option_map g y
@@ -108,9 +111,16 @@ has_body_is {d} {w} delivery body h =
     by_text f g (Some a) (Some b) same = let texts : f a ≡ g b = cc in ap (λ text. bytes_eq text body) texts
 
 conflict_is : {d : DeskValue} {w : World} (known : Option ℕ) (body : List ℕ) → StandsFor d w
+    → IfSome known (λ delivery. is_purged (all_records w) delivery ≡ false)
     → is_conflict_in d.deliveries known body ≡ is_conflict (all_records w) known body
-conflict_is None body h = refl
-conflict_is (Some delivery) body h = ap not (has_body_is delivery body h)
+conflict_is None body h kept = refl
+conflict_is (Some delivery) body h kept = ap not (has_body_is delivery body h kept)
+
+-- no Purge took what is known by an id
+pub kept_if_known : (w : World) (name id : List ℕ) (known : Option ℕ) → known ≡ known_as (all_records w) name id
+    → IfSome known (λ delivery. is_purged (all_records w) delivery ≡ false)
+kept_if_known w name id None is = tt
+kept_if_known w name id (Some delivery) is = known_unpurged (all_records w) name id delivery (sym is)
 
 pub conflicts_are : {d : DeskValue} {w : World} (topic id body : List ℕ) → StandsFor d w
     → list_any (is_against_in d topic id body) (names_in d.endpoints)
@@ -118,15 +128,15 @@ pub conflicts_are : {d : DeskValue} {w : World} (topic id body : List ℕ) → S
 conflicts_are {d} {w} topic id body h =
     sym (any_filtered (is_on d.endpoints.topics topic)
     (λ name. is_conflict_in d.deliveries (known_in d.deliveries name id) body) (names_in d.endpoints))
-    ∙ (λ i. list_any (λ name. conflict_is (known_in d.deliveries name id) body h i) (subscribed_is topic h i))
+    ∙ (λ i. list_any (λ name. conflict_is (known_in d.deliveries name id) body h
+    (kept_if_known w name id (known_in d.deliveries name id) (known_by name id h)) i) (subscribed_is topic h i))
     ∙ (λ i. list_any (λ name. is_conflict (all_records w) (known_by name id h i) body) (subscribed w topic))
 
 full_is : {d : DeskValue} {w : World} (name : List ℕ) → StandsFor d w
     → has_full_backlog_in d.deliveries name ≡ has_full_backlog w name
 full_is {d} {w} name h =
     ap (nat_le MAX_PENDING)
-    (stands_latest_counts d.deliveries (all_records w) (length (settled_records w))
-    (Some name) Pending h.books.of_deliveries
+    (stands_pending d.deliveries (all_records w) (length (settled_records w)) (Some name) h.books.of_deliveries
     ∙ pending_is (all_records w) name)
 
 pub backlog_among : (d : DeskValue) (topic id : List ℕ)
@@ -147,7 +157,8 @@ lacks_other : (book : BookValue) (seq : ℕ) (name n id body : List ℕ) (at : �
     → lacks_in (with_event book seq name id body at) id n ≡ lacks_in book id n
 lacks_other book seq name n id body at other =
     ap (λ (o : Option Entry). not (is_some (option_map (λ e. e.seq) o)))
-    (found_apart (is_entry_as n id) book.entries (new_entry seq name id body at) (ap (λ b. b && bytes_eq id id) other))
+    (found_apart (λ e. is_entry_as n id e && is_kept e) book.entries (new_entry seq name id body at)
+    (ap (λ b. (b && bytes_eq id id) && true) other))
 
 -- the endpoints of a legal history take an event that none of them knows
 more_legal : (e : endpoint_entries.BookValue) (d : BookValue) (records : List Record) (settled seq : ℕ)

@@ -15,11 +15,14 @@ use Rattle.desk.proofs.Words.{MAX_RECORDS, records_of, HasChanges, changes_named
 use Rattle.desk.proofs.Words.{with_event, all_weaker, HasSamePairs, SetsMark, free_places, reserved_mark, WaitingValue}
 use Rattle.desk.proofs.Words.{record_count, with_step, Limiter, AreTied, is_entry_of, is_idle, is_pair_of, own_pair}
 use Rattle.desk.proofs.Words.{IsDesk, is_pending_of}
+use Rattle.desk.proofs.Words.{HasOneEach, HasSameNames, IsInStep, filter}
+use Rattle.delivery_book.specs.Entries.{is_left, is_of_left}
 use Rattle.delivery_book.specs.Book.{StandsFor}
 use Rattle.delivery_book.proofs.Waiting.{waiting_settled, waiting_event}
 use Rattle.endpoint_book.specs.Entries as endpoint_entries
 use Rattle.desk.proofs.ClaimLaws.{found_seq, idle_from, count_below}
 use Rattle.desk.proofs.DeskLaws.{deliveries_wait}
+use Rattle.desk.proofs.TakenLaws.{count_left, entry_left, if_passes, left_on, open_left}
 use Rattle.desk.proofs.RequestTies.{room_requested, by_name, found_with, marked_reserved, places_reserved}
 use Rattle.desk.proofs.RequestTies.{reserved_free}
 
@@ -81,20 +84,43 @@ later book = with_settled book (book.settled_seq + 1)
 abbrev first : BookValue → Option ℕ
 first book = first_outcome book.settled_seq book.unsettled
 
-entries_moved : (book : BookValue) → AreApart book → (later book).entries ≡ map (moved (first book)) book.entries
-entries_moved book apart = λ i. map (λ x. if front_one book.settled_seq book.next_seq book.unsettled apart.in_turn x.seq i then with_latest_settled x else x) book.entries
+-- what is left once one more record is settled
+abbrev is_left_later : BookValue → Entry → Bool
+is_left_later book = is_left (book.settled_seq + 1)
 
-entry_moved : (book : BookValue) (n : ℕ) → AreApart book → entry_at (later book).entries n ≡ option_map (moved (first book)) (entry_at book.entries n)
-entry_moved book n apart =
+entries_moved : (book : BookValue) → AreApart book
+    → (later book).entries ≡ filter (is_left_later book) (map (moved (first book)) book.entries)
+entries_moved book apart = λ i. filter (is_left_later book)
+    (map (λ x. if front_one book.settled_seq book.next_seq book.unsettled apart.in_turn x.seq i then with_latest_settled x else x)
+    book.entries)
+
+entry_moved : (book : BookValue) (n : ℕ) → HasOneEach book → AreApart book
+    → entry_at (later book).entries n
+    ≡ if_passes (is_left_later book) (option_map (moved (first book)) (entry_at book.entries n))
+entry_moved book n once apart =
+    let counted = count-map (λ (e : Entry). nat_eq e.seq n) (moved (first book)) book.entries
+    (λ e i. nat_eq (moved_seq (first book) e i) n) in
     ap (λ entries. entry_at entries n) (entries_moved book apart)
-    ∙ find_map (moved (first book)) (λ e. nat_eq e.seq n) book.entries
-    ∙ ap (λ test. option_map (moved (first book)) (find test book.entries)) (λ i e. nat_eq (moved_seq (first book) e i) n)
+    ∙ entry_left (is_left_later book) n (map (moved (first book)) book.entries) (omega (arith, counted, once n))
+    ∙ ap (if_passes (is_left_later book)) (find_map (moved (first book)) (λ e. nat_eq e.seq n) book.entries
+    ∙ ap (λ test. option_map (moved (first book)) (find test book.entries)) (λ i e. nat_eq (moved_seq (first book) e i) n))
 
--- an entry that the outcome isn't of stays
-entry_still : (book : BookValue) (n : ℕ) → AreApart book → names (first book) n ≡ false → entry_at (later book).entries n ≡ entry_at book.entries n
-entry_still book n apart other =
-    let moved = entry_moved book n apart in
-    grind (arith, moved, other, found_seq book.entries n)
+-- an entry that the outcome isn't of stays, if it is left
+entry_still : (book : BookValue) (n : ℕ) → HasOneEach book → AreApart book → names (first book) n ≡ false
+    → entry_at (later book).entries n ≡ if_passes (is_left_later book) (entry_at book.entries n)
+entry_still book n once apart other =
+    let moved = entry_moved book n once apart in
+    by_option (entry_at book.entries n)
+    (λ none. grind (arith, moved, none))
+    (λ e there. grind (arith, moved, there, other, found_seq book.entries n e there))
+
+-- one that takes an outcome is left
+entry_open : (book : BookValue) (n : ℕ) (e : Entry) → HasOneEach book → IsInStep book → AreApart book → names (first book) n ≡ false
+    → entry_at book.entries n ≡ Some e → is_open e ≡ true → entry_at (later book).entries n ≡ Some e
+entry_open book n e once step apart other there opened =
+    let left = open_left (book.settled_seq + 1) n book.entries e step.ended there opened in
+    let still = entry_still book n once apart other in
+    grind (arith, still, there, left)
 
 -- The delivery that is concerned
 
@@ -238,18 +264,54 @@ all_both p q r (x ∷ xs) h a b = grind (arith, h x, all_both p q r xs h)
 not_named : (b : Bool) → not b ≡ true → b ≡ false
 not_named b h = grind arith
 
-apart_settled : (book : BookValue) → AreApart book → AreApart (later book)
-apart_settled book apart = record {
+both_all : {X : Type 0} (p q : X → Bool) (xs : List X) → list_all p xs ≡ true → list_all q xs ≡ true → list_all (λ x. p x && q x) xs ≡ true
+both_all p q [] h k = refl
+both_all p q (x ∷ xs) h k = grind (arith, h, k, both_all p q xs)
+
+-- the outcomes that wait have these numbers
+all_from : (least from upto : ℕ) (outs : List Unsettled) → least ≤ from → rises from upto outs ≡ true
+    → list_all (λ o. nat_le least o.seq) outs ≡ true
+all_from least from upto [] le h = refl
+all_from least from upto (o ∷ rest) le h =
+    let first = leb-true from o.seq (and_first (nat_le from o.seq) _ h) in
+    and_both (nat_le least o.seq) _ (le-leb least o.seq (omega (arith, le, first)))
+    (all_from least (o.seq + 1) upto rest (omega (arith, le, first)) (and_second (nat_le from o.seq) _ h))
+
+-- an outcome that still waits, if the one that is settled isn't of its delivery
+still_told : (book : BookValue) (o : Unsettled) → HasOneEach book → AreApart book → names (first book) o.delivery ≡ false
+    → nat_le (book.settled_seq + 1) o.seq ≡ true → is_of_left book.entries o ≡ true → is_told book o ≡ true
+    → is_told (later book) o ≡ true
+still_told book o once apart other later_on left told =
+    let still = entry_still book o.delivery once apart other in
+    by_option (entry_at book.entries o.delivery)
+    (λ none. absurd (grind (arith, told, none)))
+    (λ e there.
+    let passes = left_on (book.settled_seq + 1) book.entries o e later_on left there in
+    grind (arith, told, there, still, passes))
+
+apart_settled : (book : BookValue) → HasOneEach book → IsInStep book → AreApart book → AreApart (later book)
+apart_settled book once_each step apart = record {
   in_turn = ap (rises (book.settled_seq + 1) (max book.next_seq (book.settled_seq + 1))) rest ∙ rises_behind book.settled_seq book.next_seq book.unsettled apart.in_turn;
   told = ap (list_all (is_told (later book))) rest
-      ∙ all_both (λ (o : Unsettled). not (names (first book) o.delivery)) (is_told book) (is_told (later book)) (behind book.settled_seq book.unsettled)
-      (λ o other told. ap
-      (λ e. option_map_or (λ (x : Entry). not (nat_eq x.latest.attempts x.settled.attempts)) e false)
-      (entry_still book o.delivery apart (not_named (names (first book) o.delivery) other)) ∙ told)
-      (others_wait book.settled_seq book.unsettled apart.once) (all_behind (is_told book) book.settled_seq book.unsettled apart.told);
+      ∙ all_both (λ (o : Unsettled). not (names (first book) o.delivery))
+      (λ o. nat_le (book.settled_seq + 1) o.seq && (is_of_left book.entries o && is_told book o)) (is_told (later book))
+      (behind book.settled_seq book.unsettled)
+      (λ o other told. still_told book o once_each apart (not_named (names (first book) o.delivery) other)
+      (and_first (nat_le (book.settled_seq + 1) o.seq) _ told)
+      (and_first (is_of_left book.entries o) _ (and_second (nat_le (book.settled_seq + 1) o.seq) _ told))
+      (and_second (is_of_left book.entries o) _ (and_second (nat_le (book.settled_seq + 1) o.seq) _ told)))
+      (others_wait book.settled_seq book.unsettled apart.once)
+      (both_all (λ o. nat_le (book.settled_seq + 1) o.seq) (λ o. is_of_left book.entries o && is_told book o)
+      (behind book.settled_seq book.unsettled)
+      (all_from (book.settled_seq + 1) (book.settled_seq + 1) (max book.next_seq (book.settled_seq + 1))
+      (behind book.settled_seq book.unsettled) (omega arith)
+      (rises_behind book.settled_seq book.next_seq book.unsettled apart.in_turn))
+      (both_all (is_of_left book.entries) (is_told book) (behind book.settled_seq book.unsettled)
+      (all_behind (is_of_left book.entries) book.settled_seq book.unsettled step.left)
+      (all_behind (is_told book) book.settled_seq book.unsettled apart.told)));
   own = ap (list_all (is_own (later book))) rest
-      ∙ ap (λ test. list_all test (behind book.settled_seq book.unsettled)) (λ i o. not (found_as o.seq i))
-      ∙ all_behind (is_own book) book.settled_seq book.unsettled apart.own;
+      ∙ all_weaker (is_own book) (is_own (later book)) (behind book.settled_seq book.unsettled) still_own
+      (all_behind (is_own book) book.settled_seq book.unsettled apart.own);
   once = λ d. omega (
     arith,
     ap (count_by (λ (o : Unsettled). nat_eq o.delivery d)) rest,
@@ -261,33 +323,49 @@ apart_settled book apart = record {
     rest : (later book).unsettled ≡ behind book.settled_seq book.unsettled
     rest = rest_one book.settled_seq book.next_seq book.unsettled apart.in_turn
 
-    found_as : (n : ℕ) → is_some (entry_at (later book).entries n) ≡ is_some (entry_at book.entries n)
-    found_as n = grind (arith, entry_moved book n apart)
+    still_own : (o : Unsettled) → is_own book o ≡ true → is_own (later book) o ≡ true
+    still_own o own =
+        let moved = entry_moved book o.seq once_each apart in
+        by_option (entry_at book.entries o.seq)
+        (λ none. grind (arith, moved, none))
+        (λ e there. absurd (grind (arith, own, there)))
 
-under_way_settled : (book : BookValue) (live : List Row) → AreApart book → AreUnderWay live book → AreUnderWay live (later book)
-under_way_settled book live apart way = record { each = all live way.each; once = way.once }
+under_way_settled : (book : BookValue) (live : List Row) → HasOneEach book → IsInStep book → AreApart book → AreUnderWay live book
+    → AreUnderWay live (later book)
+under_way_settled book live once_each step apart way = record { each = all live way.each; once = way.once }
   where
     still : (row : Row) → is_under_way book row ≡ true → is_under_way (later book) row ≡ true
     still row h = by_bool (names (next_settled book) row.delivery)
         (λ e. by_option (entry_at book.entries row.delivery)
         (λ none. grind (arith, h, none))
         (λ x some. grind (arith, h, some, concerned_busy book apart row.delivery e x some)))
-        (λ e.
-        let same = entry_still book row.delivery apart (concerned_first book apart row.delivery e) in
-        grind (arith, nat_tests, h, same))
+        (λ e. by_option (entry_at book.entries row.delivery)
+        (λ none. absurd (grind (arith, h, none)))
+        (λ x some.
+        let opened : is_open x ≡ true = grind (arith, h, some) in
+        let same = entry_open book row.delivery x once_each step apart (concerned_first book apart row.delivery e) some opened in
+        grind (arith, nat_tests, h, some, same)))
 
     all : (rows : List Row) → list_all (is_under_way book) rows ≡ true → list_all (is_under_way (later book)) rows ≡ true
     all [] h = refl
     all (row ∷ rows) h = grind (arith, h, still row, all rows)
 
 -- another delivery waits as before
-waits_still : (book : BookValue) (live : List Row) (pair : Pair) → AreApart book → names (next_settled book) pair.seq ≡ false → waits_as book live pair ≡ waits_as (later book) live pair
-waits_still book live pair apart other =
-    let still = entry_still book pair.seq apart (concerned_first book apart pair.seq other) in
+waits_still : (book : BookValue) (live : List Row) (pair : Pair) → HasOneEach book → IsInStep book → AreApart book
+    → names (next_settled book) pair.seq ≡ false → waits_as book live pair ≡ waits_as (later book) live pair
+waits_still book live pair once_each step apart other =
+    let first = concerned_first book apart pair.seq other in
+    let still = entry_still book pair.seq once_each apart first in
     by_option (entry_at book.entries pair.seq)
     (λ e. grind (arith, e, still))
     (λ x e. let same = settled_same book pair.seq other (ap is_some e) in
-    grind (arith, e, still, found_seq book.entries pair.seq x e, same))
+    by_bool (is_open x)
+    (λ opened.
+    let there = entry_open book pair.seq x once_each step apart first e opened in
+    grind (arith, e, there, found_seq book.entries pair.seq x e, same))
+    (λ closed. by_bool (is_left_later book x)
+    (λ left. grind (arith, e, still, left, closed))
+    (λ gone. grind (arith, e, still, gone, closed))))
 
 -- the delivery that is concerned isn't held, and each pending one still has a place
 new_settled : (queue : QueueValue) (book : BookValue) (live : List Row) (n : ℕ) → AreQueued queue book live → names (next_settled book) n ≡ true → IsNew queue n
@@ -298,6 +376,7 @@ places_settled queue book live queued = λ name.
     omega (
       arith,
       ap (count_by (is_unheld queue name)) (entries_moved book queued.apart),
+      count_left (is_unheld queue name) (is_left_later book) (map (moved (first book)) book.entries),
       count-map (is_unheld queue name) (moved (first book)) book.entries (same name),
       queued.places name,
     )
@@ -310,14 +389,15 @@ places_settled queue book live queued = λ name.
         grind (arith, e, unheld x.name (unwrap_or x.latest.due 0), unheld x.name (unwrap_or x.settled.due 0)))
         (λ e. grind (arith, e))
 
-queued_settled : (old new : QueueValue) (book : BookValue) (live : List Row) → HoldsNext old new (later book) (next_settled book) → HasPlaces new (later book) → AreQueued old book live
+queued_settled : (old new : QueueValue) (book : BookValue) (live : List Row) → HasOneEach book → IsInStep book
+    → HoldsNext old new (later book) (next_settled book) → HasPlaces new (later book) → AreQueued old book live
     → AreQueued new (later book) live
-queued_settled old new book live holds places queued = record {
-  apart = apart_settled book queued.apart;
-  under_way = under_way_settled book live queued.apart queued.under_way;
+queued_settled old new book live once_each step holds places queued = record {
+  apart = apart_settled book once_each step queued.apart;
+  under_way = under_way_settled book live once_each step queued.apart queued.under_way;
   held = held_next old new (later book) live (next_settled book) holds (λ n e. new_settled old book live n queued e)
       (λ n e. busy_not_out book live n queued.under_way.each (concerned_busy book queued.apart n e))
-      (λ pair e. queued.held pair ∙ waits_still book live pair queued.apart e);
+      (λ pair e. queued.held pair ∙ waits_still book live pair once_each step queued.apart e);
   places = places;
 }
 
@@ -334,12 +414,12 @@ pub places_next : (queue : QueueValue) (book after : BookValue) (seq : ℕ) → 
 places_next queue book after seq same is queued =
     subst (λ (b : BookValue). HasPlaces queue b) (sym (later_is book after seq same is)) (places_settled queue book queued.0 queued.1)
 
-pub queued_next : (old new : QueueValue) (book after : BookValue) (seq : ℕ) (next : Option ℕ) → seq ≡ book.settled_seq → after ≡ with_settled book (seq + 1) → next ≡ next_settled book
+pub queued_next : (old new : QueueValue) (book after : BookValue) (seq : ℕ) (next : Option ℕ) → HasOneEach book → IsInStep book → seq ≡ book.settled_seq → after ≡ with_settled book (seq + 1) → next ≡ next_settled book
     → HoldsNext old new after next → HasPlaces new after → (live : List Row) → AreQueued old book live → AreQueued new after live
-queued_next old new book after seq next same is told holds places live queued =
+queued_next old new book after seq next once_each step same is told holds places live queued =
     let there = later_is book after seq same is in
     subst (λ (b : BookValue). AreQueued new b live) (sym there)
-    (queued_settled old new book live
+    (queued_settled old new book live once_each step
     (subst (λ o. HoldsNext old new (later book) o) told (subst (λ (b : BookValue). HoldsNext old new b next) there holds))
     (subst (λ (b : BookValue). HasPlaces new b) there places) queued)
 
@@ -357,9 +437,9 @@ next_within queue book queued = rises_within book.settled_seq book.next_seq book
 
 -- What waits behind the records that are settled
 
-pub one_settled : (book new : BookValue) (seq : ℕ) (records : List Record) → seq ≡ book.settled_seq → new ≡ with_settled book (seq + 1) → HasWaiting book records → HasWaiting new (drop 1 records)
-one_settled book new seq records is made waits =
-    subst (λ (b : BookValue). HasWaiting b (drop 1 records)) (sym (made ∙ ap (λ n. with_settled book (n + 1)) is)) (waiting_settled book records waits)
+pub one_settled : (book new : BookValue) (seq : ℕ) (records : List Record) → IsInStep book → seq ≡ book.settled_seq → new ≡ with_settled book (seq + 1) → HasWaiting book records → HasWaiting new (drop 1 records)
+one_settled book new seq records step is made waits =
+    subst (λ (b : BookValue). HasWaiting b (drop 1 records)) (sym (made ∙ ap (λ n. with_settled book (n + 1)) is)) (waiting_settled book records step waits)
 
 pub none_left : (book : BookValue) (settled counter : ℕ) (records : List Record) → counter ≡ settled → HasWaiting book records → HasWaiting book (drop (counter - settled) records)
 none_left book settled counter records is waits =
@@ -388,10 +468,48 @@ pub names_tried : (book : BookValue) (seq d status at n : ℕ) → endpoint_at (
 names_tried book seq d status at n =
     names_kept (at_delivery d (with_attempt status at)) book.entries n (λ e. grind arith) (λ e. grind arith)
 
-pub names_settled : (book : BookValue) (place n : ℕ) → endpoint_at (with_settled book place) n ≡ endpoint_at book n
-names_settled book place n =
-    names_kept (at_outcomes (front_below place book.unsettled) with_latest_settled) book.entries n
-    (λ e. grind arith) (λ e. grind arith)
+-- the endpoint of a delivery that is left
+pub names_settled : (book : BookValue) (place n : ℕ) → HasOneEach book → is_some (endpoint_at (with_settled book place) n) ≡ true
+    → endpoint_at (with_settled book place) n ≡ endpoint_at book n
+names_settled book place n once there =
+    let change = at_outcomes (front_below place book.unsettled) with_latest_settled in
+    let numbers : (e : Entry) → (change e).seq ≡ e.seq = λ e. grind arith in
+    let counted = count-map (λ (e : Entry). nat_eq e.seq n) change book.entries (λ e i. nat_eq (numbers e i) n) in
+    let left = entry_left (is_left place) n (map change book.entries) (omega (arith, counted, once n)) in
+    named_left (is_left place) (entry_at (map change book.entries) n) (entry_at (with_settled book place).entries n) left there
+    ∙ names_kept change book.entries n numbers (λ e. grind arith)
+  where
+    named_left : (p : Entry → Bool) (all some : Option Entry) → some ≡ if_passes p all
+        → is_some (option_map (λ (e : Entry). e.name) some) ≡ true
+        → option_map (λ (e : Entry). e.name) some ≡ option_map (λ (e : Entry). e.name) all
+    named_left p None some is there = absurd (grind (arith, is, there))
+    named_left p (Some e) some is there = by_bool (p e)
+        (λ passes. grind (arith, is, passes))
+        (λ fails. absurd (grind (arith, is, there, fails)))
+
+pub names_next : (book after : BookValue) (seq : ℕ) → HasOneEach book → after ≡ with_settled book (seq + 1) → HasSameNames book after
+names_next book after seq once is =
+    subst (HasSameNames book) (sym is) (λ n there. names_settled book (seq + 1) n once there)
+
+pub names_further : (old between new : BookValue) → HasSameNames old between → HasSameNames between new → HasSameNames old new
+names_further old between new before more = λ n there.
+    let same = more n there in
+    same ∙ before n (sym (ap is_some same) ∙ there)
+
+-- the deliveries of which an outcome waits are there, and have the endpoints that they had
+pub named_left : (old new : BookValue) (records : List Record) → HasSameNames old new
+    → ((d : ℕ) → entry_at new.entries d ≡ None → attempts_of records d ≡ []) → AreNamedAlike (endpoint_at old) (endpoint_at new) records
+named_left old new [] names tried = tt
+named_left old new (Outcome delivery attempt status moment ∷ rest) names tried = (
+  ap (λ (o : Option (List ℕ)). if is_gone_status status then o else None) same,
+  named_left old new rest names (λ d none. let all = tried d none in grind (arith, all)),
+)
+  where
+    same : endpoint_at old delivery ≡ endpoint_at new delivery
+    same = by_option (entry_at new.entries delivery)
+        (λ none. absurd (let all = tried delivery none in grind (arith, nat_tests, all)))
+        (λ e there. sym (names delivery (ap (λ o. is_some (option_map (λ (x : Entry). x.name) o)) there)))
+named_left old new (r ∷ rest) names tried = (refl, named_left old new rest names tried)
 
 -- no outcome waits of a delivery that isn't there
 pub none_tried : (book : BookValue) (records : List Record) → HasWaiting book records → (d : ℕ) → entry_at book.entries d ≡ None → attempts_of records d ≡ []

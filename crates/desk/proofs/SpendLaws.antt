@@ -32,7 +32,8 @@ use Rattle.delivery_book.proofs.Waiting.{waiting_outcome}
 use Rattle.endpoint_book.specs.Entries as endpoint_entries
 use Rattle.endpoint_book.specs.Book as endpoint_book
 use Rattle.delivery_book.specs.Entries as delivery_entries
-use Rattle.desk.proofs.ClaimLaws.{entry_is, limit_is, limiter_entry}
+use Rattle.desk.proofs.Words.{Accepted, accept_at, is_purged}
+use Rattle.desk.proofs.ClaimLaws.{accept_left, entry_is, limit_is, limiter_entry}
 use Rattle.desk.proofs.DeskLaws.{count_is, known_is, legal_with, stands_staged, one_changes, one_more, one_waits}
 use Rattle.desk.proofs.DeskLaws.{stands_as}
 use Rattle.desk.proofs.RowLaws.{others, IsReturned, attempts_at, none_found, returned, same_row_is}
@@ -162,12 +163,17 @@ known_attempt {d} {w} row h u =
     let entry = entry_is row.delivery h in
     let free =
     free_means d.deliveries (all_records w) (length (settled_records w)) row.delivery h.books.of_deliveries in
-    by_option (accepted (all_records w) row.delivery)
+    by_option (accept_left w row.delivery)
     (λ none. absurd (grind (arith, entry, u.there, none))) (λ a e. record {
       pending = and_first (is_pending (all_records w) row.delivery) _ (sym free ∙ takes d.deliveries row u);
-      own = grind (arith, entry, u.there, e, u.named);
+      own = owned (is_purged (settled_records w) row.delivery) (accept_at (all_records w) row.delivery) a e
+          (grind (arith, entry, u.there, e, u.named));
       numbered = grind (arith, entry, e);
     })
+  where
+    owned : (gone : Bool) (there : Option Accepted) (a : Accepted) → (if gone then None else there) ≡ Some a
+        → bytes_eq a.endpoint row.endpoint ≡ true → option_map_or (λ (t : Accepted). bytes_eq t.endpoint row.endpoint) there false ≡ true
+    owned gone there a is named = grind (arith, is, named)
 
 -- The outcome waits
 

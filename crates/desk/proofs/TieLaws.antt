@@ -14,6 +14,8 @@ use Rattle.desk.proofs.Words.{progress_after, takes_outcome, with_outcome, all_w
 use Rattle.desk.proofs.Words.{is_own, is_told, is_unheld, rises, nat_tests, by_option, with_attempt, KeepsPlaces}
 use Rattle.delivery_book.specs.declared.progress.Progress.{Progress}
 use Rattle.endpoint_book.specs.Entries as endpoint_entries
+use Rattle.desk.proofs.Words.{BookRow, IsInStep, attempt_in, latest_row, row_in}
+use Rattle.desk.proofs.TakenLaws.{latest_open}
 use Rattle.desk.proofs.ClaimLaws.{StartsFrom, endpoint_known, found_seq, pair_held}
 use Rattle.desk.proofs.RowLaws.{none_counted, IsReturned, all_by}
 
@@ -210,6 +212,25 @@ under_way book row h = by_option (entry_at _ row.delivery) (λ e. absurd (grind 
 
 pub takes : (book : BookValue) (row : Row) → UnderWay book row → takes_outcome book row.delivery ≡ true
 takes book row u = ap (λ o. option_map_or is_open o false) u.there ∙ u.opened
+
+-- The row of a delivery that takes an outcome tells how many attempts it had
+
+takes_as : (book : BookValue) (d : ℕ) → IsInStep book → takes_outcome book d ≡ true
+    → (e : Entry) × (entry_at book.entries d ≡ Some e) × (latest_row book d ≡ Some (row_in e.latest e))
+takes_as book d step takes = by_option (entry_at book.entries d)
+    (λ none. absurd (grind (arith, takes, none)))
+    (λ e there. (e, there, latest_open book d e step.ended there (grind (arith, takes, there))))
+
+pub next_is : (book : BookValue) (d : ℕ) (row : BookRow) → IsInStep book → takes_outcome book d ≡ true → Some row ≡ latest_row book d
+    → row.attempts + 1 ≡ attempt_in book d
+next_is book d row step takes rows =
+    let own = takes_as book d step takes in
+    grind (arith, rows, own.1, own.2)
+
+pub none_is : (book : BookValue) (d : ℕ) → IsInStep book → takes_outcome book d ≡ true → None ≡ latest_row book d → ⊥
+none_is book d step takes none =
+    let own = takes_as book d step takes in
+    absurd (grind (arith, none, own.2))
 
 -- Entries, where that of a delivery has one more attempt
 

@@ -15,7 +15,8 @@ use Rattle.spool.specs.declared.limits.TheConstants.{MAX_BATCH_RECORDS}
 use Rattle.desk.proofs.Words.{seal_waiting, with_batch, with_sealed_settled, with_batch_back, with_halt, Row}
 use Rattle.desk.proofs.Words.{QueueValue, Limiter, AreMarked, AreQueued, KeepsRooms, bound_of, endpoint_at, room_by}
 use Rattle.desk.proofs.Words.{DeskValue, IsDesk, StandsFor, IsReceiptOf, ArePlacesOf, IsHeldOf, OverWorlds, Turns}
-use Rattle.desk.proofs.Words.{IsMove, by_option}
+use Rattle.desk.proofs.Words.{IsMove, by_option, changes_named, HasSameNames}
+use Rattle.desk.proofs.SettleLaws.{named_left, none_tried}
 use Rattle.group_commit.specs.declared.fault.SealFault.{SealFault}
 use Rattle.group_commit.specs.declared.held.Held.{Held}
 use Rattle.group_commit.specs.Waits.{with_settled}
@@ -184,7 +185,7 @@ pub is_desk_settled : {endpoints later : endpoint_entries.BookValue} {deliveries
     → IsDesk endpoints deliveries steps live limiters queue
     → later ≡ endpoint_entries.with_settled endpoints place → moved.settled_seq ≡ place → moved.next_seq ≡ max deliveries.next_seq place → rest ≡ with_settled steps count → place ≡ rest.settled
     → ((records : List Record) → HasWaiting deliveries records → HasWaiting moved (drop (place - deliveries.settled_seq) records))
-    → ((d : ℕ) → endpoint_at moved d ≡ endpoint_at deliveries d) → endpoint_entries.flags_in later + later.settled_seq
+    → HasSameNames deliveries moved → endpoint_entries.flags_in later + later.settled_seq
     ≤ later.next_seq → KeepsRooms queue told
     → ((live : List Row) → AreQueued queue deliveries live → AreQueued told moved live)
     → IsDesk later moved rest live limiters told
@@ -195,7 +196,9 @@ is_desk_settled {endpoints} {later} {deliveries} {moved} {steps} {rest} {live} {
       endpoints_staged = omega (arith, ap (λ (b : endpoint_entries.BookValue). b.next_seq) e, h.endpoints_staged, same, within);
       endpoints_settled = ap (λ (b : endpoint_entries.BookValue). b.settled_seq) e ∙ is;
       flags_few = few;
-      endpoints_wait = subst (λ at. HasChanges at later (records_of rest.waiting)) (λ i d. sym (names d) i)
+      endpoints_wait = changes_named (endpoint_at deliveries) (endpoint_at moved) later (records_of rest.waiting)
+          (named_left deliveries moved (records_of rest.waiting) names
+          (none_tried moved (records_of rest.waiting) left_waits))
           (subst (λ (b : endpoint_entries.BookValue). HasChanges (endpoint_at deliveries) b (records_of rest.waiting)) (sym e)
           (subst (HasChanges (endpoint_at deliveries) (endpoint_entries.with_settled endpoints place))
           (records_left steps count place endpoints.settled_seq (is ∙ ap (λ (w : WaitingValue). w.settled) g) h.endpoints_settled ∙ ap (λ (w : WaitingValue). records_of w.waiting) (sym g))
@@ -204,11 +207,7 @@ is_desk_settled {endpoints} {later} {deliveries} {moved} {steps} {rest} {live} {
           (omega (arith, is, ap (λ (w : WaitingValue). w.settled) g, h.endpoints_settled)) h.endpoints_wait)));
       deliveries_staged = omega (arith, next, h.deliveries_staged, same, within);
       deliveries_settled = settled ∙ is;
-      deliveries_wait =
-          subst (HasWaiting moved) (records_left steps count place deliveries.settled_seq (is
-          ∙ ap (λ (w : WaitingValue). w.settled) g) h.deliveries_settled
-          ∙ ap (λ (w : WaitingValue). records_of w.waiting) (sym g))
-          (waits (records_of steps.waiting) h.deliveries_wait);
+      deliveries_wait = left_waits;
       tied = record {
         limited = h.tied.limited
             ∙ sym (map-map bound_of (λ e. endpoint_entries.settled_at place endpoints.changes e.name e) endpoints.entries)
@@ -221,6 +220,13 @@ is_desk_settled {endpoints} {later} {deliveries} {moved} {steps} {rest} {live} {
         queued = queued live h.tied.queued;
       };
     }
+  where
+    left_waits : HasWaiting moved (records_of rest.waiting)
+    left_waits =
+        subst (HasWaiting moved) (records_left steps count place deliveries.settled_seq (is
+        ∙ ap (λ (w : WaitingValue). w.settled) g) h.deliveries_settled
+        ∙ ap (λ (w : WaitingValue). records_of w.waiting) (sym g))
+        (waits (records_of steps.waiting) h.deliveries_wait)
 
 -- Seals
 

@@ -27,7 +27,10 @@ pub use Rattle.relay_types.proofs.KnownLaws.{legal_more}
 pub use Rattle.relay_types.proofs.RowLaws.{find_map}
 pub use Rattle.relay_types.specs.Deliveries.{accepted, attempts_of, deliveries, deliveries_of, due_after}
 pub use Rattle.relay_types.specs.Deliveries.{due_if_pending, due_of, failures_of, is_accept, is_accept_as, is_accept_of}
-pub use Rattle.relay_types.specs.Deliveries.{is_in_state, is_pending, known_as, state_of}
+pub use Rattle.relay_types.proofs.GrowthLaws.{accepted-before}
+pub use Rattle.relay_types.proofs.KnownLaws.{there_if as there_if_kept}
+pub use Rattle.relay_types.proofs.PurgeLaws.{accepted_is, unpurged_front, unpurged_if}
+pub use Rattle.relay_types.specs.Deliveries.{accept_at, is_in_state, is_pending, is_purged, known_as, purged_by, state_of}
 pub use Rattle.relay_types.specs.Endpoints.{Endpoint, endpoint_of, endpoints, has_endpoint, is_delivery_of, secrets_of}
 pub use Rattle.relay_types.specs.Judging.{is_gone_status}
 pub use Rattle.relay_types.specs.Legal.{IsLegal, is_status, is_within_limits, may_follow}
@@ -36,7 +39,7 @@ pub use Rattle.relay_types.specs.Subscriptions.{is_pair_named, subscriptions}
 pub use Rattle.relay_types.specs.Values.{is_moment}
 pub use Rattle.relay_types.specs.declared.limits.TheConstants.{MAX_ENDPOINTS, MAX_RECORDS, MAX_SUBSCRIPTIONS}
 pub use Rattle.relay_types.specs.declared.record.Record.{Record}
-pub use Rattle.relay_types.specs.declared.record.Record.TheVariants.{Accept, Enabled, Outcome, Put, Secrets, Subscribed}
+pub use Rattle.relay_types.specs.declared.record.Record.TheVariants.{Accept, Enabled, Outcome, Purge, Put, Secrets, Subscribed}
 pub use Rattle.relay_types.specs.declared.state.State.TheVariants.{Exhausted, Pending}
 pub use Rattle.vegas.specs.Estimators.{EstimatorValue, Explains, StandsFor as StandsForSamples, sample_of}
 pub use Rattle.vegas.specs.declared.sample.Sample.{Sample}
@@ -50,10 +53,12 @@ pub use Rattle.endpoint_book.specs.Waiting.{IsInStep as AreInStep, HasChanges}
 pub use Rattle.endpoint_book.specs.declared.entry.Change.{Change}
 pub use Rattle.endpoint_book.specs.declared.entry.Entry.{Entry as EndpointEntry}
 pub use Rattle.delivery_book.proofs.Updates.{all_at, all_weaker, count-map}
-pub use Rattle.delivery_book.specs.Book.{Settles, body_of, counts_of, counts_of_all, entry_for, is_other, row_of}
+pub use Rattle.delivery_book.specs.Book.{Settles, Takes, body_left, body_of, counts_of, counts_of_all, entry_for}
+pub use Rattle.delivery_book.specs.Book.{is_other, row_of}
 pub use Rattle.delivery_book.specs.Entries.{BookValue, HasOneEach, IsInStep, at_delivery, at_outcomes, empty_book}
 pub use Rattle.delivery_book.specs.Entries.{entry_at, failed_among, first_outcome, front_below, is_delivered_among}
-pub use Rattle.delivery_book.specs.Entries.{is_entry_as, is_open, is_pending_of, known_in, latest_row, new_entry}
+pub use Rattle.delivery_book.specs.Entries.{is_entry_as, is_kept, is_open, is_pending_of, is_settled_as, kept_at, known_in}
+pub use Rattle.delivery_book.specs.Entries.{known_settled_in, latest_row, marked, new_entry, with_purge}
 pub use Rattle.delivery_book.specs.Entries.{next_settled, pending_in, progress_after, rest_from, row_in, settled_row}
 pub use Rattle.delivery_book.specs.Entries.{state_by, state_in, takes_outcome, with_attempt, with_event}
 pub use Rattle.delivery_book.specs.Entries.{with_latest_settled, with_outcome, with_settled}
@@ -84,22 +89,22 @@ pub use Rattle.desk.specs.Desks.{AreBooks, AreLimits, ArePlacesOf, Checks, DeskV
 pub use Rattle.desk.specs.Desks.{IsHeldOf, IsMove, IsPostOf, IsReceiptOf, Opens, OverWorlds, Spends, StandsFor, Starts}
 pub use Rattle.desk.specs.Desks.{TakesOutcome, Turns, attempt_in, has_place, is_exhausted_in, may_start, may_start_at}
 pub use Rattle.desk.specs.Desks.{with_accept, with_enabled, with_entry, with_gone, with_live, with_put, with_secrets}
-pub use Rattle.desk.specs.Desks.{with_subscribed}
+pub use Rattle.desk.specs.Desks.{with_purged, with_subscribed}
 pub use Rattle.desk.specs.Faults.{Faults, first_fault, out_of_memory_at, refusal}
 pub use Rattle.desk.specs.Kept.{AreTold, endpoint_in, endpoint_page, event_in, event_page, limits_by, shown_with}
 pub use Rattle.desk.specs.Kept.{totals, totals_in}
-pub use Rattle.desk.specs.Looks.{has_event, is_row_of}
+pub use Rattle.desk.specs.Looks.{has_event, is_event_of, is_row_of}
 pub use Rattle.desk.specs.Moves.{Answer, MayGive, accepts, are_pairs_spent, are_seqs_spent, at_moment, change, changes, is_nothing_out}
 pub use Rattle.desk.specs.Moves.{is_waiting_full, moment, new_submit_faults, next_seq, or_out_of_memory, pending_among}
-pub use Rattle.desk.specs.Moves.{put_faults, refused, repeats, seal, seal_faults, seal_waiting, sealed_batch}
+pub use Rattle.desk.specs.Moves.{purge_faults, put_faults, refused, repeats, seal, seal_faults, seal_waiting, sealed_batch}
 pub use Rattle.desk.specs.Moves.{set_faults, stages, submit, subscribe_faults, submit_faults, submit_known, submit_new, ticket, unless}
 pub use Rattle.desk.specs.Moves.{with_batch, with_batch_back, with_halt, with_record, with_sealed_settled}
 pub use Rattle.desk.specs.Ties.{AreApart, AreHeld, AreLimiters, AreMarked, AreQueued, AreSampled, AreTied, AreUnderWay}
-pub use Rattle.desk.specs.Ties.{HasPlaces, HasRoomForAll, HasSameRooms, Holds, HoldsPair, KeepsPlaces, KeepsRooms}
+pub use Rattle.desk.specs.Ties.{HasPlaces, HasRoomForAll, HasSameNames, HasSameRooms, Holds, HoldsPair, KeepsPlaces, KeepsRooms}
 pub use Rattle.desk.specs.Ties.{LetsGo, LetsPairGo, StandsAt, StandsBy, bound_by, bound_of, endpoint_at, idle_pair}
 pub use Rattle.desk.specs.Ties.{is_entry_of, is_idle, is_limiter_of, is_own, is_pair_of, is_told, is_under_way}
 pub use Rattle.desk.specs.Ties.{is_unheld, limit_by, limiter_of, new_limiter, own_pair, pair_in, rises, room_by}
-pub use Rattle.desk.specs.Ties.{samples_at, waits_as}
+pub use Rattle.desk.specs.Ties.{row_if_settled, samples_at, waits_as}
 pub use Rattle.desk.specs.World.{Measured, World, all_records, sealed_records, settled_records, waiting_records}
 pub use Rattle.desk.specs.declared.limiter.Limiter.{Limiter}
 pub use Rattle.desk.specs.declared.refusal.Refusal.{Refusal}

@@ -4,7 +4,7 @@ use Rattle.relay_types.specs.Values.{Text}
 use Rattle.endpoint_book.specs.Book.{View}
 use Rattle.endpoint_book.specs.Entries.{is_known}
 use Rattle.delivery_book.specs.declared.row.Row.{Row}
-use Rattle.delivery_book.specs.Entries.{known_in}
+use Rattle.delivery_book.specs.Entries.{known_settled_in}
 use Rattle.desk.specs.declared.comparing.Told.{Told}
 use Rattle.desk.specs.Kept.{endpoint_in, event_in}
 
@@ -21,7 +21,7 @@ abbrev pub HasEndpoints : (one other : Told) → Type 0
 HasEndpoints one other = (name : Text) → IsTrue (is_known one.endpoints.now name) → SameEndpoint one other name
 
 abbrev pub HasEvents : (one other : Told) → Type 0
-HasEvents one other = (name id : Text) → IsSome (known_in one.deliveries.now name id) → SameEvent one other name id
+HasEvents one other = (name id : Text) → IsSome (known_settled_in one.deliveries.now name id) → SameEvent one other name id
 
 -- of all
 abbrev pub AllEndpoints : (one other : Told) → Type 0

@@ -1,15 +1,15 @@
 -- What a desk keeps, the worlds for which it stands, and what its calls answer.
 use Rattle.std.specs.Prelude.{◌≡◌, ℕ, ◌+◌, ◌-◌, ◌≤◌, ◌<◌, Bool, true, false, ◌&&◌, not, nat_le, nat_lt, List, [], ◌∷◌}
 use Rattle.std.specs.Prelude.{◌++◌, length, drop, map, filter, bytes_eq, Option, Some, None, is_some, unwrap_or, IsTrue}
-use Rattle.std.specs.Prelude.{Result, Ok, Err, if◌then◌else◌}
+use Rattle.std.specs.Prelude.{Result, Ok, Err, IfSome, if◌then◌else◌}
 use Rattle.std.specs.Option.{option_map_or}
 use Rattle.relay_types.specs.declared.limits.TheConstants.{MAX_RECORDS}
 use Rattle.relay_types.specs.declared.record.Record.{Record}
 use Rattle.relay_types.specs.declared.state.State.TheVariants.{Exhausted}
-use Rattle.relay_types.specs.declared.record.Record.TheVariants.{Put, Secrets, Enabled, Accept, Outcome, Subscribed}
+use Rattle.relay_types.specs.declared.record.Record.TheVariants.{Put, Secrets, Enabled, Accept, Outcome, Subscribed, Purge}
 use Rattle.relay_types.specs.Values.{Text, Seq, Seconds}
 use Rattle.relay_types.specs.Records.{History, Accepted, records_of}
-use Rattle.relay_types.specs.Deliveries.{accepted, is_in_state}
+use Rattle.relay_types.specs.Deliveries.{accepted, is_in_state, is_purged}
 use Rattle.relay_types.specs.Endpoints.{secrets_of}
 use Rattle.relay_types.specs.Judging.{is_gone_status}
 use Rattle.relay_types.specs.Legal.{IsLegal}
@@ -184,6 +184,10 @@ Spends old row post now (Err e) new = OverWorlds old (λ w. (has_row w row ≡ f
 
 -- What the desk's own steps look for and make.
 
+-- no record took the delivery, if there is one
+abbrev pub IsKept : DeskValue → Option Seq → Type 0
+IsKept desk delivery = OverWorlds desk (λ w. IfSome delivery (λ d. is_purged (all_records w) d ≡ false))
+
 -- whether an attempt at the delivery of the entry may begin, where it is due
 abbrev pub is_ready : DeskValue → Entry → Bool
 is_ready desk e = is_idle desk.deliveries.settled_seq desk.live e
@@ -276,6 +280,11 @@ with_enabled desk name flag = record (with_entry desk (Enabled name flag)) {
 abbrev pub with_subscribed : DeskValue → (topic name : Text) (flag : Bool) → DeskValue
 with_subscribed desk topic name flag = record (with_entry desk (Subscribed topic name flag)) {
   endpoints = endpoint_entries.with_topic desk.endpoints (record_count desk.waiting) topic name flag;
+}
+
+abbrev pub with_purged : DeskValue → (before : Seconds) → DeskValue
+with_purged desk before = record (with_entry desk (Purge before)) {
+  deliveries = delivery_entries.with_purge desk.deliveries (record_count desk.waiting) before;
 }
 
 abbrev pub with_accept : DeskValue → (name id body : Text) (at : Seconds) → DeskValue

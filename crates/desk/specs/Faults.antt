@@ -1,7 +1,7 @@
 -- The refusals of a call, in the order in which they are checked.
 use Rattle.std.specs.Prelude.{ℕ, Bool, true, false, List, [], ◌∷◌, Result, Ok, Err, if◌then◌else◌}
 use Rattle.desk.specs.declared.command.Command.{Command}
-use Rattle.desk.specs.declared.command.Command.TheVariants.{PutEndpoint, SetSecrets, SetEnabled, SetSubscribed}
+use Rattle.desk.specs.declared.command.Command.TheVariants.{PutEndpoint, SetSecrets, SetEnabled, SetSubscribed, Purge}
 use Rattle.desk.specs.declared.refusal.Fault.{Fault}
 use Rattle.desk.specs.declared.refusal.Fault.TheVariants as fault
 use Rattle.desk.specs.declared.refusal.Refusal.{Refusal}
@@ -23,8 +23,8 @@ abbrev pub out_of_memory_at : {A E : Type 0} → ℕ → Result A E → Result A
 out_of_memory_at number (Ok made) = Ok made
 out_of_memory_at number (Err e) = Err (refusal number fault.OutOfMemory)
 
--- Whether a submission, an event for a topic, a new endpoint, another change of an endpoint, a subscription, a claim, or a
--- sealing may be refused by this name.
+-- Whether a submission, an event for a topic, a new endpoint, another change of an endpoint, a subscription, a purge, a
+-- claim, or a sealing may be refused by this name.
 
 abbrev pub may_refuse_event : Fault → Bool
 may_refuse_event fault.Halted = true
@@ -63,6 +63,12 @@ abbrev pub may_refuse_subscribe : Fault → Bool
 may_refuse_subscribe fault.TooManySubscriptions = true
 may_refuse_subscribe fault = may_refuse_set fault
 
+abbrev pub may_refuse_purge : Fault → Bool
+may_refuse_purge fault.Halted = true
+may_refuse_purge fault.WaitingFull = true
+may_refuse_purge fault.SeqExhausted = true
+may_refuse_purge fault = false
+
 abbrev pub may_refuse_claim : Fault → Bool
 may_refuse_claim fault.Halted = true
 may_refuse_claim fault.SeqExhausted = true
@@ -80,3 +86,4 @@ may_refuse (PutEndpoint name target max secrets) = may_refuse_put
 may_refuse (SetSecrets name secrets) = may_refuse_set
 may_refuse (SetEnabled name flag) = may_refuse_set
 may_refuse (SetSubscribed topic name flag) = may_refuse_subscribe
+may_refuse (Purge before) = may_refuse_purge

@@ -5,7 +5,7 @@ use Rattle.endpoint_book.specs.Book.{View, settled_view}
 use Rattle.endpoint_book.specs.Entries as endpoint_entries
 use Rattle.delivery_book.specs.declared.row.Counts.{Counts}
 use Rattle.delivery_book.specs.declared.row.Row.{Row}
-use Rattle.delivery_book.specs.Entries.{BookValue, entry_at, known_in, latest_row, settled_row}
+use Rattle.delivery_book.specs.Entries.{BookValue, entry_at, known_settled_in, latest_row, settled_row}
 use Rattle.delivery_book.specs.Fields.{settled_counts}
 use Rattle.group_commit.specs.Waits.{record_count}
 use Rattle.permits.specs.Rows.{in_flight_of}
@@ -38,7 +38,7 @@ settled_body desk ticket =
 
 -- the pages of an event and of an endpoint, and the totals of so many settled records, by the books
 abbrev pub event_in : BookValue → (name id : Text) → Option Row
-event_in deliveries name id = option_and_then (settled_row deliveries) (known_in deliveries name id)
+event_in deliveries name id = option_and_then (settled_row deliveries) (known_settled_in deliveries name id)
 
 abbrev pub shown_with : Counts → View → EndpointShown
 shown_with counts view = record { view = view; counts = counts }

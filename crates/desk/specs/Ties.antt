@@ -22,7 +22,8 @@ use Rattle.endpoint_book.specs.declared.entry.Entry.{Entry as EndpointEntry}
 use Rattle.delivery_book.specs.declared.entry.Entry.{Entry}
 use Rattle.delivery_book.specs.Entries as delivery_entries
 use Rattle.delivery_book.specs.declared.entry.Unsettled.{Unsettled}
-use Rattle.delivery_book.specs.Entries.{entry_at, is_open, state_in, settled_row, takes_outcome}
+use Rattle.delivery_book.specs.declared.row.Row.{Row as BookRow}
+use Rattle.delivery_book.specs.Entries.{entry_at, is_open, row_in, state_in, settled_row, takes_outcome}
 use Rattle.claim_queue.specs.declared.pairs.Pair.{Pair}
 use Rattle.claim_queue.specs.Queues.{QueueValue, Gains, Loses, ChangesMark, place_taken, place_given, pair_of, is_held, is_reserved, has_room_in, free_places}
 use Rattle.group_commit.specs.declared.limits.TheConstants.{MAX_WAITING_OUTCOMES}
@@ -102,6 +103,15 @@ pub record AreMarked (queue : QueueValue) (book : endpoint_entries.BookValue) (l
 -- the endpoint of a delivery
 abbrev pub endpoint_at : delivery_entries.BookValue → (delivery : Seq) → Option Text
 endpoint_at book d = option_map (λ e. e.name) (entry_at book.entries d)
+
+-- each delivery that the later book has is one of the same endpoint
+abbrev pub HasSameNames : (old new : delivery_entries.BookValue) → Type 0
+HasSameNames old new =
+    (delivery : Seq) → IsTrue (is_some (endpoint_at new delivery)) → endpoint_at new delivery ≡ endpoint_at old delivery
+
+-- the delivery of the entry as the settled records have it, if it is below their number
+abbrev pub row_if_settled : (settled : Seq) → Entry → Option BookRow
+row_if_settled settled e = if nat_lt e.seq settled then Some (row_in e.settled e) else None
 
 -- whether the delivery of the row is settled, pending and without an outcome that waits
 abbrev pub is_entry_of : Row → Entry → Bool

@@ -4,6 +4,7 @@ ghost use Rattle.std.specs.Prelude.{remove, ◌↔◌, IsErr, IsTrue, IfErr, IfN
 ghost use Rattle.relay_types.specs.declared.limits.TheConstants.{MAX_RECORDS};
 ghost use Rattle.group_commit.specs.Waits.{batch_out, record_count};
 ghost use Rattle.relay_types.specs.Legal.{is_status};
+ghost use Rattle.delivery_book.specs.Entries.{takes_outcome};
 ghost use Rattle.permits.specs.Rows.{next_row, same_row};
 ghost use Rattle.desk.specs.Faults.{may_refuse_claim};
 ghost use Rattle.desk.specs.Claims.{choice, claim, status_in, status_of};
@@ -241,7 +242,8 @@ fn stage_outcome(
 
 // The number of the delivery's next attempt.
 fn next_attempt(deliveries: &DeliveryBook, delivery: u64) -> u64
-    requires { deliveries.now.next_seq ≤ MAX_RECORDS }
+    requires few { deliveries.now.next_seq ≤ MAX_RECORDS }
+    requires free { IsTrue (takes_outcome deliveries.now delivery) }
     ensures { result ≡ attempt_in deliveries.now delivery }
 {
     match deliveries.row(delivery) {

@@ -1,5 +1,5 @@
 //! The changes of an endpoint.
-use relay_types::{MaxLimit, Name, Secrets, Target};
+use relay_types::{MaxLimit, Moment, Name, Secrets, Target};
 
 /// A change of an endpoint.
 #[derive(Drop)]
@@ -26,5 +26,10 @@ pub enum Command {
         topic: Name,
         name: Name,
         flag: bool,
+    },
+    /// Events that are done with, the last attempt at each before this moment, are removed once this is settled. Their
+    /// ids are free at once.
+    Purge {
+        before: Moment,
     },
 }

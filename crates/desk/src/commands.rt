@@ -1,4 +1,4 @@
-//! How the desk changes endpoints.
+//! How the desk changes endpoints, and removes events that are done with.
 ghost use Rattle.std.specs.Prelude.{◌≡◌, ◌<◌, ◌+◌, length, false, not, IsTrue, IfOk, IfErr, OnOk, OnErr};
 ghost use Rattle.relay_types.specs.declared.limits.TheConstants.{MAX_RECORDS};
 ghost use Rattle.relay_types.specs.declared.record.Record.TheVariants as on;
@@ -7,13 +7,14 @@ ghost use Rattle.endpoint_book.specs.declared.limits.TheConstants.{MAX_FLAGS};
 ghost use Rattle.endpoint_book.specs.Book.{Stages};
 ghost use Rattle.endpoint_book.specs.Entries.{is_known};
 ghost use Rattle.endpoint_book.specs.Topics.{has_place};
+ghost use Rattle.delivery_book.specs.Book.{Takes};
 ghost use Rattle.group_commit.specs.declared.limits.TheConstants.{MAX_WAITING_REQUESTS};
 ghost use Rattle.group_commit.specs.Steps.{requests_in};
 ghost use Rattle.group_commit.specs.Waits.{batch_out, record_count};
-ghost use Rattle.desk.specs.Faults.{may_refuse, may_refuse_put, may_refuse_set, may_refuse_subscribe};
-ghost use Rattle.desk.specs.Moves.{are_pairs_spent, change, put_faults, set_faults, subscribe_faults};
+ghost use Rattle.desk.specs.Faults.{may_refuse, may_refuse_put, may_refuse_set, may_refuse_subscribe, may_refuse_purge};
+ghost use Rattle.desk.specs.Moves.{are_pairs_spent, change, put_faults, set_faults, subscribe_faults, purge_faults};
 ghost use Rattle.desk.specs.Desks.{IsMove, Checks, KeepsOut, OverWorlds, with_put, with_secrets, with_enabled};
-ghost use Rattle.desk.specs.Desks.{with_subscribed};
+ghost use Rattle.desk.specs.Desks.{with_subscribed, with_purged};
 
 use crate::command::Command;
 use crate::desk::{Desk, push_request};
@@ -21,13 +22,13 @@ use crate::holding::tell_room;
 use crate::limiter::Limiter;
 use crate::refusal::{Fault, Refusal, check, or_out_of_memory};
 use crate::ticket::CommandTicket;
-use relay_types::{MAX_ENDPOINTS, MaxLimit, Name, Record, Secrets, Target};
+use relay_types::{MAX_ENDPOINTS, MaxLimit, Moment, Name, Record, Secrets, Target};
 use std::alloc::AllocError;
 use std::sync::ledger::Ledger;
 use vegas::Estimator;
 
 impl<L: Ledger> Desk<L> {
-    /// Changes an endpoint.
+    /// Changes an endpoint, or removes events that are done with.
     pub fn command(&mut self, command: Command) -> Result<CommandTicket, Refusal>
         ensures moves { IsMove self.old (λ w. change w command) result self.new }
         ensures names { IfErr result (λ why. IsTrue (may_refuse command why.fault)) }
@@ -45,6 +46,7 @@ impl<L: Ledger> Desk<L> {
             Command::SetSecrets { name, secrets } => self.set_secrets(name, secrets),
             Command::SetEnabled { name, flag } => self.set_enabled(name, flag),
             Command::SetSubscribed { topic, name, flag } => self.set_subscribed(topic, name, flag),
+            Command::Purge { before } => self.purge(before),
         }
     }
 
@@ -103,6 +105,17 @@ impl<L: Ledger> Desk<L> {
         or_out_of_memory(7, self.stage_subscribed(topic, name, flag))
     }
 
+    fn purge(&mut self, before: Moment) -> Result<CommandTicket, Refusal>
+        ensures moves { IsMove self.old (λ w. change w (Command.Purge before)) result self.new }
+        ensures names { IfErr result (λ why. IsTrue (may_refuse_purge why.fault)) }
+        ensures mark { self.new.waiting.mark ≡ self.old.waiting.mark }
+        ensures out { KeepsOut self.old self.new }
+        ensures err { OnErr result (self.new ≡ self.old) }
+    {
+        self.check_purge()?;
+        Ok(self.stage_purge(before))
+    }
+
     fn check_put(&self, name: Name) -> Result<(), Refusal>
         ensures faults { Checks self.now (λ w. put_faults w name) result }
         ensures names { IfErr result (λ why. IsTrue (may_refuse_put why.fault)) }
@@ -155,6 +168,19 @@ impl<L: Ledger> Desk<L> {
                 8,
                 Fault::TooManySubscriptions,
             ),
+            (self.waiting.free_requests() == 0, 5, Fault::WaitingFull),
+            (self.are_seqs_spent(), 6, Fault::SeqExhausted),
+        ])
+    }
+
+    fn check_purge(&self) -> Result<(), Refusal>
+        ensures faults { Checks self.now (λ w. purge_faults w) result }
+        ensures names { IfErr result (λ why. IsTrue (may_refuse_purge why.fault)) }
+        ensures place { OnOk result (requests_in self.now.waiting.waiting < MAX_WAITING_REQUESTS) }
+        ensures room { OnOk result (record_count self.now.waiting + length self.now.live < MAX_RECORDS) }
+    {
+        check(&[
+            (self.halted, 1, Fault::Halted),
             (self.waiting.free_requests() == 0, 5, Fault::WaitingFull),
             (self.are_seqs_spent(), 6, Fault::SeqExhausted),
         ])
@@ -273,6 +299,21 @@ impl<L: Ledger> Desk<L> {
             name,
         );
         push_request(&mut self.waiting, Record::Enabled { name, flag });
+        CommandTicket { seq }
+    }
+
+    fn stage_purge(&mut self, before: Moment) -> CommandTicket
+        requires place { requests_in self.old.waiting.waiting < MAX_WAITING_REQUESTS }
+        requires room { record_count self.old.waiting + length self.old.live < MAX_RECORDS }
+        ensures ticket { result.seq ≡ record_count self.old.waiting }
+        ensures staged { self.new ≡ with_purged self.old before }
+        ensures out { batch_out self.new.waiting ≡ batch_out self.old.waiting }
+        ensures stands { Takes self.old.deliveries (record_count self.old.waiting) (on.Purge before) self.new.deliveries }
+        ensures limits { IsTrue (is_within_limits (on.Purge before)) }
+    {
+        let seq = self.waiting.records();
+        self.deliveries.stage_purge(seq, before);
+        push_request(&mut self.waiting, Record::Purge { before });
         CommandTicket { seq }
     }
 }

@@ -59,7 +59,8 @@ impl<'a> Told<'a> {
     fn event(&self, name: Name, id: &MsgId) -> Option<Row>
         ensures { result ≡ event_in self.now.deliveries.now name id.now }
     {
-        self.deliveries.settled(self.deliveries.find(name, id)?)
+        self.deliveries
+            .settled(self.deliveries.find_settled(name, id)?)
     }
 
     // Whether each endpoint and each event that these books have has the same page by the other ones.

@@ -1,5 +1,5 @@
 //! The desk, and how it takes events.
-ghost use Rattle.std.specs.Prelude.{◌≡◌, ◌<◌, ◌+◌, [], ◌∷◌, length, max, nat_le, IsTrue, None, IfOk, IfErr, OnOk};
+ghost use Rattle.std.specs.Prelude.{◌≡◌, ◌<◌, ◌+◌, [], ◌∷◌, length, max, nat_le, IsTrue, None, Some, IfOk, IfErr, OnOk};
 ghost use Rattle.std.specs.Prelude.{OnErr};
 ghost use Rattle.relay_types.specs.declared.limits.TheConstants.{MAX_RECORDS};
 ghost use Rattle.relay_types.specs.declared.record.Record.TheVariants.{Accept};
@@ -17,7 +17,7 @@ ghost use Rattle.desk.specs.Moves.{is_conflict, has_body};
 ghost use Rattle.desk.specs.declared.limits.TheConstants.{MAX_PENDING};
 ghost use Rattle.permits.specs.declared.pool.TheConstants.{PARTS};
 ghost use Rattle.desk.specs.Desks.{StandsFor, Opens, IsMove, Checks, HasNothingOut, KeepsOut, OverWorlds, with_accept};
-ghost use Rattle.desk.specs.Desks.{has_body_in, is_conflict_in};
+ghost use Rattle.desk.specs.Desks.{IsKept, has_body_in, is_conflict_in};
 
 use crate::limiter::Limiter;
 use crate::limits::{MAX_PENDING, MAX_PENDING_ALL};
@@ -162,6 +162,7 @@ impl<L: Ledger> Desk<L> {
 
     // Whether the delivery has these bytes.
     fn has_body(&self, delivery: u64, body: &Body) -> bool
+        requires kept { IsKept self.now (Some delivery) }
         ensures value { result ≡ has_body_in self.now.deliveries delivery body.now }
         ensures stands { OverWorlds self.now (λ w. result ≡ has_body body.now (accepted (all_records w) delivery)) }
     {
@@ -173,6 +174,7 @@ impl<L: Ledger> Desk<L> {
 
     // Whether the delivery that is known has other bytes.
     pub(crate) fn is_conflict(&self, known: Option<u64>, body: &Body) -> bool
+        requires kept { IsKept self.now known }
         ensures value { result ≡ is_conflict_in self.now.deliveries known body.now }
         ensures stands { OverWorlds self.now (λ w. result ≡ is_conflict (all_records w) known body.now) }
     {
@@ -183,6 +185,7 @@ impl<L: Ledger> Desk<L> {
     }
 
     fn check_submit(&self, name: Name, known: Option<u64>, body: &Body) -> Result<(), Refusal>
+        requires kept { IsKept self.now known }
         ensures faults { Checks self.now (λ w. submit_faults w name known body.now) result }
         ensures names { IfErr result (λ why. IsTrue (may_refuse_event why.fault)) }
     {

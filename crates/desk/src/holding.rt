@@ -7,7 +7,7 @@ ghost use Rattle.claim_queue.specs.Queues.{ChangesMark, HasSamePairs, IsNew, is_
 ghost use Rattle.delivery_book.specs.Book.{Settles};
 ghost use Rattle.delivery_book.specs.Entries.{HasOneEach, with_settled};
 ghost use Rattle.delivery_book.specs.Waiting.{HasWaiting};
-ghost use Rattle.desk.specs.Ties.{AreQueued, HasPlaces, Holds, KeepsRooms, LetsGo, endpoint_at, idle_pair, pair_in};
+ghost use Rattle.desk.specs.Ties.{AreQueued, HasPlaces, HasSameNames, Holds, KeepsRooms, LetsGo, idle_pair, pair_in};
 ghost use Rattle.desk.specs.Ties.{room_by};
 
 use crate::limiter::{Limiter, limit_of};
@@ -84,6 +84,7 @@ fn settle_next(queue: &mut ClaimQueue, deliveries: &mut DeliveryBook)
     ensures value { deliveries.new ≡ with_settled deliveries.old (deliveries.old.settled_seq + 1) }
     ensures stands { Settles deliveries.old (deliveries.old.settled_seq + 1) deliveries.new }
     ensures waits { (records : List Record) → HasWaiting deliveries.old records → HasWaiting deliveries.new (drop 1 records) }
+    ensures names { HasSameNames deliveries.old deliveries.new }
 {
     let seq = deliveries.settled_seq();
     let concerned = deliveries.next_settled();
@@ -105,7 +106,7 @@ pub(crate) fn settle_to(queue: &mut ClaimQueue, deliveries: &mut DeliveryBook, s
     ensures stands { Settles deliveries.old seq deliveries.new }
     ensures waits { (records : List Record) → HasWaiting deliveries.old records
         → HasWaiting deliveries.new (drop (seq - deliveries.old.settled_seq) records) }
-    ensures names { (delivery : ℕ) → endpoint_at deliveries.new delivery ≡ endpoint_at deliveries.old delivery }
+    ensures names { HasSameNames deliveries.old deliveries.new }
 {
     for _ in deliveries.settled_seq()..seq {
         settle_next(queue, deliveries);

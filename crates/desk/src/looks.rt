@@ -1,5 +1,6 @@
 //! What the desk tells.
 ghost use Rattle.std.specs.Prelude.{◌≡◌, ◌<◌, length, None, IsSome, IfSome, option_map, option_copied};
+ghost use Rattle.delivery_book.specs.Entries.{HasOneEach};
 ghost use Rattle.delivery_book.specs.Fields.{settled_counts};
 ghost use Rattle.vegas.specs.Estimators.{IsExplained};
 ghost use Rattle.group_commit.specs.Waits.{record_count};
@@ -67,7 +68,7 @@ impl<L: Ledger> Desk<L> {
         ensures value { result ≡ kept.event_page self.now name id.now }
         ensures stands { OverWorlds self.now (λ w. result ≡ event_page (settled_records w) name id.now) }
     {
-        let delivery = self.deliveries.find(name, id)?;
+        let delivery = self.deliveries.find_settled(name, id)?;
         self.deliveries.settled(delivery)
     }
 
@@ -137,10 +138,11 @@ impl<L: Ledger> Desk<L> {
     /// How many records are settled.
     pub fn settled_records(&self) -> u64
         ensures core { IsCore self.now }
+        ensures once { HasOneEach self.now.deliveries }
         ensures value { result ≡ self.now.waiting.settled }
         ensures stands { OverWorlds self.now (λ w. result ≡ length (settled_records w)) }
     {
-        self.waiting.settled_records()
+        self.deliveries.settled_seq()
     }
 
     /// Whether nothing is taken or sealed any more.

@@ -1,11 +1,11 @@
 //! What a new desk keeps beside the books that it begins with.
-ghost use Rattle.std.specs.Prelude.{◌≡◌, ℕ, List, [], ◌∷◌, ◌++◌, false, map, option_map, slice_get, IfOk, OnOk};
+ghost use Rattle.std.specs.Prelude.{◌≡◌, ℕ, List, [], ◌∷◌, ◌++◌, false, map, option_and_then, slice_get, IfOk, OnOk};
 ghost use Rattle.claim_queue.specs.declared.pairs.Pair.{Pair};
 ghost use Rattle.claim_queue.specs.Queues.{HasSamePairs, has_room_in, is_held};
 ghost use Rattle.endpoint_book.specs.Waiting.{IsInStep as AreInStep};
-ghost use Rattle.delivery_book.specs.Entries.{IsInStep, row_in};
+ghost use Rattle.delivery_book.specs.Entries.{IsInStep};
 ghost use Rattle.desk.specs.Ties.{AreApart, AreHeld, AreLimiters, AreMarked, AreQueued, HasPlaces, HasSameRooms};
-ghost use Rattle.desk.specs.Ties.{KeepsPlaces, KeepsRooms, new_limiter};
+ghost use Rattle.desk.specs.Ties.{KeepsPlaces, KeepsRooms, new_limiter, row_if_settled};
 
 use crate::holding::{hold, tell_room};
 use crate::limiter::Limiter;
@@ -51,6 +51,7 @@ pub(crate) fn queue_of<L: Ledger>(
     requires none_out { pool.now ≡ [] }
     requires limited { AreLimiters limiters.now endpoints.now }
     requires apart { AreApart deliveries.now }
+    requires settled { deliveries.now.next_seq ≡ deliveries.now.settled_seq }
     ensures queued { IfOk result (λ queue. AreQueued queue deliveries.now []) }
     ensures marked { IfOk result (λ queue. AreMarked queue endpoints.now limiters.now []) }
     ensures in_step { OnOk result (IsInStep deliveries.now) }
@@ -64,6 +65,7 @@ pub(crate) fn queue_of<L: Ledger>(
 
 // Makes a place for each delivery that is pending.
 fn reserve_all(queue: &mut ClaimQueue, deliveries: &DeliveryBook) -> Result<(), AllocError>
+    requires settled { deliveries.now.next_seq ≡ deliveries.now.settled_seq }
     ensures pairs { OnOk result (HasSamePairs queue.old queue.new) }
     ensures rooms { OnOk result (HasSameRooms queue.old queue.new) }
     ensures places { OnOk result (HasPlaces queue.new deliveries.now) }
@@ -77,11 +79,11 @@ fn reserve_all(queue: &mut ClaimQueue, deliveries: &DeliveryBook) -> Result<(), 
     Ok(())
 }
 
-// The delivery at this place.
+// The delivery at this place, if it is settled.
 pub(crate) fn row_at(deliveries: &DeliveryBook, place: usize) -> Option<Row>
-    ensures { result ≡ option_map (λ e. row_in e.latest e) (slice_get deliveries.now.entries place) }
+    ensures { result ≡ option_and_then (row_if_settled deliveries.now.settled_seq) (slice_get deliveries.now.entries place) }
 {
-    deliveries.row(deliveries.delivery(place)?)
+    deliveries.settled(deliveries.delivery(place)?)
 }
 
 // Tells the queue, which knows no room, of the room of each endpoint.

@@ -90,7 +90,7 @@ stands-topic book records settled place topic name flag h at_end legal counted =
     (sym (same-endpoints records r refl)) (topics-more book.topics records topic name flag h.tells.topics counted)
     (omega (arith, at_end, length-append records (r ∷ [])))
 
--- an Accept, or an Outcome that doesn't say that the endpoint is gone, leaves the book standing
+-- an Accept, a Purge, or an Outcome that doesn't say that the endpoint is gone, leaves the book standing
 pub stands-other : (book : BookValue) (records : List Record) (settled : ℕ) (r : Record) → StandsFor book records settled → IsLegal (records ++ r ∷ []) → IsTrue (is_other r) → StandsFor book (records ++ r ∷ []) settled
 stands-other book records settled r h legal other = stands-idle book records settled r h legal (record {
   enabled = λ asked. is_enabled-snoc records r asked (known_below records records (legal_known records h.legal)) ∙ ap (λ o. unwrap_or o (is_enabled records asked)) (enables asked);

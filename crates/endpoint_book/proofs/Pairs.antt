@@ -13,7 +13,7 @@ use Rattle.std.specs.Ordering.{is_eq, match_ordering, nat_cmp, ordering_then}
 use Rattle.std.proofs.lemmas.List.Elements.{filter_map-append}
 use Rattle.std.proofs.lemmas.Map.Text.{is_eq-slice_cmp}
 use Rattle.relay_types.specs.declared.record.Record.{Record}
-use Rattle.relay_types.specs.declared.record.Record.TheVariants.{Put, Secrets, Enabled, Accept, Outcome, Subscribed}
+use Rattle.relay_types.specs.declared.record.Record.TheVariants.{Put, Secrets, Enabled, Accept, Outcome, Purge, Subscribed}
 use Rattle.relay_types.specs.Lists.{last_of}
 use Rattle.relay_types.specs.Subscriptions.{Subscription, is_pair_named, is_subscribed, subscribed_by, subscriptions}
 use Rattle.relay_types.proofs.FilterLaws.{filter_all}
@@ -128,6 +128,7 @@ none_said (Secrets other secrets) topic name h = refl
 none_said (Enabled other flag) topic name h = refl
 none_said (Accept other id body at) topic name h = refl
 none_said (Outcome delivery attempt status at) topic name h = refl
+none_said (Purge before) topic name h = refl
 
 pub other_unnamed : (r : Record) → is_other r ≡ true → names_topic r ≡ false
 other_unnamed (Subscribed its other flag) h = absurd (let no = h in cc)
@@ -136,6 +137,7 @@ other_unnamed (Secrets other secrets) h = refl
 other_unnamed (Enabled other flag) h = refl
 other_unnamed (Accept other id body at) h = refl
 other_unnamed (Outcome delivery attempt status at) h = refl
+other_unnamed (Purge before) h = refl
 
 pub flag_unnamed : (r : Record) → sets_flag r ≡ true → names_topic r ≡ false
 flag_unnamed (Subscribed its other flag) h = absurd (let no = h in cc)
@@ -144,6 +146,7 @@ flag_unnamed (Secrets other secrets) h = refl
 flag_unnamed (Enabled other flag) h = refl
 flag_unnamed (Accept other id body at) h = refl
 flag_unnamed (Outcome delivery attempt status at) h = refl
+flag_unnamed (Purge before) h = refl
 
 same_with : (records : List Record) (r : Record) → ((s : Subscription) → is_kept r s ≡ true) → own r (length records) ≡ [] → subscriptions (records ++ r ∷ []) ≡ subscriptions records
 same_with records r kept none =
@@ -156,6 +159,7 @@ pairs-same records (Secrets other secrets) h = same_with records (Secrets other 
 pairs-same records (Enabled other flag) h = same_with records (Enabled other flag) (λ s. refl) refl
 pairs-same records (Accept other id body at) h = same_with records (Accept other id body at) (λ s. refl) refl
 pairs-same records (Outcome delivery attempt status at) h = same_with records (Outcome delivery attempt status at) (λ s. refl) refl
+pairs-same records (Purge before) h = same_with records (Purge before) (λ s. refl) refl
 
 pub flag-same : (records : List Record) (r : Record) (topic name : List ℕ) → names_topic r ≡ false → last_flag (records ++ r ∷ []) topic name ≡ last_flag records topic name
 flag-same records r topic name h = last_flag-snoc records r topic name ∙ ap (λ o. option_or o (last_flag records topic name)) (none_said r topic name h)

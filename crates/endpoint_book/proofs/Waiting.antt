@@ -120,6 +120,7 @@ changed_unnamed at (on.Secrets other secrets) name h = refl
 changed_unnamed at (on.Enabled other flag) name h = refl
 changed_unnamed at (on.Accept other id body moment) name h = refl
 changed_unnamed at (on.Outcome delivery attempt status moment) name h = refl
+changed_unnamed at (on.Purge before) name h = refl
 
 -- More records are settled
 
@@ -280,7 +281,7 @@ module _ (at : ℕ → Option (List ℕ)) (book : BookValue) (records : List Rec
       sooner name k le =
           grind (arith, same name, shown_at-above (s + k) book.changes c name (settled_in book name) (omega (arith, le, number)), h.shown name k, take-append-le k records (entry ∷ []) le)
 
--- an Accept, and an Outcome that isn't gone
+-- an Accept, an Outcome that isn't gone, and a Purge
 pub changes_other : (at : ℕ → Option (List ℕ)) (book : BookValue) (records : List Record) (entry : Record) → is_other entry ≡ true → HasChanges at book records → HasChanges at book (records ++ entry ∷ [])
 changes_other at book records entry other h =
     changes_idle at book records entry book.topics book.next_seq (grind arith) (λ n. grind arith) (λ name. grind arith)

@@ -145,4 +145,5 @@ told v = record { name = v.name; target = v.target.now; max = v.max; enabled = v
 abbrev pub is_other : Record → Bool
 is_other (on.Accept name id body at) = true
 is_other (on.Outcome delivery attempt status at) = not (is_gone_status status)
+is_other (on.Purge before) = true
 is_other entry = false

@@ -5,7 +5,7 @@ use Rattle.std.specs.List.{list_any, enumerate_from, cons_option}
 use Rattle.std.specs.Option.{option_map_or}
 use Rattle.std.proofs.lemmas.Slice.Eq.{bytes_eq-Decides}
 use Rattle.relay_types.specs.declared.record.Record.{Record}
-use Rattle.relay_types.specs.declared.record.Record.TheVariants.{Put, Secrets, Enabled, Accept, Outcome, Subscribed}
+use Rattle.relay_types.specs.declared.record.Record.TheVariants.{Put, Secrets, Enabled, Accept, Outcome, Subscribed, Purge}
 use Rattle.relay_types.specs.Lists.{last_of}
 use Rattle.relay_types.specs.Subscriptions.{Subscription, is_subscribed, subscribed_by, names_pair, is_pair_named, subscription_by, subscriptions}
 use Rattle.relay_types.proofs.TableLaws.{In}
@@ -35,6 +35,7 @@ latest_is all n (Secrets name secrets) rest is = refl
 latest_is all n (Enabled name flag) rest is = refl
 latest_is all n (Accept name id body at) rest is = refl
 latest_is all n (Outcome delivery attempt status at) rest is = refl
+latest_is all n (Purge moment) rest is = refl
 
 later_is : (front : List Record) (n : ℕ) (some : List Record) → n ≡ length front → filter_map (subscription_by (front ++ some)) (enumerate_from n some) ≡ later n some
 later_is front n [] is = refl
@@ -101,6 +102,7 @@ last_told n (Secrets its secrets ∷ rest) topic name = last_told (n + 1) rest t
 last_told n (Enabled its flag ∷ rest) topic name = last_told (n + 1) rest topic name
 last_told n (Accept its id body at ∷ rest) topic name = last_told (n + 1) rest topic name
 last_told n (Outcome delivery attempt status at ∷ rest) topic name = last_told (n + 1) rest topic name
+last_told n (Purge moment ∷ rest) topic name = last_told (n + 1) rest topic name
 
 -- One more record
 
@@ -143,11 +145,13 @@ latest_more n (Subscribed its other flag) rest (Secrets name secrets) = stays n 
 latest_more n (Subscribed its other flag) rest (Enabled name own_flag) = stays n its other flag rest (Enabled name own_flag) false refl refl
 latest_more n (Subscribed its other flag) rest (Accept name id body at) = stays n its other flag rest (Accept name id body at) false refl refl
 latest_more n (Subscribed its other flag) rest (Outcome delivery attempt status at) = stays n its other flag rest (Outcome delivery attempt status at) false refl refl
+latest_more n (Subscribed its other flag) rest (Purge moment) = stays n its other flag rest (Purge moment) false refl refl
 latest_more n (Put name target max secrets) rest entry = refl
 latest_more n (Secrets name secrets) rest entry = refl
 latest_more n (Enabled name flag) rest entry = refl
 latest_more n (Accept name id body at) rest entry = refl
 latest_more n (Outcome delivery attempt status at) rest entry = refl
+latest_more n (Purge moment) rest entry = refl
 
 filter_kept : (entry : Record) (o : Option Subscription) (ss more : List Subscription) → cons_option (kept entry o) (filter (is_kept entry) ss ++ more) ≡ filter (is_kept entry) (cons_option o ss) ++ more
 filter_kept entry None ss more = refl
@@ -212,6 +216,7 @@ pair_named topic name (Secrets other secrets) h = absurd (let no = h in cc)
 pair_named topic name (Enabled other flag) h = absurd (let no = h in cc)
 pair_named topic name (Accept other id body at) h = absurd (let no = h in cc)
 pair_named topic name (Outcome delivery attempt status at) h = absurd (let no = h in cc)
+pair_named topic name (Purge moment) h = absurd (let no = h in cc)
 
 pub named_in : (records : List Record) (topic name : List ℕ) → is_pair_named records topic name ≡ true → (k : ℕ) × (flag : Bool) × (slice_get records k ≡ Some (Subscribed topic name flag))
 named_in [] topic name h = absurd (let no = h in cc)
@@ -291,6 +296,7 @@ latest_is_of m (Secrets name secrets) rest s h = absurd (let no = h in cc)
 latest_is_of m (Enabled name flag) rest s h = absurd (let no = h in cc)
 latest_is_of m (Accept name id body at) rest s h = absurd (let no = h in cc)
 latest_is_of m (Outcome delivery attempt status at) rest s h = absurd (let no = h in cc)
+latest_is_of m (Purge moment) rest s h = absurd (let no = h in cc)
 
 later_named : (m : ℕ) (some : List Record) (s : Subscription) → In s (later m some) → is_pair_named some s.topic s.name ≡ true
 later_named m [] s i = absurd i
@@ -408,6 +414,7 @@ grows records (Secrets name secrets) = same_if records (Secrets name secrets) (�
 grows records (Enabled name flag) = same_if records (Enabled name flag) (λ s. refl)
 grows records (Accept name id body at) = same_if records (Accept name id body at) (λ s. refl)
 grows records (Outcome delivery attempt status at) = same_if records (Outcome delivery attempt status at) (λ s. refl)
+grows records (Purge moment) = same_if records (Purge moment) (λ s. refl)
 
 grow_all : (records more : List Record) → length (subscriptions records) ≤ length (subscriptions (records ++ more))
 grow_all records [] = subst (λ rs. length (subscriptions records) ≤ length (subscriptions rs)) (sym (append-nil records)) (omega arith)

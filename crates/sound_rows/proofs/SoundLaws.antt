@@ -1,7 +1,7 @@
 -- What is asked of rows, and what of their numbers.
 use Rattle.std.proofs.Common.{◌≡◌, ℕ, ◌+◌, ◌==◌, Bool, true, false, Result, Ok, Err, IfOk, ◌&&◌, ◌||◌, List, [], ◌∷◌, length, map, refl, sym, ap, ◌∙◌, cond}
 use Rattle.std.specs.Prelude.{not, nat_le, nat_lt, filter, count_by}
-use Rattle.std.specs.List.{list_any, list_all, range_with_len}
+use Rattle.std.specs.List.{list_any, list_all}
 use Rattle.std.proofs.lemmas.List.{length-map}
 use Rattle.std.proofs.lemmas.List.Folds.{fold-map, list_all-map}
 use Rattle.relay_types.specs.declared.limits.TheConstants.{MAX_ENDPOINTS, MAX_FAILURES, MAX_RECORDS, MAX_SUBSCRIPTIONS}
@@ -18,7 +18,7 @@ use Rattle.sound_rows.specs.declared.numbers.Attempt.{Attempt}
 use Rattle.sound_rows.specs.declared.numbers.Topic.{Topic}
 use Rattle.sound_rows.specs.declared.numbers.Numbers.{Numbers}
 use Rattle.sound_rows.specs.Numbers.{Kept, numbers_of, of_endpoint, of_delivery, of_attempt, of_topic, AreAscending, AreNumbersOf, AreValues}
-use Rattle.sound_rows.specs.Checks.{are_below, is_put, is_delivery, is_attempt, is_topic, is_taken, are_apart, is_secrets_place, is_gone_attempt, is_flag_given, are_flag_places, are_behind, are_topics_placed, before, is_turn, is_named, is_overtaken, are_others_overtaken, are_numbers_sound}
+use Rattle.sound_rows.specs.Checks.{are_below, is_put, is_delivery, is_attempt, is_topic, is_taken, are_apart, is_secrets_place, is_gone_attempt, is_flag_given, are_flag_places, are_behind, are_topics_placed, before, is_turn, are_numbers_sound}
 use Rattle.sound_rows.proofs.SearchLaws.{rising_ascends}
 
 -- Lists that are mapped
@@ -200,22 +200,6 @@ module _ (all : Rows) where
   turns_same values = list_all-map (is_turn (map of_attempt all.attempts)) of_attempt all.attempts
       ∙ all_same (λ (t : AttemptRow). is_turn (map of_attempt all.attempts) (of_attempt t)) (λ t. is_moment t.at) (rows.is_attempt_row all) all.attempts values.attempts turn_same
 
-  -- Records that no row names
-
-  named_same : (n : ℕ) → is_named (numbers_of all) n ≡ rows.is_named all n
-  named_same n = λ i. taken_same n i || endpoint_any (λ e. e.enabled_by == n || e.secrets_by == n) i
-
-  overtaken_same : (n : ℕ) (e : EndpointRow) → is_overtaken (map of_topic all.topics) n (of_endpoint e) ≡ rows.is_overtaken_at all n e
-  overtaken_same n e = λ i.
-      nat_lt e.put n
-      && (nat_lt n e.enabled_by || (nat_lt n e.secrets_by || any_map of_topic (λ t. t.endpoint == e.put && nat_lt n t.set_by) all.topics i))
-
-  others_same : are_others_overtaken (numbers_of all) ≡ rows.are_others_overtaken all
-  others_same = ap (λ f. list_all f (range_with_len 0 all.records)) (λ i n. named_same n i || overtaken_any n i)
-    where
-      overtaken_any : (n : ℕ) → list_any (is_overtaken (map of_topic all.topics) n) (map of_endpoint all.endpoints) ≡ list_any (rows.is_overtaken_at all n) all.endpoints
-      overtaken_any n = endpoint_any (is_overtaken (map of_topic all.topics) n) ∙ ap (λ f. list_any f all.endpoints) (λ i e. overtaken_same n e i)
-
   -- All of them
 
   pub sound_same : AreValues all → are_numbers_sound (numbers_of all) ≡ rows.are_sound all
@@ -223,19 +207,20 @@ module _ (all : Rows) where
       below_same i
       && ((apart_same i && (few_same values i && (endpoints_all (is_secrets_place (numbers_of all)) (rows.is_secrets_place all) secrets_same i
       && ((flag_places (numbers_of all) ∙ endpoints_all (is_flag_place (numbers_of all)) (rows.is_flag_place all) flag_same) i && (behind_same values i && topics_same values i)))))
-      && (turns_same values i && others_same i)))
+      && turns_same values i))
       ∙ ap (λ b. rows.are_numbers_below all && b) (regroup (rows.are_numbers_apart all) (rows.are_endpoint_rows all) (list_all (rows.is_secrets_place all) all.endpoints) (list_all (rows.is_flag_place all) all.endpoints)
-      (list_all rows.is_delivery_row all.deliveries) (rows.are_topic_rows all) (list_all (rows.is_attempt_row all) all.attempts) (rows.are_others_overtaken all))
+      (list_all rows.is_delivery_row all.deliveries) (rows.are_topic_rows all) (list_all (rows.is_attempt_row all) all.attempts))
     where
-      regroup : (a b c d e t r o : Bool) → (a && (b && (c && (d && (e && t))))) && (r && o) ≡ a && (b && (c && (d && (e && (r && (t && o))))))
-      regroup false b c d e t r o = refl
-      regroup true false c d e t r o = refl
-      regroup true true false d e t r o = refl
-      regroup true true true false e t r o = refl
-      regroup true true true true false t r o = refl
-      regroup true true true true true true r o = refl
-      regroup true true true true true false true o = refl
-      regroup true true true true true false false o = refl
+      regroup : (a b c d e t r : Bool) → (a && (b && (c && (d && (e && t))))) && r ≡ a && (b && (c && (d && (e && (r && t)))))
+      regroup false b c d e t r = refl
+      regroup true false c d e t r = refl
+      regroup true true false d e t r = refl
+      regroup true true true false e t r = refl
+      regroup true true true true false t r = refl
+      regroup true true true true true true true = refl
+      regroup true true true true true true false = refl
+      regroup true true true true true false true = refl
+      regroup true true true true true false false = refl
 
   pub keyed_ascends : rows.AreKeyed all → AreAscending (numbers_of all)
   keyed_ascends keyed = record {

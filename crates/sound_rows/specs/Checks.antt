@@ -1,14 +1,12 @@
 -- The conditions on rows that speak of numbers alone, asked of the numbers.
-use Rattle.std.specs.Prelude.{◌≡◌, ◌<◌, ◌≤◌, ℕ, ◌+◌, Bool, true, false, ◌&&◌, ◌||◌, ◌==◌, not, nat_le, nat_lt, List, length, filter, count_by, if◌then◌else◌}
-use Rattle.std.specs.List.{list_any, list_all, range_with_len}
+use Rattle.std.specs.Prelude.{ℕ, ◌+◌, Bool, false, ◌&&◌, ◌||◌, ◌==◌, not, nat_le, nat_lt, List, length, filter, count_by, if◌then◌else◌}
+use Rattle.std.specs.List.{list_any, list_all}
 use Rattle.relay_types.specs.declared.limits.TheConstants.{MAX_ENDPOINTS, MAX_FAILURES, MAX_RECORDS, MAX_SUBSCRIPTIONS}
 use Rattle.relay_types.specs.Judging.{is_delivered_status, is_gone_status, is_failed_status}
 use Rattle.relay_types.specs.Legal.{is_status}
 use Rattle.sound_rows.specs.declared.numbers.Endpoint.{Endpoint}
 use Rattle.sound_rows.specs.declared.numbers.Attempt.{Attempt}
-use Rattle.sound_rows.specs.declared.numbers.Topic.{Topic}
 use Rattle.sound_rows.specs.Numbers.{Kept}
-use Rattle.sound_rows.specs.declared.overtaken.Span.{Span}
 use Rattle.sound_rows.specs.declared.turns.Progress.{Progress}
 
 abbrev pub are_below : Kept → Bool
@@ -117,47 +115,6 @@ after_status p status = record {
 abbrev pub is_turn : List Attempt → Attempt → Bool
 is_turn ts t = may_come (progress_of (before ts t)) t
 
-abbrev pub is_named : Kept → ℕ → Bool
-is_named k n = is_taken k n || list_any (λ e. e.enabled_by == n || e.secrets_by == n) k.endpoints
-
--- whether the topic is one of the endpoint with this Put, and a record after this number decides it
-abbrev pub is_decided_behind : (put n : ℕ) → Topic → Bool
-is_decided_behind put n t = t.endpoint == put && nat_lt n t.set_by
-
-abbrev pub is_overtaken : List Topic → ℕ → Endpoint → Bool
-is_overtaken topics n e = nat_lt e.put n
-    && (nat_lt n e.enabled_by || (nat_lt n e.secrets_by || list_any (is_decided_behind e.put n) topics))
-
-abbrev pub is_explained : Kept → ℕ → Bool
-is_explained k n = is_named k n || list_any (is_overtaken k.topics n) k.endpoints
-
-abbrev pub are_others_overtaken : Kept → Bool
-are_others_overtaken k = list_all (is_explained k) (range_with_len 0 k.records)
-
--- the number stands in the span of an endpoint
-abbrev pub is_within : ℕ → Span → Bool
-is_within n s = nat_lt s.put n && nat_lt n s.upto
-
--- these spans have the numbers at which records of the endpoints may have been overtaken, and no others
-abbrev pub AreSpans : List Topic → List Endpoint → List Span → Type 0
-AreSpans topics endpoints spans =
-    (n : ℕ) → list_any (is_within n) spans ≡ list_any (is_overtaken topics n) endpoints
-
--- the records of an endpoint from this number on, up to that one, may have been overtaken
-pub record OvertakesBy (s : Span) (from upto : ℕ) : Type 0 where
-  pub some : from < upto
-  pub all : (n : ℕ) → from ≤ n → n < upto → is_within n s ≡ true
-
--- those of some endpoint
-pub record Overtakes (spans : List Span) (from upto : ℕ) : Type 0 where
-  pub some : from < upto
-  pub all : (n : ℕ) → from ≤ n → n < upto → list_any (is_within n) spans ≡ true
-
--- each of the records from this number on, up to that one, has a row that names it, or may have been overtaken
-pub record Explains (k : Kept) (from upto : ℕ) : Type 0 where
-  pub some : from < upto
-  pub all : (n : ℕ) → from ≤ n → n < upto → is_explained k n ≡ true
-
 -- what is asked without going through the attempts of each event
 abbrev pub have_places : Kept → Bool
 have_places k =
@@ -168,4 +125,4 @@ have_places k =
 -- all that is asked
 abbrev pub are_numbers_sound : Kept → Bool
 are_numbers_sound k =
-    are_below k && (have_places k && (list_all (is_turn k.attempts) k.attempts && are_others_overtaken k))
+    are_below k && (have_places k && list_all (is_turn k.attempts) k.attempts)

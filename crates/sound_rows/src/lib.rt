@@ -6,7 +6,6 @@ mod apart;
 mod below;
 mod numbers;
 mod order;
-mod overtaken;
 mod places;
 mod search;
 mod sound;

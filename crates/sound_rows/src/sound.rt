@@ -10,8 +10,8 @@ use std::alloc::{AllocError, Global};
 
 impl Numbers {
     /// Whether rows with these numbers are such as a legal history has, if the values in them keep their rules and the
-    /// tables keep their keys. It takes memory for what came of each event and for each endpoint. With so few endpoints
-    /// its time is in proportion to `n log n`. An error means that an allocation failed.
+    /// tables keep their keys. It takes memory for what came of each event. With so few endpoints its time is in
+    /// proportion to `n log n`. An error means that an allocation failed.
     pub fn are_sound(&self, alloc: Global) -> Result<bool, AllocError>
         ensures order { IfOk result (λ answer. ¬ AreAscending (kept self.now) → answer ≡ false) }
         ensures sound { IfOk result (λ answer. (rows : Rows)
@@ -26,10 +26,6 @@ impl Numbers {
         if !self.have_places() {
             return Ok(false);
         }
-        let are_in_turn = are_in_turn(&self.attempts, alloc)?;
-        if !are_in_turn {
-            return Ok(false);
-        }
-        self.are_others_overtaken(alloc)
+        are_in_turn(&self.attempts, alloc)
     }
 }

@@ -101,20 +101,17 @@ module _ (rows : Rows) (is : IsTrue (are_sound rows)) where
       && (sound.are_endpoint_rows rows
       && (list_all (sound.is_secrets_place rows) rows.endpoints
       && (list_all (sound.is_flag_place rows) rows.endpoints && (list_all is_delivery_row rows.deliveries
-      && (list_all (is_attempt_row rows) rows.attempts
-      && (sound.are_topic_rows rows && sound.are_others_overtaken rows)))))) ≡ true
+      && (list_all (is_attempt_row rows) rows.attempts && sound.are_topic_rows rows))))) ≡ true
   apart = and_second (sound.are_numbers_below rows) _ is
 
   endpoint_rows : sound.are_endpoint_rows rows
       && (list_all (sound.is_secrets_place rows) rows.endpoints
       && (list_all (sound.is_flag_place rows) rows.endpoints && (list_all is_delivery_row rows.deliveries
-      && (list_all (is_attempt_row rows) rows.attempts
-      && (sound.are_topic_rows rows && sound.are_others_overtaken rows))))) ≡ true
+      && (list_all (is_attempt_row rows) rows.attempts && sound.are_topic_rows rows)))) ≡ true
   endpoint_rows = and_second (sound.are_numbers_apart rows) _ apart
 
   delivery_rows : list_all is_delivery_row rows.deliveries
-      && (list_all (is_attempt_row rows) rows.attempts
-      && (sound.are_topic_rows rows && sound.are_others_overtaken rows)) ≡ true
+      && (list_all (is_attempt_row rows) rows.attempts && sound.are_topic_rows rows) ≡ true
   delivery_rows =
       and_second (list_all (sound.is_flag_place rows) rows.endpoints) _
       (and_second (list_all (sound.is_secrets_place rows) rows.endpoints) _
@@ -123,9 +120,8 @@ module _ (rows : Rows) (is : IsTrue (are_sound rows)) where
   topic_rows : list_all is_topic_row rows.topics ≡ true
   topic_rows =
       and_second _ (list_all is_topic_row rows.topics)
-      (and_first (sound.are_topic_rows rows) _
       (and_second (list_all (is_attempt_row rows) rows.attempts) _
-      (and_second (list_all is_delivery_row rows.deliveries) _ delivery_rows)))
+      (and_second (list_all is_delivery_row rows.deliveries) _ delivery_rows))
 
   pub all_attempt_rows : list_all (is_attempt_row rows) rows.attempts ≡ true
   all_attempt_rows = and_first (list_all (is_attempt_row rows) rows.attempts) _

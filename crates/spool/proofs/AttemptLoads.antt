@@ -1,5 +1,6 @@
 -- The attempts that a load reads, and what all rows of a history make of the book.
-use Rattle.std.proofs.Common.{◌≡◌, ◌<◌, ◌≤◌, ℕ, suc, ◌+◌, ◌==◌, Bool, true, false, cond, ◌||◌, nat_lt, List, [], ◌∷◌}
+use Rattle.std.proofs.Common.{◌≡◌, ◌<◌, ◌≤◌, ℕ, suc, ◌+◌, ◌==◌, Bool, true, false, cond, ◌||◌, not, nat_le, nat_lt}
+use Rattle.std.proofs.Common.{List, [], ◌∷◌}
 use Rattle.std.proofs.Common.{◌++◌, Option, Some, None, map, take, length, refl, sym, ap, subst, ◌∙◌, arith, append-nil}
 use Rattle.std.proofs.Common.{length-append}
 use Rattle.std.specs.Prelude.{count_by, filter, find, filter_map, max, option_map, bytes_eq, is_some, if◌then◌else◌}
@@ -12,16 +13,18 @@ use Rattle.std.proofs.lemmas.List.Sums.{sum_by-cons}
 use Rattle.std.proofs.lemmas.Slice.Eq.{bytes_eq-Decides}
 use Rattle.relay_types.specs.declared.record.Record.{Record}
 use Rattle.relay_types.specs.declared.record.Record.TheVariants.{Put, Secrets, Enabled, Accept, Outcome, Subscribed}
+use Rattle.relay_types.specs.declared.record.Record.TheVariants.{Purge}
 use Rattle.relay_types.specs.declared.limits.TheConstants.{MAX_FAILURES, MAX_RECORDS}
 use Rattle.relay_types.specs.declared.state.State.TheVariants.{Exhausted, Pending}
 use Rattle.relay_types.specs.Judging.{is_delivered_status, is_failed_status}
 use Rattle.relay_types.specs.Sound.{AreKeyed, attempts_before, is_delivery_at}
 use Rattle.relay_types.specs.Values.{Text}
-use Rattle.relay_types.specs.Records.{Attempt, attempt_by}
-use Rattle.relay_types.specs.Deliveries.{attempts_of, is_in_state}
+use Rattle.relay_types.specs.Records.{Attempt, attempt_by, numbered}
+use Rattle.relay_types.specs.Deliveries.{attempts_of, is_in_state, is_purged, purge_among, purged_by, takes}
 use Rattle.relay_types.specs.Endpoints.{Endpoint, endpoints, endpoint_of, has_endpoint}
 use Rattle.relay_types.specs.Legal.{IsLegal}
-use Rattle.relay_types.specs.Rows.{EndpointRow, DeliveryRow, AttemptRow, attempt_row, delivery_row, endpoint_row, put_of, rows_of}
+use Rattle.relay_types.specs.Rows.{EndpointRow, DeliveryRow, AttemptRow, attempt_row, delivery_row, endpoint_row}
+use Rattle.relay_types.specs.Rows.{put_of, rows_of}
 use Rattle.relay_types.proofs.ConditionLaws.{attempt_values}
 use Rattle.relay_types.proofs.KeyLaws.{legal_sound}
 use Rattle.relay_types.proofs.KnownLaws.{AllKnown, and_both, legal_known}
@@ -29,7 +32,7 @@ use Rattle.relay_types.proofs.OrderLaws.{Rises, puts_rise, finds, finds_above}
 use Rattle.relay_types.proofs.RowLaws.{find_map}
 use Rattle.relay_types.proofs.TableLaws.{In, found_at, in_all, in_any}
 use Rattle.delivery_book.specs.declared.entry.Entry.{Entry}
-use Rattle.delivery_book.specs.Entries.{BookValue, at_delivery, entry_at, failed_among, has_room_for_attempt}
+use Rattle.delivery_book.specs.Entries.{BookValue, at_delivery, entry_at, failed_among, has_room_for_attempt, is_left}
 use Rattle.delivery_book.specs.Entries.{is_delivered_among, may_restore, progress_of, state_by, with_attempt_restored}
 use Rattle.delivery_book.specs.Entries.{with_outcome_restored}
 use Rattle.delivery_book.specs.Book.{entry_by}
@@ -38,10 +41,13 @@ use Rattle.spool.specs.Reading.{IsRising}
 use Rattle.spool.specs.Loading.{AreAccepted, AreAttempted, Attempts, NextToAttempt, HaveAttempts, attempt_by_row}
 use Rattle.spool.specs.Loading.{attempted_entry, fresh_entry, greatest, name_put}
 use Rattle.spool.specs.declared.deliveries.Deliveries.{Deliveries}
-use Rattle.spool.proofs.PageLaws.{few_below, rising_higher, rows_before, rows_rise, legal_length}
+use Rattle.spool.proofs.PageLaws.{few_below, rising_higher, rising_kept, rows_before, rows_rise, legal_length}
 use Rattle.spool.proofs.QuietReads.{IsReadTo, read_none}
 use Rattle.spool.proofs.DeliveryLoads.{accepted_within, greatest-append}
 use Rattle.spool.proofs.EndpointLoads.{in_middle}
+
+pub not_both : (b : Bool) → b ≡ true → b ≡ false → ⊥
+not_both b is other = absurd (let no : true ≡ false = sym is ∙ other in cc)
 
 -- The rows of a history, and its words on deliveries
 
@@ -53,8 +59,31 @@ attempts_tied d n (Secrets name secrets ∷ rest) = attempts_tied d (n + 1) rest
 attempts_tied d n (Enabled name flag ∷ rest) = attempts_tied d (n + 1) rest
 attempts_tied d n (Subscribed topic name flag ∷ rest) = attempts_tied d (n + 1) rest
 attempts_tied d n (Accept name id body at ∷ rest) = attempts_tied d (n + 1) rest
+attempts_tied d n (Purge moment ∷ rest) = attempts_tied d (n + 1) rest
 attempts_tied d n (Outcome delivery attempt status at ∷ rest) =
     ap (cons_option (if delivery == d then Some (record { number = attempt; status = status; at = at }) else None)) (attempts_tied d (n + 1) rest)
+
+-- they are all there where the delivery isn't gone
+attempts_left : (gone : ℕ → Bool) (d : ℕ) (ts : List AttemptRow) → gone d ≡ false
+    → filter_map (attempt_by_row d) (filter (λ (t : AttemptRow). not (gone t.delivery)) ts)
+    ≡ filter_map (attempt_by_row d) ts
+attempts_left gone d [] h = refl
+attempts_left gone d (t ∷ ts) h = at (gone t.delivery) refl (attempts_left gone d ts h)
+  where
+    left : List AttemptRow
+    left = filter (λ (s : AttemptRow). not (gone s.delivery)) ts
+
+    apart : gone t.delivery ≡ true → t.delivery == d ≡ false
+    apart e = ne_eqb t.delivery d (λ same. not_both (gone d) (sym (ap gone same) ∙ e) h)
+
+    at : (b : Bool) → gone t.delivery ≡ b
+        → filter_map (attempt_by_row d) left ≡ filter_map (attempt_by_row d) ts
+        → filter_map (attempt_by_row d) (cond (not b) (t ∷ left) left)
+        ≡ cons_option (attempt_by_row d t) (filter_map (attempt_by_row d) ts)
+    at true e more =
+        more ∙ ap (λ b. cons_option (if b then Some (record { number = t.number; status = t.status; at = t.at }) else
+        None) (filter_map (attempt_by_row d) ts)) (sym (apart e))
+    at false e more = ap (cons_option (attempt_by_row d t)) more
 
 -- so are their ends
 delivered_tied : (d : ℕ) (ts : List AttemptRow) → is_delivered_among (filter_map (attempt_by_row d) ts) ≡ list_any
@@ -92,9 +121,6 @@ failed_tied d (t ∷ ts) = at (t.delivery == d) (failed_tied d ts)
         ∙ sym (sum_by-cons (λ (s : AttemptRow). cond (is_failed_status s.status) 1 0) t
         (filter (λ (s : AttemptRow). s.delivery == d) ts))
     at false rest = rest
-
-pub not_both : (b : Bool) → b ≡ true → b ≡ false → ⊥
-not_both b is other = absurd (let no : true ≡ false = sym is ∙ other in cc)
 
 no_more : {X Y : Type 0} (f : X → Option Y) (xs : List X) → length (filter_map f xs) ≤ length xs
 no_more f [] = omega arith
@@ -141,28 +167,89 @@ name_back records name known = at (endpoint_of records name) refl known
 -- Entries
 
 module _ (records : List Record) where
-  tied : (d : ℕ) → filter_map (attempt_by_row d) (rows_of records).attempts ≡ attempts_of records d
-  tied d = attempts_tied d 0 records
+  tied : (d : ℕ) → is_purged records d ≡ false
+      → filter_map (attempt_by_row d) (rows_of records).attempts ≡ attempts_of records d
+  tied d left =
+      attempts_left (is_purged records) d (filter_map attempt_row (numbered records)) left ∙ attempts_tied d 0 records
+
+  taken_below : (before later : List Record) (d p : ℕ) → purge_among before later d ≡ Some p
+      → p < length before + length later
+  taken_below before [] d p is = absurd (let no = is in cc)
+  taken_below before (r ∷ later) d p is = at (takes before d r) (taken_below (before ++ r ∷ []) later d p) is
+    where
+      some_is : {x y : ℕ} → Some x ≡ Some y → x ≡ y
+      some_is e = cc
+
+      at : (b : Bool)
+          → (purge_among (before ++ r ∷ []) later d ≡ Some p → p < length (before ++ r ∷ []) + length later)
+          → (if b then Some (length before) else purge_among (before ++ r ∷ []) later d) ≡ Some p
+          → p < length before + length (r ∷ later)
+      at true more e = omega (arith, some_is e)
+      at false more e = omega (arith, more e, length-append before (r ∷ []))
+
+  -- what a Purge took is given up once all is settled
+  given_up : (d p : ℕ) → purged_by records d ≡ Some p → nat_le (length records) p ≡ false
+  given_up d p is = lt-leb (length records) p (omega (arith, taken_below [] records d p is))
+
+  abbrev row_entry : DeliveryRow → Entry
+  row_entry = attempted_entry records (rows_of records).attempts
+
+  abbrev rows_left : ℕ → List Record → List DeliveryRow
+  rows_left n some =
+      filter (λ (d : DeliveryRow). not (is_purged records d.seq))
+      (filter_map (delivery_row records) (enumerate_from n some))
+
+  abbrev entries_left : (m n : ℕ) → List Record → List Entry
+  entries_left m n some =
+      filter (is_left (length records))
+      (filter_map (entry_by (attempts_of records) (attempts_of (take m records)) (purged_by records))
+      (enumerate_from n some))
 
   entries_tied : (m n : ℕ) (some : List Record) → take m records ≡ records → AllKnown records some
-      → map (attempted_entry records (rows_of records).attempts)
-      (filter_map (delivery_row records) (enumerate_from n some))
-      ≡ filter_map (entry_by (attempts_of records) (attempts_of (take m records))) (enumerate_from n some)
+      → map row_entry (rows_left n some) ≡ entries_left m n some
   entries_tied m n [] whole known = refl
   entries_tied m n (Put name target max secrets ∷ rest) whole known = entries_tied m (n + 1) rest whole known.1
   entries_tied m n (Secrets name secrets ∷ rest) whole known = entries_tied m (n + 1) rest whole known.1
   entries_tied m n (Enabled name flag ∷ rest) whole known = entries_tied m (n + 1) rest whole known.1
   entries_tied m n (Subscribed topic name flag ∷ rest) whole known = entries_tied m (n + 1) rest whole known.1
   entries_tied m n (Outcome delivery attempt status at ∷ rest) whole known = entries_tied m (n + 1) rest whole known.1
-  entries_tied m n (Accept name id body at ∷ rest) whole known = λ i. record {
-    seq = n;
-    name = name_back records name known.0 i;
-    id = id;
-    body = body;
-    at = at;
-    latest = progress_of at (tied n i);
-    settled = progress_of at ((tied n ∙ ap (λ rs. attempts_of rs n) (sym whole)) i);
-  } ∷ entries_tied m (n + 1) rest whole known.1 i
+  entries_tied m n (Purge moment ∷ rest) whole known = entries_tied m (n + 1) rest whole known.1
+  entries_tied m n (Accept name id body at ∷ rest) whole known =
+      by (purged_by records n) refl (entries_tied m (n + 1) rest whole known.1)
+    where
+      row : DeliveryRow
+      row = record { seq = n; endpoint = put_of records name; id = id; at = at; body = body }
+
+      entry : Option ℕ → Entry
+      entry taken = record {
+        seq = n;
+        name = name;
+        id = id;
+        body = body;
+        at = at;
+        latest = progress_of at (attempts_of records n);
+        settled = progress_of at (attempts_of (take m records) n);
+        taken_by = taken;
+      }
+
+      by : (taken : Option ℕ) → purged_by records n ≡ taken
+          → map row_entry (rows_left (n + 1) rest) ≡ entries_left m (n + 1) rest
+          → map row_entry (cond (not (is_some taken)) (row ∷ rows_left (n + 1) rest) (rows_left (n + 1) rest))
+          ≡ cond (option_map_or (nat_le (length records)) taken true) (entry taken ∷ entries_left m (n + 1) rest)
+          (entries_left m (n + 1) rest)
+      by (Some p) is more =
+          more ∙ sym (ap (λ b. cond b (entry (Some p) ∷ entries_left m (n + 1) rest) (entries_left m (n + 1) rest))
+          (given_up n p is))
+      by None is more = λ i. record {
+        seq = n;
+        name = name_back records name known.0 i;
+        id = id;
+        body = body;
+        at = at;
+        latest = progress_of at (tied n (ap is_some is) i);
+        settled = progress_of at ((tied n (ap is_some is) ∙ ap (λ rs. attempts_of rs n) (sym whole)) i);
+        taken_by = None;
+      } ∷ more i
 
   -- One more attempt
 
@@ -211,8 +298,14 @@ module _ (records : List Record) where
   -- All rows
 
   attempts_rise : IsRising (λ (a : AttemptRow). a.seq) 0 (length records) (rows_of records).attempts
-  attempts_rise = subst (λ m. IsRising (λ (a : AttemptRow). a.seq) 0 m (rows_of records).attempts) whole (rows_rise attempt_row (λ (a : AttemptRow). a.seq) at_seq 0 records)
+  attempts_rise =
+      rising_kept (λ (a : AttemptRow). a.seq) (λ a. not (is_purged records a.delivery)) 0 (length records) all
+      (subst (λ m. IsRising (λ (a : AttemptRow). a.seq) 0 m all) whole
+      (rows_rise attempt_row (λ (a : AttemptRow). a.seq) at_seq 0 records))
     where
+      all : List AttemptRow
+      all = filter_map attempt_row (numbered records)
+
       whole : 0 + length records ≡ length records
       whole = omega arith
 
@@ -226,6 +319,7 @@ module _ (records : List Record) where
       at_seq k (Enabled name flag) a is = absurd (let no = is in cc)
       at_seq k (Subscribed topic name flag) a is = absurd (let no = is in cc)
       at_seq k (Accept name id body at) a is = absurd (let no = is in cc)
+      at_seq k (Purge moment) a is = absurd (let no = is in cc)
 
   -- Why a row of a legal history is taken in
 

@@ -1,5 +1,6 @@
 -- The books of the tables once all their records are settled, and the vault behind a load.
-use Rattle.std.proofs.Common.{◌≡◌, ◌<◌, ◌⊎◌, ℕ, List, [], ◌∷◌, Result, Ok, Err, IfOk, IfErr, IsTrue, map, length, inl}
+use Rattle.std.proofs.Common.{◌≡◌, ◌<◌, ◌⊎◌, ℕ, Bool, true, false, cond, List, [], ◌∷◌, Result, Ok, Err, IfOk, IfErr}
+use Rattle.std.proofs.Common.{IsTrue, map, length, inl}
 use Rattle.std.proofs.Common.{inr, refl, sym, subst, ap, ◌∙◌, arith}
 use Rattle.std.specs.Prelude.{filter, max, IsErr}
 use Rattle.sqlite.specs.Effect.{Database}
@@ -20,7 +21,7 @@ use Rattle.endpoint_book.specs.Book as endpoint_book
 use Rattle.endpoint_book.specs.Topics.{TellsTopics}
 use Rattle.endpoint_book.proofs.Restored.{stands-restored}
 use Rattle.delivery_book.specs.declared.entry.Entry.{Entry as DeliveryEntry}
-use Rattle.delivery_book.specs.Entries.{at_outcomes, front_below, rest_from, with_latest_settled}
+use Rattle.delivery_book.specs.Entries.{at_outcomes, front_below, is_left, rest_from, with_latest_settled}
 use Rattle.delivery_book.specs.Entries as delivery
 use Rattle.delivery_book.specs.Book as delivery_book
 use Rattle.delivery_book.proofs.Laws.{stands_restored}
@@ -54,6 +55,16 @@ none_settled : (es : List DeliveryEntry) → map (at_outcomes [] with_latest_set
 none_settled [] = refl
 none_settled (e ∷ es) = ap (λ rest. e ∷ rest) (none_settled es)
 
+kept_again : {X : Type 0} (p : X → Bool) (xs : List X) → filter p (filter p xs) ≡ filter p xs
+kept_again p [] = refl
+kept_again p (x ∷ xs) = at (p x) refl (kept_again p xs)
+  where
+    at : (b : Bool) → p x ≡ b → filter p (filter p xs) ≡ filter p xs
+        → filter p (cond b (x ∷ filter p xs) (filter p xs)) ≡ cond b (x ∷ filter p xs) (filter p xs)
+    at true e more =
+        ap (λ t. cond t (x ∷ filter p (filter p xs)) (filter p (filter p xs))) e ∙ ap (λ rest. x ∷ rest) more
+    at false e more = more
+
 module _ (records : List Record) where
   entries_back : (es : List Endpoint) → map (entry_of_row records) (map (endpoint_row records) es)
       ≡ map (entry_for records) es
@@ -78,9 +89,10 @@ module _ (records : List Record) where
       → delivery_book.StandsFor book records (length records)
   deliveries_stand loaded book legal h is = stands_restored book records legal (record {
     entries = ap (λ (b : delivery.BookValue). b.entries) is
-        ∙ ap (λ os. map (at_outcomes (front_below (length records) os) with_latest_settled) loaded.book.entries)
-        h.unsettled
-        ∙ none_settled loaded.book.entries ∙ h.entries;
+        ∙ ap (λ os. filter (is_left (length records))
+        (map (at_outcomes (front_below (length records) os) with_latest_settled) loaded.book.entries)) h.unsettled
+        ∙ ap (filter (is_left (length records))) (none_settled loaded.book.entries ∙ h.entries)
+        ∙ kept_again (is_left (length records)) _;
     unsettled = ap (λ (b : delivery.BookValue). b.unsettled) is ∙ ap (rest_from (length records)) h.unsettled;
     next_seq = omega (arith, ap (λ (b : delivery.BookValue). b.next_seq) is, h.next_seq);
     settled_seq = ap (λ (b : delivery.BookValue). b.settled_seq) is;

@@ -1,15 +1,18 @@
 -- The events that a load reads.
 use Rattle.std.proofs.Common.{◌≡◌, ◌<◌, ◌≤◌, ℕ, ◌+◌, ◌==◌, Bool, true, false, ◌&&◌, not, List, [], ◌∷◌, ◌++◌, Option}
 use Rattle.std.proofs.Common.{Some, None, map, length, refl, sym, ap, subst, ◌∙◌, arith, append-nil, append_assoc}
-use Rattle.std.specs.Prelude.{max, option_map, slice_get, find, bytes_eq}
+use Rattle.std.specs.Prelude.{max, option_map, slice_get, filter_map, find, bytes_eq}
 use Rattle.std.specs.List.{list_any}
 use Rattle.std.specs.Option.{option_map_or}
 use Rattle.std.proofs.lemmas.Bool.{eq-eqb, eqb-true, not-true}
 use Rattle.std.proofs.lemmas.List.{map-append}
 use Rattle.relay_types.specs.declared.record.Record.{Record}
 use Rattle.relay_types.specs.declared.record.Record.TheVariants.{Put, Secrets, Enabled, Accept, Outcome, Subscribed}
+use Rattle.relay_types.specs.declared.record.Record.TheVariants.{Purge}
 use Rattle.relay_types.specs.declared.limits.TheConstants.{MAX_RECORDS}
 use Rattle.relay_types.specs.Values.{Text, Seq, Seconds}
+use Rattle.relay_types.specs.Deliveries.{is_purged}
+use Rattle.relay_types.specs.Records.{numbered}
 use Rattle.relay_types.specs.Legal.{IsLegal}
 use Rattle.relay_types.specs.Rows.{EndpointRow, DeliveryRow, delivery_row, rows_of}
 use Rattle.relay_types.specs.Sound.{AreKeyed, is_put_at}
@@ -20,13 +23,14 @@ use Rattle.relay_types.proofs.RowLaws.{find_map}
 use Rattle.relay_types.proofs.StandLaws.{same_text, text_same}
 use Rattle.relay_types.proofs.TableLaws.{In, found_at, in_all, in_any, in_none, map_in, none_found}
 use Rattle.delivery_book.specs.declared.entry.Entry.{Entry}
-use Rattle.delivery_book.specs.Entries.{BookValue, empty_book, is_entry_as, known_in, new_entry, with_event}
+use Rattle.delivery_book.specs.Entries.{BookValue, empty_book, is_entry_as, is_kept, known_in, new_entry, with_event}
 use Rattle.spool.specs.Reading.{IsRising}
 use Rattle.spool.specs.Loading.{AreAccepted, Accepts, NextToAccept, MayAccept, AreNames, IsNameOf, fresh_entry}
 use Rattle.spool.specs.Loading.{greatest, known_of, name_put}
 use Rattle.spool.specs.declared.deliveries.Deliveries.{Deliveries}
 use Rattle.spool.specs.declared.load_endpoints.Known.{Known}
-use Rattle.spool.proofs.PageLaws.{below_next, get_map, rising_find, rising_higher, rising_map, rows_rise, legal_length}
+use Rattle.spool.proofs.PageLaws.{below_next, get_map, rising_find, rising_higher, rising_kept, rising_map, rows_rise}
+use Rattle.spool.proofs.PageLaws.{legal_length}
 use Rattle.spool.proofs.QuietReads.{IsReadTo, read_none}
 use Rattle.spool.proofs.EndpointLoads.{endpoints_rise, in_front, in_middle}
 
@@ -54,8 +58,14 @@ module _ (records : List Record) where
           ∙ ap (λ (n : Known). n.name) known
 
   pub deliveries_rise : IsRising (λ (d : DeliveryRow). d.seq) 0 (length records) (rows_of records).deliveries
-  deliveries_rise = subst (λ m. IsRising (λ (d : DeliveryRow). d.seq) 0 m (rows_of records).deliveries) whole (rows_rise (delivery_row records) (λ (d : DeliveryRow). d.seq) at_seq 0 records)
+  deliveries_rise =
+      rising_kept (λ (d : DeliveryRow). d.seq) (λ d. not (is_purged records d.seq)) 0 (length records) all
+      (subst (λ m. IsRising (λ (d : DeliveryRow). d.seq) 0 m all) whole
+      (rows_rise (delivery_row records) (λ (d : DeliveryRow). d.seq) at_seq 0 records))
     where
+      all : List DeliveryRow
+      all = filter_map (delivery_row records) (numbered records)
+
       whole : 0 + length records ≡ length records
       whole = omega arith
 
@@ -66,6 +76,7 @@ module _ (records : List Record) where
       at_seq k (Enabled name flag) d is = absurd (let no = is in cc)
       at_seq k (Subscribed topic name flag) d is = absurd (let no = is in cc)
       at_seq k (Outcome delivery attempt status at) d is = absurd (let no = is in cc)
+      at_seq k (Purge moment) d is = absurd (let no = is in cc)
 
   -- the event of one more row, for the endpoint of this name
   pub accepted_more : (names : List Known) (row : DeliveryRow) (name : Text) (old new : Deliveries) → AreNames names records → IsNameOf names row.endpoint name
@@ -183,10 +194,14 @@ module _ (records : List Record) where
                 omega (arith, one, less))
 
         unknown : known_in loaded.book name row.id ≡ None
-        unknown = ap (λ es. option_map (λ (e : Entry). e.seq) (find (is_entry_as name row.id) es)) h.entries
-            ∙ ap (option_map (λ (e : Entry). e.seq)) (find_map (fresh_entry records) (is_entry_as name row.id) before
+        unknown = ap (λ es. option_map (λ (e : Entry). e.seq) (find is_it es)) h.entries
+            ∙ ap (option_map (λ (e : Entry). e.seq)) (find_map (fresh_entry records) is_it before
             ∙ ap (option_map (fresh_entry records))
-            (none_found (λ (d : DeliveryRow). is_entry_as name row.id (fresh_entry records d)) before apart))
+            (none_found (λ (d : DeliveryRow). is_it (fresh_entry records d)) before
+            (λ d i. ap (λ b. b && true) (apart d i))))
+          where
+            is_it : Entry → Bool
+            is_it entry = is_entry_as name row.id entry && is_kept entry
 
   -- all are read
   pub accepted_within : (loaded : Deliveries) → AreAccepted loaded records (rows_of records).deliveries

@@ -9,7 +9,7 @@ use Rattle.std.proofs.lemmas.Bool.{eq-eqb, ne_eqb}
 use Rattle.std.proofs.lemmas.List.{map-append}
 use Rattle.std.proofs.lemmas.List.Elements.{filter-append}
 use Rattle.relay_types.specs.declared.record.Record.{Record}
-use Rattle.relay_types.specs.declared.record.Record.TheVariants.{Put, Secrets, Enabled, Accept, Outcome, Subscribed}
+use Rattle.relay_types.specs.declared.record.Record.TheVariants.{Put, Secrets, Enabled, Accept, Outcome, Subscribed, Purge}
 use Rattle.relay_types.specs.Endpoints.{Endpoint, endpoint_by, endpoints, secrets_of}
 use Rattle.relay_types.specs.declared.limits.TheConstants.{MAX_RECORDS}
 use Rattle.relay_types.specs.Legal.{IsLegal}
@@ -150,6 +150,7 @@ module _ (records : List Record) where
       at_seq k (Subscribed topic name flag) e is = absurd (let no = is in cc)
       at_seq k (Accept name id body at) e is = absurd (let no = is in cc)
       at_seq k (Outcome delivery attempt status at) e is = absurd (let no = is in cc)
+      at_seq k (Purge moment) e is = absurd (let no = is in cc)
 
   -- the endpoint of one more row, with its secrets
   pub restored_more : (row : EndpointRow) (secrets : List (List ℕ)) (old new : Endpoints)

@@ -2,7 +2,8 @@
 use Rattle.std.proofs.Common.{◌≡◌, ◌≤◌, ◌==◌, ℕ, suc, ◌+◌, Bool, true, false, ◌&&◌, ◌||◌, not, nat_lt, cond, List, []}
 use Rattle.std.proofs.Common.{◌∷◌, ◌++◌, length, map, Option, Some, None, refl, sym, ap, subst, ◌∙◌, arith, append-nil}
 use Rattle.std.proofs.Common.{append_assoc}
-use Rattle.std.specs.Prelude.{is_some, find, filter, filter_map, bytes_eq, slice_get, option_map, option_and_then, if◌then◌else◌}
+use Rattle.std.specs.Prelude.{is_some, find, filter, filter_map, bytes_eq, slice_get, option_map, option_and_then}
+use Rattle.std.specs.Prelude.{if◌then◌else◌}
 use Rattle.std.specs.List.{enumerate_from, cons_option, list_any}
 use Rattle.std.specs.Option.{option_map_or}
 use Rattle.std.proofs.lemmas.Bool.{ne_eqb, eq-eqb}
@@ -13,14 +14,15 @@ use Rattle.relay_types.specs.declared.limits.TheConstants.{MAX_ENDPOINTS}
 use Rattle.relay_types.specs.declared.record.Record.{Record}
 use Rattle.relay_types.specs.declared.record.Record.TheVariants.{Put, Accept}
 use Rattle.relay_types.specs.Records.{numbered}
-use Rattle.relay_types.specs.Deliveries.{is_accept_as, known_as}
+use Rattle.relay_types.specs.Deliveries.{is_accept_as, is_purged, known_as}
 use Rattle.relay_types.specs.Endpoints.{Endpoint, endpoint_by, endpoints, endpoint_of, has_endpoint}
 use Rattle.relay_types.specs.Legal.{may_follow, may_all_follow, IsLegal}
 use Rattle.relay_types.specs.Rows.{EndpointRow, DeliveryRow, endpoint_row, delivery_row, put_of, put_by_name, rows_of}
 use Rattle.relay_types.proofs.GrowthLaws.{endpoints-snoc}
 use Rattle.spool.specs.Entering.{may_put, may_accept, accepting}
 use Rattle.relay_types.proofs.KnownLaws.{and_first, and_second, AllKnown, legal_known}
-use Rattle.spool.proofs.RowLemmas.{has_name, has_event, HasEachNameOnce, allows_put, allows_accept, allowed_for, find_is_first, none_if_unnamed}
+use Rattle.spool.proofs.RowLemmas.{has_name, has_event, HasEachNameOnce, allows_put, allows_accept, allowed_for}
+use Rattle.spool.proofs.RowLemmas.{find_is_first, none_if_unnamed}
 use Rattle.relay_types.proofs.RowLaws.{find_map, put_by_name-is}
 
 some_map : {X Y : Type 0} (f : X → Y) (o : Option X) → is_some (option_map f o) ≡ is_some o
@@ -97,24 +99,64 @@ put_tells records a b has_a has_b = at (bytes_eq a b) refl
 
 -- An event is known exactly where its row is there
 
-known_in : (records : List Record) (name id : List ℕ) (n : ℕ) (some : List Record) → has_endpoint records name ≡ true → AllKnown records some
-    → is_some (find (λ (e : ℕ × Record). is_accept_as name id e.1) (enumerate_from n some))
-    ≡ list_any (λ (d : DeliveryRow). (d.endpoint == put_of records name) && bytes_eq d.id id) (filter_map (delivery_row records) (enumerate_from n some))
-known_in records name id n [] has known = refl
-known_in records name id n (Accept other other_id body at ∷ rest) has known =
-    step (bytes_eq other name && bytes_eq other_id id) (find (λ (e : ℕ × Record). is_accept_as name id e.1) (enumerate_from (n + 1) rest))
-    ∙ λ i. (put_tells records other name known.0 has i && bytes_eq other_id id) || known_in records name id (n + 1) rest has known.1 i
-  where
-    step : (b : Bool) (o : Option (ℕ × Record)) → is_some (if b then Some (n, Accept other other_id body at) else o) ≡ b || is_some o
-    step true o = refl
-    step false o = refl
-known_in records name id n (entry ∷ rest) has known = known_in records name id (n + 1) rest has known.1
+and_true : (b : Bool) → b && true ≡ b
+and_true true = refl
+and_true false = refl
+
+and_false : (b : Bool) → b && false ≡ false
+and_false true = refl
+and_false false = refl
+
+module _ (records : List Record) (name id : List ℕ) (gone : ℕ → Bool) (has : has_endpoint records name ≡ true) where
+  -- an Accept of this endpoint and id whose event isn't gone, and the row of one
+  abbrev accepts_it : ℕ × Record → Bool
+  accepts_it e = is_accept_as name id e.1 && not (gone e.0)
+
+  abbrev is_row_of_it : DeliveryRow → Bool
+  is_row_of_it d = (d.endpoint == put_of records name) && bytes_eq d.id id
+
+  abbrev rows_left : ℕ → List Record → List DeliveryRow
+  rows_left n some =
+      filter (λ (d : DeliveryRow). not (gone d.seq)) (filter_map (delivery_row records) (enumerate_from n some))
+
+  known_in : (n : ℕ) (some : List Record) → AllKnown records some
+      → is_some (find accepts_it (enumerate_from n some)) ≡ list_any is_row_of_it (rows_left n some)
+  known_in n [] known = refl
+  known_in n (Accept other other_id body at ∷ rest) known = by (gone n) (known_in (n + 1) rest known.1)
+    where
+      it : ℕ × Record
+      it = (n, Accept other other_id body at)
+
+      row : DeliveryRow
+      row = record { seq = n; endpoint = put_of records other; id = other_id; at = at; body = body }
+
+      is_named : Bool
+      is_named = bytes_eq other name && bytes_eq other_id id
+
+      step : (b : Bool) (o : Option (ℕ × Record)) → is_some (if b then Some it else o) ≡ b || is_some o
+      step true o = refl
+      step false o = refl
+
+      by : (b : Bool)
+          → is_some (find accepts_it (enumerate_from (n + 1) rest)) ≡ list_any is_row_of_it (rows_left (n + 1) rest)
+          → is_some (if is_named && not b then Some it else find accepts_it (enumerate_from (n + 1) rest))
+          ≡ list_any is_row_of_it (cond (not b) (row ∷ rows_left (n + 1) rest) (rows_left (n + 1) rest))
+      by true more =
+          ap (λ t. is_some (if t then Some it else find accepts_it (enumerate_from (n + 1) rest))) (and_false is_named)
+          ∙ more
+      by false more =
+          ap (λ t. is_some (if t then Some it else find accepts_it (enumerate_from (n + 1) rest))) (and_true is_named)
+          ∙ step is_named (find accepts_it (enumerate_from (n + 1) rest))
+          ∙ λ i. (put_tells records other name known.0 has i && bytes_eq other_id id) || more i
+  known_in n (entry ∷ rest) known = known_in (n + 1) rest known.1
 
 has_event-is : (records : List Record) (name id : List ℕ) → AllKnown records records → has_endpoint records name ≡ true
     → has_event (rows_of records) (put_by_name (rows_of records) name) id ≡ is_some (known_as records name id)
 has_event-is records name id known has =
     ap (λ p. has_event (rows_of records) p id) (put_by_name-is records name)
-    ∙ sym (some_map (λ (e : ℕ × Record). e.0) (find (λ (e : ℕ × Record). is_accept_as name id e.1) (numbered records)) ∙ known_in records name id 0 records has known)
+    ∙ sym (some_map (λ (e : ℕ × Record). e.0)
+    (find (λ (e : ℕ × Record). is_accept_as name id e.1 && not (is_purged records e.0)) (numbered records))
+    ∙ known_in records name id (is_purged records) has 0 records known)
 
 -- the look-ups allow what may follow
 

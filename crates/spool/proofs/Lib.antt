@@ -21,3 +21,5 @@ pub mod CheckReads
 pub mod MigrateLemmas
 pub mod EitherLemmas
 pub mod SubscribedLemmas
+pub mod PurgeLemmas
+pub mod PurgeSteps

@@ -2,7 +2,8 @@
 use Rattle.std.proofs.Common.{◌≡◌, ◌<◌, ◌≤◌, ◌==◌, ℕ, zero, suc, ◌+◌, Bool, true, false, ◌&&◌, ◌||◌, not, nat_lt}
 use Rattle.std.proofs.Common.{nat_le, min, cond, List, [], ◌∷◌, map, length, Option, Some, None, refl, sym, ap, subst}
 use Rattle.std.proofs.Common.{◌∙◌, arith}
-use Rattle.std.specs.Prelude.{slice_get, is_some, filter, filter_map, count_by, option_map, option_and_then, if◌then◌else◌}
+use Rattle.std.specs.Prelude.{slice_get, is_some, filter, filter_map, count_by, option_map, option_and_then}
+use Rattle.std.specs.Prelude.{if◌then◌else◌}
 use Rattle.std.specs.Option.{option_map_or}
 use Rattle.std.specs.List.{enumerate_from, cons_option, list_any}
 use Rattle.std.specs.List.Sorted.{IsPermutation}
@@ -15,14 +16,17 @@ use Rattle.relay_types.specs.declared.limits.TheConstants.{MAX_FAILURES}
 use Rattle.relay_types.specs.declared.record.Record.{Record}
 use Rattle.relay_types.specs.declared.record.Record.TheVariants.{Accept, Outcome}
 use Rattle.relay_types.specs.Judging.{is_delivered_status, is_failed_status}
-use Rattle.relay_types.specs.Records.{Accepted, Attempt, accepted_by, attempt_by}
-use Rattle.relay_types.specs.Deliveries.{accepted, attempts_of, failures_of, is_delivered, state_of, is_in_state, is_pending}
+use Rattle.relay_types.specs.Records.{Accepted, Attempt, accepted_by, attempt_by, numbered}
+use Rattle.relay_types.specs.Deliveries.{accept_at, accepted, attempts_of, is_purged, failures_of, is_delivered}
+use Rattle.relay_types.specs.Deliveries.{state_of, is_in_state, is_pending}
 use Rattle.relay_types.specs.declared.state.State.TheVariants.{Pending, Delivered, Exhausted}
 use Rattle.relay_types.specs.Legal.{is_status}
 use Rattle.relay_types.specs.Rows.{DeliveryRow, AttemptRow, delivery_row, attempt_row, put_of, put_by_delivery, rows_of}
-use Rattle.relay_types.proofs.KnownLaws.{and_first, below_if_accepted}
+use Rattle.relay_types.proofs.KnownLaws.{and_first, below_if_accepted, there_if}
+use Rattle.relay_types.proofs.PurgeLaws.{left_of, unpurged_if}
 use Rattle.spool_sql.specs.Stored.{IsEndpointOf, AreStatusesOf}
 use Rattle.spool.specs.Entering.{are_pending, may_be_next, may_attempt, attempting}
+use Rattle.spool.proofs.PurgeLemmas.{none_of}
 use Rattle.spool.proofs.RowLemmas.{answer-none, answer-some, find_is_first, same_if_short}
 
 -- ---- the event with a number
@@ -63,7 +67,23 @@ endpoint_put records d = option_map (λ (a : Accepted). put_of records a.endpoin
 endpoints_of_event : (records : List Record) (d : ℕ)
     → map (λ (r : DeliveryRow). r.endpoint) (filter (λ (r : DeliveryRow). r.seq == d) (rows_of records).deliveries)
     ≡ cons_option (endpoint_put records d) []
-endpoints_of_event records d = one_at_most records d 0 d records (omega arith)
+endpoints_of_event records d = at (is_purged records d) refl
+  where
+    all : List DeliveryRow
+    all = filter_map (delivery_row records) (numbered records)
+
+    put : Option Accepted → Option ℕ
+    put o = option_map (λ (a : Accepted). put_of records a.endpoint) o
+
+    at : (b : Bool) → is_purged records d ≡ b
+        → map (λ (r : DeliveryRow). r.endpoint) (filter (λ (r : DeliveryRow). r.seq == d)
+        (filter (λ (r : DeliveryRow). not (is_purged records r.seq)) all))
+        ≡ cons_option (put (if b then None else accept_at records d)) []
+    at true gone =
+        ap (map (λ (r : DeliveryRow). r.endpoint)) (none_of (λ (r : DeliveryRow). r.seq) (is_purged records) d all gone)
+    at false left =
+        ap (map (λ (r : DeliveryRow). r.endpoint)) (left_of (λ (r : DeliveryRow). r.seq) (is_purged records) d all left)
+        ∙ one_at_most records d 0 d records (omega arith)
 
 short : (o : Option ℕ) → length (cons_option o []) ≤ 1
 short None = omega arith
@@ -162,7 +182,10 @@ may_be_next-is : (records : List Record) (d attempt status : ℕ) (statuses : Li
     → true ≡ is_some (accepted records d) → AreStatusesOf d (rows_of records) statuses
     → may_be_next statuses attempt status ≡ may_attempt records d attempt status
 may_be_next-is records d attempt status statuses taken h =
-    let same : IsPermutation (statuses_of (attempts_of records d)) statuses = subst (λ xs. IsPermutation xs statuses) (statuses_in d 0 records) h in
+    let left = left_of (λ (r : AttemptRow). r.delivery) (is_purged records) d (filter_map attempt_row (numbered records))
+    (unpurged_if records d (sym taken)) in
+    let same : IsPermutation (statuses_of (attempts_of records d)) statuses =
+    subst (λ xs. IsPermutation xs statuses) (ap (map of_row) left ∙ statuses_in d 0 records) h in
     let long : length statuses ≡ length (attempts_of records d) =
     length_permutation (statuses_of (attempts_of records d)) statuses same
     ∙ length-map (attempts_of records d) (λ (a : Attempt). a.status) in
@@ -197,12 +220,15 @@ attempting-found records d attempt status put statuses allowed h of is =
 
 -- ---- a number from the Outcome's own on names no event
 
+below : (records : List Record) (d : ℕ) → is_some (accepted records d) ≡ true → d < length records
+below records d known = below_if_accepted records d (there_if records d known)
+
 unnamed : (records : List Record) (d attempt status : ℕ) → length records ≤ d → false ≡ may_attempt records d attempt status
 unnamed records d attempt status h =
     ap (λ b. (b && is_in_state Pending (state_of records d)) && (attempt == length (attempts_of records d) + 1 && is_status status)) (at (is_some (accepted records d)) refl)
   where
     at : (b : Bool) → is_some (accepted records d) ≡ b → false ≡ b
-    at true e = absurd (omega (arith, h, below_if_accepted records d e))
+    at true e = absurd (omega (arith, h, below records d e))
     at false e = refl
 
 pub attempted-none : (records : List Record) (next delivery attempt status : ℕ) → next ≡ length records
@@ -227,4 +253,4 @@ attempted-some records next delivery attempt status put is h =
 
     at : (b : Bool) → nat_lt delivery next ≡ b → is_some (accepted records (min delivery next)) ≡ true → min delivery next ≡ delivery
     at true e known = min-eq_left (omega (arith, ltb-true delivery next e))
-    at false e known = absurd (omega (arith, is, below_if_accepted records (min delivery next) known, min-eq_right (ltb-false delivery next e)))
+    at false e known = absurd (omega (arith, is, below records (min delivery next) known, min-eq_right (ltb-false delivery next e)))

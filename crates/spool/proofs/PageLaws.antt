@@ -37,6 +37,17 @@ module _ {X : Type 0} (number : X → ℕ) where
   rising_append a b c [] ys h i = rising_lower a b c ys h i
   rising_append a b c (x ∷ xs) ys h i = (h.0, rising_append (number x + 1) b c xs ys h.1 i)
 
+  -- some of them still rise
+  pub rising_kept : (test : X → Bool) (a b : ℕ) (xs : List X) → IsRising number a b xs
+      → IsRising number a b (filter test xs)
+  rising_kept test a b [] h = h
+  rising_kept test a b (x ∷ xs) h = at (test x) (rising_kept test (number x + 1) b xs h.1)
+    where
+      at : (t : Bool) → IsRising number (number x + 1) b (filter test xs)
+          → IsRising number a b (cond t (x ∷ filter test xs) (filter test xs))
+      at true more = (h.0, more)
+      at false more = rising_lower a (number x + 1) b (filter test xs) (omega (arith, h.0)) more
+
   -- the place behind the last of them
   abbrev pub behind_last : ℕ → List X → ℕ
   behind_last a [] = a

@@ -8,7 +8,7 @@ use Rattle.std.proofs.lemmas.List.{length-map}
 use Rattle.std.proofs.lemmas.List.Folds.{find-append}
 use Rattle.relay_types.specs.declared.limits.TheConstants.{MAX_RECORDS, MAX_SUBSCRIPTIONS}
 use Rattle.relay_types.specs.declared.record.Record.{Record}
-use Rattle.relay_types.specs.declared.record.Record.TheVariants.{Put, Secrets, Enabled, Accept, Outcome, Subscribed}
+use Rattle.relay_types.specs.declared.record.Record.TheVariants.{Put, Secrets, Enabled, Accept, Outcome, Subscribed, Purge}
 use Rattle.relay_types.specs.Endpoints.{has_endpoint}
 use Rattle.relay_types.specs.Legal.{IsLegal}
 use Rattle.relay_types.specs.Rows.{EndpointRow, TopicRow, put_of, rows_of, topic_row}
@@ -102,6 +102,7 @@ module _ (records : List Record) where
       at_seq k (Enabled name flag) s is = absurd (let no = is in cc)
       at_seq k (Accept name id body at) s is = absurd (let no = is in cc)
       at_seq k (Outcome delivery attempt status at) s is = absurd (let no = is in cc)
+      at_seq k (Purge moment) s is = absurd (let no = is in cc)
 
   -- the endpoint of a subscription has its name
   name_told : (ss : List Subscription) (s : Subscription) → AllThere records ss → In s ss

@@ -1,7 +1,10 @@
 -- What a transaction makes of the rows of a legal history: the statements, the commit, and what a stop leaves of it.
-use Rattle.std.specs.Prelude.{◌≡◌, ◌⊎◌, ℕ, ◌+◌, ◌==◌, Bool, true, false, ◌&&◌, ◌||◌, not, nat_lt, List, ◌++◌, length}
+use Rattle.std.specs.Prelude.{◌≡◌, ◌⊎◌, ℕ, ◌+◌, ◌==◌, Bool, true, false, ◌&&◌, ◌||◌, not, nat_le, nat_lt, List, ◌++◌}
+use Rattle.std.specs.Prelude.{length}
+use Rattle.std.specs.Prelude.{filter}
 use Rattle.std.specs.Prelude.{count_by, is_some, IsTrue, Option, Some, None, Result, Ok, Err, IfOk, if◌then◌else◌}
-use Rattle.std.specs.List.{list_any}
+use Rattle.std.specs.List.{list_any, list_all}
+use Rattle.std.specs.Option.{option_map_or}
 use Rattle.sqlite.specs.declared.error.Error.{Error}
 use Rattle.sqlite.specs.State.{State, HasCleanDisk, Fails}
 use Rattle.sqlite.specs.Held.{Held}
@@ -14,8 +17,13 @@ use Rattle.relay_types.specs.Judging.{is_delivered_status, is_gone_status, is_fa
 use Rattle.relay_types.specs.Deliveries.{known_as, is_pending, attempts_of}
 use Rattle.relay_types.specs.Endpoints.{endpoints, has_endpoint}
 use Rattle.relay_types.specs.Legal.{is_status, is_legal, IsLegal}
-use Rattle.relay_types.specs.Rows.{Rows, put_of, put_by_delivery, rows_of, secret_rows}
+use Rattle.relay_types.specs.Lists.{last_of}
+use Rattle.relay_types.specs.Rows.{Rows, DeliveryRow, AttemptRow, is_past_in, put_of, put_by_delivery, rows_of}
+use Rattle.relay_types.specs.Rows.{secret_rows}
+use Rattle.relay_types.specs.Sound.{IsRisingFrom, is_delivery_at}
+use Rattle.relay_types.specs.Values.{Seq, Seconds}
 use Rattle.relay_types.specs.Subscriptions.{is_pair_named, subscriptions}
+use Rattle.spool_sql.specs.declared.row.Tried.{Tried}
 use Rattle.spool_sql.specs.Readable.{IsRefusal}
 use Rattle.spool_sql.specs.Stored.{IsTables, AreTablesOf, with_records, with_endpoint, new_endpoint, with_enabled}
 use Rattle.spool_sql.specs.Stored.{with_secrets_by, without_secrets}
@@ -84,6 +92,40 @@ with_secrets_replaced put by secrets rows = with_secrets_by put by (with_secrets
 -- where the status is that of a gone endpoint, the endpoint that the record with number `put` made is disabled
 abbrev pub disabled_if_gone : (put status by : ℕ) → Rows → Rows
 disabled_if_gone put status by rows = if is_gone_status status then with_enabled put false by rows else rows
+
+-- ---- what a Purge takes out
+
+-- whether attempts with these results ended an event, the last of them before this moment
+abbrev pub are_past : (before : Seconds) → List Tried → Bool
+are_past before tries =
+    (list_any (λ t. is_delivered_status t.status) tries
+    || nat_le MAX_FAILURES (count_by (λ t. is_failed_status t.status) tries))
+    && option_map_or (λ last. nat_lt last.at before) (last_of tries) false
+
+-- the rows without some events and the attempts at them
+abbrev pub without_events : (gone : Seq → Bool) → Rows → Rows
+without_events gone rows = record rows {
+  deliveries = filter (λ d. not (gone d.seq)) rows.deliveries;
+  attempts = filter (λ t. not (gone t.delivery)) rows.attempts;
+}
+
+-- the rows without the events that pass a test and are past, and the attempts at them
+abbrev pub without_past : (before : Seconds) → (walked : Seq → Bool) → Rows → Rows
+without_past before walked rows = without_events (λ d. walked d && is_past_in rows before d) rows
+
+-- the numbers of attempts rise, and so do those of the attempts at each event
+pub record AreInTurn (rows : Rows) : Type 0 where
+  pub rise : IsRisingFrom (λ (t : AttemptRow). t.seq) 0 rows.attempts
+  pub turns : (delivery : Seq)
+      → IsRisingFrom (λ (t : AttemptRow). t.number) 0
+      (filter (λ (t : AttemptRow). t.delivery == delivery) rows.attempts)
+
+-- The same, and the numbers of events rise and are below this one, and each attempt is at one of these events.
+pub record AreWalkable (upto : Seq) (rows : Rows) : Type 0 where
+  pub attempts : AreInTurn rows
+  pub rise : IsRisingFrom (λ (d : DeliveryRow). d.seq) 0 rows.deliveries
+  pub below : IsTrue (list_all (λ (d : DeliveryRow). nat_lt d.seq upto) rows.deliveries)
+  pub there : IsTrue (list_all (λ (t : AttemptRow). is_delivery_at rows t.delivery) rows.attempts)
 
 -- ---- inside a transaction
 

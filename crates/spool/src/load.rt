@@ -11,7 +11,6 @@ ghost use Rattle.delivery_book.specs.Entries.{with_settled as deliveries_settled
 ghost use Rattle.spool_sql.specs.Steps.{IfClean, IsOfSame, SparesCommit, Stands, SurvivesAs};
 ghost use Rattle.spool.specs.Loading.{IsRefusedOnly, Reads, WasReadRefusal};
 ghost use Rattle.spool.specs.Books.{AreBooks, AreBooksOn, AreSettled, IsLoadRefusal, IsSeen, KeepsOpen, TellsLoad};
-ghost use Rattle.spool.specs.Books.{error_of};
 
 use crate::deliveries::Deliveries;
 use crate::ends::LoadFault;
@@ -19,11 +18,12 @@ use crate::load_attempts::load_attempts;
 use crate::load_deliveries::load_deliveries;
 use crate::load_endpoints::{Endpoints, load_endpoints};
 use crate::load_topics::load_topics;
+use crate::pages::error_of;
 use delivery_book::DeliveryBook;
 use endpoint_book::EndpointBook;
 use relay_types::{MAX_RECORDS, Moment};
 use spool_sql::{Cause, RowFault, cause_of, probe, select_records};
-use sqlite::{Alter, Connection, Error, ErrorCode, Transaction};
+use sqlite::{Alter, Connection, Transaction};
 use std::alloc::Global;
 
 /// What a store holds of a history. All of it is settled.
@@ -151,15 +151,5 @@ fn end_load<S: Alter>(
     match probe(conn) {
         Ok(()) => end,
         Err(error) => Err(LoadFault::Store(error)),
-    }
-}
-
-// The error of the store as which a fault is told.
-fn error_of(fault: RowFault) -> Error
-    ensures { result ≡ error_of fault }
-{
-    match fault {
-        RowFault::Failed(error) => error,
-        RowFault::Unreadable => Error::SqliteFailure(ErrorCode::DatabaseCorrupt),
     }
 }

@@ -91,13 +91,13 @@ fn count_failed(statuses: &[u16]) -> usize
     statuses.iter().filter(|status| is_failed(**status)).count()
 }
 
-fn is_delivered(status: u16) -> bool
+pub(crate) fn is_delivered(status: u16) -> bool
     ensures { result ≡ is_delivered_status status }
 {
     matches!(verdict_of(status), Verdict::Delivered)
 }
 
-fn is_failed(status: u16) -> bool
+pub(crate) fn is_failed(status: u16) -> bool
     ensures { result ≡ is_failed_status status }
 {
     matches!(verdict_of(status), Verdict::Failed)

@@ -1,8 +1,10 @@
-//! The numbers at which the pages of a table begin.
+//! The numbers at which the pages of a table begin, and faults of rows as errors of the store.
 ghost use Rattle.std.specs.Prelude.{◌≡◌, ◌<◌, ◌≤◌, ◌+◌, ◌↔◌, IfOk, IsErr};
 ghost use Rattle.relay_types.specs.declared.limits.TheConstants.{MAX_RECORDS};
+ghost use Rattle.spool.specs.Books.{error_of};
 
 use spool_sql::{RowFault, Seq};
+use sqlite::{Error, ErrorCode};
 
 // The number behind the last row of a page that was read from this number on.
 pub(crate) fn behind(last: Seq, from: u64) -> Result<u64, RowFault>
@@ -15,4 +17,14 @@ pub(crate) fn behind(last: Seq, from: u64) -> Result<u64, RowFault>
         return Err(RowFault::Unreadable);
     }
     Ok(last.get() + 1)
+}
+
+// The error of the store as which a fault is told.
+pub(crate) fn error_of(fault: RowFault) -> Error
+    ensures { result ≡ error_of fault }
+{
+    match fault {
+        RowFault::Failed(error) => error,
+        RowFault::Unreadable => Error::SqliteFailure(ErrorCode::DatabaseCorrupt),
+    }
 }

@@ -73,7 +73,7 @@ left_of : (ids : List ℤ) (rows : List Row) → without_all rows ids ≡ filter
 left_of [] rows = all_left rows
 left_of (id ∷ ids) rows = left_of ids (without_rowid id rows) ∙ left_twice id ids rows
 
-has_image : {X Y : Type 0} (f : X → Y) (xs : List X) (y : Y) → Has (map f xs) y → (x : X) × Has xs x × (y ≡ f x)
+pub has_image : {X Y : Type 0} (f : X → Y) (xs : List X) (y : Y) → Has (map f xs) y → (x : X) × Has xs x × (y ≡ f x)
 has_image f [] y h = absurd h
 has_image f (x ∷ xs) y (inl same) = (x, inl refl, same)
 has_image f (x ∷ xs) y (inr later) = let found = has_image f xs y later in (found.0, inr found.1, found.2)
@@ -109,7 +109,7 @@ equal_is Greater h = absurd (let e = h in cc)
 same_int : (m n : ℤ) → is_eq (value_cmp (Int m) (Int n)) ≡ true → n ≡ m
 same_int m n e = sym (int_cmp-IsAntisymmetric m n (sym (value_cmp-Int m n) ∙ equal_is _ e))
 
-one_at_most : {X : Type 0} (xs : List X) (x y : X) → length xs ≤ 1 → Has xs x → Has xs y → x ≡ y
+pub one_at_most : {X : Type 0} (xs : List X) (x y : X) → length xs ≤ 1 → Has xs x → Has xs y → x ≡ y
 one_at_most [] x y few h k = absurd h
 one_at_most (z ∷ []) x y few (inl a) (inl b) = a ∙ sym b
 one_at_most (z ∷ []) x y few (inl a) (inr k) = absurd k

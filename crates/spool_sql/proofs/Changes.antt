@@ -78,13 +78,13 @@ flag_is false = refl
 
 -- ---- an endpoint by its number
 
-has_number : (m n : ℕ) → is_eq (value_cmp (Int (pos m)) (Int (pos n))) ≡ (m == n)
+pub has_number : (m n : ℕ) → is_eq (value_cmp (Int (pos m)) (Int (pos n))) ≡ (m == n)
 has_number m n = ap is_eq (value_cmp-Int (pos m) (pos n)) ∙ equal_ints m n
 
-own_number : (n : ℕ) → has_rowid (pos n) (Int (pos n) ∷ []) ≡ true
+pub own_number : (n : ℕ) → has_rowid (pos n) (Int (pos n) ∷ []) ≡ true
 own_number n = has_number n n ∙ grind (arith, nat_tests)
 
-same_number : (k m n : ℕ) → (n == k) ≡ true → is_eq (value_cmp (Int (pos m)) (Int (pos n))) ≡ true → (m == k) ≡ true
+pub same_number : (k m n : ℕ) → (n == k) ≡ true → is_eq (value_cmp (Int (pos m)) (Int (pos n))) ≡ true → (m == k) ≡ true
 same_number k m n is tie = let here : (m == n) ≡ true = sym (has_number m n) ∙ tie in grind (arith, nat_tests)
 
 enabled_update_means : Means relay_schema enabled_update (Update 1 (changed_endpoints 2 enabled_terms))

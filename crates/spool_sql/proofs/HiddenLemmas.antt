@@ -83,7 +83,7 @@ inserts_hidden row x id xs tree free t = record {
   rowids = put_rowids id (row x) tree free t.rowids;
 }
 
-rises_typed : {A B : Type 0} (f : A → B) (n : B → ℕ) (xs : List A) → IsNonDecreasingBy (λ x. n (f x)) xs
+pub rises_typed : {A B : Type 0} (f : A → B) (n : B → ℕ) (xs : List A) → IsNonDecreasingBy (λ x. n (f x)) xs
     → IsNonDecreasingBy n (map f xs)
 rises_typed f n [] up i j d low high = absurd (omega (arith, high))
 rises_typed f n (x ∷ xs) up i j d low high =

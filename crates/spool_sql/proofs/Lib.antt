@@ -11,6 +11,8 @@ pub mod SelectLemmas
 pub mod ProbeLemmas
 pub mod ChangeLemmas
 pub mod Changes
+pub mod DeleteLemmas
+pub mod Purges
 pub mod HiddenLemmas
 pub mod TopicSelects
 pub mod DeliverySelects

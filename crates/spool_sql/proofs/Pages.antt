@@ -58,7 +58,7 @@ module _ {X : Type 0} (number : X → ℕ) (show : X → Row) (from : ℕ) (xs :
 -- a page of a table in the order of its key
 module _ {X : Type 0} (row : X → Row) (number : X → ℕ) (t : ℕ) (shown : List Term) (from : ℕ)
     (numbered : (x : X) → column (row x) 0 ≡ Int (pos (number x))) where
-  page_found : (sql : List ℕ) (names : List (List ℕ)) → Asks relay_schema sql (page_of t 0 shown) names
+  pub page_found : (sql : List ℕ) (names : List (List ℕ)) → Asks relay_schema sql (page_of t 0 shown) names
       → (old new : State) (xs : List X) (found : List Row) → old.now.schema ≡ relay_schema
       → IsPermutation (old.now.trees t) (map row xs) → Shown sql (Int (pos from) ∷ []) old new found
       → ShowsInOrder number (λ x. nat_le from (number x)) (λ x. shows (Int (pos from) ∷ []) shown (row x))

@@ -23,6 +23,8 @@ use Rattle.spool_sql.proofs.MetaSelects.{records_select, records_select_asks, re
 use Rattle.spool_sql.proofs.Pages.{endpoints_page, endpoints_page_asks, endpoints_page_bare, deliveries_select}
 use Rattle.spool_sql.proofs.Pages.{deliveries_select_asks, deliveries_select_bare, attempts_select}
 use Rattle.spool_sql.proofs.Pages.{attempts_select_asks, attempts_select_bare}
+use Rattle.spool_sql.proofs.Purges.{events_select, events_select_asks, events_select_bare, tries_select}
+use Rattle.spool_sql.proofs.Purges.{tries_select_asks, tries_select_bare}
 
 -- of tables of the relay's schema, each error of this query is that of a refusal
 abbrev pub RefusesQuery : List ℕ → Row → Type 1
@@ -95,3 +97,15 @@ unfolding understood everything
 topics_refused from a b e rows t h =
     refused_for topics_page topics_page_bare _ _ topics_page_asks (Int (pos from) ∷ []) refl refl 9 refl refl a b e
     t.schema_is h
+
+pub events_refused : (from : ℕ) → RefusesQuery events_select (Int (pos from) ∷ [])
+unfolding understood everything
+events_refused from a b e rows t h =
+    refused_for events_select events_select_bare _ _ events_select_asks (Int (pos from) ∷ []) refl refl 5 refl refl a b
+    e t.schema_is h
+
+pub tries_refused : (delivery : ℕ) → RefusesQuery tries_select (Int (pos delivery) ∷ [])
+unfolding understood everything
+tries_refused delivery a b e rows t h =
+    refused_for tries_select tries_select_bare _ _ tries_select_asks (Int (pos delivery) ∷ []) refl refl 7 refl refl a b
+    e t.schema_is h

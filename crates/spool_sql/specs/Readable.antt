@@ -84,6 +84,9 @@ attempt_shown a = Int (pos a.seq) ∷ Int (pos a.delivery) ∷ Int (pos a.number
 abbrev pub topic_shown : TopicRow → Row
 topic_shown t = Words t.topic ∷ Int (pos t.endpoint) ∷ Int (pos (flag_number t.subscribed)) ∷ Int (pos t.set_by) ∷ []
 
+abbrev pub tried_shown : AttemptRow → Row
+tried_shown a = Int (pos a.status) ∷ Int (pos a.at) ∷ []
+
 -- a row of a query shows one of them that can be read back
 abbrev pub ShowsEndpoint : Row → Type 0
 ShowsEndpoint row = (e : EndpointRow) × (row ≡ endpoint_shown e) × IsReadableEndpoint e
@@ -96,6 +99,9 @@ ShowsDelivery row = (d : DeliveryRow) × (row ≡ delivery_shown d) × IsReadabl
 
 abbrev pub ShowsAttempt : Row → Type 0
 ShowsAttempt row = (a : AttemptRow) × (row ≡ attempt_shown a) × IsReadableAttempt a
+
+abbrev pub ShowsTried : Row → Type 0
+ShowsTried row = (a : AttemptRow) × (row ≡ tried_shown a) × IsReadableAttempt a
 
 abbrev pub ShowsTopic : Row → Type 0
 ShowsTopic row = (t : TopicRow) × (row ≡ topic_shown t) × IsReadableTopic t

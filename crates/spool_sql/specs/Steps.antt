@@ -31,6 +31,11 @@ pub record Alters (old new : State) (change : Rows → Rows) : Type 0 where
   pub on : GoesOn old new
   pub makes : Makes old new change
 
+-- The change is made of rows of which so much is known.
+pub record AltersWhere (old new : State) (known : Rows → Type 0) (change : Rows → Rows) : Type 0 where
+  pub on : GoesOn old new
+  pub makes : (rows : Rows) → known rows → IsTables old.now rows → IsTables new.now (change rows)
+
 -- Whatever came of it, the last commit stands, and a crash leaves no more than it left before.
 pub record Spares (old new : State) : Type 0 where
   pub kept : HasCleanDisk new → KeepsCommit old new
@@ -128,6 +133,10 @@ module _ {S X E : Type 0} (g : Ghosts S) (old new : Held S) (result : Result X E
   -- an Ok says that the rows were changed so
   abbrev pub Changes : (Rows → Rows) → Type 0
   Changes change = Achieves (λ a b. Alters a b change)
+
+  -- the same of rows of which so much is known
+  abbrev pub ChangesWhere : (Rows → Type 0) → (Rows → Rows) → Type 0
+  ChangesWhere known change = Achieves (λ a b. AltersWhere a b known change)
 
   -- an Ok changed nothing
   abbrev pub LeavesAll : Type 0

@@ -178,6 +178,16 @@ abbrev pub without_topic : Text → Seq → Rows → Rows
 without_topic topic endpoint rows =
     record rows { topics = filter (λ (t : TopicRow). not (is_pair_row topic endpoint t)) rows.topics }
 
+-- the attempts at this event
+abbrev pub without_attempts : Seq → Rows → Rows
+without_attempts delivery rows =
+    record rows { attempts = filter (λ (a : AttemptRow). not (a.delivery == delivery)) rows.attempts }
+
+-- this event
+abbrev pub without_delivery : Seq → Rows → Rows
+without_delivery seq rows =
+    record rows { deliveries = filter (λ (d : DeliveryRow). not (d.seq == seq)) rows.deliveries }
+
 -- ---- what is asked of one event
 
 -- the number of the endpoint of this event, none where no record took it in
@@ -193,6 +203,24 @@ abbrev pub AreStatusesOf : Seq → Rows → List ℕ → Type 0
 AreStatusesOf delivery rows found =
     IsPermutation
     (map (λ (a : AttemptRow). a.status) (filter (λ (a : AttemptRow). a.delivery == delivery) rows.attempts)) found
+
+-- what came of an attempt, and the row that shows it
+abbrev pub tried_of : AttemptRow → row.Tried.Tried
+tried_of a = record { status = a.status; at = a.at }
+
+abbrev pub tried_in : Row → row.Tried.Tried
+tried_in r = record { status = number_in (column r 0); at = number_in (column r 1) }
+
+-- what came of each attempt at this event, in the order of their numbers
+abbrev pub AreTriesOf : Seq → Rows → List row.Tried.Tried → Type 0
+AreTriesOf delivery rows found =
+    (all : List AttemptRow) × IsPermutation (filter (λ (a : AttemptRow). a.delivery == delivery) rows.attempts) all
+    × IsNonDecreasingBy (λ (a : AttemptRow). a.number) all
+    × (found ≡ map tried_of all)
+
+-- no two attempts have one number
+abbrev pub HaveOwnNumbers : List AttemptRow → Type 0
+HaveOwnNumbers attempts = (seq : Seq) → length (filter (λ (a : AttemptRow). a.seq == seq) attempts) ≤ 1
 
 -- ---- a table, page by page
 

@@ -36,11 +36,19 @@ pub(crate) fn first_seq(rows: &[Row]) -> Result<Option<Seq>, Error>
     let Some(row) = rows.first() else {
         return Ok(None);
     };
+    Ok(Some(seq_of(row)?))
+}
+
+// The number that the row shows.
+pub(crate) fn seq_of(row: &Row) -> Result<Seq, Error>
+    ensures value { IfOk result (λ seq. seq ≡ number_of row.now) }
+    ensures refused { IfErr result (λ error. ShowsBelow MAX_RECORDS row.now → IsMemory error) }
+{
     let number: u64 = row.get(0)?;
     if number >= MAX_RECORDS {
         return Err(Error::IntegralValueOutOfRange(0));
     }
-    Ok(Some(Seq::of(number)))
+    Ok(Seq::of(number))
 }
 
 /// How many endpoints there are.

@@ -9,6 +9,7 @@ mod delivery;
 mod find;
 mod migrate;
 mod opened;
+mod purge;
 mod read;
 mod row;
 mod seq;
@@ -22,11 +23,12 @@ pub use crate::delivery::{select_endpoint, select_statuses};
 pub use crate::find::{count_endpoints, count_topics, has_delivery, has_topic, select_put};
 pub use crate::migrate::{create_topics, update_version};
 pub use crate::opened::{is_empty, prepare_probe, probe};
+pub use crate::purge::{attempts_of_delivery, delete_attempts, delete_delivery, select_events};
 pub use crate::read::{
     select_attempts, select_deliveries, select_endpoints, select_records, select_secrets,
     select_topics,
 };
-pub use crate::row::{AttemptRow, DeliveryRow, EndpointRow, RowFault, TopicRow};
+pub use crate::row::{AttemptRow, DeliveryRow, EndpointRow, RowFault, TopicRow, Tried};
 pub use crate::seq::Seq;
 pub use crate::write::{
     insert_attempt, insert_delivery, insert_endpoint, insert_secret, insert_topic, update_records,

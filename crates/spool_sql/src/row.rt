@@ -70,6 +70,13 @@ pub struct AttemptRow {
     pub at: Moment,
 }
 
+/// What came of an attempt: `status` is that of the answer, or 0 where none came.
+#[derive(Clone, Copy)]
+pub struct Tried {
+    pub status: u16,
+    pub at: Moment,
+}
+
 /// Whether the endpoint that the record with number `endpoint` made is subscribed to a topic, as the record with number
 /// `set_by` decides.
 #[derive(Drop)]

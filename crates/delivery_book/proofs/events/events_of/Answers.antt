@@ -1,4 +1,4 @@
-use Rattle.std.proofs.Common.{◌+◌, ◌++◌, ◌∷◌, [], ◌∙◌, ap, arith, sym}
+use Rattle.std.proofs.Common.{None, ◌+◌, ◌++◌, ◌∷◌, [], ◌∙◌, ap, arith, sym}
 use Rattle.delivery_book.proofs.EventEntries.{made-more}
 use Rattle.delivery_book.proofs.events.events_of.Goals as goal
 
@@ -17,6 +17,7 @@ loop-name-preserved c =
             at = a.at;
             latest = c.fresh-fresh.ensures t;
             settled = c.fresh-fresh.ensures t;
+            taken_by = None;
           } ∷ [])
           ∙ sym (made-more a.id a.body.now a.at a.seq a.names.now c.loop-name.name-index c.name-item.result
           c.loop-name-test.true c.name-item.is);

@@ -1,19 +1,18 @@
 use Rattle.desk.proofs.Words.{◌≡◌, ◌+◌, ◌-◌, ◌∙◌, arith, drop, refl, sym, ap, subst, Settles, HasWaiting, BookValue}
-use Rattle.desk.proofs.Words.{endpoint_at}
-use Rattle.desk.proofs.SettleLaws.{names_settled, next_within, none_left, one_further, settles_more, settles_none}
+use Rattle.desk.proofs.SettleLaws.{names_further, next_within, none_left, one_further, settles_more, settles_none}
 use Rattle.desk.proofs.holding.settle_to.Goals as goal
 
 pub loop-init : goal.loop-init
 loop-init c = record {
-  number = sym c.settled_seq-counter.ensures;
-  within = omega (arith, c.settled_seq-counter.ensures, c.requires.above);
-  next = omega (arith, c.settled_seq-counter.ensures, next_within c.args.queue.now c.args.deliveries.now c.requires.queued);
+  number = sym c.settled_seq-counter.ensures.value;
+  within = omega (arith, c.settled_seq-counter.ensures.value, c.requires.above);
+  next = omega (arith, c.settled_seq-counter.ensures.value, next_within c.args.queue.now c.args.deliveries.now c.requires.queued);
   queued = λ live queued. queued;
   rooms = record { reserved = λ name. refl; rooms = λ name. refl };
-  stands = settles_none c.args.deliveries.now c.settled_seq-counter.result c.settled_seq-counter.ensures;
-  above = omega (arith, c.settled_seq-counter.ensures);
-  waits = λ records waits. none_left c.args.deliveries.now c.args.deliveries.now.settled_seq c.settled_seq-counter.result records c.settled_seq-counter.ensures waits;
-  names = λ delivery. refl;
+  stands = settles_none c.args.deliveries.now c.settled_seq-counter.result c.settled_seq-counter.ensures.value;
+  above = omega (arith, c.settled_seq-counter.ensures.value);
+  waits = λ records waits. none_left c.args.deliveries.now c.args.deliveries.now.settled_seq c.settled_seq-counter.result records c.settled_seq-counter.ensures.value waits;
+  names = λ delivery there. refl;
 }
 
 pub settle_next-requires : goal.settle_next-requires
@@ -35,7 +34,7 @@ loop-preserved c =
       stands = settles_more c.args.deliveries.now c.loop.deliveries c.settle_next.new.deliveries c.loop.counter c.loop.deliveries.settled_seq was.number was.stands made.stands;
       above = omega (arith, was.above);
       waits = λ records waits. one_further c.settle_next.new.deliveries c.args.deliveries.now.settled_seq c.loop.counter records was.above (made.waits _ (was.waits records waits));
-      names = λ delivery. ap (λ (b : BookValue). endpoint_at b delivery) made.value ∙ names_settled c.loop.deliveries (c.loop.deliveries.settled_seq + 1) delivery ∙ was.names delivery;
+      names = names_further c.args.deliveries.now c.loop.deliveries c.settle_next.new.deliveries was.names made.names;
     }
 
 pub returns-clause-stands : goal.returns-clause-stands

@@ -1,5 +1,5 @@
-use Rattle.desk.proofs.Words.{◌≡◌, ◌≤◌, ◌-◌, ℕ, List, drop, max, Record, Row, Settles, HasWaiting, AreQueued}
-use Rattle.desk.proofs.Words.{KeepsRooms, endpoint_at}
+use Rattle.desk.proofs.Words.{◌≡◌, ◌≤◌, ◌-◌, List, drop, max, Record, Row, Settles, HasWaiting, AreQueued}
+use Rattle.desk.proofs.Words.{KeepsRooms, HasSameNames}
 use Rattle.desk.proofs.holding.settle_to.Given as goal
 
 abbrev pub invariant-loop : goal.invariant-loop
@@ -12,5 +12,5 @@ invariant-loop l = record {
   stands : Settles l.fn.deliveries l.counter l.deliveries;
   above : l.fn.deliveries.settled_seq ≤ l.counter;
   waits : (records : List Record) → HasWaiting l.fn.deliveries records → HasWaiting l.deliveries (drop (l.counter - l.fn.deliveries.settled_seq) records);
-  names : (delivery : ℕ) → endpoint_at l.deliveries delivery ≡ endpoint_at l.fn.deliveries delivery;
+  names : HasSameNames l.fn.deliveries l.deliveries;
 }

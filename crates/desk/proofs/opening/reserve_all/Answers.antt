@@ -1,6 +1,6 @@
 use Rattle.desk.proofs.Words.{◌≡◌, ◌+◌, ◌∙◌, true, arith, ap, sym, subst, take, list_all, QueueValue, has_room_in}
-use Rattle.desk.proofs.Words.{is_held, row_in}
-use Rattle.desk.proofs.OpeningLaws.{all_more, has_all, nothing_there, places_all}
+use Rattle.desk.proofs.Words.{is_held}
+use Rattle.desk.proofs.OpeningLaws.{all_more, has_all, no_row_there, places_all}
 use Rattle.desk.proofs.RequestTies.{room_reserved}
 use Rattle.desk.proofs.opening.reserve_all.Goals as goal
 use Rattle.desk.proofs.opening.reserve_all.Goals.{in-Some+in_ok-reserve, in_default}
@@ -19,7 +19,7 @@ loop-place-preserved c =
             (all_more c.loop-place.queue w.reserve.new.self book c.loop-place.place w.pending-pending.result w.in-Some.row w.in-Some.ensures w.pending-pending.ensures.value
             w.in_ok-reserve.ensures.mark was.places);
       }
-      | in_default w ↦ absurd (nothing_there (λ e. row_in e.latest e) book.entries c.loop-place.place (omega (arith, c.loop-place-test.true, c.len-place-end.ensures)) w.in_default.ensures)
+      | in_default w ↦ absurd (no_row_there book c.loop-place.place c.len-place-end.ensures.in_step c.requires.settled (omega (arith, c.loop-place-test.true, c.len-place-end.ensures.count)) w.in_default.ensures)
     ]
 
 pub returns-clause-places : goal.returns-clause-places

@@ -65,13 +65,13 @@ invariant_of-self c =
     let front : b.unsettled.items ≡ o ∷ c.pop_front.new.self.items = front_is b.unsettled.items c.pop_front.new.self.items o c.pop_front.result c.pop_front.ensures.items (c.pop_front.ensures.value o (c.in-Some.ensures.variant.0 refl)) c.in-Some.ensures.lookup in
     let first : i < b.settled_entries = first_settled b.entries.items b.index o c.pop_front.new.self.items b.next_seq b.settled_seq b.settled_entries i x c.self.invariant.keyed (ap (list_all (is_later b.entries.items)) (sym front) ∙ c.self.invariant.queue.later) c.if-outcome-self.true there.0 c.index_mut.ensures.value there.1 in
     subst
-    (λ (y : Entry). IsBook (set b.entries.items i (record x { settled = y.latest })) b.index b.tally c.add.new.self c.pop_front.new.self.items (deque_capacity c.pop_front.new.self) b.next_seq b.settled_seq b.settled_entries)
+    (λ (y : Entry). IsBook (set b.entries.items i (record x { settled = y.latest })) b.index b.tally c.add.new.self c.pop_front.new.self.items (deque_capacity c.pop_front.new.self) b.next_seq b.settled_seq b.settled_entries b.next_purge)
     (sym after)
     (subst
-    (λ room. IsBook (set b.entries.items i (with_latest_settled x)) b.index b.tally c.add.new.self c.pop_front.new.self.items room b.next_seq b.settled_seq b.settled_entries)
+    (λ room. IsBook (set b.entries.items i (with_latest_settled x)) b.index b.tally c.add.new.self c.pop_front.new.self.items room b.next_seq b.settled_seq b.settled_entries b.next_purge)
     (sym c.pop_front.ensures.capacity)
-    (book-settle b.index b.tally b.settled_tally c.remove.new.self c.add.new.self b.entries.items o c.pop_front.new.self.items (deque_capacity b.unsettled) b.next_seq b.settled_seq b.settled_entries i x
-    (subst (λ us. IsBook b.entries.items b.index b.tally b.settled_tally us (deque_capacity b.unsettled) b.next_seq b.settled_seq b.settled_entries) front c.self.invariant)
+    (book-settle b.index b.tally b.settled_tally c.remove.new.self c.add.new.self b.entries.items o c.pop_front.new.self.items (deque_capacity b.unsettled) b.next_seq b.settled_seq b.settled_entries i b.next_purge x
+    (subst (λ us. IsBook b.entries.items b.index b.tally b.settled_tally us (deque_capacity b.unsettled) b.next_seq b.settled_seq b.settled_entries b.next_purge) front c.self.invariant)
     first c.index_mut.ensures.value there.1
     (λ those asked. (λ j. in_state asked (counts_for c.remove.new.self those) + one_of (sym named j).name ((ap (λ (y : Entry). state_in y.settled) (sym before) ∙ sym c.state.ensures) j) those asked) ∙ sym (c.remove.ensures.less those asked))
     (λ those asked. c.add.ensures.more those asked ∙ (λ j. in_state asked (counts_for c.remove.new.self those) + one_of (named j).name ((c.state-2.ensures ∙ ap (λ (y : Entry). state_in y.latest) after) j) those asked))

@@ -1,4 +1,4 @@
-use Rattle.std.proofs.Common.{◌++◌, ◌∷◌, [], ◌+◌, ◌∙◌, ap, arith, refl, sym, subst, deque_capacity}
+use Rattle.std.proofs.Common.{None, ◌++◌, ◌∷◌, [], ◌+◌, ◌∙◌, ap, arith, refl, sym, subst, deque_capacity}
 use Rattle.relay_types.specs.declared.record.Record.TheVariants.{Accept}
 use Rattle.relay_types.specs.declared.state.State.TheVariants.{Pending}
 use Rattle.delivery_book.specs.Entries.{known_in, new_entry}
@@ -15,24 +15,24 @@ pub invariant_of-self-in_err-open-2 : goal.invariant_of-self-in_err-open-2
 invariant_of-self-in_err-open-2 c =
     let b = c.self.inside in
     subst
-    (λ es. IsBook es b.index c.open.new.self c.open-2.new.self c.reserve-2.new.self.items (deque_capacity c.reserve-2.new.self) b.next_seq b.settled_seq b.settled_entries)
+    (λ es. IsBook es b.index c.open.new.self c.open-2.new.self c.reserve-2.new.self.items (deque_capacity c.reserve-2.new.self) b.next_seq b.settled_seq b.settled_entries b.next_purge)
     (sym c.in_ok-reserve.ensures.items)
     (subst
-    (λ us. IsBook b.entries.items b.index c.open.new.self c.open-2.new.self us (deque_capacity c.reserve-2.new.self) b.next_seq b.settled_seq b.settled_entries)
+    (λ us. IsBook b.entries.items b.index c.open.new.self c.open-2.new.self us (deque_capacity c.reserve-2.new.self) b.next_seq b.settled_seq b.settled_entries b.next_purge)
     (sym c.in_ok-reserve-2.ensures.items)
-    (book-same b.index b.index b.tally c.open.new.self b.settled_tally c.open-2.new.self b.entries.items b.unsettled.items (deque_capacity b.unsettled) (deque_capacity c.reserve-2.new.self) b.next_seq b.settled_seq b.settled_entries c.self.invariant (λ k. refl)
+    (book-same b.index b.index b.tally c.open.new.self b.settled_tally c.open-2.new.self b.entries.items b.unsettled.items (deque_capacity b.unsettled) (deque_capacity c.reserve-2.new.self) b.next_seq b.settled_seq b.settled_entries b.next_purge c.self.invariant (λ k. refl)
     (λ those. c.in_ok-open.ensures.same those) (λ those. c.in_err-open-2.ensures.same those) (λ asked is. c.in_err-open-2.ensures.stays asked is) c.in_ok-reserve-2.ensures.capacity))
 
 pub invariant_of-self-in_err-insert : goal.invariant_of-self-in_err-insert
 invariant_of-self-in_err-insert c =
     let b = c.self.inside in
     subst
-    (λ es. IsBook es c.insert.new.self c.open.new.self c.open-2.new.self c.reserve-2.new.self.items (deque_capacity c.reserve-2.new.self) b.next_seq b.settled_seq b.settled_entries)
+    (λ es. IsBook es c.insert.new.self c.open.new.self c.open-2.new.self c.reserve-2.new.self.items (deque_capacity c.reserve-2.new.self) b.next_seq b.settled_seq b.settled_entries b.next_purge)
     (sym c.in_ok-reserve.ensures.items)
     (subst
-    (λ us. IsBook b.entries.items c.insert.new.self c.open.new.self c.open-2.new.self us (deque_capacity c.reserve-2.new.self) b.next_seq b.settled_seq b.settled_entries)
+    (λ us. IsBook b.entries.items c.insert.new.self c.open.new.self c.open-2.new.self us (deque_capacity c.reserve-2.new.self) b.next_seq b.settled_seq b.settled_entries b.next_purge)
     (sym c.in_ok-reserve-2.ensures.items)
-    (book-same b.index c.insert.new.self b.tally c.open.new.self b.settled_tally c.open-2.new.self b.entries.items b.unsettled.items (deque_capacity b.unsettled) (deque_capacity c.reserve-2.new.self) b.next_seq b.settled_seq b.settled_entries c.self.invariant
+    (book-same b.index c.insert.new.self b.tally c.open.new.self b.settled_tally c.open-2.new.self b.entries.items b.unsettled.items (deque_capacity b.unsettled) (deque_capacity c.reserve-2.new.self) b.next_seq b.settled_seq b.settled_entries b.next_purge c.self.invariant
     (λ k. ap (lookup (is_at (event_cmp k))) c.in_err-insert.ensures.err)
     (λ those. c.in_ok-open.ensures.same those) (λ those. c.in_ok-open-2.ensures.same those) (λ asked is. c.in_ok-open-2.ensures.stays asked is) c.in_ok-reserve-2.ensures.capacity))
 
@@ -45,13 +45,13 @@ invariant_of-self-2 c =
     let a = c.args in
     let b = c.self.inside in
     subst
-    (λ es. IsBook es c.insert.new.self c.add.new.self c.open-2.new.self c.reserve-2.new.self.items (deque_capacity c.reserve-2.new.self) (a.seq + 1) b.settled_seq b.settled_entries)
+    (λ es. IsBook es c.insert.new.self c.add.new.self c.open-2.new.self c.reserve-2.new.self.items (deque_capacity c.reserve-2.new.self) (a.seq + 1) b.settled_seq b.settled_entries b.next_purge)
     (sym (c.push_reserved.ensures.items
-    ∙ (λ i. c.in_ok-reserve.ensures.items i ++ record { seq = a.seq; name = a.name; id = a.id; body = a.body; at = a.at; latest = c.fresh-fresh.ensures i; settled = c.fresh-fresh.ensures i } ∷ [])))
+    ∙ (λ i. c.in_ok-reserve.ensures.items i ++ record { seq = a.seq; name = a.name; id = a.id; body = a.body; at = a.at; latest = c.fresh-fresh.ensures i; settled = c.fresh-fresh.ensures i; taken_by = None } ∷ [])))
     (subst
-    (λ us. IsBook (b.entries.items ++ new_entry a.seq a.name a.id a.body a.at ∷ []) c.insert.new.self c.add.new.self c.open-2.new.self us (deque_capacity c.reserve-2.new.self) (a.seq + 1) b.settled_seq b.settled_entries)
+    (λ us. IsBook (b.entries.items ++ new_entry a.seq a.name a.id a.body a.at ∷ []) c.insert.new.self c.add.new.self c.open-2.new.self us (deque_capacity c.reserve-2.new.self) (a.seq + 1) b.settled_seq b.settled_entries b.next_purge)
     (sym c.in_ok-reserve-2.ensures.items)
-    (book-push b.index c.insert.new.self b.tally c.add.new.self b.settled_tally c.open-2.new.self b.entries.items b.unsettled.items (deque_capacity b.unsettled) (deque_capacity c.reserve-2.new.self) b.next_seq b.settled_seq b.settled_entries a.seq a.name a.id a.body a.at c.self.invariant
+    (book-push b.index c.insert.new.self b.tally c.add.new.self b.settled_tally c.open-2.new.self b.entries.items b.unsettled.items (deque_capacity b.unsettled) (deque_capacity c.reserve-2.new.self) b.next_seq b.settled_seq b.settled_entries a.seq b.next_purge a.name a.id a.body a.at c.self.invariant
     (omega (arith, c.requires.above, ap (λ v. v.next_seq) c.self.view_is))
     (unmapped _ (ap (λ v. known_in v a.name a.id) c.self.view_is ∙ c.requires.unknown))
     (λ q. c.in_ok-insert.ensures.updates.0 q)
@@ -67,7 +67,7 @@ returns-clause-stands c =
     (λ b. StandsFor b (records ++ Accept a.name a.id a.body a.at ∷ []) settled)
     (sym (λ i. record {
       entries = (c.push_reserved.ensures.items
-          ∙ (λ j. (c.in_ok-reserve.ensures.items ∙ ap (λ v. v.entries) c.self.view_is) j ++ record { seq = a.seq; name = a.name; id = a.id; body = a.body; at = a.at; latest = c.fresh-fresh.ensures j; settled = c.fresh-fresh.ensures j } ∷ [])) i;
+          ∙ (λ j. (c.in_ok-reserve.ensures.items ∙ ap (λ v. v.entries) c.self.view_is) j ++ record { seq = a.seq; name = a.name; id = a.id; body = a.body; at = a.at; latest = c.fresh-fresh.ensures j; settled = c.fresh-fresh.ensures j; taken_by = None } ∷ [])) i;
       unsettled = (c.in_ok-reserve-2.ensures.items ∙ ap (λ v. v.unsettled) c.self.view_is) i;
       next_seq = a.seq + 1;
       settled_seq = ap (λ v. v.settled_seq) c.self.view_is i;

@@ -49,15 +49,15 @@ invariant_of-self-in_err-open_all-2 c =
     let b = c.self.inside in
     subst
     (λ es. IsBook es b.index c.open_all.new.self c.open_all-2.new.self c.reserve-2.new.self.items
-    (deque_capacity c.reserve-2.new.self) b.next_seq b.settled_seq b.settled_entries)
+    (deque_capacity c.reserve-2.new.self) b.next_seq b.settled_seq b.settled_entries b.next_purge)
     (sym c.in_ok-reserve.ensures.items)
     (subst
     (λ us. IsBook b.entries.items b.index c.open_all.new.self c.open_all-2.new.self us
-    (deque_capacity c.reserve-2.new.self) b.next_seq b.settled_seq b.settled_entries)
+    (deque_capacity c.reserve-2.new.self) b.next_seq b.settled_seq b.settled_entries b.next_purge)
     (sym c.in_ok-reserve-2.ensures.items)
     (book-same b.index b.index b.tally c.open_all.new.self b.settled_tally c.open_all-2.new.self b.entries.items
     b.unsettled.items (deque_capacity b.unsettled) (deque_capacity c.reserve-2.new.self) b.next_seq b.settled_seq
-    b.settled_entries c.self.invariant (λ k. refl) (λ those. c.in_ok-open_all.ensures.same those)
+    b.settled_entries b.next_purge c.self.invariant (λ k. refl) (λ those. c.in_ok-open_all.ensures.same those)
     (λ those. c.in_err-open_all-2.ensures.same those) (λ asked is. c.in_err-open_all-2.ensures.stays asked is)
     c.in_ok-reserve-2.ensures.capacity))
 
@@ -66,15 +66,15 @@ invariant_of-self-in_err-add_events c =
     let b = c.self.inside in
     subst
     (λ es. IsBook es c.add_events.new.index c.open_all.new.self c.open_all-2.new.self c.reserve-2.new.self.items
-    (deque_capacity c.reserve-2.new.self) b.next_seq b.settled_seq b.settled_entries)
+    (deque_capacity c.reserve-2.new.self) b.next_seq b.settled_seq b.settled_entries b.next_purge)
     (sym c.in_ok-reserve.ensures.items)
     (subst
     (λ us. IsBook b.entries.items c.add_events.new.index c.open_all.new.self c.open_all-2.new.self us
-    (deque_capacity c.reserve-2.new.self) b.next_seq b.settled_seq b.settled_entries)
+    (deque_capacity c.reserve-2.new.self) b.next_seq b.settled_seq b.settled_entries b.next_purge)
     (sym c.in_ok-reserve-2.ensures.items)
     (book-same b.index c.add_events.new.index b.tally c.open_all.new.self b.settled_tally c.open_all-2.new.self
     b.entries.items b.unsettled.items (deque_capacity b.unsettled) (deque_capacity c.reserve-2.new.self) b.next_seq
-    b.settled_seq b.settled_entries c.self.invariant (λ k. c.in_err-add_events.ensures.unchanged k)
+    b.settled_seq b.settled_entries b.next_purge c.self.invariant (λ k. c.in_err-add_events.ensures.unchanged k)
     (λ those. c.in_ok-open_all.ensures.same those) (λ those. c.in_ok-open_all-2.ensures.same those)
     (λ asked is. c.in_ok-open_all-2.ensures.stays asked is) c.in_ok-reserve-2.ensures.capacity))
 
@@ -88,24 +88,27 @@ invariant_of-self-2 c =
     c.len-count.ensures ∙ sym c.deref.ensures.len ∙ ap length (c.deref.ensures.value ∙ made) in
     subst
     (λ es. IsBook es c.add_events.new.index c.add_settled.new.tally c.open_all-2.new.self c.reserve-2.new.self.items
-    (deque_capacity c.reserve-2.new.self) (a.seq + c.len-count.result) b.settled_seq b.settled_entries)
+    (deque_capacity c.reserve-2.new.self) (a.seq + c.len-count.result) b.settled_seq b.settled_entries b.next_purge)
     (sym (taken_in b.entries.items c.reserve.new.self.items c.in_ok-events.events.items more c.append.new.self.items
     (is_ok c.append.result) c.append.ensures.items
     (c.append.ensures.succeeds (omega (arith, c.in_ok-reserve.ensures.ok, c.len-count.ensures)))
     c.in_ok-reserve.ensures.items made))
     (subst
     (λ us. IsBook (b.entries.items ++ more) c.add_events.new.index c.add_settled.new.tally c.open_all-2.new.self us
-    (deque_capacity c.reserve-2.new.self) (a.seq + c.len-count.result) b.settled_seq b.settled_entries)
+    (deque_capacity c.reserve-2.new.self) (a.seq + c.len-count.result) b.settled_seq b.settled_entries b.next_purge)
     (sym c.in_ok-reserve-2.ensures.items)
     (subst
     (λ n. IsBook (b.entries.items ++ more) c.add_events.new.index c.add_settled.new.tally c.open_all-2.new.self
-    b.unsettled.items (deque_capacity c.reserve-2.new.self) (a.seq + n) b.settled_seq b.settled_entries)
+    b.unsettled.items (deque_capacity c.reserve-2.new.self) (a.seq + n) b.settled_seq b.settled_entries b.next_purge)
     (sym count)
     (book-append b.index c.add_events.new.index b.tally c.add_settled.new.tally b.settled_tally c.open_all-2.new.self
     b.entries.items more b.unsettled.items (deque_capacity b.unsettled) (deque_capacity c.reserve-2.new.self) b.next_seq
-    b.settled_seq b.settled_entries a.seq c.self.invariant
+    b.settled_seq b.settled_entries a.seq b.next_purge c.self.invariant
     (omega (arith, c.requires.above, ap (λ v. v.next_seq) c.self.view_is))
     (made_from a.id a.body.now a.at a.seq a.names.now)
+    (made_new a.id a.body.now a.at b.index b.entries.items a.seq a.names.now c.self.invariant.keyed.indexed
+    c.requires.apart
+    (λ k d h. ap (λ v. known_in v (get_or a.names.now k d) a.id) c.self.view_is ∙ c.requires.unknown k d h))
     (subst (λ es. HasMoreKeys b.index es c.add_events.new.index) (c.deref-3.ensures.value ∙ made)
     c.in_ok-add_events.ensures.added)
     (λ those asked. c.add_settled.ensures.more those asked

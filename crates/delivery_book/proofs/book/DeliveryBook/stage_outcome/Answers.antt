@@ -35,15 +35,15 @@ invariant_of-self c =
     let second : c.index-2.result.now ≡ x = read_same b.entries.items i c.index-2.result.now x there.0 c.index-2.ensures c.index_mut.ensures.value in
     let after : c.after-after.result ≡ progress_after a.status a.at x.latest = c.after-after.ensures ∙ ap (λ (y : Entry). progress_after a.status a.at y.latest) second in
     subst
-    (λ latest. IsBook (set b.entries.items i (record x { latest = latest })) b.index c.add.new.self b.settled_tally c.push_back_reserved.new.self.items (deque_capacity c.push_back_reserved.new.self) (a.seq + 1) b.settled_seq b.settled_entries)
+    (λ latest. IsBook (set b.entries.items i (record x { latest = latest })) b.index c.add.new.self b.settled_tally c.push_back_reserved.new.self.items (deque_capacity c.push_back_reserved.new.self) (a.seq + 1) b.settled_seq b.settled_entries b.next_purge)
     (sym after)
     (subst
-    (λ us. IsBook (set b.entries.items i (with_attempt a.status a.at x)) b.index c.add.new.self b.settled_tally us (deque_capacity c.push_back_reserved.new.self) (a.seq + 1) b.settled_seq b.settled_entries)
+    (λ us. IsBook (set b.entries.items i (with_attempt a.status a.at x)) b.index c.add.new.self b.settled_tally us (deque_capacity c.push_back_reserved.new.self) (a.seq + 1) b.settled_seq b.settled_entries b.next_purge)
     (sym c.push_back_reserved.ensures.items)
     (subst
-    (λ room. IsBook (set b.entries.items i (with_attempt a.status a.at x)) b.index c.add.new.self b.settled_tally (b.unsettled.items ++ record { seq = a.seq; delivery = a.delivery } ∷ []) room (a.seq + 1) b.settled_seq b.settled_entries)
+    (λ room. IsBook (set b.entries.items i (with_attempt a.status a.at x)) b.index c.add.new.self b.settled_tally (b.unsettled.items ++ record { seq = a.seq; delivery = a.delivery } ∷ []) room (a.seq + 1) b.settled_seq b.settled_entries b.next_purge)
     (sym c.push_back_reserved.ensures.capacity)
-    (book-outcome b.index b.tally c.remove.new.self c.add.new.self b.settled_tally b.entries.items b.unsettled.items (deque_capacity b.unsettled) b.next_seq b.settled_seq b.settled_entries a.seq a.delivery a.status a.at i x c.self.invariant
+    (book-outcome b.index b.tally c.remove.new.self c.add.new.self b.settled_tally b.entries.items b.unsettled.items (deque_capacity b.unsettled) b.next_seq b.settled_seq b.settled_entries b.next_purge a.seq a.delivery a.status a.at i x c.self.invariant
     (omega (arith, c.requires.above, ap (λ v. v.next_seq) c.self.view_is)) there.0 c.index_mut.ensures.value there.1 free
     (λ those asked. (λ j. in_state asked (counts_for c.remove.new.self those) + one_of (sym first j).name ((ap (λ (y : Entry). state_in y.latest) (sym second) ∙ sym c.state.ensures) j) those asked) ∙ sym (c.remove.ensures.less those asked))
     (λ those asked. c.add.ensures.more those asked ∙ (λ j. in_state asked (counts_for c.remove.new.self those) + one_of (first j).name ((c.state-2.ensures ∙ ap state_in after) j) those asked)))))

@@ -1,17 +1,21 @@
 use Rattle.desk.proofs.Words.{◌∙◌, Some, length, ap, all_records, settled_records, arith}
 use Rattle.desk.proofs.DeskLaws.{seen}
-use Rattle.desk.proofs.ClaimLaws.{post_is, endpoint_known, starts_at, starts_from}
+use Rattle.desk.proofs.ClaimLaws.{post_is, endpoint_known, no_latest_row, starts_at, starts_from}
 use Rattle.desk.proofs.desk.Desk.post_of.Goals as goal
+
+pub unreachable-requires : goal.unreachable-requires
+unreachable-requires g c =
+    no_latest_row c.args.delivery c.self.view_is c.requires c.in_default.ensures.in_step c.in_default.ensures.value
 
 pub unreachable-requires-in_default-target : goal.unreachable-requires-in_default-target
 unreachable-requires-in_default-target g c =
     let row = c.in-Some.row in
-    let from = starts_from row.endpoint c.args.delivery c.self.view_is (starts_at c.args.delivery row c.self.view_is c.requires c.in-Some.ensures.value) in
+    let from = starts_from row.endpoint c.args.delivery c.self.view_is (starts_at c.args.delivery row c.self.view_is c.requires c.in-Some.ensures.in_step c.in-Some.ensures.value) in
     let known = endpoint_known row.endpoint c.args.delivery c.self.invariant.tied.limited from in
     let none = c.in_default-target.ensures.value in grind (arith, known, none)
 
 pub returns-clause-endpoint : goal.returns-clause-endpoint
-returns-clause-endpoint g c = starts_at c.args.delivery c.in-Some.row c.self.view_is c.requires c.in-Some.ensures.value
+returns-clause-endpoint g c = starts_at c.args.delivery c.in-Some.row c.self.view_is c.requires c.in-Some.ensures.in_step c.in-Some.ensures.value
 
 pub returns-clause-post : goal.returns-clause-post
 returns-clause-post g c = λ w h.

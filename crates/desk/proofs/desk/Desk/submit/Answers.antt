@@ -1,7 +1,14 @@
 use Rattle.desk.proofs.Words.{arith, Option, ℕ, Ok, length, ap, subst, DeskValue, Checks, all_records, settled_records}
 use Rattle.desk.proofs.Words.{submit, submit_faults}
 use Rattle.desk.proofs.DeskLaws.{replies, hands_on, seen, submit_refused, submit_repeated, accept_moves, new_refused}
+use Rattle.desk.proofs.PublishLaws.{kept_if_known}
 use Rattle.desk.proofs.desk.Desk.submit.Goals as goal
+
+pub check_submit-requires : goal.check_submit-requires
+check_submit-requires g c = record {
+  kept = λ w h. kept_if_known w c.args.name c.args.id c.find-known.result
+      (c.find-known.ensures.stands (all_records w) (length (settled_records w)) (seen c.self.view_is h).books.of_deliveries);
+}
 
 pub returns-in_err-check_submit-clause-moves : goal.returns-in_err-check_submit-clause-moves
 returns-in_err-check_submit-clause-moves g c =

@@ -1,0 +1,59 @@
+//! What a Purge takes, and gives up.
+ghost use Rattle.std.specs.Prelude.{◌≡◌, true, false, nat_lt, map, filter};
+ghost use Rattle.std.specs.Option.{option_map_or};
+ghost use Rattle.delivery_book.specs.declared.entry.Entry.{Entry};
+ghost use Rattle.delivery_book.specs.Entries.{is_left, marked};
+ghost use Rattle.delivery_book.specs.Fields.{AreFirst, is_not_before};
+
+use crate::entry::Entry;
+use relay_types::Moment;
+
+/// Has the Purge of this number take each delivery that has ended by an attempt before this moment.
+pub(crate) fn mark_done(entries: &mut [Entry], seq: u64, moment: Moment)
+    ensures { entries.new ≡ map (marked seq moment) entries.old }
+{
+    for entry in entries.iter_mut() {
+        entry.mark(seq, moment);
+    }
+}
+
+/// The least number of a Purge that took one of the entries.
+pub(crate) fn first_purge(entries: &[Entry]) -> Option<u64>
+    ensures { AreFirst result entries.now }
+{
+    let mut first = None;
+    for entry in entries {
+        first = earlier(first, entry.taken_by);
+    }
+    first
+}
+
+/// The earlier of two Purges, where `None` is none.
+pub(crate) fn earlier(one: Option<u64>, other: Option<u64>) -> Option<u64>
+    ensures first { (entry : Entry) → is_not_before one entry ≡ true → is_not_before result entry ≡ true }
+    ensures second { (entry : Entry) → is_not_before other entry ≡ true → is_not_before result entry ≡ true }
+{
+    match (one, other) {
+        (Some(a), Some(b)) => Some(a.min(b)),
+        (Some(a), None) => Some(a),
+        (None, other) => other,
+    }
+}
+
+/// Whether there is a number, and it is below this one.
+pub(crate) fn is_below(number: Option<u64>, seq: u64) -> bool
+    ensures { result ≡ option_map_or (λ n. nat_lt n seq) number false }
+{
+    match number {
+        Some(number) => number < seq,
+        None => false,
+    }
+}
+
+/// Gives up the entries that Purges below this number took. It keeps room for twice what is left.
+pub(crate) fn keep_left(entries: &mut Vec<Entry>, seq: u64)
+    ensures { entries.new.items ≡ filter (is_left seq) entries.old.items }
+{
+    entries.retain(|entry| entry.is_left(seq));
+    entries.shrink_to(entries.len().saturating_mul(2));
+}

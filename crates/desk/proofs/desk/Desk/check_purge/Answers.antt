@@ -1,0 +1,9 @@
+use Rattle.desk.proofs.DeskLaws.{is_full, seen}
+use Rattle.desk.proofs.desk.Desk.check_purge.Goals as goal
+
+pub returns-clause-faults : goal.returns-clause-faults
+returns-clause-faults g c = λ w h.
+    let here = seen c.self.view_is h in
+    let full = is_full c.free_requests.result here c.free_requests.ensures.free in
+    let spent = c.are_seqs_spent.ensures.stands w h in
+    let halted = here.halted in cc (c.check.ensures, halted, full, spent)
