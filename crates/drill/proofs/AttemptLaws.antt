@@ -15,9 +15,10 @@ use Rattle.relay_types.specs.declared.record.Record.{Record}
 use Rattle.relay_types.specs.declared.record.Record.TheVariants.{Outcome}
 use Rattle.relay_types.specs.declared.state.State.TheVariants.{Pending}
 use Rattle.relay_types.specs.Records.{History, Attempt, records_of}
-use Rattle.relay_types.specs.Deliveries.{accepted, attempts_of, is_in_state, is_pending}
+use Rattle.relay_types.specs.Deliveries.{accept_at, accepted, attempts_of, is_in_state, is_pending}
 use Rattle.relay_types.proofs.GrowthLaws.{accepted-before}
-use Rattle.relay_types.proofs.KnownLaws.{and_first, below_if_accepted}
+use Rattle.relay_types.proofs.KnownLaws.{and_first, and_second, below_if_accepted, there_if}
+use Rattle.relay_types.proofs.PurgeLaws.{accepted_is, unpurged_if}
 use Rattle.delivery_book.specs.Entries.{failed_among, is_delivered_among, state_by}
 use Rattle.delivery_book.proofs.Progresses.{attempts_of-append, empty_if}
 use Rattle.permits.specs.declared.row.Row.{Row}
@@ -30,6 +31,7 @@ use Rattle.desk.specs.World.{World, Receipt, settled_records, waiting_records}
 use Rattle.desk.specs.Moves.{moment, with_sealed_settled}
 use Rattle.desk.specs.Claims.{JobValue, next_attempt, outcome_by, sample_by, waits, with_attempt, with_attempt_over, without_row}
 use Rattle.desk.proofs.RowLaws.{attempts_at, none_counted, others, removed_is}
+use Rattle.desk.proofs.TakenLaws.{unpurged_while_pending}
 use Rattle.recovery.specs.Left.{LeavesBy, records_of_first}
 use Rattle.drill.specs.declared.events.Event.{Event}
 use Rattle.drill.specs.declared.events.Event.TheVariants as on
@@ -68,9 +70,15 @@ behind_is history from to below within =
 still_pending : (some more : List Record) (d : ℕ) → is_pending some d ≡ true → outcomes more d ≡ 0 → is_pending (some ++ more) d ≡ true
 still_pending some more d pending none =
     let there = and_first (is_some (accepted some d)) _ pending in
-    let same : accepted (some ++ more) d ≡ accepted some d = accepted-before some more d (below_if_accepted some d there) in
     let attempts : attempts_of (some ++ more) d ≡ attempts_of some d =
     attempts_of-append some more d ∙ ap (λ later. attempts_of some d ++ later) (empty_if (attempts_of more d) none) ∙ append-nil (attempts_of some d) in
+    let kept = unpurged_while_pending (some ++ more) d
+    ((λ i. is_in_state Pending (state_by (is_delivered_among (attempts i)) (failed_among (attempts i))))
+    ∙ and_second (is_some (accepted some d)) _ pending) in
+    let same : accepted (some ++ more) d ≡ accepted some d =
+    accepted_is (some ++ more) d kept
+    ∙ accepted-before some more d (below_if_accepted some d (there_if some d there))
+    ∙ sym (accepted_is some d (unpurged_if some d there)) in
     (λ i. is_some (same i) && is_in_state Pending (state_by (is_delivered_among (attempts i)) (failed_among (attempts i)))) ∙ pending
 
 -- Marks
@@ -92,10 +100,10 @@ counted w steps d below within = ap (λ n. attempts_at d w.live + n)
 pending_at : (w : World) (steps d : ℕ) → IsTracked w → w.settled ≤ steps → steps ≤ length w.history → 1 ≤ unrecorded w steps d → IsPendingAgain w steps d
 pending_at w steps d h below within some = record {
   pending = front;
-  same = sym (accepted-before (records_of_first w steps) (records_behind w steps) d
-      (below_if_accepted (records_of_first w steps) d
-      (and_first (is_some (accepted (records_of_first w steps) d)) _ front)))
-      ∙ ap (λ records. accepted records d) (split_at steps w.history);
+  same = accepted_is (records_of_first w steps) d (unpurged_if (records_of_first w steps) d there)
+      ∙ sym (accepted-before (records_of_first w steps) (records_behind w steps) d
+      (below_if_accepted (records_of_first w steps) d (there_if (records_of_first w steps) d there)))
+      ∙ ap (λ records. accept_at records d) (split_at steps w.history);
   once = omega (arith, counted w steps d below within, h.once d, some);
 }
   where
@@ -104,6 +112,9 @@ pending_at w steps d h below within some = record {
         ∙ still_pending (settled_records w) (records_of (between w.history w.settled steps)) d
         (h.pending d (omega (arith, counted w steps d below within, some)))
         (omega (arith, counted w steps d below within, h.once d, some))
+
+    there : is_some (accepted (records_of_first w steps) d) ≡ true
+    there = and_first (is_some (accepted (records_of_first w steps) d)) _ front
 
 pub pending_again : (w : World) → IsTracked w → ArePendingAgain w
 pending_again w h = each_left (IsEachPendingAgain w) w w.out h.leaves

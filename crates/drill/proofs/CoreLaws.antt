@@ -32,7 +32,7 @@ use Rattle.spool.specs.Batches.{doubt_of}
 use Rattle.script_lines.specs.declared.reply.Reply.{Reply}
 use Rattle.script_lines.specs.declared.reply.Reply.TheVariants as says
 use Rattle.desk.specs.declared.command.Command.{Command}
-use Rattle.desk.specs.declared.command.Command.TheVariants.{PutEndpoint, SetSecrets, SetEnabled, SetSubscribed}
+use Rattle.desk.specs.declared.command.Command.TheVariants.{PutEndpoint, SetSecrets, SetEnabled, SetSubscribed, Purge}
 use Rattle.desk.specs.declared.refusal.Fault.TheVariants as desk_fault
 use Rattle.desk.specs.declared.refusal.Refusal.{Refusal}
 use Rattle.desk.specs.declared.ticket.Ticket.{Ticket}
@@ -121,6 +121,7 @@ goes_change w command = goes_unless (change_faults w command) w (changes w comma
     at (SetSecrets name secrets) = goes_with w _ w.clock (λ d. refl)
     at (SetEnabled name flag) = goes_with w _ w.clock (λ d. refl)
     at (SetSubscribed topic name flag) = goes_with w _ w.clock (λ d. refl)
+    at (Purge before) = goes_with w _ w.clock (λ d. refl)
 
 -- no record of a new event is an attempt
 none_tried : (names : List (List ℕ)) (id body : List ℕ) (at d : ℕ) → attempts_of (accepts names id body at) d ≡ []

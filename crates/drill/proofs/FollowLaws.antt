@@ -7,7 +7,7 @@ use Rattle.script_lines.specs.declared.call.Call.{Call}
 use Rattle.script_lines.specs.declared.call.Call.TheVariants as on
 use Rattle.script_lines.specs.declared.reply.Reply.{Reply}
 use Rattle.desk.specs.declared.command.Command.{Command}
-use Rattle.desk.specs.declared.command.Command.TheVariants.{PutEndpoint, SetSecrets, SetEnabled, SetSubscribed}
+use Rattle.desk.specs.declared.command.Command.TheVariants.{PutEndpoint, SetSecrets, SetEnabled, SetSubscribed, Purge}
 use Rattle.desk.specs.declared.refusal.Refusal.{Refusal}
 use Rattle.group_commit.proofs.StepLaws.{fitting_within}
 use Rattle.desk.specs.World.{World, Out, Nothing, Batch, Receipt, Doubt, max_sealed}
@@ -107,6 +107,7 @@ follows_each P s next event reply own h = at event own
     at (on.Secrets name secrets) own = changed (SetSecrets name secrets)
     at (on.Enabled name flag) own = changed (SetEnabled name flag)
     at (on.Subscribed topic name flag) own = changed (SetSubscribed topic name flag)
+    at (on.Purge before) own = changed (Purge before)
     at (on.Submit now name id body) own = told P s next _ reply _ _ h.stays (h.stages (submit s.world now name id body).next (goes_submit s.world now name id body))
     at (on.Publish now topic id body) own =
         told P s next _ reply _ _ h.stays

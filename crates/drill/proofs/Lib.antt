@@ -12,6 +12,7 @@ mod RunLaws
 pub mod ReplayLaws
 mod WorkedRun
 mod WorkedPublish
+mod WorkedPurge
 mod WithinLaws
 mod RefusalLaws
 mod LaterLaws

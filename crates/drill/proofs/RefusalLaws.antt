@@ -9,7 +9,7 @@ use Rattle.script_lines.specs.declared.reply.Reply as line_reply
 use Rattle.script_lines.specs.declared.reply.Reply.TheVariants as says
 use Rattle.spool.specs.Batches.{BatchValue}
 use Rattle.desk.specs.declared.command.Command.{Command}
-use Rattle.desk.specs.declared.command.Command.TheVariants.{PutEndpoint, SetSecrets, SetEnabled, SetSubscribed}
+use Rattle.desk.specs.declared.command.Command.TheVariants.{PutEndpoint, SetSecrets, SetEnabled, SetSubscribed, Purge}
 use Rattle.desk.specs.declared.refusal.Fault as desk_refusal
 use Rattle.desk.specs.declared.refusal.Fault.TheVariants as desk_fault
 use Rattle.desk.specs.declared.refusal.Refusal.{Refusal}
@@ -156,6 +156,7 @@ may_be_told s event = at event
     at (on_line.Secrets name secrets) = changed _ (SetSecrets name secrets)
     at (on_line.Enabled name flag) = changed _ (SetEnabled name flag)
     at (on_line.Subscribed topic name flag) = changed _ (SetSubscribed topic name flag)
+    at (on_line.Purge before) = changed _ (Purge before)
     at (on_line.Submit now name id body) = (by_staged Submission s.world _ (submit s.world now name id body).reply, by_lack s _ (submit s.world now name id body).memory)
     at (on_line.Publish now topic id body) = (
       by_published s.world _ (publish s.world now topic id body).reply,

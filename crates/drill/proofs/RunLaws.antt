@@ -58,6 +58,7 @@ wants s (on.Put name target max secrets) = lacks_wants s _
 wants s (on.Secrets name secrets) = lacks_wants s _
 wants s (on.Enabled name flag) = lacks_wants s _
 wants s (on.Subscribed topic name flag) = lacks_wants s _
+wants s (on.Purge before) = lacks_wants s _
 wants s (on.Submit now name id body) = lacks_wants s _
 wants s (on.Publish now topic id body) = lacks_wants s _
 wants s (on.Told seq) = tt

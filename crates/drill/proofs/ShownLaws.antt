@@ -11,7 +11,7 @@ use Rattle.spool.specs.Vaults.{VaultValue}
 use Rattle.relay_types.specs.declared.record.Record.{Record}
 use Rattle.relay_types.specs.Records.{Accepted, records_of}
 use Rattle.relay_types.specs.Deliveries.{accepted, deliveries, due_of}
-use Rattle.relay_types.proofs.KnownLaws.{below_if_accepted}
+use Rattle.relay_types.proofs.KnownLaws.{below_if_accepted, there_if}
 use Rattle.script_lines.specs.declared.call.Call as line
 use Rattle.script_lines.specs.declared.call.Call.TheVariants as on_line
 use Rattle.script_lines.specs.declared.reply.Reply as line_reply
@@ -106,7 +106,11 @@ ticket_below w ticket e =
   where
     at : (o : Option Accepted) → accepted (settled_records w) ticket.seq ≡ o → option_map_or (is_event_of ticket) o false ≡ true → ticket.seq + 1 ≤ settled_count w
     at None is h = absurd (let no = h in cc)
-    at (Some a) is h = omega (arith, below_if_accepted (settled_records w) ticket.seq (ap is_some is))
+    at (Some a) is h = omega (
+      arith,
+      below_if_accepted (settled_records w) ticket.seq
+          (there_if (settled_records w) ticket.seq (ap is_some is)),
+    )
 
 command_below : (w : World) (ticket : CommandTicket) → told_as (told_command w ticket) ≡ as_told.Settled → ticket.seq + 1 ≤ settled_count w
 command_below w ticket e =
@@ -147,7 +151,11 @@ chosen_below w now d e =
   where
     at : (o : Option Accepted) → accepted (settled_records w) d ≡ o → option_map_or (is_claimable_for w now d) o false ≡ true → d + 1 ≤ settled_count w
     at None is h = absurd (let no = h in cc)
-    at (Some a) is h = omega (arith, below_if_accepted (settled_records w) d (ap is_some is))
+    at (Some a) is h = omega (
+      arith,
+      below_if_accepted (settled_records w) d
+          (there_if (settled_records w) d (ap is_some is)),
+    )
 
 permit_below : (w : World) (now : ℕ) (told : line_reply.Reply) → is_permit told ≡ true → told ≡ claim_reply (claim w now).reply → delivery_in told + 1 ≤ settled_count w
 permit_below w now told is said = at w.halted (choice w (moment w now)) refl said

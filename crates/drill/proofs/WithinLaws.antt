@@ -16,7 +16,7 @@ use Rattle.script_lines.specs.declared.reply.Reply as line_reply
 use Rattle.script_lines.specs.declared.reply.Reply.TheVariants as says
 use Rattle.script_lines.specs.declared.reply.Told.TheVariants as as_told
 use Rattle.desk.specs.declared.command.Command.{Command}
-use Rattle.desk.specs.declared.command.Command.TheVariants.{PutEndpoint, SetSecrets, SetEnabled, SetSubscribed}
+use Rattle.desk.specs.declared.command.Command.TheVariants.{PutEndpoint, SetSecrets, SetEnabled, SetSubscribed, Purge}
 use Rattle.desk.specs.declared.refusal.Fault.TheVariants as desk_fault
 use Rattle.desk.specs.declared.refusal.Refusal.{Refusal}
 use Rattle.desk.specs.Claims.{choice, claim, claim_chosen, limits, outcome_by, rests, sample_by, spent_in, starts, with_attempt_over, without_row}
@@ -100,6 +100,7 @@ change_with (PutEndpoint name target max secrets) w o left = unless_with o left 
 change_with (SetSecrets name secrets) w o left = unless_with o left (change_faults w (SetSecrets name secrets)) w _ _ refl
 change_with (SetEnabled name flag) w o left = unless_with o left (change_faults w (SetEnabled name flag)) w _ _ refl
 change_with (SetSubscribed topic name flag) w o left = unless_with o left (change_faults w (SetSubscribed topic name flag)) w _ _ refl
+change_with (Purge before) w o left = unless_with o left (change_faults w (Purge before)) w _ _ refl
 
 claim_with : (w : World) (now : ℕ) (o : Out) (left : List ℕ) → claim (with_out o left w) now ≡ answer_with o left (claim w now)
 claim_with w now o left = unless_with o left ((w.halted, 1, desk_fault.Halted) ∷ []) w _ _ (by (choice w (moment w now)))
@@ -201,6 +202,7 @@ stands s event within = at event within
     at (on_line.Secrets name secrets) within = changed (SetSecrets name secrets)
     at (on_line.Enabled name flag) within = changed (SetEnabled name flag)
     at (on_line.Subscribed topic name flag) within = changed (SetSubscribed topic name flag)
+    at (on_line.Purge before) within = changed (Purge before)
     at (on_line.Submit now name id body) within = staged Submission s (λ w. submit w now name id body) (goes_submit s.world now name id body).goes (submit_with s.world now name id body)
     at (on_line.Publish now topic id body) within =
         given published_reply with_tickets s (λ w. publish w now topic id body)

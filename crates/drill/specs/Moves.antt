@@ -17,7 +17,7 @@ use Rattle.script_lines.specs.declared.reply.Told.TheVariants as as_told
 use Rattle.script_lines.specs.declared.reply.Reply.{Reply}
 use Rattle.script_lines.specs.declared.reply.Reply.TheVariants as says
 use Rattle.desk.specs.declared.command.Command as desk_command
-use Rattle.desk.specs.declared.command.Command.TheVariants.{PutEndpoint, SetSecrets, SetEnabled, SetSubscribed}
+use Rattle.desk.specs.declared.command.Command.TheVariants.{PutEndpoint, SetSecrets, SetEnabled, SetSubscribed, Purge}
 use Rattle.desk.specs.declared.refusal.Fault as desk_refusal
 use Rattle.desk.specs.declared.refusal.Fault.TheVariants as desk_fault
 use Rattle.desk.specs.declared.refusal.Refusal.{Refusal}
@@ -248,6 +248,7 @@ answer_to s (on.Put name target max secrets) = commands s (PutEndpoint name targ
 answer_to s (on.Secrets name secrets) = commands s (SetSecrets name secrets)
 answer_to s (on.Enabled name flag) = commands s (SetEnabled name flag)
 answer_to s (on.Subscribed topic name flag) = commands s (SetSubscribed topic name flag)
+answer_to s (on.Purge before) = commands s (Purge before)
 answer_to s (on.Submit now name id body) = stages Submission s (desk.submit s.world now name id body)
 answer_to s (on.Publish now topic id body) = publishes s (desk.publish s.world now topic id body)
 answer_to s (on.Told seq) = stays s (told_reply s.world (find_ticket s.tickets seq))

@@ -4,7 +4,7 @@ use Rattle.std.specs.List.{AllByRecursion}
 use Rattle.relay_types.specs.declared.record.Record.{Record}
 use Rattle.relay_types.specs.Values.{Seq}
 use Rattle.relay_types.specs.Records.{records_of}
-use Rattle.relay_types.specs.Deliveries.{accepted, attempts_of, is_pending}
+use Rattle.relay_types.specs.Deliveries.{accept_at, accepted, attempts_of, is_pending}
 use Rattle.desk.specs.World.{World, all_records}
 use Rattle.recovery.specs.Left.{records_of_first}
 
@@ -17,10 +17,11 @@ records_behind w steps = records_of (drop steps w.history)
 abbrev pub unrecorded : World → (steps : ℕ) → (delivery : Seq) → ℕ
 unrecorded w steps d = count_by (λ row. row.delivery == d) w.live + length (attempts_of (records_behind w steps) d)
 
--- In these steps the event is pending, with its endpoint, its id and its body, and but one attempt at it has no outcome there.
+-- In these steps the event is pending, with its endpoint, its id and its body, which a later step may have removed.
+-- Only one attempt at it has no outcome there.
 pub record IsPendingAgain (w : World) (steps : ℕ) (delivery : Seq) : Type 0 where
   pub pending : IsTrue (is_pending (records_of_first w steps) delivery)
-  pub same : accepted (records_of_first w steps) delivery ≡ accepted (all_records w) delivery
+  pub same : accepted (records_of_first w steps) delivery ≡ accept_at (all_records w) delivery
   pub once : unrecorded w steps delivery ≡ 1
 
 -- each event with an attempt that has no outcome in these steps is pending there

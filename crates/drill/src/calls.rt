@@ -129,6 +129,7 @@ impl<L: Ledger> Core<L> {
             Call::Subscribed { topic, name, flag } => {
                 self.command(Command::SetSubscribed { topic, name, flag })
             }
+            Call::Purge { before } => self.command(Command::Purge { before }),
             Call::Submit {
                 now,
                 name,

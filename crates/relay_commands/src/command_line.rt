@@ -38,7 +38,10 @@ const REPLAY_HELP: &str =
   put NAME URL MAX SECRETS    a new endpoint; 1 to 4 secrets with commas between, the newest first
   secrets NAME SECRETS        other secrets of an endpoint
   enable NAME, disable NAME   whether its events are posted
+  subscribe TOPIC NAME        the topic's events go to this endpoint; unsubscribe TOPIC NAME: no longer
   submit NOW NAME ID BODY     a new event; BODY in hexadecimal or -
+  publish NOW TOPIC ID BODY   a new event for each endpoint that is subscribed to the topic
+  purge BEFORE                removes each event that ended before this moment; its id is free again
   told SEQ                    whether the record with this number is settled
   seal                        makes a batch of the records that wait
   commit                      writes the batch into the store

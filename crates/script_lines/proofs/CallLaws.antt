@@ -11,7 +11,7 @@ use Rattle.script_lines.specs.declared.call.Call.{Call}
 use Rattle.script_lines.specs.declared.call.Call.TheVariants as on
 use Rattle.retry_table.specs.declared.post.PostResult.{PostResult}
 use Rattle.text_lines.specs.Words.{IsSecretsWord}
-use Rattle.script_lines.specs.Script.{IsPut, IsSecrets, IsNamed, IsSubscribed, IsTold, IsSubmit, IsClaim, IsSpend, IsShow, MayLackForSecrets, MayLackForSubmit, call_word, AreArguments}
+use Rattle.script_lines.specs.Script.{IsPut, IsSecrets, IsNamed, IsSubscribed, IsTold, IsSubmit, IsMoment, IsSpend, IsShow, MayLackForSecrets, MayLackForSubmit, call_word, AreArguments}
 use Rattle.text_lines.proofs.NumberLaws.{bytes_equal, true_not_false}
 
 -- two words that differ are not one
@@ -96,6 +96,16 @@ only_publish P word words is own (on.Subscribed topic name flag) e h =
     absurd (apart_subscribed (codes "publish") word topic name flag refl refl is e)
 only_publish P word words is own call e h = absurd (apart (codes "publish") (call_word call) word refl is e)
 
+pub only_purge : (P : Call → Type 0) (word : List ℕ) (words : List (List ℕ)) → word ≡ codes "purge"
+    → ((before : ℕ) → IsMoment words before → P (on.Purge before))
+    → (call : Call) → word ≡ call_word call → AreArguments words call → P call
+only_purge P word words is own (on.Purge before) e h = own before h
+only_purge P word words is own (on.Enabled name flag) e h =
+    absurd (apart_enabled (codes "purge") word name flag refl refl is e)
+only_purge P word words is own (on.Subscribed topic name flag) e h =
+    absurd (apart_subscribed (codes "purge") word topic name flag refl refl is e)
+only_purge P word words is own call e h = absurd (apart (codes "purge") (call_word call) word refl is e)
+
 pub only_told : (P : Call → Type 0) (word : List ℕ) (words : List (List ℕ)) → word ≡ codes "told" → ((seq : ℕ) → IsTold words seq → P (on.Told seq))
     → (call : Call) → word ≡ call_word call → AreArguments words call → P call
 only_told P word words is own (on.Told seq) e h = own seq h
@@ -103,7 +113,7 @@ only_told P word words is own (on.Enabled name flag) e h = absurd (apart_enabled
 only_told P word words is own (on.Subscribed topic name flag) e h = absurd (apart_subscribed (codes "told") word topic name flag refl refl is e)
 only_told P word words is own call e h = absurd (apart (codes "told") (call_word call) word refl is e)
 
-pub only_claim : (P : Call → Type 0) (word : List ℕ) (words : List (List ℕ)) → word ≡ codes "claim" → ((now : ℕ) → IsClaim words now → P (on.Claim now))
+pub only_claim : (P : Call → Type 0) (word : List ℕ) (words : List (List ℕ)) → word ≡ codes "claim" → ((now : ℕ) → IsMoment words now → P (on.Claim now))
     → (call : Call) → word ≡ call_word call → AreArguments words call → P call
 only_claim P word words is own (on.Claim now) e h = own now h
 only_claim P word words is own (on.Enabled name flag) e h = absurd (apart_enabled (codes "claim") word name flag refl refl is e)

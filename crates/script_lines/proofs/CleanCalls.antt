@@ -11,7 +11,7 @@ use Rattle.script_lines.specs.declared.call.Call.{Call}
 use Rattle.script_lines.specs.declared.call.Call.TheVariants as on
 use Rattle.retry_table.specs.declared.post.PostResult.{PostResult}
 use Rattle.retry_table.specs.declared.post.PostResult.TheVariants.{Answered, TimedOut, Unreached, Unsent}
-use Rattle.script_lines.specs.Script.{IsNamed, IsSubmit, IsResult, HasFewWords, call_word, AreArguments, IsCall}
+use Rattle.script_lines.specs.Script.{IsMoment, IsNamed, IsSubmit, IsResult, HasFewWords, call_word, AreArguments, IsCall}
 use Rattle.script_lines.specs.Script.{ReadsLine}
 
 four_clean : (a b c d : List ℕ) → IsTrue (has_no 32 a) → IsTrue (has_no 32 b) → IsTrue (has_no 32 c) → IsTrue (has_no 32 d) → IsTrue (list_all (has_no 32) (a ∷ b ∷ c ∷ d ∷ []))
@@ -56,6 +56,11 @@ clean-event words now name id body (word, reads, e, valid) =
     (four_clean (decimal now) name id word (clean-decimal now (at_most now (2 ^ 40) one.0 (lit< tt)))
     (clean-name name two.0) (clean-id id three.0) (clean-body word body reads))
 
+clean-moment : (words : List (List ℕ)) (moment : ℕ) → IsMoment words moment → IsTrue (list_all (has_no 32) words)
+clean-moment words moment (e, valid) =
+    subst (λ xs. IsTrue (list_all (has_no 32) xs)) (sym e)
+    (one_clean (decimal moment) (clean-decimal moment (at_most moment (2 ^ 40) valid (lit< tt))))
+
 clean-arguments : (words : List (List ℕ)) (call : Call) → AreArguments words call → IsTrue (list_all (has_no 32) words)
 clean-arguments words (on.Put name target max secrets) (word, reads, e, valid) =
     let one = and_parts (is_name name) (is_target target && is_max_limit max) valid in
@@ -71,14 +76,14 @@ clean-arguments words (on.Subscribed topic name flag) (e, valid) =
     subst (λ xs. IsTrue (list_all (has_no 32) xs)) (sym e) (two_clean topic name (clean-name topic both.0) (clean-name name both.1))
 clean-arguments words (on.Submit now name id body) h = clean-event words now name id body h
 clean-arguments words (on.Publish now topic id body) h = clean-event words now topic id body h
+clean-arguments words (on.Purge before) h = clean-moment words before h
 clean-arguments words (on.Told seq) (e, small) = subst (λ xs. IsTrue (list_all (has_no 32) xs)) (sym e) (one_clean (decimal seq) (clean-decimal seq small))
 clean-arguments words on.Seal e = none_clean words e
 clean-arguments words on.Commit e = none_clean words e
 clean-arguments words on.Settle e = none_clean words e
 clean-arguments words on.Unseal e = none_clean words e
 clean-arguments words on.Halt e = none_clean words e
-clean-arguments words (on.Claim now) (e, valid) =
-    subst (λ xs. IsTrue (list_all (has_no 32) xs)) (sym e) (one_clean (decimal now) (clean-decimal now (at_most now (2 ^ 40) valid (lit< tt))))
+clean-arguments words (on.Claim now) h = clean-moment words now h
 clean-arguments words (on.Spend delivery now post) (results, told, e, small, valid) =
     subst (λ xs. IsTrue (list_all (has_no 32) xs)) (sym e)
     (two_and_more_clean (decimal delivery) (decimal now) results (clean-decimal delivery small) (clean-decimal now (at_most now (2 ^ 40) valid (lit< tt))) (clean-result results post told))
@@ -130,6 +135,7 @@ length-arguments words (on.Subscribed topic name flag) (e, valid) = let n : leng
 length-arguments words (on.Submit now name id body) (word, reads, e, valid) = let n : length words ≡ 4 = ap length e in omega (arith, n)
 length-arguments words (on.Publish now topic id body) (word, reads, e, valid) = let n : length words
     ≡ 4 = ap length e in omega (arith, n)
+length-arguments words (on.Purge before) (e, valid) = length-named words (decimal before) e
 length-arguments words (on.Told seq) (e, small) = length-named words (decimal seq) e
 length-arguments words on.Seal e = length-alone words e
 length-arguments words on.Commit e = length-alone words e

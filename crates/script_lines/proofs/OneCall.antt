@@ -18,9 +18,9 @@ use Rattle.script_lines.specs.declared.call.Call.{Call}
 use Rattle.script_lines.specs.declared.call.Call.TheVariants as on
 use Rattle.script_lines.specs.declared.call.Line.{Line}
 use Rattle.script_lines.specs.declared.call.Line.TheVariants as as_line
-use Rattle.script_lines.specs.Script.{IsPut, IsSecrets, IsNamed, IsSubscribed, IsTold, IsSubmit, IsClaim, IsResult, IsSpend, IsShow, call_word, AreArguments, IsCall, ReadsLine, IsLine, HasOneLineAtMost}
+use Rattle.script_lines.specs.Script.{IsPut, IsSecrets, IsNamed, IsSubscribed, IsTold, IsSubmit, IsMoment, IsResult, IsSpend, IsShow, call_word, AreArguments, IsCall, ReadsLine, IsLine, HasOneLineAtMost}
 use Rattle.script_lines.proofs.CallLaws.{only_put, only_secrets, only_enable, only_disable, only_submit, only_publish}
-use Rattle.script_lines.proofs.CallLaws.{only_told}
+use Rattle.script_lines.proofs.CallLaws.{only_purge, only_told}
 use Rattle.script_lines.proofs.CallLaws.{only_claim, only_spend, only_limits, only_show, only_seal, only_commit}
 use Rattle.script_lines.proofs.CallLaws.{only_settle, only_unseal, only_halt, only_subscribe, only_unsubscribe}
 use Rattle.script_lines.proofs.CleanCalls.{the_call, parts_of_call}
@@ -83,7 +83,7 @@ same_name words name name' (e, valid) (e', valid') = cc
 same_seq : (words : List (List ℕ)) (seq seq' : ℕ) → IsTold words seq → IsTold words seq' → seq ≡ seq'
 same_seq words seq seq' (e, small) (e', small') = decimal_injective seq seq' small small' (cc)
 
-same_moment : (words : List (List ℕ)) (now now' : ℕ) → IsClaim words now → IsClaim words now' → now ≡ now'
+same_moment : (words : List (List ℕ)) (now now' : ℕ) → IsMoment words now → IsMoment words now' → now ≡ now'
 same_moment words now now' (e, valid) (e', valid') =
     decimal_injective now now' (at_most now (2 ^ 40) valid (lit< tt)) (at_most now' (2 ^ 40) valid' (lit< tt)) (cc)
 
@@ -161,6 +161,9 @@ same_arguments_of words (on.Submit now name id body) b e h =
 same_arguments_of words (on.Publish now topic id body) b e h =
     only_publish (λ call. on.Publish now topic id body ≡ call) (codes "publish") words refl
     (λ now' topic' id' body' k. same_event on.Publish words now topic id body now' topic' id' body' h k) b e
+same_arguments_of words (on.Purge before) b e h =
+    only_purge (λ call. on.Purge before ≡ call) (codes "purge") words refl
+    (λ before' k. ap on.Purge (same_moment words before before' h k)) b e
 same_arguments_of words (on.Told seq) b e h =
     only_told (λ call. on.Told seq ≡ call) (codes "told") words refl (λ seq' k. ap on.Told (same_seq words seq seq' h k)) b e
 same_arguments_of words on.Seal b e h = only_seal (λ call. on.Seal ≡ call) (codes "seal") words refl (λ none. refl) b e

@@ -19,6 +19,10 @@ subscribe_row = (codes "subscribe" ∷ codes "t" ∷ codes "a" ∷ [], refl, (co
 unsubscribe_row : ReadsLine (codes "unsubscribe t a") (on.Subscribed (codes "t") (codes "a") false)
 unsubscribe_row = (codes "unsubscribe" ∷ codes "t" ∷ codes "a" ∷ [], refl, (codes "t" ∷ codes "a" ∷ [], refl, (refl, refl)))
 
+purge_row : ReadsLine (codes "purge 1001") (on.Purge 1001)
+unfolding digits
+purge_row = (codes "purge" ∷ codes "1001" ∷ [], refl, (codes "1001" ∷ [], refl, (refl, refl)))
+
 told_row : ReadsLine (codes "told 12") (on.Told 12)
 unfolding digits
 told_row = (codes "told" ∷ codes "12" ∷ [], refl, (codes "12" ∷ [], refl, (refl, lit< tt)))

@@ -34,8 +34,9 @@ abbrev pub IsSubmit : (words : List Text) (now : Seconds) (name id body : Text) 
 IsSubmit words now name id body = (word : List ℕ) × IsBodyWord word body × (words ≡ decimal now ∷ name ∷ id ∷ word ∷ [])
     × IsTrue (is_moment now && (is_name name && (is_msg_id id && is_body body)))
 
-abbrev pub IsClaim : (words : List Text) (now : Seconds) → Type 0
-IsClaim words now = (words ≡ decimal now ∷ []) × IsTrue (is_moment now)
+-- of a call that names a moment, and nothing else
+abbrev pub IsMoment : (words : List Text) (now : Seconds) → Type 0
+IsMoment words now = (words ≡ decimal now ∷ []) × IsTrue (is_moment now)
 
 -- the words of a post's result; a round trip is in microseconds
 abbrev pub IsResult : (words : List Text) → PostResult → Type 0
@@ -116,6 +117,7 @@ call_word (on.Subscribed topic name true) = codes "subscribe"
 call_word (on.Subscribed topic name false) = codes "unsubscribe"
 call_word (on.Submit now name id body) = codes "submit"
 call_word (on.Publish now topic id body) = codes "publish"
+call_word (on.Purge before) = codes "purge"
 call_word (on.Told seq) = codes "told"
 call_word on.Seal = codes "seal"
 call_word on.Commit = codes "commit"
@@ -135,13 +137,14 @@ AreArguments words (on.Enabled name flag) = IsNamed words name
 AreArguments words (on.Subscribed topic name flag) = IsSubscribed words topic name
 AreArguments words (on.Submit now name id body) = IsSubmit words now name id body
 AreArguments words (on.Publish now topic id body) = IsSubmit words now topic id body
+AreArguments words (on.Purge before) = IsMoment words before
 AreArguments words (on.Told seq) = IsTold words seq
 AreArguments words on.Seal = words ≡ []
 AreArguments words on.Commit = words ≡ []
 AreArguments words on.Settle = words ≡ []
 AreArguments words on.Unseal = words ≡ []
 AreArguments words on.Halt = words ≡ []
-AreArguments words (on.Claim now) = IsClaim words now
+AreArguments words (on.Claim now) = IsMoment words now
 AreArguments words (on.Spend delivery now post) = IsSpend words delivery now post
 AreArguments words (on.Limits name) = IsNamed words name
 AreArguments words (on.ShowEndpoint name) = IsNamed words name

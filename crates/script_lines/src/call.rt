@@ -46,6 +46,10 @@ pub enum Call {
         name: Name,
         flag: bool,
     },
+    /// Events that are done with, the last attempt at each before this moment, are removed.
+    Purge {
+        before: Moment,
+    },
     /// What is known of the ticket of this number.
     Told {
         seq: u64,
@@ -147,6 +151,7 @@ impl Call {
                 name: *name,
                 flag: *flag,
             }),
+            Call::Purge { before } => Ok(Call::Purge { before: *before }),
             Call::Told { seq } => Ok(Call::Told { seq: *seq }),
             Call::Seal => Ok(Call::Seal),
             Call::Commit => Ok(Call::Commit),

@@ -7,7 +7,7 @@ ghost use Rattle.script_lines.specs.Script.{ReadsLine, IsLine, HasOneLineAtMost,
 ghost use Rattle.script_lines.specs.Script.{call_word, AreArguments};
 ghost use Rattle.script_lines.specs.Script.{MayLackForPut, MayLackForSecrets, MayLackForSubmit};
 ghost use Rattle.script_lines.specs.Script.{AreOfPut, AreOfSecrets, AreOfSubscribed, AreOfSubmit, AreOfPublish, AreOfSpend};
-ghost use Rattle.script_lines.specs.Script.{AreOfShow, IsNamed, IsSubmit, IsTold, IsClaim, IsResult};
+ghost use Rattle.script_lines.specs.Script.{AreOfShow, IsNamed, IsSubmit, IsTold, IsMoment, IsResult};
 ghost use Rattle.script_lines.specs.Script.{AreOfNoPut, AreOfNoSecrets, AreOfNoSubmit, AreOfNoSpend, AreOfNoResult};
 ghost use Rattle.script_lines.specs.Script.{AreOfNoName, AreOfNoPair, AreOfNoEvent};
 ghost use Rattle.script_lines.specs.declared.call.Call.{Call};
@@ -94,6 +94,10 @@ fn read_worded(alloc: Global, word: &[u8], arguments: &[&[u8]]) -> Result<Call, 
         read_subscribed(arguments, true)
     } else if is_word(word, "unsubscribe") {
         read_subscribed(arguments, false)
+    } else if is_word(word, "purge") {
+        Ok(Call::Purge {
+            before: read_one_moment(arguments)?,
+        })
     } else if is_word(word, "submit") {
         read_submit(alloc, arguments)
     } else if is_word(word, "publish") {
@@ -104,7 +108,7 @@ fn read_worded(alloc: Global, word: &[u8], arguments: &[&[u8]]) -> Result<Call, 
         })
     } else if is_word(word, "claim") {
         Ok(Call::Claim {
-            now: read_now(arguments)?,
+            now: read_one_moment(arguments)?,
         })
     } else if is_word(word, "spend") {
         read_spend(arguments)
@@ -332,14 +336,14 @@ fn read_event_words(
     })
 }
 
-// The one argument of a call that tells the moment alone.
-fn read_now(arguments: &[&[u8]]) -> Result<Moment, WordFault>
-    ensures stands { IfOk result (λ now. IsClaim (texts arguments.now) now) }
-    ensures bad { IsErr result → (now : ℕ) → ¬ IsClaim (texts arguments.now) now }
+// The one argument of a call that is a moment.
+fn read_one_moment(arguments: &[&[u8]]) -> Result<Moment, WordFault>
+    ensures stands { IfOk result (λ moment. IsMoment (texts arguments.now) moment) }
+    ensures bad { IsErr result → (moment : ℕ) → ¬ IsMoment (texts arguments.now) moment }
     ensures fault { IfErr result (λ fault. fault ≡ WordFault.Bad) }
 {
     match arguments {
-        [now] => Ok(read_moment(now)?),
+        [moment] => Ok(read_moment(moment)?),
         _ => Err(WordFault::Bad),
     }
 }
