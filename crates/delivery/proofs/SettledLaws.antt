@@ -15,7 +15,7 @@ use Rattle.permits.specs.declared.row.Row.{Row}
 use Rattle.retry_table.specs.declared.post.PostResult.{PostResult}
 use Rattle.run_log.specs.Prefixes.{Agree}
 use Rattle.desk.specs.declared.command.Command.{Command}
-use Rattle.desk.specs.declared.command.Command.TheVariants.{PutEndpoint, SetSecrets, SetEnabled, SetSubscribed}
+use Rattle.desk.specs.declared.command.Command.TheVariants.{PutEndpoint, SetSecrets, SetEnabled, SetSubscribed, Purge}
 use Rattle.desk.specs.declared.refusal.Fault.TheVariants as fault
 use Rattle.desk.specs.declared.refusal.Refusal.{Refusal}
 use Rattle.desk.specs.declared.ticket.CommandTicket.{CommandTicket}
@@ -172,6 +172,9 @@ change_stages (SetEnabled name flag) w =
 change_stages (SetSubscribed topic name flag) w =
     unless_stages (change_faults w (SetSubscribed topic name flag)) w (entry_of (SetSubscribed topic name flag))
     (changes w (SetSubscribed topic name flag)) (refl, refl, refl)
+change_stages (Purge before) w =
+    unless_stages (change_faults w (Purge before)) w (entry_of (Purge before))
+    (changes w (Purge before)) (refl, refl, refl)
 
 given_stages : (w next : World) (entry : Record) (answer : Answer CommandTicket) (ticket : CommandTicket)
     → Stages w entry answer → MayGive w answer (Ok ticket) next

@@ -1,9 +1,11 @@
 -- What a desk tells to wait.
-use Rattle.std.proofs.Common.{◌≡◌, ◌≤◌, ◌<◌, ℕ, Bool, true, false, refl, ap, subst, arith}
+use Rattle.std.proofs.Common.{◌≡◌, ◌≤◌, ◌<◌, ℕ, Bool, true, false, List, [], ◌∷◌, cond, refl, ap, subst, arith, nat_eq}
 use Rattle.std.proofs.lemmas.Bool.Decides.{nat_tests}
-use Rattle.std.specs.Prelude.{Option, Some, None, ◌&&◌, nat_lt, option_map, bytes_eq, if◌then◌else◌}
+use Rattle.std.proofs.lemmas.List.Sums.{sum_by-cons}
+use Rattle.std.specs.Prelude.{Option, Some, None, ◌&&◌, ◌==◌, count_by, find, nat_lt, option_map, option_and_then}
+use Rattle.std.specs.Prelude.{bytes_eq, if◌then◌else◌}
 use Rattle.delivery_book.specs.declared.entry.Entry.{Entry}
-use Rattle.delivery_book.specs.Entries.{entry_at, latest_row, row_in}
+use Rattle.delivery_book.specs.Entries.{HasOneEach, entry_at, is_kept, kept_at, latest_row, row_in}
 use Rattle.group_commit.specs.Waits.{record_count}
 use Rattle.desk.specs.declared.ticket.CommandTicket.{CommandTicket}
 use Rattle.desk.specs.declared.ticket.Ticket.{Ticket}
@@ -11,6 +13,23 @@ use Rattle.desk.specs.declared.ticket.Told.TheVariants.{Waiting}
 use Rattle.desk.specs.Desks.{DeskValue, IsCore}
 use Rattle.desk.specs.Kept as kept
 use Rattle.desk.specs.Looks.{is_row_of, known_by}
+
+-- where one entry at most has a number, it is the one that no Purge took, if there is one
+none_kept : (n : ℕ) (xs : List Entry) → count_by (λ e. nat_eq e.seq n) xs ≡ 0 → kept_at xs n ≡ None
+none_kept n [] h = refl
+none_kept n (x ∷ xs) h =
+    let counted = sum_by-cons (λ (e : Entry). cond (nat_eq e.seq n) 1 0) x xs in
+    grind (arith, counted, h, none_kept n xs)
+
+abbrev if_kept : Option Entry → Option Entry
+if_kept found = option_and_then (λ e. if is_kept e then Some e else None) found
+
+kept_is : (n : ℕ) (xs : List Entry) → count_by (λ e. nat_eq e.seq n) xs ≤ 1 → kept_at xs n ≡ if_kept (entry_at xs n)
+kept_is n [] h = refl
+kept_is n (x ∷ xs) h =
+    let counted = sum_by-cons (λ (e : Entry). cond (nat_eq e.seq n) 1 0) x xs in
+    let none = λ (z : count_by (λ (e : Entry). nat_eq e.seq n) xs ≡ 0). none_kept n xs z in
+    grind (arith, counted, h, kept_is n xs, none)
 
 -- what is settled doesn't wait
 known_settled : (halted there : Bool) → known_by halted true there ≡ Waiting → ⊥
@@ -21,25 +40,39 @@ known_alike : (halted known : Bool) → known_by halted known known ≡ Waiting 
 known_alike halted true e = cc
 known_alike halted false e = cc
 
+-- nor what isn't there
+known_absent : (halted settled : Bool) → known_by halted settled false ≡ Waiting → ⊥
+known_absent halted true e = cc
+known_absent halted false e = cc
+
 row_alike : (halted : Bool) (ticket : Ticket) (found : Option Entry)
     → known_by halted (is_row_of ticket (option_map (λ e. row_in e.settled e) found))
-    (is_row_of ticket (option_map (λ e. row_in e.latest e) found)) ≡ Waiting → ⊥
+    (is_row_of ticket (option_map (λ e. row_in e.latest e) (if_kept found))) ≡ Waiting → ⊥
 row_alike halted ticket None is = known_alike halted false is
-row_alike halted ticket (Some e) is = known_alike halted (bytes_eq e.name ticket.name && bytes_eq e.id ticket.id) is
+row_alike halted ticket (Some e) is = by (is_kept e) is
+  where
+    by : (b : Bool) → known_by halted (bytes_eq e.name ticket.name && bytes_eq e.id ticket.id)
+        (is_row_of ticket (option_map (λ e. row_in e.latest e) (if b then Some e else None))) ≡ Waiting → ⊥
+    by true is = known_alike halted (bytes_eq e.name ticket.name && bytes_eq e.id ticket.id) is
+    by false is = known_absent halted (bytes_eq e.name ticket.name && bytes_eq e.id ticket.id) is
 
 not_below : (n settled : ℕ) → nat_lt n settled ≡ false → settled ≤ n
 not_below n settled is = grind (arith, nat_tests)
 
 -- an event that waits has a number that isn't settled
-pub event_waits : (desk : DeskValue) (ticket : Ticket) → IsCore desk → kept.told desk ticket ≡ Waiting
-    → desk.waiting.settled ≤ ticket.seq
-event_waits desk ticket core waits = at (nat_lt ticket.seq desk.deliveries.settled_seq) refl
+pub event_waits : (desk : DeskValue) (ticket : Ticket) → IsCore desk → HasOneEach desk.deliveries
+    → kept.told desk ticket ≡ Waiting → desk.waiting.settled ≤ ticket.seq
+event_waits desk ticket core once waits = at (nat_lt ticket.seq desk.deliveries.settled_seq) refl
   where
     at : (below : Bool) → nat_lt ticket.seq desk.deliveries.settled_seq ≡ below → desk.waiting.settled ≤ ticket.seq
     at true is = absurd (row_alike desk.halted ticket (entry_at desk.deliveries.entries ticket.seq)
+        (subst (λ (kept : Option Entry). known_by desk.halted
+        (is_row_of ticket (option_map (λ e. row_in e.settled e) (entry_at desk.deliveries.entries ticket.seq)))
+        (is_row_of ticket (option_map (λ e. row_in e.latest e) kept)) ≡ Waiting)
+        (kept_is ticket.seq desk.deliveries.entries (once ticket.seq))
         (subst (λ (below : Bool). known_by desk.halted (is_row_of ticket
         (if below then option_map (λ e. row_in e.settled e) (entry_at desk.deliveries.entries ticket.seq) else None))
-        (is_row_of ticket (latest_row desk.deliveries ticket.seq)) ≡ Waiting) is waits))
+        (is_row_of ticket (latest_row desk.deliveries ticket.seq)) ≡ Waiting) is waits)))
     at false is =
         subst (λ (settled : ℕ). settled ≤ ticket.seq) core.deliveries_settled
         (not_below ticket.seq desk.deliveries.settled_seq is)

@@ -2,6 +2,7 @@
 use Rattle.std.specs.Prelude.{◌≡◌, ℕ, ◌+◌, List, ◌++◌, length, map, slice_get, unwrap_or, Option, Some, Result, Ok, Err}
 use Rattle.relay_types.specs.declared.record.Record.{Record}
 use Rattle.relay_types.specs.declared.record.Record.TheVariants.{Put, Secrets, Enabled, Subscribed}
+use Rattle.relay_types.specs.declared.record.Record.TheVariants as on
 use Rattle.relay_types.specs.Records.{records_of}
 use Rattle.relay_types.specs.Deliveries.{known_as}
 use Rattle.relay_types.specs.Lists.{last_of}
@@ -10,7 +11,7 @@ use Rattle.relay_types.specs.Values.{Text, Seq}
 use Rattle.spool.specs.declared.ends.CommitEnd.{CommitEnd}
 use Rattle.spool.specs.Batches.{BatchValue}
 use Rattle.desk.specs.declared.command.Command.{Command}
-use Rattle.desk.specs.declared.command.Command.TheVariants.{PutEndpoint, SetSecrets, SetEnabled, SetSubscribed}
+use Rattle.desk.specs.declared.command.Command.TheVariants.{PutEndpoint, SetSecrets, SetEnabled, SetSubscribed, Purge}
 use Rattle.desk.specs.declared.refusal.Refusal.{Refusal}
 use Rattle.desk.specs.declared.ticket.CommandTicket.{CommandTicket}
 use Rattle.desk.specs.declared.ticket.Ticket.{Ticket}
@@ -34,6 +35,7 @@ entry_of (PutEndpoint name target max secrets) = Put name target max secrets
 entry_of (SetSecrets name secrets) = Secrets name secrets
 entry_of (SetEnabled name flag) = Enabled name flag
 entry_of (SetSubscribed topic name flag) = Subscribed topic name flag
+entry_of (Purge before) = on.Purge before
 
 -- the number of a change's record, the record, and a prefix of a log
 pub record ChangeValue : Type 0 where

@@ -258,7 +258,6 @@ impl<L: Ledger, I: LogId> Locked<L, I> {
     }
 
     // Nothing is looked up for a number that is settled.
-    #[tactic(auto, using(crate::proofs::ToldLaws::event_waits))]
     pub(crate) fn is_waiting(&self, ticket: &Ticket) -> bool
         ensures told { IsTrue result ↔ (kept.told self.now.desk ticket.now ≡ Told.Waiting) }
         ensures core { IsCore self.now.desk }
@@ -267,7 +266,6 @@ impl<L: Ledger, I: LogId> Locked<L, I> {
     }
 
     // One of them waits.
-    #[tactic(auto, using(crate::proofs::ToldLaws::event_waits))]
     pub(crate) fn is_any_waiting(&self, tickets: &[Ticket]) -> bool
         ensures told { IsTrue result ↔ Any (λ t. kept.told self.now.desk t ≡ Told.Waiting) tickets.now }
         ensures core { IsCore self.now.desk }

@@ -115,7 +115,7 @@ impl<L: Ledger, I: LogId> Shared<L, I> {
         published
     }
 
-    /// Changes an endpoint, and wakes the committer.
+    /// Makes a change, and wakes the committer.
     pub fn command<R: Wait>(&self, rt: &R, command: Command) -> Result<StagedChange<I>, Refusal>
         ensures change { IfOk result (λ change. IsOfCommand change command) }
         ensures names { IfErr result (λ why. IsTrue (may_refuse command why.fault)) }

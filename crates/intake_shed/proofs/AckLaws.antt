@@ -1,13 +1,15 @@
 -- A settled event is in each longer history, at its number.
 use Rattle.std.proofs.Common.{◌≡◌, ℕ, zero, suc, ◌<◌, Bool, true, false, List, [], ◌∷◌, ◌++◌, refl, sym, ap, ◌∙◌, subst}
 use Rattle.std.proofs.Common.{arith, append_assoc, length, map}
-use Rattle.std.specs.Prelude.{All, Option, Some, None, slice_get, slice_index_or, unwrap_or, option_map, option_and_then, ◌&&◌, bytes_eq, if◌then◌else◌}
+use Rattle.std.specs.Prelude.{All, Option, Some, None, is_some, slice_get, slice_index_or, unwrap_or, option_map}
+use Rattle.std.specs.Prelude.{option_and_then, ◌&&◌, bytes_eq, if◌then◌else◌}
 use Rattle.std.specs.Option.{option_map_or}
 use Rattle.std.proofs.lemmas.Slice.Eq.{bytes_eq-Decides}
 use mathlib.Core.List.{IsPrefix}
 use Rattle.relay_types.specs.declared.record.Record.{Record}
 use Rattle.relay_types.specs.Records.{Accepted, accepted_by}
-use Rattle.relay_types.specs.Deliveries.{accepted, known_as}
+use Rattle.relay_types.specs.Deliveries.{accept_at, accepted, known_as}
+use Rattle.relay_types.proofs.PurgeLaws.{accepted_is, unpurged_if}
 use Rattle.relay_types.specs.Endpoints.{Endpoint}
 use Rattle.relay_types.specs.Subscriptions.{subscribers}
 use Rattle.delivery_book.specs.Book.{body_of}
@@ -22,6 +24,10 @@ use Rattle.intake_shed.specs.Acks.{AckValue, PublishAckValue, AreLogged, AreSett
 equal : (xs ys : List ℕ) → bytes_eq xs ys ≡ true → xs ≡ ys
 equal xs ys e = (bytes_eq-Decides xs ys).0 e
 
+-- an event that wasn't removed is there
+still_there : (records : List Record) (d : ℕ) (a : Accepted) → accepted records d ≡ Some a → accept_at records d ≡ Some a
+still_there records d a e = sym (accepted_is records d (unpurged_if records d (ap is_some e))) ∙ e
+
 -- the event that a world's settled records have by the ticket, with this body
 event_at : (records : List Record) (ticket : Ticket) (body : List ℕ)
     → (if has_event records ticket then body_of records ticket.seq else None) ≡ Some body
@@ -32,7 +38,13 @@ event_at records ticket body e = at (accepted records ticket.seq) refl e
         → bytes_eq a.endpoint ticket.name ≡ name → bytes_eq a.id ticket.id ≡ id
         → (if name && id then Some a.body else None) ≡ Some body
         → HasEvent records ticket.seq ticket.name ticket.id body
-    tests a is true true name id e = (a, is, equal a.endpoint ticket.name name, equal a.id ticket.id id, cc e)
+    tests a is true true name id e = (
+      a,
+      still_there records ticket.seq a is,
+      equal a.endpoint ticket.name name,
+      equal a.id ticket.id id,
+      cc e,
+    )
     tests a is true false name id e = absurd cc
     tests a is false id' name id e = absurd cc
 
@@ -47,12 +59,12 @@ get_longer [] more k x e = absurd cc
 get_longer (y ∷ xs) more zero x e = e
 get_longer (y ∷ xs) more (suc k) x e = get_longer xs more k x e
 
-accepted_longer : (xs more : List Record) (d : ℕ) (a : Accepted) → accepted xs d ≡ Some a
-    → accepted (xs ++ more) d ≡ Some a
+accepted_longer : (xs more : List Record) (d : ℕ) (a : Accepted) → accept_at xs d ≡ Some a
+    → accept_at (xs ++ more) d ≡ Some a
 accepted_longer xs more d a e = at (slice_get xs d) refl e
   where
     at : (found : Option Record) → slice_get xs d ≡ found → option_and_then accepted_by found ≡ Some a
-        → accepted (xs ++ more) d ≡ Some a
+        → accept_at (xs ++ more) d ≡ Some a
     at None is e = absurd cc
     at (Some r) is e = ap (option_and_then accepted_by) (get_longer xs more d r is) ∙ e
 
@@ -72,7 +84,7 @@ event_longer base prefix written seq name id body begins event =
     let all : (base ++ prefix) ++ begins.0 ≡ base ++ written =
     append_assoc base prefix begins.0 ∙ ap (λ w. base ++ w) begins.1 in
     let there = accepted_longer (base ++ prefix) begins.0 seq event.0 event.1 in
-    (event.0, subst (λ records. accepted records seq ≡ Some event.0) all there, event.2, event.3, event.4)
+    (event.0, subst (λ records. accept_at records seq ≡ Some event.0) all there, event.2, event.3, event.4)
 
 -- it is in the log, of which this was a prefix
 pub logged_on : (is_base : List Record → Type 0) (ack : AckValue) (written : List Record)

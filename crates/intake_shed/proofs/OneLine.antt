@@ -3,8 +3,8 @@ use Rattle.std.proofs.Common.{◌≡◌, ℕ, false, List, [], ◌++◌, take, I
 use Rattle.std.proofs.lemmas.Bool.{and_parts}
 use Rattle.text_lines.specs.Parts.{has_no}
 use Rattle.text_lines.proofs.NumberLaws.{bytes_not_equal}
-use Rattle.intake_shed.specs.Lines.{Line, Put, SetSecrets, SetEnabled, SetSubscribed, Submit, Publish, Totals, Endpoint, Event}
-use Rattle.intake_shed.specs.Lines.{IsLine, endpoint_path, topic_path}
+use Rattle.intake_shed.specs.Lines.{Line, Put, SetSecrets, SetEnabled, SetSubscribed, Submit, Publish, Retention, Totals}
+use Rattle.intake_shed.specs.Lines.{Endpoint, Event, IsLine, endpoint_path, topic_path}
 use Rattle.intake_shed.specs.Routes.{IsBehindName, StartsAt}
 use Rattle.intake_shed.proofs.PathLaws.{behind_name, same_topics}
 
@@ -27,8 +27,10 @@ same_id a b e = cc
 -- the line of a method, a name, and what stands behind the name
 one_behind : (a b : Line) (method name rest : List ℕ) → IsBehindName a method name rest → IsBehindName b method name rest → a ≡ b
 one_behind (Publish t) b method name rest h k = absurd h
+one_behind Retention b method name rest h k = absurd h
 one_behind Totals b method name rest h k = absurd h
 one_behind (Put x) (Publish u) method name rest h k = absurd k
+one_behind (Put x) Retention method name rest h k = absurd k
 one_behind (Put x) Totals method name rest h k = absurd k
 one_behind (Put x) (Put y) method name rest (m, n, r) (m', n', r') = ap Put (sym n ∙ n')
 one_behind (Put x) (SetSecrets y) method name rest (m, n, r) (m', n', r') = absurd (differ r r' refl)
@@ -39,6 +41,7 @@ one_behind (Put x) (Submit y) method name rest (m, n, r) (m', n', r') = absurd (
 one_behind (Put x) (Endpoint y) method name rest (m, n, r) (m', n', r') = absurd (differ m m' refl)
 one_behind (Put x) (Event y j) method name rest (m, n, r) (m', n', r', clear') = absurd (differ m m' refl)
 one_behind (SetSecrets x) (Publish u) method name rest h k = absurd k
+one_behind (SetSecrets x) Retention method name rest h k = absurd k
 one_behind (SetSecrets x) Totals method name rest h k = absurd k
 one_behind (SetSecrets x) (Put y) method name rest (m, n, r) (m', n', r') = absurd (differ r r' refl)
 one_behind (SetSecrets x) (SetSecrets y) method name rest (m, n, r) (m', n', r') = ap SetSecrets (sym n ∙ n')
@@ -49,6 +52,7 @@ one_behind (SetSecrets x) (Submit y) method name rest (m, n, r) (m', n', r') = a
 one_behind (SetSecrets x) (Endpoint y) method name rest (m, n, r) (m', n', r') = absurd (differ m m' refl)
 one_behind (SetSecrets x) (Event y j) method name rest (m, n, r) (m', n', r', clear') = absurd (differ m m' refl)
 one_behind (SetEnabled x) (Publish u) method name rest h k = absurd k
+one_behind (SetEnabled x) Retention method name rest h k = absurd k
 one_behind (SetEnabled x) Totals method name rest h k = absurd k
 one_behind (SetEnabled x) (Put y) method name rest (m, n, r) (m', n', r') = absurd (differ r r' refl)
 one_behind (SetEnabled x) (SetSecrets y) method name rest (m, n, r) (m', n', r') = absurd (differ r r' refl)
@@ -59,6 +63,7 @@ one_behind (SetEnabled x) (Submit y) method name rest (m, n, r) (m', n', r') = a
 one_behind (SetEnabled x) (Endpoint y) method name rest (m, n, r) (m', n', r') = absurd (differ m m' refl)
 one_behind (SetEnabled x) (Event y j) method name rest (m, n, r) (m', n', r', clear') = absurd (differ m m' refl)
 one_behind (SetSubscribed x t) (Publish u) method name rest h k = absurd k
+one_behind (SetSubscribed x t) Retention method name rest h k = absurd k
 one_behind (SetSubscribed x t) Totals method name rest h k = absurd k
 one_behind (SetSubscribed x t) (Put y) method name rest (m, n, r, clear) (m', n', r') =
     absurd (not_topics [] t refl (sym r' ∙ r))
@@ -75,6 +80,7 @@ one_behind (SetSubscribed x t) (Endpoint y) method name rest (m, n, r, clear) (m
 one_behind (SetSubscribed x t) (Event y j) method name rest (m, n, r, clear) (m', n', r', clear') =
     absurd (differ m m' refl)
 one_behind (Submit x) (Publish u) method name rest h k = absurd k
+one_behind (Submit x) Retention method name rest h k = absurd k
 one_behind (Submit x) Totals method name rest h k = absurd k
 one_behind (Submit x) (Put y) method name rest (m, n, r) (m', n', r') = absurd (differ m m' refl)
 one_behind (Submit x) (SetSecrets y) method name rest (m, n, r) (m', n', r') = absurd (differ m m' refl)
@@ -84,6 +90,7 @@ one_behind (Submit x) (Submit y) method name rest (m, n, r) (m', n', r') = ap Su
 one_behind (Submit x) (Endpoint y) method name rest (m, n, r) (m', n', r') = absurd (differ m m' refl)
 one_behind (Submit x) (Event y j) method name rest (m, n, r) (m', n', r', clear') = absurd (differ m m' refl)
 one_behind (Endpoint x) (Publish u) method name rest h k = absurd k
+one_behind (Endpoint x) Retention method name rest h k = absurd k
 one_behind (Endpoint x) Totals method name rest h k = absurd k
 one_behind (Endpoint x) (Put y) method name rest (m, n, r) (m', n', r') = absurd (differ m m' refl)
 one_behind (Endpoint x) (SetSecrets y) method name rest (m, n, r) (m', n', r') = absurd (differ m m' refl)
@@ -93,6 +100,7 @@ one_behind (Endpoint x) (Submit y) method name rest (m, n, r) (m', n', r') = abs
 one_behind (Endpoint x) (Endpoint y) method name rest (m, n, r) (m', n', r') = ap Endpoint (sym n ∙ n')
 one_behind (Endpoint x) (Event y j) method name rest (m, n, r) (m', n', r', clear') = absurd (no_rest j (sym r ∙ r'))
 one_behind (Event x i) (Publish u) method name rest h k = absurd k
+one_behind (Event x i) Retention method name rest h k = absurd k
 one_behind (Event x i) Totals method name rest h k = absurd k
 one_behind (Event x i) (Put y) method name rest (m, n, r, clear) (m', n', r') = absurd (differ m m' refl)
 one_behind (Event x i) (SetSecrets y) method name rest (m, n, r, clear) (m', n', r') = absurd (differ m m' refl)
@@ -112,6 +120,9 @@ with_name line b method path name rest e clean starts h k =
 not_totals : (path name rest : List ℕ) → path ≡ codes "/v1/status" → path ≡ endpoint_path name rest → ⊥
 not_totals path name rest h k = differ h k refl
 
+not_retention : (path name rest : List ℕ) → path ≡ codes "/v1/retention" → path ≡ endpoint_path name rest → ⊥
+not_retention path name rest h k = differ h k refl
+
 not_topics_path : (path name rest topic : List ℕ) → path ≡ topic_path topic → path ≡ endpoint_path name rest → ⊥
 not_topics_path path name rest topic h k = differ h k refl
 
@@ -128,6 +139,7 @@ one_line (Event x i) b method path h k =
     with_name (Event x i) b method path x (codes "/events/" ++ i) h.of_path (and_parts _ _ h.no_slash).0 refl h k
 one_line (Publish t) (Publish u) method path h k =
     ap Publish (same_topics t u (sym h.of_path ∙ k.of_path) (and_parts _ _ h.no_slash).0 (and_parts _ _ k.no_slash).0)
+one_line (Publish t) Retention method path h k = absurd (differ h.of_path k.of_path refl)
 one_line (Publish t) Totals method path h k = absurd (differ h.of_path k.of_path refl)
 one_line (Publish t) (Put y) method path h k = absurd (not_topics_path path y [] t h.of_path k.of_path)
 one_line (Publish t) (SetSecrets y) method path h k = absurd (not_topics_path path y (codes "/secrets") t h.of_path k.of_path)
@@ -136,7 +148,22 @@ one_line (Publish t) (SetSubscribed y u) method path h k = absurd (not_topics_pa
 one_line (Publish t) (Submit y) method path h k = absurd (not_topics_path path y (codes "/events") t h.of_path k.of_path)
 one_line (Publish t) (Endpoint y) method path h k = absurd (not_topics_path path y [] t h.of_path k.of_path)
 one_line (Publish t) (Event y j) method path h k = absurd (not_topics_path path y (codes "/events/" ++ j) t h.of_path k.of_path)
+one_line Retention Retention method path h k = refl
+one_line Retention Totals method path h k = absurd (differ h.of_path k.of_path refl)
+one_line Retention (Publish u) method path h k = absurd (differ h.of_path k.of_path refl)
+one_line Retention (Put y) method path h k = absurd (not_retention path y [] h.of_path k.of_path)
+one_line Retention (SetSecrets y) method path h k =
+    absurd (not_retention path y (codes "/secrets") h.of_path k.of_path)
+one_line Retention (SetEnabled y) method path h k =
+    absurd (not_retention path y (codes "/enabled") h.of_path k.of_path)
+one_line Retention (SetSubscribed y u) method path h k =
+    absurd (not_retention path y (codes "/topics/" ++ u) h.of_path k.of_path)
+one_line Retention (Submit y) method path h k = absurd (not_retention path y (codes "/events") h.of_path k.of_path)
+one_line Retention (Endpoint y) method path h k = absurd (not_retention path y [] h.of_path k.of_path)
+one_line Retention (Event y j) method path h k =
+    absurd (not_retention path y (codes "/events/" ++ j) h.of_path k.of_path)
 one_line Totals Totals method path h k = refl
+one_line Totals Retention method path h k = absurd (differ h.of_path k.of_path refl)
 one_line Totals (Publish u) method path h k = absurd (differ h.of_path k.of_path refl)
 one_line Totals (Put y) method path h k = absurd (not_totals path y [] h.of_path k.of_path)
 one_line Totals (SetSecrets y) method path h k = absurd (not_totals path y (codes "/secrets") h.of_path k.of_path)

@@ -7,11 +7,13 @@ use Rattle.text_lines.specs.Words.{AreSecretTexts}
 use Rattle.text_lines.proofs.NumberLaws.{true_not_false, some_equal}
 use Rattle.text_lines.proofs.WordLaws.{one_secrets}
 use Rattle.serde_json.specs.Data.{Num, unsigned, Data, boolean, number, string, array}
-use Rattle.relay_types.specs.Values.{Text, is_target, is_max_limit}
+use Rattle.relay_types.specs.Values.{Text, is_target, is_max_limit, is_moment}
 use Rattle.desk.specs.declared.command.Command.TheVariants as change
-use Rattle.intake_shed.specs.Bodies.{IsJson, HasPutMembers, HasSecrets, HasFlag, strings, is_max, AreNoSecrets, Says, IsBadMember, IsBadPut, IsBadSecrets, IsBadFlag, OfBody}
-use Rattle.intake_shed.specs.Lines.{Line, Put, SetSecrets, SetEnabled, SetSubscribed, Submit, Publish, Totals, Endpoint, Event}
-use Rattle.intake_shed.specs.Lines.{before_query, has_name}
+use Rattle.intake_shed.specs.Bodies.{IsJson, HasPutMembers, HasSecrets, HasFlag, HasBefore, strings, is_before, is_max}
+use Rattle.intake_shed.specs.Bodies.{AreNoSecrets, Says, IsBadMember, IsBadPut, IsBadSecrets, IsBadFlag, IsBadBefore}
+use Rattle.intake_shed.specs.Bodies.{OfBody}
+use Rattle.intake_shed.specs.Lines.{Line, Put, SetSecrets, SetEnabled, SetSubscribed, Submit, Publish, Retention, Totals}
+use Rattle.intake_shed.specs.Lines.{Endpoint, Event, before_query, has_name}
 use Rattle.intake_shed.specs.Replies.{ask_reply, out_of_memory}
 use Rattle.intake_shed.specs.Requests.{IsOn, AsksFor, IsOfBody, IsBadBody, IsBadOn, IsRefusedFor, IsNotReadFor, Gives, Tells}
 use Rattle.intake_shed.specs.Requests.{line_asked, has_room, has_id, has_parts, bytes_of}
@@ -57,6 +59,9 @@ one_flag value name a b h k =
     let same : boolean a ≡ boolean b = some_equal (sym h ∙ k) in
     cc
 
+one_before : (value : Data) (a b : Num) → HasBefore value a → HasBefore value b → a ≡ b
+one_before value a b h k = same_number a b (some_equal (sym h ∙ k))
+
 one_url : (value : Data) (url url' : Text) (max max' : Num) (list list' : List Text)
     → HasPutMembers value url max list → HasPutMembers value url' max' list' → url ≡ url'
 one_url value url url' max max' list list' h k = same_string url url' (some_equal (sym h.of_url ∙ k.of_url))
@@ -93,6 +98,7 @@ one_bad_member url max list fault.BadUrl fault.BadBody m n h k = absurd k
 one_bad_member url max list fault.BadUrl fault.BadUrl m n h k = refl
 one_bad_member url max list fault.BadUrl fault.BadMax m n h k = absurd (not_both _ k.0 h)
 one_bad_member url max list fault.BadUrl fault.BadSecret m n h k = absurd (not_both _ (and_parts (is_target url) (is_max max) k.0).0 h)
+one_bad_member url max list fault.BadUrl fault.BadMoment m n h k = absurd k
 one_bad_member url max list fault.BadUrl fault.OutOfMemory m n h k = absurd (n refl)
 one_bad_member url max list fault.BadMax fault.NotFound m n h k = absurd k
 one_bad_member url max list fault.BadMax fault.BadName m n h k = absurd k
@@ -102,6 +108,7 @@ one_bad_member url max list fault.BadMax fault.BadBody m n h k = absurd k
 one_bad_member url max list fault.BadMax fault.BadUrl m n h k = absurd (not_both _ h.0 k)
 one_bad_member url max list fault.BadMax fault.BadMax m n h k = refl
 one_bad_member url max list fault.BadMax fault.BadSecret m n h k = absurd (not_both _ (and_parts (is_target url) (is_max max) k.0).1 h.1)
+one_bad_member url max list fault.BadMax fault.BadMoment m n h k = absurd k
 one_bad_member url max list fault.BadMax fault.OutOfMemory m n h k = absurd (n refl)
 one_bad_member url max list fault.BadSecret fault.NotFound m n h k = absurd k
 one_bad_member url max list fault.BadSecret fault.BadName m n h k = absurd k
@@ -111,7 +118,9 @@ one_bad_member url max list fault.BadSecret fault.BadBody m n h k = absurd k
 one_bad_member url max list fault.BadSecret fault.BadUrl m n h k = absurd (not_both _ (and_parts (is_target url) (is_max max) h.0).0 k)
 one_bad_member url max list fault.BadSecret fault.BadMax m n h k = absurd (not_both _ (and_parts (is_target url) (is_max max) h.0).1 k.1)
 one_bad_member url max list fault.BadSecret fault.BadSecret m n h k = refl
+one_bad_member url max list fault.BadSecret fault.BadMoment m n h k = absurd k
 one_bad_member url max list fault.BadSecret fault.OutOfMemory m n h k = absurd (n refl)
+one_bad_member url max list fault.BadMoment b m n h k = absurd h
 one_bad_member url max list fault.OutOfMemory b m n h k = absurd (m refl)
 
 -- members that are good
@@ -125,6 +134,7 @@ good_members url max list secrets fault.BadBody m good are h = h
 good_members url max list secrets fault.BadUrl m good are h = not_both _ (and_parts (is_target url) (is_max max) good).0 h
 good_members url max list secrets fault.BadMax m good are h = not_both _ (and_parts (is_target url) (is_max max) good).1 h.1
 good_members url max list secrets fault.BadSecret m good are h = h.1 secrets are
+good_members url max list secrets fault.BadMoment m good are h = h
 good_members url max list secrets fault.OutOfMemory m good are h = m refl
 
 -- the body of a new endpoint lacks a member, or has a bad one
@@ -147,6 +157,7 @@ put_stage body fault.BadBody m h = inl (refl, h)
 put_stage body fault.BadUrl m h = inr h
 put_stage body fault.BadMax m h = inr h
 put_stage body fault.BadSecret m h = inr h
+put_stage body fault.BadMoment m h = inr h
 put_stage body fault.OutOfMemory m h = absurd (m refl)
 
 same_bad_put : (body : Text) (a b : AskFault) → a ≢ fault.OutOfMemory → b ≢ fault.OutOfMemory → HasBadPut body a → HasBadPut body b → a ≡ b
@@ -186,6 +197,7 @@ secrets_stage body fault.BadBody m h = inl (refl, h)
 secrets_stage body fault.BadUrl m h = absurd h.2
 secrets_stage body fault.BadMax m h = absurd h.2
 secrets_stage body fault.BadSecret m h = inr (refl, h)
+secrets_stage body fault.BadMoment m h = absurd h.2
 secrets_stage body fault.OutOfMemory m h = absurd (m refl)
 
 one_secrets_fault : (body : Text) (a b : AskFault) → ((a ≡ fault.BadBody) × LacksList body) ⊎ ((a ≡ fault.BadSecret) × HasBadList body)
@@ -209,11 +221,43 @@ flag_stage name body fault.BadBody m h = (refl, h)
 flag_stage name body fault.BadUrl m h = absurd h.2
 flag_stage name body fault.BadMax m h = absurd h.2
 flag_stage name body fault.BadSecret m h = absurd h.2
+flag_stage name body fault.BadMoment m h = absurd h.2
 flag_stage name body fault.OutOfMemory m h = absurd (m refl)
 
 one_flag_fault : (name body : Text) (a b : AskFault) → a ≢ fault.OutOfMemory → b ≢ fault.OutOfMemory
     → OfBody (IsBadFlag name) body a → OfBody (IsBadFlag name) body b → a ≡ b
 one_flag_fault name body a b m n h k = (flag_stage name body a m h).0 ∙ sym (flag_stage name body b n k).0
+
+-- the body of a purge lacks its moment, or has a bad one
+abbrev LacksBefore : (body : Text) → Type 0
+LacksBefore body = (value : Data) → IsJson body value → (before : Num) → ¬ HasBefore value before
+
+abbrev HasBadMoment : (value : Data) → Type 0
+HasBadMoment value = (before : Num) × HasBefore value before × (is_before before ≡ false)
+
+abbrev HasBadBefore : (body : Text) → Type 0
+HasBadBefore body = (value : Data) × IsJson body value × HasBadMoment value
+
+before_stage : (body : Text) (why : AskFault) → why ≢ fault.OutOfMemory → OfBody IsBadBefore body why
+    → ((why ≡ fault.BadBody) × LacksBefore body) ⊎ ((why ≡ fault.BadMoment) × HasBadBefore body)
+before_stage body fault.NotFound m h = absurd h.2
+before_stage body fault.BadName m h = absurd h.2
+before_stage body fault.TooLong m h = absurd h.2
+before_stage body fault.BadId m h = absurd h.2
+before_stage body fault.BadBody m h = inl (refl, h)
+before_stage body fault.BadUrl m h = absurd h.2
+before_stage body fault.BadMax m h = absurd h.2
+before_stage body fault.BadSecret m h = absurd h.2
+before_stage body fault.BadMoment m h = inr (refl, h)
+before_stage body fault.OutOfMemory m h = absurd (m refl)
+
+one_before_fault : (body : Text) (a b : AskFault)
+    → ((a ≡ fault.BadBody) × LacksBefore body) ⊎ ((a ≡ fault.BadMoment) × HasBadBefore body)
+    → ((b ≡ fault.BadBody) × LacksBefore body) ⊎ ((b ≡ fault.BadMoment) × HasBadBefore body) → a ≡ b
+one_before_fault body a b (inl (e, lacks)) (inl (f, none)) = e ∙ sym f
+one_before_fault body a b (inl (e, lacks)) (inr (f, (v, json, (before, has, bad)))) = absurd (lacks v json before has)
+one_before_fault body a b (inr (e, (v, json, (before, has, bad)))) (inl (f, lacks)) = absurd (lacks v json before has)
+one_before_fault body a b (inr (e, h)) (inr (f, k)) = e ∙ sym f
 
 -- the body of an event is never bad
 no_bad_event : (name body : Text) (why : AskFault) → why ≢ fault.OutOfMemory → IsBadBody (Submit name) body why → ⊥
@@ -225,6 +269,7 @@ no_bad_event name body fault.BadBody m h = h
 no_bad_event name body fault.BadUrl m h = h
 no_bad_event name body fault.BadMax m h = h
 no_bad_event name body fault.BadSecret m h = h
+no_bad_event name body fault.BadMoment m h = h
 no_bad_event name body fault.OutOfMemory m h = m refl
 
 no_bad_publish : (topic body : Text) (why : AskFault) → why ≢ fault.OutOfMemory → IsBadBody (Publish topic) body why → ⊥
@@ -236,6 +281,7 @@ no_bad_publish topic body fault.BadBody m h = h
 no_bad_publish topic body fault.BadUrl m h = h
 no_bad_publish topic body fault.BadMax m h = h
 no_bad_publish topic body fault.BadSecret m h = h
+no_bad_publish topic body fault.BadMoment m h = h
 no_bad_publish topic body fault.OutOfMemory m h = m refl
 
 one_bad_body : (line : Line) (body : Text) (a b : AskFault) → a ≢ fault.OutOfMemory → b ≢ fault.OutOfMemory
@@ -246,6 +292,8 @@ one_bad_body (SetEnabled name) body a b m n h k = one_flag_fault (codes "enabled
 one_bad_body (SetSubscribed name topic) body a b m n h k = one_flag_fault (codes "subscribed") body a b m n h k
 one_bad_body (Submit name) body a b m n h k = absurd (no_bad_event name body a m h)
 one_bad_body (Publish topic) body a b m n h k = absurd (no_bad_publish topic body a m h)
+one_bad_body Retention body a b m n h k =
+    one_before_fault body a b (before_stage body a m h) (before_stage body b n k)
 one_bad_body Totals body a b m n h k = absurd h
 one_bad_body (Endpoint name) body a b m n h k = absurd h
 one_bad_body (Event name id) body a b m n h k = absurd h
@@ -268,6 +316,7 @@ stage line ask fault.BadBody h = inr (inr (inr h))
 stage line ask fault.BadUrl h = inr (inr (inr h))
 stage line ask fault.BadMax h = inr (inr (inr h))
 stage line ask fault.BadSecret h = inr (inr (inr h))
+stage line ask fault.BadMoment h = inr (inr (inr h))
 stage line ask fault.OutOfMemory h = inr (inr (inr h))
 
 named : (line : Line) (ask : Ask) → IsTrue (has_parts line ask) → IsTrue (has_name line)
@@ -314,6 +363,7 @@ is_memory fault.BadBody = false
 is_memory fault.BadUrl = false
 is_memory fault.BadMax = false
 is_memory fault.BadSecret = false
+is_memory fault.BadMoment = false
 is_memory fault.OutOfMemory = true
 
 no_memory : (why : AskFault) → is_memory why ≡ false → why ≢ fault.OutOfMemory
@@ -337,6 +387,7 @@ refused_there ask fault.BadBody h = inr (no_memory fault.BadBody refl, h)
 refused_there ask fault.BadUrl h = inr (no_memory fault.BadUrl refl, h)
 refused_there ask fault.BadMax h = inr (no_memory fault.BadMax refl, h)
 refused_there ask fault.BadSecret h = inr (no_memory fault.BadSecret refl, h)
+refused_there ask fault.BadMoment h = inr (no_memory fault.BadMoment refl, h)
 refused_there ask fault.OutOfMemory h = absurd h
 
 one_there : (ask : Ask) (a b : AskFault) → NoLine ask a ⊎ OnLine ask a → NoLine ask b ⊎ OnLine ask b → a ≡ b
@@ -371,6 +422,16 @@ says_secrets body texts secrets v why json has are (inr (e, (v', json', (list', 
     let same : list' ≡ texts = one_list v list' texts (subst (λ x. HasSecrets x list') value has') has in
     bad' secrets (subst (λ x. AreSecretTexts x secrets) (sym same) are)
 
+says_before : (body : Text) (before : ℕ) (value : Data) (why : AskFault) → IsJson body value
+    → HasBefore value (unsigned before) → IsTrue (is_moment before)
+    → ((why ≡ fault.BadBody) × LacksBefore body) ⊎ ((why ≡ fault.BadMoment) × HasBadBefore body) → ⊥
+says_before body before v why json has good (inl (e, lacks)) = lacks v json (unsigned before) has
+says_before body before v why json has good (inr (e, (v', json', (before', has', bad')))) =
+    let value : v' ≡ v = one_value body v' v json' json in
+    let same : before' ≡ unsigned before =
+    one_before v before' (unsigned before) (subst (λ x. HasBefore x before') value has') has in
+    not_both (is_before before') (subst (λ x. IsTrue (is_before x)) (sym same) good) bad'
+
 says_no_bad : (ask : Ask) (fresh : Text) (what : Asked) (why : AskFault) → why ≢ fault.OutOfMemory → IsOfBody ask fresh what
     → IsBadBody (line_asked what) (bytes_of ask.body) why → ⊥
 says_no_bad ask fresh (asked.Change (change.PutEndpoint name url limit secrets)) why m (value, json, (texts, members, good, are)) h =
@@ -381,6 +442,8 @@ says_no_bad ask fresh (asked.Change (change.SetEnabled name flag)) why m (value,
     (flag_stage (codes "enabled") (bytes_of ask.body) why m h).1 value json flag has
 says_no_bad ask fresh (asked.Change (change.SetSubscribed topic name flag)) why m (value, json, has) h =
     (flag_stage (codes "subscribed") (bytes_of ask.body) why m h).1 value json flag has
+says_no_bad ask fresh (asked.Change (change.Purge before)) why m (value, json, (has, good)) h =
+    says_before (bytes_of ask.body) before value why json has good (before_stage (bytes_of ask.body) why m h)
 says_no_bad ask fresh (asked.Post name id body) why m says h = no_bad_event name (bytes_of ask.body) why m h
 says_no_bad ask fresh (asked.Publish topic id body) why m says h = no_bad_publish topic (bytes_of ask.body) why m h
 says_no_bad ask fresh asked.Totals why m says h = h
@@ -412,6 +475,7 @@ name_of (SetEnabled name) = name
 name_of (SetSubscribed name topic) = name
 name_of (Submit name) = name
 name_of (Publish topic) = topic
+name_of Retention = []
 name_of Totals = []
 name_of (Endpoint name) = name
 name_of (Event name id) = name
@@ -462,11 +526,22 @@ one_subscribed : (s t x y : Text) (u v : Bool) → s ≡ t → x ≡ y → u ≡
     → asked.Change (change.SetSubscribed s x u) ≡ asked.Change (change.SetSubscribed t y v)
 one_subscribed s t x y u v of_topic e of_flag = cc
 
+one_purge : (n k : ℕ) (body : Text) → (value : Data) × IsJson body value × Says value (change.Purge n)
+    → (value : Data) × IsJson body value × Says value (change.Purge k)
+    → asked.Change (change.Purge n) ≡ asked.Change (change.Purge k)
+one_purge n k body (value, json, (has, good)) (value', json', (has', good')) =
+    let same : value' ≡ value = one_value body value' value json' json in
+    let numbers : unsigned n ≡ unsigned k =
+    one_before value (unsigned n) (unsigned k) has (subst (λ d. HasBefore d (unsigned k)) same has') in
+    let moments : n ≡ k = cc in
+    cc
+
 one_of_body : (a b : Asked) (ask : Ask) (fresh : Text) → line_asked a ≡ line_asked b → IsOfBody ask fresh a → IsOfBody ask fresh b → a ≡ b
 one_of_body (asked.Change (change.PutEndpoint x u l s)) (asked.Change (change.PutEndpoint y v k t)) ask fresh e h g = one_put x y u v l k s t (bytes_of ask.body) (ap name_of e) h g
 one_of_body (asked.Change (change.PutEndpoint x u l s)) (asked.Change (change.SetSecrets y t)) ask fresh e h g = cc
 one_of_body (asked.Change (change.PutEndpoint x u l s)) (asked.Change (change.SetEnabled y v)) ask fresh e h g = cc
 one_of_body (asked.Change (change.PutEndpoint x u l s)) (asked.Change (change.SetSubscribed t y v)) ask fresh e h g = cc
+one_of_body (asked.Change (change.PutEndpoint x u l s)) (asked.Change (change.Purge k)) ask fresh e h g = cc
 one_of_body (asked.Change (change.PutEndpoint x u l s)) (asked.Post y v t) ask fresh e h g = cc
 one_of_body (asked.Change (change.PutEndpoint x u l s)) (asked.Publish y v t) ask fresh e h g = cc
 one_of_body (asked.Change (change.PutEndpoint x u l s)) asked.Totals ask fresh e h g = cc
@@ -476,6 +551,7 @@ one_of_body (asked.Change (change.SetSecrets x s)) (asked.Change (change.PutEndp
 one_of_body (asked.Change (change.SetSecrets x s)) (asked.Change (change.SetSecrets y t)) ask fresh e h g = one_set x y s t (bytes_of ask.body) (ap name_of e) h g
 one_of_body (asked.Change (change.SetSecrets x s)) (asked.Change (change.SetEnabled y v)) ask fresh e h g = cc
 one_of_body (asked.Change (change.SetSecrets x s)) (asked.Change (change.SetSubscribed t y v)) ask fresh e h g = cc
+one_of_body (asked.Change (change.SetSecrets x s)) (asked.Change (change.Purge k)) ask fresh e h g = cc
 one_of_body (asked.Change (change.SetSecrets x s)) (asked.Post y v t) ask fresh e h g = cc
 one_of_body (asked.Change (change.SetSecrets x s)) (asked.Publish y v t) ask fresh e h g = cc
 one_of_body (asked.Change (change.SetSecrets x s)) asked.Totals ask fresh e h g = cc
@@ -486,6 +562,7 @@ one_of_body (asked.Change (change.SetEnabled x u)) (asked.Change (change.SetSecr
 one_of_body (asked.Change (change.SetEnabled x u)) (asked.Change (change.SetEnabled y v)) ask fresh e h g =
     one_flagged x y u v (ap name_of e) (same_flag (codes "enabled") (bytes_of ask.body) u v h g)
 one_of_body (asked.Change (change.SetEnabled x u)) (asked.Change (change.SetSubscribed t y v)) ask fresh e h g = cc
+one_of_body (asked.Change (change.SetEnabled x u)) (asked.Change (change.Purge k)) ask fresh e h g = cc
 one_of_body (asked.Change (change.SetEnabled x u)) (asked.Post y v t) ask fresh e h g = cc
 one_of_body (asked.Change (change.SetEnabled x u)) (asked.Publish y v t) ask fresh e h g = cc
 one_of_body (asked.Change (change.SetEnabled x u)) asked.Totals ask fresh e h g = cc
@@ -497,15 +574,28 @@ one_of_body (asked.Change (change.SetSubscribed s x u)) (asked.Change (change.Se
 one_of_body (asked.Change (change.SetSubscribed s x u)) (asked.Change (change.SetSubscribed t y v)) ask fresh e h g =
     one_subscribed s t x y u v (ap topic_of e) (ap name_of e)
     (same_flag (codes "subscribed") (bytes_of ask.body) u v h g)
+one_of_body (asked.Change (change.SetSubscribed s x u)) (asked.Change (change.Purge k)) ask fresh e h g = cc
 one_of_body (asked.Change (change.SetSubscribed s x u)) (asked.Post y v t) ask fresh e h g = cc
 one_of_body (asked.Change (change.SetSubscribed s x u)) (asked.Publish y v t) ask fresh e h g = cc
 one_of_body (asked.Change (change.SetSubscribed s x u)) asked.Totals ask fresh e h g = cc
 one_of_body (asked.Change (change.SetSubscribed s x u)) (asked.Endpoint y) ask fresh e h g = cc
 one_of_body (asked.Change (change.SetSubscribed s x u)) (asked.Event y v) ask fresh e h g = cc
+one_of_body (asked.Change (change.Purge n)) (asked.Change (change.PutEndpoint y v k t)) ask fresh e h g = cc
+one_of_body (asked.Change (change.Purge n)) (asked.Change (change.SetSecrets y t)) ask fresh e h g = cc
+one_of_body (asked.Change (change.Purge n)) (asked.Change (change.SetEnabled y v)) ask fresh e h g = cc
+one_of_body (asked.Change (change.Purge n)) (asked.Change (change.SetSubscribed t y v)) ask fresh e h g = cc
+one_of_body (asked.Change (change.Purge n)) (asked.Change (change.Purge k)) ask fresh e h g =
+    one_purge n k (bytes_of ask.body) h g
+one_of_body (asked.Change (change.Purge n)) (asked.Post y v t) ask fresh e h g = cc
+one_of_body (asked.Change (change.Purge n)) (asked.Publish y v t) ask fresh e h g = cc
+one_of_body (asked.Change (change.Purge n)) asked.Totals ask fresh e h g = cc
+one_of_body (asked.Change (change.Purge n)) (asked.Endpoint y) ask fresh e h g = cc
+one_of_body (asked.Change (change.Purge n)) (asked.Event y v) ask fresh e h g = cc
 one_of_body (asked.Post x u s) (asked.Change (change.PutEndpoint y v k t)) ask fresh e h g = cc
 one_of_body (asked.Post x u s) (asked.Change (change.SetSecrets y t)) ask fresh e h g = cc
 one_of_body (asked.Post x u s) (asked.Change (change.SetEnabled y v)) ask fresh e h g = cc
 one_of_body (asked.Post x u s) (asked.Change (change.SetSubscribed t y v)) ask fresh e h g = cc
+one_of_body (asked.Post x u s) (asked.Change (change.Purge k)) ask fresh e h g = cc
 one_of_body (asked.Post x u s) (asked.Post y v t) ask fresh e h g = let n : x ≡ y = ap name_of e in let of_id : u ≡ v = h.0 ∙ sym g.0 in let of_body : s ≡ t = h.1 ∙ sym g.1 in cc
 one_of_body (asked.Post x u s) (asked.Publish y v t) ask fresh e h g = cc
 one_of_body (asked.Post x u s) asked.Totals ask fresh e h g = cc
@@ -515,6 +605,7 @@ one_of_body (asked.Publish x u s) (asked.Change (change.PutEndpoint y v k t)) as
 one_of_body (asked.Publish x u s) (asked.Change (change.SetSecrets y t)) ask fresh e h g = cc
 one_of_body (asked.Publish x u s) (asked.Change (change.SetEnabled y v)) ask fresh e h g = cc
 one_of_body (asked.Publish x u s) (asked.Change (change.SetSubscribed t y v)) ask fresh e h g = cc
+one_of_body (asked.Publish x u s) (asked.Change (change.Purge k)) ask fresh e h g = cc
 one_of_body (asked.Publish x u s) (asked.Post y v t) ask fresh e h g = cc
 one_of_body (asked.Publish x u s) (asked.Publish y v t) ask fresh e h g =
     let n : x ≡ y = ap name_of e in
@@ -528,6 +619,7 @@ one_of_body asked.Totals (asked.Change (change.PutEndpoint y v k t)) ask fresh e
 one_of_body asked.Totals (asked.Change (change.SetSecrets y t)) ask fresh e h g = cc
 one_of_body asked.Totals (asked.Change (change.SetEnabled y v)) ask fresh e h g = cc
 one_of_body asked.Totals (asked.Change (change.SetSubscribed t y v)) ask fresh e h g = cc
+one_of_body asked.Totals (asked.Change (change.Purge k)) ask fresh e h g = cc
 one_of_body asked.Totals (asked.Post y v t) ask fresh e h g = cc
 one_of_body asked.Totals (asked.Publish y v t) ask fresh e h g = cc
 one_of_body asked.Totals asked.Totals ask fresh e h g = refl
@@ -537,6 +629,7 @@ one_of_body (asked.Endpoint x) (asked.Change (change.PutEndpoint y v k t)) ask f
 one_of_body (asked.Endpoint x) (asked.Change (change.SetSecrets y t)) ask fresh e h g = cc
 one_of_body (asked.Endpoint x) (asked.Change (change.SetEnabled y v)) ask fresh e h g = cc
 one_of_body (asked.Endpoint x) (asked.Change (change.SetSubscribed t y v)) ask fresh e h g = cc
+one_of_body (asked.Endpoint x) (asked.Change (change.Purge k)) ask fresh e h g = cc
 one_of_body (asked.Endpoint x) (asked.Post y v t) ask fresh e h g = cc
 one_of_body (asked.Endpoint x) (asked.Publish y v t) ask fresh e h g = cc
 one_of_body (asked.Endpoint x) asked.Totals ask fresh e h g = cc
@@ -546,6 +639,7 @@ one_of_body (asked.Event x u) (asked.Change (change.PutEndpoint y v k t)) ask fr
 one_of_body (asked.Event x u) (asked.Change (change.SetSecrets y t)) ask fresh e h g = cc
 one_of_body (asked.Event x u) (asked.Change (change.SetEnabled y v)) ask fresh e h g = cc
 one_of_body (asked.Event x u) (asked.Change (change.SetSubscribed t y v)) ask fresh e h g = cc
+one_of_body (asked.Event x u) (asked.Change (change.Purge k)) ask fresh e h g = cc
 one_of_body (asked.Event x u) (asked.Post y v t) ask fresh e h g = cc
 one_of_body (asked.Event x u) (asked.Publish y v t) ask fresh e h g = cc
 one_of_body (asked.Event x u) asked.Totals ask fresh e h g = cc
@@ -568,6 +662,7 @@ not_read ask fault.BadBody reply e h = inr (fault.BadBody, e, h)
 not_read ask fault.BadUrl reply e h = inr (fault.BadUrl, e, h)
 not_read ask fault.BadMax reply e h = inr (fault.BadMax, e, h)
 not_read ask fault.BadSecret reply e h = inr (fault.BadSecret, e, h)
+not_read ask fault.BadMoment reply e h = inr (fault.BadMoment, e, h)
 not_read ask fault.OutOfMemory reply e h = inl e
 
 pub told : (ask : Ask) (reply : Reply) (why : AskFault) → (reply ≡ out_of_memory) ⊎ ((other : AskFault) × (reply ≡ ask_reply other) × IsRefusedFor ask other)

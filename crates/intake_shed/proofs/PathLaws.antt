@@ -4,8 +4,8 @@ use Rattle.std.specs.List.{list_all, position_or_len}
 use Rattle.std.proofs.lemmas.Bool.{and_parts, and_from, eqb-true, eq-eqb}
 use Rattle.text_lines.specs.Parts.{has_no}
 use Rattle.text_lines.proofs.NumberLaws.{bytes_not_equal, true_not_false}
-use Rattle.intake_shed.specs.Lines.{Line, Put, SetSecrets, SetEnabled, SetSubscribed, Submit, Publish, Totals, Endpoint, Event}
-use Rattle.intake_shed.specs.Lines.{IsLine, endpoint_path, topic_path}
+use Rattle.intake_shed.specs.Lines.{Line, Put, SetSecrets, SetEnabled, SetSubscribed, Submit, Publish, Retention, Totals}
+use Rattle.intake_shed.specs.Lines.{Endpoint, Event, IsLine, endpoint_path, topic_path}
 use Rattle.intake_shed.specs.Routes.{IsBehindName, StartsAt}
 
 -- ---- what stands before the first mark, and from it on
@@ -86,6 +86,8 @@ behind_name (Submit its) method path name rest e clean starts h =
     (h.of_method, one.0, one.1)
 behind_name (Publish topic) method path name rest e clean starts h =
     bytes_not_equal (topic_path topic) (endpoint_path name rest) false refl refl (sym h.of_path ∙ e)
+behind_name Retention method path name rest e clean starts h =
+    bytes_not_equal (codes "/v1/retention") (endpoint_path name rest) false refl refl (sym h.of_path ∙ e)
 behind_name Totals method path name rest e clean starts h =
     bytes_not_equal (codes "/v1/status") (endpoint_path name rest) false refl refl (sym h.of_path ∙ e)
 behind_name (Endpoint its) method path name rest e clean starts h =
@@ -115,6 +117,7 @@ is_line (SetSubscribed its topic) method path name rest e clean (m, n, r, clear)
 }
 is_line (Submit its) method path name rest e clean (m, n, r) = record { of_method = m; of_path = cc; no_slash = one_part name its n clean }
 is_line (Publish topic) method path name rest e clean h = absurd h
+is_line Retention method path name rest e clean h = absurd h
 is_line Totals method path name rest e clean h = absurd h
 is_line (Endpoint its) method path name rest e clean (m, n, r) = record { of_method = m; of_path = cc; no_slash = one_part name its n clean }
 is_line (Event its id) method path name rest e clean (m, n, r, clear) = record {
@@ -158,6 +161,8 @@ behind_topics (SetSubscribed its u) method topic rest clean starts h = absurd
     (bytes_not_equal (codes "/v1/topics/" ++ (topic ++ rest)) (endpoint_path its (codes "/topics/" ++ u)) false refl refl h.of_path)
 behind_topics (Submit its) method topic rest clean starts h = absurd
     (bytes_not_equal (codes "/v1/topics/" ++ (topic ++ rest)) (endpoint_path its (codes "/events")) false refl refl h.of_path)
+behind_topics Retention method topic rest clean starts h = absurd
+    (bytes_not_equal (codes "/v1/topics/" ++ (topic ++ rest)) (codes "/v1/retention") false refl refl h.of_path)
 behind_topics Totals method topic rest clean starts h = absurd
     (bytes_not_equal (codes "/v1/topics/" ++ (topic ++ rest)) (codes "/v1/status") false refl refl h.of_path)
 behind_topics (Endpoint its) method topic rest clean starts h = absurd

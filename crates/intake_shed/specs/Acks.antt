@@ -2,7 +2,7 @@
 use Rattle.std.specs.Prelude.{◌≡◌, ℕ, ◌<◌, All, List, ◌++◌, length, Option, Some}
 use Rattle.relay_types.specs.declared.record.Record.{Record}
 use Rattle.relay_types.specs.Records.{Accepted}
-use Rattle.relay_types.specs.Deliveries.{accepted}
+use Rattle.relay_types.specs.Deliveries.{accept_at}
 use Rattle.relay_types.specs.Values.{Text, Seq}
 use Rattle.desk.specs.declared.ticket.Ticket.{Ticket}
 use Rattle.delivery.specs.Logs.{ChangeValue, PublishedValue}
@@ -39,10 +39,10 @@ publish_ack_of event body prefix = record { event = event; body = body; prefix =
 abbrev pub confirmed_of : ChangeValue → (prefix : List Record) → ChangeValue
 confirmed_of change prefix = record { seq = change.seq; entry = change.entry; prefix = prefix }
 
--- the record of this number is an event of this endpoint, with this id and this body
+-- The record of this number is an event of this endpoint, with this id and this body. A later record may purge it.
 abbrev pub HasEvent : List Record → (seq : Seq) → (name id body : Text) → Type 0
 HasEvent records seq name id body =
-    (a : Accepted) × (accepted records seq ≡ Some a) × (a.endpoint ≡ name) × (a.id ≡ id) × (a.body ≡ body)
+    (a : Accepted) × (accept_at records seq ≡ Some a) × (a.endpoint ≡ name) × (a.id ≡ id) × (a.body ≡ body)
 
 -- Of each history that the log of the run goes on from: the event is in that history and the log, at its number.
 abbrev pub IsLogged : (is_base : List Record → Type 0) → AckValue → (log : List Record) → Type 0

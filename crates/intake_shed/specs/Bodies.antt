@@ -5,12 +5,13 @@ use Rattle.serde_json.specs.Data.{Num, unsigned, negative, float}
 use Rattle.serde_json.specs.Data.{Data, boolean, number, string, array, Items, no_items, item}
 use Rattle.serde_json.specs.Find.{get}
 use Rattle.serde_json.specs.Read.{read}
-use Rattle.relay_types.specs.Values.{Text, is_target, is_max_limit}
+use Rattle.relay_types.specs.Values.{Text, is_target, is_max_limit, is_moment}
 use Rattle.text_lines.specs.Words.{AreSecretTexts}
 use Rattle.desk.specs.declared.command.Command.{Command}
-use Rattle.desk.specs.declared.command.Command.TheVariants.{PutEndpoint, SetSecrets, SetEnabled, SetSubscribed}
+use Rattle.desk.specs.declared.command.Command.TheVariants.{PutEndpoint, SetSecrets, SetEnabled, SetSubscribed, Purge}
 use Rattle.intake_shed.specs.declared.fault.AskFault.{AskFault}
-use Rattle.intake_shed.specs.declared.fault.AskFault.TheVariants.{BadBody, BadUrl, BadMax, BadSecret, OutOfMemory}
+use Rattle.intake_shed.specs.declared.fault.AskFault.TheVariants.{BadBody, BadUrl, BadMax, BadSecret, BadMoment}
+use Rattle.intake_shed.specs.declared.fault.AskFault.TheVariants.{OutOfMemory}
 
 -- the text has this value
 abbrev pub IsJson : (body : Text) → Data → Type 0
@@ -33,23 +34,33 @@ HasSecrets value secrets = get (codes "secrets") value ≡ Some (array (strings 
 abbrev pub HasFlag : (value : Data) (name : Text) (flag : Bool) → Type 0
 HasFlag value name flag = get name value ≡ Some (boolean flag)
 
+abbrev pub HasBefore : (value : Data) (before : Num) → Type 0
+HasBefore value before = get (codes "before") value ≡ Some (number before)
+
 -- whether the number is a whole one from 1 to 1000. One that is written with a point or an exponent is a float.
 abbrev pub is_max : Num → Bool
 is_max (unsigned n) = is_max_limit n
 is_max (negative z) = false
 is_max (float x) = false
 
+-- whether it is a whole one from 0 to 2^40
+abbrev pub is_before : Num → Bool
+is_before (unsigned n) = is_moment n
+is_before (negative z) = false
+is_before (float x) = false
+
 -- no list of secrets is written by these texts
 abbrev pub AreNoSecrets : List Text → Type 0
 AreNoSecrets texts = (secrets : List Text) → ¬ AreSecretTexts texts secrets
 
--- What the value says: the new endpoint, the secrets, or the flag of this command.
+-- What the value says: the new endpoint, the secrets, the flag, or the moment of this command.
 abbrev pub Says : (value : Data) → Command → Type 0
 Says value (PutEndpoint name target max secrets) = (texts : List Text) × HasPutMembers value target (unsigned max) texts
     × IsTrue (is_target target && is_max_limit max) × AreSecretTexts texts secrets
 Says value (SetSecrets name secrets) = (texts : List Text) × HasSecrets value texts × AreSecretTexts texts secrets
 Says value (SetEnabled name flag) = HasFlag value (codes "enabled") flag
 Says value (SetSubscribed topic name flag) = HasFlag value (codes "subscribed") flag
+Says value (Purge before) = HasBefore value (unsigned before) × IsTrue (is_moment before)
 
 -- the first of these members that is bad: the url, the max, the secrets
 abbrev pub IsBadMember : (url : Text) (max : Num) (secrets : List Text) → AskFault → Type 0
@@ -76,6 +87,12 @@ abbrev pub IsBadFlag : (name : Text) (value : Data) → AskFault → Type 0
 IsBadFlag name value BadBody = (flag : Bool) → ¬ HasFlag value name flag
 IsBadFlag name value OutOfMemory = Unit {0}
 IsBadFlag name value why = ⊥
+
+abbrev pub IsBadBefore : (value : Data) → AskFault → Type 0
+IsBadBefore value BadBody = (before : Num) → ¬ HasBefore value before
+IsBadBefore value BadMoment = (before : Num) × HasBefore value before × (is_before before ≡ false)
+IsBadBefore value OutOfMemory = Unit {0}
+IsBadBefore value why = ⊥
 
 -- what a body is refused for, whose value is refused so; a body that has no value is BadBody
 abbrev pub OfBody : (IsBad : Data → AskFault → Type 0) → (body : Text) → AskFault → Type 0

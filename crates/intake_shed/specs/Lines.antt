@@ -13,6 +13,7 @@ pub data Line : Type 0 where
   SetSubscribed : (name topic : Text) → Line
   Submit : (name : Text) → Line
   Publish : (topic : Text) → Line
+  Retention : Line
   Totals : Line
   Endpoint : (name : Text) → Line
   Event : (name id : Text) → Line
@@ -24,6 +25,7 @@ method_of (SetEnabled name) = codes "PUT"
 method_of (SetSubscribed name topic) = codes "PUT"
 method_of (Submit name) = codes "POST"
 method_of (Publish topic) = codes "POST"
+method_of Retention = codes "PUT"
 method_of Totals = codes "GET"
 method_of (Endpoint name) = codes "GET"
 method_of (Event name id) = codes "GET"
@@ -43,6 +45,7 @@ path_of (SetEnabled name) = endpoint_path name (codes "/enabled")
 path_of (SetSubscribed name topic) = endpoint_path name (codes "/topics/" ++ topic)
 path_of (Submit name) = endpoint_path name (codes "/events")
 path_of (Publish topic) = topic_path topic
+path_of Retention = codes "/v1/retention"
 path_of Totals = codes "/v1/status"
 path_of (Endpoint name) = endpoint_path name []
 path_of (Event name id) = endpoint_path name (codes "/events/" ++ id)
@@ -55,6 +58,7 @@ parts_of (SetEnabled name) = name ∷ []
 parts_of (SetSubscribed name topic) = name ∷ topic ∷ []
 parts_of (Submit name) = name ∷ []
 parts_of (Publish topic) = topic ∷ []
+parts_of Retention = []
 parts_of Totals = []
 parts_of (Endpoint name) = name ∷ []
 parts_of (Event name id) = name ∷ id ∷ []
@@ -77,6 +81,7 @@ has_name (SetEnabled name) = is_name name
 has_name (SetSubscribed name topic) = is_name name && is_name topic
 has_name (Submit name) = is_name name
 has_name (Publish topic) = is_name topic
+has_name Retention = true
 has_name Totals = true
 has_name (Endpoint name) = is_name name
 has_name (Event name id) = is_name name

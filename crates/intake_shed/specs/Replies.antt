@@ -33,6 +33,7 @@ ask_reply ask.BadBody = refused 400 (codes "BadBody")
 ask_reply ask.BadUrl = refused 400 (codes "BadUrl")
 ask_reply ask.BadMax = refused 400 (codes "BadMax")
 ask_reply ask.BadSecret = refused 400 (codes "BadSecret")
+ask_reply ask.BadMoment = refused 400 (codes "BadMoment")
 ask_reply ask.OutOfMemory = out_of_memory
 
 -- the reply to a refusal of the desk

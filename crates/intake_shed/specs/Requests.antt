@@ -7,9 +7,9 @@ use Rattle.relay_types.specs.Values.{Text, is_msg_id}
 use Rattle.text_lines.specs.Parts.{texts}
 use Rattle.desk.specs.declared.command.Command.{Command}
 use Rattle.desk.specs.declared.command.Command.TheVariants as change
-use Rattle.intake_shed.specs.Bodies.{IsJson, Says, IsBadPut, IsBadSecrets, IsBadFlag, OfBody}
-use Rattle.intake_shed.specs.Lines.{Line, Put, SetSecrets, SetEnabled, SetSubscribed, Submit, Publish, Totals, Endpoint, Event}
-use Rattle.intake_shed.specs.Lines.{IsLine, before_query, has_name}
+use Rattle.intake_shed.specs.Bodies.{IsJson, Says, IsBadPut, IsBadSecrets, IsBadFlag, IsBadBefore, OfBody}
+use Rattle.intake_shed.specs.Lines.{Line, Put, SetSecrets, SetEnabled, SetSubscribed, Submit, Publish, Retention, Totals}
+use Rattle.intake_shed.specs.Lines.{Endpoint, Event, IsLine, before_query, has_name}
 use Rattle.intake_shed.specs.Replies.{ask_reply, out_of_memory}
 use Rattle.intake_shed.specs.declared.ask.Ask.{Ask}
 use Rattle.intake_shed.specs.declared.ask.AskBody.{AskBody}
@@ -61,6 +61,7 @@ line_changed (change.PutEndpoint name target max secrets) = Put name
 line_changed (change.SetSecrets name secrets) = SetSecrets name
 line_changed (change.SetEnabled name flag) = SetEnabled name
 line_changed (change.SetSubscribed topic name flag) = SetSubscribed name topic
+line_changed (change.Purge before) = Retention
 
 abbrev pub line_asked : Asked → Line
 line_asked (asked.Change command) = line_changed command
@@ -91,6 +92,7 @@ IsBadBody (Put name) body why = OfBody IsBadPut body why
 IsBadBody (SetSecrets name) body why = OfBody IsBadSecrets body why
 IsBadBody (SetEnabled name) body why = OfBody (IsBadFlag (codes "enabled")) body why
 IsBadBody (SetSubscribed name topic) body why = OfBody (IsBadFlag (codes "subscribed")) body why
+IsBadBody Retention body why = OfBody IsBadBefore body why
 IsBadBody (Submit name) body fault.OutOfMemory = Unit {0}
 IsBadBody (Publish topic) body fault.OutOfMemory = Unit {0}
 IsBadBody line body why = ⊥

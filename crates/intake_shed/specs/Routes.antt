@@ -2,7 +2,8 @@
 use Rattle.std.specs.Prelude.{◌≡◌, ℕ, [], ◌∷◌, ◌++◌, IsTrue, codes}
 use Rattle.relay_types.specs.Values.{Text}
 use Rattle.text_lines.specs.Parts.{has_no}
-use Rattle.intake_shed.specs.Lines.{Line, Put, SetSecrets, SetEnabled, SetSubscribed, Submit, Publish, Totals, Endpoint, Event}
+use Rattle.intake_shed.specs.Lines.{Line, Put, SetSecrets, SetEnabled, SetSubscribed, Submit, Publish, Retention, Totals}
+use Rattle.intake_shed.specs.Lines.{Endpoint, Event}
 use Rattle.intake_shed.specs.declared.routes.Route.{Route}
 use Rattle.intake_shed.specs.declared.routes.Route.TheVariants as route
 
@@ -13,6 +14,7 @@ line_of (route.SetEnabled name) = SetEnabled name.now
 line_of (route.SetSubscribed name topic) = SetSubscribed name.now topic.now
 line_of (route.Submit name) = Submit name.now
 line_of (route.Publish topic) = Publish topic.now
+line_of route.Retention = Retention
 line_of route.Totals = Totals
 line_of (route.Endpoint name) = Endpoint name.now
 line_of (route.Event name id) = Event name.now id.now
@@ -31,6 +33,7 @@ IsBehindName (SetSubscribed its topic) method name rest = (method ≡ codes "PUT
     × (rest ≡ codes "/topics/" ++ topic) × IsTrue (has_no 47 topic)
 IsBehindName (Submit its) method name rest = (method ≡ codes "POST") × (name ≡ its) × (rest ≡ codes "/events")
 IsBehindName (Publish topic) method name rest = ⊥
+IsBehindName Retention method name rest = ⊥
 IsBehindName Totals method name rest = ⊥
 IsBehindName (Endpoint its) method name rest = (method ≡ codes "GET") × (name ≡ its) × (rest ≡ [])
 IsBehindName (Event its id) method name rest = (method ≡ codes "GET") × (name ≡ its) × (rest ≡ codes "/events/" ++ id)

@@ -30,7 +30,7 @@ pub struct Ask<'a> {
 /// What a request asks for.
 #[derive(Drop)]
 pub enum Asked {
-    /// A change of an endpoint.
+    /// A change of an endpoint, or a purge.
     Change(Command),
     /// An event for an endpoint.
     Post { name: Name, id: MsgId, body: Body },

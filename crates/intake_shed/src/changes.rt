@@ -1,20 +1,20 @@
-//! Which change of an endpoint a body asks for.
+//! Which change a body asks for.
 ghost use Rattle.std.specs.Prelude.{◌≡◌, ◌⊎◌, false, Err, IsTrue, IfOk, IfErr, codes};
 ghost use Rattle.serde_json.specs.Data.{Data, unsigned};
 ghost use Rattle.serde_json.specs.View.{view, number_view};
-ghost use Rattle.relay_types.specs.Values.{is_target, is_max_limit};
+ghost use Rattle.relay_types.specs.Values.{is_target, is_max_limit, is_moment};
 ghost use Rattle.text_lines.specs.Parts.{texts};
 ghost use Rattle.text_lines.specs.Words.{AreSecretTexts};
-ghost use Rattle.intake_shed.specs.Lines.{Put, SetSecrets, SetEnabled, SetSubscribed};
-ghost use Rattle.intake_shed.specs.Bodies.{IsJson, Says, AreNoSecrets, is_max};
-ghost use Rattle.intake_shed.specs.Bodies.{IsBadMember, IsBadPut, IsBadSecrets, IsBadFlag, OfBody};
+ghost use Rattle.intake_shed.specs.Lines.{Put, SetSecrets, SetEnabled, SetSubscribed, Retention};
+ghost use Rattle.intake_shed.specs.Bodies.{IsJson, Says, AreNoSecrets, is_before, is_max};
+ghost use Rattle.intake_shed.specs.Bodies.{IsBadMember, IsBadPut, IsBadSecrets, IsBadFlag, IsBadBefore, OfBody};
 ghost use Rattle.intake_shed.specs.Members.{IsPutOf};
 ghost use Rattle.intake_shed.specs.Requests.{line_changed};
 
 use crate::fault::AskFault;
 use crate::members::{flag_of, number_of, read_json, secret_texts, text_of};
 use desk::Command;
-use relay_types::{MaxLimit, Name, ReadFault, Secrets, Target};
+use relay_types::{MaxLimit, Moment, Name, ReadFault, Secrets, Target};
 use serde_json::{Number, Value};
 use std::alloc::Global;
 use text_lines::secrets_of;
@@ -66,6 +66,16 @@ pub(crate) fn read_subscribed(
     Ok(Command::SetSubscribed { topic, name, flag })
 }
 
+/// Events that are done with, the last attempt at each before the moment of the body, are removed.
+pub(crate) fn read_purge(alloc: Global, body: &[u8]) -> Result<Command, AskFault>
+    ensures line { IfOk result (λ command. line_changed command ≡ Retention) }
+    ensures says { IfOk result (λ command. (value : Data) × IsJson body.now value × Says value command) }
+    ensures refused { IfErr result (λ why. OfBody IsBadBefore body.now why) }
+{
+    let value = read_json(alloc, body)?;
+    purge_of(&value)
+}
+
 fn put_of(alloc: Global, name: Name, value: &Value) -> Result<Command, AskFault>
     ensures line { IfOk result (λ command. line_changed command ≡ Put name) }
     ensures says { IfOk result (λ command. Says (view value.now) command) }
@@ -105,6 +115,17 @@ fn secrets_of_value(alloc: Global, name: Name, value: &Value) -> Result<Command,
     Ok(Command::SetSecrets { name, secrets })
 }
 
+fn purge_of(value: &Value) -> Result<Command, AskFault>
+    ensures line { IfOk result (λ command. line_changed command ≡ Retention) }
+    ensures says { IfOk result (λ command. Says (view value.now) command) }
+    ensures refused { IfErr result (λ why. IsBadBefore (view value.now) why) }
+{
+    let before = number_of(value, "before")?;
+    Ok(Command::Purge {
+        before: read_before(before)?,
+    })
+}
+
 fn read_url(alloc: Global, url: &str) -> Result<Target, AskFault>
     ensures value { IfOk result (λ target. (target ≡ url.now) × IsTrue (is_target url.now)) }
     ensures bad { result ≡ Err AskFault.BadUrl → is_target url.now ≡ false }
@@ -127,6 +148,19 @@ fn read_max(max: &Number) -> Result<MaxLimit, AskFault>
     match MaxLimit::of(limit) {
         Ok(limit) => Ok(limit),
         Err(_) => Err(AskFault::BadMax),
+    }
+}
+
+fn read_before(before: &Number) -> Result<Moment, AskFault>
+    ensures value { IfOk result (λ moment. (number_view before.now ≡ unsigned moment) × IsTrue (is_moment moment)) }
+    ensures refused { IfErr result (λ why. (why ≡ AskFault.BadMoment) × (is_before (number_view before.now) ≡ false)) }
+{
+    let Some(seconds) = before.as_u64() else {
+        return Err(AskFault::BadMoment);
+    };
+    match Moment::of(seconds) {
+        Ok(moment) => Ok(moment),
+        Err(_) => Err(AskFault::BadMoment),
     }
 }
 

@@ -1,4 +1,4 @@
-//! Changes of endpoints that are confirmed.
+//! Changes that are confirmed.
 ghost use Rattle.std.specs.Prelude.{◌≡◌, ◌<◌, ◌↔◌, IsSome, IsTrue, IfSome};
 ghost use Rattle.delivery.specs.Logs.{HasChange};
 ghost use Rattle.intake_shed.specs.Acks.{confirmed_of};

@@ -25,6 +25,8 @@ pub enum AskFault {
     BadMax,
     /// The secrets aren't 1 to 4 secrets.
     BadSecret,
+    /// The moment is no whole number from 0 to 2^40.
+    BadMoment,
     /// Memory was refused.
     OutOfMemory,
 }
@@ -43,6 +45,7 @@ impl AskFault {
             AskFault::BadUrl => Reply::refused(400, "{\"error\":\"BadUrl\"}"),
             AskFault::BadMax => Reply::refused(400, "{\"error\":\"BadMax\"}"),
             AskFault::BadSecret => Reply::refused(400, "{\"error\":\"BadSecret\"}"),
+            AskFault::BadMoment => Reply::refused(400, "{\"error\":\"BadMoment\"}"),
             AskFault::OutOfMemory => Reply::out_of_memory(),
         }
     }

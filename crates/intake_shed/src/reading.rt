@@ -11,7 +11,7 @@ ghost use Rattle.intake_shed.specs.declared.ask.Asked.{Asked};
 ghost use Rattle.intake_shed.specs.declared.fault.AskFault.{AskFault};
 
 use crate::ask::{Ask, AskBody, Asked};
-use crate::changes::{read_flag, read_put, read_secrets, read_subscribed};
+use crate::changes::{read_flag, read_purge, read_put, read_secrets, read_subscribed};
 use crate::fault::AskFault;
 use crate::reply::Reply;
 use crate::routes::{Route, read_route};
@@ -91,6 +91,10 @@ fn read_on(alloc: Global, route: Route<'_>, ask: &Ask<'_>, fresh: MsgId) -> Resu
                 id,
                 body: copy_body(alloc, body)?,
             })
+        }
+        Route::Retention => {
+            let body = read_size(&ask.body)?;
+            Ok(Asked::Change(read_purge(alloc, body)?))
         }
         Route::Totals => {
             read_size(&ask.body)?;

@@ -12,7 +12,7 @@ use desk::{Fault, Refusal};
 pub enum WaitFault {
     /// The desk refused it.
     Refused(Refusal),
-    /// It waited when the desk halted: it may be done or not.
+    /// It waited when the desk halted: it may be done or not. Or the event was settled, and a purge removed it.
     Unknown,
     /// The desk has fewer settled records than were seen before.
     WentBack,

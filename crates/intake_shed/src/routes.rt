@@ -16,6 +16,7 @@ pub(crate) enum Route<'a> {
     SetSubscribed(&'a [u8], &'a [u8]),
     Submit(&'a [u8]),
     Publish(&'a [u8]),
+    Retention,
     Totals,
     Endpoint(&'a [u8]),
     Event(&'a [u8], &'a [u8]),
@@ -36,6 +37,9 @@ fn read_path<'a>(method: &[u8], path: &'a [u8]) -> Option<Route<'a>>
 {
     if is_word(path, "/v1/status") {
         return is_word(method, "GET").then_some(Route::Totals);
+    }
+    if is_word(path, "/v1/retention") {
+        return is_word(method, "PUT").then_some(Route::Retention);
     }
     if let Some(named) = path.strip_prefix(b"/v1/topics/") {
         return read_topic(method, named);

@@ -46,7 +46,7 @@ pub fn submit_and_wait<L: Ledger, I: LogId, R: Wait>(
     acknowledge(shared.log(), &mut *locked, ticket, body, pass)
 }
 
-// Acknowledges a submission that is waited for no more: it is settled, or the desk halted.
+// Acknowledges a submission that is waited for no more: it is settled, the desk halted, or a purge removed the event.
 fn acknowledge<L: Ledger, I: LogId>(
     log: &Log<I>,
     locked: &mut Locked<L, I>,
@@ -91,7 +91,7 @@ pub fn publish_and_wait<L: Ledger, I: LogId, R: Wait>(
     acknowledge_all(shared.log(), &mut *locked, event, body, pass)
 }
 
-// Acknowledges an event that is waited for no more: it is settled at each subscriber, or the desk halted.
+// Acknowledges an event that is waited for no more: it is settled at each subscriber, the desk halted, or a purge removed it.
 fn acknowledge_all<L: Ledger, I: LogId>(
     log: &Log<I>,
     locked: &mut Locked<L, I>,
@@ -113,7 +113,7 @@ fn acknowledge_all<L: Ledger, I: LogId>(
     Ok(ack)
 }
 
-/// Changes an endpoint, and waits until the change is settled or won't be. Once the end was asked for nothing is taken.
+/// Makes a change, and waits until it is settled or won't be. Once the end was asked for nothing is taken.
 pub fn command_and_wait<L: Ledger, I: LogId, R: Wait>(
     rt: &R,
     shared: &Shared<L, I>,

@@ -31,6 +31,7 @@ bad_put_on name ask fault.BadBody parts h = (parts, h)
 bad_put_on name ask fault.BadUrl parts h = (parts, h)
 bad_put_on name ask fault.BadMax parts h = (parts, h)
 bad_put_on name ask fault.BadSecret parts h = (parts, h)
+bad_put_on name ask fault.BadMoment parts (v, json, (url, max, list, members, bad)) = absurd bad
 bad_put_on name ask fault.OutOfMemory parts h = (parts, h)
 
 pub returns-in_err-read_put-in-Put-clause-refused : goal.returns-in_err-read_put-in-Put-clause-refused
