@@ -13,18 +13,18 @@ use std::time::Instant;
 /// The round trip of each post, in microseconds.
 const ROUND_TRIP: u64 = 100_000;
 
-/// Posts as many events, which are pending and due.
+/// Posts as many events, which are pending and due at this moment.
 pub(crate) fn deliver<L: Ledger, S: Alter>(
     rt: &HostRuntime,
     began: Instant,
     desk: &mut OpenDesk<L>,
     vault: &mut Vault<S>,
-    count: u32,
+    (count, now): (u32, Moment),
     times: &mut Times,
 ) -> Result<(), Failed> {
     for batch in 0..count.div_ceil(BATCH) {
         let posts = count.saturating_sub(batch.saturating_mul(BATCH)).min(BATCH);
-        post_each(rt, began, desk, posts, times)?;
+        post_each(rt, began, desk, (posts, now), times)?;
         if times.first_claims.is_zero() {
             times.first_claims = times.claiming;
         }
@@ -37,10 +37,9 @@ fn post_each<L: Ledger>(
     rt: &HostRuntime,
     began: Instant,
     desk: &mut OpenDesk<L>,
-    count: u32,
+    (count, now): (u32, Moment),
     times: &mut Times,
 ) -> Result<(), Failed> {
-    let now = Moment::of(1000)?;
     for _ in 0..count {
         post(rt, began, desk, now, times)?;
     }

@@ -19,6 +19,7 @@ mod limits;
 mod loading;
 mod open_desk;
 mod opening;
+mod purging;
 mod queues;
 mod relay;
 mod reopening;
@@ -35,6 +36,7 @@ use crate::inserting::insert;
 use crate::limits::print_limit;
 use crate::loading::print_loads;
 use crate::opening::print_opening;
+use crate::purging::print_purge;
 use crate::queues::{print_calls, print_moves};
 use crate::relay::answer_asks;
 use crate::reopening::print_parts;
@@ -52,6 +54,7 @@ events COUNT       a book of as many events
 outcomes COUNT     the same, and then one outcome of each, settled 256 at a time
 submit COUNT PATH  submissions to 100 endpoints, 256 in a commit, and their posts, in rounds of 10,240
 post COUNT ENDPOINTS PATH   as many pending events of so many endpoints, every second of which is then disabled, and half as many posts
+purge COUNT PATH   a purge of as many delivered events, among as many that ended later
 insert COUNT PATH  the rows of as many events, by bare statements
 replay PATH        the script on standard input
 runs PATH          a run of calls, and a second one where the first had no memory
@@ -88,6 +91,7 @@ enum Run {
     Insert(u32),
     Loads,
     Parts,
+    Purge(u32),
     Replay,
     Runs,
     Submit(Plan),
@@ -108,6 +112,7 @@ fn run_of(name: &str) -> Option<Run> {
 fn counted_run_of(name: &str, count: u32) -> Option<Run> {
     match name {
         "insert" => Some(Run::Insert(count)),
+        "purge" => Some(Run::Purge(count)),
         "submit" => Some(Run::Submit(submit_plan(count))),
         _ => None,
     }
@@ -135,6 +140,7 @@ fn run_with<S: Alter + Drop>(
         Run::Insert(count) => Ok(insert_into(rt, conn, count)),
         Run::Loads => print_loads(rt, conn),
         Run::Parts => print_parts(rt, began, conn),
+        Run::Purge(count) => print_purge(rt, began, conn, count),
         Run::Replay => Ok(replay(rt, conn)),
         Run::Runs => print_runs(rt, conn),
         Run::Submit(plan) => print_submitting(rt, began, conn, plan),

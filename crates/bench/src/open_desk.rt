@@ -91,6 +91,11 @@ impl<L: Ledger> OpenDesk<L> {
         self.desk
     }
 
+    /// How many settled events are delivered.
+    pub(crate) fn delivered(&self) -> u64 {
+        self.desk.totals().delivered
+    }
+
     pub(crate) fn settled_records(&self) -> u64 {
         self.desk.settled_records()
     }

@@ -20,7 +20,7 @@ use std::sync::ledger::{Blank, Ledger};
 use std::time::Instant;
 
 /// How many submissions are pending before they are posted, so that what one commit leaves to the next weighs little.
-const ROUND: u32 = 40 * BATCH;
+pub(crate) const ROUND: u32 = 40 * BATCH;
 
 /// What a run does: so many events, in rounds of so many that are pending before so many are posted.
 #[derive(Clone, Copy)]
@@ -112,6 +112,7 @@ fn submit_all<L: Ledger, S: Alter>(
     plan: Plan,
     times: &mut Times,
 ) -> Result<u64, Failed> {
+    let now = Moment::of(1000)?;
     put_each(rt.alloc(), desk, plan.endpoints)?;
     turn(rt, began, desk, vault, &mut Times::ZERO.submissions)?;
     for round in 0..plan.rounds {
@@ -121,12 +122,16 @@ fn submit_all<L: Ledger, S: Alter>(
         disable_each(rt.alloc(), desk, plan.disabled)?;
         turn(rt, began, desk, vault, &mut Times::ZERO.submissions)?;
         let posts = upto.saturating_sub(from).min(plan.posts);
-        deliver(rt, began, desk, vault, posts, times)?;
+        deliver(rt, began, desk, vault, (posts, now), times)?;
     }
     Ok(desk.settled_records())
 }
 
-fn put_each<L: Ledger>(alloc: Global, desk: &mut OpenDesk<L>, count: u32) -> Result<(), Failed> {
+pub(crate) fn put_each<L: Ledger>(
+    alloc: Global,
+    desk: &mut OpenDesk<L>,
+    count: u32,
+) -> Result<(), Failed> {
     for number in 0..count {
         desk.command(put_of(alloc, number)?)?;
     }
@@ -149,7 +154,7 @@ fn disable_each<L: Ledger>(
 }
 
 /// Submits the events with these numbers, and commits them 256 at a time.
-fn take_in<L: Ledger, S: Alter>(
+pub(crate) fn take_in<L: Ledger, S: Alter>(
     rt: &HostRuntime,
     began: Instant,
     desk: &mut OpenDesk<L>,

@@ -63,7 +63,7 @@ pub(crate) fn print_times(rt: &HostRuntime, times: &Times) -> io::Result<()> {
     print_turns(rt, "outcomes", &times.outcomes)
 }
 
-fn print_turns(rt: &HostRuntime, what: &str, turns: &Turns) -> io::Result<()> {
+pub(crate) fn print_turns(rt: &HostRuntime, what: &str, turns: &Turns) -> io::Result<()> {
     println!(rt;
         "{what} sealing {}\n{what} committing {}",
         turns.sealing.as_micros(),

@@ -101,6 +101,30 @@ pub(crate) fn subscribe_many<L: Ledger>(
     Ok(true)
 }
 
+pub(crate) fn purge<L: Ledger>(
+    desk: &mut Desk<L>,
+    before: u64,
+    wanted: Answer,
+) -> Result<bool, Fail> {
+    let before = Moment::of(before)?;
+    Ok(command(desk, Command::Purge { before }, wanted))
+}
+
+/// So many Purges before 0, 1 and so on.
+pub(crate) fn purge_many<L: Ledger>(
+    desk: &mut Desk<L>,
+    count: u64,
+    first: u64,
+) -> Result<bool, Fail> {
+    for before in 0..count {
+        let wanted = Answer::Record(first.saturating_add(before));
+        if !purge(desk, before, wanted)? {
+            return Ok(false);
+        }
+    }
+    Ok(true)
+}
+
 fn is_ticket(ticket: Ticket, name: Name, id: MsgId, wanted: Answer) -> bool {
     is_record(ticket.seq, wanted) && ticket.name.is(name) && ticket.id.is(id)
 }

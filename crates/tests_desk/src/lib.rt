@@ -19,6 +19,8 @@ mod numbers;
 #[cfg(test)]
 mod posts;
 #[cfg(test)]
+mod purges;
+#[cfg(test)]
 mod requests;
 #[cfg(test)]
 mod steps;

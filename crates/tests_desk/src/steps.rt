@@ -106,6 +106,10 @@ pub(crate) enum Step {
     /// Subscribes endpoint `a` to topics `t0`, `t1` and so on, from this one on so many. The first one's record has this
     /// number.
     Subscribes(u64, u64, u64),
+    /// Purges before this moment.
+    Purge(u64, Answer),
+    /// So many Purges before 0, 1 and so on. The first one's record has this number.
+    Purges(u64, u64),
     /// Submits an event at this moment, to this endpoint, with this id and body.
     Submit(u64, &'static [u8], &'static [u8], &'static [u8], Answer),
     /// Publishes an event at this moment, to this topic, with this id and body.

@@ -71,6 +71,23 @@ fn each_kind_has_its_places(rt: HostRuntime) -> Result<(), Fail> {
     take_waits(&rt, rt.alloc(), &EACH_KIND_HAS_ITS_PLACES)
 }
 
+static A_PURGE_HAS_A_PLACE_FOR_REQUESTS: [Wait; 9] = [
+    Wait::Flags(766, true),
+    Wait::Purges(2, true),
+    Wait::Purges(1, false),
+    Wait::Flags(1, false),
+    Wait::Free(0, 256),
+    Wait::Outcome(1),
+    Wait::IsOutcome(767, Some(false)),
+    Wait::Records(769, 0),
+    Wait::Seal(Some((0, 256, 256))),
+];
+
+#[test]
+fn a_purge_has_a_place_for_requests(rt: HostRuntime) -> Result<(), Fail> {
+    take_waits(&rt, rt.alloc(), &A_PURGE_HAS_A_PLACE_FOR_REQUESTS)
+}
+
 static EACH_RECORD_OF_AN_EVENT_HAS_ITS_PLACE: [Wait; 11] = [
     Wait::Event(256, true),
     Wait::Event(256, true),

@@ -22,6 +22,8 @@ pub(crate) enum Wait {
     Put(&'static [u8], bool),
     /// Stages so many flags of endpoint `a`, by turns on and off: whether there was a place for each, or for none.
     Flags(usize, bool),
+    /// Stages so many Purges: whether there was a place for each, or for none.
+    Purges(usize, bool),
     /// Stages an event at the endpoints `e0`, `e1` and so on, so many of them: whether there was a place for each.
     Event(usize, bool),
     /// Stages the outcome of this attempt at delivery 0.
@@ -76,6 +78,27 @@ fn flag(waiting: &mut Waiting, flag: bool) -> Result<bool, Fail> {
 fn flags(waiting: &mut Waiting, count: usize, wanted: bool) -> Result<bool, Fail> {
     for place in 0..count {
         if flag(waiting, place % 2 == 0)? != wanted {
+            return Ok(false);
+        }
+    }
+    Ok(true)
+}
+
+fn purge(waiting: &mut Waiting) -> Result<bool, Fail> {
+    let before = Moment::of(1000)?;
+    if waiting.records() >= MAX_RECORDS {
+        return Err(Fail::from("no number is left"));
+    }
+    Ok(
+        waiting
+            .stage_request(Step::of(Record::Purge { before }))
+            .is_ok(),
+    )
+}
+
+fn purges(waiting: &mut Waiting, count: usize, wanted: bool) -> Result<bool, Fail> {
+    for _ in 0..count {
+        if purge(waiting)? != wanted {
             return Ok(false);
         }
     }
@@ -231,6 +254,7 @@ fn step(
         Wait::Anew(records) => anew(waiting, alloc, records),
         Wait::Put(name, wanted) => Ok(put(waiting, alloc, name)? == wanted),
         Wait::Flags(count, wanted) => flags(waiting, count, wanted),
+        Wait::Purges(count, wanted) => purges(waiting, count, wanted),
         Wait::Event(count, wanted) => Ok(event(waiting, alloc, count)? == wanted),
         Wait::Outcome(attempt) => outcome(waiting, attempt),
         Wait::Seal(sealed) => Ok(seal(waiting, kept, sealed)),

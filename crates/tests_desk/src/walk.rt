@@ -63,7 +63,7 @@ fn begun<L: Ledger>(
 {
     match start {
         Start::Empty => Ok(Desk::new(alloc, blank, MARK)?),
-        Start::Held => desk_of(alloc, blank, books(alloc, vault)?, MARK + 1),
+        Start::Held => desk_of(alloc, blank, books(alloc, vault)?, MARK),
         Start::Spent => desk_of(alloc, blank, spent_books(alloc)?, MARK),
     }
 }
@@ -197,6 +197,8 @@ fn step<L: Ledger>(
         Step::Subscribes(from, count, first) => {
             calls::subscribe_many(desk, alloc, from, count, first)
         }
+        Step::Purge(before, answer) => calls::purge(desk, before, answer),
+        Step::Purges(count, first) => calls::purge_many(desk, count, first),
         Step::Submit(now, name, id, text, answer) => {
             calls::submit(desk, alloc, now, name, id, text, answer)
         }

@@ -2,7 +2,7 @@
 
 use desk::Command;
 use intake_shed::{Ask, AskBody, Asked, Reply, read_ask};
-use relay_types::{Body, MaxLimit, MsgId, Name, Secrets, Target};
+use relay_types::{Body, MaxLimit, Moment, MsgId, Name, Secrets, Target};
 use std::alloc::{AllocError, Global};
 use std::process::Abort;
 use std::test::Fail;
@@ -41,6 +41,8 @@ pub(crate) enum Answer {
     Flag(&'static [u8], bool),
     /// Whether this endpoint is subscribed to this topic.
     Subscribed(&'static [u8], &'static [u8], bool),
+    /// What is done with before this moment is removed.
+    Purge(u64),
 }
 
 /// Requests that are answered alike: each of these paths, with each of these bodies.
@@ -183,6 +185,13 @@ fn is_subscribed(found: Name, topic: Name, flag: bool, answer: Answer) -> bool {
     }
 }
 
+fn is_purge(before: Moment, answer: Answer) -> bool {
+    match answer {
+        Answer::Purge(seconds) => before.seconds() == seconds,
+        _ => false,
+    }
+}
+
 fn is_change(command: &Command, answer: Answer) -> bool {
     match command {
         Command::PutEndpoint {
@@ -196,6 +205,7 @@ fn is_change(command: &Command, answer: Answer) -> bool {
         Command::SetSubscribed { topic, name, flag } => {
             is_subscribed(*name, *topic, *flag, answer)
         }
+        Command::Purge { before } => is_purge(*before, answer),
     }
 }
 

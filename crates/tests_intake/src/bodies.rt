@@ -11,6 +11,8 @@ const BAD_MAX: Answer = Answer::Refused(400, b"{\"error\":\"BadMax\"}");
 
 const BAD_SECRET: Answer = Answer::Refused(400, b"{\"error\":\"BadSecret\"}");
 
+const BAD_MOMENT: Answer = Answer::Refused(400, b"{\"error\":\"BadMoment\"}");
+
 const ENDPOINT: &[Text] = &[Text::Is(b"/v1/endpoints/a")];
 
 const SECRETS: &[Text] = &[Text::Is(b"/v1/endpoints/a/secrets")];
@@ -18,6 +20,8 @@ const SECRETS: &[Text] = &[Text::Is(b"/v1/endpoints/a/secrets")];
 const ENABLED: &[Text] = &[Text::Is(b"/v1/endpoints/a/enabled")];
 
 const TOPIC: &[Text] = &[Text::Is(b"/v1/endpoints/a/topics/t")];
+
+const RETENTION: &[Text] = &[Text::Is(b"/v1/retention")];
 
 const TRUE: Answer = Answer::Flag(b"a", true);
 
@@ -247,6 +251,93 @@ static SUBSCRIPTIONS: [Case; 4] = [
 #[test]
 fn a_subscription_has_a_topic_and_a_bool(rt: HostRuntime) -> Result<(), Fail> {
     walk(&rt, rt.alloc(), &SUBSCRIPTIONS)
+}
+
+// A moment is a whole number from 0 to 2^40, written without a point or an exponent, and -0 is none. A number beyond all
+// floats is no JSON that is read.
+static MOMENTS: [Case; 6] = [
+    Case {
+        method: b"PUT",
+        paths: &[
+            Text::Is(b"/v1/retention"),
+            Text::Is(b"/v1/retention?"),
+            Text::Is(b"/v1/retention?x/y"),
+        ],
+        ids: &[b"a", b"b"],
+        bodies: &[
+            Text::Is(br#"{"before":0}"#),
+            Text::Is(br#"{"before":"x","more":[],"before":0}"#),
+        ],
+        answer: Answer::Purge(0),
+    },
+    Case {
+        method: b"PUT",
+        paths: RETENTION,
+        ids: &[],
+        bodies: &[
+            Text::Is(br#"{"before":1099511627776}"#),
+            Text::Is(br#"{"before":1099511627776,"x":1}"#),
+            Text::Is(b" {\"x\":[1e2,{}],\"before\":\t1099511627776}\n"),
+        ],
+        answer: Answer::Purge(1_099_511_627_776),
+    },
+    Case {
+        method: b"PUT",
+        paths: RETENTION,
+        ids: &[],
+        bodies: &[Text::Is(br#"{"before":1767225600}"#)],
+        answer: Answer::Purge(1_767_225_600),
+    },
+    Case {
+        method: b"PUT",
+        paths: RETENTION,
+        ids: &[],
+        bodies: &[
+            Text::Is(br#"{"before":1099511627777}"#),
+            Text::Is(br#"{"before":-1}"#),
+            Text::Is(br#"{"before":-0}"#),
+            Text::Is(br#"{"before":1.0}"#),
+            Text::Is(br#"{"before":1e3}"#),
+            Text::Is(br#"{"before":0.5}"#),
+            Text::Is(br#"{"before":18446744073709551615}"#),
+            Text::Is(br#"{"before":18446744073709551616}"#),
+            Text::Is(br#"{"before":0,"before":-1}"#),
+        ],
+        answer: BAD_MOMENT,
+    },
+    Case {
+        method: b"PUT",
+        paths: RETENTION,
+        ids: &[],
+        bodies: &[
+            Text::Is(br#"{"before":"7"}"#),
+            Text::Is(br#"{"before":null}"#),
+            Text::Is(br#"{"before":true}"#),
+            Text::Is(br#"{"before":[7]}"#),
+            Text::Is(br#"{"before":1e999}"#),
+            Text::Is(br#"{"before":01}"#),
+            Text::Is(br#"{"before":7,"before":"7"}"#),
+            Text::Is(br#"{"Before":7}"#),
+            Text::Is(b"{}"),
+            Text::Is(b"7"),
+            Text::Is(b"[7]"),
+            Text::Is(b"null"),
+            Text::Is(b""),
+        ],
+        answer: BAD_BODY,
+    },
+    Case {
+        method: b"PUT",
+        paths: RETENTION,
+        ids: &[],
+        bodies: &[Text::Long(br#"{"before":7}"#, b' ', 65_524)],
+        answer: Answer::Purge(7),
+    },
+];
+
+#[test]
+fn a_purge_has_a_moment(rt: HostRuntime) -> Result<(), Fail> {
+    walk(&rt, rt.alloc(), &MOMENTS)
 }
 
 // The body's own object is counted.

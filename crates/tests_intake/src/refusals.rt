@@ -5,7 +5,7 @@ use desk::{Command, Fault, Refusal};
 use intake_shed::{
     Ask, AskBody, ReplyText, WaitFault, accepted_reply, change_reply, change_status, refusal_reply,
 };
-use relay_types::{MsgId, Name};
+use relay_types::{Moment, MsgId, Name};
 use std::borrow::CowStr;
 use std::process::Abort;
 use std::test::Fail;
@@ -144,6 +144,8 @@ fn what_is_done_is_told_by_its_number(rt: HostRuntime) -> Result<(), Fail> {
             flag: true
         }) == 200
     );
+    let before = Moment::of(7)?;
+    assert!(rt; change_status(&Command::Purge { before }) == 200);
     Ok(())
 }
 

@@ -260,6 +260,71 @@ permit 1 a msg_1 attempt 1 at 1000 inflight 1
 none
 ";
 
+// What is delivered at 1000 stays before 1000 and goes before 1001. Its id is free at once, and it is shown until the purge
+// is settled.
+const REMOVED: &str = "put a http://127.0.0.1:9000/hook 100 whsec_MDEyMzQ1Njc4OTAxMjM0NTY3ODkwMTIz
+submit 1000 a msg_1 7b7d
+seal
+commit
+settle
+claim 1000
+claim 1000
+spend 1 1000 200 100000
+show a msg_1
+seal
+commit
+settle
+show a msg_1
+purge 1000
+seal
+commit
+settle
+show a msg_1
+purge 1001
+submit 1002 a msg_1 7b7c
+show a msg_1
+seal
+commit
+settle
+show a msg_1
+told 1
+told 5
+show a
+stop
+show a";
+
+const REMOVED_REPLIES: &str = "staged 0
+staged 1
+sealed 0..2
+committed 2
+settled 2
+permit 1 a msg_1 attempt 1 at 1000 inflight 1
+none
+success limit 20 inflight 0 staged 2
+pending due 1000 attempts 0
+sealed 2..3
+committed 3
+settled 3
+delivered attempts 1
+staged 3
+sealed 3..4
+committed 4
+settled 4
+delivered attempts 1
+staged 4
+staged 5
+delivered attempts 1
+sealed 4..6
+committed 6
+settled 6
+pending due 1002 attempts 0
+unknown
+settled
+enabled pending 1 delivered 0 exhausted 0
+reopened 6
+enabled pending 1 delivered 0 exhausted 0
+";
+
 pub(crate) const SECRET: &str = "whsec_MDEyMzQ1Njc4OTAxMjM0NTY3ODkwMTIz";
 
 // The example of Standard Webhooks 1.0.0.
@@ -330,6 +395,13 @@ static SCRIPTS: &[Run] = &[
         errors: "",
         status: 0,
     },
+    Run {
+        words: REPLAY,
+        texts: &[REMOVED],
+        output: REMOVED_REPLIES,
+        errors: "",
+        status: 0,
+    },
 ];
 
 static BAD_LINES: &[Run] = &[Run {
@@ -373,6 +445,17 @@ static BAD_LINES: &[Run] = &[Run {
         "publish 1 t m2 \n",
         "publish 1 t m2 7\n",
         "publish 1 t m2 7g\n",
+        "purge\n",
+        "purge \n",
+        "purge 1 2\n",
+        "purge 01\n",
+        "purge -1\n",
+        "purge 1.0\n",
+        "purge 1e3\n",
+        "purge a\n",
+        "purge 1099511627777\n",
+        "purge 18446744073709551616\n",
+        "Purge 1\n",
         "told 01\n",
         "told 18446744073709551616\n",
         "unseal 1\n",

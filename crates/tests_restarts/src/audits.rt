@@ -59,6 +59,25 @@ const WAITING: [Call; 3] = [
     Call::Line("seal", "sealed 3..5"),
 ];
 
+/// The delivered event is taken, settled.
+const PURGED: [Call; 5] = [
+    Call::Line("purge 1002", "staged 5"),
+    Call::Line("seal", "sealed 5..6"),
+    Call::Line("commit", "committed 6"),
+    Call::Line("settle", "settled 6"),
+    Call::Line("show a msg_1", "absent"),
+];
+
+/// The same, and the id again, which wait.
+const PURGE_WAITING: [Call; 4] = [
+    Call::Line("purge 1002", "staged 5"),
+    Call::Line("submit 1002 a msg_1 -", "staged 6"),
+    Call::Line("seal", "sealed 5..7"),
+    Call::Line("show a msg_1", "delivered attempts 1"),
+];
+
+const PURGE_COMMITTED: [Call; 1] = [Call::Line("commit", "committed 7")];
+
 const COMMITTED: [Call; 1] = [Call::Line("commit", "committed 5")];
 
 /// The same totals as of `SETTLED`: of another endpoint, with another id, with another moment, and with another target.
@@ -120,10 +139,17 @@ struct Case(&'static [Path], Store, Option<AuditFault>);
 
 const MISMATCH: Option<AuditFault> = Some(AuditFault::Mismatch);
 
-static CASES: [Case; 12] = [
+static CASES: [Case; 15] = [
     Case(&[], Store::Own, None),
     Case(&[&SETTLED], Store::Own, None),
     Case(&[&SETTLED, &ATTEMPTED], Store::Own, None),
+    Case(&[&SETTLED, &ATTEMPTED, &PURGED], Store::Own, None),
+    Case(&[&SETTLED, &ATTEMPTED, &PURGE_WAITING], Store::Own, None),
+    Case(
+        &[&SETTLED, &ATTEMPTED, &PURGE_WAITING, &PURGE_COMMITTED],
+        Store::Own,
+        MISMATCH,
+    ),
     Case(&[&SETTLED, &WAITING], Store::Own, None),
     Case(&[&SETTLED, &WAITING, &COMMITTED], Store::Own, MISMATCH),
     Case(&[&SETTLED], Store::OneMore, MISMATCH),

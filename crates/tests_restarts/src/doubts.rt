@@ -48,7 +48,7 @@ const DOUBT: [Call; 16] = [
         "success limit 20 inflight 0 nothing",
     ),
     Call::Line("spend 2 1003 200 100000", "no-permit"),
-    Call::Records(9),
+    Call::Records(10),
     Call::SettledRecords(3),
     Call::Line("halt", "halted"),
 ];

@@ -197,6 +197,14 @@ fn command<L: Ledger>(rt: &impl Abort, alloc: Global, desk: &mut Desk<L>, number
     let _ = desk.command(command);
 }
 
+/// Removes what is done with before a moment that lies up to a day back.
+fn purge<L: Ledger>(rt: &impl Abort, desk: &mut Desk<L>, numbers: &mut Numbers) {
+    let back = LATER[numbers.below(4) as usize];
+    let seconds = numbers.seconds.saturating_sub(back).saturating_add(1);
+    let before = Moment::of(seconds).expect(rt, "a moment");
+    let _ = desk.command(Command::Purge { before });
+}
+
 fn call<L: Ledger>(
     rt: &impl Abort,
     alloc: Global,
@@ -204,10 +212,11 @@ fn call<L: Ledger>(
     numbers: &mut Numbers,
     now: Moment,
 ) {
-    match numbers.below(9) {
+    match numbers.below(10) {
         0 | 1 => command(rt, alloc, desk, numbers),
         2 | 3 => submit(rt, alloc, desk, numbers, now),
         4 => publish(rt, alloc, desk, numbers, now),
+        5 => purge(rt, desk, numbers),
         _ => attempt(rt, desk, numbers, now),
     }
 }

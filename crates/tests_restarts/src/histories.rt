@@ -168,7 +168,7 @@ fn drawn(
     conn
 }
 
-/// Adds a topic of one of the endpoints by SQL, after up to two records that later ones of its topics overtook.
+/// Adds a topic of one of the endpoints by SQL, after up to two records that no row names.
 fn add_topic(
     rt: &impl Abort,
     alloc: Global,

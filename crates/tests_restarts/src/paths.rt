@@ -23,7 +23,7 @@ static FIRST_PATH: [Call; 9] = [
 ];
 
 /// Nothing is known yet, and nothing is held.
-static NOTHING: [Call; 29] = [
+static NOTHING: [Call; 31] = [
     Call::Line("show a", "absent"),
     Call::Line("show a msg_1", "absent"),
     Call::Line("limits a", "absent"),
@@ -51,10 +51,12 @@ static NOTHING: [Call; 29] = [
     Call::IsHalted(false),
     Call::Line(PUT, "staged 0"),
     Call::Line("subscribe t a", "staged 1"),
+    Call::Line("purge 1099511627776", "staged 2"),
     Call::Line("halt", "halted"),
     Call::IsHalted(true),
     Call::Line(PUT_OTHER, "refused 1 Halted"),
     Call::Line("unsubscribe t a", "refused 1 Halted"),
+    Call::Line("purge 0", "refused 1 Halted"),
     Call::Line("publish 1000 t msg_1 -", "refused 1 Halted"),
 ];
 
@@ -71,7 +73,7 @@ pub(crate) const SEALED: [Call; 8] = [
 ];
 
 /// What goes on while something is held, and shows what is settled alone.
-pub(crate) const MEANWHILE: [Call; 22] = [
+pub(crate) const MEANWHILE: [Call; 23] = [
     Call::Line(PUT_OTHER, "staged 4"),
     Call::Line(
         "secrets a whsec_AAAAAAAAAAAAAAAAAAAAAAAAAAAAAAAA",
@@ -79,6 +81,7 @@ pub(crate) const MEANWHILE: [Call; 22] = [
     ),
     Call::Line("enable a", "staged 6"),
     Call::Line("submit 1000 a msg_4 -", "staged 7"),
+    Call::Line("purge 1099511627776", "staged 8"),
     Call::Line("told 3", "waiting"),
     Call::Line("told 2", "settled"),
     Call::Line(
@@ -92,7 +95,7 @@ pub(crate) const MEANWHILE: [Call; 22] = [
     Call::Line("claim 1001", "none"),
     Call::Line(
         "spend 1 1001 200 100000",
-        "success limit 20 inflight 1 staged 8",
+        "success limit 20 inflight 1 staged 9",
     ),
     Call::Line("limits a", "limit 20 inflight 1 noload 100000"),
     Call::Line("show a", "enabled pending 2 delivered 0 exhausted 0"),
@@ -102,7 +105,7 @@ pub(crate) const MEANWHILE: [Call; 22] = [
     Call::ToldCommand(0, "settled"),
     Call::HasBody(2, b"msg_2", true),
     Call::Totals(1, 2, 3),
-    Call::Records(9),
+    Call::Records(10),
     Call::SettledRecords(3),
     Call::IsHalted(false),
     Call::Line("seal", "refused 2 BatchOut"),
@@ -114,16 +117,16 @@ const BATCH: [Call; 16] = [
     Call::Line("unseal", "unsealed 3..4"),
     Call::Line("unseal", "no-batch"),
     Call::Line("commit", "no-batch"),
-    Call::Line("seal", "sealed 3..9"),
-    Call::Line("commit", "committed 9"),
-    Call::Line("settle", "settled 9"),
+    Call::Line("seal", "sealed 3..10"),
+    Call::Line("commit", "committed 10"),
+    Call::Line("settle", "settled 10"),
     Call::Line("told 3", "settled"),
     Call::Line("show a msg_1", "delivered attempts 1"),
     Call::Line("show a", "enabled pending 3 delivered 1 exhausted 0"),
-    Call::Line("disable a", "staged 9"),
-    Call::Line("seal", "sealed 9..10"),
+    Call::Line("disable a", "staged 10"),
+    Call::Line("seal", "sealed 10..11"),
     Call::Line("halt", "halted"),
-    Call::Line("told 9", "unknown"),
+    Call::Line("told 10", "unknown"),
     Call::Line("told 3", "settled"),
     Call::Line("unseal", "no-batch"),
 ];
@@ -139,7 +142,7 @@ const RECEIPT: [Call; 8] = [
     Call::Line("settle", "settled 4"),
     Call::Line("told 3", "settled"),
     Call::Line("settle", "no-receipt"),
-    Call::Line("seal", "sealed 4..9"),
+    Call::Line("seal", "sealed 4..10"),
 ];
 
 #[test]

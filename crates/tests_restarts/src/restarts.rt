@@ -1,7 +1,7 @@
 //! What a run leaves, opened again, and a run that goes on from there. The replies are those of the rules, worked by
 //! hand.
 
-use crate::calls::Call;
+use crate::calls::{Call, Path};
 use crate::paths::PUT;
 use crate::runs::check;
 
@@ -149,4 +149,94 @@ static AFTER_NOT_SETTLED: [Call; 17] = [
 #[test]
 fn an_attempt_that_was_not_settled_is_made_again(rt: HostRuntime) {
     check(&rt, rt.alloc(), &[&NOT_SETTLED], &[&AFTER_NOT_SETTLED]);
+}
+
+/// An event that is delivered.
+const DELIVERED: [Call; 11] = [
+    Call::Line(PUT, "staged 0"),
+    Call::Line("submit 1000 a msg_1 7b7d", "staged 1"),
+    Call::Line("seal", "sealed 0..2"),
+    Call::Line("commit", "committed 2"),
+    Call::Line("settle", "settled 2"),
+    Call::Line(
+        "claim 1000",
+        "permit 1 a msg_1 attempt 1 at 1000 inflight 1",
+    ),
+    Call::Line(
+        "spend 1 1000 200 100000",
+        "success limit 20 inflight 0 staged 2",
+    ),
+    Call::Line("seal", "sealed 2..3"),
+    Call::Line("commit", "committed 3"),
+    Call::Line("settle", "settled 3"),
+    Call::Line("show a msg_1", "delivered attempts 1"),
+];
+
+/// A Purge, and the id that it takes, which were sealed alone.
+const PURGE_SEALED: [Call; 6] = [
+    Call::Line("purge 1001", "staged 3"),
+    Call::Line("submit 1002 a msg_1 7b7c", "staged 4"),
+    Call::Line("seal", "sealed 3..5"),
+    Call::Told(1, b"msg_1", "settled"),
+    Call::HasBody(1, b"msg_1", true),
+    Call::Line("show a msg_1", "delivered attempts 1"),
+];
+
+static AFTER_PURGE_SEALED: [Call; 12] = [
+    Call::Line("show a msg_1", "delivered attempts 1"),
+    Call::Line("submit 1002 a msg_1 7b7c", "refused 3 Conflict"),
+    Call::Line("submit 1002 a msg_1 7b7d", "staged 1"),
+    Call::Line("told 1", "settled"),
+    Call::Line("purge 1001", "staged 3"),
+    Call::Line("told 3", "waiting"),
+    Call::Line("seal", "sealed 3..4"),
+    Call::Line("commit", "committed 4"),
+    Call::Line("settle", "settled 4"),
+    Call::Line("told 3", "settled"),
+    Call::Line("told 1", "unknown"),
+    Call::Line("show a msg_1", "absent"),
+];
+
+static WITH_PURGE_SEALED: [Path; 2] = [&DELIVERED, &PURGE_SEALED];
+
+#[test]
+fn a_purge_that_was_sealed_alone_took_nothing(rt: HostRuntime) {
+    check(&rt, rt.alloc(), &WITH_PURGE_SEALED, &[&AFTER_PURGE_SEALED]);
+}
+
+/// The same, committed.
+const PURGE_COMMITTED: [Call; 5] = [
+    Call::Line("purge 1001", "staged 3"),
+    Call::Line("seal", "sealed 3..4"),
+    Call::Line("commit", "committed 4"),
+    Call::Line("told 1", "settled"),
+    Call::Line("show a msg_1", "delivered attempts 1"),
+];
+
+/// The clock stands at the moments that are left.
+const AFTER_PURGE_COMMITTED: [Call; 10] = [
+    Call::Line("show a msg_1", "absent"),
+    Call::Line("show a", "enabled pending 0 delivered 0 exhausted 0"),
+    Call::Totals(1, 0, 4),
+    Call::Told(1, b"msg_1", "unknown"),
+    Call::HasBody(1, b"msg_1", false),
+    Call::Line("claim 5", "none"),
+    Call::Line("submit 5 a msg_1 7b7c", "staged 4"),
+    Call::Line("seal", "sealed 4..5"),
+    Call::Line("commit", "committed 5"),
+    Call::Line("settle", "settled 5"),
+];
+
+static WITH_PURGE_COMMITTED: [Path; 2] = [&DELIVERED, &PURGE_COMMITTED];
+
+static AND_THEN: [Path; 2] = [&AFTER_PURGE_COMMITTED, &GIVEN_AGAIN];
+
+const GIVEN_AGAIN: [Call; 2] = [
+    Call::Line("show a msg_1", "pending due 5 attempts 0"),
+    Call::Line("claim 4", "permit 4 a msg_1 attempt 1 at 5 inflight 1"),
+];
+
+#[test]
+fn what_a_committed_purge_took_is_gone(rt: HostRuntime) {
+    check(&rt, rt.alloc(), &WITH_PURGE_COMMITTED, &AND_THEN);
 }

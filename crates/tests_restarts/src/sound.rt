@@ -57,22 +57,10 @@ static FAULTS: &[&str] = &[
      WHERE o.delivery = t.delivery AND o.seq < t.seq AND o.status BETWEEN 200 AND 299)",
     "SELECT count(*) FROM attempts t WHERE 9 < (SELECT count(*) FROM attempts o WHERE o.delivery = t.delivery \
      AND o.seq < t.seq AND o.status <> 410 AND NOT o.status BETWEEN 200 AND 299)",
-    // 8. So many records can't be explained.
-    "SELECT count(*) FROM meta WHERE records > 1000",
 ];
 
-/// 8. Numbers that no row names.
-static OF_VERSION_1: &[&str] = &[
-    "WITH RECURSIVE below(p) AS (SELECT 0 FROM meta WHERE records > 0 \
-     UNION ALL SELECT b.p + 1 FROM below b, meta m WHERE b.p + 1 < m.records AND b.p < 1000) \
-     SELECT count(*) FROM below b WHERE NOT EXISTS (SELECT 1 FROM deliveries d WHERE d.seq = b.p) \
-     AND NOT EXISTS (SELECT 1 FROM attempts t WHERE t.seq = b.p) \
-     AND NOT EXISTS (SELECT 1 FROM endpoints e WHERE e.put = b.p OR e.enabled_by = b.p OR e.secrets_by = b.p \
-     OR (e.put < b.p AND (b.p < e.enabled_by OR b.p < e.secrets_by)))",
-];
-
-/// What version 2 adds to them. The last takes the place of that of version 1.
-static OF_VERSION_2: &[&str] = &[
+/// What version 2 adds to them.
+static OF_TOPICS: &[&str] = &[
     // 1, 2, 4 and 5. What a topic was set by.
     "SELECT count(*) FROM topics o, meta m WHERE NOT o.set_by BETWEEN 0 AND m.records - 1",
     "SELECT count(*) FROM topics o, endpoints e WHERE o.set_by IN (e.put, e.enabled_by, e.secrets_by)",
@@ -80,17 +68,9 @@ static OF_VERSION_2: &[&str] = &[
     "SELECT count(*) FROM topics o JOIN attempts t ON t.seq = o.set_by",
     "SELECT count(*) FROM topics o JOIN topics n ON n.set_by = o.set_by \
      WHERE n.topic <> o.topic OR n.endpoint <> o.endpoint",
-    // 9. Topics.
+    // 8. Topics.
     "SELECT count(*) FROM topics WHERE topic IN ('', 'A', 'a b', 'http://x') OR NOT subscribed BETWEEN 0 AND 1 \
      OR set_by <= endpoint",
-    // 8. Numbers that no row names.
-    "WITH RECURSIVE below(p) AS (SELECT 0 FROM meta WHERE records > 0 \
-     UNION ALL SELECT b.p + 1 FROM below b, meta m WHERE b.p + 1 < m.records AND b.p < 1000) \
-     SELECT count(*) FROM below b WHERE NOT EXISTS (SELECT 1 FROM deliveries d WHERE d.seq = b.p) \
-     AND NOT EXISTS (SELECT 1 FROM attempts t WHERE t.seq = b.p) \
-     AND NOT EXISTS (SELECT 1 FROM endpoints e WHERE e.put = b.p OR e.enabled_by = b.p OR e.secrets_by = b.p \
-     OR (e.put < b.p AND (b.p < e.enabled_by OR b.p < e.secrets_by))) \
-     AND NOT EXISTS (SELECT 1 FROM topics o WHERE o.set_by = b.p OR (o.endpoint < b.p AND b.p < o.set_by))",
 ];
 
 const OURS: &str = "SELECT count(*) FROM meta WHERE app = 'webhook-relay'";
@@ -105,12 +85,7 @@ fn are_none(rt: &impl Abort, conn: &mut Connection<MemStore>, faults: &[&str]) -
 }
 
 fn is_sound(rt: &impl Abort, conn: &mut Connection<MemStore>, version: i64) -> bool {
-    let others = if version == 2 {
-        OF_VERSION_2
-    } else {
-        OF_VERSION_1
-    };
-    are_none(rt, conn, FAULTS) && are_none(rt, conn, others)
+    are_none(rt, conn, FAULTS) && (version == 1 || are_none(rt, conn, OF_TOPICS))
 }
 
 /// The refusal that the rows call for. It is empty where they are to be opened.

@@ -17,9 +17,10 @@ use std::sync::ledger::{Blank, Ledger};
 
 pub(crate) type Failing = FileStore<Fuse<Memory>>;
 
-/// Two endpoints, subscribed to a topic; an event of one of them and one for both; and an attempt, each settled before the
-/// next. The replies are those of a run that nothing stops.
-const RUN: [Call; 18] = [
+/// Two endpoints, subscribed to a topic; an event of one of them and one for both; an attempt; one that delivers; and a
+/// Purge with an event under the id that it takes, each settled before the next. The replies are those of a run that
+/// nothing stops.
+const RUN: [Call; 28] = [
     Call::Line(PUT, "staged 0"),
     Call::Line(PUT_OTHER, "staged 1"),
     Call::Line("subscribe t b", "staged 2"),
@@ -43,7 +44,23 @@ const RUN: [Call; 18] = [
     Call::Line("seal", "sealed 7..8"),
     Call::Line("commit", "committed 8"),
     Call::Line("settle", "settled 8"),
-    Call::SettledRecords(8),
+    Call::Line(
+        "claim 1000",
+        "permit 5 a msg_2 attempt 1 at 1000 inflight 1",
+    ),
+    Call::Line(
+        "spend 5 1000 200 100000",
+        "success limit 20 inflight 0 staged 8",
+    ),
+    Call::Line("seal", "sealed 8..9"),
+    Call::Line("commit", "committed 9"),
+    Call::Line("settle", "settled 9"),
+    Call::Line("purge 1001", "staged 9"),
+    Call::Line("submit 1002 a msg_2 7b7c", "staged 10"),
+    Call::Line("seal", "sealed 9..11"),
+    Call::Line("commit", "committed 11"),
+    Call::Line("settle", "settled 11"),
+    Call::SettledRecords(11),
 ];
 
 static PATHS: [Path; 1] = [&RUN];
@@ -56,7 +73,7 @@ struct Step {
     records: u64,
 }
 
-static STEPS: [Step; 3] = [
+static STEPS: [Step; 5] = [
     Step {
         sealed: (4, "sealed 0..4"),
         settled: (6, "settled 4"),
@@ -72,9 +89,52 @@ static STEPS: [Step; 3] = [
         settled: (16, "settled 8"),
         records: 8,
     },
+    Step {
+        sealed: (19, "sealed 8..9"),
+        settled: (21, "settled 9"),
+        records: 9,
+    },
+    Step {
+        sealed: (24, "sealed 9..11"),
+        settled: (26, "settled 11"),
+        records: 11,
+    },
 ];
 
-static LOOK: [Path; 1] = [&[Call::Records(0)]];
+/// What is looked at once the machine came back, in front of what is left then.
+static LOOK: [Path; 1] = [&[
+    Call::Records(0),
+    Call::Line("show a msg_2", ""),
+    Call::Line("show a", ""),
+]];
+
+/// So many records, and what is shown then of the event that is delivered and taken, and of its endpoint.
+struct Shown(u64, &'static str, &'static str);
+
+static SHOWN: [Shown; 6] = [
+    Shown(0, "absent", "absent"),
+    Shown(4, "absent", "enabled pending 0 delivered 0 exhausted 0"),
+    Shown(
+        7,
+        "pending due 1000 attempts 0",
+        "enabled pending 2 delivered 0 exhausted 0",
+    ),
+    Shown(
+        8,
+        "pending due 1000 attempts 0",
+        "enabled pending 2 delivered 0 exhausted 0",
+    ),
+    Shown(
+        9,
+        "delivered attempts 1",
+        "enabled pending 1 delivered 1 exhausted 0",
+    ),
+    Shown(
+        11,
+        "pending due 1002 attempts 0",
+        "enabled pending 2 delivered 0 exhausted 0",
+    ),
+];
 
 /// Which of the two files stops.
 #[derive(Clone, Copy)]
@@ -124,7 +184,17 @@ fn bounds(alloc: Global, replies: &[Reply]) -> (u64, u64) {
     (settled, sealed)
 }
 
-/// How many records the opening of a store has.
+/// Whether so many records are shown with these lines.
+fn is_shown(alloc: Global, replies: &[Reply], records: u64) -> bool {
+    for shown in &SHOWN {
+        if shown.0 == records {
+            return is_line_at(alloc, replies, 1, shown.1) && is_line_at(alloc, replies, 2, shown.2);
+        }
+    }
+    false
+}
+
+/// How many records the opening of a store has. What is shown of them is checked.
 fn records_of<L: Ledger, S: Alter + Drop>(
     rt: &impl Abort,
     alloc: Global,
@@ -140,7 +210,10 @@ fn records_of<L: Ledger, S: Alter + Drop>(
         Err((_, _)) => panic!(rt; "the opening was refused"),
     };
     match replies.get(0) {
-        Some(Reply::Count(count)) => *count,
+        Some(Reply::Count(count)) => {
+            assert!(rt; is_shown(alloc, &replies, *count), "{count} records");
+            *count
+        }
         _ => panic!(rt; "no count"),
     }
 }
@@ -164,10 +237,9 @@ fn left<L: Ledger, S: Alter + Drop>(
     }
 }
 
-/// After a run the records of whole batches are there, so the event for both is there twice or not at all: all that were
-/// settled, and none that wasn't sealed.
+/// After a run the records of whole batches are there, so the event for both is there twice or not at all, and what was
+/// taken is there with its attempt or not at all: all that were settled, and none that wasn't sealed.
 fn check_records(rt: &impl Abort, records: u64, (settled, sealed): (u64, u64)) {
-    assert!(rt; matches!(records, 0 | 4 | 7 | 8), "{records} records");
     assert!(rt;
         settled <= records && records <= sealed,
         "{settled} {records} {sealed}"
@@ -190,7 +262,7 @@ fn stops<L: Ledger>(
         Some((pool, conn, told)) => {
             let records = records_of(rt, alloc, pool, come_back(rt, alloc, conn));
             check_records(rt, records, told);
-            told.0 < 8
+            told.0 < 11
         }
         None => true,
     }
@@ -221,11 +293,11 @@ fn stop_each(rt: &impl Abort, alloc: Global, stopping: Stopping) -> u64 {
     count
 }
 
-// Each of the four commits writes and syncs the log.
+// Each of the six commits writes and syncs the log.
 #[test]
 fn what_was_settled_is_there_after_a_stop_of_the_log(rt: HostRuntime) {
     let count = stop_each(&rt, rt.alloc(), Stopping::Log);
-    assert!(rt; 8 <= count && count < 9_000, "{count}");
+    assert!(rt; 12 <= count && count < 9_000, "{count}");
 }
 
 #[test]

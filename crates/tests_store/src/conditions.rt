@@ -285,7 +285,7 @@ fn secrets_are_of_one_command(rt: HostRuntime) {
 }
 
 /// Condition 5.
-static A_FLAG_IS_OF_ONE_RECORD: [File; 9] = [
+static A_FLAG_IS_OF_ONE_RECORD: [File; 11] = [
     File(
         Start::Ours,
         &[
@@ -376,6 +376,30 @@ static A_FLAG_IS_OF_ONE_RECORD: [File; 9] = [
         ],
         ROWS,
         "records 2 disabled",
+        &[],
+    ),
+    File(
+        Start::Ours,
+        &[
+            EVENT,
+            "UPDATE endpoints SET enabled = 0, enabled_by = 3; \
+         INSERT INTO attempts VALUES(2, 1, 1, 410, 1001); \
+         UPDATE meta SET records = 4",
+        ],
+        ROWS,
+        "records 4 disabled pending due 1001 attempts 1",
+        &[],
+    ),
+    File(
+        Start::Ours,
+        &[
+            EVENT,
+            "UPDATE endpoints SET enabled = 0, enabled_by = 2; \
+         INSERT INTO attempts VALUES(3, 1, 1, 410, 1001); \
+         UPDATE meta SET records = 4",
+        ],
+        ROWS,
+        DAMAGED,
         &[],
     ),
 ];

@@ -93,6 +93,9 @@ pub(crate) fn draw(numbers: &mut Numbers, books: &Books) -> Result<Option<Entry>
     let letter = LETTERS[numbers.below(4) as usize];
     let id = IDS[numbers.below(2) as usize];
     let name = name_of(letter)?;
+    if numbers.below(16) == 0 {
+        return Ok(Some(Entry::Purge(1000 + numbers.below(1100))));
+    }
     let found = books.deliveries.find(name, &MsgId::read(id)?);
     let is_known = books.endpoints.contains(name);
     if numbers.below(4) == 0 {

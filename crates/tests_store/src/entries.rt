@@ -30,6 +30,8 @@ pub(crate) enum Entry {
     Outcome(u64, u64, u16, u64),
     /// A topic of the endpoint.
     Subscribe(&'static [u8], u8, bool),
+    /// Of this moment.
+    Purge(u64),
 }
 
 pub(crate) fn name_of(letter: u8) -> Result<Name, Fail> {
@@ -126,5 +128,8 @@ pub(crate) fn record_of(alloc: Global, entry: Entry) -> Result<Record, Fail> {
         Entry::Subscribe(topic, letter, flag) => {
             Ok(subscribed(Name::read(topic)?, name_of(letter)?, flag))
         }
+        Entry::Purge(before) => Ok(Record::Purge {
+            before: Moment::of(before)?,
+        }),
     }
 }

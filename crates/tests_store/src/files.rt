@@ -3,13 +3,20 @@
 use crate::conditions::ENDPOINT;
 use crate::openings::{ATTEMPTED, File, ROWS, Start, check_all};
 
-static A_NUMBER_WITHOUT_A_ROW_NEEDS_A_COMMAND: [File; 3] = [
+static A_NUMBER_WITHOUT_A_ROW_IS_NO_FAULT: [File; 4] = [
     File(Start::Ours, &[ENDPOINT], ROWS, "records 1 enabled", &[]),
     File(
         Start::Ours,
         &[ENDPOINT, "UPDATE meta SET records = 2"],
         ROWS,
-        "Damaged",
+        "records 2 enabled",
+        &[],
+    ),
+    File(
+        Start::Ours,
+        &[ATTEMPTED, "UPDATE meta SET records = 4"],
+        ROWS,
+        "records 4 enabled pending due 1006 attempts 1",
         &[],
     ),
     File(
@@ -25,11 +32,11 @@ static A_NUMBER_WITHOUT_A_ROW_NEEDS_A_COMMAND: [File; 3] = [
 ];
 
 #[test]
-fn a_number_without_a_row_needs_a_command(rt: HostRuntime) {
-    check_all(&rt, rt.alloc(), &A_NUMBER_WITHOUT_A_ROW_NEEDS_A_COMMAND);
+fn a_number_without_a_row_is_no_fault(rt: HostRuntime) {
+    check_all(&rt, rt.alloc(), &A_NUMBER_WITHOUT_A_ROW_IS_NO_FAULT);
 }
 
-static NO_NUMBER_IS_OF_NO_ROW: [File; 2] = [
+static NO_NUMBER_NEEDS_A_ROW: [File; 4] = [
     File(
         Start::Ours,
         &["UPDATE meta SET records = 0"],
@@ -41,14 +48,28 @@ static NO_NUMBER_IS_OF_NO_ROW: [File; 2] = [
         Start::Ours,
         &["UPDATE meta SET records = 0", "UPDATE meta SET records = 1"],
         ROWS,
+        "records 1",
+        &[],
+    ),
+    File(
+        Start::Ours,
+        &["UPDATE meta SET records = 4611686018427387903"],
+        ROWS,
+        "records 4611686018427387903",
+        &[],
+    ),
+    File(
+        Start::Ours,
+        &["UPDATE meta SET records = 4611686018427387905"],
+        ROWS,
         "Damaged",
         &[],
     ),
 ];
 
 #[test]
-fn no_number_is_of_no_row(rt: HostRuntime) {
-    check_all(&rt, rt.alloc(), &NO_NUMBER_IS_OF_NO_ROW);
+fn no_number_needs_a_row(rt: HostRuntime) {
+    check_all(&rt, rt.alloc(), &NO_NUMBER_NEEDS_A_ROW);
 }
 
 static AN_ANSWER_OF_GONE_DISABLES: [File; 2] = [
@@ -76,7 +97,7 @@ fn an_answer_of_gone_disables(rt: HostRuntime) {
     check_all(&rt, rt.alloc(), &AN_ANSWER_OF_GONE_DISABLES);
 }
 
-static AN_EVENT_IS_DUE_AFTER_ITS_ATTEMPT: [File; 9] = [
+static AN_EVENT_IS_DUE_AFTER_ITS_ATTEMPT: [File; 8] = [
     File(
         Start::Ours,
         &[ATTEMPTED],
@@ -129,13 +150,6 @@ static AN_EVENT_IS_DUE_AFTER_ITS_ATTEMPT: [File; 9] = [
     File(
         Start::Ours,
         &[ATTEMPTED, "UPDATE attempts SET number = 2"],
-        ROWS,
-        "Damaged",
-        &[],
-    ),
-    File(
-        Start::Ours,
-        &[ATTEMPTED, "UPDATE meta SET records = 4"],
         ROWS,
         "Damaged",
         &[],

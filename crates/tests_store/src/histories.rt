@@ -2,10 +2,12 @@
 
 use crate::database::holds;
 use crate::draws::{Numbers, draw};
-use crate::entries::record_of;
+use crate::entries::{Entry, record_of};
 use crate::same::same_books;
 use crate::staged::{empty, stage};
 use crate::vaults::Spool;
+use delivery_book::DeliveryBook;
+use relay_types::Moment;
 use spool::Books;
 use std::alloc::Global;
 use std::process::Abort;
@@ -14,17 +16,43 @@ use std::test::Fail;
 /// How often a record is drawn for a history. One that may not follow is left out.
 const DRAWS: u32 = 120;
 
-/// The books of a history, and the vault to which it is committed.
+/// The books of a history, the moments of its events and attempts, each beside its delivery, and the vault to which it is
+/// committed.
 #[derive(Drop)]
 struct Both {
     books: Books,
+    moments: Vec<(u64, u64)>,
     spool: Spool,
 }
 
 fn begun(alloc: Global) -> Result<Both, Fail> {
     let books = empty(alloc)?;
     let spool = Spool::new(alloc, None)?;
-    Ok(Both { books, spool })
+    Ok(Both {
+        books,
+        moments: Vec::new(alloc),
+        spool,
+    })
+}
+
+fn note(moments: &mut Vec<(u64, u64)>, seq: u64, entry: Entry) -> Result<(), Fail> {
+    match entry {
+        Entry::Accept(_, _, _, at) => moments.push((seq, at))?,
+        Entry::Outcome(delivery, _, _, at) => moments.push((delivery, at))?,
+        _ => {}
+    }
+    Ok(())
+}
+
+/// The greatest moment of the deliveries that no Purge took.
+fn clock_of(book: &DeliveryBook, moments: &[(u64, u64)]) -> Result<Moment, Fail> {
+    let mut greatest = 0;
+    for (delivery, at) in moments {
+        if book.settled(*delivery).is_some() {
+            greatest = greatest.max(*at);
+        }
+    }
+    Ok(Moment::of(greatest)?)
 }
 
 /// Draws a record, and commits what waits in one case of four. Whether it is written.
@@ -35,6 +63,7 @@ fn go_on(
     both: &mut Both,
 ) -> Result<bool, Fail> {
     if let Some(entry) = draw(numbers, &both.books)? {
+        note(&mut both.moments, both.books.records, entry)?;
         stage(rt, alloc, &mut both.books, entry)?;
         both.spool.stage(rt, record_of(alloc, entry)?);
     }
@@ -51,6 +80,7 @@ fn draw_all(rt: &impl Abort, alloc: Global, first: u64, both: &mut Both) -> Resu
 }
 
 fn is_same(alloc: Global, both: &mut Both) -> Result<bool, Fail> {
+    both.books.clock = clock_of(&both.books.deliveries, &both.moments)?;
     let loaded = both.spool.books(alloc)?;
     same_books(&both.books, &loaded)
 }

@@ -23,6 +23,8 @@ mod migrations;
 #[cfg(test)]
 mod openings;
 #[cfg(test)]
+mod purges;
+#[cfg(test)]
 mod refusals;
 #[cfg(test)]
 mod same;

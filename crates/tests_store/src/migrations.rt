@@ -74,7 +74,7 @@ const KEPT: &[Count] = &[
 ];
 
 /// Rows of legal histories.
-static SOUND: [Old; 7] = [
+static SOUND: [Old; 12] = [
     Old(&[], OLD_VERSION, "records 0", MIGRATED),
     Old(&[ENDPOINT], OLD_VERSION, "records 1 enabled", MIGRATED),
     Old(
@@ -110,6 +110,40 @@ static SOUND: [Old; 7] = [
         ],
         OLD_VERSION,
         "records 4611686018427387904 enabled",
+        MIGRATED,
+    ),
+    Old(
+        &[ATTEMPTED, "UPDATE meta SET records = 4"],
+        OLD_VERSION,
+        "records 4 enabled pending due 1006 attempts 1",
+        MIGRATED,
+    ),
+    Old(
+        &[ENDPOINT, "UPDATE meta SET records = 2"],
+        OLD_VERSION,
+        "records 2 enabled",
+        MIGRATED,
+    ),
+    Old(
+        &["UPDATE meta SET records = 1"],
+        OLD_VERSION,
+        "records 1",
+        MIGRATED,
+    ),
+    Old(
+        &[ENDPOINT, "UPDATE meta SET records = 4611686018427387904"],
+        OLD_VERSION,
+        "records 4611686018427387904 enabled",
+        MIGRATED,
+    ),
+    Old(
+        &[
+            ENDPOINT,
+            "UPDATE endpoints SET enabled = 0, enabled_by = 2; \
+             UPDATE meta SET records = 5",
+        ],
+        OLD_VERSION,
+        "records 5 disabled",
         MIGRATED,
     ),
 ];
@@ -154,8 +188,8 @@ fn others_are_passed_over(rt: HostRuntime) {
     check_all(&rt, rt.alloc(), &BESIDE_OTHERS, ROWS);
 }
 
-/// Each breaks a condition on rows of `docs/FORMATS.md`: 1 to 8, and then 5, 8, 8 and 1 again.
-static UNSOUND: [Old; 13] = [
+/// Each breaks a condition on rows of `docs/FORMATS.md`: 1 to 7, and then 5, 1, 1 and 1 again.
+static UNSOUND: [Old; 11] = [
     Old(
         &[ATTEMPTED, "UPDATE meta SET records = 2"],
         OLD_VERSION,
@@ -199,24 +233,17 @@ static UNSOUND: [Old; 13] = [
         KEPT,
     ),
     Old(
-        &[ATTEMPTED, "UPDATE meta SET records = 4"],
-        OLD_VERSION,
-        DAMAGED,
-        KEPT,
-    ),
-    Old(
         &[ATTEMPTED, "UPDATE attempts SET status = 410"],
         OLD_VERSION,
         DAMAGED,
         KEPT,
     ),
     Old(
-        &[ENDPOINT, "UPDATE meta SET records = 2"],
+        &[ENDPOINT, "UPDATE meta SET records = 4611686018427387905"],
         OLD_VERSION,
         DAMAGED,
         KEPT,
     ),
-    Old(&["UPDATE meta SET records = 1"], OLD_VERSION, DAMAGED, KEPT),
     Old(
         &["UPDATE meta SET records = -1"],
         OLD_VERSION,

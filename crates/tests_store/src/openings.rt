@@ -325,6 +325,11 @@ fn commanded<L: Ledger>(desk: &mut Desk<L>) -> Result<Option<Refusal>, Fail> {
     Ok(desk.command(Command::SetEnabled { name, flag: true }).err())
 }
 
+fn purged<L: Ledger>(desk: &mut Desk<L>) -> Result<Option<Refusal>, Fail> {
+    let before = Moment::of(0)?;
+    Ok(desk.command(Command::Purge { before }).err())
+}
+
 fn is_exhausted(refusal: Option<Refusal>, number: u8) -> bool {
     match refusal {
         Some(refusal) => refusal.number == number && refusal.fault == Fault::SeqExhausted,
@@ -332,11 +337,12 @@ fn is_exhausted(refusal: Option<Refusal>, number: u8) -> bool {
     }
 }
 
-/// Whether the desk refuses an event and a command as it has no number left.
+/// Whether the desk refuses an event and two commands as it has no number left.
 fn is_full<L: Ledger>(alloc: Global, desk: &mut Desk<L>) -> Result<bool, Fail> {
     let event = submitted(alloc, desk)?;
     let command = commanded(desk)?;
-    Ok(is_exhausted(event, 7) && is_exhausted(command, 6))
+    let purge = purged(desk)?;
+    Ok(is_exhausted(event, 7) && is_exhausted(command, 6) && is_exhausted(purge, 6))
 }
 
 /// What the desk shows. One that is full takes nothing more.

@@ -404,18 +404,27 @@ fn at_most_256_endpoints(rt: HostRuntime) {
     check_all(&rt, rt.alloc(), &MANY);
 }
 
-/// Its desk refuses an event and a command.
-static FULL: [File; 1] = [File(
-    Start::Ours,
-    &[
-        ENDPOINT,
-        "UPDATE endpoints SET secrets_by = 4611686018427387903; \
+/// Its desk refuses an event and two commands.
+static FULL: [File; 2] = [
+    File(
+        Start::Ours,
+        &[
+            ENDPOINT,
+            "UPDATE endpoints SET secrets_by = 4611686018427387903; \
          UPDATE meta SET records = 4611686018427387904",
-    ],
-    ROWS,
-    "records 4611686018427387904 enabled",
-    &[],
-)];
+        ],
+        ROWS,
+        "records 4611686018427387904 enabled",
+        &[],
+    ),
+    File(
+        Start::Ours,
+        &[ENDPOINT, "UPDATE meta SET records = 4611686018427387904"],
+        ROWS,
+        "records 4611686018427387904 enabled",
+        &[],
+    ),
+];
 
 #[test]
 fn a_store_that_is_full_takes_nothing(rt: HostRuntime) {

@@ -126,6 +126,7 @@ fn is_shown(book: &EndpointBook, name: Name, view: &EndpointView<'_>) -> bool {
 fn same_totals(one: &DeliveryBook, other: &DeliveryBook) -> bool {
     one.next_seq() == other.next_seq()
         && one.settled_seq() == other.settled_seq()
+        && one.len() == other.len()
         && one.pending_all() == other.pending_all()
         && one.settled_counts_all() == other.settled_counts_all()
 }
@@ -179,7 +180,9 @@ fn same_found(one: &DeliveryBook, other: &DeliveryBook, name: Name) -> Result<bo
     let mut is_same = true;
     for id in &IDS {
         let id = MsgId::read(id)?;
-        is_same = is_same && one.find(name, &id) == other.find(name, &id);
+        is_same = is_same
+            && one.find(name, &id) == other.find(name, &id)
+            && one.find_settled(name, &id) == other.find_settled(name, &id);
     }
     Ok(is_same)
 }

@@ -93,6 +93,11 @@ fn end(rt: &impl Abort, book: &mut DeliveryBook, seq: u64, delivery: u64, status
     book.stage_outcome(seq, delivery, status, at);
 }
 
+fn purge(rt: &impl Abort, book: &mut DeliveryBook, seq: u64, before: Moment) {
+    assert!(rt; seq < 1_000_000 && book.next_seq() <= seq);
+    book.stage_purge(seq, before);
+}
+
 fn endpoint_of(book: &DeliveryBook, delivery: u64) -> Result<Name, Fail> {
     match book.row(delivery) {
         Some(row) => Ok(row.endpoint),
@@ -174,6 +179,10 @@ fn enter(rt: &impl Abort, alloc: Global, books: &mut Books, entry: Entry) -> Res
         Entry::Subscribe(topic, letter, flag) => {
             let (topic, name) = (Name::read(topic)?, name_of(letter)?);
             subscribe(rt, &mut books.endpoints, seq, topic, name, flag)
+        }
+        Entry::Purge(before) => {
+            purge(rt, &mut books.deliveries, seq, Moment::of(before)?);
+            Ok(())
         }
     }
 }

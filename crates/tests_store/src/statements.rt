@@ -4,9 +4,10 @@ use crate::database::{Count, count_all, holds};
 use crate::entries::body_of;
 use relay_types::{MaxLimit, Moment, MsgId, Name, Secret, Target};
 use spool_sql::{
-    Cause, Seq, cause_of, count_endpoints, count_topics, create_tables, create_topics,
-    delete_topic, has_delivery, has_topic, insert_attempt, insert_delivery, insert_endpoint,
-    insert_secret, insert_topic, is_empty, probe, select_put, update_records, update_version,
+    Cause, Seq, Tried, attempts_of_delivery, cause_of, count_endpoints, count_topics,
+    create_tables, create_topics, delete_attempts, delete_delivery, delete_topic, has_delivery,
+    has_topic, insert_attempt, insert_delivery, insert_endpoint, insert_secret, insert_topic,
+    is_empty, probe, select_events, select_put, update_records, update_version,
 };
 use sqlite::{Connection, Error, ErrorCode, MemStore, Transaction};
 use std::alloc::Global;
@@ -33,6 +34,9 @@ enum Call {
     Topic(&'static [u8], u32, bool, u32),
     /// The topic and the endpoint, whose row is taken out if there is one.
     NoTopic(&'static [u8], u32),
+    /// The attempts at this delivery are taken out, and the delivery.
+    NoAttempts(u32),
+    NoDelivery(u32),
     Records(u32),
 }
 
@@ -50,6 +54,14 @@ enum Step {
     /// Whether there is a row of the topic and the endpoint.
     HasTopic(&'static [u8], u32, bool),
     TopicCount(usize),
+    /// The events with numbers from this on.
+    Events(u32, &'static [u64]),
+    /// The statuses and moments of the attempts at this delivery.
+    Tries(u32, &'static [(u16, u64)]),
+    /// Events of the endpoint with numbers from the first up to the end, of which each has its number in its id.
+    Add(u32, u32, u32),
+    /// How many numbers a page has that begins with this one, and which are its first and its last.
+    Page(u32, usize, u64, u64),
 }
 
 fn seq(number: u32) -> Seq {
@@ -153,6 +165,8 @@ fn make(
             add_topic(tx, topic, endpoint, flag, set_by)
         }
         Call::NoTopic(topic, endpoint) => remove_topic(tx, topic, endpoint),
+        Call::NoAttempts(delivery) => Ok(delete_attempts(tx, seq(delivery))),
+        Call::NoDelivery(delivery) => Ok(delete_delivery(tx, seq(delivery))),
         Call::Records(count) => Ok(update_records(tx, u64::from(count))),
     }
 }
@@ -197,6 +211,45 @@ fn is_there(
     Ok(has_topic(tx, &topic, seq(endpoint))? == wanted)
 }
 
+fn same_seqs(found: &[Seq], wanted: &[u64]) -> bool {
+    let mut is_same = found.len() == wanted.len();
+    for (seq, number) in found.iter().zip(wanted) {
+        is_same = is_same && seq.get() == *number;
+    }
+    is_same
+}
+
+fn same_tries(found: &[Tried], wanted: &[(u16, u64)]) -> bool {
+    let mut is_same = found.len() == wanted.len();
+    for (tried, (status, at)) in found.iter().zip(wanted) {
+        is_same = is_same && tried.status == *status && tried.at.seconds() == *at;
+    }
+    is_same
+}
+
+fn add_all(
+    alloc: Global,
+    tx: &mut Transaction<'_, MemStore>,
+    endpoint: u32,
+    first: u32,
+    end: u32,
+) -> Result<bool, Fail> {
+    let mut is_done = true;
+    for number in first..end {
+        let id = format!(in alloc; "x{number}")?;
+        let added = add_delivery(alloc, tx, number, endpoint, id.as_bytes(), 1000)?;
+        is_done = is_done && added.is_ok();
+    }
+    Ok(is_done)
+}
+
+fn is_page(found: &[Seq], count: usize, first: u64, last: u64) -> bool {
+    match (found.first(), found.last()) {
+        (Some(one), Some(end)) => found.len() == count && one.get() == first && end.get() == last,
+        _ => count == 0,
+    }
+}
+
 fn is_so(alloc: Global, tx: &mut Transaction<'_, MemStore>, step: Step) -> Result<bool, Fail> {
     match step {
         Step::Done(made) => Ok(make(alloc, tx, made)?.is_ok()),
@@ -206,6 +259,14 @@ fn is_so(alloc: Global, tx: &mut Transaction<'_, MemStore>, step: Step) -> Resul
         Step::Has(endpoint, id, wanted) => has(tx, endpoint, id, wanted),
         Step::HasTopic(topic, endpoint, wanted) => is_there(tx, topic, endpoint, wanted),
         Step::TopicCount(count) => Ok(count_topics(tx)? == count),
+        Step::Events(from, wanted) => Ok(same_seqs(&select_events(tx, seq(from))?, wanted)),
+        Step::Tries(delivery, wanted) => {
+            Ok(same_tries(&attempts_of_delivery(tx, seq(delivery))?, wanted))
+        }
+        Step::Add(endpoint, first, end) => add_all(alloc, tx, endpoint, first, end),
+        Step::Page(from, count, first, last) => {
+            Ok(is_page(&select_events(tx, seq(from))?, count, first, last))
+        }
     }
 }
 
@@ -370,6 +431,60 @@ static TOPICS: [Step; 19] = [
 #[test]
 fn topics_are_found_and_replaced(rt: HostRuntime) -> Result<(), Fail> {
     walk(&rt, rt.alloc(), &TOPICS, &ROWS)
+}
+
+/// Deliveries 4, 8 and 10, of which the first has three attempts and the second has one.
+static REMOVED: [Step; 29] = [
+    Step::Done(Call::Attempt(6, 4, 2, 0, 1001)),
+    Step::Done(Call::Attempt(7, 4, 3, 410, 1003)),
+    Step::Done(Call::Delivery(8, 3, b"msg_2", 1000)),
+    Step::Done(Call::Attempt(9, 8, 1, 200, 1000)),
+    Step::Done(Call::Delivery(10, 3, b"msg_3", 1000)),
+    Step::Events(0, &[4, 8, 10]),
+    Step::Events(4, &[4, 8, 10]),
+    Step::Events(5, &[8, 10]),
+    Step::Events(10, &[10]),
+    Step::Events(11, &[]),
+    Step::Tries(4, &[(503, 1002), (0, 1001), (410, 1003)]),
+    Step::Tries(8, &[(200, 1000)]),
+    Step::Tries(10, &[]),
+    Step::Tries(5, &[]),
+    Step::Refused(Call::NoDelivery(4)),
+    Step::Events(0, &[4, 8, 10]),
+    Step::Done(Call::NoAttempts(4)),
+    Step::Tries(4, &[]),
+    Step::Tries(8, &[(200, 1000)]),
+    Step::Events(0, &[4, 8, 10]),
+    Step::Done(Call::NoDelivery(4)),
+    Step::Events(0, &[8, 10]),
+    Step::Has(3, b"msg_1", false),
+    Step::Has(3, b"msg_2", true),
+    Step::Done(Call::NoAttempts(10)),
+    Step::Done(Call::NoDelivery(10)),
+    Step::Done(Call::NoDelivery(10)),
+    Step::Events(0, &[8]),
+    Step::Done(Call::Delivery(11, 3, b"msg_1", 1000)),
+];
+
+#[test]
+fn events_and_attempts_are_removed(rt: HostRuntime) -> Result<(), Fail> {
+    walk(&rt, rt.alloc(), &REMOVED, &ROWS)
+}
+
+/// Events 100 to 399 stand behind 4. A page has 256.
+static PAGES: [Step; 7] = [
+    Step::Add(3, 100, 400),
+    Step::Page(0, 256, 4, 354),
+    Step::Page(5, 256, 100, 355),
+    Step::Page(355, 45, 355, 399),
+    Step::Page(399, 1, 399, 399),
+    Step::Page(400, 0, 0, 0),
+    Step::Has(3, b"x399", true),
+];
+
+#[test]
+fn events_are_read_in_pages(rt: HostRuntime) -> Result<(), Fail> {
+    walk(&rt, rt.alloc(), &PAGES, &ROWS)
 }
 
 static REPEATED: [Step; 10] = [

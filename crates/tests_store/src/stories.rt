@@ -4,12 +4,13 @@ use crate::database::{Count, count_all, holds};
 use crate::entries::{Entry, Keys, name_of};
 use crate::vaults::{
     Moments, Span, Spool, Told, end_all, id_of, put_all, same_told, subscribe_all, take_in,
-    take_next, take_turn, topic_of,
+    take_next, take_together, take_turn, topic_of,
 };
 use delivery_book::DeliveryBook;
 use endpoint_book::EndpointBook;
-use relay_types::{Name, State};
+use relay_types::{MsgId, Name, State};
 use spool::{Books, LoadFault};
+use sqlite::{Connection, MemStore};
 use std::alloc::Global;
 use std::process::Abort;
 use std::test::Fail;
@@ -21,6 +22,8 @@ pub(crate) enum Step {
     Turn(u64, u32, Entry, Told),
     /// The same, as the next of the vault's own mark.
     Enter(Entry, Told),
+    /// A batch of these entries, as the next of the vault's own mark.
+    Together(&'static [Entry], Told),
     /// Endpoints `e0`, `e1` and so on with these secrets, until one is not written, and what that answers.
     Puts(u32, Keys, Told),
     /// Events of `a` with the ids `msg_0`, `msg_1` and so on, which are written.
@@ -53,6 +56,8 @@ pub(crate) enum Look {
     /// There is no event of this number.
     NoEvent(u64),
     IsEnabled(u8, bool),
+    /// The number of the endpoint's event with this id.
+    Find(u8, &'static [u8], Option<u64>),
     /// How many settled events are pending, and how many delivered.
     Settled(u64, u64),
     /// How many events are pending.
@@ -136,6 +141,11 @@ fn are_subscribed(alloc: Global, book: &EndpointBook, count: u64) -> Result<bool
     Ok(is_so)
 }
 
+fn finds(book: &DeliveryBook, letter: u8, id: &[u8], wanted: Option<u64>) -> Result<bool, Fail> {
+    let (name, id) = (name_of(letter)?, MsgId::read(id)?);
+    Ok(book.find(name, &id) == wanted && book.find_settled(name, &id) == wanted)
+}
+
 fn sees(alloc: Global, books: &Books, look: Look) -> Result<bool, Fail> {
     match look {
         Look::Holds(records, clock, len) => Ok(
@@ -145,6 +155,7 @@ fn sees(alloc: Global, books: &Books, look: Look) -> Result<bool, Fail> {
         ),
         Look::Event(_, _, _, _, _) => Ok(tells(&books.deliveries, look)),
         Look::NoEvent(delivery) => Ok(books.deliveries.settled(delivery).is_none()),
+        Look::Find(letter, id, wanted) => finds(&books.deliveries, letter, id, wanted),
         Look::IsEnabled(letter, flag) => Ok(books.endpoints.is_enabled(name_of(letter)?) == flag),
         Look::Settled(pending, delivered) => {
             let counts = books.deliveries.settled_counts_all();
@@ -193,6 +204,9 @@ fn take(rt: &impl Abort, alloc: Global, spool: &mut Spool, step: Step) -> Result
             Ok(same_told(take_turn(alloc, spool, mark, from, entry)?, wanted))
         }
         Step::Enter(entry, wanted) => Ok(same_told(take_next(alloc, spool, entry)?, wanted)),
+        Step::Together(entries, wanted) => {
+            Ok(same_told(take_together(rt, alloc, spool, entries)?, wanted))
+        }
         Step::Puts(count, keys, wanted) => {
             Ok(same_told(put_all(alloc, spool, count, keys)?, wanted))
         }
@@ -225,11 +239,23 @@ pub(crate) fn walk_on(
     spool: Spool,
     story: &Story,
 ) -> Result<(), Fail> {
-    let mut spool = spool;
-    let told = take_all(rt, alloc, &mut spool, story.steps);
-    let mut conn = spool.release();
+    let (told, conn) = walk_through(rt, alloc, spool, story.steps);
+    let mut conn = conn;
+    conn.set_step_limit(None);
     match told {
         Ok(()) => count_all(rt, &mut conn, story.counts),
         told => told,
     }
+}
+
+/// Takes the steps in turn on this vault, and gives its tables back.
+pub(crate) fn walk_through(
+    rt: &impl Abort,
+    alloc: Global,
+    spool: Spool,
+    steps: &[Step],
+) -> (Result<(), Fail>, Connection<MemStore>) {
+    let mut spool = spool;
+    let told = take_all(rt, alloc, &mut spool, steps);
+    (told, spool.release())
 }

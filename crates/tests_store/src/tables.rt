@@ -297,7 +297,7 @@ static AT_MOST_4096_TOPICS: Story = Story {
     ],
 };
 
-fn adopted(alloc: Global, conn: Connection<MemStore>) -> Result<Vault<MemStore>, Fail> {
+pub(crate) fn adopted(alloc: Global, conn: Connection<MemStore>) -> Result<Vault<MemStore>, Fail> {
     if !conn.is_autocommit() {
         return Err(Fail::from("a transaction is open"));
     }

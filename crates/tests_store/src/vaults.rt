@@ -112,6 +112,20 @@ pub(crate) fn take_next(alloc: Global, spool: &mut Spool, entry: Entry) -> Resul
     take_turn(alloc, spool, MARK, from, entry)
 }
 
+/// Commits the entries as one batch.
+pub(crate) fn take_together(
+    rt: &impl Abort,
+    alloc: Global,
+    spool: &mut Spool,
+    entries: &[Entry],
+) -> Result<Told, Fail> {
+    spool.follow(rt, alloc)?;
+    for entry in entries {
+        spool.stage(rt, record_of(alloc, *entry)?);
+    }
+    Ok(spool.commit())
+}
+
 fn numbered(alloc: Global, number: u32) -> Result<Name, Fail> {
     let text = format!(in alloc; "e{number}")?;
     Ok(Name::read(text.as_bytes())?)

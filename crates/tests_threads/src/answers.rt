@@ -15,7 +15,7 @@ const SECRETS: &[u8] = b"{\"secrets\":[\"whsec_MDEyMzQ1Njc4OTAxMjM0NTY3ODkwMTIz\
 
 const UNKNOWN_ENDPOINT: &str = "{\"error\":\"UnknownEndpoint\"}";
 
-const REQUESTS: [Step; 26] = [
+const REQUESTS: [Step; 29] = [
     Step::Ask(
         Request::Post(b"/v1/endpoints/a/events", &[b"msg_1"], b"{}"),
         404,
@@ -132,6 +132,24 @@ const REQUESTS: [Step; 26] = [
         "{\"error\":\"NotFound\"}",
     ),
     Step::Ask(
+        Request::Put(b"/v1/retention", b"{\"before\":1099511627776}"),
+        200,
+        false,
+        "{\"seq\":8}",
+    ),
+    Step::Ask(
+        Request::Put(b"/v1/retention", b"{\"before\":1099511627777}"),
+        400,
+        false,
+        "{\"error\":\"BadMoment\"}",
+    ),
+    Step::Ask(
+        Request::Get(b"/v1/retention"),
+        404,
+        false,
+        "{\"error\":\"NotFound\"}",
+    ),
+    Step::Ask(
         Request::Get(b"/v1/endpoints/a"),
         200,
         false,
@@ -154,7 +172,7 @@ const REQUESTS: [Step; 26] = [
         Request::Get(b"/v1/status"),
         200,
         false,
-        "{\"delivered\":0,\"endpoints\":1,\"exhausted\":0,\"pending\":3,\"records\":8}",
+        "{\"delivered\":0,\"endpoints\":1,\"exhausted\":0,\"pending\":3,\"records\":9}",
     ),
     Step::Ask(
         Request::Get(b"/v1/statuses"),
@@ -167,6 +185,91 @@ const REQUESTS: [Step; 26] = [
         400,
         false,
         "{\"error\":\"BadId\"}",
+    ),
+    Step::Finish,
+];
+
+/// An event that is delivered is removed, and its id is free.
+const RETENTION: [Step; 11] = [
+    Step::Ask(
+        Request::Put(b"/v1/retention", b"{\"before\":1000}"),
+        200,
+        false,
+        "{\"seq\":3}",
+    ),
+    Step::Ask(
+        Request::Get(b"/v1/endpoints/a/events/msg_1"),
+        200,
+        false,
+        "{\"at\":1000,\"attempts\":1,\"due\":null,\"endpoint\":\"a\",\"id\":\"msg_1\",\
+            \"last_status\":200,\"state\":\"delivered\"}",
+    ),
+    Step::Ask(
+        Request::Post(b"/v1/endpoints/a/events", &[b"msg_1"], b"[]"),
+        409,
+        false,
+        "{\"error\":\"Conflict\"}",
+    ),
+    Step::Ask(
+        Request::Put(b"/v1/retention", b"{\"before\":1001}"),
+        200,
+        false,
+        "{\"seq\":4}",
+    ),
+    Step::Ask(
+        Request::Get(b"/v1/endpoints/a/events/msg_1"),
+        404,
+        false,
+        "{\"error\":\"UnknownEvent\"}",
+    ),
+    Step::Ask(
+        Request::Get(b"/v1/endpoints/a"),
+        200,
+        false,
+        "{\"delivered\":0,\"enabled\":true,\"exhausted\":0,\"max\":100,\"name\":\"a\",\
+            \"pending\":0,\"secrets\":1,\"url\":\"http://127.0.0.1:9000/hook\"}",
+    ),
+    Step::Ask(
+        Request::Post(b"/v1/endpoints/a/events", &[b"msg_1"], b"[]"),
+        202,
+        false,
+        "{\"id\":\"msg_1\",\"seq\":5}",
+    ),
+    Step::Ask(
+        Request::Get(b"/v1/endpoints/a/events/msg_1"),
+        200,
+        false,
+        "{\"at\":1000,\"attempts\":0,\"due\":1000,\"endpoint\":\"a\",\"id\":\"msg_1\",\
+            \"last_status\":null,\"state\":\"pending\"}",
+    ),
+    Step::Ask(
+        Request::Post(b"/v1/endpoints/a/events", &[b"msg_1"], b"{}"),
+        409,
+        false,
+        "{\"error\":\"Conflict\"}",
+    ),
+    Step::Ask(
+        Request::Get(b"/v1/status"),
+        200,
+        false,
+        "{\"delivered\":0,\"endpoints\":1,\"exhausted\":0,\"pending\":1,\"records\":6}",
+    ),
+    Step::Finish,
+];
+
+/// The event is known at `a`, where it is delivered. It waits to be settled at `b`.
+const IN_VAIN: [Step; 3] = [
+    Step::Ask(
+        Request::Post(b"/v1/topics/t/events", &[b"msg_1"], b"{}"),
+        503,
+        true,
+        "{\"error\":\"Unknown\"}",
+    ),
+    Step::Ask(
+        Request::Post(b"/v1/topics/t/events", &[b"msg_1"], b"{}"),
+        202,
+        false,
+        "{\"id\":\"msg_1\",\"seqs\":[8,6]}",
     ),
     Step::Finish,
 ];
@@ -205,7 +308,7 @@ const BACKLOG: [Step; 5] = [
 static ANSWERED: Course = Course {
     before: &[],
     committer: Committer::Runs,
-    threads: &[&REQUESTS, &[Step::Ended(25)]],
+    threads: &[&REQUESTS, &[Step::Ended(28)]],
 };
 
 #[test]
@@ -214,7 +317,55 @@ fn requests_are_answered(rt: HostRuntime) {
         &rt,
         rt.alloc(),
         &ANSWERED,
-        &End(Ending::Finished, 8, 8, false),
+        &End(Ending::Finished, 9, 9, false),
+    );
+}
+
+static REMOVED: Course = Course {
+    before: &[
+        Before::Put(b"a"),
+        Before::Submit(b"msg_1"),
+        Before::Turn,
+        Before::Deliver,
+        Before::Turn,
+    ],
+    committer: Committer::Runs,
+    threads: &[&RETENTION, &[Step::Ended(10)]],
+};
+
+#[test]
+fn an_event_that_is_removed_frees_its_id(rt: HostRuntime) {
+    check(
+        &rt,
+        rt.alloc(),
+        &REMOVED,
+        &End(Ending::Finished, 6, 6, false),
+    );
+}
+
+/// A Purge takes the event at `a` once the publish waits. The committer begins after it, so one batch has both.
+static REMOVED_MEANWHILE: Course = Course {
+    before: &[
+        Before::Put(b"a"),
+        Before::Put(b"b"),
+        Before::Subscribe(b"a"),
+        Before::Submit(b"msg_1"),
+        Before::Turn,
+        Before::Deliver,
+        Before::Subscribe(b"b"),
+        Before::Turn,
+    ],
+    committer: Committer::After(8),
+    threads: &[&IN_VAIN, &[Step::Staged(7), Step::Purge(7), Step::Ended(2)]],
+};
+
+#[test]
+fn an_event_that_is_removed_while_it_is_published_is_unknown(rt: HostRuntime) {
+    check(
+        &rt,
+        rt.alloc(),
+        &REMOVED_MEANWHILE,
+        &End(Ending::Finished, 9, 9, false),
     );
 }
 

@@ -6,7 +6,7 @@ use crate::crowd::NAMES;
 use crate::given::{Before, MARK, are_done, holds, name};
 use crate::seen::{Seen, TURNS, count, pause, so_far, wait_a_turn};
 use crate::stand_ins::{Spot, Watched};
-use crate::steps::{Place, Step};
+use crate::steps::{Place, Step, have_staged};
 use delivery::{CommitterEnd, HaltCause, Keeper, LoggedKeeper, Pass, begin_run, committer_run};
 use desk::Desk;
 use drill::audit;
@@ -33,6 +33,8 @@ pub(crate) enum Committer {
     Runs,
     /// It begins a while later.
     Late,
+    /// It begins once there are so many records.
+    After(u64),
     /// Its first commit is held until another record is staged meanwhile.
     Held,
     /// The end is asked for before it begins, and so many commits are refused for want of memory.
@@ -148,6 +150,9 @@ fn run_committer<L: Ledger, I: LogId, K: Keeper + Drop, R: Wait + Clock>(
     match committer {
         Committer::Without => return (logged, Ending::Without),
         Committer::Late | Committer::Refused => pause(place.rt),
+        Committer::After(records) => {
+            have_staged(place, *records);
+        }
         Committer::Lacking(_) => place.shared.finish(place.rt),
         Committer::RefusedAtEnd => wait_for_end(place),
         Committer::Runs | Committer::LackingEach(_) | Committer::Held | Committer::TakenAway => {}

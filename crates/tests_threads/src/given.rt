@@ -2,7 +2,9 @@
 
 use desk::{Command, Desk};
 use group_commit::{Held, WrongTurn};
+use permits::{Foreign, Permit};
 use relay_types::{Body, MaxLimit, Moment, MsgId, Name, Secret, Secrets, Target};
+use retry_table::{PostResult, Status};
 use spool::{Batch, CommitEnd, Receipt, Vault};
 use sqlite::Alter;
 use std::alloc::Global;
@@ -24,6 +26,10 @@ pub(crate) enum Before {
     Subscribe(&'static [u8]),
     /// An event is published to topic `t`, with this id.
     Publish(&'static [u8]),
+    /// The next event is posted, and answered 200 at 1000.
+    Deliver,
+    /// A Purge before 1001 is taken.
+    Purge,
     /// So many events of endpoint `a` are taken and settled, from `msg_1` on.
     Fill(u32),
     /// What waits is settled.
@@ -82,6 +88,38 @@ fn subscribe(rt: &impl Abort, text: &[u8]) -> Command {
         topic: name(rt, b"t"),
         name: name(rt, text),
         flag: true,
+    }
+}
+
+/// The command that removes what is done with before 1001.
+pub(crate) fn purge(rt: &impl Abort) -> Command {
+    Command::Purge {
+        before: moment(rt, 1001),
+    }
+}
+
+fn ok(rt: &impl Abort) -> PostResult {
+    match Status::of(200) {
+        Some(status) => PostResult::Answered {
+            status,
+            rtt: 100_000,
+        },
+        None => panic!(rt; "200 is no status"),
+    }
+}
+
+fn spend<L: Ledger>(rt: &impl Abort, desk: &mut Desk<L>, permit: Permit<L>) {
+    match desk.spend(permit, ok(rt), now(rt)) {
+        Ok(_) => {}
+        Err((permit, Foreign)) => panic!(rt; "{} is foreign", permit.delivery()),
+    }
+}
+
+fn deliver<L: Ledger>(rt: &impl Abort, desk: &mut Desk<L>) {
+    match desk.claim(now(rt)) {
+        Ok(Some(job)) => spend(rt, desk, job.into_permit()),
+        Ok(None) => panic!(rt; "no event is due"),
+        Err(_) => panic!(rt; "a claim was refused"),
     }
 }
 
@@ -168,6 +206,8 @@ fn is_done<L: Ledger, S: Alter>(
         Before::Submit(text) => submit(rt, alloc, desk, text),
         Before::Disable => command(rt, desk, disable(rt)),
         Before::Subscribe(text) => command(rt, desk, subscribe(rt, text)),
+        Before::Deliver => deliver(rt, desk),
+        Before::Purge => command(rt, desk, purge(rt)),
         Before::Publish(text) => publish(rt, alloc, desk, text),
         Before::Fill(count) => fill(rt, alloc, desk, vault, *count),
         Before::Turn => return turn(rt, desk, vault),

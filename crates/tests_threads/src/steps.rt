@@ -2,11 +2,11 @@
 
 use crate::asked::{Request, is_answered};
 use crate::crowd::{are_each_delivered, submit_each, work};
-use crate::given::{body, disable, id, moment, name, now};
+use crate::given::{body, disable, id, moment, name, now, purge};
 use crate::seen::{Seen, TURNS, count, have_come, pause, wait_a_turn};
 use crate::stand_ins::{Standing, Subscriber, Way};
 use delivery::{Pass, Round, Shared, worker_round};
-use desk::{CommandTicket, Desk, Ticket, Told};
+use desk::{Command, CommandTicket, Desk, Ticket, Told};
 use retry_table::Spend;
 use run_log::LogId;
 use std::alloc::Global;
@@ -37,6 +37,8 @@ pub(crate) enum Step {
     Publish(&'static [u8], u64),
     /// Endpoint `a` is disabled, with this number.
     Disable(u64),
+    /// A Purge before 1001 is taken, with this number.
+    Purge(u64),
     /// The end is asked for.
     Finish,
     /// A round at this moment.
@@ -54,8 +56,17 @@ pub(crate) enum Step {
     Told(u64, &'static [u8]),
     /// The same of an event with these two numbers, at endpoints `a` and `b`.
     ToldBoth([u64; 2], &'static [u8]),
+    /// The event of endpoint `a` with this number and this id is settled.
+    Kept(u64, &'static [u8]),
+    /// It waits for the event of endpoint `a` with this number and this id, which a Purge takes: nothing is known of it
+    /// then.
+    Gone(u64, &'static [u8]),
+    /// It waits for an event with these two numbers, at endpoints `a` and `b`, of which a Purge takes the first.
+    GoneAtOne([u64; 2], &'static [u8]),
     /// The same of a command.
     ToldCommand(u64),
+    /// It waits until there are so many records.
+    Staged(u64),
     /// It waits until so many records are settled.
     Settled(u64),
     /// It waits until so many commits have begun.
@@ -102,7 +113,8 @@ impl<L: Ledger, I: LogId, R: Wait + Clock + Abort> Place<'_, L, I, R> {
             Step::Pause => pause(self.rt),
             Step::Submit(text, seq) => return self.is_submitted(text, *seq),
             Step::Publish(text, seq) => return self.is_published(text, *seq),
-            Step::Disable(seq) => return self.is_disabled(*seq),
+            Step::Disable(seq) => return self.is_taken(disable(self.rt), *seq),
+            Step::Purge(seq) => return self.is_taken(purge(self.rt), *seq),
             Step::Finish => self.shared.finish(self.rt),
             Step::Rest => self.rest(pass),
             Step::Look => return self.shared.look(self.rt, pass).is_ok(),
@@ -120,7 +132,11 @@ impl<L: Ledger, I: LogId, R: Wait + Clock + Abort> Place<'_, L, I, R> {
         match step {
             Step::Told(seq, text) => self.is_told(*seq, text),
             Step::ToldBoth(seqs, text) => self.are_told(*seqs, text),
+            Step::Kept(seq, text) => self.is_kept(*seq, text),
+            Step::Gone(seq, text) => self.is_gone(*seq, text),
+            Step::GoneAtOne(seqs, text) => self.is_gone_at_one(*seqs, text),
             Step::ToldCommand(seq) => self.is_command_told(*seq),
+            Step::Staged(wanted) => have_staged(self, *wanted),
             Step::Settled(wanted) => self.are_settled(*wanted),
             Step::Begun(wanted) => have_come(self.rt, &self.seen.commits, *wanted),
             Step::Ended(wanted) => have_come(self.rt, &self.seen.ended, *wanted),
@@ -169,8 +185,8 @@ impl<L: Ledger, I: LogId, R: Wait + Clock + Abort> Place<'_, L, I, R> {
         }
     }
 
-    fn is_disabled(&self, seq: u64) -> bool {
-        match self.shared.command(self.rt, disable(self.rt)) {
+    fn is_taken(&self, command: Command, seq: u64) -> bool {
+        match self.shared.command(self.rt, command) {
             Ok(change) => change.ticket().seq == seq,
             Err(_) => false,
         }
@@ -198,6 +214,30 @@ impl<L: Ledger, I: LogId, R: Wait + Clock + Abort> Place<'_, L, I, R> {
         let ticket = self.ticket(seq, b"a", text);
         let locked = self.shared.wait_for(self.rt, &ticket);
         locked.desk().told(&ticket) == wanted_of(locked.desk())
+    }
+
+    fn is_kept(&self, seq: u64, text: &[u8]) -> bool {
+        let ticket = self.ticket(seq, b"a", text);
+        let locked = self.shared.wait_for(self.rt, &ticket);
+        locked.desk().told(&ticket) == Told::Settled
+    }
+
+    fn is_gone(&self, seq: u64, text: &[u8]) -> bool {
+        let ticket = self.ticket(seq, b"a", text);
+        let locked = self.shared.wait_for(self.rt, &ticket);
+        locked.desk().told(&ticket) == Told::Unknown
+            && locked.desk().settled_body(&ticket).is_none()
+            && !locked.desk().is_halted()
+    }
+
+    fn is_gone_at_one(&self, seqs: [u64; 2], text: &[u8]) -> bool {
+        let tickets = [
+            self.ticket(seqs[0], b"a", text),
+            self.ticket(seqs[1], b"b", text),
+        ];
+        let locked = self.shared.wait_for_all(self.rt, &tickets);
+        locked.desk().told(&tickets[0]) == Told::Unknown
+            && locked.desk().told(&tickets[1]) == Told::Settled
     }
 
     fn are_told(&self, seqs: [u64; 2], text: &[u8]) -> bool {
@@ -277,6 +317,28 @@ impl<L: Ledger, I: LogId, R: Wait + Clock + Abort> Place<'_, L, I, R> {
             Turn::Idle => matches!(round, Round::Idle),
             Turn::Closing => matches!(round, Round::Closing),
         }
+    }
+}
+
+/// Waits until there are so many records.
+pub(crate) fn have_staged<L: Ledger, I: LogId, R: Wait + Clock>(
+    place: &Place<'_, L, I, R>,
+    wanted: u64,
+) -> bool {
+    let mut pass = Pass::new();
+    for _ in 0..TURNS {
+        if records(place, &mut pass) >= wanted {
+            return true;
+        }
+        wait_a_turn(place.rt);
+    }
+    false
+}
+
+fn records<L: Ledger, I: LogId, R: Wait>(place: &Place<'_, L, I, R>, pass: &mut Pass) -> u64 {
+    match place.shared.look(place.rt, pass) {
+        Ok(locked) => locked.desk().records(),
+        Err(_) => 0,
     }
 }
 

@@ -17,6 +17,15 @@ struct Case(Course, End, u64);
 
 const ENDPOINT_AND_EVENT: &[Before] = &[Before::Put(b"a"), Before::Submit(b"msg_1"), Before::Turn];
 
+/// The event was answered 200 at 1000.
+const DELIVERED: &[Before] = &[
+    Before::Put(b"a"),
+    Before::Submit(b"msg_1"),
+    Before::Turn,
+    Before::Deliver,
+    Before::Turn,
+];
+
 /// An event for two endpoints waits to be settled.
 const TO_BOTH: &[Before] = &[
     Before::Put(b"a"),
@@ -30,7 +39,7 @@ const TO_BOTH: &[Before] = &[
 /// An event waits to be settled.
 const WAITING: &[Before] = &[Before::Put(b"a"), Before::Turn, Before::Submit(b"msg_1")];
 
-static CASES: [Case; 14] = [
+static CASES: [Case; 18] = [
     // an event wakes the committer
     Case(
         Course {
@@ -80,6 +89,27 @@ static CASES: [Case; 14] = [
             ]],
         },
         End(Ending::Finished, 3, 3, false),
+        0,
+    ),
+    // so does a purge, after which the id is free
+    Case(
+        Course {
+            before: DELIVERED,
+            committer: Committer::Runs,
+            threads: &[&[
+                Step::Pause,
+                Step::Told(1, b"msg_1"),
+                Step::Purge(3),
+                Step::Settled(4),
+                Step::Gone(1, b"msg_1"),
+                Step::Submit(b"msg_1", 4),
+                Step::Told(4, b"msg_1"),
+                Step::Gone(1, b"msg_1"),
+                Step::Finish,
+                Step::Ended(1),
+            ]],
+        },
+        End(Ending::Finished, 5, 5, false),
         0,
     ),
     // an outcome wakes it
@@ -147,6 +177,46 @@ static CASES: [Case; 14] = [
         End(Ending::Finished, 3, 3, false),
         0,
     ),
+    // the same of a purge, and of the id that it takes
+    Case(
+        Course {
+            before: &[
+                Before::Put(b"a"),
+                Before::Submit(b"msg_1"),
+                Before::Turn,
+                Before::Deliver,
+                Before::Turn,
+                Before::Purge,
+                Before::Submit(b"msg_1"),
+            ],
+            committer: Committer::Late,
+            threads: &[
+                &[Step::Told(4, b"msg_1"), Step::Gone(1, b"msg_1"), Step::End],
+                &[Step::ToldCommand(3), Step::Gone(1, b"msg_1"), Step::End],
+                &[Step::Ended(2), Step::Finish, Step::Ended(3)],
+            ],
+        },
+        End(Ending::Finished, 5, 5, false),
+        0,
+    ),
+    // a desk that is halted wakes who waits for a purge, and what it took is there
+    Case(
+        Course {
+            before: DELIVERED,
+            committer: Committer::Refused,
+            threads: &[
+                &[
+                    Step::Purge(3),
+                    Step::ToldCommand(3),
+                    Step::Kept(1, b"msg_1"),
+                    Step::End,
+                ],
+                &[Step::Ended(2), Step::Finish],
+            ],
+        },
+        End(Ending::OutOfMemory, 3, 4, true),
+        0,
+    ),
     // a desk that is halted wakes both
     Case(
         Course {
@@ -177,6 +247,30 @@ static CASES: [Case; 14] = [
             ],
         },
         End(Ending::Finished, 6, 6, false),
+        0,
+    ),
+    // also if a purge takes it at one of them, within the same batch
+    Case(
+        Course {
+            before: &[
+                Before::Put(b"a"),
+                Before::Put(b"b"),
+                Before::Subscribe(b"a"),
+                Before::Submit(b"msg_1"),
+                Before::Turn,
+                Before::Deliver,
+                Before::Subscribe(b"b"),
+                Before::Turn,
+                Before::Publish(b"msg_1"),
+                Before::Purge,
+            ],
+            committer: Committer::Late,
+            threads: &[
+                &[Step::GoneAtOne([3, 6], b"msg_1"), Step::End],
+                &[Step::Ended(1), Step::Finish, Step::Ended(2)],
+            ],
+        },
+        End(Ending::Finished, 8, 8, false),
         0,
     ),
     // a desk that is halted does so too

@@ -27,9 +27,15 @@ pub(crate) enum Step {
     AcceptAtThree(u64, &'static [u8], &'static [u8], u64),
     /// An attempt at the delivery ended: the number, the delivery, the status and the moment.
     Outcome(u64, u64, u16, u64),
+    /// A Purge of this number, which takes what is done with before this moment.
+    Purge(u64, u64),
     Settle(u64),
-    /// The delivery of the endpoint's event of this id.
+    /// The delivery of the endpoint's event of this id, by all records and by the settled ones.
     Find(&'static [u8], &'static [u8], Option<u64>),
+    FindSettled(&'static [u8], &'static [u8], Option<u64>),
+    /// How many deliveries there are, and the number of the one at this place.
+    Len(usize),
+    At(usize, Option<u64>),
     /// The delivery as all records have it, and as the settled ones have it.
     Row(u64, Option<Told>),
     Settled(u64, Option<Told>),
@@ -91,6 +97,11 @@ fn end(rt: &impl Abort, book: &mut DeliveryBook, seq: u64, delivery: u64, status
     assert!(rt; seq < 1_000_000 && book.next_seq() <= seq);
     assert!(rt; book.takes_outcome(delivery));
     book.stage_outcome(seq, delivery, status, at);
+}
+
+fn purge(rt: &impl Abort, book: &mut DeliveryBook, seq: u64, before: Moment) {
+    assert!(rt; seq < 1_000_000 && book.next_seq() <= seq);
+    book.stage_purge(seq, before);
 }
 
 fn settle(rt: &impl Abort, book: &mut DeliveryBook, seq: u64) {
@@ -189,6 +200,7 @@ fn stage(rt: &impl Abort, alloc: Global, book: &mut DeliveryBook, step: Step) {
         Step::Outcome(seq, delivery, status, at) => {
             end(rt, book, seq, delivery, status, moment(rt, at));
         }
+        Step::Purge(seq, before) => purge(rt, book, seq, moment(rt, before)),
         Step::Settle(seq) => settle(rt, book, seq),
         Step::AcceptAlike(endpoint, count) => {
             accept_alike(rt, alloc, book, name(rt, endpoint), count);
@@ -203,6 +215,11 @@ fn is_so(rt: &impl Abort, alloc: Global, book: &DeliveryBook, step: Step) -> boo
         Step::Find(endpoint, id, wanted) => {
             book.find(name(rt, endpoint), &msg_id(rt, id)) == wanted
         }
+        Step::FindSettled(endpoint, id, wanted) => {
+            book.find_settled(name(rt, endpoint), &msg_id(rt, id)) == wanted
+        }
+        Step::Len(count) => book.len() == count,
+        Step::At(place, wanted) => book.delivery(place) == wanted,
         Step::Row(delivery, wanted) => shows(book.row(delivery), wanted),
         Step::Settled(delivery, wanted) => shows(book.settled(delivery), wanted),
         Step::Came(delivery, attempts, state, due, last) => {

@@ -19,6 +19,8 @@ mod laws;
 #[cfg(test)]
 mod pool;
 #[cfg(test)]
+mod purges;
+#[cfg(test)]
 mod queue;
 #[cfg(test)]
 mod queue_tables;

@@ -95,10 +95,12 @@ enum Kind {
     Outcome(u64, u64, u16),
     /// This topic of the endpoint of this name.
     Subscribed(&'static [u8], &'static [u8], bool),
+    /// The moment before which what is done with goes.
+    Purge(u64),
 }
 
 // Records of each kind, no two of which are the same.
-static KINDS: [Kind; 11] = [
+static KINDS: [Kind; 13] = [
     Kind::Put(20),
     Kind::Secrets(&[0]),
     Kind::Secrets(&[1, 1]),
@@ -110,6 +112,8 @@ static KINDS: [Kind; 11] = [
     Kind::Subscribed(b"t", b"a", false),
     Kind::Subscribed(b"u", b"a", true),
     Kind::Subscribed(b"a", b"t", true),
+    Kind::Purge(0),
+    Kind::Purge(1_099_511_627_776),
 ];
 
 fn subscribed(rt: &impl Abort, topic: &[u8], text: &[u8], flag: bool) -> Record {
@@ -147,6 +151,9 @@ fn record(rt: &impl Abort, alloc: Global, kind: Kind) -> Record {
             at: moment(rt, 1000),
         },
         Kind::Subscribed(topic, text, flag) => subscribed(rt, topic, text, flag),
+        Kind::Purge(before) => Record::Purge {
+            before: moment(rt, before),
+        },
     }
 }
 
@@ -170,6 +177,7 @@ fn is_of(rt: &impl Abort, record: &Record, kind: Kind) -> bool {
         (Record::Subscribed { topic, name, flag }, Kind::Subscribed(of, text, wanted)) => {
             topic.as_bytes() == of && name.as_bytes() == text && *flag == wanted
         }
+        (Record::Purge { before }, Kind::Purge(moment)) => before.seconds() == moment,
         _ => false,
     }
 }

@@ -19,6 +19,8 @@ enum File {
     Subscribed(u64, &'static [Endpoint], &'static [(u64, u64)], bool),
     /// So many records: an endpoint, an event, an attempt, and a topic that this record decides.
     Beside(u64, u64, bool),
+    /// So many records: an endpoint, an event of it, and an attempt with this number that was answered gone.
+    GoneAt(u64, Endpoint, u64, bool),
     /// An endpoint and so many topics of it.
     Pairs(usize, bool),
 }
@@ -63,6 +65,14 @@ const DISABLED: Endpoint = Endpoint {
     secrets_by: 0,
 };
 
+/// An endpoint that is put first, and disabled by record 4.
+const DISABLED_LAST: Endpoint = Endpoint {
+    put: 0,
+    enabled: false,
+    enabled_by: 4,
+    secrets_by: 0,
+};
+
 /// An endpoint that is put by record 1.
 const SECOND: Endpoint = Endpoint {
     put: 1,
@@ -95,18 +105,29 @@ const CHANGED: Endpoint = Endpoint {
     secrets_by: 2,
 };
 
-static A_RECORD_OF_NO_ROW_NEEDS_A_COMMAND: [File; 6] = [
+static A_RECORD_OF_NO_ROW_IS_NO_FAULT: [File; 12] = [
+    File::Empty(0, true),
+    File::Empty(1, true),
+    File::Empty(1 << 62, true),
+    File::Empty((1 << 62) + 1, false),
     File::Alone(1, FIRST, true),
     File::Alone(2, RENEWED, true),
-    File::Alone(2, FIRST, false),
-    File::Alone(3, RENEWED, false),
+    File::Alone(2, FIRST, true),
+    File::Alone(3, RENEWED, true),
+    File::Alone(1 << 62, FIRST, true),
     File::Alone(1 << 62, RENEWED_LAST, true),
     File::Alone(1 << 62, RENEWED_BEHIND, false),
+    File::Alone(2, SECOND, true),
 ];
 
-static ROWS_OF_NO_ENDPOINT_HAVE_NO_RECORD: [File; 2] = [
-    File::Empty(0, true),
-    File::Empty(1, false),
+// The attempts were removed, and the flag that one of them gave is left. Which attempt decides is asked of those that
+// are left.
+static A_FLAG_OUTLIVES_ITS_ATTEMPT: [File; 5] = [
+    File::Alone(5, DISABLED, true),
+    File::Alone(5, ENABLED, true),
+    File::Alone(2, DISABLED, false),
+    File::GoneAt(5, DISABLED, 4, false),
+    File::GoneAt(5, DISABLED_LAST, 3, true),
 ];
 
 static AN_ANSWER_OF_GONE_DISABLES: [File; 4] = [
@@ -151,13 +172,13 @@ static A_RECORD_DECIDES_ONE_TOPIC_AND_NOTHING_ELSE: [File; 13] = [
     File::Beside(4, 3, true),
 ];
 
-static A_RECORD_OF_NO_ROW_MAY_BE_OF_A_TOPIC: [File; 8] = [
+static A_TOPIC_NEEDS_NO_RECORD_BEFORE_IT: [File; 8] = [
     File::Subscribed(4, &[FIRST], &[(0, 3)], true),
-    File::Subscribed(5, &[FIRST], &[(0, 3)], false),
+    File::Subscribed(5, &[FIRST], &[(0, 3)], true),
     File::Subscribed(7, &[CHANGED], &[(0, 6)], true),
     File::Subscribed(5, &[FIRST, SECOND], &[(0, 2), (1, 4)], true),
-    File::Subscribed(6, &[FIRST, SECOND], &[(0, 2), (1, 4)], false),
-    File::Subscribed(3, &[SECOND], &[(1, 2)], false),
+    File::Subscribed(6, &[FIRST, SECOND], &[(0, 2), (1, 4)], true),
+    File::Subscribed(3, &[SECOND], &[(1, 2)], true),
     File::Subscribed(1 << 62, &[FIRST], &[(0, (1 << 62) - 1)], true),
     File::Subscribed(1 << 62, &[FIRST], &[(0, 1 << 62)], false),
 ];
@@ -181,13 +202,14 @@ fn put(rt: &impl Abort, numbers: &mut Numbers, endpoint: Endpoint) {
     numbers.endpoints.push(endpoint).expect(rt, "memory");
 }
 
-fn attempt(rt: &impl Abort, numbers: &mut Numbers, number: u64, status: u16) {
+/// An event of the first endpoint at 1, and an attempt at it with this number of its own.
+fn attempt(rt: &impl Abort, numbers: &mut Numbers, seq: u64, number: u64, status: u16) {
     let event = Delivery {
         seq: 1,
         endpoint: 0,
     };
     let attempt = Attempt {
-        seq: 2,
+        seq,
         delivery: 1,
         number,
         status,
@@ -241,7 +263,7 @@ fn fill(rt: &impl Abort, numbers: &mut Numbers, file: File) -> bool {
         File::Attempted(endpoint, number, status, sound) => {
             numbers.records = 3;
             put(rt, numbers, endpoint);
-            attempt(rt, numbers, number, status);
+            attempt(rt, numbers, 2, number, status);
             sound
         }
         File::Subscribed(records, endpoints, topics, sound) => {
@@ -252,8 +274,14 @@ fn fill(rt: &impl Abort, numbers: &mut Numbers, file: File) -> bool {
         File::Beside(records, set_by, sound) => {
             numbers.records = records;
             put(rt, numbers, FIRST);
-            attempt(rt, numbers, 1, 500);
+            attempt(rt, numbers, 2, 1, 500);
             subscribe(rt, numbers, 0, set_by);
+            sound
+        }
+        File::GoneAt(records, endpoint, seq, sound) => {
+            numbers.records = records;
+            put(rt, numbers, endpoint);
+            attempt(rt, numbers, seq, 1, 410);
             sound
         }
         File::Pairs(count, sound) => {
@@ -273,13 +301,13 @@ fn walk(rt: &impl Abort, alloc: Global, files: &[File]) {
 }
 
 #[test]
-fn a_record_of_no_row_needs_a_command(rt: HostRuntime) {
-    walk(&rt, rt.alloc(), &A_RECORD_OF_NO_ROW_NEEDS_A_COMMAND);
+fn a_record_of_no_row_is_no_fault(rt: HostRuntime) {
+    walk(&rt, rt.alloc(), &A_RECORD_OF_NO_ROW_IS_NO_FAULT);
 }
 
 #[test]
-fn rows_of_no_endpoint_have_no_record(rt: HostRuntime) {
-    walk(&rt, rt.alloc(), &ROWS_OF_NO_ENDPOINT_HAVE_NO_RECORD);
+fn a_flag_outlives_its_attempt(rt: HostRuntime) {
+    walk(&rt, rt.alloc(), &A_FLAG_OUTLIVES_ITS_ATTEMPT);
 }
 
 #[test]
@@ -307,8 +335,8 @@ fn a_record_decides_one_topic_and_nothing_else(rt: HostRuntime) {
 }
 
 #[test]
-fn a_record_of_no_row_may_be_of_a_topic(rt: HostRuntime) {
-    walk(&rt, rt.alloc(), &A_RECORD_OF_NO_ROW_MAY_BE_OF_A_TOPIC);
+fn a_topic_needs_no_record_before_it(rt: HostRuntime) {
+    walk(&rt, rt.alloc(), &A_TOPIC_NEEDS_NO_RECORD_BEFORE_IT);
 }
 
 #[test]
