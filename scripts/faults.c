@@ -10,6 +10,7 @@
 //   FAULT_ALLOCATION=N  The Nth allocation is refused, or as many from there on as FAULT_MANY says. Where FAULT_STEP is set, it counts from the
 //                       read of standard input with that number on, until the next one, and refuses among these; so a script that writes a line
 //                       at a time refuses those of one call. Where FAULT_MAIN is set, it counts and refuses those of the main thread alone.
+//   FAULT_HELD          Nothing fails: what is counted is how many bytes are allocated and not given back.
 //
 // FAULT_ASKED names a file that keeps how many calls were made, and then how many allocations in each step: those before the first read are step 0.
 // Without it nothing but reads and writes of the standard streams fails.
@@ -17,6 +18,7 @@
 #include <dlfcn.h>
 #include <errno.h>
 #include <fcntl.h>
+#include <malloc.h>
 #include <stdlib.h>
 #include <string.h>
 #include <sys/mman.h>
@@ -94,6 +96,25 @@ static int is_refused(void) {
         return 0;
     errno = ENOMEM;
     return 1;
+}
+
+// Bytes that are held
+
+static int holds;
+static long held;
+
+static void count_bytes(long bytes) {
+    if (holds)
+        *asked = (unsigned long)__atomic_add_fetch(&held, bytes, __ATOMIC_RELAXED);
+}
+
+static long bytes_of(void *block) {
+    return holds ? (long)malloc_usable_size(block) : 0;
+}
+
+static void *counted_in(void *block) {
+    count_bytes(bytes_of(block));
+    return block;
 }
 
 // The machine stops
@@ -258,6 +279,7 @@ __attribute__((constructor)) static void start(void) {
     by_step = has("FAULT_STEP", &wanted);
     only_main = getenv("FAULT_MAIN") != NULL;
     refuses = has("FAULT_ALLOCATION", &refuse);
+    holds = getenv("FAULT_HELD") != NULL;
 }
 
 // The functions of the C library
@@ -325,20 +347,41 @@ ssize_t write(int file, const void *bytes, size_t count) {
 
 void *malloc(size_t size) {
     NEXT(malloc);
-    return is_refused() ? NULL : next(size);
+    return is_refused() ? NULL : counted_in(next(size));
+}
+
+// To look these two up may take memory itself.
+void *__libc_calloc(size_t count, size_t size);
+void __libc_free(void *block);
+
+void *calloc(size_t count, size_t size) {
+    return counted_in(__libc_calloc(count, size));
+}
+
+void free(void *block) {
+    count_bytes(-bytes_of(block));
+    __libc_free(block);
 }
 
 void *realloc(void *block, size_t size) {
+    long before = bytes_of(block);
     NEXT(realloc);
-    return is_refused() ? NULL : next(block, size);
+    block = is_refused() ? NULL : next(block, size);
+    if (block != NULL)
+        count_bytes(bytes_of(block) - before);
+    return block;
 }
 
 void *aligned_alloc(size_t alignment, size_t size) {
     NEXT(aligned_alloc);
-    return is_refused() ? NULL : next(alignment, size);
+    return is_refused() ? NULL : counted_in(next(alignment, size));
 }
 
 int posix_memalign(void **block, size_t alignment, size_t size) {
+    int refused;
     NEXT(posix_memalign);
-    return is_refused() ? ENOMEM : next(block, alignment, size);
+    refused = is_refused() ? ENOMEM : next(block, alignment, size);
+    if (refused == 0)
+        counted_in(*block);
+    return refused;
 }

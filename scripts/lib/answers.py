@@ -10,6 +10,7 @@ from lib.model import Enabled, Put, Secrets, Subscribed, counts_in, deliveries_i
 
 MOST_BODY = 65_536
 MOST_DEEP = 127
+LAST_MOMENT = 2**40
 NAME = re.compile("[a-z0-9-]{1,32}")
 ID = re.compile("[A-Za-z0-9_-]{1,64}")
 URL = re.compile(rb"[Hh][Tt][Tt][Pp]://[A-Za-z0-9._-]{1,253}(?::([1-9][0-9]{0,4}))?(?:/[A-Za-z0-9._~!$&'()*+,;=:@/%?-]*)?")
@@ -48,8 +49,9 @@ def within_a_float(text):
 
 
 def whole(text):
-    within_a_float(text)
-    return int(text) if len(text) < 20 else 0
+    """A number without a point and an exponent. `-0`, and one that is beyond 64 bits, is a float to the relay's reader."""
+    number = within_a_float(text)
+    return int(text) if text != "-0" and -(2**63) <= int(text) < 2**64 else number
 
 
 def no_halves(value):
@@ -136,6 +138,11 @@ def check_max(number):
         raise Refused(400, "BadMax")
 
 
+def check_moment(number):
+    if isinstance(number, float) or not 0 <= number <= LAST_MOMENT:
+        raise Refused(400, "BadMoment")
+
+
 def check_secrets(texts):
     if not 1 <= len(texts) <= 4:
         raise Refused(400, "BadSecret")
@@ -190,6 +197,12 @@ def enabled(desk, request, name):
 def subscribed(desk, request, name, topic):
     flag = member(object_of(request.body), "subscribed", is_flag)
     return told(desk.change(Subscribed(topic, name, flag)))
+
+
+def retention(desk, request):
+    before = member(object_of(request.body), "before", is_number)
+    check_moment(before)
+    return told(desk.purge(before))
 
 
 def submit(desk, request, name):
@@ -254,6 +267,7 @@ LINES = {
     "secrets": (b"PUT", re.compile(b"/v1/endpoints/([^/]*)/secrets"), other_secrets),
     "enabled": (b"PUT", re.compile(b"/v1/endpoints/([^/]*)/enabled"), enabled),
     "subscribed": (b"PUT", re.compile(b"/v1/endpoints/([^/]*)/topics/([^/]*)"), subscribed),
+    "retention": (b"PUT", re.compile(b"/v1/retention"), retention),
     "submit": (b"POST", re.compile(b"/v1/endpoints/([^/]*)/events"), submit),
     "publish": (b"POST", re.compile(b"/v1/topics/([^/]*)/events"), publish),
     "totals": (b"GET", re.compile(b"/v1/status"), totals),

@@ -55,11 +55,15 @@ class Outcome(NamedTuple):
     at: int
 
 
+class Purge(NamedTuple):
+    before: int
+
+
 # What a history says, which is a list of records
 
 
 def of(kind, records):
-    """The records of a kind, or of one of several."""
+    """The records of a kind."""
     return [record for record in records if isinstance(record, kind)]
 
 
@@ -112,14 +116,6 @@ def subscribers(records, topic):
     return [name for name in names_in(records) if flags.get(name)]
 
 
-def number_of(records, name, id):
-    """The number of the event that an endpoint knows by an id, or None."""
-    for number, record in enumerate(records):
-        if isinstance(record, Accept) and record.name == name and record.id == id:
-            return number
-    return None
-
-
 class Delivery:
     """An event at its endpoint, and the outcomes of the attempts at it."""
 
@@ -146,15 +142,39 @@ class Delivery:
         return last.at if last.status == GONE else last.at + DELAYS[self.failures - 1]
 
 
+    def is_past(self, before):
+        """Whether its last attempt ended it, before a moment."""
+        return bool(self.outcomes) and self.outcomes[-1].at < before and self.state != "pending"
+
+
 def deliveries_in(records):
-    """Each event by its number."""
+    """Each event by its number, without those that a purge took."""
     found = {}
     for number, record in enumerate(records):
         if isinstance(record, Accept):
             found[number] = Delivery(record)
         if isinstance(record, Outcome):
             found[record.delivery].outcomes.append(record)
+        if isinstance(record, Purge):
+            found = {number: it for number, it in found.items() if not it.is_past(record.before)}
     return found
+
+
+def is_purged(records, number):
+    """Whether the record with a number is an event that a purge took."""
+    it = Delivery(records[number])
+    for record in records[number + 1 :] if isinstance(it.accept, Accept) else ():
+        if isinstance(record, Outcome) and record.delivery == number:
+            it.outcomes.append(record)
+        if isinstance(record, Purge) and it.is_past(record.before):
+            return True
+    return False
+
+
+def number_of(records, name, id):
+    """The number of the event that an endpoint knows by an id, or None."""
+    numbers = (number for number, it in enumerate(records) if isinstance(it, Accept) and it.name == name and it.id == id)
+    return next((number for number in numbers if not is_purged(records, number)), None)
 
 
 def counts_in(records, name=None):
@@ -166,7 +186,8 @@ def counts_in(records, name=None):
 def first_due(held, now, has_room):
     """The number of the event that is posted first, or None. `held` has events as (endpoint, due moment, number). One may be posted if it is due and
     its endpoint has room. The one that is due first comes first, at equal moments the one that was accepted first."""
-    ready = [(due, number) for name, due, number in held if due <= now and has_room(name)]
+    with_room = {name for name in {name for name, _, _ in held} if has_room(name)}
+    ready = [(due, number) for name, due, number in held if due <= now and name in with_room]
     return min(ready)[1] if ready else None
 
 
@@ -232,7 +253,7 @@ class Desk:
         # What is held: a batch, the receipt of one, or nothing.
         self.held = None
         self.halted = False
-        self.clock = max((record.at for record in of((Accept, Outcome), self.history)), default=0)
+        self.clock = max((record.at for it in deliveries_in(self.history).values() for record in (it.accept, *it.outcomes)), default=0)
         self.tickets = set()
         self.permits = []
         self.limits = {put.name: Estimator(put.most) for put in of(Put, self.history)}
@@ -267,7 +288,7 @@ class Desk:
         if number not in self.tickets:
             return "no-ticket"
         if number < self.settled:
-            return "settled"
+            return "unknown" if is_purged(self.shown(), number) else "settled"
         return "unknown" if self.halted else "waiting"
 
     # Commands
@@ -302,6 +323,10 @@ class Desk:
         if isinstance(record, Subscribed) and self.is_a_pair_too_many(record):
             return refused(8, "TooManySubscriptions")
         return self.command(record)
+
+    def purge(self, before):
+        """A command that takes away the events that ended before a moment."""
+        return refused(1, "Halted") if self.halted else self.command(Purge(before))
 
     def is_a_pair_too_many(self, record):
         """Whether no record named this pair yet, and no further one may be named."""
@@ -475,6 +500,7 @@ CALLS = {
     "disable": lambda desk, name: desk.change(Enabled(name, False)),
     "subscribe": lambda desk, topic, name: desk.change(Subscribed(topic, name, True)),
     "unsubscribe": lambda desk, topic, name: desk.change(Subscribed(topic, name, False)),
+    "purge": lambda desk, before: desk.purge(int(before)),
     "submit": lambda desk, now, name, id, body: desk.submit(int(now), name, id, body_of(body)),
     "publish": lambda desk, now, topic, id, body: desk.publish(int(now), topic, id, body_of(body)),
     "told": lambda desk, number: desk.told(int(number)),

@@ -1,7 +1,7 @@
 """Random lines of scripts with the replies of the model in model.py."""
 import base64
 
-from lib.model import DELAYS, Accept, Desk, names_in, of, reply_to, subscriptions_in
+from lib.model import DELAYS, Accept, Desk, Outcome, names_in, of, reply_to, subscriptions_in
 
 # How often each line comes in a short script and in a long one.
 KINDS = {
@@ -24,9 +24,11 @@ KINDS = {
     "show": (4, 2),
     "subscribe": (8, 10),
     "publish": (8, 100),
+    "purge": (5, 5),
+    "ending": (5, 10),
 }
 # Those that a store of version 1 can't have come of.
-OF_TOPICS = ("subscribe", "publish")
+LATER = ("subscribe", "publish", "purge")
 
 
 # Words
@@ -91,6 +93,12 @@ def publish(rng, desk, long):
     return f"publish {moment(rng)} {to} {id_of(rng, long)} {body(rng)}"
 
 
+def purge(rng, desk, long):
+    """A purge: mostly before a moment that ends an event or follows one that does, seldom before the first moment or the last."""
+    ends = [it.at for it in of(Outcome, desk.history)] or [desk.clock]
+    return f"purge {min(rng.choice([rng.choice(ends), rng.choice(ends) + 1, max(ends) + 1, desk.clock + 1, moment(rng)]), 2**40)}"
+
+
 def claim(rng, desk, long):
     return f"claim {min(rng.choice([moment(rng), desk.clock, desk.clock + rng.choice(DELAYS)]), 2**40)}"
 
@@ -104,7 +112,17 @@ def spend(rng, desk, long):
     return f"spend {number} {moment(rng)} {result}"
 
 
+def ending(rng, desk):
+    """The lines of an attempt at what is due first, which mostly delivers it."""
+    due = min((due for _, due, _ in desk.held_to_post()), default=desk.clock)
+    yield f"claim {min(due, 2**40)}"
+    if desk.permits:
+        yield f"spend {desk.permits[-1].delivery} {desk.clock} {rng.choice([200, 200, 200, 204, 410])} 100000"
+
+
 def told(rng, desk, long):
+    if desk.tickets and rng.random() < 0.5:
+        return f"told {rng.choice(sorted(desk.tickets))}"
     return f"told {rng.choice([rng.randrange(len(desk.history) + 2), 2**64 - 1])}"
 
 
@@ -115,6 +133,7 @@ LINES = {
     "subscribe": subscribe,
     "submit": lambda rng, desk, long: f"submit {moment(rng)} {name(rng)} {id_of(rng, long)} {body(rng)}",
     "publish": publish,
+    "purge": purge,
     "told": told,
     "claim": claim,
     "spend": spend,
@@ -125,14 +144,17 @@ LINES = {
 
 
 def made(rng, desk, long, kinds=KINDS):
-    """The next line with its reply, or the three of a batch's whole way."""
+    """The next line with its reply, or the lines of a batch's whole way or of an attempt."""
     kind = rng.choices(list(kinds), [often[long] for often in kinds.values()])[0]
-    texts = ["seal", "commit", "settle"] if kind == "turn" else [LINES[kind](rng, desk, long) if kind in LINES else kind]
+    if kind == "ending":
+        texts = ending(rng, desk)
+    else:
+        texts = ["seal", "commit", "settle"] if kind == "turn" else [LINES[kind](rng, desk, long) if kind in LINES else kind]
     return [(text, reply_to(desk, text)) for text in texts]
 
 
 def history_of(rng, lines=60):
-    """The history after so many random lines, with topics."""
+    """The history after so many random lines, with topics and purges."""
     desk, kinds = Desk(), {kind: often for kind, often in KINDS.items() if kind not in ("stop", "halt")}
     for _ in range(lines):
         made(rng, desk, False, kinds)

@@ -7,7 +7,7 @@ import sqlite3
 import tempfile
 
 from lib.formats import FIRST, LATEST, make_tables
-from lib.model import Accept, Outcome, Put, flag_of, of, secrets_of, subscriptions_in
+from lib.model import Accept, Outcome, Put, deliveries_in, flag_of, of, secrets_of, subscriptions_in
 
 # The tables, each with the columns of its key.
 ORDERS = {"meta": "1", "endpoints": "1", "secrets": "1, 2", "deliveries": "1", "attempts": "1", "topics": "1, 2"}
@@ -22,15 +22,16 @@ def rows_of(records):
     """What the tables hold of these records."""
     rows = {table: [] for table in ORDERS}
     rows["meta"] = [(1, "webhook-relay", LATEST, len(records))]
+    kept = deliveries_in(records)
     puts = {record.name: number for number, record in enumerate(records) if isinstance(record, Put)}
     for number, record in enumerate(records):
         if isinstance(record, Put):
             (enabled, enabled_by), (secrets, secrets_by) = flag_of(records, record.name), secrets_of(records, record.name)
             rows["endpoints"].append((number, record.name, record.url, record.most, int(enabled), enabled_by, secrets_by))
             rows["secrets"] += [(number, place, bytes_of(secret)) for place, secret in enumerate(secrets)]
-        elif isinstance(record, Accept):
+        elif isinstance(record, Accept) and number in kept:
             rows["deliveries"].append((number, puts[record.name], record.id, record.at, record.body))
-        elif isinstance(record, Outcome):
+        elif isinstance(record, Outcome) and record.delivery in kept:
             attempt = sum(other.delivery == record.delivery for other in of(Outcome, records[: number + 1]))
             rows["attempts"].append((number, record.delivery, attempt, record.status, record.at))
     pairs = subscriptions_in(records).items()

@@ -165,6 +165,10 @@ def subscribe(address, topic, name, flag=True):
     return ask(address, "PUT", f"/v1/endpoints/{name}/topics/{topic}", json.dumps({"subscribed": flag}).encode())
 
 
+def purge(address, before):
+    return ask(address, "PUT", "/v1/retention", json.dumps({"before": before}).encode())
+
+
 class Post:
     """A request that a subscriber got."""
 

@@ -4,10 +4,10 @@ It shares no code with the relay. `scripts/script model` compares it with random
 import base64
 import itertools
 
-from lib.answers import ID, NAME, URL
-from lib.model import DELAYS, GONE, Accept, Enabled, Outcome, Put, Secrets, Subscribed
+from lib.answers import ID, LAST_MOMENT, NAME, URL
+from lib.model import DELAYS, GONE, Accept, Enabled, Outcome, Purge, Put, Secrets, Subscribed
 
-MOST_RECORDS, LAST_MOMENT = 2**62, 2**40
+MOST_RECORDS = 2**62
 MOST_ENDPOINTS, MOST_TOPICS, MOST_BODY = 256, 4096, 65_536
 
 
@@ -27,7 +27,7 @@ class Rows:
         """The conditions that these rows break."""
         if not all(of in self.puts for of in self.referred_endpoints()) or not all(it[1] in self.events for it in self.attempts):
             return ["a reference"]
-        return [number for number in range(1, 10) if not getattr(self, f"holds_{number}")()]
+        return [number for number in range(1, 9) if not getattr(self, f"holds_{number}")()]
 
     def referred_endpoints(self):
         return [it[0] for it in self.secrets] + [it[1] for it in (*self.deliveries, *self.topics)]
@@ -80,24 +80,7 @@ class Rows:
                 return False
         return True
 
-    def overtaken(self, number):
-        """The first endpoint that may have had the record with this number, or None."""
-        return next((it for it in sorted(self.endpoints) if it[0] < number < max(*it[5:7], *self.set_by(it[0]))), None)
-
-    def set_by(self, put):
-        return [it[3] for it in self.topics if it[1] == put] or [put]
-
     def holds_8(self):
-        number = 0
-        while number < self.records:
-            it = self.overtaken(number)
-            if number not in self.named and it is None:
-                return False
-            # All numbers up to the next one that is named are alike, where the same endpoints may have had them.
-            number = number + 1 if number in self.named else min(it for it in (*self.named, self.records) if it > number)
-        return True
-
-    def holds_9(self):
         sound = all(NAME.fullmatch(topic) and subscribed in (0, 1) and by > put for topic, put, subscribed, by in self.topics)
         return len(self.topics) <= MOST_TOPICS and sound
 
@@ -124,17 +107,7 @@ class Rows:
                 return Enabled(it[1], it[4] == 1)
             if it[6] == number:
                 return Secrets(it[1], self.list_of(it[0]))
-        return self.replaced(number)
+        return Purge(0)
 
     def list_of(self, put):
         return tuple("whsec_" + base64.b64encode(key).decode() for _, key in self.secrets_of(put))
-
-    def replaced(self, number):
-        """What stands for a record that no row names."""
-        it = self.overtaken(number)
-        if number < it[6]:
-            return Secrets(it[1], self.list_of(it[0]))
-        if number < it[5]:
-            return Enabled(it[1], True)
-        topic, _, subscribed, _ = max((row for row in self.topics if row[1] == it[0]), key=lambda row: row[3])
-        return Subscribed(topic, it[1], subscribed == 1)

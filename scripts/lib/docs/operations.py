@@ -2,9 +2,9 @@
 
 With relays, nginx and files of its own in a temporary folder it installs, stops and starts, copies
 a store while a relay works on it, restores and moves it, stands behind nginx (TLS, tokens, slow
-clients), spreads endpoints over two relays and moves one to a third, sets back moments of a clock
-that was ahead, fills a disk, and damages a file. What a machine lacks (nginx, openssl, sqlite3,
-groff, systemd-analyze, root for a small file system) is named and not counted.
+clients), purges, spreads endpoints over two relays and moves one to a third, sets back moments of a
+clock that was ahead, fills a disk, and damages a file. What a machine lacks (nginx, openssl,
+sqlite3, groff, systemd-analyze, root for a small file system) is named and not counted.
 Usage: scripts/docs operations RELAYD
 """
 import contextlib
@@ -45,7 +45,7 @@ def has_all(address, name, events):
 
 
 def check_installed(counts, program, folder):
-    """`make install` into a folder: the program runs, its manual has every command and no fault of layout, its unit is one."""
+    """`make install` into a folder: the program runs, its manual has every command and no fault of layout, its units are some."""
     counts.check("it is installed", ran(ROOT / "packaging" / "install", program, f"{folder}/prefix")[0], 0)
     installed, page = f"{folder}/prefix/bin/relayd", f"{folder}/prefix/share/man/man1/relayd.1.gz"
     counts.check("the installed program runs", ran(installed, "--version"), ran(program, "--version"))
@@ -54,8 +54,9 @@ def check_installed(counts, program, folder):
     if has("groff"):
         counts.check("the manual is one", ran("groff", "-man", "-Tutf8", "-ww", "-z", input=manual)[2], "")
     if has("systemd-analyze"):
-        told = ran("systemd-analyze", "verify", "--man=no", f"{folder}/prefix/lib/systemd/system/relayd.service")
-        counts.check("the unit is one", [line for line in told[2].split("\n") if "relayd" in line], [])
+        for unit in ("relayd.service", "relayd-metrics.service", "relayd-purge.service", "relayd-purge.timer"):
+            told = ran("systemd-analyze", "verify", "--man=no", f"{folder}/prefix/lib/systemd/system/{unit}")
+            counts.check(f"the unit {unit} is one", [line for line in told[2].split("\n") if "relayd" in line], [])
 
 
 def check_stops(counts, program, folder):
@@ -160,6 +161,32 @@ def check_one_slow(counts, program, folder):
         counts.check("three are with the silent one", len(silent.posts), 3)
 
 
+def check_purged(counts, program, folder):
+    """What packaging/purge does, and what it says if the relay doesn't answer, or has no number left, or its words are bad."""
+    script, subscriber = ROOT / "packaging" / "purge", Subscriber()
+    with relay_of(program, f"{folder}/purged.db") as relay:
+        at, told = "%s:%d" % relay.address, lambda *words: ran(script, "--relay", at, *words)
+        delivered = lambda: ask(relay.address, "GET", "/v1/status").json()["delivered"]
+        put(relay.address, "a", subscriber.port)
+        submit(relay.address, "a", b"{}", "order-1")
+        counts.check("purge: an event is delivered", wait_until(lambda: delivered() == 1, 20))
+        time.sleep(1.5)
+        status, line, fault = told(1)
+        counts.check("purge: a day", (status, bool(re.fullmatch(r"purged: events that ended before \d{4}-\d\d-\d\d \d\d:\d\d:\d\d UTC, by record 3\n", line)), fault), (0, True, ""))
+        counts.check("purge: it is kept for a day", delivered(), 1)
+        counts.check("purge: without a day", (told(0)[::2], delivered()), ((0, ""), 0))
+        counts.check("purge: more days than there were", told(10**9)[0], 0)
+        for words in ([], [""], ["-1"], ["1.5"], ["1", "2"]):
+            counts.check(f"purge: bad words {words}", told(*words)[0], 2)
+    counts.check("purge: nobody answers", (told(1)[0], told(1)[2].startswith("purge: no answer")), (1, True))
+    changed_by(f"{folder}/purged.db", "VACUUM")
+    counts.check("purge: vacuumed, it is a store", checked(program, f"{folder}/purged.db"), (0, "ok records 6 endpoints 1 pending 0", ""))
+    changed_by(f"{folder}/purged.db", f"UPDATE meta SET records = {2**62}")
+    with relay_of(program, f"{folder}/purged.db") as relay:
+        refused = ran(script, "--relay", "%s:%d" % relay.address, 1)
+        counts.check("purge: it is refused", refused, (1, "", 'purge: 503 {"error":"SeqExhausted"}\n'))
+
+
 def over_tls(context, port, *pieces, token=None):
     """What is answered to a request that comes over TLS."""
     with context.wrap_socket(socket.create_connection(("127.0.0.1", port), timeout=30)) as sock:
@@ -195,6 +222,8 @@ def check_behind_nginx(counts, program, folder):
                 ("and looks", ("GET", "/v1/endpoints/a/events/order-1"), {"token": SUBMITTER}, 200),
                 ("a body of 65,536 bytes", ("POST", "/v1/endpoints/a/events", b"x" * 65536), {"token": SUBMITTER}, 202),
                 ("one byte more", ("POST", "/v1/endpoints/a/events", b"x" * 65537), {"token": SUBMITTER}, 413),
+                ("a submitter doesn't purge", ("PUT", "/v1/retention", b'{"before":0}'), {"token": SUBMITTER}, 401),
+                ("the operator purges", ("PUT", "/v1/retention", b'{"before":0}'), {"token": OPERATOR}, 200),
                 ("another path", ("GET", "/"), {"token": OPERATOR}, 404),
             ]
             for name, words, more, status in steps:
@@ -349,7 +378,7 @@ def check_damaged(counts, program, folder):
 
 def main():
     program, counts = program_of(__doc__), Counts()
-    steps = (check_installed, check_stops, check_copies, check_watched, check_one_slow, check_behind_nginx, check_several_relays, check_clock,
+    steps = (check_installed, check_stops, check_copies, check_watched, check_one_slow, check_purged, check_behind_nginx, check_several_relays, check_clock,
              check_full_disk, check_damaged)
     for step in steps:
         with tempfile.TemporaryDirectory() as folder:

@@ -42,18 +42,19 @@ inside() {
 check_files() {
   local file
   for file in usr/bin/relayd usr/share/man/man1/relayd.1.gz usr/lib/systemd/system/relayd.service usr/share/doc/relayd/OPERATIONS.md \
-    usr/share/doc/relayd/examples/nginx.conf usr/share/doc/relayd/examples/nginx-egress.conf usr/share/relayd/backup etc/default/relayd; do
+    usr/share/doc/relayd/examples/nginx.conf usr/share/doc/relayd/examples/nginx-egress.conf usr/share/relayd/backup usr/share/relayd/purge etc/default/relayd; do
     is "$file is there" "$(test -f "$root/$file" && echo there)" there
   done
   is 'what is installed is as the package has it' "$(inside "$root" dpkg -V relayd)" ''
-  for file in share/relayd/relayd-metrics share/relayd/status.html share/doc/relayd/examples/relayd-alerts.yml lib/systemd/system/relayd-metrics.service; do
+  for file in share/relayd/relayd-metrics share/relayd/status.html share/doc/relayd/examples/relayd-alerts.yml lib/systemd/system/relayd-metrics.service \
+    lib/systemd/system/relayd-purge.service lib/systemd/system/relayd-purge.timer; do
     is "usr/$file is there" "$(test -f "$root/usr/$file" && echo there)" there
   done
   is 'the user' "$(inside "$root" getent passwd relayd | cut -d: -f6,7)" '/var/lib/relayd:/usr/sbin/nologin'
   if command -v systemd-analyze > /dev/null; then
-    for file in relayd relayd-metrics; do
-      sed "s|=/usr/|=$root/usr/|" "$root/usr/lib/systemd/system/$file.service" > "$folder/$file.service"
-      is "the unit $file is one" "$(systemd-analyze verify --man=no "$folder/$file.service" 2>&1 | grep relayd)" ''
+    for file in relayd.service relayd-metrics.service relayd-purge.service relayd-purge.timer; do
+      sed "s|=/usr/|=$root/usr/|" "$root/usr/lib/systemd/system/$file" > "$folder/$file"
+      is "the unit $file is one" "$(systemd-analyze verify --man=no "$folder/$file" 2>&1 | grep relayd)" ''
     done
   fi
 }

@@ -181,7 +181,15 @@ SCRIPT = [
     ("commit", "committed 13"),
     ("settle", "settled 13"),
     ("told 12", "settled"),
-    ("stop", "reopened 13"),
+    ("claim 1001", "permit 7 a msg_2 attempt 1 at 1001 inflight 1"),
+    ("spend 7 1001 200 100000", "success limit 20 inflight 0 staged 13"),
+    ("purge 1002", "staged 14"),
+    ("submit 1002 a msg_2 7b", "staged 15"),
+    ("seal", "sealed 13..16"),
+    ("commit", "committed 16"),
+    ("settle", "settled 16"),
+    ("told 7", "unknown"),
+    ("stop", "reopened 16"),
 ]
 LOOKS = ["show a", "show a msg_1", "show a msg_2", "show b msg_2", "limits a", "told 0", "told 1"]
 REFUSED_STOP = "refused stop"

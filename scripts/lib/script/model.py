@@ -1,8 +1,8 @@
 """The model itself, against worked scripts and requests. It needs no program.
 
 Scripts that end with a fault are left out, since the model reads good lines alone. The rows of 200
-random histories, with topics, keep the conditions of docs/FORMATS.md, and the history that stands
-for them has these rows.
+random histories, with topics and purges, keep the conditions of docs/FORMATS.md, and the history
+that stands for them has these rows.
 Usage: scripts/script model [FOLDER | PAGE]..: if nothing is named, all of vectors/, the histories,
 and the scripts of limits, with fewer pending events
 """
@@ -18,8 +18,7 @@ from lib.random_lines import history_of
 from lib.rows import rows_of
 from lib.sound import Rows
 
-VECTORS = ROOT / "vectors"
-PLACES = [VECTORS / "replay", VECTORS / "topics", VECTORS / "requests.md", VECTORS / "topics" / "requests.md"]
+PLACES = [ROOT / "vectors" / it for it in ("replay", "topics", "retention", "requests.md", "topics/requests.md", "retention/requests.md")]
 
 
 class SmallDesk(Desk):

@@ -12,7 +12,7 @@ from lib.command import ROOT, program_of
 from lib.model import Desk
 from lib.serving import SECRET
 
-PAGES = [ROOT / "vectors" / "requests.md", ROOT / "vectors" / "topics" / "requests.md"]
+PAGES = [ROOT / "vectors" / it for it in ("requests.md", "topics/requests.md", "retention/requests.md")]
 RUNS = 40
 ASKS = 50
 
@@ -67,6 +67,13 @@ def most(rng):
     return rng.choice(numbers + others + ["\"1\"", "true", "null", "[]", "{}", ""])
 
 
+def before(rng):
+    """The moment of a purge, mostly one that is after all outcomes or before them."""
+    if rng.random() < 0.75:
+        return str(rng.choice([0, 1000, 1001, rng.randrange(2000), 2**40]))
+    return rng.choice([str(2**40 + 1), "1000.0", "1e3", most(rng)])
+
+
 def others_of(rng):
     """A member that nobody asks for."""
     text = rng.choice(ESCAPED) if rng.random() < 0.8 else rng.choice(HALVES)
@@ -87,6 +94,7 @@ def members_for(rng, line):
         "secrets": [("secrets", listed)],
         "enabled": [("enabled", flag)],
         "subscribed": [("subscribed", flag)],
+        "retention": [("before", before(rng))],
     }[line]
 
 
@@ -108,7 +116,7 @@ def document(rng, line):
 
 
 def body_of(rng, line):
-    if line in ("put", "secrets", "enabled", "subscribed"):
+    if line in ("put", "secrets", "enabled", "subscribed", "retention"):
         raw = document(rng, line).encode()
         if rng.random() < 0.03:
             return raw.replace(b"}", b"\xff}")
@@ -125,6 +133,7 @@ PATHS = {
     "secrets": (b"/v1/endpoints/%(name)b/secrets", 2),
     "enabled": (b"/v1/endpoints/%(name)b/enabled", 3),
     "subscribed": (b"/v1/endpoints/%(name)b/topics/%(topic)b", 4),
+    "retention": (b"/v1/retention", 4),
     "submit": (b"/v1/endpoints/%(name)b/events", 6),
     "publish": (b"/v1/topics/%(topic)b/events", 6),
     "totals": (b"/v1/status", 2),

@@ -10,7 +10,7 @@ import tempfile
 
 from lib.command import ROOT, Counts, first_difference, program_of
 
-FOLDERS = ["replay", "topics"]
+FOLDERS = ["replay", "topics", "retention"]
 
 
 def beside(script, ending):

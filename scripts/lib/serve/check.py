@@ -1,7 +1,7 @@
 """Worked requests, the longest values, and submitters and subscribers that misbehave.
 
 Also an endpoint's greatest limit, few threads and descriptors, standard streams that are closed,
-and the signatures of 1,000 posts, which Python's hmac verifies; topics, if the relay has them.
+and the signatures of 1,000 posts, which Python's hmac verifies; topics; purges.
 Answers are those that docs/FORMATS.md names.
 Usage: scripts/serve check RELAYD
 """
@@ -22,6 +22,7 @@ import time
 
 from lib.command import Counts, program_of
 from lib.process import NOBODY, descriptors_of, seconds_of
+from lib.retention import check_exhausted_purged, check_large_purge, check_no_number_left, check_purges
 from lib.serving import SECRET, STARTED, Answer, Relay, Subscriber, ask, check_answer, connect, exchange, put, read_all, request, submit
 from lib.serving import wait_until
 from lib.topics import check_changing, check_many_subscriptions, check_topics, check_widest
@@ -758,6 +759,10 @@ def main():
         check_topics(counts, relayd, folder)
         check_widest(counts, relayd, folder)
         check_changing(counts, relayd, folder)
+        check_purges(counts, relayd, folder)
+        check_exhausted_purged(counts, relayd, folder)
+        check_large_purge(counts, relayd, folder)
+        check_no_number_left(counts, relayd, folder)
         check_end(counts, relayd, folder)
         check_exhausted(counts, relayd, folder)
         check_no_thread(counts, relayd, folder)

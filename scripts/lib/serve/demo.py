@@ -2,15 +2,16 @@
 
 An endpoint, events that are signed and delivered, an answer 500 that is tried again, an event that
 is published to three subscribers of which one fails and recovers, a kill -9 after which nothing
-acknowledged is missing, and an answer 410 that disables. Its exit status is 0 if all of it was
-seen.
+acknowledged is missing, an answer 410 that disables, and a purge that frees an id. Its exit status
+is 0 if all of it was seen.
 Usage: scripts/serve demo RELAYD
 """
 import tempfile
 import threading
+import time
 
 from lib.command import program_of
-from lib.serving import SECRET, Relay, Subscriber, ask, publish, put, submit, subscribe, wait_until
+from lib.serving import SECRET, Relay, Subscriber, ask, publish, purge, put, submit, subscribe, wait_until
 
 
 def say(text):
@@ -119,6 +120,19 @@ def gone(steps, relay, script):
         say(f"   standard error: {line.rstrip()}")
 
 
+def purged(steps, relay, subscriber):
+    time.sleep(1)
+    answer = purge(relay.address, int(time.time()))
+    page = ask(relay.address, "GET", "/v1/status").json()
+    steps.see(f"All that was delivered until now is purged: answer {answer.status}, and {page['delivered']} delivered events are left", page["delivered"] == 0)
+    answer = ask(relay.address, "GET", "/v1/endpoints/shop/events/order-1")
+    steps.see(f"The event `order-1` is gone: answer {answer.status} {answer.body.decode()}", answer.status == 404)
+    answer = submit(relay.address, "shop", b'{"order":"1b"}', "order-1")
+    steps.see(f"Its id is free, so other bytes are taken under it: answer {answer.status}", answer.status == 202)
+    bodies = lambda: [it.body for it in list(subscriber.posts) if it.header("webhook-id") == "order-1"]
+    steps.see("The subscriber gets them as an event of its own", wait_until(lambda: bodies() == [b'{"order":1}', b'{"order":"1b"}'], 5))
+
+
 def main():
     relayd, steps, script = program_of(__doc__), Steps(), Script()
     subscriber = Subscriber(script)
@@ -132,6 +146,7 @@ def main():
         published(steps, relay, subscriber, script)
         relay = killed(steps, relay, relayd, file, subscriber)
         gone(steps, relay, script)
+        purged(steps, relay, subscriber)
         relay.kill()
     say("All of it was seen." if not steps.missing else f"{steps.missing} steps weren't seen.")
     return 1 if steps.missing else 0

@@ -40,7 +40,8 @@ MOMENTS = [
     ("RelaydPendingGrows", "relayd_pending_events", "5+10x120 1200-100x12 0x60", [(9, False), (25, True), (45, False)]),
     ("RelaydPendingGrows", "relayd_pending_events", "7x200", [(25, False), (45, False)]),
     ("RelaydPendingGrows", "relayd_pending_events", "0 40 20 0 60 80 0 50 0 90 10 0 70 0 100 30 0 110 5 0 120 0x40", [(5, False), (12, False)]),
-    ("RelaydExhaustedGrows", "relayd_exhausted_events_total", "3x40 4x400", [(9, False), (11, True), (60, True), (75, False)]),
+    ("RelaydExhaustedGrows", "relayd_exhausted_events", "3x40 4x400", [(9, False), (11, True), (60, True), (75, False)]),
+    ("RelaydExhaustedGrows", "relayd_exhausted_events", "40x40 3x200 4x400", [(9, False), (11, False), (55, False), (62, True)]),
     ("RelaydEndpointDisabled", 'relayd_endpoint_enabled{endpoint="a"}', "1x20 0x20 1x20", [(4, False), (7, True), (12, False)]),
     ("RelaydNoAnswer", "relayd_up", "1x20 0x20 1x20", [(4, False), (7, True), (12, False)]),
     ("RelaydNoAnswer", 'up{job="relayd"}', "1x20 0x20 1x20", [(4, False), (7, True), (12, False)]),
@@ -96,13 +97,13 @@ def check_metrics(counts, program, folder):
     counts.check("another path isn't", metrics_of(exporter.address, "/")[0], 404)
     counts.check("promtool check metrics", ran("promtool", "check", "metrics", input=text), (0, "", ""))
     found, page, process = values_of(text), ask(relay.address, "GET", "/v1/status").json(), relay.process.pid
-    for metric, member in (("endpoints", "endpoints"), ("records_total", "records"), ("pending_events", "pending"), ("delivered_events_total", "delivered"),
-                           ("exhausted_events_total", "exhausted")):
+    for metric, member in (("endpoints", "endpoints"), ("records_total", "records"), ("pending_events", "pending"), ("delivered_events", "delivered"),
+                           ("exhausted_events", "exhausted")):
         counts.check(f"the page of everything: {member}", found[f"relayd_{metric}"], page[member])
     counts.check("it is up", (found["relayd_up"], 0 < found["relayd_answer_seconds"] < 5), (1, True))
     counts.check("the pages of what was done", (page["endpoints"], page["records"], page["pending"], page["delivered"]), (2, 10, 1, 3))
-    of_a = {it: found[f'relayd_endpoint_{it}{{endpoint="a"}}'] for it in ("found", "enabled", "pending_events", "delivered_events_total",
-        "exhausted_events_total", "max_posts")}
+    of_a = {it: found[f'relayd_endpoint_{it}{{endpoint="a"}}'] for it in ("found", "enabled", "pending_events", "delivered_events",
+        "exhausted_events", "max_posts")}
     counts.check("the page of a", list(of_a.values()), [1, 1, 1, 2, 0, 7])
     counts.check("an endpoint that isn't there", {it: value for it, value in found.items() if '"other"' in it}, {'relayd_endpoint_found{endpoint="other"}': 0})
     counts.check("an endpoint that isn't named", [it for it in found if '"b"' in it], [])

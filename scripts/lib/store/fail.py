@@ -2,8 +2,8 @@
 
 `bench replay` runs over a new file with its first call of the file failed, then with its second,
 and so on to its last. Each time a commit reports the right error, and SQLite in C finds the rows of
-the records that were committed, and at most those of one doubtful commit more. The same of `bench
-open` over a store of version 1: SQLite in C finds its rows, in tables of one version or the other,
+the records that were committed, and at most those of one doubtful commit more: a purge and the
+attempt before it are among them. The same of `bench open` over a store of version 1: SQLite in C finds its rows, in tables of one version or the other,
 and the next opening finds them in the latest.
 Usage: scripts/store fail BENCH
 """
@@ -21,32 +21,38 @@ from lib.rows import copy_store, make_store, of_first, rows_in, rows_of, write_r
 from lib.serving import SECRET
 
 PUT = f"http://127.0.0.1:9000/hook 100 {SECRET}"
-LINES = [f"put a {PUT}", "submit 1000 a msg_1 7b7d", f"put b {PUT}", "submit 1000 b msg_1 7b7d"]
+# Each stages a record. A relay of version 1 could record the first ones.
+OF_FIRST = [f"put a {PUT}", "submit 1000 a msg_1 7b7d", f"put b {PUT}", "submit 1000 b msg_1 7b7d"]
+STAGING = [*OF_FIRST, "spend 1 1000 200 100000", "purge 1001", "submit 1001 a msg_1 7b7c"]
 # Each commit is there twice: the second finds no batch, or a closed vault after a doubtful one.
-SCRIPT = "".join(f"{line}\nseal\ncommit\ncommit\nsettle\n" for line in LINES).encode()
-# What an opening prints of their records.
+LINES = [line for staging in STAGING for line in (*["claim 1000"] * staging.startswith("spend"), staging, "seal", "commit", "commit", "settle")]
+SCRIPT = "".join(f"{line}\n" for line in LINES).encode()
+# What an opening prints of the first records.
 OPENED = b"records 4 endpoints 2 pending 2\n"
 
 
 def records():
-    """The records of the lines, by the model."""
+    """The records of the script, by the model."""
     desk = Desk()
     for line in LINES:
         reply_to(desk, line)
     return desk.history
 
 
+def first_records():
+    return records()[: len(OF_FIRST)]
+
+
 def wrong_replay(told, path):
     """What is wrong with this end, or None. Where the tables weren't made, nothing is replied."""
     replies = told.stdout.decode().splitlines()
-    if told.returncode not in (0, 1) or (told.returncode == 0) != (len(replies) == len(SCRIPT.splitlines())):
+    if told.returncode not in (0, 1) or (told.returncode == 0) != (len(replies) == len(LINES)):
         return "status"
-    staged, committed, doubt, all_staged = [], 0, False, records()
-    for at, reply in enumerate(replies):
-        record, step = all_staged[at // 5], at % 5
-        if step == 0 and reply == f"staged {len(staged)}":
-            staged.append(record)
-        elif step in (2, 3):
+    staged, committed, doubt, left = [], 0, False, dict(zip(STAGING, records()))
+    for at, (line, reply) in enumerate(zip(LINES, replies)):
+        if line in left and reply.endswith(f"staged {len(staged)}"):
+            staged.append(left[line])
+        elif line == "commit":
             if re.fullmatch(r"committed \d+", reply):
                 committed = int(reply.split()[1])
             elif reply == "refused 5 Store" and not doubt:
@@ -64,7 +70,7 @@ def wrong_replay(told, path):
 
 def wrong_migration(told, path):
     """What is wrong with this end of an opening of a store of version 1, or None."""
-    rows, copy = rows_of(records()), f"{path}.copy"
+    rows, copy = rows_of(first_records()), f"{path}.copy"
     copy_store(path, copy)
     found = rows_in(copy)
     if (told.returncode, told.stdout) == (0, OPENED):
@@ -79,13 +85,13 @@ def wrong_migration(told, path):
 
 
 def make_first(path, is_in_log):
-    rows = of_first(rows_of(records()))
+    rows = of_first(rows_of(first_records()))
     make_store(path, lambda conn: write_rows(conn, rows), is_in_log)
 
 
 # What runs, with which input, over which file, what it prints at its end, and what is wrong with how it ended.
 RUNS = {
-    "replay": ("replay", SCRIPT, lambda path: None, b"settled 4", wrong_replay),
+    "replay": ("replay", SCRIPT, lambda path: None, b"settled 7", wrong_replay),
     "migration": ("open", b"", lambda path: make_first(path, False), OPENED.strip(), wrong_migration),
     "migration-of-log": ("open", b"", lambda path: make_first(path, True), OPENED.strip(), wrong_migration),
 }

@@ -3,10 +3,10 @@
 It says the line or the fault that docs/FORMATS.md names, with the exit status. A store of version 1
 is migrated, and has the same rows then; every other file is as it was, byte for byte. If there is
 nothing, or an empty file, a store is made, which Python's SQLite then reads. Then stores of 200
-random histories with topics, in each of which a cell was changed: the conditions of the page, which
-Python looks at, decide. Beside these what is said of a file that another program has open, and the
-copies of `packaging/backup`. Then the same of `bench open`, which opens a file by one call. Last,
-`relayd serve` migrates a store.
+random histories with topics and purges, in each of which a cell was changed: the conditions of the
+page, which Python looks at, decide. Beside these what is said of a file that another program has
+open, and the copies of `packaging/backup`. Then the same of `bench open`, which opens a file by one
+call. Last, `relayd serve` migrates a store.
 Usage: scripts/store files RELAYD BENCH
 """
 import contextlib
@@ -65,11 +65,17 @@ STORES = {
     "no record": ((), 0, NO_RECORD),
     "an event": (EVENT, 2, AN_EVENT),
     "a delivered event": (DELIVERED, 3, "ok records 3 endpoints 1 pending 0"),
-    "a number that no record explains": (ENDPOINT, 2, "Damaged"),
+    "a number of no row": (ENDPOINT, 2, "ok records 2 endpoints 1 pending 0"),
+    "an event after numbers of no row": ((*ENDPOINT, "INSERT INTO deliveries VALUES(8, 0, 'msg_1', 1000, x'7b7d')"), 12, "ok records 12 endpoints 1 pending 1"),
+    "all numbers, of no row": ((), 2**62, f"ok records {2**62} endpoints 0 pending 0"),
+    "a number more": ((), 2**62 + 1, "Damaged"),
     "a later list of secrets": ((*ENDPOINT, "UPDATE endpoints SET secrets_by = 1"), 2, "ok records 2 endpoints 1 pending 0"),
-    "no row": ((), 1, "Damaged"),
+    "no row": ((), 1, "ok records 1 endpoints 0 pending 0"),
     "a gone endpoint that is enabled": (GONE, 3, "Damaged"),
     "a gone endpoint": ((*GONE, "UPDATE endpoints SET enabled = 0, enabled_by = 2"), 3, "ok records 3 endpoints 1 pending 1"),
+    "a gone endpoint whose event was purged": ((*ENDPOINT, "UPDATE endpoints SET enabled = 0, enabled_by = 2"), 4, "ok records 4 endpoints 1 pending 0"),
+    "a gone endpoint whose event was purged, gone again": ((*GONE, "UPDATE endpoints SET enabled = 0, enabled_by = 3"), 4, "ok records 4 endpoints 1 pending 1"),
+    "gone again after what decides": ((*EVENT, "INSERT INTO attempts VALUES(3, 1, 1, 410, 1001)", "UPDATE endpoints SET enabled = 0, enabled_by = 2"), 4, "Damaged"),
     "a second attempt without a first": ((*EVENT, "INSERT INTO attempts VALUES(2, 1, 2, 500, 1001)"), 3, "Damaged"),
     "without meta": ((*EVENT, "DROP TABLE meta"), 2, "NotOurs"),
     "without attempts": ((*EVENT, "DROP TABLE attempts"), 2, "NotOurs"),
@@ -109,8 +115,8 @@ OF_TOPICS = {
     "a topic": (*topics(2, "'t', 0, 1, 1"), "ok records 2 endpoints 1 pending 0"),
     "a topic that ended": (*topics(2, "'t', 0, 0, 1"), "ok records 2 endpoints 1 pending 0"),
     "a topic of two endpoints": (*topics(4, "'t', 0, 1, 2", "'t', 1, 1, 3", changes=BOTH), "ok records 4 endpoints 2 pending 0"),
-    "numbers that a topic explains": (*topics(4, "'t', 0, 1, 3"), "ok records 4 endpoints 1 pending 0"),
-    "numbers behind each topic": (*topics(5, "'t', 0, 1, 3"), "Damaged"),
+    "numbers before a topic": (*topics(4, "'t', 0, 1, 3"), "ok records 4 endpoints 1 pending 0"),
+    "numbers after each topic": (*topics(5, "'t', 0, 1, 3"), "ok records 5 endpoints 1 pending 0"),
     "a topic of 32 letters": (*topics(2, f"'{'x' * 32}', 0, 1, 1"), "ok records 2 endpoints 1 pending 0"),
     "a topic of 33 letters": (*topics(2, f"'{'x' * 33}', 0, 1, 1"), "Damaged"),
     "a topic without a letter": (*topics(2, "'', 0, 1, 1"), "Damaged"),

@@ -76,7 +76,7 @@ def main():
         (DATA / "log-alone-wal").write_bytes((DATA / "sound-wal").read_bytes()[:LOG])
         copy_log(f"{folder}/copied")
         small_copy(f"{folder}/copied", copied)
-    # No row names record 7, which a later one of its endpoint's topics replaced.
+    # No row names record 7.
     topics = "INSERT INTO topics VALUES('orders', 0, 1, 9), ('orders', 1, 0, 8)"
     small_copy(copied, DATA / "topics", "UPDATE meta SET records = 10", topics)
     # Record 6 is an attempt.

@@ -24,7 +24,7 @@ import tempfile
 from lib import faults
 from lib.command import programs_of
 from lib.model import Desk, counts_in, names_in
-from lib.random_lines import KINDS, OF_TOPICS, made
+from lib.random_lines import KINDS, LATER, made
 from lib.rows import copy_store, make_store, of_first, rows_in, rows_of, write_rows
 
 LINES = 60
@@ -35,7 +35,7 @@ OFTEN = {**{kind: often for kind, often in KINDS.items() if kind not in ("stop",
 # By so many calls, its last ones, a migration writes into a log that is there.
 WRITING = 5
 # What a relay of version 1 could record.
-OF_FIRST = {kind: often for kind, often in OFTEN.items() if kind not in OF_TOPICS}
+OF_FIRST = {kind: often for kind, often in OFTEN.items() if kind not in LATER}
 
 
 def script_of(rng, kinds):

@@ -39,8 +39,9 @@ REPLAYED = {
 
 
 # What each table holds after an endpoint, an event, a failed attempt, one that found the endpoint gone, a flag, a third attempt,
-# other secrets, a topic that is subscribed and unsubscribed, and another topic: ten records, of which the fifth decides that the
-# endpoint is enabled, the seventh gave its secrets, and the last two decide its topics.
+# other secrets, a topic that is subscribed and unsubscribed, and another topic; then an event that is delivered and purged, and another
+# one under its id: fourteen records, of which the fifth decides that the endpoint is enabled, the seventh gave its secrets, and the ninth
+# and tenth decide its topics.
 EACH_REQUEST = [
     f"put a {URL} 100 whsec_{base64.b64encode(NEW).decode()}",
     "submit 1000 a msg_1 7b7b",
@@ -52,12 +53,16 @@ EACH_REQUEST = [
     "subscribe t a",
     "unsubscribe t a",
     "subscribe u a",
+    "submit 1007 a msg_2 7b7d",
+    "claim 1007\nspend 10 1007 200 100000",
+    "purge 1008",
+    "submit 1008 a msg_2 7b7c",
 ]
 EACH_RECORD = {
-    "meta": [(1, "webhook-relay", 2, 10)],
+    "meta": [(1, "webhook-relay", 2, 14)],
     "endpoints": [(0, "a", URL, 100, 1, 4, 6)],
     "secrets": [(0, 0, OLD), (0, 1, NEW)],
-    "deliveries": [(1, 0, "msg_1", 1000, b"{{")],
+    "deliveries": [(1, 0, "msg_1", 1000, b"{{"), (13, 0, "msg_2", 1008, b"{|")],
     "attempts": [(2, 1, 1, 500, 1001), (3, 1, 2, 410, 1006), (5, 1, 3, 500, 1007)],
     "topics": [("t", 0, 0, 8), ("u", 0, 1, 9)],
 }
