@@ -16,7 +16,7 @@ run: $(RELAYD)
 	@echo "  curl http://127.0.0.1:8080/v1/endpoints/shop/events -H 'webhook-id: order-1' -d '{\"order\":1}'"
 	$(RELAYD) serve relay.db 127.0.0.1:8080
 
-# Builds the same, and shows step by step what a relay does: events, signatures, a retry, a kill, an answer 410. It ends by itself.
+# Builds the same, and shows step by step what a relay does: events, signatures, a retry, a kill, an answer 410, a purge. It ends by itself.
 demo: $(RELAYD)
 	scripts/serve demo $(RELAYD)
 
