@@ -12,7 +12,7 @@ use Rattle.sound_tables.specs.Versions.{number_of}
 use Rattle.sound_tables.specs.declared.version.Version.{Version}
 use Rattle.sound_tables.specs.declared.fault.TableFault.TheVariants.{Damaged}
 use Rattle.sound_tables.specs.Shown.{ShowsMeta}
-use Rattle.sound_tables.specs.Tables.{HasShown, LacksShown, meta_columns}
+use Rattle.sound_tables.specs.Tables.{HasShown, meta_columns}
 use Rattle.sound_tables.specs.declared.meta.Meta.{Meta}
 
 zip_length : (rows : List Row) (ms : List Meta) → AllZip ShowsMeta rows ms → length rows ≡ length ms
@@ -45,12 +45,6 @@ one_shown db (m ∷ []) d shown one = at (db.trees 0) shown.0 refl shown.1 shown
     at (row ∷ []) (r ∷ []) is same zip =
         let each = all-permutation (λ w. w ≡ meta_columns row) (meta_columns row ∷ []) (r ∷ []) same (refl, tt) in
         (row, is, subst (λ w. ShowsMeta w m) each.0 zip.0)
-
--- a row that shows no meta isn't the relay's
-pub none_shown : (db : Database) → LacksShown ShowsMeta meta_columns (db.trees 0) → (m : Meta) → ¬ HasMeta db m
-none_shown db lacks m has =
-    lacks (subst (Rattle.std.specs.List.AllByRecursion (λ r. (x : Meta) × ShowsMeta (meta_columns r) x)) (sym has.1)
-    ((m, has.2), tt))
 
 pub one_version : (n version : ℕ) → pos n ≡ pos version → version ≡ n
 one_version n version same = let both : n ≡ version = cc in sym both

@@ -11,7 +11,8 @@ use Rattle.sqlite.specs.Clock.{timed}
 use Rattle.sqlite.specs.Listing.{understood, reads_listing, IsSourceOf}
 use Rattle.sqlite.specs.Held.{Held, state}
 use Rattle.sqlite.specs.Given.{HasGiven, HasBegun, Returns}
-use Rattle.sqlite.specs.State.{State, HasCleanDisk, Shown, ShowsRows, Begins, FailsToQuery, FailsToShow, IsNotRun, IsStatement, IsNoStatement, IsUnchanged, IsRolledBack, Survives, CommitsShowing}
+use Rattle.sqlite.specs.State.{State, HasCleanDisk, Shown, ShowsRows, Begins, FailsToQuery, FailsToShow, IsNotRun}
+use Rattle.sqlite.specs.State.{IsNoStatement, IsUnchanged, IsRolledBack, Survives, CommitsShowing}
 use Rattle.sqlite.proofs.Callers.{unchanged_then}
 use Rattle.sqlite.proofs.StateLemmas.{unchanged, survives_then, survives_weaker}
 use Rattle.spool_sql.proofs.RefusalLemmas.{of_failure}
@@ -41,12 +42,6 @@ shown_from sql params m a b rows plain e same h =
       record { is = subst (λ (d : Database). understood d.schema sql ≡ Ok h.0) e h.1.is; whole = h.1.whole; given = h.1.given; now = h.1.now },
       subst (ShowsRows a b sql h.0 full rows) (sym none) (it.0, subst (λ (d : Database). IsSourceOf (reads_listing d.schema sql) d it.0) e it.1, it.2, same),
     )
-
-pub shown_unchanged : (sql : List ℕ) (params : Row) (m b : State) (rows : List Row) → IsPlainText sql → Shown sql params m b rows → IsUnchanged m b
-unfolding Shown
-shown_unchanged sql params m b rows plain h =
-    let none = plain m.now.schema h.0 h.1.is in
-    (subst (ShowsRows m b sql h.0 (timed params h.0.formats h.1.now) rows) none h.2).3
 
 never_returns : (r : Checked Compiled) → ((c : Compiled) → r ≡ Ok c → c.returning ≡ None) → ¬ Returns r
 never_returns (Ok c) plain some = absurd (let none = rw (plain c refl) at some in cc)

@@ -5,22 +5,25 @@ use Rattle.std.specs.List.{AllByRecursion, AllZip}
 use Rattle.std.specs.Prelude.{IsSome, Vec}
 use Rattle.std.specs.declared.alloc.Global.{Global}
 use Rattle.std.specs.List.Sorted.{IsPermutation}
+use Rattle.sqlite_trees.specs.declared.store.Store.{Ghosts}
 use Rattle.sqlite_trees.proofs.ListLemmas.{all-permutation}
 use Rattle.sqlite.specs.Order.{Row}
 use Rattle.sqlite.specs.Term.{Term}
 use Rattle.sqlite.specs.Command.TheVariants.{Select}
 use Rattle.sqlite.specs.Effect.{Answers, RefusesToRead}
 use Rattle.sqlite.specs.declared.error.Error.{Error}
+use Rattle.sqlite.specs.Held.{Held, state}
 use Rattle.sqlite.specs.Listing.{understood}
 use Rattle.sqlite.specs.State.{State, Shown, Begins, IsUnchanged}
 use Rattle.sqlite.proofs.Callers.{command_of, IsPlain, reads_as, begins_as}
 use Rattle.spool_sql.specs.Readable.{IsRefusal}
+use Rattle.spool_sql.specs.Steps.{IfClean}
 use Rattle.sqlite.specs.Schema.{Schema}
 use Rattle.spool_sql.proofs.BareLemmas.{understood_bare}
 use Rattle.spool_sql.proofs.UpdateLemmas.{scanned_by, shows, passes}
 use Rattle.sqlite.specs.declared.error.Error.TheVariants.{SqliteFailure}
 use Rattle.sqlite.specs.declared.error.ErrorCode.TheVariants.{OperationInterrupted}
-use Rattle.sound_tables.specs.Reading.{Shows, Fits, Finds, IsFault, IsAnswerable, IsPlainText}
+use Rattle.sound_tables.specs.Reading.{Shows, Fits, Finds, IsFault, IsAnswerable, IsPlainText, Looks, Reads}
 use Rattle.sound_tables.specs.Tables.{AreByFirst, HasShown, LacksShown, Tells}
 use Rattle.sound_tables.proofs.Texts.{ReadsTree, ReadsUnder, compiled_as, whole, in_order}
 use Rattle.sound_tables.proofs.KeyOrder.{ShowsKey, by_first}
@@ -99,7 +102,7 @@ chosen is_shown (r ∷ rows) tail all = let rest = chosen is_shown rows tail all
 module _ {X : Type 0} (is_shown : Shows X) (Known : Schema → Type 0) (text : List ℕ) (t : ℕ) (shown : List Term)
     (names : List (List ℕ)) (reads : ReadsTree Known text (whole t shown) names) (first : ShowsKey shown) (a b : State)
     (has : Known a.now.schema) where
-  pub has_shown : (xs : List X) → Fits is_shown text a b xs true → HasShown is_shown (shows [] shown) (a.now.trees t) xs
+  has_shown : (xs : List X) → Fits is_shown text a b xs true → HasShown is_shown (shows [] shown) (a.now.trees t) xs
   has_shown xs h = (
     h.1.0,
     shown_whole Known text t shown names reads a has b h.1.0 h.1.1,
@@ -108,7 +111,7 @@ module _ {X : Type 0} (is_shown : Shows X) (Known : Schema → Type 0) (text : L
         text t shown names reads a has first b h.1.0 h.1.1,
   )
 
-  pub lacks_shown : (xs : List X) → Fits is_shown text a b xs false
+  lacks_shown : (xs : List X) → Fits is_shown text a b xs false
       → LacksShown is_shown (shows [] shown) (a.now.trees t)
   lacks_shown xs h all =
       let it = begun_whole Known text t shown names reads a has h.1.0 h.1.1 in
@@ -117,13 +120,13 @@ module _ {X : Type 0} (is_shown : Shows X) (Known : Schema → Type 0) (text : L
       let some = chosen is_shown h.1.0 it.0 each in
       h.1.2 some.0 some.1
 
-  pub tells : (r : Result (Option (Vec X Global)) Error) → IfOk r (Finds is_shown text a b)
+  tells : (r : Result (Option (Vec X Global)) Error) → IfOk r (Finds is_shown text a b)
       → IfOk r (Tells is_shown (shows [] shown) (a.now.trees t))
   tells (Ok (Some xs)) h = has_shown xs.items h
   tells (Ok None) h = lacks_shown [] h
   tells (Err e) h = tt
 
-pub unchanged_by : {X : Type 0} (is_shown : Shows X) (text : List ℕ) (a b : State)
+unchanged_by : {X : Type 0} (is_shown : Shows X) (text : List ℕ) (a b : State)
     (r : Result (Option (Vec X Global)) Error) → IfOk r (Finds is_shown text a b) → OnOk r (IsUnchanged a b)
 unchanged_by is_shown text a b (Ok (Some xs)) h = h.0
 unchanged_by is_shown text a b (Ok None) h = h.0
@@ -134,7 +137,21 @@ module _ (Known : Schema → Type 0) (text : List ℕ) (t : ℕ) (shown : List T
   pub plain_text : IsPlainText text
   plain_text = understood_bare text reads.bare
 
-  pub refused_only : (a b : State) → Known a.now.schema → {A : Type 0} (r : Result A Error) → IfErr r (IsFault text a b)
+  refused_only : (a b : State) → Known a.now.schema → {A : Type 0} (r : Result A Error) → IfErr r (IsFault text a b)
       → IfErr r (IsRefusal a b)
   refused_only a b known (Ok x) h = tt
   refused_only a b known (Err e) h = h (answerable Known text t shown names reads a known)
+
+  -- what is told of the text is told of the table
+  pub reads_whole : {S X : Type 0} (g : Ghosts S) (is_shown : Shows X) → ShowsKey shown → (old new : Held S)
+      (r : Result (Option (Vec X Global)) Error) → Looks g old new
+      → IfClean g old new (λ a b. IfOk r (Finds is_shown text a b))
+      → IfClean g old new (λ a b. IfErr r (IsFault text a b))
+      → Reads g Known (λ db. Tells is_shown (shows [] shown) (db.trees t)) old new r
+  reads_whole g is_shown first old new r looks taken fault = record {
+    looks = looks;
+    found = λ clean known. tells is_shown Known text t shown names reads first (state g old) (state g new) known r
+        (taken clean);
+    same = λ clean. unchanged_by is_shown text (state g old) (state g new) r (taken clean);
+    fault = λ clean known. refused_only (state g old) (state g new) known r (fault clean);
+  }

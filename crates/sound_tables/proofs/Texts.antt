@@ -63,22 +63,12 @@ abbrev endpoints_names : List (List ℕ)
 endpoints_names = codes "put" ∷ codes "name" ∷ codes "url" ∷ codes "max" ∷ codes "enabled" ∷ codes "enabled_by" ∷
     codes "secrets_by" ∷ []
 
-endpoints_first : ReadsUnder first_schema endpoints_text (whole 1 endpoints_columns) endpoints_names
-unfolding understood everything
-endpoints_first = record { is = refl; unlisted = refl; typed = refl }
-
-endpoints_relay : ReadsUnder relay_schema endpoints_text (whole 1 endpoints_columns) endpoints_names
-unfolding understood everything
-endpoints_relay = record { is = refl; unlisted = refl; typed = refl }
-
-endpoints_bare : IsBare endpoints_text
-unfolding understood everything
-endpoints_bare schema base = refl
-
 pub endpoints_read : ReadsTree IsOwn endpoints_text (whole 1 endpoints_columns) endpoints_names
+unfolding understood everything
 endpoints_read = record {
-  bare = endpoints_bare;
-  under = under_own endpoints_text (whole 1 endpoints_columns) endpoints_names endpoints_first endpoints_relay;
+  bare = λ schema base. refl;
+  under = under_own endpoints_text (whole 1 endpoints_columns) endpoints_names
+      (record { is = refl; unlisted = refl; typed = refl }) (record { is = refl; unlisted = refl; typed = refl });
 }
 
 abbrev pub secrets_text : List ℕ
@@ -90,22 +80,12 @@ secrets_columns = col 1 0 ∷ col 1 1 ∷ col 1 2 ∷ col 1 3 ∷ []
 abbrev secrets_names : List (List ℕ)
 secrets_names = codes "rowid" ∷ codes "endpoint" ∷ codes "place" ∷ codes "secret" ∷ []
 
-secrets_first : ReadsUnder first_schema secrets_text (whole 3 secrets_columns) secrets_names
-unfolding understood everything
-secrets_first = record { is = refl; unlisted = refl; typed = refl }
-
-secrets_relay : ReadsUnder relay_schema secrets_text (whole 3 secrets_columns) secrets_names
-unfolding understood everything
-secrets_relay = record { is = refl; unlisted = refl; typed = refl }
-
-secrets_bare : IsBare secrets_text
-unfolding understood everything
-secrets_bare schema base = refl
-
 pub secrets_read : ReadsTree IsOwn secrets_text (whole 3 secrets_columns) secrets_names
+unfolding understood everything
 secrets_read = record {
-  bare = secrets_bare;
-  under = under_own secrets_text (whole 3 secrets_columns) secrets_names secrets_first secrets_relay;
+  bare = λ schema base. refl;
+  under = under_own secrets_text (whole 3 secrets_columns) secrets_names
+      (record { is = refl; unlisted = refl; typed = refl }) (record { is = refl; unlisted = refl; typed = refl });
 }
 
 abbrev pub deliveries_text : List ℕ
@@ -117,22 +97,12 @@ deliveries_columns = col 1 0 ∷ col 1 2 ∷ col 1 3 ∷ col 1 4 ∷ col 1 5 ∷
 abbrev deliveries_names : List (List ℕ)
 deliveries_names = codes "seq" ∷ codes "endpoint" ∷ codes "id" ∷ codes "at" ∷ codes "body" ∷ []
 
-deliveries_first : ReadsUnder first_schema deliveries_text (whole 5 deliveries_columns) deliveries_names
-unfolding understood everything
-deliveries_first = record { is = refl; unlisted = refl; typed = refl }
-
-deliveries_relay : ReadsUnder relay_schema deliveries_text (whole 5 deliveries_columns) deliveries_names
-unfolding understood everything
-deliveries_relay = record { is = refl; unlisted = refl; typed = refl }
-
-deliveries_bare : IsBare deliveries_text
-unfolding understood everything
-deliveries_bare schema base = refl
-
 pub deliveries_read : ReadsTree IsOwn deliveries_text (whole 5 deliveries_columns) deliveries_names
+unfolding understood everything
 deliveries_read = record {
-  bare = deliveries_bare;
-  under = under_own deliveries_text (whole 5 deliveries_columns) deliveries_names deliveries_first deliveries_relay;
+  bare = λ schema base. refl;
+  under = under_own deliveries_text (whole 5 deliveries_columns) deliveries_names
+      (record { is = refl; unlisted = refl; typed = refl }) (record { is = refl; unlisted = refl; typed = refl });
 }
 
 abbrev pub attempts_text : List ℕ
@@ -144,22 +114,12 @@ attempts_columns = col 1 0 ∷ col 1 2 ∷ col 1 3 ∷ col 1 4 ∷ col 1 5 ∷ [
 abbrev attempts_names : List (List ℕ)
 attempts_names = codes "seq" ∷ codes "delivery" ∷ codes "number" ∷ codes "status" ∷ codes "at" ∷ []
 
-attempts_first : ReadsUnder first_schema attempts_text (whole 7 attempts_columns) attempts_names
-unfolding understood everything
-attempts_first = record { is = refl; unlisted = refl; typed = refl }
-
-attempts_relay : ReadsUnder relay_schema attempts_text (whole 7 attempts_columns) attempts_names
-unfolding understood everything
-attempts_relay = record { is = refl; unlisted = refl; typed = refl }
-
-attempts_bare : IsBare attempts_text
-unfolding understood everything
-attempts_bare schema base = refl
-
 pub attempts_read : ReadsTree IsOwn attempts_text (whole 7 attempts_columns) attempts_names
+unfolding understood everything
 attempts_read = record {
-  bare = attempts_bare;
-  under = under_own attempts_text (whole 7 attempts_columns) attempts_names attempts_first attempts_relay;
+  bare = λ schema base. refl;
+  under = under_own attempts_text (whole 7 attempts_columns) attempts_names
+      (record { is = refl; unlisted = refl; typed = refl }) (record { is = refl; unlisted = refl; typed = refl });
 }
 
 abbrev pub meta_text : List ℕ
@@ -171,22 +131,12 @@ meta_columns = col 1 0 ∷ col 1 2 ∷ col 1 3 ∷ col 1 4 ∷ []
 abbrev meta_names : List (List ℕ)
 meta_names = codes "k" ∷ codes "app" ∷ codes "version" ∷ codes "records" ∷ []
 
-meta_first : ReadsUnder first_schema meta_text (whole 0 meta_columns) meta_names
-unfolding understood everything
-meta_first = record { is = refl; unlisted = refl; typed = refl }
-
-meta_relay : ReadsUnder relay_schema meta_text (whole 0 meta_columns) meta_names
-unfolding understood everything
-meta_relay = record { is = refl; unlisted = refl; typed = refl }
-
-meta_bare : IsBare meta_text
-unfolding understood everything
-meta_bare schema base = refl
-
 pub meta_read : ReadsTree IsOwn meta_text (whole 0 meta_columns) meta_names
+unfolding understood everything
 meta_read = record {
-  bare = meta_bare;
-  under = under_own meta_text (whole 0 meta_columns) meta_names meta_first meta_relay;
+  bare = λ schema base. refl;
+  under = under_own meta_text (whole 0 meta_columns) meta_names
+      (record { is = refl; unlisted = refl; typed = refl }) (record { is = refl; unlisted = refl; typed = refl });
 }
 
 abbrev pub topics_text : List ℕ
@@ -198,17 +148,10 @@ topics_columns = col 1 0 ∷ col 1 1 ∷ col 1 2 ∷ col 1 3 ∷ col 1 4 ∷ []
 abbrev topics_names : List (List ℕ)
 topics_names = codes "rowid" ∷ codes "topic" ∷ codes "endpoint" ∷ codes "subscribed" ∷ codes "set_by" ∷ []
 
-topics_under : ReadsUnder relay_schema topics_text (whole 9 topics_columns) topics_names
-unfolding understood everything
-topics_under = record { is = refl; unlisted = refl; typed = refl }
-
-topics_bare : IsBare topics_text
-unfolding understood everything
-topics_bare schema base = refl
-
 pub topics_read : ReadsTree IsRelays topics_text (whole 9 topics_columns) topics_names
+unfolding understood everything
 topics_read = record {
-  bare = topics_bare;
+  bare = λ schema base. refl;
   under = λ schema is. subst (λ s. ReadsUnder s topics_text (whole 9 topics_columns) topics_names) (sym is)
-      topics_under;
+      (record { is = refl; unlisted = refl; typed = refl });
 }

@@ -1,5 +1,6 @@
 -- What is read of a table row by row, and why it isn't.
-use Rattle.std.specs.Prelude.{◌≡◌, ◌⊎◌, ◌≤◌, ℕ, length, Bool, true, false, List, [], Vec, Option, Some, None, Ok, IsSome, IsTrue}
+use Rattle.std.specs.Prelude.{◌≡◌, ◌⊎◌, ◌≤◌, ℕ, length, Bool, true, false, List, [], Vec, Option, Some, None, Ok}
+use Rattle.std.specs.Prelude.{Result, IsSome, IsTrue, IfOk, IfErr, OnOk}
 use Rattle.std.specs.declared.alloc.Global.{Global}
 use Rattle.std.specs.List.{AllZip}
 use Rattle.sqlite_resolve.specs.declared.compiled.Compiled.{Compiled}
@@ -15,6 +16,7 @@ use Rattle.sqlite.specs.Given.{HasGiven}
 use Rattle.sqlite_trees.specs.declared.store.Store.{Ghosts}
 use Rattle.sqlite.specs.State.{State, HasCleanDisk, Shown, Begins, IsUnchanged, IsRolledBack, Survives}
 use Rattle.spool_sql.specs.Readable.{IsRefusal}
+use Rattle.spool_sql.specs.Steps.{IfClean}
 
 -- whatever the schema is, the text has no RETURNING
 abbrev pub IsPlainText : List ℕ → Type 0
@@ -66,3 +68,12 @@ module _ {S : Type 0} (g : Ghosts S) where
     pub mode : old.in_transaction ≡ false → new.in_transaction ≡ false
     pub survives : Survives (state g old) (state g new) (λ _. ⊥)
     pub left : HasCleanDisk (state g new) → IsTrue (state g new).is_open → IsUnchanged (state g old) (state g new) ⊎ IsRolledBack (state g old) (state g new)
+
+  -- A look that tells so much of a database whose schema is known, and changes nothing. It is refused only for memory
+  -- or by the store.
+  pub record Reads {X : Type 0} (Known : Schema → Type 0) (Told : Database → X → Type 0) (old new : Held S)
+      (result : Result X Error) : Type 0 where
+    pub looks : Looks old new
+    pub found : IfClean g old new (λ a _. Known a.now.schema → IfOk result (Told a.now))
+    pub same : IfClean g old new (λ a b. OnOk result (IsUnchanged a b))
+    pub fault : IfClean g old new (λ a b. Known a.now.schema → IfErr result (IsRefusal a b))

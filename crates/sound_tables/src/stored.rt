@@ -6,7 +6,7 @@ ghost use Rattle.spool_sql.specs.Readable.{IsRefusal};
 ghost use Rattle.spool_sql.specs.Steps.{IfClean};
 ghost use Rattle.spool_sql.specs.Tables.{IsOwn};
 ghost use Rattle.sound_tables.specs.Checks.{TellsStored, TellsEndpoints, TellsEvents, TellsTopics};
-ghost use Rattle.sound_tables.specs.Reading.{Looks};
+ghost use Rattle.sound_tables.specs.Reading.{Looks, Reads};
 ghost use Rattle.sound_tables.specs.Versions.{IsReadable};
 
 use crate::secret::Secret;
@@ -33,12 +33,7 @@ pub(crate) fn read_stored<S: Alter>(
     version: Version,
     alloc: Global,
 ) -> Result<Option<StoredRows>, Error>
-    ensures looks { Looks S.Store conn.old conn.new }
-    ensures found { IfClean S.Store conn.old conn.new (λ a _. IsReadable version a.now.schema
-        → IfOk result (TellsStored version a.now)) }
-    ensures same { IfClean S.Store conn.old conn.new (λ a b. OnOk result (IsUnchanged a b)) }
-    ensures fault { IfClean S.Store conn.old conn.new (λ a b. IsReadable version a.now.schema
-        → IfErr result (IsRefusal a b)) }
+    ensures { Reads S.Store (IsReadable version) (TellsStored version) conn.old conn.new result }
 {
     let (endpoints, secrets) = read_endpoint_tables(conn, alloc)?;
     let (deliveries, attempts, topics) = read_record_tables(conn, version, alloc)?;
@@ -58,12 +53,8 @@ fn read_record_tables<S: Alter>(
     ),
     Error,
 >
-    ensures looks { Looks S.Store conn.old conn.new }
-    ensures found { IfClean S.Store conn.old conn.new (λ a _. IsReadable version a.now.schema
-        → IfOk result (λ told. TellsEvents a.now told.0 told.1 × TellsTopics version a.now told.2)) }
-    ensures same { IfClean S.Store conn.old conn.new (λ a b. OnOk result (IsUnchanged a b)) }
-    ensures fault { IfClean S.Store conn.old conn.new (λ a b. IsReadable version a.now.schema
-        → IfErr result (IsRefusal a b)) }
+    ensures { Reads S.Store (IsReadable version)
+        (λ db told. TellsEvents db told.0 told.1 × TellsTopics version db told.2) conn.old conn.new result }
 {
     let (deliveries, attempts) = read_event_tables(conn, alloc)?;
     let topics = topics_of(conn, version, alloc)?;
@@ -93,12 +84,7 @@ fn read_endpoint_tables<S: Alter>(
     conn: &mut Connection<S>,
     alloc: Global,
 ) -> Result<(Option<Vec<Endpoint>>, Option<Vec<Secret>>), Error>
-    ensures looks { Looks S.Store conn.old conn.new }
-    ensures found { IfClean S.Store conn.old conn.new (λ a _. IsOwn a.now.schema
-        → IfOk result (λ told. TellsEndpoints a.now told.0 told.1)) }
-    ensures same { IfClean S.Store conn.old conn.new (λ a b. OnOk result (IsUnchanged a b)) }
-    ensures fault { IfClean S.Store conn.old conn.new (λ a b. IsOwn a.now.schema
-        → IfErr result (IsRefusal a b)) }
+    ensures { Reads S.Store IsOwn (λ db told. TellsEndpoints db told.0 told.1) conn.old conn.new result }
 {
     let endpoints = read_endpoints(conn, alloc)?;
     let secrets = read_secrets(conn, alloc)?;
@@ -109,12 +95,7 @@ fn read_event_tables<S: Alter>(
     conn: &mut Connection<S>,
     alloc: Global,
 ) -> Result<(Option<Vec<Delivery>>, Option<Vec<Attempt>>), Error>
-    ensures looks { Looks S.Store conn.old conn.new }
-    ensures found { IfClean S.Store conn.old conn.new (λ a _. IsOwn a.now.schema
-        → IfOk result (λ told. TellsEvents a.now told.0 told.1)) }
-    ensures same { IfClean S.Store conn.old conn.new (λ a b. OnOk result (IsUnchanged a b)) }
-    ensures fault { IfClean S.Store conn.old conn.new (λ a b. IsOwn a.now.schema
-        → IfErr result (IsRefusal a b)) }
+    ensures { Reads S.Store IsOwn (λ db told. TellsEvents db told.0 told.1) conn.old conn.new result }
 {
     let deliveries = read_deliveries(conn, alloc)?;
     let attempts = read_attempts(conn, alloc)?;

@@ -1,10 +1,7 @@
 //! The tables, each read whole by one statement.
-ghost use Rattle.std.specs.Prelude.{◌≡◌, IfOk, IfErr, OnOk};
-ghost use Rattle.sqlite.specs.State.{IsUnchanged};
-ghost use Rattle.spool_sql.specs.Readable.{IsRefusal};
-ghost use Rattle.spool_sql.specs.Steps.{IfClean};
+ghost use Rattle.std.specs.Prelude.{◌≡◌};
 ghost use Rattle.spool_sql.specs.Tables.{IsOwn, relay_schema};
-ghost use Rattle.sound_tables.specs.Reading.{Looks};
+ghost use Rattle.sound_tables.specs.Reading.{Reads};
 ghost use Rattle.sound_tables.specs.Shown.{ShowsMeta, ShowsEndpoint, ShowsSecret, ShowsDelivery, ShowsAttempt};
 ghost use Rattle.sound_tables.specs.Shown.{ShowsTopic};
 ghost use Rattle.sound_tables.specs.Tables.{Tells, meta_columns, endpoint_columns, secret_columns};
@@ -23,12 +20,7 @@ pub(crate) fn read_meta<S: Alter>(
     conn: &mut Connection<S>,
     alloc: Global,
 ) -> Result<Option<Vec<Meta>>, Error>
-    ensures looks { Looks S.Store conn.old conn.new }
-    ensures found { IfClean S.Store conn.old conn.new (λ a _. IsOwn a.now.schema
-        → IfOk result (Tells ShowsMeta meta_columns (a.now.trees 0))) }
-    ensures same { IfClean S.Store conn.old conn.new (λ a b. OnOk result (IsUnchanged a b)) }
-    ensures fault { IfClean S.Store conn.old conn.new (λ a b. IsOwn a.now.schema
-        → IfErr result (IsRefusal a b)) }
+    ensures { Reads S.Store IsOwn (λ db. Tells ShowsMeta meta_columns (db.trees 0)) conn.old conn.new result }
 {
     read_table(
         conn,
@@ -42,12 +34,7 @@ pub(crate) fn read_endpoints<S: Alter>(
     conn: &mut Connection<S>,
     alloc: Global,
 ) -> Result<Option<Vec<Endpoint>>, Error>
-    ensures looks { Looks S.Store conn.old conn.new }
-    ensures found { IfClean S.Store conn.old conn.new (λ a _. IsOwn a.now.schema
-        → IfOk result (Tells ShowsEndpoint endpoint_columns (a.now.trees 1))) }
-    ensures same { IfClean S.Store conn.old conn.new (λ a b. OnOk result (IsUnchanged a b)) }
-    ensures fault { IfClean S.Store conn.old conn.new (λ a b. IsOwn a.now.schema
-        → IfErr result (IsRefusal a b)) }
+    ensures { Reads S.Store IsOwn (λ db. Tells ShowsEndpoint endpoint_columns (db.trees 1)) conn.old conn.new result }
 {
     read_table(
         conn,
@@ -61,12 +48,7 @@ pub(crate) fn read_secrets<S: Alter>(
     conn: &mut Connection<S>,
     alloc: Global,
 ) -> Result<Option<Vec<Secret>>, Error>
-    ensures looks { Looks S.Store conn.old conn.new }
-    ensures found { IfClean S.Store conn.old conn.new (λ a _. IsOwn a.now.schema
-        → IfOk result (Tells ShowsSecret secret_columns (a.now.trees 3))) }
-    ensures same { IfClean S.Store conn.old conn.new (λ a b. OnOk result (IsUnchanged a b)) }
-    ensures fault { IfClean S.Store conn.old conn.new (λ a b. IsOwn a.now.schema
-        → IfErr result (IsRefusal a b)) }
+    ensures { Reads S.Store IsOwn (λ db. Tells ShowsSecret secret_columns (db.trees 3)) conn.old conn.new result }
 {
     read_table(
         conn,
@@ -80,12 +62,7 @@ pub(crate) fn read_deliveries<S: Alter>(
     conn: &mut Connection<S>,
     alloc: Global,
 ) -> Result<Option<Vec<Delivery>>, Error>
-    ensures looks { Looks S.Store conn.old conn.new }
-    ensures found { IfClean S.Store conn.old conn.new (λ a _. IsOwn a.now.schema
-        → IfOk result (Tells ShowsDelivery delivery_columns (a.now.trees 5))) }
-    ensures same { IfClean S.Store conn.old conn.new (λ a b. OnOk result (IsUnchanged a b)) }
-    ensures fault { IfClean S.Store conn.old conn.new (λ a b. IsOwn a.now.schema
-        → IfErr result (IsRefusal a b)) }
+    ensures { Reads S.Store IsOwn (λ db. Tells ShowsDelivery delivery_columns (db.trees 5)) conn.old conn.new result }
 {
     read_table(
         conn,
@@ -99,12 +76,7 @@ pub(crate) fn read_attempts<S: Alter>(
     conn: &mut Connection<S>,
     alloc: Global,
 ) -> Result<Option<Vec<Attempt>>, Error>
-    ensures looks { Looks S.Store conn.old conn.new }
-    ensures found { IfClean S.Store conn.old conn.new (λ a _. IsOwn a.now.schema
-        → IfOk result (Tells ShowsAttempt attempt_columns (a.now.trees 7))) }
-    ensures same { IfClean S.Store conn.old conn.new (λ a b. OnOk result (IsUnchanged a b)) }
-    ensures fault { IfClean S.Store conn.old conn.new (λ a b. IsOwn a.now.schema
-        → IfErr result (IsRefusal a b)) }
+    ensures { Reads S.Store IsOwn (λ db. Tells ShowsAttempt attempt_columns (db.trees 7)) conn.old conn.new result }
 {
     read_table(
         conn,
@@ -118,12 +90,8 @@ pub(crate) fn read_topics<S: Alter>(
     conn: &mut Connection<S>,
     alloc: Global,
 ) -> Result<Option<Vec<Topic>>, Error>
-    ensures looks { Looks S.Store conn.old conn.new }
-    ensures found { IfClean S.Store conn.old conn.new (λ a _. a.now.schema ≡ relay_schema
-        → IfOk result (Tells ShowsTopic topic_columns (a.now.trees 9))) }
-    ensures same { IfClean S.Store conn.old conn.new (λ a b. OnOk result (IsUnchanged a b)) }
-    ensures fault { IfClean S.Store conn.old conn.new (λ a b. a.now.schema ≡ relay_schema
-        → IfErr result (IsRefusal a b)) }
+    ensures { Reads S.Store (λ schema. schema ≡ relay_schema) (λ db. Tells ShowsTopic topic_columns (db.trees 9))
+        conn.old conn.new result }
 {
     read_table(
         conn,

@@ -1,51 +1,18 @@
-use Rattle.std.proofs.Common.{subst}
-use Rattle.sqlite.specs.Effect.{Database}
-use Rattle.sqlite.specs.Held.{state}
-use Rattle.spool_sql.specs.Readable.{IsRefusal}
-use Rattle.spool_sql.proofs.ReadableLemmas.{handed_on}
-use Rattle.sound_tables.specs.Shown.{ShowsSecret}
-use Rattle.sound_tables.specs.Tables.{Tells, secret_columns}
-use Rattle.spool_sql.specs.Tables.{IsOwn}
-use Rattle.sound_tables.proofs.LookLemmas.{looks_both, clean_early, same_now, schema_still, same_both, refused_since}
+use Rattle.sound_tables.proofs.LookLemmas.{reads_both, reads_failed, reads_first}
 use Rattle.sound_tables.proofs.stored.read_endpoint_tables.Goals as goal
 
-pub returns-in_err-secrets-clause-looks : goal.returns-in_err-secrets-clause-looks
-returns-in_err-secrets-clause-looks g c =
-    looks_both g.S.Store c.args.conn.now c.read_endpoints.new.conn c.read_secrets.new.conn
-    c.in_ok-endpoints.ensures.looks c.in_ok-endpoints.ensures.same c.in_err-secrets.ensures.looks
+pub returns-in_err-endpoints : goal.returns-in_err-endpoints
+returns-in_err-endpoints g c =
+    let told = c.from_residual in
+    reads_first g.S.Store _ _ (λ s own. own) c.in_err-endpoints.ensures _ told.result told.ensures.1
 
-pub returns-in_err-secrets-clause-fault : goal.returns-in_err-secrets-clause-fault
-returns-in_err-secrets-clause-fault g c clean has =
-    let still = schema_still g.S.Store c.args.conn.now c.read_endpoints.new.conn c.read_secrets.new.conn
-    c.in_ok-endpoints.ensures.looks c.in_ok-endpoints.ensures.same c.in_err-secrets.ensures.looks IsOwn clean has in
-    handed_on c.from_residual-in_err-secrets.result c.in_err-secrets.field-0.0
-    (IsRefusal (state g.S.Store c.args.conn.now) (state g.S.Store c.read_secrets.new.conn))
-    c.from_residual-in_err-secrets.ensures.1
-    (refused_since g.S.Store c.args.conn.now c.read_endpoints.new.conn c.read_secrets.new.conn
-    c.in_ok-endpoints.ensures.looks c.in_ok-endpoints.ensures.same c.in_err-secrets.ensures.looks _ clean
-    (c.in_err-secrets.ensures.fault clean still))
+pub returns-in_err-secrets : goal.returns-in_err-secrets
+returns-in_err-secrets g c =
+    let told = c.from_residual-in_err-secrets in
+    reads_failed g.S.Store _ _ _ (λ s own. own) c.in_ok-endpoints.ensures c.in_err-secrets.ensures _ told.result
+    told.ensures.1
 
-pub returns-clause-looks : goal.returns-clause-looks
-returns-clause-looks g c = looks_both g.S.Store c.args.conn.now c.read_endpoints.new.conn c.read_secrets.new.conn
-    c.in_ok-endpoints.ensures.looks c.in_ok-endpoints.ensures.same c.in_ok-secrets.ensures.looks
-
-pub returns-clause-found : goal.returns-clause-found
-returns-clause-found g c clean has =
-    let looks = c.in_ok-endpoints.ensures.looks in
-    let later = c.in_ok-secrets.ensures.looks in
-    let still = schema_still g.S.Store c.args.conn.now c.read_endpoints.new.conn c.read_secrets.new.conn looks
-    c.in_ok-endpoints.ensures.same later IsOwn clean has in (
-      c.in_ok-endpoints.ensures.found
-          (clean_early g.S.Store c.args.conn.now c.read_endpoints.new.conn c.read_secrets.new.conn looks
-          c.in_ok-endpoints.ensures.same later clean) has,
-      subst (λ (db : Database). Tells ShowsSecret secret_columns (db.trees 3) c.in_ok-secrets.secrets)
-          (same_now g.S.Store c.args.conn.now c.read_endpoints.new.conn c.read_secrets.new.conn looks
-          c.in_ok-endpoints.ensures.same later clean)
-          (c.in_ok-secrets.ensures.found clean still),
-    )
-
-pub returns-clause-same : goal.returns-clause-same
-returns-clause-same g c clean =
-    same_both g.S.Store c.args.conn.now c.read_endpoints.new.conn c.read_secrets.new.conn
-    c.in_ok-endpoints.ensures.looks c.in_ok-endpoints.ensures.same c.in_ok-secrets.ensures.looks clean
-    (c.in_ok-secrets.ensures.same clean)
+pub returns : goal.returns
+returns g c =
+    reads_both g.S.Store _ _ _ (λ s own. own) c.in_ok-endpoints.ensures c.in_ok-secrets.ensures _ _
+    (λ db first later. (first, later))

@@ -1,24 +1,15 @@
 use Rattle.std.proofs.Common.{refl}
-use Rattle.sqlite.specs.Held.{state}
 use Rattle.spool_sql.specs.Tables.{IsOwn}
 use Rattle.sound_tables.specs.Shown.{ShowsMeta}
-use Rattle.sound_tables.proofs.TableLemmas.{plain_text, tells, unchanged_by, refused_only}
+use Rattle.sound_tables.proofs.TableLemmas.{plain_text, reads_whole}
 use Rattle.sound_tables.proofs.Texts.{meta_text, meta_columns, meta_read}
 use Rattle.sound_tables.proofs.tables.read_meta.Goals as goal
 
 pub read_table-requires : goal.read_table-requires
 read_table-requires g c = record { plain = plain_text IsOwn meta_text 0 meta_columns _ meta_read }
 
-pub returns-clause-found : goal.returns-clause-found
-returns-clause-found g c clean has =
-    tells ShowsMeta IsOwn meta_text 0 meta_columns _ meta_read (λ r. refl) (state g.S.Store c.args.conn.now)
-    (state g.S.Store c.read_table.new.conn) has c.read_table.result (c.read_table.ensures.taken clean)
-
-pub returns-clause-same : goal.returns-clause-same
-returns-clause-same g c clean = unchanged_by ShowsMeta meta_text (state g.S.Store c.args.conn.now)
-    (state g.S.Store c.read_table.new.conn) c.read_table.result (c.read_table.ensures.taken clean)
-
-pub returns-clause-fault : goal.returns-clause-fault
-returns-clause-fault g c clean has = refused_only IsOwn meta_text 0 meta_columns _ meta_read
-    (state g.S.Store c.args.conn.now) (state g.S.Store c.read_table.new.conn) has c.read_table.result
-    (c.read_table.ensures.fault clean)
+pub returns : goal.returns
+returns g c =
+    let told = c.read_table.ensures in
+    reads_whole IsOwn meta_text 0 meta_columns _ meta_read g.S.Store ShowsMeta (λ r. refl)
+    c.args.conn.now c.read_table.new.conn c.read_table.result told.looks told.taken told.fault

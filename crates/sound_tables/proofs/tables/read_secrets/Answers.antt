@@ -1,24 +1,15 @@
 use Rattle.std.proofs.Common.{refl}
-use Rattle.sqlite.specs.Held.{state}
 use Rattle.spool_sql.specs.Tables.{IsOwn}
 use Rattle.sound_tables.specs.Shown.{ShowsSecret}
-use Rattle.sound_tables.proofs.TableLemmas.{plain_text, tells, unchanged_by, refused_only}
+use Rattle.sound_tables.proofs.TableLemmas.{plain_text, reads_whole}
 use Rattle.sound_tables.proofs.Texts.{secrets_text, secrets_columns, secrets_read}
 use Rattle.sound_tables.proofs.tables.read_secrets.Goals as goal
 
 pub read_table-requires : goal.read_table-requires
 read_table-requires g c = record { plain = plain_text IsOwn secrets_text 3 secrets_columns _ secrets_read }
 
-pub returns-clause-found : goal.returns-clause-found
-returns-clause-found g c clean has =
-    tells ShowsSecret IsOwn secrets_text 3 secrets_columns _ secrets_read (λ r. refl) (state g.S.Store c.args.conn.now)
-    (state g.S.Store c.read_table.new.conn) has c.read_table.result (c.read_table.ensures.taken clean)
-
-pub returns-clause-same : goal.returns-clause-same
-returns-clause-same g c clean = unchanged_by ShowsSecret secrets_text (state g.S.Store c.args.conn.now)
-    (state g.S.Store c.read_table.new.conn) c.read_table.result (c.read_table.ensures.taken clean)
-
-pub returns-clause-fault : goal.returns-clause-fault
-returns-clause-fault g c clean has = refused_only IsOwn secrets_text 3 secrets_columns _ secrets_read
-    (state g.S.Store c.args.conn.now) (state g.S.Store c.read_table.new.conn) has c.read_table.result
-    (c.read_table.ensures.fault clean)
+pub returns : goal.returns
+returns g c =
+    let told = c.read_table.ensures in
+    reads_whole IsOwn secrets_text 3 secrets_columns _ secrets_read g.S.Store ShowsSecret (λ r. refl)
+    c.args.conn.now c.read_table.new.conn c.read_table.result told.looks told.taken told.fault
