@@ -9,9 +9,10 @@ purge took an event that was pending: what was after a kill is in the file, or w
 Events are published too: one that was answered 202 was posted to each subscriber, under the number
 that the answer names for it, and any other one to each subscriber or to none. One id is submitted
 after each purge, each time with other bytes: it is refused, or a new event. At last everything is
-purged.
+purged. Runs may go on side by side.
 Usage: scripts/serve kill RELAYD [KILLS [SEED]]: 20 kills if left out
 """
+import collections
 import random
 import sqlite3
 import sys
@@ -101,15 +102,23 @@ class Load:
 
 
 class Failing:
-    """A subscriber that fails the first post of one event in five, in one way of several. It keeps when it answered each event last."""
+    """A subscriber that fails the first post of one event in five, in one way of several. It keeps when it answered each event last, and of the posts only
+    how many there were, and which had an event that nobody sent or no signature."""
 
-    def __init__(self):
-        self.answered = {}
+    def __init__(self, name, load):
+        self.name, self.load = name, load
+        self.answered, self.posts, self.strange, self.unsigned = {}, 0, [], []
         self.lock = threading.Lock()
 
     def __call__(self, post):
         event = post.header("webhook-id")
+        with self.load.lock:
+            is_sent = (self.name, event, post.body) in self.load.sent
+        is_signed = post.is_signed_by(SECRET)
         with self.lock:
+            self.posts += 1
+            self.strange += [] if is_sent else [event]
+            self.unsigned += [] if is_signed else [event]
             is_first = (event, post.body) not in self.answered
             self.answered[event, post.body] = time.time()
         draw = zlib.crc32(event.encode())
@@ -121,8 +130,11 @@ class Kills:
 
     def __init__(self, counts, relayd, folder, load, *options):
         self.counts, self.relayd, self.file, self.load, self.options = counts, relayd, f"{folder}/relay.db", load, options
-        self.failing = {name: Failing() for name in NAMES}
+        self.failing = {name: Failing(name, load) for name in NAMES}
         self.subscribers = {name: Subscriber(self.failing[name]) for name in NAMES}
+        for it in self.subscribers.values():
+            # A long run has millions of posts.
+            it.posts = collections.deque(maxlen=0)
         # The events that were pending after a kill, each with the moment of the start after the last such kill.
         self.pending = {}
         self.relay = Relay(relayd, self.file, *options)
@@ -201,12 +213,10 @@ def check_posts(counts, load, run):
     posted = run.answered()
     where = [tuple(name for name in NAMES if (name, *it) in posted) for it in load.published]
     counts.check("publishes that reached some subscribers alone", [it for it in where if it not in ((), SUBSCRIBERS)], [])
-    posts = {name: list(run.subscribers[name].posts) for name in NAMES}
-    for name in NAMES:
-        strange = [post for post in posts[name] if (name, post.header("webhook-id"), post.body) not in load.sent]
-        counts.check(f"nothing else is posted to {name}", len(strange), 0)
-        counts.check(f"all to {name} are signed", all(post.is_signed_by(SECRET) for post in posts[name]))
-    print(f"{len(where)} published, {where.count(SUBSCRIBERS)} of them kept, {sum(map(len, posts.values()))} posts")
+    for name, failing in run.failing.items():
+        counts.check(f"nothing else is posted to {name}", failing.strange[:5], [])
+        counts.check(f"all to {name} are signed", failing.unsigned[:5], [])
+    print(f"{len(where)} published, {where.count(SUBSCRIBERS)} of them kept, {sum(it.posts for it in run.failing.values())} posts")
 
 
 def check_emptied(counts, load, run):
