@@ -54,7 +54,7 @@ def check_installed(counts, program, folder):
     if has("groff"):
         counts.check("the manual is one", ran("groff", "-man", "-Tutf8", "-ww", "-z", input=manual)[2], "")
     if has("systemd-analyze"):
-        for unit in ("relayd.service", "relayd-metrics.service", "relayd-purge.service", "relayd-purge.timer"):
+        for unit in ("relayd.service", "relayd-metrics.service", "relayd-purge.service", "relayd-purge.timer", "relayd-backup.service", "relayd-backup.timer"):
             told = ran("systemd-analyze", "verify", "--man=no", f"{folder}/prefix/lib/systemd/system/{unit}")
             counts.check(f"the unit {unit} is one", [line for line in told[2].split("\n") if "relayd" in line], [])
 

@@ -47,12 +47,13 @@ check_files() {
   done
   is 'what is installed is as the package has it' "$(inside "$root" dpkg -V relayd)" ''
   for file in share/relayd/relayd-metrics share/relayd/status.html share/doc/relayd/examples/relayd-alerts.yml lib/systemd/system/relayd-metrics.service \
-    lib/systemd/system/relayd-purge.service lib/systemd/system/relayd-purge.timer; do
+    lib/systemd/system/relayd-purge.service lib/systemd/system/relayd-purge.timer lib/systemd/system/relayd-backup.service \
+    lib/systemd/system/relayd-backup.timer share/doc/relayd/examples/prometheus.yml; do
     is "usr/$file is there" "$(test -f "$root/usr/$file" && echo there)" there
   done
   is 'the user' "$(inside "$root" getent passwd relayd | cut -d: -f6,7)" '/var/lib/relayd:/usr/sbin/nologin'
   if command -v systemd-analyze > /dev/null; then
-    for file in relayd.service relayd-metrics.service relayd-purge.service relayd-purge.timer; do
+    for file in relayd.service relayd-metrics.service relayd-purge.service relayd-purge.timer relayd-backup.service relayd-backup.timer; do
       sed "s|=/usr/|=$root/usr/|" "$root/usr/lib/systemd/system/$file" > "$folder/$file"
       is "the unit $file is one" "$(systemd-analyze verify --man=no "$folder/$file" 2>&1 | grep relayd)" ''
     done
