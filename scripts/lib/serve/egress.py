@@ -5,8 +5,8 @@ subscriber sees and answers passes unchanged; an expired certificate, one of ano
 unknown authority, a host that isn't listed, a name without an address and one of a private address,
 a subscriber that listens no more or doesn't answer with a head: each ends the connection with
 nothing, and a slow subscriber is answered 504. Then a relay posts to the same. Last it tries the
-addresses that count as private, and what the commands of docs/OPERATIONS.md install, in one nginx
-with the proxy in front of the relay.
+addresses that count as private, and what the commands of docs/RECIPE.md install, in one nginx with
+the proxy in front of the relay.
 
 It makes certificates and names of its own. The shipped file is used with other values: port, name
 server, list of hosts, root certificates, and loopback isn't private, except in a second nginx where
@@ -45,13 +45,17 @@ PRIVATE = ["0.0.0.0", "10.0.0.1", "10.255.255.255", "100.64.0.1", "100.79.0.1", 
            "203.0.113.1", "224.0.0.1", "239.255.255.250", "240.0.0.1", "255.255.255.255", "[::1]", "[2001:db8::1]", "unix:"]
 
 
-class Names:
-    """A name server of these names and their addresses. It says nothing of one that has none, and of any other that there is no such name."""
+# The type and the class that a question ends with.
+ADDRESS_OF_IPV4 = b"\0\1\0\1"
 
-    def __init__(self, addresses):
+
+class Names:
+    """A name server of these names and their addresses of IPv4. It says nothing of one that has none, and of any other that there is no such name."""
+
+    def __init__(self, addresses, port=0):
         self.addresses = addresses
         self.sock = socket.socket(socket.AF_INET, socket.SOCK_DGRAM)
-        self.sock.bind(("127.0.0.1", 0))
+        self.sock.bind(("127.0.0.1", port))
         self.port = self.sock.getsockname()[1]
         threading.Thread(target=self.serve, daemon=True).start()
 
@@ -61,8 +65,9 @@ class Names:
             name, end = self.name_in(asked)
             addresses = self.addresses.get(name, [])
             if addresses or name not in self.addresses:
-                found = b"".join(struct.pack(">HHHIH", 0xC00C, 1, 1, 60, 4) + socket.inet_aton(it) for it in addresses)
-                head = struct.pack(">HHHHH", 0x8180 if addresses else 0x8183, 1, len(addresses), 0, 0)
+                shown = addresses if asked[end - 4 : end] == ADDRESS_OF_IPV4 else []
+                found = b"".join(struct.pack(">HHHIH", 0xC00C, 1, 1, 60, 4) + socket.inet_aton(it) for it in shown)
+                head = struct.pack(">HHHHH", 0x8180 if addresses else 0x8183, 1, len(shown), 0, 0)
                 self.sock.sendto(asked[:2] + head + asked[12:end] + found, client)
 
     def name_in(self, asked):
@@ -77,11 +82,11 @@ class Names:
 class Secure(Subscriber):
     """A subscriber with TLS, which shows each name the certificate that is its own."""
 
-    def __init__(self, reply, contexts, port=0):
+    def __init__(self, reply, contexts, port=0, host="127.0.0.1"):
         self.contexts, self.names = contexts, []
         self.first = ssl.SSLContext(ssl.PROTOCOL_TLS_SERVER)
         self.first.sni_callback = self.choose
-        super().__init__(reply, port)
+        super().__init__(reply, port, host)
 
     def choose(self, sock, name, _):
         self.names.append(name)
@@ -315,9 +320,10 @@ def check_beside(counts, folder):
     """What the page's commands install, beside the proxy in front of the relay, in one nginx and at one port as both are shipped: posts take loopback,
     requests the other addresses."""
     port = free_port()
-    commands = re.search(r"(?ms)^    sudo install -d .*?^    sudo nginx", (ROOT / "docs" / "OPERATIONS.md").read_text())[0].rpartition("\n")[0]
+    commands = re.search(r"(?ms)^    echo 'shop.example 1;'.*?^    nginx -t", (ROOT / "docs" / "RECIPE.md").read_text())[0].rpartition("\n")[0]
     (folder / "resolv.conf").write_text("search example\nnameserver 127.0.0.1\nnameserver 127.0.0.2\n")
-    places = {"sudo ": "", "/etc/nginx/conf.d": folder, "/etc/resolv.conf": folder / "resolv.conf", "/etc/relayd": folder / "installed",
+    (folder / "installed").mkdir()
+    places = {"/etc/nginx/conf.d": folder, "/etc/resolv.conf": folder / "resolv.conf", "/etc/relayd": folder / "installed",
               "/usr/share/doc/relayd/examples": ROOT / "packaging"}
     for old, new in places.items():
         counts.check(f"the page has {old}", old in commands)
