@@ -130,7 +130,7 @@ def check_cards(counts, page, relay, subscriber):
               "URL": f"http://127.0.0.1:{subscriber.port}/hook"}
     counts.check("the card of shop", rows_of(page, "shop"), ["Enabled", wanted])
     counts.check("of one that isn't there", rows_of(page, "nowhere"), ["The relay has no endpoint of this name.", {}])
-    counts.check("of no name", rows_of(page, "No/name"), ["This is no endpoint's name: it has 1 to 32 small letters, digits and hyphens.", {}])
+    counts.check("of no name", rows_of(page, "No/name"), ["This is no name of an endpoint or a topic: it has 1 to 32 small letters, digits and hyphens.", {}])
     page.type("add name", "shop")
     page.press("Enter")
     counts.check("twice", page.waits_for("#added", "already"), "There is a card of shop already.")
