@@ -85,6 +85,7 @@ fn purge_half<L: Ledger, S: Alter>(
     count: u32,
 ) -> Result<Purged, Failed> {
     put_each(rt.alloc(), desk, ENDPOINTS)?;
+    turn(rt, began, desk, vault, &mut Times::ZERO.submissions)?;
     deliver_all(rt, began, desk, vault, (0, count), Moment::of(EARLY)?)?;
     deliver_all(rt, began, desk, vault, (count, count), Moment::of(LATE)?)?;
     purge_before(rt, began, desk, vault)
