@@ -140,8 +140,8 @@ def request(method, path, body=b"", headers=()):
     return "\r\n".join(head).encode() + body
 
 
-def ask(address, method, path, body=b"", headers=()):
-    return Answer(exchange(address, request(method, path, body, headers)))
+def ask(address, method, path, body=b"", headers=(), seconds=40):
+    return Answer(exchange(address, request(method, path, body, headers), seconds=seconds))
 
 
 def put(address, name, port, most=100, secrets=(SECRET,), path="/hook"):
@@ -166,7 +166,8 @@ def subscribe(address, topic, name, flag=True):
 
 
 def purge(address, before):
-    return ask(address, "PUT", "/v1/retention", json.dumps({"before": before}).encode())
+    """Purges, which is one commit however much it removes."""
+    return ask(address, "PUT", "/v1/retention", json.dumps({"before": before}).encode(), seconds=600)
 
 
 class Post:
