@@ -17,6 +17,7 @@ import signal
 import socket
 import ssl
 import sqlite3
+import subprocess
 import tempfile
 import threading
 import time
@@ -112,6 +113,7 @@ def check_copies(counts, program, folder):
         counts.check("a copy isn't written over", ran(script, "--running", file, f"{folder}/copy0.db")[0], 3)
         load.end()
         counts.check("the relay goes on", submit(relay.address, "a", b"{}", "behind").status, 202)
+        check_ended_copies(counts, relay, file, f"{folder}/ended.db")
     print(f"{len(load.taken)} events were taken while five copies were made")
     for number, before in enumerate(known):
         with relay_of(program, f"{folder}/copy{number}.db") as relay:
@@ -119,6 +121,19 @@ def check_copies(counts, program, folder):
     counts.check("of a relay that is stopped", ran(script, file, f"{folder}/stopped.db"), (0, "", ""))
     counts.check("the copy is as the store", checked(program, f"{folder}/stopped.db"), checked(program, file))
     check_moved(counts, program, folder, "stopped.db", len(load.taken) + 1)
+
+
+def check_ended_copies(counts, relay, file, target):
+    """A copy that is ended by SIGTERM leaves a relay that goes on, and nothing of the copy."""
+    for number in range(20):
+        copy = subprocess.Popen([ROOT / "packaging" / "backup", "--running", file, target])
+        time.sleep(0.01 * number)
+        copy.terminate()
+        is_made = copy.wait() == 0
+        counts.check(f"copy {number} is whole or isn't there", [os.path.exists(target + end) for end in ("", "-wal")], [is_made] * 2)
+        counts.check(f"the relay goes on after copy {number}", ask(relay.address, "GET", "/v1/status").status, 200)
+        for end in ("", "-wal"):
+            pathlib.Path(target + end).unlink(missing_ok=True)
 
 
 def check_moved(counts, program, folder, name, events):
@@ -261,7 +276,7 @@ def check_several_relays(counts, program, folder):
     with contextlib.ExitStack() as stack:
         relays = [stack.enter_context(relay_of(program, f"{folder}/relay{it}.db")) for it in (1, 2, 3)]
         changes = {f"127.0.0.1:808{it}": "%s:%d" % relay.address for it, relay in enumerate(relays, 1)}
-        text = changed("nginx-two-relays.conf", {**changes, "listen 8090": f"listen 127.0.0.1:{port}"})
+        text = changed("nginx-two-relays.conf", {**changes, "listen 127.0.0.1:8090": f"listen 127.0.0.1:{port}"})
         reload = stack.enter_context(nginx_of(folder, "spread", text))
         front, names = ("127.0.0.1", port), [f"shop-{it}" for it in range(12)]
         counts.check("each endpoint is put", [put(front, it, subscriber.port).status for it in names], [201] * 12)
