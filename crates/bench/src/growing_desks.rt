@@ -9,11 +9,11 @@ use crate::growing_values::{body_of, reply_told};
 use crate::open_desk::OpenDesk;
 use crate::sharing::{Answering, Standing};
 use crate::turns::{MARK, created, written};
-use delivery::{Outgoing, Pass, Round, Shared, worker_round};
+use delivery::{Pass, Round, Shared, request_of, worker_round};
 use desk::{Command, Desk, Job};
-use drill::{AuditFault, audit};
 use intake_shed::{Ask, AskBody, Asked, answer, page_reply};
 use permits::PARTS;
+use recovery::{AuditFault, audit};
 use relay_types::{MaxLimit, Moment, MsgId, Name, Secret, Secrets, Target};
 use retry_table::PostResult;
 use run_log::{LogId, NewLog};
@@ -55,7 +55,7 @@ impl DeskCall {
             "answer GET status" => Some(DeskCall::AnswerStatus),
             "answer POST" => Some(DeskCall::AnswerPost),
             "answer publish" => Some(DeskCall::AnswerPublish),
-            "Outgoing::build" => Some(DeskCall::Build),
+            "request_of" => Some(DeskCall::Build),
             "worker_round" => Some(DeskCall::Round),
             _ => DeskCall::of_page(word),
         }
@@ -276,7 +276,7 @@ struct Building<'a, L: Ledger> {
 
 impl<L: Ledger> Attempt for Building<'_, L> {
     fn attempt(&mut self, rt: &HostRuntime) -> Told {
-        match Outgoing::build(rt.alloc(), self.job) {
+        match request_of(rt.alloc(), self.job) {
             Ok(outgoing) => Told::Done(u64::from(outgoing.port())),
             Err(_) => Told::NoMemory,
         }

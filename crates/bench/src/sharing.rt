@@ -5,7 +5,7 @@ ghost use Rattle.permits.specs.declared.pool.TheConstants.{PARTS};
 use crate::crowds::run_threads;
 use crate::failed::Failed;
 use crate::turns::{MARK, created};
-use delivery::{Keeper, Outgoing, Poster};
+use delivery::Keeper;
 use desk::Desk;
 use permits::PARTS;
 use relay_types::Moment;
@@ -18,6 +18,7 @@ use std::sync::Wait;
 use std::sync::ledger::{Blank, Ledger};
 use std::thread::Threads;
 use std::time::Clock;
+use webhook_request::{Outgoing, Poster};
 
 /// What threads do with a desk.
 #[derive(Clone, Copy)]

@@ -1,4 +1,3 @@
-pub mod Requests
 pub mod Logs
 pub mod Keepers
 pub mod Shares

@@ -6,7 +6,12 @@ use Rattle.delivery.specs.declared.worker.Claimed.{Claimed}
 use Rattle.delivery.specs.declared.worker.Claimed.TheVariants as claimed
 use Rattle.delivery.specs.declared.worker.Round.{Round}
 use Rattle.delivery.specs.declared.worker.Round.TheVariants.{Posted, Idle, Halted, Closing, NoMemory, WentBack}
-use Rattle.delivery.specs.Requests.{Request, request_of}
+use Rattle.webhook_request.specs.Requests.{Request}
+use Rattle.webhook_request.specs.Requests as webhook
+
+-- the request of a job's attempt
+abbrev pub request_of : JobValue → Request
+request_of job = webhook.request_of job.target job.secrets job.id job.at job.body
 
 -- A round that posted sent the request of a job, which it names, was answered what the poster may answer to it, and
 -- spent that job's permit by that very result.
@@ -32,4 +37,4 @@ HasNotPosted (WentBack told) = Unit {0}
 -- a claim without a job ends the round, in which nothing was posted
 abbrev pub EndsUnposted : {g : _} → Claimed g → Type 0
 EndsUnposted (claimed.Job job) = Unit {0}
-EndsUnposted (claimed.Nothing round) = HasNotPosted round
+EndsUnposted (claimed.RoundOver round) = HasNotPosted round

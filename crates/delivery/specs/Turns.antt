@@ -32,8 +32,8 @@ went_back seen found = round.WentBack (record { seen = seen; found = found })
 -- a job, or the end of the round
 abbrev pub claimed_by : {g : _} → Result (Option JobValue) Refusal → Claimed g
 claimed_by (Ok (Some job)) = claimed.Job job
-claimed_by (Ok None) = claimed.Nothing round.Idle
-claimed_by (Err why) = claimed.Nothing (round_of why.fault)
+claimed_by (Ok None) = claimed.RoundOver round.Idle
+claimed_by (Err why) = claimed.RoundOver (round_of why.fault)
 
 -- what a committer does whose seal is refused: nothing yet, while another one has a batch
 abbrev pub refused : Fault → Option Next

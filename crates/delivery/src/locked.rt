@@ -1,6 +1,7 @@
 //! What lies under the lock. Each call is one of the desk's, or leaves the desk as it was.
 ghost use Rattle.std.specs.Prelude.{◌≡◌, ◌≢◌, ◌≤◌, ◌<◌, ◌↔◌, ◌∷◌, ◌++◌, [], true, false, length, IsTrue};
-ghost use Rattle.std.specs.Prelude.{Any, Result, IfOk, IfErr, IsOk, OnErr, OnOk, Option, None, Some, IfSome};
+ghost use Rattle.std.specs.Prelude.{All, Contains, Result, IfOk, IfErr, IsOk, OnErr, OnOk, Option, None, Some};
+ghost use Rattle.std.specs.Prelude.{IfNone, IfSome};
 ghost use Rattle.relay_types.specs.Records.{records_of};
 ghost use Rattle.spool.specs.Batches.{BatchValue, doubt_of};
 ghost use Rattle.group_commit.specs.Turns as waiting;
@@ -217,9 +218,9 @@ impl<L: Ledger, I: LogId> Locked<L, I> {
     // The pass is compared first.
     pub(crate) fn claim(&mut self, now: Moment, pass: &mut Pass) -> Claimed<L>
         ensures back { self.old.desk.waiting.settled < pass.old
-            → (result ≡ Claimed.Nothing (went_back pass.old self.old.desk.waiting.settled)) × (self.new ≡ self.old) }
+            → (result ≡ Claimed.RoundOver (went_back pass.old self.old.desk.waiting.settled)) × (self.new ≡ self.old) }
         ensures closing { pass.old ≤ self.old.desk.waiting.settled → IsTrue self.old.closing
-            → (result ≡ Claimed.Nothing Round.Closing) × (self.new ≡ self.old) }
+            → (result ≡ Claimed.RoundOver Round.Closing) × (self.new ≡ self.old) }
         ensures moves { pass.old ≤ self.old.desk.waiting.settled → self.old.closing ≡ false
             → (reply : Result (Option JobValue) Refusal) × (result ≡ claimed_by reply)
             × IsMove self.old.desk (λ w. claim w now) reply self.new.desk }
@@ -228,10 +229,10 @@ impl<L: Ledger, I: LogId> Locked<L, I> {
         ensures flag { self.new.closing ≡ self.old.closing }
     {
         if let Err(back) = pass.look(&self.desk) {
-            return Claimed::Nothing(Round::WentBack(back));
+            return Claimed::RoundOver(Round::WentBack(back));
         }
         if self.is_closing {
-            return Claimed::Nothing(Round::Closing);
+            return Claimed::RoundOver(Round::Closing);
         }
         claimed_by(self.desk.claim(now))
     }
@@ -257,21 +258,15 @@ impl<L: Ledger, I: LogId> Locked<L, I> {
         }
     }
 
-    // Nothing is looked up for a number that is settled.
-    pub(crate) fn is_waiting(&self, ticket: &Ticket) -> bool
-        ensures told { IsTrue result ↔ (kept.told self.now.desk ticket.now ≡ Told.Waiting) }
-        ensures core { IsCore self.now.desk }
-    {
-        ticket.seq >= self.desk.settled_records() && self.desk.told(ticket) == Told::Waiting
-    }
-
-    // One of them waits.
-    pub(crate) fn is_any_waiting(&self, tickets: &[Ticket]) -> bool
-        ensures told { IsTrue result ↔ Any (λ t. kept.told self.now.desk t ≡ Told.Waiting) tickets.now }
+    // The first of them that waits. Nothing is looked up for a number that is settled.
+    pub(crate) fn first_waiting<'a>(&self, tickets: &'a [Ticket]) -> Option<&'a Ticket>
+        ensures none { IfNone result (All (λ t. kept.told self.now.desk t ≢ Told.Waiting) tickets.now) }
+        ensures waits { IfSome result (λ t. kept.told self.now.desk t.now ≡ Told.Waiting) }
+        ensures among { IfSome result (λ t. Contains tickets.now t.now) }
         ensures core { IsCore self.now.desk }
     {
         let settled = self.desk.settled_records();
-        tickets.iter().any(|ticket| ticket.seq >= settled
+        tickets.iter().find(|ticket| ticket.seq >= settled
             && self.desk.told(ticket) == Told::Waiting)
     }
 
@@ -401,8 +396,8 @@ fn claimed_by<L: Ledger>(claimed: Result<Option<Job<L>>, Refusal>) -> Claimed<L>
 {
     match claimed {
         Ok(Some(job)) => Claimed::Job(job),
-        Ok(None) => Claimed::Nothing(Round::Idle),
-        Err(refusal) => Claimed::Nothing(round_of(refusal.fault)),
+        Ok(None) => Claimed::RoundOver(Round::Idle),
+        Err(refusal) => Claimed::RoundOver(round_of(refusal.fault)),
     }
 }
 

@@ -1,6 +1,7 @@
 //! What threads share: the desk under one lock, and whom a change wakes.
 //!
-//! The committer waits on `staged` until a step waits, and everybody else on `changed` until something is settled, or nothing will be.
+//! The committer waits on `staged` until a step waits, an idle worker on `resting`, and who waits
+//! for a record on one of `settled`, by its number.
 ghost use Rattle.std.specs.Prelude.{◌≡◌, ◌≢◌, ◌≤◌, ◌<◌, All, IfErr, IfOk, IfSome, IsTrue, List, OnErr};
 ghost use Rattle.std.specs.Sync.Mutex.{mutex_guard_value};
 ghost use Rattle.relay_types.specs.declared.record.Record.{Record};
@@ -26,10 +27,11 @@ use permits::{Foreign, Permit};
 use relay_types::{Body, Moment, MsgId, Name};
 use retry_table::PostResult;
 use run_log::{Log, LogId, NewLog, Prefix};
-use spool::Batch;
+use spool::{Batch, MAX_BATCH_RECORDS};
 use std::sync::ledger::Ledger;
 use std::sync::{Condvar, Mutex, MutexGuard, Wait};
 use std::time::Duration;
+use std::{array, slice};
 
 /// How many seconds a worker that found nothing rests at most.
 pub const REST_SECONDS: u64 = 1;
@@ -39,7 +41,8 @@ pub const REST_SECONDS: u64 = 1;
 pub struct Shared<L: Ledger, I: LogId> {
     locked: Mutex<Locked<L, I>>,
     staged: Condvar,
-    changed: Condvar,
+    settled: [Condvar; MAX_BATCH_RECORDS],
+    resting: Condvar,
     log: Log<I>,
 }
 
@@ -53,7 +56,8 @@ impl<L: Ledger, I: LogId> Shared<L, I> {
         Shared {
             locked: Mutex::new(Locked::new(new_log, desk, prefix)),
             staged: Condvar::new(),
-            changed: Condvar::new(),
+            settled: array::from_fn(|_| Condvar::new()),
+            resting: Condvar::new(),
             log,
         }
     }
@@ -78,7 +82,7 @@ impl<L: Ledger, I: LogId> Shared<L, I> {
     pub fn finish<R: Wait>(&self, rt: &R) {
         self.locked.lock(rt).close();
         self.staged.notify_all();
-        self.changed.notify_all();
+        self.resting.notify_all();
     }
 
     /// Takes an event, and wakes the committer.
@@ -130,9 +134,7 @@ impl<L: Ledger, I: LogId> Shared<L, I> {
         ensures over { kept.told (mutex_guard_value result).desk ticket.now ≢ Waiting }
         ensures core { IsCore (mutex_guard_value result).desk }
     {
-        let locked = self.locked.lock(rt);
-        self.changed
-            .wait_while(rt, locked, |locked| locked.is_waiting(ticket))
+        self.wait_for_all(rt, slice::from_ref(ticket))
     }
 
     /// Waits until each of these submissions is settled, or won't be.
@@ -140,9 +142,14 @@ impl<L: Ledger, I: LogId> Shared<L, I> {
         ensures over { All (λ t. kept.told (mutex_guard_value result).desk t ≢ Waiting) tickets.now }
         ensures core { IsCore (mutex_guard_value result).desk }
     {
-        let locked = self.locked.lock(rt);
-        self.changed
-            .wait_while(rt, locked, |locked| locked.is_any_waiting(tickets))
+        let mut locked = self.locked.lock(rt);
+        for _ in rt.forever() {
+            let Some(ticket) = locked.first_waiting(tickets) else {
+                return locked;
+            };
+            locked = self.slot(ticket.seq).wait(rt, locked);
+        }
+        unreachable!()
     }
 
     /// Waits until the command is settled, or won't be.
@@ -154,9 +161,19 @@ impl<L: Ledger, I: LogId> Shared<L, I> {
         ensures over { kept.told_command (mutex_guard_value result).desk ticket.now ≢ Waiting }
         ensures core { IsCore (mutex_guard_value result).desk }
     {
-        let locked = self.locked.lock(rt);
-        self.changed
-            .wait_while(rt, locked, |locked| locked.is_command_waiting(ticket))
+        let mut locked = self.locked.lock(rt);
+        for _ in rt.forever() {
+            if !locked.is_command_waiting(ticket) {
+                return locked;
+            }
+            locked = self.slot(ticket.seq).wait(rt, locked);
+        }
+        unreachable!()
+    }
+
+    // Where to wait for the record. No two of a batch have the same.
+    fn slot(&self, seq: u64) -> &Condvar {
+        &self.settled[(seq % MAX_BATCH_RECORDS as u64) as usize]
     }
 
     /// The desk, to be looked at, unless it has fewer settled records than the pass has seen. The pass sees them.
@@ -176,22 +193,31 @@ impl<L: Ledger, I: LogId> Shared<L, I> {
         Ok(locked)
     }
 
-    /// Rests until more is settled than the pass has seen, or a second has passed.
+    /// Rests until more is settled than the pass has seen, the desk is halted, or the end was asked
+    /// for, but a second at most. The caller claims next: a batch wakes one of those that rest.
     pub fn rest<R: Wait + std::time::Clock>(&self, rt: &R, pass: &Pass) {
         let seen = pass.seen();
         let most = Duration::from_secs(REST_SECONDS);
         let (_locked, _) = self
-            .changed
+            .resting
             .wait_timeout_while(rt, self.locked.lock(rt), most, |locked| {
                 locked.may_rest(seen)
             });
     }
 
+    // Who gets a job wakes the next worker, if another event is pending.
     pub(crate) fn claim<R: Wait>(&self, rt: &R, now: Moment, pass: &mut Pass) -> Claimed<L>
         ensures nothing { EndsUnposted result }
         ensures pass { pass.old ≤ pass.new }
     {
-        self.locked.lock(rt).claim(now, pass)
+        let mut locked = self.locked.lock(rt);
+        let claimed = locked.claim(now, pass);
+        let pending = locked.desk().totals().pending;
+        drop(locked);
+        if pending > 1 && matches!(&claimed, Claimed::Job(_)) {
+            self.resting.notify_one();
+        }
+        claimed
     }
 
     // Hands the permit in until it is taken, and wakes the committer where an outcome waits.
@@ -242,20 +268,31 @@ impl<L: Ledger, I: LogId> Shared<L, I> {
         locked.next_batch()
     }
 
-    // Hands the receipt in until it is taken, and wakes all that wait for what is settled.
+    // Hands the receipt in until it is taken, and wakes who waits for its records. If an event is
+    // pending, it wakes a worker, too.
     pub(crate) fn settle<R: Wait>(&self, rt: &R, committed: Committed<I>) {
         let mut held = committed;
         for _ in rt.forever() {
-            let taken = self.locked.lock(rt).settle(&self.log, held);
-            match taken {
-                Ok(_) => {
-                    self.changed.notify_all();
-                    return;
-                }
+            let mut locked = self.locked.lock(rt);
+            let from = locked.desk().settled_records();
+            match locked.settle(&self.log, held) {
+                Ok(_) => return self.wake_from(locked, from),
                 Err((back, WrongTurn)) => held = back,
             }
         }
         unreachable!()
+    }
+
+    // Frees the lock first, so that nobody who is woken runs into it.
+    fn wake_from(&self, locked: MutexGuard<'_, Locked<L, I>>, from: u64) {
+        let totals = locked.desk().totals();
+        drop(locked);
+        for seq in from..totals.records {
+            self.slot(seq).notify_all();
+        }
+        if totals.pending > 0 {
+            self.resting.notify_one();
+        }
     }
 
     // Hands the batch in until it is taken.
@@ -280,13 +317,20 @@ impl<L: Ledger, I: LogId> Shared<L, I> {
             let taken = self.locked.lock(rt).halt(held, cause);
             match taken {
                 Ok(ended) => {
-                    self.staged.notify_all();
-                    self.changed.notify_all();
+                    self.wake_all();
                     return ended;
                 }
                 Err((back, WrongTurn)) => held = back,
             }
         }
         unreachable!()
+    }
+
+    fn wake_all(&self) {
+        self.staged.notify_all();
+        self.resting.notify_all();
+        for slot in &self.settled {
+            slot.notify_all();
+        }
     }
 }

@@ -1,18 +1,18 @@
 //! One round of a worker: it claims an attempt, posts it with the lock free, and spends its permit.
-ghost use Rattle.std.specs.Prelude.{◌≡◌, ◌≤◌};
-ghost use Rattle.delivery.specs.Rounds.{IsPostedBy};
+ghost use Rattle.std.specs.Prelude.{◌≡◌, ◌≤◌, IfOk};
+ghost use Rattle.delivery.specs.Rounds.{IsPostedBy, request_of};
 
-use crate::outgoing::Outgoing;
 use crate::pass::{Pass, WentBack};
-use crate::roles::{Clock, Poster};
+use crate::roles::Clock;
 use crate::shared::Shared;
 use desk::{Job, Spent};
 use relay_types::Name;
 use retry_table::PostResult;
 use run_log::LogId;
-use std::alloc::Global;
+use std::alloc::{AllocError, Global};
 use std::sync::Wait;
 use std::sync::ledger::Ledger;
+use webhook_request::{Outgoing, Poster};
 
 /// How a round ended.
 #[derive(Drop)]
@@ -40,7 +40,7 @@ pub enum Round {
 // What a claim under the lock gave: a job, or how the round ends without one.
 pub(crate) enum Claimed<L: Ledger> {
     Job(Job<L>),
-    Nothing(Round),
+    RoundOver(Round),
 }
 
 /// Claims the attempt that is due first, posts it with the lock free, and spends its permit by the result. A job whose request lacks memory
@@ -58,9 +58,9 @@ pub fn worker_round<L: Ledger, I: LogId, P: Poster, C: Clock, R: Wait>(
 {
     let job = match shared.claim(rt, clock.now(), pass) {
         Claimed::Job(job) => job,
-        Claimed::Nothing(round) => return round,
+        Claimed::RoundOver(round) => return round,
     };
-    let Ok(request) = Outgoing::build(alloc, &job) else {
+    let Ok(request) = request_of(alloc, &job) else {
         let _spent = shared.spend(rt, job.into_permit(), &PostResult::Unsent, clock.now());
         return Round::NoMemory;
     };
@@ -74,4 +74,18 @@ pub fn worker_round<L: Ledger, I: LogId, P: Poster, C: Clock, R: Wait>(
         result,
         spent,
     }
+}
+
+/// The request of the job's attempt. It shares the event's bytes with the job, and fails only for want of memory.
+pub fn request_of<L: Ledger>(alloc: Global, job: &Job<L>) -> Result<Outgoing, AllocError>
+    ensures { IfOk result (λ outgoing. outgoing ≡ request_of job.now) }
+{
+    Outgoing::build(
+        alloc,
+        job.target(),
+        &job.secrets(),
+        job.id(),
+        job.moment(),
+        job.body(),
+    )
 }

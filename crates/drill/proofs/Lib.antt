@@ -17,4 +17,3 @@ mod WithinLaws
 mod RefusalLaws
 mod LaterLaws
 mod PlaceLaws
-mod AuditLaws

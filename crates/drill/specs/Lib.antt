@@ -13,4 +13,3 @@ pub mod Places
 pub mod Within
 pub mod Refusals
 pub mod Later
-pub mod Audits

@@ -3,8 +3,6 @@
 #![tactic(auto)]
 
 mod attempts;
-mod audited;
-mod audits;
 mod calls;
 mod commit;
 mod events;
@@ -23,8 +21,6 @@ mod tickets;
 mod turns;
 mod unrecorded;
 
-pub use crate::audited::{Audited, audit_shown};
-pub use crate::audits::{AuditFault, audit};
 pub use crate::events::{Event, Look, Reply};
 pub use crate::law::{
     calls_change_places_with_commits, calls_keep_what_was_shown, refusals_of_moves,

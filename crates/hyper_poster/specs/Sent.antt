@@ -6,8 +6,8 @@ use Rattle.http_uri.specs.Uri.{HasParts}
 use Rattle.http.specs.Request.{head_of, body_of}
 use Rattle.http.specs.declared.request.Request.{Request}
 use Rattle.http_body_util.specs.declared.full.Full.{Full}
-use Rattle.delivery.specs.Requests.{HeaderField, name_text}
-use Rattle.delivery.specs.Requests as relay
+use Rattle.webhook_request.specs.Requests.{HeaderField, name_text}
+use Rattle.webhook_request.specs.Requests as relay
 
 -- a header as `http` has it
 abbrev pub field : HeaderField → List ℕ × FieldValue

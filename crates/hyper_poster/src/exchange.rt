@@ -6,7 +6,6 @@ use crate::failure::Failure;
 use crate::look_up::Resolver;
 use crate::request::http_request;
 use bytes::Bytes;
-use delivery::Outgoing;
 use futures::future::{Either, select};
 use http::{Request, Response, StatusCode};
 use http_body_util::Full;
@@ -21,6 +20,7 @@ use std::sync::Wait;
 use std::time::{Clock, Duration, Instant};
 use tokio::net::TcpStream;
 use tokio::runtime::LocalRuntime;
+use webhook_request::Outgoing;
 
 // Looks the subscriber up, sends the request and waits for the head of its answer, all within the
 // timeout: its status, and the time from before the connection until it was read.

@@ -6,7 +6,6 @@ ghost use Rattle.hyper_poster.specs.Answers.{MayAnswerWithin, answer_of};
 use crate::exchange::exchange;
 use crate::failure::Failure;
 use crate::look_up::Resolver;
-use delivery::{Outgoing, Poster};
 use http::StatusCode;
 use retry_table::{PostResult, Status};
 use std::alloc::{AllocError, AllocGlobal};
@@ -16,6 +15,7 @@ use std::random::RandomSource;
 use std::sync::Wait;
 use std::thread::Threads;
 use std::time::{Clock, Duration};
+use webhook_request::{Outgoing, Poster};
 
 /// Posts each request over a connection of its own. A head within the timeout is an answer, whatever follows it.
 #[derive(Drop)]

@@ -3,17 +3,17 @@ ghost use Rattle.std.specs.Prelude.{◌≡◌, None, IfOk, OnOk};
 ghost use Rattle.http_header.specs.FieldValue.{plain_value};
 ghost use Rattle.http_header.specs.HeaderMap.{append};
 ghost use Rattle.http_uri.specs.Uri.{HasParts};
-ghost use Rattle.delivery.specs.Requests.{name_text};
+ghost use Rattle.webhook_request.specs.Requests.{name_text};
 ghost use Rattle.hyper_poster.specs.Sent.{Says, fields};
 
 use crate::failure::Failure;
 use bytes::Bytes;
-use delivery::{Header, Outgoing};
 use http::header::{HeaderMap, HeaderName, HeaderValue};
 use http::uri::{PathAndQuery, Uri};
 use http::{Method, Request, request};
 use http_body_util::Full;
 use std::alloc::Global;
+use webhook_request::{Header, Outgoing};
 
 // The request: its method, what it asks for, its headers in their order and no other, and the event's bytes.
 pub(crate) fn http_request(

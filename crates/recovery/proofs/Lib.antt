@@ -1,3 +1,4 @@
+mod AuditLaws
 pub mod FileLaws
 mod PathLaws
 mod ReadingLaws

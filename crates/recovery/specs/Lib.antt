@@ -1,3 +1,4 @@
+pub mod Audits
 pub mod Files
 pub mod Left
 pub mod Openings

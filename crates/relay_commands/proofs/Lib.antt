@@ -1,4 +1,3 @@
-mod AskedLaws
 mod SampleWords
 mod SignLaws
 pub mod TraceLaws

@@ -4,7 +4,7 @@ use Rattle.std.specs.Io.KnownBytes.{Keeps}
 use Rattle.text_lines.specs.declared.fault.StreamFault.{StreamFault}
 use Rattle.text_lines.specs.declared.fault.StreamFault.TheVariants.{TooLong, Read, Write, OutOfMemory}
 use Rattle.relay_commands.specs.declared.sign_command.SignWords.{SignWords}
-use Rattle.relay_commands.specs.declared.ends.CommandFault.TheVariants.{Ended}
+use Rattle.command_interface.specs.declared.exit_status.CommandFault.TheVariants.{Ended}
 use Rattle.relay_commands.specs.Signs.{AreAsked, SignsFront, IsNoBody, SignsSo}
 
 -- a fault after the arguments were read

@@ -31,9 +31,9 @@ use Rattle.recovery.specs.Reopenings.{IsUnopened, opening_of, steps_from}
 use Rattle.text_lines.specs.declared.fault.StreamFault.TheVariants.{Write, OutOfMemory}
 use Rattle.text_lines.specs.Parts.{line}
 use Rattle.text_lines.specs.Streams.{AppendsFront, with_feed}
-use Rattle.relay_commands.specs.declared.ends.CommandFault.{CommandFault}
-use Rattle.relay_commands.specs.declared.ends.CommandFault.TheVariants.{Ended}
-use Rattle.relay_commands.specs.Reports.{Reports, open_fault}
+use Rattle.command_interface.specs.declared.exit_status.CommandFault.{CommandFault}
+use Rattle.command_interface.specs.declared.exit_status.CommandFault.TheVariants.{Ended}
+use Rattle.command_interface.specs.Reports.{Reports, open_fault}
 
 -- the totals as they are printed, and a line feed
 abbrev pub counts_text : Totals → List ℕ

@@ -1,5 +1,4 @@
-pub mod Asked
-pub mod Reports
+pub mod CommandLine
 pub mod Replays
 pub mod Signs
 pub mod Traces

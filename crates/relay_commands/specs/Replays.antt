@@ -1,9 +1,9 @@
 -- What `relayd replay` writes, by how it ends.
 use Rattle.std.specs.Prelude.{ℕ, List, Option, Result, Ok, Err}
 use Rattle.drill.specs.Replays.{Replays}
-use Rattle.relay_commands.specs.declared.ends.CommandFault.{CommandFault}
-use Rattle.relay_commands.specs.declared.ends.CommandFault.TheVariants.{Argument, Ended, File, Store}
-use Rattle.relay_commands.specs.Reports.{Reports}
+use Rattle.command_interface.specs.declared.exit_status.CommandFault.{CommandFault}
+use Rattle.command_interface.specs.declared.exit_status.CommandFault.TheVariants.{Argument, Ended, File, Store}
+use Rattle.command_interface.specs.Reports.{Reports}
 
 -- what is written at an end; there are no arguments and no file
 abbrev pub ReplaysSo : Option (List ℕ) → Option (List ℕ) → Option (List ℕ) → Result (Unit {0}) CommandFault → Type 0

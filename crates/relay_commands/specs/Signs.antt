@@ -9,10 +9,10 @@ use Rattle.relay_types.specs.declared.fault.ReadFault.TheVariants.{BadId, BadMom
 use Rattle.text_lines.specs.declared.fault.StreamFault.TheVariants.{BadLine, TooLong, Read, Write, Lost, OutOfMemory}
 use Rattle.text_lines.specs.Words.{AreSecretTexts}
 use Rattle.text_lines.specs.Streams.{AppendsFront, with_feed}
-use Rattle.relay_commands.specs.declared.ends.CommandFault.{CommandFault}
-use Rattle.relay_commands.specs.declared.ends.CommandFault.TheVariants.{Argument, Ended, File, Store}
+use Rattle.command_interface.specs.declared.exit_status.CommandFault.{CommandFault}
+use Rattle.command_interface.specs.declared.exit_status.CommandFault.TheVariants.{Argument, Ended, File, Store}
 use Rattle.relay_commands.specs.declared.sign_command.SignWords.{SignWords}
-use Rattle.relay_commands.specs.Reports.{Reports}
+use Rattle.command_interface.specs.Reports.{Reports}
 
 -- the text of a moment, in whole seconds
 abbrev pub IsMomentText : List ℕ → ℕ → Type 0

@@ -15,12 +15,12 @@ use Rattle.text_lines.specs.declared.fault.StreamFault.{StreamFault}
 use Rattle.text_lines.specs.Ends.{Ends}
 use Rattle.text_lines.specs.Parts.{line, HasParts}
 use Rattle.text_lines.specs.Streams.{with_feed}
-use Rattle.relay_commands.specs.declared.ends.CommandFault.{CommandFault}
-use Rattle.relay_commands.specs.declared.ends.CommandFault.TheVariants.{Argument, Ended, File, Store}
+use Rattle.command_interface.specs.declared.exit_status.CommandFault.{CommandFault}
+use Rattle.command_interface.specs.declared.exit_status.CommandFault.TheVariants.{Argument, Ended, File, Store}
 use Rattle.relay_commands.specs.declared.vegas_command.Follower.{Follower}
 use Rattle.relay_commands.specs.declared.vegas_command.LimitLine.{LimitLine}
 use Rattle.relay_commands.specs.declared.vegas_command.TheConstants.{MAX_IN_FLIGHT, MAX_ROUND_TRIP}
-use Rattle.relay_commands.specs.Reports.{Reports}
+use Rattle.command_interface.specs.Reports.{Reports}
 
 -- the words `RTT INFLIGHT ok` or `RTT INFLIGHT drop` of a sample
 abbrev pub end_word : Bool → List ℕ

@@ -7,7 +7,7 @@ ghost use Rattle.spool.specs.Migrating.{MayMigrate};
 ghost use Rattle.recovery.specs.Left.{IsCleanAt};
 ghost use Rattle.relay_commands.specs.Checks.{IsCounted, ChecksSo, ChecksTo, ChecksFileTo, counts_text};
 
-use crate::ends::{CommandFault, end};
+use command_interface::{CommandFault, end};
 use desk::Totals;
 use permits::PARTS;
 use recovery::{connect, is_new_file, open};

@@ -3,18 +3,12 @@
 
 mod check_command;
 mod command_line;
-mod ends;
 mod replay_command;
-mod serve_words;
 mod sign_command;
 mod vegas_command;
 
 pub use crate::check_command::check_file;
 pub use crate::command_line::{Outcome, VERSION, run};
-pub use crate::ends::{
-    CommandFault, DONE, FAILED, FileFault, StoreFault, UNFIT, USAGE, end, tell_fault,
-};
 pub use crate::replay_command::replay;
-pub use crate::serve_words::ServeWords;
 pub use crate::sign_command::sign;
 pub use crate::vegas_command::vegas;

@@ -2,7 +2,7 @@
 ghost use Rattle.std.specs.Prelude.{◌≤◌};
 ghost use Rattle.relay_commands.specs.Replays.{ReplaysSo, ReplaysTo};
 
-use crate::ends::{CommandFault, end};
+use command_interface::{CommandFault, end};
 use sqlite::Connection;
 use std::alloc::Global;
 use std::io::{Read, Write};

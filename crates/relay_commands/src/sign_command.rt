@@ -9,7 +9,7 @@ ghost use Rattle.relay_commands.specs.Signs.{AreAsked, IsMomentText, HasIdAndMom
 ghost use Rattle.relay_commands.specs.Signs.{IsNoBody, SignsSo, SignsTo};
 ghost use Rattle.text_lines.specs.Streams.{AppendsFront};
 
-use crate::ends::{CommandFault, end};
+use command_interface::{CommandFault, end};
 use hmac_signer::signature_header;
 use relay_types::{Body, MAX_BODY_BYTES, Moment, MsgId, ReadFault, Secrets};
 use std::alloc::{AllocError, Global};

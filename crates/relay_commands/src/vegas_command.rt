@@ -6,7 +6,7 @@ ghost use Rattle.vegas.specs.Estimators.{sample_of};
 ghost use Rattle.relay_commands.specs.Traces.{Traces, TracesSo, TracesTo, AnswersSample, ReadsSample, IsNoSample};
 ghost use Rattle.relay_commands.specs.Traces.{HasThreeWords, IsSample, answer_words, end_word, estimator_words};
 
-use crate::ends::{CommandFault, end};
+use command_interface::{CommandFault, end};
 use relay_types::MaxLimit;
 use std::alloc::Global;
 use std::fmt;

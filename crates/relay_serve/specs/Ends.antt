@@ -2,8 +2,8 @@
 use Rattle.std.specs.Prelude.{ℕ, List, Option, Result, Ok, Err, codes}
 use Rattle.std.specs.Io.KnownBytes.{Keeps}
 use Rattle.text_lines.specs.Streams.{AppendsFront}
-use Rattle.drill.specs.Audits.{fault_name}
-use Rattle.relay_commands.specs.Reports.{exit_status, fault_line, told_text}
+use Rattle.recovery.specs.Audits.{fault_name}
+use Rattle.command_interface.specs.Reports.{exit_status, fault_line, told_text}
 use Rattle.relay_serve.specs.declared.fault.ServeFault.{ServeFault}
 use Rattle.relay_serve.specs.declared.served.Served.{Served}
 use Rattle.relay_serve.specs.declared.fault.ServeFault.TheVariants.{BadAddress, File, CannotListen, NoThread, Halted, Audit, Write, OutOfMemory}

@@ -1,13 +1,13 @@
 //! Why a relay doesn't serve, or ended.
 ghost use Rattle.std.specs.Prelude.{◌≡◌, ◌≤◌, Some};
-ghost use Rattle.relay_commands.specs.Reports.{open_fault};
+ghost use Rattle.command_interface.specs.Reports.{open_fault};
 ghost use Rattle.relay_serve.specs.Ends.{serving_status, serving_text, TellsEnd};
 ghost use Rattle.relay_serve.specs.declared.fault.ServeFault.TheVariants.{File, OutOfMemory};
 
 use crate::served::Served;
+use command_interface::{CommandFault, DONE, FAILED, USAGE, end, tell_fault};
 use delivery::HaltCause;
-use drill::AuditFault;
-use relay_commands::{CommandFault, DONE, FAILED, USAGE, end, tell_fault};
+use recovery::AuditFault;
 use spool::OpenFault;
 use std::alloc::AllocError;
 use std::fmt;

@@ -3,7 +3,8 @@
 
 mod accept;
 mod fault;
-mod news;
+mod opening;
+mod operator_log;
 mod relay;
 mod served;
 mod serving;
@@ -12,6 +13,7 @@ mod threads;
 mod work;
 
 pub use crate::fault::{ServeFault, end_serving};
+pub use crate::operator_log::halt_text;
 pub use crate::served::Served;
 pub use crate::serving::{serve, serve_opened};
 pub use crate::settings::Settings;

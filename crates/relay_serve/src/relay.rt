@@ -44,7 +44,7 @@ impl<L: Ledger, I: LogId> Relay<L, I> {
     }
 
     // A thread couldn't be started: the relay ends.
-    pub(crate) fn lack_thread<R: Wait>(&self, rt: &R) {
+    pub(crate) fn fail_to_start<R: Wait>(&self, rt: &R) {
         self.lacks_thread.store(true, Ordering::SeqCst);
         self.shared.finish(rt);
     }

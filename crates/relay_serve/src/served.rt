@@ -3,7 +3,7 @@ ghost use Rattle.std.specs.Prelude.{◌≡◌};
 ghost use Rattle.delivery.specs.declared.committer.CommitterEnd.TheVariants.{Finished};
 
 use delivery::Ended;
-use drill::Audited;
+use recovery::Audited;
 
 /// Shows that a relay ended as it was asked to: nothing waited, and an audit found its rows and its desk to agree.
 #[derive(Drop)]

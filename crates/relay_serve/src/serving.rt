@@ -13,22 +13,22 @@ ghost use Rattle.intake_shed.specs.Acks.{HasEvent};
 ghost use Rattle.relay_serve.specs.Serving.{AddsEvent, KeepsAcknowledged, KeepsHistory, committer_end};
 
 use crate::fault::ServeFault;
-use crate::news::{News, tell};
+use crate::opening::open_told;
+use crate::operator_log::{LogLine, tell};
 use crate::relay::Relay;
 use crate::served::Served;
 use crate::settings::Settings;
 use crate::threads::run_threads;
+use command_interface::ServeWords;
 use delivery::{CommitterEnd, Ended, Keeper, LoggedKeeper, begin_run};
 use desk::Desk;
-use drill::audit_shown;
 use intake_shed::{Acknowledged, LatestAck};
 use permits::PARTS;
-use recovery::open_path;
-use relay_commands::ServeWords;
+use recovery::audit_shown;
 use relay_host::{FilePlace, Place, Placed, Sight};
 use run_log::{LogId, NewLog};
 use spool::Vault;
-use sqlite::{Alter, Unknown};
+use sqlite::Alter;
 use std::alloc::{AllocError, AllocGlobal, Global};
 use std::io::{Eprint, Print};
 use std::marker::Brand;
@@ -38,8 +38,6 @@ use std::sync::Wait;
 use std::sync::ledger::{Blank, Ledger};
 use std::thread::Threads;
 use std::time::Clock;
-
-const MARK: u64 = 0;
 
 /// Opens the file, and serves at the address until so many requests are answered as the settings
 /// say, or the committer gives up.
@@ -98,7 +96,7 @@ where
     requires enough { blank.parts ≡ PARTS }
 {
     let mut place = FilePlace::new(host, rt.alloc(), asked.file)?;
-    let (desk, vault) = open_path::<L, Unknown>(host, blank, asked.file, Unknown, MARK)?;
+    let (desk, vault) = open_told::<L, R>(host, rt, blank, asked.file)?;
     place.remember();
     let totals = desk.totals();
     if println!(rt; "listening on {bound}").is_err() {
@@ -107,7 +105,7 @@ where
     tell(
         rt,
         rt.alloc(),
-        &News::Started {
+        &LogLine::Started {
             file: asked.file,
             address: bound,
             totals,
@@ -118,7 +116,7 @@ where
         rt, listener, bound, desk, vault, place, settings,
     );
     if let Some(event) = acknowledged {
-        tell(rt, rt.alloc(), &News::Acknowledged(event.seq()));
+        tell(rt, rt.alloc(), &LogLine::Acknowledged(event.seq()));
     }
     ended
 }
@@ -225,7 +223,7 @@ where
     let keeper = logged.into_keeper();
     let sight = keeper.sight();
     let mut vault = keeper.into_keeper();
-    let ended = told_end(rt, &relay, end, sight, &mut vault);
+    let ended = report_end(rt, &relay, end, sight, &mut vault);
     (vault, ended, acknowledged)
 }
 
@@ -256,7 +254,7 @@ where
 }
 
 // Tells how the committer ended. Where the end was asked for, the rows have to tell what the desk tells.
-fn told_end<L, I, S, R>(
+fn report_end<L, I, S, R>(
     rt: &R,
     relay: &Relay<L, I>,
     end: Ended,
@@ -275,16 +273,16 @@ where
 {
     match end.how() {
         CommitterEnd::Halted(cause) => {
-            tell(rt, rt.alloc(), &News::Halted { cause, sight });
+            tell(rt, rt.alloc(), &LogLine::Halted { cause, sight });
             Err(ServeFault::Halted(cause))
         }
         CommitterEnd::Finished if relay.lacks_thread() => Err(ServeFault::NoThread),
-        CommitterEnd::Finished => look_back(rt, relay, end, vault),
+        CommitterEnd::Finished => audit_at_end(rt, relay, end, vault),
     }
 }
 
 // Whether the rows tell what the desk tells, once all other threads have ended.
-fn look_back<L: Ledger, I: LogId, S: Alter, R: Wait + AllocGlobal>(
+fn audit_at_end<L: Ledger, I: LogId, S: Alter, R: Wait + AllocGlobal>(
     rt: &R,
     relay: &Relay<L, I>,
     end: Ended,

@@ -1,7 +1,7 @@
 //! How a relay serves.
 ghost use Rattle.std.specs.Prelude.{◌≡◌};
 
-use relay_commands::ServeWords;
+use command_interface::ServeWords;
 
 /// How a relay serves.
 #[derive(Clone, Copy, PartialEq, Eq, Debug)]

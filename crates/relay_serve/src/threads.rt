@@ -104,7 +104,7 @@ where
         {
             for latest in &relay.latest {
                 relay.start();
-                let started = scope.spawn(move || take_in(
+                let started = scope.spawn(move || intake_thread(
                     rt,
                     listener,
                     relay,
@@ -113,13 +113,13 @@ where
                 ));
                 if started.is_err() {
                     relay.stop();
-                    relay.lack_thread(rt);
+                    relay.fail_to_start(rt);
                 }
             }
             for _ in 0..settings.workers {
                 let started = scope.spawn(move || work(rt, relay, settings.timeout));
                 if started.is_err() {
-                    relay.lack_thread(rt);
+                    relay.fail_to_start(rt);
                 }
             }
             let ended = committer_run(rt, &relay.shared, logged);
@@ -131,7 +131,7 @@ where
 }
 
 // A thread of the intake.
-fn take_in<L, I, R>(
+fn intake_thread<L, I, R>(
     rt: &R,
     listener: &TcpListener,
     relay: &Relay<L, I>,
@@ -144,7 +144,7 @@ where
     R: Wait + Clock + Net + RandomSource + AllocGlobal + Copy,
 {
     if take_requests(rt, listener, relay, latest, requests).is_err() {
-        relay.lack_thread(rt);
+        relay.fail_to_start(rt);
     }
     relay.stop();
 }

@@ -1,5 +1,5 @@
 //! The loop of a worker.
-use crate::news::{News, tell};
+use crate::operator_log::{LogLine, tell};
 use crate::relay::Relay;
 use delivery::{Pass, Round, worker_round};
 use hyper_poster::HyperPoster;
@@ -33,7 +33,7 @@ where
         + 'static,
 {
     let Ok(poster) = HyperPoster::new(*rt, Duration::from_secs(timeout)) else {
-        relay.lack_thread(rt);
+        relay.fail_to_start(rt);
         return;
     };
     let clock = HostClock::new(rt);
@@ -69,10 +69,10 @@ fn tell_of<R: Clock + AllocGlobal + Eprint>(rt: &R, round: &Round) {
     };
     let endpoint = *endpoint;
     if is_gone(answer) {
-        tell(rt, rt.alloc(), &News::Disabled { endpoint, request });
+        tell(rt, rt.alloc(), &LogLine::Disabled { endpoint, request });
     }
     if spent.is_exhausted() {
-        tell(rt, rt.alloc(), &News::Exhausted { endpoint, request });
+        tell(rt, rt.alloc(), &LogLine::Exhausted { endpoint, request });
     }
 }
 

@@ -1,7 +1,8 @@
 //! The relay's program.
 #![tactic(auto)]
 
-use relay_commands::{CommandFault, Outcome, end, run};
+use command_interface::{CommandFault, end};
+use relay_commands::{Outcome, run};
 use relay_serve::{end_serving, serve};
 use std::alloc::{AllocError, Global};
 use std::io;

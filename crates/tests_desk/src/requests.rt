@@ -1,11 +1,12 @@
 //! Requests as lines.
 
 use crate::steps::Request;
-use delivery::{Header, Outgoing};
+use delivery::request_of;
 use desk::Job;
 use std::alloc::{AllocError, Global};
 use std::sync::ledger::Ledger;
 use std::test::Fail;
+use webhook_request::{Header, Outgoing};
 
 fn add_header(text: &mut Vec<u8>, header: &Header) -> Result<(), AllocError> {
     text.extend_from_slice(header.name().text().as_bytes())?;
@@ -30,7 +31,7 @@ fn lines_of(alloc: Global, outgoing: &Outgoing) -> Result<Vec<u8>, AllocError> {
 
 /// Whether this is the request of the job.
 pub(crate) fn asks<L: Ledger>(alloc: Global, job: &Job<L>, wanted: &Request) -> Result<bool, Fail> {
-    let outgoing = Outgoing::build(alloc, job)?;
+    let outgoing = request_of(alloc, job)?;
     let lines = lines_of(alloc, &outgoing)?;
     Ok(
         lines.as_slice() == wanted.lines

@@ -2,7 +2,8 @@
 
 use crate::program::{EXAMPLE, EXAMPLE_BODY, SCRIPT, SECRET};
 use crate::streams::{Calls, Streams, Writer, check, holds, tell_through};
-use relay_commands::{CommandFault, StoreFault, end, sign};
+use command_interface::{CommandFault, StoreFault, end};
+use relay_commands::sign;
 use std::alloc::{AllocError, Global};
 use std::process::Abort;
 use std::test::Fail;

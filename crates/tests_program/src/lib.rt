@@ -1,5 +1,5 @@
-//! The tests of the program's layers: `text_lines`, `desk`, `drill` and `relay_commands`. Nothing
-//! stands on this crate, and its tests call public items only.
+//! The tests of the program's layers: `text_lines`, `desk`, `drill`, `command_interface` and
+//! `relay_commands`. Nothing stands on this crate, and its tests call public items only.
 #![tactic(auto)]
 
 #[cfg(test)]

@@ -1,7 +1,8 @@
 // A reader and writers in memory that give or take little at a call, are interrupted or fail, and
 // what a command tells through them.
 
-use relay_commands::{Outcome, ServeWords, run};
+use command_interface::ServeWords;
+use relay_commands::{Outcome, run};
 use std::alloc::Global;
 use std::io::{self, ErrorKind, Read, Write};
 use std::process::Abort;

@@ -1,7 +1,7 @@
 //! The words of the command line: help, words that are refused, and a relay that is asked for.
 
 use crate::streams::{ask, holds, tell};
-use relay_commands::ServeWords;
+use command_interface::ServeWords;
 
 /// Words that ask for help, and how what is shown ends.
 #[derive(Clone, Copy)]

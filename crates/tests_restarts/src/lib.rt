@@ -1,7 +1,6 @@
-//! The tests of `drill::run`, of `drill::audit` and of `recovery`: runs over new stores and over
-//! stores that stop taking writes, what a run leaves, opened again, and what random histories
-//! leave, opened again and with one cell changed. Nothing stands on this crate, and its tests call
-//! public items only.
+//! The tests of `drill::run` and of `recovery`: runs over new stores and over stores that stop
+//! taking writes, what a run leaves, opened again, and what random histories leave, opened again
+//! and with one cell changed. Nothing stands on this crate, and its tests call public items only.
 #![tactic(auto)]
 
 #[cfg(test)]

@@ -5,7 +5,6 @@ ghost use Rattle.permits.specs.declared.pool.TheConstants.{PARTS};
 use crate::given::{Host, holds};
 use crate::outgoing::request_to;
 use crate::wires::take_post;
-use delivery::{Outgoing, Poster};
 use hyper_poster::HyperPoster;
 use permits::PARTS;
 use retry_table::PostResult;
@@ -23,6 +22,7 @@ use std::test::Fail;
 use std::thread;
 use std::thread::Threads;
 use std::time::{Clock, Duration};
+use webhook_request::{Outgoing, Poster};
 
 /// What comes of a look-up.
 #[derive(Clone, Copy)]

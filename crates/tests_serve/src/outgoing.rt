@@ -3,7 +3,7 @@ ghost use Rattle.std.specs.Prelude.{◌≡◌};
 ghost use Rattle.permits.specs.declared.pool.TheConstants.{PARTS};
 
 use crate::given::{MARK, begin, moment};
-use delivery::Outgoing;
+use delivery::request_of;
 use desk::{Desk, Job};
 use permits::{Foreign, PARTS, Permit};
 use recovery::create;
@@ -14,6 +14,7 @@ use std::alloc::Global;
 use std::process::Abort;
 use std::sync::ledger::{Blank, Ledger};
 use std::test::Fail;
+use webhook_request::Outgoing;
 
 fn give_back<L: Ledger, R: Abort>(rt: &R, desk: &mut Desk<L>, permit: Permit<L>, now: Moment) {
     match desk.spend(permit, PostResult::Unsent, now) {
@@ -32,7 +33,7 @@ fn claimed<L: Ledger, R: Abort>(
     let Ok(Some(job)) = desk.claim(now) else {
         return Err(Fail::from("nothing is due"));
     };
-    let built = Outgoing::build(alloc, &job);
+    let built = request_of(alloc, &job);
     give_back(rt, desk, job.into_permit(), now);
     Ok(built?)
 }

@@ -1,7 +1,9 @@
-//! Files that can't be looked at, or are taken away.
+//! Files that can't be looked at, or are taken away, and why a relay halts.
 
 use crate::given::holds;
+use delivery::HaltCause;
 use relay_host::{FilePlace, Place, Sight, fresh_id};
+use relay_serve::halt_text;
 use std::alloc::{Allocator, Global};
 use std::fs::{self, File, Files, Metadata, OpenOptions};
 use std::io::{self, Empty, ErrorKind};
@@ -334,4 +336,57 @@ fn a_file_on_another_device_is_another(rt: HostRuntime) -> Result<(), Fail> {
         holds(&rt, found == case.finds, case.name);
     }
     Ok(())
+}
+
+/// Why a committer gave up, what the last look found, and what the operator reads.
+struct HaltCase {
+    cause: HaltCause,
+    sight: Sight,
+    told: &'static str,
+}
+
+static HALTS: [HaltCase; 7] = [
+    HaltCase {
+        cause: HaltCause::OutOfTurn,
+        sight: Sight::Stands,
+        told: "a batch was out of turn",
+    },
+    HaltCase {
+        cause: HaltCause::OutOfTurn,
+        sight: Sight::Gone,
+        told: "the file isn't the one that was opened",
+    },
+    HaltCase {
+        cause: HaltCause::OutOfTurn,
+        sight: Sight::Unseen,
+        told: "the file can't be looked at",
+    },
+    HaltCase {
+        cause: HaltCause::OutOfMemory,
+        sight: Sight::OutOfMemory,
+        told: "out of memory nine times in a row",
+    },
+    HaltCase {
+        cause: HaltCause::Closed,
+        sight: Sight::Gone,
+        told: "the result of an earlier commit is unknown",
+    },
+    HaltCase {
+        cause: HaltCause::Illegal,
+        sight: Sight::Stands,
+        told: "a record is invalid after those in the store",
+    },
+    HaltCase {
+        cause: HaltCause::Halted,
+        sight: Sight::Stands,
+        told: "the relay had halted before",
+    },
+];
+
+#[test]
+fn a_halt_is_told_by_its_cause(rt: HostRuntime) {
+    for case in &HALTS {
+        let told = halt_text(case.cause, case.sight);
+        holds(&rt, told == case.told, case.told);
+    }
 }

@@ -9,8 +9,8 @@ use crate::stand_ins::{Spot, Watched};
 use crate::steps::{Place, Step, have_staged};
 use delivery::{CommitterEnd, HaltCause, Keeper, LoggedKeeper, Pass, begin_run, committer_run};
 use desk::Desk;
-use drill::audit;
 use permits::PARTS;
+use recovery::audit;
 use relay_host::Placed;
 use run_log::{LogId, NewLog};
 use spool::Vault;
@@ -35,7 +35,7 @@ pub(crate) enum Committer {
     Late,
     /// It begins once there are so many records.
     After(u64),
-    /// Its first commit is held until another record is staged meanwhile.
+    /// Its first commit is held until an event is taken meanwhile, and a while longer.
     Held,
     /// The end is asked for before it begins, and so many commits are refused for want of memory.
     Lacking(u32),
@@ -43,6 +43,8 @@ pub(crate) enum Committer {
     LackingEach(u32),
     /// What its vault has open doesn't stand at its place any more.
     TakenAway,
+    /// It begins a while later, and its first commit is refused for want of memory.
+    RefusedOnce,
     /// It begins a while later, and each of its commits is refused for want of memory.
     Refused,
     /// It begins once the end was asked for, and each of its commits is refused for want of memory.
@@ -54,6 +56,7 @@ impl Committer {
     fn refusals(&self) -> u32 {
         match self {
             Committer::Lacking(refusals) | Committer::LackingEach(refusals) => *refusals,
+            Committer::RefusedOnce => 1,
             Committer::Refused | Committer::RefusedAtEnd => u32::MAX,
             _ => 0,
         }
@@ -149,7 +152,7 @@ fn run_committer<L: Ledger, I: LogId, K: Keeper + Drop, R: Wait + Clock>(
 ) -> (LoggedKeeper<I, K>, Ending) {
     match committer {
         Committer::Without => return (logged, Ending::Without),
-        Committer::Late | Committer::Refused => pause(place.rt),
+        Committer::Late | Committer::RefusedOnce | Committer::Refused => pause(place.rt),
         Committer::After(records) => {
             have_staged(place, *records);
         }

@@ -22,6 +22,8 @@ pub(crate) enum Before {
     Submit(&'static [u8]),
     /// Endpoint `a` is disabled.
     Disable,
+    /// Endpoint `a` is enabled.
+    Enable,
     /// The endpoint of this name is subscribed to topic `t`.
     Subscribe(&'static [u8]),
     /// An event is published to topic `t`, with this id.
@@ -30,6 +32,8 @@ pub(crate) enum Before {
     Deliver,
     /// A Purge before 1001 is taken.
     Purge,
+    /// So many events of endpoint `a` are taken, from `msg_1` on.
+    Stage(u32),
     /// So many events of endpoint `a` are taken and settled, from `msg_1` on.
     Fill(u32),
     /// What waits is settled.
@@ -75,12 +79,16 @@ fn put(rt: &impl Abort, alloc: Global, text: &[u8]) -> Command {
     }
 }
 
-/// The command that disables endpoint `a`.
-pub(crate) fn disable(rt: &impl Abort) -> Command {
+fn set_enabled(rt: &impl Abort, flag: bool) -> Command {
     Command::SetEnabled {
         name: name(rt, b"a"),
-        flag: false,
+        flag,
     }
+}
+
+/// The command that disables endpoint `a`.
+pub(crate) fn disable(rt: &impl Abort) -> Command {
+    set_enabled(rt, false)
 }
 
 fn subscribe(rt: &impl Abort, text: &[u8]) -> Command {
@@ -178,6 +186,12 @@ fn submit_numbered<L: Ledger>(rt: &impl Abort, alloc: Global, desk: &mut Desk<L>
     submit(rt, alloc, desk, text.as_bytes());
 }
 
+fn stage<L: Ledger>(rt: &impl Abort, alloc: Global, desk: &mut Desk<L>, count: u32) {
+    for number in 1..=count {
+        submit_numbered(rt, alloc, desk, number);
+    }
+}
+
 fn fill<L: Ledger, S: Alter>(
     rt: &impl Abort,
     alloc: Global,
@@ -205,10 +219,12 @@ fn is_done<L: Ledger, S: Alter>(
         Before::Put(text) => command(rt, desk, put(rt, alloc, text)),
         Before::Submit(text) => submit(rt, alloc, desk, text),
         Before::Disable => command(rt, desk, disable(rt)),
+        Before::Enable => command(rt, desk, set_enabled(rt, true)),
         Before::Subscribe(text) => command(rt, desk, subscribe(rt, text)),
         Before::Deliver => deliver(rt, desk),
         Before::Purge => command(rt, desk, purge(rt)),
         Before::Publish(text) => publish(rt, alloc, desk, text),
+        Before::Stage(count) => stage(rt, alloc, desk, *count),
         Before::Fill(count) => fill(rt, alloc, desk, vault, *count),
         Before::Turn => return turn(rt, desk, vault),
         Before::Halt => halt(rt, desk),

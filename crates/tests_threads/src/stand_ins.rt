@@ -1,8 +1,8 @@
 //! Keepers, subscribers and clocks that stand in.
 ghost use Rattle.std.specs.Prelude.{◌≡◌, ⊤};
 
-use crate::seen::{Seen, count, have_come};
-use delivery::{Clock, Keeper, Outgoing, Poster, Shared};
+use crate::seen::{Seen, count, have_come, pause};
+use delivery::{Clock, Keeper, Shared};
 use relay_host::{Place, Sight};
 use relay_types::Moment;
 use retry_table::{PostResult, Status};
@@ -11,10 +11,11 @@ use spool::{Batch, CommitEnd, Receipt, Unchanged};
 use std::sync::ledger::Ledger;
 use std::sync::{Arc, Wait};
 use std::time::Clock as SystemClock;
+use webhook_request::{Outgoing, Poster};
 
 /// Stands before another keeper: refuses so many commits for want of memory, then commits and
-/// counts. After a commit it may refuse as many again. It may hold its first commit until another
-/// record is staged meanwhile.
+/// counts. After a commit it may refuse as many again. It may hold its first commit until an event
+/// is taken meanwhile, and a while longer.
 #[derive(Drop)]
 pub(crate) struct Watched<K: Keeper + Drop, R> {
     pub(crate) keeper: K,
@@ -26,13 +27,15 @@ pub(crate) struct Watched<K: Keeper + Drop, R> {
 }
 
 impl<K: Keeper + Drop, R: SystemClock> Watched<K, R> {
-    // Counts a commit. If it is held, it waits until a thread has staged an event, and that is counted too.
+    // Counts a commit. If it is held, it waits until an event was taken, and that is counted too.
+    // Then it pauses, and who waits for it falls asleep.
     fn begin(&self) {
         if count(&self.seen.commits) == 0
             && self.holds_first
             && have_come(&self.rt, &self.seen.staged, 1)
         {
             count(&self.seen.meetings);
+            pause(&self.rt);
         }
     }
 }

@@ -24,6 +24,8 @@ pub(crate) enum Turn {
     /// It is posted, its spend is ignored, and nothing of the endpoint is under way then.
     Ignored,
     Idle,
+    /// It is as for `Posted`, or as for `Idle`.
+    PostedOrIdle,
     Closing,
 }
 
@@ -315,6 +317,9 @@ impl<L: Ledger, I: LogId, R: Wait + Clock + Abort> Place<'_, L, I, R> {
             Turn::Met => is_spent(&round, Spend::Success, 1),
             Turn::Ignored => is_spent(&round, Spend::Ignored, 0),
             Turn::Idle => matches!(round, Round::Idle),
+            Turn::PostedOrIdle => {
+                matches!(round, Round::Idle) || is_spent(&round, Spend::Success, 0)
+            }
             Turn::Closing => matches!(round, Round::Closing),
         }
     }

@@ -36,10 +36,26 @@ const TO_BOTH: &[Before] = &[
     Before::Publish(b"msg_1"),
 ];
 
+/// A worker rests, and posts while another one does.
+const MEETING: &[Step] = &[
+    Step::Look,
+    Step::Rest,
+    Step::Round(1000, Way::Meet, Turn::Met),
+    Step::End,
+];
+
+/// A worker rests, and posts unless another one did.
+const ALONE: &[Step] = &[
+    Step::Look,
+    Step::Rest,
+    Step::Round(1000, Way::Answer(200), Turn::PostedOrIdle),
+    Step::End,
+];
+
 /// An event waits to be settled.
 const WAITING: &[Before] = &[Before::Put(b"a"), Before::Turn, Before::Submit(b"msg_1")];
 
-static CASES: [Case; 18] = [
+static CASES: [Case; 21] = [
     // an event wakes the committer
     Case(
         Course {
@@ -158,7 +174,7 @@ static CASES: [Case; 18] = [
         End(Ending::Finished, 2, 2, false),
         0,
     ),
-    // a batch that is settled wakes who waits for an event, and who waits for a command
+    // a batch that is settled wakes all who wait for an event, and who waits for a command
     Case(
         Course {
             before: &[
@@ -170,8 +186,9 @@ static CASES: [Case; 18] = [
             committer: Committer::Late,
             threads: &[
                 &[Step::Told(1, b"msg_1"), Step::End],
+                &[Step::Told(1, b"msg_1"), Step::End],
                 &[Step::ToldCommand(2), Step::End],
-                &[Step::Ended(2), Step::Finish, Step::Ended(3)],
+                &[Step::Ended(3), Step::Finish, Step::Ended(4)],
             ],
         },
         End(Ending::Finished, 3, 3, false),
@@ -197,6 +214,47 @@ static CASES: [Case; 18] = [
             ],
         },
         End(Ending::Finished, 5, 5, false),
+        0,
+    ),
+    // a batch that is out already wakes who waits for its event
+    Case(
+        Course {
+            before: &[Before::Put(b"a"), Before::Submit(b"msg_1")],
+            committer: Committer::Held,
+            threads: &[
+                &[Step::Begun(1), Step::Told(1, b"msg_1"), Step::Finish],
+                &[Step::Begun(1), Step::Pause, Step::Submit(b"msg_1", 1)],
+            ],
+        },
+        End(Ending::Finished, 2, 2, false),
+        0,
+    ),
+    // one event is in the first batch, and another one in the second
+    Case(
+        Course {
+            before: &[Before::Put(b"a"), Before::Turn, Before::Stage(300)],
+            committer: Committer::Late,
+            threads: &[
+                &[
+                    Step::Told(1, b"msg_1"),
+                    Step::Told(300, b"msg_300"),
+                    Step::End,
+                ],
+                &[Step::Told(300, b"msg_300"), Step::End],
+                &[Step::Ended(2), Step::Finish],
+            ],
+        },
+        End(Ending::Finished, 301, 301, false),
+        0,
+    ),
+    // a batch comes back unsettled, and the event is in the next one
+    Case(
+        Course {
+            before: WAITING,
+            committer: Committer::RefusedOnce,
+            threads: &[&[Step::Told(1, b"msg_1"), Step::Finish]],
+        },
+        End(Ending::Finished, 2, 2, false),
         0,
     ),
     // a desk that is halted wakes who waits for a purge, and what it took is there
@@ -376,7 +434,7 @@ fn a_change_wakes_those_who_wait_for_it(rt: HostRuntime) {
 /// So often is a rest tried, since a thread may be held up.
 const TRIES: u32 = 8;
 
-static RESTS: [Case; 4] = [
+static RESTS: [Case; 7] = [
     // a batch is settled
     Case(
         Course {
@@ -390,19 +448,61 @@ static RESTS: [Case; 4] = [
         End(Ending::Finished, 2, 2, false),
         1,
     ),
-    // it ends all rests
+    // it wakes one worker, who wakes another as it begins a post
+    Case(
+        Course {
+            before: &[
+                Before::Put(b"a"),
+                Before::Turn,
+                Before::Submit(b"msg_1"),
+                Before::Submit(b"msg_2"),
+            ],
+            committer: Committer::Late,
+            threads: &[MEETING, MEETING, &[Step::Ended(2), Step::Finish]],
+        },
+        End(Ending::Finished, 5, 5, false),
+        2,
+    ),
+    // one event wakes one worker
     Case(
         Course {
             before: WAITING,
             committer: Committer::Late,
-            threads: &[
-                &[Step::Look, Step::Rest, Step::End],
-                &[Step::Look, Step::Rest, Step::End],
-                &[Step::Ended(2), Step::Finish],
+            threads: &[ALONE, ALONE, &[Step::Ended(2), Step::Finish]],
+        },
+        End(Ending::Finished, 3, 3, false),
+        1,
+    ),
+    // the endpoint is enabled
+    Case(
+        Course {
+            before: &[
+                Before::Put(b"a"),
+                Before::Submit(b"msg_1"),
+                Before::Disable,
+                Before::Turn,
+                Before::Enable,
             ],
+            committer: Committer::Late,
+            threads: &[&[
+                Step::Look,
+                Step::Rest,
+                Step::Round(1000, Way::Answer(200), Turn::Posted),
+                Step::Finish,
+            ]],
+        },
+        End(Ending::Finished, 5, 5, false),
+        1,
+    ),
+    // a batch that leaves no event pending wakes no worker
+    Case(
+        Course {
+            before: &[Before::Put(b"a"), Before::Turn, Before::Disable],
+            committer: Committer::Late,
+            threads: &[&[Step::Look, Step::Rest, Step::Finish]],
         },
         End(Ending::Finished, 2, 2, false),
-        2,
+        0,
     ),
     // the desk is halted
     Case(
@@ -432,7 +532,7 @@ static RESTS: [Case; 4] = [
     ),
 ];
 
-// Whether at some time all rests of the case are short.
+// Whether at some time as many rests of the case are short as are to be.
 fn is_woken<R: Threads + Wait + Clock + Abort + Copy + Sync>(
     rt: &R,
     alloc: Global,

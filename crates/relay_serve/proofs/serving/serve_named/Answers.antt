@@ -33,7 +33,7 @@ pub returns-clause-rows : goal.returns-clause-rows
 returns-clause-rows g c clean =
     let old = c.args.vault in
     let mid = c.into_keeper-vault.result in
-    let new = c.told_end-ended.new.vault in
+    let new = c.report_end-ended.new.vault in
     let run = c.run_threads-logged in
     let begun = c.begin_run-shared.result.1.keeper in
     let ended = run.result.0.keeper in
@@ -45,7 +45,7 @@ returns-clause-rows g c clean =
     let to = c.into_keeper-vault.ensures
     ∙ ap keeper_of (c.into_keeper-keeper-2.ensures ∙ c.last_acknowledged-acknowledged.ensures.keeper) in
     let left : Left old mid = subst (λ v. Left old v) (sym to) (subst (λ v. Left v (keeper_of ended)) from of_keeper) in
-    let told = c.told_end-ended.ensures in
+    let told = c.report_end-ended.ensures in
     subst (λ end. AddsBatches g.S.Store old new end) (sym told.end)
     (added_still g.S.Store old mid new run.result.1 (left (told.clean clean)) (told.read clean))
 
@@ -53,7 +53,7 @@ pub returns-clause-acknowledged : goal.returns-clause-acknowledged
 returns-clause-acknowledged g c clean base is =
     let old = c.args.vault in
     let mid = c.into_keeper-vault.result in
-    let new = c.told_end-ended.new.vault in
+    let new = c.report_end-ended.new.vault in
     let run = c.run_threads-logged in
     let last = c.last_acknowledged-acknowledged in
     let begun = c.begin_run-shared.result.1.keeper in
@@ -72,7 +72,7 @@ returns-clause-acknowledged g c clean base is =
     let from = ap keeper_of c.begin_run-shared.ensures.keeper ∙ c.new-keeper.ensures.keeper in
     let to = c.into_keeper-vault.ensures ∙ ap keeper_of (c.into_keeper-keeper-2.ensures ∙ last.ensures.keeper) in
     let left : Left old mid = subst (λ v. Left old v) (sym to) (subst (λ v. Left v (keeper_of ended)) from of_keeper) in
-    let told = c.told_end-ended.ensures in
+    let told = c.report_end-ended.ensures in
     subst (λ end. AddsEvent g.S.Store old new end last.result base) (sym told.end)
     (event_still g.S.Store old mid new end last.result base (left (told.clean clean)) (told.read clean))
 
@@ -82,4 +82,4 @@ returns-clause-clean g c clean =
     let from = ap keeper_of c.begin_run-shared.ensures.keeper ∙ c.new-keeper.ensures.keeper in
     let to = c.into_keeper-vault.ensures
     ∙ ap keeper_of (c.into_keeper-keeper-2.ensures ∙ c.last_acknowledged-acknowledged.ensures.keeper) in
-    subst Clean from (c.run_threads-logged.ensures.clean (subst Clean to (c.told_end-ended.ensures.clean clean)))
+    subst Clean from (c.run_threads-logged.ensures.clean (subst Clean to (c.report_end-ended.ensures.clean clean)))

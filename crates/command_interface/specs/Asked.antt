@@ -1,0 +1,29 @@
+-- What the words of `serve` ask for.
+use Rattle.std.specs.Prelude.{◌≡◌, ◌<◌, ◌^◌, ℕ, List, Some, codes}
+use Rattle.std.specs.Str.Parse.{IsNumeral, digits_value, without_leading_plus}
+use Rattle.clap.specs.Words.{Row, first_of, one_of}
+use Rattle.command_interface.specs.declared.serve_words.ServeWords.{ServeWords}
+
+-- the argument of this name is this number, in decimal digits after an optional plus sign
+abbrev pub HasNumber : List Row → List ℕ → ℕ → Type 0
+HasNumber rows name number =
+    (text : List ℕ) × (one_of name rows ≡ Some text) × IsNumeral 10 (without_leading_plus text)
+    × (number ≡ digits_value 10 (without_leading_plus text))
+
+-- the arguments, whose rows these are, ask for this
+abbrev pub AskFor : List Row → ServeWords → Type 0
+AskFor rows asked =
+    (first_of (codes "file") rows ≡ Some asked.file.now)
+    × (first_of (codes "address") rows ≡ Some asked.address.now)
+    × HasNumber rows (codes "workers") asked.workers
+    × HasNumber rows (codes "intake") asked.intake
+    × HasNumber rows (codes "timeout") asked.timeout
+    × HasNumber rows (codes "requests") asked.requests
+
+-- each number is one of 64 bits
+abbrev pub AreWithinBits : ServeWords → Type 0
+AreWithinBits asked = (asked.workers < 2 ^ 64) × (asked.intake < 2 ^ 64) × (asked.timeout < 2 ^ 64) × (asked.requests < 2 ^ 64)
+
+-- the arguments ask for nothing: one is missing, or is no such number
+abbrev pub AskForNothing : List Row → Type 0
+AskForNothing rows = (asked : ServeWords) → AreWithinBits asked → ¬ AskFor rows asked

@@ -1,8 +1,0 @@
-use Rattle.std.proofs.Common.{Err, ap}
-use Rattle.drill.proofs.AuditLaws.{refused_load}
-use Rattle.drill.proofs.audits.audit.Goals as goal
-
-pub returns-in-Err-clause-tells : goal.returns-in-Err-clause-tells
-returns-in-Err-clause-tells g c = rw c.refusal_of.ensures
-    (refused_load g.S.Store c.args.vault.now c.load.new.self c.args.desk.now c.in-Err.fault
-    (λ closed. c.in-Err.ensures.closed.0 (ap Err closed)) c.in-Err.ensures.sound)
