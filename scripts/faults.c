@@ -2,6 +2,7 @@
 // counted from 1; at 0 all of a kind are counted and none fails.
 //
 //   FAULT_FILE=N        The Nth call that reads, writes, cuts or syncs a file by place fails, and the later ones if FAULT_ALSO is set.
+//   FAULT_SLOW=N        Each call that reads a file by place takes N microseconds longer.
 //   FAULT_READ=N        The Nth read of standard input fails, and each later one. A read gives FAULT_PIECE bytes at most.
 //   FAULT_WRITE=N       The same of writes to standard output.
 //   FAULT_STOP=N        The machine stops at the Nth call that writes, cuts or syncs a file by place: of what the files were given since they were
@@ -13,7 +14,7 @@
 //   FAULT_HELD          Nothing fails: what is counted is how many bytes are allocated and not given back.
 //
 // FAULT_ASKED names a file that keeps how many calls were made, and then how many allocations in each step: those before the first read are step 0.
-// Without it nothing but reads and writes of the standard streams fails.
+// Without it nothing but reads and writes of the standard streams fails, and files may be slow.
 #define _GNU_SOURCE
 #include <dlfcn.h>
 #include <errno.h>
@@ -46,7 +47,7 @@ static unsigned long counted(void) {
 // Files that fail
 
 static int fails, also;
-static unsigned long fail;
+static unsigned long fail, slow;
 
 static int is_failed(void) {
     unsigned long this;
@@ -263,6 +264,7 @@ static unsigned long *mapped(const char *path) {
 }
 
 __attribute__((constructor)) static void start(void) {
+    has("FAULT_SLOW", &slow);
     has("FAULT_READ", &fail_stream[0]);
     has("FAULT_WRITE", &fail_stream[1]);
     has("FAULT_PIECE", &piece);
@@ -286,6 +288,8 @@ __attribute__((constructor)) static void start(void) {
 
 ssize_t pread(int file, void *bytes, size_t count, off_t at) {
     NEXT(pread);
+    if (slow != 0)
+        usleep(slow);
     return is_failed() ? -1 : next(file, bytes, count, at);
 }
 

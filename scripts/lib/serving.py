@@ -70,11 +70,13 @@ class Relay:
         self.process.stderr.close()
 
     def ended(self, seconds):
-        """The exit status, if it ends by itself within so many seconds."""
+        """The exit status, if it ends by itself within so many seconds. All that it told is there then."""
         try:
-            return self.process.wait(seconds)
+            self.process.wait(seconds)
         except subprocess.TimeoutExpired:
             return None
+        self.teller.join()
+        return self.process.returncode
 
 
 @contextlib.contextmanager

@@ -21,6 +21,7 @@ import threading
 import time
 
 from lib.command import Counts, program_of
+from lib.openings import check_slow_opening
 from lib.process import NOBODY, descriptors_of, seconds_of
 from lib.retention import check_exhausted_purged, check_large_purge, check_no_number_left, check_purges
 from lib.serving import SECRET, STARTED, Answer, Relay, Subscriber, ask, check_answer, connect, exchange, put, read_all, request, submit
@@ -587,7 +588,6 @@ def check_signatures(counts, relayd, folder):
     counts.check("it ends after its last request", relay.ended(60), 0)
     counts.check("each attempt was posted once", len(subscriber.posts), 1000)
     counts.check("each event has one attempt", attempts_in(f"{folder}/signed.db"), [(1, 200)] * 1000)
-    relay.teller.join(5)
     counts.check("it told that it started, and how far it acknowledged", [line.split(" ")[1] for line in relay.told], ["started:", "acknowledged:"])
     counts.check("up to the last event, at least the 1,001st record", int(relay.told[-1].split(" ")[-1]) >= 1000)
 
@@ -685,6 +685,7 @@ def check_exhausted(counts, relayd, folder):
     relay = Relay(relayd, file)
     counts.check("exhausted: its page", wait_until(lambda: page() == (10, 500, "exhausted"), 20))
     counts.check("exhausted: two posts", len(subscriber.posts), 2)
+    wait_until(lambda: len(relay.told) > 1)
     relay.kill()
     counts.check("exhausted: the operator's log", [line.split(" ", 1)[1] for line in relay.told[1:]], [EXHAUSTED])
     subscriber.close()
@@ -786,4 +787,5 @@ def main():
         check_closed_streams(counts, relayd, folder)
         check_no_listener(counts, relayd, folder)
         check_slow(counts, relayd, folder)
+        check_slow_opening(counts, relayd, folder)
     return counts.end()
