@@ -15,7 +15,7 @@ use crate::asking::{Call, Request, read_call};
 use crate::turns::{MARK, written};
 use desk::{Command, Desk};
 use group_commit::Held;
-use intake_shed::{Ask, AskBody, Asked, Reply, WaitFault, page_reply, read_ask, refusal_reply};
+use intake_shed::{Ask, AskBody, Asked, Reply, SubmitError, page_reply, read_ask, refusal_reply};
 use permits::PARTS;
 use relay_types::{Body, Moment, MsgId, Name};
 use script_lines::Seqs;
@@ -111,7 +111,7 @@ impl<L: Ledger> Relay<L> {
     fn change(&mut self, alloc: Global, command: Command) -> Result<String, AllocError> {
         match self.desk.command(command) {
             Ok(ticket) => format!(in alloc; "staged {}", ticket.seq),
-            Err(refusal) => reply_text(alloc, &refusal_reply(&WaitFault::Refused(refusal))),
+            Err(refusal) => reply_text(alloc, &refusal_reply(&SubmitError::Refused(refusal))),
         }
     }
 
@@ -125,7 +125,7 @@ impl<L: Ledger> Relay<L> {
     ) -> Result<String, AllocError> {
         match self.desk.submit(now, name, id, body) {
             Ok(ticket) => format!(in alloc; "staged {} {}", ticket.seq, word_of(&ticket.id)),
-            Err(refusal) => reply_text(alloc, &refusal_reply(&WaitFault::Refused(refusal))),
+            Err(refusal) => reply_text(alloc, &refusal_reply(&SubmitError::Refused(refusal))),
         }
     }
 
@@ -142,7 +142,7 @@ impl<L: Ledger> Relay<L> {
                 let seqs = tickets.iter().map(|ticket| ticket.seq).collect(alloc)?;
                 format!(in alloc; "staged {} {}", Seqs::of(seqs), word_of(&id))
             }
-            Err(refusal) => reply_text(alloc, &refusal_reply(&WaitFault::Refused(refusal))),
+            Err(refusal) => reply_text(alloc, &refusal_reply(&SubmitError::Refused(refusal))),
         }
     }
 

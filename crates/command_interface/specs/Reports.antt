@@ -8,8 +8,8 @@ use Rattle.relay_types.specs.Faults.{fault_name}
 use Rattle.relay_types.specs.declared.fault.ReadFault.{ReadFault}
 use Rattle.relay_types.specs.declared.fault.ReadFault.TheVariants as reader
 use Rattle.text_lines.specs.declared.fault.StreamFault.TheVariants as command
-use Rattle.spool.specs.declared.ends.OpenFault.{OpenFault}
-use Rattle.spool.specs.declared.ends.OpenFault.TheVariants as opening
+use Rattle.spool.specs.declared.faults.OpenFault.{OpenFault}
+use Rattle.spool.specs.declared.faults.OpenFault.TheVariants as opening
 use Rattle.text_lines.specs.Ends.{status_of, fault_text}
 use Rattle.text_lines.specs.Streams.{AppendsFront, with_feed}
 use Rattle.command_interface.specs.declared.exit_status.CommandFault.{CommandFault}

@@ -6,10 +6,10 @@ use Rattle.sqlite.specs.Held.{state}
 use Rattle.sqlite.specs.Store.{Ghosts}
 use Rattle.relay_types.specs.declared.record.Record.{Record}
 use Rattle.relay_types.specs.Records.{History, records_of}
-use Rattle.spool.specs.declared.ends.CommitEnd.{CommitEnd}
-use Rattle.spool.specs.declared.ends.CommitEnd.TheVariants as ends
-use Rattle.spool.specs.declared.ends.Unchanged.{Unchanged}
-use Rattle.spool.specs.declared.ends.Unchanged.TheVariants as why
+use Rattle.spool.specs.declared.faults.CommitEnd.{CommitEnd}
+use Rattle.spool.specs.declared.faults.CommitEnd.TheVariants as ends
+use Rattle.spool.specs.declared.faults.Unchanged.{Unchanged}
+use Rattle.spool.specs.declared.faults.Unchanged.TheVariants as why
 use Rattle.spool.specs.Batches.{BatchValue}
 use Rattle.spool.specs.Commits.{HoldsOnDisk, LeavesHistory}
 use Rattle.spool.specs.Entering.{RestsInDoubt}

@@ -11,8 +11,8 @@ use Rattle.desk.specs.declared.ticket.CommandTicket.{CommandTicket}
 use Rattle.desk.specs.declared.ticket.Ticket.{Ticket}
 use Rattle.desk.specs.declared.ticket.Told.TheVariants.{Waiting}
 use Rattle.desk.specs.Desks.{DeskValue, IsCore}
-use Rattle.desk.specs.Kept as kept
-use Rattle.desk.specs.Looks.{is_row_of, known_by}
+use Rattle.desk.specs.OwnBooks as kept
+use Rattle.desk.specs.Queries.{is_row_of, known_by}
 
 -- where one entry at most has a number, it is the one that no Purge took, if there is one
 none_kept : (n : ℕ) (xs : List Entry) → count_by (λ e. nat_eq e.seq n) xs ≡ 0 → kept_at xs n ≡ None

@@ -2,10 +2,10 @@
 use Rattle.std.specs.Prelude.{◌≡◌, ◌⊎◌, ℕ, ◌+◌, length, List, [], ◌∷◌, ◌++◌, Option, Some, None, Result, Ok, Err}
 use Rattle.relay_types.specs.declared.record.Record.{Record}
 use Rattle.relay_types.specs.Records.{History, records_of}
-use Rattle.spool.specs.declared.ends.CommitEnd.{CommitEnd}
-use Rattle.spool.specs.declared.ends.CommitEnd.TheVariants as ends
-use Rattle.spool.specs.declared.ends.Unchanged.{Unchanged}
-use Rattle.spool.specs.declared.ends.Unchanged.TheVariants as why
+use Rattle.spool.specs.declared.faults.CommitEnd.{CommitEnd}
+use Rattle.spool.specs.declared.faults.CommitEnd.TheVariants as ends
+use Rattle.spool.specs.declared.faults.Unchanged.{Unchanged}
+use Rattle.spool.specs.declared.faults.Unchanged.TheVariants as why
 use Rattle.spool.specs.Batches.{BatchValue}
 use Rattle.delivery.specs.declared.committer.CommitterEnd.{CommitterEnd}
 use Rattle.delivery.specs.declared.committer.CommitterEnd.TheVariants.{Finished, Halted}
@@ -17,8 +17,10 @@ use Rattle.delivery.specs.declared.committer.Next.TheVariants as next
 module _ {K : Type 0} (holds : K → List Record → Type 0) (in_doubt : K → List Record → List Record → Type 0) where
   -- Of each history that was held: a commit adds the batch's records, or nothing; of a doubtful one nobody knows.
   abbrev pub Leaves : (old new : K) → BatchValue → Result BatchValue CommitEnd → Type 0
-  Leaves old new batch (Ok receipt) = (records : List Record) → holds old records → holds new (records ++ records_of batch.steps)
-  Leaves old new batch (Err (ends.Unchanged back reason)) = (records : List Record) → holds old records → holds new records
+  Leaves old new batch (Ok receipt) =
+      (records : List Record) → holds old records → holds new (records ++ records_of batch.steps)
+  Leaves old new batch (Err (ends.Unchanged back reason)) =
+      (records : List Record) → holds old records → holds new records
   Leaves old new batch (Err (ends.Doubtful doubt reason)) =
       (records : List Record) → holds old records → in_doubt new records (records_of batch.steps)
 

@@ -8,7 +8,7 @@ use Rattle.relay_types.specs.Deliveries.{known_as}
 use Rattle.relay_types.specs.Lists.{last_of}
 use Rattle.relay_types.specs.Subscriptions.{subscribers}
 use Rattle.relay_types.specs.Values.{Text, Seq}
-use Rattle.spool.specs.declared.ends.CommitEnd.{CommitEnd}
+use Rattle.spool.specs.declared.faults.CommitEnd.{CommitEnd}
 use Rattle.spool.specs.Batches.{BatchValue}
 use Rattle.desk.specs.declared.command.Command.{Command}
 use Rattle.desk.specs.declared.command.Command.TheVariants.{PutEndpoint, SetSecrets, SetEnabled, SetSubscribed, Purge}

@@ -8,7 +8,7 @@ ghost use Rattle.group_commit.specs.Turns as waiting;
 ghost use Rattle.group_commit.specs.Waits.{record_count, with_settled};
 ghost use Rattle.desk.specs.Desks.{IsCore, IsMove, Spends, Turns, IsReceiptOf, ArePlacesOf, IsHeldOf};
 ghost use Rattle.desk.specs.Faults.{may_refuse, may_refuse_event, may_refuse_publish};
-ghost use Rattle.desk.specs.Kept as kept;
+ghost use Rattle.desk.specs.OwnBooks as kept;
 ghost use Rattle.desk.specs.Moves.{change, publish, seal, submit, with_sealed_settled, with_batch_back, with_halt};
 ghost use Rattle.desk.specs.Claims.{JobValue, claim};
 ghost use Rattle.desk.specs.declared.refusal.Refusal.{Refusal};

@@ -2,7 +2,7 @@
 ghost use Rattle.std.specs.Prelude.{◌≡◌, ◌++◌, ◌+◌, ◌⊎◌, ◌↔◌, List, length, Err, IsTrue, IfOk, IfErr};
 ghost use mathlib.Core.List.{IsPrefix};
 ghost use Rattle.relay_types.specs.Records.{records_of};
-ghost use Rattle.spool.specs.declared.ends.Unchanged.{Unchanged};
+ghost use Rattle.spool.specs.declared.faults.Unchanged.{Unchanged};
 ghost use Rattle.spool.specs.Commits.{HandsBack, IsDoubt};
 ghost use Rattle.delivery.specs.Logs.{receipt_of};
 ghost use Rattle.delivery.specs.Keepers.{Leaves};

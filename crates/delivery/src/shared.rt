@@ -7,7 +7,7 @@ ghost use Rattle.std.specs.Sync.Mutex.{mutex_guard_value};
 ghost use Rattle.relay_types.specs.declared.record.Record.{Record};
 ghost use Rattle.desk.specs.Desks.{IsCore};
 ghost use Rattle.desk.specs.Faults.{may_refuse, may_refuse_event, may_refuse_publish};
-ghost use Rattle.desk.specs.Kept as kept;
+ghost use Rattle.desk.specs.OwnBooks as kept;
 ghost use Rattle.desk.specs.declared.ticket.Told.TheVariants.{Waiting};
 ghost use Rattle.delivery.specs.Logs.{HasSettled, IsOfCommand};
 ghost use Rattle.delivery.specs.Keepers.{EndsByDesk};

@@ -6,13 +6,13 @@ mod entry;
 mod events;
 mod index;
 mod keys;
-mod law;
 mod progress;
 mod purge;
 mod row;
 mod search;
 mod tally;
+mod theorems;
 
 pub use crate::book::DeliveryBook;
-pub use crate::law::{endpoint_records_leave, restored_books_stand};
 pub use crate::row::{Counts, Row};
+pub use crate::theorems::{endpoint_records_leave, restored_books_stand};

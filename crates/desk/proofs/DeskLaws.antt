@@ -27,7 +27,7 @@ use Rattle.desk.proofs.Words.{Purge, Takes, accept_at, accepted-before, below_if
 use Rattle.desk.proofs.Words.{is_event_of, is_purged, there_if_kept, unpurged_front, with_purged}
 use Rattle.desk.specs.declared.ticket.Ticket.{Ticket}
 use Rattle.delivery_book.specs.declared.row.Counts.{Counts}
-use Rattle.desk.specs.Looks.{event_page, endpoint_page, totals}
+use Rattle.desk.specs.Queries.{event_page, endpoint_page, totals}
 use Rattle.std.specs.Result.{IsErrAnd}
 use Rattle.std.proofs.lemmas.Result.{err_from_is_err_and}
 use Rattle.std.specs.declared.alloc.AllocError.{AllocError}

@@ -91,9 +91,9 @@ pub use Rattle.desk.specs.Desks.{TakesOutcome, Turns, attempt_in, has_place, is_
 pub use Rattle.desk.specs.Desks.{with_accept, with_enabled, with_entry, with_gone, with_live, with_put, with_secrets}
 pub use Rattle.desk.specs.Desks.{with_purged, with_subscribed}
 pub use Rattle.desk.specs.Faults.{Faults, first_fault, out_of_memory_at, refusal}
-pub use Rattle.desk.specs.Kept.{AreTold, endpoint_in, endpoint_page, event_in, event_page, limits_by, shown_with}
-pub use Rattle.desk.specs.Kept.{totals, totals_in}
-pub use Rattle.desk.specs.Looks.{has_event, is_event_of, is_row_of}
+pub use Rattle.desk.specs.OwnBooks.{AreTold, endpoint_in, endpoint_page, event_in, event_page, limits_by, shown_with}
+pub use Rattle.desk.specs.OwnBooks.{totals, totals_in}
+pub use Rattle.desk.specs.Queries.{has_event, is_event_of, is_row_of}
 pub use Rattle.desk.specs.Moves.{Answer, MayGive, accepts, are_pairs_spent, are_seqs_spent, at_moment, change, changes, is_nothing_out}
 pub use Rattle.desk.specs.Moves.{is_waiting_full, moment, new_submit_faults, next_seq, or_out_of_memory, pending_among}
 pub use Rattle.desk.specs.Moves.{purge_faults, put_faults, refused, repeats, seal, seal_faults, seal_waiting, sealed_batch}

@@ -5,29 +5,29 @@ use Rattle.endpoint_book.specs.Book.{View}
 use Rattle.endpoint_book.specs.Entries.{is_known}
 use Rattle.delivery_book.specs.declared.row.Row.{Row}
 use Rattle.delivery_book.specs.Entries.{known_settled_in}
-use Rattle.desk.specs.declared.comparing.Told.{Told}
-use Rattle.desk.specs.Kept.{endpoint_in, event_in}
+use Rattle.desk.specs.declared.comparing.SettledView.{SettledView}
+use Rattle.desk.specs.OwnBooks.{endpoint_in, event_in}
 
 -- both tell the same of the endpoint, and of the event
-abbrev pub SameEndpoint : (one other : Told) (name : Text) → Type 0
+abbrev pub SameEndpoint : (one other : SettledView) (name : Text) → Type 0
 SameEndpoint one other name =
     endpoint_in one.endpoints.now one.deliveries.now name ≡ endpoint_in other.endpoints.now other.deliveries.now name
 
-abbrev pub SameEvent : (one other : Told) (name id : Text) → Type 0
+abbrev pub SameEvent : (one other : SettledView) (name id : Text) → Type 0
 SameEvent one other name id = event_in one.deliveries.now name id ≡ event_in other.deliveries.now name id
 
 -- of each that the one has
-abbrev pub HasEndpoints : (one other : Told) → Type 0
+abbrev pub HasEndpoints : (one other : SettledView) → Type 0
 HasEndpoints one other = (name : Text) → IsTrue (is_known one.endpoints.now name) → SameEndpoint one other name
 
-abbrev pub HasEvents : (one other : Told) → Type 0
+abbrev pub HasEvents : (one other : SettledView) → Type 0
 HasEvents one other = (name id : Text) → IsSome (known_settled_in one.deliveries.now name id) → SameEvent one other name id
 
 -- of all
-abbrev pub AllEndpoints : (one other : Told) → Type 0
+abbrev pub AllEndpoints : (one other : SettledView) → Type 0
 AllEndpoints one other = (name : Text) → SameEndpoint one other name
 
-abbrev pub AllEvents : (one other : Told) → Type 0
+abbrev pub AllEvents : (one other : SettledView) → Type 0
 AllEvents one other = (name id : Text) → SameEvent one other name id
 
 -- the parts of a row, and of an endpoint's view

@@ -4,6 +4,6 @@ pub mod Moves
 pub mod Claims
 pub mod Ties
 pub mod Desks
-pub mod Looks
-pub mod Kept
+pub mod Queries
+pub mod OwnBooks
 pub mod Comparing

@@ -12,9 +12,9 @@ ghost use Rattle.desk.specs.Desks.{HasOutcome, IsMove, IsPostOf, OverWorlds, Spe
 ghost use Rattle.desk.specs.Desks.{is_exhausted_in, may_start, may_start_at, with_job, with_live};
 
 use crate::desk::Desk;
-use crate::holding::{hold, let_go, tell_room};
 use crate::job::{Job, Post};
 use crate::limiter::{limit_of, sample};
+use crate::queue_sync::{dequeue, enqueue, update_room};
 use crate::refusal::{Fault, Refusal, check, or_out_of_memory};
 use crate::spent::Spent;
 use delivery_book::DeliveryBook;
@@ -119,8 +119,8 @@ impl<L: Ledger> Desk<L> {
         let Ok(permit) = self.pool.acquire(endpoint, delivery, limit) else {
             unreachable!()
         };
-        let_go(&mut self.queue, &self.deliveries, delivery);
-        tell_room(
+        dequeue(&mut self.queue, &self.deliveries, delivery);
+        update_room(
             &mut self.queue,
             &self.endpoints,
             &self.limiters,
@@ -169,8 +169,8 @@ impl<L: Ledger> Desk<L> {
             )
         };
         let limit = limit_of(&self.limiters, row.endpoint);
-        hold(&mut self.queue, &self.deliveries, row.delivery);
-        tell_room(
+        enqueue(&mut self.queue, &self.deliveries, row.delivery);
+        update_room(
             &mut self.queue,
             &self.endpoints,
             &self.limiters,

@@ -18,8 +18,8 @@ ghost use Rattle.desk.specs.Desks.{with_subscribed, with_purged};
 
 use crate::command::Command;
 use crate::desk::{Desk, push_request};
-use crate::holding::tell_room;
 use crate::limiter::Limiter;
+use crate::queue_sync::update_room;
 use crate::refusal::{Fault, Refusal, check, or_out_of_memory};
 use crate::ticket::CommandTicket;
 use relay_types::{MAX_ENDPOINTS, MaxLimit, Moment, Name, Record, Secrets, Target};
@@ -221,7 +221,7 @@ impl<L: Ledger> Desk<L> {
             endpoint: name,
             estimator,
         });
-        tell_room(
+        update_room(
             &mut self.queue,
             &self.endpoints,
             &self.limiters,
@@ -291,7 +291,7 @@ impl<L: Ledger> Desk<L> {
     {
         let seq = self.waiting.records();
         self.endpoints.stage_enabled(seq, name, flag);
-        tell_room(
+        update_room(
             &mut self.queue,
             &self.endpoints,
             &self.limiters,

@@ -1,7 +1,7 @@
 //! Whether other books tell of what is settled what the desk tells.
 ghost use Rattle.std.specs.Prelude.{◌≡◌, ◌↔◌, false, IsTrue};
 ghost use Rattle.endpoint_book.specs.Book.{told};
-ghost use Rattle.desk.specs.Kept.{AreTold, event_in, totals_in};
+ghost use Rattle.desk.specs.OwnBooks.{AreTold, event_in, totals_in};
 ghost use Rattle.desk.specs.Comparing.{SameEndpoint, SameEvent, HasEndpoints, HasEvents, AllEndpoints, AllEvents};
 ghost use Rattle.desk.specs.Comparing.{IsSameEvent, HasComeAsFar, IsSameTarget, HasSameSettings};
 
@@ -20,12 +20,12 @@ impl<L: Ledger> Desk<L> {
     pub fn is_told_by(&self, books: &Books) -> bool
         ensures { IsTrue result ↔ AreTold self.now books.now }
     {
-        let mine = Told {
+        let mine = SettledView {
             endpoints: &self.endpoints,
             deliveries: &self.deliveries,
             records: self.settled_records(),
         };
-        let theirs = Told {
+        let theirs = SettledView {
             endpoints: &books.endpoints,
             deliveries: &books.deliveries,
             records: books.records,
@@ -36,13 +36,13 @@ impl<L: Ledger> Desk<L> {
 
 // Books, of which so many records are settled.
 #[derive(Clone, Copy)]
-struct Told<'a> {
+struct SettledView<'a> {
     endpoints: &'a EndpointBook,
     deliveries: &'a DeliveryBook,
     records: u64,
 }
 
-impl<'a> Told<'a> {
+impl<'a> SettledView<'a> {
     fn totals(&self) -> Totals
         ensures { result ≡ totals_in self.now.endpoints.now self.now.deliveries.now self.now.records }
     {
@@ -64,7 +64,7 @@ impl<'a> Told<'a> {
     }
 
     // Whether each endpoint and each event that these books have has the same page by the other ones.
-    fn is_in(&self, other: &Told<'_>) -> bool
+    fn is_in(&self, other: &SettledView<'_>) -> bool
         ensures endpoints { IsTrue result → HasEndpoints self.now other.now }
         ensures events { IsTrue result → HasEvents self.now other.now }
         ensures differs { result ≡ false → ¬ (AllEndpoints self.now other.now × AllEvents self.now other.now) }
@@ -72,7 +72,7 @@ impl<'a> Told<'a> {
         self.are_endpoints_in(other) && self.are_events_in(other)
     }
 
-    fn is_endpoint_in(&self, other: &Told<'_>, name: Name) -> bool
+    fn is_endpoint_in(&self, other: &SettledView<'_>, name: Name) -> bool
         ensures { IsTrue result ↔ SameEndpoint self.now other.now name }
     {
         match (self.endpoints.settled(name), other.endpoints.settled(name)) {
@@ -85,7 +85,7 @@ impl<'a> Told<'a> {
         }
     }
 
-    fn are_endpoints_in(&self, other: &Told<'_>) -> bool
+    fn are_endpoints_in(&self, other: &SettledView<'_>) -> bool
         ensures same { IsTrue result → HasEndpoints self.now other.now }
         ensures differs { result ≡ false → ¬ AllEndpoints self.now other.now }
     {
@@ -97,7 +97,7 @@ impl<'a> Told<'a> {
         true
     }
 
-    fn is_event_in(&self, other: &Told<'_>, name: Name, id: &MsgId) -> bool
+    fn is_event_in(&self, other: &SettledView<'_>, name: Name, id: &MsgId) -> bool
         ensures { IsTrue result ↔ SameEvent self.now other.now name id.now }
     {
         match (self.event(name, id), other.event(name, id)) {
@@ -107,7 +107,7 @@ impl<'a> Told<'a> {
         }
     }
 
-    fn are_events_in(&self, other: &Told<'_>) -> bool
+    fn are_events_in(&self, other: &SettledView<'_>) -> bool
         ensures same { IsTrue result → HasEvents self.now other.now }
         ensures differs { result ≡ false → ¬ AllEvents self.now other.now }
     {

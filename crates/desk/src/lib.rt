@@ -2,23 +2,23 @@
 //! what was committed, chooses what is posted next, learns how it went, and tells what is settled.
 #![tactic(auto)]
 
+mod batches;
 mod claims;
 mod command;
 mod commands;
 mod comparing;
 mod desk;
-mod holding;
 mod job;
 mod limiter;
 mod limits;
-mod looks;
 mod opening;
 mod pages;
 mod publish;
+mod queries;
+mod queue_sync;
 mod refusal;
 mod spent;
 mod ticket;
-mod turns;
 
 pub use crate::command::Command;
 pub use crate::desk::Desk;

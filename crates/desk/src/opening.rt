@@ -7,8 +7,8 @@ ghost use Rattle.delivery_book.specs.Entries.{IsInStep};
 ghost use Rattle.desk.specs.Ties.{AreApart, AreHeld, AreLimiters, AreMarked, AreQueued, HasPlaces, HasSameRooms};
 ghost use Rattle.desk.specs.Ties.{KeepsPlaces, KeepsRooms, new_limiter, row_if_settled};
 
-use crate::holding::{hold, tell_room};
 use crate::limiter::Limiter;
+use crate::queue_sync::{enqueue, update_room};
 use claim_queue::ClaimQueue;
 use delivery_book::{DeliveryBook, Row};
 use endpoint_book::EndpointBook;
@@ -58,8 +58,8 @@ pub(crate) fn queue_of<L: Ledger>(
 {
     let mut queue = ClaimQueue::new(alloc);
     reserve_all(&mut queue, deliveries)?;
-    tell_rooms(&mut queue, endpoints, limiters, pool)?;
-    hold_all(&mut queue, deliveries);
+    update_rooms(&mut queue, endpoints, limiters, pool)?;
+    enqueue_all(&mut queue, deliveries);
     Ok(queue)
 }
 
@@ -87,7 +87,7 @@ pub(crate) fn row_at(deliveries: &DeliveryBook, place: usize) -> Option<Row>
 }
 
 // Tells the queue, which knows no room, of the room of each endpoint.
-fn tell_rooms<L: Ledger>(
+fn update_rooms<L: Ledger>(
     queue: &mut ClaimQueue,
     endpoints: &EndpointBook,
     limiters: &[Limiter],
@@ -102,13 +102,13 @@ fn tell_rooms<L: Ledger>(
 {
     for name in endpoints.names() {
         queue.reserve(*name, 0)?;
-        tell_room(queue, endpoints, limiters, pool, *name);
+        update_room(queue, endpoints, limiters, pool, *name);
     }
     Ok(())
 }
 
 // Holds each delivery that waits for its next attempt.
-fn hold_all(queue: &mut ClaimQueue, deliveries: &DeliveryBook)
+fn enqueue_all(queue: &mut ClaimQueue, deliveries: &DeliveryBook)
     requires places { HasPlaces queue.old deliveries.now }
     requires empty { (pair : Pair) → is_held queue.old pair ≡ false }
     ensures held { AreHeld queue.new deliveries.now [] }
@@ -118,7 +118,7 @@ fn hold_all(queue: &mut ClaimQueue, deliveries: &DeliveryBook)
 {
     for place in 0..deliveries.len() {
         if let Some(delivery) = deliveries.delivery(place) {
-            hold(queue, deliveries, delivery);
+            enqueue(queue, deliveries, delivery);
         }
     }
 }

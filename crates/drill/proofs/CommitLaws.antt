@@ -11,10 +11,10 @@ use Rattle.relay_types.specs.Rows.{Rows, rows_of}
 use Rattle.relay_types.proofs.KnownLaws.{legal_front}
 use Rattle.spool_sql.specs.Steps.{MayLeave, Stands}
 use Rattle.spool.specs.Batches.{BatchValue, doubt_of}
-use Rattle.spool.specs.declared.ends.CommitEnd.{CommitEnd}
-use Rattle.spool.specs.declared.ends.CommitEnd.TheVariants as ends
-use Rattle.spool.specs.declared.ends.Unchanged.{Unchanged}
-use Rattle.spool.specs.declared.ends.Unchanged.TheVariants as why
+use Rattle.spool.specs.declared.faults.CommitEnd.{CommitEnd}
+use Rattle.spool.specs.declared.faults.CommitEnd.TheVariants as ends
+use Rattle.spool.specs.declared.faults.Unchanged.{Unchanged}
+use Rattle.spool.specs.declared.faults.Unchanged.TheVariants as why
 use Rattle.spool.specs.Commits.{IsNext, IsDoubt, IsIllegal, LeavesHistory}
 use Rattle.spool.specs.Entering.{RestsInDoubt}
 use Rattle.spool.specs.Vaults.{VaultValue}

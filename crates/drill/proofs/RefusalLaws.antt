@@ -17,7 +17,7 @@ use Rattle.desk.specs.declared.spent.Limits.{Limits}
 use Rattle.desk.specs.declared.ticket.Ticket.{Ticket}
 use Rattle.delivery_book.specs.declared.row.Row as delivery
 use Rattle.desk.specs.Claims.{JobValue, claim, limits}
-use Rattle.desk.specs.Looks.{EndpointShown, endpoint_page, event_page}
+use Rattle.desk.specs.Queries.{EndpointShown, endpoint_page, event_page}
 use Rattle.desk.specs.Moves.{submit, publish, change, seal}
 use Rattle.desk.specs.World.{World, Out, Nothing, Batch, Receipt, Doubt, settled_records}
 use Rattle.drill.specs.declared.events.Event.{Event}

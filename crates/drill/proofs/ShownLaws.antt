@@ -23,7 +23,7 @@ use Rattle.desk.specs.declared.ticket.CommandTicket.{CommandTicket}
 use Rattle.desk.specs.declared.ticket.Ticket.{Ticket}
 use Rattle.desk.specs.declared.ticket.Told.TheVariants.{Waiting, Unknown}
 use Rattle.desk.specs.Claims.{choice, claim, claim_chosen, claimables, is_claimable, is_claimable_for, starts, rests}
-use Rattle.desk.specs.Looks.{known, has_event, is_event_of, settled_body, told, told_command}
+use Rattle.desk.specs.Queries.{known, has_event, is_event_of, settled_body, told, told_command}
 use Rattle.desk.specs.Moves.{moment, unless, are_seqs_spent, next_seq, sealed_batch}
 use Rattle.group_commit.specs.Waits.{batch_of, batch_out}
 use Rattle.desk.specs.Desks.{HasNothingOut, StandsFor}

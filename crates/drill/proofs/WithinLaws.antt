@@ -21,7 +21,7 @@ use Rattle.desk.specs.declared.refusal.Fault.TheVariants as desk_fault
 use Rattle.desk.specs.declared.refusal.Refusal.{Refusal}
 use Rattle.desk.specs.Claims.{choice, claim, claim_chosen, limits, outcome_by, rests, sample_by, spent_in, starts, with_attempt_over, without_row}
 use Rattle.desk.specs.Faults.{Faults, refusal}
-use Rattle.desk.specs.Looks.{endpoint_page, event_page}
+use Rattle.desk.specs.Queries.{endpoint_page, event_page}
 use Rattle.desk.specs.Moves as desk
 use Rattle.desk.specs.Moves.{are_seqs_spent, change, change_faults, changes, is_nothing_out, lacking, moment}
 use Rattle.desk.specs.Moves.{new_publish_faults, new_submit_faults, opened, publish, publish_faults, publish_to}

@@ -7,7 +7,7 @@ use Rattle.script_lines.specs.declared.call.Call.TheVariants as on_line
 use Rattle.script_lines.specs.declared.reply.Reply as line_reply
 use Rattle.script_lines.specs.declared.reply.Reply.TheVariants as says
 use Rattle.script_lines.specs.declared.reply.Told.TheVariants.{Settled}
-use Rattle.desk.specs.Looks.{told, told_command, settled_body, totals}
+use Rattle.desk.specs.Queries.{told, told_command, settled_body, totals}
 use Rattle.desk.specs.World.{World, all_records, settled_records}
 use Rattle.recovery.specs.Left.{records_of_first}
 use Rattle.drill.specs.declared.events.Event.{Event}

@@ -26,7 +26,7 @@ use Rattle.desk.specs.declared.ticket.Ticket.{Ticket}
 use Rattle.desk.specs.declared.ticket.Told as desk_ticket
 use Rattle.desk.specs.declared.ticket.Told.TheVariants as desk_told
 use Rattle.desk.specs.Claims.{JobValue, SpentValue, claim, limits, spent_by, with_attempt_over}
-use Rattle.desk.specs.Looks.{EndpointShown, told, told_command, event_page, endpoint_page}
+use Rattle.desk.specs.Queries.{EndpointShown, told, told_command, event_page, endpoint_page}
 use Rattle.desk.specs.Moves as desk
 use Rattle.desk.specs.World.{World, Out, Nothing, Batch, Receipt, Doubt, settled_records, sealed_records}
 use Rattle.drill.specs.declared.tickets.Given.{Given}

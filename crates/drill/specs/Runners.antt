@@ -6,8 +6,8 @@ use Rattle.relay_types.specs.declared.record.Record.{Record}
 use Rattle.relay_types.specs.Records.{records_of}
 use Rattle.relay_types.specs.Legal.{IsLegal}
 use Rattle.spool.specs.Batches.{BatchValue, doubt_of}
-use Rattle.spool.specs.declared.ends.Unchanged.{Unchanged}
-use Rattle.spool.specs.declared.ends.Unchanged.TheVariants as why
+use Rattle.spool.specs.declared.faults.Unchanged.{Unchanged}
+use Rattle.spool.specs.declared.faults.Unchanged.TheVariants as why
 use Rattle.spool.specs.Commits.{IsNext}
 use Rattle.spool.specs.Entering.{RestsInDoubt}
 use Rattle.spool.specs.Vaults.{VaultValue}
@@ -27,8 +27,10 @@ pub record RunStandsFor {L S : Type 0} (g : Ghosts S) (core : Core L) (vault : V
   pub holds : VaultStandsFor g vault s.world
   pub mark : core.desk.waiting.mark ≡ vault.mark
 
--- From each session for which core and store stood, a call was told what this answer may tell, and they stand for what came of it.
-abbrev pub Answers : {L S : Type 0} → Ghosts S → Core L → VaultValue S → (Session → Answer) → Reply → Core L → VaultValue S → Type 0
+-- From each session for which core and store stood, a call was told what this answer may tell, and they stand for
+-- what came of it.
+abbrev pub Answers : {L S : Type 0} → Ghosts S → Core L → VaultValue S → (Session → Answer) → Reply
+    → Core L → VaultValue S → Type 0
 Answers g old vault answer reply new later =
     (s : Session) → RunStandsFor g old vault s
     → (next : Session) × MayTell (answer s) reply next × RunStandsFor g new later next
@@ -40,14 +42,18 @@ unchanged_reply why.OutOfTurn = says.Refused 2 fault.OutOfTurn
 unchanged_reply why.Illegal = says.Refused 3 fault.Illegal
 unchanged_reply why.OutOfMemory = says.Refused 4 fault.OutOfMemory
 
--- where the batch goes on with a legal history that the store holds, the store takes it as this says, by what is held then
+-- How the store takes a legal batch that goes on with the history it holds: what is held behind it says which end it is.
 abbrev pub EndsAs : {S : Type 0} → Ghosts S → VaultValue S → List Record → BatchValue → Held → Reply → Type 0
-EndsAs g vault records batch (held.Receipt receipt) reply = (receipt ≡ batch) × (reply ≡ says.Committed vault.next) × IsOpenAt g vault (records ++ records_of batch.steps)
-EndsAs g vault records batch (held.Batch back) reply = (back ≡ batch) × (reply ≡ says.Refused 4 fault.OutOfMemory) × IsOpenAt g vault records
-EndsAs g vault records batch (held.Doubt doubt) reply = (doubt ≡ doubt_of batch) × (reply ≡ says.Refused 5 fault.Store) × IsTrue vault.closed
-    × RestsInDoubt (store.state g vault.conn) records (records_of batch.steps)
+EndsAs g vault records batch (held.Receipt receipt) reply = (receipt ≡ batch) × (reply ≡ says.Committed vault.next)
+    × IsOpenAt g vault (records ++ records_of batch.steps)
+EndsAs g vault records batch (held.Batch back) reply = (back ≡ batch) × (reply ≡ says.Refused 4 fault.OutOfMemory)
+    × IsOpenAt g vault records
+EndsAs g vault records batch (held.Doubt doubt) reply = (doubt ≡ doubt_of batch)
+    × (reply ≡ says.Refused 5 fault.Store)
+    × IsTrue vault.closed × RestsInDoubt (store.state g vault.conn) records (records_of batch.steps)
 EndsAs g vault records batch held.Nothing reply = ⊥
 
 -- what a commit of the vault's next batch answers
 abbrev pub CommitsSo : {S : Type 0} → Ghosts S → VaultValue S → VaultValue S → BatchValue → Held → Reply → Type 0
-CommitsSo g old new batch now reply = (records : List Record) → IsOpenAt g old records → IsNext old batch → IsLegal (records ++ records_of batch.steps) → EndsAs g new records batch now reply
+CommitsSo g old new batch now reply = (records : List Record) → IsOpenAt g old records → IsNext old batch
+    → IsLegal (records ++ records_of batch.steps) → EndsAs g new records batch now reply

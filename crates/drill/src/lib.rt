@@ -7,26 +7,26 @@ mod calls;
 mod commit;
 mod events;
 mod held;
-mod law;
 mod looking;
 mod player;
-mod playing;
+mod player_lines;
 mod prepared;
 mod replies;
 mod requests;
 mod runner;
 mod runs;
 mod scripts;
+mod theorems;
 mod tickets;
 mod turns;
 mod unrecorded;
 
 pub use crate::events::{Event, Look, Reply};
-pub use crate::law::{
+pub use crate::runs::{World, run};
+pub use crate::scripts::replay;
+pub use crate::theorems::{
     calls_change_places_with_commits, calls_keep_what_was_shown, refusals_of_moves,
     restarts_keep_what_was_shown, runs_go_on, runs_keep_marks_in_order, served_runs_are_computed,
     stops_keep_what_was_shown,
 };
-pub use crate::runs::{World, run};
-pub use crate::scripts::replay;
 pub use crate::unrecorded::attempts_are_pending_again;

@@ -7,14 +7,14 @@ mod changes;
 mod entries;
 mod entry;
 mod key;
-mod law;
 mod limits;
 mod subscribers;
+mod theorems;
 mod topics;
 mod view;
 
 pub use crate::book::EndpointBook;
-pub use crate::law::{idle_records_leave, other_records_leave, restored_books_stand};
 pub use crate::limits::MAX_FLAGS;
 pub use crate::subscribers::Subscribers;
+pub use crate::theorems::{idle_records_leave, other_records_leave, restored_books_stand};
 pub use crate::view::EndpointView;

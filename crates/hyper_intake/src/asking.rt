@@ -12,7 +12,7 @@ use delivery::{Pass, Shared};
 use http::header::HeaderMap;
 use http::{Uri, request};
 use http_body_util::{Collected, LimitedError};
-use intake_shed::{Answered, Ask, AskBody, AskFault, LatestAck, Reply, answer};
+use intake_shed::{Answered, Ask, AskBody, LatestAck, Reply, RequestError, answer};
 use relay_host::{HostClock, fresh_id};
 use run_log::LogId;
 use std::alloc::{AllocError, AllocGlobal, Global};
@@ -65,10 +65,10 @@ where
     ensures { RepliesTo head.now body.entry result }
 {
     let Ok(ids) = ids_of(rt.alloc(), &head.headers) else {
-        return AskFault::OutOfMemory.reply();
+        return RequestError::OutOfMemory.reply();
     };
     let Ok(fresh) = fresh_id(rt) else {
-        return AskFault::OutOfMemory.reply();
+        return RequestError::OutOfMemory.reply();
     };
     let ask = Ask {
         method: head.method.as_str().as_bytes(),

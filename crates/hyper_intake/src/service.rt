@@ -16,7 +16,7 @@ use http_body_util::combinators::Collect;
 use http_body_util::{BodyExt, Full, Limited};
 use hyper::body::Incoming;
 use hyper::service::Service;
-use intake_shed::{AskBody, AskFault, LatestAck};
+use intake_shed::{AskBody, LatestAck, RequestError};
 use relay_types::MAX_BODY_BYTES;
 use run_log::LogId;
 use std::alloc::AllocGlobal;
@@ -192,7 +192,7 @@ where
             reply_to(rt, shared, latest, head, AskBody::Whole(bytes.as_slice()))
         }
         BodyRead::TooLong => reply_to(rt, shared, latest, head, AskBody::TooLong),
-        BodyRead::NoMemory => AskFault::OutOfMemory.reply(),
+        BodyRead::NoMemory => RequestError::OutOfMemory.reply(),
         BodyRead::Cut => return Err(Unanswered::Body),
     };
     Ok(response_of(rt.alloc(), reply)?)

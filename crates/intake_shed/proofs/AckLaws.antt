@@ -15,7 +15,7 @@ use Rattle.relay_types.specs.Subscriptions.{subscribers}
 use Rattle.delivery_book.specs.Book.{body_of}
 use Rattle.desk.specs.declared.ticket.Ticket.{Ticket}
 use Rattle.desk.specs.Desks.{DeskValue, OverWorlds}
-use Rattle.desk.specs.Looks.{has_event, is_event_of, settled_body}
+use Rattle.desk.specs.Queries.{has_event, is_event_of, settled_body}
 use Rattle.desk.specs.Moves.{ticket}
 use Rattle.desk.specs.World.{settled_records}
 use Rattle.delivery.specs.Logs.{ChangeValue, PublishedValue, HasChange, HasSettled, HasTickets, tickets_by}

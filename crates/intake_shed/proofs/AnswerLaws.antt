@@ -12,29 +12,29 @@ use Rattle.intake_shed.specs.Replies.{ask_reply, out_of_memory}
 use Rattle.intake_shed.specs.Requests.{Gives, Tells}
 use Rattle.intake_shed.specs.declared.ask.Asked.{Asked}
 use Rattle.intake_shed.specs.declared.ask.Asked.TheVariants as asked
-use Rattle.intake_shed.specs.declared.fault.AskFault.{AskFault}
-use Rattle.intake_shed.specs.declared.refusals.WaitFault.{WaitFault}
-use Rattle.intake_shed.specs.declared.refusals.WaitFault.TheVariants as wait
+use Rattle.intake_shed.specs.declared.fault.RequestError.{RequestError}
+use Rattle.intake_shed.specs.declared.refusals.SubmitError.{SubmitError}
+use Rattle.intake_shed.specs.declared.refusals.SubmitError.TheVariants as wait
 use Rattle.intake_shed.specs.declared.reply.Reply.{Reply}
 
 -- an event and a change may both go back, and be unknown
-pub event_may_fail : (why : WaitFault) → IsNoRefusal why → IsTrue (may_fail_event why)
+pub event_may_fail : (why : SubmitError) → IsNoRefusal why → IsTrue (may_fail_event why)
 event_may_fail (wait.Refused refusal) h = absurd h
 event_may_fail wait.Unknown h = refl
 event_may_fail wait.WentBack h = refl
 
-pub publish_may_fail : (why : WaitFault) → IsNoRefusal why → IsTrue (may_fail_publish why)
+pub publish_may_fail : (why : SubmitError) → IsNoRefusal why → IsTrue (may_fail_publish why)
 publish_may_fail (wait.Refused refusal) h = absurd h
 publish_may_fail wait.Unknown h = refl
 publish_may_fail wait.WentBack h = refl
 
-pub change_may_fail : (command : Command) (why : WaitFault) → IsNoRefusal why → IsTrue (may_fail command why)
+pub change_may_fail : (command : Command) (why : SubmitError) → IsNoRefusal why → IsTrue (may_fail command why)
 change_may_fail command (wait.Refused refusal) h = absurd h
 change_may_fail command wait.Unknown h = refl
 change_may_fail command wait.WentBack h = refl
 
 -- an event that was waited for is acknowledged, or isn't
-pub told_event : (name id body : Text) (seen : ℕ) (waited : Result AckValue WaitFault) (reply : Reply) (given : Option AckValue)
+pub told_event : (name id body : Text) (seen : ℕ) (waited : Result AckValue SubmitError) (reply : Reply) (given : Option AckValue)
     → IfOk waited (λ ack. IsOfEvent ack name id body) → IfOk waited (λ ack. ack.seq < seen)
     → IfErr waited (λ why. IsTrue (may_fail_event why)) → IsTold waited reply → IfOk waited (λ ack. given ≡ Some ack)
     → AcceptsEvent name id body seen reply given ⊎ FailsBy may_fail_event reply
@@ -42,7 +42,7 @@ told_event name id body seen (Ok ack) reply given event below may told is = inl 
 told_event name id body seen (Err why) reply given event below may told is = inr (why, may, told)
 
 -- so is one for a topic
-pub told_publish : (topic id body : Text) (seen : ℕ) (waited : Result PublishAckValue WaitFault) (reply : Reply)
+pub told_publish : (topic id body : Text) (seen : ℕ) (waited : Result PublishAckValue SubmitError) (reply : Reply)
     (published : Option PublishAckValue) → IfOk waited (λ ack. IsOfPublish ack topic id body)
     → IfOk waited (λ ack. AreBelow seen ack.event.tickets) → IfErr waited (λ why. IsTrue (may_fail_publish why))
     → IsPublishTold waited reply → IfOk waited (λ ack. published ≡ Some ack)
@@ -87,10 +87,10 @@ not_read_lacks what P reply (inl e) = cc
 not_read_lacks what P reply (inr e) = inr (same_reply reply out_of_memory e)
 
 -- what is refused isn't read
-pub read_not_refused : (read : Asked) (why : AskFault) → Tells (Ok read) why → ⊥
+pub read_not_refused : (read : Asked) (why : RequestError) → Tells (Ok read) why → ⊥
 read_not_refused read why (inl e) = cc
 read_not_refused read why (inr e) = cc
 
-pub refused_so : (why : AskFault) (reply : Reply) → Tells (Err reply) why → OrLacksMemory (reply ≡ ask_reply why) reply
+pub refused_so : (why : RequestError) (reply : Reply) → Tells (Err reply) why → OrLacksMemory (reply ≡ ask_reply why) reply
 refused_so why reply (inl e) = inl (same_reply reply (ask_reply why) e)
 refused_so why reply (inr e) = inr (same_reply reply out_of_memory e)

@@ -20,8 +20,8 @@ use Rattle.intake_shed.specs.Requests.{line_asked, has_room, has_id, has_parts, 
 use Rattle.intake_shed.specs.declared.ask.Ask.{Ask}
 use Rattle.intake_shed.specs.declared.ask.Asked.{Asked}
 use Rattle.intake_shed.specs.declared.ask.Asked.TheVariants as asked
-use Rattle.intake_shed.specs.declared.fault.AskFault.{AskFault}
-use Rattle.intake_shed.specs.declared.fault.AskFault.TheVariants as fault
+use Rattle.intake_shed.specs.declared.fault.RequestError.{RequestError}
+use Rattle.intake_shed.specs.declared.fault.RequestError.TheVariants as fault
 use Rattle.intake_shed.specs.declared.reply.Reply.{Reply}
 use Rattle.intake_shed.proofs.OneLine.{one_line}
 
@@ -83,7 +83,7 @@ not_both : (b : Bool) → IsTrue b → b ≡ false → ⊥
 not_both b holds fails = true_not_false (sym holds ∙ fails)
 
 -- the first bad member
-one_bad_member : (url : Text) (max : Num) (list : List Text) (a b : AskFault) → a ≢ fault.OutOfMemory → b ≢ fault.OutOfMemory
+one_bad_member : (url : Text) (max : Num) (list : List Text) (a b : RequestError) → a ≢ fault.OutOfMemory → b ≢ fault.OutOfMemory
     → IsBadMember url max list a → IsBadMember url max list b → a ≡ b
 one_bad_member url max list fault.NotFound b m n h k = absurd h
 one_bad_member url max list fault.BadName b m n h k = absurd h
@@ -124,7 +124,7 @@ one_bad_member url max list fault.BadMoment b m n h k = absurd h
 one_bad_member url max list fault.OutOfMemory b m n h k = absurd (m refl)
 
 -- members that are good
-good_members : (url : Text) (max : Num) (list secrets : List Text) (why : AskFault) → why ≢ fault.OutOfMemory
+good_members : (url : Text) (max : Num) (list secrets : List Text) (why : RequestError) → why ≢ fault.OutOfMemory
     → IsTrue (is_target url && is_max max) → AreSecretTexts list secrets → IsBadMember url max list why → ⊥
 good_members url max list secrets fault.NotFound m good are h = h
 good_members url max list secrets fault.BadName m good are h = h
@@ -141,13 +141,13 @@ good_members url max list secrets fault.OutOfMemory m good are h = m refl
 abbrev LacksPut : (body : Text) → Type 0
 LacksPut body = (value : Data) → IsJson body value → (url : Text) (max : Num) (list : List Text) → ¬ HasPutMembers value url max list
 
-abbrev HasBadMembers : (value : Data) → AskFault → Type 0
+abbrev HasBadMembers : (value : Data) → RequestError → Type 0
 HasBadMembers value why = (url : Text) × (max : Num) × (list : List Text) × HasPutMembers value url max list × IsBadMember url max list why
 
-abbrev HasBadPut : (body : Text) → AskFault → Type 0
+abbrev HasBadPut : (body : Text) → RequestError → Type 0
 HasBadPut body why = (value : Data) × IsJson body value × HasBadMembers value why
 
-put_stage : (body : Text) (why : AskFault) → why ≢ fault.OutOfMemory → OfBody IsBadPut body why
+put_stage : (body : Text) (why : RequestError) → why ≢ fault.OutOfMemory → OfBody IsBadPut body why
     → ((why ≡ fault.BadBody) × LacksPut body) ⊎ HasBadPut body why
 put_stage body fault.NotFound m h = inr h
 put_stage body fault.BadName m h = inr h
@@ -160,7 +160,7 @@ put_stage body fault.BadSecret m h = inr h
 put_stage body fault.BadMoment m h = inr h
 put_stage body fault.OutOfMemory m h = absurd (m refl)
 
-same_bad_put : (body : Text) (a b : AskFault) → a ≢ fault.OutOfMemory → b ≢ fault.OutOfMemory → HasBadPut body a → HasBadPut body b → a ≡ b
+same_bad_put : (body : Text) (a b : RequestError) → a ≢ fault.OutOfMemory → b ≢ fault.OutOfMemory → HasBadPut body a → HasBadPut body b → a ≡ b
 same_bad_put body a b m n (v, json, (url, max, list, members, bad)) (v', json', (url', max', list', members', bad')) =
     let value : v' ≡ v = one_value body v' v json' json in
     let moved : HasPutMembers v url' max' list' = subst (λ x. HasPutMembers x url' max' list') value members' in
@@ -170,7 +170,7 @@ same_bad_put body a b m n (v, json, (url, max, list, members, bad)) (v', json', 
     one_bad_member url max list a b m n bad
     (subst (λ x. IsBadMember x max list b) of_url (subst (λ x. IsBadMember url' x list b) of_max (subst (λ x. IsBadMember url' max' x b) of_list bad')))
 
-one_put_fault : (body : Text) (a b : AskFault) → a ≢ fault.OutOfMemory → b ≢ fault.OutOfMemory
+one_put_fault : (body : Text) (a b : RequestError) → a ≢ fault.OutOfMemory → b ≢ fault.OutOfMemory
     → ((a ≡ fault.BadBody) × LacksPut body) ⊎ HasBadPut body a → ((b ≡ fault.BadBody) × LacksPut body) ⊎ HasBadPut body b → a ≡ b
 one_put_fault body a b m n (inl (e, lacks)) (inl (f, none)) = e ∙ sym f
 one_put_fault body a b m n (inl (e, lacks)) (inr (v, json, (url, max, list, members, bad))) = absurd (lacks v json url max list members)
@@ -187,7 +187,7 @@ HasBadTexts value = (list : List Text) × HasSecrets value list × AreNoSecrets 
 abbrev HasBadList : (body : Text) → Type 0
 HasBadList body = (value : Data) × IsJson body value × HasBadTexts value
 
-secrets_stage : (body : Text) (why : AskFault) → why ≢ fault.OutOfMemory → OfBody IsBadSecrets body why
+secrets_stage : (body : Text) (why : RequestError) → why ≢ fault.OutOfMemory → OfBody IsBadSecrets body why
     → ((why ≡ fault.BadBody) × LacksList body) ⊎ ((why ≡ fault.BadSecret) × HasBadList body)
 secrets_stage body fault.NotFound m h = absurd h.2
 secrets_stage body fault.BadName m h = absurd h.2
@@ -200,7 +200,7 @@ secrets_stage body fault.BadSecret m h = inr (refl, h)
 secrets_stage body fault.BadMoment m h = absurd h.2
 secrets_stage body fault.OutOfMemory m h = absurd (m refl)
 
-one_secrets_fault : (body : Text) (a b : AskFault) → ((a ≡ fault.BadBody) × LacksList body) ⊎ ((a ≡ fault.BadSecret) × HasBadList body)
+one_secrets_fault : (body : Text) (a b : RequestError) → ((a ≡ fault.BadBody) × LacksList body) ⊎ ((a ≡ fault.BadSecret) × HasBadList body)
     → ((b ≡ fault.BadBody) × LacksList body) ⊎ ((b ≡ fault.BadSecret) × HasBadList body) → a ≡ b
 one_secrets_fault body a b (inl (e, lacks)) (inl (f, none)) = e ∙ sym f
 one_secrets_fault body a b (inl (e, lacks)) (inr (f, (v, json, (list, has, bad)))) = absurd (lacks v json list has)
@@ -211,7 +211,7 @@ one_secrets_fault body a b (inr (e, h)) (inr (f, k)) = e ∙ sym f
 abbrev LacksFlag : (name body : Text) → Type 0
 LacksFlag name body = (value : Data) → IsJson body value → (flag : Bool) → ¬ HasFlag value name flag
 
-flag_stage : (name body : Text) (why : AskFault) → why ≢ fault.OutOfMemory → OfBody (IsBadFlag name) body why
+flag_stage : (name body : Text) (why : RequestError) → why ≢ fault.OutOfMemory → OfBody (IsBadFlag name) body why
     → (why ≡ fault.BadBody) × LacksFlag name body
 flag_stage name body fault.NotFound m h = absurd h.2
 flag_stage name body fault.BadName m h = absurd h.2
@@ -224,7 +224,7 @@ flag_stage name body fault.BadSecret m h = absurd h.2
 flag_stage name body fault.BadMoment m h = absurd h.2
 flag_stage name body fault.OutOfMemory m h = absurd (m refl)
 
-one_flag_fault : (name body : Text) (a b : AskFault) → a ≢ fault.OutOfMemory → b ≢ fault.OutOfMemory
+one_flag_fault : (name body : Text) (a b : RequestError) → a ≢ fault.OutOfMemory → b ≢ fault.OutOfMemory
     → OfBody (IsBadFlag name) body a → OfBody (IsBadFlag name) body b → a ≡ b
 one_flag_fault name body a b m n h k = (flag_stage name body a m h).0 ∙ sym (flag_stage name body b n k).0
 
@@ -238,7 +238,7 @@ HasBadMoment value = (before : Num) × HasBefore value before × (is_before befo
 abbrev HasBadBefore : (body : Text) → Type 0
 HasBadBefore body = (value : Data) × IsJson body value × HasBadMoment value
 
-before_stage : (body : Text) (why : AskFault) → why ≢ fault.OutOfMemory → OfBody IsBadBefore body why
+before_stage : (body : Text) (why : RequestError) → why ≢ fault.OutOfMemory → OfBody IsBadBefore body why
     → ((why ≡ fault.BadBody) × LacksBefore body) ⊎ ((why ≡ fault.BadMoment) × HasBadBefore body)
 before_stage body fault.NotFound m h = absurd h.2
 before_stage body fault.BadName m h = absurd h.2
@@ -251,7 +251,7 @@ before_stage body fault.BadSecret m h = absurd h.2
 before_stage body fault.BadMoment m h = inr (refl, h)
 before_stage body fault.OutOfMemory m h = absurd (m refl)
 
-one_before_fault : (body : Text) (a b : AskFault)
+one_before_fault : (body : Text) (a b : RequestError)
     → ((a ≡ fault.BadBody) × LacksBefore body) ⊎ ((a ≡ fault.BadMoment) × HasBadBefore body)
     → ((b ≡ fault.BadBody) × LacksBefore body) ⊎ ((b ≡ fault.BadMoment) × HasBadBefore body) → a ≡ b
 one_before_fault body a b (inl (e, lacks)) (inl (f, none)) = e ∙ sym f
@@ -260,7 +260,7 @@ one_before_fault body a b (inr (e, (v, json, (before, has, bad)))) (inl (f, lack
 one_before_fault body a b (inr (e, h)) (inr (f, k)) = e ∙ sym f
 
 -- the body of an event is never bad
-no_bad_event : (name body : Text) (why : AskFault) → why ≢ fault.OutOfMemory → IsBadBody (Submit name) body why → ⊥
+no_bad_event : (name body : Text) (why : RequestError) → why ≢ fault.OutOfMemory → IsBadBody (Submit name) body why → ⊥
 no_bad_event name body fault.NotFound m h = h
 no_bad_event name body fault.BadName m h = h
 no_bad_event name body fault.TooLong m h = h
@@ -272,7 +272,7 @@ no_bad_event name body fault.BadSecret m h = h
 no_bad_event name body fault.BadMoment m h = h
 no_bad_event name body fault.OutOfMemory m h = m refl
 
-no_bad_publish : (topic body : Text) (why : AskFault) → why ≢ fault.OutOfMemory → IsBadBody (Publish topic) body why → ⊥
+no_bad_publish : (topic body : Text) (why : RequestError) → why ≢ fault.OutOfMemory → IsBadBody (Publish topic) body why → ⊥
 no_bad_publish topic body fault.NotFound m h = h
 no_bad_publish topic body fault.BadName m h = h
 no_bad_publish topic body fault.TooLong m h = h
@@ -284,7 +284,7 @@ no_bad_publish topic body fault.BadSecret m h = h
 no_bad_publish topic body fault.BadMoment m h = h
 no_bad_publish topic body fault.OutOfMemory m h = m refl
 
-one_bad_body : (line : Line) (body : Text) (a b : AskFault) → a ≢ fault.OutOfMemory → b ≢ fault.OutOfMemory
+one_bad_body : (line : Line) (body : Text) (a b : RequestError) → a ≢ fault.OutOfMemory → b ≢ fault.OutOfMemory
     → IsBadBody line body a → IsBadBody line body b → a ≡ b
 one_bad_body (Put name) body a b m n h k = one_put_fault body a b m n (put_stage body a m h) (put_stage body b n k)
 one_bad_body (SetSecrets name) body a b m n h k = one_secrets_fault body a b (secrets_stage body a m h) (secrets_stage body b n k)
@@ -301,13 +301,13 @@ one_bad_body (Event name id) body a b m n h k = absurd h
 -- ---- a request is refused for one check
 
 -- which check on a line it is
-abbrev Stage : Line → Ask → AskFault → Type 0
+abbrev Stage : Line → Ask → RequestError → Type 0
 Stage line ask why = ((why ≡ fault.BadName) × (has_name line ≡ false))
     ⊎ (((why ≡ fault.TooLong) × IsTrue (has_name line) × (has_room ask.body ≡ false))
     ⊎ (((why ≡ fault.BadId) × IsTrue (has_name line && has_room ask.body) × (has_id line ask ≡ false))
     ⊎ (IsTrue (has_parts line ask) × IsBadBody line (bytes_of ask.body) why)))
 
-stage : (line : Line) (ask : Ask) (why : AskFault) → IsBadOn line ask why → Stage line ask why
+stage : (line : Line) (ask : Ask) (why : RequestError) → IsBadOn line ask why → Stage line ask why
 stage line ask fault.NotFound h = inr (inr (inr h))
 stage line ask fault.BadName h = inl (refl, h)
 stage line ask fault.TooLong h = inr (inl (refl, h.0, h.1))
@@ -328,7 +328,7 @@ roomy line ask h = (and_parts (has_room ask.body) (has_id line ask) (and_parts (
 given : (line : Line) (ask : Ask) → IsTrue (has_parts line ask) → IsTrue (has_id line ask)
 given line ask h = (and_parts (has_room ask.body) (has_id line ask) (and_parts (has_name line) (has_room ask.body && has_id line ask) h).1).1
 
-one_stage : (line : Line) (ask : Ask) (a b : AskFault) → a ≢ fault.OutOfMemory → b ≢ fault.OutOfMemory
+one_stage : (line : Line) (ask : Ask) (a b : RequestError) → a ≢ fault.OutOfMemory → b ≢ fault.OutOfMemory
     → Stage line ask a → Stage line ask b → a ≡ b
 one_stage line ask a b m n (inl (e, x)) (inl (f, z)) = e ∙ sym f
 one_stage line ask a b m n (inl (e, x)) (inr (inl (f, z, u))) = absurd (not_both _ z x)
@@ -347,14 +347,14 @@ one_stage line ask a b m n (inr (inr (inr (x, y)))) (inr (inl (f, z, u))) = absu
 one_stage line ask a b m n (inr (inr (inr (x, y)))) (inr (inr (inl (f, z, u)))) = absurd (not_both _ (given line ask x) u)
 one_stage line ask a b m n (inr (inr (inr (x, y)))) (inr (inr (inr (z, u)))) = one_bad_body line (bytes_of ask.body) a b m n y u
 
-one_bad_on : (a b : AskFault) (ask : Ask) → a ≢ fault.OutOfMemory → b ≢ fault.OutOfMemory
+one_bad_on : (a b : RequestError) (ask : Ask) → a ≢ fault.OutOfMemory → b ≢ fault.OutOfMemory
     → (line : Line) × IsOn line ask × IsBadOn line ask a → (line : Line) × IsOn line ask × IsBadOn line ask b → a ≡ b
 one_bad_on a b ask m n (line, on, h) (other, stands, k) =
     let same : other ≡ line = one_line other line ask.method.now (before_query ask.path.now) stands on in
     one_stage line ask a b m n (stage line ask a h) (stage line ask b (subst (λ l. IsBadOn l ask b) same k))
 
 -- it stands on a line, and is refused there
-abbrev is_memory : AskFault → Bool
+abbrev is_memory : RequestError → Bool
 is_memory fault.NotFound = false
 is_memory fault.BadName = false
 is_memory fault.TooLong = false
@@ -366,19 +366,19 @@ is_memory fault.BadSecret = false
 is_memory fault.BadMoment = false
 is_memory fault.OutOfMemory = true
 
-no_memory : (why : AskFault) → is_memory why ≡ false → why ≢ fault.OutOfMemory
+no_memory : (why : RequestError) → is_memory why ≡ false → why ≢ fault.OutOfMemory
 no_memory why e h = true_not_false (ap is_memory (sym h) ∙ e)
 
-abbrev IsBadThere : Ask → AskFault → Type 0
+abbrev IsBadThere : Ask → RequestError → Type 0
 IsBadThere ask why = (line : Line) × IsOn line ask × IsBadOn line ask why
 
-abbrev OnLine : Ask → AskFault → Type 0
+abbrev OnLine : Ask → RequestError → Type 0
 OnLine ask why = (why ≢ fault.OutOfMemory) × IsBadThere ask why
 
-abbrev NoLine : Ask → AskFault → Type 0
+abbrev NoLine : Ask → RequestError → Type 0
 NoLine ask why = (why ≡ fault.NotFound) × ((line : Line) → ¬ IsOn line ask)
 
-refused_there : (ask : Ask) (why : AskFault) → IsRefusedFor ask why → NoLine ask why ⊎ OnLine ask why
+refused_there : (ask : Ask) (why : RequestError) → IsRefusedFor ask why → NoLine ask why ⊎ OnLine ask why
 refused_there ask fault.NotFound h = inl (refl, h)
 refused_there ask fault.BadName h = inr (no_memory fault.BadName refl, h)
 refused_there ask fault.TooLong h = inr (no_memory fault.TooLong refl, h)
@@ -390,18 +390,18 @@ refused_there ask fault.BadSecret h = inr (no_memory fault.BadSecret refl, h)
 refused_there ask fault.BadMoment h = inr (no_memory fault.BadMoment refl, h)
 refused_there ask fault.OutOfMemory h = absurd h
 
-one_there : (ask : Ask) (a b : AskFault) → NoLine ask a ⊎ OnLine ask a → NoLine ask b ⊎ OnLine ask b → a ≡ b
+one_there : (ask : Ask) (a b : RequestError) → NoLine ask a ⊎ OnLine ask a → NoLine ask b ⊎ OnLine ask b → a ≡ b
 one_there ask a b (inl (e, none)) (inl (f, lacks)) = e ∙ sym f
 one_there ask a b (inl (e, none)) (inr (n, (line, on, k))) = absurd (none line on)
 one_there ask a b (inr (m, (line, on, h))) (inl (f, none)) = absurd (none line on)
 one_there ask a b (inr (m, h)) (inr (n, k)) = one_bad_on a b ask m n h k
 
-pub one_check : (ask : Ask) (a b : AskFault) → IsRefusedFor ask a → IsRefusedFor ask b → a ≡ b
+pub one_check : (ask : Ask) (a b : RequestError) → IsRefusedFor ask a → IsRefusedFor ask b → a ≡ b
 one_check ask a b h k = one_there ask a b (refused_there ask a h) (refused_there ask b k)
 
 -- ---- what is asked for isn't refused
 
-says_put : (body url : Text) (limit : ℕ) (texts secrets : List Text) (value : Data) (why : AskFault) → why ≢ fault.OutOfMemory
+says_put : (body url : Text) (limit : ℕ) (texts secrets : List Text) (value : Data) (why : RequestError) → why ≢ fault.OutOfMemory
     → IsJson body value → HasPutMembers value url (unsigned limit) texts → IsTrue (is_target url && is_max_limit limit) → AreSecretTexts texts secrets
     → ((why ≡ fault.BadBody) × LacksPut body) ⊎ HasBadPut body why → ⊥
 says_put body url limit texts secrets value why m json members good are (inl (e, lacks)) = lacks value json url (unsigned limit) texts members
@@ -414,7 +414,7 @@ says_put body url limit texts secrets v why m json members good are (inr (v', js
     good_members url (unsigned limit) texts secrets why m good are
     (subst (λ x. IsBadMember x (unsigned limit) texts why) of_url (subst (λ x. IsBadMember url' x texts why) of_max (subst (λ x. IsBadMember url' max' x why) of_list bad')))
 
-says_secrets : (body : Text) (texts secrets : List Text) (value : Data) (why : AskFault) → IsJson body value → HasSecrets value texts → AreSecretTexts texts secrets
+says_secrets : (body : Text) (texts secrets : List Text) (value : Data) (why : RequestError) → IsJson body value → HasSecrets value texts → AreSecretTexts texts secrets
     → ((why ≡ fault.BadBody) × LacksList body) ⊎ ((why ≡ fault.BadSecret) × HasBadList body) → ⊥
 says_secrets body texts secrets v why json has are (inl (e, lacks)) = lacks v json texts has
 says_secrets body texts secrets v why json has are (inr (e, (v', json', (list', has', bad')))) =
@@ -422,7 +422,7 @@ says_secrets body texts secrets v why json has are (inr (e, (v', json', (list', 
     let same : list' ≡ texts = one_list v list' texts (subst (λ x. HasSecrets x list') value has') has in
     bad' secrets (subst (λ x. AreSecretTexts x secrets) (sym same) are)
 
-says_before : (body : Text) (before : ℕ) (value : Data) (why : AskFault) → IsJson body value
+says_before : (body : Text) (before : ℕ) (value : Data) (why : RequestError) → IsJson body value
     → HasBefore value (unsigned before) → IsTrue (is_moment before)
     → ((why ≡ fault.BadBody) × LacksBefore body) ⊎ ((why ≡ fault.BadMoment) × HasBadBefore body) → ⊥
 says_before body before v why json has good (inl (e, lacks)) = lacks v json (unsigned before) has
@@ -432,7 +432,7 @@ says_before body before v why json has good (inr (e, (v', json', (before', has',
     one_before v before' (unsigned before) (subst (λ x. HasBefore x before') value has') has in
     not_both (is_before before') (subst (λ x. IsTrue (is_before x)) (sym same) good) bad'
 
-says_no_bad : (ask : Ask) (fresh : Text) (what : Asked) (why : AskFault) → why ≢ fault.OutOfMemory → IsOfBody ask fresh what
+says_no_bad : (ask : Ask) (fresh : Text) (what : Asked) (why : RequestError) → why ≢ fault.OutOfMemory → IsOfBody ask fresh what
     → IsBadBody (line_asked what) (bytes_of ask.body) why → ⊥
 says_no_bad ask fresh (asked.Change (change.PutEndpoint name url limit secrets)) why m (value, json, (texts, members, good, are)) h =
     says_put (bytes_of ask.body) url limit texts secrets value why m json members good are (put_stage (bytes_of ask.body) why m h)
@@ -450,20 +450,20 @@ says_no_bad ask fresh asked.Totals why m says h = h
 says_no_bad ask fresh (asked.Endpoint name) why m says h = h
 says_no_bad ask fresh (asked.Event name id) why m says h = h
 
-passes_stage : (ask : Ask) (fresh : Text) (what : Asked) (why : AskFault) → why ≢ fault.OutOfMemory → AsksFor ask fresh what
+passes_stage : (ask : Ask) (fresh : Text) (what : Asked) (why : RequestError) → why ≢ fault.OutOfMemory → AsksFor ask fresh what
     → Stage (line_asked what) ask why → ⊥
 passes_stage ask fresh what why m asks (inl (e, x)) = not_both _ (named (line_asked what) ask asks.passes) x
 passes_stage ask fresh what why m asks (inr (inl (e, x, y))) = not_both _ (roomy (line_asked what) ask asks.passes) y
 passes_stage ask fresh what why m asks (inr (inr (inl (e, x, y)))) = not_both _ (given (line_asked what) ask asks.passes) y
 passes_stage ask fresh what why m asks (inr (inr (inr (x, y)))) = says_no_bad ask fresh what why m asks.says y
 
-asked_there : (ask : Ask) (fresh : Text) (what : Asked) (why : AskFault) → AsksFor ask fresh what → NoLine ask why ⊎ OnLine ask why → ⊥
+asked_there : (ask : Ask) (fresh : Text) (what : Asked) (why : RequestError) → AsksFor ask fresh what → NoLine ask why ⊎ OnLine ask why → ⊥
 asked_there ask fresh what why asks (inl (e, none)) = none (line_asked what) asks.on_line
 asked_there ask fresh what why asks (inr (m, (line, on, h))) =
     let same : line ≡ line_asked what = one_line line (line_asked what) ask.method.now (before_query ask.path.now) on asks.on_line in
     passes_stage ask fresh what why m asks (stage (line_asked what) ask why (subst (λ l. IsBadOn l ask why) same h))
 
-pub asked_not_refused : (ask : Ask) (fresh : Text) (what : Asked) (why : AskFault) → AsksFor ask fresh what → IsRefusedFor ask why → ⊥
+pub asked_not_refused : (ask : Ask) (fresh : Text) (what : Asked) (why : RequestError) → AsksFor ask fresh what → IsRefusedFor ask why → ⊥
 asked_not_refused ask fresh what why asks h = asked_there ask fresh what why asks (refused_there ask why h)
 
 -- ---- one thing is asked for
@@ -652,8 +652,8 @@ one_asked ask fresh a b h k =
 
 -- ---- so the answer is the one that the request asks for
 
-pub not_read : (ask : Ask) (why : AskFault) (reply : Reply) → reply ≡ ask_reply why → IsNotReadFor ask why
-    → (reply ≡ out_of_memory) ⊎ ((why : AskFault) × (reply ≡ ask_reply why) × IsRefusedFor ask why)
+pub not_read : (ask : Ask) (why : RequestError) (reply : Reply) → reply ≡ ask_reply why → IsNotReadFor ask why
+    → (reply ≡ out_of_memory) ⊎ ((why : RequestError) × (reply ≡ ask_reply why) × IsRefusedFor ask why)
 not_read ask fault.NotFound reply e h = inr (fault.NotFound, e, h)
 not_read ask fault.BadName reply e h = inr (fault.BadName, e, h)
 not_read ask fault.TooLong reply e h = inr (fault.TooLong, e, h)
@@ -665,13 +665,13 @@ not_read ask fault.BadSecret reply e h = inr (fault.BadSecret, e, h)
 not_read ask fault.BadMoment reply e h = inr (fault.BadMoment, e, h)
 not_read ask fault.OutOfMemory reply e h = inl e
 
-pub told : (ask : Ask) (reply : Reply) (why : AskFault) → (reply ≡ out_of_memory) ⊎ ((other : AskFault) × (reply ≡ ask_reply other) × IsRefusedFor ask other)
+pub told : (ask : Ask) (reply : Reply) (why : RequestError) → (reply ≡ out_of_memory) ⊎ ((other : RequestError) × (reply ≡ ask_reply other) × IsRefusedFor ask other)
     → IsRefusedFor ask why → Tells (Err reply) why
 told ask reply why (inl e) h = inr (ap Err e)
 told ask reply why (inr (other, e, k)) h = inl (ap Err (e ∙ ap ask_reply (one_check ask other why k h)))
 
 pub lacks_memory : (ask : Ask) (fresh : Text) (what : Asked) (reply : Reply)
-    → (reply ≡ out_of_memory) ⊎ ((other : AskFault) × (reply ≡ ask_reply other) × IsRefusedFor ask other)
+    → (reply ≡ out_of_memory) ⊎ ((other : RequestError) × (reply ≡ ask_reply other) × IsRefusedFor ask other)
     → AsksFor ask fresh what → Gives (Err reply) what
 lacks_memory ask fresh what reply (inl e) h = inr (ap Err e)
 lacks_memory ask fresh what reply (inr (other, e, k)) h = absurd (asked_not_refused ask fresh what other h k)

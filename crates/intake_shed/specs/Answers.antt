@@ -13,45 +13,45 @@ use Rattle.intake_shed.specs.Requests.{AsksFor}
 use Rattle.intake_shed.specs.declared.ask.Ask.{Ask}
 use Rattle.intake_shed.specs.declared.ask.Asked.{Asked}
 use Rattle.intake_shed.specs.declared.ask.Asked.TheVariants as asked
-use Rattle.intake_shed.specs.declared.refusals.WaitFault.{WaitFault}
-use Rattle.intake_shed.specs.declared.refusals.WaitFault.TheVariants as wait
+use Rattle.intake_shed.specs.declared.refusals.SubmitError.{SubmitError}
+use Rattle.intake_shed.specs.declared.refusals.SubmitError.TheVariants as wait
 use Rattle.intake_shed.specs.declared.reply.Reply.{Reply}
 
 -- whether an event that was submitted and waited for may not be told as settled for this
-abbrev pub may_fail_event : WaitFault → Bool
+abbrev pub may_fail_event : SubmitError → Bool
 may_fail_event (wait.Refused refusal) = desk.may_refuse_event refusal.fault
 may_fail_event wait.Unknown = true
 may_fail_event wait.WentBack = true
 
 -- the same of an event for a topic
-abbrev pub may_fail_publish : WaitFault → Bool
+abbrev pub may_fail_publish : SubmitError → Bool
 may_fail_publish (wait.Refused refusal) = desk.may_refuse_publish refusal.fault
 may_fail_publish wait.Unknown = true
 may_fail_publish wait.WentBack = true
 
 -- the same of a change
-abbrev pub may_fail : Command → WaitFault → Bool
+abbrev pub may_fail : Command → SubmitError → Bool
 may_fail command (wait.Refused refusal) = desk.may_refuse command refusal.fault
 may_fail command wait.Unknown = true
 may_fail command wait.WentBack = true
 
 -- it isn't the desk that refused
-abbrev pub IsNoRefusal : WaitFault → Type 0
+abbrev pub IsNoRefusal : SubmitError → Type 0
 IsNoRefusal (wait.Refused refusal) = ⊥
 IsNoRefusal wait.Unknown = Unit {0}
 IsNoRefusal wait.WentBack = Unit {0}
 
 -- the reply of one of these faults
-abbrev pub FailsBy : (may : WaitFault → Bool) → Reply → Type 0
-FailsBy may reply = (why : WaitFault) × IsTrue (may why) × (reply ≡ refusal_reply why)
+abbrev pub FailsBy : (may : SubmitError → Bool) → Reply → Type 0
+FailsBy may reply = (why : SubmitError) × IsTrue (may why) × (reply ≡ refusal_reply why)
 
 -- the reply to an event that was waited for: it is acknowledged, or it isn't for this
-abbrev pub IsTold : Result AckValue WaitFault → Reply → Type 0
+abbrev pub IsTold : Result AckValue SubmitError → Reply → Type 0
 IsTold (Ok ack) reply = IsDone 202 (accepted_text ack.id ack.seq) reply
 IsTold (Err why) reply = reply ≡ refusal_reply why
 
 -- the same of an event for a topic
-abbrev pub IsPublishTold : Result PublishAckValue WaitFault → Reply → Type 0
+abbrev pub IsPublishTold : Result PublishAckValue SubmitError → Reply → Type 0
 IsPublishTold (Ok ack) reply = IsDone 202 (published_text ack.event.id (seqs_of ack.event.tickets)) reply
 IsPublishTold (Err why) reply = reply ≡ refusal_reply why
 

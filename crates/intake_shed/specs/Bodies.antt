@@ -9,9 +9,9 @@ use Rattle.relay_types.specs.Values.{Text, is_target, is_max_limit, is_moment}
 use Rattle.text_lines.specs.Words.{AreSecretTexts}
 use Rattle.desk.specs.declared.command.Command.{Command}
 use Rattle.desk.specs.declared.command.Command.TheVariants.{PutEndpoint, SetSecrets, SetEnabled, SetSubscribed, Purge}
-use Rattle.intake_shed.specs.declared.fault.AskFault.{AskFault}
-use Rattle.intake_shed.specs.declared.fault.AskFault.TheVariants.{BadBody, BadUrl, BadMax, BadSecret, BadMoment}
-use Rattle.intake_shed.specs.declared.fault.AskFault.TheVariants.{OutOfMemory}
+use Rattle.intake_shed.specs.declared.fault.RequestError.{RequestError}
+use Rattle.intake_shed.specs.declared.fault.RequestError.TheVariants.{BadBody, BadUrl, BadMax, BadSecret, BadMoment}
+use Rattle.intake_shed.specs.declared.fault.RequestError.TheVariants.{OutOfMemory}
 
 -- the text has this value
 abbrev pub IsJson : (body : Text) → Data → Type 0
@@ -63,7 +63,7 @@ Says value (SetSubscribed topic name flag) = HasFlag value (codes "subscribed") 
 Says value (Purge before) = HasBefore value (unsigned before) × IsTrue (is_moment before)
 
 -- the first of these members that is bad: the url, the max, the secrets
-abbrev pub IsBadMember : (url : Text) (max : Num) (secrets : List Text) → AskFault → Type 0
+abbrev pub IsBadMember : (url : Text) (max : Num) (secrets : List Text) → RequestError → Type 0
 IsBadMember url max secrets BadUrl = is_target url ≡ false
 IsBadMember url max secrets BadMax = IsTrue (is_target url) × (is_max max ≡ false)
 IsBadMember url max secrets BadSecret = IsTrue (is_target url && is_max max) × AreNoSecrets secrets
@@ -71,31 +71,31 @@ IsBadMember url max secrets OutOfMemory = Unit {0}
 IsBadMember url max secrets why = ⊥
 
 -- What a value is refused for: it hasn't the members, each of its kind, or one of them is bad.
-abbrev pub IsBadPut : (value : Data) → AskFault → Type 0
+abbrev pub IsBadPut : (value : Data) → RequestError → Type 0
 IsBadPut value BadBody = (url : Text) (max : Num) (secrets : List Text) → ¬ HasPutMembers value url max secrets
 IsBadPut value OutOfMemory = Unit {0}
 IsBadPut value why = (url : Text) × (max : Num) × (secrets : List Text)
     × HasPutMembers value url max secrets × IsBadMember url max secrets why
 
-abbrev pub IsBadSecrets : (value : Data) → AskFault → Type 0
+abbrev pub IsBadSecrets : (value : Data) → RequestError → Type 0
 IsBadSecrets value BadBody = (secrets : List Text) → ¬ HasSecrets value secrets
 IsBadSecrets value BadSecret = (secrets : List Text) × HasSecrets value secrets × AreNoSecrets secrets
 IsBadSecrets value OutOfMemory = Unit {0}
 IsBadSecrets value why = ⊥
 
-abbrev pub IsBadFlag : (name : Text) (value : Data) → AskFault → Type 0
+abbrev pub IsBadFlag : (name : Text) (value : Data) → RequestError → Type 0
 IsBadFlag name value BadBody = (flag : Bool) → ¬ HasFlag value name flag
 IsBadFlag name value OutOfMemory = Unit {0}
 IsBadFlag name value why = ⊥
 
-abbrev pub IsBadBefore : (value : Data) → AskFault → Type 0
+abbrev pub IsBadBefore : (value : Data) → RequestError → Type 0
 IsBadBefore value BadBody = (before : Num) → ¬ HasBefore value before
 IsBadBefore value BadMoment = (before : Num) × HasBefore value before × (is_before before ≡ false)
 IsBadBefore value OutOfMemory = Unit {0}
 IsBadBefore value why = ⊥
 
 -- what a body is refused for, whose value is refused so; a body that has no value is BadBody
-abbrev pub OfBody : (IsBad : Data → AskFault → Type 0) → (body : Text) → AskFault → Type 0
+abbrev pub OfBody : (IsBad : Data → RequestError → Type 0) → (body : Text) → RequestError → Type 0
 OfBody IsBad body BadBody = (value : Data) → IsJson body value → IsBad value BadBody
 OfBody IsBad body OutOfMemory = Unit {0}
 OfBody IsBad body why = (value : Data) × IsJson body value × IsBad value why

@@ -6,8 +6,8 @@ use Rattle.serde_json.specs.Data.{Num, unsigned, Data, number, string}
 use Rattle.serde_json.specs.Find.{get}
 use Rattle.desk.specs.declared.command.Command.{Command}
 use Rattle.desk.specs.declared.command.Command.TheVariants.{PutEndpoint}
-use Rattle.intake_shed.specs.declared.fault.AskFault.{AskFault}
-use Rattle.intake_shed.specs.declared.fault.AskFault.TheVariants.{BadBody, OutOfMemory}
+use Rattle.intake_shed.specs.declared.fault.RequestError.{RequestError}
+use Rattle.intake_shed.specs.declared.fault.RequestError.TheVariants.{BadBody, OutOfMemory}
 
 abbrev pub HasText : (value : Data) (name text : Text) → Type 0
 HasText value name text = get name value ≡ Some (string text)
@@ -16,7 +16,7 @@ abbrev pub HasNumber : (value : Data) (name : Text) → Num → Type 0
 HasNumber value name n = get name value ≡ Some (number n)
 
 -- what is refused is refused for the body, or for memory
-abbrev pub IsBodyFault : {A : Type 0} → Result A AskFault → Type 0
+abbrev pub IsBodyFault : {A : Type 0} → Result A RequestError → Type 0
 IsBodyFault result = IfErr result (λ fault. (fault ≡ BadBody) ⊎ (fault ≡ OutOfMemory))
 
 -- a new endpoint of these members

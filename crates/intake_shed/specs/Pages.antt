@@ -5,8 +5,8 @@ use Rattle.relay_types.specs.declared.record.Record.{Record}
 use Rattle.delivery_book.specs.declared.row.Row.{Row}
 use Rattle.desk.specs.declared.pages.Totals.{Totals}
 use Rattle.desk.specs.Desks.{DeskValue}
-use Rattle.desk.specs.Kept as kept
-use Rattle.desk.specs.Looks.{EndpointShown, endpoint_page, event_page, totals}
+use Rattle.desk.specs.OwnBooks as kept
+use Rattle.desk.specs.Queries.{EndpointShown, endpoint_page, event_page, totals}
 use Rattle.status.specs.Pages.{totals_text, endpoint_text, event_text}
 use Rattle.intake_shed.specs.Done.{IsDone}
 use Rattle.intake_shed.specs.Replies.{refused}

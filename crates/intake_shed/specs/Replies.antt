@@ -3,10 +3,10 @@ use Rattle.std.specs.Prelude.{ℕ, ◌++◌, true, false, codes}
 use Rattle.relay_types.specs.Values.{Text}
 use Rattle.desk.specs.declared.refusal.Fault.{Fault}
 use Rattle.desk.specs.declared.refusal.Fault.TheVariants as desk
-use Rattle.intake_shed.specs.declared.fault.AskFault.{AskFault}
-use Rattle.intake_shed.specs.declared.fault.AskFault.TheVariants as ask
-use Rattle.intake_shed.specs.declared.refusals.WaitFault.{WaitFault}
-use Rattle.intake_shed.specs.declared.refusals.WaitFault.TheVariants as wait
+use Rattle.intake_shed.specs.declared.fault.RequestError.{RequestError}
+use Rattle.intake_shed.specs.declared.fault.RequestError.TheVariants as ask
+use Rattle.intake_shed.specs.declared.refusals.SubmitError.{SubmitError}
+use Rattle.intake_shed.specs.declared.refusals.SubmitError.TheVariants as wait
 use Rattle.intake_shed.specs.declared.reply.Reply.{Reply}
 
 abbrev pub refusal_text : (name : Text) → Text
@@ -24,7 +24,7 @@ abbrev pub out_of_memory : Reply
 out_of_memory = refused_now (codes "OutOfMemory")
 
 -- the reply to a request that isn't read
-abbrev pub ask_reply : AskFault → Reply
+abbrev pub ask_reply : RequestError → Reply
 ask_reply ask.NotFound = refused 404 (codes "NotFound")
 ask_reply ask.BadName = refused 400 (codes "BadName")
 ask_reply ask.TooLong = refused 413 (codes "TooLong")
@@ -53,7 +53,7 @@ fault_reply desk.BatchOut = refused_now (codes "BatchOut")
 fault_reply desk.OutOfMemory = out_of_memory
 
 -- the reply to a change or an event that isn't done
-abbrev pub refusal_reply : WaitFault → Reply
+abbrev pub refusal_reply : SubmitError → Reply
 refusal_reply (wait.Refused refusal) = fault_reply refusal.fault
 refusal_reply wait.Unknown = refused_now (codes "Unknown")
 refusal_reply wait.WentBack = refused_now (codes "WentBack")

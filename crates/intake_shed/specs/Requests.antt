@@ -16,8 +16,8 @@ use Rattle.intake_shed.specs.declared.ask.AskBody.{AskBody}
 use Rattle.intake_shed.specs.declared.ask.AskBody.TheVariants.{Whole, TooLong}
 use Rattle.intake_shed.specs.declared.ask.Asked.{Asked}
 use Rattle.intake_shed.specs.declared.ask.Asked.TheVariants as asked
-use Rattle.intake_shed.specs.declared.fault.AskFault.{AskFault}
-use Rattle.intake_shed.specs.declared.fault.AskFault.TheVariants as fault
+use Rattle.intake_shed.specs.declared.fault.RequestError.{RequestError}
+use Rattle.intake_shed.specs.declared.fault.RequestError.TheVariants as fault
 use Rattle.intake_shed.specs.declared.reply.Reply.{Reply}
 
 -- the request stands on this line of the table
@@ -87,7 +87,7 @@ pub record AsksFor (ask : Ask) (fresh : Text) (what : Asked) : Type 0 where
   pub says : IsOfBody ask fresh what
 
 -- What the body is refused for: that of a PUT. Where a body is read or copied, memory may be refused.
-abbrev pub IsBadBody : Line → (body : Text) → AskFault → Type 0
+abbrev pub IsBadBody : Line → (body : Text) → RequestError → Type 0
 IsBadBody (Put name) body why = OfBody IsBadPut body why
 IsBadBody (SetSecrets name) body why = OfBody IsBadSecrets body why
 IsBadBody (SetEnabled name) body why = OfBody (IsBadFlag (codes "enabled")) body why
@@ -98,14 +98,14 @@ IsBadBody (Publish topic) body fault.OutOfMemory = Unit {0}
 IsBadBody line body why = ⊥
 
 -- what a request on this line is refused for: it passes the checks before, and not this one
-abbrev pub IsBadOn : Line → Ask → AskFault → Type 0
+abbrev pub IsBadOn : Line → Ask → RequestError → Type 0
 IsBadOn line ask fault.BadName = has_name line ≡ false
 IsBadOn line ask fault.TooLong = IsTrue (has_name line) × (has_room ask.body ≡ false)
 IsBadOn line ask fault.BadId = IsTrue (has_name line && has_room ask.body) × (has_id line ask ≡ false)
 IsBadOn line ask why = IsTrue (has_parts line ask) × IsBadBody line (bytes_of ask.body) why
 
 -- the check that a request is refused for, the first that fails: it stands on no line, or on one on which it is bad
-abbrev pub IsRefusedFor : Ask → AskFault → Type 0
+abbrev pub IsRefusedFor : Ask → RequestError → Type 0
 IsRefusedFor ask fault.NotFound = (line : Line) → ¬ IsOn line ask
 IsRefusedFor ask fault.OutOfMemory = ⊥
 IsRefusedFor ask why = (line : Line) × IsOn line ask × IsBadOn line ask why
@@ -115,18 +115,18 @@ abbrev pub MayLackMemory : Ask → Type 0
 MayLackMemory ask = (line : Line) × IsOn line ask × IsBadOn line ask fault.OutOfMemory
 
 -- why a request isn't read: a check, or memory
-abbrev pub IsNotReadFor : Ask → AskFault → Type 0
+abbrev pub IsNotReadFor : Ask → RequestError → Type 0
 IsNotReadFor ask fault.OutOfMemory = MayLackMemory ask
 IsNotReadFor ask why = IsRefusedFor ask why
 
 -- the reply to a request that isn't read: that of the check, or of memory
 abbrev pub IsRefusal : Ask → Reply → Type 0
-IsRefusal ask reply = (why : AskFault) × (reply ≡ ask_reply why) × IsNotReadFor ask why
+IsRefusal ask reply = (why : RequestError) × (reply ≡ ask_reply why) × IsNotReadFor ask why
 
 -- the answer is this one, or that memory is lacking
 abbrev pub Gives : Result Asked Reply → Asked → Type 0
 Gives result what = (result ≡ Ok what) ⊎ (result ≡ Err out_of_memory)
 
 -- the answer is the reply of this check, or that memory is lacking
-abbrev pub Tells : Result Asked Reply → AskFault → Type 0
+abbrev pub Tells : Result Asked Reply → RequestError → Type 0
 Tells result why = (result ≡ Err (ask_reply why)) ⊎ (result ≡ Err out_of_memory)

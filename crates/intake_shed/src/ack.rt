@@ -1,8 +1,8 @@
 //! Events that are acknowledged.
 ghost use Rattle.std.specs.Prelude.{◌≡◌, ◌<◌, ◌↔◌, Some, IsOk, IsTrue, IfOk, IfErr};
 ghost use Rattle.desk.specs.Desks.{OverWorlds};
-ghost use Rattle.desk.specs.Kept as kept;
-ghost use Rattle.desk.specs.Looks.{settled_body};
+ghost use Rattle.desk.specs.OwnBooks as kept;
+ghost use Rattle.desk.specs.Queries.{settled_body};
 ghost use Rattle.intake_shed.specs.Acks.{IsLogged, ack_of};
 
 use delivery::{Keeper, Locked, LoggedKeeper};

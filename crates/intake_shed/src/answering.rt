@@ -5,7 +5,7 @@ ghost use Rattle.intake_shed.specs.Replies.{ask_reply};
 ghost use Rattle.intake_shed.specs.Requests.{AsksFor, IsRefusal, IsRefusedFor};
 ghost use Rattle.intake_shed.specs.Answers.{Answers, AnswersAsk, FailsBy, GivesPageAt, IsPublishTold, IsTold, OrLacksMemory};
 ghost use Rattle.intake_shed.specs.Answers.{TakesChange, may_fail};
-ghost use Rattle.intake_shed.specs.declared.fault.AskFault.{AskFault};
+ghost use Rattle.intake_shed.specs.declared.fault.RequestError.{RequestError};
 
 use crate::ack::Ack;
 use crate::answered::Answered;
@@ -14,7 +14,7 @@ use crate::done::{accepted_reply, change_reply, change_status, published_reply};
 use crate::pages::page_reply;
 use crate::publish_ack::PublishAck;
 use crate::reading::read_ask;
-use crate::refusals::{WaitFault, refusal_reply};
+use crate::refusals::{SubmitError, refusal_reply};
 use crate::reply::Reply;
 use crate::waits::{command_and_wait, publish_and_wait, submit_and_wait};
 use delivery::{Pass, Shared};
@@ -40,7 +40,7 @@ pub fn answer<L: Ledger, I: LogId, R: Wait>(
     ensures answers { IsRefusal ask.now result.reply ⊎ AnswersAsk ask.now fresh pass.new result.reply result.ack result.published result.confirmed }
     ensures asks { (what : Asked) → AsksFor ask.now fresh what
         → OrLacksMemory (Answers what pass.new result.reply result.ack result.published result.confirmed) result.reply }
-    ensures refuses { (why : AskFault) → IsRefusedFor ask.now why
+    ensures refuses { (why : RequestError) → IsRefusedFor ask.now why
         → OrLacksMemory (result.reply ≡ ask_reply why) result.reply }
     ensures pass { pass.old ≤ pass.new }
 {
@@ -113,7 +113,7 @@ fn answer_change<L: Ledger, I: LogId, R: Wait>(
 }
 
 // The answer to an event that was waited for.
-fn answer_event<I: LogId>(alloc: Global, waited: Result<Ack<I>, WaitFault>) -> Answered<I>
+fn answer_event<I: LogId>(alloc: Global, waited: Result<Ack<I>, SubmitError>) -> Answered<I>
     ensures told { IsTold waited result.reply }
     ensures given { IfOk waited (λ ack. result.ack ≡ Some ack) }
 {
@@ -134,7 +134,10 @@ fn answer_event<I: LogId>(alloc: Global, waited: Result<Ack<I>, WaitFault>) -> A
 }
 
 // The same of an event for a topic.
-fn answer_publish<I: LogId>(alloc: Global, waited: Result<PublishAck<I>, WaitFault>) -> Answered<I>
+fn answer_publish<I: LogId>(
+    alloc: Global,
+    waited: Result<PublishAck<I>, SubmitError>,
+) -> Answered<I>
     ensures told { IsPublishTold waited result.reply }
     ensures given { IfOk waited (λ ack. result.published ≡ Some ack) }
 {
@@ -168,6 +171,6 @@ fn answer_page<L: Ledger, I: LogId, R: Wait>(
 {
     match shared.look(rt, pass) {
         Ok(locked) => page_reply(alloc, locked.desk(), asked),
-        Err(_) => refusal_reply(&WaitFault::WentBack),
+        Err(_) => refusal_reply(&SubmitError::WentBack),
     }
 }

@@ -11,7 +11,7 @@ ghost use Rattle.intake_shed.specs.Bodies.{IsBadMember, IsBadPut, IsBadSecrets, 
 ghost use Rattle.intake_shed.specs.Members.{IsPutOf};
 ghost use Rattle.intake_shed.specs.Requests.{line_changed};
 
-use crate::fault::AskFault;
+use crate::fault::RequestError;
 use crate::members::{flag_of, number_of, read_json, secret_texts, text_of};
 use desk::Command;
 use relay_types::{MaxLimit, Moment, Name, ReadFault, Secrets, Target};
@@ -20,7 +20,7 @@ use std::alloc::Global;
 use text_lines::secrets_of;
 
 /// A new endpoint.
-pub(crate) fn read_put(alloc: Global, name: Name, body: &[u8]) -> Result<Command, AskFault>
+pub(crate) fn read_put(alloc: Global, name: Name, body: &[u8]) -> Result<Command, RequestError>
     ensures line { IfOk result (λ command. line_changed command ≡ Put name) }
     ensures says { IfOk result (λ command. (value : Data) × IsJson body.now value × Says value command) }
     ensures refused { IfErr result (λ why. OfBody IsBadPut body.now why) }
@@ -30,7 +30,7 @@ pub(crate) fn read_put(alloc: Global, name: Name, body: &[u8]) -> Result<Command
 }
 
 /// Other secrets of an endpoint.
-pub(crate) fn read_secrets(alloc: Global, name: Name, body: &[u8]) -> Result<Command, AskFault>
+pub(crate) fn read_secrets(alloc: Global, name: Name, body: &[u8]) -> Result<Command, RequestError>
     ensures line { IfOk result (λ command. line_changed command ≡ SetSecrets name) }
     ensures says { IfOk result (λ command. (value : Data) × IsJson body.now value × Says value command) }
     ensures refused { IfErr result (λ why. OfBody IsBadSecrets body.now why) }
@@ -40,7 +40,7 @@ pub(crate) fn read_secrets(alloc: Global, name: Name, body: &[u8]) -> Result<Com
 }
 
 /// Whether an endpoint is posted to.
-pub(crate) fn read_flag(alloc: Global, name: Name, body: &[u8]) -> Result<Command, AskFault>
+pub(crate) fn read_flag(alloc: Global, name: Name, body: &[u8]) -> Result<Command, RequestError>
     ensures line { IfOk result (λ command. line_changed command ≡ SetEnabled name) }
     ensures says { IfOk result (λ command. (value : Data) × IsJson body.now value × Says value command) }
     ensures refused { IfErr result (λ why. OfBody (IsBadFlag (codes "enabled")) body.now why) }
@@ -56,7 +56,7 @@ pub(crate) fn read_subscribed(
     topic: Name,
     name: Name,
     body: &[u8],
-) -> Result<Command, AskFault>
+) -> Result<Command, RequestError>
     ensures line { IfOk result (λ command. line_changed command ≡ SetSubscribed name topic) }
     ensures says { IfOk result (λ command. (value : Data) × IsJson body.now value × Says value command) }
     ensures refused { IfErr result (λ why. OfBody (IsBadFlag (codes "subscribed")) body.now why) }
@@ -67,7 +67,7 @@ pub(crate) fn read_subscribed(
 }
 
 /// Events that are done with, the last attempt at each before the moment of the body, are removed.
-pub(crate) fn read_purge(alloc: Global, body: &[u8]) -> Result<Command, AskFault>
+pub(crate) fn read_purge(alloc: Global, body: &[u8]) -> Result<Command, RequestError>
     ensures line { IfOk result (λ command. line_changed command ≡ Retention) }
     ensures says { IfOk result (λ command. (value : Data) × IsJson body.now value × Says value command) }
     ensures refused { IfErr result (λ why. OfBody IsBadBefore body.now why) }
@@ -76,7 +76,7 @@ pub(crate) fn read_purge(alloc: Global, body: &[u8]) -> Result<Command, AskFault
     purge_of(&value)
 }
 
-fn put_of(alloc: Global, name: Name, value: &Value) -> Result<Command, AskFault>
+fn put_of(alloc: Global, name: Name, value: &Value) -> Result<Command, RequestError>
     ensures line { IfOk result (λ command. line_changed command ≡ Put name) }
     ensures says { IfOk result (λ command. Says (view value.now) command) }
     ensures refused { IfErr result (λ why. IsBadPut (view value.now) why) }
@@ -93,7 +93,7 @@ fn put_of_members(
     url: &str,
     max: &Number,
     secrets: &[&[u8]],
-) -> Result<Command, AskFault>
+) -> Result<Command, RequestError>
     ensures command { IfOk result (λ command. IsPutOf name url.now (number_view max.now) (texts secrets.now) command) }
     ensures refused { IfErr result (λ why. IsBadMember url.now (number_view max.now) (texts secrets.now) why) }
 {
@@ -105,7 +105,7 @@ fn put_of_members(
     })
 }
 
-fn secrets_of_value(alloc: Global, name: Name, value: &Value) -> Result<Command, AskFault>
+fn secrets_of_value(alloc: Global, name: Name, value: &Value) -> Result<Command, RequestError>
     ensures line { IfOk result (λ command. line_changed command ≡ SetSecrets name) }
     ensures says { IfOk result (λ command. Says (view value.now) command) }
     ensures refused { IfErr result (λ why. IsBadSecrets (view value.now) why) }
@@ -115,7 +115,7 @@ fn secrets_of_value(alloc: Global, name: Name, value: &Value) -> Result<Command,
     Ok(Command::SetSecrets { name, secrets })
 }
 
-fn purge_of(value: &Value) -> Result<Command, AskFault>
+fn purge_of(value: &Value) -> Result<Command, RequestError>
     ensures line { IfOk result (λ command. line_changed command ≡ Retention) }
     ensures says { IfOk result (λ command. Says (view value.now) command) }
     ensures refused { IfErr result (λ why. IsBadBefore (view value.now) why) }
@@ -126,52 +126,52 @@ fn purge_of(value: &Value) -> Result<Command, AskFault>
     })
 }
 
-fn read_url(alloc: Global, url: &str) -> Result<Target, AskFault>
+fn read_url(alloc: Global, url: &str) -> Result<Target, RequestError>
     ensures value { IfOk result (λ target. (target ≡ url.now) × IsTrue (is_target url.now)) }
-    ensures bad { result ≡ Err AskFault.BadUrl → is_target url.now ≡ false }
-    ensures faults { IfErr result (λ why. (why ≡ AskFault.BadUrl) ⊎ (why ≡ AskFault.OutOfMemory)) }
+    ensures bad { result ≡ Err RequestError.BadUrl → is_target url.now ≡ false }
+    ensures faults { IfErr result (λ why. (why ≡ RequestError.BadUrl) ⊎ (why ≡ RequestError.OutOfMemory)) }
 {
     match Target::read(alloc, url.as_bytes()) {
         Ok(target) => Ok(target),
-        Err(ReadFault::OutOfMemory) => Err(AskFault::OutOfMemory),
-        Err(_) => Err(AskFault::BadUrl),
+        Err(ReadFault::OutOfMemory) => Err(RequestError::OutOfMemory),
+        Err(_) => Err(RequestError::BadUrl),
     }
 }
 
-fn read_max(max: &Number) -> Result<MaxLimit, AskFault>
+fn read_max(max: &Number) -> Result<MaxLimit, RequestError>
     ensures value { IfOk result (λ limit. (number_view max.now ≡ unsigned limit) × IsTrue (is_max_limit limit)) }
-    ensures refused { IfErr result (λ why. (why ≡ AskFault.BadMax) × (is_max (number_view max.now) ≡ false)) }
+    ensures refused { IfErr result (λ why. (why ≡ RequestError.BadMax) × (is_max (number_view max.now) ≡ false)) }
 {
     let Some(limit) = max.as_u64() else {
-        return Err(AskFault::BadMax);
+        return Err(RequestError::BadMax);
     };
     match MaxLimit::of(limit) {
         Ok(limit) => Ok(limit),
-        Err(_) => Err(AskFault::BadMax),
+        Err(_) => Err(RequestError::BadMax),
     }
 }
 
-fn read_before(before: &Number) -> Result<Moment, AskFault>
+fn read_before(before: &Number) -> Result<Moment, RequestError>
     ensures value { IfOk result (λ moment. (number_view before.now ≡ unsigned moment) × IsTrue (is_moment moment)) }
-    ensures refused { IfErr result (λ why. (why ≡ AskFault.BadMoment) × (is_before (number_view before.now) ≡ false)) }
+    ensures refused { IfErr result (λ why. (why ≡ RequestError.BadMoment) × (is_before (number_view before.now) ≡ false)) }
 {
     let Some(seconds) = before.as_u64() else {
-        return Err(AskFault::BadMoment);
+        return Err(RequestError::BadMoment);
     };
     match Moment::of(seconds) {
         Ok(moment) => Ok(moment),
-        Err(_) => Err(AskFault::BadMoment),
+        Err(_) => Err(RequestError::BadMoment),
     }
 }
 
-fn read_each(alloc: Global, secrets: &[&[u8]]) -> Result<Secrets, AskFault>
+fn read_each(alloc: Global, secrets: &[&[u8]]) -> Result<Secrets, RequestError>
     ensures value { IfOk result (λ read. AreSecretTexts (texts secrets.now) read) }
-    ensures bad { result ≡ Err AskFault.BadSecret → AreNoSecrets (texts secrets.now) }
-    ensures faults { IfErr result (λ why. (why ≡ AskFault.BadSecret) ⊎ (why ≡ AskFault.OutOfMemory)) }
+    ensures bad { result ≡ Err RequestError.BadSecret → AreNoSecrets (texts secrets.now) }
+    ensures faults { IfErr result (λ why. (why ≡ RequestError.BadSecret) ⊎ (why ≡ RequestError.OutOfMemory)) }
 {
     match secrets_of(alloc, secrets) {
         Ok(secrets) => Ok(secrets),
-        Err(ReadFault::OutOfMemory) => Err(AskFault::OutOfMemory),
-        Err(_) => Err(AskFault::BadSecret),
+        Err(ReadFault::OutOfMemory) => Err(RequestError::OutOfMemory),
+        Err(_) => Err(RequestError::BadSecret),
     }
 }

@@ -1,14 +1,14 @@
 //! Why a request isn't read.
 ghost use Rattle.std.specs.Prelude.{◌≡◌};
 ghost use Rattle.intake_shed.specs.Replies.{ask_reply};
-ghost use Rattle.intake_shed.specs.declared.fault.AskFault.TheVariants.{OutOfMemory};
+ghost use Rattle.intake_shed.specs.declared.fault.RequestError.TheVariants.{OutOfMemory};
 
 use crate::reply::Reply;
 use std::alloc::AllocError;
 
 /// Why a request isn't read, in the order of the checks.
 #[derive(Clone, Copy, PartialEq, Eq, Debug)]
-pub enum AskFault {
+pub enum RequestError {
     /// The table of requests has no such method and path.
     NotFound,
     /// The path has no name of an endpoint, or of a topic.
@@ -31,30 +31,30 @@ pub enum AskFault {
     OutOfMemory,
 }
 
-impl AskFault {
+impl RequestError {
     /// The reply to the request.
     pub fn reply(self) -> Reply
         ensures { result ≡ ask_reply self }
     {
         match self {
-            AskFault::NotFound => Reply::refused(404, "{\"error\":\"NotFound\"}"),
-            AskFault::BadName => Reply::refused(400, "{\"error\":\"BadName\"}"),
-            AskFault::TooLong => Reply::refused(413, "{\"error\":\"TooLong\"}"),
-            AskFault::BadId => Reply::refused(400, "{\"error\":\"BadId\"}"),
-            AskFault::BadBody => Reply::refused(400, "{\"error\":\"BadBody\"}"),
-            AskFault::BadUrl => Reply::refused(400, "{\"error\":\"BadUrl\"}"),
-            AskFault::BadMax => Reply::refused(400, "{\"error\":\"BadMax\"}"),
-            AskFault::BadSecret => Reply::refused(400, "{\"error\":\"BadSecret\"}"),
-            AskFault::BadMoment => Reply::refused(400, "{\"error\":\"BadMoment\"}"),
-            AskFault::OutOfMemory => Reply::out_of_memory(),
+            RequestError::NotFound => Reply::refused(404, "{\"error\":\"NotFound\"}"),
+            RequestError::BadName => Reply::refused(400, "{\"error\":\"BadName\"}"),
+            RequestError::TooLong => Reply::refused(413, "{\"error\":\"TooLong\"}"),
+            RequestError::BadId => Reply::refused(400, "{\"error\":\"BadId\"}"),
+            RequestError::BadBody => Reply::refused(400, "{\"error\":\"BadBody\"}"),
+            RequestError::BadUrl => Reply::refused(400, "{\"error\":\"BadUrl\"}"),
+            RequestError::BadMax => Reply::refused(400, "{\"error\":\"BadMax\"}"),
+            RequestError::BadSecret => Reply::refused(400, "{\"error\":\"BadSecret\"}"),
+            RequestError::BadMoment => Reply::refused(400, "{\"error\":\"BadMoment\"}"),
+            RequestError::OutOfMemory => Reply::out_of_memory(),
         }
     }
 }
 
-impl From<AllocError> for AskFault {
+impl From<AllocError> for RequestError {
     ghost from_gives = { λ _ fault. fault ≡ OutOfMemory };
 
-    fn from(_: AllocError) -> AskFault {
-        AskFault::OutOfMemory
+    fn from(_: AllocError) -> RequestError {
+        RequestError::OutOfMemory
     }
 }

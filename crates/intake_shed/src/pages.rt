@@ -2,8 +2,8 @@
 ghost use Rattle.std.specs.Prelude.{IsTrue};
 ghost use Rattle.desk.specs.World.{settled_records};
 ghost use Rattle.desk.specs.Desks.{OverWorlds};
-ghost use Rattle.desk.specs.Kept as kept;
-ghost use Rattle.desk.specs.Looks.{endpoint_page, event_page};
+ghost use Rattle.desk.specs.OwnBooks as kept;
+ghost use Rattle.desk.specs.Queries.{endpoint_page, event_page};
 ghost use Rattle.intake_shed.specs.Pages.{asks_for_page, RepliesBy, RepliesTo, GivesEndpoint, GivesEvent};
 
 use crate::ask::Asked;

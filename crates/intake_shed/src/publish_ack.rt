@@ -1,8 +1,8 @@
 //! Events for a topic that are acknowledged.
 ghost use Rattle.std.specs.Prelude.{◌≡◌, ◌<◌, ◌≤◌, ◌↔◌, length, All, Any, IfSome, IsSome, IsTrue};
 ghost use Rattle.desk.specs.Desks.{OverWorlds};
-ghost use Rattle.desk.specs.Kept as kept;
-ghost use Rattle.desk.specs.Looks.{settled_body};
+ghost use Rattle.desk.specs.OwnBooks as kept;
+ghost use Rattle.desk.specs.Queries.{settled_body};
 ghost use Rattle.delivery.specs.Logs.{HasTickets};
 ghost use Rattle.intake_shed.specs.Acks.{AreBelow, AreLogged, AreSettled, ack_of, publish_ack_of};
 

@@ -8,11 +8,11 @@ ghost use Rattle.intake_shed.specs.Requests.{IsBadOn, IsOfBody, line_asked};
 ghost use Rattle.intake_shed.specs.Requests.{has_parts, has_room, bytes_of, has_one_id, id_of};
 ghost use Rattle.intake_shed.specs.Routes.{line_of};
 ghost use Rattle.intake_shed.specs.declared.ask.Asked.{Asked};
-ghost use Rattle.intake_shed.specs.declared.fault.AskFault.{AskFault};
+ghost use Rattle.intake_shed.specs.declared.fault.RequestError.{RequestError};
 
 use crate::ask::{Ask, AskBody, Asked};
 use crate::changes::{read_flag, read_purge, read_put, read_secrets, read_subscribed};
-use crate::fault::AskFault;
+use crate::fault::RequestError;
 use crate::reply::Reply;
 use crate::routes::{Route, read_route};
 use relay_types::{Body, MAX_BODY_BYTES, MsgId, Name};
@@ -25,7 +25,7 @@ pub fn read_ask(alloc: Global, ask: &Ask<'_>, fresh: MsgId) -> Result<Asked, Rep
     ensures asked { IfOk result (λ asked. AsksFor ask.now fresh asked) }
     ensures asks { (asked : Asked) → AsksFor ask.now fresh asked → Gives result asked }
     ensures refused { IfErr result (λ reply. IsRefusal ask.now reply) }
-    ensures refuses { (why : AskFault) → IsRefusedFor ask.now why → Tells result why }
+    ensures refuses { (why : RequestError) → IsRefusedFor ask.now why → Tells result why }
 {
     match read(alloc, ask, fresh) {
         Ok(asked) => Ok(asked),
@@ -33,18 +33,23 @@ pub fn read_ask(alloc: Global, ask: &Ask<'_>, fresh: MsgId) -> Result<Asked, Rep
     }
 }
 
-fn read(alloc: Global, ask: &Ask<'_>, fresh: MsgId) -> Result<Asked, AskFault>
+fn read(alloc: Global, ask: &Ask<'_>, fresh: MsgId) -> Result<Asked, RequestError>
     ensures asked { IfOk result (λ asked. AsksFor ask.now fresh asked) }
     ensures refused { IfErr result (λ why. IsNotReadFor ask.now why) }
 {
     match read_route(ask.method, ask.path) {
         Some(route) => read_on(alloc, route, ask, fresh),
-        None => Err(AskFault::NotFound),
+        None => Err(RequestError::NotFound),
     }
 }
 
 // What a request on this line asks for.
-fn read_on(alloc: Global, route: Route<'_>, ask: &Ask<'_>, fresh: MsgId) -> Result<Asked, AskFault>
+fn read_on(
+    alloc: Global,
+    route: Route<'_>,
+    ask: &Ask<'_>,
+    fresh: MsgId,
+) -> Result<Asked, RequestError>
     ensures line { IfOk result (λ asked. line_asked asked ≡ line_of route.entry) }
     ensures passes { OnOk result (IsTrue (has_parts (line_of route.entry) ask.now)) }
     ensures says { IfOk result (λ asked. IsOfBody ask.now fresh asked) }
@@ -108,56 +113,56 @@ fn read_on(alloc: Global, route: Route<'_>, ask: &Ask<'_>, fresh: MsgId) -> Resu
         Route::Event(name, id) => {
             let name = read_name(name)?;
             read_size(&ask.body)?;
-            Ok(Asked::Event(name, MsgId::read(id).map_err(|_| AskFault::BadId)?))
+            Ok(Asked::Event(name, MsgId::read(id).map_err(|_| RequestError::BadId)?))
         }
     }
 }
 
 // The name of the endpoint, or of the topic.
-fn read_name(name: &[u8]) -> Result<Name, AskFault>
+fn read_name(name: &[u8]) -> Result<Name, RequestError>
     ensures value { IfOk result (λ read. read ≡ name.now) }
     ensures passes { OnOk result (IsTrue (is_name name.now)) }
-    ensures refused { IfErr result (λ why. (why ≡ AskFault.BadName) × (is_name name.now ≡ false)) }
+    ensures refused { IfErr result (λ why. (why ≡ RequestError.BadName) × (is_name name.now ≡ false)) }
 {
     match Name::read(name) {
         Ok(name) => Ok(name),
-        Err(_) => Err(AskFault::BadName),
+        Err(_) => Err(RequestError::BadName),
     }
 }
 
 // The bytes of a body that has room.
-fn read_size<'a>(body: &AskBody<'a>) -> Result<&'a [u8], AskFault>
+fn read_size<'a>(body: &AskBody<'a>) -> Result<&'a [u8], RequestError>
     ensures bytes { IfOk result (λ bytes. bytes.now ≡ bytes_of body.now) }
     ensures passes { OnOk result (IsTrue (has_room body.now)) }
-    ensures refused { IfErr result (λ why. (why ≡ AskFault.TooLong) × (has_room body.now ≡ false)) }
+    ensures refused { IfErr result (λ why. (why ≡ RequestError.TooLong) × (has_room body.now ≡ false)) }
 {
     match *body {
         AskBody::Whole(bytes) if bytes.len() <= MAX_BODY_BYTES => Ok(bytes),
-        AskBody::Whole(_) | AskBody::TooLong => Err(AskFault::TooLong),
+        AskBody::Whole(_) | AskBody::TooLong => Err(RequestError::TooLong),
     }
 }
 
 // The id of an event: at most one is given.
-fn read_id(ids: &[&[u8]], fresh: MsgId) -> Result<MsgId, AskFault>
+fn read_id(ids: &[&[u8]], fresh: MsgId) -> Result<MsgId, RequestError>
     ensures value { IfOk result (λ id. id ≡ id_of (texts ids.now) fresh) }
     ensures passes { OnOk result (IsTrue (has_one_id (texts ids.now))) }
-    ensures refused { IfErr result (λ why. (why ≡ AskFault.BadId) × (has_one_id (texts ids.now) ≡ false)) }
+    ensures refused { IfErr result (λ why. (why ≡ RequestError.BadId) × (has_one_id (texts ids.now) ≡ false)) }
 {
     match ids {
         [] => Ok(fresh),
         [id] => match MsgId::read(id) {
             Ok(id) => Ok(id),
-            Err(_) => Err(AskFault::BadId),
+            Err(_) => Err(RequestError::BadId),
         },
-        _ => Err(AskFault::BadId),
+        _ => Err(RequestError::BadId),
     }
 }
 
 // The body of an event, which has room.
-fn copy_body(alloc: Global, bytes: &[u8]) -> Result<Body, AskFault>
+fn copy_body(alloc: Global, bytes: &[u8]) -> Result<Body, RequestError>
     requires { length bytes.now ≤ MAX_BODY_BYTES }
     ensures value { IfOk result (λ body. body ≡ bytes.now) }
-    ensures refused { IfErr result (λ why. why ≡ AskFault.OutOfMemory) }
+    ensures refused { IfErr result (λ why. why ≡ RequestError.OutOfMemory) }
 {
     let Ok(body) = Body::of(share_copy(alloc, bytes)?) else {
         unreachable!()

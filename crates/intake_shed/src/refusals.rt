@@ -1,7 +1,7 @@
 //! The replies to changes and events that aren't done.
 ghost use Rattle.std.specs.Prelude.{◌≡◌};
 ghost use Rattle.intake_shed.specs.Replies.{fault_reply, refusal_reply};
-ghost use Rattle.intake_shed.specs.declared.refusals.WaitFault.TheVariants as wait;
+ghost use Rattle.intake_shed.specs.declared.refusals.SubmitError.TheVariants as wait;
 
 use crate::reply::Reply;
 use delivery::WentBack;
@@ -9,7 +9,7 @@ use desk::{Fault, Refusal};
 
 /// Why a change or an event that was waited for isn't told as done.
 #[derive(Clone, Copy, PartialEq, Eq, Debug)]
-pub enum WaitFault {
+pub enum SubmitError {
     /// The desk refused it.
     Refused(Refusal),
     /// It waited when the desk halted: it may be done or not. Or the event was settled, and a purge removed it.
@@ -18,30 +18,30 @@ pub enum WaitFault {
     WentBack,
 }
 
-impl From<Refusal> for WaitFault {
+impl From<Refusal> for SubmitError {
     ghost from_gives = { λ refusal fault. fault ≡ wait.Refused refusal };
 
-    fn from(refusal: Refusal) -> WaitFault {
-        WaitFault::Refused(refusal)
+    fn from(refusal: Refusal) -> SubmitError {
+        SubmitError::Refused(refusal)
     }
 }
 
-impl From<WentBack> for WaitFault {
+impl From<WentBack> for SubmitError {
     ghost from_gives = { λ _ fault. fault ≡ wait.WentBack };
 
-    fn from(_: WentBack) -> WaitFault {
-        WaitFault::WentBack
+    fn from(_: WentBack) -> SubmitError {
+        SubmitError::WentBack
     }
 }
 
 /// The reply to what isn't done. It takes no memory.
-pub fn refusal_reply(fault: &WaitFault) -> Reply
+pub fn refusal_reply(fault: &SubmitError) -> Reply
     ensures { result ≡ refusal_reply fault.now }
 {
     match fault {
-        WaitFault::Refused(refusal) => fault_reply(refusal.fault),
-        WaitFault::Unknown => Reply::refused_now("{\"error\":\"Unknown\"}"),
-        WaitFault::WentBack => Reply::refused_now("{\"error\":\"WentBack\"}"),
+        SubmitError::Refused(refusal) => fault_reply(refusal.fault),
+        SubmitError::Unknown => Reply::refused_now("{\"error\":\"Unknown\"}"),
+        SubmitError::WentBack => Reply::refused_now("{\"error\":\"WentBack\"}"),
     }
 }
 

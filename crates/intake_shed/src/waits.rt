@@ -1,6 +1,6 @@
 //! Changes and events that are waited for. The lock is free while their callers wait.
 ghost use Rattle.std.specs.Prelude.{◌≡◌, ◌≢◌, ◌<◌, ◌≤◌, ◌↔◌, Some, IsTrue, IfOk, IfErr};
-ghost use Rattle.desk.specs.Kept as kept;
+ghost use Rattle.desk.specs.OwnBooks as kept;
 ghost use Rattle.delivery.specs.Logs.{IsOfCommand};
 ghost use Rattle.intake_shed.specs.Acks.{AreBelow, AreSettled, IsOfEvent, IsOfPublish, ack_of, confirmed_of, publish_ack_of};
 ghost use Rattle.intake_shed.specs.Answers.{IsNoRefusal, may_fail, may_fail_event, may_fail_publish};
@@ -8,7 +8,7 @@ ghost use Rattle.intake_shed.specs.Answers.{IsNoRefusal, may_fail, may_fail_even
 use crate::ack::Ack;
 use crate::confirmed::Confirmed;
 use crate::publish_ack::PublishAck;
-use crate::refusals::WaitFault;
+use crate::refusals::SubmitError;
 use delivery::{Locked, Pass, Published, Shared, StagedChange};
 use desk::{Command, Fault, Refusal, Ticket};
 use relay_types::{Body, Moment, MsgId, Name};
@@ -32,14 +32,14 @@ pub fn submit_and_wait<L: Ledger, I: LogId, R: Wait>(
     id: MsgId,
     body: Body,
     pass: &mut Pass,
-) -> Result<Ack<I>, WaitFault>
+) -> Result<Ack<I>, SubmitError>
     ensures event { IfOk result (λ ack. IsOfEvent ack name id body) }
     ensures seen { IfOk result (λ ack. ack.seq < pass.new) }
     ensures names { IfErr result (λ why. IsTrue (may_fail_event why)) }
     ensures pass { pass.old ≤ pass.new }
 {
     let Ok(copy) = body.share() else {
-        return Err(WaitFault::Refused(NO_MEMORY));
+        return Err(SubmitError::Refused(NO_MEMORY));
     };
     let ticket = shared.submit(rt, now, name, id, copy)?;
     let mut locked = shared.wait_for(rt, &ticket);
@@ -53,15 +53,15 @@ fn acknowledge<L: Ledger, I: LogId>(
     ticket: Ticket,
     body: Body,
     pass: &mut Pass,
-) -> Result<Ack<I>, WaitFault>
+) -> Result<Ack<I>, SubmitError>
     ensures ack { IfOk result (λ ack. ack ≡ ack_of ticket body locked.old.prefix) }
     ensures seen { IfOk result (λ ack. ack.seq < pass.new) }
-    ensures unknown { (result ≡ Err WaitFault.Unknown) ↔ (kept.settled_body locked.old.desk ticket ≢ Some body) }
+    ensures unknown { (result ≡ Err SubmitError.Unknown) ↔ (kept.settled_body locked.old.desk ticket ≢ Some body) }
     ensures refused { IfErr result IsNoRefusal }
     ensures pass { pass.old ≤ pass.new }
 {
     let Ok(ack) = Ack::of(log, locked, ticket, body) else {
-        return Err(WaitFault::Unknown);
+        return Err(SubmitError::Unknown);
     };
     pass.look(locked.desk())?;
     Ok(ack)
@@ -77,14 +77,14 @@ pub fn publish_and_wait<L: Ledger, I: LogId, R: Wait>(
     id: MsgId,
     body: Body,
     pass: &mut Pass,
-) -> Result<PublishAck<I>, WaitFault>
+) -> Result<PublishAck<I>, SubmitError>
     ensures event { IfOk result (λ ack. IsOfPublish ack topic id body) }
     ensures seen { IfOk result (λ ack. AreBelow pass.new ack.event.tickets) }
     ensures names { IfErr result (λ why. IsTrue (may_fail_publish why)) }
     ensures pass { pass.old ≤ pass.new }
 {
     let Ok(copy) = body.share() else {
-        return Err(WaitFault::Refused(NO_MEMORY));
+        return Err(SubmitError::Refused(NO_MEMORY));
     };
     let event = shared.publish(rt, now, topic, id, copy)?;
     let mut locked = shared.wait_for_all(rt, event.tickets());
@@ -98,16 +98,16 @@ fn acknowledge_all<L: Ledger, I: LogId>(
     event: Published<I>,
     body: Body,
     pass: &mut Pass,
-) -> Result<PublishAck<I>, WaitFault>
+) -> Result<PublishAck<I>, SubmitError>
     ensures ack { IfOk result (λ ack. ack ≡ publish_ack_of event body locked.old.prefix) }
     ensures seen { IfOk result (λ ack. AreBelow pass.new ack.event.tickets) }
-    ensures unknown { (result ≡ Err WaitFault.Unknown)
+    ensures unknown { (result ≡ Err SubmitError.Unknown)
         ↔ ¬ AreSettled (kept.settled_body locked.old.desk) event.tickets body }
     ensures refused { IfErr result IsNoRefusal }
     ensures pass { pass.old ≤ pass.new }
 {
     let Some(ack) = PublishAck::of(log, locked, event, body) else {
-        return Err(WaitFault::Unknown);
+        return Err(SubmitError::Unknown);
     };
     pass.look(locked.desk())?;
     Ok(ack)
@@ -119,7 +119,7 @@ pub fn command_and_wait<L: Ledger, I: LogId, R: Wait>(
     shared: &Shared<L, I>,
     command: Command,
     pass: &mut Pass,
-) -> Result<Confirmed<I>, WaitFault>
+) -> Result<Confirmed<I>, SubmitError>
     ensures change { IfOk result (λ confirmed. IsOfCommand confirmed command) }
     ensures seen { IfOk result (λ confirmed. confirmed.seq < pass.new) }
     ensures names { IfErr result (λ why. IsTrue (may_fail command why)) }
@@ -136,15 +136,15 @@ fn confirm<L: Ledger, I: LogId>(
     locked: &mut Locked<L, I>,
     change: StagedChange<I>,
     pass: &mut Pass,
-) -> Result<Confirmed<I>, WaitFault>
+) -> Result<Confirmed<I>, SubmitError>
     ensures change { IfOk result (λ confirmed. confirmed ≡ confirmed_of change locked.old.prefix) }
     ensures seen { IfOk result (λ confirmed. confirmed.seq < pass.new) }
-    ensures unknown { (result ≡ Err WaitFault.Unknown) ↔ (locked.old.desk.waiting.settled ≤ change.seq) }
+    ensures unknown { (result ≡ Err SubmitError.Unknown) ↔ (locked.old.desk.waiting.settled ≤ change.seq) }
     ensures refused { IfErr result IsNoRefusal }
     ensures pass { pass.old ≤ pass.new }
 {
     let Some(confirmed) = Confirmed::of(log, locked, change) else {
-        return Err(WaitFault::Unknown);
+        return Err(SubmitError::Unknown);
     };
     pass.look(locked.desk())?;
     Ok(confirmed)

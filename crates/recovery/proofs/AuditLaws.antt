@@ -12,8 +12,8 @@ use Rattle.spool_sql.specs.Readable.{WasRefusal}
 use Rattle.spool_sql.proofs.RefusalLemmas.{has_failed}
 use Rattle.spool_sql.specs.Steps.{IfClean}
 use Rattle.spool.specs.Books.{IsLoadRefusal}
-use Rattle.spool.specs.declared.ends.LoadFault.{LoadFault}
-use Rattle.spool.specs.declared.ends.LoadFault.TheVariants as load
+use Rattle.spool.specs.declared.faults.LoadFault.{LoadFault}
+use Rattle.spool.specs.declared.faults.LoadFault.TheVariants as load
 use Rattle.spool.specs.Vaults.{VaultValue, Holds}
 use Rattle.desk.specs.Desks.{DeskValue}
 use Rattle.recovery.specs.declared.audits.AuditFault.TheVariants.{Store}

@@ -19,9 +19,9 @@ use Rattle.spool_sql.proofs.StepLemmas.{opened_first, opened_tables}
 use Rattle.spool.specs.Adopting.{HaveFirstHistory, HaveHistory}
 use Rattle.spool.specs.Migrating.{HaveRows, LeavesMigrated, MayMigrate}
 use Rattle.spool.proofs.MigrateLemmas.{only_read}
-use Rattle.spool.specs.declared.ends.OpenFault.{OpenFault}
-use Rattle.spool.specs.declared.ends.OpenFault.TheVariants.{NotOurs, NewerVersion, OldVersion, Damaged, Store}
-use Rattle.spool.specs.declared.ends.OpenFault.TheVariants.{OutOfMemory}
+use Rattle.spool.specs.declared.faults.OpenFault.{OpenFault}
+use Rattle.spool.specs.declared.faults.OpenFault.TheVariants.{NotOurs, NewerVersion, OldVersion, Damaged, Store}
+use Rattle.spool.specs.declared.faults.OpenFault.TheVariants.{OutOfMemory}
 use Rattle.spool.specs.Vaults.{VaultValue}
 use Rattle.desk.specs.Desks.{DeskValue}
 use Rattle.desk.specs.World.{World, all_records}

@@ -18,7 +18,7 @@ use Rattle.sqlite.specs.WalReads.{tally_of_files}
 use Rattle.sqlite_store.specs.Report.{named}
 use Rattle.sqlite_trees.specs.declared.error.StoreError.{StoreError}
 use Rattle.sqlite_trees.specs.declared.error.StoreError.TheVariants as stored
-use Rattle.spool.specs.declared.ends.OpenFault.{OpenFault}
+use Rattle.spool.specs.declared.faults.OpenFault.{OpenFault}
 use Rattle.recovery.specs.Paths.{IsOfDisk, IsOfDiskAs, unopened_fault}
 
 -- two files as an image, and what one of the two held

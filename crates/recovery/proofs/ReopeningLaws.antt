@@ -24,11 +24,11 @@ use Rattle.spool_sql.specs.Tables.{IsOwn}
 use Rattle.spool.specs.Adopting.{IsOnlyRead, LeavesRead, IsOfStore, unloaded_fault}
 use Rattle.spool.specs.Migrating.{HaveRows, IsMigrated, IsUnmade, LeavesMigrated, MayMigrate}
 use Rattle.spool.specs.Books.{IsLoadRefusal, IsSeen}
-use Rattle.spool.specs.declared.ends.LoadFault.{LoadFault}
-use Rattle.spool.specs.declared.ends.LoadFault.TheVariants as load
-use Rattle.spool.specs.declared.ends.OpenFault.{OpenFault}
-use Rattle.spool.specs.declared.ends.OpenFault.TheVariants.{NotOurs, NewerVersion, OldVersion, Damaged, Store}
-use Rattle.spool.specs.declared.ends.OpenFault.TheVariants.{OutOfMemory}
+use Rattle.spool.specs.declared.faults.LoadFault.{LoadFault}
+use Rattle.spool.specs.declared.faults.LoadFault.TheVariants as load
+use Rattle.spool.specs.declared.faults.OpenFault.{OpenFault}
+use Rattle.spool.specs.declared.faults.OpenFault.TheVariants.{NotOurs, NewerVersion, OldVersion, Damaged, Store}
+use Rattle.spool.specs.declared.faults.OpenFault.TheVariants.{OutOfMemory}
 use Rattle.spool.specs.Vaults.{VaultValue}
 use Rattle.desk.specs.World.{World, all_records}
 use Rattle.desk.specs.Desks.{DeskValue}

@@ -8,13 +8,13 @@ use Rattle.spool_sql.specs.declared.cause.Cause.{Cause}
 use Rattle.spool_sql.specs.declared.cause.Cause.TheVariants as of
 use Rattle.spool_sql.specs.Readable.{HasFailed}
 use Rattle.spool_sql.specs.Steps.{IfClean}
-use Rattle.spool.specs.declared.ends.LoadFault.{LoadFault}
-use Rattle.spool.specs.declared.ends.LoadFault.TheVariants as load
+use Rattle.spool.specs.declared.faults.LoadFault.{LoadFault}
+use Rattle.spool.specs.declared.faults.LoadFault.TheVariants as load
 use Rattle.spool.specs.declared.load.Books.{Books}
 use Rattle.spool.specs.Books.{AreBooksOf}
 use Rattle.spool.specs.Vaults.{VaultValue, Holds}
 use Rattle.desk.specs.Desks.{DeskValue}
-use Rattle.desk.specs.Kept.{AreTold}
+use Rattle.desk.specs.OwnBooks.{AreTold}
 use Rattle.recovery.specs.declared.audits.AuditFault.{AuditFault}
 use Rattle.recovery.specs.declared.audits.AuditFault.TheVariants.{Mismatch, Store, OutOfMemory}
 

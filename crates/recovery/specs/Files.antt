@@ -16,7 +16,7 @@ use Rattle.spool_sql.specs.Stored.{AreFirstTablesOf, AreTablesOf}
 use Rattle.spool_sql.specs.Tables.{IsOwn, no_schema}
 use Rattle.sound_tables.specs.Keys.{has_first_tables}
 use Rattle.spool.specs.Vaults.{VaultValue}
-use Rattle.spool.specs.declared.ends.OpenFault.{OpenFault}
+use Rattle.spool.specs.declared.faults.OpenFault.{OpenFault}
 use Rattle.desk.specs.World.{World, all_records}
 use Rattle.desk.specs.Desks.{DeskValue}
 use Rattle.recovery.specs.Left.{AreLeft, IsCleanAt}

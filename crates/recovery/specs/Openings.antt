@@ -5,9 +5,9 @@ use Rattle.sqlite.specs.Held.{Held}
 use Rattle.sqlite.specs.Schema.{Schema}
 use Rattle.spool_sql.specs.Steps.{IfClean}
 use Rattle.spool.specs.Opening.{has_ours, LeavesAt}
-use Rattle.spool.specs.declared.ends.OpenFault.{OpenFault}
-use Rattle.spool.specs.declared.ends.OpenFault.TheVariants.{NotOurs, NewerVersion, OldVersion, Damaged, Store}
-use Rattle.spool.specs.declared.ends.OpenFault.TheVariants.{OutOfMemory}
+use Rattle.spool.specs.declared.faults.OpenFault.{OpenFault}
+use Rattle.spool.specs.declared.faults.OpenFault.TheVariants.{NotOurs, NewerVersion, OldVersion, Damaged, Store}
+use Rattle.spool.specs.declared.faults.OpenFault.TheVariants.{OutOfMemory}
 
 -- Why a store without tables wasn't opened. A table of ours is told as such, or memory was refused before the look at
 -- the store.

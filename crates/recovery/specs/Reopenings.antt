@@ -13,8 +13,8 @@ use Rattle.spool.specs.Entering.{LeavesAsBefore}
 use Rattle.spool.specs.Migrating.{AreSoundRows, HaveRows, IsUnmigrated, MayMigrate}
 use Rattle.spool.specs.Loading.{greatest_of}
 use Rattle.spool.specs.Vaults.{VaultValue, Holds}
-use Rattle.spool.specs.declared.ends.OpenFault.{OpenFault}
-use Rattle.spool.specs.declared.ends.OpenFault.TheVariants.{NewerVersion, Damaged, Store, OutOfMemory}
+use Rattle.spool.specs.declared.faults.OpenFault.{OpenFault}
+use Rattle.spool.specs.declared.faults.OpenFault.TheVariants.{NewerVersion, Damaged, Store, OutOfMemory}
 use Rattle.desk.specs.World.{World, all_records}
 use Rattle.desk.specs.Moves.{opened}
 use Rattle.desk.specs.Desks.{DeskValue, StandsFor}

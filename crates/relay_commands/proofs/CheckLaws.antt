@@ -14,11 +14,11 @@ use Rattle.relay_types.specs.Legal.{IsLegal}
 use Rattle.relay_types.specs.Rows.{rows_of}
 use Rattle.spool.specs.Migrating.{HaveRows}
 use Rattle.spool.specs.Vaults.{VaultValue}
-use Rattle.spool.specs.declared.ends.OpenFault.{OpenFault}
-use Rattle.spool.specs.declared.ends.OpenFault.TheVariants.{NotOurs, NewerVersion, OldVersion, Damaged, Store}
-use Rattle.spool.specs.declared.ends.OpenFault.TheVariants.{OutOfMemory}
+use Rattle.spool.specs.declared.faults.OpenFault.{OpenFault}
+use Rattle.spool.specs.declared.faults.OpenFault.TheVariants.{NotOurs, NewerVersion, OldVersion, Damaged, Store}
+use Rattle.spool.specs.declared.faults.OpenFault.TheVariants.{OutOfMemory}
 use Rattle.desk.specs.World.{settled_records}
-use Rattle.desk.specs.Looks.{totals}
+use Rattle.desk.specs.Queries.{totals}
 use Rattle.desk.specs.Desks.{DeskValue, OverWorlds}
 use Rattle.desk.specs.declared.pages.Totals.{Totals}
 use Rattle.recovery.specs.Files.{HoldsEither, IsMadeOrReopened}

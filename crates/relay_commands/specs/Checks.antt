@@ -18,11 +18,11 @@ use Rattle.sound_tables.specs.Checks.{HasNoVersionBut, HasVersion, IsRefusedAt}
 use Rattle.sound_tables.specs.declared.fault.TableFault.TheVariants as table
 use Rattle.sound_tables.specs.Keys.{has_first_tables}
 use Rattle.spool.specs.Migrating.{AreSoundRows, HaveRows, has_topics}
-use Rattle.spool.specs.declared.ends.OpenFault.{OpenFault}
-use Rattle.spool.specs.declared.ends.OpenFault.TheVariants.{NotOurs, NewerVersion, OldVersion, Damaged, Store}
-use Rattle.spool.specs.declared.ends.OpenFault.TheVariants as opening
+use Rattle.spool.specs.declared.faults.OpenFault.{OpenFault}
+use Rattle.spool.specs.declared.faults.OpenFault.TheVariants.{NotOurs, NewerVersion, OldVersion, Damaged, Store}
+use Rattle.spool.specs.declared.faults.OpenFault.TheVariants as opening
 use Rattle.desk.specs.World.{settled_records}
-use Rattle.desk.specs.Looks.{totals}
+use Rattle.desk.specs.Queries.{totals}
 use Rattle.desk.specs.declared.pages.Totals.{Totals}
 use Rattle.recovery.specs.Files.{HoldsEither}
 use Rattle.recovery.specs.Left.{IsCleanAt}

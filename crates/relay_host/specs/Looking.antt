@@ -2,11 +2,11 @@
 use Rattle.std.specs.Prelude.{◌≡◌}
 use Rattle.std.specs.declared.io.ErrorKind.{ErrorKind}
 use Rattle.std.specs.declared.io.ErrorKind.TheVariants.{NotFound, NotADirectory, FilesystemLoop, OutOfMemory}
-use Rattle.relay_host.specs.declared.place.Sight.{Sight}
-use Rattle.relay_host.specs.declared.place.Sight.TheVariants as sight
+use Rattle.relay_host.specs.declared.place.FileCheck.{FileCheck}
+use Rattle.relay_host.specs.declared.place.FileCheck.TheVariants as sight
 
 -- If the path leads nowhere, nothing is there. Every other refusal hides what is there, except lack of memory.
-abbrev pub sight_after : ErrorKind → Sight
+abbrev pub sight_after : ErrorKind → FileCheck
 sight_after NotFound = sight.Gone
 sight_after NotADirectory = sight.Gone
 sight_after FilesystemLoop = sight.Gone

@@ -1,15 +1,15 @@
 -- What a look at a place finds, and what a keeper there keeps.
 use Rattle.std.specs.Prelude.{◌≡◌, ◌++◌, ◌⊎◌, ℕ, false, IsSome, IsTrue, List, Option, Some, None}
 use Rattle.std.specs.Prelude.{codes, string_bytes}
-use Rattle.spool.specs.declared.ends.Unchanged.{Unchanged}
-use Rattle.spool.specs.declared.ends.Unchanged.TheVariants as why
+use Rattle.spool.specs.declared.faults.Unchanged.{Unchanged}
+use Rattle.spool.specs.declared.faults.Unchanged.TheVariants as why
 use Rattle.relay_host.specs.declared.place.FilePlace.{FilePlace}
-use Rattle.relay_host.specs.declared.place.Sight.{Sight}
-use Rattle.relay_host.specs.declared.place.Sight.TheVariants.{Stands, Gone, Unseen, OutOfMemory}
-use Rattle.relay_host.specs.declared.placed.Placed.{Placed}
+use Rattle.relay_host.specs.declared.place.FileCheck.{FileCheck}
+use Rattle.relay_host.specs.declared.place.FileCheck.TheVariants.{Stands, Gone, Unseen, OutOfMemory}
+use Rattle.relay_host.specs.declared.file_guard.FileGuard.{FileGuard}
 
 -- the look told nothing of what stands there
-abbrev pub IsBlind : Sight → Type 0
+abbrev pub IsBlind : FileCheck → Type 0
 IsBlind Stands = ⊥
 IsBlind Gone = ⊥
 IsBlind Unseen = Unit {0}
@@ -24,7 +24,7 @@ pub record IsPlaceOf {F File Dir : Type 0} (path : List ℕ) (place : FilePlace 
 
 -- The paths stay the same. What is known of the file and of its log stays known. A look that told something makes the
 -- file known, and one that told nothing changes nothing.
-pub record IsSightOf {F File Dir : Type 0} (old new : FilePlace F File Dir) (sight : Sight) : Type 0 where
+pub record IsSightOf {F File Dir : Type 0} (old new : FilePlace F File Dir) (sight : FileCheck) : Type 0 where
   pub file_path : new.path ≡ old.path
   pub log_path : new.log_path ≡ old.log_path
   pub known : IsBlind sight ⊎ IsTrue new.is_known
@@ -34,7 +34,7 @@ pub record IsSightOf {F File Dir : Type 0} (old new : FilePlace F File Dir) (sig
   pub blind : IsBlind sight → new ≡ old
 
 -- As what a batch is handed back where a look finds this; none is where the place stands.
-abbrev pub refusal_at : Sight → Option Unchanged
+abbrev pub refusal_at : FileCheck → Option Unchanged
 refusal_at Stands = None
 refusal_at Gone = Some why.OutOfTurn
 refusal_at Unseen = Some why.OutOfTurn
@@ -42,12 +42,12 @@ refusal_at OutOfMemory = Some why.OutOfMemory
 
 module _ {K P : Type 0} where
   -- the keeper, wherever its place is
-  abbrev pub keeper_of : Placed K P → K
+  abbrev pub keeper_of : FileGuard K P → K
   keeper_of placed = placed.keeper
 
-  abbrev pub place_of : Placed K P → P
+  abbrev pub place_of : FileGuard K P → P
   place_of placed = placed.place
 
   -- what the last look found
-  abbrev pub sight_of : Placed K P → Sight
+  abbrev pub sight_of : FileGuard K P → FileCheck
   sight_of placed = placed.sight

@@ -3,7 +3,7 @@ ghost use Rattle.std.specs.Prelude.{◌≡◌, ◌↔◌, ◌⊎◌, true, false
 ghost use Rattle.std.specs.IoError.{error_kind};
 ghost use Rattle.relay_host.specs.Placing.{IsPlaceOf, IsSightOf};
 ghost use Rattle.relay_host.specs.Looking.{sight_after};
-ghost use Rattle.relay_host.specs.declared.place.Sight.{Sight};
+ghost use Rattle.relay_host.specs.declared.place.FileCheck.{FileCheck};
 
 use std::alloc::{AllocError, Global};
 use std::fs::Files;
@@ -19,7 +19,7 @@ const PAUSE_MILLIS: u64 = 100;
 
 /// What a look at a place finds.
 #[derive(Clone, Copy, PartialEq, Eq, Debug)]
-pub enum Sight {
+pub enum FileCheck {
     /// What was opened stands there.
     Stands,
     /// Nothing stands there, or something else.
@@ -33,12 +33,12 @@ pub enum Sight {
 /// A place at which something was opened. It names what a look may find, and what it leaves.
 pub trait Place {
     ghost use Rattle.std.specs.Prelude.{⊤};
-    ghost use Rattle.relay_host.specs.declared.place.Sight.{Sight};
+    ghost use Rattle.relay_host.specs.declared.place.FileCheck.{FileCheck};
 
-    ghost finds: { Self → Self → Sight → Type 0 } = { λ _ _ _. ⊤ };
+    ghost finds: { Self → Self → FileCheck → Type 0 } = { λ _ _ _. ⊤ };
 
     /// Looks what stands there now.
-    fn look(&mut self) -> Sight
+    fn look(&mut self) -> FileCheck
         ensures { finds self.old self.new result };
 }
 
@@ -81,13 +81,13 @@ impl<'a, F: Files + Clock> FilePlace<'a, F> {
     /// Takes what is there now for what was opened. If it can't be looked at, the next look takes
     /// it. It leaves what a look leaves.
     pub fn remember(&mut self)
-        ensures { (sight : Sight) × IsSightOf self.old self.new sight }
+        ensures { (sight : FileCheck) × IsSightOf self.old self.new sight }
     {
         let _seen = self.look();
     }
 
     // One look.
-    fn glance(&mut self) -> Sight
+    fn glance(&mut self) -> FileCheck
         ensures { IsSightOf self.old self.new result }
     {
         match (
@@ -100,7 +100,7 @@ impl<'a, F: Files + Clock> FilePlace<'a, F> {
     }
 
     // What stands there, beside what was opened.
-    fn sees(&mut self, file: Option<Node>, log: Option<Node>) -> Sight
+    fn sees(&mut self, file: Option<Node>, log: Option<Node>) -> FileCheck
         ensures file_path { self.new.path ≡ self.old.path }
         ensures log_path { self.new.log_path ≡ self.old.log_path }
         ensures known { self.new.is_known ≡ true }
@@ -108,8 +108,8 @@ impl<'a, F: Files + Clock> FilePlace<'a, F> {
         ensures file { self.old.is_known ≡ true → self.new.file ≡ self.old.file }
         ensures first_log { self.old.log ≡ None → self.new.log ≡ log }
         ensures log { IsSome self.old.log → self.new.log ≡ self.old.log }
-        ensures stands { (result ≡ Sight.Stands) ↔ (IsSome self.new.file × (self.new.file ≡ file) × (self.new.log ≡ log)) }
-        ensures gone { (result ≡ Sight.Stands) ⊎ (result ≡ Sight.Gone) }
+        ensures stands { (result ≡ FileCheck.Stands) ↔ (IsSome self.new.file × (self.new.file ≡ file) × (self.new.log ≡ log)) }
+        ensures gone { (result ≡ FileCheck.Stands) ⊎ (result ≡ FileCheck.Gone) }
     {
         if !self.is_known {
             self.is_known = true;
@@ -119,9 +119,9 @@ impl<'a, F: Files + Clock> FilePlace<'a, F> {
             self.log = log;
         }
         if self.file.is_some() && self.file == file && self.log == log {
-            Sight::Stands
+            FileCheck::Stands
         } else {
-            Sight::Gone
+            FileCheck::Gone
         }
     }
 }
@@ -134,10 +134,10 @@ impl<F: Files + Clock> Place for FilePlace<'_, F> {
     /// The first look that sees the file takes what stands there for what was opened. A log that
     /// wasn't there before is the file's own from then on. A file that can't be looked at is looked
     /// at again, for ten seconds at most.
-    fn look(&mut self) -> Sight {
+    fn look(&mut self) -> FileCheck {
         for _ in 1..LOOKS {
             match self.glance() {
-                Sight::Unseen => thread::sleep(self.files, Duration::from_millis(PAUSE_MILLIS)),
+                FileCheck::Unseen => thread::sleep(self.files, Duration::from_millis(PAUSE_MILLIS)),
                 sight => return sight,
             }
         }
@@ -146,8 +146,8 @@ impl<F: Files + Clock> Place for FilePlace<'_, F> {
 }
 
 // Which file stands at the path, if one does, or why that can't be said.
-fn node_at<F: Files>(files: &F, path: &str) -> Result<Option<Node>, Sight>
-    ensures { IfErr result (λ sight. (sight ≡ Sight.Unseen) ⊎ (sight ≡ Sight.OutOfMemory)) }
+fn node_at<F: Files>(files: &F, path: &str) -> Result<Option<Node>, FileCheck>
+    ensures { IfErr result (λ sight. (sight ≡ FileCheck.Unseen) ⊎ (sight ≡ FileCheck.OutOfMemory)) }
 {
     match fs::metadata(files, path) {
         Ok(found) => Ok(Some(Node {
@@ -155,19 +155,20 @@ fn node_at<F: Files>(files: &F, path: &str) -> Result<Option<Node>, Sight>
             number: found.ino(),
         })),
         Err(error) => match sight_after(error) {
-            Sight::Gone => Ok(None),
+            FileCheck::Gone => Ok(None),
             unseen => Err(unseen),
         },
     }
 }
 
 // What a refusal to look tells: that nothing stands at the path, or nothing of what stands there.
-fn sight_after(error: io::Error) -> Sight
+fn sight_after(error: io::Error) -> FileCheck
     ensures { result ≡ sight_after (error_kind error) }
 {
     match error.kind() {
-        ErrorKind::NotFound | ErrorKind::NotADirectory | ErrorKind::FilesystemLoop => Sight::Gone,
-        ErrorKind::OutOfMemory => Sight::OutOfMemory,
-        _ => Sight::Unseen,
+        ErrorKind::NotFound | ErrorKind::NotADirectory | ErrorKind::FilesystemLoop =>
+            FileCheck::Gone,
+        ErrorKind::OutOfMemory => FileCheck::OutOfMemory,
+        _ => FileCheck::Unseen,
     }
 }

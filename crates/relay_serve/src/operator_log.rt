@@ -1,7 +1,7 @@
 //! What the operator is told on standard error: a line each, with the moment.
 use delivery::HaltCause;
 use desk::Totals;
-use relay_host::{HostClock, Sight};
+use relay_host::{FileCheck, HostClock};
 use relay_types::{MAX_FAILURES, Name};
 use std::alloc::Global;
 use std::io::Eprint;
@@ -35,7 +35,7 @@ pub(crate) enum LogLine<'a> {
     /// What the last look at the file found tells a file that is gone from a batch out of turn.
     Halted {
         cause: HaltCause,
-        sight: Sight,
+        sight: FileCheck,
     },
     /// The greatest number of an event that was acknowledged while it served.
     Acknowledged(u64),
@@ -101,15 +101,15 @@ fn id_of(request: &Outgoing) -> &str {
 
 /// Why the committer gave up, as the operator reads it, by what the last look at the file found. A
 /// batch is also out of turn if the file is gone or can't be looked at.
-pub fn halt_text(cause: HaltCause, sight: Sight) -> &'static str {
+pub fn halt_text(cause: HaltCause, sight: FileCheck) -> &'static str {
     match cause {
         HaltCause::Halted => "the relay had halted before",
         HaltCause::OutOfMemory => "out of memory nine times in a row",
         HaltCause::Closed => "the result of an earlier commit is unknown",
         HaltCause::OutOfTurn => match sight {
-            Sight::Gone => "the file isn't the one that was opened",
-            Sight::Unseen => "the file can't be looked at",
-            Sight::Stands | Sight::OutOfMemory => "a batch was out of turn",
+            FileCheck::Gone => "the file isn't the one that was opened",
+            FileCheck::Unseen => "the file can't be looked at",
+            FileCheck::Stands | FileCheck::OutOfMemory => "a batch was out of turn",
         },
         HaltCause::Illegal => "a record is invalid after those in the store",
         HaltCause::Store(_) => "the store failed",

@@ -25,7 +25,7 @@ use desk::Desk;
 use intake_shed::{Acknowledged, LatestAck};
 use permits::PARTS;
 use recovery::audit_shown;
-use relay_host::{FilePlace, Place, Placed, Sight};
+use relay_host::{FileCheck, FileGuard, FilePlace, Place};
 use run_log::{LogId, NewLog};
 use spool::Vault;
 use sqlite::Alter;
@@ -207,8 +207,8 @@ where
     ensures clean { IfClean S.Store vault.conn result.0.conn (λ old _. HasCleanDisk old) }
     ensures closed { IsOfKeeper (committer_end result.1) → IsTrue result.0.closed }
 {
-    let keeper = Placed::new(vault, place);
-    let (shared, logged) = begin_run::<L, I, Placed<Vault<S>, P>>(
+    let keeper = FileGuard::new(vault, place);
+    let (shared, logged) = begin_run::<L, I, FileGuard<Vault<S>, P>>(
         new_log, new_staged, desk, keeper,
     );
     let relay = match Relay::new(rt.alloc(), shared, settings.intake) {
@@ -258,7 +258,7 @@ fn report_end<L, I, S, R>(
     rt: &R,
     relay: &Relay<L, I>,
     end: Ended,
-    sight: Sight,
+    sight: FileCheck,
     vault: &mut Vault<S>,
 ) -> Result<Served, ServeFault>
 where

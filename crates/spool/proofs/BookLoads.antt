@@ -41,8 +41,8 @@ use Rattle.spool.specs.Vaults.{VaultValue, Holds}
 use Rattle.spool.specs.Adopting.{IsOnlyRead}
 use Rattle.spool.specs.Commits.{HoldsOnDisk}
 use Rattle.spool.specs.Books.{AreBooks, IsLoadRefusal, IsSeen, KeepsOpen, LeavesHeld, TellsLoad, error_of}
-use Rattle.spool.specs.declared.ends.LoadFault.{LoadFault}
-use Rattle.spool.specs.declared.ends.LoadFault.TheVariants.{Closed, Store, OutOfMemory}
+use Rattle.spool.specs.declared.faults.LoadFault.{LoadFault}
+use Rattle.spool.specs.declared.faults.LoadFault.TheVariants.{Closed, Store, OutOfMemory}
 use Rattle.spool.specs.declared.load.Books.{Books}
 use Rattle.spool.specs.declared.deliveries.Deliveries.{Deliveries}
 use Rattle.spool.specs.declared.load_endpoints.Endpoints.{Endpoints}

@@ -8,9 +8,9 @@ use Rattle.sound_tables.specs.declared.fault.TableFault.{TableFault}
 use Rattle.spool.specs.Adopting.{IsOnlyRead, LeavesRead, TellsCheck}
 use Rattle.spool.specs.Books.{KeepsOpen}
 use Rattle.spool.specs.Opening.{IsBack}
-use Rattle.spool.specs.declared.ends.OpenFault.{OpenFault}
-use Rattle.spool.specs.declared.ends.OpenFault.TheVariants.{NotOurs, NewerVersion, OldVersion, Damaged, Store}
-use Rattle.spool.specs.declared.ends.OpenFault.TheVariants.{OutOfMemory}
+use Rattle.spool.specs.declared.faults.OpenFault.{OpenFault}
+use Rattle.spool.specs.declared.faults.OpenFault.TheVariants.{NotOurs, NewerVersion, OldVersion, Damaged, Store}
+use Rattle.spool.specs.declared.faults.OpenFault.TheVariants.{OutOfMemory}
 
 pub same_keeps : (a b : State) → IsUnchanged a b → KeepsOpen a b
 same_keeps a b same is_open = (same.0.was_open, λ rows stands. stands_along a b rows stands same)

@@ -8,9 +8,9 @@ use Rattle.sound_tables.proofs.BothRefused.{refusal_since}
 use Rattle.spool.specs.Entering.{IsCause}
 use Rattle.spool.proofs.CommitLemmas.{caused_until}
 use Rattle.spool.specs.Opening.{has_ours, IsBack, Founded, LeavesAt, TellsFault}
-use Rattle.spool.specs.declared.ends.OpenFault.{OpenFault}
-use Rattle.spool.specs.declared.ends.OpenFault.TheVariants.{NotOurs, NewerVersion, OldVersion, Damaged, Store}
-use Rattle.spool.specs.declared.ends.OpenFault.TheVariants.{OutOfMemory}
+use Rattle.spool.specs.declared.faults.OpenFault.{OpenFault}
+use Rattle.spool.specs.declared.faults.OpenFault.TheVariants.{NotOurs, NewerVersion, OldVersion, Damaged, Store}
+use Rattle.spool.specs.declared.faults.OpenFault.TheVariants.{OutOfMemory}
 
 abbrev IsSettled : State → Type 0
 IsSettled s = (db : Trees) → IsTrue s.is_open → s.may_leave db → db ≡ s.committed.trees

@@ -14,9 +14,9 @@ use Rattle.sound_tables.specs.declared.fault.TableFault.TheVariants as table
 use Rattle.spool.specs.Adopting.{HaveFirstHistory}
 use Rattle.spool.specs.Migrating.{AreMigrated, AreSoundRows, HaveRows, IsFirstUnadopted, IsFirstUnmigrated}
 use Rattle.spool.specs.Migrating.{IsMigratedTo, IsUnmade, IsUnmigrated, LeavesMigrated, MayMigrate, has_topics}
-use Rattle.spool.specs.declared.ends.OpenFault.{OpenFault}
-use Rattle.spool.specs.declared.ends.OpenFault.TheVariants.{NotOurs, NewerVersion, OldVersion, Damaged, Store}
-use Rattle.spool.specs.declared.ends.OpenFault.TheVariants.{OutOfMemory}
+use Rattle.spool.specs.declared.faults.OpenFault.{OpenFault}
+use Rattle.spool.specs.declared.faults.OpenFault.TheVariants.{NotOurs, NewerVersion, OldVersion, Damaged, Store}
+use Rattle.spool.specs.declared.faults.OpenFault.TheVariants.{OutOfMemory}
 use Rattle.spool.proofs.MigrateLemmas.{left_since, made_whole, may_since, unmade_since, unmade_then, unmigrated_first}
 
 if_not_false : (b : Bool) → (b ≡ false → ⊥) → IsTrue b

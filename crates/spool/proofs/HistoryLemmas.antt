@@ -18,9 +18,9 @@ use Rattle.sound_tables.proofs.BothRefused.{refusal_since, refusal_until}
 use Rattle.sound_tables.proofs.RefusedLemmas.{not_other}
 use Rattle.spool.specs.Adopting.{HaveFirstHistory, HaveHistory, IsOfStore, IsOldOrOfStore, IsToldAs, TellsCheck}
 use Rattle.spool.specs.Adopting.{fault_by, fault_of}
-use Rattle.spool.specs.declared.ends.OpenFault.{OpenFault}
-use Rattle.spool.specs.declared.ends.OpenFault.TheVariants.{NotOurs, NewerVersion, OldVersion, Damaged, Store}
-use Rattle.spool.specs.declared.ends.OpenFault.TheVariants.{OutOfMemory}
+use Rattle.spool.specs.declared.faults.OpenFault.{OpenFault}
+use Rattle.spool.specs.declared.faults.OpenFault.TheVariants.{NotOurs, NewerVersion, OldVersion, Damaged, Store}
+use Rattle.spool.specs.declared.faults.OpenFault.TheVariants.{OutOfMemory}
 
 are_sound : (db : Database) (history : HaveHistory db) → AreSoundTables db (rows_of history.0)
 are_sound db history = let laws = legal_sound history.0 history.1 in

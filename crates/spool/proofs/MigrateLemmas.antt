@@ -36,9 +36,9 @@ use Rattle.spool.specs.Migrating.{AreMigrated, AreSoundRows, HaveRows, IsFirstUn
 use Rattle.spool.specs.Migrating.{IsMigratedTo, IsUnmade, IsUnmadeFor, IsUnmigrated, LeavesMigrated, MayMigrate}
 use Rattle.spool.specs.Migrating.{Migrated, has_topics}
 use Rattle.spool.specs.Opening.{TellsFault}
-use Rattle.spool.specs.declared.ends.OpenFault.{OpenFault}
-use Rattle.spool.specs.declared.ends.OpenFault.TheVariants.{NotOurs, NewerVersion, OldVersion, Damaged, Store}
-use Rattle.spool.specs.declared.ends.OpenFault.TheVariants.{OutOfMemory}
+use Rattle.spool.specs.declared.faults.OpenFault.{OpenFault}
+use Rattle.spool.specs.declared.faults.OpenFault.TheVariants.{NotOurs, NewerVersion, OldVersion, Damaged, Store}
+use Rattle.spool.specs.declared.faults.OpenFault.TheVariants.{OutOfMemory}
 use Rattle.spool.proofs.CheckReads.{same_keeps}
 use Rattle.spool.proofs.CreateLemmas.{unmade}
 

@@ -21,11 +21,11 @@ use Rattle.sound_tables.specs.declared.fault.TableFault.{TableFault}
 use Rattle.sound_tables.specs.declared.fault.TableFault.TheVariants as table
 use Rattle.sqlite.specs.declared.error.Error.TheVariants.{SqliteFailure}
 use Rattle.sqlite.specs.declared.error.ErrorCode.TheVariants as code
-use Rattle.spool.specs.declared.ends.LoadFault.{LoadFault}
-use Rattle.spool.specs.declared.ends.LoadFault.TheVariants as load
-use Rattle.spool.specs.declared.ends.OpenFault.{OpenFault}
-use Rattle.spool.specs.declared.ends.OpenFault.TheVariants.{NotOurs, NewerVersion, OldVersion, Damaged, Store}
-use Rattle.spool.specs.declared.ends.OpenFault.TheVariants.{OutOfMemory}
+use Rattle.spool.specs.declared.faults.LoadFault.{LoadFault}
+use Rattle.spool.specs.declared.faults.LoadFault.TheVariants as load
+use Rattle.spool.specs.declared.faults.OpenFault.{OpenFault}
+use Rattle.spool.specs.declared.faults.OpenFault.TheVariants.{NotOurs, NewerVersion, OldVersion, Damaged, Store}
+use Rattle.spool.specs.declared.faults.OpenFault.TheVariants.{OutOfMemory}
 use Rattle.spool.specs.Books.{KeepsOpen}
 use Rattle.spool.specs.Commits.{HoldsOnDisk}
 use Rattle.spool.specs.Vaults.{VaultValue, HoldsAt}

@@ -19,8 +19,8 @@ use Rattle.spool_sql.specs.declared.cause.Cause.TheVariants.{Memory}
 use Rattle.spool_sql.specs.Causes.{cause}
 use Rattle.spool_sql.specs.Readable.{WasRefusal}
 use Rattle.spool_sql.specs.Steps.{Stands, MayLeave}
-use Rattle.spool.specs.declared.ends.LoadFault.{LoadFault}
-use Rattle.spool.specs.declared.ends.LoadFault.TheVariants.{Closed, Store, OutOfMemory}
+use Rattle.spool.specs.declared.faults.LoadFault.{LoadFault}
+use Rattle.spool.specs.declared.faults.LoadFault.TheVariants.{Closed, Store, OutOfMemory}
 use Rattle.spool.specs.declared.load.Books.{Books}
 use Rattle.spool.specs.Loading.{greatest_of}
 use Rattle.spool.specs.Vaults.{VaultValue, Holds}

@@ -8,9 +8,9 @@ use Rattle.relay_types.specs.declared.record.Record.{Record}
 use Rattle.relay_types.specs.Records.{records_of}
 use Rattle.relay_types.specs.Legal.{IsLegal}
 use Rattle.spool_sql.specs.Steps.{MayLeave}
-use Rattle.spool.specs.declared.ends.CommitEnd.{CommitEnd}
-use Rattle.spool.specs.declared.ends.CommitEnd.TheVariants as ends
-use Rattle.spool.specs.declared.ends.Unchanged.TheVariants as why
+use Rattle.spool.specs.declared.faults.CommitEnd.{CommitEnd}
+use Rattle.spool.specs.declared.faults.CommitEnd.TheVariants as ends
+use Rattle.spool.specs.declared.faults.Unchanged.TheVariants as why
 use Rattle.spool.specs.declared.transaction.WriteEnd.{WriteEnd}
 use Rattle.spool.specs.declared.transaction.WriteEnd.TheVariants.{Committed, Illegal, OutOfMemory, Doubtful}
 use Rattle.spool.specs.Batches.{BatchValue, doubt_of}
@@ -51,24 +51,33 @@ IsDoubt (Ok receipt) = ⊥
 IsDoubt (Err (ends.Unchanged batch reason)) = ⊥
 IsDoubt (Err (ends.Doubtful doubt cause)) = Unit {0}
 
--- Why nobody knows it: the store failed under this name, or memory was refused. Or else nothing was written to the disk.
+-- Why nobody knows it: the store failed under this name, or memory was refused. Or else nothing was written to the
+-- disk.
 abbrev pub IsDoubtedFor : (old new : State) → Result BatchValue CommitEnd → Type 0
 IsDoubtedFor old new (Ok receipt) = Unit {0}
 IsDoubtedFor old new (Err (ends.Unchanged batch reason)) = Unit {0}
 IsDoubtedFor old new (Err (ends.Doubtful doubt cause)) = IsCause old new cause
 
 -- what the answer says of the rows of a history that the vault held
-abbrev pub LeavesRows : {S : Type 0} → Ghosts S → VaultValue S → VaultValue S → BatchValue → Result BatchValue CommitEnd → Type 0
-LeavesRows g old new batch (Ok receipt) = (records : List Record) → Holds g old records → Rests (state g new.conn) (put_rows (rows_of records) (records_of batch.steps))
-LeavesRows g old new batch (Err (ends.Unchanged back reason)) = (records : List Record) → Holds g old records → Rests (state g new.conn) (rows_of records)
-LeavesRows g old new batch (Err (ends.Doubtful doubt cause)) =
-    (records : List Record) → Holds g old records → MayLeave (state g new.conn) (λ r. (r ≡ rows_of records) ⊎ (r ≡ put_rows (rows_of records) (records_of batch.steps)))
+abbrev pub LeavesRows : {S : Type 0} → Ghosts S → (old new : VaultValue S) → BatchValue
+    → Result BatchValue CommitEnd → Type 0
+LeavesRows g old new batch (Ok receipt) = (records : List Record) → Holds g old records
+    → Rests (state g new.conn) (put_rows (rows_of records) (records_of batch.steps))
+LeavesRows g old new batch (Err (ends.Unchanged back reason)) = (records : List Record) → Holds g old records
+    → Rests (state g new.conn) (rows_of records)
+LeavesRows g old new batch (Err (ends.Doubtful doubt cause)) = (records : List Record) → Holds g old records
+    → MayLeave (state g new.conn)
+    (λ r. (r ≡ rows_of records) ⊎ (r ≡ put_rows (rows_of records) (records_of batch.steps)))
 
 -- what the answer says of the history itself
-abbrev pub LeavesHistory : {S : Type 0} → Ghosts S → VaultValue S → VaultValue S → BatchValue → Result BatchValue CommitEnd → Type 0
-LeavesHistory g old new batch (Ok receipt) = (records : List Record) → Holds g old records → HoldsOnDisk g new (records ++ records_of batch.steps)
-LeavesHistory g old new batch (Err (ends.Unchanged back reason)) = (records : List Record) → Holds g old records → HoldsOnDisk g new records
-LeavesHistory g old new batch (Err (ends.Doubtful doubt cause)) = (records : List Record) → Holds g old records → RestsInDoubt (state g new.conn) records (records_of batch.steps)
+abbrev pub LeavesHistory : {S : Type 0} → Ghosts S → (old new : VaultValue S) → BatchValue
+    → Result BatchValue CommitEnd → Type 0
+LeavesHistory g old new batch (Ok receipt) = (records : List Record) → Holds g old records
+    → HoldsOnDisk g new (records ++ records_of batch.steps)
+LeavesHistory g old new batch (Err (ends.Unchanged back reason)) = (records : List Record) → Holds g old records
+    → HoldsOnDisk g new records
+LeavesHistory g old new batch (Err (ends.Doubtful doubt cause)) = (records : List Record) → Holds g old records
+    → RestsInDoubt (state g new.conn) records (records_of batch.steps)
 
 -- the batch isn't legal after a history that the vault holds
 abbrev pub IsIllegal : {S : Type 0} → Ghosts S → VaultValue S → BatchValue → Type 0

@@ -12,9 +12,9 @@ use Rattle.spool_sql.specs.Steps.{IsBegun}
 use Rattle.spool_sql.specs.Causes.{cause}
 use Rattle.spool_sql.specs.declared.cause.Cause.TheVariants.{Memory}
 use Rattle.spool.specs.Entering.{IsCause, Rests}
-use Rattle.spool.specs.declared.ends.OpenFault.{OpenFault}
-use Rattle.spool.specs.declared.ends.OpenFault.TheVariants.{NotOurs, NewerVersion, OldVersion, Damaged, Store}
-use Rattle.spool.specs.declared.ends.OpenFault.TheVariants.{OutOfMemory}
+use Rattle.spool.specs.declared.faults.OpenFault.{OpenFault}
+use Rattle.spool.specs.declared.faults.OpenFault.TheVariants.{NotOurs, NewerVersion, OldVersion, Damaged, Store}
+use Rattle.spool.specs.declared.faults.OpenFault.TheVariants.{OutOfMemory}
 
 -- a table, an index or a view of the store has the name of one of the six tables, in any case of its letters
 abbrev pub has_ours : Schema → Bool

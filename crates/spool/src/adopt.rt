@@ -11,7 +11,7 @@ ghost use Rattle.spool.specs.Adopting.{IsOfStore, IsOldOrOfStore, IsOnlyRead, Is
 ghost use Rattle.spool.specs.Migrating.{IsFirstUnadopted};
 ghost use Rattle.spool.specs.Opening.{IsBack};
 
-use crate::ends::OpenFault;
+use crate::faults::OpenFault;
 use sound_tables::{TableFault, check_first_tables, check_tables};
 use spool_sql::probe;
 use sqlite::{Alter, Connection};

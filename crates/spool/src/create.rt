@@ -8,7 +8,7 @@ ghost use Rattle.spool_sql.specs.Stored.{first_rows};
 ghost use Rattle.spool.specs.Entering.{IsCause};
 ghost use Rattle.spool.specs.Opening.{has_ours, IsRefusedFor, TellsFault, IsBack, Founded, IsFounded, LeavesAt};
 
-use crate::ends::OpenFault;
+use crate::faults::OpenFault;
 use spool_sql::{Cause, cause_of, create_tables, probe};
 use sqlite::{Alter, Connection, Error};
 use sqlite_catalog::layout::is_used;

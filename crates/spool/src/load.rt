@@ -13,7 +13,7 @@ ghost use Rattle.spool.specs.Loading.{IsRefusedOnly, Reads, WasReadRefusal};
 ghost use Rattle.spool.specs.Books.{AreBooks, AreBooksOn, AreSettled, IsLoadRefusal, IsSeen, KeepsOpen, TellsLoad};
 
 use crate::deliveries::Deliveries;
-use crate::ends::LoadFault;
+use crate::faults::LoadFault;
 use crate::load_attempts::load_attempts;
 use crate::load_deliveries::load_deliveries;
 use crate::load_endpoints::{Endpoints, load_endpoints};

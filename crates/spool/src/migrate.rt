@@ -16,7 +16,7 @@ ghost use Rattle.spool.specs.Opening.{IsBack};
 
 use crate::adopt::{adopt_first_tables, adopt_tables};
 use crate::create::fault_of;
-use crate::ends::OpenFault;
+use crate::faults::OpenFault;
 use spool_sql::{create_topics, prepare_probe, update_version};
 use sqlite::{Alter, Connection, Error, Transaction};
 use sqlite_catalog::layout::is_used;

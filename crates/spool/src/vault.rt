@@ -21,7 +21,7 @@ use crate::adopt::adopt_tables;
 use crate::batch::{Batch, Receipt};
 use crate::create::create_store;
 use crate::doubt::Doubt;
-use crate::ends::{CommitEnd, LoadFault, OpenFault, Unchanged};
+use crate::faults::{CommitEnd, LoadFault, OpenFault, Unchanged};
 use crate::load::{Books, load_books};
 use crate::migrate::migrate_tables;
 use crate::transaction::{WriteEnd, write_steps};

@@ -7,7 +7,7 @@ use Rattle.relay_types.specs.declared.state.State.{State}
 use Rattle.relay_types.specs.declared.state.State.TheVariants.{Pending, Delivered, Exhausted}
 use Rattle.delivery_book.specs.declared.row.Row.{Row}
 use Rattle.desk.specs.declared.pages.Totals.{Totals}
-use Rattle.desk.specs.Looks.{EndpointShown}
+use Rattle.desk.specs.Queries.{EndpointShown}
 
 -- a name and its value
 abbrev pub Member : Type 0

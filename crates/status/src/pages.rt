@@ -2,7 +2,7 @@
 ghost use Rattle.std.specs.Prelude.{◌≡◌, IfOk};
 ghost use Rattle.std.specs.String.{string_bytes};
 ghost use Rattle.serde_json.specs.View.{view};
-ghost use Rattle.desk.specs.Looks.{shown};
+ghost use Rattle.desk.specs.Queries.{shown};
 ghost use Rattle.status.specs.Pages.{totals_page, endpoint_page, event_page, totals_text, endpoint_text, event_text};
 
 use crate::words::{due_value, id_text, name_text, state_name, status_value, url_text};

@@ -3,7 +3,8 @@
 use crate::asks::{is_reply, refused_with};
 use desk::{Command, Fault, Refusal};
 use intake_shed::{
-    Ask, AskBody, ReplyText, WaitFault, accepted_reply, change_reply, change_status, refusal_reply,
+    Ask, AskBody, ReplyText, SubmitError, accepted_reply, change_reply, change_status,
+    refusal_reply,
 };
 use relay_types::{Moment, MsgId, Name};
 use std::borrow::CowStr;
@@ -102,7 +103,7 @@ static REFUSALS: [Case; 13] = [
 ];
 
 fn is_told(case: &Case) -> bool {
-    let reply = refusal_reply(&WaitFault::Refused(Refusal {
+    let reply = refusal_reply(&SubmitError::Refused(Refusal {
         number: 1,
         fault: case.fault,
     }));
@@ -122,9 +123,9 @@ fn each_refusal_of_the_desk_has_its_reply(rt: HostRuntime) {
 
 #[test]
 fn what_was_waited_for_in_vain_has_its_reply(rt: HostRuntime) {
-    let unknown = refusal_reply(&WaitFault::Unknown);
+    let unknown = refusal_reply(&SubmitError::Unknown);
     assert!(rt; is_reply(&unknown, 503, true, b"{\"error\":\"Unknown\"}"));
-    let went_back = refusal_reply(&WaitFault::WentBack);
+    let went_back = refusal_reply(&SubmitError::WentBack);
     assert!(rt; is_reply(&went_back, 503, true, b"{\"error\":\"WentBack\"}"));
 }
 
@@ -185,6 +186,6 @@ fn a_text_is_kept_without_a_copy(rt: HostRuntime) -> Result<(), Fail> {
 
 #[test]
 fn the_text_of_a_refusal_stands_in_the_program(rt: HostRuntime) {
-    let text = refusal_reply(&WaitFault::Unknown).body.into_cow();
+    let text = refusal_reply(&SubmitError::Unknown).body.into_cow();
     assert!(rt; matches!(text, CowStr::Borrowed(_)));
 }

@@ -2,7 +2,7 @@
 
 use crate::given::holds;
 use delivery::HaltCause;
-use relay_host::{FilePlace, Place, Sight, fresh_id};
+use relay_host::{FileCheck, FilePlace, Place, fresh_id};
 use relay_serve::halt_text;
 use std::alloc::{Allocator, Global};
 use std::fs::{self, File, Files, Metadata, OpenOptions};
@@ -112,7 +112,7 @@ struct Case {
     name: &'static str,
     refusals: u64,
     number: i32,
-    finds: Sight,
+    finds: FileCheck,
     slept: u64,
 }
 
@@ -121,63 +121,63 @@ static CASES: [Case; 9] = [
         name: "nothing is refused",
         refusals: 0,
         number: 0,
-        finds: Sight::Stands,
+        finds: FileCheck::Stands,
         slept: 0,
     },
     Case {
         name: "a folder without rights, for a moment",
         refusals: 3,
         number: 13,
-        finds: Sight::Stands,
+        finds: FileCheck::Stands,
         slept: 300,
     },
     Case {
         name: "a disk that doesn't answer, for ten seconds",
         refusals: 100,
         number: 5,
-        finds: Sight::Stands,
+        finds: FileCheck::Stands,
         slept: 10_000,
     },
     Case {
         name: "a disk that doesn't answer any more",
         refusals: 1000,
         number: 5,
-        finds: Sight::Unseen,
+        finds: FileCheck::Unseen,
         slept: 10_000,
     },
     Case {
         name: "a handle of another file server",
         refusals: 1000,
         number: 116,
-        finds: Sight::Unseen,
+        finds: FileCheck::Unseen,
         slept: 10_000,
     },
     Case {
         name: "no file",
         refusals: 1,
         number: 2,
-        finds: Sight::Gone,
+        finds: FileCheck::Gone,
         slept: 0,
     },
     Case {
         name: "a file in place of its folder",
         refusals: 1,
         number: 20,
-        finds: Sight::Gone,
+        finds: FileCheck::Gone,
         slept: 0,
     },
     Case {
         name: "links in a ring",
         refusals: 1,
         number: 40,
-        finds: Sight::Gone,
+        finds: FileCheck::Gone,
         slept: 0,
     },
     Case {
         name: "no memory",
         refusals: 1,
         number: 12,
-        finds: Sight::OutOfMemory,
+        finds: FileCheck::OutOfMemory,
         slept: 0,
     },
 ];
@@ -207,34 +207,34 @@ fn a_file_that_is_hidden_is_looked_at_again(rt: HostRuntime) -> Result<(), Fail>
 /// Whether there is a log when the place is remembered, at a look and at a second one, and what that finds.
 struct LogCase {
     logs: (bool, bool, bool),
-    finds: Sight,
+    finds: FileCheck,
 }
 
 static LOGS: [LogCase; 5] = [
     LogCase {
         logs: (false, false, false),
-        finds: Sight::Stands,
+        finds: FileCheck::Stands,
     },
     LogCase {
         logs: (true, true, true),
-        finds: Sight::Stands,
+        finds: FileCheck::Stands,
     },
     LogCase {
         logs: (true, true, false),
-        finds: Sight::Gone,
+        finds: FileCheck::Gone,
     },
     LogCase {
         logs: (false, true, true),
-        finds: Sight::Stands,
+        finds: FileCheck::Stands,
     },
     LogCase {
         logs: (false, true, false),
-        finds: Sight::Gone,
+        finds: FileCheck::Gone,
     },
 ];
 
 // What the second look finds.
-fn look_twice(alloc: Global, case: &LogCase) -> io::Result<Sight> {
+fn look_twice(alloc: Global, case: &LogCase) -> io::Result<FileCheck> {
     let files = hidden_by(0);
     let mut place = FilePlace::new(&files, alloc, "relay.db")?;
     files.has_log.store(case.logs.0, Ordering::SeqCst);
@@ -260,7 +260,7 @@ fn replaced<F: Files + Clock>(
     alloc: Global,
     path: &str,
     other: &str,
-) -> io::Result<Sight> {
+) -> io::Result<FileCheck> {
     fs::write(files, path, "a")?;
     let mut place = FilePlace::new(files, alloc, path)?;
     place.remember();
@@ -278,7 +278,7 @@ fn a_file_that_is_replaced_is_gone(rt: HostRuntime) -> Result<(), Fail> {
     let path = format!(in rt.alloc(); "/tmp/{name}")?;
     let other = format!(in rt.alloc(); "/tmp/{name}.other")?;
     let found = replaced(&rt, rt.alloc(), path.as_str(), other.as_str())?;
-    holds(&rt, found == Sight::Gone, "another file is at the path");
+    holds(&rt, found == FileCheck::Gone, "another file is at the path");
     Ok(())
 }
 
@@ -287,19 +287,19 @@ fn a_file_that_is_replaced_is_gone(rt: HostRuntime) -> Result<(), Fail> {
 struct LinkCase {
     name: &'static str,
     leads: (&'static str, &'static str),
-    finds: Sight,
+    finds: FileCheck,
 }
 
 static LINKS: [LinkCase; 2] = [
     LinkCase {
         name: "another link to the same file",
         leads: ("/proc", "/proc"),
-        finds: Sight::Stands,
+        finds: FileCheck::Stands,
     },
     LinkCase {
         name: "a file on another device",
         leads: ("/proc", "/sys"),
-        finds: Sight::Gone,
+        finds: FileCheck::Gone,
     },
 ];
 
@@ -314,7 +314,7 @@ fn led<F: Files + Clock>(
     alloc: Global,
     path: &str,
     leads: (&str, &str),
-) -> io::Result<Sight> {
+) -> io::Result<FileCheck> {
     symlink(files, leads.0, path)?;
     let mut place = FilePlace::new(files, alloc, path)?;
     place.remember();
@@ -341,44 +341,44 @@ fn a_file_on_another_device_is_another(rt: HostRuntime) -> Result<(), Fail> {
 /// Why a committer gave up, what the last look found, and what the operator reads.
 struct HaltCase {
     cause: HaltCause,
-    sight: Sight,
+    sight: FileCheck,
     told: &'static str,
 }
 
 static HALTS: [HaltCase; 7] = [
     HaltCase {
         cause: HaltCause::OutOfTurn,
-        sight: Sight::Stands,
+        sight: FileCheck::Stands,
         told: "a batch was out of turn",
     },
     HaltCase {
         cause: HaltCause::OutOfTurn,
-        sight: Sight::Gone,
+        sight: FileCheck::Gone,
         told: "the file isn't the one that was opened",
     },
     HaltCase {
         cause: HaltCause::OutOfTurn,
-        sight: Sight::Unseen,
+        sight: FileCheck::Unseen,
         told: "the file can't be looked at",
     },
     HaltCase {
         cause: HaltCause::OutOfMemory,
-        sight: Sight::OutOfMemory,
+        sight: FileCheck::OutOfMemory,
         told: "out of memory nine times in a row",
     },
     HaltCase {
         cause: HaltCause::Closed,
-        sight: Sight::Gone,
+        sight: FileCheck::Gone,
         told: "the result of an earlier commit is unknown",
     },
     HaltCase {
         cause: HaltCause::Illegal,
-        sight: Sight::Stands,
+        sight: FileCheck::Stands,
         told: "a record is invalid after those in the store",
     },
     HaltCase {
         cause: HaltCause::Halted,
-        sight: Sight::Stands,
+        sight: FileCheck::Stands,
         told: "the relay had halted before",
     },
 ];

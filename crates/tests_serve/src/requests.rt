@@ -7,7 +7,7 @@ use crate::wires::{exchange, take_post};
 use intake_shed::Acknowledged;
 use permits::PARTS;
 use recovery::create;
-use relay_host::{Place, Sight};
+use relay_host::{FileCheck, Place};
 use relay_serve::{Settings, serve_opened};
 use relay_types::Name;
 use sqlite::{Alter, Connection, MemStore};
@@ -26,8 +26,8 @@ use std::time::{Clock, Duration};
 pub(crate) struct InMemory;
 
 impl Place for InMemory {
-    fn look(&mut self) -> Sight {
-        Sight::Stands
+    fn look(&mut self) -> FileCheck {
+        FileCheck::Stands
     }
 }
 

@@ -11,7 +11,7 @@ use delivery::{CommitterEnd, HaltCause, Keeper, LoggedKeeper, Pass, begin_run, c
 use desk::Desk;
 use permits::PARTS;
 use recovery::audit;
-use relay_host::Placed;
+use relay_host::FileGuard;
 use run_log::{LogId, NewLog};
 use spool::Vault;
 use sqlite::{Alter, Connection, FileStore, Files, MemStore, Options};
@@ -283,7 +283,7 @@ fn run<L: Ledger + Send + Sync, S: Alter + Drop, R: Threads + Wait + Clock + Abo
     let seen = Arc::new(alloc, Seen::new(case)).expect(rt, "memory");
     let is_gone = matches!(course.committer, Committer::TakenAway);
     let watched = Watched {
-        keeper: Placed::new(vault, Spot { is_gone }),
+        keeper: FileGuard::new(vault, Spot { is_gone }),
         refusals: course.committer.refusals(),
         again: course.committer.refusals_again(),
         holds_first: matches!(course.committer, Committer::Held),

@@ -3,7 +3,7 @@ ghost use Rattle.std.specs.Prelude.{◌≡◌, ⊤};
 
 use crate::seen::{Seen, count, have_come, pause};
 use delivery::{Clock, Keeper, Shared};
-use relay_host::{Place, Sight};
+use relay_host::{FileCheck, Place};
 use relay_types::Moment;
 use retry_table::{PostResult, Status};
 use run_log::LogId;
@@ -73,11 +73,11 @@ pub(crate) struct Spot {
 }
 
 impl Place for Spot {
-    fn look(&mut self) -> Sight {
+    fn look(&mut self) -> FileCheck {
         if self.is_gone {
-            Sight::Gone
+            FileCheck::Gone
         } else {
-            Sight::Stands
+            FileCheck::Stands
         }
     }
 }

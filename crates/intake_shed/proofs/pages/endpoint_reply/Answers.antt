@@ -1,5 +1,5 @@
 use Rattle.std.proofs.Common.{subst}
-use Rattle.desk.specs.Looks.{shown}
+use Rattle.desk.specs.Queries.{shown}
 use Rattle.status.specs.Pages.{endpoint_text}
 use Rattle.intake_shed.specs.Pages.{GivesEndpoint}
 use Rattle.intake_shed.proofs.pages.endpoint_reply.Goals as goal

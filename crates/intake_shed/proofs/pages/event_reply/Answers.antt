@@ -1,6 +1,6 @@
 use Rattle.std.proofs.Common.{◌≡◌, true, not, Option, Some, None, option_map, is_some, ap, ◌∙◌, subst}
 use Rattle.delivery_book.specs.declared.row.Row.{Row}
-use Rattle.desk.specs.Looks.{EndpointShown, shown}
+use Rattle.desk.specs.Queries.{EndpointShown, shown}
 use Rattle.status.specs.Pages.{event_text}
 use Rattle.intake_shed.specs.declared.reply.Reply.{Reply}
 use Rattle.intake_shed.specs.Pages.{GivesPage, GivesEvent}

@@ -8,21 +8,21 @@ use Rattle.intake_shed.specs.Lines.{Put}
 use Rattle.intake_shed.specs.Requests.{IsBadOn, has_room, has_parts, bytes_of}
 use Rattle.intake_shed.specs.Routes.{line_of}
 use Rattle.intake_shed.specs.declared.ask.Ask.{Ask}
-use Rattle.intake_shed.specs.declared.fault.AskFault.{AskFault}
-use Rattle.intake_shed.specs.declared.fault.AskFault.TheVariants as fault
+use Rattle.intake_shed.specs.declared.fault.RequestError.{RequestError}
+use Rattle.intake_shed.specs.declared.fault.RequestError.TheVariants as fault
 use Rattle.intake_shed.proofs.reading.read_on.Goals as goal
 
-abbrev refusing : {A : Type 0} → AskFault → Result A AskFault
+abbrev refusing : {A : Type 0} → RequestError → Result A RequestError
 refusing why = Err why
 
 -- what is handed on
-handed_on : {A : Type 0} (result : Result A AskFault) (why : AskFault) (P : AskFault → Type 0) → IsErrAnd result (λ other. other ≡ why) → P why → IfErr result P
+handed_on : {A : Type 0} (result : Result A RequestError) (why : RequestError) (P : RequestError → Type 0) → IsErrAnd result (λ other. other ≡ why) → P why → IfErr result P
 handed_on {A} result why P h p =
     let err = err_from_is_err_and result h in
     subst (λ r. IfErr r P) (sym (err.1 ∙ ap (λ x. refusing {A = A} x) err.2)) p
 
 -- a bad body of a new endpoint is one of the checks behind those of name and size
-bad_put_on : (name : Text) (ask : Ask) (why : AskFault) → IsTrue (has_parts (Put name) ask) → OfBody IsBadPut (bytes_of ask.body) why → IsBadOn (Put name) ask why
+bad_put_on : (name : Text) (ask : Ask) (why : RequestError) → IsTrue (has_parts (Put name) ask) → OfBody IsBadPut (bytes_of ask.body) why → IsBadOn (Put name) ask why
 bad_put_on name ask fault.NotFound parts h = (parts, h)
 bad_put_on name ask fault.BadName parts (v, json, (url, max, list, members, bad)) = absurd bad
 bad_put_on name ask fault.TooLong parts (v, json, (url, max, list, members, bad)) = absurd bad

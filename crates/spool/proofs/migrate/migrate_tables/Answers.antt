@@ -4,7 +4,7 @@ use Rattle.sqlite.specs.Held.{state}
 use Rattle.sqlite.proofs.StateLemmas.{survives_weaker}
 use Rattle.spool.specs.Adopting.{IsForeign, IsOfStore, IsUnadopted}
 use Rattle.spool.specs.Migrating.{Migrated}
-use Rattle.spool.specs.declared.ends.OpenFault.TheVariants.{OldVersion}
+use Rattle.spool.specs.declared.faults.OpenFault.TheVariants.{OldVersion}
 use Rattle.spool.proofs.CheckReads.{back_then}
 use Rattle.spool.proofs.EitherLemmas.{first_migrated, history_since, left_behind, migrated_since, on_err, own_since}
 use Rattle.spool.proofs.EitherLemmas.{refused_since, unmade_behind, whole_since}

@@ -1,7 +1,7 @@
 use Rattle.std.proofs.Common.{◌≡◌, ◌≤◌, rules}
 use Rattle.desk.specs.declared.ticket.Ticket.{Ticket}
 use Rattle.desk.specs.declared.ticket.Told.TheVariants.{Waiting}
-use Rattle.desk.specs.Kept as kept
+use Rattle.desk.specs.OwnBooks as kept
 use Rattle.delivery.proofs.ToldLaws.{event_waits}
 use Rattle.delivery.proofs.locked.Locked.first_waiting.Goals as goal
 

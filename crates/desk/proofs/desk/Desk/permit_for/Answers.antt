@@ -26,23 +26,23 @@ unreachable-requires g c =
     (c.limit_of-limit.ensures ∙ ap (λ (limiters : List Limiter). limit_by limiters c.args.endpoint) c.deref.ensures.value)
     e.at_limit.0 e.too_many.0 e.already.0
 
-pub let_go-requires-clause-held : goal.let_go-requires-clause-held
-let_go-requires-clause-held g c =
+pub dequeue-requires-clause-held : goal.dequeue-requires-clause-held
+dequeue-requires-clause-held g c =
     let from = starts_from c.args.endpoint c.args.delivery c.self.view_is c.requires.ready in
     let own = pair_held c.self.inside.queue c.args.endpoint c.args.delivery c.self.invariant.tied.queued.held from in
     subst (λ o. IfSome o (λ pair. IsTrue (is_held c.self.inside.queue pair))) (sym own.1) own.2
 
-pub tell_room-requires : goal.tell_room-requires
-tell_room-requires g c =
-    still_reserved c.let_go.new.queue c.args.endpoint c.args.delivery c.self.invariant.tied (starts_from c.args.endpoint c.args.delivery c.self.view_is c.requires.ready) c.let_go.ensures.pair
+pub update_room-requires : goal.update_room-requires
+update_room-requires g c =
+    still_reserved c.dequeue.new.queue c.args.endpoint c.args.delivery c.self.invariant.tied (starts_from c.args.endpoint c.args.delivery c.self.view_is c.requires.ready) c.dequeue.ensures.pair
 
 pub invariant_of-self : goal.invariant_of-self
 invariant_of-self g c =
-    desk_started c.let_go.new.queue c.tell_room.new.queue c.args.endpoint c.args.delivery c.acquire.new.self c.self.invariant
+    desk_started c.dequeue.new.queue c.update_room.new.queue c.args.endpoint c.args.delivery c.acquire.new.self c.self.invariant
     (starts_from c.args.endpoint c.args.delivery c.self.view_is c.requires.ready)
     (subst (λ (v : DeskValue). record_count v.waiting + length v.live < MAX_RECORDS) (sym c.self.view_is) c.requires.room)
-    c.in-Ok.ensures.ok c.let_go.ensures.pair c.let_go.ensures.places c.tell_room.ensures.pairs
-    (subst (λ (limiters : List Limiter). ChangesMark c.let_go.new.queue c.tell_room.new.queue c.args.endpoint
+    c.in-Ok.ensures.ok c.dequeue.ensures.pair c.dequeue.ensures.places c.update_room.ensures.pairs
+    (subst (λ (limiters : List Limiter). ChangesMark c.dequeue.new.queue c.update_room.new.queue c.args.endpoint
     (with_room (room_by c.self.inside.endpoints limiters c.acquire.new.self c.args.endpoint)))
     c.deref-2.ensures.value
-    c.tell_room.ensures.mark)
+    c.update_room.ensures.mark)

@@ -10,7 +10,7 @@ use Rattle.desk.proofs.SpendLaws.{IsLive, IsOver, back_from, foreign_spends, hal
 use Rattle.desk.proofs.SpendLaws.{limiter_known, new_left, places_left, reserved_left, spends, takes_outcome, told_over}
 use Rattle.desk.proofs.SpendLaws.{tells_status, written}
 use Rattle.desk.proofs.desk.Desk.spend.Given.{Over}
-use Rattle.desk.proofs.desk.Desk.spend.Goals.{In_ok-row, After-limit_of-limit, After-hold, After-tell_room, then-self, else-self}
+use Rattle.desk.proofs.desk.Desk.spend.Goals.{In_ok-row, After-limit_of-limit, After-enqueue, After-update_room, then-self, else-self}
 use Rattle.desk.proofs.desk.Desk.spend.Goals as goal
 
 -- the permit came back
@@ -64,23 +64,23 @@ module _ (g : Over) (c : After-limit_of-limit g) where
       ]
 
 -- the delivery is held again
-module _ (g : Over) (c : After-hold g) where
-  holds : Holds c.self.inside.queue c.hold.new.queue (idle_pair (new g (goal.at.After-hold g c).After-limit_of-limit).deliveries c.in_ok-row.row.delivery)
+module _ (g : Over) (c : After-enqueue g) where
+  holds : Holds c.self.inside.queue c.enqueue.new.queue (idle_pair (new g (goal.at.After-enqueue g c).After-limit_of-limit).deliveries c.in_ok-row.row.delivery)
   holds =
-      let join = (goal.at.After-hold g c).After-limit_of-limit in
-      subst (λ (q : QueueValue). Holds q c.hold.new.queue (idle_pair (new g join).deliveries c.in_ok-row.row.delivery)) (same g join) c.hold.ensures.held
+      let join = (goal.at.After-enqueue g c).After-limit_of-limit in
+      subst (λ (q : QueueValue). Holds q c.enqueue.new.queue (idle_pair (new g join).deliveries c.in_ok-row.row.delivery)) (same g join) c.enqueue.ensures.held
 
 -- the queue was told of the endpoint's room
-module _ (g : Over) (c : After-tell_room g) where
-  after : let m = new g (goal.at.After-tell_room g c).After-limit_of-limit in IsDesk m.endpoints m.deliveries m.waiting m.live m.limiters c.tell_room.new.queue
+module _ (g : Over) (c : After-update_room g) where
+  after : let m = new g (goal.at.After-update_room g c).After-limit_of-limit in IsDesk m.endpoints m.deliveries m.waiting m.live m.limiters c.update_room.new.queue
   after =
-      let at = goal.at.After-tell_room g c in
+      let at = goal.at.After-update_room g c in
       let m = new g at.After-limit_of-limit in
-      is_desk_left (old g at.In_ok-row) m c.self.inside.queue c.hold.new.queue c.tell_room.new.queue c.in_ok-row.row c.give_back.new.self c.args.post c.moment-at.result c.if-self.staged
-      c.self.invariant (back g at.In_ok-row) (over g at.After-limit_of-limit) (holds g at.After-hold) c.hold.ensures.places c.tell_room.ensures.pairs
-      (subst (λ (ls : List Limiter). ChangesMark c.hold.new.queue c.tell_room.new.queue c.in_ok-row.row.endpoint
+      is_desk_left (old g at.In_ok-row) m c.self.inside.queue c.enqueue.new.queue c.update_room.new.queue c.in_ok-row.row c.give_back.new.self c.args.post c.moment-at.result c.if-self.staged
+      c.self.invariant (back g at.In_ok-row) (over g at.After-limit_of-limit) (holds g at.After-enqueue) c.enqueue.ensures.places c.update_room.ensures.pairs
+      (subst (λ (ls : List Limiter). ChangesMark c.enqueue.new.queue c.update_room.new.queue c.in_ok-row.row.endpoint
       (with_room (room_by m.endpoints ls m.live c.in_ok-row.row.endpoint))) c.deref-2.ensures.value
-      c.tell_room.ensures.mark)
+      c.update_room.ensures.mark)
 
 pub returns-in_err-row-clause-moves : goal.returns-in_err-row-clause-moves
 returns-in_err-row-clause-moves g c =
@@ -100,37 +100,37 @@ stage_status-staged-requires-clause-ready g c =
     let at = (goal.at.stage_status-staged-requires-clause-ready g c).In_ok-row in
     takes_outcome (old g at) c.self.inside.queue c.in_ok-row.row c.give_back.new.self c.self.invariant (live g at)
 
-pub hold-requires-clause-unheld : goal.hold-requires-clause-unheld
-hold-requires-clause-unheld g c =
-    let at = goal.at.hold-requires-clause-unheld g c in
+pub enqueue-requires-clause-unheld : goal.enqueue-requires-clause-unheld
+enqueue-requires-clause-unheld g c =
+    let at = goal.at.enqueue-requires-clause-unheld g c in
     subst (λ (q : QueueValue). IsNew q c.in_ok-row.row.delivery) (sym (same g at.After-limit_of-limit))
     (new_left (old g at.In_ok-row) c.self.inside.queue c.in_ok-row.row c.give_back.new.self c.self.invariant (back g at.In_ok-row))
 
-pub hold-requires-clause-places : goal.hold-requires-clause-places
-hold-requires-clause-places g c =
-    let at = goal.at.hold-requires-clause-places g c in
+pub enqueue-requires-clause-places : goal.enqueue-requires-clause-places
+enqueue-requires-clause-places g c =
+    let at = goal.at.enqueue-requires-clause-places g c in
     let m = new g at.After-limit_of-limit in
     subst (λ (q : QueueValue). HasPlaces q m.deliveries) (sym (same g at.After-limit_of-limit))
     (places_left (old g at.In_ok-row) m c.self.inside.queue c.in_ok-row.row c.give_back.new.self c.args.post c.moment-at.result c.if-self.staged c.self.invariant (over g at.After-limit_of-limit))
 
-pub tell_room-requires : goal.tell_room-requires
-tell_room-requires g c =
-    let at = goal.at.tell_room-requires g c in
-    reserved_left (old g at.In_ok-row) (new g at.After-limit_of-limit) c.self.inside.queue c.hold.new.queue
-    c.in_ok-row.row c.give_back.new.self c.self.invariant (back g at.In_ok-row) (holds g at.After-hold)
+pub update_room-requires : goal.update_room-requires
+update_room-requires g c =
+    let at = goal.at.update_room-requires g c in
+    reserved_left (old g at.In_ok-row) (new g at.After-limit_of-limit) c.self.inside.queue c.enqueue.new.queue
+    c.in_ok-row.row c.give_back.new.self c.self.invariant (back g at.In_ok-row) (holds g at.After-enqueue)
 
 pub invariant_of-self-2 : goal.invariant_of-self-2
-invariant_of-self-2 g c = after g (goal.at.invariant_of-self-2 g c).After-tell_room
+invariant_of-self-2 g c = after g (goal.at.invariant_of-self-2 g c).After-update_room
 
 pub returns-clause-moves : goal.returns-clause-moves
 returns-clause-moves g c =
     let moment_is : IsTrue (is_moment c.moment-at.result) = search (rules, c.moment-at.type_inv) in
     let at = goal.at.returns-clause-moves g c in
     spends (old g at.In_ok-row) c.args.self.now c.self.view_is (new g at.After-limit_of-limit) c.self.inside.queue
-    c.tell_room.new.queue c.in_ok-row.row c.args.permit c.give_back.new.self c.args.post c.args.now
+    c.update_room.new.queue c.in_ok-row.row c.args.permit c.give_back.new.self c.args.post c.args.now
     c.moment-at.result
     c.if-self.staged c.limit_of-limit.result c.in_flight.result c.is_exhausted.result
-    c.self.invariant (back g at.In_ok-row) c.in_ok-row.ensures.returned (over g at.After-limit_of-limit) (after g at.After-tell_room)
+    c.self.invariant (back g at.In_ok-row) c.in_ok-row.ensures.returned (over g at.After-limit_of-limit) (after g at.After-update_room)
     (c.moment-at.ensures ∙ ap (λ (v : DeskValue). max c.args.now v.clock) (sym c.self.view_is)) moment_is
     (λ s e. subst (λ (o : Option ℕ). IfSome o (λ x. IsTrue (is_status x))) (c.judge-status.ensures.status ∙ e) c.judge-status.ensures.legal)
     (c.limit_of-limit.ensures ∙ ap (λ (ls : List Limiter). limit_by ls c.in_ok-row.row.endpoint) c.deref.ensures.value) c.in_flight.ensures.count c.is_exhausted.ensures

@@ -5,8 +5,8 @@ use Rattle.desk.proofs.OpeningLaws.{limiter_is}
 use Rattle.desk.proofs.RequestTies.{desk_put, desk_reserved, reserved_own}
 use Rattle.desk.proofs.desk.Desk.stage_put.Goals as goal
 
-pub tell_room-requires : goal.tell_room-requires
-tell_room-requires g c = ap is_some (reserved_own c.self.inside.queue c.reserve-2.new.self c.args.name 0 c.in_ok-reserve-2.ensures.mark)
+pub update_room-requires : goal.update_room-requires
+update_room-requires g c = ap is_some (reserved_own c.self.inside.queue c.reserve-2.new.self c.args.name 0 c.in_ok-reserve-2.ensures.mark)
 
 pub invariant_of-self-2 : goal.invariant_of-self-2
 invariant_of-self-2 g c =
@@ -20,10 +20,10 @@ invariant_of-self-2 g c =
     (λ i. (c.args.name, c.args.max))
     (omega (arith, c.requires.room, ap (λ (v : DeskValue). record_count v.waiting + length v.live) c.self.view_is))
     c.in_ok-kept.ensures (ap (λ (v : DeskValue). is_known v.endpoints c.args.name) c.self.view_is ∙ c.requires.unknown)
-    c.in_ok-reserve-2.ensures.pairs c.in_ok-reserve-2.ensures.mark c.tell_room.ensures.pairs
-    (subst (λ ls. ChangesMark c.reserve-2.new.self c.tell_room.new.queue c.args.name
+    c.in_ok-reserve-2.ensures.pairs c.in_ok-reserve-2.ensures.mark c.update_room.ensures.pairs
+    (subst (λ ls. ChangesMark c.reserve-2.new.self c.update_room.new.queue c.args.name
     (with_room (room_by c.stage_put.new.self ls c.self.inside.pool c.args.name))) c.deref.ensures.value
-    c.tell_room.ensures.mark)
+    c.update_room.ensures.mark)
     c.self.invariant
 
 pub invariant_of-self-in_err-stage_put : goal.invariant_of-self-in_err-stage_put

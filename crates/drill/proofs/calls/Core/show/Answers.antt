@@ -1,6 +1,6 @@
 use Rattle.std.proofs.Common.{◌∙◌, ap}
 use Rattle.desk.specs.World.{settled_records}
-use Rattle.desk.specs.Looks.{event_page}
+use Rattle.desk.specs.Queries.{event_page}
 use Rattle.drill.specs.Moves.{event_reply}
 use Rattle.drill.proofs.CoreLaws.{answers_look}
 use Rattle.drill.proofs.calls.Core.show.Goals as goal

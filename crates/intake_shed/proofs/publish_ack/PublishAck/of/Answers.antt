@@ -1,8 +1,8 @@
 use Rattle.std.proofs.Common.{subst, sym, refl, List}
 use Rattle.desk.specs.declared.ticket.Ticket.{Ticket}
 use Rattle.desk.specs.Desks.{DeskValue, OverWorlds, StandsFor}
-use Rattle.desk.specs.Kept as kept
-use Rattle.desk.specs.Looks.{settled_body}
+use Rattle.desk.specs.OwnBooks as kept
+use Rattle.desk.specs.Queries.{settled_body}
 use Rattle.relay_types.specs.declared.record.Record.{Record}
 use Rattle.intake_shed.specs.Acks.{AreLogged, AreSettled, publish_ack_of}
 use Rattle.intake_shed.proofs.AckLaws.{all_shown}

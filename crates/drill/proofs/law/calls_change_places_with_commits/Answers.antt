@@ -1,5 +1,0 @@
-use Rattle.drill.proofs.WithinLaws as laws
-use Rattle.drill.proofs.law.calls_change_places_with_commits.Goals as goal
-
-pub returns : goal.returns
-returns c = laws.calls_change_places

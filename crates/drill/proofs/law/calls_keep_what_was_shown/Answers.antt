@@ -1,5 +1,0 @@
-use Rattle.drill.proofs.LaterLaws as laws
-use Rattle.drill.proofs.law.calls_keep_what_was_shown.Goals as goal
-
-pub returns : goal.returns
-returns g c = laws.calls_keep g.S.Store

@@ -1,5 +1,0 @@
-use Rattle.drill.proofs.LaterLaws as laws
-use Rattle.drill.proofs.law.restarts_keep_what_was_shown.Goals as goal
-
-pub returns : goal.returns
-returns c = laws.restarts_keep

@@ -1,5 +1,0 @@
-use Rattle.drill.proofs.LaterLaws as laws
-use Rattle.drill.proofs.law.runs_go_on.Goals as goal
-
-pub returns : goal.returns
-returns c = laws.go_on

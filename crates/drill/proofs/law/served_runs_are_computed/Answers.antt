@@ -1,5 +1,0 @@
-use Rattle.drill.proofs.RunLaws as laws
-use Rattle.drill.proofs.law.served_runs_are_computed.Goals as goal
-
-pub returns : goal.returns
-returns c = laws.served_runs_are_computed

@@ -1,5 +1,0 @@
-use Rattle.drill.proofs.LaterLaws as laws
-use Rattle.drill.proofs.law.stops_keep_what_was_shown.Goals as goal
-
-pub returns : goal.returns
-returns c = laws.stops_keep

@@ -1,0 +1,5 @@
+use Rattle.drill.proofs.LaterLaws as laws
+use Rattle.drill.proofs.theorems.runs_go_on.Goals as goal
+
+pub returns : goal.returns
+returns c = laws.go_on

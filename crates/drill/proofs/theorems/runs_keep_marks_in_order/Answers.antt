@@ -1,0 +1,5 @@
+use Rattle.drill.proofs.WithinLaws as laws
+use Rattle.drill.proofs.theorems.runs_keep_marks_in_order.Goals as goal
+
+pub returns : goal.returns
+returns c = laws.runs_keep_marks

@@ -1,5 +1,0 @@
-use Rattle.endpoint_book.proofs.Restored.{stands-restored}
-use Rattle.endpoint_book.proofs.law.restored_books_stand.Goals as goal
-
-pub returns : goal.returns
-returns c book records legal h = stands-restored book records legal h
