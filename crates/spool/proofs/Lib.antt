@@ -21,5 +21,6 @@ pub mod CheckReads
 pub mod MigrateLemmas
 pub mod EitherLemmas
 pub mod SubscribedLemmas
+pub mod CutLaws
 pub mod PurgeLemmas
 pub mod PurgeSteps

@@ -5,7 +5,7 @@ use Rattle.std.proofs.Common.{nat_lt}
 use Rattle.std.proofs.Common.{refl, sym, ap, subst, ◌∙◌, arith}
 use Rattle.std.specs.Prelude.{filter, count_by, slice_get, option_map}
 use Rattle.std.specs.List.{list_all, list_any}
-use Rattle.std.specs.List.Sorted.{IsPermutation}
+use Rattle.std.specs.List.Sorted.{IsPermutation, IsNonDecreasingBy}
 use Rattle.std.specs.Option.{option_map_or}
 use Rattle.std.proofs.lemmas.Bool.{cases_lt, eq-eqb, eqb-true, eqb-false, le-leb, le-ltb, lt-ltb, ltb-true, ltb-false}
 use Rattle.std.proofs.lemmas.Bool.{ne_eqb}
@@ -27,9 +27,12 @@ use Rattle.relay_types.proofs.TableLaws.{In, all_if, any_in, filter_in, in_all, 
 use Rattle.relay_types.proofs.TableLaws.{none_if}
 use Rattle.relay_types.proofs.TableLaws.{rising_from, rising_lower, some_same}
 use Rattle.spool_sql.specs.declared.row.Tried.{Tried}
-use Rattle.spool_sql.specs.Stored.{AreTriesOf, HaveOwnNumbers, IsPage, page_rows, tried_of, with_records}
+use Rattle.sqlite_trees.proofs.ListLemmas.{IsPermutation-filter, filter-map}
+use Rattle.spool_sql.specs.Stored.{AreTriesBetween, HaveOwnNumbers, IsPage, is_between, page_rows, tried_of}
+use Rattle.spool_sql.specs.Stored.{with_records}
 use Rattle.spool_sql.specs.Stored.{without_attempts, without_delivery}
-use Rattle.spool.specs.Entering.{AreInTurn, AreWalkable, are_past, without_events, without_past}
+use Rattle.spool_sql.proofs.HiddenLemmas.{rises_typed}
+use Rattle.spool.specs.Entering.{AreInTurn, AreWalkable, are_past, is_past_by, without_events, without_past}
 use Rattle.spool.specs.Reading.{IsRising}
 use Rattle.spool.proofs.PageLaws.{rising_order}
 
@@ -177,15 +180,41 @@ and_false : (a : Bool) → a && false ≡ false
 and_false true = refl
 and_false false = refl
 
--- no event of which nothing is past
-pub none_past : (before : ℕ) (walked : ℕ → Bool) (rows : Rows)
-    → ((d : ℕ) → (walked d && is_past_in rows before d) ≡ false) → rows ≡ without_past before walked rows
-none_past before walked rows none = λ i. record rows {
+-- none is taken out
+pub none_gone : (gone : ℕ → Bool) (rows : Rows) → ((d : ℕ) → gone d ≡ false) → rows ≡ without_events gone rows
+none_gone gone rows none = λ i. record rows {
   deliveries = sym (filter_all _ rows.deliveries (λ d _. ap not (none d.seq))) i;
   attempts = sym (filter_all _ rows.attempts (λ t _. ap not (none t.delivery))) i;
 }
 
+-- no event of which nothing is past
+pub none_past : (before : ℕ) (walked : ℕ → Bool) (rows : Rows)
+    → ((d : ℕ) → (walked d && is_past_in rows before d) ≡ false) → rows ≡ without_past before walked rows
+none_past before walked rows none = none_gone (λ d. walked d && is_past_in rows before d) rows none
+
+-- some events, and then others, are those of both
+pub gone_twice : (gone more both : ℕ → Bool) (rows : Rows) → ((d : ℕ) → both d ≡ gone d || more d)
+    → without_events more (without_events gone rows) ≡ without_events both rows
+gone_twice gone more both rows tests = λ i. record rows {
+  deliveries = sym (each (λ (d : DeliveryRow). d.seq) rows.deliveries) i;
+  attempts = sym (each (λ (t : AttemptRow). t.delivery) rows.attempts) i;
+}
+  where
+    each : {X : Type 0} (number : X → ℕ) (xs : List X)
+        → filter (λ x. not (both (number x))) xs
+        ≡ filter (λ x. not (more (number x))) (filter (λ x. not (gone (number x))) xs)
+    each number xs =
+        ap (λ p. filter p xs) (λ i x. not (tests (number x) i))
+        ∙ left_twice (λ x. gone (number x)) (λ x. more (number x)) (λ x. more (number x)) xs (λ x left. refl)
+
 -- ---- one event
+
+-- what came of each attempt at this event, in the order of their numbers
+abbrev pub AreTriesOf : ℕ → Rows → List Tried → Type 0
+AreTriesOf delivery rows found =
+    (all : List AttemptRow) × IsPermutation (filter (λ (a : AttemptRow). a.delivery == delivery) rows.attempts) all
+    × IsNonDecreasingBy (λ (a : AttemptRow). a.number) all
+    × (found ≡ map tried_of all)
 
 module _ (before delivery : ℕ) (rows : Rows) where
   -- what is read of its attempts tells whether it is past
@@ -198,16 +227,17 @@ module _ (before delivery : ℕ) (rows : Rows) where
       let all = rising_order number 0 upto.0 ts told.0 upto.1 told.1 told.2 in
       ap (are_past before) (told.3 ∙ ap (map tried_of) all) ∙ past_same before ts
 
-  only_it : (b : Bool) → is_past_in rows before delivery ≡ b → (d : ℕ)
-      → ((delivery == d) && is_past_in rows before d) ≡ (delivery == d) && b
+module _ (gone : ℕ → Bool) (delivery : ℕ) (rows : Rows) where
+  only_it : (b : Bool) → gone delivery ≡ b → (d : ℕ) → ((delivery == d) && gone d) ≡ (delivery == d) && b
   only_it b is d = at (delivery == d) refl
     where
-      at : (same : Bool) → delivery == d ≡ same → (same && is_past_in rows before d) ≡ same && b
-      at true e = ap (is_past_in rows before) (sym (eqb-true delivery d e)) ∙ is
+      at : (same : Bool) → delivery == d ≡ same → (same && gone d) ≡ same && b
+      at true e = ap gone (sym (eqb-true delivery d e)) ∙ is
       at false e = refl
 
-  pub kept_event : is_past_in rows before delivery ≡ false → rows ≡ without_past before (λ d. delivery == d) rows
-  kept_event is = none_past before (λ d. delivery == d) rows (λ d. only_it false is d ∙ and_false (delivery == d))
+  pub kept_event : gone delivery ≡ false → rows ≡ without_events (λ d. (delivery == d) && gone d) rows
+  kept_event is =
+      none_gone (λ d. (delivery == d) && gone d) rows (λ d. only_it false is d ∙ and_false (delivery == d))
 
   turned : (a b : ℕ) → (a == b) ≡ (b == a)
   turned a b = at (a == b) refl
@@ -220,15 +250,58 @@ module _ (before delivery : ℕ) (rows : Rows) where
   and_true true = refl
   and_true false = refl
 
-  pub taken_event : is_past_in rows before delivery ≡ true
-      → without_delivery delivery (without_attempts delivery rows) ≡ without_past before (λ d. delivery == d) rows
+  pub taken_event : gone delivery ≡ true
+      → without_delivery delivery (without_attempts delivery rows)
+      ≡ without_events (λ d. (delivery == d) && gone d) rows
   taken_event is = λ i. record rows {
     deliveries = filter (λ (d : DeliveryRow). not (test d.seq i)) rows.deliveries;
     attempts = filter (λ (t : AttemptRow). not (test t.delivery i)) rows.attempts;
   }
     where
-      test : (d : ℕ) → (d == delivery) ≡ (delivery == d) && is_past_in rows before d
+      test : (d : ℕ) → (d == delivery) ≡ (delivery == d) && gone d
       test d = turned d delivery ∙ and_true (delivery == d) ∙ sym (only_it true is d)
+
+-- ---- one of several events
+
+narrowed : {X : Type 0} (p q : X → Bool) (xs : List X) → ((x : X) → p x ≡ true → q x ≡ true)
+    → filter p (filter q xs) ≡ filter p xs
+narrowed p q [] all = refl
+narrowed {X} p q (x ∷ xs) all = at (p x) (q x) refl refl (narrowed p q xs all)
+  where
+    at : (a b : Bool) → p x ≡ a → q x ≡ b → filter p (filter q xs) ≡ filter p xs
+        → filter p (cond b (x ∷ filter q xs) (filter q xs)) ≡ cond a (x ∷ filter p xs) (filter p xs)
+    at true true is passes rest = rw is (ap (λ ys. x ∷ ys) rest)
+    at false true is passes rest = rw is rest
+    at false false is passes rest = rest
+    at true false is passes rest = absurd (let no = sym passes ∙ all x is in cc)
+
+module _ (first last : ℕ) (rows : Rows) (tries : List Tried) (told : AreTriesBetween first last rows tries) where
+  pub tries_rise : IsNonDecreasingBy (λ (t : Tried). t.delivery) tries
+  tries_rise =
+      subst (IsNonDecreasingBy (λ (t : Tried). t.delivery)) (sym told.4)
+      (rises_typed tried_of (λ (t : Tried). t.delivery) told.0 told.2)
+
+  -- of the attempts at several events, those at one of them
+  tries_of : (d : ℕ) → first ≤ d → d ≤ last
+      → AreTriesOf d rows (filter (λ (t : Tried). t.delivery == d) tries)
+  tries_of d low high =
+      let test = λ (a : AttemptRow). a.delivery == d in
+      let inner : filter test (filter (is_between first last) rows.attempts) ≡ filter test rows.attempts =
+      narrowed test (is_between first last) rows.attempts (λ a is. both a.delivery (eqb-true a.delivery d is)) in (
+        filter test told.0,
+        subst (λ l. IsPermutation l (filter test told.0)) inner (IsPermutation-filter test _ _ told.1),
+        told.3 d,
+        ap (filter (λ (t : Tried). t.delivery == d)) told.4
+            ∙ filter-map (λ (t : Tried). t.delivery == d) tried_of told.0,
+      )
+    where
+      both : (e : ℕ) → e ≡ d → (nat_le first e && nat_le e last) ≡ true
+      both e same =
+          rw (le-leb first e (omega (arith, same, low))) (le-leb e last (omega (arith, same, high)))
+
+  pub past_by : (before d : ℕ) → AreInTurn rows → first ≤ d → d ≤ last
+      → is_past_by before tries d ≡ is_past_in rows before d
+  past_by before d turn low high = past_told before d rows turn _ (tries_of d low high)
 
 once : {X : Type 0} (number : X → ℕ) (n : ℕ) (xs : List X) → IsRisingFrom number n xs → (k : ℕ)
     → length (filter (λ x. number x == k) xs) ≤ 1
@@ -272,6 +345,31 @@ last_greatest n l m (x ∷ y ∷ xs) rises is (inl first) =
 last_greatest n l m (x ∷ []) rises is (inr i) = absurd i
 last_greatest n l m (x ∷ y ∷ xs) rises is (inr i) = last_greatest (x + 1) l m (y ∷ xs) rises.1 is i
 
+first_least : (n f m : ℕ) (xs : List ℕ) → IsRisingFrom same n xs → slice_get xs 0 ≡ Some f → In m xs → f ≤ m
+first_least n f m [] rises is i = absurd i
+first_least n f m (x ∷ xs) rises is (inl same) = omega (arith, same, some_same is)
+first_least n f m (x ∷ xs) rises is (inr i) = omega (arith, some_same is, rising_from same (x + 1) xs m rises.1 i)
+
+-- of the events of a page, the attempts at them tell which are past
+pub page_past : (before first last : ℕ) (page : List ℕ) (rows : Rows) (tries : List Tried) → AreInTurn rows
+    → IsRisingFrom same 0 page → slice_get page 0 ≡ Some first → last_of page ≡ Some last
+    → AreTriesBetween first last rows tries
+    → without_events (λ d. is_listed page d && is_past_by before tries d) rows
+    ≡ without_past before (is_listed page) rows
+page_past before first last page rows tries turn rises starts ends told =
+    λ i. without_events (λ d. at d (is_listed page d) refl i) rows
+  where
+    at : (d : ℕ) (b : Bool) → is_listed page d ≡ b
+        → (is_listed page d && is_past_by before tries d) ≡ is_listed page d && is_past_in rows before d
+    at d true e =
+        let x = in_any (λ n. n == d) page e in
+        let here : x.0 ≡ d = eqb-true x.0 d x.2 in
+        ap (λ b. is_listed page d && b)
+        (past_by first last rows tries told before d turn
+        (omega (arith, here, first_least 0 first x.0 page rises starts x.1))
+        (omega (arith, here, last_greatest 0 last x.0 page rises ends x.1)))
+    at d false e = rw e refl
+
 taken_in : (n k l m : ℕ) (xs : List ℕ) → IsRisingFrom same n xs → last_of (take k xs) ≡ Some l → In m xs → m ≤ l
     → In m (take k xs)
 taken_in n zero l m xs rises is i low = absurd (let no = is in cc)
@@ -300,6 +398,9 @@ module _ (from : ℕ) (numbers page : List ℕ) (rises : IsRisingFrom same 0 num
 
   in_rest : (d : ℕ) → In d numbers → from ≤ d → In d rest
   in_rest d i from_here = filter_in (nat_le from) numbers d i (le-leb from d from_here)
+
+  pub page_rises : IsRisingFrom same 0 page
+  page_rises = subst (IsRisingFrom same 0) (sym page_front) (rising_take 0 page_rows rest rest_rises)
 
   -- a page has the numbers up to its last one
   pub page_covers : (l d : ℕ) → last_of page ≡ Some l → In d numbers → from ≤ d → is_listed page d ≡ nat_lt d (l + 1)
@@ -399,6 +500,10 @@ module _ (before upto : ℕ) (rows : Rows) (h : AreWalkable upto rows) where
         | inr from_here ↦
             covers d is from_here ∙ sym (ap (λ b. b || is_listed page d) (le-ltb d from from_here))
       ]
+
+  pub walk_rises : (from : ℕ) (page : List ℕ) → IsPage (λ (n : ℕ). n) from (numbers from) page
+      → IsRisingFrom same 0 page
+  walk_rises from page told = page_rises from (numbers from) page (numbers_rise from) told
 
   pub walk_some : (from next l : ℕ) (page : List ℕ) → IsPage (λ (n : ℕ). n) from (numbers from) page
       → last_of page ≡ Some l → next ≡ l + 1 → from ≤ next

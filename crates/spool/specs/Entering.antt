@@ -102,6 +102,10 @@ are_past before tries =
     || nat_le MAX_FAILURES (count_by (λ t. is_failed_status t.status) tries))
     && option_map_or (λ last. nat_lt last.at before) (last_of tries) false
 
+-- whether attempts at several events ended this one, the last at it before this moment
+abbrev pub is_past_by : (before : Seconds) → List Tried → Seq → Bool
+is_past_by before tries d = are_past before (filter (λ t. t.delivery == d) tries)
+
 -- the rows without some events and the attempts at them
 abbrev pub without_events : (gone : Seq → Bool) → Rows → Rows
 without_events gone rows = record rows {

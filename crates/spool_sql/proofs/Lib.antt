@@ -17,6 +17,7 @@ pub mod HiddenLemmas
 pub mod TopicSelects
 pub mod DeliverySelects
 pub mod PageLemmas
+pub mod PairOrder
 pub mod ReadableLemmas
 pub mod Pages
 pub mod RefusalLemmas

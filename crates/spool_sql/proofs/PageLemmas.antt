@@ -9,8 +9,9 @@ use Rattle.std.proofs.lemmas.List.Sorted.{IsPermutation-sym, IsPermutation-trans
 use Rattle.sqlite_trees.proofs.ListLemmas.{IsPermutation-filter, pull_back}
 use Rattle.sqlite.specs.Collation.TheVariants.{Binary}
 use Rattle.sqlite_sql.specs.declared.ops.BinaryOp.TheVariants.{Compare}
-use Rattle.sqlite_sql.specs.declared.ops.CompareOp.TheVariants.{Ge}
+use Rattle.sqlite_sql.specs.declared.ops.CompareOp.TheVariants.{Ge, Le}
 use Rattle.sqlite_sql.specs.Ops.{binary, is_true}
+use Rattle.sqlite_value.specs.declared.keys.Key.{Key}
 use Rattle.sqlite_value.specs.Keys.{ascending}
 use Rattle.sqlite_value.specs.Order.{column, value_cmp}
 use Rattle.sqlite_value.proofs.OrderLemmas.{value_cmp-Int, then-Equal}
@@ -46,34 +47,22 @@ pub limited-map : {X Y : Type 0} (f : X → Y) (limit : Option ℕ) (xs : List X
 limited-map f None xs = refl
 limited-map f (Some n) xs = take-map f n xs
 
-module _ {X : Type 0} (row : X → Row) (number : X → ℕ) (t at : ℕ) (tests shown : List Term) (params : Row)
+-- the rows of one table that pass the tests, in an order of columns
+module _ {X : Type 0} (row : X → Row) (order : List (Term × Key)) (t : ℕ) (tests shown : List Term) (params : Row)
     (limit : Value) (keep : X → Bool)
-    (passed : (x : X) → passes params tests (row x) ≡ keep x)
-    (numbered : (x : X) → column (row x) at ≡ Int (pos (number x))) where
-  abbrev query : Query
-  query = sorted_by t at tests shown limit
+    (passed : (x : X) → passes params tests (row x) ≡ keep x) where
+  abbrev pub query : Query
+  query = record (scan_by order t tests shown) { limit = lit limit }
 
-  abbrev out : X → Output
+  abbrev pub out : X → Output
   out x = output query (params ∷ row x ∷ [])
 
-  order_is : (x y : X) → is_lt (output_cmp query (out x) (out y)) ≡ is_lt (nat_cmp (number x) (number y))
-  order_is x y =
-      ap is_lt (then-Equal (value_cmp (column (row x) at) (column (row y) at)) ∙ ap₂ value_cmp (numbered x) (numbered y)
-      ∙ value_cmp-Int (pos (number x)) (pos (number y))) ∙ int_order (number x) (number y)
-
-  rises : (all : List X) → IsSorted (output_cmp query) (map out all) → IsNonDecreasingBy number all
-  rises all up = IsNonDecreasingBy-from_sort number all (λ k d low high.
-      let long = length-map all out in
-      let here = up k (out d) low (omega (arith, long, high)) in
-      sym (order_is (get_or all (k + 1) d) (get_or all k d))
-      ∙ subst₂ (λ a b. is_lt (output_cmp query a b) ≡ false) (get_or-map out all (k + 1) d (out d) high)
-      (get_or-map out all k d (out d) (omega (arith, high))) here)
-
-  pub ordered_rows : (schema : Schema) (db : Trees) (xs : List X) (found : List Row) → IsPermutation (db t) (map row xs)
-      → Answers (record { schema = schema; trees = db }) (record { lets = []; body = sorted_by t at tests shown limit })
-      params found
-      → ShowsInOrder number keep (λ x. shows params shown (row x)) (as_count limit) xs found
-  ordered_rows schema db xs found are h =
+  pub rows_in_order : (schema : Schema) (db : Trees) (xs : List X) (found : List Row)
+      → IsPermutation (db t) (map row xs)
+      → Answers (record { schema = schema; trees = db }) (record { lets = []; body = query }) params found
+      → (all : List X) × IsPermutation (filter keep xs) all × IsSorted (output_cmp query) (map out all)
+      × (found ≡ map (λ x. shows params shown (row x)) (limited (as_count limit) all))
+  rows_in_order schema db xs found are h =
       let p = passes params tests in
       let a : IsAnswer query (overlay db []) params found = h.answer Null in
       let there : overlay db [] t ≡ db t = no_tables _ (db t) (t - 2 ^ 31) in
@@ -92,18 +81,56 @@ module _ {X : Type 0} (row : X → Row) (number : X → ℕ) (t at : ℕ) (tests
       ∙ limited-map (λ x. shows params shown (row x)) (as_count limit) all.0 in (
         all.0,
         IsPermutation-trans _ _ _ (IsPermutation-filter keep _ _ to.1) all.1,
-        rises all.0 (subst (IsSorted (output_cmp query)) all.2 a.sorted),
+        subst (IsSorted (output_cmp query)) all.2 a.sorted,
         shown_are,
       )
+
+module _ {X : Type 0} (row : X → Row) (number : X → ℕ) (t at : ℕ) (tests shown : List Term) (params : Row)
+    (limit : Value) (keep : X → Bool)
+    (passed : (x : X) → passes params tests (row x) ≡ keep x)
+    (numbered : (x : X) → column (row x) at ≡ Int (pos (number x))) where
+  abbrev by_one : List (Term × Key)
+  by_one = (col 1 at, ascending Binary) ∷ []
+
+  abbrev sorted : Query
+  sorted = sorted_by t at tests shown limit
+
+  abbrev out_of : X → Output
+  out_of = out row by_one t tests shown params limit keep passed
+
+  order_is : (x y : X) → is_lt (output_cmp sorted (out_of x) (out_of y)) ≡ is_lt (nat_cmp (number x) (number y))
+  order_is x y =
+      ap is_lt (then-Equal (value_cmp (column (row x) at) (column (row y) at)) ∙ ap₂ value_cmp (numbered x) (numbered y)
+      ∙ value_cmp-Int (pos (number x)) (pos (number y))) ∙ int_order (number x) (number y)
+
+  rises : (all : List X) → IsSorted (output_cmp sorted) (map out_of all) → IsNonDecreasingBy number all
+  rises all up = IsNonDecreasingBy-from_sort number all (λ k d low high.
+      let long = length-map all out_of in
+      let here = up k (out_of d) low (omega (arith, long, high)) in
+      sym (order_is (get_or all (k + 1) d) (get_or all k d))
+      ∙ subst₂ (λ a b. is_lt (output_cmp sorted a b) ≡ false) (get_or-map out_of all (k + 1) d (out_of d) high)
+      (get_or-map out_of all k d (out_of d) (omega (arith, high))) here)
+
+  pub ordered_rows : (schema : Schema) (db : Trees) (xs : List X) (found : List Row) → IsPermutation (db t) (map row xs)
+      → Answers (record { schema = schema; trees = db }) (record { lets = []; body = sorted_by t at tests shown limit })
+      params found
+      → ShowsInOrder number keep (λ x. shows params shown (row x)) (as_count limit) xs found
+  ordered_rows schema db xs found are h =
+      let it = rows_in_order row by_one t tests shown params limit keep passed schema db xs found are h in
+      (it.0, it.1, rises it.0 it.2, it.3)
 
 -- ---- from a number on
 
 abbrev pub from_number : ℕ → List Term
 from_number at = op2 (Compare Ge Binary) (col 1 at) (col 0 0) ∷ []
 
-at_least : (m n : ℕ) → is_true (binary (Compare Ge Binary) (Int (pos m)) (Int (pos n))) ≡ nat_le n m
+pub at_least : (m n : ℕ) → is_true (binary (Compare Ge Binary) (Int (pos m)) (Int (pos n))) ≡ nat_le n m
 unfolding binary
 at_least m n = rw (value_cmp-Int (pos m) (pos n)) (grind (arith, nat_tests))
+
+pub at_most : (m n : ℕ) → is_true (binary (Compare Le Binary) (Int (pos m)) (Int (pos n))) ≡ nat_le m n
+unfolding binary
+at_most m n = rw (value_cmp-Int (pos m) (pos n)) (grind (arith, nat_tests))
 
 pub passes_from : (at from : ℕ) (r : Row) (n : ℕ) → column r at ≡ Int (pos n)
     → passes (Int (pos from) ∷ []) (from_number at) r ≡ nat_le from n

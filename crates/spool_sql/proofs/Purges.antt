@@ -1,14 +1,15 @@
 -- The statements of a purge.
-use Rattle.std.proofs.Common.{◌==◌, ℕ, pos, negsuc, List, [], ◌∷◌, map, take, filter, codes, not, nat_le, Some, None}
+use Rattle.std.proofs.Common.{◌≡◌, ◌==◌, ◌&&◌, ℕ, pos, negsuc, List, [], ◌∷◌, map, take, filter, codes, not, nat_le}
+use Rattle.std.proofs.Common.{Some}
 use Rattle.std.proofs.Common.{Ok, refl, sym, ap, subst, ◌∙◌}
 use Rattle.std.specs.List.{AllByRecursion}
-use Rattle.std.specs.List.Sorted.{IsPermutation}
+use Rattle.std.specs.List.Sorted.{IsPermutation, IsNonDecreasingBy}
 use Rattle.std.proofs.lemmas.List.{take-map}
 use Rattle.std.proofs.lemmas.List.Sorted.{IsPermutation-map}
 use Rattle.sqlite_trees.proofs.ListLemmas.{all_weaker, all-filter, all-map, all-permutation, filter-map}
 use Rattle.sqlite.specs.Collation.TheVariants.{Binary}
 use Rattle.sqlite_sql.specs.declared.ops.BinaryOp.TheVariants.{Compare}
-use Rattle.sqlite_sql.specs.declared.ops.CompareOp.TheVariants.{Eq}
+use Rattle.sqlite_sql.specs.declared.ops.CompareOp.TheVariants.{Eq, Ge, Le}
 use Rattle.sqlite.specs.declared.types.Value.TheVariants.{Int}
 use Rattle.sqlite.specs.Order.{Row}
 use Rattle.sqlite.specs.Term.{Term, col, op2}
@@ -21,10 +22,12 @@ use Rattle.sqlite_tied.specs.Compute.{everything}
 use Rattle.relay_types.specs.declared.limits.TheConstants.{MAX_RECORDS}
 use Rattle.relay_types.specs.Rows.{Rows, DeliveryRow, AttemptRow}
 use Rattle.spool_sql.specs.Tables.{relay_schema, deliveries, attempts}
-use Rattle.spool_sql.specs.Stored.{IsTables, IsPage, AreTriesOf, HaveOwnNumbers, page_rows, number_of, tried_in}
+use Rattle.spool_sql.specs.Stored.{IsTables, IsPage, AreTriesBetween, HaveOwnNumbers, page_rows, number_of, tried_in}
+use Rattle.spool_sql.specs.Stored.{is_between}
 use Rattle.spool_sql.specs.Stored.{delivery_stored, attempt_stored, without_attempts, without_delivery}
 use Rattle.spool_sql.specs.Steps.{Makes}
-use Rattle.spool_sql.specs.Readable.{AreReadable, IsReadableDelivery, IsReadableAttempt, ShowsBelow, ShowsTried, tried_shown}
+use Rattle.spool_sql.specs.Readable.{AreReadable, IsReadableDelivery, IsReadableAttempt, ShowsBelow, ShowsTried}
+use Rattle.spool_sql.specs.Readable.{tried_shown}
 use Rattle.spool_sql.proofs.BareLemmas.{IsBare}
 use Rattle.spool_sql.proofs.InsertLemmas.{Means}
 use Rattle.spool_sql.proofs.SelectLemmas.{Asks, map_map, equal_numbers, and_true}
@@ -34,7 +37,8 @@ use Rattle.spool_sql.proofs.Changes.{own_number, same_number}
 use Rattle.spool_sql.proofs.DeleteLemmas.{deleted_typed, attempts_alone}
 use Rattle.spool_sql.proofs.RelayLemmas.{idle, others_of, other_deliveries, other_attempts}
 use Rattle.spool_sql.proofs.HiddenLemmas.{rises_typed}
-use Rattle.spool_sql.proofs.PageLemmas.{ShowsInOrder, sorted_by, ordered_rows}
+use Rattle.spool_sql.proofs.PageLemmas.{ShowsInOrder, at_least, at_most}
+use Rattle.spool_sql.proofs.PairOrder.{sorted_by_both, rows_by_both}
 use Rattle.spool_sql.proofs.Pages.{page_of, page_found, page_shows}
 
 -- ---- the numbers of events, page by page
@@ -82,16 +86,18 @@ module _ (old new : State) (found : List Row) (rows : Rows) (t : IsTables old.no
 -- ---- what came of the attempts at an event
 
 abbrev pub tries_select : List ℕ
-tries_select = codes "SELECT status, at FROM attempts WHERE delivery = ?1 ORDER BY number"
+tries_select =
+    codes "SELECT delivery, status, at FROM attempts WHERE delivery >= ?1 AND delivery <= ?2 ORDER BY delivery, number"
 
-abbrev of_delivery : List Term
-of_delivery = op2 (Compare Eq Binary) (col 1 2) (col 0 0) ∷ []
+abbrev of_deliveries : List Term
+of_deliveries = op2 (Compare Ge Binary) (col 1 2) (col 0 0) ∷ op2 (Compare Le Binary) (col 1 2) (col 0 1) ∷ []
 
 abbrev tried_columns : List Term
-tried_columns = col 1 4 ∷ col 1 5 ∷ []
+tried_columns = col 1 2 ∷ col 1 4 ∷ col 1 5 ∷ []
 
-pub tries_select_asks : Asks relay_schema tries_select (sorted_by 7 3 of_delivery tried_columns (Int (negsuc 0)))
-    (codes "status" ∷ codes "at" ∷ [])
+pub tries_select_asks : Asks relay_schema tries_select
+    (sorted_by_both 7 2 3 of_deliveries tried_columns (Int (negsuc 0)))
+    (codes "delivery" ∷ codes "status" ∷ codes "at" ∷ [])
 unfolding understood everything
 tries_select_asks = record { means = record { is = refl; plain = (refl, refl) }; unlisted = refl }
 
@@ -99,29 +105,36 @@ pub tries_select_bare : IsBare tries_select
 unfolding understood everything
 tries_select_bare schema base = refl
 
-module _ (old new : State) (found : List Row) (rows : Rows) (t : IsTables old.now rows) (delivery : ℕ)
-    (h : Shown tries_select (Int (pos delivery) ∷ []) old new found) where
-  tries_found : ShowsInOrder (λ (a : AttemptRow). a.number) (λ a. a.delivery == delivery) tried_shown None rows.attempts
-      found
+abbrev pub tries_values : ℕ → ℕ → Row
+tries_values first last = Int (pos first) ∷ Int (pos last) ∷ []
+
+module _ (old new : State) (found : List Row) (rows : Rows) (t : IsTables old.now rows) (first last : ℕ)
+    (h : Shown tries_select (tries_values first last) old new found) where
+  tries_found : (all : List AttemptRow) × IsPermutation (filter (is_between first last) rows.attempts) all
+      × IsNonDecreasingBy (λ (a : AttemptRow). a.delivery) all
+      × ((n : ℕ) → IsNonDecreasingBy (λ (a : AttemptRow). a.number) (filter (λ (a : AttemptRow). a.delivery == n) all))
+      × (found ≡ map tried_shown all)
   tries_found =
-      let params : Row = Int (pos delivery) ∷ [] in
+      let params = tries_values first last in
       let read = reads_as tries_select params old new relay_schema t.schema_is _ tries_select_asks.means.is
       tries_select_asks.means.plain tries_select_asks.unlisted found h in
-      ordered_rows attempt_stored (λ (a : AttemptRow). a.number) 7 3 of_delivery tried_columns params (Int (negsuc 0))
-      (λ a. a.delivery == delivery) (λ a. and_true _ ∙ equal_numbers a.delivery delivery) (λ a. refl) old.now.schema
-      old.now.trees rows.attempts found t.tables.five.attempts read
+      rows_by_both attempt_stored (λ (a : AttemptRow). a.delivery) (λ (a : AttemptRow). a.number) 7 2 3 of_deliveries
+      tried_columns params (Int (negsuc 0)) (is_between first last)
+      (λ a. rw (at_least a.delivery first, at_most a.delivery last)
+      (ap (λ b. nat_le first a.delivery && b) (and_true (nat_le a.delivery last))))
+      (λ a. refl) (λ a. refl) old.now.schema old.now.trees rows.attempts found t.tables.five.attempts read
 
-  pub tells_tries : AreTriesOf delivery rows (map tried_in found)
+  pub tells_tries : AreTriesBetween first last rows (map tried_in found)
   tells_tries =
       let it = tries_found in
-      (it.0, it.1, it.2, ap (map tried_in) it.3 ∙ map_map tried_shown tried_in it.0)
+      (it.0, it.1, it.2, it.3, ap (map tried_in) it.4 ∙ map_map tried_shown tried_in it.0)
 
   pub shows_tries : AreReadable rows → AllByRecursion ShowsTried found
   shows_tries readable =
       let it = tries_found in
       let these = all-permutation IsReadableAttempt _ _ it.1
-      (all-filter IsReadableAttempt (λ (a : AttemptRow). a.delivery == delivery) rows.attempts readable.attempts) in
-      subst (AllByRecursion ShowsTried) (sym it.3)
+      (all-filter IsReadableAttempt (is_between first last) rows.attempts readable.attempts) in
+      subst (AllByRecursion ShowsTried) (sym it.4)
       (all-map ShowsTried tried_shown it.0
       (all_weaker IsReadableAttempt (λ a. ShowsTried (tried_shown a)) (λ a good. (a, refl, good)) it.0 these))
 
@@ -132,6 +145,9 @@ attempts_delete = codes "DELETE FROM attempts WHERE delivery = ?1"
 
 abbrev pub delivery_delete : List ℕ
 delivery_delete = codes "DELETE FROM deliveries WHERE seq = ?1"
+
+abbrev of_delivery : List Term
+of_delivery = op2 (Compare Eq Binary) (col 1 2) (col 0 0) ∷ []
 
 abbrev by_seq : List Term
 by_seq = op2 (Compare Eq Binary) (col 1 0) (col 0 0) ∷ []

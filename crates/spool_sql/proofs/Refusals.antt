@@ -24,7 +24,7 @@ use Rattle.spool_sql.proofs.Pages.{endpoints_page, endpoints_page_asks, endpoint
 use Rattle.spool_sql.proofs.Pages.{deliveries_select_asks, deliveries_select_bare, attempts_select}
 use Rattle.spool_sql.proofs.Pages.{attempts_select_asks, attempts_select_bare}
 use Rattle.spool_sql.proofs.Purges.{events_select, events_select_asks, events_select_bare, tries_select}
-use Rattle.spool_sql.proofs.Purges.{tries_select_asks, tries_select_bare}
+use Rattle.spool_sql.proofs.Purges.{tries_select_asks, tries_select_bare, tries_values}
 
 -- of tables of the relay's schema, each error of this query is that of a refusal
 abbrev pub RefusesQuery : List ℕ → Row → Type 1
@@ -104,8 +104,8 @@ events_refused from a b e rows t h =
     refused_for events_select events_select_bare _ _ events_select_asks (Int (pos from) ∷ []) refl refl 5 refl refl a b
     e t.schema_is h
 
-pub tries_refused : (delivery : ℕ) → RefusesQuery tries_select (Int (pos delivery) ∷ [])
+pub tries_refused : (first last : ℕ) → RefusesQuery tries_select (tries_values first last)
 unfolding understood everything
-tries_refused delivery a b e rows t h =
-    refused_for tries_select tries_select_bare _ _ tries_select_asks (Int (pos delivery) ∷ []) refl refl 7 refl refl a b
+tries_refused first last a b e rows t h =
+    refused_for tries_select tries_select_bare _ _ tries_select_asks (tries_values first last) refl refl 7 refl refl a b
     e t.schema_is h

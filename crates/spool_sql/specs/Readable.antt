@@ -85,7 +85,7 @@ abbrev pub topic_shown : TopicRow → Row
 topic_shown t = Words t.topic ∷ Int (pos t.endpoint) ∷ Int (pos (flag_number t.subscribed)) ∷ Int (pos t.set_by) ∷ []
 
 abbrev pub tried_shown : AttemptRow → Row
-tried_shown a = Int (pos a.status) ∷ Int (pos a.at) ∷ []
+tried_shown a = Int (pos a.delivery) ∷ Int (pos a.status) ∷ Int (pos a.at) ∷ []
 
 -- a row of a query shows one of them that can be read back
 abbrev pub ShowsEndpoint : Row → Type 0

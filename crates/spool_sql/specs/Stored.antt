@@ -206,16 +206,26 @@ AreStatusesOf delivery rows found =
 
 -- what came of an attempt, and the row that shows it
 abbrev pub tried_of : AttemptRow → row.Tried.Tried
-tried_of a = record { status = a.status; at = a.at }
+tried_of a = record { delivery = a.delivery; status = a.status; at = a.at }
 
 abbrev pub tried_in : Row → row.Tried.Tried
-tried_in r = record { status = number_in (column r 0); at = number_in (column r 1) }
+tried_in r = record {
+  delivery = number_in (column r 0);
+  status = number_in (column r 1);
+  at = number_in (column r 2);
+}
 
--- what came of each attempt at this event, in the order of their numbers
-abbrev pub AreTriesOf : Seq → Rows → List row.Tried.Tried → Type 0
-AreTriesOf delivery rows found =
-    (all : List AttemptRow) × IsPermutation (filter (λ (a : AttemptRow). a.delivery == delivery) rows.attempts) all
-    × IsNonDecreasingBy (λ (a : AttemptRow). a.number) all
+-- whether an attempt is at one of the events with these numbers and between them
+abbrev pub is_between : (first last : Seq) → AttemptRow → Bool
+is_between first last a = nat_le first a.delivery && nat_le a.delivery last
+
+-- what came of each attempt at these events, in the order of the events, and at each in the order of their numbers
+abbrev pub AreTriesBetween : (first last : Seq) → Rows → List row.Tried.Tried → Type 0
+AreTriesBetween first last rows found =
+    (all : List AttemptRow) × IsPermutation (filter (is_between first last) rows.attempts) all
+    × IsNonDecreasingBy (λ (a : AttemptRow). a.delivery) all
+    × ((delivery : Seq)
+    → IsNonDecreasingBy (λ (a : AttemptRow). a.number) (filter (λ (a : AttemptRow). a.delivery == delivery) all))
     × (found ≡ map tried_of all)
 
 -- no two attempts have one number

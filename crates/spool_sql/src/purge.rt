@@ -4,14 +4,14 @@ ghost use Rattle.std.specs.List.{AllByRecursion};
 ghost use Rattle.sqlite.specs.declared.types.Value.TheVariants.{Int};
 ghost use Rattle.relay_types.specs.declared.limits.TheConstants.{MAX_RECORDS};
 ghost use Rattle.spool_sql.specs.Readable.{IsMemory, IsRefusedFor, ShowsBelow, ShowsTried};
-ghost use Rattle.spool_sql.specs.Stored.{AreTriesOf, HaveOwnNumbers, IsPage, number_of, tried_in};
+ghost use Rattle.spool_sql.specs.Stored.{AreTriesBetween, HaveOwnNumbers, IsPage, number_of, tried_in};
 ghost use Rattle.spool_sql.specs.Stored.{without_attempts, without_delivery};
 ghost use Rattle.spool_sql.specs.Steps.{Changes, ChangesWhere, IsOfSame, IsRefusedOf, LeavesAll, LooksUp, SparesCommit};
 
 use crate::find::seq_of;
 use crate::row::Tried;
 use crate::seq::Seq;
-use relay_types::Moment;
+use relay_types::{MAX_RECORDS, Moment};
 use sqlite::{Alter, Error, Row, Transaction};
 use std::alloc::Global;
 
@@ -43,21 +43,24 @@ fn read_seqs(rows: &[Row], alloc: Global) -> Result<Vec<Seq>, Error>
     Ok(found)
 }
 
-/// What came of each attempt at this event, in the order of the attempts.
-pub fn attempts_of_delivery<S: Alter>(
+/// What came of each attempt at the events with numbers from `first` to `last`: in the order of the events, and at each
+/// in the order of the attempts.
+pub fn select_tries<S: Alter>(
     tx: &mut Transaction<'_, S>,
-    delivery: Seq,
+    first: Seq,
+    last: Seq,
 ) -> Result<Vec<Tried>, Error>
     ensures same_reference { IsOfSame tx.old.conn tx.new.conn }
     ensures unchanged { LeavesAll S.Store tx.old.conn.now tx.new.conn.now result }
     ensures found { LooksUp S.Store tx.old.conn.now tx.new.conn.now result
-        (λ found rows. AreTriesOf delivery rows found.items) }
+        (λ found rows. AreTriesBetween first last rows found.items) }
     ensures refused { IsRefusedFor S.Store tx.old.conn.now tx.new.conn.now result }
     ensures spares { SparesCommit S.Store tx.old.conn.now tx.new.conn.now }
 {
     let rows = tx.query_all(
-        "SELECT status, at FROM attempts WHERE delivery = ?1 ORDER BY number",
-        &[delivery.value()],
+        "SELECT delivery, status, at FROM attempts WHERE delivery >= ?1 AND delivery <= ?2 \
+         ORDER BY delivery, number",
+        &[first.value(), last.value()],
     )?;
     read_tries(&rows, *rows.allocator())
 }
@@ -79,14 +82,22 @@ fn read_tried(row: &Row) -> Result<Tried, Error>
     ensures value { IfOk result (λ tried. tried ≡ tried_in row.now) }
     ensures refused { IfErr result (λ error. ShowsTried row.now → IsMemory error) }
 {
-    let status: u32 = row.get(0)?;
-    let Ok(status) = u16::try_from(status) else {
+    let number: u64 = row.get(0)?;
+    if number >= MAX_RECORDS {
         return Err(Error::IntegralValueOutOfRange(0));
+    }
+    let status: u32 = row.get(1)?;
+    let Ok(status) = u16::try_from(status) else {
+        return Err(Error::IntegralValueOutOfRange(1));
     };
-    let seconds: u64 = row.get(1)?;
+    let seconds: u64 = row.get(2)?;
     match Moment::of(seconds) {
-        Ok(at) => Ok(Tried { status, at }),
-        Err(_) => Err(Error::IntegralValueOutOfRange(1)),
+        Ok(at) => Ok(Tried {
+            delivery: Seq::of(number),
+            status,
+            at,
+        }),
+        Err(_) => Err(Error::IntegralValueOutOfRange(2)),
     }
 }
 

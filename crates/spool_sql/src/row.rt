@@ -70,9 +70,11 @@ pub struct AttemptRow {
     pub at: Moment,
 }
 
-/// What came of an attempt: `status` is that of the answer, or 0 where none came.
+/// What came of an attempt at the event that the record with number `delivery` took in: `status` is that of the answer,
+/// or 0 where none came.
 #[derive(Clone, Copy)]
 pub struct Tried {
+    pub delivery: Seq,
     pub status: u16,
     pub at: Moment,
 }

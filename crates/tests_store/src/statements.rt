@@ -4,10 +4,10 @@ use crate::database::{Count, count_all, holds};
 use crate::entries::body_of;
 use relay_types::{MaxLimit, Moment, MsgId, Name, Secret, Target};
 use spool_sql::{
-    Cause, Seq, Tried, attempts_of_delivery, cause_of, count_endpoints, count_topics,
-    create_tables, create_topics, delete_attempts, delete_delivery, delete_topic, has_delivery,
-    has_topic, insert_attempt, insert_delivery, insert_endpoint, insert_secret, insert_topic,
-    is_empty, probe, select_events, select_put, update_records, update_version,
+    Cause, Seq, Tried, cause_of, count_endpoints, count_topics, create_tables, create_topics,
+    delete_attempts, delete_delivery, delete_topic, has_delivery, has_topic, insert_attempt,
+    insert_delivery, insert_endpoint, insert_secret, insert_topic, is_empty, probe, select_events,
+    select_put, select_tries, update_records, update_version,
 };
 use sqlite::{Connection, Error, ErrorCode, MemStore, Transaction};
 use std::alloc::Global;
@@ -56,8 +56,8 @@ enum Step {
     TopicCount(usize),
     /// The events with numbers from this on.
     Events(u32, &'static [u64]),
-    /// The statuses and moments of the attempts at this delivery.
-    Tries(u32, &'static [(u16, u64)]),
+    /// The deliveries, statuses and moments of the attempts at the deliveries with numbers from the first to the last.
+    Tries(u32, u32, &'static [(u64, u16, u64)]),
     /// Events of the endpoint with numbers from the first up to the end, of which each has its number in its id.
     Add(u32, u32, u32),
     /// How many numbers a page has that begins with this one, and which are its first and its last.
@@ -219,10 +219,14 @@ fn same_seqs(found: &[Seq], wanted: &[u64]) -> bool {
     is_same
 }
 
-fn same_tries(found: &[Tried], wanted: &[(u16, u64)]) -> bool {
+fn is_tried(tried: &Tried, delivery: u64, status: u16, at: u64) -> bool {
+    tried.delivery.get() == delivery && tried.status == status && tried.at.seconds() == at
+}
+
+fn same_tries(found: &[Tried], wanted: &[(u64, u16, u64)]) -> bool {
     let mut is_same = found.len() == wanted.len();
-    for (tried, (status, at)) in found.iter().zip(wanted) {
-        is_same = is_same && tried.status == *status && tried.at.seconds() == *at;
+    for (tried, (delivery, status, at)) in found.iter().zip(wanted) {
+        is_same = is_same && is_tried(tried, *delivery, *status, *at);
     }
     is_same
 }
@@ -260,8 +264,8 @@ fn is_so(alloc: Global, tx: &mut Transaction<'_, MemStore>, step: Step) -> Resul
         Step::HasTopic(topic, endpoint, wanted) => is_there(tx, topic, endpoint, wanted),
         Step::TopicCount(count) => Ok(count_topics(tx)? == count),
         Step::Events(from, wanted) => Ok(same_seqs(&select_events(tx, seq(from))?, wanted)),
-        Step::Tries(delivery, wanted) => {
-            Ok(same_tries(&attempts_of_delivery(tx, seq(delivery))?, wanted))
+        Step::Tries(first, last, wanted) => {
+            Ok(same_tries(&select_tries(tx, seq(first), seq(last))?, wanted))
         }
         Step::Add(endpoint, first, end) => add_all(alloc, tx, endpoint, first, end),
         Step::Page(from, count, first, last) => {
@@ -433,27 +437,35 @@ fn topics_are_found_and_replaced(rt: HostRuntime) -> Result<(), Fail> {
     walk(&rt, rt.alloc(), &TOPICS, &ROWS)
 }
 
-/// Deliveries 4, 8 and 10, of which the first has three attempts and the second has one.
-static REMOVED: [Step; 29] = [
+/// Deliveries 4, 8 and 10, of which the first has three attempts and the second has one, before the third of these.
+static REMOVED: [Step; 33] = [
     Step::Done(Call::Attempt(6, 4, 2, 0, 1001)),
-    Step::Done(Call::Attempt(7, 4, 3, 410, 1003)),
     Step::Done(Call::Delivery(8, 3, b"msg_2", 1000)),
-    Step::Done(Call::Attempt(9, 8, 1, 200, 1000)),
+    Step::Done(Call::Attempt(7, 8, 1, 200, 1000)),
+    Step::Done(Call::Attempt(9, 4, 3, 410, 1003)),
     Step::Done(Call::Delivery(10, 3, b"msg_3", 1000)),
     Step::Events(0, &[4, 8, 10]),
     Step::Events(4, &[4, 8, 10]),
     Step::Events(5, &[8, 10]),
     Step::Events(10, &[10]),
     Step::Events(11, &[]),
-    Step::Tries(4, &[(503, 1002), (0, 1001), (410, 1003)]),
-    Step::Tries(8, &[(200, 1000)]),
-    Step::Tries(10, &[]),
-    Step::Tries(5, &[]),
+    Step::Tries(4, 4, &[(4, 503, 1002), (4, 0, 1001), (4, 410, 1003)]),
+    Step::Tries(8, 8, &[(8, 200, 1000)]),
+    Step::Tries(10, 10, &[]),
+    Step::Tries(5, 5, &[]),
+    Step::Tries(
+        4,
+        8,
+        &[(4, 503, 1002), (4, 0, 1001), (4, 410, 1003), (8, 200, 1000)],
+    ),
+    Step::Tries(5, 10, &[(8, 200, 1000)]),
+    Step::Tries(0, 7, &[(4, 503, 1002), (4, 0, 1001), (4, 410, 1003)]),
+    Step::Tries(8, 4, &[]),
     Step::Refused(Call::NoDelivery(4)),
     Step::Events(0, &[4, 8, 10]),
     Step::Done(Call::NoAttempts(4)),
-    Step::Tries(4, &[]),
-    Step::Tries(8, &[(200, 1000)]),
+    Step::Tries(4, 4, &[]),
+    Step::Tries(0, 10, &[(8, 200, 1000)]),
     Step::Events(0, &[4, 8, 10]),
     Step::Done(Call::NoDelivery(4)),
     Step::Events(0, &[8, 10]),

@@ -1,41 +1,26 @@
-use Rattle.std.proofs.Common.{take_all, refl, subst, arith, ◌∙◌}
+use Rattle.std.proofs.Common.{sym, arith, ◌∙◌}
 use Rattle.sqlite.specs.State.{HasCleanDisk}
 use Rattle.sqlite.specs.Held.{state}
-use Rattle.spool_sql.specs.Steps.{AltersWhere}
-use Rattle.spool_sql.proofs.StepLemmas.{spares_then}
-use Rattle.spool.specs.Entering.{AreInTurn, without_past}
-use Rattle.spool.proofs.PurgeLemmas.{is_listed}
-use Rattle.spool.proofs.PurgeSteps.{page_begun, page_more}
-use Rattle.spool.proofs.SecretLemmas.{spares_none}
+use Rattle.spool_sql.proofs.StepLemmas.{on_ok}
+use Rattle.spool.proofs.PurgeLemmas.{last-is}
+use Rattle.spool.proofs.PurgeSteps.{page_empty, page_told}
 use Rattle.spool.proofs.purge.purge_page.Goals as goal
 
-pub loop-delivery-init : goal.loop-delivery-init
-loop-delivery-init g c = record {
-  same_reference = refl;
-  spares = spares_none (state g.S.Store c.args.tx.now.conn.now);
-  done = λ clean inside is_open. page_begun (state g.S.Store c.args.tx.now.conn.now) c.args.before inside is_open;
-}
-
-pub loop-delivery-preserved : goal.loop-delivery-preserved
-loop-delivery-preserved g c =
-    let a = state g.S.Store c.args.tx.now.conn.now in
-    let b = state g.S.Store c.loop-delivery.tx.conn.now in
-    let z = state g.S.Store c.purge_event.new.tx.conn.now in
-    let so_far = c.loop-delivery.invariant in
-    let step = c.in_ok-purge_event.ensures in
-    record {
-      same_reference = step.same_reference ∙ so_far.same_reference;
-      spares = spares_then a b z so_far.spares step.spares;
-      done = λ clean inside is_open.
-          let at_b : HasCleanDisk b = omega (arith, clean, step.spares.survives.clean) in
-          let before = so_far.done at_b inside is_open in
-          page_more a b z c.args.before c.loop-delivery.delivery-index c.args.page.now c.delivery-item.result
-          c.loop-delivery-test.true c.delivery-item.is before (step.done clean before.on.mode);
-    }
+pub returns-in_default-2-clause-done : goal.returns-in_default-2-clause-done
+returns-in_default-2-clause-done g c clean inside is_open =
+    page_empty (state g.S.Store c.args.tx.now.conn.now) c.args.before c.args.page.now inside is_open
+    (sym (rw c.in_default.is-0 at c.first.ensures.value))
 
 pub returns-clause-done : goal.returns-clause-done
-returns-clause-done g c clean inside is_open =
-    subst (λ page. AltersWhere (state g.S.Store c.args.tx.now.conn.now) (state g.S.Store c.loop-delivery.tx.conn.now)
-    AreInTurn (without_past c.args.before (is_listed page)))
-    (take_all c.loop-delivery.delivery-index c.args.page.now c.loop-delivery-test.false)
-    (c.loop-delivery.invariant.done clean inside is_open)
+returns-clause-done g c clean inside =
+    let a = state g.S.Store c.args.tx.now.conn.now in
+    let b = state g.S.Store c.select_tries.new.tx.conn.now in
+    let z = state g.S.Store c.purge_events.new.tx.conn.now in
+    let at_b : HasCleanDisk b = omega (arith, clean, c.purge_events.ensures.spares.survives.clean) in
+    let same = c.in_ok-tries.ensures.unchanged at_b in
+    on_ok c.purge_events.result _ _ (c.purge_events.ensures.done clean (same.0.mode ∙ inside))
+    (λ made is_open.
+    page_told a b z c.args.before c.in-Some-Some.first.now c.in-Some-Some.last.now c.args.page.now
+    c.in_ok-tries.tries.items inside same (c.in_ok-tries.ensures.found at_b)
+    (sym c.in-Some-Some.ensures.value) (sym (c.in-Some-Some.ensures'.value ∙ last-is c.args.page.now))
+    (rw c.deref.ensures.value at (made same.0.is_open)))

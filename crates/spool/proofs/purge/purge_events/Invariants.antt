@@ -2,9 +2,9 @@ use Rattle.std.proofs.Common.{◌≡◌, IsTrue, take}
 use Rattle.sqlite.specs.State.{HasCleanDisk}
 use Rattle.sqlite.specs.Held.{state}
 use Rattle.spool_sql.specs.Steps.{AltersWhere, Spares}
-use Rattle.spool.specs.Entering.{AreInTurn, without_past}
-use Rattle.spool.proofs.PurgeLemmas.{is_listed}
-use Rattle.spool.proofs.purge.purge_page.Given as goal
+use Rattle.spool.specs.Entering.{AreInTurn, without_events}
+use Rattle.spool.proofs.PurgeSteps.{AreByEvent, are_taken}
+use Rattle.spool.proofs.purge.purge_events.Given as goal
 
 abbrev pub invariant-loop-delivery : goal.invariant-loop-delivery
 invariant-loop-delivery g l = record {
@@ -12,6 +12,7 @@ invariant-loop-delivery g l = record {
   spares : Spares (state g.S.Store l.fn.tx.conn.now) (state g.S.Store l.tx.conn.now);
   done : HasCleanDisk (state g.S.Store l.tx.conn.now) → IsTrue (state g.S.Store l.fn.tx.conn.now).in_transaction
       → IsTrue (state g.S.Store l.fn.tx.conn.now).is_open
-      → AltersWhere (state g.S.Store l.fn.tx.conn.now) (state g.S.Store l.tx.conn.now) AreInTurn
-      (without_past l.before (is_listed (take l.delivery-index l.page)));
+      → AltersWhere (state g.S.Store l.fn.tx.conn.now) (state g.S.Store l.tx.conn.now)
+      (λ rows. AreInTurn rows × AreByEvent l.tries)
+      (without_events (are_taken l.before (take l.delivery-index l.page) l.tries));
 }

@@ -5,12 +5,12 @@ use Rattle.spool_sql.specs.Stored.{IsTables}
 use Rattle.spool_sql.specs.Readable.{AreReadable, IsRefusal}
 use Rattle.spool_sql.proofs.ReadableLemmas.{handed_on, err_then}
 use Rattle.spool_sql.proofs.Refusals.{tries_refused}
-use Rattle.spool_sql.specs.Stored.{AreTriesOf, tried_in}
+use Rattle.spool_sql.specs.Stored.{AreTriesBetween, tried_in}
 use Rattle.spool_sql.proofs.BareLemmas.{unchanged_by, spares_found, spares_failed}
 use Rattle.spool_sql.proofs.Purges.{shows_tries, tries_select}
 use Rattle.spool_sql.proofs.Purges.{tries_select_bare, tells_tries}
 use Rattle.spool_sql.proofs.StepLemmas.{ok_then, ok_always}
-use Rattle.spool_sql.proofs.purge.attempts_of_delivery.Goals as goal
+use Rattle.spool_sql.proofs.purge.select_tries.Goals as goal
 
 pub returns-clause-unchanged : goal.returns-clause-unchanged
 returns-clause-unchanged g c clean =
@@ -21,10 +21,10 @@ returns-clause-unchanged g c clean =
 pub returns-clause-found : goal.returns-clause-found
 returns-clause-found g c clean =
     ok_then c.read_tries.result _ _ c.read_tries.ensures.value (λ found is rows t.
-    subst (AreTriesOf c.args.delivery rows) (sym (is ∙ ap (map tried_in) c.deref.ensures.value))
+    subst (AreTriesBetween c.args.first c.args.last rows) (sym (is ∙ ap (map tried_in) c.deref.ensures.value))
     (tells_tries (state g.S.Store c.args.tx.now.conn.now) (state g.S.Store c.query_all.new.self.conn.now)
-    c.in_ok-rows.rows.items rows t c.args.delivery
-    (rw c.value.ensures.value at (c.in_ok-rows.ensures.ok clean))))
+    c.in_ok-rows.rows.items rows t c.args.first c.args.last
+    (rw (c.value.ensures.value, c.value-2.ensures.value) at (c.in_ok-rows.ensures.ok clean))))
 
 pub returns-clause-spares : goal.returns-clause-spares
 returns-clause-spares g c =
@@ -44,8 +44,8 @@ returns-in_err-rows-clause-refused g c clean =
     let b = state g.S.Store c.query_all.new.self.conn.now in
     handed_on c.from_residual.result c.in_err-rows.field-0.0 (λ e. (rows : Rows) → IsTables a.now rows
     → AreReadable rows → IsRefusal a b e) c.from_residual.ensures.1
-    (λ rows t readable. tries_refused c.args.delivery a b _ rows t
-    (rw c.value.ensures.value at (c.in_err-rows.ensures.err clean)))
+    (λ rows t readable. tries_refused c.args.first c.args.last a b _ rows t
+    (rw (c.value.ensures.value, c.value-2.ensures.value) at (c.in_err-rows.ensures.err clean)))
 
 pub returns-clause-refused : goal.returns-clause-refused
 returns-clause-refused g c clean =
@@ -54,5 +54,5 @@ returns-clause-refused g c clean =
     err_then c.read_tries.result _ (λ e. (rows : Rows) → IsTables a.now rows → AreReadable rows
     → IsRefusal a b e) c.read_tries.ensures.refused
     (λ e memory rows t readable. inl (memory (rw c.deref.ensures.value
-    (shows_tries a b _ rows t c.args.delivery
-    (rw c.value.ensures.value at (c.in_ok-rows.ensures.ok clean)) readable))))
+    (shows_tries a b _ rows t c.args.first c.args.last
+    (rw (c.value.ensures.value, c.value-2.ensures.value) at (c.in_ok-rows.ensures.ok clean)) readable))))
