@@ -2,6 +2,7 @@ ENDPOINT = {\"url\":\"http://127.0.0.1:9000/hook\",\"max\":100,\"secrets\":[\"wh
 
 RELAYD = crates/relayd/out/relayd
 BENCH = crates/bench/out/bench
+DRIVER = crates/driver/out/driver
 AT_ONCE = $(shell scripts/gate jobs)
 SOURCES = $(shell find crates -path '*/out' -prune -o -path 'crates/tests_*' -prune -o \( -name '*.rt' -o -name '*.antt' \) -print) crates.txt HANDLES
 
@@ -46,8 +47,8 @@ fmt:
 	for crate in crates/*/; do (cd "$$crate" && rt fmt) || exit 1; done
 
 # Prints one table of measurements, each beside a figure to compare it with.
-bench: $(BENCH) $(RELAYD)
-	scripts/bench core $(BENCH) $(RELAYD)
+bench: $(BENCH) $(DRIVER) $(RELAYD)
+	scripts/bench core $(BENCH) $(DRIVER) $(RELAYD)
 	scripts/bench publish $(RELAYD)
 
 # Installs the same below PREFIX: the program, its manual page, its unit and the documents.
@@ -69,8 +70,8 @@ $(RELAYD): $(SOURCES)
 	cd crates/relayd && rt all check --jobs $(AT_ONCE) && rt run -- --version
 	touch $@
 
-$(BENCH): $(SOURCES)
-	cd crates/bench && rt all check --jobs $(AT_ONCE) && rt run
+$(BENCH) $(DRIVER): $(SOURCES)
+	cd $(@D)/.. && rt all check --jobs $(AT_ONCE) && rt run
 	touch $@
 
 .PHONY: help run demo try test check edits attack fmt bench install deb load

@@ -1,1 +1,1 @@
-mod OpenLaws
+mod OutLaws

@@ -5,7 +5,7 @@ ghost use Rattle.relay_types.specs.declared.record.Record.{Record};
 use crate::events::{body_of, id_of, name_of, put_of};
 use crate::failed::Failed;
 use crate::sharing::{Answering, Counting, Sharing, Shown, Standing};
-use crate::turns::{BATCH, written};
+use crate::turns::{BATCH, settled, written};
 use delivery::{
     CommitterEnd, Keeper, LoggedKeeper, Pass, Round, Shared, begin_run, committer_run, worker_round,
 };
@@ -204,13 +204,7 @@ fn settle<L: Ledger, S: Alter>(desk: &mut Desk<L>, vault: &mut Vault<S>) -> Resu
     let Some(receipt) = written(vault, batch) else {
         return Err(Failed);
     };
-    match desk.settle(receipt) {
-        Ok(_) => Ok(()),
-        Err((receipt, _)) => {
-            drop(receipt.into_steps());
-            Err(Failed)
-        }
-    }
+    settled(desk, receipt)
 }
 
 fn fill<L: Ledger, S: Alter>(

@@ -1,8 +1,9 @@
 //! Events that are posted: each is claimed and spent with status 200, and the outcomes are committed 256 at a time.
 use crate::failed::Failed;
-use crate::open_desk::OpenDesk;
 use crate::times::{Times, add, since};
 use crate::turns::{BATCH, turn};
+use desk::Desk;
+use permits::Foreign;
 use relay_types::Moment;
 use retry_table::{PostResult, Status};
 use spool::Vault;
@@ -17,7 +18,7 @@ const ROUND_TRIP: u64 = 100_000;
 pub(crate) fn deliver<L: Ledger, S: Alter>(
     rt: &HostRuntime,
     began: Instant,
-    desk: &mut OpenDesk<L>,
+    desk: &mut Desk<L>,
     vault: &mut Vault<S>,
     (count, now): (u32, Moment),
     times: &mut Times,
@@ -36,7 +37,7 @@ pub(crate) fn deliver<L: Ledger, S: Alter>(
 fn post_each<L: Ledger>(
     rt: &HostRuntime,
     began: Instant,
-    desk: &mut OpenDesk<L>,
+    desk: &mut Desk<L>,
     (count, now): (u32, Moment),
     times: &mut Times,
 ) -> Result<(), Failed> {
@@ -47,27 +48,35 @@ fn post_each<L: Ledger>(
 }
 
 /// Posts the event that is next.
+#[tactic(auto, using(crate::proofs::OutLaws::last_out))]
 fn post<L: Ledger>(
     rt: &HostRuntime,
     began: Instant,
-    desk: &mut OpenDesk<L>,
+    desk: &mut Desk<L>,
     now: Moment,
     times: &mut Times,
 ) -> Result<(), Failed> {
-    let Some(status) = Status::of(200) else {
-        return Err(Failed);
-    };
+    let result = answered()?;
     let from = since(rt, began);
     let Some(job) = desk.claim(now)? else {
         return Err(Failed);
     };
     let claimed = since(rt, began);
-    let result = PostResult::Answered {
-        status,
-        rtt: ROUND_TRIP,
-    };
-    desk.spend(job.into_permit(), result, now);
+    match desk.spend(job.into_permit(), result, now) {
+        Ok(_) => {}
+        Err((_permit, Foreign)) => unreachable!(),
+    }
     add(&mut times.claiming, from, claimed);
     add(&mut times.spending, claimed, since(rt, began));
     Ok(())
+}
+
+fn answered() -> Result<PostResult, Failed> {
+    match Status::of(200) {
+        Some(status) => Ok(PostResult::Answered {
+            status,
+            rtt: ROUND_TRIP,
+        }),
+        None => Err(Failed),
+    }
 }

@@ -13,12 +13,16 @@ const DELIVERIES_TABLE: &str =
     "CREATE TABLE deliveries(seq INTEGER PRIMARY KEY, endpoint INTEGER NOT NULL REFERENCES endpoints(put), \
      id TEXT NOT NULL, at INTEGER NOT NULL, body BLOB NOT NULL, UNIQUE(endpoint, id)) STRICT";
 
-/// Inserts the rows of 100 endpoints and of as many events of 1 KiB.
-pub(crate) fn insert<S: Alter>(
+/// Inserts the rows of 100 endpoints and of as many events of 1 KiB. Whether all are.
+pub(crate) fn is_inserted<S: Alter + Drop>(
     alloc: Global,
-    conn: &mut Connection<S>,
+    mut conn: Connection<S>,
     count: u32,
-) -> Result<(), Failed> {
+) -> bool {
+    insert(alloc, &mut conn, count).is_ok()
+}
+
+fn insert<S: Alter>(alloc: Global, conn: &mut Connection<S>, count: u32) -> Result<(), Failed> {
     conn.execute(ENDPOINTS_TABLE, &[])?;
     conn.execute(DELIVERIES_TABLE, &[])?;
     for number in 0..ENDPOINTS {

@@ -14,7 +14,7 @@ struct Sample {
 }
 
 /// The next number of a linear congruential generator, with the constants of Knuth's MMIX.
-fn next(number: u64) -> u64 {
+pub(crate) fn next_number(number: u64) -> u64 {
     number
         .wrapping_mul(6_364_136_223_846_793_005)
         .wrapping_add(1_442_695_040_888_963_407)
@@ -35,7 +35,7 @@ fn sample_of(number: u64) -> Sample
 fn feed(mut estimator: Estimator, count: u64) -> Estimator {
     let mut number = 0;
     for _ in 0..count {
-        number = next(number);
+        number = next_number(number);
         let sample = sample_of(number);
         estimator.sample(sample.rtt, sample.inflight, sample.dropped);
     }

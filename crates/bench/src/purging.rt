@@ -4,11 +4,10 @@ ghost use Rattle.permits.specs.declared.pool.TheConstants.{PARTS};
 
 use crate::delivering::deliver;
 use crate::failed::Failed;
-use crate::open_desk::OpenDesk;
 use crate::submitting::{ROUND, put_each, take_in};
 use crate::times::{Times, Turns, add, print_time, print_turns, since};
 use crate::turns::{MARK, created, turn};
-use desk::Command;
+use desk::{Command, Desk};
 use permits::PARTS;
 use relay_types::Moment;
 use spool::Vault;
@@ -73,14 +72,14 @@ fn purge_in<L: Ledger, S: Alter>(
     requires parts { blank.parts ≡ L.parts }
     requires enough { blank.parts ≡ PARTS }
 {
-    let mut desk = OpenDesk::<L>::new(rt.alloc(), blank, MARK)?;
+    let mut desk = Desk::<L>::new(rt.alloc(), blank, MARK)?;
     purge_half(rt, began, &mut desk, vault, count)
 }
 
 fn purge_half<L: Ledger, S: Alter>(
     rt: &HostRuntime,
     began: Instant,
-    desk: &mut OpenDesk<L>,
+    desk: &mut Desk<L>,
     vault: &mut Vault<S>,
     count: u32,
 ) -> Result<Purged, Failed> {
@@ -95,7 +94,7 @@ fn purge_half<L: Ledger, S: Alter>(
 fn deliver_all<L: Ledger, S: Alter>(
     rt: &HostRuntime,
     began: Instant,
-    desk: &mut OpenDesk<L>,
+    desk: &mut Desk<L>,
     vault: &mut Vault<S>,
     (first, count): (u32, u32),
     now: Moment,
@@ -116,7 +115,7 @@ fn deliver_all<L: Ledger, S: Alter>(
 fn purge_before<L: Ledger, S: Alter>(
     rt: &HostRuntime,
     began: Instant,
-    desk: &mut OpenDesk<L>,
+    desk: &mut Desk<L>,
     vault: &mut Vault<S>,
 ) -> Result<Purged, Failed> {
     let before = Moment::of(LATE)?;
@@ -129,6 +128,6 @@ fn purge_before<L: Ledger, S: Alter>(
     desk.command(Command::Purge { before })?;
     add(&mut purged.staging, from, since(rt, began));
     turn(rt, began, desk, vault, &mut purged.turns)?;
-    purged.left = desk.delivered();
+    purged.left = desk.totals().delivered;
     Ok(purged)
 }

@@ -54,7 +54,7 @@ fn print_ends(rt: &HostRuntime, ends: &Ends) -> io::Result<()> {
 }
 
 /// The vault over a store that stands.
-pub(crate) fn adopted<S: Alter + Drop>(alloc: Global, conn: Connection<S>) -> Option<Vault<S>> {
+fn adopted<S: Alter + Drop>(alloc: Global, conn: Connection<S>) -> Option<Vault<S>> {
     if !conn.is_autocommit() {
         return None;
     }
@@ -97,7 +97,7 @@ fn seated<L: Ledger, S: Alter>(
     Some(desk.totals())
 }
 
-pub(crate) fn print_totals(rt: &HostRuntime, totals: &Totals) -> io::Result<()> {
+fn print_totals(rt: &HostRuntime, totals: &Totals) -> io::Result<()> {
     println!(rt;
         "records {} endpoints {} pending {}",
         totals.records, totals.endpoints, totals.pending

@@ -11,8 +11,9 @@ use permits::PARTS;
 use relay_types::Moment;
 use retry_table::{PostResult, Status};
 use spool::{Batch, CommitEnd, Receipt, Vault};
-use sqlite::{Alter, Connection, MemStore};
+use sqlite::{Alter, Connection};
 use std::alloc::Global;
+use std::io;
 use std::marker::Brand;
 use std::sync::Wait;
 use std::sync::ledger::{Blank, Ledger};
@@ -95,26 +96,23 @@ impl<K: Keeper + Drop> Keeper for Counting<K> {
     }
 }
 
-/// Runs the threads over a store in memory.
-pub(crate) fn share_in_memory<R: Threads + Wait + Clock + Sync>(
-    rt: &R,
-    alloc: Global,
-    run: Sharing,
-) -> Result<Shown, Failed> {
-    let conn = Connection::open_in_memory(alloc)?;
-    share_over::<MemStore, R>(rt, alloc, conn, run)
-}
-
-/// Runs the threads over the store in the file at the path, which is to have no table.
-pub(crate) fn share_over_file<R: Threads + Wait + Clock + Sync>(
+/// Runs the threads over a store that is to have no table, and prints what that took, and how many
+/// commits and settled records it had. Whether it ended well.
+pub(crate) fn print_sharing<S: Alter + Drop, R: Threads + Wait + Clock + Sync>(
     host: &HostRuntime,
     rt: &R,
-    path: &str,
+    conn: Connection<S>,
     run: Sharing,
-) -> Result<Shown, Failed> {
-    match Connection::open(host, path) {
-        Ok(conn) => share_over(rt, host.alloc(), conn, run),
-        Err(_) => Err(Failed),
+) -> io::Result<bool> {
+    match share_over(rt, host.alloc(), conn, run) {
+        Ok(shown) => {
+            println!(host;
+                "took {}\ncommits {}\nrecords {}",
+                shown.micros, shown.commits, shown.records
+            )?;
+            Ok(true)
+        }
+        Err(Failed) => Ok(false),
     }
 }
 
@@ -124,8 +122,10 @@ fn share_over<S: Alter + Drop, R: Threads + Wait + Clock + Sync>(
     conn: Connection<S>,
     run: Sharing,
 ) -> Result<Shown, Failed> {
-    let vault = created(conn)?;
-    share::<Brand, S, R>(rt, alloc, Blank::new(PARTS), vault, run)
+    match created(conn) {
+        Ok(vault) => share::<Brand, S, R>(rt, alloc, Blank::new(PARTS), vault, run),
+        Err(Failed) => Err(Failed),
+    }
 }
 
 fn share<L: Ledger + Send + Sync, S: Alter + Drop, R: Threads + Wait + Clock + Sync>(
@@ -139,6 +139,8 @@ fn share<L: Ledger + Send + Sync, S: Alter + Drop, R: Threads + Wait + Clock + S
     requires parts { blank.parts ≡ L.parts }
     requires enough { blank.parts ≡ PARTS }
 {
-    let desk = Desk::<L>::new(alloc, blank, MARK)?;
-    run_threads(rt, alloc, desk, vault, run)
+    match Desk::<L>::new(alloc, blank, MARK) {
+        Ok(desk) => run_threads(rt, alloc, desk, vault, run),
+        Err(_) => Err(Failed),
+    }
 }

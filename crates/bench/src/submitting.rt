@@ -5,10 +5,9 @@ ghost use Rattle.permits.specs.declared.pool.TheConstants.{PARTS};
 use crate::delivering::deliver;
 use crate::events::{body_of, id_of, name_of, put_of};
 use crate::failed::Failed;
-use crate::open_desk::OpenDesk;
 use crate::times::{Times, add, print_times, since};
 use crate::turns::{BATCH, MARK, created, turn};
-use desk::Command;
+use desk::{Command, Desk};
 use permits::PARTS;
 use relay_types::Moment;
 use spool::Vault;
@@ -100,14 +99,14 @@ fn submit_to<L: Ledger, S: Alter>(
     requires parts { blank.parts ≡ L.parts }
     requires enough { blank.parts ≡ PARTS }
 {
-    let mut desk = OpenDesk::<L>::new(rt.alloc(), blank, MARK)?;
+    let mut desk = Desk::<L>::new(rt.alloc(), blank, MARK)?;
     submit_all(rt, began, &mut desk, vault, plan, times)
 }
 
 fn submit_all<L: Ledger, S: Alter>(
     rt: &HostRuntime,
     began: Instant,
-    desk: &mut OpenDesk<L>,
+    desk: &mut Desk<L>,
     vault: &mut Vault<S>,
     plan: Plan,
     times: &mut Times,
@@ -129,7 +128,7 @@ fn submit_all<L: Ledger, S: Alter>(
 
 pub(crate) fn put_each<L: Ledger>(
     alloc: Global,
-    desk: &mut OpenDesk<L>,
+    desk: &mut Desk<L>,
     count: u32,
 ) -> Result<(), Failed> {
     for number in 0..count {
@@ -139,11 +138,7 @@ pub(crate) fn put_each<L: Ledger>(
 }
 
 /// Disables so many endpoints, every second one.
-fn disable_each<L: Ledger>(
-    alloc: Global,
-    desk: &mut OpenDesk<L>,
-    count: u32,
-) -> Result<(), Failed> {
+fn disable_each<L: Ledger>(alloc: Global, desk: &mut Desk<L>, count: u32) -> Result<(), Failed> {
     for number in 0..count {
         desk.command(Command::SetEnabled {
             name: name_of(alloc, number.saturating_mul(2))?,
@@ -157,7 +152,7 @@ fn disable_each<L: Ledger>(
 pub(crate) fn take_in<L: Ledger, S: Alter>(
     rt: &HostRuntime,
     began: Instant,
-    desk: &mut OpenDesk<L>,
+    desk: &mut Desk<L>,
     vault: &mut Vault<S>,
     endpoints: u32,
     (from, upto): (u32, u32),
@@ -180,7 +175,7 @@ pub(crate) fn take_in<L: Ledger, S: Alter>(
 
 fn submit_each<L: Ledger>(
     alloc: Global,
-    desk: &mut OpenDesk<L>,
+    desk: &mut Desk<L>,
     endpoints: u32,
     (from, upto): (u32, u32),
 ) -> Result<(), Failed> {
@@ -192,7 +187,7 @@ fn submit_each<L: Ledger>(
 
 fn submit_event<L: Ledger>(
     alloc: Global,
-    desk: &mut OpenDesk<L>,
+    desk: &mut Desk<L>,
     number: u32,
     endpoints: u32,
 ) -> Result<(), Failed> {
@@ -200,5 +195,6 @@ fn submit_event<L: Ledger>(
         return Err(Failed);
     };
     let (name, id) = (name_of(alloc, place)?, id_of(alloc, number)?);
-    desk.submit(Moment::of(1000)?, name, id, body_of(alloc)?)
+    desk.submit(Moment::of(1000)?, name, id, body_of(alloc)?)?;
+    Ok(())
 }

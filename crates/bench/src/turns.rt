@@ -1,7 +1,7 @@
 //! What waits goes into the store, in one commit.
 use crate::failed::Failed;
-use crate::open_desk::OpenDesk;
 use crate::times::{Turns, add, since};
+use desk::Desk;
 use spool::{Batch, CommitEnd, Receipt, Vault};
 use sqlite::{Alter, Connection};
 use std::sync::ledger::Ledger;
@@ -43,7 +43,7 @@ pub(crate) fn written<S: Alter>(vault: &mut Vault<S>, batch: Batch) -> Option<Re
 pub(crate) fn turn<L: Ledger, S: Alter>(
     rt: &HostRuntime,
     began: Instant,
-    desk: &mut OpenDesk<L>,
+    desk: &mut Desk<L>,
     vault: &mut Vault<S>,
     turns: &mut Turns,
 ) -> Result<(), Failed> {
@@ -56,9 +56,20 @@ pub(crate) fn turn<L: Ledger, S: Alter>(
         return Err(Failed);
     };
     let committed = since(rt, began);
-    desk.settle(receipt)?;
+    settled(desk, receipt)?;
     add(&mut turns.sealing, from, sealed);
     add(&mut turns.committing, sealed, committed);
     add(&mut turns.sealing, committed, since(rt, began));
     Ok(())
+}
+
+/// Settles what was committed.
+pub(crate) fn settled<L: Ledger>(desk: &mut Desk<L>, receipt: Receipt) -> Result<(), Failed> {
+    match desk.settle(receipt) {
+        Ok(_) => Ok(()),
+        Err((receipt, _)) => {
+            drop(receipt.into_steps());
+            Err(Failed)
+        }
+    }
 }

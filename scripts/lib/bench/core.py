@@ -1,11 +1,11 @@
 """The core and the store, beside the same in Python and SQLite in C (`make bench`).
 
-Measures the programs crates/bench and crates/relayd, and prints one table. The limit is compared
-with its rule in Python, and the store with the same statements through Python's sqlite3, which is
-SQLite in C. Times are of whole processes, or what a run tells of its parts, and memory is the most
-that one held. `--shared BENCH` measures threads that share a desk alone; `--file PATH COUNT` makes
-the file of as many deliveries that is reopened, and `--read PATH` reads its rows.
-Usage: scripts/bench core BENCH RELAYD
+Measures the programs bench, driver and relayd of crates/, and prints one table. The limit is
+compared with its rule in Python, and the store with the same statements through Python's sqlite3,
+which is SQLite in C. Times are of whole processes, or what a run tells of its parts, and memory is
+the most that one held. `--shared BENCH` measures threads that share a desk alone; `--file PATH
+COUNT` makes the file of as many deliveries that is reopened, and `--read PATH` reads its rows.
+Usage: scripts/bench core BENCH DRIVER RELAYD
 """
 import contextlib
 import resource
@@ -278,7 +278,7 @@ def main():
         return read_in_python(sys.argv[2])
     if sys.argv[1] == "--store":
         return store_in_python(sys.argv[2], int(sys.argv[3]), int(sys.argv[4]))
-    bench, relayd = programs_of(__doc__, 2)
+    bench, driver, relayd = programs_of(__doc__, 3)
     python = [str(ROOT / "scripts" / "bench"), "core"]
     print("| what | how much | time | for one | memory | the same in Python, for one |\n|---|---|---|---|---|---|")
     told, python_spent, _ = measured([*python, "--limit", str(SAMPLES_IN_PYTHON)])
@@ -297,7 +297,7 @@ def main():
         reopened(bench, scratch, python)
         for place, count, size in (("memory", 50_000, 2), ("memory", 50_000, 1000), ("a file", 2_000, 1000)):
             there = place == "memory"
-            words = [relayd, "replay"] if there else [bench, "replay", f"{scratch}/store"]
+            words = [relayd, "replay"] if there else [driver, "replay", f"{scratch}/store"]
             _, spent, memory = measured(words, script(count, size))
             path = ":memory:" if there else f"{scratch}/python"
             _, python_spent, python_memory = measured([*python, "--store", path, str(count), str(size)])

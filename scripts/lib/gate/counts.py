@@ -13,7 +13,7 @@ import sys
 from lib.command import ROOT, end_with_usage
 
 PARTS = ("src", "specs", "proofs")
-TESTS = ("tests_", "bench", "check_files")
+TESTS = ("tests_", "bench", "check_files", "driver")
 CLAUSE = re.compile(r"\s*(requires|ensures|invariant)\b")
 
 
@@ -47,7 +47,7 @@ def main():
     for name in sorted(names, key=lambda it: -counts[it][2] / max(counts[it][0], 1)):
         print(row(name, counts[name]))
     tests = {it for it in names if it.startswith(TESTS)}
-    for kind, which in (("the relay", set(names) - tests), ("tests, bench", tests)):
+    for kind, which in (("the relay", set(names) - tests), ("tests, bench, driver", tests)):
         if which:
             print(row(kind, [sum(it) for it in zip(*map(counts.get, which))]))
     return 0

@@ -61,10 +61,10 @@ scripts/gate times 2>&1 | tee "$logs/gate"
 count "$logs/gate" "scripts/gate times" "${PIPESTATUS[0]}"
 
 relayd=crates/relayd/out/relayd
-bench=crates/bench/out/bench
+driver=crates/driver/out/driver
 start scripts/script model
 start misuse/run
-start scripts/memory calls $relayd $bench
+start scripts/memory calls $relayd $driver
 start scripts/serve check $relayd
 start scripts/script random $relayd
 start scripts/serve kill $relayd 20
@@ -74,13 +74,13 @@ start scripts/docs check $relayd
 start scripts/script worked $relayd
 start scripts/script limits $relayd
 start scripts/script signatures $relayd
-start scripts/store files $relayd $bench
-start scripts/store tables $bench
-start scripts/script requests $bench
-start scripts/script queue $bench
-start scripts/store fail $bench
+start scripts/store files $relayd $driver
+start scripts/store tables $driver
+start scripts/script requests $driver
+start scripts/script queue $driver
+start scripts/store fail $driver
 start scripts/script streams $relayd
-start scripts/store stop $relayd $bench 60
+start scripts/store stop $relayd $driver 60
 wait
 for ((step = 0; step < steps; step++)); do
   log="$logs/$step"

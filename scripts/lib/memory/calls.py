@@ -1,11 +1,11 @@
 """Each allocation of each call refused in turn: it returns what calls.txt says.
 
 A public call that takes memory and isn't in the table fails. First calls alone, each between two
-bytes of standard input, by `bench growths`; then each line of a script, by `relayd replay`; then
-whole commands, with each allocation refused and with each two in turn; `bench loads` and `bench
+bytes of standard input, by `driver growths`; then each line of a script, by `relayd replay`; then
+whole commands, with each allocation refused and with each two in turn; `driver loads` and `driver
 runs`, of which each tells which of its calls was refused; and relays that serve, whose committer
 can't seal what waits, eight times in a row and nine times.
-Usage: scripts/memory calls RELAYD BENCH
+Usage: scripts/memory calls RELAYD DRIVER
 """
 import collections
 import concurrent.futures
@@ -26,7 +26,7 @@ from lib.serving import Relay, ask, put
 CRATES = ROOT / "crates"
 TABLE = pathlib.Path(__file__).with_name("calls.txt")
 SECRET = "whsec_MfKQ9r8GKYqrTwjUPD8ILPZIo2LaLaSw"
-WAYS = {"growths", "none", "line", "part", "command", "bench", "serve"}
+WAYS = {"growths", "none", "line", "part", "command", "driver", "serve"}
 
 
 class Row:
@@ -46,7 +46,7 @@ def table():
 
 # The public calls of the sources.
 
-PROGRAMS = ("bench", "check_files", "relayd")
+PROGRAMS = ("bench", "check_files", "driver", "relayd")
 # What says in an answer that memory was lacking: an allocator's refusal, a store's error, and what the repository's own faults are made of.
 TELLS = {"AllocError", "Error", "io", "HostRuntime", "Global"}
 ITEM = re.compile(
@@ -123,22 +123,22 @@ FEW, ALL = 64, 10**6
 STRIDE = {"FILE": 8, "FIRST": 8, "ABSENT": 8}
 
 
-def made(library, bench, word, folder, step=0, refuse=0, many=1):
-    """What `bench growths` tells of a call that is made twice: what stood, the two answers, and how it ended."""
+def made(library, driver, word, folder, step=0, refuse=0, many=1):
+    """What `driver growths` tells of a call that is made twice: what stood, the two answers, and how it ended."""
     with tempfile.TemporaryDirectory(dir=folder) as scratch:
         path = os.path.join(scratch, "store")
         if FILES.get(word):
             shutil.copyfile(os.path.join(folder, FILES[word]), path)
-        words = [bench, "growths", path if word in FILES else word]
+        words = [driver, "growths", path if word in FILES else word]
         run = faults.Lines(library, words, folder, step, refuse, many)
         stood = run.read()
         answers = [run.send("\n"), run.send("\n")]
         return stood, answers, run.end()
 
 
-def try_call(library, bench, row, folder, pool, counts):
+def try_call(library, driver, row, folder, pool, counts):
     """Refuses each allocation of the call, and each with all later ones."""
-    stood, answers, end = made(library, bench, row.word, folder)
+    stood, answers, end = made(library, driver, row.word, folder)
     wanted, *others = row.told.split(" or ")
     count = end.counts[1]
     counts.check(f"{row.word}", (end.status, (answers[0] or "").split(" stands ")[0]), (0, wanted))
@@ -148,7 +148,7 @@ def try_call(library, bench, row, folder, pool, counts):
     refused, is_seen = [f"OutOfMemory {stood}", answers[0]], False
     for many in (1, ALL) if count <= FEW else (1,):
         numbers = range(1, count + 1, STRIDE.get(row.word, 1))
-        tries = pool.map(lambda number: made(library, bench, row.word, folder, 1, number, many), numbers)
+        tries = pool.map(lambda number: made(library, driver, row.word, folder, 1, number, many), numbers)
         for number, (before, found, end) in zip(numbers, tries):
             is_seen |= found == refused
             is_right = found == refused or "done" in others and found == answers or found in [[refused[0], f"{other} {stood}"] for other in others]
@@ -367,7 +367,7 @@ NO_LOAD = "OutOfMemory"
 # What two loads tell where no memory is refused, and where that of one of them is.
 LOADS = {(WHOLE_LOAD, WHOLE_LOAD): "none", (NO_LOAD, WHOLE_LOAD): "first", (WHOLE_LOAD, NO_LOAD): "second"}
 
-# The calls of `bench runs`, and how each says that its memory was refused. The others take none.
+# The calls of `driver runs`, and how each says that its memory was refused. The others take none.
 RUN = ["put", "seal", "commit", "unseal", "seal", "commit", "settle", "submit", "told"]
 NUMBERS = {"put": 7, "seal": 3, "commit": 4, "submit": 8}
 
@@ -435,28 +435,28 @@ def kinds_of_runs():
     return {**kinds, whole: "none", ("OutOfMemory", *whole): "own"}
 
 
-def try_bench(library, bench, word, kinds, needed, folder, pool, counts):
+def try_driver(library, driver, word, kinds, needed, folder, pool, counts):
     """Refuses each allocation of the run. Where the store isn't opened it ends with status 1, and tells nothing."""
     def kind_of(number):
         with tempfile.TemporaryDirectory(dir=folder) as scratch:
             for ending in ("", "-wal"):
                 if word == "loads" and os.path.exists(f"{folder}/loaded{ending}"):
                     shutil.copyfile(f"{folder}/loaded{ending}", f"{scratch}/store{ending}")
-            told, count = faults.run(library, [bench, word, f"{scratch}/store"], b"", scratch, allocation=number)
+            told, count = faults.run(library, [driver, word, f"{scratch}/store"], b"", scratch, allocation=number)
         lines = tuple(told.stdout.decode().splitlines())
         if told.returncode == 1 and not lines:
             return "opening", count
         return (kinds.get(lines) if told.returncode == 0 else None) or f"{told.returncode} {lines}", count
 
     whole, count = kind_of(0)
-    counts.check(f"bench {word}", (whole, count > 0), ("none", True))
+    counts.check(f"driver {word}", (whole, count > 0), ("none", True))
     found = collections.Counter()
     for number, (kind, _) in enumerate(pool.map(kind_of, range(1, count + 1)), 1):
         found[kind] += 1
-        counts.check(f"bench {word}, allocation {number} of {count}", kind in {*kinds.values(), "opening"})
+        counts.check(f"driver {word}, allocation {number} of {count}", kind in {*kinds.values(), "opening"})
         if kind not in {*kinds.values(), "opening"}:
             print(f"    {kind}")
-    counts.check(f"bench {word}: never refused", [kind for kind in needed if not found[kind]], [])
+    counts.check(f"driver {word}: never refused", [kind for kind in needed if not found[kind]], [])
 
 
 # A relay that serves: its committer, which is on the main thread, seals what waits, and lacks memory for that.
@@ -495,7 +495,7 @@ def try_seals(relayd, library, folder, counts):
 
 
 def main():
-    relayd, bench = programs_of(__doc__, 2)
+    relayd, driver = programs_of(__doc__, 2)
     counts, rows = Counts(), table()
     check_table(rows, counts)
     with tempfile.TemporaryDirectory() as folder, concurrent.futures.ThreadPoolExecutor(4) as pool:
@@ -503,13 +503,13 @@ def main():
         make_files(relayd, folder)
         for row in rows:
             if row.way in ("growths", "none") and row.word:
-                try_call(library, bench, row, folder, pool, counts)
+                try_call(library, driver, row, folder, pool, counts)
         for at in range(len(SCRIPT)):
             try_line(library, relayd, rows, at, folder, pool, counts)
         for command in COMMANDS:
             try_command(library, relayd, command, folder, pool, counts)
-        subprocess.run([bench, "replay", f"{folder}/loaded"], input=LOADED.encode(), stdout=subprocess.DEVNULL, check=True)
-        try_bench(library, bench, "loads", LOADS, ("first", "second"), folder, pool, counts)
-        try_bench(library, bench, "runs", kinds_of_runs(), ("own", "put 0", "commit 2", "submit 7"), folder, pool, counts)
+        subprocess.run([driver, "replay", f"{folder}/loaded"], input=LOADED.encode(), stdout=subprocess.DEVNULL, check=True)
+        try_driver(library, driver, "loads", LOADS, ("first", "second"), folder, pool, counts)
+        try_driver(library, driver, "runs", kinds_of_runs(), ("own", "put 0", "commit 2", "submit 7"), folder, pool, counts)
         try_seals(relayd, library, folder, counts)
     return counts.end()

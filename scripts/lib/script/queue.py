@@ -1,8 +1,8 @@
 """Random moves of the claim queue: what is next after each is what the model says.
 
-`bench moves SEED COUNT` inserts, removes and changes room at random. A run of 5,000 moves counts as
+`driver moves SEED COUNT` inserts, removes and changes room at random. A run of 5,000 moves counts as
 one.
-Usage: scripts/script queue BENCH [MOVES]: 50,000 moves if left out
+Usage: scripts/script queue DRIVER [MOVES]: 50,000 moves if left out
 """
 import subprocess
 import sys
@@ -15,8 +15,8 @@ MOVES = 5_000
 MASK = 2**64 - 1
 
 
-def told(bench, seed, count):
-    words = [bench, "moves", str(seed), str(count)]
+def told(driver, seed, count):
+    words = [driver, "moves", str(seed), str(count)]
     return subprocess.run(words, stdout=subprocess.PIPE, check=True, text=True).stdout.split()
 
 
@@ -44,8 +44,8 @@ def expected(seed, count):
 
 
 def main():
-    bench, moves = program_of(__doc__), int(sys.argv[2]) if len(sys.argv) > 2 else 50_000
+    driver, moves = program_of(__doc__), int(sys.argv[2]) if len(sys.argv) > 2 else 50_000
     counts = Counts()
     for seed in range(1, moves // MOVES + 1):
-        counts.check(f"seed {seed}: a move", first_difference(told(bench, seed, MOVES), expected(seed, MOVES)), None)
+        counts.check(f"seed {seed}: a move", first_difference(told(driver, seed, MOVES), expected(seed, MOVES)), None)
     return counts.end()

@@ -1,7 +1,7 @@
 """Worked requests, and 2,000 random ones: each answer is the page's or the model's.
 
-`bench asks` answers the requests, the random ones in runs of 50.
-Usage: scripts/script requests BENCH
+`driver asks` answers the requests, the random ones in runs of 50.
+Usage: scripts/script requests DRIVER
 """
 import base64
 import random

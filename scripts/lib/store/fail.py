@@ -1,11 +1,11 @@
 """Each call of the file failed in turn, alone and with all later ones.
 
-`bench replay` runs over a new file with its first call of the file failed, then with its second,
+`driver replay` runs over a new file with its first call of the file failed, then with its second,
 and so on to its last. Each time a commit reports the right error, and SQLite in C finds the rows of
 the records that were committed, and at most those of one doubtful commit more: a purge and the
-attempt before it are among them. The same of `bench open` over a store of version 1: SQLite in C finds its rows, in tables of one version or the other,
+attempt before it are among them. The same of `driver open` over a store of version 1: SQLite in C finds its rows, in tables of one version or the other,
 and the next opening finds them in the latest.
-Usage: scripts/store fail BENCH
+Usage: scripts/store fail DRIVER
 """
 import concurrent.futures
 import itertools
@@ -97,7 +97,7 @@ RUNS = {
 }
 
 
-def try_all(bench, library, run, settings, pool, scratch):
+def try_all(driver, library, run, settings, pool, scratch):
     """Runs with no call failed, and then with each; how many ended well, and how many did not."""
     word, text, make, last, wrong = RUNS[run]
     name = "-".join([run, *sorted(settings)])
@@ -105,7 +105,7 @@ def try_all(bench, library, run, settings, pool, scratch):
     def one(number):
         path = f"{scratch}/{name}-{number}.db"
         make(path)
-        told, count = faults.run(library, [bench, word, path], text, file=number, **settings)
+        told, count = faults.run(library, [driver, word, path], text, file=number, **settings)
         why = wrong(told, path)
         for left in pathlib.Path(scratch).glob(f"{name}-{number}.db*"):
             left.unlink()
@@ -123,12 +123,12 @@ def try_all(bench, library, run, settings, pool, scratch):
 
 
 def main():
-    bench = program_of(__doc__)
+    driver = program_of(__doc__)
     passed = failed = 0
     with tempfile.TemporaryDirectory() as scratch, concurrent.futures.ThreadPoolExecutor(4) as pool:
         library = faults.compiled(scratch)
         for run, settings in itertools.product(RUNS, ({}, {"also": 1})):
-            good, bad = try_all(bench, library, run, settings, pool, scratch)
+            good, bad = try_all(driver, library, run, settings, pool, scratch)
             passed, failed = passed + good, failed + bad
     print(f"{passed} passed, {failed} failed")
     return 1 if failed else 0

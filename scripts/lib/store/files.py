@@ -5,9 +5,9 @@ is migrated, and has the same rows then; every other file is as it was, byte for
 nothing, or an empty file, a store is made, which Python's SQLite then reads. Then stores of 200
 random histories with topics and purges, in each of which a cell was changed: the conditions of the
 page, which Python looks at, decide. Beside these what is said of a file that another program has
-open, and the copies of `packaging/backup`. Then the same of `bench open`, which opens a file by one
+open, and the copies of `packaging/backup`. Then the same of `driver open`, which opens a file by one
 call. Last, `relayd serve` migrates a store.
-Usage: scripts/store files RELAYD BENCH
+Usage: scripts/store files RELAYD DRIVER
 """
 import contextlib
 import fcntl
@@ -165,7 +165,7 @@ VERSIONS = {
 STATUSES = {"NotOurs": 4, "NewerVersion": 4, "Damaged": 4, "Busy": 3, "CannotOpen": 3, "Corrupt": 3, "Full": 3, "Lost": 3}
 # A log of fewer bytes has no page: its head, and a page's head and bytes.
 WITH_A_PAGE = 32 + 24 + 512
-# As what `bench open` tells each of them.
+# As what `driver open` tells each of them.
 OF_THE_STORE = [fault for fault, status in STATUSES.items() if status == 3]
 
 
@@ -206,9 +206,9 @@ def checks(relayd, path):
     return told.stdout[:-1].decode() if is_done else None
 
 
-def opens(bench, path):
-    """What `bench open` tells of it, in the same words."""
-    told = subprocess.run([bench, "open", str(path)], stdin=subprocess.DEVNULL, capture_output=True, timeout=60)
+def opens(driver, path):
+    """What `driver open` tells of it, in the same words."""
+    told = subprocess.run([driver, "open", str(path)], stdin=subprocess.DEVNULL, capture_output=True, timeout=60)
     line = told.stdout.decode().removesuffix("\n")
     if told.returncode == 0:
         return f"ok {line}"
@@ -451,9 +451,9 @@ def in_a_folder(check, *words):
 
 
 def main():
-    relayd, bench = programs_of(__doc__, 2)
+    relayd, driver = programs_of(__doc__, 2)
     ends = in_a_folder(check_served, relayd)
-    for tell in (lambda path: checks(relayd, path), lambda path: opens(bench, path)):
+    for tell in (lambda path: checks(relayd, path), lambda path: opens(driver, path)):
         ends += in_a_folder(check_others, tell)
         ends += in_a_folder(check_changed, tell)
         for version in VERSIONS:

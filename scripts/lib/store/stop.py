@@ -1,13 +1,13 @@
 """The machine stopped within random runs over a file, and within migrations: what is left is read.
 
-`bench replay` plays 200 random scripts, each of which is stopped at random calls that write, cut or
+`driver replay` plays 200 random scripts, each of which is stopped at random calls that write, cut or
 sync the file or its log. What wasn't synced then is lost, kept, or kept in part, with writes that
 are cut at a sector. After each stop `relayd check` opens the file: it has the records of whole
 batches, never fewer than were committed nor more than were sealed, and Python's sqlite3 finds the
 rows that docs/FORMATS.md gives of them. Before the first reply alone it may be told as NotOurs.
 Then `relayd check` migrates 200 stores of version 1, and is stopped the same way: the file has the
 same rows, all in tables of version 1 or all in the latest ones, and the next `check` ends it.
-Usage: scripts/store stop RELAYD BENCH [SCRIPTS]: 200 scripts if left out, each of which is stopped
+Usage: scripts/store stop RELAYD DRIVER [SCRIPTS]: 200 scripts if left out, each of which is stopped
 six times
 """
 import collections
@@ -110,16 +110,16 @@ def stop_all(rng, library, words, text, wanted, make, look, late=None):
     return ends
 
 
-def replays(relayd, bench, library, seed, path):
+def replays(relayd, driver, library, seed, path):
     """What was wrong after each stop of a script, and how many records were found."""
     rng = random.Random(seed)
     lines, history = script_of(rng, OFTEN)
     text, wanted = "".join(f"{line}\n" for line, _ in lines), [reply for _, reply in lines]
     look = lambda replies: wrong_after(relayd, history, path, replies)
-    return stop_all(rng, library, [bench, "replay", path], text, wanted, lambda: None, look)
+    return stop_all(rng, library, [driver, "replay", path], text, wanted, lambda: None, look)
 
 
-def migrations(relayd, bench, library, seed, path):
+def migrations(relayd, driver, library, seed, path):
     """What was wrong after each stop of a migration, and which tables were found."""
     rng = random.Random(seed)
     _, history = script_of(rng, OF_FIRST)
@@ -131,7 +131,7 @@ def migrations(relayd, bench, library, seed, path):
 
 
 def main():
-    relayd, bench = programs_of(__doc__, 2)
+    relayd, driver = programs_of(__doc__, 2)
     scripts = int(sys.argv[3]) if len(sys.argv) > 3 else 200
     with tempfile.TemporaryDirectory() as folder, concurrent.futures.ThreadPoolExecutor(os.cpu_count()) as pool:
         library = faults.compiled(folder)
@@ -139,7 +139,7 @@ def main():
         def stops(work):
             run, seed = work
             with tempfile.TemporaryDirectory(dir=folder) as own:
-                ends = run(relayd, bench, library, seed, os.path.join(own, "store"))
+                ends = run(relayd, driver, library, seed, os.path.join(own, "store"))
             return [(why and f"{run.__name__}, seed {seed}: {why}", found) for why, found in ends]
 
         works = itertools.product((replays, migrations), range(scripts))

@@ -1,8 +1,8 @@
-"""The tables that `bench replay` writes, read by SQLite in C.
+"""The tables that `driver replay` writes, read by SQLite in C.
 
 They are those of docs/FORMATS.md, text by text. The rows of one file are those of the first script
 below, the other has each kind of record, by the second script.
-Usage: scripts/store tables BENCH
+Usage: scripts/store tables DRIVER
 """
 import base64
 import sqlite3
@@ -92,16 +92,16 @@ def compared(path, tables):
 
 
 def main():
-    bench = program_of(__doc__)
+    driver = program_of(__doc__)
     passed = failed = 0
     with tempfile.TemporaryDirectory() as scratch:
         for name, entries, tables in (("requests", REQUESTS, REPLAYED), ("each", EACH_REQUEST, EACH_RECORD)):
             path = f"{scratch}/{name}.db"
             given = "".join(f"{entry}\nseal\ncommit\nsettle\n" for entry in entries).encode()
-            ran = subprocess.run([bench, "replay", path], input=given, capture_output=True)
+            ran = subprocess.run([driver, "replay", path], input=given, capture_output=True)
             settled = f"settled {tables['meta'][0][3]}"
             if ran.returncode or ran.stdout.decode().splitlines()[-1:] != [settled]:
-                print(f"bench replay: status {ran.returncode}, {ran.stdout.decode()}")
+                print(f"driver replay: status {ran.returncode}, {ran.stdout.decode()}")
                 failed += 1
                 continue
             good, bad = compared(path, tables)

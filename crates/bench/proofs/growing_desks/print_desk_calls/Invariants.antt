@@ -1,4 +1,0 @@
-use Rattle.bench.proofs.growing_desks.print_desk_calls.Given as goal
-
-abbrev pub ghosts-with_blank : goal.ghosts-with_blank
-ghosts-with_blank g a = record { name = a.blank.name; parts = a.blank.parts }

@@ -1,4 +1,0 @@
-use Rattle.bench.proofs.opening.print_opening.Given as goal
-
-abbrev pub ghosts-opened_file : goal.ghosts-opened_file
-ghosts-opened_file a = record { name = a.blank.name; parts = a.blank.parts }

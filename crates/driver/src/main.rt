@@ -1,0 +1,109 @@
+//! What scripts drive and check: files, requests and calls. Without words it lists its runs. Each
+//! opens what it works on in one function, and lends it to others.
+#![tactic(auto)]
+
+mod asking;
+mod desks;
+mod failed;
+mod given;
+mod growing;
+mod growing_books;
+mod growing_desks;
+mod growing_makes;
+mod growing_replies;
+mod growing_shares;
+mod growing_stores;
+mod growing_texts;
+mod loading;
+mod moves;
+mod opening;
+mod relay;
+mod running;
+
+use crate::growing::print_growths;
+use crate::loading::print_loads;
+use crate::moves::print_moves;
+use crate::opening::print_opening;
+use crate::relay::answer_asks;
+use crate::running::print_runs;
+use sqlite::{Alter, Connection};
+use std::io;
+use std::process::ExitCode;
+use std::sync::Wait;
+use text_lines::read_number;
+
+const LIST: &str = "replay PATH        the script on standard input
+runs PATH          a run of calls, and a second one where the first had no memory
+loads PATH         two loads of a store that stands
+open PATH          the store in the file, made where none stands
+growths CALL       a call that takes memory, twice, each time at a byte of standard input; or the opening of the file at a path
+asks               the requests on standard input, one on a line
+moves SEED COUNT   so many random moves of the claim queue
+";
+
+/// The most moves of a run.
+const MAX_COUNT: u64 = 10_000_000;
+
+/// A run over the store in a file.
+#[derive(Clone, Copy)]
+enum Run {
+    Loads,
+    Replay,
+    Runs,
+}
+
+/// Makes the run over the store in the file. Whether it ended well.
+fn run_over(rt: &HostRuntime, run: Run, path: &str) -> io::Result<bool> {
+    match Connection::open(rt, path) {
+        Ok(conn) => run_with(rt, run, conn),
+        Err(_) => Ok(false),
+    }
+}
+
+fn run_with<S: Alter + Drop>(rt: &HostRuntime, run: Run, conn: Connection<S>) -> io::Result<bool> {
+    match run {
+        Run::Loads => print_loads(rt, conn),
+        Run::Replay => Ok(replay(rt, conn)),
+        Run::Runs => print_runs(rt, conn),
+    }
+}
+
+/// Replays the script on standard input. Whether it ended well.
+fn replay<S: Alter + Drop>(rt: &HostRuntime, conn: Connection<S>) -> bool {
+    let (_, end) = drill::replay(rt.alloc(), &mut rt.stdin(), &mut rt.stdout(), conn, 0);
+    end.is_ok()
+}
+
+/// Makes so many random moves. Whether these are numbers.
+fn move_at_random(rt: &HostRuntime, seed: &str, count: &str) -> io::Result<bool> {
+    match (read_number(seed.as_bytes()), read_number(count.as_bytes())) {
+        (Some(seed), Some(count)) if count <= MAX_COUNT => print_moves(rt, seed, count),
+        _ => Ok(false),
+    }
+}
+
+/// Runs what the words name. Whether they name a run that ended well.
+fn run_words<R: Wait>(rt: &HostRuntime, wait: &R, words: &[&str]) -> io::Result<bool> {
+    match words {
+        [_] => {
+            print!(rt; "{LIST}")?;
+            Ok(true)
+        }
+        [_, "asks"] => Ok(answer_asks(rt.alloc(), &mut rt.stdin(), &mut rt.stdout())),
+        [_, "growths", word] => print_growths(rt, wait, word),
+        [_, "loads", path] => run_over(rt, Run::Loads, path),
+        [_, "open", path] => print_opening(rt, path),
+        [_, "replay", path] => run_over(rt, Run::Replay, path),
+        [_, "runs", path] => run_over(rt, Run::Runs, path),
+        [_, "moves", seed, count] => move_at_random(rt, seed, count),
+        _ => Ok(false),
+    }
+}
+
+fn main(rt: HostRuntime) -> io::Result<ExitCode> {
+    let alloc = rt.alloc();
+    let words: Vec<String> = std::env::args(&rt)?.collect(alloc)?;
+    let shown: Vec<&str> = words.iter().map(|word| word.as_str()).collect(alloc)?;
+    let is_done = run_words(&rt, &rt, shown.as_slice())?;
+    Ok(ExitCode::from(u8::from(!is_done)))
+}
