@@ -11,10 +11,12 @@ use Rattle.command_interface.specs.Asked.{HasNumber}
 pub text_found : (found : Found) (name : List ℕ) (result : Option (Bor (List ℕ))) (text : Bor (List ℕ))
     → option_map (λ s. s.now) result ≡ first_value found name → result ≡ Some text
     → first_of name (rows_of found) ≡ Some text.now
-text_found found name result text is some = sym (first_value-rows found name) ∙ sym is ∙ ap (option_map (λ s. s.now)) some
+text_found found name result text is some = sym (first_value-rows found name)
+    ∙ sym is ∙ ap (option_map (λ s. s.now)) some
 
 -- a number that was found is its text's
-pub number_found : {E : Type 0} (gives : List ℕ → Result ℕ E → Type 0) (found : Found) (name : List ℕ) (result : Option ℕ) (number : ℕ)
+pub number_found : {E : Type 0} (gives : List ℕ → Result ℕ E → Type 0) (found : Found) (name : List ℕ)
+    (result : Option ℕ) (number : ℕ)
     → ((text : List ℕ) (read : Result ℕ E) → gives text read → ParsesUnsigned 64 10 text read)
     → (one_text found name ≡ None → result ≡ None)
     → ((text : List ℕ) → one_text found name ≡ Some text → ReadsOne gives text result)
@@ -35,14 +37,17 @@ pub text_missing : (found : Found) (name : List ℕ) (result : Option (Bor (List
     → option_map (λ s. s.now) result ≡ first_value found name → result ≡ None
     → first_of name (rows_of found) ≡ Some text → ⊥
 text_missing found name result text is none there =
-    let bad : None ≡ Some text = sym (ap (option_map (λ (s : Bor (List ℕ)). s.now)) none) ∙ is ∙ first_value-rows found name ∙ there in
+    let bad : None ≡ Some text = sym (ap (option_map (λ (s : Bor (List ℕ)). s.now)) none)
+    ∙ is ∙ first_value-rows found name ∙ there in
     cc
 
 -- a number that wasn't found is in no row, or has more than 64 bits
-pub number_missing : {E : Type 0} (gives : List ℕ → Result ℕ E → Type 0) (found : Found) (name : List ℕ) (result : Option ℕ) (number : ℕ)
+pub number_missing : {E : Type 0} (gives : List ℕ → Result ℕ E → Type 0) (found : Found) (name : List ℕ)
+    (result : Option ℕ) (number : ℕ)
     → ((text : List ℕ) (read : Result ℕ E) → gives text read → ParsesUnsigned 64 10 text read)
     → ((text : List ℕ) → one_text found name ≡ Some text → ReadsOne gives text result)
     → result ≡ None → number < 2 ^ 64 → HasNumber (rows_of found) name number → ⊥
 number_missing {E} gives found name result number parses reads none small (text, there, numeral, is) =
-    let read : ReadsOne gives text None = subst (λ (r : Option ℕ). ReadsOne gives text r) none (reads text (one_text-rows found name ∙ there)) in
+    let read : ReadsOne gives text None = subst (λ (r : Option ℕ). ReadsOne gives text r) none
+    (reads text (one_text-rows found name ∙ there)) in
     parses text (Err read.0) read.1 (numeral, subst (λ (n : ℕ). n < 2 ^ 64) is small)

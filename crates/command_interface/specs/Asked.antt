@@ -22,7 +22,8 @@ AskFor rows asked =
 
 -- each number is one of 64 bits
 abbrev pub AreWithinBits : ServeWords → Type 0
-AreWithinBits asked = (asked.workers < 2 ^ 64) × (asked.intake < 2 ^ 64) × (asked.timeout < 2 ^ 64) × (asked.requests < 2 ^ 64)
+AreWithinBits asked = (asked.workers < 2 ^ 64) × (asked.intake < 2 ^ 64) × (asked.timeout < 2 ^ 64)
+    × (asked.requests < 2 ^ 64)
 
 -- the arguments ask for nothing: one is missing, or is no such number
 abbrev pub AskForNothing : List Row → Type 0

@@ -15,7 +15,8 @@ use Rattle.text_lines.specs.Streams.{AppendsFront, with_feed}
 use Rattle.command_interface.specs.declared.exit_status.CommandFault.{CommandFault}
 use Rattle.command_interface.specs.declared.exit_status.CommandFault.TheVariants.{Argument, Ended, File, Store}
 use Rattle.command_interface.specs.declared.exit_status.FileFault.{FileFault}
-use Rattle.command_interface.specs.declared.exit_status.FileFault.TheVariants.{NotOurs, NewerVersion, OldVersion, Damaged}
+use Rattle.command_interface.specs.declared.exit_status.FileFault.TheVariants.{NotOurs, NewerVersion, OldVersion}
+use Rattle.command_interface.specs.declared.exit_status.FileFault.TheVariants.{Damaged}
 use Rattle.command_interface.specs.declared.exit_status.StoreFault.{StoreFault}
 use Rattle.command_interface.specs.declared.exit_status.StoreFault.TheVariants as of
 

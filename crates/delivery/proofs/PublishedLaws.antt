@@ -118,7 +118,8 @@ module _ (is_base : List Record → Type 0) (start : ℕ) (old new : DeskValue) 
   moved : (w : World) → StandsFor old w → (next : World) × Grows w next × HasThem next × StandsFor new next
   moved w stands =
       let m = moves w stands in
-      let taken = given_takes w m.0 topic id (publish w now topic id body) tickets (publish_takes now topic id body w) m.1 in
+      let taken = given_takes w m.0 topic id (publish w now topic id body) tickets (publish_takes now topic id body w)
+      m.1 in
       (m.0, taken.0, taken.1, m.2)
 
   pub published : HasRecords is_base start new prefix all_staged

@@ -26,7 +26,8 @@ use Rattle.desk.specs.Moves.{Answer, MayGive, unless, moment, submit, submit_kno
 use Rattle.desk.specs.Moves.{submit_new, submit_faults, new_submit_faults, accepts, repeats, or_out_of_memory, change}
 use Rattle.desk.specs.Moves.{change_faults, changes, seal, seal_waiting, seal_faults, sealed_batch, with_sealed_settled}
 use Rattle.desk.specs.Moves.{are_seqs_spent}
-use Rattle.desk.specs.Claims.{JobValue, SpentValue, claim, claim_chosen, choice, starts, rests, with_attempt_over, without_row}
+use Rattle.desk.specs.Claims.{JobValue, SpentValue, claim, claim_chosen, choice, starts, rests, with_attempt_over}
+use Rattle.desk.specs.Claims.{without_row}
 use Rattle.desk.specs.Claims.{outcome_by, sample_by}
 use Rattle.desk.specs.Desks.{DeskValue, StandsFor, IsMove, Turns, Spends, IsReceiptOf}
 use Rattle.delivery.specs.Logs.{ChangeValue, HasChange, HasRecords, HasSettled, IsCommitted, change_of, entry_of}
@@ -79,7 +80,8 @@ stays_self w = (refl, refl)
 pub grows_self : (w : World) → Grows w w
 grows_self w = (([], append-nil w.history), refl)
 
-unless_leaves : {A : Type 0} (P : World → Type 0) (faults : Faults) (w : World) (answer : Answer A) → P w → P answer.next
+unless_leaves : {A : Type 0} (P : World → Type 0) (faults : Faults) (w : World) (answer : Answer A) → P w
+    → P answer.next
     → P (unless faults w answer).next
 unless_leaves P [] w answer same next = next
 unless_leaves P ((true, number, fault) ∷ rest) w answer same next = same
@@ -106,14 +108,16 @@ submit_grows now name id body w = known_grows (known_as (all_records w) name id)
 
     known_grows : (known : Option Seq) → Grows w (submit_known known w now name id body).next
     known_grows None =
-        unless_leaves (Grows w) (submit_faults w name None body) w (submit_new w now name id body) (grows_self w) new_grows
+        unless_leaves (Grows w) (submit_faults w name None body) w (submit_new w now name id body)
+        (grows_self w) new_grows
     known_grows (Some d) =
         unless_leaves (Grows w) (submit_faults w name (Some d) body) w (repeats w now name id d) (grows_self w)
         (grows_self w)
 
 claim_stays : (now : Seconds) (w : World) → Stays w (claim w now).next
 claim_stays now w =
-    unless_leaves (Stays w) ((w.halted, 1, fault.Halted) ∷ []) w (claim_chosen w (moment w now) (choice w (moment w now)))
+    unless_leaves (Stays w) ((w.halted, 1, fault.Halted) ∷ []) w
+    (claim_chosen w (moment w now) (choice w (moment w now)))
     (stays_self w) (chosen_stays (choice w (moment w now)))
   where
     found_stays : (d : Seq) (found : Option Accepted)
@@ -161,7 +165,8 @@ unless_stages ((false, number, fault) ∷ rest) w entry answer stages = unless_s
 
 change_stages : (command : Command) (w : World) → Stages w (entry_of command) (change w command)
 change_stages (PutEndpoint name target max secrets) w =
-    unless_stages (change_faults w (PutEndpoint name target max secrets)) w (entry_of (PutEndpoint name target max secrets))
+    unless_stages (change_faults w (PutEndpoint name target max secrets)) w
+    (entry_of (PutEndpoint name target max secrets))
     (changes w (PutEndpoint name target max secrets)) (refl, refl, refl)
 change_stages (SetSecrets name secrets) w =
     unless_stages (change_faults w (SetSecrets name secrets)) w (entry_of (SetSecrets name secrets))
@@ -249,7 +254,8 @@ module _ (is_base : List Record → Type 0) (start : ℕ) (old new : DeskValue) 
       let settled : settled_records now.0 ≡ base ++ prefix =
       ap (λ (s : ℕ × History). records_of (take s.0 s.1)) (λ i. (now.1.1 i, sym now.1.0.1 i))
       ∙ settled_on w.settled w.history more (marks old w was.2) ∙ was.3 in
-      let all = all_is new now.0 now.3 ∙ ap (λ (records : List Record). records ++ records_of new.waiting.waiting) settled
+      let all = all_is new now.0 now.3 ∙ ap (λ (records : List Record). records ++ records_of new.waiting.waiting)
+      settled
       ∙ append_assoc base prefix (records_of new.waiting.waiting) in
       let longer : all_records now.0 ≡ base ++ (staged ++ records_of more) =
       ap records_of (sym now.1.0.1) ∙ flatten_both w.history more
@@ -271,7 +277,8 @@ module _ (is_base : List Record → Type 0) (start : ℕ) (old new : DeskValue) 
       let now = grows_with (λ next. Unit {0}) (λ w stands. let m = moved w stands in (m.0, m.1, tt, m.2)) base is in
       (now.0, now.1, now.2, now.3, now.4)
 
-  moved_stays : {A : Type 0} (move : World → Answer A) (reply : Result A Refusal) → ((w : World) → Stays w (move w).next)
+  moved_stays : {A : Type 0} (move : World → Answer A) (reply : Result A Refusal)
+      → ((w : World) → Stays w (move w).next)
       → IsMove old move reply new → HasRecords is_base start new prefix staged
   moved_stays move reply stays moves = stays_on (λ w stands.
       let m = moves w stands in
@@ -327,7 +334,8 @@ module _ (is_base : List Record → Type 0) (start : ℕ) (old new : DeskValue) 
           let number : ticket.seq ≡ length (base ++ staged) = stages.0 ∙ ap length was.4 in (
             entry,
             last_behind staged entry,
-            ap (λ (s : List Record × ℕ). slice_get s.0 s.1) (λ i. (sym (append_assoc base staged (entry ∷ [])) i, number i))
+            ap (λ (s : List Record × ℕ). slice_get s.0 s.1)
+                (λ i. (sym (append_assoc base staged (entry ∷ [])) i, number i))
                 ∙ get_behind (base ++ staged) entry,
           )
 
@@ -347,7 +355,8 @@ get_within [] more k x below e = absurd (omega (arith, below))
 get_within (y ∷ xs) more zero x below e = e
 get_within (y ∷ xs) more (suc k) x below e = get_within xs more k x (omega (arith, below)) e
 
-pub get_longer : (xs more : List Record) (k : ℕ) (x : Record) → slice_get xs k ≡ Some x → slice_get (xs ++ more) k ≡ Some x
+pub get_longer : (xs more : List Record) (k : ℕ) (x : Record) → slice_get xs k ≡ Some x
+    → slice_get (xs ++ more) k ≡ Some x
 get_longer [] more k x e = absurd cc
 get_longer (y ∷ xs) more zero x e = e
 get_longer (y ∷ xs) more (suc k) x e = get_longer xs more k x e
@@ -374,7 +383,8 @@ change_settled is_base start desk prefix staged change has has_change below base
     let w = was.1 in
     let there = has_change base is in
     let all : base ++ staged ≡ (base ++ prefix) ++ records_of desk.waiting.waiting =
-    sym was.4 ∙ all_is desk w was.2 ∙ ap (λ (records : List Record). records ++ records_of desk.waiting.waiting) was.3 in
+    sym was.4 ∙ all_is desk w was.2 ∙ ap (λ (records : List Record). records ++ records_of desk.waiting.waiting) was.3
+    in
     let count : desk.waiting.settled ≡ length (base ++ prefix) = was.2.waiting.settled_seq ∙ ap length was.3 in
     let within : change.seq < length (base ++ prefix) = subst (λ (n : ℕ). change.seq < n) count below in (
       there.0,

@@ -96,7 +96,8 @@ change_waits desk ticket waits =
     (by.0, not_below ticket.seq desk.waiting.settled by.1, below_so ticket.seq (record_count desk.waiting) by.2)
 
 pub waiting_change : (desk : DeskValue) (ticket : CommandTicket) → desk.halted ≡ false
-    → desk.waiting.settled ≤ ticket.seq → ticket.seq < record_count desk.waiting → kept.told_command desk ticket ≡ Waiting
+    → desk.waiting.settled ≤ ticket.seq → ticket.seq < record_count desk.waiting
+    → kept.told_command desk ticket ≡ Waiting
 waiting_change desk ticket going from below =
     let settled : nat_lt ticket.seq desk.waiting.settled ≡ false = grind (arith, nat_tests) in
     let there : nat_lt ticket.seq (record_count desk.waiting) ≡ true = grind (arith, nat_tests) in

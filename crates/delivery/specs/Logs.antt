@@ -19,13 +19,15 @@ use Rattle.desk.specs.World.{World, all_records, settled_records}
 use Rattle.desk.specs.Desks.{DeskValue, StandsFor}
 use Rattle.desk.specs.Moves.{ticket}
 
--- Of each history that the log goes on from: the settled records of the desk are that history and this prefix of the log.
+-- Of each history that the log goes on from: the settled records of the desk are that history and this prefix of the
+-- log.
 abbrev pub HasSettled : (is_base : List Record → Type 0) (start : ℕ) → DeskValue → (prefix : List Record) → Type 0
 HasSettled is_base start desk prefix = (base : List Record) → is_base base
     → (length base ≡ start) × (w : World) × StandsFor desk w × (settled_records w ≡ base ++ prefix)
 
 -- The same, and all records of the desk are that history and the staged records.
-abbrev pub HasRecords : (is_base : List Record → Type 0) (start : ℕ) → DeskValue → (prefix staged : List Record) → Type 0
+abbrev pub HasRecords : (is_base : List Record → Type 0) (start : ℕ) → DeskValue → (prefix staged : List Record)
+    → Type 0
 HasRecords is_base start desk prefix staged = (base : List Record) → is_base base → (length base ≡ start)
     × (w : World) × StandsFor desk w × (settled_records w ≡ base ++ prefix) × (all_records w ≡ base ++ staged)
 
@@ -61,7 +63,8 @@ abbrev pub ticket_of : Result ChangeValue Refusal → Result CommandTicket Refus
 ticket_of (Ok change) = Ok (record { seq = change.seq })
 ticket_of (Err refusal) = Err refusal
 
--- a ticket for each subscriber of the topic, in the order of their Puts, with the number by which the records have the id
+-- a ticket for each subscriber of the topic, in the order of their Puts, with the number by which the records have the
+-- id
 abbrev pub tickets_by : (records : List Record) (topic id : Text) → List Ticket
 tickets_by records topic id = map (λ name. ticket (unwrap_or (known_as records name id) 0) name id)
     (map (λ e. e.name) (subscribers records topic))
@@ -76,9 +79,11 @@ pub record PublishedValue : Type 0 where
 abbrev pub published_of : (topic id : Text) (tickets : List Ticket) (prefix : List Record) → PublishedValue
 published_of topic id tickets prefix = record { topic = topic; id = id; tickets = tickets; prefix = prefix }
 
--- Of each history that the log goes on from: by that history and the log the tickets are those of the topic's subscribers.
+-- Of each history that the log goes on from: by that history and the log the tickets are those of the topic's
+-- subscribers.
 abbrev pub HasTickets : (is_base : List Record → Type 0) → PublishedValue → (log : List Record) → Type 0
-HasTickets is_base event log = (base : List Record) → is_base base → event.tickets ≡ tickets_by (base ++ log) event.topic event.id
+HasTickets is_base event log = (base : List Record) → is_base base
+    → event.tickets ≡ tickets_by (base ++ log) event.topic event.id
 
 -- the tickets alone
 abbrev pub tickets_of : Result PublishedValue Refusal → Result (List Ticket) Refusal

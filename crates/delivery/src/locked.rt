@@ -87,7 +87,12 @@ impl<L: Ledger, I: LogId> Locked<L, I> {
     pub(crate) fn new(new_log: NewLog, desk: Desk<L>, prefix: Prefix<I>) -> Locked<L, I>
         requires table { new_log ≡ I.staged }
         requires settled { HasSettled I.is_base I.start desk prefix }
-        ensures { result ≡ record { desk = desk; closing = false; prefix = prefix; staged = prefix ++ records_of desk.waiting.waiting } }
+        ensures { result ≡ record {
+          desk = desk;
+          closing = false;
+          prefix = prefix;
+          staged = prefix ++ records_of desk.waiting.waiting;
+        } }
     {
         let mut staged = StagedLog::new(new_log);
         staged.follow(&prefix, &desk);
@@ -164,7 +169,8 @@ impl<L: Ledger, I: LogId> Locked<L, I> {
     ) -> Result<Published<I>, Refusal>
         ensures moves { self.old.closing ≡ false
             → IsMove self.old.desk (λ w. publish w now topic id body) (tickets_of result) self.new.desk }
-        ensures event { IfOk result (λ given. (given.topic ≡ topic) × (given.id ≡ id) × (given.prefix ≡ self.new.staged)) }
+        ensures event { IfOk result (λ given. (given.topic ≡ topic) × (given.id ≡ id)
+            × (given.prefix ≡ self.new.staged)) }
         ensures names { IfErr result (λ why. IsTrue (may_refuse_publish why.fault)) }
         ensures closing { IsTrue self.old.closing → result ≡ Err halted }
         ensures flag { self.new.closing ≡ self.old.closing }
@@ -319,7 +325,8 @@ impl<L: Ledger, I: LogId> Locked<L, I> {
         log: &Log<I>,
         committed: Committed<I>,
     ) -> Result<Settled, (Committed<I>, WrongTurn)>
-        ensures moves { Turns self.old.desk (λ w. IsReceiptOf self.old.desk.waiting.mark w committed.receipt) with_sealed_settled
+        ensures moves { Turns self.old.desk (λ w. IsReceiptOf self.old.desk.waiting.mark w committed.receipt)
+            with_sealed_settled
             result self.new.desk }
         ensures turn { IsOk result ↔ waiting.IsReceiptOf self.old.desk.waiting committed.receipt }
         ensures waiting { OnOk result
@@ -355,7 +362,8 @@ impl<L: Ledger, I: LogId> Locked<L, I> {
 
     /// If the change is settled, the settled prefix of the log has its record.
     pub fn compare(&mut self, change: &mut StagedChange<I>)
-        ensures logged { change.old.seq < self.old.desk.waiting.settled → HasChange I.is_base change.old self.old.prefix }
+        ensures logged { change.old.seq < self.old.desk.waiting.settled
+            → HasChange I.is_base change.old self.old.prefix }
         ensures change { change.new ≡ change.old }
         ensures same { self.new ≡ self.old }
     {
@@ -363,7 +371,8 @@ impl<L: Ledger, I: LogId> Locked<L, I> {
     }
 
     pub(crate) fn unseal(&mut self, batch: Batch) -> Result<(), (Batch, WrongTurn)>
-        ensures moves { Turns self.old.desk (λ w. ArePlacesOf self.old.desk.waiting.mark w (doubt_of batch)) with_batch_back
+        ensures moves { Turns self.old.desk (λ w. ArePlacesOf self.old.desk.waiting.mark w (doubt_of batch))
+            with_batch_back
             result self.new.desk }
         ensures turn { IsOk result ↔ waiting.ArePlacesOf self.old.desk.waiting (doubt_of batch) }
         ensures back { IfErr result (λ back. back.0 ≡ batch) }

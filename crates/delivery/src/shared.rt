@@ -194,7 +194,8 @@ impl<L: Ledger, I: LogId> Shared<L, I> {
     }
 
     /// Rests until more is settled than the pass has seen, the desk is halted, or the end was asked
-    /// for, but a second at most. The caller claims next: a batch wakes one of those that rest.
+    /// for, but a second at most. The caller must claim next, since a batch wakes only one of those
+    /// that rest.
     pub fn rest<R: Wait + std::time::Clock>(&self, rt: &R, pass: &Pass) {
         let seen = pass.seen();
         let most = Duration::from_secs(REST_SECONDS);

@@ -2,8 +2,8 @@
 ghost use Rattle.std.specs.Prelude.{◌≡◌, ◌≤◌, IfOk};
 ghost use Rattle.delivery.specs.Rounds.{IsPostedBy, request_of};
 
+use crate::clock::Clock;
 use crate::pass::{Pass, WentBack};
-use crate::roles::Clock;
 use crate::shared::Shared;
 use desk::{Job, Spent};
 use relay_types::Name;

@@ -19,7 +19,8 @@ use Rattle.desk.proofs.Words.{waits_as, StandsFor, max, inl, Result, Ok, Err, If
 use Rattle.desk.proofs.Words.{first_fault, out_of_memory_at, Answer, are_seqs_spent, moment, JobValue, claim}
 use Rattle.desk.proofs.Words.{claim_chosen, rests, starts, Checks, IsMove, OverWorlds, Starts, due_if_pending, state_of}
 use Rattle.desk.proofs.Words.{secrets_of, secrets_if_known, body_of, row_of, Row, next_row, job_of, target_in, IsPostOf}
-use Rattle.desk.proofs.Words.{with_live, limits, limits_by, IsInStep, not, is_pending, accept_at, accepted-before, accepted_is}
+use Rattle.desk.proofs.Words.{with_live, limits, limits_by, IsInStep, not, is_pending, accept_at, accepted-before}
+use Rattle.desk.proofs.Words.{accepted_is}
 use Rattle.desk.proofs.Words.{body_left, is_purged, purged_by, there_if_kept, unpurged_if}
 use Rattle.desk.specs.Claims.{has_no_waiting_outcome}
 use Rattle.desk.proofs.TakenLaws.{latest_open, unpurged_while_pending}
@@ -104,7 +105,8 @@ starts_at {d} s row same may_v step rows =
     grind (arith, may, e, own))
 
 -- one that may start has a row
-pub no_latest_row : {d v : DeskValue} (s : ℕ) → d ≡ v → may_start v s ≡ true → IsInStep d.deliveries → None ≡ latest_row d.deliveries s → ⊥
+pub no_latest_row : {d v : DeskValue} (s : ℕ) → d ≡ v → may_start v s ≡ true → IsInStep d.deliveries
+    → None ≡ latest_row d.deliveries s → ⊥
 no_latest_row {d} s same may_v step none =
     let may : may_start d s ≡ true = ap (λ (x : DeskValue). may_start x s) same ∙ may_v in
     by_option (entry_at d.deliveries.entries s)
@@ -115,7 +117,8 @@ no_latest_row {d} s same may_v step none =
     absurd (grind (arith, none, latest)))
 
 -- the limiter of an endpoint has the maximum of its entry
-pub limiter_entry : (limiters : List Limiter) (book : endpoint_entries.BookValue) (name : List ℕ) → AreLimiters limiters book
+pub limiter_entry : (limiters : List Limiter) (book : endpoint_entries.BookValue) (name : List ℕ)
+    → AreLimiters limiters book
     → option_map bound_by (limiter_of limiters name) ≡ option_map bound_of (endpoint_entries.entry_of book name)
 limiter_entry limiters book name are =
     sym (find_map bound_by (λ (p : List ℕ × ℕ). bytes_eq p.0 name) limiters)
@@ -123,14 +126,17 @@ limiter_entry limiters book name are =
     ∙ find_map bound_of (λ (p : List ℕ × ℕ). bytes_eq p.0 name) book.entries
 
 -- an endpoint with a limit is in the book
-known_by_limit : (limiters : List Limiter) (book : endpoint_entries.BookValue) (name : List ℕ) → AreLimiters limiters book → 0 < limit_by limiters name → endpoint_entries.is_known book name ≡ true
+known_by_limit : (limiters : List Limiter) (book : endpoint_entries.BookValue) (name : List ℕ)
+    → AreLimiters limiters book → 0 < limit_by limiters name → endpoint_entries.is_known book name ≡ true
 known_by_limit limiters book name are some = let entry = limiter_entry limiters book name are in grind (arith, entry)
 
-pub endpoint_known : {d : DeskValue} (name : List ℕ) (s : ℕ) → AreLimiters d.limiters d.endpoints → StartsFrom d name s → endpoint_entries.is_known d.endpoints name ≡ true
+pub endpoint_known : {d : DeskValue} (name : List ℕ) (s : ℕ) → AreLimiters d.limiters d.endpoints → StartsFrom d name s
+    → endpoint_entries.is_known d.endpoints name ≡ true
 endpoint_known {d} name s are from = known_by_limit d.limiters d.endpoints name are (omega (arith, from.room))
 
 -- its pair is held
-pub pair_held : {d : DeskValue} (queue : QueueValue) (name : List ℕ) (s : ℕ) → AreHeld queue d.deliveries d.live → StartsFrom d name s
+pub pair_held : {d : DeskValue} (queue : QueueValue) (name : List ℕ) (s : ℕ) → AreHeld queue d.deliveries d.live
+    → StartsFrom d name s
     → (due : ℕ) × (pair_in d.deliveries s ≡ Some (pair_of name due s)) × (is_held queue (pair_of name due s) ≡ true)
 pair_held {d} queue name s held from = by_option from.entry.settled.due
     (λ e. absurd (grind (arith, e, from.timed))) (λ due e. (
@@ -144,14 +150,16 @@ pair_held {d} queue name s held from = by_option from.entry.settled.due
 
 -- Counts
 
-pub count_below : {X : Type 0} (p q : X → Bool) (xs : List X) → ((x : X) → p x ≡ true → q x ≡ true) → count_by p xs ≤ count_by q xs
+pub count_below : {X : Type 0} (p q : X → Bool) (xs : List X) → ((x : X) → p x ≡ true → q x ≡ true)
+    → count_by p xs ≤ count_by q xs
 count_below p q [] h = omega arith
 count_below p q (x ∷ xs) h =
     let ps = sum_by-cons (λ y. cond (p y) 1 0) x xs in
     grind (arith, ps, sum_by-cons (λ y. cond (q y) 1 0) x xs, h x, count_below p q xs h)
 
 -- what passes one test passes one of two others
-pub count_within : {X : Type 0} (p q r : X → Bool) (xs : List X) → ((x : X) → p x ≡ true → (q x || r x) ≡ true) → count_by p xs ≤ count_by q xs + count_by r xs
+pub count_within : {X : Type 0} (p q r : X → Bool) (xs : List X) → ((x : X) → p x ≡ true → (q x || r x) ≡ true)
+    → count_by p xs ≤ count_by q xs + count_by r xs
 count_within p q r [] h = omega arith
 count_within p q r (x ∷ xs) h =
     let ps = sum_by-cons (λ y. cond (p y) 1 0) x xs in
@@ -160,7 +168,8 @@ count_within p q r (x ∷ xs) h =
     grind (arith, ps, qs, rs, h x, count_within p q r xs h)
 
 -- an entry that is found passes the one test alone
-pub count_less : (p q : Entry → Bool) (entries : List Entry) (s : ℕ) (e : Entry) → entry_at entries s ≡ Some e → q e ≡ true → p e ≡ false → ((x : Entry) → p x ≡ true → q x ≡ true)
+pub count_less : (p q : Entry → Bool) (entries : List Entry) (s : ℕ) (e : Entry) → entry_at entries s ≡ Some e
+    → q e ≡ true → p e ≡ false → ((x : Entry) → p x ≡ true → q x ≡ true)
     → count_by p entries + 1 ≤ count_by q entries
 count_less p q [] s e there passes fails h = cc
 count_less p q (x ∷ xs) s e there passes fails h =
@@ -217,7 +226,8 @@ pub record IsIdlePair (book : BookValue) (s : ℕ) (pair : Pair) : Type 0 where
   pub timed : entry.settled.due ≡ Some pair.due
   pub is : pair ≡ pair_of entry.name pair.due s
 
-pub idle_from : (book : BookValue) (s : ℕ) (pair : Pair) → takes_outcome book s ≡ true → Some pair ≡ pair_in book s → IsIdlePair book s pair
+pub idle_from : (book : BookValue) (s : ℕ) (pair : Pair) → takes_outcome book s ≡ true → Some pair ≡ pair_in book s
+    → IsIdlePair book s pair
 idle_from book s pair takes h =
     by_option (entry_at book.entries s) (λ there. absurd (grind (arith, there))) (λ e there.
     let settled : nat_lt s book.settled_seq ≡ true =
@@ -238,18 +248,23 @@ idle_from book s pair takes h =
     }))
 
 -- there is a place for it, and it has one from then on
-pub idle_place : (queue : QueueValue) (book : BookValue) (s : ℕ) (pair : Pair) → HasPlaces queue book → IsNew queue s → IsIdlePair book s pair → 0 < free_places queue pair.endpoint
+pub idle_place : (queue : QueueValue) (book : BookValue) (s : ℕ) (pair : Pair) → HasPlaces queue book → IsNew queue s
+    → IsIdlePair book s pair → 0 < free_places queue pair.endpoint
 idle_place queue book s pair places unheld idle =
     subst (λ (p : Pair). 0 < free_places queue p.endpoint) (sym idle.is)
-    (has_free_place queue book s idle.entry places unheld idle.there (found_seq book.entries s idle.entry idle.there) idle.is_open_now)
+    (has_free_place queue book s idle.entry places unheld idle.there (found_seq book.entries s idle.entry idle.there)
+    idle.is_open_now)
 
-pub idle_held : (queue new : QueueValue) (book : BookValue) (s : ℕ) (pair : Pair) → HasPlaces queue book → IsNew queue s → IsIdlePair book s pair → HoldsPair queue new pair → HasPlaces new book
+pub idle_held : (queue new : QueueValue) (book : BookValue) (s : ℕ) (pair : Pair) → HasPlaces queue book → IsNew queue s
+    → IsIdlePair book s pair → HoldsPair queue new pair → HasPlaces new book
 idle_held queue new book s pair places unheld idle holds =
-    places_held queue new book s pair.due idle.entry places unheld idle.there (found_seq book.entries s idle.entry idle.there) idle.is_open_now idle.timed
+    places_held queue new book s pair.due idle.entry places unheld idle.there
+    (found_seq book.entries s idle.entry idle.there) idle.is_open_now idle.timed
     (subst (λ (p : Pair). HoldsPair queue new p) idle.is holds)
 
 -- the pair of a delivery is let go
-pub places_let_go : (queue new : QueueValue) (book : BookValue) (pair : Pair) → HasPlaces queue book → HasOneEach book → LetsPairGo queue new pair → HasPlaces new book
+pub places_let_go : (queue new : QueueValue) (book : BookValue) (pair : Pair) → HasPlaces queue book → HasOneEach book
+    → LetsPairGo queue new pair → HasPlaces new book
 places_let_go queue new book pair places once lets = λ n.
     -- an entry that isn't held now wasn't held before, or is that of the pair
     let was : (x : Entry) → is_unheld new n x ≡ true → (is_unheld queue n x || nat_eq x.seq pair.seq) ≡ true =
@@ -286,17 +301,21 @@ pub entry_is : {d : DeskValue} {w : World} (s : ℕ) → StandsFor d w
 entry_is {d} {w} s h =
     ap (λ es. entry_at es s) h.books.of_deliveries.entries
     ∙ entry_at-entries (all_records w) (length (settled_records w)) s
-    ∙ ap (λ records. option_map (entry_for (attempts_of (all_records w)) (attempts_of records) (purged_by (all_records w)) s)
+    ∙ ap (λ records. option_map (entry_for (attempts_of (all_records w)) (attempts_of records)
+    (purged_by (all_records w)) s)
     (if is_purged records s then None else accept_at (all_records w) s)) (settled_front w)
 
 -- an Accept is at the same number among the settled records
-accept_settled : (w : World) (s : ℕ) → s < length (settled_records w) → accept_at (all_records w) s ≡ accept_at (settled_records w) s
+accept_settled : (w : World) (s : ℕ) → s < length (settled_records w)
+    → accept_at (all_records w) s ≡ accept_at (settled_records w) s
 accept_settled w s below =
-    ap (λ records. accept_at records s) (settled_first w) ∙ accepted-before (settled_records w) (waiting_records w) s below
+    ap (λ records. accept_at records s) (settled_first w) ∙ accepted-before (settled_records w) (waiting_records w) s
+    below
 
 -- a settled delivery that no settled Purge took
 pub accepted_settled : (w : World) (s : ℕ) (a : Accepted) → accepted (settled_records w) s ≡ Some a
-    → (s < length (settled_records w)) × (accept_at (all_records w) s ≡ Some a) × (is_purged (settled_records w) s ≡ false)
+    → (s < length (settled_records w)) × (accept_at (all_records w) s ≡ Some a)
+    × (is_purged (settled_records w) s ≡ false)
 accepted_settled w s a e =
     let there : is_some (accepted (settled_records w) s) ≡ true = ap is_some e in
     let below = below_if_accepted (settled_records w) s (there_if_kept (settled_records w) s there) in
@@ -304,7 +323,8 @@ accepted_settled w s a e =
     (below, accept_settled w s below ∙ sym (accepted_is (settled_records w) s kept) ∙ e, kept)
 
 -- its entry
-pub entry_settled : {d : DeskValue} {w : World} (s : ℕ) (a : Accepted) → StandsFor d w → accepted (settled_records w) s ≡ Some a
+pub entry_settled : {d : DeskValue} {w : World} (s : ℕ) (a : Accepted) → StandsFor d w
+    → accepted (settled_records w) s ≡ Some a
     → entry_at d.deliveries.entries s ≡ Some (entry_of_world w s a)
 entry_settled {d} {w} s a h e =
     let there = accepted_settled w s a e in
@@ -316,8 +336,10 @@ pub settled_left : (w : World) (s : ℕ) (a : Accepted) → s < length (settled_
 settled_left w s a below e =
     ap (λ o. if is_purged (settled_records w) s then None else o) (sym (accept_settled w s below)) ∙ e
 
-attempts_split : (w : World) (s : ℕ) → attempts_of (all_records w) s ≡ attempts_of (settled_records w) s ++ attempts_of (waiting_records w) s
-attempts_split w s = ap (λ records. attempts_of records s) (settled_first w) ∙ attempts_of-append (settled_records w) (waiting_records w) s
+attempts_split : (w : World) (s : ℕ) → attempts_of (all_records w) s ≡ attempts_of (settled_records w) s ++ attempts_of
+    (waiting_records w) s
+attempts_split w s = ap (λ records. attempts_of records s) (settled_first w) ∙ attempts_of-append (settled_records w)
+    (waiting_records w) s
 
 -- whether a delivery is pending after these attempts
 abbrev is_pending_after : List Attempt → Bool
@@ -335,7 +357,8 @@ waits_is {d} {w} s a h e =
     let counts = ap length split ∙ length-append settled waiting in
     let pair = pair_of a.endpoint (due_of (settled_records w) s) s in
     let entry = entry_settled s a h e in
-    let first : nat_lt s d.deliveries.settled_seq ≡ true = lt-ltb s d.deliveries.settled_seq (omega (arith, there.0, h.books.of_deliveries.settled_seq)) in
+    let first : nat_lt s d.deliveries.settled_seq ≡ true = lt-ltb s d.deliveries.settled_seq
+    (omega (arith, there.0, h.books.of_deliveries.settled_seq)) in
     let named : bytes_eq a.endpoint a.endpoint ≡ true = (bytes_eq-Decides a.endpoint a.endpoint).1 refl in
     let due = due_is w s a e in
     let none : eqb (length waiting) 0 ≡ eqb (length all) (length settled) = grind (arith, nat_tests, counts) in
@@ -350,7 +373,8 @@ waits_is {d} {w} s a h e =
         (entry_of_world w s a).settled.due false
         ≡ is_pending_after (attempts_of (settled_records w) s)
     due_is w s a e = due_told (is_pending_after (attempts_of (settled_records w) s)) _ _
-        (ap (λ o. option_map_or (λ last. due_after last (failures_of (settled_records w) s)) (last_of (attempts_of (settled_records w) s)) (option_map_or (λ (t : Accepted). t.at) o 0)) (sym e))
+        (ap (λ o. option_map_or (λ last. due_after last (failures_of (settled_records w) s))
+        (last_of (attempts_of (settled_records w) s)) (option_map_or (λ (t : Accepted). t.at) o 0)) (sym e))
 
 -- a delivery that is held, by its pair
 record IsOwn (w : World) (name : List ℕ) (due s : ℕ) (a : Accepted) : Type 0 where
@@ -359,7 +383,8 @@ record IsOwn (w : World) (name : List ℕ) (due s : ℕ) (a : Accepted) : Type 0
   timed : due ≡ due_of (settled_records w) s
 
 -- what the queue holds is a settled delivery, with its endpoint and its due moment
-held_is_own : {d : DeskValue} {w : World} (name : List ℕ) (due s : ℕ) → StandsFor d w → waits_as d.deliveries d.live (pair_of name due s) ≡ true → (a : Accepted) × IsOwn w name due s a
+held_is_own : {d : DeskValue} {w : World} (name : List ℕ) (due s : ℕ) → StandsFor d w
+    → waits_as d.deliveries d.live (pair_of name due s) ≡ true → (a : Accepted) × IsOwn w name due s a
 held_is_own {d} {w} name due s h held =
     let entry = entry_is s h in
     by_option (accept_left w s) (λ none. absurd (grind (arith, entry, none, held))) (λ a e.
@@ -388,31 +413,39 @@ bound_in e = (e.name, e.max)
 -- the limiter of an endpoint has its maximum
 pub limiter_is : {d : DeskValue} {w : World} (name : List ℕ) → StandsFor d w → AreLimiters d.limiters d.endpoints
     → option_map bound_by (limiter_of d.limiters name) ≡ option_map bound_in (endpoint_of (all_records w) name)
-limiter_is {d} {w} name h are = limiter_entry d.limiters d.endpoints name are ∙ field-told d.endpoints (all_records w) name bound_in h.books.of_endpoints.tells
+limiter_is {d} {w} name h are = limiter_entry d.limiters d.endpoints name are
+    ∙ field-told d.endpoints (all_records w) name bound_in h.books.of_endpoints.tells
 
 -- the limit of an endpoint that is there
-pub limit_is : {d : DeskValue} {w : World} (name : List ℕ) → StandsFor d w → AreLimiters d.limiters d.endpoints → has_endpoint (all_records w) name ≡ true → limit_by d.limiters name ≡ limit_in w name
+pub limit_is : {d : DeskValue} {w : World} (name : List ℕ) → StandsFor d w → AreLimiters d.limiters d.endpoints
+    → has_endpoint (all_records w) name ≡ true → limit_by d.limiters name ≡ limit_in w name
 limit_is {d} {w} name h are known =
     let same = limiter_is name h are in
     by_option (limiter_of d.limiters name) (λ none. absurd (grind (arith, same, known, none))) (λ l found.
     let stands = subst (λ o. StandsBy o (samples_of w name)) found (h.limits name) in
     grind (arith, same, known, found, stands.limit))
 
-accepted_known : (records some : List Record) (d : ℕ) (a : Accepted) → AllKnown records some → accept_at some d ≡ Some a → has_endpoint records a.endpoint ≡ true
+accepted_known : (records some : List Record) (d : ℕ) (a : Accepted) → AllKnown records some → accept_at some d ≡ Some a
+    → has_endpoint records a.endpoint ≡ true
 accepted_known records [] d a known is = absurd (let e = is in cc)
-accepted_known records (Accept name id body at ∷ rest) zero a known is = ap (λ (t : Accepted). has_endpoint records t.endpoint) (sym (same_Some _ a is)) ∙ known.0
+accepted_known records (Accept name id body at ∷ rest) zero a known is =
+    ap (λ (t : Accepted). has_endpoint records t.endpoint) (sym (same_Some _ a is)) ∙ known.0
 accepted_known records (r ∷ rest) zero a known is = absurd (let e = is in cc)
 accepted_known records (r ∷ rest) (suc d) a known is = accepted_known records rest d a known.1 is
 
 -- the endpoint of a delivery is there
-pub endpoint_there : {d : DeskValue} {w : World} (s : ℕ) (a : Accepted) → StandsFor d w → accepted (settled_records w) s ≡ Some a → has_endpoint (all_records w) a.endpoint ≡ true
-endpoint_there {d} {w} s a h e = accepted_known (all_records w) (all_records w) s a (legal_known (all_records w) h.books.legal) (accepted_settled w s a e).1
+pub endpoint_there : {d : DeskValue} {w : World} (s : ℕ) (a : Accepted) → StandsFor d w
+    → accepted (settled_records w) s ≡ Some a → has_endpoint (all_records w) a.endpoint ≡ true
+endpoint_there {d} {w} s a h e = accepted_known (all_records w) (all_records w) s a
+    (legal_known (all_records w) h.books.legal) (accepted_settled w s a e).1
 
-pub room_is : {d : DeskValue} {w : World} {queue : QueueValue} (name : List ℕ) → StandsFor d w → AreLimiters d.limiters d.endpoints → AreMarked queue d.endpoints d.limiters d.live
+pub room_is : {d : DeskValue} {w : World} {queue : QueueValue} (name : List ℕ) → StandsFor d w
+    → AreLimiters d.limiters d.endpoints → AreMarked queue d.endpoints d.limiters d.live
     → has_endpoint (all_records w) name ≡ true → has_room_in queue.marks name ≡ has_room w name
 room_is {d} {w} {queue} name h are marked known =
     marked.rooms name (marked.known name (known_is name h ∙ known))
-    ∙ (λ i. h.books.of_endpoints.tells.enabled name i && nat_lt (in_flight_of name (h.live i)) (limit_is name h are known i))
+    ∙ (λ i. h.books.of_endpoints.tells.enabled name i && nat_lt (in_flight_of name (h.live i))
+    (limit_is name h are known i))
 
 -- The choice
 
@@ -420,8 +453,10 @@ pub place_is : {d : DeskValue} {w : World} → StandsFor d w → has_place_in w 
 place_is {d} {w} h = λ i. nat_lt (outcomes_in (sym h.waiting.steps i) + length (sym h.live i)) MAX_WAITING_OUTCOMES
 
 -- whether an attempt at a settled delivery may begin is told by the queue
-claimable_is : {d : DeskValue} {w : World} {queue : QueueValue} (now s : ℕ) (a : Accepted) → StandsFor d w → AreTied d.endpoints d.deliveries d.waiting d.live d.limiters queue → has_place d ≡ true
-    → accepted (settled_records w) s ≡ Some a → is_claimable w now s ≡ is_ready queue now (pair_of a.endpoint (due_of (settled_records w) s) s)
+claimable_is : {d : DeskValue} {w : World} {queue : QueueValue} (now s : ℕ) (a : Accepted) → StandsFor d w
+    → AreTied d.endpoints d.deliveries d.waiting d.live d.limiters queue → has_place d ≡ true
+    → accepted (settled_records w) s ≡ Some a → is_claimable w now s ≡ is_ready queue now
+    (pair_of a.endpoint (due_of (settled_records w) s) s)
 claimable_is {d} {w} {queue} now s a h tied place e =
     let pair = pair_of a.endpoint (due_of (settled_records w) s) s in
     let held = sym (waits_is s a h e) ∙ sym (tied.queued.held pair) in
@@ -443,11 +478,13 @@ unpurged_if_waits w s may =
     (ap is_pending_after same ∙ and_second (is_some (accepted (settled_records w) s)) _ pending)
 
 -- where the settled records don't have a delivery, it isn't claimable
-pub claimable_there : (w : World) (now s : ℕ) → is_claimable w now s ≡ true → (a : Accepted) × (accepted (settled_records w) s ≡ Some a)
+pub claimable_there : (w : World) (now s : ℕ) → is_claimable w now s ≡ true → (a : Accepted)
+    × (accepted (settled_records w) s ≡ Some a)
 claimable_there w now s c =
     by_option (accepted (settled_records w) s) (λ e. absurd (grind (arith, e, c))) (λ a e. (a, e))
 
-pub next_is_choice : {d : DeskValue} {w : World} {queue : QueueValue} (now : ℕ) (name : List ℕ) (s : ℕ) → StandsFor d w → AreTied d.endpoints d.deliveries d.waiting d.live d.limiters queue
+pub next_is_choice : {d : DeskValue} {w : World} {queue : QueueValue} (now : ℕ) (name : List ℕ) (s : ℕ) → StandsFor d w
+    → AreTied d.endpoints d.deliveries d.waiting d.live d.limiters queue
     → has_place d ≡ true → IsNext queue now name s → choice w now ≡ Some s
 next_is_choice {d} {w} {queue} now name s h tied place next =
     let held = sym (tied.queued.held (pair_of name next.due s)) ∙ and_first _ _ next.ready in
@@ -455,7 +492,8 @@ next_is_choice {d} {w} {queue} now name s h tied place next =
     let a = found.0 in
     let own = found.1 in
     let ready : is_ready queue now (pair_of a.endpoint (due_of (settled_records w) s) s) ≡ true =
-    ap (λ (p : List ℕ × ℕ). is_ready queue now (pair_of p.0 p.1 s)) (λ i. (sym own.named i, sym own.timed i)) ∙ next.ready in
+    ap (λ (p : List ℕ × ℕ). is_ready queue now (pair_of p.0 p.1 s)) (λ i. (sym own.named i, sym own.timed i))
+    ∙ next.ready in
     let claimable = claimable_is now s a h tied place own.there ∙ ready in
     let first_place : 0 + s ≡ s = omega arith in
     let settled = accepted_settled w s a own.there in
@@ -470,13 +508,16 @@ next_is_choice {d} {w} {queue} now name s h tied place next =
     (sym (accept_settled w s settled.0) ∙ settled.1))) (ap not settled.2)) claimable)
     (λ m among. first own.timed m (least.passes (is_claimable w now) m (deliveries (settled_records w)) among))
   where
-    first : next.due ≡ due_of (settled_records w) s → (m : ℕ) → is_claimable w now m ≡ true → IsFirstBy (due_of (settled_records w)) s m
+    first : next.due ≡ due_of (settled_records w) s → (m : ℕ) → is_claimable w now m ≡ true
+        → IsFirstBy (due_of (settled_records w)) s m
     first due m c =
         let there = claimable_there w now m c in
-        let later = next.first (pair_of there.0.endpoint (due_of (settled_records w) m) m) (sym (claimable_is now m there.0 h tied place there.1) ∙ c) in
+        let later = next.first (pair_of there.0.endpoint (due_of (settled_records w) m) m)
+        (sym (claimable_is now m there.0 h tied place there.1) ∙ c) in
         (omega (arith, later.due, due), λ same. later.tie (due ∙ same))
 
-pub nothing_is_choice : {d : DeskValue} {w : World} {queue : QueueValue} (now : ℕ) → StandsFor d w → AreTied d.endpoints d.deliveries d.waiting d.live d.limiters queue
+pub nothing_is_choice : {d : DeskValue} {w : World} {queue : QueueValue} (now : ℕ) → StandsFor d w
+    → AreTied d.endpoints d.deliveries d.waiting d.live d.limiters queue
     → has_place d ≡ true → NothingIsReady queue now → choice w now ≡ None
 nothing_is_choice {d} {w} {queue} now h tied place nothing =
     ap (least_by (due_of (settled_records w)))
@@ -501,7 +542,8 @@ abbrev pub spent_faults : World → Faults
 spent_faults w = (are_seqs_spent w, 2, fault.SeqExhausted) ∷ []
 
 -- what the desk looks for is what the model does
-pub checks_halted : {d v : DeskValue} (result : Result (Unit {0}) Refusal) → d ≡ v → result ≡ first_fault ((d.halted, 1, fault.Halted) ∷ []) → Checks v halted_faults result
+pub checks_halted : {d v : DeskValue} (result : Result (Unit {0}) Refusal) → d ≡ v
+    → result ≡ first_fault ((d.halted, 1, fault.Halted) ∷ []) → Checks v halted_faults result
 checks_halted result same e = λ w h. e ∙ ap (λ b. first_fault ((b, 1, fault.Halted) ∷ [])) (seen same h).halted
 
 pub checks_spent : {d : DeskValue} (b : Bool) (result : Result (Unit {0}) Refusal)
@@ -514,25 +556,35 @@ abbrev pub Chooses : DeskValue → (at : ℕ) → (chosen : Option ℕ) → Type
 Chooses d at chosen = OverWorlds d (λ w. chosen ≡ choice w at)
 
 -- a claim at a desk that isn't halted, by what is next
-claim_by : (d new : DeskValue) (now at : ℕ) (u : Unit {0}) (chosen : Option ℕ) (reply : Result (Option JobValue) Refusal) → Checks d halted_faults (Ok u) → at ≡ max now d.clock → Chooses d at chosen
+claim_by : (d new : DeskValue) (now at : ℕ) (u : Unit {0}) (chosen : Option ℕ)
+    (reply : Result (Option JobValue) Refusal) → Checks d halted_faults (Ok u) → at ≡ max now d.clock
+    → Chooses d at chosen
     → IsMove d (λ w. claim_chosen w at chosen) reply new → IsMove d (λ w. claim w now) reply new
 claim_by d new now at u chosen reply checks later chooses move =
     passes d new halted_faults (λ w. claim_chosen w (moment w now) (choice w (moment w now))) u reply checks
     (becomes d new (λ w. claim_chosen w at chosen) (λ w. claim_chosen w (moment w now) (choice w (moment w now))) reply
-    (λ w h. ap (claim_chosen w at) (chooses w h) ∙ ap (λ t. claim_chosen w t (choice w t)) (later ∙ ap (max now) h.clock)) move)
+    (λ w h. ap (claim_chosen w at) (chooses w h) ∙ ap (λ t. claim_chosen w t (choice w t))
+    (later ∙ ap (max now) h.clock)) move)
 
-pub claim_rests : (d new : DeskValue) (now at : ℕ) (u : Unit {0}) → Checks d halted_faults (Ok u) → at ≡ max now d.clock → Chooses d at None → new ≡ record d { clock = at }
+pub claim_rests : (d new : DeskValue) (now at : ℕ) (u : Unit {0}) → Checks d halted_faults (Ok u) → at ≡ max now d.clock
+    → Chooses d at None → new ≡ record d { clock = at }
     → IsMove d (λ w. claim w now) (Ok None) new
 claim_rests d new now at u checks later chooses is =
     claim_by d new now at u None (Ok None) checks later chooses
-    (makes d new (λ w. rests w at) None (λ w h. (refl, subst (λ (v : DeskValue). StandsFor v (record w { clock = at })) (sym is) (stands_later d w at h))))
+    (makes d new (λ w. rests w at) None
+    (λ w h. (
+      refl,
+      subst (λ (v : DeskValue). StandsFor v (record w { clock = at })) (sym is)
+          (stands_later d w at h),
+    )))
 
 -- the answer where this delivery is next and a number is left
 abbrev started : (at delivery : ℕ) → World → Answer (Option JobValue)
 started at d w = option_map_or (starts w at d) (accepted (all_records w) d) (rests w at)
 
 -- what is chosen is a settled delivery
-choice_there : (w : World) (at delivery : ℕ) → Some delivery ≡ choice w at → (a : Accepted) × (accepted (all_records w) delivery ≡ Some a)
+choice_there : (w : World) (at delivery : ℕ) → Some delivery ≡ choice w at → (a : Accepted)
+    × (accepted (all_records w) delivery ≡ Some a)
 choice_there w at delivery e =
     let among = least.chosen_among (due_of (settled_records w)) (claimables w at) delivery (sym e) in
     let claimable = least.passes (is_claimable w at) delivery (deliveries (settled_records w)) among in
@@ -549,11 +601,13 @@ abbrev making : {A : Type 0} → A → Result A Refusal
 making a = Ok a
 
 -- what is said of the attempt that was started, or of the want of memory
-pub was_made : {A E : Type 0} (P : A → Type 0) (a : A) (made : Result A E) → making a ≡ out_of_memory_at 3 made → IfOk made P → P a
+pub was_made : {A E : Type 0} (P : A → Type 0) (a : A) (made : Result A E) → making a ≡ out_of_memory_at 3 made
+    → IfOk made P → P a
 was_made P a (Ok b) e h = let same : b ≡ a = cc in subst P same h
 was_made P a (Err x) e h = cc
 
-pub was_refused : {A E : Type 0} (X : Type 0) (r : Refusal) (made : Result A E) → failing {A = A} r ≡ out_of_memory_at 3 made → OnErr made X → (r ≡ refusal 3 fault.OutOfMemory) × X
+pub was_refused : {A E : Type 0} (X : Type 0) (r : Refusal) (made : Result A E)
+    → failing {A = A} r ≡ out_of_memory_at 3 made → OnErr made X → (r ≡ refusal 3 fault.OutOfMemory) × X
 was_refused X r (Ok a) e h = cc
 was_refused {A} X r (Err x) e h = (cc, h)
 
@@ -565,7 +619,8 @@ claim_lacks d new now at u v delivery r checks later chooses spent is =
     (subst (λ (x : Refusal). IsMove d (λ w. claim w now) (Err x) d) (sym is.0)
     (claim_by d d now at u (Some delivery) (Err (refusal 3 fault.OutOfMemory)) checks later chooses
     (passes d d spent_faults (started at delivery) v (Err (refusal 3 fault.OutOfMemory)) spent
-    (lacks d (started at delivery) 3 (λ w h. ap (λ o. (option_map_or (starts w at delivery) o (rests w at)).memory) (choice_there w at delivery (chooses w h)).1)))))
+    (lacks d (started at delivery) 3 (λ w h. ap (λ o. (option_map_or (starts w at delivery) o (rests w at)).memory)
+    (choice_there w at delivery (chooses w h)).1)))))
     is.1
 
 abbrev given : JobValue → Result (Option JobValue) Refusal
@@ -581,7 +636,8 @@ claim_starts d new now at u v delivery job checks later chooses spent starting =
       with_attempt w at job.row,
       inl (
         ap given s.2 ∙ sym (ap (λ o. (option_map_or (starts w at delivery) o (rests w at)).reply) s.1),
-        ap (λ (j : JobValue). with_attempt w at j.row) s.2 ∙ sym (ap (λ o. (option_map_or (starts w at delivery) o (rests w at)).next) s.1),
+        ap (λ (j : JobValue). with_attempt w at j.row) s.2
+            ∙ sym (ap (λ o. (option_map_or (starts w at delivery) o (rests w at)).next) s.1),
       ),
       s.3,
     )))
@@ -607,39 +663,83 @@ row_by records d a = record {
   last_status = option_map (λ t. t.status) (last_of (attempts_of records d));
 }
 
-secrets_told : (b : Bool) (secrets known : List (List ℕ)) → Some secrets ≡ (if b then Some known else None) → secrets ≡ known
+secrets_told : (b : Bool) (secrets known : List (List ℕ)) → Some secrets ≡ (if b then Some known else None)
+    → secrets ≡ known
 secrets_told b secrets known e = grind arith
 
-pub post_is : (w : World) (at d : ℕ) (row : BookRow) (target body : List ℕ) (secrets : List (List ℕ)) → Some row ≡ row_of (all_records w) d
+pub post_is : (w : World) (at d : ℕ) (row : BookRow) (target body : List ℕ) (secrets : List (List ℕ))
+    → Some row ≡ row_of (all_records w) d
     → Some body ≡ body_left (all_records w) (length (settled_records w)) d
-    → Some target ≡ option_map (λ e. e.target) (endpoint_of (all_records w) row.endpoint) → Some secrets ≡ secrets_if_known (all_records w) row.endpoint
-    → IsPostOf w at d (record { endpoint = row.endpoint; id = row.id; attempt = row.attempts + 1; at = at; target = target; secrets = secrets; body = body })
+    → Some target ≡ option_map (λ e. e.target) (endpoint_of (all_records w) row.endpoint)
+    → Some secrets ≡ secrets_if_known (all_records w) row.endpoint
+    → IsPostOf w at d (record {
+      endpoint = row.endpoint;
+      id = row.id;
+      attempt = row.attempts + 1;
+      at = at;
+      target =
+          target;
+      secrets = secrets;
+      body = body;
+    })
 post_is w at d row target body secrets rows bodies targets known =
     by (accepted (all_records w) d) refl rows (bodies ∙ body_kept w d row rows)
   where
-    by : (o : Option Accepted) → accepted (all_records w) d ≡ o → Some row ≡ option_map (row_by (all_records w) d) o → Some body ≡ option_map (λ a. a.body) o
-        → IsPostOf w at d (record { endpoint = row.endpoint; id = row.id; attempt = row.attempts + 1; at = at; target = target; secrets = secrets; body = body })
+    by : (o : Option Accepted) → accepted (all_records w) d ≡ o → Some row ≡ option_map (row_by (all_records w) d) o
+        → Some body ≡ option_map (λ a. a.body) o
+        → IsPostOf w at d (record {
+          endpoint = row.endpoint;
+          id = row.id;
+          attempt = row.attempts + 1;
+          at = at;
+          target =
+              target;
+          secrets = secrets;
+          body = body;
+        })
     by None e rows bodies = cc
     by (Some a) e rows bodies =
         let same : row ≡ row_by (all_records w) d a = same_Some row (row_by (all_records w) d a) rows in
         let own : target ≡ target_in w a.endpoint =
-        sym (some_told (λ (x : Endpoint). x.target) (endpoint_of (all_records w) row.endpoint) target [] targets) ∙ ap (λ (r : BookRow). target_in w r.endpoint) same in
+        sym (some_told (λ (x : Endpoint). x.target) (endpoint_of (all_records w) row.endpoint) target [] targets)
+        ∙ ap (λ (r : BookRow). target_in w r.endpoint) same in
         let given : secrets ≡ secrets_of (all_records w) a.endpoint =
-        secrets_told (has_endpoint (all_records w) row.endpoint) secrets (secrets_of (all_records w) row.endpoint) known ∙ ap (λ (r : BookRow). secrets_of (all_records w) r.endpoint) same in
+        secrets_told (has_endpoint (all_records w) row.endpoint) secrets (secrets_of (all_records w) row.endpoint) known
+        ∙ ap (λ (r : BookRow). secrets_of (all_records w) r.endpoint) same in
         let bytes : body ≡ a.body = cc in (
           a,
           e,
-          λ i. record { endpoint = (same i).endpoint; id = (same i).id; attempt = (same i).attempts + 1; at = at; target = own i; secrets = given i; body = bytes i },
+          λ i. record {
+            endpoint = (same i).endpoint;
+            id = (same i).id;
+            attempt = (same i).attempts + 1;
+            at =
+                at;
+            target = own i;
+            secrets = given i;
+            body = bytes i;
+          },
         )
 
 -- the desk with one more attempt under way, at this moment
-pub stands_started : (d : DeskValue) (w : World) (at : ℕ) (row : Row) → StandsFor d w → StandsFor (record (with_live d row) { clock = at }) (with_attempt w at row)
+pub stands_started : (d : DeskValue) (w : World) (at : ℕ) (row : Row) → StandsFor d w
+    → StandsFor (record (with_live d row) { clock = at }) (with_attempt w at row)
 stands_started d w at row h = assumption (ap (λ rows. rows ++ row ∷ []) h.live)
 
 abbrev job_by : Row → Post → JobValue
-job_by row post = record { row = row; id = post.id; attempt = post.attempt; at = post.at; target = post.target; secrets = post.secrets; body = post.body }
+job_by row post = record {
+  row = row;
+  id = post.id;
+  attempt = post.attempt;
+  at = post.at;
+  target =
+      post.target;
+  secrets = post.secrets;
+  body = post.body;
+}
 
-pub job_starts : (d new : DeskValue) (at delivery : ℕ) (row : Row) (post : Post) → ((w : World) → StandsFor d w → IsPostOf w at delivery post) → row ≡ next_row post.endpoint delivery d.live
+pub job_starts : (d new : DeskValue) (at delivery : ℕ) (row : Row) (post : Post)
+    → ((w : World) → StandsFor d w → IsPostOf w at delivery post) → row ≡ next_row post.endpoint delivery d.live
     → new ≡ record (with_live d row) { clock = at } → Starts d at delivery (job_by row post) new
 job_starts d new at delivery row post posts rows is = λ w h.
     let p = posts w h in

@@ -45,12 +45,14 @@ use Rattle.delivery_book.specs.Entries as delivery_entries
 -- steps, one list after another
 pub records_of-append : (xs ys : History) → records_of (xs ++ ys) ≡ records_of xs ++ records_of ys
 records_of-append [] ys = refl
-records_of-append (x ∷ xs) ys = ap (λ rest. x ++ rest) (records_of-append xs ys) ∙ sym (append_assoc x (records_of xs) (records_of ys))
+records_of-append (x ∷ xs) ys = ap (λ rest. x ++ rest) (records_of-append xs ys)
+    ∙ sym (append_assoc x (records_of xs) (records_of ys))
 
 pub records_of-step : (xs : History) (step : List Record) → records_of (xs ++ step ∷ []) ≡ records_of xs ++ step
 records_of-step xs step = records_of-append xs (step ∷ []) ∙ ap (λ rs. records_of xs ++ rs) (append-nil step)
 
-pub records_of-snoc : (xs : History) (entry : Record) → records_of (xs ++ (entry ∷ []) ∷ []) ≡ records_of xs ++ entry ∷ []
+pub records_of-snoc : (xs : History) (entry : Record) → records_of (xs ++ (entry ∷ []) ∷ []) ≡ records_of xs ++ entry
+    ∷ []
 records_of-snoc xs entry = records_of-append xs ((entry ∷ []) ∷ [])
 
 pub records_of-split : (n : ℕ) (xs : History) → records_of xs ≡ records_of (take n xs) ++ records_of (drop n xs)
@@ -68,9 +70,11 @@ there_if o f e = grind arith
 abbrev places_from : (Record → Bool) → ℕ → List Record → List ℕ
 places_from test n records = map (λ (e : ℕ × Record). e.0) (filter (λ e. test e.1) (enumerate_from n records))
 
-pending_from : (records : List Record) (of : ℕ → Bool) (test : Record → Bool) → ((r : Record) → test r ≡ true → is_some (accepted_by r) ≡ true) → (n : ℕ) (rest : List Record)
+pending_from : (records : List Record) (of : ℕ → Bool) (test : Record → Bool)
+    → ((r : Record) → test r ≡ true → is_some (accepted_by r) ≡ true) → (n : ℕ) (rest : List Record)
     → ((k : ℕ) → accept_at records (n + k) ≡ option_and_then accepted_by (slice_get rest k))
-    → count_by of (places_from test n rest) ≡ count_by (λ d. is_some (accept_at records d) && of d) (places_from test n rest)
+    → count_by of (places_from test n rest) ≡ count_by (λ d. is_some (accept_at records d) && of d)
+    (places_from test n rest)
 pending_from records of test accepts n [] at = refl
 pending_from records of test accepts n (r ∷ rest) at =
     let later = pending_from records of test accepts (n + 1) rest (λ k.
@@ -88,7 +92,8 @@ starts : (records : List Record) (k : ℕ) → accept_at records (0 + k) ≡ opt
 starts records k = let moved : 0 + k ≡ k = omega arith in ap (accept_at records) moved
 
 -- those that pass another test, counted among those that aren't gone
-count_kept : (of gone : ℕ → Bool) (ds : List ℕ) → count_by of (filter (λ d. not (gone d)) ds) ≡ count_by (λ d. not (gone d) && of d) ds
+count_kept : (of gone : ℕ → Bool) (ds : List ℕ) → count_by of (filter (λ d. not (gone d)) ds) ≡ count_by
+    (λ d. not (gone d) && of d) ds
 count_kept of gone [] = refl
 count_kept of gone (d ∷ ds) =
     let both = sum_by-cons (λ n. cond (not (gone n) && of n) 1 0) d ds in
@@ -103,7 +108,8 @@ there_or_gone there gone of o is = grind arith
 pending_among_kept : (records : List Record) (of : ℕ → Bool) (test : Record → Bool)
     → ((r : Record) → test r ≡ true → is_some (accepted_by r) ≡ true)
     → count_by of (filter (λ d. not (is_purged records d)) (places_from test 0 records))
-    ≡ count_by (λ d. is_some (accepted records d) && of d) (filter (λ d. not (is_purged records d)) (places_from test 0 records))
+    ≡ count_by (λ d. is_some (accepted records d) && of d)
+    (filter (λ d. not (is_purged records d)) (places_from test 0 records))
 pending_among_kept records of test accepts =
     let ds = places_from test 0 records in
     count_kept of (is_purged records) ds
@@ -112,12 +118,14 @@ pending_among_kept records of test accepts =
     (λ i d. there_or_gone (is_some (accept_at records d)) (is_purged records d) (of d) (accept_at records d) refl i)
     ∙ sym (count_kept (λ d. is_some (accepted records d) && of d) (is_purged records) ds)
 
-pub pending_is : (records : List Record) (name : List ℕ) → (counts_of records name).pending ≡ pending_among records (deliveries_of records name)
+pub pending_is : (records : List Record) (name : List ℕ) → (counts_of records name).pending ≡ pending_among records
+    (deliveries_of records name)
 pending_is records name =
     pending_among_kept records (λ d. is_in_state Pending (state_of records d)) (is_accept_of name)
     (λ r t. there_if (accepted_by r) _ t)
 
-pub pending_all_is : (records : List Record) → (counts_of_all records).pending ≡ pending_among records (deliveries records)
+pub pending_all_is : (records : List Record) → (counts_of_all records).pending ≡ pending_among records
+    (deliveries records)
 pending_all_is records = pending_among_kept records (λ d. is_in_state Pending (state_of records d)) is_accept (λ r t. t)
 
 -- What a desk tells of each world for which it stands
@@ -131,19 +139,27 @@ pub settled_first : (w : World) → all_records w ≡ settled_records w ++ waiti
 settled_first w = records_of-split w.settled w.history
 
 pub settled_front : (w : World) → take (length (settled_records w)) (all_records w) ≡ settled_records w
-settled_front w = ap (take (length (settled_records w))) (settled_first w) ∙ take-append_seam (settled_records w) (waiting_records w)
+settled_front w = ap (take (length (settled_records w))) (settled_first w) ∙ take-append_seam (settled_records w)
+    (waiting_records w)
 
 pub records_counted : {d : DeskValue} {w : World} → StandsFor d w → record_count d.waiting ≡ length (all_records w)
 records_counted {d} {w} h =
-    omega (arith, h.waiting.settled_seq, ap (λ steps. length (records_of steps)) h.waiting.steps, length-records_of-split w.settled w.history)
+    omega (
+      arith,
+      h.waiting.settled_seq,
+      ap (λ steps. length (records_of steps)) h.waiting.steps,
+      length-records_of-split w.settled w.history,
+    )
 
 -- what ties a desk's fields, but for its queue
-pub is_core : {d v : DeskValue} {queue : QueueValue} → d ≡ v → IsDesk d.endpoints d.deliveries d.waiting d.live d.limiters queue → IsCore v
+pub is_core : {d v : DeskValue} {queue : QueueValue} → d ≡ v
+    → IsDesk d.endpoints d.deliveries d.waiting d.live d.limiters queue → IsCore v
 is_core {d} same h = subst (λ (x : DeskValue). IsCore x) same (assumption)
 
 -- Tickets
 
-pub row_is_event : (records : List Record) (ticket : Ticket) → is_row_of ticket (row_of records ticket.seq) ≡ has_event records ticket
+pub row_is_event : (records : List Record) (ticket : Ticket)
+    → is_row_of ticket (row_of records ticket.seq) ≡ has_event records ticket
 row_is_event records ticket = grind arith
 
 -- the body of a settled event is in memory
@@ -165,60 +181,90 @@ pub body_if_kept : (w : World) (delivery : ℕ) → is_purged (all_records w) de
 body_if_kept w delivery kept =
     let front = unpurged_front (settled_records w) (waiting_records w) delivery
     (ap (λ records. is_purged records delivery) (sym (settled_first w)) ∙ kept) in
-    ap (λ records. option_map (λ (a : Accepted). a.body) (if is_purged records delivery then None else accept_at (all_records w) delivery))
+    ap (λ records. option_map (λ (a : Accepted). a.body)
+    (if is_purged records delivery then None else accept_at (all_records w) delivery))
     (settled_front w)
-    ∙ ap (λ b. option_map (λ (a : Accepted). a.body) (if b then None else accept_at (all_records w) delivery)) (front ∙ sym kept)
+    ∙ ap (λ b. option_map (λ (a : Accepted). a.body) (if b then None else accept_at (all_records w) delivery))
+    (front ∙ sym kept)
 
 -- Pages
 
 pub page_absent : (w : World) (name id : List ℕ)
-    → None ≡ known_as (take (length (settled_records w)) (all_records w)) name id → None ≡ event_page (settled_records w) name id
+    → None ≡ known_as (take (length (settled_records w)) (all_records w)) name id
+    → None ≡ event_page (settled_records w) name id
 page_absent w name id e =
     ap (option_and_then (row_of (settled_records w))) (e ∙ ap (λ records. known_as records name id) (settled_front w))
 
 pub page_found : (w : World) (name id : List ℕ) (delivery : ℕ) {row : Option BookRow}
     → Some delivery ≡ known_as (take (length (settled_records w)) (all_records w)) name id
-    → row ≡ row_of (take (length (settled_records w)) (all_records w)) delivery → row ≡ event_page (settled_records w) name id
+    → row ≡ row_of (take (length (settled_records w)) (all_records w)) delivery
+    → row ≡ event_page (settled_records w) name id
 page_found w name id delivery e f =
     f ∙ ap (λ records. row_of records delivery) (settled_front w)
     ∙ ap (option_and_then (row_of (settled_records w))) (e ∙ ap (λ records. known_as records name id) (settled_front w))
 
-pub totals_are : (w : World) (counts : Counts) (put records : ℕ) → counts ≡ counts_of_all (take (length (settled_records w)) (all_records w))
-    → put ≡ length (endpoints (take (length (settled_records w)) (all_records w))) → records ≡ length (settled_records w)
-    → record { delivered = counts.delivered; endpoints = put; exhausted = counts.exhausted; pending = counts.pending; records = records } ≡ totals (settled_records w)
+pub totals_are : (w : World) (counts : Counts) (put records : ℕ)
+    → counts ≡ counts_of_all (take (length (settled_records w)) (all_records w))
+    → put ≡ length (endpoints (take (length (settled_records w)) (all_records w)))
+    → records ≡ length (settled_records w)
+    → record {
+      delivered = counts.delivered;
+      endpoints = put;
+      exhausted = counts.exhausted;
+      pending =
+          counts.pending;
+      records = records;
+    } ≡ totals (settled_records w)
 totals_are w counts put records e f g =
     let all : counts ≡ counts_of_all (settled_records w) = e ∙ ap counts_of_all (settled_front w) in
-    let known : put ≡ length (endpoints (settled_records w)) = f ∙ ap (λ records. length (endpoints records)) (settled_front w) in
-    λ i. record { delivered = (all i).delivered; endpoints = known i; exhausted = (all i).exhausted; pending = (all i).pending; records = g i }
+    let known : put ≡ length (endpoints (settled_records w)) = f ∙ ap (λ records. length (endpoints records))
+    (settled_front w) in
+    λ i. record {
+      delivered = (all i).delivered;
+      endpoints = known i;
+      exhausted = (all i).exhausted;
+      pending =
+          (all i).pending;
+      records = g i;
+    }
 
-pub page_is : (w : World) (name : List ℕ) (view : Option View) (counts : Counts) → view ≡ view_of (take (length (settled_records w)) (all_records w)) name
-    → counts ≡ counts_of (take (length (settled_records w)) (all_records w)) name → option_map (λ v. record { view = v; counts = counts }) view ≡ endpoint_page (settled_records w) name
+pub page_is : (w : World) (name : List ℕ) (view : Option View) (counts : Counts)
+    → view ≡ view_of (take (length (settled_records w)) (all_records w)) name
+    → counts ≡ counts_of (take (length (settled_records w)) (all_records w)) name
+    → option_map (λ v. record { view = v; counts = counts }) view ≡ endpoint_page (settled_records w) name
 page_is w name view counts e f =
-    let page : option_map (λ v. record { view = v; counts = counts }) view ≡ endpoint_page (take (length (settled_records w)) (all_records w)) name =
+    let page : option_map (λ v. record { view = v; counts = counts }) view ≡ endpoint_page
+    (take (length (settled_records w)) (all_records w)) name =
     λ i. option_map (λ v. record { view = v; counts = f i }) (e i) in
     page ∙ ap (λ records. endpoint_page records name) (settled_front w)
 
 -- The answer to a call is its move: one law for its refusals, one for want of memory, one for what it makes
 
-fault_refuses : {A : Type 0} (faults : Faults) (w : World) (answer : Answer A) (r : Refusal) → first_fault faults ≡ Err r → unless faults w answer ≡ refused w r.number r.fault
+fault_refuses : {A : Type 0} (faults : Faults) (w : World) (answer : Answer A) (r : Refusal)
+    → first_fault faults ≡ Err r → unless faults w answer ≡ refused w r.number r.fault
 fault_refuses [] w answer r e = cc
 fault_refuses {A} ((there, number, fault) ∷ rest) w answer r e = grind (arith, fault_refuses rest w answer r)
 
-fault_passes : {A : Type 0} (faults : Faults) (w : World) (answer : Answer A) (u : Unit {0}) → first_fault faults ≡ Ok u → unless faults w answer ≡ answer
+fault_passes : {A : Type 0} (faults : Faults) (w : World) (answer : Answer A) (u : Unit {0}) → first_fault faults ≡ Ok u
+    → unless faults w answer ≡ answer
 fault_passes [] w answer u e = refl
 fault_passes {A} ((there, number, fault) ∷ rest) w answer u e = grind (arith, fault_passes rest w answer u)
 
 -- the call is refused for the first fault that is there
-pub refuses : {A : Type 0} (d : DeskValue) (faults : World → Faults) (answer : World → Answer A) (r : Refusal) → Checks d faults (Err r) → IsMove d (λ w. unless (faults w) w (answer w)) (Err r) d
+pub refuses : {A : Type 0} (d : DeskValue) (faults : World → Faults) (answer : World → Answer A) (r : Refusal)
+    → Checks d faults (Err r) → IsMove d (λ w. unless (faults w) w (answer w)) (Err r) d
 refuses {A} d faults answer r checks = λ w h.
-    let e : unless (faults w) w (answer w) ≡ refused w r.number r.fault = fault_refuses (faults w) w (answer w) r (sym (checks w h)) in
+    let e : unless (faults w) w (answer w) ≡ refused w r.number r.fault = fault_refuses (faults w) w (answer w) r
+    (sym (checks w h)) in
     (w, inl (sym (ap (λ (a : Answer A). a.reply) e), sym (ap (λ (a : Answer A). a.next) e)), h)
 
 -- where no fault is there, the answer is that behind the faults
-pub passes : {A : Type 0} (d new : DeskValue) (faults : World → Faults) (answer : World → Answer A) (u : Unit {0}) (reply : Result A Refusal) → Checks d faults (Ok u) → IsMove d answer reply new
+pub passes : {A : Type 0} (d new : DeskValue) (faults : World → Faults) (answer : World → Answer A) (u : Unit {0})
+    (reply : Result A Refusal) → Checks d faults (Ok u) → IsMove d answer reply new
     → IsMove d (λ w. unless (faults w) w (answer w)) reply new
 passes {A} d new faults answer u reply checks move = λ w h.
-    subst (λ (a : Answer A). (next : World) × MayGive w a reply next × StandsFor new next) (sym (fault_passes (faults w) w (answer w) u (sym (checks w h)))) (move w h)
+    subst (λ (a : Answer A). (next : World) × MayGive w a reply next × StandsFor new next)
+    (sym (fault_passes (faults w) w (answer w) u (sym (checks w h)))) (move w h)
 
 -- the call makes this
 pub makes : {A : Type 0} (d new : DeskValue) (answer : World → Answer A) (a : A)
@@ -235,8 +281,12 @@ refusing_by number = Err (refusal number fault.OutOfMemory)
 pub lacks : {A : Type 0} (d : DeskValue) (answer : World → Answer A) (number : ℕ)
     → ((w : World) → StandsFor d w → (answer w).memory ≡ Some number)
     → IsMove d answer (Err (refusal number fault.OutOfMemory)) d
-lacks {A} d answer number takes = λ w h.
-    (w, inr (subst (λ (o : Option ℕ). IsSomeAnd o (λ n. (refusing_by {A = A} number ≡ refusing_by n) × (w ≡ w))) (sym (takes w h)) (refl, refl)), h)
+lacks {A} d answer number takes = λ w h. (
+  w,
+  inr (subst (λ (o : Option ℕ). IsSomeAnd o (λ n. (refusing_by {A = A} number ≡ refusing_by n) × (w ≡ w)))
+      (sym (takes w h)) (refl, refl)),
+  h,
+)
 
 -- the same answer in other words
 pub becomes : {A : Type 0} (d new : DeskValue) (answer other : World → Answer A) (reply : Result A Refusal)
@@ -245,15 +295,18 @@ becomes {A} d new answer other reply same move = λ w h.
     subst (λ (a : Answer A). (next : World) × MayGive w a reply next × StandsFor new next) (same w h) (move w h)
 
 -- the same move, for an answer that is handed on
-pub replies : {A : Type 0} (old new : DeskValue) (move : World → Answer A) (a b : Result A Refusal) → IsMove old move b new → a ≡ b → IsMove old move a new
+pub replies : {A : Type 0} (old new : DeskValue) (move : World → Answer A) (a b : Result A Refusal)
+    → IsMove old move b new → a ≡ b → IsMove old move a new
 replies old new move a b m e = subst (λ reply. IsMove old move reply new) (sym e) m
 
-pub leaves : {A : Type 0} (old a b : DeskValue) (move : World → Answer A) (reply : Result A Refusal) → IsMove old move reply b → a ≡ b → IsMove old move reply a
+pub leaves : {A : Type 0} (old a b : DeskValue) (move : World → Answer A) (reply : Result A Refusal)
+    → IsMove old move reply b → a ≡ b → IsMove old move reply a
 leaves old a b move reply m e = subst (λ new. IsMove old move reply new) (sym e) m
 
 -- what takes memory is made, or the call is refused for want of it
 pub makes_or_lacks : {A E : Type 0} (d new : DeskValue) (answer : World → Answer A) (number : ℕ) (made : Result A E)
-    → IfOk made (λ a. (w : World) → StandsFor d w → ((answer w).reply ≡ Ok a) × StandsFor new (answer w).next) → OnErr made (new ≡ d)
+    → IfOk made (λ a. (w : World) → StandsFor d w → ((answer w).reply ≡ Ok a) × StandsFor new (answer w).next)
+    → OnErr made (new ≡ d)
     → IsMove d (λ w. or_out_of_memory number (answer w)) (out_of_memory_at number made) new
 makes_or_lacks d new answer number (Ok a) stands same = makes d new (λ w. or_out_of_memory number (answer w)) a stands
 makes_or_lacks d new answer number (Err e) stands same =
@@ -293,12 +346,14 @@ pub seen : {d e : DeskValue} {w : World} → d ≡ e → StandsFor e w → Stand
 seen {w = w} same h = subst (λ (x : DeskValue). StandsFor x w) (sym same) h
 
 -- a later moment
-pub stands_later : (d : DeskValue) (w : World) (at : ℕ) → StandsFor d w → StandsFor (record d { clock = at }) (record w { clock = at })
+pub stands_later : (d : DeskValue) (w : World) (at : ℕ) → StandsFor d w
+    → StandsFor (record d { clock = at }) (record w { clock = at })
 stands_later d w at h = assumption
 
 -- One more record
 
-pub one_more : (waiting : WaitingValue) (entry : Record) → record_count (with_step waiting (entry ∷ [])) ≡ record_count waiting + 1
+pub one_more : (waiting : WaitingValue) (entry : Record) → record_count (with_step waiting (entry ∷ [])) ≡ record_count
+    waiting + 1
 one_more waiting entry = omega (arith, length-records_of waiting.waiting ((entry ∷ []) ∷ []))
 
 -- the records that wait, and one more behind them
@@ -316,7 +371,8 @@ one_changes at e waiting entry h = subst (HasChanges at e) (sym (records_of-snoc
 pub endpoints_more : {e f : endpoint_entries.BookValue} {d : delivery_entries.BookValue} {waiting : WaitingValue}
     {live : List Row} {limiters more : List Limiter} {queue later : QueueValue} (entry : Record)
     → IsDesk e d waiting live limiters queue
-    → flags_in f ≤ flags_in e + 1 → f.next_seq ≡ record_count waiting + 1 → f.settled_seq ≡ e.settled_seq → is_other entry ≡ true
+    → flags_in f ≤ flags_in e + 1 → f.next_seq ≡ record_count waiting + 1 → f.settled_seq ≡ e.settled_seq
+    → is_other entry ≡ true
     → HasChanges (endpoint_at d) f (records_of waiting.waiting ++ entry ∷ [])
     → AreTied f d (with_step waiting (entry ∷ [])) live more later
     → IsDesk f d (with_step waiting (entry ∷ [])) live more later
@@ -336,7 +392,8 @@ endpoints_more {e} {f} {d} {waiting} entry h flags next settled other waits tied
 pub endpoints_wait : {e f : endpoint_entries.BookValue} {d : delivery_entries.BookValue} {waiting : WaitingValue}
     {live : List Row} {limiters more : List Limiter} {queue later : QueueValue} (change : Change) (entry : Record)
     → IsDesk e d waiting live limiters queue
-    → f.changes ≡ e.changes ++ change ∷ [] → f.next_seq ≡ record_count waiting + 1 → f.settled_seq ≡ e.settled_seq → is_other entry ≡ true
+    → f.changes ≡ e.changes ++ change ∷ [] → f.next_seq ≡ record_count waiting + 1 → f.settled_seq ≡ e.settled_seq
+    → is_other entry ≡ true
     → HasChanges (endpoint_at d) f (records_of waiting.waiting ++ entry ∷ [])
     → AreTied f d (with_step waiting (entry ∷ [])) live more later
     → IsDesk f d (with_step waiting (entry ∷ [])) live more later
@@ -352,7 +409,8 @@ pub deliveries_wait : {e : endpoint_entries.BookValue} {d f : delivery_entries.B
     → f.next_seq ≡ record_count waiting + 1 → f.settled_seq ≡ d.settled_seq
     → HasWaiting f (records_of waiting.waiting ++ entry ∷ [])
     → HasChanges (endpoint_at f) e (records_of waiting.waiting ++ entry ∷ [])
-    → AreTied e f (with_step waiting (entry ∷ [])) live limiters later → IsDesk e f (with_step waiting (entry ∷ [])) live limiters later
+    → AreTied e f (with_step waiting (entry ∷ [])) live limiters later
+    → IsDesk e f (with_step waiting (entry ∷ [])) live limiters later
 deliveries_wait {e} {d} {f} {waiting} entry h next settled waits changes tied =
     let more = one_more waiting entry in
     let endpoints_staged : e.next_seq ≤ record_count (with_step waiting (entry ∷ [])) =
@@ -363,14 +421,18 @@ deliveries_wait {e} {d} {f} {waiting} entry h next settled waits changes tied =
     assumption (endpoints_staged, deliveries_staged, changed, deliveries_settled, one_waits f waiting entry waits)
 
 -- the longer history is legal
-pub legal_with : {d : DeskValue} {w : World} (entry : Record) → StandsFor d w → record_count d.waiting < MAX_RECORDS → IsTrue (may_follow (all_records w) entry) → IsTrue (is_within_limits entry)
+pub legal_with : {d : DeskValue} {w : World} (entry : Record) → StandsFor d w → record_count d.waiting < MAX_RECORDS
+    → IsTrue (may_follow (all_records w) entry) → IsTrue (is_within_limits entry)
     → IsLegal (all_records w ++ entry ∷ [])
-legal_with {d} {w} entry h room follows limits = legal_more (all_records w) entry h.books.legal follows limits (omega (arith, count_is h, room))
+legal_with {d} {w} entry h room follows limits = legal_more (all_records w) entry h.books.legal follows limits
+    (omega (arith, count_is h, room))
 
 -- the desk that stands for the world with one more step
-pub stands_step : (d : DeskValue) (w : World) (step : List Record) (endpoints : endpoint_entries.BookValue) (deliveries : delivery_entries.BookValue) → StandsFor d w
+pub stands_step : (d : DeskValue) (w : World) (step : List Record) (endpoints : endpoint_entries.BookValue)
+    (deliveries : delivery_entries.BookValue) → StandsFor d w
     → AreBooks endpoints deliveries (all_records w ++ step) (length (settled_records w))
-    → StandsFor (record d { endpoints = endpoints; deliveries = deliveries; waiting = with_step d.waiting step }) (record w { history = w.history ++ step ∷ [] })
+    → StandsFor (record d { endpoints = endpoints; deliveries = deliveries; waiting = with_step d.waiting step })
+    (record w { history = w.history ++ step ∷ [] })
 stands_step d w step endpoints deliveries h books =
     let later = record w { history = w.history ++ step ∷ [] } in
     let settled : settled_records later ≡ settled_records w =
@@ -379,13 +441,15 @@ stands_step d w step endpoints deliveries h books =
     let now = length (settled_records later) in
     let recorded = subst (λ xs. AreBooks endpoints deliveries xs now) (sym (records_of-step w.history step)) counted in
     let steps =
-    ap (λ steps. steps ++ step ∷ []) h.waiting.steps ∙ sym (drop-append-le w.settled w.history (step ∷ []) (settled_within h)) in
+    ap (λ steps. steps ++ step ∷ []) h.waiting.steps
+    ∙ sym (drop-append-le w.settled w.history (step ∷ []) (settled_within h)) in
     let within : w.sealed ≤ length (w.history ++ step ∷ []) =
     omega (arith, h.waiting.sealed_within, length-append w.history (step ∷ [])) in
     assumption (recorded, steps, h.waiting.settled_seq ∙ ap length (sym settled), within)
 
 -- the desk that stands for the world with one more record
-pub stands_staged : (d : DeskValue) (w : World) (entry : Record) (endpoints : endpoint_entries.BookValue) (deliveries : delivery_entries.BookValue) → StandsFor d w
+pub stands_staged : (d : DeskValue) (w : World) (entry : Record) (endpoints : endpoint_entries.BookValue)
+    (deliveries : delivery_entries.BookValue) → StandsFor d w
     → AreBooks endpoints deliveries (all_records w ++ entry ∷ []) (length (settled_records w))
     → StandsFor (record (with_entry d entry) { endpoints = endpoints; deliveries = deliveries }) (with_record w entry)
 stands_staged d w entry endpoints deliveries h books =
@@ -401,7 +465,8 @@ stands_staged d w entry endpoints deliveries h books =
     omega (arith, h.waiting.sealed_within, length-append w.history more) in
     assumption (recorded, steps, h.waiting.settled_seq ∙ ap length (sym settled), within)
 
-pub known_is : {d : DeskValue} {w : World} (name : List ℕ) → StandsFor d w → is_known d.endpoints name ≡ has_endpoint (all_records w) name
+pub known_is : {d : DeskValue} {w : World} (name : List ℕ) → StandsFor d w
+    → is_known d.endpoints name ≡ has_endpoint (all_records w) name
 known_is {d} {w} name h = known-entry d.endpoints (all_records w) name h.books.of_endpoints.tells
 
 -- Each record, where the desk has room and it may follow
@@ -414,7 +479,8 @@ limiters_more (l ∷ ls) x name samples h new = by_bool (is_limiter_of name l)
     (λ e. rw e (rw e at h)) (λ e. rw e (limiters_more ls x name samples (rw e at h) new))
 
 -- a limiter stands for no samples at first
-limiter_new : (name other : List ℕ) (max : ℕ) (samples : List Sample) → samples ≡ [] → StandsAt (new_limiter name max ∷ []) other samples
+limiter_new : (name other : List ℕ) (max : ℕ) (samples : List Sample) → samples ≡ []
+    → StandsAt (new_limiter name max ∷ []) other samples
 limiter_new name other max samples e = step (bytes_eq name other)
   where
     none : StandsForSamples (new_limiter name max).estimator []
@@ -424,68 +490,90 @@ limiter_new name other max samples e = step (bytes_eq name other)
     step true = subst (λ xs. StandsForSamples (new_limiter name max).estimator xs) (sym e) none
     step false = e
 
-stands_limited : (d : DeskValue) (w : World) (limiters : List Limiter) → StandsFor d w → AreLimits limiters w → StandsFor (record d { limiters = limiters }) w
+stands_limited : (d : DeskValue) (w : World) (limiters : List Limiter) → StandsFor d w → AreLimits limiters w
+    → StandsFor (record d { limiters = limiters }) w
 stands_limited d w limiters h limits = assumption
 
-pub stands_with_put : (d : DeskValue) (w : World) (name target : List ℕ) (max : ℕ) (secrets : List (List ℕ)) → StandsFor d w → record_count d.waiting < MAX_RECORDS → is_known d.endpoints name ≡ false
+pub stands_with_put : (d : DeskValue) (w : World) (name target : List ℕ) (max : ℕ) (secrets : List (List ℕ))
+    → StandsFor d w → record_count d.waiting < MAX_RECORDS → is_known d.endpoints name ≡ false
     → length (endpoints (all_records w)) < MAX_ENDPOINTS → IsTrue (is_within_limits (Put name target max secrets))
     → StandsFor (with_put d name target max secrets) (with_record w (Put name target max secrets))
 stands_with_put d w name target max secrets h room unknown few limits =
     let entry = Put name target max secrets in
     let new : has_endpoint (all_records w) name ≡ false = sym (known_is name h) ∙ unknown in
-    let legal = legal_with entry h room (λ i. not (new i) && lt-ltb (length (endpoints (all_records w))) MAX_ENDPOINTS few i) limits in
+    let legal = legal_with entry h room (λ i. not (new i) && lt-ltb (length (endpoints (all_records w))) MAX_ENDPOINTS
+    few i) limits in
     stands_limited _ (with_record w entry) (d.limiters ++ new_limiter name max ∷ [])
-    (stands_staged d w entry (endpoint_entries.with_put d.endpoints (endpoint_entries.new_entry (record_count d.waiting) name target max secrets)) d.deliveries h (record {
-      of_endpoints = stands-put d.endpoints (all_records w) (length (settled_records w)) (record_count d.waiting) name target max secrets h.books.of_endpoints (count_is h) legal
+    (stands_staged d w entry
+    (endpoint_entries.with_put d.endpoints
+    (endpoint_entries.new_entry (record_count d.waiting) name target max secrets)) d.deliveries h (record {
+      of_endpoints = stands-put d.endpoints (all_records w) (length (settled_records w)) (record_count d.waiting) name
+          target max secrets h.books.of_endpoints (count_is h) legal
           (none_if (entry_of d.endpoints name) unknown);
-      of_deliveries = stands_other d.deliveries (all_records w) (length (settled_records w)) entry h.books.of_deliveries refl;
+      of_deliveries = stands_other d.deliveries (all_records w) (length (settled_records w)) entry h.books.of_deliveries
+          refl;
       legal = legal;
     }))
-    (λ other. limiters_more d.limiters (new_limiter name max) other (samples_of w other) (h.limits other) (limiter_new name other max (samples_of w other)))
+    (λ other. limiters_more d.limiters (new_limiter name max) other (samples_of w other) (h.limits other)
+    (limiter_new name other max (samples_of w other)))
 
-pub stands_with_secrets : (d : DeskValue) (w : World) (name : List ℕ) (secrets : List (List ℕ)) → StandsFor d w → record_count d.waiting < MAX_RECORDS → IsTrue (is_known d.endpoints name)
-    → IsTrue (is_within_limits (Secrets name secrets)) → StandsFor (with_secrets d name secrets) (with_record w (Secrets name secrets))
+pub stands_with_secrets : (d : DeskValue) (w : World) (name : List ℕ) (secrets : List (List ℕ)) → StandsFor d w
+    → record_count d.waiting < MAX_RECORDS → IsTrue (is_known d.endpoints name)
+    → IsTrue (is_within_limits (Secrets name secrets))
+    → StandsFor (with_secrets d name secrets) (with_record w (Secrets name secrets))
 stands_with_secrets d w name secrets h room known limits =
     let entry = Secrets name secrets in
     let legal = legal_with entry h room (sym (known_is name h) ∙ known) limits in
     stands_staged d w entry _ d.deliveries h (record {
-      of_endpoints = stands-secrets d.endpoints (all_records w) (length (settled_records w)) (record_count d.waiting) name secrets h.books.of_endpoints (count_is h) legal known;
-      of_deliveries = stands_other d.deliveries (all_records w) (length (settled_records w)) entry h.books.of_deliveries refl;
+      of_endpoints = stands-secrets d.endpoints (all_records w) (length (settled_records w)) (record_count d.waiting)
+          name secrets h.books.of_endpoints (count_is h) legal known;
+      of_deliveries = stands_other d.deliveries (all_records w) (length (settled_records w)) entry h.books.of_deliveries
+          refl;
       legal = legal;
     })
 
-pub stands_with_enabled : (d : DeskValue) (w : World) (name : List ℕ) (flag : Bool) → StandsFor d w → record_count d.waiting < MAX_RECORDS → IsTrue (is_known d.endpoints name)
-    → IsTrue (is_within_limits (Enabled name flag)) → StandsFor (with_enabled d name flag) (with_record w (Enabled name flag))
+pub stands_with_enabled : (d : DeskValue) (w : World) (name : List ℕ) (flag : Bool) → StandsFor d w
+    → record_count d.waiting < MAX_RECORDS → IsTrue (is_known d.endpoints name)
+    → IsTrue (is_within_limits (Enabled name flag))
+    → StandsFor (with_enabled d name flag) (with_record w (Enabled name flag))
 stands_with_enabled d w name flag h room known limits =
     let entry = Enabled name flag in
     let legal = legal_with entry h room (sym (known_is name h) ∙ known) limits in
     stands_staged d w entry _ d.deliveries h (record {
-      of_endpoints = stands-enabled d.endpoints (all_records w) (length (settled_records w)) (record_count d.waiting) name flag h.books.of_endpoints (count_is h) legal known;
-      of_deliveries = stands_other d.deliveries (all_records w) (length (settled_records w)) entry h.books.of_deliveries refl;
+      of_endpoints = stands-enabled d.endpoints (all_records w) (length (settled_records w)) (record_count d.waiting)
+          name flag h.books.of_endpoints (count_is h) legal known;
+      of_deliveries = stands_other d.deliveries (all_records w) (length (settled_records w)) entry h.books.of_deliveries
+          refl;
       legal = legal;
     })
 
 -- whether there is a place for the pair, by the book and by the records
 pub place_is : {d : DeskValue} {w : World} (topic name : List ℕ) → StandsFor d w
-    → has_place_for d.endpoints.topics topic name ≡ (is_pair_named (all_records w) topic name || nat_lt (length (subscriptions (all_records w))) MAX_SUBSCRIPTIONS)
+    → has_place_for d.endpoints.topics topic name ≡ (is_pair_named (all_records w) topic name
+    || nat_lt (length (subscriptions (all_records w))) MAX_SUBSCRIPTIONS)
 place_is {d} {w} topic name h =
     let told = h.books.of_endpoints.tells.topics in
     λ i. named-told d.endpoints.topics (all_records w) topic name told i || nat_lt (told.count i) MAX_SUBSCRIPTIONS
 
-pub stands_with_subscribed : (d : DeskValue) (w : World) (topic name : List ℕ) (flag : Bool) → StandsFor d w → record_count d.waiting < MAX_RECORDS → IsTrue (is_known d.endpoints name)
+pub stands_with_subscribed : (d : DeskValue) (w : World) (topic name : List ℕ) (flag : Bool) → StandsFor d w
+    → record_count d.waiting < MAX_RECORDS → IsTrue (is_known d.endpoints name)
     → IsTrue (has_place_for d.endpoints.topics topic name) → IsTrue (is_within_limits (Subscribed topic name flag))
-    → Stages d.endpoints (with_subscribed d topic name flag).endpoints (record_count d.waiting) (Subscribed topic name flag)
+    → Stages d.endpoints (with_subscribed d topic name flag).endpoints (record_count d.waiting)
+    (Subscribed topic name flag)
     → StandsFor (with_subscribed d topic name flag) (with_record w (Subscribed topic name flag))
 stands_with_subscribed d w topic name flag h room known free limits stages =
     let entry = Subscribed topic name flag in
-    let legal = legal_with entry h room (λ i. (sym (known_is name h) ∙ known) i && (sym (place_is topic name h) ∙ free) i) limits in
+    let legal = legal_with entry h room (λ i. (sym (known_is name h) ∙ known) i
+    && (sym (place_is topic name h) ∙ free) i) limits in
     stands_staged d w entry _ d.deliveries h (record {
       of_endpoints = stages (all_records w) (length (settled_records w)) h.books.of_endpoints (count_is h) legal;
-      of_deliveries = stands_other d.deliveries (all_records w) (length (settled_records w)) entry h.books.of_deliveries refl;
+      of_deliveries = stands_other d.deliveries (all_records w) (length (settled_records w)) entry h.books.of_deliveries
+          refl;
       legal = legal;
     })
 
-pub stands_with_accept : (d : DeskValue) (w : World) (name id body : List ℕ) (at : ℕ) → StandsFor d w → record_count d.waiting < MAX_RECORDS → has_endpoint (all_records w) name ≡ true
+pub stands_with_accept : (d : DeskValue) (w : World) (name id body : List ℕ) (at : ℕ) → StandsFor d w
+    → record_count d.waiting < MAX_RECORDS → has_endpoint (all_records w) name ≡ true
     → known_as (all_records w) name id ≡ None → IsTrue (is_within_limits (Accept name id body at))
     → StandsFor (with_accept d name id body at) (with_record (record w { clock = at }) (Accept name id body at))
 stands_with_accept d w name id body at h room known new limits =
@@ -493,8 +581,10 @@ stands_with_accept d w name id body at h room known new limits =
     let legal = legal_with entry h room (λ i. known i && not (is_some (new i))) limits in
     stands_later (record (with_accept d name id body at) { clock = d.clock }) (with_record w entry) at
     (stands_staged d w entry d.endpoints _ h (record {
-      of_endpoints = stands-other d.endpoints (all_records w) (length (settled_records w)) entry h.books.of_endpoints legal refl;
-      of_deliveries = stands_accept d.deliveries (all_records w) (length (settled_records w)) (record_count d.waiting) name id body at h.books.of_deliveries (count_is h);
+      of_endpoints = stands-other d.endpoints (all_records w) (length (settled_records w)) entry h.books.of_endpoints
+          legal refl;
+      of_deliveries = stands_accept d.deliveries (all_records w) (length (settled_records w)) (record_count d.waiting)
+          name id body at h.books.of_deliveries (count_is h);
       legal = legal;
     }))
 
@@ -505,8 +595,10 @@ abbrev pub Waits : DeskValue → Record → DeskValue → Type 0
 Waits d entry new = OverWorlds d (λ w. IsTrue (is_within_limits entry) → StandsFor new (with_record w entry))
 
 -- the record is staged, or the call lacks memory
-pub stages_or_lacks : (d new staged : DeskValue) (entry : Record) (made : Result CommandTicket AllocError) → Waits d entry staged
-    → IfOk made (λ t. t.seq ≡ record_count d.waiting) → OnOk made (new ≡ staged) → OnOk made (IsTrue (is_within_limits entry)) → OnErr made (new ≡ d)
+pub stages_or_lacks : (d new staged : DeskValue) (entry : Record) (made : Result CommandTicket AllocError)
+    → Waits d entry staged
+    → IfOk made (λ t. t.seq ≡ record_count d.waiting) → OnOk made (new ≡ staged)
+    → OnOk made (IsTrue (is_within_limits entry)) → OnErr made (new ≡ d)
     → IsMove d (λ w. or_out_of_memory 7 (stages w entry)) (out_of_memory_at 7 made) new
 stages_or_lacks d new staged entry (Err e) waits same is limits err =
     makes_or_lacks d new (λ w. stages w entry) 7 (Err e) tt err
@@ -516,7 +608,8 @@ stages_or_lacks d new staged entry (Ok t) waits same is limits err =
       subst (λ (v : DeskValue). StandsFor v (with_record w entry)) (sym is) (waits w h limits),
     )) err
 
-pub subscribes_or_lacks : (d new : DeskValue) (topic name : List ℕ) (flag : Bool) (made : Result CommandTicket AllocError) → record_count d.waiting < MAX_RECORDS → IsTrue (is_known d.endpoints name)
+pub subscribes_or_lacks : (d new : DeskValue) (topic name : List ℕ) (flag : Bool)
+    (made : Result CommandTicket AllocError) → record_count d.waiting < MAX_RECORDS → IsTrue (is_known d.endpoints name)
     → IsTrue (has_place_for d.endpoints.topics topic name)
     → IfOk made (λ t. t.seq ≡ record_count d.waiting) → OnOk made (new ≡ with_subscribed d topic name flag)
     → OnOk made (Stages d.endpoints new.endpoints (record_count d.waiting) (Subscribed topic name flag))
@@ -531,16 +624,19 @@ subscribes_or_lacks d new topic name flag (Ok t) room known free same is staged 
     (λ w h kept. stands_with_subscribed d w topic name flag h room known free kept made) same is limits err
 
 -- a Purge is staged, and takes no memory
-pub stands_with_purged : (d new : DeskValue) (w : World) (before : ℕ) → StandsFor d w → record_count d.waiting < MAX_RECORDS
+pub stands_with_purged : (d new : DeskValue) (w : World) (before : ℕ) → StandsFor d w
+    → record_count d.waiting < MAX_RECORDS
     → IsTrue (is_within_limits (Purge before)) → new ≡ with_purged d before
-    → Takes d.deliveries (record_count d.waiting) (Purge before) new.deliveries → StandsFor new (with_record w (Purge before))
+    → Takes d.deliveries (record_count d.waiting) (Purge before) new.deliveries
+    → StandsFor new (with_record w (Purge before))
 stands_with_purged d new w before h room limits is takes =
     let entry = Purge before in
     let legal = legal_with entry h room refl limits in
     let made = subst (λ (v : DeskValue). Takes d.deliveries (record_count d.waiting) entry v.deliveries) is takes in
     subst (λ (v : DeskValue). StandsFor v (with_record w entry)) (sym is)
     (stands_staged d w entry d.endpoints _ h (record {
-      of_endpoints = stands-other d.endpoints (all_records w) (length (settled_records w)) entry h.books.of_endpoints legal refl;
+      of_endpoints = stands-other d.endpoints (all_records w) (length (settled_records w)) entry h.books.of_endpoints
+          legal refl;
       of_deliveries = made (all_records w) (length (settled_records w)) h.books.of_deliveries (count_is h);
       legal = legal;
     }))
@@ -558,47 +654,62 @@ repeats_makes d new now name id delivery at later is =
     makes d new (λ w. repeats w now name id delivery) (ticket delivery name id) (λ w h. (
       refl,
       subst (λ (v : DeskValue). StandsFor v (at_moment w now)) (sym is)
-          (subst (λ t. StandsFor (record d { clock = at }) (record w { clock = t })) (later ∙ ap (max now) h.clock) (stands_later d w at h)),
+          (subst (λ t. StandsFor (record d { clock = at }) (record w { clock = t })) (later ∙ ap (max now) h.clock)
+          (stands_later d w at h)),
     ))
 
 -- a submission, by what the desk finds of its id
-submit_by : (d new : DeskValue) (now : ℕ) (name id body : List ℕ) (known : Option ℕ) (reply : Result Ticket Refusal) → Finds d name id known
-    → IsMove d (λ w. submit_known known w now name id body) reply new → IsMove d (λ w. submit w now name id body) reply new
+submit_by : (d new : DeskValue) (now : ℕ) (name id body : List ℕ) (known : Option ℕ) (reply : Result Ticket Refusal)
+    → Finds d name id known
+    → IsMove d (λ w. submit_known known w now name id body) reply new
+    → IsMove d (λ w. submit w now name id body) reply new
 submit_by d new now name id body known reply finds move =
-    becomes d new (λ w. submit_known known w now name id body) (λ w. submit w now name id body) reply (λ w h. ap (λ o. submit_known o w now name id body) (finds w h)) move
+    becomes d new (λ w. submit_known known w now name id body) (λ w. submit w now name id body) reply
+    (λ w h. ap (λ o. submit_known o w now name id body) (finds w h)) move
 
-pub submit_refused : (d : DeskValue) (now : ℕ) (name id body : List ℕ) (known : Option ℕ) (r : Refusal) → Finds d name id known → Checks d (λ w. submit_faults w name known body) (Err r)
+pub submit_refused : (d : DeskValue) (now : ℕ) (name id body : List ℕ) (known : Option ℕ) (r : Refusal)
+    → Finds d name id known → Checks d (λ w. submit_faults w name known body) (Err r)
     → IsMove d (λ w. submit w now name id body) (Err r) d
 submit_refused d now name id body known r finds checks =
     submit_by d d now name id body known (Err r) finds
-    (refuses d (λ w. submit_faults w name known body) (λ w. option_map_or (repeats w now name id) known (submit_new w now name id body)) r checks)
+    (refuses d (λ w. submit_faults w name known body)
+    (λ w. option_map_or (repeats w now name id) known (submit_new w now name id body)) r checks)
 
 pub submit_repeated : (d new : DeskValue) (now : ℕ) (name id body : List ℕ) (delivery at : ℕ) (u : Unit {0})
     → Finds d name id (Some delivery) → Checks d (λ w. submit_faults w name (Some delivery) body) (Ok u)
-    → at ≡ max now d.clock → new ≡ record d { clock = at } → IsMove d (λ w. submit w now name id body) (Ok (ticket delivery name id)) new
+    → at ≡ max now d.clock → new ≡ record d { clock = at } → IsMove d (λ w. submit w now name id body)
+    (Ok (ticket delivery name id)) new
 submit_repeated d new now name id body delivery at u finds checks later is =
     submit_by d new now name id body (Some delivery) (Ok (ticket delivery name id)) finds
-    (passes d new (λ w. submit_faults w name (Some delivery) body) (λ w. repeats w now name id delivery) u (Ok (ticket delivery name id)) checks (repeats_makes d new now name id delivery at later is))
+    (passes d new (λ w. submit_faults w name (Some delivery) body) (λ w. repeats w now name id delivery) u
+    (Ok (ticket delivery name id)) checks (repeats_makes d new now name id delivery at later is))
 
-submit_taken : (d new : DeskValue) (now : ℕ) (name id body : List ℕ) (u : Unit {0}) (reply : Result Ticket Refusal) → Finds d name id None → Checks d (λ w. submit_faults w name None body) (Ok u)
+submit_taken : (d new : DeskValue) (now : ℕ) (name id body : List ℕ) (u : Unit {0}) (reply : Result Ticket Refusal)
+    → Finds d name id None → Checks d (λ w. submit_faults w name None body) (Ok u)
     → IsMove d (λ w. submit_new w now name id body) reply new → IsMove d (λ w. submit w now name id body) reply new
 submit_taken d new now name id body u reply finds checks move =
-    submit_by d new now name id body None reply finds (passes d new (λ w. submit_faults w name None body) (λ w. submit_new w now name id body) u reply checks move)
+    submit_by d new now name id body None reply finds
+    (passes d new (λ w. submit_faults w name None body) (λ w. submit_new w now name id body) u reply checks move)
 
-pub new_refused : (d : DeskValue) (now : ℕ) (name id body : List ℕ) (u : Unit {0}) (r : Refusal) → Finds d name id None → Checks d (λ w. submit_faults w name None body) (Ok u)
+pub new_refused : (d : DeskValue) (now : ℕ) (name id body : List ℕ) (u : Unit {0}) (r : Refusal) → Finds d name id None
+    → Checks d (λ w. submit_faults w name None body) (Ok u)
     → Checks d (λ w. new_submit_faults w name) (Err r) → IsMove d (λ w. submit w now name id body) (Err r) d
 new_refused d now name id body u r finds checks new =
-    submit_taken d d now name id body u (Err r) finds checks (refuses d (λ w. new_submit_faults w name) (λ w. or_out_of_memory 8 (accepts w now name id body)) r new)
+    submit_taken d d now name id body u (Err r) finds checks
+    (refuses d (λ w. new_submit_faults w name) (λ w. or_out_of_memory 8 (accepts w now name id body)) r new)
 
 -- the record of a new submission waits
 accept_makes : (d new : DeskValue) (now : ℕ) (name id body : List ℕ) (at : ℕ) (v : Unit {0}) (given : Ticket)
     → Checks d (λ w. submit_faults w name None body) (Ok v) → record_count d.waiting < MAX_RECORDS
-    → Finds d name id None → at ≡ max now d.clock → given ≡ ticket (record_count d.waiting) name id → new ≡ with_accept d name id body at → IsTrue (is_within_limits (Accept name id body at))
-    → (w : World) → StandsFor d w → ((accepts w now name id body).reply ≡ Ok given) × StandsFor new (accepts w now name id body).next
+    → Finds d name id None → at ≡ max now d.clock → given ≡ ticket (record_count d.waiting) name id
+    → new ≡ with_accept d name id body at → IsTrue (is_within_limits (Accept name id body at))
+    → (w : World) → StandsFor d w → ((accepts w now name id body).reply ≡ Ok given)
+    × StandsFor new (accepts w now name id body).next
 accept_makes d new now name id body at v given checks room unknown later same is limits w h = (
   ap Ok (ap (λ n. ticket n name id) (sym (count_is h)) ∙ sym same),
   subst (λ (x : DeskValue). StandsFor x (with_record (at_moment w now) (Accept name id body (moment w now)))) (sym is)
-      (subst (λ t. StandsFor (with_accept d name id body at) (with_record (record w { clock = t }) (Accept name id body t))) (later ∙ ap (max now) h.clock)
+      (subst (λ t. StandsFor (with_accept d name id body at)
+      (with_record (record w { clock = t }) (Accept name id body t))) (later ∙ ap (max now) h.clock)
       (stands_with_accept d w name id body at h room known (sym (unknown w h)) limits)),
 )
   where
@@ -606,21 +717,27 @@ accept_makes d new now name id body at v given checks room unknown later same is
     known = let there = absent (submit_faults w name None body) v (checks w h) in grind (arith, there)
 
 -- a new submission is staged, or refused for memory
-pub accept_moves : (d new : DeskValue) (now : ℕ) (name id body : List ℕ) (at : ℕ) (u v : Unit {0}) (made : Result Ticket AllocError) → Checks d (λ w. new_submit_faults w name) (Ok u)
-    → Checks d (λ w. submit_faults w name None body) (Ok v) → record_count d.waiting < MAX_RECORDS → Finds d name id None → at ≡ max now d.clock
+pub accept_moves : (d new : DeskValue) (now : ℕ) (name id body : List ℕ) (at : ℕ) (u v : Unit {0})
+    (made : Result Ticket AllocError) → Checks d (λ w. new_submit_faults w name) (Ok u)
+    → Checks d (λ w. submit_faults w name None body) (Ok v) → record_count d.waiting < MAX_RECORDS
+    → Finds d name id None → at ≡ max now d.clock
     → IfOk made (λ given. given ≡ ticket (record_count d.waiting) name id)
     → OnOk made (new ≡ with_accept d name id body at) → OnOk made (IsTrue (is_within_limits (Accept name id body at)))
     → OnErr made (new ≡ d)
     → IsMove d (λ w. submit w now name id body) (out_of_memory_at 8 made) new
 accept_moves d new now name id body at u v made checks there room unknown later same is limits err =
     submit_taken d new now name id body v (out_of_memory_at 8 made) unknown there
-    (passes d new (λ w. new_submit_faults w name) (λ w. or_out_of_memory 8 (accepts w now name id body)) u (out_of_memory_at 8 made) checks
+    (passes d new (λ w. new_submit_faults w name) (λ w. or_out_of_memory 8 (accepts w now name id body)) u
+    (out_of_memory_at 8 made) checks
     (makes_or_lacks d new (λ w. accepts w now name id body) 8 made (takes made same is limits) err))
   where
-    takes : (made : Result Ticket AllocError) → IfOk made (λ given. given ≡ ticket (record_count d.waiting) name id) → OnOk made (new ≡ with_accept d name id body at)
+    takes : (made : Result Ticket AllocError) → IfOk made (λ given. given ≡ ticket (record_count d.waiting) name id)
+        → OnOk made (new ≡ with_accept d name id body at)
         → OnOk made (IsTrue (is_within_limits (Accept name id body at)))
-        → IfOk made (λ given. (w : World) → StandsFor d w → ((accepts w now name id body).reply ≡ Ok given) × StandsFor new (accepts w now name id body).next)
-    takes (Ok given) same is limits = accept_makes d new now name id body at v given there room unknown later same is limits
+        → IfOk made (λ given. (w : World) → StandsFor d w → ((accepts w now name id body).reply ≡ Ok given)
+        × StandsFor new (accepts w now name id body).next)
+    takes (Ok given) same is limits = accept_makes d new now name id body at v given there room unknown later same
+        is limits
     takes (Err e) same is limits = tt
 
 -- What the desk looks for before a call is what the model does
@@ -628,14 +745,18 @@ accept_moves d new now name id body at u v made checks there room unknown later 
 full_where : (free n : ℕ) → free + n ≡ MAX_WAITING_REQUESTS → nat_eq free 0 ≡ nat_le MAX_WAITING_REQUESTS n
 full_where free n e = grind (arith, nat_tests)
 
-pub is_full : {d : DeskValue} {w : World} (free : ℕ) → StandsFor d w → free + requests_in d.waiting.waiting ≡ MAX_WAITING_REQUESTS → nat_eq free 0 ≡ is_waiting_full w
-is_full {d} free h e = full_where free (requests_in d.waiting.waiting) e ∙ ap (λ steps. nat_le MAX_WAITING_REQUESTS (requests_in steps)) h.waiting.steps
+pub is_full : {d : DeskValue} {w : World} (free : ℕ) → StandsFor d w
+    → free + requests_in d.waiting.waiting ≡ MAX_WAITING_REQUESTS → nat_eq free 0 ≡ is_waiting_full w
+is_full {d} free h e = full_where free (requests_in d.waiting.waiting) e
+    ∙ ap (λ steps. nat_le MAX_WAITING_REQUESTS (requests_in steps)) h.waiting.steps
 
 -- no place for another pair
-place_lacks : (named : Bool) (free n : ℕ) → free + n ≡ MAX_SUBSCRIPTIONS → (not named && nat_eq free 0) ≡ not (named || nat_lt n MAX_SUBSCRIPTIONS)
+place_lacks : (named : Bool) (free n : ℕ) → free + n ≡ MAX_SUBSCRIPTIONS
+    → (not named && nat_eq free 0) ≡ not (named || nat_lt n MAX_SUBSCRIPTIONS)
 place_lacks named free n e = grind (arith, nat_tests)
 
-pub is_spent : {d : DeskValue} {w : World} (numbers : ℕ) → StandsFor d w → numbers ≡ record_count d.waiting + length d.live → nat_le MAX_RECORDS numbers ≡ are_seqs_spent w
+pub is_spent : {d : DeskValue} {w : World} (numbers : ℕ) → StandsFor d w
+    → numbers ≡ record_count d.waiting + length d.live → nat_le MAX_RECORDS numbers ≡ are_seqs_spent w
 is_spent {d} {w} numbers h e =
     let all : numbers ≡ length (all_records w) + length w.live = omega (arith, e, count_is h, ap length h.live) in
     ap (nat_le MAX_RECORDS) all

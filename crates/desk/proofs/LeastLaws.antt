@@ -62,7 +62,8 @@ chosen_among key (n ∷ rest) m e = by_option (least_by key rest)
 abbrev pub IsFirstBy : (key : ℕ → ℕ) (s m : ℕ) → Type 0
 IsFirstBy key s m = (key s ≤ key m) × (key s ≡ key m → s ≤ m)
 
-pub least_is : (key : ℕ → ℕ) (from : ℕ) (ns : List ℕ) (s : ℕ) → Rises from ns → Among s ns → ((m : ℕ) → Among m ns → IsFirstBy key s m) → least_by key ns ≡ Some s
+pub least_is : (key : ℕ → ℕ) (from : ℕ) (ns : List ℕ) (s : ℕ) → Rises from ns → Among s ns
+    → ((m : ℕ) → Among m ns → IsFirstBy key s m) → least_by key ns ≡ Some s
 least_is key from [] s h a first = absurd a
 least_is key from (n ∷ rest) s h (inl e) first = by_option (least_by key rest)
     (λ p. grind (arith, p))
@@ -83,7 +84,8 @@ places_rise test n (r ∷ rest) =
     let behind = rises_later n (n + 1) (places_from test (n + 1) rest) (omega arith) later in
     by_bool (test r) (λ e. rw e (omega arith, later)) (λ e. rw e behind)
 
-pub accepted_among : (n k : ℕ) (records : List Record) (a : Accepted) → option_and_then accepted_by (slice_get records k) ≡ Some a → Among (n + k) (places_from is_accept n records)
+pub accepted_among : (n k : ℕ) (records : List Record) (a : Accepted)
+    → option_and_then accepted_by (slice_get records k) ≡ Some a → Among (n + k) (places_from is_accept n records)
 accepted_among n k [] a e = cc
 accepted_among n zero (r ∷ rest) a e = let accepts : is_accept r ≡ true = ap is_some e in rw accepts (inl (omega arith))
 accepted_among n (suc k) (r ∷ rest) a e =

@@ -95,7 +95,8 @@ ticket_is : {d : DeskValue} {w : World} (id name : List ℕ) → StandsFor d w
     → ticket_by d.deliveries id name ≡ ticket_in w id name
 ticket_is id name h = λ i. ticket (unwrap_or (known_by name id h i) 0) name id
 
-has_body_is : {d : DeskValue} {w : World} (delivery : ℕ) (body : List ℕ) → StandsFor d w → is_purged (all_records w) delivery ≡ false
+has_body_is : {d : DeskValue} {w : World} (delivery : ℕ) (body : List ℕ) → StandsFor d w
+    → is_purged (all_records w) delivery ≡ false
     → has_body_in d.deliveries delivery body ≡ has_body body (accepted (all_records w) delivery)
 has_body_is {d} {w} delivery body h kept =
     by_text (λ e. e.body) (λ a. a.body) (entry_at d.deliveries.entries delivery) (accepted (all_records w) delivery)

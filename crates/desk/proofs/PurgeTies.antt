@@ -1,6 +1,7 @@
 -- What ties a desk's fields stays so as a Purge waits: it changes nothing but which Purge took an entry.
 use Rattle.desk.proofs.Words.{◌≡◌, ◌≤◌, ◌<◌, ◌+◌, ◌∙◌, ℕ, Bool, false, List, [], ◌∷◌, Option, length}
-use Rattle.desk.proofs.Words.{refl, sym, ap, subst, arith, not, nat_eq, nat_lt, ◌&&◌, is_some, option_map, option_map_or}
+use Rattle.desk.proofs.Words.{refl, sym, ap, subst, arith, not, nat_eq, nat_lt, ◌&&◌, is_some, option_map}
+use Rattle.desk.proofs.Words.{option_map_or}
 use Rattle.desk.proofs.Words.{Some, None, if◌then◌else◌}
 use Rattle.desk.proofs.Words.{MAX_RECORDS, Purge, records_of, HasChanges, changes_other}
 use Rattle.desk.proofs.Words.{BookValue, Entry, entry_at, marked, with_purge}
@@ -37,22 +38,26 @@ same_marked f same seq moment e = by_bool (is_kept e && is_done_before moment e.
     (λ marks. ap (λ b. f (if b then record e { taken_by = Some seq } else e)) marks ∙ same e seq)
     (λ stays. ap (λ b. f (if b then record e { taken_by = Some seq } else e)) stays)
 
-endpoint_marked : (book : BookValue) (seq moment n : ℕ) → endpoint_at (with_purge book seq moment) n ≡ endpoint_at book n
+endpoint_marked : (book : BookValue) (seq moment n : ℕ) → endpoint_at (with_purge book seq moment) n ≡ endpoint_at book
+    n
 endpoint_marked book seq moment n =
     ap (option_map (λ (e : Entry). e.name)) (marked_at seq moment n book.entries) ∙ by (entry_at book.entries n)
   where
-    by : (o : Option Entry) → option_map (λ (e : Entry). e.name) (option_map (marked seq moment) o) ≡ option_map (λ (e : Entry). e.name) o
+    by : (o : Option Entry) → option_map (λ (e : Entry). e.name) (option_map (marked seq moment) o) ≡ option_map
+        (λ (e : Entry). e.name) o
     by None = refl
     by (Some e) = ap Some (same_marked (λ x. x.name) (λ x n. refl) seq moment e)
 
-there_marked : (book : BookValue) (seq moment n : ℕ) → is_some (entry_at (with_purge book seq moment).entries n) ≡ is_some (entry_at book.entries n)
+there_marked : (book : BookValue) (seq moment n : ℕ) → is_some (entry_at (with_purge book seq moment).entries n)
+    ≡ is_some (entry_at book.entries n)
 there_marked book seq moment n = ap is_some (marked_at seq moment n book.entries) ∙ by (entry_at book.entries n)
   where
     by : (o : Option Entry) → is_some (option_map (marked seq moment) o) ≡ is_some o
     by None = refl
     by (Some e) = refl
 
-apart_purged : (book : BookValue) (seq moment : ℕ) → book.next_seq ≤ seq → AreApart book → AreApart (with_purge book seq moment)
+apart_purged : (book : BookValue) (seq moment : ℕ) → book.next_seq ≤ seq → AreApart book
+    → AreApart (with_purge book seq moment)
 apart_purged book seq moment above h = record {
   in_turn = rises_upto book.settled_seq book.next_seq (seq + 1) book.unsettled (omega (arith, above)) h.in_turn;
   told = all_weaker (is_told book) (is_told (with_purge book seq moment)) book.unsettled
@@ -106,10 +111,12 @@ tied_purged {endpoints} {deliveries} {waiting} {live} {limiters} {queue} seq bef
 
 pub desk_purged : {endpoints : endpoint_entries.BookValue} {deliveries taken : BookValue} {waiting later : WaitingValue}
     {live : List Row} {limiters : List Limiter} {queue : QueueValue} (seq before : ℕ)
-    → seq ≡ record_count waiting → taken ≡ with_purge deliveries seq before → later ≡ with_step waiting (Purge before ∷ [])
+    → seq ≡ record_count waiting → taken ≡ with_purge deliveries seq before
+    → later ≡ with_step waiting (Purge before ∷ [])
     → record_count waiting + length live < MAX_RECORDS → IsDesk endpoints deliveries waiting live limiters queue
     → IsDesk endpoints taken later live limiters queue
-desk_purged {endpoints} {deliveries} {taken} {waiting} {later} {live} {limiters} {queue} seq before count is step numbers h =
+desk_purged {endpoints} {deliveries} {taken} {waiting} {later} {live} {limiters} {queue} seq before count is step
+    numbers h =
     let entry = Purge before in
     let book = with_purge deliveries seq before in
     subst (λ w. IsDesk endpoints taken w live limiters queue) (sym step)
@@ -117,6 +124,7 @@ desk_purged {endpoints} {deliveries} {taken} {waiting} {later} {live} {limiters}
     (deliveries_wait entry h (ap (λ n. n + 1) count) refl
     (waiting_purge deliveries (records_of waiting.waiting) seq before h.deliveries_wait)
     (changes_other (endpoint_at book) endpoints (records_of waiting.waiting) entry refl
-    (subst (λ at. HasChanges at endpoints (records_of waiting.waiting)) (λ i n. sym (endpoint_marked deliveries seq before n) i)
+    (subst (λ at. HasChanges at endpoints (records_of waiting.waiting))
+    (λ i n. sym (endpoint_marked deliveries seq before n) i)
     h.endpoints_wait))
     (tied_purged seq before numbers (omega (arith, count, h.deliveries_staged)) h.tied)))

@@ -43,7 +43,8 @@ none_any p (r ∷ rows) e = grind (arith, sum_by-cons (λ x. cond (p x) 1 0) r r
 
 -- What is left without the row at a place
 
-any_removed : (p : Row → Bool) (rows : List Row) (i : ℕ) (d : Row) → i < length rows → p (get_or rows i d) ≡ false → list_any p (remove rows i) ≡ list_any p rows
+any_removed : (p : Row → Bool) (rows : List Row) (i : ℕ) (d : Row) → i < length rows → p (get_or rows i d) ≡ false
+    → list_any p (remove rows i) ≡ list_any p rows
 any_removed p [] i d h e = absurd (omega (arith, h))
 any_removed p (r ∷ rows) zero d h e = sym (ap (λ b. b || list_any p rows) e)
 any_removed p (r ∷ rows) (suc i) d h e = ap (λ b. p r || b) (any_removed p rows i d (omega (arith, h)) e)
@@ -52,10 +53,12 @@ all_removed : (p : Row → Bool) (rows : List Row) (i : ℕ) → list_all p rows
 all_removed p [] zero h = refl
 all_removed p [] (suc i) h = refl
 all_removed p (r ∷ rows) zero h = and_second (p r) _ h
-all_removed p (r ∷ rows) (suc i) h = and_both (p r) _ (and_first (p r) _ h) (all_removed p rows i (and_second (p r) _ h))
+all_removed p (r ∷ rows) (suc i) h = and_both (p r) _ (and_first (p r) _ h)
+    (all_removed p rows i (and_second (p r) _ h))
 
 -- what passes one test and fails another passes a third
-pub all_by : (p q s : Row → Bool) (rows : List Row) → ((r : Row) → p r ≡ true → q r ≡ false → s r ≡ true) → list_all p rows ≡ true → list_any q rows ≡ false → list_all s rows ≡ true
+pub all_by : (p q s : Row → Bool) (rows : List Row) → ((r : Row) → p r ≡ true → q r ≡ false → s r ≡ true)
+    → list_all p rows ≡ true → list_any q rows ≡ false → list_all s rows ≡ true
 all_by p q s [] by h e = refl
 all_by p q s (r ∷ rows) by h e = grind (arith, by r, all_by p q s rows by)
 
@@ -67,7 +70,8 @@ others_all row (r ∷ rows) none =
     grind (arith, nat_tests, counted, same_row_is row r, others_all row rows)
 
 -- the rows without the one at this place are the other rows
-pub removed_is : (row : Row) (rows : List Row) (i : ℕ) → i < length rows → row ≡ get_or rows i row → attempts_at row.delivery rows ≤ 1 → remove rows i ≡ others row rows
+pub removed_is : (row : Row) (rows : List Row) (i : ℕ) → i < length rows → row ≡ get_or rows i row
+    → attempts_at row.delivery rows ≤ 1 → remove rows i ≡ others row rows
 removed_is row [] i h own once = absurd (omega (arith, h))
 removed_is row (r ∷ rows) zero h own once =
     let counted = sum_by-cons (λ (x : Row). cond (nat_eq x.delivery row.delivery) 1 0) r rows in
@@ -91,7 +95,8 @@ pub record IsReturned (row : Row) (rows new : List Row) : Type 0 where
   pub pass : (p : Row → Bool) → list_all p rows ≡ true → list_all p new ≡ true
   pub in_flight : (name : List ℕ) → bytes_eq row.endpoint name ≡ false → in_flight_of name new ≡ in_flight_of name rows
 
-returned_at : (row : Row) (rows new : List Row) (i : ℕ) → position (same_row row) rows ≡ Some i → new ≡ remove rows i → ((d : ℕ) → attempts_at d rows ≤ 1) → IsReturned row rows new
+returned_at : (row : Row) (rows new : List Row) (i : ℕ) → position (same_row row) rows ≡ Some i → new ≡ remove rows i
+    → ((d : ℕ) → attempts_at d rows ≤ 1) → IsReturned row rows new
 returned_at row rows new i at is once =
     let found = position-Some (same_row row) rows i row at in
     let own : row ≡ get_or rows i row = same_row_is row (get_or rows i row) found.1 in
@@ -135,7 +140,8 @@ pub all_out : (permits rows : List Row) → IsPermutation permits rows → AreAl
 all_out permits rows h = λ r. sym (sum_by-IsPermutation (λ x. cond (same_row r x) 1 0) permits rows h)
 
 -- the last permit is one of those that are out
-pub last_out : (permits : List Row) (last : Row) (rows : List Row) → AreAll (permits ++ last ∷ []) rows → position (same_row last) rows ≡ None → ⊥
+pub last_out : (permits : List Row) (last : Row) (rows : List Row) → AreAll (permits ++ last ∷ []) rows
+    → position (same_row last) rows ≡ None → ⊥
 last_out permits last rows h e =
     let more = sum_by_push (λ x. cond (same_row last x) 1 0) permits last in
     let none = none_counted (same_row last) rows (none_found (same_row last) rows e) in

@@ -35,20 +35,29 @@ names o n = option_map_or (λ d. nat_eq d n) o false
 pub rises_within : (from upto : ℕ) (outs : List Unsettled) → rises from upto outs ≡ true → from ≤ upto
 rises_within from upto [] h = leb-true from upto h
 rises_within from upto (o ∷ rest) h =
-    omega (arith, leb-true from o.seq (and_first (nat_le from o.seq) _ h), rises_within (o.seq + 1) upto rest (and_second (nat_le from o.seq) _ h))
+    omega (
+      arith,
+      leb-true from o.seq (and_first (nat_le from o.seq) _ h),
+      rises_within (o.seq + 1) upto rest
+          (and_second (nat_le from o.seq) _ h),
+    )
 
-pub rises_upto : (from upto more : ℕ) (outs : List Unsettled) → upto ≤ more → rises from upto outs ≡ true → rises from more outs ≡ true
+pub rises_upto : (from upto more : ℕ) (outs : List Unsettled) → upto ≤ more → rises from upto outs ≡ true
+    → rises from more outs ≡ true
 rises_upto from upto more [] le h = le-leb from more (omega (arith, le, leb-true from upto h))
 rises_upto from upto more (o ∷ rest) le h =
-    and_both (nat_le from o.seq) _ (and_first (nat_le from o.seq) _ h) (rises_upto (o.seq + 1) upto more rest le (and_second (nat_le from o.seq) _ h))
+    and_both (nat_le from o.seq) _ (and_first (nat_le from o.seq) _ h)
+    (rises_upto (o.seq + 1) upto more rest le (and_second (nat_le from o.seq) _ h))
 
 front_none : (s upto : ℕ) (outs : List Unsettled) → rises s upto outs ≡ true → front_below s outs ≡ []
 front_none s upto [] h = refl
-front_none s upto (o ∷ rest) h = ap (λ b. if b then o ∷ front_below s rest else []) (le-ltb o.seq s (leb-true s o.seq (and_first (nat_le s o.seq) _ h)))
+front_none s upto (o ∷ rest) h = ap (λ b. if b then o ∷ front_below s rest else [])
+    (le-ltb o.seq s (leb-true s o.seq (and_first (nat_le s o.seq) _ h)))
 
 rest_all : (s upto : ℕ) (outs : List Unsettled) → rises s upto outs ≡ true → rest_from s outs ≡ outs
 rest_all s upto [] h = refl
-rest_all s upto (o ∷ rest) h = ap (λ b. if b then rest_from s rest else o ∷ rest) (le-ltb o.seq s (leb-true s o.seq (and_first (nat_le s o.seq) _ h)))
+rest_all s upto (o ∷ rest) h = ap (λ b. if b then rest_from s rest else o ∷ rest)
+    (le-ltb o.seq s (leb-true s o.seq (and_first (nat_le s o.seq) _ h)))
 
 -- those behind the one of this number, which is the first if it is there
 abbrev behind : (s : ℕ) → List Unsettled → List Unsettled
@@ -56,7 +65,8 @@ behind s [] = []
 behind s (o ∷ rest) = if nat_eq o.seq s then rest else o ∷ rest
 
 -- what is settled with one more record: the first outcome, if it has that record's number
-front_one : (s upto : ℕ) (outs : List Unsettled) → rises s upto outs ≡ true → (n : ℕ) → list_any (λ o. nat_eq o.delivery n) (front_below (s + 1) outs) ≡ names (first_outcome s outs) n
+front_one : (s upto : ℕ) (outs : List Unsettled) → rises s upto outs ≡ true → (n : ℕ)
+    → list_any (λ o. nat_eq o.delivery n) (front_below (s + 1) outs) ≡ names (first_outcome s outs) n
 front_one s upto [] h n = refl
 front_one s upto (o ∷ rest) h n = grind (arith, nat_tests, h, front_none (s + 1) upto rest)
 
@@ -64,7 +74,8 @@ rest_one : (s upto : ℕ) (outs : List Unsettled) → rises s upto outs ≡ true
 rest_one s upto [] h = refl
 rest_one s upto (o ∷ rest) h = grind (arith, nat_tests, h, rest_all (s + 1) upto rest)
 
-rises_behind : (s upto : ℕ) (outs : List Unsettled) → rises s upto outs ≡ true → rises (s + 1) (max upto (s + 1)) (behind s outs) ≡ true
+rises_behind : (s upto : ℕ) (outs : List Unsettled) → rises s upto outs ≡ true
+    → rises (s + 1) (max upto (s + 1)) (behind s outs) ≡ true
 rises_behind s upto [] h = le-leb (s + 1) (max upto (s + 1)) (omega arith)
 rises_behind s upto (o ∷ rest) h =
     let more = λ (n : ℕ). rises_upto n upto (max upto (s + 1)) rest (omega arith) in
@@ -91,7 +102,8 @@ is_left_later book = is_left (book.settled_seq + 1)
 entries_moved : (book : BookValue) → AreApart book
     → (later book).entries ≡ filter (is_left_later book) (map (moved (first book)) book.entries)
 entries_moved book apart = λ i. filter (is_left_later book)
-    (map (λ x. if front_one book.settled_seq book.next_seq book.unsettled apart.in_turn x.seq i then with_latest_settled x else x)
+    (map (λ x. if front_one book.settled_seq book.next_seq book.unsettled apart.in_turn x.seq i then with_latest_settled
+    x else x)
     book.entries)
 
 entry_moved : (book : BookValue) (n : ℕ) → HasOneEach book → AreApart book
@@ -103,7 +115,8 @@ entry_moved book n once apart =
     ap (λ entries. entry_at entries n) (entries_moved book apart)
     ∙ entry_left (is_left_later book) n (map (moved (first book)) book.entries) (omega (arith, counted, once n))
     ∙ ap (if_passes (is_left_later book)) (find_map (moved (first book)) (λ e. nat_eq e.seq n) book.entries
-    ∙ ap (λ test. option_map (moved (first book)) (find test book.entries)) (λ i e. nat_eq (moved_seq (first book) e i) n))
+    ∙ ap (λ test. option_map (moved (first book)) (find test book.entries))
+    (λ i e. nat_eq (moved_seq (first book) e i) n))
 
 -- an entry that the outcome isn't of stays, if it is left
 entry_still : (book : BookValue) (n : ℕ) → HasOneEach book → AreApart book → names (first book) n ≡ false
@@ -115,7 +128,8 @@ entry_still book n once apart other =
     (λ e there. grind (arith, moved, there, other, found_seq book.entries n e there))
 
 -- one that takes an outcome is left
-entry_open : (book : BookValue) (n : ℕ) (e : Entry) → HasOneEach book → IsInStep book → AreApart book → names (first book) n ≡ false
+entry_open : (book : BookValue) (n : ℕ) (e : Entry) → HasOneEach book → IsInStep book → AreApart book
+    → names (first book) n ≡ false
     → entry_at book.entries n ≡ Some e → is_open e ≡ true → entry_at (later book).entries n ≡ Some e
 entry_open book n e once step apart other there opened =
     let left = open_left (book.settled_seq + 1) n book.entries e step.ended there opened in
@@ -128,12 +142,14 @@ entry_open book n e once step apart other there opened =
 abbrev IsBusy : BookValue → ℕ → Type 0
 IsBusy book n = (e : Entry) → entry_at book.entries n ≡ Some e → nat_lt n book.settled_seq && is_open e ≡ false
 
-no_other : (book : BookValue) (outs : List Unsettled) → list_all (is_own book) outs ≡ true → is_some (entry_at book.entries book.settled_seq) ≡ true → first_outcome book.settled_seq outs ≡ None
+no_other : (book : BookValue) (outs : List Unsettled) → list_all (is_own book) outs ≡ true
+    → is_some (entry_at book.entries book.settled_seq) ≡ true → first_outcome book.settled_seq outs ≡ None
 no_other book [] own there = refl
 no_other book (o ∷ rest) own there = grind (arith, nat_tests)
 
 -- the outcome that is settled is of the delivery that is concerned
-concerned_first : (book : BookValue) → AreApart book → (n : ℕ) → names (next_settled book) n ≡ false → names (first book) n ≡ false
+concerned_first : (book : BookValue) → AreApart book → (n : ℕ) → names (next_settled book) n ≡ false
+    → names (first book) n ≡ false
 concerned_first book apart n h = let none = no_other book book.unsettled apart.own in grind (arith, h, none)
 
 -- it was none that waits
@@ -150,19 +166,22 @@ concerned_busy book apart n h e found = by_bool (is_some (entry_at book.entries 
     grind (arith, closed))
 
 -- an entry that isn't concerned counts as settled just if it did before
-settled_same : (book : BookValue) (n : ℕ) → names (next_settled book) n ≡ false → is_some (entry_at book.entries n) ≡ true → nat_lt n (book.settled_seq + 1) ≡ nat_lt n book.settled_seq
+settled_same : (book : BookValue) (n : ℕ) → names (next_settled book) n ≡ false
+    → is_some (entry_at book.entries n) ≡ true → nat_lt n (book.settled_seq + 1) ≡ nat_lt n book.settled_seq
 settled_same book n other there = grind (arith, nat_tests, other, there)
 
 -- The queue
 
-busy_new : (queue : QueueValue) (book : BookValue) (live : List Row) (n : ℕ) → AreHeld queue book live → IsBusy book n → IsNew queue n
+busy_new : (queue : QueueValue) (book : BookValue) (live : List Row) (n : ℕ) → AreHeld queue book live → IsBusy book n
+    → IsNew queue n
 busy_new queue book live n held busy = λ endpoint due.
     let is = held (pair_of endpoint due n) in
     by_option (entry_at book.entries n)
     (λ e. grind (arith, is, e))
     (λ x e. grind (arith, is, e, busy x e, found_seq book.entries n x e))
 
-busy_not_out : (book : BookValue) (live : List Row) (n : ℕ) → list_all (is_under_way book) live ≡ true → IsBusy book n → is_out n live ≡ false
+busy_not_out : (book : BookValue) (live : List Row) (n : ℕ) → list_all (is_under_way book) live ≡ true → IsBusy book n
+    → is_out n live ≡ false
 busy_not_out book [] n each busy = refl
 busy_not_out book (row ∷ live) n each busy =
     let later = busy_not_out book live n (and_second (is_under_way book row) _ each) busy in
@@ -173,7 +192,8 @@ busy_not_out book (row ∷ live) n each busy =
     (λ e. grind (arith, e, later))
 
 -- the pair of a delivery of which no permit is out is the one that waits
-pub idle_waits : (book : BookValue) (live : List Row) (pair : Pair) → is_out pair.seq live ≡ false → waits_as book live pair ≡ option_map_or (same_pair pair) (idle_pair book pair.seq) false
+pub idle_waits : (book : BookValue) (live : List Row) (pair : Pair) → is_out pair.seq live ≡ false
+    → waits_as book live pair ≡ option_map_or (same_pair pair) (idle_pair book pair.seq) false
 idle_waits book live pair free = by_option (entry_at book.entries pair.seq)
     (λ there. grind (arith, there))
     (λ e there.
@@ -193,7 +213,8 @@ idle_seq book d pair h = by_bool (takes_outcome book d)
     (λ takes. absurd (grind (arith, h, takes)))
 
 -- of other deliveries the queue holds what it held
-pub held_other : (old new : QueueValue) (book : BookValue) (next : Option ℕ) (pair : Pair) → HoldsNext old new book next → names next pair.seq ≡ false → is_held new pair ≡ is_held old pair
+pub held_other : (old new : QueueValue) (book : BookValue) (next : Option ℕ) (pair : Pair) → HoldsNext old new book next
+    → names next pair.seq ≡ false → is_held new pair ≡ is_held old pair
 held_other old new book None pair same other = ap (λ (q : QueueValue). is_held q pair) same
 held_other old new book (Some d) pair holds other = by (idle_pair book d) refl holds
   where
@@ -202,7 +223,8 @@ held_other old new book (Some d) pair holds other = by (idle_pair book d) refl h
     by (Some p) e held = grind (arith, held.pairs pair, idle_seq book d p e, other)
 
 -- of that one it holds the pair, if it waits
-pub held_one : (old new : QueueValue) (book : BookValue) (pair : Pair) → IsNew old pair.seq → Holds old new (idle_pair book pair.seq)
+pub held_one : (old new : QueueValue) (book : BookValue) (pair : Pair) → IsNew old pair.seq
+    → Holds old new (idle_pair book pair.seq)
     → is_held new pair ≡ option_map_or (same_pair pair) (idle_pair book pair.seq) false
 held_one old new book pair unheld holds = by (idle_pair book pair.seq) holds
   where
@@ -210,9 +232,10 @@ held_one old new book pair unheld holds = by (idle_pair book pair.seq) holds
     by None same = ap (λ (q : QueueValue). is_held q pair) same ∙ unheld pair.endpoint pair.due
     by (Some p) held = held.pairs pair ∙ ap (λ b. b || same_pair pair p) (unheld pair.endpoint pair.due)
 
--- A delivery that the queue didn't hold, and of which no permit is out, is held if it waits: so the queue holds what it should, where
--- it did so of all others.
-pub held_next : (old new : QueueValue) (book : BookValue) (live : List Row) (next : Option ℕ) → HoldsNext old new book next
+-- A delivery that the queue didn't hold, and of which no permit is out, is held if it waits: so the queue holds what it
+-- should, where it did so of all others.
+pub held_next : (old new : QueueValue) (book : BookValue) (live : List Row) (next : Option ℕ)
+    → HoldsNext old new book next
     → ((n : ℕ) → names next n ≡ true → IsNew old n) → ((n : ℕ) → names next n ≡ true → is_out n live ≡ false)
     → ((pair : Pair) → names next pair.seq ≡ false → is_held old pair ≡ waits_as book live pair) → AreHeld new book live
 held_next old new book live next holds unheld free others = λ pair. by_bool (names next pair.seq)
@@ -221,13 +244,15 @@ held_next old new book live next holds unheld free others = λ pair. by_bool (na
     one_held ∙ sym (idle_waits book live pair (free pair.seq e)))
     (λ e. held_other old new book next pair holds e ∙ others pair e)
   where
-    one : (o : Option ℕ) (pair : Pair) → names o pair.seq ≡ true → HoldsNext old new book o → Holds old new (idle_pair book pair.seq)
+    one : (o : Option ℕ) (pair : Pair) → names o pair.seq ≡ true → HoldsNext old new book o
+        → Holds old new (idle_pair book pair.seq)
     one None pair e h = let wrong : false ≡ true = e in cc
     one (Some d) pair e h = subst (λ n. Holds old new (idle_pair book n)) (eqb-true d pair.seq e) h
 
 -- What ties the queue to the book, once one more record is settled
 
-none_among : (d : ℕ) (outs : List Unsettled) → count_by (λ (o : Unsettled). nat_eq o.delivery d) outs ≡ 0 → list_all (λ (o : Unsettled). not (nat_eq d o.delivery)) outs ≡ true
+none_among : (d : ℕ) (outs : List Unsettled) → count_by (λ (o : Unsettled). nat_eq o.delivery d) outs ≡ 0
+    → list_all (λ (o : Unsettled). not (nat_eq d o.delivery)) outs ≡ true
 none_among d [] h = refl
 none_among d (o ∷ rest) h =
     let counted = sum_by-cons (λ (p : Unsettled). cond (nat_eq p.delivery d) 1 0) o rest in
@@ -243,28 +268,33 @@ others_wait s (o ∷ rest) once = by (nat_eq o.seq s)
     all_not [] = refl
     all_not (p ∷ outs) = all_not outs
 
-    by : (b : Bool) → list_all (λ (p : Unsettled). not (names (if b then Some o.delivery else None) p.delivery)) (if b then rest else o ∷ rest) ≡ true
+    by : (b : Bool) → list_all (λ (p : Unsettled). not (names (if b then Some o.delivery else None) p.delivery))
+        (if b then rest else o ∷ rest) ≡ true
     by true =
         let counted = sum_by-cons (λ (p : Unsettled). cond (nat_eq p.delivery o.delivery) 1 0) o rest in
         none_among o.delivery rest (grind (arith, nat_tests, once o.delivery, counted))
     by false = all_not (o ∷ rest)
 
-all_behind : (test : Unsettled → Bool) (s : ℕ) (outs : List Unsettled) → list_all test outs ≡ true → list_all test (behind s outs) ≡ true
+all_behind : (test : Unsettled → Bool) (s : ℕ) (outs : List Unsettled) → list_all test outs ≡ true
+    → list_all test (behind s outs) ≡ true
 all_behind test s [] h = refl
 all_behind test s (o ∷ rest) h = grind (arith, h)
 
-count_behind : (test : Unsettled → Bool) (s : ℕ) (outs : List Unsettled) → count_by test (behind s outs) ≤ count_by test outs
+count_behind : (test : Unsettled → Bool) (s : ℕ) (outs : List Unsettled)
+    → count_by test (behind s outs) ≤ count_by test outs
 count_behind test s [] = omega arith
 count_behind test s (o ∷ rest) = grind (arith, sum_by-cons (λ p. cond (test p) 1 0) o rest)
 
-all_both : {X : Type 0} (p q r : X → Bool) (xs : List X) → ((x : X) → p x ≡ true → q x ≡ true → r x ≡ true) → list_all p xs ≡ true → list_all q xs ≡ true → list_all r xs ≡ true
+all_both : {X : Type 0} (p q r : X → Bool) (xs : List X) → ((x : X) → p x ≡ true → q x ≡ true → r x ≡ true)
+    → list_all p xs ≡ true → list_all q xs ≡ true → list_all r xs ≡ true
 all_both p q r [] h a b = refl
 all_both p q r (x ∷ xs) h a b = grind (arith, h x, all_both p q r xs h)
 
 not_named : (b : Bool) → not b ≡ true → b ≡ false
 not_named b h = grind arith
 
-both_all : {X : Type 0} (p q : X → Bool) (xs : List X) → list_all p xs ≡ true → list_all q xs ≡ true → list_all (λ x. p x && q x) xs ≡ true
+both_all : {X : Type 0} (p q : X → Bool) (xs : List X) → list_all p xs ≡ true → list_all q xs ≡ true
+    → list_all (λ x. p x && q x) xs ≡ true
 both_all p q [] h k = refl
 both_all p q (x ∷ xs) h k = grind (arith, h, k, both_all p q xs)
 
@@ -278,7 +308,8 @@ all_from least from upto (o ∷ rest) le h =
     (all_from least (o.seq + 1) upto rest (omega (arith, le, first)) (and_second (nat_le from o.seq) _ h))
 
 -- an outcome that still waits, if the one that is settled isn't of its delivery
-still_told : (book : BookValue) (o : Unsettled) → HasOneEach book → AreApart book → names (first book) o.delivery ≡ false
+still_told : (book : BookValue) (o : Unsettled) → HasOneEach book → AreApart book
+    → names (first book) o.delivery ≡ false
     → nat_le (book.settled_seq + 1) o.seq ≡ true → is_of_left book.entries o ≡ true → is_told book o ≡ true
     → is_told (later book) o ≡ true
 still_told book o once apart other later_on left told =
@@ -291,7 +322,8 @@ still_told book o once apart other later_on left told =
 
 apart_settled : (book : BookValue) → HasOneEach book → IsInStep book → AreApart book → AreApart (later book)
 apart_settled book once_each step apart = record {
-  in_turn = ap (rises (book.settled_seq + 1) (max book.next_seq (book.settled_seq + 1))) rest ∙ rises_behind book.settled_seq book.next_seq book.unsettled apart.in_turn;
+  in_turn = ap (rises (book.settled_seq + 1) (max book.next_seq (book.settled_seq + 1))) rest
+      ∙ rises_behind book.settled_seq book.next_seq book.unsettled apart.in_turn;
   told = ap (list_all (is_told (later book))) rest
       ∙ all_both (λ (o : Unsettled). not (names (first book) o.delivery))
       (λ o. nat_le (book.settled_seq + 1) o.seq && (is_of_left book.entries o && is_told book o)) (is_told (later book))
@@ -330,7 +362,8 @@ apart_settled book once_each step apart = record {
         (λ none. grind (arith, moved, none))
         (λ e there. absurd (grind (arith, own, there)))
 
-under_way_settled : (book : BookValue) (live : List Row) → HasOneEach book → IsInStep book → AreApart book → AreUnderWay live book
+under_way_settled : (book : BookValue) (live : List Row) → HasOneEach book → IsInStep book → AreApart book
+    → AreUnderWay live book
     → AreUnderWay live (later book)
 under_way_settled book live once_each step apart way = record { each = all live way.each; once = way.once }
   where
@@ -343,10 +376,12 @@ under_way_settled book live once_each step apart way = record { each = all live 
         (λ none. absurd (grind (arith, h, none)))
         (λ x some.
         let opened : is_open x ≡ true = grind (arith, h, some) in
-        let same = entry_open book row.delivery x once_each step apart (concerned_first book apart row.delivery e) some opened in
+        let same = entry_open book row.delivery x once_each step apart (concerned_first book apart row.delivery e) some
+        opened in
         grind (arith, nat_tests, h, some, same)))
 
-    all : (rows : List Row) → list_all (is_under_way book) rows ≡ true → list_all (is_under_way (later book)) rows ≡ true
+    all : (rows : List Row) → list_all (is_under_way book) rows ≡ true
+        → list_all (is_under_way (later book)) rows ≡ true
     all [] h = refl
     all (row ∷ rows) h = grind (arith, h, still row, all rows)
 
@@ -368,10 +403,12 @@ waits_still book live pair once_each step apart other =
     (λ gone. grind (arith, e, still, gone, closed))))
 
 -- the delivery that is concerned isn't held, and each pending one still has a place
-new_settled : (queue : QueueValue) (book : BookValue) (live : List Row) (n : ℕ) → AreQueued queue book live → names (next_settled book) n ≡ true → IsNew queue n
+new_settled : (queue : QueueValue) (book : BookValue) (live : List Row) (n : ℕ) → AreQueued queue book live
+    → names (next_settled book) n ≡ true → IsNew queue n
 new_settled queue book live n queued e = busy_new queue book live n queued.held (concerned_busy book queued.apart n e)
 
-places_settled : (queue : QueueValue) (book : BookValue) (live : List Row) → AreQueued queue book live → HasPlaces queue (later book)
+places_settled : (queue : QueueValue) (book : BookValue) (live : List Row) → AreQueued queue book live
+    → HasPlaces queue (later book)
 places_settled queue book live queued = λ name.
     omega (
       arith,
@@ -403,24 +440,31 @@ queued_settled old new book live once_each step holds places queued = record {
 
 -- The same, by what the steps of the code give
 
-later_is : (book after : BookValue) (seq : ℕ) → seq ≡ book.settled_seq → after ≡ with_settled book (seq + 1) → after ≡ later book
+later_is : (book after : BookValue) (seq : ℕ) → seq ≡ book.settled_seq → after ≡ with_settled book (seq + 1)
+    → after ≡ later book
 later_is book after seq same is = is ∙ ap (λ n. with_settled book (n + 1)) same
 
-pub new_next : (queue : QueueValue) (book : BookValue) (next : Option ℕ) (d : ℕ) → next ≡ next_settled book → next ≡ Some d → (live : List Row) × AreQueued queue book live → IsNew queue d
-new_next queue book next d told is queued = new_settled queue book queued.0 d queued.1 (ap (λ o. names o d) (sym told ∙ is) ∙ eq-eqb d d refl)
+pub new_next : (queue : QueueValue) (book : BookValue) (next : Option ℕ) (d : ℕ) → next ≡ next_settled book
+    → next ≡ Some d → (live : List Row) × AreQueued queue book live → IsNew queue d
+new_next queue book next d told is queued = new_settled queue book queued.0 d queued.1
+    (ap (λ o. names o d) (sym told ∙ is) ∙ eq-eqb d d refl)
 
 pub places_next : (queue : QueueValue) (book after : BookValue) (seq : ℕ) → seq ≡ book.settled_seq
     → after ≡ with_settled book (seq + 1) → (live : List Row) × AreQueued queue book live → HasPlaces queue after
 places_next queue book after seq same is queued =
-    subst (λ (b : BookValue). HasPlaces queue b) (sym (later_is book after seq same is)) (places_settled queue book queued.0 queued.1)
+    subst (λ (b : BookValue). HasPlaces queue b) (sym (later_is book after seq same is))
+    (places_settled queue book queued.0 queued.1)
 
-pub queued_next : (old new : QueueValue) (book after : BookValue) (seq : ℕ) (next : Option ℕ) → HasOneEach book → IsInStep book → seq ≡ book.settled_seq → after ≡ with_settled book (seq + 1) → next ≡ next_settled book
-    → HoldsNext old new after next → HasPlaces new after → (live : List Row) → AreQueued old book live → AreQueued new after live
+pub queued_next : (old new : QueueValue) (book after : BookValue) (seq : ℕ) (next : Option ℕ) → HasOneEach book
+    → IsInStep book → seq ≡ book.settled_seq → after ≡ with_settled book (seq + 1) → next ≡ next_settled book
+    → HoldsNext old new after next → HasPlaces new after → (live : List Row) → AreQueued old book live
+    → AreQueued new after live
 queued_next old new book after seq next once_each step same is told holds places live queued =
     let there = later_is book after seq same is in
     subst (λ (b : BookValue). AreQueued new b live) (sym there)
     (queued_settled old new book live once_each step
-    (subst (λ o. HoldsNext old new (later book) o) told (subst (λ (b : BookValue). HoldsNext old new b next) there holds))
+    (subst (λ o. HoldsNext old new (later book) o) told
+    (subst (λ (b : BookValue). HoldsNext old new b next) there holds))
     (subst (λ (b : BookValue). HasPlaces new b) there places) queued)
 
 -- One record after the other
@@ -428,20 +472,27 @@ queued_next old new book after seq next once_each step same is told holds places
 pub settles_none : (book : BookValue) (n : ℕ) → n ≡ book.settled_seq → Settles book n book
 settles_none book n is = λ records settled h le. subst (λ m. StandsFor book records m) (sym (is ∙ h.settled_seq)) h
 
-pub settles_more : (book between after : BookValue) (n m : ℕ) → m ≡ n → Settles book n between → Settles between (m + 1) after → Settles book (n + 1) after
+pub settles_more : (book between after : BookValue) (n m : ℕ) → m ≡ n → Settles book n between
+    → Settles between (m + 1) after → Settles book (n + 1) after
 settles_more book between after n m same before more = λ records settled h le.
-    subst (λ k. StandsFor after records (k + 1)) same (more records m (subst (λ k. StandsFor between records k) (sym same) (before records settled h (omega (arith, le)))) (omega (arith, le, same)))
+    subst (λ k. StandsFor after records (k + 1)) same
+    (more records m (subst (λ k. StandsFor between records k) (sym same)
+    (before records settled h (omega (arith, le)))) (omega (arith, le, same)))
 
-pub next_within : (queue : QueueValue) (book : BookValue) → (live : List Row) × AreQueued queue book live → book.settled_seq ≤ book.next_seq
+pub next_within : (queue : QueueValue) (book : BookValue) → (live : List Row) × AreQueued queue book live
+    → book.settled_seq ≤ book.next_seq
 next_within queue book queued = rises_within book.settled_seq book.next_seq book.unsettled queued.1.apart.in_turn
 
 -- What waits behind the records that are settled
 
-pub one_settled : (book new : BookValue) (seq : ℕ) (records : List Record) → IsInStep book → seq ≡ book.settled_seq → new ≡ with_settled book (seq + 1) → HasWaiting book records → HasWaiting new (drop 1 records)
+pub one_settled : (book new : BookValue) (seq : ℕ) (records : List Record) → IsInStep book → seq ≡ book.settled_seq
+    → new ≡ with_settled book (seq + 1) → HasWaiting book records → HasWaiting new (drop 1 records)
 one_settled book new seq records step is made waits =
-    subst (λ (b : BookValue). HasWaiting b (drop 1 records)) (sym (made ∙ ap (λ n. with_settled book (n + 1)) is)) (waiting_settled book records step waits)
+    subst (λ (b : BookValue). HasWaiting b (drop 1 records)) (sym (made ∙ ap (λ n. with_settled book (n + 1)) is))
+    (waiting_settled book records step waits)
 
-pub none_left : (book : BookValue) (settled counter : ℕ) (records : List Record) → counter ≡ settled → HasWaiting book records → HasWaiting book (drop (counter - settled) records)
+pub none_left : (book : BookValue) (settled counter : ℕ) (records : List Record) → counter ≡ settled
+    → HasWaiting book records → HasWaiting book (drop (counter - settled) records)
 none_left book settled counter records is waits =
     let none : 0 ≡ counter - settled = omega (arith, is) in
     subst (λ n. HasWaiting book (drop n records)) none waits
@@ -456,27 +507,32 @@ one_further book settled counter records above waits =
 -- The endpoints of deliveries stay what they are, and those of which an outcome waits are known
 
 -- entries that are changed keep their endpoints
-names_kept : (g : Entry → Entry) (entries : List Entry) (d : ℕ) → ((e : Entry) → (g e).seq ≡ e.seq) → ((e : Entry) → (g e).name ≡ e.name)
-    → option_map (λ (e : Entry). e.name) (entry_at (map g entries) d) ≡ option_map (λ (e : Entry). e.name) (entry_at entries d)
+names_kept : (g : Entry → Entry) (entries : List Entry) (d : ℕ) → ((e : Entry) → (g e).seq ≡ e.seq)
+    → ((e : Entry) → (g e).name ≡ e.name)
+    → option_map (λ (e : Entry). e.name) (entry_at (map g entries) d) ≡ option_map (λ (e : Entry). e.name)
+    (entry_at entries d)
 names_kept g entries d numbers names =
     let found : entry_at (map g entries) d ≡ option_map g (entry_at entries d) =
     find_map g (λ e. nat_eq e.seq d) entries
     ∙ (λ i. option_map g (find (λ (e : Entry). nat_eq (numbers e i) d) entries)) in
     grind (arith, found, names)
 
-pub names_tried : (book : BookValue) (seq d status at n : ℕ) → endpoint_at (with_outcome book seq d status at) n ≡ endpoint_at book n
+pub names_tried : (book : BookValue) (seq d status at n : ℕ) → endpoint_at (with_outcome book seq d status at) n
+    ≡ endpoint_at book n
 names_tried book seq d status at n =
     names_kept (at_delivery d (with_attempt status at)) book.entries n (λ e. grind arith) (λ e. grind arith)
 
 -- the endpoint of a delivery that is left
-pub names_settled : (book : BookValue) (place n : ℕ) → HasOneEach book → is_some (endpoint_at (with_settled book place) n) ≡ true
+pub names_settled : (book : BookValue) (place n : ℕ) → HasOneEach book
+    → is_some (endpoint_at (with_settled book place) n) ≡ true
     → endpoint_at (with_settled book place) n ≡ endpoint_at book n
 names_settled book place n once there =
     let change = at_outcomes (front_below place book.unsettled) with_latest_settled in
     let numbers : (e : Entry) → (change e).seq ≡ e.seq = λ e. grind arith in
     let counted = count-map (λ (e : Entry). nat_eq e.seq n) change book.entries (λ e i. nat_eq (numbers e i) n) in
     let left = entry_left (is_left place) n (map change book.entries) (omega (arith, counted, once n)) in
-    named_left (is_left place) (entry_at (map change book.entries) n) (entry_at (with_settled book place).entries n) left there
+    named_left (is_left place) (entry_at (map change book.entries) n) (entry_at (with_settled book place).entries n)
+    left there
     ∙ names_kept change book.entries n numbers (λ e. grind arith)
   where
     named_left : (p : Entry → Bool) (all some : Option Entry) → some ≡ if_passes p all
@@ -487,18 +543,21 @@ names_settled book place n once there =
         (λ passes. grind (arith, is, passes))
         (λ fails. absurd (grind (arith, is, there, fails)))
 
-pub names_next : (book after : BookValue) (seq : ℕ) → HasOneEach book → after ≡ with_settled book (seq + 1) → HasSameNames book after
+pub names_next : (book after : BookValue) (seq : ℕ) → HasOneEach book → after ≡ with_settled book (seq + 1)
+    → HasSameNames book after
 names_next book after seq once is =
     subst (HasSameNames book) (sym is) (λ n there. names_settled book (seq + 1) n once there)
 
-pub names_further : (old between new : BookValue) → HasSameNames old between → HasSameNames between new → HasSameNames old new
+pub names_further : (old between new : BookValue) → HasSameNames old between → HasSameNames between new
+    → HasSameNames old new
 names_further old between new before more = λ n there.
     let same = more n there in
     same ∙ before n (sym (ap is_some same) ∙ there)
 
 -- the deliveries of which an outcome waits are there, and have the endpoints that they had
 pub named_left : (old new : BookValue) (records : List Record) → HasSameNames old new
-    → ((d : ℕ) → entry_at new.entries d ≡ None → attempts_of records d ≡ []) → AreNamedAlike (endpoint_at old) (endpoint_at new) records
+    → ((d : ℕ) → entry_at new.entries d ≡ None → attempts_of records d ≡ [])
+    → AreNamedAlike (endpoint_at old) (endpoint_at new) records
 named_left old new [] names tried = tt
 named_left old new (Outcome delivery attempt status moment ∷ rest) names tried = (
   ap (λ (o : Option (List ℕ)). if is_gone_status status then o else None) same,
@@ -512,7 +571,8 @@ named_left old new (Outcome delivery attempt status moment ∷ rest) names tried
 named_left old new (r ∷ rest) names tried = (refl, named_left old new rest names tried)
 
 -- no outcome waits of a delivery that isn't there
-pub none_tried : (book : BookValue) (records : List Record) → HasWaiting book records → (d : ℕ) → entry_at book.entries d ≡ None → attempts_of records d ≡ []
+pub none_tried : (book : BookValue) (records : List Record) → HasWaiting book records → (d : ℕ)
+    → entry_at book.entries d ≡ None → attempts_of records d ≡ []
 none_tried book records h d none = subst (AreTries (attempts_of records d)) none (h.tries d)
 
 -- with one more event, the deliveries of which an outcome waits have the endpoints that they had
@@ -537,12 +597,15 @@ named_alike book x later (r ∷ rest) more tried = (refl, named_alike book x lat
 -- Entries, with one more
 
 -- the entry of a number that is there stays
-there_with : (book : BookValue) (x : Entry) (n : ℕ) (e : Entry) → entry_at book.entries n ≡ Some e → entry_at (book.entries ++ x ∷ []) n ≡ Some e
+there_with : (book : BookValue) (x : Entry) (n : ℕ) (e : Entry) → entry_at book.entries n ≡ Some e
+    → entry_at (book.entries ++ x ∷ []) n ≡ Some e
 there_with book x n e h = found_with (λ y. nat_eq y.seq n) book.entries x e h
 
 -- a number that was not there is there as the new entry alone
-new_alone : (book : BookValue) (x : Entry) (n : ℕ) → entry_at book.entries n ≡ None → entry_at (book.entries ++ x ∷ []) n ≡ cond (nat_eq x.seq n) (Some x) None
-new_alone book x n h = find-append (λ y. nat_eq y.seq n) book.entries (x ∷ []) ∙ ap (λ o. option_or o (cond (nat_eq x.seq n) (Some x) None)) h
+new_alone : (book : BookValue) (x : Entry) (n : ℕ) → entry_at book.entries n ≡ None
+    → entry_at (book.entries ++ x ∷ []) n ≡ cond (nat_eq x.seq n) (Some x) None
+new_alone book x n h = find-append (λ y. nat_eq y.seq n) book.entries (x ∷ [])
+    ∙ ap (λ o. option_or o (cond (nat_eq x.seq n) (Some x) None)) h
 
 -- a test of an entry that is there, where none is there it fails
 kept_with : (test : Entry → Bool) (book : BookValue) (x : Entry) (n : ℕ)
@@ -560,7 +623,8 @@ same_with test book x n fails =
 
 -- Outcomes that wait
 
-outcomes_below : (from upto : ℕ) (outs : List Unsettled) → rises from upto outs ≡ true → list_all (λ o. nat_lt o.seq upto) outs ≡ true
+outcomes_below : (from upto : ℕ) (outs : List Unsettled) → rises from upto outs ≡ true
+    → list_all (λ o. nat_lt o.seq upto) outs ≡ true
 outcomes_below from upto [] h = refl
 outcomes_below from upto (o ∷ rest) h =
     let later = and_second (nat_le from o.seq) _ h in
@@ -572,11 +636,14 @@ own_with book x o above below own =
     let alone = new_alone book x o.seq in
     grind (arith, nat_tests, own, alone, above, below)
 
-both_pass : (p q r : Unsettled → Bool) (outs : List Unsettled) → ((o : Unsettled) → p o ≡ true → q o ≡ true → r o ≡ true) → list_all p outs ≡ true → list_all q outs ≡ true → list_all r outs ≡ true
+both_pass : (p q r : Unsettled → Bool) (outs : List Unsettled)
+    → ((o : Unsettled) → p o ≡ true → q o ≡ true → r o ≡ true) → list_all p outs ≡ true → list_all q outs ≡ true
+    → list_all r outs ≡ true
 both_pass p q r [] h a b = refl
 both_pass p q r (o ∷ rest) h a b = grind (arith, h o, both_pass p q r rest h)
 
-apart_taken : (book : BookValue) (s : ℕ) (name id body : List ℕ) (at : ℕ) → book.next_seq ≤ s → AreApart book → AreApart (with_event book s name id body at)
+apart_taken : (book : BookValue) (s : ℕ) (name id body : List ℕ) (at : ℕ) → book.next_seq ≤ s → AreApart book
+    → AreApart (with_event book s name id body at)
 apart_taken book s name id body at above h = record {
   in_turn = rises_upto book.settled_seq book.next_seq (s + 1) book.unsettled (omega (arith, above)) h.in_turn;
   told = all_weaker (is_told book) (is_told (with_event book s name id body at)) book.unsettled
@@ -590,11 +657,13 @@ apart_taken book s name id body at above h = record {
 
 -- Attempts that are under way
 
-under_way_taken : (book : BookValue) (live : List Row) (s : ℕ) (name id body : List ℕ) (at : ℕ) → AreUnderWay live book → AreUnderWay live (with_event book s name id body at)
+under_way_taken : (book : BookValue) (live : List Row) (s : ℕ) (name id body : List ℕ) (at : ℕ) → AreUnderWay live book
+    → AreUnderWay live (with_event book s name id body at)
 under_way_taken book live s name id body at h = record {
   each = all_weaker (is_under_way book) (is_under_way (with_event book s name id body at)) live (λ row t.
       and_both (nat_lt row.delivery book.settled_seq) _ (and_first (nat_lt row.delivery book.settled_seq) _ t)
-      (kept_with (is_entry_of row) book (new_entry s name id body at) row.delivery (and_second (nat_lt row.delivery book.settled_seq) _ t))) h.each;
+      (kept_with (is_entry_of row) book (new_entry s name id body at) row.delivery
+      (and_second (nat_lt row.delivery book.settled_seq) _ t))) h.each;
   once = h.once;
 }
 
@@ -618,7 +687,8 @@ places_taken queue new book s name id body at same sets places n = by_name name 
     x = new_entry s name id body at
 
     counted : count_by (is_unheld new n) book.entries ≡ count_by (is_unheld queue n) book.entries
-    counted i = count_by (λ (e : Entry). bytes_eq e.name n && (is_in_state Pending (state_in e.latest) && not (same (own_pair e) i))) book.entries
+    counted i = count_by (λ (e : Entry). bytes_eq e.name n
+        && (is_in_state Pending (state_in e.latest) && not (same (own_pair e) i))) book.entries
 
     own : name ≡ n → count_by (is_unheld new n) (book.entries ++ x ∷ []) ≤ free_places new n
     own is =
@@ -638,36 +708,50 @@ pub tied_accept : {endpoints : endpoint_entries.BookValue} {deliveries : BookVal
     {live : List Row} {limiters : List Limiter} {queue new : QueueValue} (s : ℕ) (name id kept body : List ℕ) (at : ℕ)
     → record_count waiting + length live < MAX_RECORDS → deliveries.next_seq ≤ s → deliveries.settled_seq ≤ s
     → HasSamePairs queue new → SetsMark queue new (reserved_mark queue name (pending_in deliveries name + 1))
-    → AreTied endpoints deliveries waiting live limiters queue → AreTied endpoints (with_event deliveries s name id kept at) (with_step waiting (Accept name id body at ∷ [])) live limiters new
-tied_accept {endpoints} {deliveries} {waiting} {live} {limiters} {queue} {new} s name id kept body at numbers above behind same sets h = record {
-  limited = h.limited;
-  room = room_requested waiting live (Accept name id body at) refl h.room numbers;
-  marked = marked_reserved queue new endpoints limiters live name (pending_in deliveries name + 1) h.limited sets h.marked;
-  queued = record {
-    apart = apart_taken deliveries s name id kept at above h.queued.apart;
-    under_way = under_way_taken deliveries live s name id kept at h.queued.under_way;
-    held = λ pair. same pair ∙ h.queued.held pair ∙ waits_taken deliveries live s name id kept at pair behind;
-    places = places_taken queue new deliveries s name id kept at same sets h.queued.places;
-  };
-}
+    → AreTied endpoints deliveries waiting live limiters queue
+    → AreTied endpoints (with_event deliveries s name id kept at) (with_step waiting (Accept name id body at ∷ []))
+    live limiters new
+tied_accept {endpoints} {deliveries} {waiting} {live} {limiters} {queue} {new} s name id kept body at numbers above
+    behind same sets h = record {
+      limited = h.limited;
+      room = room_requested waiting live (Accept name id body at) refl h.room numbers;
+      marked = marked_reserved queue new endpoints limiters live name (pending_in deliveries name + 1) h.limited sets
+          h.marked;
+      queued = record {
+        apart = apart_taken deliveries s name id kept at above h.queued.apart;
+        under_way = under_way_taken deliveries live s name id kept at h.queued.under_way;
+        held = λ pair. same pair ∙ h.queued.held pair ∙ waits_taken deliveries live s name id kept at pair behind;
+        places = places_taken queue new deliveries s name id kept at same sets h.queued.places;
+      };
+    }
 
 pub desk_accept : {endpoints : endpoint_entries.BookValue} {deliveries taken : BookValue} {waiting later : WaitingValue}
     {live : List Row} {limiters : List Limiter} {queue new : QueueValue} (s : ℕ) (name id kept body : List ℕ)
     (at pending : ℕ)
-    → s ≡ record_count waiting → kept ≡ body → taken ≡ with_event deliveries s name id kept at → later ≡ with_step waiting (Accept name id body at ∷ []) → pending ≡ pending_in deliveries name
-    → record_count waiting + length live < MAX_RECORDS → HasSamePairs queue new → SetsMark queue new (reserved_mark queue name (pending + 1))
+    → s ≡ record_count waiting → kept ≡ body → taken ≡ with_event deliveries s name id kept at → later
+    ≡ with_step waiting (Accept name id body at ∷ []) → pending ≡ pending_in deliveries name
+    → record_count waiting + length live < MAX_RECORDS → HasSamePairs queue new
+    → SetsMark queue new (reserved_mark queue name (pending + 1))
     → IsDesk endpoints deliveries waiting live limiters queue → IsDesk endpoints taken later live limiters new
-desk_accept {endpoints} {deliveries} {taken} {waiting} {later} {live} {limiters} {queue} {new} s name id kept body at pending count shared is step few numbers same sets h =
+desk_accept {endpoints} {deliveries} {taken} {waiting} {later} {live} {limiters} {queue} {new} s name id kept body
+    at pending count shared is step few numbers same sets h =
     subst (λ w. IsDesk endpoints taken w live limiters new) (sym step)
-    (deliveries_wait (Accept name id body at) h (ap (λ (b : BookValue). b.next_seq) is ∙ ap (λ n. n + 1) count) (ap (λ (b : BookValue). b.settled_seq) is)
-    (subst (λ (b : BookValue). HasWaiting b (records_of waiting.waiting ++ Accept name id body at ∷ [])) (sym (is ∙ ap (λ bytes. with_event deliveries s name id bytes at) shared))
-    (waiting_event deliveries (records_of waiting.waiting) s name id body at (omega (arith, count, h.deliveries_settled)) h.deliveries_wait))
-    (subst (λ (b : BookValue). HasChanges (endpoint_at b) endpoints (records_of waiting.waiting ++ Accept name id body at ∷ [])) (sym is)
-    (changes_other (endpoint_at (with_event deliveries s name id kept at)) endpoints (records_of waiting.waiting) (Accept name id body at) refl
-    (changes_named (endpoint_at deliveries) (endpoint_at (with_event deliveries s name id kept at)) endpoints (records_of waiting.waiting)
+    (deliveries_wait (Accept name id body at) h (ap (λ (b : BookValue). b.next_seq) is ∙ ap (λ n. n + 1) count)
+    (ap (λ (b : BookValue). b.settled_seq) is)
+    (subst (λ (b : BookValue). HasWaiting b (records_of waiting.waiting ++ Accept name id body at ∷ []))
+    (sym (is ∙ ap (λ bytes. with_event deliveries s name id bytes at) shared))
+    (waiting_event deliveries (records_of waiting.waiting) s name id body
+    at (omega (arith, count, h.deliveries_settled)) h.deliveries_wait))
+    (subst (λ (b : BookValue). HasChanges (endpoint_at b) endpoints
+    (records_of waiting.waiting ++ Accept name id body at ∷ [])) (sym is)
+    (changes_other (endpoint_at (with_event deliveries s name id kept at)) endpoints (records_of waiting.waiting)
+    (Accept name id body at) refl
+    (changes_named (endpoint_at deliveries) (endpoint_at (with_event deliveries s name id kept at)) endpoints
+    (records_of waiting.waiting)
     (named_alike deliveries (new_entry s name id kept at) (with_event deliveries s name id kept at)
     (records_of waiting.waiting) refl (none_tried deliveries (records_of waiting.waiting) h.deliveries_wait))
     h.endpoints_wait)))
     (subst (λ b. AreTied endpoints b (with_step waiting (Accept name id body at ∷ [])) live limiters new) (sym is)
-    (tied_accept s name id kept body at numbers (omega (arith, count, h.deliveries_staged)) (omega (arith, count, h.deliveries_settled)) same
+    (tied_accept s name id kept body at numbers (omega (arith, count, h.deliveries_staged))
+    (omega (arith, count, h.deliveries_settled)) same
     (subst (λ n. SetsMark queue new (reserved_mark queue name (n + 1))) few sets) h.tied)))

@@ -11,15 +11,18 @@ use Rattle.std.proofs.lemmas.List.Sums.{sum_by-append, sum_by-cons}
 use Rattle.relay_types.proofs.KnownLaws.{and_first}
 use Rattle.relay_types.specs.declared.state.State.TheVariants.{Pending}
 use Rattle.relay_types.specs.declared.record.Record.{Record}
-use Rattle.relay_types.specs.declared.record.Record.TheVariants.{Put, Secrets, Enabled, Accept, Outcome, Subscribed, Purge}
+use Rattle.relay_types.specs.declared.record.Record.TheVariants.{Put, Secrets, Enabled, Accept, Outcome, Subscribed}
+use Rattle.relay_types.specs.declared.record.Record.TheVariants.{Purge}
 use Rattle.relay_types.specs.Records.{Attempt, attempt_by, numbered}
 use Rattle.relay_types.specs.Judging.{is_delivered_status, is_failed_status}
-use Rattle.relay_types.specs.Deliveries.{attempts_of, is_accept_as, is_in_state, is_past, is_purged, known_as, purge_among}
+use Rattle.relay_types.specs.Deliveries.{attempts_of, is_accept_as, is_in_state, is_past, is_purged, known_as}
+use Rattle.relay_types.specs.Deliveries.{purge_among}
 use Rattle.relay_types.specs.Deliveries.{state_of, takes}
 use Rattle.delivery_book.specs.declared.entry.Entry.{Entry}
 use Rattle.delivery_book.specs.declared.entry.Unsettled.{Unsettled}
 use Rattle.delivery_book.specs.Entries.{entry_at, kept_at, is_ended, is_kept, is_left, is_of_left, is_open, marked}
-use Rattle.delivery_book.specs.Entries.{BookValue, failed_among, is_delivered_among, latest_row, row_in, state_by, state_in}
+use Rattle.delivery_book.specs.Entries.{BookValue, failed_among, is_delivered_among, latest_row, row_in, state_by}
+use Rattle.delivery_book.specs.Entries.{state_in}
 
 -- Entries of one number
 
@@ -62,7 +65,8 @@ pub kept_if : (n : ℕ) (xs : List Entry) (e : Entry) → list_all is_ended xs �
 kept_if n [] e ended found pending = absurd (let no = found in cc)
 kept_if n (x ∷ xs) e ended found pending = grind (arith, ended, found, pending, kept_if n xs e)
 
-pub kept_there : (n : ℕ) (xs : List Entry) (e : Entry) → entry_at xs n ≡ Some e → is_kept e ≡ true → kept_at xs n ≡ Some e
+pub kept_there : (n : ℕ) (xs : List Entry) (e : Entry) → entry_at xs n ≡ Some e → is_kept e ≡ true
+    → kept_at xs n ≡ Some e
 kept_there n [] e found kept = absurd (let no = found in cc)
 kept_there n (x ∷ xs) e found kept = grind (arith, found, kept, kept_there n xs e)
 
@@ -85,7 +89,8 @@ left_on s xs o e later left found = by e.taken_by refl
     by (Some purge) is = grind (arith, nat_tests, later, left, found, is)
 
 -- the row of one that takes an outcome
-pub latest_open : (book : BookValue) (d : ℕ) (e : Entry) → list_all is_ended book.entries ≡ true → entry_at book.entries d ≡ Some e
+pub latest_open : (book : BookValue) (d : ℕ) (e : Entry) → list_all is_ended book.entries ≡ true
+    → entry_at book.entries d ≡ Some e
     → is_open e ≡ true → latest_row book d ≡ Some (row_in e.latest e)
 latest_open book d e ended found opened =
     let kept = kept_if d book.entries e ended found (and_first (is_in_state Pending (state_in e.latest)) _ opened) in
@@ -93,7 +98,8 @@ latest_open book d e ended found opened =
 
 -- Marks
 
-pub marked_at : (seq moment n : ℕ) (xs : List Entry) → entry_at (map (marked seq moment) xs) n ≡ option_map (marked seq moment) (entry_at xs n)
+pub marked_at : (seq moment n : ℕ) (xs : List Entry) → entry_at (map (marked seq moment) xs) n ≡ option_map
+    (marked seq moment) (entry_at xs n)
 marked_at seq moment n [] = refl
 marked_at seq moment n (x ∷ xs) = grind (arith, marked_at seq moment n xs)
 
@@ -113,7 +119,8 @@ pending_before some more pending =
 not_past : (moment : ℕ) (attempts : List Attempt) → is_pending_after attempts ≡ true → is_past moment attempts ≡ false
 not_past moment attempts pending = grind (arith, pending)
 
-takes_none : (before : List Record) (d : ℕ) (entry : Record) → is_pending_after (attempts_of before d) ≡ true → takes before d entry ≡ false
+takes_none : (before : List Record) (d : ℕ) (entry : Record) → is_pending_after (attempts_of before d) ≡ true
+    → takes before d entry ≡ false
 takes_none before d (Purge moment) pending = not_past moment (attempts_of before d) pending
 takes_none before d (Put name target max secrets) pending = refl
 takes_none before d (Secrets name secrets) pending = refl
@@ -128,20 +135,24 @@ none_among before [] d pending = refl
 none_among before (r ∷ later) d pending =
     let first = pending_before (attempts_of before d) (attempts_of (r ∷ later) d)
     (sym (ap is_pending_after (filter_map-append (attempt_by d) before (r ∷ later))) ∙ pending) in
-    ap (λ b. is_some (if b then Some (length before) else purge_among (before ++ r ∷ []) later d)) (takes_none before d r first)
+    ap (λ b. is_some (if b then Some (length before) else purge_among (before ++ r ∷ []) later d))
+    (takes_none before d r first)
     ∙ none_among (before ++ r ∷ []) later d
     (ap (λ records. is_pending_after (attempts_of records d)) (append_assoc before (r ∷ []) later) ∙ pending)
 
 -- no Purge took what is pending
-pub unpurged_while_pending : (records : List Record) (d : ℕ) → is_in_state Pending (state_of records d) ≡ true → is_purged records d ≡ false
+pub unpurged_while_pending : (records : List Record) (d : ℕ) → is_in_state Pending (state_of records d) ≡ true
+    → is_purged records d ≡ false
 unpurged_while_pending records d pending = none_among [] records d pending
 
 -- what is known by an id was taken by none
-pub known_unpurged : (records : List Record) (name id : List ℕ) (d : ℕ) → known_as records name id ≡ Some d → is_purged records d ≡ false
+pub known_unpurged : (records : List Record) (name id : List ℕ) (d : ℕ) → known_as records name id ≡ Some d
+    → is_purged records d ≡ false
 known_unpurged records name id d known = by (numbered records) known
   where
     by : (es : List (ℕ × Record))
-        → option_map (λ (e : ℕ × Record). e.0) (find (λ (e : ℕ × Record). is_accept_as name id e.1 && not (is_purged records e.0)) es) ≡ Some d
+        → option_map (λ (e : ℕ × Record). e.0)
+        (find (λ (e : ℕ × Record). is_accept_as name id e.1 && not (is_purged records e.0)) es) ≡ Some d
         → is_purged records d ≡ false
     by [] h = absurd (let no = h in cc)
     by (e ∷ es) h = grind (arith, h, by es)

@@ -29,10 +29,12 @@ holds_rooms queue new (Some pair) holds = record {
 }
 
 -- the room of one endpoint is told, and that of the others was right
-pub marked_told : (queue new : QueueValue) (book : endpoint_entries.BookValue) (limiters : List Limiter) (live : List Row) (name : List ℕ)
+pub marked_told : (queue new : QueueValue) (book : endpoint_entries.BookValue) (limiters : List Limiter)
+    (live : List Row) (name : List ℕ)
     → ChangesMark queue new name (with_room (room_by book limiters live name))
     → ((n : List ℕ) → IsTrue (endpoint_entries.is_known book n) → IsTrue (is_reserved queue n))
-    → ((n : List ℕ) → bytes_eq name n ≡ false → IsTrue (is_reserved queue n) → has_room_in queue.marks n ≡ room_by book limiters live n)
+    → ((n : List ℕ) → bytes_eq name n ≡ false → IsTrue (is_reserved queue n)
+    → has_room_in queue.marks n ≡ room_by book limiters live n)
     → IsTrue (list_all (λ row. endpoint_entries.is_known book row.endpoint) live) → AreMarked new book limiters live
 marked_told queue new book limiters live name changes known others rows = record {
   listed = rows;
@@ -41,7 +43,8 @@ marked_told queue new book limiters live name changes known others rows = record
 }
 
 -- Telling a room changes no pair and no place.
-pub held_told : (queue new : QueueValue) (book : BookValue) (live : List Row) → HasSamePairs queue new → AreHeld queue book live → AreHeld new book live
+pub held_told : (queue new : QueueValue) (book : BookValue) (live : List Row) → HasSamePairs queue new
+    → AreHeld queue book live → AreHeld new book live
 held_told queue new book live same held = λ pair. same pair ∙ held pair
 
 -- the places that are enough stay so, where the same pairs are held
@@ -49,7 +52,8 @@ pub places_kept : (queue new : QueueValue) (book : BookValue) → HasSamePairs q
     → HasPlaces queue book → HasPlaces new book
 places_kept queue new book same keeps places = λ n.
     let counted : count_by (is_unheld new n) book.entries ≡ count_by (is_unheld queue n) book.entries =
-    λ i. count_by (λ (e : Entry). bytes_eq e.name n && (is_in_state Pending (state_in e.latest) && not (same (own_pair e) i))) book.entries in
+    λ i. count_by (λ (e : Entry). bytes_eq e.name n
+    && (is_in_state Pending (state_in e.latest) && not (same (own_pair e) i))) book.entries in
     omega (arith, counted, keeps n, places n)
 
 pub places_told : (queue new : QueueValue) (book : BookValue) (name : List ℕ) (room : Bool) → HasSamePairs queue new
@@ -59,12 +63,15 @@ places_told queue new book name room same changes places =
 
 -- An attempt begins
 
-out_more : (d : ℕ) (live : List Row) (row : Row) → is_out d (live ++ row ∷ []) ≡ (is_out d live || nat_eq row.delivery d)
+out_more : (d : ℕ) (live : List Row) (row : Row)
+    → is_out d (live ++ row ∷ []) ≡ (is_out d live || nat_eq row.delivery d)
 out_more d live row = grind (arith, list_any-append (λ (r : Row). nat_eq r.delivery d) live (row ∷ []))
 
-all_more : (test : Row → Bool) (live : List Row) (row : Row) → list_all test live ≡ true → test row ≡ true → list_all test (live ++ row ∷ []) ≡ true
+all_more : (test : Row → Bool) (live : List Row) (row : Row) → list_all test live ≡ true → test row ≡ true
+    → list_all test (live ++ row ∷ []) ≡ true
 all_more test [] row h e = and_both (test row) true e refl
-all_more test (r ∷ live) row h e = and_both (test r) _ (and_first (test r) _ h) (all_more test live row (and_second (test r) _ h) e)
+all_more test (r ∷ live) row h e = and_both (test r) _ (and_first (test r) _ h)
+    (all_more test live row (and_second (test r) _ h) e)
 
 once_more : (live : List Row) (row : Row) → ((d : ℕ) → count_by (λ (r : Row). nat_eq r.delivery d) live ≤ 1)
     → is_out row.delivery live ≡ false → (d : ℕ) → count_by (λ (r : Row). nat_eq r.delivery d) (live ++ row ∷ []) ≤ 1
@@ -78,8 +85,10 @@ once_more live row once free d =
     (λ e. omega (arith, pushed, once d, ap {B = ℕ} (λ b. cond b 1 0) e))
 
 -- the pairs that are held, once the pair of a delivery is let go and an attempt at it is under way
-pub held_started : {d : DeskValue} {queue new : QueueValue} (name : List ℕ) (s due : ℕ) (row : Row) → StartsFrom d name s → row.delivery ≡ s → waits_as d.deliveries d.live (pair_of name due s) ≡ true
-    → LetsPairGo queue new (pair_of name due s) → AreHeld queue d.deliveries d.live → AreHeld new d.deliveries (d.live ++ row ∷ [])
+pub held_started : {d : DeskValue} {queue new : QueueValue} (name : List ℕ) (s due : ℕ) (row : Row)
+    → StartsFrom d name s → row.delivery ≡ s → waits_as d.deliveries d.live (pair_of name due s) ≡ true
+    → LetsPairGo queue new (pair_of name due s) → AreHeld queue d.deliveries d.live
+    → AreHeld new d.deliveries (d.live ++ row ∷ [])
 held_started {d} {queue} {new} name s due row from is own lets held = λ pair.
     by_option (entry_at d.deliveries.entries pair.seq)
     (λ e. grind (arith, lets.pairs pair, held pair, e))
@@ -114,21 +123,24 @@ under_way_started {d} name s row from is named h =
       once = once_more d.live row h.once (ap (λ n. is_out n d.live) is ∙ from.free);
     }
 
-pub room_started : {d : DeskValue} (name : List ℕ) (s : ℕ) (row : Row) → StartsFrom d name s → record_count d.waiting + length d.live < MAX_RECORDS → HasRoomForAll d.waiting (d.live ++ row ∷ [])
+pub room_started : {d : DeskValue} (name : List ℕ) (s : ℕ) (row : Row) → StartsFrom d name s
+    → record_count d.waiting + length d.live < MAX_RECORDS → HasRoomForAll d.waiting (d.live ++ row ∷ [])
 room_started {d} name s row from numbers = record {
   places = omega (arith, length-append d.live (row ∷ []), from.place);
   numbers = omega (arith, length-append d.live (row ∷ []), numbers);
 }
 
 -- the pair of the delivery is let go
-lets_own : {d : DeskValue} (queue gone : QueueValue) (name : List ℕ) (s : ℕ) → AreHeld queue d.deliveries d.live → StartsFrom d name s → LetsGo queue gone (pair_in d.deliveries s) → (due : ℕ)
+lets_own : {d : DeskValue} (queue gone : QueueValue) (name : List ℕ) (s : ℕ) → AreHeld queue d.deliveries d.live
+    → StartsFrom d name s → LetsGo queue gone (pair_in d.deliveries s) → (due : ℕ)
     × LetsPairGo queue gone (pair_of name due s)
     × (waits_as d.deliveries d.live (pair_of name due s) ≡ true)
 lets_own {d} queue gone name s held from lets =
     let p = pair_held queue name s held from in
     (p.0, subst (LetsGo queue gone) p.1 lets, sym (held (pair_of name p.0 s)) ∙ p.2)
 
-pub still_reserved : {d : DeskValue} {queue : QueueValue} (gone : QueueValue) (name : List ℕ) (s : ℕ) → AreTied d.endpoints d.deliveries d.waiting d.live d.limiters queue → StartsFrom d name s
+pub still_reserved : {d : DeskValue} {queue : QueueValue} (gone : QueueValue) (name : List ℕ) (s : ℕ)
+    → AreTied d.endpoints d.deliveries d.waiting d.live d.limiters queue → StartsFrom d name s
     → LetsGo queue gone (pair_in d.deliveries s) → is_reserved gone name ≡ true
 still_reserved {d} {queue} gone name s tied from lets =
     let own = lets_own queue gone name s tied.queued.held from lets in
@@ -138,8 +150,10 @@ still_reserved {d} {queue} gone name s tied from lets =
 -- the desk once an attempt at the delivery is under way
 pub desk_started : {d : DeskValue} {queue : QueueValue} (gone new : QueueValue) (name : List ℕ) (s : ℕ)
     (live : List Row) → IsDesk d.endpoints d.deliveries d.waiting d.live d.limiters queue → StartsFrom d name s
-    → record_count d.waiting + length d.live < MAX_RECORDS → live ≡ d.live ++ next_row name s d.live ∷ [] → LetsGo queue gone (pair_in d.deliveries s) → HasPlaces gone d.deliveries
-    → HasSamePairs gone new → ChangesMark gone new name (with_room (room_by d.endpoints d.limiters live name)) → IsDesk d.endpoints d.deliveries d.waiting live d.limiters new
+    → record_count d.waiting + length d.live < MAX_RECORDS → live ≡ d.live ++ next_row name s d.live ∷ []
+    → LetsGo queue gone (pair_in d.deliveries s) → HasPlaces gone d.deliveries
+    → HasSamePairs gone new → ChangesMark gone new name (with_room (room_by d.endpoints d.limiters live name))
+    → IsDesk d.endpoints d.deliveries d.waiting live d.limiters new
 desk_started {d} {queue} gone new name s live h from numbers is lets places same told =
     let known = endpoint_known name s tied.limited from in
     let listed =
@@ -172,12 +186,19 @@ desk_started {d} {queue} gone new name s live h from numbers is lets places same
     more : List Row
     more = d.live ++ row ∷ []
 
-    own : (due : ℕ) × LetsPairGo queue gone (pair_of name due s) × (waits_as d.deliveries d.live (pair_of name due s) ≡ true)
+    own : (due : ℕ) × LetsPairGo queue gone (pair_of name due s)
+        × (waits_as d.deliveries d.live (pair_of name due s) ≡ true)
     own = lets_own queue gone name s tied.queued.held from lets
 
-    same_room : (n : List ℕ) → bytes_eq name n ≡ false → room_by d.endpoints d.limiters d.live n ≡ room_by d.endpoints d.limiters more n
+    same_room : (n : List ℕ) → bytes_eq name n ≡ false → room_by d.endpoints d.limiters d.live n ≡ room_by d.endpoints
+        d.limiters more n
     same_room n other =
-        let count : in_flight_of n d.live ≡ in_flight_of n more = omega (arith, sum_by_push (λ (r : Row). cond (bytes_eq r.endpoint n) 1 0) d.live row, ap {B = ℕ} (λ b. cond b 1 0) other) in
+        let count : in_flight_of n d.live ≡ in_flight_of n more = omega (
+          arith,
+          sum_by_push (λ (r : Row). cond (bytes_eq r.endpoint n) 1 0) d.live row,
+          ap {B = ℕ}
+              (λ b. cond b 1 0) other,
+        ) in
         ap (λ k. enabled_in d.endpoints n && nat_lt k (limit_by d.limiters n)) count
 
 -- What ties the deliveries to the queue and the permits, once an attempt is over
@@ -221,7 +242,8 @@ takes_as book d step takes = by_option (entry_at book.entries d)
     (λ none. absurd (grind (arith, takes, none)))
     (λ e there. (e, there, latest_open book d e step.ended there (grind (arith, takes, there))))
 
-pub next_is : (book : BookValue) (d : ℕ) (row : BookRow) → IsInStep book → takes_outcome book d ≡ true → Some row ≡ latest_row book d
+pub next_is : (book : BookValue) (d : ℕ) (row : BookRow) → IsInStep book → takes_outcome book d ≡ true
+    → Some row ≡ latest_row book d
     → row.attempts + 1 ≡ attempt_in book d
 next_is book d row step takes rows =
     let own = takes_as book d step takes in
@@ -240,11 +262,13 @@ change d status at = at_delivery d (with_attempt status at)
 numbers : (d status at : ℕ) (e : Entry) → (change d status at e).seq ≡ e.seq
 numbers d status at e = grind arith
 
-pub entry_tried : (entries : List Entry) (d status at s : ℕ) → entry_at (map (change d status at) entries) s ≡ option_map (change d status at) (entry_at entries s)
+pub entry_tried : (entries : List Entry) (d status at s : ℕ) → entry_at (map (change d status at) entries) s
+    ≡ option_map (change d status at) (entry_at entries s)
 entry_tried entries d status at s = find_map (change d status at) (λ e. nat_eq e.seq s) entries
     ∙ (λ i. option_map (change d status at) (find (λ (e : Entry). nat_eq (numbers d status at e i) s) entries))
 
-pub entry_other : (entries : List Entry) (d status at s : ℕ) → nat_eq d s ≡ false → entry_at (map (change d status at) entries) s ≡ entry_at entries s
+pub entry_other : (entries : List Entry) (d status at s : ℕ) → nat_eq d s ≡ false
+    → entry_at (map (change d status at) entries) s ≡ entry_at entries s
 entry_other entries d status at s apart =
     let tried = entry_tried entries d status at s in
     grind (arith, tried, apart, found_seq entries s)
@@ -260,9 +284,11 @@ more_attempts : (n m : ℕ) → nat_eq n m ≡ true → nat_eq (n + 1) m ≡ fal
 more_attempts n m e = ne_eqb (n + 1) m (λ same. absurd (omega (arith, same, eqb-true n m e)))
 
 attempts_same : (e : Entry) → is_open e ≡ true → nat_eq e.latest.attempts e.settled.attempts ≡ true
-attempts_same e opened = and_second (is_in_state Pending (state_in e.latest)) (nat_eq e.latest.attempts e.settled.attempts) opened
+attempts_same e opened = and_second (is_in_state Pending (state_in e.latest))
+    (nat_eq e.latest.attempts e.settled.attempts) opened
 
-pub takes_none : (book : BookValue) (row : Row) (seq status at : ℕ) → UnderWay book row → takes_outcome (with_outcome book seq row.delivery status at) row.delivery ≡ false
+pub takes_none : (book : BookValue) (row : Row) (seq status at : ℕ) → UnderWay book row
+    → takes_outcome (with_outcome book seq row.delivery status at) row.delivery ≡ false
 takes_none book row seq status at u =
     let own = entry_own book row status at u in
     grind (arith, nat_tests, own, u.opened)
@@ -270,16 +296,21 @@ takes_none book row seq status at u =
 -- The outcomes that wait
 
 -- an outcome that waits is of another delivery
-told_other : (book : BookValue) (row : Row) (o : Unsettled) → UnderWay book row → is_told book o ≡ true → nat_eq row.delivery o.delivery ≡ false
+told_other : (book : BookValue) (row : Row) (o : Unsettled) → UnderWay book row → is_told book o ≡ true
+    → nat_eq row.delivery o.delivery ≡ false
 told_other book row o u told =
     let same = attempts_same u.entry u.opened in
     grind (arith, nat_tests, told, u.there, same)
 
-rises_more : (from upto n d : ℕ) (os : List Unsettled) → rises from upto os ≡ true → upto ≤ n → rises from (n + 1) (os ++ record { seq = n; delivery = d } ∷ []) ≡ true
-rises_more from upto n d [] h l = and_both (nat_le from n) _ (le-leb from n (omega (arith, l, leb-true from upto h))) (le-leb (n + 1) (n + 1) (omega arith))
-rises_more from upto n d (o ∷ os) h l = and_both (nat_le from o.seq) _ (and_first (nat_le from o.seq) _ h) (rises_more (o.seq + 1) upto n d os (and_second (nat_le from o.seq) _ h) l)
+rises_more : (from upto n d : ℕ) (os : List Unsettled) → rises from upto os ≡ true → upto ≤ n
+    → rises from (n + 1) (os ++ record { seq = n; delivery = d } ∷ []) ≡ true
+rises_more from upto n d [] h l = and_both (nat_le from n) _ (le-leb from n (omega (arith, l, leb-true from upto h)))
+    (le-leb (n + 1) (n + 1) (omega arith))
+rises_more from upto n d (o ∷ os) h l = and_both (nat_le from o.seq) _ (and_first (nat_le from o.seq) _ h)
+    (rises_more (o.seq + 1) upto n d os (and_second (nat_le from o.seq) _ h) l)
 
-none_of : (book : BookValue) (row : Row) (os : List Unsettled) → UnderWay book row → list_all (is_told book) os ≡ true → count_by (λ (o : Unsettled). nat_eq o.delivery row.delivery) os ≡ 0
+none_of : (book : BookValue) (row : Row) (os : List Unsettled) → UnderWay book row → list_all (is_told book) os ≡ true
+    → count_by (λ (o : Unsettled). nat_eq o.delivery row.delivery) os ≡ 0
 none_of book row [] u h = refl
 none_of book row (o ∷ os) u h =
     let counted = sum_by-cons (λ (x : Unsettled). cond (nat_eq x.delivery row.delivery) 1 0) o os in
@@ -311,7 +342,8 @@ apart_tried book row seq status at h u next unused = record {
         (entry_other book.entries row.delivery status at x.delivery (told_other book row x u t)) ∙ t
 
     own_told : is_told new o ≡ true
-    own_told = ap (λ p. option_map_or (λ (e : Entry). not (nat_eq e.latest.attempts e.settled.attempts)) p false) (entry_own book row status at u)
+    own_told = ap (λ p. option_map_or (λ (e : Entry). not (nat_eq e.latest.attempts e.settled.attempts)) p false)
+        (entry_own book row status at u)
         ∙ ap not (more_attempts u.entry.latest.attempts u.entry.settled.attempts (attempts_same u.entry u.opened))
 
     there : (s : ℕ) → is_some (entry_at new.entries s) ≡ is_some (entry_at book.entries s)
@@ -324,24 +356,28 @@ apart_tried book row seq status at h u next unused = record {
 
 -- The attempts that are under way
 
-pub under_way_less : (book : BookValue) (row : Row) (live new : List Row) → IsReturned row live new → AreUnderWay live book → AreUnderWay new book
+pub under_way_less : (book : BookValue) (row : Row) (live new : List Row) → IsReturned row live new
+    → AreUnderWay live book → AreUnderWay new book
 under_way_less book row live new r h = record { each = r.pass (is_under_way book) h.each; once = r.once }
 
 pub under_way_tried : (book : BookValue) (row : Row) (live new : List Row) (seq status at : ℕ) → IsReturned row live new
     → AreUnderWay live book → AreUnderWay new (with_outcome book seq row.delivery status at)
 under_way_tried book row live new seq status at r h = record {
-  each = all_by (is_under_way book) (λ (x : Row). nat_eq x.delivery row.delivery) (is_under_way (with_outcome book seq row.delivery status at)) new each (r.pass (is_under_way book) h.each) r.free;
+  each = all_by (is_under_way book) (λ (x : Row). nat_eq x.delivery row.delivery)
+      (is_under_way (with_outcome book seq row.delivery status at)) new each (r.pass (is_under_way book) h.each) r.free;
   once = r.once;
 }
   where
-    each : (x : Row) → is_under_way book x ≡ true → nat_eq x.delivery row.delivery ≡ false → is_under_way (with_outcome book seq row.delivery status at) x ≡ true
+    each : (x : Row) → is_under_way book x ≡ true → nat_eq x.delivery row.delivery ≡ false
+        → is_under_way (with_outcome book seq row.delivery status at) x ≡ true
     each x t apart =
         let other = entry_other book.entries row.delivery status at x.delivery (grind (arith, nat_tests, apart)) in
         grind (arith, other, t)
 
 -- Free places
 
-count_map_below : (p q : Entry → Bool) (g : Entry → Entry) (xs : List Entry) → ((x : Entry) → p (g x) ≡ true → q x ≡ true) → count_by p (map g xs) ≤ count_by q xs
+count_map_below : (p q : Entry → Bool) (g : Entry → Entry) (xs : List Entry)
+    → ((x : Entry) → p (g x) ≡ true → q x ≡ true) → count_by p (map g xs) ≤ count_by q xs
 count_map_below p q g [] h = omega arith
 count_map_below p q g (x ∷ xs) h =
     let ps = sum_by-cons (λ y. cond (p y) 1 0) (g x) (map g xs) in
@@ -349,10 +385,12 @@ count_map_below p q g (x ∷ xs) h =
     grind (arith, ps, qs, h x, count_map_below p q g xs h)
 
 -- what is pending after one more attempt was pending before
-pending_before : (p : Progress) (status at : ℕ) → is_in_state Pending (state_in (progress_after status at p)) ≡ true → is_in_state Pending (state_in p) ≡ true
+pending_before : (p : Progress) (status at : ℕ) → is_in_state Pending (state_in (progress_after status at p)) ≡ true
+    → is_in_state Pending (state_in p) ≡ true
 pending_before p status at h = grind (arith, nat_tests, h)
 
-pub places_tried : (queue : QueueValue) (book : BookValue) (seq d status at : ℕ) → HasPlaces queue book → HasPlaces queue (with_outcome book seq d status at)
+pub places_tried : (queue : QueueValue) (book : BookValue) (seq d status at : ℕ) → HasPlaces queue book
+    → HasPlaces queue (with_outcome book seq d status at)
 places_tried queue book seq d status at h = λ name.
     let fewer = count_map_below (is_unheld queue name) (is_unheld queue name) (change d status at) book.entries (λ x t.
     let before = pending_before x.latest status at in grind (arith, t, before)) in
@@ -361,7 +399,8 @@ places_tried queue book seq d status at h = λ name.
 -- What is held
 
 -- an attempt that is under way isn't held
-pub new_pair : (queue : QueueValue) (book : BookValue) (live : List Row) (d : ℕ) → AreHeld queue book live → is_out d live ≡ true → IsNew queue d
+pub new_pair : (queue : QueueValue) (book : BookValue) (live : List Row) (d : ℕ) → AreHeld queue book live
+    → is_out d live ≡ true → IsNew queue d
 new_pair queue book live d held out = λ name due.
     let is = held (pair_of name due d) in
     grind (arith, is, out, found_seq book.entries d)
@@ -370,19 +409,22 @@ abbrev waiting_for : BookValue → List Row → Pair → Option Entry → Bool
 waiting_for book live pair o = option_map_or (λ x. is_idle book.settled_seq live x && is_pair_of pair x) o false
 
 -- a pair of another delivery
-held_other : (book : BookValue) (row : Row) (live new : List Row) (pair : Pair) (o : Option Entry) → IsReturned row live new → nat_eq row.delivery pair.seq ≡ false → entry_at book.entries pair.seq ≡ o
+held_other : (book : BookValue) (row : Row) (live new : List Row) (pair : Pair) (o : Option Entry)
+    → IsReturned row live new → nat_eq row.delivery pair.seq ≡ false → entry_at book.entries pair.seq ≡ o
     → waiting_for book live pair o ≡ waiting_for book new pair o
 held_other book row live new pair o r apart e = by_option o
     (λ none. grind (arith, none))
     (λ x some. grind (arith, some, r.out x.seq, found_seq book.entries pair.seq x (e ∙ some), apart))
 
-pair_apart : (pair : Pair) (name : List ℕ) (due d : ℕ) → nat_eq d pair.seq ≡ false → same_pair pair (pair_of name due d) ≡ false
+pair_apart : (pair : Pair) (name : List ℕ) (due d : ℕ) → nat_eq d pair.seq ≡ false
+    → same_pair pair (pair_of name due d) ≡ false
 pair_apart pair name due d apart = ap (λ b. b && (nat_eq due pair.due && bytes_eq name pair.endpoint)) apart
 
 -- the outcome waits: the delivery isn't held
 pub held_tried : (queue new : QueueValue) (book : BookValue) (row : Row) (live rest : List Row) (seq status at : ℕ)
     → AreHeld queue book live → UnderWay book row → is_out row.delivery live ≡ true → IsReturned row live rest
-    → Holds queue new (idle_pair (with_outcome book seq row.delivery status at) row.delivery) → AreHeld new (with_outcome book seq row.delivery status at) rest
+    → Holds queue new (idle_pair (with_outcome book seq row.delivery status at) row.delivery)
+    → AreHeld new (with_outcome book seq row.delivery status at) rest
 held_tried queue new book row live rest seq status at held u out r holds =
     let later = with_outcome book seq row.delivery status at in
     let closed = takes_none book row seq status at u in

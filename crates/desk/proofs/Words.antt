@@ -30,7 +30,8 @@ pub use Rattle.relay_types.specs.Deliveries.{due_if_pending, due_of, failures_of
 pub use Rattle.relay_types.proofs.GrowthLaws.{accepted-before}
 pub use Rattle.relay_types.proofs.KnownLaws.{there_if as there_if_kept}
 pub use Rattle.relay_types.proofs.PurgeLaws.{accepted_is, unpurged_front, unpurged_if}
-pub use Rattle.relay_types.specs.Deliveries.{accept_at, is_in_state, is_pending, is_purged, known_as, purged_by, state_of}
+pub use Rattle.relay_types.specs.Deliveries.{accept_at, is_in_state, is_pending, is_purged, known_as, purged_by}
+pub use Rattle.relay_types.specs.Deliveries.{state_of}
 pub use Rattle.relay_types.specs.Endpoints.{Endpoint, endpoint_of, endpoints, has_endpoint, is_delivery_of, secrets_of}
 pub use Rattle.relay_types.specs.Judging.{is_gone_status}
 pub use Rattle.relay_types.specs.Legal.{IsLegal, is_status, is_within_limits, may_follow}
@@ -39,13 +40,15 @@ pub use Rattle.relay_types.specs.Subscriptions.{is_pair_named, subscriptions}
 pub use Rattle.relay_types.specs.Values.{is_moment}
 pub use Rattle.relay_types.specs.declared.limits.TheConstants.{MAX_ENDPOINTS, MAX_RECORDS, MAX_SUBSCRIPTIONS}
 pub use Rattle.relay_types.specs.declared.record.Record.{Record}
-pub use Rattle.relay_types.specs.declared.record.Record.TheVariants.{Accept, Enabled, Outcome, Purge, Put, Secrets, Subscribed}
+pub use Rattle.relay_types.specs.declared.record.Record.TheVariants.{Accept, Enabled, Outcome, Purge, Put, Secrets}
+pub use Rattle.relay_types.specs.declared.record.Record.TheVariants.{Subscribed}
 pub use Rattle.relay_types.specs.declared.state.State.TheVariants.{Exhausted, Pending}
 pub use Rattle.vegas.specs.Estimators.{EstimatorValue, Explains, StandsFor as StandsForSamples, sample_of}
 pub use Rattle.vegas.specs.declared.sample.Sample.{Sample}
 pub use Rattle.endpoint_book.proofs.Laws.{stands-other}
 pub use Rattle.endpoint_book.proofs.Waiting.{AreNamedAlike, changes_enabled, changes_gone, changes_named, changes_none}
-pub use Rattle.endpoint_book.proofs.Waiting.{changes_other, changes_put, changes_secrets, changes_settled, changes_topic}
+pub use Rattle.endpoint_book.proofs.Waiting.{changes_other, changes_put, changes_secrets, changes_settled}
+pub use Rattle.endpoint_book.proofs.Waiting.{changes_topic}
 pub use Rattle.endpoint_book.specs.Book.{Stages, View, enabled_in, secrets_if_known, view_by, view_of}
 pub use Rattle.endpoint_book.specs.Entries.{change_at, entry_of, flags_in, is_flag, is_known, is_named, with_flag}
 pub use Rattle.endpoint_book.specs.Topics.{flag_of, has_place as has_place_for}
@@ -57,7 +60,8 @@ pub use Rattle.delivery_book.specs.Book.{Settles, Takes, body_left, body_of, cou
 pub use Rattle.delivery_book.specs.Book.{is_other, row_of}
 pub use Rattle.delivery_book.specs.Entries.{BookValue, HasOneEach, IsInStep, at_delivery, at_outcomes, empty_book}
 pub use Rattle.delivery_book.specs.Entries.{entry_at, failed_among, first_outcome, front_below, is_delivered_among}
-pub use Rattle.delivery_book.specs.Entries.{is_entry_as, is_kept, is_open, is_pending_of, is_settled_as, kept_at, known_in}
+pub use Rattle.delivery_book.specs.Entries.{is_entry_as, is_kept, is_open, is_pending_of, is_settled_as, kept_at}
+pub use Rattle.delivery_book.specs.Entries.{known_in}
 pub use Rattle.delivery_book.specs.Entries.{known_settled_in, latest_row, marked, new_entry, with_purge}
 pub use Rattle.delivery_book.specs.Entries.{next_settled, pending_in, progress_after, rest_from, row_in, settled_row}
 pub use Rattle.delivery_book.specs.Entries.{state_by, state_in, takes_outcome, with_attempt, with_event}
@@ -94,13 +98,17 @@ pub use Rattle.desk.specs.Faults.{Faults, first_fault, out_of_memory_at, refusal
 pub use Rattle.desk.specs.OwnBooks.{AreTold, endpoint_in, endpoint_page, event_in, event_page, limits_by, shown_with}
 pub use Rattle.desk.specs.OwnBooks.{totals, totals_in}
 pub use Rattle.desk.specs.Queries.{has_event, is_event_of, is_row_of}
-pub use Rattle.desk.specs.Moves.{Answer, MayGive, accepts, are_pairs_spent, are_seqs_spent, at_moment, change, changes, is_nothing_out}
+pub use Rattle.desk.specs.Moves.{Answer, MayGive, accepts, are_pairs_spent, are_seqs_spent, at_moment, change, changes}
+pub use Rattle.desk.specs.Moves.{is_nothing_out}
 pub use Rattle.desk.specs.Moves.{is_waiting_full, moment, new_submit_faults, next_seq, or_out_of_memory, pending_among}
-pub use Rattle.desk.specs.Moves.{purge_faults, put_faults, refused, repeats, seal, seal_faults, seal_waiting, sealed_batch}
-pub use Rattle.desk.specs.Moves.{set_faults, stages, submit, subscribe_faults, submit_faults, submit_known, submit_new, ticket, unless}
+pub use Rattle.desk.specs.Moves.{purge_faults, put_faults, refused, repeats, seal, seal_faults, seal_waiting}
+pub use Rattle.desk.specs.Moves.{sealed_batch}
+pub use Rattle.desk.specs.Moves.{set_faults, stages, submit, subscribe_faults, submit_faults, submit_known, submit_new}
+pub use Rattle.desk.specs.Moves.{ticket, unless}
 pub use Rattle.desk.specs.Moves.{with_batch, with_batch_back, with_halt, with_record, with_sealed_settled}
 pub use Rattle.desk.specs.Ties.{AreApart, AreHeld, AreLimiters, AreMarked, AreQueued, AreSampled, AreTied, AreUnderWay}
-pub use Rattle.desk.specs.Ties.{HasPlaces, HasRoomForAll, HasSameNames, HasSameRooms, Holds, HoldsPair, KeepsPlaces, KeepsRooms}
+pub use Rattle.desk.specs.Ties.{HasPlaces, HasRoomForAll, HasSameNames, HasSameRooms, Holds, HoldsPair, KeepsPlaces}
+pub use Rattle.desk.specs.Ties.{KeepsRooms}
 pub use Rattle.desk.specs.Ties.{LetsGo, LetsPairGo, StandsAt, StandsBy, bound_by, bound_of, endpoint_at, idle_pair}
 pub use Rattle.desk.specs.Ties.{is_entry_of, is_idle, is_limiter_of, is_own, is_pair_of, is_told, is_under_way}
 pub use Rattle.desk.specs.Ties.{is_unheld, limit_by, limiter_of, new_limiter, own_pair, pair_in, rises, room_by}

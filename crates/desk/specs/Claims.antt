@@ -1,5 +1,6 @@
 -- Which delivery is next, what a claim answers, and what the end of an attempt leaves.
-use Rattle.std.specs.Prelude.{ℕ, ◌+◌, Bool, false, ◌&&◌, ◌==◌, not, nat_le, nat_lt, List, [], ◌∷◌, ◌++◌, length, map, filter, drop, Option, Some, None, option_map, is_some, bytes_eq, if◌then◌else◌}
+use Rattle.std.specs.Prelude.{ℕ, ◌+◌, Bool, false, ◌&&◌, ◌==◌, not, nat_le, nat_lt, List, [], ◌∷◌, ◌++◌, length, map}
+use Rattle.std.specs.Prelude.{filter, drop, Option, Some, None, option_map, is_some, bytes_eq, if◌then◌else◌}
 use Rattle.std.specs.List.{list_any}
 use Rattle.std.specs.Option.{option_map_or}
 use Rattle.relay_types.specs.declared.record.Record.TheVariants.{Outcome}
@@ -72,8 +73,8 @@ has_room w name = is_enabled (all_records w) name && nat_lt (live_of w name) (li
 abbrev pub has_place : World → Bool
 has_place w = nat_lt (waiting_outcomes w + length w.live) MAX_WAITING_OUTCOMES
 
--- whether the delivery waits for its next attempt: the settled records have it as pending, no outcome of it waits, and no
--- attempt at it is under way
+-- whether the delivery waits for its next attempt: the settled records have it as pending, no outcome of it waits, and
+-- no attempt at it is under way
 abbrev pub waits : (w : World) (delivery : Seq) → Bool
 waits w d = is_pending (settled_records w) d && (has_no_waiting_outcome w d && not (is_live w d))
 

@@ -21,7 +21,8 @@ abbrev pub HasEndpoints : (one other : SettledView) → Type 0
 HasEndpoints one other = (name : Text) → IsTrue (is_known one.endpoints.now name) → SameEndpoint one other name
 
 abbrev pub HasEvents : (one other : SettledView) → Type 0
-HasEvents one other = (name id : Text) → IsSome (known_settled_in one.deliveries.now name id) → SameEvent one other name id
+HasEvents one other = (name id : Text) → IsSome (known_settled_in one.deliveries.now name id)
+    → SameEvent one other name id
 
 -- of all
 abbrev pub AllEndpoints : (one other : SettledView) → Type 0
@@ -36,7 +37,8 @@ IsSameEvent one other = (one.endpoint ≡ other.endpoint) × (one.id ≡ other.i
 
 abbrev pub HasComeAsFar : Row → Row → Type 0
 HasComeAsFar one other =
-    (one.attempts ≡ other.attempts) × (one.state ≡ other.state) × (one.due ≡ other.due) × (one.last_status ≡ other.last_status)
+    (one.attempts ≡ other.attempts) × (one.state ≡ other.state) × (one.due ≡ other.due)
+    × (one.last_status ≡ other.last_status)
 
 abbrev pub IsSameTarget : View → View → Type 0
 IsSameTarget one other = (one.name ≡ other.name) × (one.target ≡ other.target)

@@ -6,7 +6,8 @@ use Rattle.std.specs.Option.{option_map_or}
 use Rattle.relay_types.specs.declared.limits.TheConstants.{MAX_RECORDS}
 use Rattle.relay_types.specs.declared.record.Record.{Record}
 use Rattle.relay_types.specs.declared.state.State.TheVariants.{Exhausted}
-use Rattle.relay_types.specs.declared.record.Record.TheVariants.{Put, Secrets, Enabled, Accept, Outcome, Subscribed, Purge}
+use Rattle.relay_types.specs.declared.record.Record.TheVariants.{Put, Secrets, Enabled, Accept, Outcome, Subscribed}
+use Rattle.relay_types.specs.declared.record.Record.TheVariants.{Purge}
 use Rattle.relay_types.specs.Values.{Text, Seq, Seconds}
 use Rattle.relay_types.specs.Records.{History, Accepted, records_of}
 use Rattle.relay_types.specs.Deliveries.{accepted, is_in_state, is_purged}
@@ -42,11 +43,13 @@ use Rattle.desk.specs.declared.limiter.Limiter.{Limiter}
 use Rattle.desk.specs.declared.limits.TheConstants.{MAX_PENDING}
 use Rattle.desk.specs.declared.ticket.Ticket.{Ticket}
 use Rattle.desk.specs.Moves.{Answer, MayGive, is_nothing_out, sealed_batch, opened, ticket}
-use Rattle.desk.specs.Claims.{JobValue, SpentValue, samples_of, next_attempt, target_in, job_of, with_attempt, has_row, with_attempt_over, spent_by}
-use Rattle.desk.specs.Ties.{AreLimiters, AreTied, AreUnderWay, HasRoomForAll, HasSameRooms, KeepsPlaces, StandsAt, endpoint_at, is_idle, new_limiter, room_by}
+use Rattle.desk.specs.Claims.{JobValue, SpentValue, samples_of, next_attempt, target_in, job_of, with_attempt, has_row}
+use Rattle.desk.specs.Claims.{with_attempt_over, spent_by}
+use Rattle.desk.specs.Ties.{AreLimiters, AreTied, AreUnderWay, HasRoomForAll, HasSameRooms, KeepsPlaces, StandsAt}
+use Rattle.desk.specs.Ties.{endpoint_at, is_idle, new_limiter, room_by}
 
--- The books of all records, the steps that wait, the latest moment, whether nothing is taken any more, the permits that are out
--- and the limits. What the queue holds follows from these.
+-- The books of all records, the steps that wait, the latest moment, whether nothing is taken any more, the permits that
+-- are out and the limits. What the queue holds follows from these.
 pub record DeskValue : Type 0 where
   pub clock : Seconds
   pub endpoints : endpoint_entries.BookValue
@@ -68,11 +71,12 @@ pub record IsDesk (endpoints : endpoint_entries.BookValue) (deliveries : deliver
   pub deliveries_wait : HasWaiting deliveries (records_of waiting.waiting)
   pub tied : AreTied endpoints deliveries waiting live limiters queue
 
--- What is so of a desk whenever its lock is got, whatever its store had. The records that wait stand behind the settled ones, and
--- both books begin to wait where the list does. Of the deliveries just those wait that the list has, each by the same record, and
--- of the changes of endpoints too: what each endpoint shows, or will show once more is settled, is what these records make of it.
--- Each attempt that is under way is one at a settled delivery that is pending and has no outcome that waits, no two are at one
--- delivery, and there are a place and a number for the outcome of each. Each endpoint has a limit.
+-- What is so of a desk whenever its lock is got, whatever its store had. The records that wait stand behind the settled
+-- ones, and both books begin to wait where the list does. Of the deliveries just those wait that the list has, each by
+-- the same record, and of the changes of endpoints too: what each endpoint shows, or will show once more is settled, is
+-- what these records make of it. Each attempt that is under way is one at a settled delivery that is pending and has no
+-- outcome that waits, no two are at one delivery, and there are a place and a number for the outcome of each. Each
+-- endpoint has a limit.
 pub record IsCore (desk : DeskValue) : Type 0 where
   pub endpoints_settled : desk.endpoints.settled_seq ≡ desk.waiting.settled
   pub endpoints_within : desk.endpoints.next_seq ≤ record_count desk.waiting
@@ -87,7 +91,8 @@ pub record IsCore (desk : DeskValue) : Type 0 where
 -- The world for which a desk stands, part by part. It stores no history.
 
 -- the books have the endpoints and the deliveries of these records, of which so many are settled
-pub record AreBooks (endpoints : endpoint_entries.BookValue) (deliveries : delivery_entries.BookValue) (records : List Record) (settled : ℕ) : Type 0 where
+pub record AreBooks (endpoints : endpoint_entries.BookValue) (deliveries : delivery_entries.BookValue)
+    (records : List Record) (settled : ℕ) : Type 0 where
   pub of_endpoints : endpoint_book.StandsFor endpoints records settled
   pub of_deliveries : delivery_book.StandsFor deliveries records settled
   pub legal : IsLegal records
@@ -97,7 +102,8 @@ abbrev pub out_count : (out : Out) (settled sealed : ℕ) → Option ℕ
 out_count out settled sealed = if is_nothing_out out then None else Some (sealed - settled)
 
 -- the steps behind the settled ones wait, and the sealed ones among them are out
-pub record Waits (waiting : WaitingValue) (history : History) (settled sealed : ℕ) (out : Out) (seq : Seq) : Type 0 where
+pub record Waits (waiting : WaitingValue) (history : History) (settled sealed : ℕ) (out : Out)
+    (seq : Seq) : Type 0 where
   pub steps : waiting.waiting ≡ drop settled history
   pub settled_seq : waiting.settled ≡ seq
   pub is_out : waiting.out ≡ out_count out settled sealed
@@ -122,9 +128,11 @@ OverWorlds desk P = (w : World) → StandsFor desk w → P w
 
 -- the desk stands for the opening of every history of which these are the books, however its records are cut into steps
 abbrev pub Opens : Books → DeskValue → Type 0
-Opens books desk = (history : History) → loaded.AreBooks books (records_of history) → StandsFor desk (opened history books.clock)
+Opens books desk = (history : History) → loaded.AreBooks books (records_of history)
+    → StandsFor desk (opened history books.clock)
 
--- From each world for which the desk stood, the call gave what this move answers, and the desk stands for the world after it.
+-- From each world for which the desk stood, the call gave what this move answers, and the desk stands for the world
+-- after it.
 abbrev pub IsMove : {A : Type 0} → DeskValue → (World → Answer A) → Result A Refusal → DeskValue → Type 0
 IsMove old move reply new = OverWorlds old (λ w. (next : World) × MayGive w (move w) reply next × StandsFor new next)
 
@@ -163,21 +171,25 @@ abbrev pub with_job : List Row → Option JobValue → List Row
 with_job rows None = rows
 with_job rows (Some job) = rows ++ job.row ∷ []
 
--- From each world for which the desk stood: what is handed in ends the turn exactly where it is what is out, and comes back
--- otherwise.
-abbrev pub Turns : {A E : Type 0} → (old : DeskValue) (IsOut : World → Type 0) (ended : World → World) (result : Result A E) (new : DeskValue) → Type 0
+-- From each world for which the desk stood: what is handed in ends the turn exactly where it is what is out, and comes
+-- back otherwise.
+abbrev pub Turns : {A E : Type 0} → (old : DeskValue) (IsOut : World → Type 0) (ended : World → World)
+    (result : Result A E) (new : DeskValue) → Type 0
 Turns old IsOut ended (Ok a) new = OverWorlds old (λ w. IsOut w × StandsFor new (ended w))
 Turns old IsOut ended (Err e) new = OverWorlds old (λ w. (¬ IsOut w) × StandsFor new w)
 
 -- Attempts
 
--- From each world for which the desk stood: the job is that of an attempt at the delivery, and the attempt is under way.
+-- From each world for which the desk stood: the job is that of an attempt at the delivery, and the attempt is under
+-- way.
 abbrev pub Starts : (old : DeskValue) (at : Seconds) (delivery : Seq) (job : JobValue) (new : DeskValue) → Type 0
 Starts old at d job new = OverWorlds old (λ w. (a : Accepted)
     × (accepted (all_records w) d ≡ Some a) × (job ≡ job_of w at d a) × StandsFor new (with_attempt w at job.row))
 
--- From each world for which the desk stood: the permit of an attempt that is under way is taken, and any other comes back.
-abbrev pub Spends : {E : Type 0} → (old : DeskValue) (row : Row) (post : PostResult) (now : Seconds) (result : Result SpentValue E) (new : DeskValue) → Type 0
+-- From each world for which the desk stood: the permit of an attempt that is under way is taken, and any other comes
+-- back.
+abbrev pub Spends : {E : Type 0} → (old : DeskValue) (row : Row) (post : PostResult) (now : Seconds)
+    (result : Result SpentValue E) (new : DeskValue) → Type 0
 Spends old row post now (Ok spent) new = OverWorlds old (λ w.
     (has_row w row ≡ true) × (spent ≡ spent_by w row post now) × StandsFor new (with_attempt_over w row post now))
 Spends old row post now (Err e) new = OverWorlds old (λ w. (has_row w row ≡ false) × StandsFor new w)
@@ -197,12 +209,14 @@ abbrev pub has_place : DeskValue → Bool
 has_place desk = nat_lt (outcomes_in desk.waiting.waiting + length desk.live) MAX_WAITING_OUTCOMES
 
 abbrev pub may_start : DeskValue → (delivery : Seq) → Bool
-may_start desk d = has_place desk && option_map_or (is_ready desk) (delivery_entries.entry_at desk.deliveries.entries d) false
+may_start desk d = has_place desk && option_map_or (is_ready desk) (delivery_entries.entry_at desk.deliveries.entries d)
+    false
 
 -- the same, where the delivery is one of the endpoint
 abbrev pub may_start_at : DeskValue → (name : Text) (delivery : Seq) → Bool
 may_start_at desk name d = has_place desk
-    && option_map_or (λ e. is_ready desk e && bytes_eq e.name name) (delivery_entries.entry_at desk.deliveries.entries d) false
+    && option_map_or (λ e. is_ready desk e && bytes_eq e.name name)
+    (delivery_entries.entry_at desk.deliveries.entries d) false
 
 -- what is posted at the delivery's next attempt
 abbrev pub post_of : (w : World) (at : Seconds) (delivery : Seq) → Accepted → Post
@@ -232,7 +246,8 @@ abbrev pub with_gone : endpoint_entries.BookValue → (seq : Seq) (name : Text) 
 with_gone book seq name status = if is_gone_status status then endpoint_entries.with_flag book seq name false else book
 
 -- the outcome of the row's attempt can wait
-pub record TakesOutcome (waiting : WaitingValue) (endpoints : endpoint_entries.BookValue) (deliveries : delivery_entries.BookValue) (row : Row) : Type 0 where
+pub record TakesOutcome (waiting : WaitingValue) (endpoints : endpoint_entries.BookValue)
+    (deliveries : delivery_entries.BookValue) (row : Row) : Type 0 where
   pub place : outcomes_in waiting.waiting < MAX_WAITING_OUTCOMES
   pub room : record_count waiting < MAX_RECORDS
   pub endpoints_staged : endpoints.next_seq ≤ record_count waiting
@@ -242,8 +257,10 @@ pub record TakesOutcome (waiting : WaitingValue) (endpoints : endpoint_entries.B
   pub flags : endpoint_entries.flags_in endpoints + waiting.settled ≤ endpoints.next_seq
 
 -- the outcome of the row's attempt, with this status, waits
-pub record HasOutcome (waiting : WaitingValue) (endpoints : endpoint_entries.BookValue) (deliveries : delivery_entries.BookValue) (row : Row) (at : Seconds)
-    (more : WaitingValue) (gone : endpoint_entries.BookValue) (tried : delivery_entries.BookValue) (status : ℕ) : Type 0 where
+pub record HasOutcome (waiting : WaitingValue) (endpoints : endpoint_entries.BookValue)
+    (deliveries : delivery_entries.BookValue) (row : Row) (at : Seconds)
+    (more : WaitingValue) (gone : endpoint_entries.BookValue) (tried : delivery_entries.BookValue)
+    (status : ℕ) : Type 0 where
   pub steps : more ≡ with_step waiting (Outcome row.delivery (attempt_in deliveries row.delivery) status at ∷ [])
   pub of_endpoints : gone ≡ with_gone endpoints (record_count waiting) row.endpoint status
   pub of_deliveries : tried ≡ delivery_entries.with_outcome deliveries (record_count waiting) row.delivery status at
@@ -263,7 +280,8 @@ with_entry desk entry = record desk { waiting = with_step desk.waiting (entry �
 
 abbrev pub with_put : DeskValue → (name target : Text) (max : ℕ) (secrets : List Text) → DeskValue
 with_put desk name target max secrets = record (with_entry desk (Put name target max secrets)) {
-  endpoints = endpoint_entries.with_put desk.endpoints (endpoint_entries.new_entry (record_count desk.waiting) name target max secrets);
+  endpoints = endpoint_entries.with_put desk.endpoints
+      (endpoint_entries.new_entry (record_count desk.waiting) name target max secrets);
   limiters = desk.limiters ++ new_limiter name max ∷ [];
 }
 

@@ -1,5 +1,6 @@
 -- What a desk tells by the books and the list that it keeps, whether or not it stands for a world.
-use Rattle.std.specs.Prelude.{◌≡◌, ℕ, ◌-◌, Bool, nat_lt, length, count_by, Option, Some, None, option_map, option_and_then, if◌then◌else◌}
+use Rattle.std.specs.Prelude.{◌≡◌, ℕ, ◌-◌, Bool, nat_lt, length, count_by, Option, Some, None, option_map}
+use Rattle.std.specs.Prelude.{option_and_then, if◌then◌else◌}
 use Rattle.relay_types.specs.Values.{Text, Seq}
 use Rattle.endpoint_book.specs.Book.{View, settled_view}
 use Rattle.endpoint_book.specs.Entries as endpoint_entries
@@ -25,7 +26,8 @@ abbrev pub has_event : DeskValue → Ticket → Bool
 has_event desk ticket = is_row_of ticket (settled_row desk.deliveries ticket.seq)
 
 abbrev pub told : DeskValue → Ticket → Told
-told desk ticket = known_by desk.halted (has_event desk ticket) (is_row_of ticket (latest_row desk.deliveries ticket.seq))
+told desk ticket = known_by desk.halted (has_event desk ticket)
+    (is_row_of ticket (latest_row desk.deliveries ticket.seq))
 
 -- by place alone: the records below the settled count are settled, those behind them wait
 abbrev pub told_command : DeskValue → CommandTicket → Told

@@ -1,5 +1,6 @@
 -- What the desk tells of a ticket, and of the settled records.
-use Rattle.std.specs.Prelude.{Bool, false, ◌&&◌, not, nat_lt, List, length, Option, None, option_map, option_and_then, bytes_eq, if◌then◌else◌}
+use Rattle.std.specs.Prelude.{Bool, false, ◌&&◌, not, nat_lt, List, length, Option, None, option_map, option_and_then}
+use Rattle.std.specs.Prelude.{bytes_eq, if◌then◌else◌}
 use Rattle.std.specs.Option.{option_map_or}
 use Rattle.relay_types.specs.declared.record.Record.{Record}
 use Rattle.relay_types.specs.Values.{Text}
@@ -34,7 +35,8 @@ is_row_of ticket row = option_map_or (λ r. bytes_eq r.endpoint ticket.name && b
 
 -- what is known of a record that is settled or not, and there or not
 abbrev pub known_by : (halted is_settled is_there : Bool) → Told
-known_by halted is_settled is_there = if is_settled then Settled else (if is_there && not halted then Waiting else Unknown)
+known_by halted is_settled is_there = if is_settled then Settled else
+    (if is_there && not halted then Waiting else Unknown)
 
 abbrev pub known : (w : World) (is_settled is_there : Bool) → Told
 known w is_settled is_there = known_by w.halted is_settled is_there
@@ -62,7 +64,8 @@ pub record EndpointShown : Type 0 where
   pub counts : Counts
 
 abbrev pub endpoint_page : (records : List Record) (name : Text) → Option EndpointShown
-endpoint_page records name = option_map (λ view. record { view = view; counts = counts_of records name }) (view_of records name)
+endpoint_page records name = option_map (λ view. record { view = view; counts = counts_of records name })
+    (view_of records name)
 
 -- what a page says
 abbrev pub shown : EndpointPage → EndpointShown

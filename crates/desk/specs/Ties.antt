@@ -1,5 +1,5 @@
--- What ties the permits, the limits and the queue of a desk to its books. No world is named here: this holds of the fields
--- whatever they stand for.
+-- What ties the permits, the limits and the queue of a desk to its books. No world is named here: this holds of the
+-- fields whatever they stand for.
 use Rattle.std.specs.Prelude.{◌≡◌, ℕ, ◌+◌, ◌≤◌, Bool, false, ◌&&◌, ◌==◌, not, nat_le, nat_lt, List, [], ◌∷◌, ◌++◌}
 use Rattle.std.specs.Prelude.{length, map, Option, Some, None, find, is_some, unwrap_or, option_map, option_and_then}
 use Rattle.std.specs.Prelude.{count_by, bytes_eq, IsTrue, if◌then◌else◌}
@@ -25,7 +25,8 @@ use Rattle.delivery_book.specs.declared.entry.Unsettled.{Unsettled}
 use Rattle.delivery_book.specs.declared.row.Row.{Row as BookRow}
 use Rattle.delivery_book.specs.Entries.{entry_at, is_open, row_in, state_in, settled_row, takes_outcome}
 use Rattle.claim_queue.specs.declared.pairs.Pair.{Pair}
-use Rattle.claim_queue.specs.Queues.{QueueValue, Gains, Loses, ChangesMark, place_taken, place_given, pair_of, is_held, is_reserved, has_room_in, free_places}
+use Rattle.claim_queue.specs.Queues.{QueueValue, Gains, Loses, ChangesMark, place_taken, place_given, pair_of, is_held}
+use Rattle.claim_queue.specs.Queues.{is_reserved, has_room_in, free_places}
 use Rattle.group_commit.specs.declared.limits.TheConstants.{MAX_WAITING_OUTCOMES}
 use Rattle.group_commit.specs.Steps.{outcomes_in}
 use Rattle.group_commit.specs.Waits.{WaitingValue, record_count}
@@ -93,10 +94,12 @@ abbrev pub room_by : endpoint_entries.BookValue → List Limiter → List Row �
 room_by book limiters live name = enabled_in book name && nat_lt (in_flight_of name live) (limit_by limiters name)
 
 -- the queue knows which endpoint has room, those of all permits that are out among them
-pub record AreMarked (queue : QueueValue) (book : endpoint_entries.BookValue) (limiters : List Limiter) (live : List Row) : Type 0 where
+pub record AreMarked (queue : QueueValue) (book : endpoint_entries.BookValue) (limiters : List Limiter)
+    (live : List Row) : Type 0 where
   pub listed : IsTrue (list_all (λ row. endpoint_entries.is_known book row.endpoint) live)
   pub known : (name : Text) → IsTrue (endpoint_entries.is_known book name) → IsTrue (is_reserved queue name)
-  pub rooms : (name : Text) → IsTrue (is_reserved queue name) → has_room_in queue.marks name ≡ room_by book limiters live name
+  pub rooms : (name : Text) → IsTrue (is_reserved queue name)
+      → has_room_in queue.marks name ≡ room_by book limiters live name
 
 -- Attempts
 
@@ -132,13 +135,15 @@ rises from upto (o ∷ rest) = nat_le from o.seq && rises (o.seq + 1) upto rest
 
 -- whether the attempts of its delivery tell of an outcome that waits
 abbrev pub is_told : delivery_entries.BookValue → Unsettled → Bool
-is_told book o = option_map_or (λ e. not (e.latest.attempts == e.settled.attempts)) (entry_at book.entries o.delivery) false
+is_told book o = option_map_or (λ e. not (e.latest.attempts == e.settled.attempts)) (entry_at book.entries o.delivery)
+    false
 
 -- whether the number of the outcome is that of no delivery
 abbrev pub is_own : delivery_entries.BookValue → Unsettled → Bool
 is_own book o = not (is_some (entry_at book.entries o.seq))
 
--- the outcomes that wait stand in the order of their numbers, which no delivery has, and at most one of a delivery waits
+-- the outcomes that wait stand in the order of their numbers, which no delivery has, and at most one of a delivery
+-- waits
 pub record AreApart (book : delivery_entries.BookValue) : Type 0 where
   pub in_turn : IsTrue (rises book.settled_seq book.next_seq book.unsettled)
   pub told : IsTrue (list_all (is_told book) book.unsettled)
@@ -147,8 +152,8 @@ pub record AreApart (book : delivery_entries.BookValue) : Type 0 where
 
 -- The queue
 
--- whether the delivery waits for its next attempt: it is settled and pending, no outcome of it waits, and none of its permits
--- is out
+-- whether the delivery waits for its next attempt: it is settled and pending, no outcome of it waits, and none of its
+-- permits is out
 abbrev pub is_idle : (settled : Seq) (live : List Row) → Entry → Bool
 is_idle settled live e = nat_lt e.seq settled && (is_open e && not (is_out e.seq live))
 
@@ -170,7 +175,8 @@ own_pair e = pair_of e.name (unwrap_or e.settled.due 0) e.seq
 
 -- whether the entry's delivery is one of the endpoint that is pending and isn't held
 abbrev pub is_unheld : QueueValue → (name : Text) → Entry → Bool
-is_unheld queue name e = bytes_eq e.name name && (is_in_state Pending (state_in e.latest) && not (is_held queue (own_pair e)))
+is_unheld queue name e = bytes_eq e.name name
+    && (is_in_state Pending (state_in e.latest) && not (is_held queue (own_pair e)))
 
 -- the queue has a free place for each pending delivery that it doesn't hold
 abbrev pub HasPlaces : QueueValue → delivery_entries.BookValue → Type 0

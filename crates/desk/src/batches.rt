@@ -46,8 +46,10 @@ impl<L: Ledger> Desk<L> {
 
     /// Settles the batch that is out, by its receipt: how many records are settled. It takes no memory.
     pub fn settle(&mut self, receipt: Receipt) -> Result<Settled, (Receipt, WrongTurn)>
-        ensures moves { Turns self.old (λ w. IsReceiptOf self.old.waiting.mark w receipt) with_sealed_settled result self.new }
-        ensures records { IfOk result (λ settled. OverWorlds self.old (λ w. settled.records ≡ length (sealed_records w))) }
+        ensures moves { Turns self.old (λ w. IsReceiptOf self.old.waiting.mark w receipt) with_sealed_settled result
+            self.new }
+        ensures records { IfOk result
+            (λ settled. OverWorlds self.old (λ w. settled.records ≡ length (sealed_records w))) }
         ensures waiting { OnOk result (self.new.waiting ≡ with_settled self.old.waiting (length receipt.steps)) }
         ensures count { IfOk result (λ settled. settled.records ≡ self.new.waiting.settled) }
         ensures turn { IsOk result ↔ waiting.IsReceiptOf self.old.waiting receipt }
@@ -65,7 +67,8 @@ impl<L: Ledger> Desk<L> {
 
     /// Takes the batch that is out back: its steps wait as before. It takes no memory.
     pub fn unseal(&mut self, batch: Batch) -> Result<(), (Batch, WrongTurn)>
-        ensures moves { Turns self.old (λ w. ArePlacesOf self.old.waiting.mark w (doubt_of batch)) with_batch_back result self.new }
+        ensures moves { Turns self.old (λ w. ArePlacesOf self.old.waiting.mark w (doubt_of batch)) with_batch_back
+            result self.new }
         ensures turn { IsOk result ↔ waiting.ArePlacesOf self.old.waiting (doubt_of batch) }
         ensures out { OnOk result (self.new.waiting.out ≡ None) }
         ensures live { self.new.live ≡ self.old.live }

@@ -142,7 +142,8 @@ impl<L: Ledger> Desk<L> {
         ensures row { IfOk result (λ spent. spent.row ≡ permit) }
         ensures post { IfOk result (λ spent. spent.post ≡ post) }
         ensures recorded { IfOk result (λ spent. status_in spent ≡ status_of self.old.halted post) }
-        ensures exhausted { IfOk result (λ spent. spent.exhausted ≡ is_exhausted_in self.new.deliveries permit.delivery) }
+        ensures exhausted { IfOk result
+            (λ spent. spent.exhausted ≡ is_exhausted_in self.new.deliveries permit.delivery) }
         ensures back { IfErr result (λ back. back.0 ≡ permit) }
         ensures foreign { IsErr result ↔ (position (same_row permit) self.old.live ≡ None) }
         ensures live { (place : ℕ) → position (same_row permit) self.old.live ≡ Some place
@@ -201,8 +202,10 @@ fn stage_status(
     requires ready { TakesOutcome waiting.old endpoints.old deliveries.old row.now }
     ensures staged { result ≡ option_map (λ _. record_count waiting.old) status }
     ensures out { batch_out waiting.new ≡ batch_out waiting.old }
-    ensures some { IfSome status (HasOutcome waiting.old endpoints.old deliveries.old row.now at waiting.new endpoints.new deliveries.new) }
-    ensures none { IfNone status ((waiting.new ≡ waiting.old) × (endpoints.new ≡ endpoints.old) × (deliveries.new ≡ deliveries.old)) }
+    ensures some { IfSome status
+        (HasOutcome waiting.old endpoints.old deliveries.old row.now at waiting.new endpoints.new deliveries.new) }
+    ensures none { IfNone status ((waiting.new ≡ waiting.old) × (endpoints.new ≡ endpoints.old)
+        × (deliveries.new ≡ deliveries.old)) }
 {
     match status {
         Some(status) => Some(stage_outcome(waiting, endpoints, deliveries, row, status, at)),
@@ -223,7 +226,8 @@ fn stage_outcome(
     requires ready { TakesOutcome waiting.old endpoints.old deliveries.old row.now }
     ensures seq { result ≡ record_count waiting.old }
     ensures out { batch_out waiting.new ≡ batch_out waiting.old }
-    ensures staged { HasOutcome waiting.old endpoints.old deliveries.old row.now at waiting.new endpoints.new deliveries.new status }
+    ensures staged { HasOutcome waiting.old endpoints.old deliveries.old row.now at waiting.new endpoints.new
+        deliveries.new status }
 {
     let seq = waiting.records();
     let attempt = next_attempt(deliveries, row.delivery);

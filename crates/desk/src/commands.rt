@@ -308,7 +308,8 @@ impl<L: Ledger> Desk<L> {
         ensures ticket { result.seq ≡ record_count self.old.waiting }
         ensures staged { self.new ≡ with_purged self.old before }
         ensures out { batch_out self.new.waiting ≡ batch_out self.old.waiting }
-        ensures stands { Takes self.old.deliveries (record_count self.old.waiting) (on.Purge before) self.new.deliveries }
+        ensures stands { Takes self.old.deliveries (record_count self.old.waiting)
+            (on.Purge before) self.new.deliveries }
         ensures limits { IsTrue (is_within_limits (on.Purge before)) }
     {
         let seq = self.waiting.records();

@@ -25,7 +25,8 @@ pub(crate) fn limiters_of(
     ensures limiters { IfOk result (λ limiters. limiters.items
         ≡ map (λ e. new_limiter e.name e.max) endpoints.now.entries) }
     ensures in_step { OnOk result (AreInStep endpoints.now) }
-    ensures all_settled { OnOk result (endpoints.now.next_seq ≡ endpoints.now.settled_seq → endpoints.now.changes ≡ []) }
+    ensures all_settled { OnOk result (endpoints.now.next_seq ≡ endpoints.now.settled_seq
+        → endpoints.now.changes ≡ []) }
 {
     let mut limiters = Vec::with_capacity(alloc, endpoints.len())?;
     for name in endpoints.names() {
@@ -81,7 +82,8 @@ fn reserve_all(queue: &mut ClaimQueue, deliveries: &DeliveryBook) -> Result<(), 
 
 // The delivery at this place, if it is settled.
 pub(crate) fn row_at(deliveries: &DeliveryBook, place: usize) -> Option<Row>
-    ensures { result ≡ option_and_then (row_if_settled deliveries.now.settled_seq) (slice_get deliveries.now.entries place) }
+    ensures { result ≡ option_and_then (row_if_settled deliveries.now.settled_seq)
+        (slice_get deliveries.now.entries place) }
 {
     deliveries.settled(deliveries.delivery(place)?)
 }
@@ -107,7 +109,7 @@ fn update_rooms<L: Ledger>(
     Ok(())
 }
 
-// Holds each delivery that waits for its next attempt.
+// Enqueues each delivery that waits for its next attempt.
 fn enqueue_all(queue: &mut ClaimQueue, deliveries: &DeliveryBook)
     requires places { HasPlaces queue.old deliveries.now }
     requires empty { (pair : Pair) → is_held queue.old pair ≡ false }

@@ -30,7 +30,7 @@ fn due_of(deliveries: &DeliveryBook, delivery: u64) -> Option<(Name, u64)>
     }
 }
 
-// A settled delivery waits for its next attempt, where it is pending and none of its outcomes waits.
+// Puts a settled delivery into the queue, if it is pending and none of its outcomes waits.
 pub(crate) fn enqueue(queue: &mut ClaimQueue, deliveries: &DeliveryBook, delivery: u64)
     requires places { HasPlaces queue.old deliveries.now }
     requires unheld { IsNew queue.old delivery }
@@ -45,7 +45,7 @@ pub(crate) fn enqueue(queue: &mut ClaimQueue, deliveries: &DeliveryBook, deliver
     }
 }
 
-// An attempt at the delivery begins.
+// Takes a delivery out of the queue: an attempt at it begins.
 pub(crate) fn dequeue(queue: &mut ClaimQueue, deliveries: &DeliveryBook, delivery: u64)
     requires held { IfSome (pair_in deliveries.now delivery) (λ pair. IsTrue (is_held queue.old pair)) }
     requires places { HasPlaces queue.old deliveries.now }
@@ -79,11 +79,13 @@ pub(crate) fn update_room<L: Ledger>(
 fn settle_next(queue: &mut ClaimQueue, deliveries: &mut DeliveryBook)
     requires room { deliveries.old.settled_seq < MAX_RECORDS }
     requires queued { (live : List Row) × AreQueued queue.old deliveries.old live }
-    ensures queued { (live : List Row) → AreQueued queue.old deliveries.old live → AreQueued queue.new deliveries.new live }
+    ensures queued { (live : List Row) → AreQueued queue.old deliveries.old live
+        → AreQueued queue.new deliveries.new live }
     ensures rooms { KeepsRooms queue.old queue.new }
     ensures value { deliveries.new ≡ with_settled deliveries.old (deliveries.old.settled_seq + 1) }
     ensures stands { Settles deliveries.old (deliveries.old.settled_seq + 1) deliveries.new }
-    ensures waits { (records : List Record) → HasWaiting deliveries.old records → HasWaiting deliveries.new (drop 1 records) }
+    ensures waits { (records : List Record) → HasWaiting deliveries.old records
+        → HasWaiting deliveries.new (drop 1 records) }
     ensures names { HasSameNames deliveries.old deliveries.new }
 {
     let seq = deliveries.settled_seq();
@@ -99,7 +101,8 @@ pub(crate) fn settle_to(queue: &mut ClaimQueue, deliveries: &mut DeliveryBook, s
     requires above { deliveries.old.settled_seq ≤ seq }
     requires within { seq ≤ MAX_RECORDS }
     requires queued { (live : List Row) × AreQueued queue.old deliveries.old live }
-    ensures queued { (live : List Row) → AreQueued queue.old deliveries.old live → AreQueued queue.new deliveries.new live }
+    ensures queued { (live : List Row) → AreQueued queue.old deliveries.old live
+        → AreQueued queue.new deliveries.new live }
     ensures rooms { KeepsRooms queue.old queue.new }
     ensures settled { deliveries.new.settled_seq ≡ seq }
     ensures next { deliveries.new.next_seq ≡ max deliveries.old.next_seq seq }

@@ -79,13 +79,36 @@ pub record Stages (w next : World) : Type 0 where
   pub live : next.live ≡ w.live
   pub none : (d : ℕ) → attempts_of (records_of goes.more) d ≡ []
 
-goes_with : (w : World) (more : History) (clock : ℕ) → ((d : ℕ) → attempts_of (records_of more) d ≡ []) → Stages w (record w { history = w.history ++ more; clock = clock })
+goes_with : (w : World) (more : History) (clock : ℕ) → ((d : ℕ) → attempts_of (records_of more) d ≡ [])
+    → Stages w (record w { history = w.history ++ more; clock = clock })
 goes_with w more clock none =
-    record { goes = record { out = refl; settled = refl; sealed = refl; left = refl; halted = refl; more = more; history = refl }; live = refl; none = none }
+    record {
+      goes = record {
+        out = refl;
+        settled = refl;
+        sealed = refl;
+        left = refl;
+        halted = refl;
+        more =
+            more;
+        history = refl;
+      };
+      live = refl;
+      none = none;
+    }
 
 pub later : (w : World) (clock : ℕ) → Stages w (record w { clock = clock })
 later w clock = record {
-  goes = record { out = refl; settled = refl; sealed = refl; left = refl; halted = refl; more = []; history = sym (append-nil w.history) };
+  goes = record {
+    out = refl;
+    settled = refl;
+    sealed = refl;
+    left = refl;
+    halted = refl;
+    more = [];
+    history = sym
+        (append-nil w.history);
+  };
   live = refl;
   none = λ d. refl;
 }
@@ -93,17 +116,20 @@ later w clock = record {
 pub stays_so : (w : World) → Stages w w
 stays_so w = later w w.clock
 
-goes_unless : {A : Type 0} (faults : Faults) (w : World) (answer : desk.Answer A) → Stages w answer.next → Stages w (unless faults w answer).next
+goes_unless : {A : Type 0} (faults : Faults) (w : World) (answer : desk.Answer A) → Stages w answer.next
+    → Stages w (unless faults w answer).next
 goes_unless [] w answer h = h
 goes_unless {A} ((there, number, why) ∷ rest) w answer h = at there (goes_unless rest w answer h)
   where
-    at : (b : Bool) → Stages w (unless rest w answer).next → Stages w (if b then refused {A = A} w number why else unless rest w answer).next
+    at : (b : Bool) → Stages w (unless rest w answer).next
+        → Stages w (if b then refused {A = A} w number why else unless rest w answer).next
     at true h = stays_so w
     at false h = h
 
 pub goes_submit : (w : World) (now : ℕ) (name id body : List ℕ) → Stages w (submit w now name id body).next
 goes_submit w now name id body =
-    goes_unless (submit_faults w name (known_as (all_records w) name id) body) w (option_map_or (repeats w now name id) (known_as (all_records w) name id) (submit_new w now name id body))
+    goes_unless (submit_faults w name (known_as (all_records w) name id) body) w
+    (option_map_or (repeats w now name id) (known_as (all_records w) name id) (submit_new w now name id body))
     (at (known_as (all_records w) name id))
   where
     new : Stages w (submit_new w now name id body).next
@@ -210,46 +236,58 @@ few_given w now topic id body result next legal (inr lacks) = at (publish w now 
     at None none = absurd none
     at (Some number) (e, f) = subst AreFew (sym e) tt
 
-lacks_stays : {A : Type 0} (o : Option ℕ) (result : Result A Refusal) (w next : World) → IsSomeAnd o (λ number. (result ≡ Err (refusal number desk_fault.OutOfMemory)) × (next ≡ w)) → next ≡ w
+lacks_stays : {A : Type 0} (o : Option ℕ) (result : Result A Refusal) (w next : World)
+    → IsSomeAnd o (λ number. (result ≡ Err (refusal number desk_fault.OutOfMemory)) × (next ≡ w)) → next ≡ w
 lacks_stays None result w next h = absurd h
 lacks_stays (Some number) result w next h = h.1
 
-goes_given : {A : Type 0} (w : World) (answer : desk.Answer A) (result : Result A Refusal) (next : World) → Stages w answer.next → MayGive w answer result next → Stages w next
+goes_given : {A : Type 0} (w : World) (answer : desk.Answer A) (result : Result A Refusal) (next : World)
+    → Stages w answer.next → MayGive w answer result next → Stages w next
 goes_given w answer result next plain (inl given) = subst (Stages w) (sym given.1) plain
-goes_given w answer result next plain (inr lacks) = subst (Stages w) (sym (lacks_stays answer.memory result w next lacks)) (stays_so w)
+goes_given w answer result next plain (inr lacks) = subst (Stages w)
+    (sym (lacks_stays answer.memory result w next lacks)) (stays_so w)
 
 -- What stands for a world stands for one that goes on so
 
-pub same_first : (w next : World) (k : ℕ) → Goes w next → k ≤ length w.history → records_of (take k w.history) ≡ records_of (take k next.history)
+pub same_first : (w next : World) (k : ℕ) → Goes w next → k ≤ length w.history
+    → records_of (take k w.history) ≡ records_of (take k next.history)
 same_first w next k g within = ap records_of (sym (ap (take k) g.history ∙ take-append-le k w.history g.more within))
 
-batch_goes : (mark : ℕ) (w next : World) → Goes w next → w.settled ≤ w.sealed → w.sealed ≤ length w.history → sealed_batch mark w ≡ sealed_batch mark next
+batch_goes : (mark : ℕ) (w next : World) → Goes w next → w.settled ≤ w.sealed → w.sealed ≤ length w.history
+    → sealed_batch mark w ≡ sealed_batch mark next
 batch_goes mark w next g below within =
-    let settled : settled_records w ≡ settled_records next = same_first w next w.settled g (omega arith) ∙ ap (λ k. records_of (take k next.history)) (sym g.settled) in
+    let settled : settled_records w ≡ settled_records next = same_first w next w.settled g (omega arith)
+    ∙ ap (λ k. records_of (take k next.history)) (sym g.settled) in
     let sealed : take w.sealed w.history ≡ take next.sealed next.history = sym (ap (λ k. take k next.history) g.sealed
     ∙ ap (take w.sealed) g.history ∙ take-append-le w.sealed w.history g.more within) in
     λ i. record { mark = mark; from = length (settled i); steps = drop (sym g.settled i) (sealed i) }
 
-held_goes : (mark : ℕ) (w next : World) (now : Held) → Goes w next → w.settled ≤ w.sealed → w.sealed ≤ length w.history → IsHeld mark w now → IsHeld mark next now
+held_goes : (mark : ℕ) (w next : World) (now : Held) → Goes w next → w.settled ≤ w.sealed → w.sealed ≤ length w.history
+    → IsHeld mark w now → IsHeld mark next now
 held_goes mark w next held.Nothing g below within h = g.out ∙ h
 held_goes mark w next (held.Batch batch) g below within h = (g.out ∙ h.0, h.1 ∙ batch_goes mark w next g below within)
 held_goes mark w next (held.Receipt batch) g below within h = (g.out ∙ h.0, h.1 ∙ batch_goes mark w next g below within)
-held_goes mark w next (held.Doubt doubt) g below within h = (g.out ∙ h.0, h.1 ∙ ap doubt_of (batch_goes mark w next g below within))
+held_goes mark w next (held.Doubt doubt) g below within h =
+    (g.out ∙ h.0, h.1 ∙ ap doubt_of (batch_goes mark w next g below within))
 
 core_goes : {L : Type 0} (old new : Core L) (s : Session) (next : World) (given : List Given) → CoreStandsFor old s
     → Goes s.world next → StandsFor new.desk next → new.desk.waiting.mark ≡ old.desk.waiting.mark
-    → new.held ≡ old.held → new.permits.items ≡ next.live → AreOnce next.live → Keeps new.tickets given → CoreStandsFor new (record { world = next; tickets = given })
+    → new.held ≡ old.held → new.permits.items ≡ next.live → AreOnce next.live → Keeps new.tickets given
+    → CoreStandsFor new (record { world = next; tickets = given })
 core_goes old new s next given on goes desk mark same permits once keeps = record {
   desk = desk;
   held = subst (λ m. IsHeld m next new.held) (sym mark)
-      (subst (IsHeld old.desk.waiting.mark next) (sym same) (held_goes old.desk.waiting.mark s.world next old.held goes on.desk.waiting.settled_first on.desk.waiting.sealed_within on.held));
+      (subst (IsHeld old.desk.waiting.mark next) (sym same)
+      (held_goes old.desk.waiting.mark s.world next old.held goes on.desk.waiting.settled_first
+      on.desk.waiting.sealed_within on.held));
   permits = permits;
   once = once;
   tickets = keeps;
 }
 
 -- Where nothing is handed out or taken back, all that is out is held as before.
-pub holds_so : {L : Type 0} (old new : Core L) → KeepsOut old.desk new.desk → new.held ≡ old.held → new.permits.items ≡ old.permits.items → IsCore old → IsCore new
+pub holds_so : {L : Type 0} (old new : Core L) → KeepsOut old.desk new.desk → new.held ≡ old.held
+    → new.permits.items ≡ old.permits.items → IsCore old → IsCore new
 holds_so old new (live, out) same permits core = ∥∥₁_map core (λ (h : HoldsAll old). record {
   permits = permits ∙ h.permits ∙ sym live;
   out = subst (HoldsOut (batch_out new.desk.waiting)) (sym same) (subst (λ o. HoldsOut o old.held) (sym out) h.out);
@@ -271,7 +309,8 @@ may_give told kept s answer result next refuses (inl (e, f)) =
     inl (ap told e, λ i. record { world = f i; tickets = kept (e i) s.tickets })
 may_give told kept s answer result next refuses (inr without) = inr (at answer.memory without)
   where
-    at : (o : Option ℕ) → IsSomeAnd o (λ number. (result ≡ Err (refusal number desk_fault.OutOfMemory)) × (next ≡ s.world))
+    at : (o : Option ℕ) → IsSomeAnd o (λ number. (result ≡ Err (refusal number desk_fault.OutOfMemory))
+        × (next ≡ s.world))
         → IsOneOf (lacks s o) (told result) (record { world = next; tickets = kept result s.tickets })
     at None h = h
     at (Some number) (e, f) =
@@ -355,41 +394,60 @@ answers_published old new now topic id body tickets few moved mark out same perm
         (few_given s.world now topic id body (Ok tickets) made.0 on.desk.books.legal made.1)
 
 -- A look leaves the session as it is.
-pub answers_look : {L : Type 0} (core : Core L) (told : Session → Reply) (reply : Reply) → ((s : Session) → CoreStandsFor core s → reply ≡ told s) → CoreAnswers core (λ s. stays s (told s)) reply core
-answers_look core told reply says = record { mark = refl; moves = λ s on. (s, inl (says s on, refl), on); keeps = λ same. same }
+pub answers_look : {L : Type 0} (core : Core L) (told : Session → Reply) (reply : Reply)
+    → ((s : Session) → CoreStandsFor core s → reply ≡ told s) → CoreAnswers core (λ s. stays s (told s)) reply core
+answers_look core told reply says = record {
+  mark = refl;
+  moves = λ s on. (s, inl (says s on, refl), on);
+  keeps =
+      λ same. same;
+}
 
 -- Room is made.
-pub stands_with_room : {L : Type 0} (old new : Core L) (s : Session) → KeepsAll old new → CoreStandsFor old s → CoreStandsFor new s
+pub stands_with_room : {L : Type 0} (old new : Core L) (s : Session) → KeepsAll old new → CoreStandsFor old s
+    → CoreStandsFor new s
 stands_with_room old new s same on =
-    core_goes old new s s.world s.tickets on (stays_so s.world).goes (subst (λ d. StandsFor d s.world) (sym same.desk) on.desk) (ap (λ d. d.waiting.mark) same.desk) same.held
+    core_goes old new s s.world s.tickets on (stays_so s.world).goes
+    (subst (λ d. StandsFor d s.world) (sym same.desk) on.desk) (ap (λ d. d.waiting.mark) same.desk) same.held
     (same.permits ∙ on.permits) on.once (same.tickets s.tickets on.tickets)
 
 pub kept_with_room : {L : Type 0} (old new : Core L) → KeepsAll old new → IsCore old → IsCore new
-kept_with_room old new same = holds_so old new (ap (λ d. d.live) same.desk, ap (λ d. batch_out d.waiting) same.desk) same.held same.permits
+kept_with_room old new same = holds_so old new (ap (λ d. d.live) same.desk, ap (λ d. batch_out d.waiting) same.desk)
+    same.held same.permits
 
 -- Claims
 
-pub tells_given : {A : Type 0} (told : Result A Refusal → Reply) (s : Session) (answer : desk.Answer A) (result : Result A Refusal) (next : World) → ((r : Refusal) → told (Err r) ≡ refusal_reply r)
+pub tells_given : {A : Type 0} (told : Result A Refusal → Reply) (s : Session) (answer : desk.Answer A)
+    (result : Result A Refusal) (next : World) → ((r : Refusal) → told (Err r) ≡ refusal_reply r)
     → MayGive s.world answer result next → MayTell (tells told s answer) (told result) (record s { world = next })
 tells_given told s answer result next refusing (inl (e, f)) = inl (ap told e, λ i. record s { world = f i })
 tells_given told s answer result next refusing (inr without) = inr (at answer.memory without)
   where
-    at : (o : Option ℕ) → IsSomeAnd o (λ number. (result ≡ Err (refusal number desk_fault.OutOfMemory)) × (next ≡ s.world)) → IsOneOf (lacks s o) (told result) (record s { world = next })
+    at : (o : Option ℕ) → IsSomeAnd o (λ number. (result ≡ Err (refusal number desk_fault.OutOfMemory))
+        × (next ≡ s.world)) → IsOneOf (lacks s o) (told result) (record s { world = next })
     at None h = h
-    at (Some number) (e, f) = inl (ap told e ∙ refusing (refusal number desk_fault.OutOfMemory), λ i. record s { world = f i })
+    at (Some number) (e, f) = inl (
+      ap told e ∙ refusing (refusal number desk_fault.OutOfMemory),
+      λ i. record s
+          { world = f i },
+    )
 
 -- what is chosen waits for its next attempt
 waits_if_chosen : (w : World) (now d : ℕ) → choice w now ≡ Some d → waits w d ≡ true
-waits_if_chosen w now d e = by (accepted (settled_records w) d) (passes (is_claimable w now) d (deliveries (settled_records w)) (chosen_among (due_of (settled_records w)) (claimables w now) d e))
+waits_if_chosen w now d e = by (accepted (settled_records w) d)
+    (passes (is_claimable w now) d (deliveries (settled_records w))
+    (chosen_among (due_of (settled_records w)) (claimables w now) d e))
   where
     by : (o : Option Accepted) → option_map_or (is_claimable_for w now d) o false ≡ true → waits w d ≡ true
     by None h = absurd (let no = h in cc)
     by (Some a) h = (and_parts (waits w d) _ h).0
 
 -- what waits is pending, no outcome of it waits, and no attempt at it is under way
-pub waits_so : (w : World) (d : ℕ) → waits w d ≡ true → (is_pending (settled_records w) d ≡ true) × (has_no_waiting_outcome w d ≡ true) × (is_live w d ≡ false)
+pub waits_so : (w : World) (d : ℕ) → waits w d ≡ true → (is_pending (settled_records w) d ≡ true)
+    × (has_no_waiting_outcome w d ≡ true) × (is_live w d ≡ false)
 waits_so w d h =
-    let (pending, behind) = and_parts (is_pending (settled_records w) d) (has_no_waiting_outcome w d && not (is_live w d)) h in
+    let (pending, behind) = and_parts (is_pending (settled_records w) d)
+    (has_no_waiting_outcome w d && not (is_live w d)) h in
     let (none, free) = and_parts (has_no_waiting_outcome w d) (not (is_live w d)) behind in
     (pending, none, not-true (is_live w d) free)
 
@@ -399,20 +457,25 @@ IsClaimed w (Ok (Some job)) next = (at : ℕ) × (next ≡ with_attempt w at job
 IsClaimed w (Ok None) next = (at : ℕ) × (next ≡ record w { clock = at })
 IsClaimed w (Err r) next = (at : ℕ) × (next ≡ record w { clock = at })
 
-claimed : (w : World) (now : ℕ) (result : Result (Option JobValue) Refusal) (next : World) → MayGive w (claim w now) result next → IsClaimed w result next
+claimed : (w : World) (now : ℕ) (result : Result (Option JobValue) Refusal) (next : World)
+    → MayGive w (claim w now) result next → IsClaimed w result next
 claimed w now result next = at w.halted (choice w (moment w now)) refl
   where
     began : (d : ℕ) → choice w (moment w now) ≡ Some d → (full : Bool) (accept : Option Accepted)
-        → MayGive w (unless ((full, 2, desk_fault.SeqExhausted) ∷ []) w (option_map_or (starts w (moment w now) d) accept (rests w (moment w now)))) result next → IsClaimed w result next
+        → MayGive w (unless ((full, 2, desk_fault.SeqExhausted) ∷ []) w
+        (option_map_or (starts w (moment w now) d) accept (rests w (moment w now)))) result next
+        → IsClaimed w result next
     began d e true accept (inl given) = subst (λ r. IsClaimed w r next) (sym given.0) (w.clock, given.1)
     began d e true accept (inr without) = absurd without
     began d e false None (inl given) = subst (λ r. IsClaimed w r next) (sym given.0) (moment w now, given.1)
     began d e false None (inr without) = absurd without
-    began d e false (Some a) (inl given) = subst (λ r. IsClaimed w r next) (sym given.0) (moment w now, given.1, waits_if_chosen w (moment w now) d e)
+    began d e false (Some a) (inl given) = subst (λ r. IsClaimed w r next) (sym given.0)
+        (moment w now, given.1, waits_if_chosen w (moment w now) d e)
     began d e false (Some a) (inr without) = subst (λ r. IsClaimed w r next) (sym without.0) (w.clock, without.1)
 
     at : (halted : Bool) (chosen : Option ℕ) → choice w (moment w now) ≡ chosen
-        → MayGive w (unless ((halted, 1, desk_fault.Halted) ∷ []) w (claim_chosen w (moment w now) chosen)) result next → IsClaimed w result next
+        → MayGive w (unless ((halted, 1, desk_fault.Halted) ∷ []) w (claim_chosen w (moment w now) chosen)) result next
+        → IsClaimed w result next
     at true chosen e (inl given) = subst (λ r. IsClaimed w r next) (sym given.0) (w.clock, given.1)
     at true chosen e (inr without) = absurd without
     at false None e (inl given) = subst (λ r. IsClaimed w r next) (sym given.0) (moment w now, given.1)
@@ -420,9 +483,19 @@ claimed w now result next = at w.halted (choice w (moment w now)) refl
     at false (Some d) e h = began d e (are_seqs_spent w) (accepted (all_records w) d) h
 
 begins : (w : World) (at : ℕ) (row : Row) → Goes w (with_attempt w at row)
-begins w at row = record { out = refl; settled = refl; sealed = refl; left = refl; halted = refl; more = []; history = sym (append-nil w.history) }
+begins w at row = record {
+  out = refl;
+  settled = refl;
+  sealed = refl;
+  left = refl;
+  halted = refl;
+  more = [];
+  history =
+      sym (append-nil w.history);
+}
 
-pub goes_claim : (w : World) (result : Result (Option JobValue) Refusal) (next : World) → IsClaimed w result next → Goes w next
+pub goes_claim : (w : World) (result : Result (Option JobValue) Refusal) (next : World) → IsClaimed w result next
+    → Goes w next
 goes_claim w (Ok (Some job)) next (at, e, waiting) = subst (Goes w) (sym e) (begins w at job.row)
 goes_claim w (Ok None) next (at, e) = subst (Goes w) (sym e) (later w at).goes
 goes_claim w (Err r) next (at, e) = subst (Goes w) (sym e) (later w at).goes
@@ -434,18 +507,23 @@ is_claim w now = claimed w now (claim w now).reply (claim w now).next (inl (refl
 once_more : (rows : List Row) (row : Row) → AreOnce rows → is_out row.delivery rows ≡ false → AreOnce (rows ++ row ∷ [])
 once_more rows row once free d = at (nat_eq row.delivery d) refl
   where
-    push : count_by (λ (x : Row). x.delivery == d) (rows ++ row ∷ []) ≡ count_by (λ (x : Row). x.delivery == d) rows + cond (nat_eq row.delivery d) 1 0
+    push : count_by (λ (x : Row). x.delivery == d) (rows ++ row ∷ []) ≡ count_by (λ (x : Row). x.delivery == d) rows
+        + cond (nat_eq row.delivery d) 1 0
     push = sum_by_push (λ (x : Row). cond (nat_eq x.delivery d) 1 0) rows row
 
     at : (b : Bool) → nat_eq row.delivery d ≡ b → count_by (λ (x : Row). x.delivery == d) (rows ++ row ∷ []) ≤ 1
     at true e =
-        let none : attempts_at d rows ≡ 0 = subst (λ n. attempts_at n rows ≡ 0) (eqb-true row.delivery d e) (none_counted (λ (x : Row). nat_eq x.delivery row.delivery) rows free) in
+        let none : attempts_at d rows ≡ 0 = subst (λ n. attempts_at n rows ≡ 0) (eqb-true row.delivery d e)
+        (none_counted (λ (x : Row). nat_eq x.delivery row.delivery) rows free) in
         omega (arith, push, none, ap {B = ℕ} (λ b. cond b 1 0) e)
     at false e = omega (arith, push, once d, ap {B = ℕ} (λ b. cond b 1 0) e)
 
-pub answers_claimed : {L : Type 0} (old new : Core L) (now : ℕ) (job : JobValue) → IsMove old.desk (λ w. claim w now) (Ok (Some job)) new.desk → new.desk.waiting.mark ≡ old.desk.waiting.mark
-    → new.desk.live ≡ old.desk.live ++ job.row ∷ [] → batch_out new.desk.waiting ≡ batch_out old.desk.waiting → new.held ≡ old.held
-    → new.permits.items ≡ old.permits.items ++ job.row ∷ [] → new.tickets ≡ old.tickets → CoreAnswers old (λ s. tells claim_reply s (claim s.world now)) (claim_reply (Ok (Some job))) new
+pub answers_claimed : {L : Type 0} (old new : Core L) (now : ℕ) (job : JobValue)
+    → IsMove old.desk (λ w. claim w now) (Ok (Some job)) new.desk → new.desk.waiting.mark ≡ old.desk.waiting.mark
+    → new.desk.live ≡ old.desk.live ++ job.row ∷ [] → batch_out new.desk.waiting ≡ batch_out old.desk.waiting
+    → new.held ≡ old.held
+    → new.permits.items ≡ old.permits.items ++ job.row ∷ [] → new.tickets ≡ old.tickets
+    → CoreAnswers old (λ s. tells claim_reply s (claim s.world now)) (claim_reply (Ok (Some job))) new
 answers_claimed old new now job moved mark rows out same permits tickets = record {
   mark = mark;
   keeps = λ core. ∥∥₁_map core (λ (h : HoldsAll old). record {
@@ -458,7 +536,8 @@ answers_claimed old new now job moved mark rows out same permits tickets = recor
       let live : made.0.live ≡ s.world.live ++ job.row ∷ [] = ap (λ (w : World). w.live) e in (
         record s { world = made.0 },
         tells_given claim_reply s (claim s.world now) (Ok (Some job)) made.0 (λ r. refl) made.1,
-        core_goes old new s made.0 s.tickets on (goes_claim s.world (Ok (Some job)) made.0 (at, e, waiting)) made.2 mark same
+        core_goes old new s made.0 s.tickets on (goes_claim s.world (Ok (Some job)) made.0 (at, e, waiting)) made.2 mark
+            same
             (permits ∙ ap (λ rows. rows ++ job.row ∷ []) on.permits ∙ sym live)
             (subst AreOnce (sym live)
             (once_more s.world.live job.row on.once (waits_so s.world job.row.delivery waiting).2))
@@ -472,13 +551,16 @@ is_claimed (Ok (Some job)) = true
 is_claimed (Ok None) = false
 is_claimed (Err r) = false
 
-same_live : (w : World) (result : Result (Option JobValue) Refusal) (next : World) → is_claimed result ≡ false → IsClaimed w result next → next.live ≡ w.live
+same_live : (w : World) (result : Result (Option JobValue) Refusal) (next : World) → is_claimed result ≡ false
+    → IsClaimed w result next → next.live ≡ w.live
 same_live w (Ok (Some job)) next none h = absurd (let e = none in cc)
 same_live w (Ok None) next none (at, e) = ap (λ (v : World). v.live) e
 same_live w (Err r) next none (at, e) = ap (λ (v : World). v.live) e
 
-pub answers_unclaimed : {L : Type 0} (old new : Core L) (now : ℕ) (result : Result (Option JobValue) Refusal) → is_claimed result ≡ false → IsMove old.desk (λ w. claim w now) result new.desk
-    → new.desk.waiting.mark ≡ old.desk.waiting.mark → KeepsOut old.desk new.desk → new.held ≡ old.held → new.permits.items ≡ old.permits.items → new.tickets ≡ old.tickets
+pub answers_unclaimed : {L : Type 0} (old new : Core L) (now : ℕ) (result : Result (Option JobValue) Refusal)
+    → is_claimed result ≡ false → IsMove old.desk (λ w. claim w now) result new.desk
+    → new.desk.waiting.mark ≡ old.desk.waiting.mark → KeepsOut old.desk new.desk → new.held ≡ old.held
+    → new.permits.items ≡ old.permits.items → new.tickets ≡ old.tickets
     → CoreAnswers old (λ s. tells claim_reply s (claim s.world now)) (claim_reply result) new
 answers_unclaimed old new now result none moved mark out same permits tickets = record {
   mark = mark;
@@ -490,7 +572,8 @@ answers_unclaimed old new now result none moved mark out same permits tickets = 
         record s { world = made.0 },
         tells_given claim_reply s (claim s.world now) result made.0 (λ r. refl) made.1,
         core_goes old new s made.0 s.tickets on (goes_claim s.world result made.0 is) made.2 mark same
-            (permits ∙ on.permits ∙ sym live) (subst AreOnce (sym live) on.once) (subst (λ t. Keeps t s.tickets) (sym tickets) on.tickets),
+            (permits ∙ on.permits ∙ sym live) (subst AreOnce (sym live) on.once)
+            (subst (λ t. Keeps t s.tickets) (sym tickets) on.tickets),
       );
 }
 
@@ -504,10 +587,29 @@ goes_over w row post now = at w.halted
       measured = w.measured ++ sample_by row post;
       clock = moment w now;
     })
-    at true = record { out = refl; settled = refl; sealed = refl; left = refl; halted = refl; more = []; history = sym (append-nil w.history) }
-    at false = record { out = refl; settled = refl; sealed = refl; left = refl; halted = refl; more = _; history = refl }
+    at true = record {
+      out = refl;
+      settled = refl;
+      sealed = refl;
+      left = refl;
+      halted = refl;
+      more = [];
+      history = sym
+          (append-nil w.history);
+    }
+    at false = record {
+      out = refl;
+      settled = refl;
+      sealed = refl;
+      left = refl;
+      halted = refl;
+      more = _;
+      history =
+          refl;
+    }
 
-live_over : (w : World) (row : Row) (post : PostResult) (now : ℕ) → (with_attempt_over w row post now).live ≡ others row w.live
+live_over : (w : World) (row : Row) (post : PostResult) (now : ℕ)
+    → (with_attempt_over w row post now).live ≡ others row w.live
 live_over w row post now = at w.halted
   where
     at : (b : Bool) → (if b then without_row w row else record (without_row w row) {
@@ -519,14 +621,17 @@ live_over w row post now = at w.halted
     at false = refl
 
 -- what stands at the first place is found
-found_at : (test : Row → Bool) (rows : List Row) (i : ℕ) (d : Row) → position test rows ≡ Some i → find test rows ≡ Some (get_or rows i d)
+found_at : (test : Row → Bool) (rows : List Row) (i : ℕ) (d : Row) → position test rows ≡ Some i
+    → find test rows ≡ Some (get_or rows i d)
 found_at test rows i d e = pick (nat_lt (position_or_len test rows) (length rows)) e
   where
     within : i < length rows
     within = (position-Some test rows i d e).0
 
-    pick : (b : Bool) → cond b (Some (position_or_len test rows)) None ≡ Some i → find test rows ≡ Some (get_or rows i d)
-    pick true is = find_at test rows ∙ ap (slice_get rows) (same_Some (position_or_len test rows) i is) ∙ slice_get-get_or rows i d within
+    pick : (b : Bool) → cond b (Some (position_or_len test rows)) None ≡ Some i
+        → find test rows ≡ Some (get_or rows i d)
+    pick true is = find_at test rows ∙ ap (slice_get rows) (same_Some (position_or_len test rows) i is)
+        ∙ slice_get-get_or rows i d within
     pick false is = cc
 
 -- the permit that was taken out
@@ -535,14 +640,18 @@ pub record IsTaken (delivery place : ℕ) (row : Row) (rows rest : List Row) : T
   pub own : row ≡ get_or rows place row
   pub left : rest ≡ remove rows place
 
-taken_within : (delivery place : ℕ) (row : Row) (rows rest : List Row) → IsTaken delivery place row rows rest → place < length rows
-taken_within delivery place row rows rest t = (position-Some (λ (r : Row). r.delivery == delivery) rows place row t.at).0
+taken_within : (delivery place : ℕ) (row : Row) (rows rest : List Row) → IsTaken delivery place row rows rest
+    → place < length rows
+taken_within delivery place row rows rest t =
+    (position-Some (λ (r : Row). r.delivery == delivery) rows place row t.at).0
 
 -- it stands first of those with its row
-pub taken_first : (delivery place : ℕ) (row : Row) (rows rest : List Row) → IsTaken delivery place row rows rest → position (same_row row) rows ≡ Some place
+pub taken_first : (delivery place : ℕ) (row : Row) (rows rest : List Row) → IsTaken delivery place row rows rest
+    → position (same_row row) rows ≡ Some place
 taken_first delivery place row rows rest t = by (position (same_row row) rows) refl
   where
-    first : (place < length rows) × (nat_eq (get_or rows place row).delivery delivery ≡ true) × ((k : ℕ) → k < place → nat_eq (get_or rows k row).delivery delivery ≡ false)
+    first : (place < length rows) × (nat_eq (get_or rows place row).delivery delivery ≡ true)
+        × ((k : ℕ) → k < place → nat_eq (get_or rows k row).delivery delivery ≡ false)
     first = position-Some (λ (r : Row). r.delivery == delivery) rows place row t.at
 
     here : same_row row (get_or rows place row) ≡ true
@@ -551,31 +660,38 @@ taken_first delivery place row rows rest t = by (position (same_row row) rows) r
     early : (i : ℕ) → i < place → same_row row (get_or rows i row) ≡ true → ⊥
     early i lt found =
         let other : nat_eq (get_or rows i row).delivery delivery ≡ false = first.2 i lt in
-        let same : nat_eq (get_or rows i row).delivery delivery ≡ true = ap (λ (r : Row). nat_eq r.delivery delivery) (sym (same_row_is row (get_or rows i row) found) ∙ t.own) ∙ first.1 in
+        let same : nat_eq (get_or rows i row).delivery delivery ≡ true = ap (λ (r : Row). nat_eq r.delivery delivery)
+        (sym (same_row_is row (get_or rows i row) found) ∙ t.own) ∙ first.1 in
         let no : true ≡ false = sym same ∙ other in cc
 
     by : (o : Option ℕ) → position (same_row row) rows ≡ o → position (same_row row) rows ≡ Some place
     by None none =
-        let no : true ≡ false = sym (list_any_at (same_row row) rows place row first.0 here) ∙ none_found (same_row row) rows none in cc
+        let no : true ≡ false = sym (list_any_at (same_row row) rows place row first.0 here)
+        ∙ none_found (same_row row) rows none in cc
     by (Some i) e =
         let (within, found, before) = position-Some (same_row row) rows i row e in
         let late : place < i → ⊥ = λ lt. (let no : true ≡ false = sym here ∙ before place lt in cc) in
-        e ∙ ap (λ n. Some n) (⊎_elim (λ lt. absurd (early i lt found)) (λ most. ⊎_elim (λ lt. absurd (late lt)) (λ least. omega (arith, most, least)) (cases_lt place i)) (cases_lt i place))
+        e ∙ ap (λ n. Some n) (⊎_elim (λ lt. absurd (early i lt found))
+        (λ most. ⊎_elim (λ lt. absurd (late lt)) (λ least. omega (arith, most, least)) (cases_lt place i))
+        (cases_lt i place))
 
 -- it is that of an attempt that is under way
 pub taken_is_out : {L : Type 0} (core : Core L) (s : Session) (delivery place : ℕ) (row : Row) (rest : List Row)
     → CoreStandsFor core s → IsTaken delivery place row core.permits.items rest → has_row s.world row ≡ true
 taken_is_out core s delivery place row rest on t =
     subst (λ rows. list_any (same_row row) rows ≡ true) on.permits
-    (list_any_at (same_row row) core.permits.items place row (taken_within delivery place row core.permits.items rest t) (ap (same_row row) (sym t.own) ∙ same_row_self row))
+    (list_any_at (same_row row) core.permits.items place row (taken_within delivery place row core.permits.items rest t)
+    (ap (same_row row) (sym t.own) ∙ same_row_self row))
 
 once_less : (rows : List Row) (place : ℕ) (d : Row) → place < length rows → AreOnce rows → AreOnce (remove rows place)
 once_less rows place d within once n =
-    let less : count_by (λ (x : Row). x.delivery == n) (remove rows place) + cond (nat_eq (get_or rows place d).delivery n) 1 0 ≡ count_by (λ (x : Row). x.delivery == n) rows =
+    let less : count_by (λ (x : Row). x.delivery == n) (remove rows place) + cond
+    (nat_eq (get_or rows place d).delivery n) 1 0 ≡ count_by (λ (x : Row). x.delivery == n) rows =
     sum_by-remove (λ (x : Row). cond (nat_eq x.delivery n) 1 0) rows place d within in
     omega (arith, less, once n)
 
-pub answers_spent : {L : Type 0} (old new : Core L) (delivery now place : ℕ) (post : PostResult) (row : Row) (spent : SpentValue) → IsTaken delivery place row old.permits.items new.permits.items
+pub answers_spent : {L : Type 0} (old new : Core L) (delivery now place : ℕ) (post : PostResult) (row : Row)
+    (spent : SpentValue) → IsTaken delivery place row old.permits.items new.permits.items
     → Spends {E = Unit {0}} old.desk row post now (Ok spent) new.desk → new.desk.waiting.mark ≡ old.desk.waiting.mark
     → ((place : ℕ) → position (same_row row) old.desk.live ≡ Some place → new.desk.live ≡ remove old.desk.live place)
     → batch_out new.desk.waiting ≡ batch_out old.desk.waiting → new.held ≡ old.held → new.tickets ≡ old.tickets
@@ -593,29 +709,37 @@ answers_spent old new delivery now place post row spent t spends_so mark rows ou
       let next = with_attempt_over s.world row post now in
       let within = taken_within delivery place row old.permits.items new.permits.items t in
       let found : permit_of s.world delivery ≡ Some row =
-      ap (find (λ (r : Row). r.delivery == delivery)) (sym on.permits) ∙ found_at (λ (r : Row). r.delivery == delivery) old.permits.items place row t.at ∙ ap (λ r. Some r) (sym t.own) in
+      ap (find (λ (r : Row). r.delivery == delivery)) (sym on.permits) ∙ found_at (λ (r : Row). r.delivery == delivery)
+      old.permits.items place row t.at ∙ ap (λ r. Some r) (sym t.own) in
       let once : AreOnce old.permits.items = subst AreOnce (sym on.permits) on.once in
       let rest : new.permits.items ≡ next.live =
-      t.left ∙ removed_is row old.permits.items place within t.own (once row.delivery) ∙ ap (others row) on.permits ∙ sym (live_over s.world row post now) in
-      let fewer : AreOnce next.live = subst AreOnce (sym t.left ∙ rest) (once_less old.permits.items place row within once) in (
+      t.left ∙ removed_is row old.permits.items place within t.own (once row.delivery) ∙ ap (others row) on.permits
+      ∙ sym (live_over s.world row post now) in
+      let fewer : AreOnce next.live = subst AreOnce (sym t.left ∙ rest)
+      (once_less old.permits.items place row within once) in (
         record s { world = next },
-        subst (λ p. MayTell (spends s p post now) (spent_reply spent) (record s { world = next })) (sym found) (inl (ap spent_reply over.1, refl)),
-        core_goes old new s next s.tickets on (goes_over s.world row post now) over.2 mark same rest fewer (subst (λ k. Keeps k s.tickets) (sym tickets) on.tickets),
+        subst (λ p. MayTell (spends s p post now) (spent_reply spent) (record s { world = next })) (sym found)
+            (inl (ap spent_reply over.1, refl)),
+        core_goes old new s next s.tickets on (goes_over s.world row post now) over.2 mark same rest fewer
+            (subst (λ k. Keeps k s.tickets) (sym tickets) on.tickets),
       );
 }
 
 -- no permit of the delivery was given
-pub answers_no_permit : {L : Type 0} (core : Core L) (delivery now : ℕ) (post : PostResult) → position (λ (r : Row). r.delivery == delivery) core.permits.items ≡ None
+pub answers_no_permit : {L : Type 0} (core : Core L) (delivery now : ℕ) (post : PostResult)
+    → position (λ (r : Row). r.delivery == delivery) core.permits.items ≡ None
     → CoreAnswers core (λ s. spends s (permit_of s.world delivery) post now) says.NoPermit core
 answers_no_permit core delivery now post none = record {
   mark = refl;
   keeps = λ same. same;
   moves = λ s on.
-      let missing : permit_of s.world delivery ≡ None = ap (find (λ (r : Row). r.delivery == delivery)) (sym on.permits) ∙ not_found core.permits.items none in
+      let missing : permit_of s.world delivery ≡ None = ap (find (λ (r : Row). r.delivery == delivery)) (sym on.permits)
+      ∙ not_found core.permits.items none in
       (s, subst (λ p. MayTell (spends s p post now) says.NoPermit s) (sym missing) (inl (refl, refl)), on);
 }
   where
-    not_found : (rows : List Row) → position (λ (r : Row). r.delivery == delivery) rows ≡ None → find (λ (r : Row). r.delivery == delivery) rows ≡ None
+    not_found : (rows : List Row) → position (λ (r : Row). r.delivery == delivery) rows ≡ None
+        → find (λ (r : Row). r.delivery == delivery) rows ≡ None
     not_found rows e = pick (nat_lt (position_or_len (λ (r : Row). r.delivery == delivery) rows) (length rows)) refl e
       where
         pick : (b : Bool) → nat_lt (position_or_len (λ (r : Row). r.delivery == delivery) rows) (length rows) ≡ b
@@ -623,4 +747,5 @@ answers_no_permit core delivery now post none = record {
             → find (λ (r : Row). r.delivery == delivery) rows ≡ None
         pick true below e = cc
         pick false beyond e = find_at (λ (r : Row). r.delivery == delivery) rows
-            ∙ slice_get_past rows (position_or_len (λ (r : Row). r.delivery == delivery) rows) (ltb-false (position_or_len (λ (r : Row). r.delivery == delivery) rows) (length rows) beyond)
+            ∙ slice_get_past rows (position_or_len (λ (r : Row). r.delivery == delivery) rows)
+            (ltb-false (position_or_len (λ (r : Row). r.delivery == delivery) rows) (length rows) beyond)

@@ -1,5 +1,6 @@
 -- A world that goes on from another one, and what a stop may leave of it.
-use Rattle.std.proofs.Common.{◌≡◌, ◌≤◌, ◌+◌, ◌-◌, ℕ, false, List, [], ◌∷◌, ◌++◌, length, take, refl, sym, ap, subst, ◌∙◌, arith, length-append, append-nil, append_assoc}
+use Rattle.std.proofs.Common.{◌≡◌, ◌≤◌, ◌+◌, ◌-◌, ℕ, false, List, [], ◌∷◌, ◌++◌, length, take, refl, sym, ap, subst}
+use Rattle.std.proofs.Common.{◌∙◌, arith, length-append, append-nil, append_assoc}
 use Rattle.std.proofs.lemmas.List.{take-append-le}
 use Rattle.std.proofs.Math.Seq.{take-append-add}
 use Rattle.relay_types.specs.declared.record.Record.{Record}
@@ -36,15 +37,22 @@ goes_on_by w mid next a b = record {
 }
 
 pub marks_go : (w next : World) → Goes w next → HasMarksInOrder w → HasMarksInOrder next
-marks_go w next g marks = (omega (arith, marks.0, g.settled, g.sealed), omega (arith, marks.1, g.sealed, ap length g.history, length-append w.history g.more))
+marks_go w next g marks = (
+  omega (arith, marks.0, g.settled, g.sealed),
+  omega
+      (arith, marks.1, g.sealed, ap length g.history, length-append w.history g.more),
+)
 
 -- the world goes on, and its marks are in order
 abbrev GoesInOrder : World → World → Type 0
 GoesInOrder w next = GoesOn w next × HasMarksInOrder next
 
-pub line_goes_on : (s next : Session) (event : line.Call) (told : line_reply.Reply) → HasMarksInOrder s.world → Move s event told next → GoesInOrder s.world next.world
+pub line_goes_on : (s next : Session) (event : line.Call) (told : line_reply.Reply) → HasMarksInOrder s.world
+    → Move s event told next → GoesInOrder s.world next.world
 line_goes_on s next event told marks move = by_call (GoesInOrder s.world) s next event told desk
-    (commits_follow (GoesInOrder s.world) s next told s.world.out refl stays (λ e. (stays_on s.world _ refl (omega arith), marks)) (λ e. (stays_on s.world _ refl (omega arith), marks))) move
+    (commits_follow (GoesInOrder s.world) s next told s.world.out refl stays
+    (λ e. (stays_on s.world _ refl (omega arith), marks)) (λ e. (stays_on s.world _ refl (omega arith), marks)))
+    move
   where
     stays : GoesInOrder s.world s.world
     stays = (stays_on s.world s.world refl (omega arith), marks)
@@ -52,19 +60,30 @@ line_goes_on s next event told marks move = by_call (GoesInOrder s.world) s next
     desk : is_commit event ≡ false → GoesInOrder s.world next.world
     desk own = follows (GoesInOrder s.world) s next event told own (record {
       stays = stays;
-      goes = λ other g. (record { more = g.more; history = g.history; settled = omega (arith, g.settled) }, marks_go s.world other g marks);
-      seals = λ going free. (stays_on s.world _ refl (omega arith), (omega arith, sealed_within s.world (omega (arith, marks.0, marks.1))));
+      goes = λ other g. (
+        record { more = g.more; history = g.history; settled = omega (arith, g.settled) },
+        marks_go
+            s.world other g marks,
+      );
+      seals = λ going free. (
+        stays_on s.world _ refl (omega arith),
+        (omega arith, sealed_within s.world (omega (arith, marks.0, marks.1))),
+      );
       settles = λ e. (stays_on s.world _ refl marks.0, (omega arith, marks.1));
       unseals = λ e. (stays_on s.world _ refl (omega arith), (omega arith, omega (arith, marks.0, marks.1)));
       halts = λ other. (stays_on s.world _ refl (omega arith), marks);
     }) move
 
-pub event_goes_on : (s next : Session) (event : Event) (told : Reply) → HasMarksInOrder s.world → Makes s event told next → GoesInOrder s.world next.world
+pub event_goes_on : (s next : Session) (event : Event) (told : Reply) → HasMarksInOrder s.world
+    → Makes s event told next → GoesInOrder s.world next.world
 event_goes_on s next (on.Line event) told marks (line, is, move) = line_goes_on s next event line marks move
-event_goes_on s next (on.Look asked) told marks (is, same) = subst (λ (t : Session). GoesInOrder s.world t.world) (sym same) (stays_on s.world s.world refl (omega arith), marks)
+event_goes_on s next (on.Look asked) told marks (is, same) = subst (λ (t : Session). GoesInOrder s.world t.world)
+    (sym same) (stays_on s.world s.world refl (omega arith), marks)
 
-pub run_goes_on : (events : List Event) (replies : List Reply) (s last : Session) (n : ℕ) → HasMarksInOrder s.world → Runs s events replies last n → GoesInOrder s.world last.world
-run_goes_on [] [] s last n marks (same, none) = subst (λ (t : Session). GoesInOrder s.world t.world) (sym same) (stays_on s.world s.world refl (omega arith), marks)
+pub run_goes_on : (events : List Event) (replies : List Reply) (s last : Session) (n : ℕ) → HasMarksInOrder s.world
+    → Runs s events replies last n → GoesInOrder s.world last.world
+run_goes_on [] [] s last n marks (same, none) = subst (λ (t : Session). GoesInOrder s.world t.world) (sym same)
+    (stays_on s.world s.world refl (omega arith), marks)
 run_goes_on (event ∷ events) (told ∷ replies) s last n marks (next, later, makes, rest, is) =
     let here = event_goes_on s next event told marks makes in
     let behind = run_goes_on events replies next last later here.1 rest in
@@ -77,19 +96,24 @@ opening_marks w (history, clock, is) = subst HasMarksInOrder (sym is) (omega ari
 
 -- What stays in its place
 
-pub same_first_records : (w next : World) (n : ℕ) → GoesOn w next → n ≤ length (all_records w) → take n (all_records next) ≡ take n (all_records w)
+pub same_first_records : (w next : World) (n : ℕ) → GoesOn w next → n ≤ length (all_records w)
+    → take n (all_records next) ≡ take n (all_records w)
 same_first_records w next n g below =
-    ap (λ h. take n (records_of h)) g.history ∙ ap (take n) (flatten_both w.history g.more) ∙ take-append-le n (all_records w) (records_of g.more) below
+    ap (λ h. take n (records_of h)) g.history ∙ ap (take n) (flatten_both w.history g.more)
+    ∙ take-append-le n (all_records w) (records_of g.more) below
 
 -- Whatever a stop may leave begins with what was there in the opening.
-pub opening_in_front : (w next : World) → IsOpening w → GoesOn w next → HasMarksInOrder next → LeavesBy next.out next → AreInFront (all_records w) next
-opening_in_front w next (history, clock, is) g marks leaves = each_left (λ steps. (more : List Record) × (records_of_first next steps ≡ all_records w ++ more)) next next.out leaves
+pub opening_in_front : (w next : World) → IsOpening w → GoesOn w next → HasMarksInOrder next → LeavesBy next.out next
+    → AreInFront (all_records w) next
+opening_in_front w next (history, clock, is) g marks leaves = each_left (λ steps. (more : List Record)
+    × (records_of_first next steps ≡ all_records w ++ more)) next next.out leaves
     (at next.settled (omega (arith, all, g.settled))) (at next.sealed (omega (arith, all, g.settled, marks.0)))
   where
     all : w.settled ≡ length w.history
     all = ap (λ (v : World). v.settled) is ∙ sym (ap (λ (v : World). length v.history) is)
 
-    at : (steps : ℕ) → length w.history ≤ steps → (more : List Record) × (records_of_first next steps ≡ all_records w ++ more)
+    at : (steps : ℕ) → length w.history ≤ steps → (more : List Record)
+        × (records_of_first next steps ≡ all_records w ++ more)
     at steps within =
         let reaches : steps ≡ length w.history + (steps - length w.history) = omega (arith, within) in (
           records_of (take (steps - length w.history) g.more),
@@ -102,7 +126,12 @@ opening_in_front w next (history, clock, is) g marks leaves = each_left (λ step
 pub front_kept : (w : World) (n : ℕ) (records : List Record) → LeavesBy w.out w
     → n ≤ length (records_of_first w w.settled) → n ≤ length (records_of_first w w.sealed) → take n (all_records w)
     ≡ take n records → KeepsFirst w n records
-front_kept w n records leaves settled sealed same = each_left (λ steps. HasFirst n records (records_of_first w steps)) w w.out leaves (at w.settled settled) (at w.sealed sealed)
+front_kept w n records leaves settled sealed same = each_left (λ steps. HasFirst n records (records_of_first w steps)) w
+    w.out leaves (at w.settled settled) (at w.sealed sealed)
   where
     at : (steps : ℕ) → n ≤ length (records_of_first w steps) → HasFirst n records (records_of_first w steps)
-    at steps within = (within, sym (take-append-le n (records_of_first w steps) _ within) ∙ ap (take n) (split_at steps w.history) ∙ same)
+    at steps within = (
+      within,
+      sym (take-append-le n (records_of_first w steps) _ within)
+          ∙ ap (take n) (split_at steps w.history) ∙ same,
+    )

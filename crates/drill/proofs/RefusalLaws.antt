@@ -1,5 +1,6 @@
 -- Which faults can refuse a move.
-use Rattle.std.proofs.Common.{◌≡◌, ℕ, List, [], ◌∷◌, Option, Some, None, Result, Ok, Err, inl, inr, refl, sym, ap, subst}
+use Rattle.std.proofs.Common.{◌≡◌, ℕ, List, [], ◌∷◌, Option, Some, None, Result, Ok, Err, inl, inr, refl, sym, ap}
+use Rattle.std.proofs.Common.{subst}
 use Rattle.permits.specs.declared.row.Row.{Row}
 use Rattle.retry_table.specs.declared.post.PostResult.{PostResult}
 use Rattle.script_lines.specs.declared.call.Call as line
@@ -73,7 +74,8 @@ by_lack : (s : Session) (event : line.Call) (memory : Option ℕ) → AreAllowed
 by_lack s event None = tt
 by_lack s event (Some number) = (tt, tt)
 
-by_staged : {A : Type 0} (of : A → Given) (w : World) (event : line.Call) (result : Result A Refusal) → IsAllowed w event (staged_reply of result)
+by_staged : {A : Type 0} (of : A → Given) (w : World) (event : line.Call) (result : Result A Refusal)
+    → IsAllowed w event (staged_reply of result)
 by_staged of w event (Ok ticket) = tt
 by_staged of w event (Err refusal) = by_desk w (on.Line event) refusal.fault
 
@@ -87,7 +89,8 @@ by_seal w (Ok None) = tt
 by_seal w (Ok (Some batch)) = tt
 by_seal w (Err refusal) = by_desk w (on.Line on_line.Seal) refusal.fault
 
-by_claim : (w : World) (now : ℕ) (result : Result (Option JobValue) Refusal) → IsAllowed w (on_line.Claim now) (claim_reply result)
+by_claim : (w : World) (now : ℕ) (result : Result (Option JobValue) Refusal)
+    → IsAllowed w (on_line.Claim now) (claim_reply result)
 by_claim w now (Ok None) = tt
 by_claim w now (Ok (Some job)) = tt
 by_claim w now (Err refusal) = by_desk w (on.Line (on_line.Claim now)) refusal.fault
@@ -113,7 +116,8 @@ by_event w event (Some row) = tt
 abbrev MayBeTold : World → line.Call → Answer → Type 0
 MayBeTold w event answer = IsAllowed w event answer.reply × AreAllowed w event answer.unserved
 
-by_spend : (s : Session) (event : line.Call) (post : PostResult) (now : ℕ) (permit : Option Row) → MayBeTold s.world event (spends s permit post now)
+by_spend : (s : Session) (event : line.Call) (post : PostResult) (now : ℕ) (permit : Option Row)
+    → MayBeTold s.world event (spends s permit post now)
 by_spend s event post now None = (tt, tt)
 by_spend s event post now (Some row) = (tt, tt)
 
@@ -149,7 +153,11 @@ may_be_told s event = at event
       next = s;
       unserved = lacks s (change s.world command).memory;
     })
-    changed event command = (by_staged OfCommand s.world event (change s.world command).reply, by_lack s event (change s.world command).memory)
+    changed event command = (
+      by_staged OfCommand s.world event (change s.world command).reply,
+      by_lack s event
+          (change s.world command).memory,
+    )
 
     at : (event : line.Call) → MayBeTold s.world event (answer_to s event)
     at (on_line.Put name target max secrets) = changed _ (PutEndpoint name target max secrets)
@@ -157,7 +165,11 @@ may_be_told s event = at event
     at (on_line.Enabled name flag) = changed _ (SetEnabled name flag)
     at (on_line.Subscribed topic name flag) = changed _ (SetSubscribed topic name flag)
     at (on_line.Purge before) = changed _ (Purge before)
-    at (on_line.Submit now name id body) = (by_staged Submission s.world _ (submit s.world now name id body).reply, by_lack s _ (submit s.world now name id body).memory)
+    at (on_line.Submit now name id body) = (
+      by_staged Submission s.world _ (submit s.world now name id body).reply,
+      by_lack s _
+          (submit s.world now name id body).memory,
+    )
     at (on_line.Publish now topic id body) = (
       by_published s.world _ (publish s.world now topic id body).reply,
       by_lack s _ (publish s.world now topic id body).memory,
@@ -174,16 +186,19 @@ may_be_told s event = at event
     at (on_line.ShowEndpoint name) = (by_endpoint s.world _ (endpoint_page (settled_records s.world) name), tt)
     at (on_line.Show name id) = (by_event s.world _ (event_page (settled_records s.world) name id), tt)
 
-line_allowed : (s next : Session) (event : line.Call) (told : line_reply.Reply) → Move s event told next → IsAllowed s.world event told
+line_allowed : (s next : Session) (event : line.Call) (told : line_reply.Reply) → Move s event told next
+    → IsAllowed s.world event told
 line_allowed s next event told (inl given) = subst (IsAllowed s.world event) (sym given.0) (may_be_told s event).0
-line_allowed s next event told (inr one) = by_unserved s.world event (answer_to s event).unserved told next (may_be_told s event).1 one
+line_allowed s next event told (inr one) = by_unserved s.world event (answer_to s event).unserved told next
+    (may_be_told s event).1 one
 
 abbrev line_in : Reply → line_reply.Reply
 line_in (reply.Line told) = told
 line_in other = says.Absent
 
 -- no look is refused
-not_refused : (w : World) (asked : Look) (number : ℕ) (fault : Fault) → reply.Line (says.Refused number fault) ≡ look_reply w asked → ⊥
+not_refused : (w : World) (asked : Look) (number : ℕ) (fault : Fault)
+    → reply.Line (says.Refused number fault) ≡ look_reply w asked → ⊥
 not_refused w (look.Told ticket) number fault e = cc
 not_refused w (look.ToldCommand ticket) number fault e = cc
 not_refused w (look.SettledBody ticket) number fault e = cc
@@ -193,5 +208,6 @@ not_refused w look.SettledRecords number fault e = cc
 not_refused w look.IsHalted number fault e = cc
 
 pub refusals : RefusalsOfMoves
-refusals s next (on.Line event) number fault (told, is, move) = subst (IsAllowed s.world event) (sym (ap line_in is)) (line_allowed s next event told move)
+refusals s next (on.Line event) number fault (told, is, move) = subst (IsAllowed s.world event) (sym (ap line_in is))
+    (line_allowed s next event told move)
 refusals s next (on.Look asked) number fault (is, same) = absurd (not_refused s.world asked number fault is)

@@ -27,8 +27,10 @@ RepliesFrom Holds s texts written = (lines : List Line) × (replies : List Reply
 replies_from : {L S : Type 0} (g : Ghosts S) (old new : Player L S g) (s : Session) (texts : List (List ℕ))
     (written : List ℕ) → StateStandsFor g old.state s → AnswersEach (RunsLine g) old texts written new
     → RepliesFrom (StateStandsFor g new.state) s texts written
-replies_from {L} {S} g old new s [] written stands (none, same) = ([], [], s, 0, tt, (refl, refl), none, subst (λ (p : Player L S g). StateStandsFor g p.state s) same stands)
-replies_from g old new s (text ∷ texts) written stands (next, told, rest, (line, reply, reads, takes, is), whole, each) =
+replies_from {L} {S} g old new s [] written stands (none, same) =
+    ([], [], s, 0, tt, (refl, refl), none, subst (λ (p : Player L S g). StateStandsFor g p.state s) same stands)
+replies_from g old new s (text ∷ texts) written stands
+    (next, told, rest, (line, reply, reads, takes, is), whole, each) =
     let (after, move, on) = takes s stands in
     let (lines, replies, last, n, calls, run, said, holds) = replies_from g next new after texts rest on each in (
       line ∷ lines,
@@ -46,24 +48,33 @@ pub Replies-none : Replies [] []
 Replies-none = ([], [], begun, 0, tt, (refl, refl), refl)
 
 -- a player of the empty history replays the lines that it answers
-pub replays : {L S : Type 0} (g : Ghosts S) (player : Player L S g) (input old new : Option (List ℕ)) (end : Result (Unit {0}) StreamFault) → StateStandsFor g player.state begun
+pub replays : {L S : Type 0} (g : Ghosts S) (player : Player L S g) (input old new : Option (List ℕ))
+    (end : Result (Unit {0}) StreamFault) → StateStandsFor g player.state begun
     → Ends (AnswersFrom (RunsLine g) player) IsNoLine input old new end → Replays input old new end
-replays g player input old new end stands ends = Ends-more (AnswersFrom (RunsLine g) player) Replies IsNoLine says input old new end ends
+replays g player input old new end stands ends = Ends-more (AnswersFrom (RunsLine g) player) Replies IsNoLine says input
+    old new end ends
   where
-    says : (texts : List (List ℕ)) (written : List ℕ) → AnswersFrom (RunsLine g) player texts written → Replies texts written
+    says : (texts : List (List ℕ)) (written : List ℕ) → AnswersFrom (RunsLine g) player texts written
+        → Replies texts written
     says texts written (now, each) =
-        let (lines, replies, last, n, calls, run, said, holds) = replies_from g player now begun texts written stands each in
+        let (lines, replies, last, n, calls, run, said, holds) = replies_from g player now begun texts written stands
+        each in
         (lines, replies, last, n, calls, run, said)
 
 -- and its connection keeps the rows of the run that led to it
-pub keeps_run : {L S : Type 0} (g : Ghosts S) (player now : Player L S g) (conn : store.Held S) (input old new : Option (List ℕ)) (end : Result (Unit {0}) StreamFault)
-    → ((runner : Runner L S g) → now.state ≡ Open runner → conn ≡ runner.vault.conn) → StateStandsFor g player.state begun
+pub keeps_run : {L S : Type 0} (g : Ghosts S) (player now : Player L S g) (conn : store.Held S)
+    (input old new : Option (List ℕ)) (end : Result (Unit {0}) StreamFault)
+    → ((runner : Runner L S g) → now.state ≡ Open runner → conn ≡ runner.vault.conn)
+    → StateStandsFor g player.state begun
     → Ends (AnswersTo (RunsLine g) player now) IsNoLine input old new end → KeepsRun g conn input old new end
-keeps_run g player now conn input old new end same stands ends = Ends-more (AnswersTo (RunsLine g) player now) (RepliesTo (LeavesRun g conn)) IsNoLine says input old new end ends
+keeps_run g player now conn input old new end same stands ends = Ends-more (AnswersTo (RunsLine g) player now)
+    (RepliesTo (LeavesRun g conn)) IsNoLine says input old new end ends
   where
-    says : (texts : List (List ℕ)) (written : List ℕ) → AnswersTo (RunsLine g) player now texts written → RepliesTo (LeavesRun g conn) texts written
+    says : (texts : List (List ℕ)) (written : List ℕ) → AnswersTo (RunsLine g) player now texts written
+        → RepliesTo (LeavesRun g conn) texts written
     says texts written each =
-        let (lines, replies, last, n, calls, run, said, (runner, is, holds)) = replies_from g player now begun texts written stands each in
+        let (lines, replies, last, n, calls, run, said, (runner, is, holds)) = replies_from g player now begun texts
+        written stands each in
         let over = kept_over_stops lines replies last n run in (
           lines,
           replies,
@@ -73,7 +84,8 @@ keeps_run g player now conn input old new end same stands ends = Ends-more (Answ
           run,
           said,
           record {
-            leaves = subst (λ at. KeepsRows g at last.world) (sym (same runner is)) (rows_kept g runner.vault last.world holds.holds);
+            leaves = subst (λ at. KeepsRows g at last.world) (sym (same runner is))
+                (rows_kept g runner.vault last.world holds.holds);
             kept = over.0;
             again = over.1;
           },

@@ -1,5 +1,6 @@
 -- What a script's run keeps over its stops.
-use Rattle.std.proofs.Common.{◌≡◌, ◌≤◌, ℕ, List, [], ◌∷◌, length, take, inl, inr, refl, sym, ap, subst, ◌∙◌, arith, length-append}
+use Rattle.std.proofs.Common.{◌≡◌, ◌≤◌, ℕ, List, [], ◌∷◌, length, take, inl, inr, refl, sym, ap, subst, ◌∙◌, arith}
+use Rattle.std.proofs.Common.{length-append}
 use Rattle.std.proofs.Math.Seq.{take-length}
 use Rattle.std.proofs.lemmas.List.{take-take}
 use Rattle.std.specs.List.{AllByRecursion}
@@ -21,7 +22,12 @@ use Rattle.drill.proofs.ShownLaws.{IsOrdered, line_keeps, line_shown, settled_co
 use Rattle.drill.proofs.TurnLaws.{split_at}
 
 settled_in_all : (w : World) → settled_count w ≤ length (all_records w)
-settled_in_all w = omega (arith, ap length (split_at w.settled w.history), length-append (settled_records w) (waiting_records w))
+settled_in_all w = omega (
+  arith,
+  ap length (split_at w.settled w.history),
+  length-append (settled_records w)
+      (waiting_records w),
+)
 
 -- what is alike so far is so up to an earlier place
 pub shorter : (n m : ℕ) (some others : List Record) → n ≤ m → take m some ≡ take m others → take n some ≡ take n others
@@ -38,7 +44,9 @@ record Keeps (s : Session) (line : Line) (told : Reply) (next : Session) : Type 
   same : take (settled_count s.world) (all_records next.world) ≡ take (settled_count s.world) (all_records s.world)
 
 -- an opening on steps that a stop left
-opens_again : (s : Session) (left : List ℕ) (told : Reply) (next : Session) → AllByRecursion (λ steps. HasFirst (settled_count s.world) (all_records s.world) (records_of_first s.world steps)) left
+opens_again : (s : Session) (left : List ℕ) (told : Reply) (next : Session)
+    → AllByRecursion (λ steps. HasFirst (settled_count s.world) (all_records s.world) (records_of_first s.world steps))
+    left
     → OpensAgain s left told next → Keeps s Stop told next
 opens_again s [] told next kept none = absurd none
 opens_again s (steps ∷ left) told next kept (inl (said, is)) =
@@ -51,14 +59,17 @@ opens_again s (steps ∷ left) told next kept (inl (said, is)) =
     })
 opens_again s (steps ∷ left) told next kept (inr others) = opens_again s left told next kept.1 others
 
-keeps : (s : Session) (line : Line) (told : Reply) (next : Session) → IsTracked s.world → Takes s line told next → Keeps s line told next
+keeps : (s : Session) (line : Line) (told : Reply) (next : Session) → IsTracked s.world → Takes s line told next
+    → Keeps s line told next
 keeps s (Call event) told next h move = record {
   tracked = line_tracked s next event told h move;
   settled = line_keeps s next event told (ordered s h) move;
   shown = line_shown s next event told (ordered s h) move;
-  same = same_first_records s.world next.world (settled_count s.world) (line_goes_on s next event told (h.below, h.within) move).0 (settled_in_all s.world);
+  same = same_first_records s.world next.world (settled_count s.world)
+      (line_goes_on s next event told (h.below, h.within) move).0 (settled_in_all s.world);
 }
-keeps s Stop told next h opens = opens_again s s.world.left told next (settled_kept s.world (settled_count s.world) (ordered s h) h.leaves (omega arith)) opens
+keeps s Stop told next h opens = opens_again s s.world.left told next
+    (settled_kept s.world (settled_count s.world) (ordered s h) h.leaves (omega arith)) opens
 
 -- what all lines keep, and what they show
 pub record KeepsAll (s : Session) (last : Session) (acknowledged : ℕ) : Type 0 where
@@ -67,8 +78,10 @@ pub record KeepsAll (s : Session) (last : Session) (acknowledged : ℕ) : Type 0
   pub shown : acknowledged ≤ settled_count last.world
   pub same : take (settled_count s.world) (all_records last.world) ≡ take (settled_count s.world) (all_records s.world)
 
-pub keeps_all : (s : Session) (lines : List Line) (replies : List Reply) (last : Session) (n : ℕ) → IsTracked s.world → Replay s lines replies last n → KeepsAll s last n
-keeps_all s [] [] last n h (same, none) = subst (λ t. KeepsAll s t n) (sym same) (record { tracked = h; settled = omega arith; shown = omega (arith, none); same = refl })
+pub keeps_all : (s : Session) (lines : List Line) (replies : List Reply) (last : Session) (n : ℕ) → IsTracked s.world
+    → Replay s lines replies last n → KeepsAll s last n
+keeps_all s [] [] last n h (same, none) = subst (λ t. KeepsAll s t n) (sym same)
+    (record { tracked = h; settled = omega arith; shown = omega (arith, none); same = refl })
 keeps_all s (line ∷ lines) (told ∷ replies) last n h (next, later, takes, rest, is) =
     let here = keeps s line told next h takes in
     let behind = keeps_all next lines replies last later here.tracked rest in
@@ -76,13 +89,19 @@ keeps_all s (line ∷ lines) (told ∷ replies) last n h (next, later, takes, re
       tracked = behind.tracked;
       settled = omega (arith, here.settled, behind.settled);
       shown = omega (arith, here.shown, behind.settled, behind.shown, is);
-      same = shorter (settled_count s.world) (settled_count next.world) (all_records last.world) (all_records next.world) here.settled behind.same ∙ here.same;
+      same = shorter (settled_count s.world) (settled_count next.world) (all_records last.world)
+          (all_records next.world) here.settled behind.same ∙ here.same;
     }
 keeps_all s [] (told ∷ replies) last n h run = absurd run
 keeps_all s (line ∷ lines) [] last n h run = absurd run
 
--- At the end of a script's run each record that was shown to be settled is kept, and each attempt without an outcome is pending again.
-pub kept_over_stops : (lines : List Line) (replies : List Reply) (last : Session) (n : ℕ) → Replay begun lines replies last n → IsKept last.world n × ArePendingAgain last.world
+-- At the end of a script's run each record that was shown to be settled is kept, and each attempt without an outcome is
+-- pending again.
+pub kept_over_stops : (lines : List Line) (replies : List Reply) (last : Session) (n : ℕ)
+    → Replay begun lines replies last n → IsKept last.world n × ArePendingAgain last.world
 kept_over_stops lines replies last n run =
-    let all = keeps_all begun lines replies last n (opening_tracked begun.world ([], 0, refl)) run in
-    (settled_kept last.world n (ordered last all.tracked) all.tracked.leaves all.shown, pending_again last.world all.tracked)
+    let all = keeps_all begun lines replies last n (opening_tracked begun.world ([], 0, refl)) run in (
+      settled_kept last.world n (ordered last all.tracked) all.tracked.leaves all.shown,
+      pending_again last.world
+          all.tracked,
+    )

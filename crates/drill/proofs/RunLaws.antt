@@ -16,9 +16,11 @@ abbrev AreWants : List (Reply × Session) → Type 0
 AreWants [] = Unit {0}
 AreWants (one ∷ others) = (is_served one.0 ≡ false) × AreWants others
 
-not_wanted : (unserved : List (Reply × Session)) (reply : Reply) (next : Session) → AreWants unserved → IsOneOf unserved reply next → is_served reply ≡ true → ⊥
+not_wanted : (unserved : List (Reply × Session)) (reply : Reply) (next : Session) → AreWants unserved
+    → IsOneOf unserved reply next → is_served reply ≡ true → ⊥
 not_wanted [] reply next wants one served = one
-not_wanted (one ∷ others) reply next wants (inl (e, f)) served = let no : true ≡ false = sym served ∙ ap is_served e ∙ wants.0 in cc
+not_wanted (one ∷ others) reply next wants (inl (e, f)) served = let no : true ≡ false = sym served ∙ ap is_served e
+    ∙ wants.0 in cc
 not_wanted (one ∷ others) reply next wants (inr more) served = not_wanted others reply next wants.1 more served
 
 lacks_wants : (s : Session) (memory : Option ℕ) → AreWants (lacks s memory)
@@ -49,7 +51,8 @@ halts_wants s Batch = tt
 halts_wants s Receipt = tt
 halts_wants s Doubt = tt
 
-spends_wants : (s : Session) (post : PostResult) (now : ℕ) (permit : Option Row) → AreWants (spends s permit post now).unserved
+spends_wants : (s : Session) (post : PostResult) (now : ℕ) (permit : Option Row)
+    → AreWants (spends s permit post now).unserved
 spends_wants s post now None = tt
 spends_wants s post now (Some row) = tt
 
@@ -73,9 +76,11 @@ wants s on.Halt = halts_wants s s.world.out
 wants s (on.ShowEndpoint name) = tt
 wants s (on.Show name id) = tt
 
-served_move : (s : Session) (event : Call) (reply : Reply) (next : Session) → Move s event reply next → is_served reply ≡ true → (reply ≡ (answer_to s event).reply) × (next ≡ (answer_to s event).next)
+served_move : (s : Session) (event : Call) (reply : Reply) (next : Session) → Move s event reply next
+    → is_served reply ≡ true → (reply ≡ (answer_to s event).reply) × (next ≡ (answer_to s event).next)
 served_move s event reply next (inl given) served = given
-served_move s event reply next (inr one) served = absurd (not_wanted (answer_to s event).unserved reply next (wants s event) one served)
+served_move s event reply next (inr one) served = absurd
+    (not_wanted (answer_to s event).unserved reply next (wants s event) one served)
 
 pub served_runs_are_computed : AreServedRunsComputed
 served_runs_are_computed s [] [] last run served = refl

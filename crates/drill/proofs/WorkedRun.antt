@@ -1,5 +1,5 @@
--- A worked run: an endpoint is put, sealed and taken back; an event is taken in, and both are sealed, committed and settled. Then what a stop
--- takes back of an attempt at it.
+-- A worked run: an endpoint is put, sealed and taken back; an event is taken in, and both are sealed, committed and
+-- settled. Then what a stop takes back of an attempt at it.
 use Rattle.std.proofs.Common.{◌≡◌, inl, inr, ℕ, true, false, List, [], ◌∷◌, ◌++◌, Some, codes, refl}
 use Rattle.std.specs.Fmt.{digits}
 use Rattle.relay_types.specs.Records.{History}
@@ -115,11 +115,13 @@ unfolding events replies
 computed = refl
 
 -- what is written of it
-written : replies_text replies ≡ codes "staged 0\nsealed 0..1\nunsealed 0..1\nstaged 1\nsealed 0..2\ncommitted 2\nsettled 2\nsettled\nenabled pending 1 delivered 0 exhausted 0\npending due 1000 attempts 0\n"
+written : replies_text replies
+    ≡ codes "staged 0\nsealed 0..1\nunsealed 0..1\nstaged 1\nsealed 0..2\ncommitted 2\nsettled 2\nsettled\nenabled pending 1 delivered 0 exhausted 0\npending due 1000 attempts 0\n"
 unfolding digits replies
 written = refl
 
--- An attempt at the event is under way. Three calls more: its post reaches nobody, the outcome is sealed, and nobody knows how the commit ends.
+-- An attempt at the event is under way. Three calls more: its post reaches nobody, the outcome is sealed, and nobody
+-- knows how the commit ends.
 
 abbrev row : Row
 row = record { endpoint = codes "a"; delivery = 1; inflight = 1 }
@@ -145,7 +147,11 @@ unfolding more told_more
 run_on = (
   at both_tickets (world three_steps 2 2 Nothing 2 1002),
   inl (refl, refl),
-  (at both_tickets (world three_steps 2 3 Batch 2 1002), inl (refl, refl), (at both_tickets doubted, inr (inr (inl (refl, refl))), refl)),
+  (
+    at both_tickets (world three_steps 2 3 Batch 2 1002),
+    inl (refl, refl),
+    (at both_tickets doubted, inr (inr (inl (refl, refl))), refl),
+  ),
 )
 
 -- the first two steps have no outcome of the attempt, all three have it

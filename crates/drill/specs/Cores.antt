@@ -96,10 +96,13 @@ pub record KeepsAll {L : Type 0} (old new : Core L) : Type 0 where
   pub permits : new.permits.items ≡ old.permits.items
   pub tickets : (given : List Given) → tickets.Keeps old.tickets given → tickets.Keeps new.tickets given
 
--- From each session for which they stood, a call was told what this answer may tell, and they stand for what came of it.
-pub record CoreAnswers {L : Type 0} (old : Core L) (answer : Session → Answer) (reply : Reply) (new : Core L) : Type 0 where
+-- From each session for which they stood, a call was told what this answer may tell, and they stand for what came of
+-- it.
+pub record CoreAnswers {L : Type 0} (old : Core L) (answer : Session → Answer) (reply : Reply)
+    (new : Core L) : Type 0 where
   pub mark : new.desk.waiting.mark ≡ old.desk.waiting.mark
-  pub moves : (s : Session) → CoreStandsFor old s → (next : Session) × MayTell (answer s) reply next × CoreStandsFor new next
+  pub moves : (s : Session) → CoreStandsFor old s → (next : Session) × MayTell (answer s) reply next
+      × CoreStandsFor new next
   pub keeps : IsCore old → IsCore new
 
 -- whether the call is one of the store

@@ -34,13 +34,15 @@ abbrev pub Makes : Session → Event → Reply → Session → Type 0
 Makes s (on.Line event) told next = (line : line_reply.Reply) × (told ≡ reply.Line line) × Move s event line next
 Makes s (on.Look asked) told next = (told ≡ look_reply s.world asked) × (next ≡ s)
 
--- The reply shows that the records below this number are settled. A ticket that is told Settled and a job show a record, and with it those
--- before it; a settlement shows all that it settled; a page, a body and a settled count show all that was settled.
+-- The reply shows that the records below this number are settled. A ticket that is told Settled and a job show a
+-- record, and with it those before it; a settlement shows all that it settled; a page, a body and a settled count show
+-- all that was settled.
 abbrev pub shown_by_line : World → line.Call → line_reply.Reply → ℕ
 shown_by_line w (on_line.Told seq) (says.ToldAs Settled) = seq + 1
 shown_by_line w (on_line.Claim now) (says.Permit delivery endpoint id attempt at inflight) = delivery + 1
 shown_by_line w on_line.Settle (says.SettledTo to) = to
-shown_by_line w (on_line.ShowEndpoint name) (says.Endpoint enabled pending delivered exhausted) = length (settled_records w)
+shown_by_line w (on_line.ShowEndpoint name) (says.Endpoint enabled pending delivered exhausted) = length
+    (settled_records w)
 shown_by_line w (on_line.Show name id) (says.Event state due attempts) = length (settled_records w)
 shown_by_line w event other = 0
 
@@ -57,11 +59,13 @@ shown w (on.Line event) (reply.Line told) = shown_by_line w event told
 shown w (on.Line event) other = 0
 shown w (on.Look asked) told = shown_by_look w asked told
 
--- The core may give these replies to these events, one after another, and they show that the records below this number are settled.
+-- The core may give these replies to these events, one after another, and they show that the records below this number
+-- are settled.
 abbrev pub Runs : Session → List Event → List Reply → Session → (acknowledged : ℕ) → Type 0
 Runs s [] [] last acknowledged = (last ≡ s) × (acknowledged ≡ 0)
 Runs s (event ∷ events) (told ∷ replies) last acknowledged = (next : Session) × (later : ℕ)
-    × Makes s event told next × Runs next events replies last later × (acknowledged ≡ max (shown s.world event told) later)
+    × Makes s event told next × Runs next events replies last later
+    × (acknowledged ≡ max (shown s.world event told) later)
 Runs s [] (told ∷ replies) last acknowledged = ⊥
 Runs s (event ∷ events) [] last acknowledged = ⊥
 

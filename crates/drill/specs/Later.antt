@@ -17,7 +17,8 @@ use Rattle.drill.specs.Restarts.{Replay}
 use Rattle.drill.specs.Within.{HasMarksInOrder}
 use Rattle.drill.specs.Worlds.{GoesOn, IsOpening, IsRunFrom, session_of}
 
--- A law: a run leads to a world that goes on from the one in which it began. So within a run no step is lost, and what is settled stays so.
+-- A law: a run leads to a world that goes on from the one in which it began. So within a run no step is lost, and what
+-- is settled stays so.
 abbrev pub RunsGoOn : Type 0
 RunsGoOn =
     (s last : Session) (events : List Event) (replies : List Reply) (acknowledged : ℕ)
@@ -32,16 +33,20 @@ HasOneOf w (steps ∷ others) other = (all_records other ≡ records_of_first w 
 abbrev pub RunsAgain : World → (runs : List (List Event × List Reply)) → (last : World) → Type 0
 RunsAgain w [] last = last ≡ w
 RunsAgain w (run ∷ runs) last = (opening : World) × (next : Session) × (acknowledged : ℕ)
-    × IsOpening opening × HasOneOf w w.left opening × Runs (session_of opening) run.0 run.1 next acknowledged × RunsAgain next.world runs last
+    × IsOpening opening × HasOneOf w w.left opening × Runs (session_of opening) run.0 run.1 next acknowledged
+    × RunsAgain next.world runs last
 
--- A law of any number of restarts: what a run showed to be settled, any stop of a later run leaves in front, in the same places.
+-- A law of any number of restarts: what a run showed to be settled, any stop of a later run leaves in front, in the
+-- same places.
 abbrev pub RestartsKeepWhatWasShown : Type 0
 RestartsKeepWhatWasShown =
-    (w last : World) (events : List Event) (replies : List Reply) (first : Session) (acknowledged : ℕ) (runs : List (List Event × List Reply))
+    (w last : World) (events : List Event) (replies : List Reply) (first : Session) (acknowledged : ℕ)
+    (runs : List (List Event × List Reply))
     → IsOpening w → Runs (session_of w) events replies first acknowledged → RunsAgain first.world runs last
     → KeepsFirst last acknowledged (all_records first.world)
 
--- The same law of scripts: what the first lines showed, a stop leaves in front behind further ones, however many stops are among them.
+-- The same law of scripts: what the first lines showed, a stop leaves in front behind further ones, however many stops
+-- are among them.
 abbrev pub StopsKeepWhatWasShown : Type 0
 StopsKeepWhatWasShown =
     (lines more : List Line) (replies others : List line.Reply) (first last : Session) (acknowledged later : ℕ)
@@ -54,4 +59,5 @@ CallsKeepWhatWasShown L {S} g =
     (s : Session) (events more : List Event) (to later : left.World L S) (desk : DeskValue) (vault : VaultValue S)
     → (one : IsRunFrom g s events to) → AreOpenedAtOne g desk vault one.last.world one.last.world.left
     → ((w : World) → IsOpening w → StandsFor desk w → VaultStandsFor g vault w → IsRunFrom g (session_of w) more later)
-    → (w : World) × (two : IsRunFrom g (session_of w) more later) × KeepsFirst two.last.world one.acknowledged (all_records one.last.world)
+    → (w : World) × (two : IsRunFrom g (session_of w) more later) × KeepsFirst two.last.world one.acknowledged
+    (all_records one.last.world)

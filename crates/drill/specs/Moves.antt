@@ -42,8 +42,8 @@ pub record Session : Type 0 where
 abbrev pub begun : Session
 begun = record { world = desk.opened [] 0; tickets = [] }
 
--- What a call is told where memory and the store serve it, and the session after it; and each of what it may be told, with the session
--- after that, where they don't.
+-- What a call is told where memory and the store serve it, and the session after it; and each of what it may be told,
+-- with the session after that, where they don't.
 pub record Answer : Type 0 where
   pub reply : Reply
   pub next : Session
@@ -119,7 +119,8 @@ told_reply w (Some (Command ticket)) = says.ToldAs (told_as (told_command w tick
 
 abbrev pub endpoint_reply : Option EndpointShown → Reply
 endpoint_reply None = says.Absent
-endpoint_reply (Some shown) = says.Endpoint shown.view.enabled shown.counts.pending shown.counts.delivered shown.counts.exhausted
+endpoint_reply (Some shown) = says.Endpoint shown.view.enabled shown.counts.pending shown.counts.delivered
+    shown.counts.exhausted
 
 abbrev pub event_reply : Option Row → Reply
 event_reply None = says.Absent
@@ -191,7 +192,8 @@ permit_of w delivery = find (λ row. row.delivery == delivery) w.live
 -- the end of an attempt, where this is its permit
 abbrev pub spends : Session → (permit : Option under_way.Row) → PostResult → (now : Seconds) → Answer
 spends s None post now = stays s says.NoPermit
-spends s (Some row) post now = moves s (spent_reply (spent_by s.world row post now)) (with_attempt_over s.world row post now)
+spends s (Some row) post now = moves s (spent_reply (spent_by s.world row post now))
+    (with_attempt_over s.world row post now)
 
 -- the store has the whole batch, and a stop leaves it
 abbrev pub with_receipt : World → World

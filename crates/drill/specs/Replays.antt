@@ -28,20 +28,22 @@ Replays input old new end = Ends Replies IsNoLine input old new end
 abbrev pub IsUnopened : Result (Unit {0}) StreamFault → Type 0
 IsUnopened end = (end ≡ Err Lost) ⊎ (end ≡ Err OutOfMemory)
 
--- What a stop leaves of the connection at the end of a run, that all records that were shown to be settled are there, and that each
--- attempt without an outcome there is pending again.
+-- What a stop leaves of the connection at the end of a run, that all records that were shown to be settled are there,
+-- and that each attempt without an outcome there is pending again.
 pub record LeavesRun {S : Type 0} (g : Ghosts S) (conn : Held S) (last : Session) (acknowledged : ℕ) : Type 0 where
   pub leaves : KeepsRows g conn last.world
   pub kept : IsKept last.world acknowledged
   pub again : ArePendingAgain last.world
 
 -- They are those of a run whose rows the connection has.
-abbrev pub KeepsRun : {S : Type 0} → Ghosts S → Held S → Option (List ℕ) → Option (List ℕ) → Option (List ℕ) → Result (Unit {0}) StreamFault → Type 0
+abbrev pub KeepsRun : {S : Type 0} → Ghosts S → Held S → Option (List ℕ) → Option (List ℕ) → Option (List ℕ)
+    → Result (Unit {0}) StreamFault → Type 0
 KeepsRun g conn input old new end = Ends (RepliesTo (LeavesRun g conn)) IsNoLine input old new end
 
 -- what is replayed is open, and its core and its store stand for the session
 abbrev pub StateStandsFor : {L S : Type 0} → (g : Ghosts S) → State L S g → Session → Type 0
-StateStandsFor {L} {S} g state s = (runner : Runner L S g) × (state ≡ Open runner) × RunStandsFor g runner.core runner.vault s
+StateStandsFor {L} {S} g state s = (runner : Runner L S g) × (state ≡ Open runner)
+    × RunStandsFor g runner.core runner.vault s
 
 -- From each session for which the one stood, the line is told what leads to one for which the other does.
 abbrev pub TakesLine : {L S : Type 0} → (g : Ghosts S) → State L S g → Line → Reply → State L S g → Type 0
@@ -50,7 +52,8 @@ TakesLine g old line reply new =
 
 -- from one state to the other, the line is answered by this text
 abbrev pub RunsLine : {L S : Type 0} → (g : Ghosts S) → Player L S g → List ℕ → List ℕ → Player L S g → Type 0
-RunsLine g old text told new = (line : Line) × (reply : Reply) × IsLine text line × TakesLine g old.state line reply new.state × (told ≡ reply_text reply)
+RunsLine g old text told new = (line : Line) × (reply : Reply) × IsLine text line
+    × TakesLine g old.state line reply new.state × (told ≡ reply_text reply)
 
 -- the disk has returned what was written, whether the store is open or not
 abbrev pub IsStateClean : {L S : Type 0} → (g : Ghosts S) → State L S g → Type 0

@@ -22,7 +22,8 @@ next_mark mark = (mark + 1) % 2 ^ 64
 abbrev pub OpensAgain : Session → (numbers : List ℕ) → Reply → Session → Type 0
 OpensAgain s [] reply next = ⊥
 OpensAgain s (steps ∷ others) reply next =
-    ((reply ≡ says.Reopened (length (records_of (take steps s.world.history)))) × (next ≡ session_of (opening_of (take steps s.world.history))))
+    ((reply ≡ says.Reopened (length (records_of (take steps s.world.history))))
+    × (next ≡ session_of (opening_of (take steps s.world.history))))
     ⊎ OpensAgain s others reply next
 
 -- From s, the line may be told this, and lead to next: a call's move, or a stop that leaves what the world says.
@@ -39,7 +40,8 @@ shown_of w Stop reply = 0
 abbrev pub Replay : Session → List Line → List Reply → Session → (acknowledged : ℕ) → Type 0
 Replay s [] [] last acknowledged = (last ≡ s) × (acknowledged ≡ 0)
 Replay s (line ∷ lines) (reply ∷ replies) last acknowledged = (next : Session) × (later : ℕ)
-    × Takes s line reply next × Replay next lines replies last later × (acknowledged ≡ max (shown_of s.world line reply) later)
+    × Takes s line reply next × Replay next lines replies last later
+    × (acknowledged ≡ max (shown_of s.world line reply) later)
 Replay s [] (reply ∷ replies) last acknowledged = ⊥
 Replay s (line ∷ lines) [] last acknowledged = ⊥
 
@@ -67,4 +69,5 @@ Replies texts written = (lines : List Line) × (replies : List Reply) × (last :
 -- the same, where this holds of the session in which the run ends, and of the records that were shown to be settled
 abbrev pub RepliesTo : (Session → (acknowledged : ℕ) → Type 0) → List (List ℕ) → List ℕ → Type 0
 RepliesTo Holds texts written = (lines : List Line) × (replies : List Reply) × (last : Session) × (acknowledged : ℕ)
-    × ReadLines texts lines × Replay begun lines replies last acknowledged × (written ≡ replies_text replies) × Holds last acknowledged
+    × ReadLines texts lines × Replay begun lines replies last acknowledged × (written ≡ replies_text replies)
+    × Holds last acknowledged

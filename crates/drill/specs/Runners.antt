@@ -22,7 +22,8 @@ use Rattle.recovery.specs.Left.{IsOpenAt, VaultStandsFor}
 use Rattle.drill.specs.Cores.{CoreStandsFor}
 
 -- the core and the store stand for one session
-pub record RunStandsFor {L S : Type 0} (g : Ghosts S) (core : Core L) (vault : VaultValue S) (s : Session) : Type 0 where
+pub record RunStandsFor {L S : Type 0} (g : Ghosts S) (core : Core L) (vault : VaultValue S)
+    (s : Session) : Type 0 where
   pub stands : CoreStandsFor core s
   pub holds : VaultStandsFor g vault s.world
   pub mark : core.desk.waiting.mark ≡ vault.mark
@@ -42,7 +43,8 @@ unchanged_reply why.OutOfTurn = says.Refused 2 fault.OutOfTurn
 unchanged_reply why.Illegal = says.Refused 3 fault.Illegal
 unchanged_reply why.OutOfMemory = says.Refused 4 fault.OutOfMemory
 
--- How the store takes a legal batch that goes on with the history it holds: what is held behind it says which end it is.
+-- How the store takes a legal batch that goes on with the history it holds. Which of receipt, batch and doubt is held
+-- afterwards says how the commit ended.
 abbrev pub EndsAs : {S : Type 0} → Ghosts S → VaultValue S → List Record → BatchValue → Held → Reply → Type 0
 EndsAs g vault records batch (held.Receipt receipt) reply = (receipt ≡ batch) × (reply ≡ says.Committed vault.next)
     × IsOpenAt g vault (records ++ records_of batch.steps)

@@ -15,7 +15,8 @@ Move s event reply next = MayTell (answer_to s event) reply next
 -- the core may give these replies to these calls, one move after another
 abbrev pub Run : Session → List Call → List Reply → Session → Type 0
 Run s [] [] last = last ≡ s
-Run s (event ∷ events) (reply ∷ replies) last = (next : Session) × Move s event reply next × Run next events replies last
+Run s (event ∷ events) (reply ∷ replies) last = (next : Session) × Move s event reply next
+    × Run next events replies last
 Run s [] (reply ∷ replies) last = ⊥
 Run s (event ∷ events) [] last = ⊥
 
@@ -34,7 +35,8 @@ abbrev pub is_served : Reply → Bool
 is_served (says.Refused number fault) = is_no_want fault
 is_served reply = true
 
--- A law: where no reply of a run tells of want of memory or of a fault of the store, the replies are those that the moves compute.
+-- A law: where no reply of a run tells of want of memory or of a fault of the store, the replies are those that the
+-- moves compute.
 abbrev pub AreServedRunsComputed : Type 0
 AreServedRunsComputed =
     (s : Session) (events : List Call) (replies : List Reply) (last : Session)

@@ -12,8 +12,8 @@ use Rattle.recovery.specs.Left.{records_of_first}
 abbrev pub records_behind : World → (steps : ℕ) → List Record
 records_behind w steps = records_of (drop steps w.history)
 
--- how many attempts at the delivery have no outcome in the first so many steps: those under way, and those whose outcome
--- stands behind them
+-- how many attempts at the delivery have no outcome in the first so many steps: those under way, and those whose
+-- outcome stands behind them
 abbrev pub unrecorded : World → (steps : ℕ) → (delivery : Seq) → ℕ
 unrecorded w steps d = count_by (λ row. row.delivery == d) w.live + length (attempts_of (records_behind w steps) d)
 

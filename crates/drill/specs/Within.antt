@@ -1,4 +1,5 @@
--- The calls that other threads may make while the batch is committed, and that it is all one when the commit ends among them.
+-- The calls that other threads may make while the batch is committed, and that it is all one when the commit ends among
+-- them.
 use Rattle.std.specs.Prelude.{◌≡◌, ℕ, ◌≤◌, ◌↔◌, Bool, true, false, List, [], ◌∷◌, ◌++◌, length, IsTrue}
 use Rattle.std.specs.List.{list_all}
 use Rattle.script_lines.specs.declared.call.Call as line
@@ -15,7 +16,8 @@ use Rattle.drill.specs.Worlds.{IsOpening, session_of}
 abbrev pub commit : Event
 commit = on.Line on_line.Commit
 
--- whether the call may be made while another thread commits: what is out is the committer's, to settle, hand back or give up
+-- whether the call may be made while another thread commits: what is out is the committer's, to settle, hand back or
+-- give up
 abbrev pub is_line_within : line.Call → Bool
 is_line_within on_line.Commit = false
 is_line_within on_line.Settle = false
@@ -37,12 +39,14 @@ RunsKeepMarksInOrder =
     (w : World) (events : List Event) (replies : List Reply) (last : Session) (acknowledged : ℕ)
     → IsOpening w → Runs (session_of w) events replies last acknowledged → HasMarksInOrder last.world
 
--- A law: the commit of a batch may come before calls of other threads or behind them. Every run of one order is one of the other: with the
--- same replies, to the same session, and what it acknowledges is the same and no record of the batch.
+-- A law: the commit of a batch may come before calls of other threads or behind them. Every run of one order is one of
+-- the other: with the same replies, to the same session, and what it acknowledges is the same and no record of the
+-- batch.
 abbrev pub CallsChangePlacesWithCommits : Type 0
 CallsChangePlacesWithCommits =
     (s last : Session) (events : List Event) (replies : List Reply) (committed : Reply) (acknowledged : ℕ)
     → s.world.out ≡ Batch → HasMarksInOrder s.world → IsTrue (list_all is_within events)
     → (Runs s (commit ∷ events) (committed ∷ replies) last acknowledged
     ↔ Runs s (events ++ commit ∷ []) (replies ++ committed ∷ []) last acknowledged)
-    × (Runs s (commit ∷ events) (committed ∷ replies) last acknowledged → acknowledged ≤ length (settled_records s.world))
+    × (Runs s (commit ∷ events) (committed ∷ replies) last acknowledged
+    → acknowledged ≤ length (settled_records s.world))

@@ -31,14 +31,18 @@ abbrev pub session_of : World → Session
 session_of w = record { world = w; tickets = [] }
 
 -- From each session for which core and store stood, the event was told this, and they stand for what came of it.
-abbrev pub TakesEvent : {L S : Type 0} → Ghosts S → Core L → VaultValue S → Event → Reply → Core L → VaultValue S → Type 0
+abbrev pub TakesEvent : {L S : Type 0} → Ghosts S → Core L → VaultValue S → Event → Reply → Core L → VaultValue S
+    → Type 0
 TakesEvent g old vault event told new later =
-    (s : Session) → RunStandsFor g old vault s → (next : Session) × Makes s event told next × RunStandsFor g new later next
+    (s : Session) → RunStandsFor g old vault s → (next : Session) × Makes s event told next
+    × RunStandsFor g new later next
 
 -- The same of events that come one after another. What their replies show is settled.
-abbrev pub TakesEvents : {L S : Type 0} → Ghosts S → Core L → VaultValue S → List Event → List Reply → Core L → VaultValue S → Type 0
+abbrev pub TakesEvents : {L S : Type 0} → Ghosts S → Core L → VaultValue S → List Event → List Reply → Core L
+    → VaultValue S → Type 0
 TakesEvents g old vault events replies new later = (s : Session) → RunStandsFor g old vault s
-    → (last : Session) × (acknowledged : ℕ) × Runs s events replies last acknowledged × RunStandsFor g new later last × (acknowledged ≤ length (settled_records last.world))
+    → (last : Session) × (acknowledged : ℕ) × Runs s events replies last acknowledged × RunStandsFor g new later last
+    × (acknowledged ≤ length (settled_records last.world))
 
 -- what is out in the world was handed out: a receipt, a batch or a doubt
 abbrev pub IsOut : (mark : ℕ) → World → (receipt : Option BatchValue) → (given : waiting.Held) → Type 0
@@ -56,12 +60,15 @@ pub record GoesOn (w next : World) : Type 0 where
 
 -- Whatever a stop may leave of the world begins with these records.
 abbrev pub AreInFront : (records : List Record) → World → Type 0
-AreInFront records w = AllByRecursion (λ steps. (more : List Record) × (records_of_first w steps ≡ records ++ more)) w.left
+AreInFront records w = AllByRecursion (λ steps. (more : List Record) × (records_of_first w steps ≡ records ++ more))
+    w.left
 
--- These are the replies of a run of the events from the session, and what is left stands for its last world: the desk, the permits of the
--- attempts under way, what is out, and the store. This world goes on from the session's, and a stop leaves the store as it says: each time with
--- all records of the session in front, with all that were shown, and with each event pending whose attempt has no outcome there.
-pub record IsRunFrom {L S : Type 0} (g : Ghosts S) (s : Session) (events : List Event) (to : left.World L S) : Type 0 where
+-- These are the replies of a run of the events from the session, and what is left stands for its last world: the desk,
+-- the permits of the attempts under way, what is out, and the store. This world goes on from the session's, and a stop
+-- leaves the store as it says: each time with all records of the session in front, with all that were shown, and with
+-- each event pending whose attempt has no outcome there.
+pub record IsRunFrom {L S : Type 0} (g : Ghosts S) (s : Session) (events : List Event) (to : left.World L S) :
+    Type 0 where
   pub last : Session
   pub acknowledged : ℕ
   pub runs : Runs s events to.replies.items last acknowledged
@@ -76,7 +83,8 @@ pub record IsRunFrom {L S : Type 0} (g : Ghosts S) (s : Session) (events : List 
   pub kept : IsKept last.world acknowledged
   pub again : ArePendingAgain last.world
 
--- A law of runs from any opening: whatever a stop may leave, each event with an attempt that has no outcome there is pending there.
+-- A law of runs from any opening: whatever a stop may leave, each event with an attempt that has no outcome there is
+-- pending there.
 abbrev pub AreAttemptsPendingAgain : Type 0
 AreAttemptsPendingAgain =
     (w : World) (events : List Event) (replies : List Reply) (last : Session) (acknowledged : ℕ)

@@ -1,5 +1,6 @@
 -- What pushing and popping make of a queue's fields.
-use Rattle.std.proofs.Common.{◌≡◌, ℕ, ◌+◌, ◌-◌, ◌<◌, ◌≤◌, ◌⊎◌, inl, inr, true, false, List, [], ◌∷◌, ◌++◌, length, sym, subst, ◌∙◌, arith, length-append}
+use Rattle.std.proofs.Common.{◌≡◌, ℕ, ◌+◌, ◌-◌, ◌<◌, ◌≤◌, ◌⊎◌, inl, inr, true, false, List, [], ◌∷◌, ◌++◌, length, sym}
+use Rattle.std.proofs.Common.{subst, ◌∙◌, arith, length-append}
 use Rattle.std.specs.Prelude.{IsTrue}
 use Rattle.std.specs.List.{AllByRecursion}
 use Rattle.relay_types.specs.declared.limits.TheConstants.{MAX_STEP_RECORDS}
@@ -7,7 +8,8 @@ use Rattle.relay_types.specs.declared.record.Record.{Record}
 use Rattle.relay_types.specs.Records.{History, records_of}
 use Rattle.group_commit.specs.declared.limits.TheConstants.{MAX_WAITING_REQUESTS, MAX_WAITING_OUTCOMES}
 use Rattle.group_commit.specs.Steps.{is_request, is_outcome, requests_in, outcomes_in, IsPlaced, IsQueue}
-use Rattle.group_commit.proofs.StepLaws.{requests_append, outcomes_append, request_counts, outcome_counts, counts_first, records_count, placed_more}
+use Rattle.group_commit.proofs.StepLaws.{requests_append, outcomes_append, request_counts, outcome_counts, counts_first}
+use Rattle.group_commit.proofs.StepLaws.{records_count, placed_more}
 
 placed_some : (step : List Record) → IsPlaced step → 0 < length step
 placed_some step (inl request, most) = (request_counts step request).2
@@ -22,8 +24,10 @@ few : (steps : History) → AllByRecursion IsPlaced steps → length steps ≤ r
 few steps h = omega (arith, few_steps steps h, records_count steps)
 
 module _ (requests outcomes len capacity after kept : ℕ) where
-  pub request_more : (steps items : History) (step : List Record) (n : ℕ) → IsQueue requests outcomes len capacity steps → IsTrue (is_request step) → length step ≤ MAX_STEP_RECORDS
-      → requests_in steps + length step ≤ MAX_WAITING_REQUESTS → n ≡ length step → items ≡ steps ++ step ∷ [] → after ≡ len + 1 → capacity ≤ kept → IsQueue (requests + n) outcomes after kept items
+  pub request_more : (steps items : History) (step : List Record) (n : ℕ) → IsQueue requests outcomes len capacity steps
+      → IsTrue (is_request step) → length step ≤ MAX_STEP_RECORDS
+      → requests_in steps + length step ≤ MAX_WAITING_REQUESTS → n ≡ length step → items ≡ steps ++ step ∷ []
+      → after ≡ len + 1 → capacity ≤ kept → IsQueue (requests + n) outcomes after kept items
   request_more steps items step n h is most place same are more room =
       let counts = request_counts step is in
       subst (IsQueue (requests + n) outcomes after kept) (sym are) (record {
@@ -37,8 +41,10 @@ module _ (requests outcomes len capacity after kept : ℕ) where
         places = omega (arith, h.places, room);
       })
 
-  pub outcome_more : (steps items : History) (step : List Record) → IsQueue requests outcomes len capacity steps → IsTrue (is_outcome step) → outcomes_in steps < MAX_WAITING_OUTCOMES
-      → items ≡ steps ++ step ∷ [] → after ≡ len + 1 → capacity ≤ kept → IsQueue requests (outcomes + 1) after kept items
+  pub outcome_more : (steps items : History) (step : List Record) → IsQueue requests outcomes len capacity steps
+      → IsTrue (is_outcome step) → outcomes_in steps < MAX_WAITING_OUTCOMES
+      → items ≡ steps ++ step ∷ [] → after ≡ len + 1 → capacity ≤ kept
+      → IsQueue requests (outcomes + 1) after kept items
   outcome_more steps items step h is place are more room =
       let counts = outcome_counts step is in
       subst (IsQueue requests (outcomes + 1) after kept) (sym are) (record {
@@ -68,11 +74,13 @@ module _ (requests outcomes len capacity after kept : ℕ) where
         places = omega (arith, h.places, room);
       }
 
-  no_request : (x : List Record) → is_outcome x ≡ false → IsTrue (is_request x) ⊎ IsTrue (is_outcome x) → IsTrue (is_request x)
+  no_request : (x : List Record) → is_outcome x ≡ false → IsTrue (is_request x) ⊎ IsTrue (is_outcome x)
+      → IsTrue (is_request x)
   no_request x is (inl request) = request
   no_request x is (inr outcome) = absurd (let clash : false ≡ true = sym is ∙ outcome in cc)
 
-  pub request_fits : (x : List Record) (xs : History) (n : ℕ) → IsQueue requests outcomes len capacity (x ∷ xs) → is_outcome x ≡ false → n ≡ length x → n ≤ requests
+  pub request_fits : (x : List Record) (xs : History) (n : ℕ) → IsQueue requests outcomes len capacity (x ∷ xs)
+      → is_outcome x ≡ false → n ≡ length x → n ≤ requests
   request_fits x xs n h is same =
       let counts = request_counts x (no_request x is h.placed.0.0) in
       omega (arith, h.counts_requests, (counts_first x xs).0, counts.0, same)
@@ -88,7 +96,19 @@ module _ (requests outcomes len capacity after kept : ℕ) where
         counts_outcomes = omega (arith, h.counts_outcomes, first.1, counts.1);
         placed = h.placed.1;
         count = omega (arith, h.count, less);
-        all = omega (arith, h.count, less, few xs h.placed.1, h.counts_requests, h.counts_outcomes, first.0, first.1, counts.0, counts.1, same);
+        all = omega (
+          arith,
+          h.count,
+          less,
+          few xs h.placed.1,
+          h.counts_requests,
+          h.counts_outcomes,
+          first.0,
+          first.1,
+          counts.0,
+          counts.1,
+          same,
+        );
         most_requests = omega (arith, h.most_requests);
         most_outcomes = h.most_outcomes;
         places = omega (arith, h.places, room);

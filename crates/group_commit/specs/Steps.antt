@@ -1,5 +1,6 @@
 -- The steps that wait: requests and outcomes.
-use Rattle.std.specs.Prelude.{◌≡◌, ℕ, ◌<◌, ◌≤◌, ◌+◌, ◌-◌, ◌⊎◌, Bool, true, false, not, nat_le, List, [], ◌∷◌, length, take, count_by, if◌then◌else◌, IsTrue}
+use Rattle.std.specs.Prelude.{◌≡◌, ℕ, ◌<◌, ◌≤◌, ◌+◌, ◌-◌, ◌⊎◌, Bool, true, false, not, nat_le, List, [], ◌∷◌, length}
+use Rattle.std.specs.Prelude.{take, count_by, if◌then◌else◌, IsTrue}
 use Rattle.std.specs.List.{list_all, AllByRecursion}
 use Rattle.relay_types.specs.declared.limits.TheConstants.{MAX_STEP_RECORDS}
 use Rattle.relay_types.specs.declared.record.Record.{Record}

@@ -46,7 +46,8 @@ impl Waiting {
     /// All places, and no step, behind so many settled records of an opening with this mark.
     pub fn new(alloc: Global, records: u64, mark: u64) -> Result<Waiting, AllocError>
         requires { records ≤ MAX_RECORDS }
-        ensures { IfOk result (λ waiting. waiting ≡ record { mark = mark; settled = records; waiting = []; out = None }) }
+        ensures { IfOk result
+            (λ waiting. waiting ≡ record { mark = mark; settled = records; waiting = []; out = None }) }
     {
         Ok(Waiting {
             mark,
@@ -95,7 +96,8 @@ impl Waiting {
     pub fn seal(&mut self) -> Result<Option<Batch>, SealFault>
         ensures batch_out { (result ≡ Err SealFault.BatchOut) ↔ IsSome self.old.out }
         ensures nothing { (result ≡ Ok None) ↔ ((self.old.out ≡ None) × (self.old.waiting ≡ [])) }
-        ensures batch { IfOk result (λ sealed. IfSome sealed (λ batch. batch ≡ batch_of self.old (sealed_count self.old))) }
+        ensures batch { IfOk result
+            (λ sealed. IfSome sealed (λ batch. batch ≡ batch_of self.old (sealed_count self.old))) }
         ensures longest { IfOk result (λ sealed. IfSome sealed
             (λ batch. IsLongestPrefix MAX_BATCH_RECORDS self.old.waiting batch.steps)) }
         ensures out { IfOk result (λ sealed. IfSome sealed (λ _. self.new ≡ with_batch_out self.old)) }
@@ -216,7 +218,8 @@ impl Waiting {
     /// How many more records of requests can wait. Behind the settled records no more wait than there are places.
     pub fn free_requests(&self) -> usize
         ensures free { result + requests_in self.now.waiting ≡ MAX_WAITING_REQUESTS }
-        ensures records { record_count self.now + result ≤ self.now.settled + MAX_WAITING_REQUESTS + MAX_WAITING_OUTCOMES }
+        ensures records { record_count self.now + result ≤ self.now.settled + MAX_WAITING_REQUESTS
+            + MAX_WAITING_OUTCOMES }
     {
         MAX_WAITING_REQUESTS - self.queue.requests()
     }
@@ -224,7 +227,8 @@ impl Waiting {
     /// How many more outcomes can wait. Behind the settled records no more wait than there are places.
     pub fn free_outcomes(&self) -> usize
         ensures free { result + outcomes_in self.now.waiting ≡ MAX_WAITING_OUTCOMES }
-        ensures records { record_count self.now + result ≤ self.now.settled + MAX_WAITING_REQUESTS + MAX_WAITING_OUTCOMES }
+        ensures records { record_count self.now + result ≤ self.now.settled + MAX_WAITING_REQUESTS
+            + MAX_WAITING_OUTCOMES }
     {
         MAX_WAITING_OUTCOMES - self.queue.outcomes()
     }

@@ -28,7 +28,8 @@ pub record IsShown (head : Parts) (sent : AskBody) (ask : Ask) : Type 0 where
   pub ids : map (λ id. id.now) ask.ids.now ≡ values_shown head.headers (codes "webhook-id")
   pub body : ask.body ≡ sent
 
--- The reply is that to what is asked, where an event without an id is given one that was made for it, or memory is lacking.
+-- The reply is that to what is asked, where an event without an id is given one that was made for it, or memory is
+-- lacking.
 abbrev pub RepliesTo : Parts → AskBody → Reply → Type 0
 RepliesTo head body reply = OrLacksMemory ((ask : Ask) × (fresh : Text) × (seen : ℕ) × (given : Option AckValue)
     × (published : Option PublishAckValue) × (confirmed : Option ChangeValue) × IsShown head body ask × IsMadeId fresh
@@ -41,8 +42,8 @@ IsBodyOf (Ok collected) TooLong = ⊥
 IsBodyOf (Err LengthLimit) body = body ≡ TooLong
 IsBodyOf (Err (Body error)) body = ⊥
 
--- The response is that of the reply to this head and the body that came, or memory is lacking; to a coding that isn't known it
--- is one of its own.
+-- The response is that of the reply to this head and the body that came, or memory is lacking; to a coding that isn't
+-- known it is one of its own.
 abbrev pub IsResponseTo : Parts → Result Collected (LimitedError Error) → Response (Full (List ℕ)) → Type 0
 IsResponseTo head gathered response =
     ((is_coded head.headers ≡ true) × IsNotImplemented response)

@@ -19,13 +19,15 @@ use Rattle.desk.specs.Queries.{has_event, is_event_of, settled_body}
 use Rattle.desk.specs.Moves.{ticket}
 use Rattle.desk.specs.World.{settled_records}
 use Rattle.delivery.specs.Logs.{ChangeValue, PublishedValue, HasChange, HasSettled, HasTickets, tickets_by}
-use Rattle.intake_shed.specs.Acks.{AckValue, PublishAckValue, AreLogged, AreSettled, HasEvent, IsLogged, ack_of, publish_ack_of}
+use Rattle.intake_shed.specs.Acks.{AckValue, PublishAckValue, AreLogged, AreSettled, HasEvent, IsLogged, ack_of}
+use Rattle.intake_shed.specs.Acks.{publish_ack_of}
 
 equal : (xs ys : List ℕ) → bytes_eq xs ys ≡ true → xs ≡ ys
 equal xs ys e = (bytes_eq-Decides xs ys).0 e
 
 -- an event that wasn't removed is there
-still_there : (records : List Record) (d : ℕ) (a : Accepted) → accepted records d ≡ Some a → accept_at records d ≡ Some a
+still_there : (records : List Record) (d : ℕ) (a : Accepted) → accepted records d ≡ Some a
+    → accept_at records d ≡ Some a
 still_there records d a e = sym (accepted_is records d (unpurged_if records d (ap is_some e))) ∙ e
 
 -- the event that a world's settled records have by the ticket, with this body
@@ -69,7 +71,8 @@ accepted_longer xs more d a e = at (slice_get xs d) refl e
     at (Some r) is e = ap (option_and_then accepted_by) (get_longer xs more d r is) ∙ e
 
 -- an event that a locked desk has settled
-pub shown : (is_base : List Record → Type 0) (start : ℕ) (desk : DeskValue) (prefix : List Record) (ticket : Ticket) (body : List ℕ)
+pub shown : (is_base : List Record → Type 0) (start : ℕ) (desk : DeskValue) (prefix : List Record) (ticket : Ticket)
+    (body : List ℕ)
     → HasSettled is_base start desk prefix → OverWorlds desk (λ w. settled_body w ticket ≡ Some body)
     → IsLogged is_base (ack_of ticket body prefix) prefix
 shown is_base start desk prefix ticket body has_settled settled base is =
@@ -108,7 +111,8 @@ have_id records topic id tickets e =
     (map (λ (s : Endpoint). s.name) (subscribers records topic)))
 
 -- an event for a topic that a locked desk has settled at each subscriber
-pub all_shown : (is_base : List Record → Type 0) (start : ℕ) (desk : DeskValue) (prefix : List Record) (event : PublishedValue)
+pub all_shown : (is_base : List Record → Type 0) (start : ℕ) (desk : DeskValue) (prefix : List Record)
+    (event : PublishedValue)
     (body : List ℕ) → HasSettled is_base start desk prefix → HasTickets is_base event event.prefix
     → OverWorlds desk (λ w. AreSettled (settled_body w) event.tickets body)
     → AreLogged is_base (publish_ack_of event body prefix) prefix
@@ -128,7 +132,8 @@ all_logged_on is_base ack written begins stands base is k d lt =
     event_longer base ack.prefix written t.seq t.name ack.event.id ack.body begins (stands base is k d lt)
 
 -- one of its records is that of an event
-pub one_logged : (is_base : List Record → Type 0) (event : PublishedValue) (body : List ℕ) (prefix : List Record) (k : ℕ) (t : Ticket)
+pub one_logged : (is_base : List Record → Type 0) (event : PublishedValue) (body : List ℕ) (prefix : List Record)
+    (k : ℕ) (t : Ticket)
     → HasTickets is_base event event.prefix → AreLogged is_base (publish_ack_of event body prefix) prefix
     → k < length event.tickets → slice_index_or event.tickets k t ≡ t → IsLogged is_base (ack_of t body prefix) prefix
 one_logged is_base event body prefix k t has_tickets stands lt at base is =

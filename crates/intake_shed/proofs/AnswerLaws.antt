@@ -5,7 +5,8 @@ use Rattle.relay_types.specs.Values.{Text}
 use Rattle.desk.specs.declared.command.Command.{Command}
 use Rattle.delivery.specs.Logs.{ChangeValue}
 use Rattle.intake_shed.specs.Acks.{AckValue, PublishAckValue, AreBelow, IsOfEvent, IsOfPublish}
-use Rattle.intake_shed.specs.Answers.{Answers, AcceptsEvent, AcceptsPublish, FailsBy, GivesPageAt, IsNoRefusal, IsPublishTold, IsTold}
+use Rattle.intake_shed.specs.Answers.{Answers, AcceptsEvent, AcceptsPublish, FailsBy, GivesPageAt, IsNoRefusal}
+use Rattle.intake_shed.specs.Answers.{IsPublishTold, IsTold}
 use Rattle.intake_shed.specs.Answers.{OrLacksMemory, may_fail, may_fail_event, may_fail_publish}
 use Rattle.intake_shed.specs.Pages.{asks_for_page}
 use Rattle.intake_shed.specs.Replies.{ask_reply, out_of_memory}
@@ -14,27 +15,28 @@ use Rattle.intake_shed.specs.declared.ask.Asked.{Asked}
 use Rattle.intake_shed.specs.declared.ask.Asked.TheVariants as asked
 use Rattle.intake_shed.specs.declared.fault.RequestError.{RequestError}
 use Rattle.intake_shed.specs.declared.refusals.SubmitError.{SubmitError}
-use Rattle.intake_shed.specs.declared.refusals.SubmitError.TheVariants as wait
+use Rattle.intake_shed.specs.declared.refusals.SubmitError.TheVariants as submit
 use Rattle.intake_shed.specs.declared.reply.Reply.{Reply}
 
 -- an event and a change may both go back, and be unknown
 pub event_may_fail : (why : SubmitError) → IsNoRefusal why → IsTrue (may_fail_event why)
-event_may_fail (wait.Refused refusal) h = absurd h
-event_may_fail wait.Unknown h = refl
-event_may_fail wait.WentBack h = refl
+event_may_fail (submit.Refused refusal) h = absurd h
+event_may_fail submit.Unknown h = refl
+event_may_fail submit.WentBack h = refl
 
 pub publish_may_fail : (why : SubmitError) → IsNoRefusal why → IsTrue (may_fail_publish why)
-publish_may_fail (wait.Refused refusal) h = absurd h
-publish_may_fail wait.Unknown h = refl
-publish_may_fail wait.WentBack h = refl
+publish_may_fail (submit.Refused refusal) h = absurd h
+publish_may_fail submit.Unknown h = refl
+publish_may_fail submit.WentBack h = refl
 
 pub change_may_fail : (command : Command) (why : SubmitError) → IsNoRefusal why → IsTrue (may_fail command why)
-change_may_fail command (wait.Refused refusal) h = absurd h
-change_may_fail command wait.Unknown h = refl
-change_may_fail command wait.WentBack h = refl
+change_may_fail command (submit.Refused refusal) h = absurd h
+change_may_fail command submit.Unknown h = refl
+change_may_fail command submit.WentBack h = refl
 
 -- an event that was waited for is acknowledged, or isn't
-pub told_event : (name id body : Text) (seen : ℕ) (waited : Result AckValue SubmitError) (reply : Reply) (given : Option AckValue)
+pub told_event : (name id body : Text) (seen : ℕ) (waited : Result AckValue SubmitError) (reply : Reply)
+    (given : Option AckValue)
     → IfOk waited (λ ack. IsOfEvent ack name id body) → IfOk waited (λ ack. ack.seq < seen)
     → IfErr waited (λ why. IsTrue (may_fail_event why)) → IsTold waited reply → IfOk waited (λ ack. given ≡ Some ack)
     → AcceptsEvent name id body seen reply given ⊎ FailsBy may_fail_event reply
@@ -51,7 +53,8 @@ told_publish topic id body seen (Ok ack) reply published event below may told is
 told_publish topic id body seen (Err why) reply published event below may told is = inr (why, may, told)
 
 -- a page that is asked for
-pub page_answers : (what : Asked) (seen : ℕ) (reply : Reply) (given : Option AckValue) (published : Option PublishAckValue)
+pub page_answers : (what : Asked) (seen : ℕ) (reply : Reply) (given : Option AckValue)
+    (published : Option PublishAckValue)
     (confirmed : Option ChangeValue) → IsTrue (asks_for_page what) → GivesPageAt what seen reply
     → Answers what seen reply given published confirmed
 page_answers (asked.Change command) seen reply given published confirmed asks page = cc
@@ -74,7 +77,8 @@ same_reply : (a b : Reply) → was_refused a ≡ was_refused b → a ≡ b
 same_reply a b e = cc
 
 -- what is asked for is the one thing that the request asks for
-pub answers_what : (read what : Asked) (seen : ℕ) (reply : Reply) (given : Option AckValue) (published : Option PublishAckValue)
+pub answers_what : (read what : Asked) (seen : ℕ) (reply : Reply) (given : Option AckValue)
+    (published : Option PublishAckValue)
     (confirmed : Option ChangeValue) → Gives (Ok read) what → Answers read seen reply given published confirmed
     → OrLacksMemory (Answers what seen reply given published confirmed) reply
 answers_what read what seen reply given published confirmed (inl e) h =
@@ -91,6 +95,7 @@ pub read_not_refused : (read : Asked) (why : RequestError) → Tells (Ok read) w
 read_not_refused read why (inl e) = cc
 read_not_refused read why (inr e) = cc
 
-pub refused_so : (why : RequestError) (reply : Reply) → Tells (Err reply) why → OrLacksMemory (reply ≡ ask_reply why) reply
+pub refused_so : (why : RequestError) (reply : Reply) → Tells (Err reply) why
+    → OrLacksMemory (reply ≡ ask_reply why) reply
 refused_so why reply (inl e) = inl (same_reply reply (ask_reply why) e)
 refused_so why reply (inr e) = inr (same_reply reply out_of_memory e)

@@ -1,5 +1,6 @@
 -- The texts of a list of values.
-use Rattle.std.proofs.Common.{◌≡◌, ℕ, zero, suc, ◌+◌, ◌<◌, ◌≤◌, false, List, [], ◌∷◌, ◌++◌, length, take, get_or, refl, sym, ap, ◌∙◌, arith, Option, Some, None, option_map}
+use Rattle.std.proofs.Common.{◌≡◌, ℕ, zero, suc, ◌+◌, ◌<◌, ◌≤◌, false, List, [], ◌∷◌, ◌++◌, length, take, get_or, refl}
+use Rattle.std.proofs.Common.{sym, ap, ◌∙◌, arith, Option, Some, None, option_map}
 use Rattle.std.proofs.lemmas.List.{take_more, map-append}
 use Rattle.std.specs.Borrow.{Bor}
 use Rattle.text_lines.specs.Parts.{texts}
@@ -23,7 +24,8 @@ is_string (string s) text e = cc
 is_string (array ds) text e = cc
 is_string (object ms) text e = cc
 
-strings-push : (values : List Value) (list : List (List ℕ)) (value : Value) (text : List ℕ) → items_view values ≡ strings list → view value ≡ string text
+strings-push : (values : List Value) (list : List (List ℕ)) (value : Value) (text : List ℕ)
+    → items_view values ≡ strings list → view value ≡ string text
     → items_view (values ++ value ∷ []) ≡ strings (list ++ text ∷ [])
 strings-push [] [] value text h e = cc
 strings-push [] (t ∷ list) value text h e = cc
@@ -35,16 +37,21 @@ strings-push (v ∷ values) (t ∷ list) value text h e =
     cc
 
 -- one text more
-pub strings-more : (values : List Value) (value : Value) (i : ℕ) (list new : List (Bor (List ℕ))) (text : Bor (List ℕ)) → i < length values
-    → value ≡ get_or values i value → items_view (take i values) ≡ strings (texts list) → Some text.now ≡ as_str (view value) → new ≡ list ++ text ∷ []
+pub strings-more : (values : List Value) (value : Value) (i : ℕ) (list new : List (Bor (List ℕ))) (text : Bor (List ℕ))
+    → i < length values
+    → value ≡ get_or values i value → items_view (take i values) ≡ strings (texts list)
+    → Some text.now ≡ as_str (view value) → new ≡ list ++ text ∷ []
     → items_view (take (i + 1) values) ≡ strings (texts new)
 strings-more values value i list new text lt at h is e =
-    let longer : take (i + 1) values ≡ take i values ++ value ∷ [] = take_more values i value lt ∙ ap (λ v. take i values ++ v ∷ []) (sym at) in
-    let more : texts new ≡ texts list ++ text.now ∷ [] = ap texts e ∙ map-append (λ (x : Bor (List ℕ)). x.now) list (text ∷ []) in
+    let longer : take (i + 1) values ≡ take i values ++ value ∷ [] = take_more values i value lt
+    ∙ ap (λ v. take i values ++ v ∷ []) (sym at) in
+    let more : texts new ≡ texts list ++ text.now ∷ [] = ap texts e ∙ map-append (λ (x : Bor (List ℕ)). x.now) list
+    (text ∷ []) in
     rw (longer, more) (strings-push (take i values) (texts list) value text.now h (is_string (view value) text.now is))
 
 -- each value of a list of texts is a text
-pub text_at : (values : List Value) (d : Value) (i : ℕ) (list : List (List ℕ)) → items_view values ≡ strings list → i < length values
+pub text_at : (values : List Value) (d : Value) (i : ℕ) (list : List (List ℕ)) → items_view values ≡ strings list
+    → i < length values
     → (text : List ℕ) × (as_str (view (get_or values i d)) ≡ Some text)
 text_at [] d i list h lt = absurd (omega arith)
 text_at (v ∷ values) d i [] h lt = cc
@@ -55,7 +62,8 @@ text_at (v ∷ values) d (suc i) (t ∷ list) h lt =
     let tail : items_view values ≡ strings list = cc in
     text_at values d i list tail (omega arith)
 
-pub no_text : (values : List Value) (value : Value) (i : ℕ) (list : List (List ℕ)) (r : Option (Bor (List ℕ))) → items_view values ≡ strings list → i < length values
+pub no_text : (values : List Value) (value : Value) (i : ℕ) (list : List (List ℕ)) (r : Option (Bor (List ℕ)))
+    → items_view values ≡ strings list → i < length values
     → value ≡ get_or values i value → option_map (λ s. s.now) r ≡ as_str (view value) → r ≡ None → ⊥
 no_text values value i list r h lt at is none =
     let text = text_at values value i list h lt in
@@ -69,7 +77,8 @@ many_ids (id ∷ other ∷ ids) h = refl
 
 -- the numbers of tickets
 
-naturals-push : (values : List Value) (ns : List ℕ) (value : Value) (n : ℕ) → items_view values ≡ naturals ns → view value ≡ natural n
+naturals-push : (values : List Value) (ns : List ℕ) (value : Value) (n : ℕ) → items_view values ≡ naturals ns
+    → view value ≡ natural n
     → items_view (values ++ value ∷ []) ≡ naturals (ns ++ n ∷ [])
 naturals-push [] [] value n h e = cc
 naturals-push [] (m ∷ ns) value n h e = cc
@@ -81,8 +90,10 @@ naturals-push (v ∷ values) (m ∷ ns) value n h e =
     cc
 
 -- one number more
-pub naturals-more : (tickets : List Ticket) (i : ℕ) (ticket : Ticket) (values new : List Value) (value : Value) → i < length tickets
-    → ticket ≡ get_or tickets i ticket → items_view values ≡ naturals (seqs_of (take i tickets)) → view value ≡ natural ticket.seq
+pub naturals-more : (tickets : List Ticket) (i : ℕ) (ticket : Ticket) (values new : List Value) (value : Value)
+    → i < length tickets
+    → ticket ≡ get_or tickets i ticket → items_view values ≡ naturals (seqs_of (take i tickets))
+    → view value ≡ natural ticket.seq
     → new ≡ values ++ value ∷ [] → items_view new ≡ naturals (seqs_of (take (i + 1) tickets))
 naturals-more tickets i ticket values new value lt at h is e =
     let longer : take (i + 1) tickets ≡ take i tickets ++ ticket ∷ [] =

@@ -3,7 +3,8 @@ use Rattle.std.proofs.Common.{◌≡◌, ℕ, false, List, [], ◌++◌, take, I
 use Rattle.std.proofs.lemmas.Bool.{and_parts}
 use Rattle.text_lines.specs.Parts.{has_no}
 use Rattle.text_lines.proofs.NumberLaws.{bytes_not_equal}
-use Rattle.intake_shed.specs.Lines.{Line, Put, SetSecrets, SetEnabled, SetSubscribed, Submit, Publish, Retention, Totals}
+use Rattle.intake_shed.specs.Lines.{Line, Put, SetSecrets, SetEnabled, SetSubscribed, Submit, Publish, Retention}
+use Rattle.intake_shed.specs.Lines.{Totals}
 use Rattle.intake_shed.specs.Lines.{Endpoint, Event, IsLine, endpoint_path, topic_path}
 use Rattle.intake_shed.specs.Routes.{IsBehindName, StartsAt}
 use Rattle.intake_shed.proofs.PathLaws.{behind_name, same_topics}
@@ -25,7 +26,8 @@ same_id : (a b : List ℕ) → codes "/events/" ++ a ≡ codes "/events/" ++ b �
 same_id a b e = cc
 
 -- the line of a method, a name, and what stands behind the name
-one_behind : (a b : Line) (method name rest : List ℕ) → IsBehindName a method name rest → IsBehindName b method name rest → a ≡ b
+one_behind : (a b : Line) (method name rest : List ℕ) → IsBehindName a method name rest
+    → IsBehindName b method name rest → a ≡ b
 one_behind (Publish t) b method name rest h k = absurd h
 one_behind Retention b method name rest h k = absurd h
 one_behind Totals b method name rest h k = absurd h
@@ -109,13 +111,16 @@ one_behind (Event x i) (SetSubscribed y u) method name rest (m, n, r, clear) (m'
     absurd (differ m m' refl)
 one_behind (Event x i) (Submit y) method name rest (m, n, r, clear) (m', n', r') = absurd (differ m m' refl)
 one_behind (Event x i) (Endpoint y) method name rest (m, n, r, clear) (m', n', r') = absurd (no_rest i (sym r' ∙ r))
-one_behind (Event x i) (Event y j) method name rest (m, n, r, clear) (m', n', r', clear') = let e : x ≡ y = sym n ∙ n' in let t : i ≡ j = same_id i j (sym r ∙ r') in cc
+one_behind (Event x i) (Event y j) method name rest (m, n, r, clear) (m', n', r', clear') = let e : x ≡ y = sym n ∙ n'
+    in let t : i ≡ j = same_id i j (sym r ∙ r') in cc
 
 -- the line of a method and a path
-with_name : (line b : Line) (method path name rest : List ℕ) → path ≡ endpoint_path name rest → IsTrue (has_no 47 name) → StartsAt 47 rest
+with_name : (line b : Line) (method path name rest : List ℕ) → path ≡ endpoint_path name rest → IsTrue (has_no 47 name)
+    → StartsAt 47 rest
     → IsLine line method path → IsLine b method path → line ≡ b
 with_name line b method path name rest e clean starts h k =
-    one_behind line b method name rest (behind_name line method path name rest e clean starts h) (behind_name b method path name rest e clean starts k)
+    one_behind line b method name rest (behind_name line method path name rest e clean starts h)
+    (behind_name b method path name rest e clean starts k)
 
 not_totals : (path name rest : List ℕ) → path ≡ codes "/v1/status" → path ≡ endpoint_path name rest → ⊥
 not_totals path name rest h k = differ h k refl
@@ -128,13 +133,17 @@ not_topics_path path name rest topic h k = differ h k refl
 
 pub one_line : (a b : Line) (method path : List ℕ) → IsLine a method path → IsLine b method path → a ≡ b
 one_line (Put x) b method path h k = with_name (Put x) b method path x [] h.of_path (and_parts _ _ h.no_slash).0 tt h k
-one_line (SetSecrets x) b method path h k = with_name (SetSecrets x) b method path x (codes "/secrets") h.of_path (and_parts _ _ h.no_slash).0 refl h k
-one_line (SetEnabled x) b method path h k = with_name (SetEnabled x) b method path x (codes "/enabled") h.of_path (and_parts _ _ h.no_slash).0 refl h k
+one_line (SetSecrets x) b method path h k = with_name (SetSecrets x) b method path x (codes "/secrets") h.of_path
+    (and_parts _ _ h.no_slash).0 refl h k
+one_line (SetEnabled x) b method path h k = with_name (SetEnabled x) b method path x (codes "/enabled") h.of_path
+    (and_parts _ _ h.no_slash).0 refl h k
 one_line (SetSubscribed x t) b method path h k =
     with_name (SetSubscribed x t) b method path x (codes "/topics/" ++ t)
     h.of_path (and_parts _ _ h.no_slash).0 refl h k
-one_line (Submit x) b method path h k = with_name (Submit x) b method path x (codes "/events") h.of_path (and_parts _ _ h.no_slash).0 refl h k
-one_line (Endpoint x) b method path h k = with_name (Endpoint x) b method path x [] h.of_path (and_parts _ _ h.no_slash).0 tt h k
+one_line (Submit x) b method path h k = with_name (Submit x) b method path x (codes "/events") h.of_path
+    (and_parts _ _ h.no_slash).0 refl h k
+one_line (Endpoint x) b method path h k = with_name (Endpoint x) b method path x [] h.of_path
+    (and_parts _ _ h.no_slash).0 tt h k
 one_line (Event x i) b method path h k =
     with_name (Event x i) b method path x (codes "/events/" ++ i) h.of_path (and_parts _ _ h.no_slash).0 refl h k
 one_line (Publish t) (Publish u) method path h k =
@@ -142,12 +151,17 @@ one_line (Publish t) (Publish u) method path h k =
 one_line (Publish t) Retention method path h k = absurd (differ h.of_path k.of_path refl)
 one_line (Publish t) Totals method path h k = absurd (differ h.of_path k.of_path refl)
 one_line (Publish t) (Put y) method path h k = absurd (not_topics_path path y [] t h.of_path k.of_path)
-one_line (Publish t) (SetSecrets y) method path h k = absurd (not_topics_path path y (codes "/secrets") t h.of_path k.of_path)
-one_line (Publish t) (SetEnabled y) method path h k = absurd (not_topics_path path y (codes "/enabled") t h.of_path k.of_path)
-one_line (Publish t) (SetSubscribed y u) method path h k = absurd (not_topics_path path y (codes "/topics/" ++ u) t h.of_path k.of_path)
-one_line (Publish t) (Submit y) method path h k = absurd (not_topics_path path y (codes "/events") t h.of_path k.of_path)
+one_line (Publish t) (SetSecrets y) method path h k = absurd
+    (not_topics_path path y (codes "/secrets") t h.of_path k.of_path)
+one_line (Publish t) (SetEnabled y) method path h k = absurd
+    (not_topics_path path y (codes "/enabled") t h.of_path k.of_path)
+one_line (Publish t) (SetSubscribed y u) method path h k = absurd
+    (not_topics_path path y (codes "/topics/" ++ u) t h.of_path k.of_path)
+one_line (Publish t) (Submit y) method path h k = absurd
+    (not_topics_path path y (codes "/events") t h.of_path k.of_path)
 one_line (Publish t) (Endpoint y) method path h k = absurd (not_topics_path path y [] t h.of_path k.of_path)
-one_line (Publish t) (Event y j) method path h k = absurd (not_topics_path path y (codes "/events/" ++ j) t h.of_path k.of_path)
+one_line (Publish t) (Event y j) method path h k = absurd
+    (not_topics_path path y (codes "/events/" ++ j) t h.of_path k.of_path)
 one_line Retention Retention method path h k = refl
 one_line Retention Totals method path h k = absurd (differ h.of_path k.of_path refl)
 one_line Retention (Publish u) method path h k = absurd (differ h.of_path k.of_path refl)

@@ -12,10 +12,12 @@ use Rattle.desk.specs.declared.command.Command.TheVariants as change
 use Rattle.intake_shed.specs.Bodies.{IsJson, HasPutMembers, HasSecrets, HasFlag, HasBefore, strings, is_before, is_max}
 use Rattle.intake_shed.specs.Bodies.{AreNoSecrets, Says, IsBadMember, IsBadPut, IsBadSecrets, IsBadFlag, IsBadBefore}
 use Rattle.intake_shed.specs.Bodies.{OfBody}
-use Rattle.intake_shed.specs.Lines.{Line, Put, SetSecrets, SetEnabled, SetSubscribed, Submit, Publish, Retention, Totals}
+use Rattle.intake_shed.specs.Lines.{Line, Put, SetSecrets, SetEnabled, SetSubscribed, Submit, Publish, Retention}
+use Rattle.intake_shed.specs.Lines.{Totals}
 use Rattle.intake_shed.specs.Lines.{Endpoint, Event, before_query, has_name}
 use Rattle.intake_shed.specs.Replies.{ask_reply, out_of_memory}
-use Rattle.intake_shed.specs.Requests.{IsOn, AsksFor, IsOfBody, IsBadBody, IsBadOn, IsRefusedFor, IsNotReadFor, Gives, Tells}
+use Rattle.intake_shed.specs.Requests.{IsOn, AsksFor, IsOfBody, IsBadBody, IsBadOn, IsRefusedFor, IsNotReadFor, Gives}
+use Rattle.intake_shed.specs.Requests.{Tells}
 use Rattle.intake_shed.specs.Requests.{line_asked, has_room, has_id, has_parts, bytes_of}
 use Rattle.intake_shed.specs.declared.ask.Ask.{Ask}
 use Rattle.intake_shed.specs.declared.ask.Asked.{Asked}
@@ -83,7 +85,8 @@ not_both : (b : Bool) → IsTrue b → b ≡ false → ⊥
 not_both b holds fails = true_not_false (sym holds ∙ fails)
 
 -- the first bad member
-one_bad_member : (url : Text) (max : Num) (list : List Text) (a b : RequestError) → a ≢ fault.OutOfMemory → b ≢ fault.OutOfMemory
+one_bad_member : (url : Text) (max : Num) (list : List Text) (a b : RequestError) → a ≢ fault.OutOfMemory
+    → b ≢ fault.OutOfMemory
     → IsBadMember url max list a → IsBadMember url max list b → a ≡ b
 one_bad_member url max list fault.NotFound b m n h k = absurd h
 one_bad_member url max list fault.BadName b m n h k = absurd h
@@ -97,7 +100,8 @@ one_bad_member url max list fault.BadUrl fault.BadId m n h k = absurd k
 one_bad_member url max list fault.BadUrl fault.BadBody m n h k = absurd k
 one_bad_member url max list fault.BadUrl fault.BadUrl m n h k = refl
 one_bad_member url max list fault.BadUrl fault.BadMax m n h k = absurd (not_both _ k.0 h)
-one_bad_member url max list fault.BadUrl fault.BadSecret m n h k = absurd (not_both _ (and_parts (is_target url) (is_max max) k.0).0 h)
+one_bad_member url max list fault.BadUrl fault.BadSecret m n h k = absurd
+    (not_both _ (and_parts (is_target url) (is_max max) k.0).0 h)
 one_bad_member url max list fault.BadUrl fault.BadMoment m n h k = absurd k
 one_bad_member url max list fault.BadUrl fault.OutOfMemory m n h k = absurd (n refl)
 one_bad_member url max list fault.BadMax fault.NotFound m n h k = absurd k
@@ -107,7 +111,8 @@ one_bad_member url max list fault.BadMax fault.BadId m n h k = absurd k
 one_bad_member url max list fault.BadMax fault.BadBody m n h k = absurd k
 one_bad_member url max list fault.BadMax fault.BadUrl m n h k = absurd (not_both _ h.0 k)
 one_bad_member url max list fault.BadMax fault.BadMax m n h k = refl
-one_bad_member url max list fault.BadMax fault.BadSecret m n h k = absurd (not_both _ (and_parts (is_target url) (is_max max) k.0).1 h.1)
+one_bad_member url max list fault.BadMax fault.BadSecret m n h k = absurd
+    (not_both _ (and_parts (is_target url) (is_max max) k.0).1 h.1)
 one_bad_member url max list fault.BadMax fault.BadMoment m n h k = absurd k
 one_bad_member url max list fault.BadMax fault.OutOfMemory m n h k = absurd (n refl)
 one_bad_member url max list fault.BadSecret fault.NotFound m n h k = absurd k
@@ -115,8 +120,10 @@ one_bad_member url max list fault.BadSecret fault.BadName m n h k = absurd k
 one_bad_member url max list fault.BadSecret fault.TooLong m n h k = absurd k
 one_bad_member url max list fault.BadSecret fault.BadId m n h k = absurd k
 one_bad_member url max list fault.BadSecret fault.BadBody m n h k = absurd k
-one_bad_member url max list fault.BadSecret fault.BadUrl m n h k = absurd (not_both _ (and_parts (is_target url) (is_max max) h.0).0 k)
-one_bad_member url max list fault.BadSecret fault.BadMax m n h k = absurd (not_both _ (and_parts (is_target url) (is_max max) h.0).1 k.1)
+one_bad_member url max list fault.BadSecret fault.BadUrl m n h k = absurd
+    (not_both _ (and_parts (is_target url) (is_max max) h.0).0 k)
+one_bad_member url max list fault.BadSecret fault.BadMax m n h k = absurd
+    (not_both _ (and_parts (is_target url) (is_max max) h.0).1 k.1)
 one_bad_member url max list fault.BadSecret fault.BadSecret m n h k = refl
 one_bad_member url max list fault.BadSecret fault.BadMoment m n h k = absurd k
 one_bad_member url max list fault.BadSecret fault.OutOfMemory m n h k = absurd (n refl)
@@ -131,18 +138,22 @@ good_members url max list secrets fault.BadName m good are h = h
 good_members url max list secrets fault.TooLong m good are h = h
 good_members url max list secrets fault.BadId m good are h = h
 good_members url max list secrets fault.BadBody m good are h = h
-good_members url max list secrets fault.BadUrl m good are h = not_both _ (and_parts (is_target url) (is_max max) good).0 h
-good_members url max list secrets fault.BadMax m good are h = not_both _ (and_parts (is_target url) (is_max max) good).1 h.1
+good_members url max list secrets fault.BadUrl m good are h = not_both _ (and_parts (is_target url) (is_max max) good).0
+    h
+good_members url max list secrets fault.BadMax m good are h = not_both _ (and_parts (is_target url) (is_max max) good).1
+    h.1
 good_members url max list secrets fault.BadSecret m good are h = h.1 secrets are
 good_members url max list secrets fault.BadMoment m good are h = h
 good_members url max list secrets fault.OutOfMemory m good are h = m refl
 
 -- the body of a new endpoint lacks a member, or has a bad one
 abbrev LacksPut : (body : Text) → Type 0
-LacksPut body = (value : Data) → IsJson body value → (url : Text) (max : Num) (list : List Text) → ¬ HasPutMembers value url max list
+LacksPut body = (value : Data) → IsJson body value → (url : Text) (max : Num) (list : List Text)
+    → ¬ HasPutMembers value url max list
 
 abbrev HasBadMembers : (value : Data) → RequestError → Type 0
-HasBadMembers value why = (url : Text) × (max : Num) × (list : List Text) × HasPutMembers value url max list × IsBadMember url max list why
+HasBadMembers value why = (url : Text) × (max : Num) × (list : List Text) × HasPutMembers value url max list
+    × IsBadMember url max list why
 
 abbrev HasBadPut : (body : Text) → RequestError → Type 0
 HasBadPut body why = (value : Data) × IsJson body value × HasBadMembers value why
@@ -160,7 +171,8 @@ put_stage body fault.BadSecret m h = inr h
 put_stage body fault.BadMoment m h = inr h
 put_stage body fault.OutOfMemory m h = absurd (m refl)
 
-same_bad_put : (body : Text) (a b : RequestError) → a ≢ fault.OutOfMemory → b ≢ fault.OutOfMemory → HasBadPut body a → HasBadPut body b → a ≡ b
+same_bad_put : (body : Text) (a b : RequestError) → a ≢ fault.OutOfMemory → b ≢ fault.OutOfMemory → HasBadPut body a
+    → HasBadPut body b → a ≡ b
 same_bad_put body a b m n (v, json, (url, max, list, members, bad)) (v', json', (url', max', list', members', bad')) =
     let value : v' ≡ v = one_value body v' v json' json in
     let moved : HasPutMembers v url' max' list' = subst (λ x. HasPutMembers x url' max' list') value members' in
@@ -168,13 +180,17 @@ same_bad_put body a b m n (v, json, (url, max, list, members, bad)) (v', json', 
     let of_max = one_max v url' url max' max list' list moved members in
     let of_list = one_texts v url' url max' max list' list moved members in
     one_bad_member url max list a b m n bad
-    (subst (λ x. IsBadMember x max list b) of_url (subst (λ x. IsBadMember url' x list b) of_max (subst (λ x. IsBadMember url' max' x b) of_list bad')))
+    (subst (λ x. IsBadMember x max list b) of_url
+    (subst (λ x. IsBadMember url' x list b) of_max (subst (λ x. IsBadMember url' max' x b) of_list bad')))
 
 one_put_fault : (body : Text) (a b : RequestError) → a ≢ fault.OutOfMemory → b ≢ fault.OutOfMemory
-    → ((a ≡ fault.BadBody) × LacksPut body) ⊎ HasBadPut body a → ((b ≡ fault.BadBody) × LacksPut body) ⊎ HasBadPut body b → a ≡ b
+    → ((a ≡ fault.BadBody) × LacksPut body) ⊎ HasBadPut body a → ((b ≡ fault.BadBody) × LacksPut body)
+    ⊎ HasBadPut body b → a ≡ b
 one_put_fault body a b m n (inl (e, lacks)) (inl (f, none)) = e ∙ sym f
-one_put_fault body a b m n (inl (e, lacks)) (inr (v, json, (url, max, list, members, bad))) = absurd (lacks v json url max list members)
-one_put_fault body a b m n (inr (v, json, (url, max, list, members, bad))) (inl (f, lacks)) = absurd (lacks v json url max list members)
+one_put_fault body a b m n (inl (e, lacks)) (inr (v, json, (url, max, list, members, bad))) = absurd
+    (lacks v json url max list members)
+one_put_fault body a b m n (inr (v, json, (url, max, list, members, bad))) (inl (f, lacks)) = absurd
+    (lacks v json url max list members)
 one_put_fault body a b m n (inr h) (inr k) = same_bad_put body a b m n h k
 
 -- the body of other secrets lacks them, or has bad ones
@@ -200,7 +216,8 @@ secrets_stage body fault.BadSecret m h = inr (refl, h)
 secrets_stage body fault.BadMoment m h = absurd h.2
 secrets_stage body fault.OutOfMemory m h = absurd (m refl)
 
-one_secrets_fault : (body : Text) (a b : RequestError) → ((a ≡ fault.BadBody) × LacksList body) ⊎ ((a ≡ fault.BadSecret) × HasBadList body)
+one_secrets_fault : (body : Text) (a b : RequestError) → ((a ≡ fault.BadBody) × LacksList body)
+    ⊎ ((a ≡ fault.BadSecret) × HasBadList body)
     → ((b ≡ fault.BadBody) × LacksList body) ⊎ ((b ≡ fault.BadSecret) × HasBadList body) → a ≡ b
 one_secrets_fault body a b (inl (e, lacks)) (inl (f, none)) = e ∙ sym f
 one_secrets_fault body a b (inl (e, lacks)) (inr (f, (v, json, (list, has, bad)))) = absurd (lacks v json list has)
@@ -272,7 +289,8 @@ no_bad_event name body fault.BadSecret m h = h
 no_bad_event name body fault.BadMoment m h = h
 no_bad_event name body fault.OutOfMemory m h = m refl
 
-no_bad_publish : (topic body : Text) (why : RequestError) → why ≢ fault.OutOfMemory → IsBadBody (Publish topic) body why → ⊥
+no_bad_publish : (topic body : Text) (why : RequestError) → why ≢ fault.OutOfMemory → IsBadBody (Publish topic) body why
+    → ⊥
 no_bad_publish topic body fault.NotFound m h = h
 no_bad_publish topic body fault.BadName m h = h
 no_bad_publish topic body fault.TooLong m h = h
@@ -287,7 +305,8 @@ no_bad_publish topic body fault.OutOfMemory m h = m refl
 one_bad_body : (line : Line) (body : Text) (a b : RequestError) → a ≢ fault.OutOfMemory → b ≢ fault.OutOfMemory
     → IsBadBody line body a → IsBadBody line body b → a ≡ b
 one_bad_body (Put name) body a b m n h k = one_put_fault body a b m n (put_stage body a m h) (put_stage body b n k)
-one_bad_body (SetSecrets name) body a b m n h k = one_secrets_fault body a b (secrets_stage body a m h) (secrets_stage body b n k)
+one_bad_body (SetSecrets name) body a b m n h k = one_secrets_fault body a b (secrets_stage body a m h)
+    (secrets_stage body b n k)
 one_bad_body (SetEnabled name) body a b m n h k = one_flag_fault (codes "enabled") body a b m n h k
 one_bad_body (SetSubscribed name topic) body a b m n h k = one_flag_fault (codes "subscribed") body a b m n h k
 one_bad_body (Submit name) body a b m n h k = absurd (no_bad_event name body a m h)
@@ -323,29 +342,38 @@ named : (line : Line) (ask : Ask) → IsTrue (has_parts line ask) → IsTrue (ha
 named line ask h = (and_parts (has_name line) (has_room ask.body && has_id line ask) h).0
 
 roomy : (line : Line) (ask : Ask) → IsTrue (has_parts line ask) → IsTrue (has_room ask.body)
-roomy line ask h = (and_parts (has_room ask.body) (has_id line ask) (and_parts (has_name line) (has_room ask.body && has_id line ask) h).1).0
+roomy line ask h = (and_parts (has_room ask.body) (has_id line ask)
+    (and_parts (has_name line) (has_room ask.body && has_id line ask) h).1).0
 
 given : (line : Line) (ask : Ask) → IsTrue (has_parts line ask) → IsTrue (has_id line ask)
-given line ask h = (and_parts (has_room ask.body) (has_id line ask) (and_parts (has_name line) (has_room ask.body && has_id line ask) h).1).1
+given line ask h = (and_parts (has_room ask.body) (has_id line ask)
+    (and_parts (has_name line) (has_room ask.body && has_id line ask) h).1).1
 
 one_stage : (line : Line) (ask : Ask) (a b : RequestError) → a ≢ fault.OutOfMemory → b ≢ fault.OutOfMemory
     → Stage line ask a → Stage line ask b → a ≡ b
 one_stage line ask a b m n (inl (e, x)) (inl (f, z)) = e ∙ sym f
 one_stage line ask a b m n (inl (e, x)) (inr (inl (f, z, u))) = absurd (not_both _ z x)
-one_stage line ask a b m n (inl (e, x)) (inr (inr (inl (f, z, u)))) = absurd (not_both _ (and_parts (has_name line) (has_room ask.body) z).0 x)
+one_stage line ask a b m n (inl (e, x)) (inr (inr (inl (f, z, u)))) = absurd
+    (not_both _ (and_parts (has_name line) (has_room ask.body) z).0 x)
 one_stage line ask a b m n (inl (e, x)) (inr (inr (inr (z, u)))) = absurd (not_both _ (named line ask z) x)
 one_stage line ask a b m n (inr (inl (e, x, y))) (inl (f, z)) = absurd (not_both _ x z)
 one_stage line ask a b m n (inr (inl (e, x, y))) (inr (inl (f, z, u))) = e ∙ sym f
-one_stage line ask a b m n (inr (inl (e, x, y))) (inr (inr (inl (f, z, u)))) = absurd (not_both _ (and_parts (has_name line) (has_room ask.body) z).1 y)
+one_stage line ask a b m n (inr (inl (e, x, y))) (inr (inr (inl (f, z, u)))) = absurd
+    (not_both _ (and_parts (has_name line) (has_room ask.body) z).1 y)
 one_stage line ask a b m n (inr (inl (e, x, y))) (inr (inr (inr (z, u)))) = absurd (not_both _ (roomy line ask z) y)
-one_stage line ask a b m n (inr (inr (inl (e, x, y)))) (inl (f, z)) = absurd (not_both _ (and_parts (has_name line) (has_room ask.body) x).0 z)
-one_stage line ask a b m n (inr (inr (inl (e, x, y)))) (inr (inl (f, z, u))) = absurd (not_both _ (and_parts (has_name line) (has_room ask.body) x).1 u)
+one_stage line ask a b m n (inr (inr (inl (e, x, y)))) (inl (f, z)) = absurd
+    (not_both _ (and_parts (has_name line) (has_room ask.body) x).0 z)
+one_stage line ask a b m n (inr (inr (inl (e, x, y)))) (inr (inl (f, z, u))) = absurd
+    (not_both _ (and_parts (has_name line) (has_room ask.body) x).1 u)
 one_stage line ask a b m n (inr (inr (inl (e, x, y)))) (inr (inr (inl (f, z, u)))) = e ∙ sym f
-one_stage line ask a b m n (inr (inr (inl (e, x, y)))) (inr (inr (inr (z, u)))) = absurd (not_both _ (given line ask z) y)
+one_stage line ask a b m n (inr (inr (inl (e, x, y)))) (inr (inr (inr (z, u)))) = absurd
+    (not_both _ (given line ask z) y)
 one_stage line ask a b m n (inr (inr (inr (x, y)))) (inl (f, z)) = absurd (not_both _ (named line ask x) z)
 one_stage line ask a b m n (inr (inr (inr (x, y)))) (inr (inl (f, z, u))) = absurd (not_both _ (roomy line ask x) u)
-one_stage line ask a b m n (inr (inr (inr (x, y)))) (inr (inr (inl (f, z, u)))) = absurd (not_both _ (given line ask x) u)
-one_stage line ask a b m n (inr (inr (inr (x, y)))) (inr (inr (inr (z, u)))) = one_bad_body line (bytes_of ask.body) a b m n y u
+one_stage line ask a b m n (inr (inr (inr (x, y)))) (inr (inr (inl (f, z, u)))) = absurd
+    (not_both _ (given line ask x) u)
+one_stage line ask a b m n (inr (inr (inr (x, y)))) (inr (inr (inr (z, u)))) = one_bad_body line (bytes_of ask.body) a b
+    m n y u
 
 one_bad_on : (a b : RequestError) (ask : Ask) → a ≢ fault.OutOfMemory → b ≢ fault.OutOfMemory
     → (line : Line) × IsOn line ask × IsBadOn line ask a → (line : Line) × IsOn line ask × IsBadOn line ask b → a ≡ b
@@ -401,20 +429,26 @@ one_check ask a b h k = one_there ask a b (refused_there ask a h) (refused_there
 
 -- ---- what is asked for isn't refused
 
-says_put : (body url : Text) (limit : ℕ) (texts secrets : List Text) (value : Data) (why : RequestError) → why ≢ fault.OutOfMemory
-    → IsJson body value → HasPutMembers value url (unsigned limit) texts → IsTrue (is_target url && is_max_limit limit) → AreSecretTexts texts secrets
+says_put : (body url : Text) (limit : ℕ) (texts secrets : List Text) (value : Data) (why : RequestError)
+    → why ≢ fault.OutOfMemory
+    → IsJson body value → HasPutMembers value url (unsigned limit) texts → IsTrue (is_target url && is_max_limit limit)
+    → AreSecretTexts texts secrets
     → ((why ≡ fault.BadBody) × LacksPut body) ⊎ HasBadPut body why → ⊥
-says_put body url limit texts secrets value why m json members good are (inl (e, lacks)) = lacks value json url (unsigned limit) texts members
-says_put body url limit texts secrets v why m json members good are (inr (v', json', (url', max', list', members', bad'))) =
+says_put body url limit texts secrets value why m json members good are (inl (e, lacks)) = lacks value json url
+    (unsigned limit) texts members
+says_put body url limit texts secrets v why m json members good are
+    (inr (v', json', (url', max', list', members', bad'))) =
     let value : v' ≡ v = one_value body v' v json' json in
     let moved : HasPutMembers v url' max' list' = subst (λ x. HasPutMembers x url' max' list') value members' in
     let of_url = one_url v url' url max' (unsigned limit) list' texts moved members in
     let of_max = one_max v url' url max' (unsigned limit) list' texts moved members in
     let of_list = one_texts v url' url max' (unsigned limit) list' texts moved members in
     good_members url (unsigned limit) texts secrets why m good are
-    (subst (λ x. IsBadMember x (unsigned limit) texts why) of_url (subst (λ x. IsBadMember url' x texts why) of_max (subst (λ x. IsBadMember url' max' x why) of_list bad')))
+    (subst (λ x. IsBadMember x (unsigned limit) texts why) of_url
+    (subst (λ x. IsBadMember url' x texts why) of_max (subst (λ x. IsBadMember url' max' x why) of_list bad')))
 
-says_secrets : (body : Text) (texts secrets : List Text) (value : Data) (why : RequestError) → IsJson body value → HasSecrets value texts → AreSecretTexts texts secrets
+says_secrets : (body : Text) (texts secrets : List Text) (value : Data) (why : RequestError) → IsJson body value
+    → HasSecrets value texts → AreSecretTexts texts secrets
     → ((why ≡ fault.BadBody) × LacksList body) ⊎ ((why ≡ fault.BadSecret) × HasBadList body) → ⊥
 says_secrets body texts secrets v why json has are (inl (e, lacks)) = lacks v json texts has
 says_secrets body texts secrets v why json has are (inr (e, (v', json', (list', has', bad')))) =
@@ -432,10 +466,13 @@ says_before body before v why json has good (inr (e, (v', json', (before', has',
     one_before v before' (unsigned before) (subst (λ x. HasBefore x before') value has') has in
     not_both (is_before before') (subst (λ x. IsTrue (is_before x)) (sym same) good) bad'
 
-says_no_bad : (ask : Ask) (fresh : Text) (what : Asked) (why : RequestError) → why ≢ fault.OutOfMemory → IsOfBody ask fresh what
+says_no_bad : (ask : Ask) (fresh : Text) (what : Asked) (why : RequestError) → why ≢ fault.OutOfMemory
+    → IsOfBody ask fresh what
     → IsBadBody (line_asked what) (bytes_of ask.body) why → ⊥
-says_no_bad ask fresh (asked.Change (change.PutEndpoint name url limit secrets)) why m (value, json, (texts, members, good, are)) h =
-    says_put (bytes_of ask.body) url limit texts secrets value why m json members good are (put_stage (bytes_of ask.body) why m h)
+says_no_bad ask fresh (asked.Change (change.PutEndpoint name url limit secrets)) why m
+    (value, json, (texts, members, good, are)) h =
+    says_put (bytes_of ask.body) url limit texts secrets value why m json members good are
+    (put_stage (bytes_of ask.body) why m h)
 says_no_bad ask fresh (asked.Change (change.SetSecrets name secrets)) why m (value, json, (texts, has, are)) h =
     says_secrets (bytes_of ask.body) texts secrets value why json has are (secrets_stage (bytes_of ask.body) why m h)
 says_no_bad ask fresh (asked.Change (change.SetEnabled name flag)) why m (value, json, has) h =
@@ -450,20 +487,25 @@ says_no_bad ask fresh asked.Totals why m says h = h
 says_no_bad ask fresh (asked.Endpoint name) why m says h = h
 says_no_bad ask fresh (asked.Event name id) why m says h = h
 
-passes_stage : (ask : Ask) (fresh : Text) (what : Asked) (why : RequestError) → why ≢ fault.OutOfMemory → AsksFor ask fresh what
+passes_stage : (ask : Ask) (fresh : Text) (what : Asked) (why : RequestError) → why ≢ fault.OutOfMemory
+    → AsksFor ask fresh what
     → Stage (line_asked what) ask why → ⊥
 passes_stage ask fresh what why m asks (inl (e, x)) = not_both _ (named (line_asked what) ask asks.passes) x
 passes_stage ask fresh what why m asks (inr (inl (e, x, y))) = not_both _ (roomy (line_asked what) ask asks.passes) y
-passes_stage ask fresh what why m asks (inr (inr (inl (e, x, y)))) = not_both _ (given (line_asked what) ask asks.passes) y
+passes_stage ask fresh what why m asks (inr (inr (inl (e, x, y)))) = not_both _
+    (given (line_asked what) ask asks.passes) y
 passes_stage ask fresh what why m asks (inr (inr (inr (x, y)))) = says_no_bad ask fresh what why m asks.says y
 
-asked_there : (ask : Ask) (fresh : Text) (what : Asked) (why : RequestError) → AsksFor ask fresh what → NoLine ask why ⊎ OnLine ask why → ⊥
+asked_there : (ask : Ask) (fresh : Text) (what : Asked) (why : RequestError) → AsksFor ask fresh what → NoLine ask why
+    ⊎ OnLine ask why → ⊥
 asked_there ask fresh what why asks (inl (e, none)) = none (line_asked what) asks.on_line
 asked_there ask fresh what why asks (inr (m, (line, on, h))) =
-    let same : line ≡ line_asked what = one_line line (line_asked what) ask.method.now (before_query ask.path.now) on asks.on_line in
+    let same : line ≡ line_asked what = one_line line (line_asked what) ask.method.now (before_query ask.path.now) on
+    asks.on_line in
     passes_stage ask fresh what why m asks (stage (line_asked what) ask why (subst (λ l. IsBadOn l ask why) same h))
 
-pub asked_not_refused : (ask : Ask) (fresh : Text) (what : Asked) (why : RequestError) → AsksFor ask fresh what → IsRefusedFor ask why → ⊥
+pub asked_not_refused : (ask : Ask) (fresh : Text) (what : Asked) (why : RequestError) → AsksFor ask fresh what
+    → IsRefusedFor ask why → ⊥
 asked_not_refused ask fresh what why asks h = asked_there ask fresh what why asks (refused_there ask why h)
 
 -- ---- one thing is asked for
@@ -492,9 +534,11 @@ one_put : (x y u v : Text) (l k : ℕ) (s t : List Text) (body : Text) → x ≡
     → (value : Data) × IsJson body value × Says value (change.PutEndpoint x u l s)
     → (value : Data) × IsJson body value × Says value (change.PutEndpoint y v k t)
     → asked.Change (change.PutEndpoint x u l s) ≡ asked.Change (change.PutEndpoint y v k t)
-one_put x y u v l k s t body e (value, json, (texts, members, good, are)) (value', json', (texts', members', good', are')) =
+one_put x y u v l k s t body e (value, json, (texts, members, good, are))
+    (value', json', (texts', members', good', are')) =
     let same : value' ≡ value = one_value body value' value json' json in
-    let moved : HasPutMembers value v (unsigned k) texts' = subst (λ d. HasPutMembers d v (unsigned k) texts') same members' in
+    let moved : HasPutMembers value v (unsigned k) texts' = subst (λ d. HasPutMembers d v (unsigned k) texts') same
+    members' in
     let of_url : u ≡ v = one_url value u v (unsigned l) (unsigned k) texts texts' members moved in
     let of_max : unsigned l ≡ unsigned k = one_max value u v (unsigned l) (unsigned k) texts texts' members moved in
     let of_limit : l ≡ k = cc in
@@ -536,8 +580,10 @@ one_purge n k body (value, json, (has, good)) (value', json', (has', good')) =
     let moments : n ≡ k = cc in
     cc
 
-one_of_body : (a b : Asked) (ask : Ask) (fresh : Text) → line_asked a ≡ line_asked b → IsOfBody ask fresh a → IsOfBody ask fresh b → a ≡ b
-one_of_body (asked.Change (change.PutEndpoint x u l s)) (asked.Change (change.PutEndpoint y v k t)) ask fresh e h g = one_put x y u v l k s t (bytes_of ask.body) (ap name_of e) h g
+one_of_body : (a b : Asked) (ask : Ask) (fresh : Text) → line_asked a ≡ line_asked b → IsOfBody ask fresh a
+    → IsOfBody ask fresh b → a ≡ b
+one_of_body (asked.Change (change.PutEndpoint x u l s)) (asked.Change (change.PutEndpoint y v k t)) ask fresh e h g =
+    one_put x y u v l k s t (bytes_of ask.body) (ap name_of e) h g
 one_of_body (asked.Change (change.PutEndpoint x u l s)) (asked.Change (change.SetSecrets y t)) ask fresh e h g = cc
 one_of_body (asked.Change (change.PutEndpoint x u l s)) (asked.Change (change.SetEnabled y v)) ask fresh e h g = cc
 one_of_body (asked.Change (change.PutEndpoint x u l s)) (asked.Change (change.SetSubscribed t y v)) ask fresh e h g = cc
@@ -548,7 +594,8 @@ one_of_body (asked.Change (change.PutEndpoint x u l s)) asked.Totals ask fresh e
 one_of_body (asked.Change (change.PutEndpoint x u l s)) (asked.Endpoint y) ask fresh e h g = cc
 one_of_body (asked.Change (change.PutEndpoint x u l s)) (asked.Event y v) ask fresh e h g = cc
 one_of_body (asked.Change (change.SetSecrets x s)) (asked.Change (change.PutEndpoint y v k t)) ask fresh e h g = cc
-one_of_body (asked.Change (change.SetSecrets x s)) (asked.Change (change.SetSecrets y t)) ask fresh e h g = one_set x y s t (bytes_of ask.body) (ap name_of e) h g
+one_of_body (asked.Change (change.SetSecrets x s)) (asked.Change (change.SetSecrets y t)) ask fresh e h g =
+    one_set x y s t (bytes_of ask.body) (ap name_of e) h g
 one_of_body (asked.Change (change.SetSecrets x s)) (asked.Change (change.SetEnabled y v)) ask fresh e h g = cc
 one_of_body (asked.Change (change.SetSecrets x s)) (asked.Change (change.SetSubscribed t y v)) ask fresh e h g = cc
 one_of_body (asked.Change (change.SetSecrets x s)) (asked.Change (change.Purge k)) ask fresh e h g = cc
@@ -596,7 +643,8 @@ one_of_body (asked.Post x u s) (asked.Change (change.SetSecrets y t)) ask fresh 
 one_of_body (asked.Post x u s) (asked.Change (change.SetEnabled y v)) ask fresh e h g = cc
 one_of_body (asked.Post x u s) (asked.Change (change.SetSubscribed t y v)) ask fresh e h g = cc
 one_of_body (asked.Post x u s) (asked.Change (change.Purge k)) ask fresh e h g = cc
-one_of_body (asked.Post x u s) (asked.Post y v t) ask fresh e h g = let n : x ≡ y = ap name_of e in let of_id : u ≡ v = h.0 ∙ sym g.0 in let of_body : s ≡ t = h.1 ∙ sym g.1 in cc
+one_of_body (asked.Post x u s) (asked.Post y v t) ask fresh e h g = let n : x ≡ y = ap name_of e in let of_id : u ≡ v =
+    h.0 ∙ sym g.0 in let of_body : s ≡ t = h.1 ∙ sym g.1 in cc
 one_of_body (asked.Post x u s) (asked.Publish y v t) ask fresh e h g = cc
 one_of_body (asked.Post x u s) asked.Totals ask fresh e h g = cc
 one_of_body (asked.Post x u s) (asked.Endpoint y) ask fresh e h g = cc
@@ -644,11 +692,13 @@ one_of_body (asked.Event x u) (asked.Post y v t) ask fresh e h g = cc
 one_of_body (asked.Event x u) (asked.Publish y v t) ask fresh e h g = cc
 one_of_body (asked.Event x u) asked.Totals ask fresh e h g = cc
 one_of_body (asked.Event x u) (asked.Endpoint y) ask fresh e h g = cc
-one_of_body (asked.Event x u) (asked.Event y v) ask fresh e h g = let n : x ≡ y = ap name_of e in let of_id : u ≡ v = ap id_in e in cc
+one_of_body (asked.Event x u) (asked.Event y v) ask fresh e h g = let n : x ≡ y = ap name_of e in let of_id : u ≡ v =
+    ap id_in e in cc
 
 pub one_asked : (ask : Ask) (fresh : Text) (a b : Asked) → AsksFor ask fresh a → AsksFor ask fresh b → a ≡ b
 one_asked ask fresh a b h k =
-    one_of_body a b ask fresh (one_line (line_asked a) (line_asked b) ask.method.now (before_query ask.path.now) h.on_line k.on_line) h.says k.says
+    one_of_body a b ask fresh (one_line (line_asked a) (line_asked b) ask.method.now (before_query ask.path.now)
+    h.on_line k.on_line) h.says k.says
 
 -- ---- so the answer is the one that the request asks for
 
@@ -665,7 +715,8 @@ not_read ask fault.BadSecret reply e h = inr (fault.BadSecret, e, h)
 not_read ask fault.BadMoment reply e h = inr (fault.BadMoment, e, h)
 not_read ask fault.OutOfMemory reply e h = inl e
 
-pub told : (ask : Ask) (reply : Reply) (why : RequestError) → (reply ≡ out_of_memory) ⊎ ((other : RequestError) × (reply ≡ ask_reply other) × IsRefusedFor ask other)
+pub told : (ask : Ask) (reply : Reply) (why : RequestError) → (reply ≡ out_of_memory)
+    ⊎ ((other : RequestError) × (reply ≡ ask_reply other) × IsRefusedFor ask other)
     → IsRefusedFor ask why → Tells (Err reply) why
 told ask reply why (inl e) h = inr (ap Err e)
 told ask reply why (inr (other, e, k)) h = inl (ap Err (e ∙ ap ask_reply (one_check ask other why k h)))

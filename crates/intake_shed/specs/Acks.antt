@@ -24,7 +24,14 @@ pub record EventValue : Type 0 where
 
 -- the event of this ticket, which has this body, and this prefix of the log
 abbrev pub ack_of : Ticket → (body : Text) → (prefix : List Record) → AckValue
-ack_of ticket body prefix = record { seq = ticket.seq; name = ticket.name; id = ticket.id; body = body; prefix = prefix }
+ack_of ticket body prefix = record {
+  seq = ticket.seq;
+  name = ticket.name;
+  id = ticket.id;
+  body = body;
+  prefix =
+      prefix;
+}
 
 -- an event that was published, its body, and a prefix of the run's log
 pub record PublishAckValue : Type 0 where

@@ -14,32 +14,32 @@ use Rattle.intake_shed.specs.declared.ask.Ask.{Ask}
 use Rattle.intake_shed.specs.declared.ask.Asked.{Asked}
 use Rattle.intake_shed.specs.declared.ask.Asked.TheVariants as asked
 use Rattle.intake_shed.specs.declared.refusals.SubmitError.{SubmitError}
-use Rattle.intake_shed.specs.declared.refusals.SubmitError.TheVariants as wait
+use Rattle.intake_shed.specs.declared.refusals.SubmitError.TheVariants as submit
 use Rattle.intake_shed.specs.declared.reply.Reply.{Reply}
 
 -- whether an event that was submitted and waited for may not be told as settled for this
 abbrev pub may_fail_event : SubmitError → Bool
-may_fail_event (wait.Refused refusal) = desk.may_refuse_event refusal.fault
-may_fail_event wait.Unknown = true
-may_fail_event wait.WentBack = true
+may_fail_event (submit.Refused refusal) = desk.may_refuse_event refusal.fault
+may_fail_event submit.Unknown = true
+may_fail_event submit.WentBack = true
 
 -- the same of an event for a topic
 abbrev pub may_fail_publish : SubmitError → Bool
-may_fail_publish (wait.Refused refusal) = desk.may_refuse_publish refusal.fault
-may_fail_publish wait.Unknown = true
-may_fail_publish wait.WentBack = true
+may_fail_publish (submit.Refused refusal) = desk.may_refuse_publish refusal.fault
+may_fail_publish submit.Unknown = true
+may_fail_publish submit.WentBack = true
 
 -- the same of a change
 abbrev pub may_fail : Command → SubmitError → Bool
-may_fail command (wait.Refused refusal) = desk.may_refuse command refusal.fault
-may_fail command wait.Unknown = true
-may_fail command wait.WentBack = true
+may_fail command (submit.Refused refusal) = desk.may_refuse command refusal.fault
+may_fail command submit.Unknown = true
+may_fail command submit.WentBack = true
 
 -- it isn't the desk that refused
 abbrev pub IsNoRefusal : SubmitError → Type 0
-IsNoRefusal (wait.Refused refusal) = ⊥
-IsNoRefusal wait.Unknown = Unit {0}
-IsNoRefusal wait.WentBack = Unit {0}
+IsNoRefusal (submit.Refused refusal) = ⊥
+IsNoRefusal submit.Unknown = Unit {0}
+IsNoRefusal submit.WentBack = Unit {0}
 
 -- the reply of one of these faults
 abbrev pub FailsBy : (may : SubmitError → Bool) → Reply → Type 0
@@ -55,13 +55,14 @@ abbrev pub IsPublishTold : Result PublishAckValue SubmitError → Reply → Type
 IsPublishTold (Ok ack) reply = IsDone 202 (published_text ack.event.id (seqs_of ack.event.tickets)) reply
 IsPublishTold (Err why) reply = reply ≡ refusal_reply why
 
--- An acknowledgement of the event comes with the reply, and was seen to be settled. The reply has its id and its number.
+-- An acknowledgement of the event comes with the reply, and was seen to be settled. The reply has its id and its
+-- number.
 abbrev pub AcceptsEvent : (name id body : Text) (seen : ℕ) → Reply → Option AckValue → Type 0
 AcceptsEvent name id body seen reply given = (ack : AckValue) × (given ≡ Some ack)
     × IsOfEvent ack name id body × (ack.seq < seen) × IsDone 202 (accepted_text ack.id ack.seq) reply
 
--- An acknowledgement of the event for the topic comes with the reply, and was seen to be settled at each subscriber. The
--- reply has its id and its numbers.
+-- An acknowledgement of the event for the topic comes with the reply, and was seen to be settled at each subscriber.
+-- The reply has its id and its numbers.
 abbrev pub AcceptsPublish : (topic id body : Text) (seen : ℕ) → Reply → Option PublishAckValue → Type 0
 AcceptsPublish topic id body seen reply published = (ack : PublishAckValue) × (published ≡ Some ack)
     × IsOfPublish ack topic id body × AreBelow seen ack.event.tickets
@@ -76,7 +77,7 @@ TakesChange command seen reply confirmed = (change : ChangeValue) × (confirmed 
 abbrev pub GivesPageAt : Asked → (seen : ℕ) → Reply → Type 0
 GivesPageAt what seen reply =
     ((desk : DeskValue) × IsCore desk × (desk.waiting.settled ≡ seen) × RepliesBy desk what reply)
-    ⊎ (reply ≡ refusal_reply wait.WentBack)
+    ⊎ (reply ≡ refusal_reply submit.WentBack)
 
 -- The answer to what is asked for, where so many records were then seen as settled.
 abbrev pub Answers : Asked → (seen : ℕ) → Reply → Option AckValue → Option PublishAckValue → Option ChangeValue

@@ -49,5 +49,6 @@ RepliesTo records what reply = ⊥
 abbrev pub RepliesBy : DeskValue → Asked → Reply → Type 0
 RepliesBy desk asked.Totals reply = GivesPage (totals_text (kept.totals desk)) reply
 RepliesBy desk (asked.Endpoint name) reply = GivesEndpoint (kept.endpoint_page desk name) reply
-RepliesBy desk (asked.Event name id) reply = GivesEvent (kept.endpoint_page desk name) (kept.event_page desk name id) reply
+RepliesBy desk (asked.Event name id) reply = GivesEvent (kept.endpoint_page desk name) (kept.event_page desk name id)
+    reply
 RepliesBy desk what reply = ⊥

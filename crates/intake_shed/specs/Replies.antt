@@ -6,7 +6,7 @@ use Rattle.desk.specs.declared.refusal.Fault.TheVariants as desk
 use Rattle.intake_shed.specs.declared.fault.RequestError.{RequestError}
 use Rattle.intake_shed.specs.declared.fault.RequestError.TheVariants as ask
 use Rattle.intake_shed.specs.declared.refusals.SubmitError.{SubmitError}
-use Rattle.intake_shed.specs.declared.refusals.SubmitError.TheVariants as wait
+use Rattle.intake_shed.specs.declared.refusals.SubmitError.TheVariants as submit
 use Rattle.intake_shed.specs.declared.reply.Reply.{Reply}
 
 abbrev pub refusal_text : (name : Text) → Text
@@ -54,6 +54,6 @@ fault_reply desk.OutOfMemory = out_of_memory
 
 -- the reply to a change or an event that isn't done
 abbrev pub refusal_reply : SubmitError → Reply
-refusal_reply (wait.Refused refusal) = fault_reply refusal.fault
-refusal_reply wait.Unknown = refused_now (codes "Unknown")
-refusal_reply wait.WentBack = refused_now (codes "WentBack")
+refusal_reply (submit.Refused refusal) = fault_reply refusal.fault
+refusal_reply submit.Unknown = refused_now (codes "Unknown")
+refusal_reply submit.WentBack = refused_now (codes "WentBack")

@@ -8,7 +8,8 @@ use Rattle.text_lines.specs.Parts.{texts}
 use Rattle.desk.specs.declared.command.Command.{Command}
 use Rattle.desk.specs.declared.command.Command.TheVariants as change
 use Rattle.intake_shed.specs.Bodies.{IsJson, Says, IsBadPut, IsBadSecrets, IsBadFlag, IsBadBefore, OfBody}
-use Rattle.intake_shed.specs.Lines.{Line, Put, SetSecrets, SetEnabled, SetSubscribed, Submit, Publish, Retention, Totals}
+use Rattle.intake_shed.specs.Lines.{Line, Put, SetSecrets, SetEnabled, SetSubscribed, Submit, Publish, Retention}
+use Rattle.intake_shed.specs.Lines.{Totals}
 use Rattle.intake_shed.specs.Lines.{Endpoint, Event, IsLine, before_query, has_name}
 use Rattle.intake_shed.specs.Replies.{ask_reply, out_of_memory}
 use Rattle.intake_shed.specs.declared.ask.Ask.{Ask}

@@ -2,7 +2,8 @@
 use Rattle.std.specs.Prelude.{◌≡◌, ℕ, [], ◌∷◌, ◌++◌, IsTrue, codes}
 use Rattle.relay_types.specs.Values.{Text}
 use Rattle.text_lines.specs.Parts.{has_no}
-use Rattle.intake_shed.specs.Lines.{Line, Put, SetSecrets, SetEnabled, SetSubscribed, Submit, Publish, Retention, Totals}
+use Rattle.intake_shed.specs.Lines.{Line, Put, SetSecrets, SetEnabled, SetSubscribed, Submit, Publish, Retention}
+use Rattle.intake_shed.specs.Lines.{Totals}
 use Rattle.intake_shed.specs.Lines.{Endpoint, Event}
 use Rattle.intake_shed.specs.declared.routes.Route.{Route}
 use Rattle.intake_shed.specs.declared.routes.Route.TheVariants as route

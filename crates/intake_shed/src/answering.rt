@@ -37,7 +37,8 @@ pub fn answer<L: Ledger, I: LogId, R: Wait>(
     now: Moment,
     pass: &mut Pass,
 ) -> Answered<I>
-    ensures answers { IsRefusal ask.now result.reply ⊎ AnswersAsk ask.now fresh pass.new result.reply result.ack result.published result.confirmed }
+    ensures answers { IsRefusal ask.now result.reply ⊎ AnswersAsk ask.now fresh pass.new result.reply result.ack
+        result.published result.confirmed }
     ensures asks { (what : Asked) → AsksFor ask.now fresh what
         → OrLacksMemory (Answers what pass.new result.reply result.ack result.published result.confirmed) result.reply }
     ensures refuses { (why : RequestError) → IsRefusedFor ask.now why
@@ -92,7 +93,8 @@ fn answer_change<L: Ledger, I: LogId, R: Wait>(
     command: Command,
     pass: &mut Pass,
 ) -> Answered<I>
-    ensures answers { TakesChange command pass.new result.reply result.confirmed ⊎ FailsBy (may_fail command) result.reply }
+    ensures answers { TakesChange command pass.new result.reply result.confirmed
+        ⊎ FailsBy (may_fail command) result.reply }
     ensures pass { pass.old ≤ pass.new }
 {
     let status = change_status(&command);

@@ -153,7 +153,8 @@ fn read_max(max: &Number) -> Result<MaxLimit, RequestError>
 
 fn read_before(before: &Number) -> Result<Moment, RequestError>
     ensures value { IfOk result (λ moment. (number_view before.now ≡ unsigned moment) × IsTrue (is_moment moment)) }
-    ensures refused { IfErr result (λ why. (why ≡ RequestError.BadMoment) × (is_before (number_view before.now) ≡ false)) }
+    ensures refused { IfErr result (λ why. (why ≡ RequestError.BadMoment)
+        × (is_before (number_view before.now) ≡ false)) }
 {
     let Some(seconds) = before.as_u64() else {
         return Err(RequestError::BadMoment);

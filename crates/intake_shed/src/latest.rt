@@ -30,7 +30,8 @@ impl<I: LogId> LatestAck<I> {
 
     /// Keeps the acknowledgement, unless one with a greater number was kept.
     pub fn keep(&mut self, ack: Ack<I>)
-        ensures greatest { IsSomeAnd self.new (λ latest. (ack.seq ≤ latest.seq) × IfSome self.old (λ kept. kept.seq ≤ latest.seq)) }
+        ensures greatest { IsSomeAnd self.new (λ latest. (ack.seq ≤ latest.seq)
+            × IfSome self.old (λ kept. kept.seq ≤ latest.seq)) }
         ensures either { (self.new ≡ Some ack) ⊎ (self.new ≡ self.old) }
     {
         self.latest = Some(later(self.latest.take(), ack));

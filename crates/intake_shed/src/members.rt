@@ -74,7 +74,8 @@ pub(crate) fn secret_texts(alloc: Global, value: &Value) -> Result<Vec<&[u8]>, R
 
 fn texts_of(alloc: Global, values: &[Value]) -> Result<Vec<&[u8]>, RequestError>
     ensures value { IfOk result (λ list. items_view values.now ≡ strings (texts list.items)) }
-    ensures bad { result ≡ Err RequestError.BadBody → (list : List (List ℕ)) → ¬ (items_view values.now ≡ strings list) }
+    ensures bad { result ≡ Err RequestError.BadBody → (list : List (List ℕ))
+        → ¬ (items_view values.now ≡ strings list) }
     ensures faults { IsBodyFault result }
 {
     let mut texts = Vec::new(alloc);

@@ -43,7 +43,8 @@ impl<I: LogId> PublishAck<I> {
         body: Body,
     ) -> Option<PublishAck<I>>
         ensures settled { IsSome result ↔ AreSettled (kept.settled_body locked.old.desk) event.tickets body }
-        ensures stands { OverWorlds locked.old.desk (λ w. IsSome result ↔ AreSettled (settled_body w) event.tickets body) }
+        ensures stands { OverWorlds locked.old.desk
+            (λ w. IsSome result ↔ AreSettled (settled_body w) event.tickets body) }
         ensures value { IfSome result (λ ack. ack ≡ publish_ack_of event body locked.old.prefix) }
         ensures below { IfSome result (λ ack. AreBelow locked.old.desk.waiting.settled ack.event.tickets) }
         ensures same { locked.new ≡ locked.old }

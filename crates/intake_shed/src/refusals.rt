@@ -1,7 +1,7 @@
 //! The replies to changes and events that aren't done.
 ghost use Rattle.std.specs.Prelude.{◌≡◌};
 ghost use Rattle.intake_shed.specs.Replies.{fault_reply, refusal_reply};
-ghost use Rattle.intake_shed.specs.declared.refusals.SubmitError.TheVariants as wait;
+ghost use Rattle.intake_shed.specs.declared.refusals.SubmitError.TheVariants as submit;
 
 use crate::reply::Reply;
 use delivery::WentBack;
@@ -19,7 +19,7 @@ pub enum SubmitError {
 }
 
 impl From<Refusal> for SubmitError {
-    ghost from_gives = { λ refusal fault. fault ≡ wait.Refused refusal };
+    ghost from_gives = { λ refusal fault. fault ≡ submit.Refused refusal };
 
     fn from(refusal: Refusal) -> SubmitError {
         SubmitError::Refused(refusal)
@@ -27,7 +27,7 @@ impl From<Refusal> for SubmitError {
 }
 
 impl From<WentBack> for SubmitError {
-    ghost from_gives = { λ _ fault. fault ≡ wait.WentBack };
+    ghost from_gives = { λ _ fault. fault ≡ submit.WentBack };
 
     fn from(_: WentBack) -> SubmitError {
         SubmitError::WentBack

@@ -39,7 +39,8 @@ abbrev pub TellsAudit : {S X : Type 0} → Ghosts S → (old new : VaultValue S)
 TellsAudit g old new desk (Ok done) = IsTold g old new desk
 TellsAudit g old new desk (Err Mismatch) = IsToldOtherwise g old new desk
 TellsAudit g old new desk (Err Store) =
-    IsTrue old.closed ⊎ IfClean g old.conn new.conn (λ a b. (history : List Record) → Holds g old history → HasRefused a b)
+    IsTrue old.closed ⊎ IfClean g old.conn new.conn (λ a b. (history : List Record) → Holds g old history
+    → HasRefused a b)
 TellsAudit g old new desk (Err OutOfMemory) = Unit {0}
 
 -- as what a load that was refused is told, by the cause where it is an error of the store

@@ -32,16 +32,16 @@ AreOfSteps w (steps ∷ others) rows = (rows ≡ rows_of_first w steps) ⊎ AreO
 abbrev pub AreLeft : World → Rows → Type 0
 AreLeft w = AreOfSteps w w.left
 
--- How many steps a stop may leave, by what is out: the settled ones, or the sealed ones once they are committed. A doubt leaves either,
--- also once a committer has given up.
+-- How many steps a stop may leave, by what is out: the settled ones, or the sealed ones once they are committed. A
+-- doubt leaves either, also once a committer has given up.
 abbrev pub LeavesBy : Out → World → Type 0
 LeavesBy Nothing w = (w.left ≡ w.settled ∷ []) ⊎ (IsTrue w.halted × (w.left ≡ w.settled ∷ w.sealed ∷ []))
 LeavesBy Batch w = w.left ≡ w.settled ∷ []
 LeavesBy Receipt w = w.left ≡ w.sealed ∷ []
 LeavesBy Doubt w = w.left ≡ w.settled ∷ w.sealed ∷ []
 
--- Where a stop may leave one number of steps, the store takes commits and holds these steps. Otherwise it takes none, and if it is still
--- open, the fewest of them stand.
+-- Where a stop may leave one number of steps, the store takes commits and holds these steps. Otherwise it takes none,
+-- and if it is still open, the fewest of them stand.
 abbrev pub HoldsLeft : {S : Type 0} → Ghosts S → VaultValue S → World → (left : List ℕ) → Type 0
 HoldsLeft g vault w [] = ⊥
 HoldsLeft g vault w (steps ∷ []) = IsOpenAt g vault (records_of_first w steps)
@@ -58,8 +58,8 @@ pub record VaultStandsFor {S : Type 0} (g : Ghosts S) (vault : VaultValue S) (w 
 abbrev pub FindsLeft : {S : Type 0} → Ghosts S → store.Held S → World → Type 0
 FindsLeft g conn w = (rows : Rows) × AreLeft w rows × Stands (store.state g conn) rows
 
--- A stop leaves the rows of the first steps, for one of the numbers that the world says. Where there is but one, these rows stand in
--- the store, and if the connection is still open, such rows stand.
+-- A stop leaves the rows of the first steps, for one of the numbers that the world says. Where there is but one, these
+-- rows stand in the store, and if the connection is still open, such rows stand.
 pub record KeepsRows {S : Type 0} (g : Ghosts S) (conn : store.Held S) (w : World) : Type 0 where
   pub leaves : MayLeave (store.state g conn) (AreLeft w)
   pub stand : (steps : ℕ) → w.left ≡ steps ∷ [] → Stands (store.state g conn) (rows_of_first w steps)

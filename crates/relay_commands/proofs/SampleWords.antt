@@ -1,5 +1,6 @@
 -- The words of a line tell its sample.
-use Rattle.std.proofs.Common.{◌≡◌, ℕ, Bool, true, false, List, [], ◌∷◌, length, decimal, get_or, IsTrue, refl, sym, ap, ◌∙◌, arith}
+use Rattle.std.proofs.Common.{◌≡◌, ℕ, Bool, true, false, List, [], ◌∷◌, length, decimal, get_or, IsTrue, refl, sym, ap}
+use Rattle.std.proofs.Common.{◌∙◌, arith}
 use Rattle.std.specs.Borrow.{Bor}
 use Rattle.std.specs.List.{list_all}
 use Rattle.std.proofs.lemmas.List.{length-map}
@@ -13,7 +14,8 @@ clean_end : (dropped : Bool) → IsTrue (has_no 32 (end_word dropped))
 clean_end true = refl
 clean_end false = refl
 
-three_clean : (a b c : List ℕ) → IsTrue (has_no 32 a) → IsTrue (has_no 32 b) → IsTrue (has_no 32 c) → IsTrue (list_all (has_no 32) (a ∷ b ∷ c ∷ []))
+three_clean : (a b c : List ℕ) → IsTrue (has_no 32 a) → IsTrue (has_no 32 b) → IsTrue (has_no 32 c)
+    → IsTrue (list_all (has_no 32) (a ∷ b ∷ c ∷ []))
 three_clean a b c ha hb hc = rw (ha, hb, hc) refl
 
 sample_parts : (text : List ℕ) (x : Sample) → ReadsSample text x → HasParts 32 text (sample_words x)
@@ -23,19 +25,25 @@ sample_parts text x (given, is, sample) =
     (clean-decimal x.inflight (omega (arith, sample.3))) (clean_end x.dropped) in
     (is ∙ ap (λ ws. line ws) sample.0, (λ none. cc), clean)
 
-pub the_sample : (text : List ℕ) (words : List (List ℕ)) (x : Sample) → HasParts 32 text words → ReadsSample text x → IsSample words x
+pub the_sample : (text : List ℕ) (words : List (List ℕ)) (x : Sample) → HasParts 32 text words → ReadsSample text x
+    → IsSample words x
 the_sample text words x parts (given, is, sample) =
-    let same : sample_words x ≡ words = parts_equal 32 text (sample_words x) words (sample_parts text x (given, is, sample)) parts in
+    let same : sample_words x ≡ words = parts_equal 32 text (sample_words x) words
+    (sample_parts text x (given, is, sample)) parts in
     (sym same, sample.1, sample.2, sample.3)
 
 -- the line of a sample has three words
-pub three_words : (text : List ℕ) (count : ℕ) → ((words : List (List ℕ)) → HasParts 32 text words → count ≡ length words) → (x : Sample) → ReadsSample text x → count ≡ 3
+pub three_words : (text : List ℕ) (count : ℕ)
+    → ((words : List (List ℕ)) → HasParts 32 text words → count ≡ length words) → (x : Sample) → ReadsSample text x
+    → count ≡ 3
 three_words text count counts x reads = counts (sample_words x) (sample_parts text x reads)
 
-pub has_three : (text : List ℕ) (count : ℕ) → ((words : List (List ℕ)) → HasParts 32 text words → count ≡ length words) → count ≡ 3 → HasThreeWords text
+pub has_three : (text : List ℕ) (count : ℕ) → ((words : List (List ℕ)) → HasParts 32 text words → count ≡ length words)
+    → count ≡ 3 → HasThreeWords text
 has_three text count counts three = let is = HasParts-split 32 text in (_, is, sym (counts _ is) ∙ three)
 
-pub three_texts : (words : List (Bor (List ℕ))) (d : Bor (List ℕ)) → length words ≡ 3 → texts words ≡ (get_or words 0 d).now ∷ (get_or words 1 d).now ∷ (get_or words 2 d).now ∷ []
+pub three_texts : (words : List (Bor (List ℕ))) (d : Bor (List ℕ)) → length words ≡ 3
+    → texts words ≡ (get_or words 0 d).now ∷ (get_or words 1 d).now ∷ (get_or words 2 d).now ∷ []
 three_texts [] d h = cc
 three_texts (a ∷ []) d h = cc
 three_texts (a ∷ b ∷ []) d h = cc

@@ -9,7 +9,8 @@ use Rattle.command_interface.specs.declared.serve_words.ServeWords.{ServeWords}
 
 -- the command line's subcommand is `serve`, with such arguments
 abbrev pub IsServeFor : ArgMatches → ServeWords → Type 0
-IsServeFor matches asked = (rows : List Row) × (subcommand_rows_of matches ≡ Some (codes "serve", rows)) × AskFor rows asked
+IsServeFor matches asked = (rows : List Row) × (subcommand_rows_of matches ≡ Some (codes "serve", rows))
+    × AskFor rows asked
 
 -- the command line has another subcommand than `serve`, or arguments that ask for nothing
 abbrev pub IsForNoServe : ArgMatches → Type 0

@@ -14,5 +14,6 @@ ReplaysSo input old new (Err (Store fault)) = ⊥
 ReplaysSo input old new (Err (Ended fault)) = Replays input old new (Err fault)
 
 -- The replies to the script on the reader are written, and the exit status and standard error tell of the same end.
-abbrev pub ReplaysTo : Option (List ℕ) → Option (List ℕ) → Option (List ℕ) → Option (List ℕ) → Option (List ℕ) → ℕ → Type 0
+abbrev pub ReplaysTo : Option (List ℕ) → Option (List ℕ) → Option (List ℕ) → Option (List ℕ) → Option (List ℕ) → ℕ
+    → Type 0
 ReplaysTo input old new untold told status = Reports (ReplaysSo input old new) untold told status

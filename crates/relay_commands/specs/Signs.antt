@@ -20,7 +20,8 @@ IsMomentText text moment = IsTrue (is_moment moment) × (text ≡ decimal moment
 
 -- the arguments read as this id, this moment and these secrets
 abbrev pub AreAsked : List ℕ → List ℕ → List (List ℕ) → SignWords → Type 0
-AreAsked id at texts asked = IsTrue (is_msg_id id) × (asked.id ≡ id) × IsMomentText at asked.at × AreSecretTexts texts asked.secrets
+AreAsked id at texts asked = IsTrue (is_msg_id id) × (asked.id ≡ id) × IsMomentText at asked.at
+    × AreSecretTexts texts asked.secrets
 
 -- the header of the body, and a line feed
 abbrev pub signed_line : SignWords → List ℕ → List ℕ
@@ -43,11 +44,13 @@ Refuses id at texts fault = ⊥
 
 -- Known bytes of a reader are a body within its bound, and those of a writer grew by its line.
 abbrev pub Signs : Option (List ℕ) → Option (List ℕ) → Option (List ℕ) → SignWords → Type 0
-Signs input old new asked = IfSome input (λ body. (length body ≤ MAX_BODY_BYTES) × Appends old new (signed_line asked body))
+Signs input old new asked = IfSome input (λ body. (length body ≤ MAX_BODY_BYTES)
+    × Appends old new (signed_line asked body))
 
 -- the same with a front of the line
 abbrev pub SignsFront : Option (List ℕ) → Option (List ℕ) → Option (List ℕ) → SignWords → Type 0
-SignsFront input old new asked = IfSome input (λ body. (length body ≤ MAX_BODY_BYTES) × AppendsFront old new (signed_line asked body))
+SignsFront input old new asked = IfSome input (λ body. (length body ≤ MAX_BODY_BYTES)
+    × AppendsFront old new (signed_line asked body))
 
 -- known bytes of a reader are more than a body has room for
 abbrev pub IsNoBody : Option (List ℕ) → Type 0

@@ -1,6 +1,7 @@
--- What `relayd vegas` writes: for each line of its reader, the limit and the no-load time after the samples so far, and what explains them
--- where that is asked for.
-use Rattle.std.specs.Prelude.{◌≡◌, ℕ, zero, suc, ◌≤◌, Bool, IsTrue, List, [], ◌∷◌, ◌++◌, length, take, Option, Result, Ok, Err, codes, decimal, if◌then◌else◌}
+-- What `relayd vegas` writes: for each line of its reader, the limit and the no-load time after the samples so far, and
+-- what explains them where that is asked for.
+use Rattle.std.specs.Prelude.{◌≡◌, ℕ, zero, suc, ◌≤◌, Bool, IsTrue, List, [], ◌∷◌, ◌++◌, length, take, Option, Result}
+use Rattle.std.specs.Prelude.{Ok, Err, codes, decimal, if◌then◌else◌}
 use Rattle.std.specs.Io.KnownBytes.{Keeps}
 use Rattle.std.specs.Option.{option_map_or}
 use Rattle.relay_types.specs.Values.{is_max_limit}
@@ -70,17 +71,24 @@ told_words explains now base count =
 
 -- the numbers of the samples
 abbrev pub numbers_of : ℕ → List Sample → State
-numbers_of maximum xs = record { limit = limit_of maximum xs; noload = noload_of maximum xs; probes = probes_of maximum xs }
+numbers_of maximum xs = record {
+  limit = limit_of maximum xs;
+  noload = noload_of maximum xs;
+  probes =
+      probes_of maximum xs;
+}
 
 -- the line after these samples
 abbrev pub sampled_text : Bool → ℕ → List Sample → List ℕ
 sampled_text explains maximum xs =
-    with_feed (line (told_words explains (numbers_of maximum xs) (numbers_of maximum (before_last xs)) (length (keep_last LAST_SAMPLES xs))))
+    with_feed (line (told_words explains (numbers_of maximum xs) (numbers_of maximum (before_last xs))
+    (length (keep_last LAST_SAMPLES xs))))
 
 -- the lines after the first sample, the first two, and so on to the first k
 abbrev pub trace_text : Bool → ℕ → List Sample → ℕ → List ℕ
 trace_text explains maximum xs zero = []
-trace_text explains maximum xs (suc k) = trace_text explains maximum xs k ++ sampled_text explains maximum (take (suc k) xs)
+trace_text explains maximum xs (suc k) = trace_text explains maximum xs k ++ sampled_text explains maximum
+    (take (suc k) xs)
 
 -- What is written for the lines: what is told after each of the samples for which they stand.
 abbrev pub Traced : Bool → ℕ → List (List ℕ) → List ℕ → Type 0
@@ -88,7 +96,8 @@ Traced explains maximum lines written =
     (xs : List Sample) × ReadSamples lines xs × (written ≡ trace_text explains maximum xs (length xs))
 
 -- The limits after the samples of the reader's text are written, as far as this end says.
-abbrev pub Traces : Bool → ℕ → Option (List ℕ) → Option (List ℕ) → Option (List ℕ) → Result (Unit {0}) StreamFault → Type 0
+abbrev pub Traces : Bool → ℕ → Option (List ℕ) → Option (List ℕ) → Option (List ℕ) → Result (Unit {0}) StreamFault
+    → Type 0
 Traces explains maximum input old new end = Ends (Traced explains maximum) IsNoSample input old new end
 
 -- a maximum is read from the word, of which this holds
@@ -99,17 +108,21 @@ abbrev pub HasNoMaximum : List ℕ → Type 0
 HasNoMaximum word = (maximum : ℕ) → IsTrue (is_max_limit maximum) → word ≡ decimal maximum → ⊥
 
 -- What is written at an end. The word is an argument: where it is no maximum, it is refused and nothing is written.
-abbrev pub TracesSo : Bool → List ℕ → Option (List ℕ) → Option (List ℕ) → Option (List ℕ) → Result (Unit {0}) CommandFault → Type 0
-TracesSo explains word input old new (Ok done) = HasMaximum word (λ maximum. Traces explains maximum input old new (Ok done))
+abbrev pub TracesSo : Bool → List ℕ → Option (List ℕ) → Option (List ℕ) → Option (List ℕ)
+    → Result (Unit {0}) CommandFault → Type 0
+TracesSo explains word input old new (Ok done) = HasMaximum word
+    (λ maximum. Traces explains maximum input old new (Ok done))
 TracesSo explains word input old new (Err (Argument fault)) = (fault ≡ BadMax) × HasNoMaximum word × Keeps old new
-TracesSo explains word input old new (Err (Ended fault)) = HasMaximum word (λ maximum. Traces explains maximum input old new (Err fault))
+TracesSo explains word input old new (Err (Ended fault)) = HasMaximum word
+    (λ maximum. Traces explains maximum input old new (Err fault))
 TracesSo explains word input old new (Err (File fault)) = ⊥
 TracesSo explains word input old new (Err (Store fault)) = ⊥
 
 -- So it is, and the exit status and standard error tell of the same end.
 abbrev pub TracesTo : Bool → List ℕ → Option (List ℕ) → Option (List ℕ) → Option (List ℕ)
     → Option (List ℕ) → Option (List ℕ) → ℕ → Type 0
-TracesTo explains word input old new untold told status = Reports (TracesSo explains word input old new) untold told status
+TracesTo explains word input old new untold told status = Reports (TracesSo explains word input old new) untold told
+    status
 
 -- what is told of an estimator
 abbrev pub estimator_words : (explains : Bool) → EstimatorValue → List (List ℕ)

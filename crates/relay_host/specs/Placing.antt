@@ -43,11 +43,11 @@ refusal_at OutOfMemory = Some why.OutOfMemory
 module _ {K P : Type 0} where
   -- the keeper, wherever its place is
   abbrev pub keeper_of : FileGuard K P → K
-  keeper_of placed = placed.keeper
+  keeper_of guard = guard.keeper
 
   abbrev pub place_of : FileGuard K P → P
-  place_of placed = placed.place
+  place_of guard = guard.place
 
   -- what the last look found
   abbrev pub sight_of : FileGuard K P → FileCheck
-  sight_of placed = placed.sight
+  sight_of guard = guard.sight

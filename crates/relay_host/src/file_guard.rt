@@ -72,8 +72,10 @@ impl<K: Keeper + Drop, P: Place + Drop> Keeper for FileGuard<K, P> {
     fn commit(&mut self, batch: Batch) -> Result<Receipt, CommitEnd>
         ensures receipt { IfOk result (λ receipt. receipt ≡ batch) }
         ensures handed_back { IfErr result (HandsBack batch) }
-        ensures closed { (result ≡ Err (CommitEnd.Unchanged batch Unchanged.Closed)) ↔ IsTrue (K.closed (keeper_of self.old)) }
-        ensures doubt { IsTrue (K.closed (keeper_of self.new)) ↔ (IsTrue (K.closed (keeper_of self.old)) ⊎ IsDoubt result) }
+        ensures closed { (result ≡ Err (CommitEnd.Unchanged batch Unchanged.Closed)) ↔ IsTrue
+            (K.closed (keeper_of self.old)) }
+        ensures doubt { IsTrue (K.closed (keeper_of self.new)) ↔ (IsTrue (K.closed (keeper_of self.old))
+            ⊎ IsDoubt result) }
         ensures counts { Counts K.next (keeper_of self.old) (keeper_of self.new) batch result }
         ensures clean { K.is_clean (keeper_of self.new) → K.is_clean (keeper_of self.old) }
         ensures history { K.is_clean (keeper_of self.new)

@@ -108,7 +108,8 @@ impl<'a, F: Files + Clock> FilePlace<'a, F> {
         ensures file { self.old.is_known ≡ true → self.new.file ≡ self.old.file }
         ensures first_log { self.old.log ≡ None → self.new.log ≡ log }
         ensures log { IsSome self.old.log → self.new.log ≡ self.old.log }
-        ensures stands { (result ≡ FileCheck.Stands) ↔ (IsSome self.new.file × (self.new.file ≡ file) × (self.new.log ≡ log)) }
+        ensures stands { (result ≡ FileCheck.Stands) ↔ (IsSome self.new.file × (self.new.file ≡ file)
+            × (self.new.log ≡ log)) }
         ensures gone { (result ≡ FileCheck.Stands) ⊎ (result ≡ FileCheck.Gone) }
     {
         if !self.is_known {

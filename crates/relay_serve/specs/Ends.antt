@@ -6,9 +6,11 @@ use Rattle.recovery.specs.Audits.{fault_name}
 use Rattle.command_interface.specs.Reports.{exit_status, fault_line, told_text}
 use Rattle.relay_serve.specs.declared.fault.ServeFault.{ServeFault}
 use Rattle.relay_serve.specs.declared.served.Served.{Served}
-use Rattle.relay_serve.specs.declared.fault.ServeFault.TheVariants.{BadAddress, File, CannotListen, NoThread, Halted, Audit, Write, OutOfMemory}
+use Rattle.relay_serve.specs.declared.fault.ServeFault.TheVariants.{BadAddress, File, CannotListen, NoThread, Halted}
+use Rattle.relay_serve.specs.declared.fault.ServeFault.TheVariants.{Audit, Write, OutOfMemory}
 
--- the exit status: 0 where the end was asked for, 1 a bad address, that of a command whose file wasn't opened, 3 the rest
+-- the exit status: 0 where the end was asked for, 1 a bad address, that of a command whose file wasn't opened, 3 the
+-- rest
 abbrev pub serving_status : Result Served ServeFault → ℕ
 serving_status (Ok done) = 0
 serving_status (Err BadAddress) = 1
@@ -31,7 +33,8 @@ serving_text (Audit fault) = fault_name fault
 serving_text Write = codes "Write"
 serving_text OutOfMemory = codes "OutOfMemory"
 
--- What standard error gets: nothing where the end was asked for, and else a front of the fault's line (all of it where the writer takes it).
+-- What standard error gets: nothing where the end was asked for, and else a front of the fault's line (all of it where
+-- the writer takes it).
 abbrev pub TellsEnd : Result Served ServeFault → Option (List ℕ) → Option (List ℕ) → Type 0
 TellsEnd (Ok done) old new = Keeps old new
 TellsEnd (Err fault) old new = AppendsFront old new (fault_line (serving_text fault))

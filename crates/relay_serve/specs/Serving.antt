@@ -18,7 +18,8 @@ use Rattle.delivery.specs.declared.committer.CommitterEnd.TheVariants as committ
 use Rattle.intake_shed.specs.Acks.{EventValue, HasEvent}
 use Rattle.relay_serve.specs.declared.fault.ServeFault.{ServeFault}
 use Rattle.relay_serve.specs.declared.served.Served.{Served}
-use Rattle.relay_serve.specs.declared.fault.ServeFault.TheVariants.{BadAddress, File, CannotListen, NoThread, Halted, Audit, Write, OutOfMemory}
+use Rattle.relay_serve.specs.declared.fault.ServeFault.TheVariants.{BadAddress, File, CannotListen, NoThread, Halted}
+use Rattle.relay_serve.specs.declared.fault.ServeFault.TheVariants.{Audit, Write, OutOfMemory}
 
 -- how the committer ended, as the relay's end tells: it finished, unless it is told to be halted
 abbrev pub committer_end : Result Served ServeFault → CommitterEnd
@@ -42,8 +43,8 @@ module _ {S : Type 0} (g : Ghosts S) where
   abbrev pub LeavesDoubt : VaultValue S → List Record → List Record → Type 0
   LeavesDoubt v records more = RestsInDoubt (state g v.conn) records more
 
-  -- Of each history that the vault held, it has the rows, with those of whole batches behind them, in their order, and a stop leaves these;
-  -- where the store was at fault it leaves these, or these and the last batch.
+  -- Of each history that the vault held, it has the rows, with those of whole batches behind them, in their order, and
+  -- a stop leaves these; where the store was at fault it leaves these, or these and the last batch.
   abbrev pub AddsBatches : (old new : VaultValue S) → CommitterEnd → Type 0
   AddsBatches old new end = (records : List Record) → HoldsOnDisk g old records
       → (batches : List History) × Stands HasRows LeavesDoubt new (records ++ records_in batches) end
@@ -52,15 +53,16 @@ module _ {S : Type 0} (g : Ghosts S) where
   abbrev pub KeepsHistory : (old new : VaultValue S) → Result Served ServeFault → Type 0
   KeepsHistory old new ended = IfClean g old.conn new.conn (λ _ _. AddsBatches old new (committer_end ended))
 
-  -- If the vault held these records, it has the rows of them and of whole batches after them, and a crash now leaves these. The event is one
-  -- of these records: at its number, with its endpoint, its id and its body. If the store was at fault, a crash leaves these, or these and one
-  -- batch more.
+  -- If the vault held these records, it has the rows of them and of whole batches after them, and a crash now leaves
+  -- these. The event is one of these records: at its number, with its endpoint, its id and its body. If the store was
+  -- at fault, a crash leaves these, or these and one batch more.
   abbrev pub AddsEvent : (old new : VaultValue S) → CommitterEnd → Option EventValue → List Record → Type 0
   AddsEvent old new end acknowledged records = HoldsOnDisk g old records → (batches : List History)
       × Stands HasRows LeavesDoubt new (records ++ records_in batches) end
       × IfSome acknowledged (λ event. HasEvent (records ++ records_in batches) event.seq event.name event.id event.body)
 
   -- It is so of the settled records of each state that the desk represented, if the disk has returned what was written.
-  abbrev pub KeepsAcknowledged : DeskValue → (old new : VaultValue S) → Result Served ServeFault → Option EventValue → Type 0
+  abbrev pub KeepsAcknowledged : DeskValue → (old new : VaultValue S) → Result Served ServeFault → Option EventValue
+      → Type 0
   KeepsAcknowledged desk old new ended acknowledged = IfClean g old.conn new.conn (λ _ _.
       (w : World) → StandsFor desk w → AddsEvent old new (committer_end ended) acknowledged (settled_records w))

@@ -32,7 +32,8 @@ pub(crate) enum LogLine<'a> {
         endpoint: Name,
         request: &'a Outgoing,
     },
-    /// What the last look at the file found tells a file that is gone from a batch out of turn.
+    /// What the last look at the file found distinguishes a file that is gone from a batch out of
+    /// turn.
     Halted {
         cause: HaltCause,
         sight: FileCheck,

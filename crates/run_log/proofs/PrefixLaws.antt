@@ -1,5 +1,6 @@
 -- Prefixes of one list.
-use Rattle.std.proofs.Common.{◌≡◌, ◌⊎◌, inl, inr, ⊎_elim, ℕ, zero, suc, ◌≤◌, List, [], ◌∷◌, ◌++◌, length, Some, slice_get, refl, ap, sym, ◌∙◌, arith, append_assoc, length-append}
+use Rattle.std.proofs.Common.{◌≡◌, ◌⊎◌, inl, inr, ⊎_elim, ℕ, zero, suc, ◌≤◌, List, [], ◌∷◌, ◌++◌, length, Some}
+use Rattle.std.proofs.Common.{slice_get, refl, ap, sym, ◌∙◌, arith, append_assoc, length-append}
 use mathlib.Core.List.{IsPrefix}
 
 pub prefix_self : {A : Type 0} (xs : List A) → IsPrefix xs xs
@@ -19,4 +20,5 @@ prefix_either (x ∷ xs) [] zs p q = inr (x ∷ xs, refl)
 prefix_either (x ∷ xs) (y ∷ ys) [] p q = absurd (cc (p.1))
 prefix_either (x ∷ xs) (y ∷ ys) (z ∷ zs) p q =
     let heads : x ≡ y = cc (p.1, q.1) in
-    ⊎_elim (λ (r : IsPrefix xs ys). inl (r.0, cc (heads, r.1))) (λ (r : IsPrefix ys xs). inr (r.0, cc (heads, r.1))) (prefix_either xs ys zs (p.0, cc (p.1)) (q.0, cc (q.1)))
+    ⊎_elim (λ (r : IsPrefix xs ys). inl (r.0, cc (heads, r.1))) (λ (r : IsPrefix ys xs). inr (r.0, cc (heads, r.1)))
+    (prefix_either xs ys zs (p.0, cc (p.1)) (q.0, cc (q.1)))

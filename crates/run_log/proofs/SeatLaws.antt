@@ -1,6 +1,7 @@
 -- Each step keeps the rule.
 use Rattle.relay_types.specs.declared.record.Record.{Record}
-use Rattle.std.proofs.Common.{◌≡◌, ◌≢◌, ◌⊎◌, ℕ, zero, suc, ◌+◌, List, [], ◌∷◌, ◌++◌, length, set, Bool, true, false, true≢false, refl, sym, ap, ◌∙◌, subst, ⊎_elim, arith}
+use Rattle.std.proofs.Common.{◌≡◌, ◌≢◌, ◌⊎◌, ℕ, zero, suc, ◌+◌, List, [], ◌∷◌, ◌++◌, length, set, Bool, true, false}
+use Rattle.std.proofs.Common.{true≢false, refl, sym, ap, ◌∙◌, subst, ⊎_elim, arith}
 use mathlib.Core.Option.{some, some-ne-none, some-injective}
 use mathlib.Core.List.{IsPrefix}
 use lib.ListN.{get_elem?}
@@ -23,7 +24,8 @@ fits_set seat now views by w others mine j u e =
     (λ (x : (j ≢ by) × (get_elem? views j ≡ some u)). others j u x.0 x.1)
     (at_set views by j w u e)
 
-fits_reading : (seat : ℕ) (log : List Record) (by : ℕ) (seen : List Record) → IsPrefix seen log → IsView seat log by (reading seen)
+fits_reading : (seat : ℕ) (log : List Record) (by : ℕ) (seen : List Record) → IsPrefix seen log
+    → IsView seat log by (reading seen)
 fits_reading seat log by seen begins = ((λ k. absurd (off k)), begins, prefix_nil log)
 
 pub begins : HasOneWriter (writing [] ∷ [])
@@ -34,7 +36,8 @@ begins = (0, [], one)
     one (suc by) v e = absurd (some-ne-none v (sym e))
 
 -- the writer adds more
-adds : (views : List View) (by : ℕ) (all more : List Record) → HasOneWriter views → get_elem? views by ≡ some (writing all) → HasOneWriter (set views by (writing (all ++ more)))
+adds : (views : List View) (by : ℕ) (all more : List Record) → HasOneWriter views
+    → get_elem? views by ≡ some (writing all) → HasOneWriter (set views by (writing (all ++ more)))
 adds views by all more h at =
     let mine = (h.2 by (writing all) at).0 refl in
     let log = h.1 ++ more in (
@@ -42,23 +45,39 @@ adds views by all more h at =
       log,
       fits_set h.0 log views by (writing (all ++ more))
           (λ j u apart e.
-          let was = h.2 j u e in
-          ((λ k. absurd (apart ((was.0 k).0 ∙ sym mine.0))), prefix_more u.seen h.1 more was.1, prefix_more u.other h.1 more was.2))
-          ((λ _. (mine.0, ap (λ l. l ++ more) mine.1)), subst (λ l. IsPrefix (all ++ more) (l ++ more)) mine.1 (prefix_self (all ++ more)), prefix_nil log),
+          let was = h.2 j u e in (
+            (λ k. absurd (apart ((was.0 k).0 ∙ sym mine.0))),
+            prefix_more u.seen h.1 more was.1,
+            prefix_more u.other h.1
+                more was.2,
+          )) (
+            (λ _. (mine.0, ap (λ l. l ++ more) mine.1)),
+            subst (λ l. IsPrefix (all ++ more) (l ++ more)) mine.1
+                (prefix_self (all ++ more)),
+            prefix_nil log,
+          ),
     )
 
-pub appends : (slots id i : ℕ) (f : ℕ → ℕ) (st : Step (Unit {0})) (me : Me (Unit {0}) View) (all more : List Record) → me ≡ (writing all, [])
+pub appends : (slots id i : ℕ) (f : ℕ → ℕ) (st : Step (Unit {0})) (me : Me (Unit {0}) View) (all more : List Record)
+    → me ≡ (writing all, [])
     → Allows KeepsRule slots id me i f (Appends more st me)
-appends slots id i f st me all more is = subst (λ (m : Me (Unit {0}) View). Allows KeepsRule slots id m i f (Appends more st m)) (sym is)
+appends slots id i f st me all more is = subst (λ (m : Me (Unit {0}) View). Allows KeepsRule slots id m i f
+    (Appends more st m)) (sym is)
     (λ s h homes at small. (writing (all ++ more), keeps, tt, adds s.views id all more h at, refl))
 
 -- a seat forgets the second prefix
-forgets : (views : List View) (by : ℕ) (v : View) → HasOneWriter views → get_elem? views by ≡ some v → HasOneWriter (set views by (record { writes = v.writes; seen = v.seen; other = [] }))
+forgets : (views : List View) (by : ℕ) (v : View) → HasOneWriter views → get_elem? views by ≡ some v
+    → HasOneWriter (set views by (record { writes = v.writes; seen = v.seen; other = [] }))
 forgets views by v h at =
-    let mine = h.2 by v at in
-    (h.0, h.1, fits_set h.0 h.1 views by (record { writes = v.writes; seen = v.seen; other = [] }) (λ j u _ e. h.2 j u e) (mine.0, mine.1, prefix_nil h.1))
+    let mine = h.2 by v at in (
+      h.0,
+      h.1,
+      fits_set h.0 h.1 views by (record { writes = v.writes; seen = v.seen; other = [] })
+          (λ j u _ e. h.2 j u e) (mine.0, mine.1, prefix_nil h.1),
+    )
 
-pub compares : (slots id i : ℕ) (f : ℕ → ℕ) (st : Step (Unit {0})) (me : Me (Unit {0}) View) → me.1 ≡ [] → Allows KeepsRule slots id me i f (Compares st me)
+pub compares : (slots id i : ℕ) (f : ℕ → ℕ) (st : Step (Unit {0})) (me : Me (Unit {0}) View) → me.1 ≡ []
+    → Allows KeepsRule slots id me i f (Compares st me)
 compares slots id i f st me none s h homes at small =
     let mine = h.2 id me.0 at in (
       record { writes = me.0.writes; seen = me.0.seen; other = [] },
@@ -83,7 +102,8 @@ copies id v s h at =
           (at_snoc (set s.views id v) (reading v.seen) u j e),
     )
 
-pub hears : (id : ℕ) (v : View) (other : ℕ) (w : View) → Joins {S = Unit {0}} KeepsRule id v other w (with_other v w) (reading [])
+pub hears : (id : ℕ) (v : View) (other : ℕ) (w : View) → Joins {S = Unit {0}} KeepsRule id v other w (with_other v w)
+    (reading [])
 hears id v other w s h at apart there =
     let mine = h.2 id v at in
     let theirs = ⊎_elim (λ (t : (other ≡ id) × (with_other v w ≡ w)). absurd (apart t.0))
@@ -92,6 +112,7 @@ hears id v other w s h at apart there =
       h.0,
       h.1,
       fits_set h.0 h.1 (set s.views id (with_other v w)) other (reading [])
-          (λ j u _ e. fits_set h.0 h.1 s.views id (with_other v w) (λ i y _ e'. h.2 i y e') (mine.0, mine.1, theirs.1) j u e)
+          (λ j u _ e. fits_set h.0 h.1 s.views id (with_other v w) (λ i y _ e'. h.2 i y e') (mine.0, mine.1, theirs.1) j
+          u e)
           (fits_reading h.0 h.1 other [] (prefix_nil h.1)),
     )

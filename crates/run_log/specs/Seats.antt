@@ -35,14 +35,18 @@ IsView seat log by v = (v.writes ≡ true → (by ≡ seat) × (v.seen ≡ log))
 
 -- one seat at most writes
 abbrev pub HasOneWriter : List View → Type 0
-HasOneWriter views = (seat : ℕ) × (log : List Record) × ((by : ℕ) (v : View) → get_elem? views by ≡ some v → IsView seat log by v)
+HasOneWriter views = (seat : ℕ) × (log : List Record) × ((by : ℕ) (v : View) → get_elem? views by ≡ some v
+    → IsView seat log by v)
 
 abbrev pub KeepsRule : {S : Type 0} → State S View → Type 0
 KeepsRule s = HasOneWriter s.views
 
 -- the writer appends these records
 abbrev pub Appends : List Record → Step (Unit {0}) → Me (Unit {0}) View → ℕ → Me (Unit {0}) View → Type 0
-Appends more s me n after = after ≡ (record { writes = me.0.writes; seen = me.0.seen ++ more; other = me.0.other }, me.1)
+Appends more s me n after = after ≡ (
+  record { writes = me.0.writes; seen = me.0.seen ++ more; other = me.0.other },
+  me.1,
+)
 
 -- The two prefixes are of one log: one of them is a prefix of the other. Every prefix is one of what the writer knows.
 abbrev pub Compares : Step (Unit {0}) → Me (Unit {0}) View → ℕ → Me (Unit {0}) View → Type 0

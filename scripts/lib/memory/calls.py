@@ -68,7 +68,7 @@ def names_that_tell():
     for text in (text for crate in libraries() for text in sources(crate)):
         types.update(re.findall(r"^pub (?:enum|struct) (\w+)[^{;]*\{(.*?)^\}", text, re.M | re.S))
     found = {name for name, body in types.items() if re.search(r"^ *(?:OutOfMemory|NoMemory)\b", body, re.M)}
-    found |= {"Refusal", "WaitFault", "Reply", "Ended"}
+    found |= {"Refusal", "SubmitError", "Reply", "Ended"}
     while True:
         more = {name for name, body in types.items() if name.endswith(("Fault", "End")) and found & set(re.findall(r"\w+", body))}
         if more <= found:

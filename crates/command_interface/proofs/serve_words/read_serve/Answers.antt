@@ -8,17 +8,22 @@ pub returns-clause-asked : goal.returns-clause-asked
 returns-clause-asked c =
     let found = found_of c.args.words.now in (
       text_found found (codes "file") c.get_str.result c.in_ok-get_str.field-0 c.get_str.ensures (search rules),
-      text_found found (codes "address") c.get_str-2.result c.in_ok-get_str-2.field-0 c.get_str-2.ensures (search rules),
-      number_found (λ text r. ParsesUnsigned 64 10 text r × ExplainsUnsignedError 10 text r × HasUnsignedDigitsIfOk text r)
+      text_found found (codes "address") c.get_str-2.result c.in_ok-get_str-2.field-0 c.get_str-2.ensures
+          (search rules),
+      number_found (λ text r. ParsesUnsigned 64 10 text r × ExplainsUnsignedError 10 text r
+          × HasUnsignedDigitsIfOk text r)
           found (codes "workers") c.get_one.result c.in_ok-get_one.field-0 (λ text r read. read.0)
           c.get_one.ensures.none (λ text is. c.get_one.ensures.value text is) (search rules),
-      number_found (λ text r. ParsesUnsigned 64 10 text r × ExplainsUnsignedError 10 text r × HasUnsignedDigitsIfOk text r)
+      number_found (λ text r. ParsesUnsigned 64 10 text r × ExplainsUnsignedError 10 text r
+          × HasUnsignedDigitsIfOk text r)
           found (codes "intake") c.get_one-2.result c.in_ok-get_one-2.field-0 (λ text r read. read.0)
           c.get_one-2.ensures.none (λ text is. c.get_one-2.ensures.value text is) (search rules),
-      number_found (λ text r. ParsesUnsigned 64 10 text r × ExplainsUnsignedError 10 text r × HasUnsignedDigitsIfOk text r)
+      number_found (λ text r. ParsesUnsigned 64 10 text r × ExplainsUnsignedError 10 text r
+          × HasUnsignedDigitsIfOk text r)
           found (codes "timeout") c.get_one-3.result c.in_ok-get_one-3.field-0 (λ text r read. read.0)
           c.get_one-3.ensures.none (λ text is. c.get_one-3.ensures.value text is) (search rules),
-      number_found (λ text r. ParsesUnsigned 64 10 text r × ExplainsUnsignedError 10 text r × HasUnsignedDigitsIfOk text r)
+      number_found (λ text r. ParsesUnsigned 64 10 text r × ExplainsUnsignedError 10 text r
+          × HasUnsignedDigitsIfOk text r)
           found (codes "requests") c.get_one-4.result c.in_ok-get_one-4.field-0 (λ text r read. read.0)
           c.get_one-4.ensures.none (λ text is. c.get_one-4.ensures.value text is) (search rules),
     )
@@ -29,24 +34,33 @@ returns-in_err-get_str-clause-none c = λ e asked small asks.
 
 pub returns-in_err-get_str-2-clause-none : goal.returns-in_err-get_str-2-clause-none
 returns-in_err-get_str-2-clause-none c = λ e asked small asks.
-    text_missing (found_of c.args.words.now) (codes "address") c.get_str-2.result _ c.get_str-2.ensures (search rules) asks.1
+    text_missing (found_of c.args.words.now) (codes "address") c.get_str-2.result _ c.get_str-2.ensures
+    (search rules) asks.1
 
 pub returns-in_err-get_one-clause-none : goal.returns-in_err-get_one-clause-none
 returns-in_err-get_one-clause-none c = λ e asked small asks.
-    number_missing (λ text r. ParsesUnsigned 64 10 text r × ExplainsUnsignedError 10 text r × HasUnsignedDigitsIfOk text r)
-    (found_of c.args.words.now) (codes "workers") c.get_one.result _ (λ text r read. read.0) (λ text is. c.get_one.ensures.value text is) (search rules) small.0 asks.2
+    number_missing (λ text r. ParsesUnsigned 64 10 text r × ExplainsUnsignedError 10 text r
+    × HasUnsignedDigitsIfOk text r)
+    (found_of c.args.words.now) (codes "workers") c.get_one.result _ (λ text r read. read.0)
+    (λ text is. c.get_one.ensures.value text is) (search rules) small.0 asks.2
 
 pub returns-in_err-get_one-2-clause-none : goal.returns-in_err-get_one-2-clause-none
 returns-in_err-get_one-2-clause-none c = λ e asked small asks.
-    number_missing (λ text r. ParsesUnsigned 64 10 text r × ExplainsUnsignedError 10 text r × HasUnsignedDigitsIfOk text r)
-    (found_of c.args.words.now) (codes "intake") c.get_one-2.result _ (λ text r read. read.0) (λ text is. c.get_one-2.ensures.value text is) (search rules) small.1 asks.3
+    number_missing (λ text r. ParsesUnsigned 64 10 text r × ExplainsUnsignedError 10 text r
+    × HasUnsignedDigitsIfOk text r)
+    (found_of c.args.words.now) (codes "intake") c.get_one-2.result _ (λ text r read. read.0)
+    (λ text is. c.get_one-2.ensures.value text is) (search rules) small.1 asks.3
 
 pub returns-in_err-get_one-3-clause-none : goal.returns-in_err-get_one-3-clause-none
 returns-in_err-get_one-3-clause-none c = λ e asked small asks.
-    number_missing (λ text r. ParsesUnsigned 64 10 text r × ExplainsUnsignedError 10 text r × HasUnsignedDigitsIfOk text r)
-    (found_of c.args.words.now) (codes "timeout") c.get_one-3.result _ (λ text r read. read.0) (λ text is. c.get_one-3.ensures.value text is) (search rules) small.2 asks.4
+    number_missing (λ text r. ParsesUnsigned 64 10 text r × ExplainsUnsignedError 10 text r
+    × HasUnsignedDigitsIfOk text r)
+    (found_of c.args.words.now) (codes "timeout") c.get_one-3.result _ (λ text r read. read.0)
+    (λ text is. c.get_one-3.ensures.value text is) (search rules) small.2 asks.4
 
 pub returns-in_err-get_one-4-clause-none : goal.returns-in_err-get_one-4-clause-none
 returns-in_err-get_one-4-clause-none c = λ e asked small asks.
-    number_missing (λ text r. ParsesUnsigned 64 10 text r × ExplainsUnsignedError 10 text r × HasUnsignedDigitsIfOk text r)
-    (found_of c.args.words.now) (codes "requests") c.get_one-4.result _ (λ text r read. read.0) (λ text is. c.get_one-4.ensures.value text is) (search rules) small.3 asks.5
+    number_missing (λ text r. ParsesUnsigned 64 10 text r × ExplainsUnsignedError 10 text r
+    × HasUnsignedDigitsIfOk text r)
+    (found_of c.args.words.now) (codes "requests") c.get_one-4.result _ (λ text r read. read.0)
+    (λ text is. c.get_one-4.ensures.value text is) (search rules) small.3 asks.5

@@ -14,7 +14,8 @@ loop-preserved-in_default g c =
     let commit = c.commit-ended in
     let new = commit.new.self in
     let batch = c.in-Commit.batch in
-    let goes_on_by = subst (λ (end : Option CommitterEnd). EndsBy (receipt_of commit.result) end) c.in_default.is c.hand_in.ensures in
+    let goes_on_by = subst (λ (end : Option CommitterEnd). EndsBy (receipt_of commit.result) end) c.in_default.is
+    c.hand_in.ensures in
     record {
       next = tt;
       finite = tt;
@@ -34,9 +35,11 @@ loop-preserved-in_default g c =
 pub returns-in-Some-hand_in-clause-rows : goal.returns-in-Some-hand_in-clause-rows
 returns-in-Some-hand_in-clause-rows g c clean records held =
     let commit = c.commit-ended in
-    let ended = subst (λ (end : Option CommitterEnd). EndsBy (receipt_of commit.result) end) c.in-Some-hand_in.is c.hand_in.ensures in
+    let ended = subst (λ (end : Option CommitterEnd). EndsBy (receipt_of commit.result) end) c.in-Some-hand_in.is
+    c.hand_in.ensures in
     let before = c.loop.invariant.adds (commit.ensures.clean clean) records held in (
       before.0,
       ends_so g.K.Keeper.holds g.K.Keeper.in_doubt c.loop.logged.keeper commit.new.self.keeper c.in-Commit.batch
-          (receipt_of commit.result) c.in-Some-hand_in.end ended (commit.ensures.history clean) (records ++ records_in before.0) before.1,
+          (receipt_of commit.result) c.in-Some-hand_in.end ended (commit.ensures.history clean)
+          (records ++ records_in before.0) before.1,
     )

@@ -13,13 +13,16 @@ loop-name-preserved c =
         items = ap (λ v. v.items) w.limiters-is
             ∙ limiter_more book names c.loop-name.name-index _ c.loop-name.limiters.items w.push_reserved.new.self.items
             w.in_ok-estimator.estimator w.in-Some.max c.names-name-items.ensures.value c.loop-name-test.true
-            c.name-item.is was.items w.in-Some.ensures.value w.in_ok-estimator.ensures.maximum w.in_ok-estimator.ensures.empty w.in_ok-estimator.ensures.explains w.push_reserved.ensures.items;
+            c.name-item.is was.items w.in-Some.ensures.value w.in_ok-estimator.ensures.maximum
+            w.in_ok-estimator.ensures.empty w.in_ok-estimator.ensures.explains w.push_reserved.ensures.items;
         len = omega (arith, was.len, ap vec_len w.limiters-is, w.push_reserved.ensures.len);
         room = omega (arith, was.room, ap vec_capacity w.limiters-is, w.push_reserved.ensures.capacity);
       }
       | in_default w ↦ record {
         items = ap (λ v. v.items) w.limiters-is
-            ∙ limiter_none book names c.loop-name.name-index _ c.loop-name.limiters.items c.names-name-items.ensures.value c.loop-name-test.true c.name-item.is was.items w.in_default.ensures.value;
+            ∙ limiter_none book names c.loop-name.name-index _ c.loop-name.limiters.items
+            c.names-name-items.ensures.value c.loop-name-test.true c.name-item.is was.items
+            w.in_default.ensures.value;
         len = omega (arith, was.len, ap vec_len w.limiters-is);
         room = omega (arith, was.room, ap vec_capacity w.limiters-is);
       }

@@ -5,15 +5,18 @@ use Rattle.desk.proofs.opening.update_rooms.Goals as goal
 
 pub loop-name-preserved : goal.loop-name-preserved
 loop-name-preserved g c = record {
-  pairs = λ pair. c.update_room.ensures.pairs pair ∙ c.in_ok-reserve.ensures.pairs pair ∙ c.loop-name.invariant.pairs pair;
+  pairs = λ pair. c.update_room.ensures.pairs pair ∙ c.in_ok-reserve.ensures.pairs pair
+      ∙ c.loop-name.invariant.pairs pair;
   places = λ name. omega (
     arith,
     c.loop-name.invariant.places name,
     told_places c.loop-name.queue c.reserve.new.self c.update_room.new.queue _ _ c.in_ok-reserve.ensures.mark
         c.update_room.ensures.mark name,
   );
-  told = told_next c.loop-name.queue c.reserve.new.self c.update_room.new.queue c.args.endpoints.now c.args.limiters.now c.names-name-items.result.now c.loop-name.name-index _ c.args.pool.now
-      c.requires.none_out c.names-name-items.ensures.value c.loop-name-test.true c.name-item.is c.in_ok-reserve.ensures.mark c.update_room.ensures.mark c.loop-name.invariant.told;
+  told = told_next c.loop-name.queue c.reserve.new.self c.update_room.new.queue c.args.endpoints.now c.args.limiters.now
+      c.names-name-items.result.now c.loop-name.name-index _ c.args.pool.now
+      c.requires.none_out c.names-name-items.ensures.value c.loop-name-test.true c.name-item.is
+      c.in_ok-reserve.ensures.mark c.update_room.ensures.mark c.loop-name.invariant.told;
 }
 
 pub returns-clause-marked : goal.returns-clause-marked
@@ -21,4 +24,5 @@ returns-clause-marked g c =
     let book = c.args.endpoints.now in
     marked_all c.loop-name.queue book c.args.limiters.now c.requires.limited
     (subst (λ done. AreTold c.loop-name.queue book c.args.limiters.now done)
-    (take_all c.loop-name.name-index (map (λ (e : Entry). e.name) book.entries) (omega (arith, c.loop-name-test.false, ap length c.names-name-items.ensures.value))) c.loop-name.invariant.told)
+    (take_all c.loop-name.name-index (map (λ (e : Entry). e.name) book.entries)
+    (omega (arith, c.loop-name-test.false, ap length c.names-name-items.ensures.value))) c.loop-name.invariant.told)

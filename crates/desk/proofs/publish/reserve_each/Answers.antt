@@ -15,11 +15,13 @@ loop-name-preserved c =
     let new = c.reserve.new.self in
     record {
       more = more_then c.args.queue.now queue new _ _ made.pairs made.mark was.more;
-      each = each_then queue new c.args.deliveries.now c.args.names.now c.loop-name.name-index c.pending-pending.result _
+      each = each_then queue new c.args.deliveries.now c.args.names.now c.loop-name.name-index c.pending-pending.result
+          _
           c.pending-pending.ensures.value c.name-item.is c.loop-name-test.true made.mark was.each;
     }
 
 pub returns-clause-each : goal.returns-clause-each
 returns-clause-each c =
     subst (All (HasPlaceFor c.loop-name.queue c.args.deliveries.now))
-    (take_all c.loop-name.name-index c.args.names.now (omega (arith, c.loop-name-test.false))) c.loop-name.invariant.each
+    (take_all c.loop-name.name-index c.args.names.now (omega (arith, c.loop-name-test.false)))
+    c.loop-name.invariant.each

@@ -6,12 +6,18 @@ pub loop-init : goal.loop-init
 loop-init c = record {
   number = sym c.settled_seq-counter.ensures.value;
   within = omega (arith, c.settled_seq-counter.ensures.value, c.requires.above);
-  next = omega (arith, c.settled_seq-counter.ensures.value, next_within c.args.queue.now c.args.deliveries.now c.requires.queued);
+  next = omega (
+    arith,
+    c.settled_seq-counter.ensures.value,
+    next_within c.args.queue.now c.args.deliveries.now
+        c.requires.queued,
+  );
   queued = λ live queued. queued;
   rooms = record { reserved = λ name. refl; rooms = λ name. refl };
   stands = settles_none c.args.deliveries.now c.settled_seq-counter.result c.settled_seq-counter.ensures.value;
   above = omega (arith, c.settled_seq-counter.ensures.value);
-  waits = λ records waits. none_left c.args.deliveries.now c.args.deliveries.now.settled_seq c.settled_seq-counter.result records c.settled_seq-counter.ensures.value waits;
+  waits = λ records waits. none_left c.args.deliveries.now c.args.deliveries.now.settled_seq
+      c.settled_seq-counter.result records c.settled_seq-counter.ensures.value waits;
   names = λ delivery there. refl;
 }
 
@@ -30,10 +36,16 @@ loop-preserved c =
       within = omega (arith, c.loop-test.true);
       next = omega (arith, ap (λ (b : BookValue). b.next_seq) made.value, was.number, was.next);
       queued = λ live queued. made.queued live (was.queued live queued);
-      rooms = record { reserved = λ name. made.rooms.reserved name ∙ was.rooms.reserved name; rooms = λ name. made.rooms.rooms name ∙ was.rooms.rooms name };
-      stands = settles_more c.args.deliveries.now c.loop.deliveries c.settle_next.new.deliveries c.loop.counter c.loop.deliveries.settled_seq was.number was.stands made.stands;
+      rooms = record {
+        reserved = λ name. made.rooms.reserved name ∙ was.rooms.reserved name;
+        rooms =
+            λ name. made.rooms.rooms name ∙ was.rooms.rooms name;
+      };
+      stands = settles_more c.args.deliveries.now c.loop.deliveries c.settle_next.new.deliveries c.loop.counter
+          c.loop.deliveries.settled_seq was.number was.stands made.stands;
       above = omega (arith, was.above);
-      waits = λ records waits. one_further c.settle_next.new.deliveries c.args.deliveries.now.settled_seq c.loop.counter records was.above (made.waits _ (was.waits records waits));
+      waits = λ records waits. one_further c.settle_next.new.deliveries c.args.deliveries.now.settled_seq c.loop.counter
+          records was.above (made.waits _ (was.waits records waits));
       names = names_further c.args.deliveries.now c.loop.deliveries c.settle_next.new.deliveries was.names made.names;
     }
 
@@ -45,4 +57,5 @@ returns-clause-stands c =
 pub returns-clause-waits : goal.returns-clause-waits
 returns-clause-waits c = λ records waits.
     let last : c.loop.counter ≡ c.args.seq = omega (arith, c.loop-test.false, c.loop.invariant.within) in
-    subst (λ n. HasWaiting c.loop.deliveries (drop (n - c.args.deliveries.now.settled_seq) records)) last (c.loop.invariant.waits records waits)
+    subst (λ n. HasWaiting c.loop.deliveries (drop (n - c.args.deliveries.now.settled_seq) records)) last
+    (c.loop.invariant.waits records waits)

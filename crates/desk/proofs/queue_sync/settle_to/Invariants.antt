@@ -11,6 +11,7 @@ invariant-loop l = record {
   rooms : KeepsRooms l.fn.queue l.queue;
   stands : Settles l.fn.deliveries l.counter l.deliveries;
   above : l.fn.deliveries.settled_seq ≤ l.counter;
-  waits : (records : List Record) → HasWaiting l.fn.deliveries records → HasWaiting l.deliveries (drop (l.counter - l.fn.deliveries.settled_seq) records);
+  waits : (records : List Record) → HasWaiting l.fn.deliveries records
+      → HasWaiting l.deliveries (drop (l.counter - l.fn.deliveries.settled_seq) records);
   names : HasSameNames l.fn.deliveries l.deliveries;
 }

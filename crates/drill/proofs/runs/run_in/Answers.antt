@@ -19,4 +19,5 @@ pub returns-clause-permits : goal.returns-clause-permits
 returns-clause-permits g c = all_given c.make_calls.new.core c.make_calls.ensures.core
 
 pub returns-clause-out : goal.returns-clause-out
-returns-clause-out g c = rw (c.parts-receipt.ensures.receipt, c.parts-receipt.ensures.given) (all_held c.make_calls.new.core c.make_calls.ensures.core)
+returns-clause-out g c = rw (c.parts-receipt.ensures.receipt, c.parts-receipt.ensures.given)
+    (all_held c.make_calls.new.core c.make_calls.ensures.core)

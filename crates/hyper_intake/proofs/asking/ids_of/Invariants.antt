@@ -4,4 +4,5 @@ use Rattle.hyper_intake.proofs.asking.ids_of.Given as goal
 
 abbrev pub invariant-loop-id : goal.invariant-loop-id
 invariant-loop-id l =
-    map (λ id. id.now) l.ids.items ++ map (λ value. value.bytes) l.id-iterator ≡ values_shown l.headers (codes "webhook-id")
+    map (λ id. id.now) l.ids.items ++ map (λ value. value.bytes) l.id-iterator ≡ values_shown l.headers
+    (codes "webhook-id")

@@ -10,30 +10,36 @@ use Rattle.intake_shed.specs.declared.ask.AskBody.TheVariants as sent
 use Rattle.hyper_intake.specs.Asking.{IsBodyOf, RepliesTo}
 use Rattle.hyper_intake.specs.declared.asking.BodyRead.{BodyRead}
 use Rattle.hyper_intake.specs.declared.asking.BodyRead.TheVariants.{Whole, TooLong, NoMemory, Cut}
-use Rattle.hyper_intake.proofs.service.response_to.Goals.{in-Whole+in-Some-1, in-Whole+in-None-1, in-TooLong, in-NoMemory}
+use Rattle.hyper_intake.proofs.service.response_to.Goals.{in-Whole+in-Some-1, in-Whole+in-None-1, in-TooLong}
+use Rattle.hyper_intake.proofs.service.response_to.Goals.{in-NoMemory}
 use Rattle.hyper_intake.proofs.service.response_to.Goals as goal
 
 abbrev Came : Type 0
 Came = Result Collected (LimitedError Error)
 
 -- what a body that is whole, or that is too long, came of
-whole_came : (gathered : Came) (read : BodyRead) → IfOk gathered (λ collected. (read ≡ Whole (collected_bytes collected)) ⊎ (read ≡ NoMemory))
-    → (gathered ≡ Err LengthLimit → read ≡ TooLong) → ((error : Error) → gathered ≡ Err (Body error) → (read ≡ Cut) ⊎ (read ≡ NoMemory))
+whole_came : (gathered : Came) (read : BodyRead)
+    → IfOk gathered (λ collected. (read ≡ Whole (collected_bytes collected)) ⊎ (read ≡ NoMemory))
+    → (gathered ≡ Err LengthLimit → read ≡ TooLong)
+    → ((error : Error) → gathered ≡ Err (Body error) → (read ≡ Cut) ⊎ (read ≡ NoMemory))
     → (bytes : Bor (List ℕ)) → read ≡ Whole bytes.now → IsBodyOf gathered (sent.Whole bytes)
 whole_came (Ok collected) read whole long cut bytes is = by whole
   where
     by : (read ≡ Whole (collected_bytes collected)) ⊎ (read ≡ NoMemory) → bytes.now ≡ collected_bytes collected
     by (inl same) = let one : Whole bytes.now ≡ Whole (collected_bytes collected) = sym is ∙ same in cc
     by (inr none) = absurd (let wrong : Whole bytes.now ≡ NoMemory = sym is ∙ none in cc)
-whole_came (Err LengthLimit) read whole long cut bytes is = absurd (let wrong : Whole bytes.now ≡ TooLong = sym is ∙ long refl in cc)
+whole_came (Err LengthLimit) read whole long cut bytes is = absurd
+    (let wrong : Whole bytes.now ≡ TooLong = sym is ∙ long refl in cc)
 whole_came (Err (Body error)) read whole long cut bytes is = by (cut error refl)
   where
     by : (read ≡ Cut) ⊎ (read ≡ NoMemory) → IsBodyOf (Err (Body error)) (sent.Whole bytes)
     by (inl same) = absurd (let wrong : Whole bytes.now ≡ Cut = sym is ∙ same in cc)
     by (inr none) = absurd (let wrong : Whole bytes.now ≡ NoMemory = sym is ∙ none in cc)
 
-long_came : (gathered : Came) (read : BodyRead) → IfOk gathered (λ collected. (read ≡ Whole (collected_bytes collected)) ⊎ (read ≡ NoMemory))
-    → ((error : Error) → gathered ≡ Err (Body error) → (read ≡ Cut) ⊎ (read ≡ NoMemory)) → read ≡ TooLong → IsBodyOf gathered sent.TooLong
+long_came : (gathered : Came) (read : BodyRead) → IfOk gathered (λ collected. (read ≡ Whole (collected_bytes collected))
+    ⊎ (read ≡ NoMemory))
+    → ((error : Error) → gathered ≡ Err (Body error) → (read ≡ Cut) ⊎ (read ≡ NoMemory)) → read ≡ TooLong
+    → IsBodyOf gathered sent.TooLong
 long_came (Ok collected) read whole cut is = by whole
   where
     by : (read ≡ Whole (collected_bytes collected)) ⊎ (read ≡ NoMemory) → IsBodyOf (Ok collected) sent.TooLong

@@ -6,7 +6,8 @@ pub returns-in-Ok-clause-answers : goal.returns-in-Ok-clause-answers
 returns-in-Ok-clause-answers g c = inr (c.in-Ok.asked, c.in-Ok.ensures.asked, c.answer_asked.ensures.answers)
 
 pub returns-in-Ok-clause-asks : goal.returns-in-Ok-clause-asks
-returns-in-Ok-clause-asks g c = λ what h. answers_what c.in-Ok.asked what _ _ _ _ _ (c.in-Ok.ensures.asks what h) c.answer_asked.ensures.answers
+returns-in-Ok-clause-asks g c = λ what h. answers_what c.in-Ok.asked what _ _ _ _ _ (c.in-Ok.ensures.asks what h)
+    c.answer_asked.ensures.answers
 
 pub returns-in-Ok-clause-refuses : goal.returns-in-Ok-clause-refuses
 returns-in-Ok-clause-refuses g c = λ why h. absurd (read_not_refused c.in-Ok.asked why (c.in-Ok.ensures.refuses why h))

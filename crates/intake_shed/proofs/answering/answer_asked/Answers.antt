@@ -9,7 +9,8 @@ returns-in-Post-clause-answers g c =
     let waited = c.submit_and_wait-waited.ensures in
     let seen = c.submit_and_wait-waited.new.pass in
     let answer = c.answer_event.result in
-    subst (λ (what : Asked). Answers what seen answer.reply answer.ack answer.published answer.confirmed) (sym c.in-Post.is)
+    subst (λ (what : Asked). Answers what seen answer.reply answer.ack answer.published answer.confirmed)
+    (sym c.in-Post.is)
     (told_event c.in-Post.name c.in-Post.id c.in-Post.body seen c.submit_and_wait-waited.result answer.reply answer.ack
     waited.event waited.seen waited.names c.answer_event.ensures.told c.answer_event.ensures.given)
 
@@ -18,6 +19,8 @@ returns-in-Publish-clause-answers g c =
     let waited = c.publish_and_wait-waited.ensures in
     let seen = c.publish_and_wait-waited.new.pass in
     let answer = c.answer_publish.result in
-    subst (λ (what : Asked). Answers what seen answer.reply answer.ack answer.published answer.confirmed) (sym c.in-Publish.is)
-    (told_publish c.in-Publish.topic c.in-Publish.id c.in-Publish.body seen c.publish_and_wait-waited.result answer.reply
+    subst (λ (what : Asked). Answers what seen answer.reply answer.ack answer.published answer.confirmed)
+    (sym c.in-Publish.is)
+    (told_publish c.in-Publish.topic c.in-Publish.id c.in-Publish.body seen c.publish_and_wait-waited.result
+    answer.reply
     answer.published waited.event waited.seen waited.names c.answer_publish.ensures.told c.answer_publish.ensures.given)

@@ -8,5 +8,6 @@ returns-in-Ok-clause-answers g c =
     let reply = c.change_reply.result in
     let done : IsDone (change_status c.args.command) (change_text change.seq) reply =
     subst (λ (s : ℕ). IsDone s (change_text change.seq) reply) c.change_status-status.ensures
-    (subst (λ (n : ℕ). IsDone c.change_status-status.result (change_text n) reply) c.seq.ensures c.change_reply.ensures) in
+    (subst (λ (n : ℕ). IsDone c.change_status-status.result (change_text n) reply) c.seq.ensures c.change_reply.ensures)
+    in
     inl (change, refl, c.in-Ok.ensures.change, c.in-Ok.ensures.seen, done)

@@ -16,5 +16,6 @@ written (Err e) value page none is h = tt
 pub returns : goal.returns
 returns c =
     let seqs = seqs_of c.args.tickets.now in
-    written c.to_string.result _ (published_body c.args.id.now seqs) (floatless c.args.id.now seqs) c.in_ok-published_body.ensures
+    written c.to_string.result _ (published_body c.args.id.now seqs) (floatless c.args.id.now seqs)
+    c.in_ok-published_body.ensures
     c.to_string.ensures.text

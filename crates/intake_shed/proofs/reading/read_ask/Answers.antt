@@ -3,10 +3,12 @@ use Rattle.intake_shed.proofs.OneReason.{one_asked, asked_not_refused, not_read,
 use Rattle.intake_shed.proofs.reading.read_ask.Goals as goal
 
 pub returns-in-Ok-clause-asks : goal.returns-in-Ok-clause-asks
-returns-in-Ok-clause-asks c = λ what h. inl (ap Ok (one_asked c.args.ask.now c.args.fresh c.in-Ok.asked what c.in-Ok.ensures.asked h))
+returns-in-Ok-clause-asks c = λ what h. inl
+    (ap Ok (one_asked c.args.ask.now c.args.fresh c.in-Ok.asked what c.in-Ok.ensures.asked h))
 
 pub returns-in-Ok-clause-refuses : goal.returns-in-Ok-clause-refuses
-returns-in-Ok-clause-refuses c = λ why h. absurd (asked_not_refused c.args.ask.now c.args.fresh c.in-Ok.asked why c.in-Ok.ensures.asked h)
+returns-in-Ok-clause-refuses c = λ why h. absurd
+    (asked_not_refused c.args.ask.now c.args.fresh c.in-Ok.asked why c.in-Ok.ensures.asked h)
 
 pub returns-in-Err-clause-asks : goal.returns-in-Err-clause-asks
 returns-in-Err-clause-asks c = λ what h.

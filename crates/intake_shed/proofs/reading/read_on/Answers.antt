@@ -16,13 +16,15 @@ abbrev refusing : {A : Type 0} → RequestError → Result A RequestError
 refusing why = Err why
 
 -- what is handed on
-handed_on : {A : Type 0} (result : Result A RequestError) (why : RequestError) (P : RequestError → Type 0) → IsErrAnd result (λ other. other ≡ why) → P why → IfErr result P
+handed_on : {A : Type 0} (result : Result A RequestError) (why : RequestError) (P : RequestError → Type 0)
+    → IsErrAnd result (λ other. other ≡ why) → P why → IfErr result P
 handed_on {A} result why P h p =
     let err = err_from_is_err_and result h in
     subst (λ r. IfErr r P) (sym (err.1 ∙ ap (λ x. refusing {A = A} x) err.2)) p
 
 -- a bad body of a new endpoint is one of the checks behind those of name and size
-bad_put_on : (name : Text) (ask : Ask) (why : RequestError) → IsTrue (has_parts (Put name) ask) → OfBody IsBadPut (bytes_of ask.body) why → IsBadOn (Put name) ask why
+bad_put_on : (name : Text) (ask : Ask) (why : RequestError) → IsTrue (has_parts (Put name) ask)
+    → OfBody IsBadPut (bytes_of ask.body) why → IsBadOn (Put name) ask why
 bad_put_on name ask fault.NotFound parts h = (parts, h)
 bad_put_on name ask fault.BadName parts (v, json, (url, max, list, members, bad)) = absurd bad
 bad_put_on name ask fault.TooLong parts (v, json, (url, max, list, members, bad)) = absurd bad
@@ -39,9 +41,13 @@ returns-in_err-read_put-in-Put-clause-refused c =
     let ask = c.args.ask.now in
     let name = c.in-Put.name.now in
     let why = c.in_err-read_put-in-Put.field-0.0 in
-    let roomy : IsTrue (has_room ask.body && true) = and_from (has_room ask.body) true c.in_ok-body-in-Put.ensures.passes refl in
-    let parts : IsTrue (has_parts (Put name) ask) = and_from (is_name name) (has_room ask.body && true) c.in_ok-name-in-Put.ensures.passes roomy in
+    let roomy : IsTrue (has_room ask.body && true) = and_from (has_room ask.body) true
+    c.in_ok-body-in-Put.ensures.passes refl in
+    let parts : IsTrue (has_parts (Put name) ask) = and_from (is_name name) (has_room ask.body && true)
+    c.in_ok-name-in-Put.ensures.passes roomy in
     let bad : OfBody IsBadPut (bytes_of ask.body) why =
-    subst (λ body. OfBody IsBadPut body why) c.in_ok-body-in-Put.ensures.bytes c.in_err-read_put-in-Put.ensures.refused in
-    handed_on c.from_residual-in_err-read_put-in-Put.result why (λ y. IsBadOn (line_of c.args.route) ask y) c.from_residual-in_err-read_put-in-Put.ensures.1
+    subst (λ body. OfBody IsBadPut body why) c.in_ok-body-in-Put.ensures.bytes c.in_err-read_put-in-Put.ensures.refused
+    in
+    handed_on c.from_residual-in_err-read_put-in-Put.result why (λ y. IsBadOn (line_of c.args.route) ask y)
+    c.from_residual-in_err-read_put-in-Put.ensures.1
     (subst (λ route. IsBadOn (line_of route) ask why) (sym c.in-Put.is) (bad_put_on name ask why parts bad))

@@ -10,14 +10,19 @@ use Rattle.intake_shed.proofs.routes.read_path.Goals as goal
 pub returns-clause-some : goal.returns-clause-some
 returns-clause-some c =
     let path : c.args.path.now ≡ endpoint_path c.split.result.0.now c.split.result.1.now =
-    strip_prefix_is Decides-eqb c.args.path.now (codes "/v1/endpoints/") (Some c.in_ok-named.named) c.in_ok-named.ensures.cases
+    strip_prefix_is Decides-eqb c.args.path.now (codes "/v1/endpoints/") (Some c.in_ok-named.named)
+    c.in_ok-named.ensures.cases
     ∙ ap (λ rest. codes "/v1/endpoints/" ++ rest) c.split.ensures.whole in
     IfSome_then c.read_behind_name.result c.read_behind_name.ensures.some
-    (λ route h. is_line (line_of route) c.args.method.now c.args.path.now c.split.result.0.now c.split.result.1.now path c.split.ensures.clean h)
+    (λ route h. is_line (line_of route) c.args.method.now c.args.path.now c.split.result.0.now c.split.result.1.now path
+    c.split.ensures.clean h)
 
 pub returns-clause-none : goal.returns-clause-none
 returns-clause-none c = λ e line h.
     let path : c.args.path.now ≡ endpoint_path c.split.result.0.now c.split.result.1.now =
-    strip_prefix_is Decides-eqb c.args.path.now (codes "/v1/endpoints/") (Some c.in_ok-named.named) c.in_ok-named.ensures.cases
+    strip_prefix_is Decides-eqb c.args.path.now (codes "/v1/endpoints/") (Some c.in_ok-named.named)
+    c.in_ok-named.ensures.cases
     ∙ ap (λ rest. codes "/v1/endpoints/" ++ rest) c.split.ensures.whole in
-    c.read_behind_name.ensures.none e line (behind_name line c.args.method.now c.args.path.now c.split.result.0.now c.split.result.1.now path c.split.ensures.clean c.split.ensures.rest h)
+    c.read_behind_name.ensures.none e line
+    (behind_name line c.args.method.now c.args.path.now c.split.result.0.now c.split.result.1.now path
+    c.split.ensures.clean c.split.ensures.rest h)

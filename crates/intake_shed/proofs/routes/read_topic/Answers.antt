@@ -6,7 +6,8 @@ use Rattle.intake_shed.proofs.PathLaws.{behind_topics}
 use Rattle.intake_shed.proofs.routes.read_topic.Goals.{then-is_word, else-is_word}
 use Rattle.intake_shed.proofs.routes.read_topic.Goals as goal
 
-given : {A : Type 0} (there : Bool) (x : A) (result : Option A) → result ≡ then_some there x → there ≡ true → result ≡ None → ⊥
+given : {A : Type 0} (there : Bool) (x : A) (result : Option A) → result ≡ then_some there x → there ≡ true
+    → result ≡ None → ⊥
 given true x result is holds none =
     let wrong : then_some true x ≡ None = sym is ∙ none in
     cc

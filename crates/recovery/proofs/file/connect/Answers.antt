@@ -8,7 +8,8 @@ returns-in-Err-default-Some-clause-refused g c =
     let found = of_some _ _ _ c.in-Err-default-Some.field-0-1-is c.in-Err-default-Some.ensures.cause in
     let log = found.1 in
     let db = found.2 in
-    let same = ap₂ image_of_two (ap₂ (seen_by g.T.Start.log g.T.Start.db) log.0 log.1) (ap₂ (seen_by g.T.Start.log g.T.Start.db) db.0 db.1) in
+    let same = ap₂ image_of_two (ap₂ (seen_by g.T.Start.log g.T.Start.db) log.0 log.1)
+    (ap₂ (seen_by g.T.Start.log g.T.Start.db) db.0 db.1) in
     inr (record {
       files = found.0;
       rest = c.in-Err-default-Some.left;

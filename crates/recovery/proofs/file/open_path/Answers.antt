@@ -9,4 +9,5 @@ returns-in_err-is_new-clause-refused g c =
     rw (p.1, p.2) (inl c.in_err-is_new.ensures.fault)
 
 pub returns-clause-refused : goal.returns-clause-refused
-returns-clause-refused g c = refused_so _ _ c.open_file.result (λ fault why. inr (c.in_ok-is_new.is_new, why)) c.open_file.ensures.refused
+returns-clause-refused g c = refused_so _ _ c.open_file.result (λ fault why. inr (c.in_ok-is_new.is_new, why))
+    c.open_file.ensures.refused

@@ -16,4 +16,5 @@ returns-in-Err-clause-sound g c = rw c.release-in-Err.ensures.same (λ clean his
     (c.in-Err.ensures.sound clean history held))
 
 pub returns-in-Err-clause-seen : goal.returns-in-Err-clause-seen
-returns-in-Err-clause-seen g c = rw c.release-in-Err.ensures.same (λ memory clean. seen_open _ c.in-Err.fault _ c.from.ensures memory (c.in-Err.ensures.seen clean))
+returns-in-Err-clause-seen g c = rw c.release-in-Err.ensures.same
+    (λ memory clean. seen_open _ c.in-Err.fault _ c.from.ensures memory (c.in-Err.ensures.seen clean))

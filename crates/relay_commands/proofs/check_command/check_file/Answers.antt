@@ -32,4 +32,10 @@ returns-in-Err-connect g c =
     }
 
 pub returns-in-Err : goal.returns-in-Err
-returns-in-Err g c = record { checks = (Err c.in-Err.fault, inl c.in-Err.ensures.fault, (Err c.from.result, c.end.ensures.status, c.end.ensures.tells, (ap Err c.from.ensures, search rules))) }
+returns-in-Err g c = record {
+  checks = (
+    Err c.in-Err.fault,
+    inl c.in-Err.ensures.fault,
+    (Err c.from.result, c.end.ensures.status, c.end.ensures.tells, (ap Err c.from.ensures, search rules)),
+  );
+}

@@ -16,7 +16,8 @@ use Rattle.relay_serve.proofs.serving.serve_named.Goals as goal
 pub returns-in-Err-clause-rows : goal.returns-in-Err-clause-rows
 returns-in-Err-clause-rows g c clean =
     let old = c.args.vault in
-    let back = c.into_keeper.ensures ∙ ap keeper_of (c.into_keeper-keeper.ensures ∙ c.begin_run-shared.ensures.keeper) ∙ c.new-keeper.ensures.keeper in
+    let back = c.into_keeper.ensures ∙ ap keeper_of (c.into_keeper-keeper.ensures ∙ c.begin_run-shared.ensures.keeper)
+    ∙ c.new-keeper.ensures.keeper in
     subst (λ v. AddsBatches g.S.Store old v (committer_end (Err c.from.result))) (sym back)
     (subst (λ (fault : ServeFault). AddsBatches g.S.Store old old (committer_end (Err fault))) (sym c.from.ensures)
     (nothing_added g.S.Store old))
@@ -24,9 +25,11 @@ returns-in-Err-clause-rows g c clean =
 pub returns-in-Err-clause-acknowledged : goal.returns-in-Err-clause-acknowledged
 returns-in-Err-clause-acknowledged g c clean base is =
     let old = c.args.vault in
-    let back = c.into_keeper.ensures ∙ ap keeper_of (c.into_keeper-keeper.ensures ∙ c.begin_run-shared.ensures.keeper) ∙ c.new-keeper.ensures.keeper in
+    let back = c.into_keeper.ensures ∙ ap keeper_of (c.into_keeper-keeper.ensures ∙ c.begin_run-shared.ensures.keeper)
+    ∙ c.new-keeper.ensures.keeper in
     subst (λ v. AddsEvent g.S.Store old v (committer_end (Err c.from.result)) None base) (sym back)
-    (subst (λ (fault : ServeFault). AddsEvent g.S.Store old old (committer_end (Err fault)) None base) (sym c.from.ensures)
+    (subst (λ (fault : ServeFault). AddsEvent g.S.Store old old (committer_end (Err fault)) None base)
+    (sym c.from.ensures)
     (no_event g.S.Store old base))
 
 pub returns-clause-rows : goal.returns-clause-rows

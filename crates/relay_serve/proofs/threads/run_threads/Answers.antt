@@ -23,9 +23,11 @@ returns-in-Finished-clause-logged g c clean =
     let second = c.committer_run in
     let old = c.args.logged in
     let mid = first.result.0 in
-    let finished = subst (λ (end : CommitterEnd). KeepsLog holds in_doubt old.keeper old.writer mid.keeper mid.writer end)
+    let finished = subst (λ (end : CommitterEnd). KeepsLog holds in_doubt old.keeper old.writer mid.keeper mid.writer
+    end)
     (sym c.how.ensures ∙ c.in-Finished.is) (first.ensures.logged (second.ensures.clean clean)) in
-    logs_on holds in_doubt old.keeper mid.keeper second.result.0.keeper second.result.1 old.writer mid.writer second.result.0.writer
+    logs_on holds in_doubt old.keeper mid.keeper second.result.0.keeper second.result.1 old.writer mid.writer
+    second.result.0.writer
     finished (second.ensures.logged clean)
 
 pub returns-in-Finished-clause-appended : goal.returns-in-Finished-clause-appended

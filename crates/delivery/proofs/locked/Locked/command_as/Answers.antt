@@ -29,4 +29,5 @@ returns-in-Ok-clause-change g c =
     let staged = c.self.inside.staged in
     let all = c.append_as-prefix.ensures.prefix ∙ c.append_as-prefix.ensures.appended
     ∙ ap (λ (more : List Record). staged ++ more) c.requires in
-    ap (λ (change : ChangeValue). change.entry) c.new.ensures ∙ ap last_of all ∙ last_behind staged (entry_of c.args.command)
+    ap (λ (change : ChangeValue). change.entry) c.new.ensures ∙ ap last_of all
+    ∙ last_behind staged (entry_of c.args.command)

@@ -12,6 +12,8 @@ invariant_of-self g c =
     let I = g.I.LogId in
     let agree : Agree committed.prefix self.prefix =
     subst (λ (s : List Record). Agree committed.prefix s) c.copy-seen.ensures.copy c.compare.ensures.agree in
-    subst (λ (p : List Record). HasRecords I.is_base I.start c.settle.new.self p self.staged) (sym c.compare.ensures.same)
+    subst (λ (p : List Record). HasRecords I.is_base I.start c.settle.new.self p self.staged)
+    (sym c.compare.ensures.same)
     (settled (Unit {0}) I.is_base I.start self.desk c.settle.new.self self.prefix self.staged self.desk.waiting.mark
-    committed.receipt committed.prefix c.in-Ok.settled c.self.invariant c.committed.invariant agree c.in-Ok.ensures.moves)
+    committed.receipt committed.prefix c.in-Ok.settled c.self.invariant c.committed.invariant agree
+    c.in-Ok.ensures.moves)

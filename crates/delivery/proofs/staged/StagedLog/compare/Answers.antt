@@ -9,6 +9,8 @@ pub returns-clause-has : goal.returns-clause-has
 returns-clause-has g c =
     let change = c.change.inside in
     let staged = c.self.inside.writer in
-    rw (← c.self.view_is) (rw (← c.change.view_is) (change_longer g.I.LogId.is_base (change_of change.ticket change.prefix) change.prefix staged
+    rw (← c.self.view_is)
+    (rw (← c.change.view_is) (change_longer g.I.LogId.is_base (change_of change.ticket change.prefix) change.prefix
+    staged
     (subst (λ (prefix : List Record). IsPrefix prefix staged) c.copy-copy.ensures.copy c.compare.ensures.begins)
     c.change.invariant))

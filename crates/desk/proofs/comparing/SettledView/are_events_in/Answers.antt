@@ -8,12 +8,15 @@ loop-place-preserved c =
     let book = c.args.self.now.deliveries.now in
     elim c.match-row_at.branch [
       | in-Some+else-not-is_event_in w ↦ record {
-        same = event_next (SameEvent c.args.self.now c.args.other.now) book.settled_seq book.entries c.loop-place.place w.in-Some.row
+        same = event_next (SameEvent c.args.self.now c.args.other.now) book.settled_seq book.entries c.loop-place.place
+            w.in-Some.row
             w.in-Some.ensures c.loop-place.invariant.same (w.if-not-is_event_in.ensures.0 refl);
       }
       | in_default w ↦ record {
-        same = event_passed (SameEvent c.args.self.now c.args.other.now) book.settled_seq book.entries c.loop-place.place
-            (omega (arith, c.loop-place-test.true, c.len-place-end.ensures.count)) w.in_default.ensures c.loop-place.invariant.same;
+        same = event_passed (SameEvent c.args.self.now c.args.other.now) book.settled_seq book.entries
+            c.loop-place.place
+            (omega (arith, c.loop-place-test.true, c.len-place-end.ensures.count)) w.in_default.ensures
+            c.loop-place.invariant.same;
       }
     ]
 

@@ -6,7 +6,8 @@ pub returns-in_err-delivery-clause-stands : goal.returns-in_err-delivery-clause-
 returns-in_err-delivery-clause-stands g c = λ w h.
     let stands = (stands_as c.self.view_is h).books.of_deliveries in
     c.from_residual.ensures
-    ∙ page_absent w c.args.name c.args.id.now (c.in_err-delivery.ensures.stands (all_records w) (length (settled_records w)) stands)
+    ∙ page_absent w c.args.name c.args.id.now
+    (c.in_err-delivery.ensures.stands (all_records w) (length (settled_records w)) stands)
 
 pub returns-clause-stands : goal.returns-clause-stands
 returns-clause-stands g c = λ w h.

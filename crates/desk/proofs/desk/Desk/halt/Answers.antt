@@ -7,7 +7,9 @@ pub returns-in_err-abandon-clause-moves : goal.returns-in_err-abandon-clause-mov
 returns-in_err-abandon-clause-moves g c =
     comes_back c.self.view_is c.abandon.new.self (waiting.IsHeldOf c.self.inside.waiting c.args.held)
     (λ v w. IsHeldOf v.waiting.mark w c.args.held) with_halt c.from_residual.result c.from_residual.ensures.0
-    (λ w h. held_is c.args.held h) (λ is. let wrong : false ≡ true = c.in_err-abandon.ensures.turn.1 is in cc) c.in_err-abandon.ensures.err
+    (λ w h. held_is c.args.held h) (λ is. let wrong : false ≡ true = c.in_err-abandon.ensures.turn.1 is in cc)
+    c.in_err-abandon.ensures.err
 
 pub returns-clause-moves : goal.returns-clause-moves
-returns-clause-moves g c = halt_turns c.self.view_is c.abandon.new.self c.args.held (c.in_ok-abandon.ensures.turn.0 refl) c.in_ok-abandon.ensures.waits
+returns-clause-moves g c = halt_turns c.self.view_is c.abandon.new.self c.args.held
+    (c.in_ok-abandon.ensures.turn.0 refl) c.in_ok-abandon.ensures.waits

@@ -1,4 +1,5 @@
-use Rattle.desk.proofs.Words.{◌≡◌, ◌∙◌, List, ℕ, false, length, Option, Some, None, bytes_eq, option_map, option_map_or, refl}
+use Rattle.desk.proofs.Words.{◌≡◌, ◌∙◌, List, ℕ, false, length, Option, Some, None, bytes_eq, option_map, option_map_or}
+use Rattle.desk.proofs.Words.{refl}
 use Rattle.desk.proofs.Words.{all_records, settled_records, Accepted}
 use Rattle.desk.proofs.DeskLaws.{body_if_kept, seen}
 use Rattle.desk.proofs.desk.Desk.has_body.Goals as goal

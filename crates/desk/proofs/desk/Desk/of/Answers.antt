@@ -4,12 +4,14 @@ use Rattle.desk.proofs.OpeningLaws.{is_desk_opened, limited_new, stands_opened}
 use Rattle.desk.proofs.desk.Desk.of.Goals as goal
 
 pub queue_of-requires-clause-limited : goal.queue_of-requires-clause-limited
-queue_of-requires-clause-limited g c = limited_new c.deref.result.now c.args.books.endpoints (c.deref.ensures.value ∙ c.in_ok-limiters.ensures.limiters)
+queue_of-requires-clause-limited g c = limited_new c.deref.result.now c.args.books.endpoints
+    (c.deref.ensures.value ∙ c.in_ok-limiters.ensures.limiters)
 
 pub invariant_of-result-3 : goal.invariant_of-result-3
 invariant_of-result-3 g c =
     let queue = c.in_ok-queue.queue in
-    is_desk_opened c.args.books _ _ c.in_ok-new.field-0 c.args.pool c.in_ok-limiters.limiters.items queue c.args.mark c.endpoints.view_is c.deliveries.view_is c.requires.settled
+    is_desk_opened c.args.books _ _ c.in_ok-new.field-0 c.args.pool c.in_ok-limiters.limiters.items queue c.args.mark
+    c.endpoints.view_is c.deliveries.view_is c.requires.settled
     c.in_ok-limiters.ensures.in_step c.in_ok-limiters.ensures.all_settled c.in_ok-queue.ensures.in_step
     c.in_ok-new.ensures c.requires.empty c.in_ok-limiters.ensures.limiters c.in_ok-queue.ensures.queued
     (subst (λ ls. AreMarked queue c.args.books.endpoints ls []) c.deref.ensures.value c.in_ok-queue.ensures.marked)
@@ -25,4 +27,5 @@ returns-clause-stands g c = λ history are.
       live = c.args.pool;
       limiters = c.in_ok-limiters.limiters.items;
     })
-    (stands_opened c.args.books c.in_ok-new.field-0 c.args.pool c.in_ok-limiters.limiters.items c.args.mark c.in_ok-new.ensures c.requires.empty c.in_ok-limiters.ensures.limiters history are)
+    (stands_opened c.args.books c.in_ok-new.field-0 c.args.pool c.in_ok-limiters.limiters.items c.args.mark
+    c.in_ok-new.ensures c.requires.empty c.in_ok-limiters.ensures.limiters history are)

@@ -7,7 +7,8 @@ pub returns-in_err-check_put-clause-moves : goal.returns-in_err-check_put-clause
 returns-in_err-check_put-clause-moves g c =
     let a = c.args in
     replies a.self.now a.self.now (λ w. change w (PutEndpoint a.name a.target a.max a.secrets)) _ _
-    (refuses a.self.now (λ w. put_faults w a.name) (λ w. changes w (PutEndpoint a.name a.target a.max a.secrets)) _ c.in_err-check_put.ensures.faults)
+    (refuses a.self.now (λ w. put_faults w a.name) (λ w. changes w (PutEndpoint a.name a.target a.max a.secrets)) _
+    c.in_err-check_put.ensures.faults)
     (hands_on c.from_residual.result _ c.from_residual.ensures.1)
 
 pub returns-clause-moves : goal.returns-clause-moves

@@ -7,7 +7,8 @@ pub returns-in_err-check_set-clause-moves : goal.returns-in_err-check_set-clause
 returns-in_err-check_set-clause-moves g c =
     let a = c.args in
     replies a.self.now a.self.now (λ w. change w (SetSecrets a.name a.secrets)) _ _
-    (refuses a.self.now (λ w. set_faults w a.name) (λ w. changes w (SetSecrets a.name a.secrets)) _ c.in_err-check_set.ensures.faults)
+    (refuses a.self.now (λ w. set_faults w a.name) (λ w. changes w (SetSecrets a.name a.secrets)) _
+    c.in_err-check_set.ensures.faults)
     (hands_on c.from_residual.result _ c.from_residual.ensures.1)
 
 pub returns-clause-moves : goal.returns-clause-moves

@@ -10,7 +10,8 @@ use Rattle.desk.proofs.SpendLaws.{IsLive, IsOver, back_from, foreign_spends, hal
 use Rattle.desk.proofs.SpendLaws.{limiter_known, new_left, places_left, reserved_left, spends, takes_outcome, told_over}
 use Rattle.desk.proofs.SpendLaws.{tells_status, written}
 use Rattle.desk.proofs.desk.Desk.spend.Given.{Over}
-use Rattle.desk.proofs.desk.Desk.spend.Goals.{In_ok-row, After-limit_of-limit, After-enqueue, After-update_room, then-self, else-self}
+use Rattle.desk.proofs.desk.Desk.spend.Goals.{In_ok-row, After-limit_of-limit, After-enqueue, After-update_room}
+use Rattle.desk.proofs.desk.Desk.spend.Goals.{then-self, else-self}
 use Rattle.desk.proofs.desk.Desk.spend.Goals as goal
 
 -- the permit came back
@@ -37,17 +38,20 @@ module _ (g : Over) (c : After-limit_of-limit g) where
     | else-self w ↦ ap (λ (x : Inside g.row.L.Denot). x.queue) w.self-inside-is
   ]
 
-  over : IsOver (old g (goal.at.After-limit_of-limit g c).In_ok-row) new c.in_ok-row.row c.give_back.new.self c.args.post c.moment-at.result c.if-self.staged
+  over : IsOver (old g (goal.at.After-limit_of-limit g c).In_ok-row) new c.in_ok-row.row c.give_back.new.self
+      c.args.post c.moment-at.result c.if-self.staged
   over =
       let view = the_view (param 0 g.row.L) g.L.Ledger in
       let d = view c.self.inside in
       let row = c.in_ok-row.row in
       let rest = c.give_back.new.self in
       elim c.if-self.branch [
-        | then-self w ↦ halted_over d new row rest c.args.post c.moment-at.result c.if-self.staged w.if-self.true (ap view w.self-inside-is) w.staged-is
+        | then-self w ↦ halted_over d new row rest c.args.post c.moment-at.result c.if-self.staged w.if-self.true
+            (ap view w.self-inside-is) w.staged-is
         | else-self w ↦
             let stage = w.stage_status-staged in
-            told_over d new row rest c.args.post c.moment-at.result c.if-self.staged c.judge-status.result.1 stage.new.endpoints stage.new.deliveries stage.new.waiting w.sample.new.limiters
+            told_over d new row rest c.args.post c.moment-at.result c.if-self.staged c.judge-status.result.1
+            stage.new.endpoints stage.new.deliveries stage.new.waiting w.sample.new.limiters
             w.if-self.false
             (ap view w.self-inside-is
             ∙ ap (λ (ls : List Limiter). record d {
@@ -58,26 +62,33 @@ module _ (g : Over) (c : After-limit_of-limit g) where
               live = rest;
               limiters = ls;
             })
-            (written (vec_len c.self.inside.limiters) w.deref_mut.result.now w.sample.new.limiters c.self.inside.limiters.items row c.args.post w.sample.ensures w.deref_mut.ensures.len))
-            (subst (λ (ls : List Limiter). AreSampled ls w.sample.new.limiters row c.args.post) w.deref_mut.ensures.value w.sample.ensures)
+            (written (vec_len c.self.inside.limiters) w.deref_mut.result.now w.sample.new.limiters
+            c.self.inside.limiters.items row c.args.post w.sample.ensures w.deref_mut.ensures.len))
+            (subst (λ (ls : List Limiter). AreSampled ls w.sample.new.limiters row c.args.post)
+            w.deref_mut.ensures.value w.sample.ensures)
             c.judge-status.ensures.status stage.ensures.some stage.ensures.none (w.staged-is ∙ stage.ensures.staged)
       ]
 
 -- the delivery is held again
 module _ (g : Over) (c : After-enqueue g) where
-  holds : Holds c.self.inside.queue c.enqueue.new.queue (idle_pair (new g (goal.at.After-enqueue g c).After-limit_of-limit).deliveries c.in_ok-row.row.delivery)
+  holds : Holds c.self.inside.queue c.enqueue.new.queue
+      (idle_pair (new g (goal.at.After-enqueue g c).After-limit_of-limit).deliveries c.in_ok-row.row.delivery)
   holds =
       let join = (goal.at.After-enqueue g c).After-limit_of-limit in
-      subst (λ (q : QueueValue). Holds q c.enqueue.new.queue (idle_pair (new g join).deliveries c.in_ok-row.row.delivery)) (same g join) c.enqueue.ensures.held
+      subst (λ (q : QueueValue). Holds q c.enqueue.new.queue
+      (idle_pair (new g join).deliveries c.in_ok-row.row.delivery)) (same g join) c.enqueue.ensures.held
 
 -- the queue was told of the endpoint's room
 module _ (g : Over) (c : After-update_room g) where
-  after : let m = new g (goal.at.After-update_room g c).After-limit_of-limit in IsDesk m.endpoints m.deliveries m.waiting m.live m.limiters c.update_room.new.queue
+  after : let m = new g (goal.at.After-update_room g c).After-limit_of-limit
+      in IsDesk m.endpoints m.deliveries m.waiting m.live m.limiters c.update_room.new.queue
   after =
       let at = goal.at.After-update_room g c in
       let m = new g at.After-limit_of-limit in
-      is_desk_left (old g at.In_ok-row) m c.self.inside.queue c.enqueue.new.queue c.update_room.new.queue c.in_ok-row.row c.give_back.new.self c.args.post c.moment-at.result c.if-self.staged
-      c.self.invariant (back g at.In_ok-row) (over g at.After-limit_of-limit) (holds g at.After-enqueue) c.enqueue.ensures.places c.update_room.ensures.pairs
+      is_desk_left (old g at.In_ok-row) m c.self.inside.queue c.enqueue.new.queue c.update_room.new.queue
+      c.in_ok-row.row c.give_back.new.self c.args.post c.moment-at.result c.if-self.staged
+      c.self.invariant (back g at.In_ok-row) (over g at.After-limit_of-limit) (holds g at.After-enqueue)
+      c.enqueue.ensures.places c.update_room.ensures.pairs
       (subst (λ (ls : List Limiter). ChangesMark c.enqueue.new.queue c.update_room.new.queue c.in_ok-row.row.endpoint
       (with_room (room_by m.endpoints ls m.live c.in_ok-row.row.endpoint))) c.deref-2.ensures.value
       c.update_room.ensures.mark)
@@ -104,14 +115,16 @@ pub enqueue-requires-clause-unheld : goal.enqueue-requires-clause-unheld
 enqueue-requires-clause-unheld g c =
     let at = goal.at.enqueue-requires-clause-unheld g c in
     subst (λ (q : QueueValue). IsNew q c.in_ok-row.row.delivery) (sym (same g at.After-limit_of-limit))
-    (new_left (old g at.In_ok-row) c.self.inside.queue c.in_ok-row.row c.give_back.new.self c.self.invariant (back g at.In_ok-row))
+    (new_left (old g at.In_ok-row) c.self.inside.queue c.in_ok-row.row c.give_back.new.self c.self.invariant
+    (back g at.In_ok-row))
 
 pub enqueue-requires-clause-places : goal.enqueue-requires-clause-places
 enqueue-requires-clause-places g c =
     let at = goal.at.enqueue-requires-clause-places g c in
     let m = new g at.After-limit_of-limit in
     subst (λ (q : QueueValue). HasPlaces q m.deliveries) (sym (same g at.After-limit_of-limit))
-    (places_left (old g at.In_ok-row) m c.self.inside.queue c.in_ok-row.row c.give_back.new.self c.args.post c.moment-at.result c.if-self.staged c.self.invariant (over g at.After-limit_of-limit))
+    (places_left (old g at.In_ok-row) m c.self.inside.queue c.in_ok-row.row c.give_back.new.self c.args.post
+    c.moment-at.result c.if-self.staged c.self.invariant (over g at.After-limit_of-limit))
 
 pub update_room-requires : goal.update_room-requires
 update_room-requires g c =
@@ -130,10 +143,13 @@ returns-clause-moves g c =
     c.update_room.new.queue c.in_ok-row.row c.args.permit c.give_back.new.self c.args.post c.args.now
     c.moment-at.result
     c.if-self.staged c.limit_of-limit.result c.in_flight.result c.is_exhausted.result
-    c.self.invariant (back g at.In_ok-row) c.in_ok-row.ensures.returned (over g at.After-limit_of-limit) (after g at.After-update_room)
+    c.self.invariant (back g at.In_ok-row) c.in_ok-row.ensures.returned (over g at.After-limit_of-limit)
+    (after g at.After-update_room)
     (c.moment-at.ensures ∙ ap (λ (v : DeskValue). max c.args.now v.clock) (sym c.self.view_is)) moment_is
-    (λ s e. subst (λ (o : Option ℕ). IfSome o (λ x. IsTrue (is_status x))) (c.judge-status.ensures.status ∙ e) c.judge-status.ensures.legal)
-    (c.limit_of-limit.ensures ∙ ap (λ (ls : List Limiter). limit_by ls c.in_ok-row.row.endpoint) c.deref.ensures.value) c.in_flight.ensures.count c.is_exhausted.ensures
+    (λ s e. subst (λ (o : Option ℕ). IfSome o (λ x. IsTrue (is_status x))) (c.judge-status.ensures.status ∙ e)
+    c.judge-status.ensures.legal)
+    (c.limit_of-limit.ensures ∙ ap (λ (ls : List Limiter). limit_by ls c.in_ok-row.row.endpoint) c.deref.ensures.value)
+    c.in_flight.ensures.count c.is_exhausted.ensures
 
 pub returns-clause-recorded : goal.returns-clause-recorded
 returns-clause-recorded g c =

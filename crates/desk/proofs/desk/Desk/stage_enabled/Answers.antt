@@ -5,7 +5,8 @@ use Rattle.desk.proofs.desk.Desk.stage_enabled.Goals as goal
 
 pub invariant_of-self : goal.invariant_of-self
 invariant_of-self g c =
-    desk_flag c.records-seq.result c.args.name c.args.flag c.records-seq.ensures.count c.stage_enabled.ensures.flag c.push_request.ensures.staged
+    desk_flag c.records-seq.result c.args.name c.args.flag c.records-seq.ensures.count c.stage_enabled.ensures.flag
+    c.push_request.ensures.staged
     (omega (arith, c.requires.room, ap (λ (v : DeskValue). record_count v.waiting + length v.live) c.self.view_is))
     (ap (λ (v : DeskValue). is_known v.endpoints c.args.name) c.self.view_is ∙ c.requires.known)
     c.update_room.ensures.pairs

@@ -6,11 +6,13 @@ use Rattle.desk.proofs.RequestTies.{desk_put, desk_reserved, reserved_own}
 use Rattle.desk.proofs.desk.Desk.stage_put.Goals as goal
 
 pub update_room-requires : goal.update_room-requires
-update_room-requires g c = ap is_some (reserved_own c.self.inside.queue c.reserve-2.new.self c.args.name 0 c.in_ok-reserve-2.ensures.mark)
+update_room-requires g c = ap is_some
+    (reserved_own c.self.inside.queue c.reserve-2.new.self c.args.name 0 c.in_ok-reserve-2.ensures.mark)
 
 pub invariant_of-self-2 : goal.invariant_of-self-2
 invariant_of-self-2 g c =
-    desk_put c.reserve-2.new.self c.records-seq.result c.args.name _ c.args.target c.args.max c.args.secrets (new_limiter c.args.name c.args.max) c.records-seq.ensures.count
+    desk_put c.reserve-2.new.self c.records-seq.result c.args.name _ c.args.target c.args.max c.args.secrets
+    (new_limiter c.args.name c.args.max) c.records-seq.ensures.count
     c.in_ok-stage_put.ensures.put c.push_request.ensures.staged
     (c.push_reserved.ensures.items
     ∙ ap (λ (ls : List Limiter). ls ++ record { endpoint = c.args.name; estimator = c.in_ok-estimator.estimator }
@@ -28,8 +30,10 @@ invariant_of-self-2 g c =
 
 pub invariant_of-self-in_err-stage_put : goal.invariant_of-self-in_err-stage_put
 invariant_of-self-in_err-stage_put g c =
-    subst (λ book. IsDesk book c.self.inside.deliveries c.self.inside.waiting c.self.inside.pool c.reserve.new.self.items c.reserve-2.new.self) (sym c.in_err-stage_put.ensures.unchanged)
-    (subst (λ ls. IsDesk c.self.inside.endpoints c.self.inside.deliveries c.self.inside.waiting c.self.inside.pool ls c.reserve-2.new.self) (sym c.in_ok-reserve.ensures.items)
+    subst (λ book. IsDesk book c.self.inside.deliveries c.self.inside.waiting c.self.inside.pool
+    c.reserve.new.self.items c.reserve-2.new.self) (sym c.in_err-stage_put.ensures.unchanged)
+    (subst (λ ls. IsDesk c.self.inside.endpoints c.self.inside.deliveries c.self.inside.waiting c.self.inside.pool ls
+    c.reserve-2.new.self) (sym c.in_ok-reserve.ensures.items)
     (desk_reserved c.args.name 0 c.in_ok-reserve-2.ensures.pairs c.in_ok-reserve-2.ensures.mark c.self.invariant))
 
 pub returns-clause-staged : goal.returns-clause-staged

@@ -4,7 +4,8 @@ use Rattle.desk.proofs.desk.Desk.stage_subscribed.Goals as goal
 
 pub invariant_of-self-2 : goal.invariant_of-self-2
 invariant_of-self-2 g c =
-    desk_subscribed c.records-seq.result c.args.topic c.args.name c.args.flag c.records-seq.ensures.count c.in_ok-stage_subscribed.ensures.subscribed c.push_request.ensures.staged
+    desk_subscribed c.records-seq.result c.args.topic c.args.name c.args.flag c.records-seq.ensures.count
+    c.in_ok-stage_subscribed.ensures.subscribed c.push_request.ensures.staged
     (omega (arith, c.requires.room, ap (λ (v : DeskValue). record_count v.waiting + length v.live) c.self.view_is))
     c.self.invariant
 
@@ -13,4 +14,5 @@ returns-clause-stands g c =
     let entry = Subscribed c.args.topic c.args.name c.args.flag in
     let book = c.stage_subscribed.new.self in
     subst (λ (v : DeskValue). Stages v.endpoints book (record_count v.waiting) entry) c.self.view_is
-    (subst (λ seq. Stages c.self.inside.endpoints book seq entry) c.records-seq.ensures.count c.in_ok-stage_subscribed.ensures.stands)
+    (subst (λ seq. Stages c.self.inside.endpoints book seq entry) c.records-seq.ensures.count
+    c.in_ok-stage_subscribed.ensures.stands)

@@ -5,5 +5,7 @@ use Rattle.desk.proofs.desk.Desk.start.Goals as goal
 pub returns-clause-starts : goal.returns-clause-starts
 returns-clause-starts g c =
     let made = c.permit_for-permit.ensures in
-    job_starts c.args.self.now _ c.args.at c.args.delivery c.permit_for-permit.result c.in_ok-post.post c.in_ok-post.ensures.post made.permit
-    (ap (λ (v : DeskValue). record v { clock = c.args.at }) (c.self.view_is ∙ made.live ∙ ap (with_live c.args.self.now) (sym made.permit)))
+    job_starts c.args.self.now _ c.args.at c.args.delivery c.permit_for-permit.result c.in_ok-post.post
+    c.in_ok-post.ensures.post made.permit
+    (ap (λ (v : DeskValue). record v { clock = c.args.at }) (c.self.view_is ∙ made.live ∙ ap (with_live c.args.self.now)
+    (sym made.permit)))

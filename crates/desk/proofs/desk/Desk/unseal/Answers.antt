@@ -4,4 +4,5 @@ use Rattle.desk.proofs.desk.Desk.unseal.Goals as goal
 
 pub returns-clause-moves : goal.returns-clause-moves
 returns-clause-moves g c =
-    unseal_turns c.self.view_is c.unseal.new.self (doubt_of c.args.batch) c.unseal.result c.unseal.ensures.turn c.unseal.ensures.waits c.unseal.ensures.err
+    unseal_turns c.self.view_is c.unseal.new.self (doubt_of c.args.batch) c.unseal.result c.unseal.ensures.turn
+    c.unseal.ensures.waits c.unseal.ensures.err

@@ -12,7 +12,8 @@ returns-in_default-clause-answers g c = λ clean s on.
       told,
       record {
         stands = after;
-        holds = vault_follows g.S.Store c.args.vault.now s next c.args.event c.call.result (is_of_desk c.args.event c.in_default.not-Commit) below within on.holds told;
+        holds = vault_follows g.S.Store c.args.vault.now s next c.args.event c.call.result
+            (is_of_desk c.args.event c.in_default.not-Commit) below within on.holds told;
         mark = c.call.ensures.answers.mark ∙ on.mark;
       },
     )

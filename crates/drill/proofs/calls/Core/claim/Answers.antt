@@ -19,7 +19,11 @@ returns-in-Ok-None-clause-answers g c =
     answers_unclaimed c.args.self.now _ c.args.now (Ok None) refl
     (subst (λ o. IsMove c.args.self.now.desk (λ w. claim w c.args.now) (Ok o) c.claim.new.self)
     c.in-Ok-None.field-0-is c.in-Ok-None.ensures.moves)
-    c.in-Ok-None.ensures.mark (subst (λ o. c.claim.new.self.live ≡ with_job c.args.self.now.desk.live o) c.in-Ok-None.field-0-is c.in-Ok-None.ensures.live, c.in-Ok-None.ensures.out) refl refl refl
+    c.in-Ok-None.ensures.mark (
+      subst (λ o. c.claim.new.self.live ≡ with_job c.args.self.now.desk.live o) c.in-Ok-None.field-0-is
+          c.in-Ok-None.ensures.live,
+      c.in-Ok-None.ensures.out,
+    ) refl refl refl
 
 pub returns-in-Err-clause-answers : goal.returns-in-Err-clause-answers
 returns-in-Err-clause-answers g c = rw c.refusal_reply.ensures

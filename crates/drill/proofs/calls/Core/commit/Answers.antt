@@ -9,7 +9,9 @@ returns-in-Batch-clause-answers g c clean = rw c.hold.ensures
     c.commit_batch-held.ensures.mark (c.commit_batch-held.ensures.commits clean))
 
 pub returns-in-Batch-clause-core : goal.returns-in-Batch-clause-core
-returns-in-Batch-clause-core g c = rw c.hold.ensures (core_kept c.args.self.now _ c.in-Batch.batch c.requires c.in-Batch.ensures.value c.commit_batch-held.ensures.held refl)
+returns-in-Batch-clause-core g c = rw c.hold.ensures
+    (core_kept c.args.self.now _ c.in-Batch.batch c.requires c.in-Batch.ensures.value c.commit_batch-held.ensures.held
+    refl)
 
 pub returns-in_default-clause-core : goal.returns-in_default-clause-core
 returns-in_default-clause-core g c = rw (c.hold-in_default.ensures, c.replace.ensures.value) c.requires

@@ -6,5 +6,6 @@ use Rattle.drill.proofs.CoreLaws.{answers_look}
 use Rattle.drill.proofs.calls.Core.show.Goals as goal
 
 pub returns : goal.returns
-returns g c = answers_look c.args.self.now (λ s. event_reply (event_page (settled_records s.world) c.args.name c.args.id.now)) _
+returns g c = answers_look c.args.self.now
+    (λ s. event_reply (event_page (settled_records s.world) c.args.name c.args.id.now)) _
     (λ s on. c.event_reply.ensures ∙ ap event_reply (c.event_page.ensures.stands s.world on.desk))

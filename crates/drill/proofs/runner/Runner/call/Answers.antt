@@ -10,7 +10,9 @@ returns-clause-answers g c = λ clean s on. c.carry_out.ensures.answers clean s 
 })
 
 pub invariant_of-self : goal.invariant_of-self
-invariant_of-self g c = record { stands = kept_with_room c.args.self.now.core _ c.reserve.ensures.same c.args.self.now.stands }
+invariant_of-self g c =
+    record { stands = kept_with_room c.args.self.now.core _ c.reserve.ensures.same c.args.self.now.stands }
 
 pub carry_out-requires-clause-core : goal.carry_out-requires-clause-core
-carry_out-requires-clause-core g c = kept_with_room c.args.self.now.core _ c.in_ok-reserve.ensures.same c.args.self.now.stands
+carry_out-requires-clause-core g c = kept_with_room c.args.self.now.core _ c.in_ok-reserve.ensures.same
+    c.args.self.now.stands

@@ -22,4 +22,10 @@ returns-in-Call-clause-answers g c = λ clean.
 
 pub returns-in-Stop-clause-answers : goal.returns-in-Stop-clause-answers
 returns-in-Stop-clause-answers g c = λ clean.
-    on_ok _ _ c.stop.result (λ reply takes. (reply_text reply, refl, (Stop, reply, subst (IsLine c.args.line.now) c.in-Stop.is c.in_ok-event.ensures.stands, takes, refl))) (c.stop.ensures.takes clean)
+    on_ok _ _ c.stop.result
+    (λ reply takes. (
+      reply_text reply,
+      refl,
+      (Stop, reply, subst (IsLine c.args.line.now) c.in-Stop.is c.in_ok-event.ensures.stands, takes, refl),
+    ))
+    (c.stop.ensures.takes clean)

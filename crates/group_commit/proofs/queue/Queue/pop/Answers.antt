@@ -10,14 +10,16 @@ invariant_of-self-then-is_outcome c =
     c.in-Some.step c.pop_front.new.self.items
     (subst (IsQueue c.self.inside.requests c.self.inside.outcomes (deque_len c.self.inside.steps)
     (deque_capacity c.self.inside.steps)) c.in-Some.ensures.items c.self.invariant)
-    (sym c.is_outcome.ensures ∙ c.if-is_outcome.true) (omega (arith, c.pop_front.ensures.len, c.in-Some.ensures.len)) (omega (arith, c.pop_front.ensures.capacity))
+    (sym c.is_outcome.ensures ∙ c.if-is_outcome.true) (omega (arith, c.pop_front.ensures.len, c.in-Some.ensures.len))
+    (omega (arith, c.pop_front.ensures.capacity))
 
 pub overflow_sub-self-else-is_outcome : goal.overflow_sub-self-else-is_outcome
 overflow_sub-self-else-is_outcome c =
     request_fits c.self.inside.requests c.self.inside.outcomes (deque_len c.self.inside.steps)
     (deque_capacity c.self.inside.steps) (deque_len c.pop_front.new.self) (deque_capacity c.pop_front.new.self)
     c.in-Some.step c.pop_front.new.self.items (length c.records.result.now)
-    (subst (IsQueue c.self.inside.requests c.self.inside.outcomes (deque_len c.self.inside.steps) (deque_capacity c.self.inside.steps)) c.in-Some.ensures.items c.self.invariant)
+    (subst (IsQueue c.self.inside.requests c.self.inside.outcomes (deque_len c.self.inside.steps)
+    (deque_capacity c.self.inside.steps)) c.in-Some.ensures.items c.self.invariant)
     (sym c.is_outcome.ensures ∙ c.if-is_outcome.false) (ap length c.records.ensures.records)
 
 pub invariant_of-self-else-is_outcome : goal.invariant_of-self-else-is_outcome
@@ -25,6 +27,7 @@ invariant_of-self-else-is_outcome c =
     request_gone c.self.inside.requests c.self.inside.outcomes (deque_len c.self.inside.steps)
     (deque_capacity c.self.inside.steps) (deque_len c.pop_front.new.self) (deque_capacity c.pop_front.new.self)
     c.in-Some.step c.pop_front.new.self.items (length c.records.result.now)
-    (subst (IsQueue c.self.inside.requests c.self.inside.outcomes (deque_len c.self.inside.steps) (deque_capacity c.self.inside.steps)) c.in-Some.ensures.items c.self.invariant)
+    (subst (IsQueue c.self.inside.requests c.self.inside.outcomes (deque_len c.self.inside.steps)
+    (deque_capacity c.self.inside.steps)) c.in-Some.ensures.items c.self.invariant)
     (sym c.is_outcome.ensures ∙ c.if-is_outcome.false) (ap length c.records.ensures.records)
     (omega (arith, c.pop_front.ensures.len, c.in-Some.ensures.len)) (omega (arith, c.pop_front.ensures.capacity))

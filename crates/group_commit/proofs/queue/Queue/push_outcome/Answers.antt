@@ -12,4 +12,5 @@ invariant_of-self c =
     (deque_capacity c.push_back_reserved.new.self)
     c.self.inside.steps.items c.push_back_reserved.new.self.items c.args.step c.self.invariant c.requires.kind
     (subst (λ (steps : History). outcomes_in steps < MAX_WAITING_OUTCOMES) (sym c.self.view_is) c.requires.place)
-    c.push_back_reserved.ensures.items (omega (arith, c.push_back_reserved.ensures.len)) (omega (arith, c.push_back_reserved.ensures.capacity))
+    c.push_back_reserved.ensures.items (omega (arith, c.push_back_reserved.ensures.len))
+    (omega (arith, c.push_back_reserved.ensures.capacity))

@@ -11,6 +11,7 @@ invariant_of-result g c =
     let is_settled = c.if-is_settled.ensures in
     subst (λ (f : List Record). IsLogged g.I.LogId.is_base (ack_of c.args.ticket c.args.body f) f)
     (sym c.settled_prefix.ensures.prefix)
-    (shown g.I.LogId.is_base g.I.LogId.start locked.desk locked.prefix c.args.ticket c.args.body c.settled_prefix.ensures.settled
+    (shown g.I.LogId.is_base g.I.LogId.start locked.desk locked.prefix c.args.ticket c.args.body
+    c.settled_prefix.ensures.settled
     (λ w stands.
     (is_settled.stands w (subst (λ (d : DeskValue). StandsFor d w) (sym c.desk.ensures) stands)).0 refl))

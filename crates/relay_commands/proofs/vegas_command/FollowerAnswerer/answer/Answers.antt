@@ -19,7 +19,8 @@ only_bad OutOfMemory e = cc
 pub returns-in_err-sample-clause-bad : goal.returns-in_err-sample-clause-bad
 returns-in_err-sample-clause-bad c = λ e.
     let p = err_from_is_err_and c.from_residual.result c.from_residual.ensures.1 in
-    c.in_err-sample.ensures.bad (ap Err (only_bad c.in_err-sample.field-0.0 (sym p.2 ∙ one_fault p.0 line.Bad (sym p.1 ∙ e))))
+    c.in_err-sample.ensures.bad
+    (ap Err (only_bad c.in_err-sample.field-0.0 (sym p.2 ∙ one_fault p.0 line.Bad (sym p.1 ∙ e))))
 
 pub returns-clause-answers : goal.returns-clause-answers
 returns-clause-answers c = λ clean.
