@@ -224,7 +224,7 @@ def check_hidden(counts, relayd, folder, subscriber):
     begun = time.monotonic()
     threading.Timer(3, lambda: place.chmod(0o700)).start()
     counts.check("hidden: an event waits, and is taken", answer_to_more(relay.address), 202)
-    counts.check("hidden: it waited", 2 < time.monotonic() - begun < 6)
+    counts.check("hidden: it waited", 2 < time.monotonic() - begun < 9)
     place.chmod(0)
     counts.check("hidden: no more is taken", answer_to_more(relay.address, "last") in (503, None))
     counts.check("hidden: it ends", relay.ended(20), 3)
