@@ -1,7 +1,7 @@
 """Stands in for a subscriber: answers each post 200, and prints it.
 
-It listens on this machine at a port, and prints the id, the body and whether it is signed. The
-secret is that of the examples if none is given.
+It listens on this machine at a port, and says so. Then it prints of each post the id, the body and
+whether it is signed. The secret is that of the examples if none is given.
 Usage: scripts/serve subscriber PORT [SECRET]
 """
 import sys
@@ -21,5 +21,6 @@ def main():
         print(f"{post.header('webhook-id')} {post.body.decode(errors='replace')} {told}", flush=True)
         return 200
 
-    Subscriber(reply, int(sys.argv[1]))
+    subscriber = Subscriber(reply, int(sys.argv[1]))
+    print(f"listening on 127.0.0.1:{subscriber.port}", flush=True)
     threading.Event().wait()
