@@ -53,15 +53,15 @@ left_as task mode command db tally after h =
     (done.0, done.1, ap (λ (p : Tally × Database). p.1) (same_value (went (went done.2).2).2))
 
 -- a test that fails takes the second part
-second : {A : Type 0} (b : Bool) (P Q : A → Type 0) (a : A) → b ≡ false → MatchBool b (P a) (Q a) → Q a
+pub second : {A : Type 0} (b : Bool) (P Q : A → Type 0) (a : A) → b ≡ false → MatchBool b (P a) (Q a) → Q a
 second false P Q a e h = h
 second true P Q a e h = absurd (let f = e in cc)
 
-given_ids : (b : Bool) (top : ℤ) → b ≡ false → cond b (Above top) Chosen ≡ Chosen
+pub given_ids : (b : Bool) (top : ℤ) → b ≡ false → cond b (Above top) Chosen ≡ Chosen
 given_ids false top e = refl
 given_ids true top e = absurd (let f = e in cc)
 
-no_count : (b : Bool) (c : Bool) → b ≡ false → cond b c false ≡ false
+pub no_count : (b : Bool) (c : Bool) → b ≡ false → cond b c false ≡ false
 no_count false c e = refl
 no_count true c e = absurd (let f = e in cc)
 

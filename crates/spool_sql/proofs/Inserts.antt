@@ -63,7 +63,7 @@ secrets_insert = codes "INSERT INTO secrets VALUES(?1, ?2, ?3)"
 abbrev pub topics_insert : List ℕ
 topics_insert = codes "INSERT INTO topics VALUES(?1, ?2, ?3, ?4)"
 
-abbrev five : List Term
+abbrev pub five : List Term
 five = col 0 0 ∷ lit Null ∷ col 0 1 ∷ col 0 2 ∷ col 0 3 ∷ col 0 4 ∷ []
 
 abbrev seven : List Term
@@ -79,7 +79,7 @@ abbrev first_terms : ℕ → List Term
 first_terms version = lit (Int (pos 1)) ∷ lit Null ∷ lit (Text (codes "webhook-relay")) ∷ lit (Int (pos version))
     ∷ lit (Int (pos 0)) ∷ []
 
-deliveries_insert_means : Means relay_schema deliveries_insert (Insert 3 (Values five 6))
+pub deliveries_insert_means : Means relay_schema deliveries_insert (Insert 3 (Values five 6))
 unfolding understood everything
 deliveries_insert_means = record { is = refl; plain = (refl, refl) }
 
@@ -131,7 +131,7 @@ hidden s db = Int (next_rowid (db 3)) ∷ secret_stored s
 abbrev hidden_topic : TopicRow → Trees → Row
 hidden_topic x db = Int (next_rowid (db 9)) ∷ topic_stored x
 
-delivery_news : (d : DeliveryRow) (db : Trees)
+pub delivery_news : (d : DeliveryRow) (db : Trees)
     → (edit_of db (record deliveries { tree = 5 }) [] Chosen 0
     (value_rows (stamped (record deliveries { tree = 5 }) (delivery_values d)) 6 (length five / 6) five)).news
     ≡ delivery_stored d ∷ []

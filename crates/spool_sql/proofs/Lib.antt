@@ -2,6 +2,8 @@ pub mod CreateLemmas
 pub mod InsertLemmas
 pub mod RelayLemmas
 pub mod Inserts
+pub mod KeyLemmas
+pub mod KnownLemmas
 pub mod TypedLemmas
 pub mod UpdateLemmas
 pub mod Updates

@@ -11,8 +11,7 @@ use Rattle.spool_sql.specs.Stored.{IsTables}
 use Rattle.spool_sql.specs.Readable.{IsRefusal}
 use Rattle.spool_sql.proofs.RefusalLemmas.{refused_for}
 use Rattle.spool_sql.proofs.SelectLemmas.{named_select, named_select_asks, named_select_bare, endpoints_select}
-use Rattle.spool_sql.proofs.SelectLemmas.{endpoints_select_asks, endpoints_select_bare, delivery_select}
-use Rattle.spool_sql.proofs.SelectLemmas.{delivery_select_asks, delivery_select_bare, delivery_params}
+use Rattle.spool_sql.proofs.SelectLemmas.{endpoints_select_asks, endpoints_select_bare}
 use Rattle.spool_sql.proofs.DeliverySelects.{endpoint_select, endpoint_select_asks, endpoint_select_bare}
 use Rattle.spool_sql.proofs.DeliverySelects.{statuses_select, statuses_select_asks, statuses_select_bare}
 use Rattle.spool_sql.proofs.SecretSelects.{secrets_select, secrets_select_asks, secrets_select_bare}
@@ -40,11 +39,6 @@ pub count_refused : RefusesQuery endpoints_select []
 unfolding understood everything
 count_refused a b e rows t h = refused_for endpoints_select endpoints_select_bare _ _ endpoints_select_asks [] refl refl
     1 refl refl a b e t.schema_is h
-
-pub has_refused : (endpoint : ℕ) (id : List ℕ) → RefusesQuery delivery_select (delivery_params endpoint id)
-unfolding understood everything
-has_refused endpoint id a b e rows t h = refused_for delivery_select delivery_select_bare _ _ delivery_select_asks
-    (delivery_params endpoint id) refl refl 5 refl refl a b e t.schema_is h
 
 pub endpoint_of_refused : (delivery : ℕ) → RefusesQuery endpoint_select (Int (pos delivery) ∷ [])
 unfolding understood everything

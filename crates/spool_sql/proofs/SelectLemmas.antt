@@ -27,8 +27,7 @@ use Rattle.sqlite.proofs.Callers.{reads_as, one_permutation}
 use Rattle.sqlite_tied.specs.Compute.{everything}
 use Rattle.relay_types.specs.Rows.{Rows, EndpointRow}
 use Rattle.spool_sql.specs.Tables.{relay_schema}
-use Rattle.spool_sql.specs.Stored.{IsTables, IsPutOf, is_delivery, has_id, number_of, endpoints_named, endpoint_stored}
-use Rattle.spool_sql.specs.Stored.{delivery_stored}
+use Rattle.spool_sql.specs.Stored.{IsTables, IsPutOf, number_of, endpoints_named, endpoint_stored}
 use Rattle.relay_types.specs.declared.limits.TheConstants.{MAX_RECORDS}
 use Rattle.spool_sql.specs.Readable.{IsReadableEndpoint, ShowsBelow}
 use Rattle.spool_sql.proofs.BareLemmas.{IsBare}
@@ -64,20 +63,6 @@ endpoints_select_asks = record { means = record { is = refl; plain = (refl, refl
 pub endpoints_select_bare : IsBare endpoints_select
 unfolding understood everything
 endpoints_select_bare schema base = refl
-
-abbrev pub delivery_select : List ℕ
-delivery_select = codes "SELECT seq FROM deliveries WHERE endpoint = ?1 AND id = ?2"
-
-abbrev by_id : List Term
-by_id = op2 (Compare Eq Binary) (col 1 2) (col 0 0) ∷ op2 (Compare Eq Binary) (col 1 3) (col 0 1) ∷ []
-
-pub delivery_select_asks : Asks relay_schema delivery_select (scan 5 by_id (col 1 0 ∷ [])) (codes "seq" ∷ [])
-unfolding understood everything
-delivery_select_asks = record { means = record { is = refl; plain = (refl, refl) }; unlisted = refl }
-
-pub delivery_select_bare : IsBare delivery_select
-unfolding understood everything
-delivery_select_bare schema base = refl
 
 -- ---- what a test of a stored row says of the typed one
 
@@ -154,9 +139,6 @@ module _ (schema : Schema) (sql : List ℕ) (tree : ℕ) (tests shown : List Ter
 abbrev pub put_shown : EndpointRow → Row
 put_shown e = Int (pos e.put) ∷ []
 
-abbrev pub delivery_params : ℕ → List ℕ → Row
-delivery_params endpoint id = Int (pos endpoint) ∷ Text id ∷ []
-
 pub all_kept : {X : Type 0} (xs : List X) → filter (λ _. true) xs ≡ xs
 all_kept [] = refl
 all_kept (x ∷ xs) = ap (λ zs. x ∷ zs) (all_kept xs)
@@ -180,7 +162,7 @@ puts_of : (name : List ℕ) (rows : Rows) (found : List Row)
 puts_of name rows found same = subst (λ l. IsPermutation l (map number_of found))
     (map_map put_shown number_of (endpoints_named name rows)) (IsPermutation-map number_of _ _ same)
 
--- ---- the three queries and what their answers say
+-- ---- the two queries and what their answers say
 
 module _ (old new : State) (found : List Row) (rows : Rows) (t : IsTables old.now rows) where
   pub counts_endpoints : Asks relay_schema endpoints_select (scan 1 [] (col 1 0 ∷ [])) (codes "put" ∷ [])
@@ -190,19 +172,6 @@ module _ (old new : State) (found : List Row) (rows : Rows) (t : IsTables old.no
       found t.tables.five.endpoints
       (found_in relay_schema endpoints_select 1 [] (col 1 0 ∷ []) _ asks [] old new found t.schema_is h) in
       length_permutation _ found same ∙ length-map _ put_shown ∙ ap length (all_kept rows.endpoints)
-
-  pub tells_delivery : Asks relay_schema delivery_select (scan 5 by_id (col 1 0 ∷ [])) (codes "seq" ∷ [])
-      → (endpoint : ℕ) (id : List ℕ) → Shown delivery_select (delivery_params endpoint id) old new found
-      → not (length found == 0) ≡ has_id rows endpoint id
-  tells_delivery asks endpoint id h =
-      let same = finds delivery_stored (delivery_params endpoint id) by_id (col 1 0 ∷ []) (is_delivery endpoint id)
-      (λ d. rw (equal_numbers d.endpoint endpoint, equal_texts d.id id)
-      (ap (λ b. (d.endpoint == endpoint) && b) (and_true (bytes_eq d.id id))))
-      (old.now.trees 5) rows.deliveries found t.tables.five.deliveries
-      (found_in relay_schema delivery_select 5 by_id (col 1 0 ∷ []) _ asks (delivery_params endpoint id) old new
-      found t.schema_is h) in
-      let many = length_permutation _ found same ∙ length-map (filter (is_delivery endpoint id) rows.deliveries) _ in
-      ap (λ n. not (n == 0)) many ∙ any_kept (is_delivery endpoint id) rows.deliveries
 
   puts_found : Asks relay_schema named_select (scan 1 by_name (col 1 0 ∷ [])) (codes "put" ∷ []) → (name : List ℕ)
       → Shown named_select (Text name ∷ []) old new found

@@ -1,6 +1,7 @@
 -- One statement after another.
-use Rattle.std.proofs.Common.{◌≡◌, ◌⊎◌, inl, inr, ℕ, List, Ok, Err, Result, IfOk, OnOk, IsTrue, refl, sym, subst, ◌∙◌}
-use Rattle.std.proofs.Common.{arith}
+use Rattle.std.proofs.Common.{◌≡◌, ◌⊎◌, inl, inr, ℕ, false, List, Ok, Err, Result, IfOk, OnOk, IsTrue, refl, sym, subst}
+use Rattle.std.proofs.Common.{◌∙◌, arith}
+use Rattle.std.proofs.lemmas.Bool.{cases_Bool}
 use Rattle.sqlite.specs.declared.error.Error.{Error}
 use Rattle.sqlite.specs.Tree.{Trees}
 use Rattle.sqlite.specs.Order.{Row}
@@ -25,6 +26,19 @@ pub kept_inside : (sql : List ℕ) (params : Row) (a b : State) (r : Result ℕ 
 kept_inside sql params a b (Ok count) h = record { was_open = λ _. h.1.was_open; committed = λ _. h.1.committed_is }
 kept_inside sql params a b (Err e) (inl h) = keeps_if a b h.1
 kept_inside sql params a b (Err e) (inr h) = keeps_if a b (inl h.2)
+
+-- and so does one that is refused where there is no transaction
+pub spares_inside : (sql : List ℕ) (params : Row) (a b : State) (r : Result ℕ Error)
+    → (a.in_transaction ≡ false → KeepsCommit a b)
+    → (HasCleanDisk b → IsTrue a.in_transaction → ExecutesInside 0 sql params a b r) → Survives a b (λ _. ⊥)
+    → Spares a b
+spares_inside sql params a b r outside inside survives = record {
+  kept = λ clean. elim (cases_Bool a.in_transaction) [
+    | inl is ↦ kept_inside sql params a b r (inside clean is)
+    | inr out ↦ outside out
+  ];
+  survives = survives;
+}
 
 keeps_then : (a b c : State) → KeepsCommit a b → KeepsCommit b c → KeepsCommit a c
 keeps_then a b c p q = record {

@@ -1,5 +1,5 @@
 -- What a statement of the relay leaves of a connection.
-use Rattle.std.specs.Prelude.{◌≡◌, ℕ, true, false, IsTrue, List, [], Result, Err, IfOk, IfErr, OnOk}
+use Rattle.std.specs.Prelude.{◌≡◌, ℕ, Bool, true, false, not, IsTrue, List, [], Result, Err, IfOk, IfErr, OnOk}
 use Rattle.std.specs.List.{AllByRecursion}
 use Rattle.std.specs.Borrow.{MutBor}
 use Rattle.sqlite.specs.Tree.{Trees}
@@ -13,8 +13,8 @@ use Rattle.sqlite.specs.declared.error.Error.{Error}
 use Rattle.sqlite.specs.Held.{Held, state}
 use Rattle.sqlite_trees.specs.declared.store.Store.{Ghosts}
 use Rattle.sqlite_catalog.specs.Change.{created}
-use Rattle.relay_types.specs.Rows.{Rows}
-use Rattle.spool_sql.specs.Stored.{IsFirstTables, IsSixTables, IsTables, AreTablesOf, first_rows}
+use Rattle.relay_types.specs.Rows.{Rows, DeliveryRow}
+use Rattle.spool_sql.specs.Stored.{IsFirstTables, IsSixTables, IsTables, AreTablesOf, first_rows, has_id, with_delivery}
 
 -- ---- inside a transaction
 
@@ -35,6 +35,14 @@ pub record Alters (old new : State) (change : Rows → Rows) : Type 0 where
 pub record AltersWhere (old new : State) (known : Rows → Type 0) (change : Rows → Rows) : Type 0 where
   pub on : GoesOn old new
   pub makes : (rows : Rows) → known rows → IsTables old.now rows → IsTables new.now (change rows)
+
+-- Inside a transaction that goes on, an event is added unless its endpoint has one of its id. If it has, nothing is
+-- changed.
+pub record AddsUnlessKnown (d : DeliveryRow) (old new : State) (made : Bool) : Type 0 where
+  pub on : GoesOn old new
+  pub judges : (rows : Rows) → IsTables old.now rows → made ≡ not (has_id rows d.endpoint d.id)
+  pub makes : IsTrue made → Makes old new (with_delivery d)
+  pub leaves : made ≡ false → IsUnchanged old new
 
 -- Whatever came of it, the last commit stands, and a crash leaves no more than it left before.
 pub record Spares (old new : State) : Type 0 where

@@ -4,11 +4,11 @@ ghost use Rattle.std.specs.List.{AllByRecursion};
 ghost use Rattle.relay_types.specs.Values.{is_name};
 ghost use Rattle.relay_types.specs.declared.limits.TheConstants.{MAX_RECORDS};
 ghost use Rattle.spool_sql.specs.Readable.{IsMemory, IsRefusedFor, ShowsBelow};
-ghost use Rattle.spool_sql.specs.Stored.{IsPutOf, has_id, has_pair, number_of};
+ghost use Rattle.spool_sql.specs.Stored.{IsPutOf, has_pair, number_of};
 ghost use Rattle.spool_sql.specs.Steps.{LeavesAll, LooksUp, IsOfSame, SparesCommit};
 
 use crate::seq::Seq;
-use relay_types::{MAX_RECORDS, MsgId, Name};
+use relay_types::{MAX_RECORDS, Name};
 use sqlite::{Alter, Error, Row, Transaction};
 use sqlite_value::value::ValueRef;
 
@@ -62,26 +62,6 @@ pub fn count_endpoints<S: Alter>(tx: &mut Transaction<'_, S>) -> Result<usize, E
 {
     let rows = tx.query_all("SELECT put FROM endpoints", &[])?;
     Ok(rows.len())
-}
-
-/// Whether the endpoint that the record with number `endpoint` made has an event of this id.
-pub fn has_delivery<S: Alter>(
-    tx: &mut Transaction<'_, S>,
-    endpoint: Seq,
-    id: &MsgId,
-) -> Result<bool, Error>
-    ensures same_reference { IsOfSame tx.old.conn tx.new.conn }
-    ensures unchanged { LeavesAll S.Store tx.old.conn.now tx.new.conn.now result }
-    ensures found { LooksUp S.Store tx.old.conn.now tx.new.conn.now result
-        (λ found rows. found ≡ has_id rows endpoint id.now) }
-    ensures refused { IsRefusedFor S.Store tx.old.conn.now tx.new.conn.now result }
-    ensures spares { SparesCommit S.Store tx.old.conn.now tx.new.conn.now }
-{
-    let rows = tx.query_all(
-        "SELECT seq FROM deliveries WHERE endpoint = ?1 AND id = ?2",
-        &[endpoint.value(), ValueRef::Text(id.as_bytes())],
-    )?;
-    Ok(!rows.is_empty())
 }
 
 /// Whether there is a row of this topic and the endpoint that the record with number `endpoint` made.

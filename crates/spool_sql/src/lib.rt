@@ -20,7 +20,7 @@ pub use crate::cause::{Cause, cause_of};
 pub use crate::change::{delete_secrets, delete_topic, update_enabled, update_secrets_by};
 pub use crate::create::create_tables;
 pub use crate::delivery::{select_endpoint, select_statuses};
-pub use crate::find::{count_endpoints, count_topics, has_delivery, has_topic, select_put};
+pub use crate::find::{count_endpoints, count_topics, has_topic, select_put};
 pub use crate::migrate::{create_topics, update_version};
 pub use crate::opened::{is_empty, prepare_probe, probe};
 pub use crate::purge::{delete_attempts, delete_delivery, select_events, select_tries};

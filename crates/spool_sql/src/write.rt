@@ -1,16 +1,17 @@
 //! The rows that are added or changed.
-ghost use Rattle.std.specs.Prelude.{◌≡◌, ◌<◌, ◌≤◌, ◌^◌, ◌&&◌, IsTrue, pos, [], ◌∷◌, codes};
+ghost use Rattle.std.specs.Prelude.{◌≡◌, ◌≢◌, ◌<◌, ◌≤◌, ◌^◌, ◌&&◌, IsTrue, IfErr, pos, [], ◌∷◌, codes};
 ghost use Rattle.sqlite.specs.declared.types.Value.TheVariants.{Int, Text, Blob};
 ghost use Rattle.relay_types.specs.declared.limits.TheConstants.{MAX_RECORDS};
 ghost use Rattle.relay_types.specs.Values.{is_name, is_target, is_max_limit, is_secret, is_msg_id, is_body, is_moment};
-ghost use Rattle.spool_sql.specs.Stored.{new_endpoint, with_endpoint, with_secret, with_delivery, with_attempt};
+ghost use Rattle.spool_sql.specs.Stored.{new_endpoint, with_endpoint, with_secret, with_attempt};
 ghost use Rattle.spool_sql.specs.Stored.{flag_number, with_records, with_topic};
-ghost use Rattle.spool_sql.specs.Steps.{Changes, IsOfSame, IsRefusedOf, SparesCommit};
+ghost use Rattle.spool_sql.specs.Causes.{is_added, key_taken};
+ghost use Rattle.spool_sql.specs.Steps.{AddsUnlessKnown, Answers, Changes, IsOfSame, IsRefusedOf, SparesCommit};
 
 use crate::seq::Seq;
 use crate::value::int;
 use relay_types::{Body, MaxLimit, Moment, MsgId, Name, Secret, Target};
-use sqlite::{Alter, Error, Transaction};
+use sqlite::{Alter, Constraint, Error, ErrorCode, Transaction};
 use sqlite_value::value::ValueRef;
 
 /// Adds an enabled endpoint that the record with number `put` made.
@@ -72,7 +73,7 @@ pub fn insert_secret<S: Alter>(
 }
 
 /// Adds an event that the record with number `seq` took in, for the endpoint that the record with number `endpoint`
-/// made.
+/// made. Answers false, and changes nothing, if the endpoint has an event of this id.
 pub fn insert_delivery<S: Alter>(
     tx: &mut Transaction<'_, S>,
     seq: Seq,
@@ -80,18 +81,19 @@ pub fn insert_delivery<S: Alter>(
     id: &MsgId,
     at: Moment,
     body: &Body,
-) -> Result<(), Error>
+) -> Result<bool, Error>
     ensures same_reference { IsOfSame tx.old.conn tx.new.conn }
-    ensures done { Changes S.Store tx.old.conn.now tx.new.conn.now result
-        (with_delivery (record { seq = seq; endpoint = endpoint; id = id.now; at = at; body = body.now })) }
+    ensures done { Answers S.Store tx.old.conn.now tx.new.conn.now result
+        (AddsUnlessKnown (record { seq = seq; endpoint = endpoint; id = id.now; at = at; body = body.now })) }
     ensures room { seq < MAX_RECORDS }
     ensures limits { IsTrue (is_msg_id id.now && (is_body body.now && is_moment at)) }
     ensures refused { IsRefusedOf S.Store tx.old.conn.now tx.new.conn.now result
         (codes "INSERT INTO deliveries VALUES(?1, ?2, ?3, ?4, ?5)")
         (Int (pos seq) ∷ Int (pos endpoint) ∷ Text id.now ∷ Int (pos at) ∷ Blob body.now ∷ []) }
+    ensures answered { IfErr result (λ error. error ≢ key_taken) }
     ensures spares { SparesCommit S.Store tx.old.conn.now tx.new.conn.now }
 {
-    tx.execute(
+    let inserted = tx.execute(
         "INSERT INTO deliveries VALUES(?1, ?2, ?3, ?4, ?5)",
         &[
             seq.value(),
@@ -100,8 +102,19 @@ pub fn insert_delivery<S: Alter>(
             int(at.seconds()),
             ValueRef::Blob(body.as_bytes()),
         ],
-    )?;
-    Ok(())
+    );
+    was_added(inserted)
+}
+
+// Whether an INSERT added its row. A row that has the same key under a UNIQUE keeps it out.
+fn was_added(inserted: Result<usize, Error>) -> Result<bool, Error>
+    ensures value { result ≡ is_added inserted }
+{
+    match inserted {
+        Ok(_) => Ok(true),
+        Err(Error::SqliteFailure(ErrorCode::ConstraintViolation(Constraint::Unique))) => Ok(false),
+        Err(error) => Err(error),
+    }
 }
 
 /// Adds an attempt, which the record with number `seq` tells of, at the event that the record with number `delivery`

@@ -5,9 +5,9 @@ use crate::entries::body_of;
 use relay_types::{MaxLimit, Moment, MsgId, Name, Secret, Target};
 use spool_sql::{
     Cause, Seq, Tried, cause_of, count_endpoints, count_topics, create_tables, create_topics,
-    delete_attempts, delete_delivery, delete_topic, has_delivery, has_topic, insert_attempt,
-    insert_delivery, insert_endpoint, insert_secret, insert_topic, is_empty, probe, select_events,
-    select_put, select_tries, update_records, update_version,
+    delete_attempts, delete_delivery, delete_topic, has_topic, insert_attempt, insert_delivery,
+    insert_endpoint, insert_secret, insert_topic, is_empty, probe, select_events, select_put,
+    select_tries, update_records, update_version,
 };
 use sqlite::{Connection, Error, ErrorCode, MemStore, Transaction};
 use std::alloc::Global;
@@ -44,13 +44,13 @@ enum Call {
 #[derive(Clone, Copy)]
 enum Step {
     Done(Call),
+    /// The endpoint has an event of this id, and nothing is changed.
+    Known(Call),
     /// The rows or the tables that stand refuse it.
     Refused(Call),
     /// The number of the endpoint of this name.
     Put(&'static [u8], Option<u32>),
     Endpoints(usize),
-    /// Whether the endpoint has an event of this id.
-    Has(u32, &'static [u8], bool),
     /// Whether there is a row of the topic and the endpoint.
     HasTopic(&'static [u8], u32, bool),
     TopicCount(usize),
@@ -98,7 +98,7 @@ fn add_delivery(
     endpoint: u32,
     id: &[u8],
     at: u64,
-) -> Result<Result<(), Error>, Fail> {
+) -> Result<Result<bool, Error>, Fail> {
     let id = MsgId::read(id)?;
     let at = Moment::of(at)?;
     let body = body_of(alloc, b"hello")?;
@@ -144,37 +144,43 @@ fn remove_topic(
     Ok(delete_topic(tx, &topic, seq(endpoint)))
 }
 
+fn done(answer: Result<(), Error>) -> Result<bool, Error> {
+    answer?;
+    Ok(true)
+}
+
+/// Whether the call added or changed what it says.
 fn make(
     alloc: Global,
     tx: &mut Transaction<'_, MemStore>,
     call: Call,
-) -> Result<Result<(), Error>, Fail> {
+) -> Result<Result<bool, Error>, Fail> {
     match call {
-        Call::Tables => Ok(create_tables(tx)),
-        Call::Topics => Ok(create_topics(tx)),
-        Call::Version => Ok(update_version(tx)),
-        Call::Endpoint(put, name, max) => add_endpoint(alloc, tx, put, name, max),
-        Call::Secret(endpoint, place, bytes) => add_secret(tx, endpoint, place, bytes),
+        Call::Tables => Ok(done(create_tables(tx))),
+        Call::Topics => Ok(done(create_topics(tx))),
+        Call::Version => Ok(done(update_version(tx))),
+        Call::Endpoint(put, name, max) => Ok(done(add_endpoint(alloc, tx, put, name, max)?)),
+        Call::Secret(endpoint, place, bytes) => Ok(done(add_secret(tx, endpoint, place, bytes)?)),
         Call::Delivery(number, endpoint, id, at) => {
             add_delivery(alloc, tx, number, endpoint, id, at)
         }
         Call::Attempt(number, delivery, attempt, status, at) => {
-            add_attempt(tx, number, delivery, attempt, status, at)
+            Ok(done(add_attempt(tx, number, delivery, attempt, status, at)?))
         }
         Call::Topic(topic, endpoint, flag, set_by) => {
-            add_topic(tx, topic, endpoint, flag, set_by)
+            Ok(done(add_topic(tx, topic, endpoint, flag, set_by)?))
         }
-        Call::NoTopic(topic, endpoint) => remove_topic(tx, topic, endpoint),
-        Call::NoAttempts(delivery) => Ok(delete_attempts(tx, seq(delivery))),
-        Call::NoDelivery(delivery) => Ok(delete_delivery(tx, seq(delivery))),
-        Call::Records(count) => Ok(update_records(tx, u64::from(count))),
+        Call::NoTopic(topic, endpoint) => Ok(done(remove_topic(tx, topic, endpoint)?)),
+        Call::NoAttempts(delivery) => Ok(done(delete_attempts(tx, seq(delivery)))),
+        Call::NoDelivery(delivery) => Ok(done(delete_delivery(tx, seq(delivery)))),
+        Call::Records(count) => Ok(done(update_records(tx, u64::from(count)))),
     }
 }
 
-fn is_refused(answer: Result<(), Error>) -> bool {
+fn is_refused(answer: Result<bool, Error>) -> bool {
     match answer {
         Err(error) => cause_of(error) == Cause::Other,
-        Ok(()) => false,
+        Ok(_) => false,
     }
 }
 
@@ -189,16 +195,6 @@ fn is_put(
         (None, None) => Ok(true),
         _ => Ok(false),
     }
-}
-
-fn has(
-    tx: &mut Transaction<'_, MemStore>,
-    endpoint: u32,
-    id: &[u8],
-    wanted: bool,
-) -> Result<bool, Fail> {
-    let id = MsgId::read(id)?;
-    Ok(has_delivery(tx, seq(endpoint), &id)? == wanted)
 }
 
 fn is_there(
@@ -242,7 +238,7 @@ fn add_all(
     for number in first..end {
         let id = format!(in alloc; "x{number}")?;
         let added = add_delivery(alloc, tx, number, endpoint, id.as_bytes(), 1000)?;
-        is_done = is_done && added.is_ok();
+        is_done = is_done && added == Ok(true);
     }
     Ok(is_done)
 }
@@ -256,11 +252,11 @@ fn is_page(found: &[Seq], count: usize, first: u64, last: u64) -> bool {
 
 fn is_so(alloc: Global, tx: &mut Transaction<'_, MemStore>, step: Step) -> Result<bool, Fail> {
     match step {
-        Step::Done(made) => Ok(make(alloc, tx, made)?.is_ok()),
+        Step::Done(made) => Ok(make(alloc, tx, made)? == Ok(true)),
+        Step::Known(made) => Ok(make(alloc, tx, made)? == Ok(false)),
         Step::Refused(made) => Ok(is_refused(make(alloc, tx, made)?)),
         Step::Put(name, wanted) => is_put(tx, name, wanted),
         Step::Endpoints(count) => Ok(count_endpoints(tx)? == count),
-        Step::Has(endpoint, id, wanted) => has(tx, endpoint, id, wanted),
         Step::HasTopic(topic, endpoint, wanted) => is_there(tx, topic, endpoint, wanted),
         Step::TopicCount(count) => Ok(count_topics(tx)? == count),
         Step::Events(from, wanted) => Ok(same_seqs(&select_events(tx, seq(from))?, wanted)),
@@ -396,13 +392,16 @@ fn rows_are_written(rt: HostRuntime) -> Result<(), Fail> {
     walk(&rt, rt.alloc(), &NO_STEP, &ROWS)
 }
 
-static FOUND: [Step; 6] = [
+static FOUND: [Step; 9] = [
     Step::Put(b"alpha", Some(3)),
     Step::Put(b"alph", None),
     Step::Endpoints(1),
-    Step::Has(3, b"msg_1", true),
-    Step::Has(3, b"msg_2", false),
-    Step::Has(4, b"msg_1", false),
+    Step::Known(Call::Delivery(6, 3, b"msg_1", 1000)),
+    Step::Done(Call::Delivery(6, 3, b"msg_2", 1000)),
+    Step::Known(Call::Delivery(7, 3, b"msg_2", 2000)),
+    Step::Events(0, &[4, 6]),
+    Step::Done(Call::Endpoint(8, b"beta", 10)),
+    Step::Done(Call::Delivery(9, 8, b"msg_1", 1000)),
 ];
 
 #[test]
@@ -438,7 +437,7 @@ fn topics_are_found_and_replaced(rt: HostRuntime) -> Result<(), Fail> {
 }
 
 /// Deliveries 4, 8 and 10, of which the first has three attempts and the second has one, before the third of these.
-static REMOVED: [Step; 33] = [
+static REMOVED: [Step; 32] = [
     Step::Done(Call::Attempt(6, 4, 2, 0, 1001)),
     Step::Done(Call::Delivery(8, 3, b"msg_2", 1000)),
     Step::Done(Call::Attempt(7, 8, 1, 200, 1000)),
@@ -469,8 +468,7 @@ static REMOVED: [Step; 33] = [
     Step::Events(0, &[4, 8, 10]),
     Step::Done(Call::NoDelivery(4)),
     Step::Events(0, &[8, 10]),
-    Step::Has(3, b"msg_1", false),
-    Step::Has(3, b"msg_2", true),
+    Step::Known(Call::Delivery(12, 3, b"msg_2", 1000)),
     Step::Done(Call::NoAttempts(10)),
     Step::Done(Call::NoDelivery(10)),
     Step::Done(Call::NoDelivery(10)),
@@ -491,7 +489,7 @@ static PAGES: [Step; 7] = [
     Step::Page(355, 45, 355, 399),
     Step::Page(399, 1, 399, 399),
     Step::Page(400, 0, 0, 0),
-    Step::Has(3, b"x399", true),
+    Step::Known(Call::Delivery(400, 3, b"x399", 1000)),
 ];
 
 #[test]
@@ -499,13 +497,14 @@ fn events_are_read_in_pages(rt: HostRuntime) -> Result<(), Fail> {
     walk(&rt, rt.alloc(), &PAGES, &ROWS)
 }
 
-static REPEATED: [Step; 10] = [
+static REPEATED: [Step; 11] = [
     Step::Refused(Call::Tables),
     Step::Refused(Call::Topics),
     Step::Done(Call::Version),
     Step::Refused(Call::Endpoint(6, b"alpha", 10)),
     Step::Refused(Call::Secret(3, 1, b"fedcba98fedcba98fedcba98")),
-    Step::Refused(Call::Delivery(6, 3, b"msg_1", 1000)),
+    Step::Known(Call::Delivery(6, 3, b"msg_1", 1000)),
+    Step::Refused(Call::Delivery(4, 3, b"msg_2", 1000)),
     Step::Refused(Call::Delivery(6, 7, b"msg_2", 1000)),
     Step::Refused(Call::Attempt(6, 4, 1, 200, 1000)),
     Step::Refused(Call::Topic(b"t", 3, false, 9)),
