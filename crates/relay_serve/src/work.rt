@@ -4,7 +4,7 @@ use crate::relay::Relay;
 use delivery::{Pass, Round, worker_round};
 use hyper_poster::HyperPoster;
 use relay_host::HostClock;
-use retry_table::{PostResult, Verdict, judge, verdict_of};
+use retry_table::{PostResult, is_gone, judge};
 use run_log::LogId;
 use std::alloc::AllocGlobal;
 use std::io::Eprint;
@@ -68,18 +68,10 @@ fn tell_of<R: Clock + AllocGlobal + Eprint>(rt: &R, round: &Round) {
         return;
     };
     let endpoint = *endpoint;
-    if is_gone(answer) {
+    if matches!(judge(answer), (_, Some(status)) if is_gone(status)) {
         tell(rt, rt.alloc(), &LogLine::Disabled { endpoint, request });
     }
     if spent.is_exhausted() {
         tell(rt, rt.alloc(), &LogLine::Exhausted { endpoint, request });
-    }
-}
-
-// Whether the subscriber wants no more posts.
-fn is_gone(answer: &PostResult) -> bool {
-    match judge(answer) {
-        (_, Some(status)) => verdict_of(status) == Verdict::Gone,
-        (_, None) => false,
     }
 }

@@ -10,5 +10,5 @@ mod verdict;
 
 pub use crate::delay::delay_after;
 pub use crate::post::{Measured, PostResult, Spend, judge, measure};
-pub use crate::status::Status;
-pub use crate::verdict::{Verdict, verdict_of};
+pub use crate::status::{Status, is_status};
+pub use crate::verdict::{Verdict, is_delivered, is_failed, is_gone, verdict_of};

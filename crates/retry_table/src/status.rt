@@ -1,5 +1,6 @@
 //! The status of an answered post.
 ghost use Rattle.std.specs.Prelude.{◌≡◌, ◌≤◌, ◌↔◌, IsSome, IfSome};
+ghost use Rattle.relay_types.specs.Legal.{is_status};
 
 use std::marker::Model;
 
@@ -44,4 +45,11 @@ impl Status {
     {
         self.number
     }
+}
+
+/// Whether it can be recorded: the status of an answer, or 0.
+pub fn is_status(status: u16) -> bool
+    ensures { result ≡ is_status status }
+{
+    status == 0 || Status::of(status).is_some()
 }

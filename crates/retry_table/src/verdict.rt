@@ -26,3 +26,24 @@ pub fn verdict_of(status: u16) -> Verdict
         _ => Verdict::Failed,
     }
 }
+
+/// Whether the endpoint took the event.
+pub fn is_delivered(status: u16) -> bool
+    ensures { result ≡ is_delivered_status status }
+{
+    matches!(verdict_of(status), Verdict::Delivered)
+}
+
+/// Whether the attempt failed.
+pub fn is_failed(status: u16) -> bool
+    ensures { result ≡ is_failed_status status }
+{
+    matches!(verdict_of(status), Verdict::Failed)
+}
+
+/// Whether the endpoint wants no more posts.
+pub fn is_gone(status: u16) -> bool
+    ensures { result ≡ is_gone_status status }
+{
+    matches!(verdict_of(status), Verdict::Gone)
+}

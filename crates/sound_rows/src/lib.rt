@@ -9,7 +9,6 @@ mod order;
 mod places;
 mod search;
 mod sound;
-mod status;
 mod turns;
 
 pub use crate::numbers::{Attempt, Delivery, Endpoint, Numbers, Topic};

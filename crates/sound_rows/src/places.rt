@@ -6,8 +6,8 @@ ghost use Rattle.sound_rows.specs.Checks.{are_behind, are_flag_places, are_topic
 
 use crate::numbers::{Attempt, Delivery, Endpoint, Numbers};
 use crate::search::{is_delivery_of, place_of_attempt, place_of_delivery};
-use crate::status::is_gone;
 use relay_types::{MAX_ENDPOINTS, MAX_SUBSCRIPTIONS};
+use retry_table::is_gone;
 
 impl Numbers {
     // Whether the rows of endpoints, events and topics may stand where they do, beside what comes of the events.

@@ -7,8 +7,8 @@ ghost use Rattle.sound_rows.specs.Numbers.{IsAscending};
 ghost use Rattle.sound_rows.specs.Checks.{after_status, is_turn, may_come, no_progress};
 
 use crate::numbers::Attempt;
-use crate::status::{is_delivered, is_failed, is_status};
 use relay_types::MAX_FAILURES;
+use retry_table::{is_delivered, is_failed, is_status};
 use std::alloc::{AllocError, Global};
 use std::collections::BTreeMap;
 

@@ -4,13 +4,12 @@ ghost use Rattle.std.specs.Prelude.{◌≡◌, ◌<◌, ◌^◌, [], ◌∷◌, 
 ghost use Rattle.std.specs.List.{list_any};
 ghost use Rattle.relay_types.specs.declared.record.Record.TheVariants as on;
 ghost use Rattle.relay_types.specs.Judging.{is_delivered_status, is_failed_status};
-ghost use Rattle.relay_types.specs.Legal.{is_status};
 ghost use Rattle.spool_sql.specs.Steps.{Alters, Answers, Achieves, IfClean, IsOfSame, LeavesAll, SparesCommit};
 ghost use Rattle.spool.specs.Entering.{Enters, IsLookRefusal, LooksAt, are_pending, may_be_next, attempting};
 ghost use Rattle.spool.specs.Entering.{disabled_if_gone};
 
 use relay_types::{MAX_FAILURES, Moment};
-use retry_table::{Status, Verdict, verdict_of};
+use retry_table::{is_delivered, is_failed, is_gone, is_status};
 use spool_sql::{Seq, insert_attempt, select_endpoint, select_statuses, update_enabled};
 use sqlite::{Alter, Error, Transaction};
 
@@ -91,25 +90,6 @@ fn count_failed(statuses: &[u16]) -> usize
     statuses.iter().filter(|status| is_failed(**status)).count()
 }
 
-pub(crate) fn is_delivered(status: u16) -> bool
-    ensures { result ≡ is_delivered_status status }
-{
-    matches!(verdict_of(status), Verdict::Delivered)
-}
-
-pub(crate) fn is_failed(status: u16) -> bool
-    ensures { result ≡ is_failed_status status }
-{
-    matches!(verdict_of(status), Verdict::Failed)
-}
-
-// Whether it is the status of an answer, or 0.
-fn is_status(status: u16) -> bool
-    ensures { result ≡ is_status status }
-{
-    status == 0 || Status::of(status).is_some()
-}
-
 // Disables the endpoint that the record with number `put` made, where the status is that of a gone
 // one. The record with number `by` decides it.
 fn disable_if_gone<S: Alter>(
@@ -123,8 +103,9 @@ fn disable_if_gone<S: Alter>(
         (λ a b. IsTrue a.is_open → Alters a b (disabled_if_gone put status by)) }
     ensures spares { SparesCommit S.Store tx.old.conn.now tx.new.conn.now }
 {
-    match verdict_of(status) {
-        Verdict::Gone => update_enabled(tx, put, false, by),
-        Verdict::Delivered | Verdict::Failed => Ok(()),
+    if is_gone(status) {
+        update_enabled(tx, put, false, by)
+    } else {
+        Ok(())
     }
 }

@@ -13,9 +13,9 @@ ghost use Rattle.spool_sql.specs.Stored.{HaveOwnNumbers};
 ghost use Rattle.spool_sql.specs.Steps.{Achieves, AltersWhere, Answers, IsOfSame, SparesCommit};
 ghost use Rattle.spool.specs.Entering.{AreInTurn, Enters, are_past, is_past_by, without_events, without_past};
 
-use crate::outcome::{is_delivered, is_failed};
 use crate::pages::{behind, error_of};
 use relay_types::{MAX_FAILURES, Moment};
+use retry_table::{is_delivered, is_failed};
 use spool_sql::{Seq, Tried, delete_attempts, delete_delivery, select_events, select_tries};
 use sqlite::{Alter, Error, Transaction};
 
