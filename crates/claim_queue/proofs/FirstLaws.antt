@@ -1,5 +1,6 @@
 -- The first pairs of the endpoints that have room, in order.
-use Rattle.std.proofs.Common.{◌≡◌, ℕ, ◌<◌, ◌≤◌, Bool, true, false, not, ◌&&◌, ◌||◌, List, length, Option, Some, None, refl, sym, ◌∙◌, subst, arith, slice_index_or}
+use Rattle.std.proofs.Common.{◌≡◌, ℕ, ◌<◌, ◌≤◌, Bool, true, false, not, ◌&&◌, ◌||◌, List, length, Option, Some, None}
+use Rattle.std.proofs.Common.{refl, sym, ◌∙◌, subst, arith, slice_index_or}
 use Rattle.std.specs.Prelude.{nat_eq, bytes_eq, position}
 use Rattle.std.specs.List.{AllPairs, insert, list_any, remove}
 use Rattle.std.specs.List.Sorted.{IsPartitionPoint}
@@ -19,8 +20,10 @@ pub is_same : (a b : Pair) → same_pair a b ≡ true → b ≡ a
 is_same a b h = grind (arith, and_parts, bytes_decides, eqb-true)
 
 pub same_itself : (a : Pair) → same_pair a a ≡ true
-same_itself a = and_from (nat_eq a.seq a.seq) (nat_eq a.due a.due && bytes_eq a.endpoint a.endpoint) (eq-eqb a.seq a.seq refl)
-    (and_from (nat_eq a.due a.due) (bytes_eq a.endpoint a.endpoint) (eq-eqb a.due a.due refl) ((bytes_decides a.endpoint a.endpoint).1 refl))
+same_itself a = and_from (nat_eq a.seq a.seq) (nat_eq a.due a.due && bytes_eq a.endpoint a.endpoint)
+    (eq-eqb a.seq a.seq refl)
+    (and_from (nat_eq a.due a.due) (bytes_eq a.endpoint a.endpoint) (eq-eqb a.due a.due refl)
+    ((bytes_decides a.endpoint a.endpoint).1 refl))
 
 same_both_ways : (a b : Pair) → same_pair a b ≡ same_pair b a
 same_both_ways a b = pick (same_pair a b) (same_pair b a) refl refl
@@ -33,52 +36,69 @@ same_both_ways a b = pick (same_pair a b) (same_pair b a) refl refl
 
 -- One less
 
-pub lost : (pairs : List Pair) (n : ℕ) (pair other : Pair) → AreInOrder pairs → n < length pairs → pair ≡ slice_index_or pairs n pair
+pub lost : (pairs : List Pair) (n : ℕ) (pair other : Pair) → AreInOrder pairs → n < length pairs
+    → pair ≡ slice_index_or pairs n pair
     → list_any (same_pair other) (remove pairs n) ≡ (list_any (same_pair other) pairs && not (same_pair other pair))
 lost pairs n pair other order within is = taken_out same_pair pairs n pair other is_same apart within is
   where
     apart : AllPairs (λ a b. (same_pair a b ≡ false) × (same_pair b a ≡ false)) pairs
     apart i j d less end =
-        let differ = (order i j d less end).1 in (differ, same_both_ways (slice_index_or pairs j d) (slice_index_or pairs i d) ∙ differ)
+        let differ = (order i j d less end).1
+        in (differ, same_both_ways (slice_index_or pairs j d) (slice_index_or pairs i d) ∙ differ)
 
 -- the pair stands at the place where it is found
-pub found : (pairs : List Pair) (n : ℕ) (pair : Pair) → Some n ≡ position (same_pair pair) pairs → (n < length pairs) × (pair ≡ slice_index_or pairs n pair)
+pub found : (pairs : List Pair) (n : ℕ) (pair : Pair) → Some n ≡ position (same_pair pair) pairs → (n < length pairs)
+    × (pair ≡ slice_index_or pairs n pair)
 found pairs n pair at =
-    let there = position-Some (same_pair pair) pairs n pair (sym at) in (there.0, sym (is_same pair (slice_index_or pairs n pair) there.1))
+    let there = position-Some (same_pair pair) pairs n pair (sym at)
+    in (there.0, sym (is_same pair (slice_index_or pairs n pair) there.1))
 
-pub is_found : (pairs : List Pair) (pair : Pair) → list_any (same_pair pair) pairs ≡ true → None ≡ position (same_pair pair) pairs → ⊥
+pub is_found : (pairs : List Pair) (pair : Pair) → list_any (same_pair pair) pairs ≡ true
+    → None ≡ position (same_pair pair) pairs → ⊥
 is_found pairs pair held none = grind (arith, Any-from_list_any, fails_before_first, ltb-false, both_ways)
 
 -- One more
 
-other_pair : (pairs : List Pair) (pair : Pair) (k : ℕ) (d : Pair) → list_any (same_pair pair) pairs ≡ false → k < length pairs → same_pair pair (slice_index_or pairs k d) ≡ false
+other_pair : (pairs : List Pair) (pair : Pair) (k : ℕ) (d : Pair) → list_any (same_pair pair) pairs ≡ false
+    → k < length pairs → same_pair pair (slice_index_or pairs k d) ≡ false
 other_pair pairs pair k d unheld within =
-    false_from_ne_true (same_pair pair (slice_index_or pairs k d)) (λ h. both_ways (list_any (same_pair pair) pairs) unheld (list_any_at (same_pair pair) pairs k d within h))
+    false_from_ne_true (same_pair pair (slice_index_or pairs k d))
+    (λ h. both_ways (list_any (same_pair pair) pairs) unheld (list_any_at (same_pair pair) pairs k d within h))
 
-entered : (pairs : List Pair) (n : ℕ) (pair : Pair) → AreInOrder pairs → list_any (same_pair pair) pairs ≡ false → n ≤ length pairs
-    → IsPartitionPoint (λ held. comes_before (turn_of held) (turn_of pair) ≡ true) (λ held. comes_before (turn_of held) (turn_of pair) ≡ false) pairs n → AreInOrder (insert pairs n pair)
+entered : (pairs : List Pair) (n : ℕ) (pair : Pair) → AreInOrder pairs → list_any (same_pair pair) pairs ≡ false
+    → n ≤ length pairs
+    → IsPartitionPoint (λ held. comes_before (turn_of held) (turn_of pair) ≡ true)
+    (λ held. comes_before (turn_of held) (turn_of pair) ≡ false) pairs n → AreInOrder (insert pairs n pair)
 entered pairs n pair order unheld le at =
-    all_pairs_insert (λ a b. (comes_before (turn_of b) (turn_of a) ≡ false) × (same_pair a b ≡ false)) pairs n pair le order
+    all_pairs_insert (λ a b. (comes_before (turn_of b) (turn_of a) ≡ false) × (same_pair a b ≡ false)) pairs n pair le
+    order
     (λ k d below. (
       one_way (turn_of (slice_index_or pairs k d)) (turn_of pair) (at.0 k d (omega arith) below),
       same_both_ways (slice_index_or pairs k d) pair ∙ other_pair pairs pair k d unheld (omega (arith, below, le)),
     ))
     (λ k d from within. (at.1 k d from within, other_pair pairs pair k d unheld within))
 
-pub order_entered : (pairs all : List Pair) (n : ℕ) (pair : Pair) (turn : Turn) → all ≡ pairs → turn ≡ turn_of pair → AreInOrder pairs → list_any (same_pair pair) pairs ≡ false → n ≤ length all
-    → IsPartitionPoint (λ held. comes_before (turn_of held) turn ≡ true) (λ held. comes_before (turn_of held) turn ≡ false) all n → AreInOrder (insert pairs n pair)
+pub order_entered : (pairs all : List Pair) (n : ℕ) (pair : Pair) (turn : Turn) → all ≡ pairs → turn ≡ turn_of pair
+    → AreInOrder pairs → list_any (same_pair pair) pairs ≡ false → n ≤ length all
+    → IsPartitionPoint (λ held. comes_before (turn_of held) turn ≡ true)
+    (λ held. comes_before (turn_of held) turn ≡ false) all n → AreInOrder (insert pairs n pair)
 order_entered pairs all n pair turn same is order unheld le point =
-    entered pairs n pair order unheld (subst (λ xs. n ≤ length xs) same le) (subst (IsPoint (turn_of pair)) same (subst (λ t. IsPoint t all) is point))
+    entered pairs n pair order unheld (subst (λ xs. n ≤ length xs) same le)
+    (subst (IsPoint (turn_of pair)) same (subst (λ t. IsPoint t all) is point))
   where
     IsPoint : Turn → List Pair → Type 0
-    IsPoint t xs = IsPartitionPoint (λ held. comes_before (turn_of held) t ≡ true) (λ held. comes_before (turn_of held) t ≡ false) xs n
+    IsPoint t xs = IsPartitionPoint (λ held. comes_before (turn_of held) t ≡ true)
+        (λ held. comes_before (turn_of held) t ≡ false) xs n
 
 -- One in the place of another
 
 -- the same pair stays
-pub stays : (pairs : List Pair) (old : Option Pair) (other : Pair) → (is_the old other ≡ true → list_any (same_pair other) pairs ≡ true)
-    → list_any (same_pair other) pairs ≡ ((list_any (same_pair other) pairs && not (is_the old other)) || is_the old other)
+pub stays : (pairs : List Pair) (old : Option Pair) (other : Pair)
+    → (is_the old other ≡ true → list_any (same_pair other) pairs ≡ true)
+    → list_any (same_pair other) pairs ≡ ((list_any (same_pair other) pairs && not (is_the old other))
+    || is_the old other)
 stays pairs old other held = grind arith
 
-pub is_held_one : (pairs : List Pair) (pair other : Pair) → list_any (same_pair pair) pairs ≡ true → same_pair other pair ≡ true → list_any (same_pair other) pairs ≡ true
+pub is_held_one : (pairs : List Pair) (pair other : Pair) → list_any (same_pair pair) pairs ≡ true
+    → same_pair other pair ≡ true → list_any (same_pair other) pairs ≡ true
 is_held_one pairs pair other held same = subst (λ p. list_any (same_pair p) pairs ≡ true) (is_same other pair same) held

@@ -1,4 +1,5 @@
--- How the deliveries are kept: a lane of each endpoint, and the first pairs of those that have room. What holds of them.
+-- How the deliveries are kept: a lane of each endpoint, and the first pairs of those that have room. What holds of
+-- them.
 use Rattle.std.specs.Prelude.{◌≡◌, ℕ, ◌+◌, ◌≤◌, Bool, false, not, ◌&&◌, ◌||◌, nat_eq, nat_lt, bytes_eq, List, [], ◌∷◌}
 use Rattle.std.specs.Prelude.{Option, Some, None, map, is_some, option_map, find, sum_by, IsTrue, if◌then◌else◌, ⊤}
 use Rattle.std.specs.List.{AllPairs, flat_map, list_any, slice_get}

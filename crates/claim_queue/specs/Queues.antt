@@ -1,6 +1,8 @@
--- What a queue is seen as, what each call makes of it, and which pair is next. The order of its two lists means nothing: all that is
--- said of a queue is said by which pairs it holds (`is_held`) and what is kept of which endpoint (`mark_of`).
-use Rattle.std.specs.Prelude.{◌≡◌, ℕ, ◌+◌, ◌-◌, ◌≤◌, max, Bool, false, not, ◌&&◌, ◌||◌, nat_eq, nat_le, bytes_eq, List, [], Option, Some, None, is_some, option_map, find, IsTrue, if◌then◌else◌}
+-- What a queue is seen as, what each call makes of it, and which pair is next. The order of its two lists means
+-- nothing: all that is said of a queue is said by which pairs it holds (`is_held`) and what is kept of which endpoint
+-- (`mark_of`).
+use Rattle.std.specs.Prelude.{◌≡◌, ℕ, ◌+◌, ◌-◌, ◌≤◌, max, Bool, false, not, ◌&&◌, ◌||◌, nat_eq, nat_le, bytes_eq, List}
+use Rattle.std.specs.Prelude.{[], Option, Some, None, is_some, option_map, find, IsTrue, if◌then◌else◌}
 use Rattle.std.specs.List.{list_any}
 use Rattle.std.specs.Option.{option_map_or}
 use Rattle.relay_types.specs.Values.{Text, Seq, Seconds}
@@ -93,7 +95,8 @@ with_room room m = record m { room = room }
 -- this is kept of the endpoint that it names, and of each other one what was kept before
 abbrev pub Sets : (old new : List Mark) (mark : Mark) → Type 0
 Sets old new mark =
-    (endpoint : Text) → mark_in new endpoint ≡ (if bytes_eq mark.endpoint endpoint then Some mark else mark_in old endpoint)
+    (endpoint : Text) → mark_in new endpoint
+    ≡ (if bytes_eq mark.endpoint endpoint then Some mark else mark_in old endpoint)
 
 abbrev pub SetsMark : (old new : QueueValue) (mark : Mark) → Type 0
 SetsMark old new mark = Sets old.marks new.marks mark

@@ -20,7 +20,8 @@ use Rattle.delivery_book.specs.declared.entry.Unsettled.{Unsettled}
 use Rattle.delivery_book.specs.declared.keys.EventKey.{EventKey}
 use Rattle.delivery_book.specs.declared.tally.Tally.{Tally}
 use Rattle.delivery_book.specs.Entries.{new_entry, is_entry_as, is_kept, state_in}
-use Rattle.delivery_book.specs.Fields.{AreNew, IsBook, IsKeyed, IsIndex, HasMoreKeys, event_cmp, is_known_as, is_taken_below, key_of}
+use Rattle.delivery_book.specs.Fields.{AreNew, IsBook, IsKeyed, IsIndex, HasMoreKeys, event_cmp, is_known_as}
+use Rattle.delivery_book.specs.Fields.{is_taken_below, key_of}
 use Rattle.delivery_book.specs.Fields.{HasMore, HasSame, HasRoomForAll, KeepsRoom, in_state, counts_for, has_room}
 use Rattle.delivery_book.specs.Fields.{one_of}
 use Rattle.delivery_book.specs.Fields.{is_numbered, is_waiting, is_later, is_among, is_counted, settled_among}
@@ -51,11 +52,14 @@ read-behind entries events seq k d new h l =
     ∙ new.numbers (k - length entries) d (omega (arith, l, h, length-append entries events))
 
 -- what an entry's number and attempts are below
-pub below : (next : ℕ) (e : Entry) → is_numbered next e ≡ true → (e.seq < next) × (e.latest.attempts ≤ next + MAX_RECORDS)
+pub below : (next : ℕ) (e : Entry) → is_numbered next e ≡ true → (e.seq < next)
+    × (e.latest.attempts ≤ next + MAX_RECORDS)
 below next e h = grind arith
 
-pub numbered_if : (next : ℕ) (e : Entry) → e.seq < next → e.latest.attempts ≤ next + MAX_RECORDS → is_numbered next e ≡ true
-numbered_if next e h l = and_both (ltb e.seq next) _ (lt-ltb e.seq next h) (ap not (le-ltb (next + MAX_RECORDS) e.latest.attempts l))
+pub numbered_if : (next : ℕ) (e : Entry) → e.seq < next → e.latest.attempts ≤ next + MAX_RECORDS
+    → is_numbered next e ≡ true
+numbered_if next e h l = and_both (ltb e.seq next) _ (lt-ltb e.seq next h)
+    (ap not (le-ltb (next + MAX_RECORDS) e.latest.attempts l))
 
 numbered-append : (entries events : List Entry) (next seq : ℕ) → list_all (is_numbered next) entries ≡ true → next ≤ seq
     → AreFrom seq events → list_all (is_numbered (seq + length events)) (entries ++ events) ≡ true
@@ -121,9 +125,11 @@ found_still : (entries events : List Entry) (o : Unsettled) → is_later entries
 found_still entries events o h = grind (arith, find-append)
 
 pub book-append : (index later : BTreeMap EventKey ℕ) (tally counted settled_tally opened_tally : Tally)
-    (entries events : List Entry) (unsettled : List Unsettled) (room more_room next settled n seq : ℕ) (first : Option ℕ)
+    (entries events : List Entry) (unsettled : List Unsettled) (room more_room next settled n seq : ℕ)
+    (first : Option ℕ)
     → IsBook entries index tally settled_tally unsettled room next settled n first → next ≤ seq → AreFrom seq events
-    → AreNew index events → HasMoreKeys index events later → HasMore tally (settled_among events) counted → HasSame settled_tally opened_tally
+    → AreNew index events → HasMoreKeys index events later → HasMore tally (settled_among events) counted
+    → HasSame settled_tally opened_tally
     → HasRoomForAll opened_tally events → KeepsRoom settled_tally opened_tally
     → length entries + length events ≤ more_room
     → IsBook (entries ++ events) later counted opened_tally unsettled more_room (seq + length events) settled n first
@@ -166,14 +172,23 @@ book-append index later tally counted settled_tally opened_tally entries events 
         h.marks.taken (omega (arith, up, new.numbers j d m)) l same
 
 -- one more event
-pub book-push : (index later : BTreeMap EventKey ℕ) (tally counted settled_tally opened_tally : Tally) (entries : List Entry) (unsettled : List Unsettled) (room more_room next settled n : ℕ) (seq : ℕ) (first : Option ℕ) (name id body : List ℕ) (at : ℕ)
-    → IsBook entries index tally settled_tally unsettled room next settled n first → next ≤ seq → find (λ x. is_entry_as name id x && is_kept x) entries ≡ None
-    → ((q : EventKey) → get event_cmp later q ≡ cond (is_at (event_cmp (record { name = name; id = id })) q) (Some seq) (get event_cmp index q))
-    → ((those : Option (List ℕ)) (asked : State) → in_state asked (counts_for counted those) ≡ in_state asked (counts_for tally those) + one_of name Pending those asked)
-    → ((those : Option (List ℕ)) → counts_for opened_tally those ≡ counts_for settled_tally those) → has_room opened_tally name ≡ true
-    → ((asked : List ℕ) → has_room settled_tally asked ≡ true → has_room opened_tally asked ≡ true) → length entries + 1 ≤ more_room
-    → IsBook (entries ++ new_entry seq name id body at ∷ []) later counted opened_tally unsettled more_room (seq + 1) settled n first
-book-push index later tally counted settled_tally opened_tally entries unsettled room more_room next settled n seq first name
+pub book-push : (index later : BTreeMap EventKey ℕ) (tally counted settled_tally opened_tally : Tally)
+    (entries : List Entry) (unsettled : List Unsettled) (room more_room next settled n : ℕ) (seq : ℕ) (first : Option ℕ)
+    (name id body : List ℕ) (at : ℕ)
+    → IsBook entries index tally settled_tally unsettled room next settled n first → next ≤ seq
+    → find (λ x. is_entry_as name id x && is_kept x) entries ≡ None
+    → ((q : EventKey) → get event_cmp later q ≡ cond (is_at (event_cmp (record { name = name; id = id })) q) (Some seq)
+    (get event_cmp index q))
+    → ((those : Option (List ℕ)) (asked : State) → in_state asked (counts_for counted those) ≡ in_state asked
+    (counts_for tally those) + one_of name Pending those asked)
+    → ((those : Option (List ℕ)) → counts_for opened_tally those ≡ counts_for settled_tally those)
+    → has_room opened_tally name ≡ true
+    → ((asked : List ℕ) → has_room settled_tally asked ≡ true → has_room opened_tally asked ≡ true)
+    → length entries + 1 ≤ more_room
+    → IsBook (entries ++ new_entry seq name id body at ∷ []) later counted opened_tally unsettled more_room
+    (seq + 1) settled n first
+book-push index later tally counted settled_tally opened_tally entries unsettled room more_room next settled n seq first
+    name
     id body at h l unknown updated again same opened stays enough =
     book-append index later tally counted settled_tally opened_tally entries (e ∷ []) unsettled room more_room next
     settled n seq first h l (record { numbers = numbers; fresh = ((refl, refl, refl), tt) })
@@ -203,24 +218,36 @@ book-push index later tally counted settled_tally opened_tally entries unsettled
     numbers (suc k) d lt = absurd (omega (arith, lt))
 
 -- the same keys and counts, with as much room or more
-pub book-same : (index kept : BTreeMap EventKey ℕ) (tally counted settled_tally opened_tally : Tally) (entries : List Entry) (unsettled : List Unsettled) (room more_room next settled n : ℕ) (first : Option ℕ)
-    → IsBook entries index tally settled_tally unsettled room next settled n first → ((k : EventKey) → get event_cmp kept k ≡ get event_cmp index k) → ((those : Option (List ℕ)) → counts_for counted those ≡ counts_for tally those)
-    → ((those : Option (List ℕ)) → counts_for opened_tally those ≡ counts_for settled_tally those) → ((asked : List ℕ) → has_room settled_tally asked ≡ true → has_room opened_tally asked ≡ true)
+pub book-same : (index kept : BTreeMap EventKey ℕ) (tally counted settled_tally opened_tally : Tally)
+    (entries : List Entry) (unsettled : List Unsettled) (room more_room next settled n : ℕ) (first : Option ℕ)
+    → IsBook entries index tally settled_tally unsettled room next settled n first
+    → ((k : EventKey) → get event_cmp kept k ≡ get event_cmp index k)
+    → ((those : Option (List ℕ)) → counts_for counted those ≡ counts_for tally those)
+    → ((those : Option (List ℕ)) → counts_for opened_tally those ≡ counts_for settled_tally those)
+    → ((asked : List ℕ) → has_room settled_tally asked ≡ true → has_room opened_tally asked ≡ true)
     → room ≤ more_room → IsBook entries kept counted opened_tally unsettled more_room next settled n first
-book-same index kept tally counted settled_tally opened_tally entries unsettled room more_room next settled n first h keys alike same stays enough = record {
-  keyed = record {
-    ascending = h.keyed.ascending;
-    numbered = h.keyed.numbered;
-    settled_next = h.keyed.settled_next;
-    indexed = λ k. keys k ∙ h.keyed.indexed k;
-    settled_within = h.keyed.settled_within;
-    settled_below = h.keyed.settled_below;
-    settled_above = h.keyed.settled_above;
-  };
-  latest = λ those asked. ap (in_state asked) (alike those) ∙ h.latest those asked;
-  settled = λ those asked. ap (in_state asked) (same those) ∙ h.settled those asked;
-  opened = all_weaker (λ e. has_room settled_tally e.name) (λ e. has_room opened_tally e.name) entries (λ e is. stays e.name is) h.opened;
-  queue = record { later = h.queue.later; counted = h.queue.counted; caught_up = h.queue.caught_up; room = omega (arith, h.queue.room, enough) };
-  order = h.order;
-  marks = h.marks;
-}
+book-same index kept tally counted settled_tally opened_tally entries unsettled room more_room next settled n first h
+    keys alike same stays enough = record {
+      keyed = record {
+        ascending = h.keyed.ascending;
+        numbered = h.keyed.numbered;
+        settled_next = h.keyed.settled_next;
+        indexed = λ k. keys k ∙ h.keyed.indexed k;
+        settled_within = h.keyed.settled_within;
+        settled_below = h.keyed.settled_below;
+        settled_above = h.keyed.settled_above;
+      };
+      latest = λ those asked. ap (in_state asked) (alike those) ∙ h.latest those asked;
+      settled = λ those asked. ap (in_state asked) (same those) ∙ h.settled those asked;
+      opened = all_weaker (λ e. has_room settled_tally e.name) (λ e. has_room opened_tally e.name) entries
+          (λ e is. stays e.name is) h.opened;
+      queue = record {
+        later = h.queue.later;
+        counted = h.queue.counted;
+        caught_up = h.queue.caught_up;
+        room = omega
+            (arith, h.queue.room, enough);
+      };
+      order = h.order;
+      marks = h.marks;
+    }

@@ -1,5 +1,6 @@
 -- Facts about lists of entries in the order of their numbers.
-use Rattle.std.proofs.Common.{◌≡◌, ◌≢◌, ℕ, zero, suc, ◌+◌, ◌-◌, ◌<◌, ◌≤◌, Bool, true, false, List, [], ◌∷◌, Option, Some, None, length, take, drop, get_or, refl, sym, ◌∙◌, ap, ltb, eqb, arith, cond, ⊎_elim}
+use Rattle.std.proofs.Common.{◌≡◌, ◌≢◌, ℕ, zero, suc, ◌+◌, ◌-◌, ◌<◌, ◌≤◌, Bool, true, false, List, [], ◌∷◌, Option}
+use Rattle.std.proofs.Common.{Some, None, length, take, drop, get_or, refl, sym, ◌∙◌, ap, ltb, eqb, arith, cond, ⊎_elim}
 use Rattle.std.specs.Prelude.{◌&&◌, filter, find, count_by, is_some, option_map}
 use Rattle.std.specs.Option.{option_and_then}
 use Rattle.std.specs.List.{list_all}
@@ -20,45 +21,56 @@ abbrev pub is_below : ℕ → Entry → Bool
 is_below seq entry = ltb entry.seq seq
 
 -- the first n are the filter, where they pass and the others don't
-pub take-filter : {X : Type 0} (p : X → Bool) (xs : List X) (n : ℕ) → n ≤ length xs → ((k : ℕ) (d : X) → k < n → p (get_or xs k d) ≡ true)
+pub take-filter : {X : Type 0} (p : X → Bool) (xs : List X) (n : ℕ) → n ≤ length xs
+    → ((k : ℕ) (d : X) → k < n → p (get_or xs k d) ≡ true)
     → ((k : ℕ) (d : X) → n ≤ k → k < length xs → p (get_or xs k d) ≡ false) → take n xs ≡ filter p xs
 take-filter p [] zero h in_it out = refl
 take-filter p [] (suc n) h in_it out = absurd (omega (arith, h))
 take-filter p (x ∷ xs) zero h in_it out =
-    take-filter p xs zero (omega arith) (λ k d l. absurd (omega (arith, l))) (λ k d l m. out (suc k) d (omega arith) (omega (arith, m)))
+    take-filter p xs zero (omega arith) (λ k d l. absurd (omega (arith, l)))
+    (λ k d l m. out (suc k) d (omega arith) (omega (arith, m)))
     ∙ sym (cond-false (p x) (x ∷ filter p xs) (filter p xs) (out 0 x (omega arith) (omega arith)))
 take-filter p (x ∷ xs) (suc n) h in_it out =
-    ap (λ ys. x ∷ ys) (take-filter p xs n (omega (arith, h)) (λ k d l. in_it (suc k) d (omega (arith, l))) (λ k d l m. out (suc k) d (omega (arith, l)) (omega (arith, m))))
+    ap (λ ys. x ∷ ys) (take-filter p xs n (omega (arith, h)) (λ k d l. in_it (suc k) d (omega (arith, l)))
+    (λ k d l m. out (suc k) d (omega (arith, l)) (omega (arith, m))))
     ∙ sym (cond-true (p x) (x ∷ filter p xs) (filter p xs) (in_it 0 x (omega arith)))
 
 -- the first n are those below a number, where they stand below it and the others don't
-pub first_below : (entries : List Entry) (seq n : ℕ) → n ≤ length entries → ((k : ℕ) (d : Entry) → k < n → (get_or entries k d).seq < seq)
-    → ((k : ℕ) (d : Entry) → n ≤ k → k < length entries → seq ≤ (get_or entries k d).seq) → take n entries ≡ filter (is_below seq) entries
+pub first_below : (entries : List Entry) (seq n : ℕ) → n ≤ length entries
+    → ((k : ℕ) (d : Entry) → k < n → (get_or entries k d).seq < seq)
+    → ((k : ℕ) (d : Entry) → n ≤ k → k < length entries → seq ≤ (get_or entries k d).seq)
+    → take n entries ≡ filter (is_below seq) entries
 first_below entries seq n h below above =
-    take-filter (is_below seq) entries n h (λ k d l. lt-ltb (get_or entries k d).seq seq (below k d l)) (λ k d l m. le-ltb (get_or entries k d).seq seq (above k d l m))
+    take-filter (is_below seq) entries n h (λ k d l. lt-ltb (get_or entries k d).seq seq (below k d l))
+    (λ k d l m. le-ltb (get_or entries k d).seq seq (above k d l m))
 
 -- a list in ascending order is parted by a seq
 pub parted : (entries : List Entry) (seq : ℕ) → IsAscending entries → IsPartitionedBy (λ e. ltb e.seq seq) entries
 parted entries seq up = grind (arith, IsPartitionedBy-ltb)
 
 -- the entry at a seq, where the n entries before it stand below that seq
-pub entry_at-found : (entries : List Entry) (seq n : ℕ) (d : Entry) → n < length entries → ((k : ℕ) (e : Entry) → k < n → (get_or entries k e).seq < seq)
+pub entry_at-found : (entries : List Entry) (seq n : ℕ) (d : Entry) → n < length entries
+    → ((k : ℕ) (e : Entry) → k < n → (get_or entries k e).seq < seq)
     → (get_or entries n d).seq ≡ seq → entry_at entries seq ≡ Some (get_or entries n d)
 entry_at-found entries seq n d l below e = grind (arith, find_at, position_or_len_is, slice_get-get_or)
 
-pub entry_at-none : (entries : List Entry) (seq : ℕ) → ((k : ℕ) (d : Entry) → k < length entries → (get_or entries k d).seq ≢ seq) → entry_at entries seq ≡ None
+pub entry_at-none : (entries : List Entry) (seq : ℕ)
+    → ((k : ℕ) (d : Entry) → k < length entries → (get_or entries k d).seq ≢ seq) → entry_at entries seq ≡ None
 entry_at-none [] seq apart = refl
 entry_at-none (x ∷ xs) seq apart =
     ap (λ b. cond b (Some x) (entry_at xs seq)) (ne_eqb x.seq seq (apart 0 x (omega arith)))
     ∙ entry_at-none xs seq (λ k d h. apart (suc k) d (omega (arith, h)))
 
 -- no entry has a seq that only an entry from n on, which stands above it, or below n could have
-pub apart : (entries : List Entry) (seq n : ℕ) → ((k : ℕ) (e : Entry) → k < n → (get_or entries k e).seq < seq) → ((k : ℕ) (e : Entry) → n ≤ k → k < length entries → seq ≤ (get_or entries k e).seq)
-    → IsAscending entries → ((d : Entry) → n < length entries → (get_or entries n d).seq ≢ seq) → (k : ℕ) (d : Entry) → k < length entries → (get_or entries k d).seq ≢ seq
+pub apart : (entries : List Entry) (seq n : ℕ) → ((k : ℕ) (e : Entry) → k < n → (get_or entries k e).seq < seq)
+    → ((k : ℕ) (e : Entry) → n ≤ k → k < length entries → seq ≤ (get_or entries k e).seq)
+    → IsAscending entries → ((d : Entry) → n < length entries → (get_or entries n d).seq ≢ seq) → (k : ℕ) (d : Entry)
+    → k < length entries → (get_or entries k d).seq ≢ seq
 apart entries seq n below above up other k d h same = grind arith
 
 -- the entries between two places of the list are counted once
-pub count-slice : {X : Type 0} (p : X → Bool) (xs : List X) (n m : ℕ) → n ≤ m → count_by p (take n xs) + count_by p (take (m - n) (drop n xs)) ≡ count_by p (take m xs)
+pub count-slice : {X : Type 0} (p : X → Bool) (xs : List X) (n m : ℕ) → n ≤ m
+    → count_by p (take n xs) + count_by p (take (m - n) (drop n xs)) ≡ count_by p (take m xs)
 count-slice p xs n m h = grind (arith, take-add n (m - n) xs, sum_by-append)
 
 -- within a list a read has one value
@@ -68,26 +80,34 @@ get_or-any (x ∷ xs) zero d e h = refl
 get_or-any (x ∷ xs) (suc i) d e h = get_or-any xs i d e (omega (arith, h))
 
 -- an entry that is there stands behind just those below its number
-pub found_at : (entries : List Entry) (seq n : ℕ) → IsAscending entries → is_some (entry_at entries seq) ≡ true → n ≤ length entries → ((k : ℕ) (e : Entry) → k < n → (get_or entries k e).seq < seq)
-    → ((k : ℕ) (e : Entry) → n ≤ k → k < length entries → seq ≤ (get_or entries k e).seq) → (n < length entries) × ((d : Entry) → (entry_at entries seq ≡ Some (get_or entries n d)) × ((get_or entries n d).seq ≡ seq))
-found_at entries seq n up there within below above = (inside, λ d. (entry_at-found entries seq n d inside below (same d), same d))
+pub found_at : (entries : List Entry) (seq n : ℕ) → IsAscending entries → is_some (entry_at entries seq) ≡ true
+    → n ≤ length entries → ((k : ℕ) (e : Entry) → k < n → (get_or entries k e).seq < seq)
+    → ((k : ℕ) (e : Entry) → n ≤ k → k < length entries → seq ≤ (get_or entries k e).seq) → (n < length entries)
+    × ((d : Entry) → (entry_at entries seq ≡ Some (get_or entries n d)) × ((get_or entries n d).seq ≡ seq))
+found_at entries seq n up there within below above =
+    (inside, λ d. (entry_at-found entries seq n d inside below (same d), same d))
   where
     missed : ((d : Entry) → n < length entries → (get_or entries n d).seq ≢ seq) → ⊥
-    missed other = let none = entry_at-none entries seq (apart entries seq n below above up other) in let some = there in not_some (entry_at entries seq) none some
+    missed other = let none = entry_at-none entries seq (apart entries seq n below above up other) in let some = there
+        in not_some (entry_at entries seq) none some
       where
         not_some : (o : Option Entry) → o ≡ None → is_some o ≡ true → ⊥
         not_some None e h = absurd (let g = h in cc)
         not_some (Some x) e h = absurd (let g = e in cc)
 
     inside : n < length entries
-    inside = ⊎_elim (λ lt. lt) (λ ge. absurd (missed (λ d lt same. omega (arith, lt, ge)))) (cases_lt n (length entries))
+    inside = ⊎_elim (λ lt. lt) (λ ge. absurd (missed (λ d lt same. omega (arith, lt, ge))))
+        (cases_lt n (length entries))
 
     same : (d : Entry) → (get_or entries n d).seq ≡ seq
-    same d = ⊎_elim (λ e. e) (λ ne. absurd (missed (λ x lt is. ne (ap (λ (y : Entry). y.seq) (get_or-any entries n d x lt) ∙ is)))) (cases_eq (get_or entries n d).seq seq)
+    same d = ⊎_elim (λ e. e)
+        (λ ne. absurd (missed (λ x lt is. ne (ap (λ (y : Entry). y.seq) (get_or-any entries n d x lt) ∙ is))))
+        (cases_eq (get_or entries n d).seq seq)
 
 -- No two entries have one number.
 
-none_later : (entries : List Entry) (n : ℕ) → ((k : ℕ) (d : Entry) → k < length entries → n < (get_or entries k d).seq) → count_by (λ e. eqb e.seq n) entries ≡ 0
+none_later : (entries : List Entry) (n : ℕ) → ((k : ℕ) (d : Entry) → k < length entries → n < (get_or entries k d).seq)
+    → count_by (λ e. eqb e.seq n) entries ≡ 0
 none_later [] n later = refl
 none_later (x ∷ xs) n later =
     omega (
@@ -116,14 +136,16 @@ one_each (x ∷ xs) up n =
     (cases_eq x.seq n)
 
 -- an entry that is found passes what all pass
-pub found_passes : (p : Entry → Bool) (entries : List Entry) (seq : ℕ) (e : Entry) → list_all p entries ≡ true → entry_at entries seq ≡ Some e → p e ≡ true
+pub found_passes : (p : Entry → Bool) (entries : List Entry) (seq : ℕ) (e : Entry) → list_all p entries ≡ true
+    → entry_at entries seq ≡ Some e → p e ≡ true
 found_passes p [] seq e all h = cc
 found_passes p (x ∷ xs) seq e all h = step (eqb x.seq seq) h (found_passes p xs seq e (and_second (p x) _ all))
   where
     one : (a b : Entry) → Some a ≡ Some b → a ≡ b
     one a b q = cc
 
-    step : (b : Bool) → cond b (Some x) (entry_at xs seq) ≡ Some e → (entry_at xs seq ≡ Some e → p e ≡ true) → p e ≡ true
+    step : (b : Bool) → cond b (Some x) (entry_at xs seq) ≡ Some e → (entry_at xs seq ≡ Some e → p e ≡ true)
+        → p e ≡ true
     step true q later = ap p (sym (one x e q)) ∙ and_first (p x) _ all
     step false q later = later q
 

@@ -17,7 +17,8 @@ pub in_step : (entries : List Entry) (unsettled : List Unsettled) (next settled 
     → list_all (is_later entries) unsettled ≡ true → list_all (is_rightly_taken next) entries ≡ true
     → IsInStep (record { entries = entries; unsettled = unsettled; next_seq = next; settled_seq = settled })
 in_step entries unsettled next settled numbered caught_up later taken = record {
-  numbered = all_weaker (is_numbered next) (λ e. nat_lt e.seq next) entries (λ e is. and_first (nat_lt e.seq next) _ is) numbered;
+  numbered = all_weaker (is_numbered next) (λ e. nat_lt e.seq next) entries (λ e is. and_first (nat_lt e.seq next) _ is)
+      numbered;
   caught_up = caught_up;
   left = all_weaker (is_later entries) (is_of_left entries) unsettled
       (λ o is. and_first (is_of_left entries o) (nat_lt o.delivery o.seq) is) later;

@@ -1,7 +1,9 @@
 -- The keys of the index, as events are added and removed.
-use Rattle.std.proofs.Common.{◌≡◌, ◌&&◌, ℕ, suc, ◌+◌, ◌<◌, Bool, true, false, not, List, [], ◌∷◌, ◌++◌, Option, Some, None}
+use Rattle.std.proofs.Common.{◌≡◌, ◌&&◌, ℕ, suc, ◌+◌, ◌<◌, Bool, true, false, not, List, [], ◌∷◌, ◌++◌, Option, Some}
+use Rattle.std.proofs.Common.{None}
 use Rattle.std.proofs.Common.{length, map, take, get_or, refl, sym, ◌∙◌, ap, subst, arith, cond, true≢false}
-use Rattle.std.specs.Prelude.{◌||◌, All, AllPairs, OnErr, OnOk, Result, Ok, Err, is_err, is_some, filter, find, option_map, bytes_eq}
+use Rattle.std.specs.Prelude.{◌||◌, All, AllPairs, OnErr, OnOk, Result, Ok, Err, is_err, is_some, filter, find}
+use Rattle.std.specs.Prelude.{option_map, bytes_eq}
 use Rattle.std.specs.List.{AllByRecursion, list_any}
 use Rattle.std.specs.Option.{option_or}
 use Rattle.std.specs.Cmp.{first_so, second_so}
@@ -19,7 +21,8 @@ use Rattle.relay_types.proofs.RowLaws.{find_map}
 use Rattle.delivery_book.specs.declared.entry.Entry.{Entry}
 use Rattle.delivery_book.specs.declared.keys.EventKey.{EventKey}
 use Rattle.delivery_book.specs.Entries.{is_done_before, is_entry_as, is_kept, marked}
-use Rattle.delivery_book.specs.Fields.{AreApart, AreNew, HasLessKeys, HasMoreKeys, HasSameKeys, IsIndex, event_cmp, is_known_as, key_of}
+use Rattle.delivery_book.specs.Fields.{AreApart, AreNew, HasLessKeys, HasMoreKeys, HasSameKeys, IsIndex, event_cmp}
+use Rattle.delivery_book.specs.Fields.{is_known_as, key_of}
 use Rattle.delivery_book.proofs.Updates.{IsFresh}
 use Rattle.delivery_book.proofs.Marks.{kept_left, marked_keeps, marked_way}
 
@@ -197,7 +200,8 @@ indexed-append index later entries events h fresh more q =
     all_kept : (some : List Entry) → AllByRecursion IsFresh some
         → find (is_entry_as q.name q.id) some ≡ find (is_known_as q) some
     all_kept [] all = refl
-    all_kept (e ∷ es) all = λ t. cond (kept (is_entry_as q.name q.id e) e.taken_by all.0.2 t) (Some e) (all_kept es all.1 t)
+    all_kept (e ∷ es) all = λ t. cond (kept (is_entry_as q.name q.id e) e.taken_by all.0.2 t) (Some e)
+        (all_kept es all.1 t)
 
 -- The index after a Purge
 
@@ -232,7 +236,8 @@ module _ (seq moment : ℕ) (q : EventKey) where
       false_from_ne_true (is_known_as q b) (λ also.
       let key = same_key b q (and_first (is_entry_as q.name q.id b) _ also) in
       let same = (λ t. is_entry_as (key t).name (key t).id a) ∙ and_first (is_entry_as q.name q.id a) _ known in
-      true≢false (sym (apart i j d lt l same) ∙ ap not (kept_left b.seq a (and_second (is_entry_as q.name q.id a) _ known))))
+      true≢false (sym (apart i j d lt l same)
+      ∙ ap not (kept_left b.seq a (and_second (is_entry_as q.name q.id a) _ known))))
     where
       a : Entry
       a = get_or entries i d

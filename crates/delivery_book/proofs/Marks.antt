@@ -1,6 +1,8 @@
 -- What stays of the marks of Purges, and of the order of the outcomes that wait, as the book changes.
-use Rattle.std.proofs.Common.{◌≡◌, ℕ, zero, suc, ◌+◌, ◌-◌, ◌<◌, ◌≤◌, ◌&&◌, Bool, true, false, not, List, [], ◌∷◌, ◌++◌, Option, Some, None}
-use Rattle.std.proofs.Common.{length, map, take, drop, set, get_or, append-nil, refl, sym, ◌∙◌, ap, subst, arith, eqb, leb, ltb, cond, true≢false}
+use Rattle.std.proofs.Common.{◌≡◌, ℕ, zero, suc, ◌+◌, ◌-◌, ◌<◌, ◌≤◌, ◌&&◌, Bool, true, false, not, List, [], ◌∷◌, ◌++◌}
+use Rattle.std.proofs.Common.{Option, Some, None}
+use Rattle.std.proofs.Common.{length, map, take, drop, set, get_or, append-nil, refl, sym, ◌∙◌, ap, subst, arith, eqb}
+use Rattle.std.proofs.Common.{leb, ltb, cond, true≢false}
 use Rattle.std.proofs.Common.{⊎_elim, length-append}
 use Rattle.std.specs.Prelude.{find, is_some, option_map, bytes_eq}
 use Rattle.std.specs.List.{AllByRecursion, AllPairs, list_all}
@@ -16,7 +18,8 @@ use Rattle.relay_types.proofs.RowLaws.{find_map}
 use Rattle.delivery_book.specs.declared.entry.Entry.{Entry}
 use Rattle.delivery_book.specs.declared.entry.Unsettled.{Unsettled}
 use Rattle.delivery_book.specs.Entries.{entry_at, is_done_before, is_entry_as, is_kept, is_left, marked, state_in}
-use Rattle.delivery_book.specs.Fields.{AreApart, AreFirst, AreInOrder, AreMarked, is_later, is_not_before, is_rightly_taken}
+use Rattle.delivery_book.specs.Fields.{AreApart, AreFirst, AreInOrder, AreMarked, is_later, is_not_before}
+use Rattle.delivery_book.specs.Fields.{is_rightly_taken}
 use Rattle.delivery_book.specs.Fields.{is_taken_below}
 use Rattle.delivery_book.proofs.Updates.{KeepsKeys, all_at, all_weaker}
 
@@ -56,8 +59,12 @@ pub taken_means : (next p : ℕ) (e : Entry) → is_rightly_taken next e ≡ tru
 taken_means next p e is by =
     let all : ltb e.seq p && (ltb p next && not (is_in_state Pending (state_in e.latest))) ≡ true =
     sym (ap (is_right e.seq next (is_in_state Pending (state_in e.latest))) by) ∙ is in
-    let rest = and_second (ltb e.seq p) _ all in
-    (ltb-true e.seq p (and_first _ _ all), ltb-true p next (and_first (ltb p next) _ rest), and_second (ltb p next) _ rest)
+    let rest = and_second (ltb e.seq p) _ all in (
+      ltb-true e.seq p (and_first _ _ all),
+      ltb-true p next (and_first (ltb p next) _ rest),
+      and_second
+          (ltb p next) _ rest,
+    )
 
 right_later : (seq next later : ℕ) (is_pending : Bool) (taken : Option ℕ) → next ≤ later
     → is_right seq next is_pending taken ≡ true → is_right seq later is_pending taken ≡ true
@@ -76,7 +83,8 @@ taken_later next later e h is =
 pub kept_right : (next : ℕ) (e : Entry) → is_kept e ≡ true → is_rightly_taken next e ≡ true
 kept_right next e is = pick e.taken_by is
   where
-    pick : (o : Option ℕ) → not (is_some o) ≡ true → is_right e.seq next (is_in_state Pending (state_in e.latest)) o ≡ true
+    pick : (o : Option ℕ) → not (is_some o) ≡ true → is_right e.seq next (is_in_state Pending (state_in e.latest)) o
+        ≡ true
     pick None kept = refl
     pick (Some p) kept = absurd (true≢false (sym kept))
 
@@ -97,7 +105,8 @@ gone_below : (next seq : ℕ) (e : Entry) → is_kept e ≡ false → is_rightly
     → is_taken_below seq e ≡ true
 gone_below next seq e gone is h = pick e.taken_by gone is
   where
-    pick : (o : Option ℕ) → not (is_some o) ≡ false → is_right e.seq next (is_in_state Pending (state_in e.latest)) o ≡ true
+    pick : (o : Option ℕ) → not (is_some o) ≡ false → is_right e.seq next (is_in_state Pending (state_in e.latest)) o
+        ≡ true
         → not (option_map_or (leb seq) o true) ≡ true
     pick None none right = absurd (true≢false none)
     pick (Some p) none right =
@@ -145,7 +154,8 @@ apart-map g entries keeps taken h i j d lt l same =
     let a = get_or entries i d in
     let b = get_or entries j d in
     let was : is_entry_as b.name b.id a ≡ true =
-    sym (λ t. bytes_eq ((ap (λ (x : Entry). x.name) first ∙ (keeps a).1) t) ((ap (λ (x : Entry). x.name) second ∙ (keeps b).1) t)
+    sym (λ t. bytes_eq ((ap (λ (x : Entry). x.name) first ∙ (keeps a).1) t)
+    ((ap (λ (x : Entry). x.name) second ∙ (keeps b).1) t)
     && bytes_eq ((ap (λ (x : Entry). x.id) first ∙ (keeps a).2) t) ((ap (λ (x : Entry). x.id) second ∙ (keeps b).2) t))
     ∙ same in
     (λ t. is_taken_below ((ap (λ (x : Entry). x.seq) second ∙ (keeps b).0) t) (first t))
@@ -161,13 +171,15 @@ apart-append entries events h between new i j d lt l =
     (λ near.
     let first = get_or_append_left entries events d i (omega (arith, lt, near)) in
     let second = get_or_append_left entries events d j near in
-    at (get_or (entries ++ events) i d) (get_or entries i d) (get_or (entries ++ events) j d) (get_or entries j d) first second
+    at (get_or (entries ++ events) i d) (get_or entries i d) (get_or (entries ++ events) j d) (get_or entries j d) first
+    second
     (h i j d lt near))
     (λ far. ⊎_elim
     (λ near.
     let first = get_or_append_left entries events d i near in
     let second = get_or-append_right entries events (length entries) j d refl far in
-    at (get_or (entries ++ events) i d) (get_or entries i d) (get_or (entries ++ events) j d) (get_or events (j - length entries) d)
+    at (get_or (entries ++ events) i d) (get_or entries i d) (get_or (entries ++ events) j d)
+    (get_or events (j - length entries) d)
     first second (between i (j - length entries) d near (omega (arith, far, l, length-append entries events))))
     (λ beyond.
     let first = get_or-append_right entries events (length entries) i d refl beyond in
@@ -257,7 +269,8 @@ marks-append entries events first next later h up fresh apart = record {
       (λ e is. taken_later next later e up is) h.taken)
       (each (is_rightly_taken later) events (λ e none. kept_right later e (fresh_kept e none)) fresh);
   first = list_all-append (is_not_before first) entries events
-      ∙ and_both _ _ h.first (each (is_not_before first) events (λ e none. kept_not_before first e (fresh_kept e none)) fresh);
+      ∙ and_both _ _ h.first (each (is_not_before first) events (λ e none. kept_not_before first e (fresh_kept e none))
+      fresh);
 }
   where
     each : (p : Entry → Bool) (some : List Entry) → ((e : Entry) → e.taken_by ≡ None → p e ≡ true)
@@ -265,11 +278,13 @@ marks-append entries events first next later h up fresh apart = record {
     each p [] passes none = refl
     each p (e ∷ es) passes none = and_both _ _ (passes e none.0) (each p es passes none.1)
 
-pub marks-later : (entries : List Entry) (first : Option ℕ) (next later : ℕ) → AreMarked entries first next → next ≤ later
+pub marks-later : (entries : List Entry) (first : Option ℕ) (next later : ℕ) → AreMarked entries first next
+    → next ≤ later
     → AreMarked entries first later
 marks-later entries first next later h up = record {
   apart = h.apart;
-  taken = all_weaker (is_rightly_taken next) (is_rightly_taken later) entries (λ e is. taken_later next later e up is) h.taken;
+  taken = all_weaker (is_rightly_taken next) (is_rightly_taken later) entries (λ e is. taken_later next later e up is)
+      h.taken;
   first = h.first;
 }
 
@@ -297,7 +312,8 @@ pub marked_way : (P : Entry → Type 0) (seq moment : ℕ) (e : Entry)
     → ((is_kept e && is_done_before moment e.latest) ≡ false → P e) → P (marked seq moment e)
 marked_way P seq moment e taken other = pick (is_kept e && is_done_before moment e.latest) refl
   where
-    pick : (b : Bool) → is_kept e && is_done_before moment e.latest ≡ b → P (cond b (record e { taken_by = Some seq }) e)
+    pick : (b : Bool) → is_kept e && is_done_before moment e.latest ≡ b
+        → P (cond b (record e { taken_by = Some seq }) e)
     pick true is = taken (and_first (is_kept e) _ is) (and_second (is_kept e) _ is)
     pick false is = other is
 
@@ -320,7 +336,8 @@ marked_right : (seq moment next : ℕ) (e : Entry) → next ≤ seq → e.seq < 
 marked_right seq moment next e h l is =
     marked_way (λ x. is_rightly_taken (seq + 1) x ≡ true) seq moment e
     (λ kept done. and_both _ _ (lt-ltb e.seq seq (omega (arith, h, l)))
-    (and_both _ _ (lt-ltb seq (seq + 1) (omega arith)) (and_first (not (is_in_state Pending (state_in e.latest))) _ done)))
+    (and_both _ _ (lt-ltb seq (seq + 1) (omega arith))
+    (and_first (not (is_in_state Pending (state_in e.latest))) _ done)))
     (λ other. taken_later next (seq + 1) e (omega (arith, h)) is)
 
 pub marks-purge : (entries : List Entry) (first later : Option ℕ) (seq moment next : ℕ) → AreMarked entries first next

@@ -1,6 +1,8 @@
 -- What ties the index, the counts and the room to the entries stays so when the book gives up what Purges took.
-use Rattle.std.proofs.Common.{◌≡◌, ◌&&◌, ℕ, zero, suc, ◌+◌, ◌<◌, ◌≤◌, Bool, true, false, not, List, [], ◌∷◌, ◌++◌, Option, Some, None}
-use Rattle.std.proofs.Common.{length, take, get_or, append-nil, refl, sym, ◌∙◌, ap, ltb, leb, eqb, cond, arith, true≢false}
+use Rattle.std.proofs.Common.{◌≡◌, ◌&&◌, ℕ, zero, suc, ◌+◌, ◌<◌, ◌≤◌, Bool, true, false, not, List, [], ◌∷◌, ◌++◌}
+use Rattle.std.proofs.Common.{Option, Some, None}
+use Rattle.std.proofs.Common.{length, take, get_or, append-nil, refl, sym, ◌∙◌, ap, ltb, leb, eqb, cond, arith}
+use Rattle.std.proofs.Common.{true≢false}
 use Rattle.std.specs.Prelude.{count_by, filter, find, option_map}
 use Rattle.std.specs.List.{AllByRecursion, list_all, list_any}
 use Rattle.std.specs.Option.{option_map_or}
@@ -10,7 +12,8 @@ use Rattle.std.proofs.lemmas.List.Elements.{All-from_recursion, filter_more}
 use Rattle.std.proofs.lemmas.List.Filters.{sum_by-filter_both}
 use Rattle.std.proofs.lemmas.List.Folds.{list_any_none}
 use Rattle.std.proofs.lemmas.List.Kept.{AllPairs-filter}
-use Rattle.std.proofs.lemmas.List.Sums.{count_by-le-length, length-filter, list_all-from_AllPass, sum_by-cons, sum_by_push}
+use Rattle.std.proofs.lemmas.List.Sums.{count_by-le-length, length-filter, list_all-from_AllPass, sum_by-cons}
+use Rattle.std.proofs.lemmas.List.Sums.{sum_by_push}
 use Rattle.relay_types.specs.declared.state.State.{State}
 use Rattle.relay_types.specs.Deliveries.{is_in_state}
 use Rattle.relay_types.proofs.KnownLaws.{and_first, and_second, and_both}
@@ -19,7 +22,8 @@ use Rattle.delivery_book.specs.declared.entry.Unsettled.{Unsettled}
 use Rattle.delivery_book.specs.declared.keys.EventKey.{EventKey}
 use Rattle.delivery_book.specs.declared.tally.Tally.{Tally}
 use Rattle.delivery_book.specs.Entries.{IsCaughtUp, entry_at, is_entry_as, is_kept, is_left, rest_from, state_in}
-use Rattle.delivery_book.specs.Fields.{AreFirst, AreInOrder, FirstBelow, HasCounted, HasMore, IsBook, KeepsRoom, RestFrom}
+use Rattle.delivery_book.specs.Fields.{AreFirst, AreInOrder, FirstBelow, HasCounted, HasMore, IsBook, KeepsRoom}
+use Rattle.delivery_book.specs.Fields.{RestFrom}
 use Rattle.delivery_book.specs.Fields.{counts_for, has_room, in_state, is_among, is_counted, is_known_as, is_later}
 use Rattle.delivery_book.specs.Fields.{is_numbered, is_rightly_taken, is_taken_below, is_waiting, one_of, settled_among}
 use Rattle.delivery_book.proofs.Entries.{entry_at-found, first_below, get_or-any, is_below}
@@ -39,7 +43,8 @@ module _ {X : Type 0} where
       pick false later = later
 
   -- what is found first and kept is found first in what is kept
-  pub find_kept : (p b : X → Bool) (xs : List X) (x : X) → find p xs ≡ Some x → b x ≡ true → find p (filter b xs) ≡ Some x
+  pub find_kept : (p b : X → Bool) (xs : List X) (x : X) → find p xs ≡ Some x → b x ≡ true
+      → find p (filter b xs) ≡ Some x
   find_kept p b [] x found kept = absurd (let f = found in cc)
   find_kept p b (y ∷ ys) x found kept = find-filter p b (y ∷ ys) ∙ pick (p y) (b y) refl found (find_kept p b ys x)
     where
@@ -88,8 +93,10 @@ module _ {X : Type 0} where
     where
       pick : (a c : Bool) → p x ≡ c → (p x ≡ true → a ≡ true) → filter p (filter q xs) ≡ filter p xs
           → filter p (cond a (x ∷ filter q xs) (filter q xs)) ≡ cond c (x ∷ filter p xs) (filter p xs)
-      pick true true is passes later = ap (λ e. cond e (x ∷ filter p (filter q xs)) (filter p (filter q xs))) is ∙ ap (λ ys. x ∷ ys) later
-      pick true false is passes later = ap (λ e. cond e (x ∷ filter p (filter q xs)) (filter p (filter q xs))) is ∙ later
+      pick true true is passes later = ap (λ e. cond e (x ∷ filter p (filter q xs)) (filter p (filter q xs))) is ∙ ap
+          (λ ys. x ∷ ys) later
+      pick true false is passes later = ap (λ e. cond e (x ∷ filter p (filter q xs)) (filter p (filter q xs)))
+          is ∙ later
       pick false true is passes later = absurd (true≢false (sym (passes is)))
       pick false false is passes later = later
 
@@ -160,10 +167,12 @@ module _ {X : Type 0} where
 module _ (entries : List Entry) (seq i : ℕ) (e : Entry) (h : i < length entries) (is : e ≡ get_or entries i e) where
   one_more : is_taken_below seq e ≡ true → (those : Option (List ℕ)) (asked : State)
       → settled_among (filter (is_taken_below seq) (take (i + 1) entries)) those asked
-      ≡ settled_among (filter (is_taken_below seq) (take i entries)) those asked + one_of e.name (state_in e.settled) those asked
+      ≡ settled_among (filter (is_taken_below seq) (take i entries)) those asked + one_of e.name (state_in e.settled)
+      those asked
   one_more passed those asked =
       ap (λ es. settled_among es those asked) (filter_yes (is_taken_below seq) entries i e h is passed)
-      ∙ sum_by_push (λ x. cond (is_counted (λ y. y.settled) those asked x) 1 0) (filter (is_taken_below seq) (take i entries)) e
+      ∙ sum_by_push (λ x. cond (is_counted (λ y. y.settled) those asked x) 1 0)
+      (filter (is_taken_below seq) (take i entries)) e
 
   pub gone_more : (old now later : Tally) → is_taken_below seq e ≡ true
       → HasMore now (settled_among (filter (is_taken_below seq) (take i entries))) old
@@ -268,12 +277,14 @@ module _ (entries : List Entry) (index : BTreeMap EventKey ℕ) (tally settled_t
       each-filter (λ e. e.latest ≡ e.settled) (is_taken_below settled) entries
       (λ k d l is. All-from_recursion (IsCaughtUp unsettled) entries h.queue.caught_up k d l (quiet k d l is))
 
-  alike : (those : Option (List ℕ)) (asked : State) (some : List Entry) → AllByRecursion (λ e. e.latest ≡ e.settled) some
+  alike : (those : Option (List ℕ)) (asked : State) (some : List Entry)
+      → AllByRecursion (λ e. e.latest ≡ e.settled) some
       → settled_among some those asked ≡ count_by (is_counted (λ e. e.latest) those asked) some
   alike those asked [] same = refl
   alike those asked (e ∷ es) same =
       sum_by-cons (λ x. cond (is_counted (λ y. y.settled) those asked x) 1 0) e es
-      ∙ (λ i. cond (is_among those e.name && is_in_state asked (state_in (sym same.0 i))) 1 0 + alike those asked es same.1 i)
+      ∙ (λ i. cond (is_among those e.name && is_in_state asked (state_in (sym same.0 i))) 1 0 + alike those asked es
+      same.1 i)
       ∙ sym (sum_by-cons (λ x. cond (is_counted (λ y. y.latest) those asked x) 1 0) e es)
 
   none_waits : (some : List Entry) → AllByRecursion (λ e. e.latest ≡ e.settled) some → count_by is_waiting some ≡ 0
@@ -294,7 +305,8 @@ module _ (entries : List Entry) (index : BTreeMap EventKey ℕ) (tally settled_t
       ∙ filter_inner (is_taken_below settled) (is_below settled) entries (λ k d l is.
       earlier (get_or entries k d) (all_at (is_rightly_taken next) entries k d l h.marks.taken) is)
     where
-      earlier : (e : Entry) → is_rightly_taken next e ≡ true → is_taken_below settled e ≡ true → is_below settled e ≡ true
+      earlier : (e : Entry) → is_rightly_taken next e ≡ true → is_taken_below settled e ≡ true
+          → is_below settled e ≡ true
       earlier e right is = pick e.taken_by refl is
         where
           pick : (o : Option ℕ) → e.taken_by ≡ o → not (option_map_or (leb settled) o true) ≡ true
@@ -327,63 +339,66 @@ module _ (entries : List Entry) (index : BTreeMap EventKey ℕ) (tally settled_t
       → KeepsRoom settled_tally settled_counted → room ≤ more_room → m ≤ length left
       → FirstBelow m settled left → RestFrom m settled left → AreFirst later left
       → IsBook left index counted settled_counted unsettled more_room next settled m later
-  book-swept counted settled_counted more_room m later fewer settled_fewer stays enough within under over firsts = record {
-    keyed = record {
-      ascending = AllPairs-filter (λ (a b : Entry). a.seq < b.seq) (is_left settled) entries h.keyed.ascending;
-      numbered = all-filter (is_numbered next) (is_left settled) entries h.keyed.numbered;
-      settled_next = h.keyed.settled_next;
-      indexed = λ k. h.keyed.indexed k
-          ∙ ap (option_map (λ (e : Entry). e.seq))
-          (sym (find-filter (is_known_as k) (is_left settled) entries ∙ ap (λ p. find p entries) (λ t e. known_left k e t)));
-      settled_within = within;
-      settled_below = under;
-      settled_above = over;
-    };
-    latest = λ those asked. omega (
-      arith,
-      fewer those asked,
-      alike those asked gone caught,
-      count_parts (is_counted (λ e. e.latest) those asked) (is_left settled) entries,
-      h.latest those asked,
-    );
-    settled = λ those asked. omega (
-      arith,
-      settled_fewer those asked,
-      ap (λ es. settled_among es those asked) gone_below,
-      ap (λ es. settled_among es those asked) left_below,
-      count_parts (is_counted (λ e. e.settled) those asked) (is_left settled) (take n entries),
-      h.settled those asked,
-    );
-    opened = all-filter (λ e. has_room settled_counted e.name) (is_left settled) entries
-        (all_weaker (λ e. has_room settled_tally e.name) (λ e. has_room settled_counted e.name) entries
-        (λ e is. stays e.name is) h.opened);
-    queue = record {
-      later = list_all-from_AllPass (is_later left) unsettled
-          (λ k d l. still_later (get_or unsettled k d) (waits k d l) (all_at (is_later entries) unsettled k d l h.queue.later));
-      counted = omega (
-        arith,
-        h.queue.counted,
-        none_waits gone caught,
-        count_parts is_waiting (is_left settled) entries,
-      );
-      caught_up = each-filter (IsCaughtUp unsettled) (is_left settled) entries
-          (λ k d l is. All-from_recursion (IsCaughtUp unsettled) entries h.queue.caught_up k d l);
-      room = omega (
-        arith,
-        h.queue.room,
-        enough,
-        length-filter (is_left settled) entries,
-        count_by-le-length (is_left settled) entries,
-      );
-    };
-    order = h.order;
-    marks = record {
-      apart = AllPairs-filter (λ (a b : Entry). is_entry_as b.name b.id a ≡ true → is_taken_below b.seq a ≡ true)
-          (is_left settled) entries h.marks.apart;
-      taken = all-filter (is_rightly_taken next) (is_left settled) entries h.marks.taken;
-      first = firsts;
-    };
-  }
+  book-swept counted settled_counted more_room m later fewer settled_fewer stays enough within under over firsts =
+      record {
+        keyed = record {
+          ascending = AllPairs-filter (λ (a b : Entry). a.seq < b.seq) (is_left settled) entries h.keyed.ascending;
+          numbered = all-filter (is_numbered next) (is_left settled) entries h.keyed.numbered;
+          settled_next = h.keyed.settled_next;
+          indexed = λ k. h.keyed.indexed k
+              ∙ ap (option_map (λ (e : Entry). e.seq))
+              (sym (find-filter (is_known_as k) (is_left settled) entries
+              ∙ ap (λ p. find p entries) (λ t e. known_left k e t)));
+          settled_within = within;
+          settled_below = under;
+          settled_above = over;
+        };
+        latest = λ those asked. omega (
+          arith,
+          fewer those asked,
+          alike those asked gone caught,
+          count_parts (is_counted (λ e. e.latest) those asked) (is_left settled) entries,
+          h.latest those asked,
+        );
+        settled = λ those asked. omega (
+          arith,
+          settled_fewer those asked,
+          ap (λ es. settled_among es those asked) gone_below,
+          ap (λ es. settled_among es those asked) left_below,
+          count_parts (is_counted (λ e. e.settled) those asked) (is_left settled) (take n entries),
+          h.settled those asked,
+        );
+        opened = all-filter (λ e. has_room settled_counted e.name) (is_left settled) entries
+            (all_weaker (λ e. has_room settled_tally e.name) (λ e. has_room settled_counted e.name) entries
+            (λ e is. stays e.name is) h.opened);
+        queue = record {
+          later = list_all-from_AllPass (is_later left) unsettled
+              (λ k d l. still_later (get_or unsettled k d) (waits k d l)
+              (all_at (is_later entries) unsettled k d l h.queue.later));
+          counted = omega (
+            arith,
+            h.queue.counted,
+            none_waits gone caught,
+            count_parts is_waiting (is_left settled) entries,
+          );
+          caught_up = each-filter (IsCaughtUp unsettled) (is_left settled) entries
+              (λ k d l is. All-from_recursion (IsCaughtUp unsettled) entries h.queue.caught_up k d l);
+          room = omega (
+            arith,
+            h.queue.room,
+            enough,
+            length-filter (is_left settled) entries,
+            count_by-le-length (is_left settled) entries,
+          );
+        };
+        order = h.order;
+        marks = record {
+          apart = AllPairs-filter (λ (a b : Entry). is_entry_as b.name b.id a ≡ true → is_taken_below b.seq a ≡ true)
+              (is_left settled) entries h.marks.apart;
+          taken = all-filter (is_rightly_taken next) (is_left settled) entries h.marks.taken;
+          first = firsts;
+        };
+      }
     where
       known_left : (k : EventKey) (e : Entry) → is_left settled e && is_known_as k e ≡ is_known_as k e
       known_left k e = pick (is_left settled e) (is_entry_as k.name k.id e) (is_kept e) (kept_left settled e)

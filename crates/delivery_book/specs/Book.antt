@@ -1,5 +1,6 @@
 -- The histories for which a book stands, and what it tells of them.
-use Rattle.std.specs.Prelude.{◌≡◌, ℕ, ◌≤◌, ◌&&◌, ◌==◌, Bool, true, false, List, [], ◌∷◌, ◌++◌, length, take, drop, Option, Some, None, option_map, filter, filter_map, count_by, if◌then◌else◌}
+use Rattle.std.specs.Prelude.{◌≡◌, ℕ, ◌≤◌, ◌&&◌, ◌==◌, Bool, true, false, List, [], ◌∷◌, ◌++◌, length, take, drop}
+use Rattle.std.specs.Prelude.{Option, Some, None, option_map, filter, filter_map, count_by, if◌then◌else◌}
 use Rattle.std.specs.List.{enumerate_from}
 use Rattle.relay_types.specs.declared.record.Record.{Record}
 use Rattle.relay_types.specs.declared.record.Record.TheVariants.{Accept, Outcome, Purge}
@@ -8,15 +9,16 @@ use Rattle.relay_types.specs.declared.state.State.TheVariants.{Pending, Delivere
 use Rattle.relay_types.specs.Values.{Text, Seq}
 use Rattle.relay_types.specs.Lists.{last_of}
 use Rattle.relay_types.specs.Records.{Accepted, Attempt, accepted_by, numbered}
-use Rattle.relay_types.specs.Deliveries.{accept_at, accepted, purged_by, is_purged, deliveries, deliveries_of, attempts_of, state_of, is_in_state, is_pending, due_if_pending}
+use Rattle.relay_types.specs.Deliveries.{accept_at, accepted, purged_by, is_purged, deliveries, deliveries_of}
+use Rattle.relay_types.specs.Deliveries.{attempts_of, state_of, is_in_state, is_pending, due_if_pending}
 use Rattle.delivery_book.specs.declared.entry.Entry.{Entry}
 use Rattle.delivery_book.specs.declared.entry.Unsettled.{Unsettled}
 use Rattle.delivery_book.specs.declared.row.Counts.{Counts}
 use Rattle.delivery_book.specs.declared.row.Row.{Row}
 use Rattle.delivery_book.specs.Entries.{BookValue, is_left, progress_of}
 
--- the entry of an Accept with this number, where these are the latest attempts at each delivery, the settled ones, and the Purge
--- that took it
+-- the entry of an Accept with this number, where these are the latest attempts at each delivery, the settled ones, and
+-- the Purge that took it
 abbrev pub entry_for : (latest settled : Seq → List Attempt) (taken : Seq → Option Seq) → Seq → Accepted → Entry
 entry_for latest settled taken seq a = record {
   seq = seq;
@@ -36,7 +38,8 @@ entry_by latest settled taken e = option_map (entry_for latest settled taken e.0
 abbrev pub entries_of : List Record → (settled : ℕ) → List Entry
 entries_of records settled =
     filter (is_left settled)
-    (filter_map (entry_by (attempts_of records) (attempts_of (take settled records)) (purged_by records)) (numbered records))
+    (filter_map (entry_by (attempts_of records) (attempts_of (take settled records)) (purged_by records))
+    (numbered records))
 
 -- the delivery that the record speaks of, if it is an Outcome
 abbrev pub delivery_by : Record → Option Seq
@@ -50,8 +53,8 @@ outcome_by e = option_map (λ d. record { seq = e.0; delivery = d }) (delivery_b
 abbrev pub outcomes_from : Seq → List Record → List Unsettled
 outcomes_from seq records = filter_map outcome_by (enumerate_from seq records)
 
--- The book stands for these records, of which so many are settled. No delivery has two outcomes that aren't settled, and
--- none has an attempt before it is there.
+-- The book stands for these records, of which so many are settled. No delivery has two outcomes that aren't settled,
+-- and none has an attempt before it is there.
 pub record StandsFor (book : BookValue) (records : List Record) (settled : ℕ) : Type 0 where
   pub entries : book.entries ≡ entries_of records settled
   pub unsettled : book.unsettled ≡ outcomes_from settled (drop settled records)

@@ -1,5 +1,6 @@
 -- What the book keeps: an entry for each event, in the order in which they were taken in, and the outcomes that wait.
-use Rattle.std.specs.Prelude.{◌≡◌, ℕ, ◌+◌, ◌≤◌, ◌&&◌, ◌||◌, ◌==◌, not, Bool, true, false, nat_le, nat_lt, List, [], ◌∷◌, ◌++◌}
+use Rattle.std.specs.Prelude.{◌≡◌, ℕ, ◌+◌, ◌≤◌, ◌&&◌, ◌||◌, ◌==◌, not, Bool, true, false, nat_le, nat_lt, List, [], ◌∷◌}
+use Rattle.std.specs.Prelude.{◌++◌}
 use Rattle.std.specs.Prelude.{length, map, Option, Some, None, is_some, option_map, bytes_eq, filter, filter_map, find}
 use Rattle.std.specs.Prelude.{count_by, max, IsTrue, if◌then◌else◌}
 use Rattle.std.specs.List.{AllByRecursion, enumerate_from, list_all, list_any}
@@ -170,8 +171,8 @@ pub record BookValue : Type 0 where
 abbrev pub empty_book : BookValue
 empty_book = record { entries = []; unsettled = []; next_seq = 0; settled_seq = 0 }
 
--- the number of the event that the endpoint knows by this id, by all records and by the settled ones, which no settled Purge
--- took
+-- the number of the event that the endpoint knows by this id, by all records and by the settled ones, which no settled
+-- Purge took
 abbrev pub known_in : BookValue → (name id : Text) → Option Seq
 known_in book name id =
     option_map (λ entry. entry.seq) (find (λ entry. is_entry_as name id entry && is_kept entry) book.entries)
@@ -205,9 +206,9 @@ is_of_left entries o = option_map_or (is_left o.seq) (entry_at entries o.deliver
 abbrev pub is_ended : Entry → Bool
 is_ended entry = is_kept entry || not (is_in_state Pending (state_in entry.latest))
 
--- Each delivery has a number below that of the next record, and one without an outcome that waits has come as far by the settled
--- records as by all. An outcome that waits is of a delivery that no earlier Purge took, and what a Purge took
--- has ended.
+-- Each delivery has a number below that of the next record, and one without an outcome that waits has come as far by
+-- the settled records as by all. An outcome that waits is of a delivery that no earlier Purge took, and what a Purge
+-- took has ended.
 pub record IsInStep (book : BookValue) : Type 0 where
   pub numbered : IsTrue (list_all (λ entry. nat_lt entry.seq book.next_seq) book.entries)
   pub caught_up : AllByRecursion (IsCaughtUp book.unsettled) book.entries
@@ -220,7 +221,8 @@ latest_row book delivery = option_map (λ e. row_in e.latest e) (kept_at book.en
 
 abbrev pub settled_row : BookValue → (delivery : Seq) → Option Row
 settled_row book delivery =
-    if nat_lt delivery book.settled_seq then option_map (λ e. row_in e.settled e) (entry_at book.entries delivery) else None
+    if nat_lt delivery book.settled_seq then option_map (λ e. row_in e.settled e) (entry_at book.entries delivery) else
+    None
 
 -- how many deliveries of the endpoint are pending, as all records have it
 abbrev pub is_pending_of : (name : Text) → Entry → Bool
@@ -240,7 +242,8 @@ next_settled book =
     if is_some (entry_at book.entries book.settled_seq) then Some book.settled_seq
     else first_outcome book.settled_seq book.unsettled
 
--- whether an outcome of it can be restored: nothing is settled, nothing waits, and there is room to count one more attempt
+-- whether an outcome of it can be restored: nothing is settled, nothing waits, and there is room to count one more
+-- attempt
 abbrev pub has_room_for_attempt : Entry → Bool
 has_room_for_attempt entry = is_open entry && nat_lt entry.latest.attempts MAX_RECORDS
 

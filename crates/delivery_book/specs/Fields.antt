@@ -208,7 +208,8 @@ AreFirst next_purge entries = IsTrue (list_all (is_not_before next_purge) entrie
 -- a Purge that took the entry has a number between the entry's and this one, and the delivery has ended
 abbrev pub is_rightly_taken : (next : Seq) → Entry → Bool
 is_rightly_taken next entry =
-    option_map_or (λ purge. nat_lt entry.seq purge && (nat_lt purge next && not (is_in_state Pending (state_in entry.latest))))
+    option_map_or (λ purge. nat_lt entry.seq purge
+    && (nat_lt purge next && not (is_in_state Pending (state_in entry.latest))))
     entry.taken_by true
 
 -- what holds of the entries that Purges took, none of them before this one

@@ -11,8 +11,8 @@ use Rattle.delivery_book.specs.Entries.{BookValue, entry_at, events_from, progre
 abbrev pub is_from : Seq → Entry → Bool
 is_from seq entry = nat_le seq entry.seq
 
--- A delivery with these attempts behind the settled records. By all records it has come as far as by the settled ones, or one
--- attempt further.
+-- A delivery with these attempts behind the settled records. By all records it has come as far as by the settled ones,
+-- or one attempt further.
 abbrev pub AreTries : List Attempt → Option Entry → Type 0
 AreTries tries None = tries ≡ []
 AreTries [] (Some e) = e.latest ≡ e.settled
@@ -20,8 +20,8 @@ AreTries (t ∷ []) (Some e) =
     (t.number ≡ e.settled.attempts + 1) × (e.latest ≡ progress_after t.status t.at e.settled)
 AreTries (t ∷ other ∷ more) (Some e) = ⊥
 
--- These records wait: of them are the events, the outcomes and the attempts that the book has and that aren't settled, and no
--- others.
+-- These records wait: of them are the events, the outcomes and the attempts that the book has and that aren't settled,
+-- and no others.
 pub record HasWaiting (book : BookValue) (records : List Record) : Type 0 where
   pub events : filter (is_from book.settled_seq) book.entries ≡ events_from book.settled_seq records
   pub outcomes : book.unsettled ≡ outcomes_from book.settled_seq records

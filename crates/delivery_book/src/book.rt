@@ -331,7 +331,8 @@ impl DeliveryBook {
     /// have to look through all entries for one that the Purge took.
     pub fn find_settled(&self, name: Name, id: &MsgId) -> Option<u64>
         ensures known { result ≡ known_settled_in self.now name id.now }
-        ensures stands { OverHistories self.now (λ records settled. result ≡ known_as (take settled records) name id.now) }
+        ensures stands { OverHistories self.now
+            (λ records settled. result ≡ known_as (take settled records) name id.now) }
     {
         let known = self.find(name, id);
         if is_below(known, self.settled_seq) {
@@ -420,7 +421,8 @@ impl DeliveryBook {
     /// The body of the delivery's event, until a Purge that took it is settled.
     pub fn body(&self, delivery: u64) -> Option<&Body>
         ensures value { option_copied result ≡ option_map (λ e. e.body) (entry_at self.now.entries delivery) }
-        ensures stands { OverHistories self.now (λ records settled. option_copied result ≡ body_left records settled delivery) }
+        ensures stands { OverHistories self.now
+            (λ records settled. option_copied result ≡ body_left records settled delivery) }
     {
         match entry_at(self.entries.as_slice(), delivery) {
             Some(entry) => Some(&entry.body),

@@ -11,7 +11,8 @@ pub filter-against : {X : Type 0} (p : X → Bool) (xs : List X) → filter p (f
 filter-against p [] = refl
 filter-against p (x ∷ xs) = grind (arith, filter-against p xs)
 
-pub filter_mapped : {X Y : Type 0} (p : Y → Bool) (f : X → Y) (xs : List X) → filter p (map f xs) ≡ map f (filter (λ x. p (f x)) xs)
+pub filter_mapped : {X Y : Type 0} (p : Y → Bool) (f : X → Y) (xs : List X)
+    → filter p (map f xs) ≡ map f (filter (λ x. p (f x)) xs)
 filter_mapped p f [] = refl
 filter_mapped p f (x ∷ xs) = grind (arith, filter_mapped p f xs)
 

@@ -22,7 +22,8 @@ use Rattle.endpoint_book.proofs.Filters.{none_if}
 
 -- Of a name that no endpoint has, no record of a legal history speaks, as there is no row of it
 
-unknown-row : (records : List Record) (name : List ℕ) → has_endpoint records name ≡ false → row_named (rows_of records) name ≡ None
+unknown-row : (records : List Record) (name : List ℕ) → has_endpoint records name ≡ false
+    → row_named (rows_of records) name ≡ None
 unknown-row records name unknown = grind (arith, find_map, none_if)
 
 unknown-enabled : (records : List Record) (name : List ℕ) → IsLegal records → has_endpoint records name ≡ false
@@ -41,27 +42,39 @@ found-named records name e is = (found_by_number 0 name (endpoints records) e (p
 module _ (records : List Record) (legal : IsLegal records) (topics : TopicsValue) (tells : TellsTopics topics records)
     (next : ℕ) (below : next ≤ length records) where
   abbrev restored : BookValue
-  restored = record { entries = map (entry_for records) (endpoints records); changes = []; topics = topics; next_seq = next; settled_seq = length records }
+  restored = record {
+    entries = map (entry_for records) (endpoints records);
+    changes = [];
+    topics = topics;
+    next_seq =
+        next;
+    settled_seq = length records;
+  }
 
   entry-restored : (name : List ℕ)
-      → find (is_named name) (map (entry_for records) (endpoints records)) ≡ option_map (entry_for records) (endpoint_of records name)
+      → find (is_named name) (map (entry_for records) (endpoints records)) ≡ option_map (entry_for records)
+      (endpoint_of records name)
   entry-restored name = find_map (entry_for records) (is_named name) (endpoints records)
 
   -- what is asked of the entry is what the records say of the name
   told : {X : Type 0} (ask : Entry → X) (none : X) (answer : List ℕ → X) (name : List ℕ)
-      → ((e : Endpoint) → ask (entry_for records e) ≡ answer e.name) → (has_endpoint records name ≡ false → none ≡ answer name)
+      → ((e : Endpoint) → ask (entry_for records e) ≡ answer e.name)
+      → (has_endpoint records name ≡ false → none ≡ answer name)
       → option_map_or ask (find (is_named name) (map (entry_for records) (endpoints records))) none ≡ answer name
   told ask none answer name known unknown = grind (arith, entry-restored, found-named)
 
   shown-restored : (name : List ℕ)
-      → option_map_or (λ (e : Entry). e.settled) (find (is_named name) (map (entry_for records) (endpoints records))) None ≡ shown_of records name
-  shown-restored name = ap (λ o. option_map_or (λ (e : Entry). e.settled) o None) (entry-restored name) ∙ at (endpoint_of records name) refl
+      → option_map_or (λ (e : Entry). e.settled) (find (is_named name) (map (entry_for records) (endpoints records)))
+      None ≡ shown_of records name
+  shown-restored name = ap (λ o. option_map_or (λ (e : Entry). e.settled) o None) (entry-restored name)
+      ∙ at (endpoint_of records name) refl
     where
       now : List ℕ → Shown
       now asked = record { enabled = is_enabled records asked; secrets = length (secrets_of records asked) }
 
       at : (o : Option Endpoint) → endpoint_of records name ≡ o
-          → option_map_or (λ (e : Entry). e.settled) (option_map (entry_for records) o) None ≡ option_map (λ _. now name) o
+          → option_map_or (λ (e : Entry). e.settled) (option_map (entry_for records) o) None ≡ option_map
+          (λ _. now name) o
       at (Some e) is = ap (λ n. Some (now n)) (found-named records name e is)
       at None is = refl
 
@@ -73,22 +86,33 @@ module _ (records : List Record) (legal : IsLegal records) (topics : TopicsValue
   stands = record {
     legal = legal;
     tells = record {
-      enabled = λ name. told (λ (e : Entry). e.enabled) true (is_enabled records) name (λ e. refl) (unknown-enabled records name legal);
-      secrets = λ name. told (λ (e : Entry). e.secrets) [] (secrets_of records) name (λ e. refl) (unknown-secrets records name legal);
+      enabled = λ name. told (λ (e : Entry). e.enabled) true (is_enabled records) name (λ e. refl)
+          (unknown-enabled records name legal);
+      secrets = λ name. told (λ (e : Entry). e.secrets) [] (secrets_of records) name (λ e. refl)
+          (unknown-secrets records name legal);
       endpoints = same-endpoints (endpoints records);
       topics = tells;
     };
     shows = λ place later. record {
       shown = λ name. shown-restored name ∙ ap (λ rs. shown_of rs name) (sym (take_all place records later));
-      puts = ap (λ rs. length (endpoints rs) + 0) (take_all place records later) ∙ omega (arith, length-map (endpoints records) (entry_for records));
+      puts = ap (λ rs. length (endpoints rs) + 0) (take_all place records later)
+          ∙ omega (arith, length-map (endpoints records) (entry_for records));
     };
     flags = λ place later. omega arith;
     next_seq = below;
     settled_seq = refl;
   }
 
-pub stands-restored : (book : BookValue) (records : List Record) → IsLegal records → IsRestored book records → StandsFor book records (length records)
+pub stands-restored : (book : BookValue) (records : List Record) → IsLegal records → IsRestored book records
+    → StandsFor book records (length records)
 stands-restored book records legal h =
     subst (λ b. StandsFor b records (length records))
-    (λ i. record { entries = sym h.entries i; changes = sym h.changes i; topics = book.topics; next_seq = book.next_seq; settled_seq = sym h.settled_seq i })
+    (λ i. record {
+      entries = sym h.entries i;
+      changes = sym h.changes i;
+      topics = book.topics;
+      next_seq =
+          book.next_seq;
+      settled_seq = sym h.settled_seq i;
+    })
     (stands records legal book.topics h.topics book.next_seq h.next_seq)

@@ -1,11 +1,13 @@
 -- The histories for which a book stands, and what it tells of them.
-use Rattle.std.specs.Prelude.{◌≡◌, ℕ, ◌+◌, ◌≤◌, Bool, true, false, not, List, [], ◌∷◌, ◌++◌, Option, Some, None, length, map, take, drop, filter, option_map, option_and_then, count_by, IsTrue, if◌then◌else◌}
+use Rattle.std.specs.Prelude.{◌≡◌, ℕ, ◌+◌, ◌≤◌, Bool, true, false, not, List, [], ◌∷◌, ◌++◌, Option, Some, None, length}
+use Rattle.std.specs.Prelude.{map, take, drop, filter, option_map, option_and_then, count_by, IsTrue, if◌then◌else◌}
 use Rattle.std.specs.Option.{option_map_or}
 use Rattle.relay_types.specs.declared.record.Record.{Record}
 use Rattle.relay_types.specs.declared.record.Record.TheVariants as on
 use Rattle.relay_types.specs.Values.{Text, Seq}
 use Rattle.relay_types.specs.Judging.{is_gone_status}
-use Rattle.relay_types.specs.Endpoints.{Endpoint, endpoints, endpoint_of, has_endpoint, is_delivery_of, is_enabled, secrets_of}
+use Rattle.relay_types.specs.Endpoints.{Endpoint, endpoints, endpoint_of, has_endpoint, is_delivery_of, is_enabled}
+use Rattle.relay_types.specs.Endpoints.{secrets_of}
 use Rattle.relay_types.specs.Legal.{IsLegal}
 use Rattle.endpoint_book.specs.declared.entry.Change.{Change}
 use Rattle.endpoint_book.specs.declared.entry.Entry.{Entry}

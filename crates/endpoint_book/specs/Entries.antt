@@ -1,5 +1,7 @@
--- What the book keeps: an entry for each endpoint, in the order of their Puts, the changes that aren't settled, and the topics.
-use Rattle.std.specs.Prelude.{◌≡◌, ℕ, ◌+◌, ◌&&◌, Bool, true, false, not, nat_lt, List, [], ◌∷◌, ◌++◌, Option, Some, None, length, map, filter, find, is_some, bytes_eq, count_by, max, if◌then◌else◌}
+-- What the book keeps: an entry for each endpoint, in the order of their Puts, the changes that aren't settled, and the
+-- topics.
+use Rattle.std.specs.Prelude.{◌≡◌, ℕ, ◌+◌, ◌&&◌, Bool, true, false, not, nat_lt, List, [], ◌∷◌, ◌++◌, Option, Some}
+use Rattle.std.specs.Prelude.{None, length, map, filter, find, is_some, bytes_eq, count_by, max, if◌then◌else◌}
 use Rattle.std.specs.Option.{option_map_or}
 use Rattle.relay_types.specs.Values.{Text, Seq}
 use Rattle.endpoint_book.specs.declared.entry.Change.{Change}

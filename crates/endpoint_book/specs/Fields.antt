@@ -1,5 +1,6 @@
 -- What holds of the fields of a book.
-use Rattle.std.specs.Prelude.{◌≡◌, ◌≢◌, ℕ, ◌+◌, ◌-◌, ◌≤◌, Bool, true, nat_eq, List, [], ◌++◌, Option, Some, option_map, length, filter, filter_map, is_some, bytes_eq, count_by, if◌then◌else◌}
+use Rattle.std.specs.Prelude.{◌≡◌, ◌≢◌, ℕ, ◌+◌, ◌-◌, ◌≤◌, Bool, true, nat_eq, List, [], ◌++◌, Option, Some, option_map}
+use Rattle.std.specs.Prelude.{length, filter, filter_map, is_some, bytes_eq, count_by, if◌then◌else◌}
 use Rattle.std.specs.List.{AllPairs, list_any, list_all}
 use Rattle.std.specs.BTreeMap as tree
 use Rattle.std.specs.Cmp.Lexicographic.{pointwise, slice_cmp}
@@ -56,7 +57,8 @@ pub record AreNames (find_entry : Text → Option Entry) (names : List Text) : T
   pub covered : (name : Text) → is_some (find_entry name) ≡ true → list_any (λ n. bytes_eq n name) names ≡ true
   pub each : list_all (λ n. is_some (find_entry n)) names ≡ true
 
--- The changes stand in the order of their places, between these two, no two flags at one place, and there is room for all flags.
+-- The changes stand in the order of their places, between these two, no two flags at one place, and there is room for
+-- all flags.
 pub record AreChanges (changes : List Change) (flags puts capacity : ℕ) (next_seq settled_seq : Seq) : Type 0 where
   pub parted : (place : Seq) → changes ≡ filter (is_below place) changes ++ filter (is_from place) changes
   pub below_next : (place : Seq) → next_seq ≤ place → filter (is_from place) changes ≡ []

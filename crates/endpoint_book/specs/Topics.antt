@@ -1,5 +1,7 @@
--- Who is subscribed to what: for each topic and endpoint that records named together, the flag that the last of these records gave.
-use Rattle.std.specs.Prelude.{◌≡◌, ◌&&◌, ◌||◌, Bool, false, nat_eq, nat_lt, List, length, Option, is_some, filter_map, unwrap_or}
+-- Who is subscribed to what: for each topic and endpoint that records named together, the flag that the last of these
+-- records gave.
+use Rattle.std.specs.Prelude.{◌≡◌, ◌&&◌, ◌||◌, Bool, false, nat_eq, nat_lt, List, length, Option, is_some, filter_map}
+use Rattle.std.specs.Prelude.{unwrap_or}
 use Rattle.std.specs.BTreeMap.{insert_entry, is_at}
 use Rattle.std.specs.Map.{lookup}
 use Rattle.std.specs.Cmp.Lexicographic.{pointwise, slice_cmp}

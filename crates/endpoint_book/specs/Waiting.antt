@@ -1,5 +1,6 @@
 -- What a book has of the records behind the settled ones, whatever stands before these.
-use Rattle.std.specs.Prelude.{◌≡◌, ℕ, ◌+◌, Bool, true, false, not, nat_lt, List, [], ◌∷◌, Option, Some, None, length, map, take, filter, filter_map, option_map, bytes_eq, IsTrue, IfSome, if◌then◌else◌}
+use Rattle.std.specs.Prelude.{◌≡◌, ℕ, ◌+◌, Bool, true, false, not, nat_lt, List, [], ◌∷◌, Option, Some, None, length}
+use Rattle.std.specs.Prelude.{map, take, filter, filter_map, option_map, bytes_eq, IsTrue, IfSome, if◌then◌else◌}
 use Rattle.std.specs.List.{enumerate_from, list_all}
 use Rattle.std.specs.Option.{option_map_or}
 use Rattle.relay_types.specs.declared.record.Record.{Record}
@@ -17,7 +18,8 @@ use Rattle.endpoint_book.specs.Entries.{BookValue, entry_of, now_of, shown_at}
 use Rattle.endpoint_book.specs.Topics.{flag_of, last_flag}
 use Rattle.endpoint_book.specs.Book.{endpoint_by_entry, secrets_in, settled_in}
 
--- Each endpoint has a Put below the next record, and shows by all records what the changes make of what the settled ones show.
+-- Each endpoint has a Put below the next record, and shows by all records what the changes make of what the settled
+-- ones show.
 pub record IsInStep (book : BookValue) : Type 0 where
   pub numbered : IsTrue (list_all (λ e. nat_lt e.put book.next_seq) book.entries)
   pub caught_up : (name : Text)
@@ -54,7 +56,8 @@ shown_behind (on.Outcome delivery attempt status at) shown = option_map (with_en
 shown_behind entry shown = shown
 
 abbrev pub is_changed_by : (endpoint_at : Seq → Option Text) (name : Text) → Record → Bool
-is_changed_by endpoint_at name entry = option_map_or (λ changed. bytes_eq changed name) (changed_by endpoint_at entry) false
+is_changed_by endpoint_at name entry = option_map_or (λ changed. bytes_eq changed name) (changed_by endpoint_at entry)
+    false
 
 -- what an endpoint of this name, which showed this, shows behind these records
 abbrev pub shown_after : (endpoint_at : Seq → Option Text) (name : Text) → List Record → Option Shown → Option Shown
@@ -87,17 +90,19 @@ endpoints_from seq records = filter_map endpoint_by (enumerate_from seq records)
 abbrev pub is_put_from : Seq → Entry → Bool
 is_put_from seq entry = not (nat_lt entry.put seq)
 
--- These records wait, and `endpoint_at` tells the endpoint of a delivery. Of them are the changes and the endpoints that the book
--- has and that aren't settled, and no others. Once the first of them are settled, it will show of each endpoint what these make of
--- what it shows now. By all records each endpoint shows what all of them make of this, and has the secrets that were given last, and
--- each topic and endpoint has the flag that was given last.
+-- These records wait, and `endpoint_at` tells the endpoint of a delivery. Of them are the changes and the endpoints
+-- that the book has and that aren't settled, and no others. Once the first of them are settled, it will show of each
+-- endpoint what these make of what it shows now. By all records each endpoint shows what all of them make of this, and
+-- has the secrets that were given last, and each topic and endpoint has the flag that was given last.
 pub record HasChanges (endpoint_at : Seq → Option Text) (book : BookValue) (records : List Record) : Type 0 where
   pub changes : map told_of book.changes ≡ changes_from endpoint_at book.settled_seq records
-  pub puts : map endpoint_by_entry (filter (is_put_from book.settled_seq) book.entries) ≡ endpoints_from book.settled_seq records
+  pub puts : map endpoint_by_entry (filter (is_put_from book.settled_seq) book.entries) ≡ endpoints_from
+      book.settled_seq records
   pub shown : (name : Text) (k : ℕ) → shown_at (book.settled_seq + k) book.changes name (settled_in book name)
       ≡ shown_after endpoint_at name (take k records) (settled_in book name)
   pub latest : (name : Text)
       → option_map now_of (entry_of book name) ≡ shown_after endpoint_at name records (settled_in book name)
   pub secrets : (name : Text)
       → IfSome (last_of (filter_map (secrets_by name) records)) (λ given. secrets_in book name ≡ given)
-  pub topics : (topic name : Text) → IfSome (last_flag records topic name) (λ flag. flag_of book.topics topic name ≡ Some flag)
+  pub topics : (topic name : Text)
+      → IfSome (last_flag records topic name) (λ flag. flag_of book.topics topic name ≡ Some flag)

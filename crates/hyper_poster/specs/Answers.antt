@@ -3,7 +3,8 @@ use Rattle.std.specs.Prelude.{◌≡◌, ◌≤◌, if◌then◌else◌, ℕ, na
 use Rattle.retry_table.specs.declared.post.PostResult.{PostResult}
 use Rattle.retry_table.specs.declared.post.PostResult.TheVariants.{Answered, TimedOut, Unreached, Unsent}
 
--- Where a subscriber has so many microseconds: an answer has a round trip of no more, and a post that timed out has all of them.
+-- Where a subscriber has so many microseconds: an answer has a round trip of no more, and a post that timed out has all
+-- of them.
 abbrev pub MayAnswerWithin : (timeout : ℕ) → PostResult → Type 0
 MayAnswerWithin timeout (Answered status rtt) = rtt ≤ timeout
 MayAnswerWithin timeout (TimedOut rtt) = rtt ≡ timeout

@@ -12,10 +12,12 @@ use Rattle.http_uri.specs.declared.error.UriError.TheVariants as uri
 use Rattle.hyper_poster.specs.declared.failure.Failure.{Failure}
 use Rattle.hyper_poster.specs.declared.failure.Failure.TheVariants.{Unreached, Unsent}
 
--- This side refused: there was no memory, no descriptor for the process (24) or the system (23), or no room for a socket (105).
+-- This side refused: there was no memory, no descriptor for the process (24) or the system (23), or no room for a
+-- socket (105).
 abbrev pub IsRefusedHere : Error → Type 0
 IsRefusedHere error = (error_kind error ≡ kind.OutOfMemory)
-    ⊎ ((raw_os_error error ≡ Some (pos 24)) ⊎ ((raw_os_error error ≡ Some (pos 23)) ⊎ (raw_os_error error ≡ Some (pos 105))))
+    ⊎ ((raw_os_error error ≡ Some (pos 24))
+    ⊎ ((raw_os_error error ≡ Some (pos 23)) ⊎ (raw_os_error error ≡ Some (pos 105))))
 
 -- a request that `http` doesn't take
 abbrev pub of_uri : UriError → Failure

@@ -1,5 +1,7 @@
 -- The forms in which a secret is written don't overlap: a text is in one of them for one secret at most.
-use Rattle.std.proofs.Common.{◌≡◌, ℕ, ◌+◌, ◌*◌, ◌/◌, ◌%◌, ◌==◌, ◌<◌, ◌≤◌, ◌∙◌, Bool, true, false, not, List, [], ◌∷◌, ◌++◌, length, replicate, slice_index, codes, refl, sym, ap, arith, IsTrue, inl, inr, ◌⊎◌, ◌≢◌, Option, Bor, unwrap_or, MatchOption, eqb, take, drop, bytes_eq}
+use Rattle.std.proofs.Common.{◌≡◌, ℕ, ◌+◌, ◌*◌, ◌/◌, ◌%◌, ◌==◌, ◌<◌, ◌≤◌, ◌∙◌, Bool, true, false, not, List, [], ◌∷◌}
+use Rattle.std.proofs.Common.{◌++◌, length, replicate, slice_index, codes, refl, sym, ap, arith, IsTrue, inl, inr, ◌⊎◌}
+use Rattle.std.proofs.Common.{◌≢◌, Option, Bor, unwrap_or, MatchOption, eqb, take, drop, bytes_eq}
 use Rattle.std.proofs.lemmas.Slice.Eq.{strip_prefix_is, bytes_eq-Decides}
 use Rattle.std.specs.Cmp.Lexicographic.{pointwise}
 use Rattle.std.proofs.lemmas.Bool.Decides.{Decides-eqb}
@@ -37,10 +39,12 @@ no_padding a b e =
 
 -- `_` is no symbol
 no_underscore : (k : ℕ) → k < 64 → slice_index base64_symbols k ≡ 95 → ⊥
-no_underscore k h = eqb-false (slice_index base64_symbols k) 95 (not-true _ (all_below_at (λ k. not (slice_index base64_symbols k == 95)) 64 k refl h))
+no_underscore k h = eqb-false (slice_index base64_symbols k) 95
+    (not-true _ (all_below_at (λ k. not (slice_index base64_symbols k == 95)) 64 k refl h))
 
 -- so the base64 of a secret doesn't begin with the prefix
-pub no_prefix : (padding : Bool) (b rest : List ℕ) → IsBytes b → 24 ≤ length b → encode base64_symbols 61 padding b ≡ codes "whsec_" ++ rest → ⊥
+pub no_prefix : (padding : Bool) (b rest : List ℕ) → IsBytes b → 24 ≤ length b
+    → encode base64_symbols 61 padding b ≡ codes "whsec_" ++ rest → ⊥
 unfolding encode_symbols
 no_prefix padding [] rest bytes long e = absurd (omega arith)
 no_prefix padding (a ∷ []) rest bytes long e = absurd (omega arith)
@@ -54,11 +58,13 @@ no_prefix padding (a ∷ b ∷ c ∷ d ∷ f ∷ g ∷ more) rest bytes long e =
 
 -- the base64 of the text is what stands behind the prefix, or the whole text where it doesn't begin with that
 abbrev pub IsBase64Part : List ℕ → List ℕ → Type 0
-IsBase64Part text encoded = (text ≡ codes "whsec_" ++ encoded) ⊎ ((text ≡ encoded) × ((rest : List ℕ) → text ≢ codes "whsec_" ++ rest))
+IsBase64Part text encoded = (text ≡ codes "whsec_" ++ encoded)
+    ⊎ ((text ≡ encoded) × ((rest : List ℕ) → text ≢ codes "whsec_" ++ rest))
 
 pub base64_part : (r : Option (Bor (List ℕ))) (text encoded : Bor (List ℕ))
     → MatchOption r (pointwise eqb (take 6 text.now) (codes "whsec_") ≡ false)
-    (λ x. (pointwise eqb (take 6 text.now) (codes "whsec_") ≡ true) × (x.now ≡ drop 6 text.now) × (length x.now + 6 ≡ length text.now))
+    (λ x. (pointwise eqb (take 6 text.now) (codes "whsec_") ≡ true) × (x.now ≡ drop 6 text.now)
+    × (length x.now + 6 ≡ length text.now))
     → encoded ≡ unwrap_or r text → IsBase64Part text.now encoded.now
 base64_part r text encoded m e = grind (arith, strip_prefix_is, Decides-eqb)
 
@@ -68,14 +74,17 @@ same a b = (bytes_eq-Decides a b).1
 told : (a b : List ℕ) → bytes_eq a b ≡ true → a ≡ b
 told a b = (bytes_eq-Decides a b).0
 
-in_some_form : (text encoded secret : List ℕ) → IsBase64Part text encoded → (encoded ≡ padded secret) ⊎ (encoded ≡ unpadded secret) → is_secret_text text secret ≡ true
+in_some_form : (text encoded secret : List ℕ) → IsBase64Part text encoded → (encoded ≡ padded secret)
+    ⊎ (encoded ≡ unpadded secret) → is_secret_text text secret ≡ true
 in_some_form text encoded secret h1 h2 = grind (arith, or_left, same, or_right)
 
 -- a text is a secret's where its base64 is
-pub reads_secret : (text encoded secret : List ℕ) → IsBase64Part text encoded → IsPaddedOrNot encoded secret → ReadsSecret text secret
+pub reads_secret : (text encoded secret : List ℕ) → IsBase64Part text encoded → IsPaddedOrNot encoded secret
+    → ReadsSecret text secret
 reads_secret text encoded secret part h = (h.0, in_some_form text encoded secret part h.1)
 
-pub base64_reads : (text encoded secret : List ℕ) → IsBase64Part text encoded → ReadsSecret text secret → IsPaddedOrNot encoded secret
+pub base64_reads : (text encoded secret : List ℕ) → IsBase64Part text encoded → ReadsSecret text secret
+    → IsPaddedOrNot encoded secret
 base64_reads text encoded secret part h = (
   h.0,
   elim (or_cases _ _ h.1) [
@@ -94,6 +103,8 @@ base64_reads text encoded secret part h = (
     behind x (inl p) e = ap (drop 6) (sym p ∙ e)
     behind x (inr p) e = absurd (p.1 x e)
 
-    whole : (padding : Bool) → IsBase64Part text encoded → text ≡ encode base64_symbols 61 padding secret → encoded ≡ encode base64_symbols 61 padding secret
-    whole padding (inl p) e = absurd (no_prefix padding secret encoded (secret_bytes secret h.0) (least_secret secret h.0) (sym e ∙ p))
+    whole : (padding : Bool) → IsBase64Part text encoded → text ≡ encode base64_symbols 61 padding secret
+        → encoded ≡ encode base64_symbols 61 padding secret
+    whole padding (inl p) e = absurd (no_prefix padding secret encoded (secret_bytes secret h.0)
+        (least_secret secret h.0) (sym e ∙ p))
     whole padding (inr p) e = sym p.0 ∙ e

@@ -1,7 +1,8 @@
 -- The numbers and the names of the readers' refusals.
 use Rattle.std.specs.Prelude.{ℕ, List, codes}
 use Rattle.relay_types.specs.declared.fault.ReadFault.{ReadFault}
-use Rattle.relay_types.specs.declared.fault.ReadFault.TheVariants.{BadName, BadId, BadSecret, BadUrl, BadMax, TooLong, BadMoment, OutOfMemory}
+use Rattle.relay_types.specs.declared.fault.ReadFault.TheVariants.{BadName, BadId, BadSecret, BadUrl, BadMax, TooLong}
+use Rattle.relay_types.specs.declared.fault.ReadFault.TheVariants.{BadMoment, OutOfMemory}
 
 abbrev pub fault_number : ReadFault → ℕ
 fault_number BadName = 1

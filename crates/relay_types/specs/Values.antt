@@ -1,12 +1,15 @@
 -- The rules that the small values keep.
-use Rattle.std.specs.Prelude.{◌≡◌, ℕ, ◌+◌, ◌-◌, ◌*◌, Bool, true, ◌&&◌, ◌||◌, ◌==◌, nat_le, nat_lt, List, [], ◌∷◌, length, take, drop, fold, Option, Some, None, slice_get, codes, nat_eq, not, refl}
+use Rattle.std.specs.Prelude.{◌≡◌, ℕ, ◌+◌, ◌-◌, ◌*◌, Bool, true, ◌&&◌, ◌||◌, ◌==◌, nat_le, nat_lt, List, [], ◌∷◌}
+use Rattle.std.specs.Prelude.{length, take, drop, fold, Option, Some, None, slice_get, codes, nat_eq, not, refl}
 use Rattle.std.specs.List.{list_all, list_any, before_first, starts_with}
 use Rattle.std.specs.Str.{str_eq_ignore_ascii_case}
 use Rattle.std.proofs.Common.{sym}
-use Rattle.relay_types.specs.declared.limits.TheConstants.{MAX_NAME_LEN, MAX_ID_LEN, MIN_SECRET_BYTES, MAX_SECRET_BYTES, MAX_SECRETS, MAX_TARGET_BYTES, MAX_HOST_LEN, MAX_LIMIT, MAX_BODY_BYTES, MAX_MOMENT}
+use Rattle.relay_types.specs.declared.limits.TheConstants.{MAX_NAME_LEN, MAX_ID_LEN, MIN_SECRET_BYTES, MAX_SECRET_BYTES}
+use Rattle.relay_types.specs.declared.limits.TheConstants.{MAX_SECRETS, MAX_TARGET_BYTES, MAX_HOST_LEN, MAX_LIMIT}
+use Rattle.relay_types.specs.declared.limits.TheConstants.{MAX_BODY_BYTES, MAX_MOMENT}
 
--- What values are seen as: a text, an id or a body as the list of its bytes, a record by its number, a moment in seconds since the Unix
--- epoch, a span of time in microseconds.
+-- What values are seen as: a text, an id or a body as the list of its bytes, a record by its number, a moment in
+-- seconds since the Unix epoch, a span of time in microseconds.
 abbrev pub Text : Type 0
 Text = List ℕ
 
@@ -173,7 +176,8 @@ first_secret [] = []
 first_secret (first ∷ rest) = first
 
 -- the four places are read back from the list
-pub second_back : (a : List ℕ) (b c d : Option (List ℕ)) → AreFilledInOrder b c d → slice_get (the_secrets a b c d) 1 ≡ b
+pub second_back : (a : List ℕ) (b c d : Option (List ℕ)) → AreFilledInOrder b c d
+    → slice_get (the_secrets a b c d) 1 ≡ b
 second_back a None c d h = refl
 second_back a (Some b) c d h = refl
 
@@ -182,7 +186,8 @@ third_back a None c d h = sym h.0
 third_back a (Some b) None d h = refl
 third_back a (Some b) (Some c) d h = refl
 
-pub fourth_back : (a : List ℕ) (b c d : Option (List ℕ)) → AreFilledInOrder b c d → slice_get (the_secrets a b c d) 3 ≡ d
+pub fourth_back : (a : List ℕ) (b c d : Option (List ℕ)) → AreFilledInOrder b c d
+    → slice_get (the_secrets a b c d) 3 ≡ d
 fourth_back a None c d h = sym h.1
 fourth_back a (Some b) None d h = sym h
 fourth_back a (Some b) (Some c) None h = refl

@@ -1,20 +1,24 @@
 -- No space stands in a word of a call, so the words of a line tell its call.
-use Rattle.std.proofs.Common.{◌≡◌, ◌≢◌, ℕ, suc, ◌<◌, ◌≤◌, ◌^◌, length, ap, arith, true, false, List, [], ◌∷◌, decimal, codes, IsTrue, refl, sym, subst, lit<}
+use Rattle.std.proofs.Common.{◌≡◌, ◌≢◌, ℕ, suc, ◌<◌, ◌≤◌, ◌^◌, length, ap, arith, true, false, List, [], ◌∷◌, decimal}
+use Rattle.std.proofs.Common.{codes, IsTrue, refl, sym, subst, lit<}
 use Rattle.std.specs.Prelude.{◌&&◌, nat_le}
 use Rattle.std.specs.List.{list_all}
 use Rattle.std.proofs.lemmas.Bool.{and_parts}
 use Rattle.relay_types.specs.Values.{is_name, is_msg_id, is_target, is_max_limit, is_moment, is_body}
 use Rattle.text_lines.specs.Parts.{line, has_no, HasParts}
-use Rattle.text_lines.proofs.CleanWords.{clean-name, clean-id, clean-target, clean-decimal, clean-body, clean-secrets_word, at_most}
+use Rattle.text_lines.proofs.CleanWords.{clean-name, clean-id, clean-target, clean-decimal, clean-body}
+use Rattle.text_lines.proofs.CleanWords.{clean-secrets_word, at_most}
 use Rattle.text_lines.proofs.PartLaws.{parts_equal, HasParts-split}
 use Rattle.script_lines.specs.declared.call.Call.{Call}
 use Rattle.script_lines.specs.declared.call.Call.TheVariants as on
 use Rattle.retry_table.specs.declared.post.PostResult.{PostResult}
 use Rattle.retry_table.specs.declared.post.PostResult.TheVariants.{Answered, TimedOut, Unreached, Unsent}
-use Rattle.script_lines.specs.Script.{IsMoment, IsNamed, IsSubmit, IsResult, HasFewWords, call_word, AreArguments, IsCall}
+use Rattle.script_lines.specs.Script.{IsMoment, IsNamed, IsSubmit, IsResult, HasFewWords, call_word, AreArguments}
+use Rattle.script_lines.specs.Script.{IsCall}
 use Rattle.script_lines.specs.Script.{ReadsLine}
 
-four_clean : (a b c d : List ℕ) → IsTrue (has_no 32 a) → IsTrue (has_no 32 b) → IsTrue (has_no 32 c) → IsTrue (has_no 32 d) → IsTrue (list_all (has_no 32) (a ∷ b ∷ c ∷ d ∷ []))
+four_clean : (a b c d : List ℕ) → IsTrue (has_no 32 a) → IsTrue (has_no 32 b) → IsTrue (has_no 32 c)
+    → IsTrue (has_no 32 d) → IsTrue (list_all (has_no 32) (a ∷ b ∷ c ∷ d ∷ []))
 four_clean a b c d ha hb hc hd = rw (ha, hb, hc, hd) refl
 
 two_clean : (a b : List ℕ) → IsTrue (has_no 32 a) → IsTrue (has_no 32 b) → IsTrue (list_all (has_no 32) (a ∷ b ∷ []))
@@ -27,9 +31,11 @@ none_clean : (words : List (List ℕ)) → words ≡ [] → IsTrue (list_all (ha
 none_clean words e = subst (λ xs. IsTrue (list_all (has_no 32) xs)) (sym e) refl
 
 name_alone : (words : List (List ℕ)) (name : List ℕ) → IsNamed words name → IsTrue (list_all (has_no 32) words)
-name_alone words name (e, valid) = subst (λ xs. IsTrue (list_all (has_no 32) xs)) (sym e) (one_clean name (clean-name name valid))
+name_alone words name (e, valid) = subst (λ xs. IsTrue (list_all (has_no 32) xs)) (sym e)
+    (one_clean name (clean-name name valid))
 
-two_and_more_clean : (a b : List ℕ) (more : List (List ℕ)) → IsTrue (has_no 32 a) → IsTrue (has_no 32 b) → IsTrue (list_all (has_no 32) more) → IsTrue (list_all (has_no 32) (a ∷ b ∷ more))
+two_and_more_clean : (a b : List ℕ) (more : List (List ℕ)) → IsTrue (has_no 32 a) → IsTrue (has_no 32 b)
+    → IsTrue (list_all (has_no 32) more) → IsTrue (list_all (has_no 32) (a ∷ b ∷ more))
 two_and_more_clean a b more ha hb hm = rw (ha, hb, hm) refl
 
 below : (n k : ℕ) → n < k → k < 2 ^ 64 → n < 2 ^ 64
@@ -41,8 +47,11 @@ clean-rtt rtt small = clean-decimal rtt (below rtt (2 ^ 63) small (lit< tt))
 clean-result : (words : List (List ℕ)) (post : PostResult) → IsResult words post → IsTrue (list_all (has_no 32) words)
 clean-result words (Answered status rtt) (e, valid, small) =
     subst (λ xs. IsTrue (list_all (has_no 32) xs)) (sym e)
-    (two_clean (decimal status) (decimal rtt) (clean-decimal status (at_most status 999 (and_parts (nat_le 100 status) (nat_le status 999) valid).1 (lit< tt))) (clean-rtt rtt small))
-clean-result words (TimedOut rtt) (e, small) = subst (λ xs. IsTrue (list_all (has_no 32) xs)) (sym e) (two_clean (codes "timeout") (decimal rtt) refl (clean-rtt rtt small))
+    (two_clean (decimal status) (decimal rtt)
+    (clean-decimal status (at_most status 999 (and_parts (nat_le 100 status) (nat_le status 999) valid).1
+    (lit< tt))) (clean-rtt rtt small))
+clean-result words (TimedOut rtt) (e, small) = subst (λ xs. IsTrue (list_all (has_no 32) xs)) (sym e)
+    (two_clean (codes "timeout") (decimal rtt) refl (clean-rtt rtt small))
 clean-result words Unreached e = subst (λ xs. IsTrue (list_all (has_no 32) xs)) (sym e) refl
 clean-result words Unsent e = subst (λ xs. IsTrue (list_all (has_no 32) xs)) (sym e) refl
 
@@ -67,17 +76,21 @@ clean-arguments words (on.Put name target max secrets) (word, reads, e, valid) =
     let two = and_parts (is_target target) (is_max_limit max) one.1 in
     let most = (and_parts (nat_le 1 max) (nat_le max 1000) two.1).1 in
     subst (λ xs. IsTrue (list_all (has_no 32) xs)) (sym e)
-    (four_clean name target (decimal max) word (clean-name name one.0) (clean-target target two.0) (clean-decimal max (at_most max 1000 most (lit< tt))) (clean-secrets_word word secrets reads))
+    (four_clean name target (decimal max) word (clean-name name one.0) (clean-target target two.0)
+    (clean-decimal max (at_most max 1000 most (lit< tt))) (clean-secrets_word word secrets reads))
 clean-arguments words (on.Secrets name secrets) (word, reads, e, valid) =
-    subst (λ xs. IsTrue (list_all (has_no 32) xs)) (sym e) (two_clean name word (clean-name name valid) (clean-secrets_word word secrets reads))
+    subst (λ xs. IsTrue (list_all (has_no 32) xs)) (sym e)
+    (two_clean name word (clean-name name valid) (clean-secrets_word word secrets reads))
 clean-arguments words (on.Enabled name flag) named = name_alone words name named
 clean-arguments words (on.Subscribed topic name flag) (e, valid) =
     let both = and_parts (is_name topic) (is_name name) valid in
-    subst (λ xs. IsTrue (list_all (has_no 32) xs)) (sym e) (two_clean topic name (clean-name topic both.0) (clean-name name both.1))
+    subst (λ xs. IsTrue (list_all (has_no 32) xs)) (sym e)
+    (two_clean topic name (clean-name topic both.0) (clean-name name both.1))
 clean-arguments words (on.Submit now name id body) h = clean-event words now name id body h
 clean-arguments words (on.Publish now topic id body) h = clean-event words now topic id body h
 clean-arguments words (on.Purge before) h = clean-moment words before h
-clean-arguments words (on.Told seq) (e, small) = subst (λ xs. IsTrue (list_all (has_no 32) xs)) (sym e) (one_clean (decimal seq) (clean-decimal seq small))
+clean-arguments words (on.Told seq) (e, small) = subst (λ xs. IsTrue (list_all (has_no 32) xs)) (sym e)
+    (one_clean (decimal seq) (clean-decimal seq small))
 clean-arguments words on.Seal e = none_clean words e
 clean-arguments words on.Commit e = none_clean words e
 clean-arguments words on.Settle e = none_clean words e
@@ -86,12 +99,14 @@ clean-arguments words on.Halt e = none_clean words e
 clean-arguments words (on.Claim now) h = clean-moment words now h
 clean-arguments words (on.Spend delivery now post) (results, told, e, small, valid) =
     subst (λ xs. IsTrue (list_all (has_no 32) xs)) (sym e)
-    (two_and_more_clean (decimal delivery) (decimal now) results (clean-decimal delivery small) (clean-decimal now (at_most now (2 ^ 40) valid (lit< tt))) (clean-result results post told))
+    (two_and_more_clean (decimal delivery) (decimal now) results (clean-decimal delivery small)
+    (clean-decimal now (at_most now (2 ^ 40) valid (lit< tt))) (clean-result results post told))
 clean-arguments words (on.Limits name) named = name_alone words name named
 clean-arguments words (on.ShowEndpoint name) named = name_alone words name named
 clean-arguments words (on.Show name id) (e, valid) =
     let both = and_parts (is_name name) (is_msg_id id) valid in
-    subst (λ xs. IsTrue (list_all (has_no 32) xs)) (sym e) (two_clean name id (clean-name name both.0) (clean-id id both.1))
+    subst (λ xs. IsTrue (list_all (has_no 32) xs)) (sym e)
+    (two_clean name id (clean-name name both.0) (clean-id id both.1))
 
 clean-word : (call : Call) → IsTrue (has_no 32 (call_word call))
 clean-word (on.Enabled name true) = refl
@@ -104,12 +119,14 @@ some_word : (words rest : List (List ℕ)) (word : List ℕ) → words ≡ word 
 some_word words rest word e none = cc
 
 -- the words of a call are the parts of its line
-pub parts_of_call : (text : List ℕ) (words : List (List ℕ)) (call : Call) → text ≡ line words → IsCall words call → HasParts 32 text words
+pub parts_of_call : (text : List ℕ) (words : List (List ℕ)) (call : Call) → text ≡ line words → IsCall words call
+    → HasParts 32 text words
 parts_of_call text words call e (arguments, is, told) =
     let clean : IsTrue (list_all (has_no 32) words) = rw (is, clean-word call) (clean-arguments arguments call told) in
     (e, some_word words arguments (call_word call) is, clean)
 
-pub the_call : (text : List ℕ) (parts : List (List ℕ)) (call : Call) → HasParts 32 text parts → ReadsLine text call → IsCall parts call
+pub the_call : (text : List ℕ) (parts : List (List ℕ)) (call : Call) → HasParts 32 text parts → ReadsLine text call
+    → IsCall parts call
 the_call text parts call h (words, e, is) =
     subst (λ xs. IsCall xs call) (parts_equal 32 text words parts (parts_of_call text words call e is) h) is
 
@@ -128,11 +145,15 @@ length-named : (words : List (List ℕ)) (name : List ℕ) → words ≡ name �
 length-named words name e = let n : length words ≡ 1 = ap length e in omega (arith, n)
 
 length-arguments : (words : List (List ℕ)) (call : Call) → AreArguments words call → length words ≤ 4
-length-arguments words (on.Put name target max secrets) (word, reads, e, valid) = let n : length words ≡ 4 = ap length e in omega (arith, n)
-length-arguments words (on.Secrets name secrets) (word, reads, e, valid) = let n : length words ≡ 2 = ap length e in omega (arith, n)
+length-arguments words (on.Put name target max secrets) (word, reads, e, valid) = let n : length words ≡ 4 = ap length e
+    in omega (arith, n)
+length-arguments words (on.Secrets name secrets) (word, reads, e, valid) = let n : length words ≡ 2 = ap length e
+    in omega (arith, n)
 length-arguments words (on.Enabled name flag) (e, valid) = length-named words name e
-length-arguments words (on.Subscribed topic name flag) (e, valid) = let n : length words ≡ 2 = ap length e in omega (arith, n)
-length-arguments words (on.Submit now name id body) (word, reads, e, valid) = let n : length words ≡ 4 = ap length e in omega (arith, n)
+length-arguments words (on.Subscribed topic name flag) (e, valid) = let n : length words ≡ 2 = ap length e
+    in omega (arith, n)
+length-arguments words (on.Submit now name id body) (word, reads, e, valid) = let n : length words ≡ 4 = ap length e
+    in omega (arith, n)
 length-arguments words (on.Publish now topic id body) (word, reads, e, valid) = let n : length words
     ≡ 4 = ap length e in omega (arith, n)
 length-arguments words (on.Purge before) (e, valid) = length-named words (decimal before) e
@@ -152,7 +173,8 @@ length-arguments words (on.ShowEndpoint name) (e, valid) = length-named words na
 length-arguments words (on.Show name id) (e, valid) = let n : length words ≡ 2 = ap length e in omega (arith, n)
 
 -- more words than a call has
-pub many_words : (text : List ℕ) (count : ℕ) → ((words : List (List ℕ)) → HasParts 32 text words → count ≡ length words) → 5 < count
+pub many_words : (text : List ℕ) (count : ℕ) → ((words : List (List ℕ)) → HasParts 32 text words → count ≡ length words)
+    → 5 < count
     → (call : Call) → ReadsLine text call → ⊥
 many_words text count counts many call (words, e, (arguments, is, told)) =
     let same = counts words (parts_of_call text words call e (arguments, is, told)) in
@@ -160,7 +182,8 @@ many_words text count counts many call (words, e, (arguments, is, told)) =
     let few = length-arguments arguments call told in
     omega (arith, same, many, long, few)
 
-pub few_words : (text : List ℕ) (count : ℕ) → ((words : List (List ℕ)) → HasParts 32 text words → count ≡ length words) → count ≤ 5 → HasFewWords text
+pub few_words : (text : List ℕ) (count : ℕ) → ((words : List (List ℕ)) → HasParts 32 text words → count ≡ length words)
+    → count ≤ 5 → HasFewWords text
 few_words text count counts few =
     let is = HasParts-split 32 text in
     let same = counts _ is in

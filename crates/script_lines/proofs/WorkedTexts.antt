@@ -17,7 +17,11 @@ subscribe_row : ReadsLine (codes "subscribe t a") (on.Subscribed (codes "t") (co
 subscribe_row = (codes "subscribe" ∷ codes "t" ∷ codes "a" ∷ [], refl, (codes "t" ∷ codes "a" ∷ [], refl, (refl, refl)))
 
 unsubscribe_row : ReadsLine (codes "unsubscribe t a") (on.Subscribed (codes "t") (codes "a") false)
-unsubscribe_row = (codes "unsubscribe" ∷ codes "t" ∷ codes "a" ∷ [], refl, (codes "t" ∷ codes "a" ∷ [], refl, (refl, refl)))
+unsubscribe_row = (
+  codes "unsubscribe" ∷ codes "t" ∷ codes "a" ∷ [],
+  refl,
+  (codes "t" ∷ codes "a" ∷ [], refl, (refl, refl)),
+)
 
 purge_row : ReadsLine (codes "purge 1001") (on.Purge 1001)
 unfolding digits

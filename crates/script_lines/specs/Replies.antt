@@ -50,12 +50,14 @@ range_text from to = decimal from ++ codes ".." ++ decimal to
 
 abbrev pub event_words : State → Option ℕ → ℕ → List (List ℕ)
 event_words state None attempts = state_text state ∷ codes "attempts" ∷ decimal attempts ∷ []
-event_words state (Some due) attempts = state_text state ∷ codes "due" ∷ decimal due ∷ codes "attempts" ∷ decimal attempts ∷ []
+event_words state (Some due) attempts = state_text state ∷ codes "due" ∷ decimal due ∷ codes "attempts" ∷ decimal
+    attempts ∷ []
 
 abbrev pub endpoint_words : (enabled : Bool) (pending delivered exhausted : ℕ) → List (List ℕ)
 endpoint_words enabled pending delivered exhausted =
     flag_text enabled
-    ∷ codes "pending" ∷ decimal pending ∷ codes "delivered" ∷ decimal delivered ∷ codes "exhausted" ∷ decimal exhausted ∷ []
+    ∷ codes "pending" ∷ decimal pending ∷ codes "delivered" ∷ decimal delivered ∷ codes "exhausted" ∷ decimal exhausted
+    ∷ []
 
 abbrev pub spend_text : Spend → List ℕ
 spend_text Success = codes "success"
@@ -71,7 +73,8 @@ abbrev pub spent_words : Spend → (limit in_flight : ℕ) → (staged : Option 
 spent_words spend limit in_flight None =
     spend_text spend ∷ codes "limit" ∷ decimal limit ∷ codes "inflight" ∷ decimal in_flight ∷ codes "nothing" ∷ []
 spent_words spend limit in_flight (Some seq) =
-    spend_text spend ∷ codes "limit" ∷ decimal limit ∷ codes "inflight" ∷ decimal in_flight ∷ codes "staged" ∷ decimal seq ∷ []
+    spend_text spend ∷ codes "limit" ∷ decimal limit ∷ codes "inflight" ∷ decimal in_flight ∷ codes "staged" ∷ decimal
+    seq ∷ []
 
 abbrev pub limit_words : (limit in_flight noload : ℕ) → List (List ℕ)
 limit_words limit in_flight noload =
@@ -94,7 +97,8 @@ reply_words (says.Unsealed from to) = codes "unsealed" ∷ range_text from to �
 reply_words says.Halted = codes "halted" ∷ []
 reply_words (says.Endpoint enabled pending delivered exhausted) = endpoint_words enabled pending delivered exhausted
 reply_words (says.Event state due attempts) = event_words state due attempts
-reply_words (says.Permit delivery endpoint id attempt at inflight) = permit_words delivery endpoint id attempt at inflight
+reply_words (says.Permit delivery endpoint id attempt at inflight) = permit_words delivery endpoint id attempt
+    at inflight
 reply_words says.NothingDue = codes "none" ∷ []
 reply_words (says.Spent spend limit in_flight staged) = spent_words spend limit in_flight staged
 reply_words (says.Limits limit in_flight noload) = limit_words limit in_flight noload

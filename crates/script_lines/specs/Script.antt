@@ -1,7 +1,9 @@
--- The lines of a script: which text stands for which call. A text that stands for none is a bad line. The grammar is told by
--- printing: a line has these words, and one space between.
-use Rattle.std.specs.Prelude.{◌≡◌, ◌⊎◌, ℕ, ◌<◌, ◌≤◌, ◌^◌, Bool, true, false, ◌&&◌, List, [], ◌∷◌, length, IsTrue, codes, decimal}
-use Rattle.relay_types.specs.Values.{Text, Seq, Seconds, is_name, is_msg_id, is_target, is_max_limit, is_body, is_moment, is_between}
+-- The lines of a script: which text stands for which call. A text that stands for none is a bad line. The grammar is
+-- told by printing: a line has these words, and one space between.
+use Rattle.std.specs.Prelude.{◌≡◌, ◌⊎◌, ℕ, ◌<◌, ◌≤◌, ◌^◌, Bool, true, false, ◌&&◌, List, [], ◌∷◌, length, IsTrue, codes}
+use Rattle.std.specs.Prelude.{decimal}
+use Rattle.relay_types.specs.Values.{Text, Seq, Seconds, is_name, is_msg_id, is_target, is_max_limit, is_body}
+use Rattle.relay_types.specs.Values.{is_moment, is_between}
 use Rattle.retry_table.specs.declared.post.PostResult.{PostResult}
 use Rattle.retry_table.specs.declared.post.PostResult.TheVariants.{Answered, TimedOut, Unreached, Unsent}
 use Rattle.text_lines.specs.Parts.{line, HasParts}
@@ -13,11 +15,13 @@ use Rattle.script_lines.specs.declared.call.Line.TheVariants as as_line
 
 -- the words behind the first one of a call
 abbrev pub IsPut : (words : List Text) (name target : Text) (max : ℕ) (secrets : List Text) → Type 0
-IsPut words name target max secrets = (word : List ℕ) × IsSecretsWord word secrets × (words ≡ name ∷ target ∷ decimal max ∷ word ∷ [])
+IsPut words name target max secrets = (word : List ℕ) × IsSecretsWord word secrets
+    × (words ≡ name ∷ target ∷ decimal max ∷ word ∷ [])
     × IsTrue (is_name name && (is_target target && is_max_limit max))
 
 abbrev pub IsSecrets : (words : List Text) (name : Text) (secrets : List Text) → Type 0
-IsSecrets words name secrets = (word : List ℕ) × IsSecretsWord word secrets × (words ≡ name ∷ word ∷ []) × IsTrue (is_name name)
+IsSecrets words name secrets = (word : List ℕ) × IsSecretsWord word secrets × (words ≡ name ∷ word ∷ [])
+    × IsTrue (is_name name)
 
 -- of a call that names an endpoint, and nothing else, and of one that names a topic too
 abbrev pub IsNamed : (words : List Text) (name : Text) → Type 0
@@ -40,13 +44,15 @@ IsMoment words now = (words ≡ decimal now ∷ []) × IsTrue (is_moment now)
 
 -- the words of a post's result; a round trip is in microseconds
 abbrev pub IsResult : (words : List Text) → PostResult → Type 0
-IsResult words (Answered status rtt) = (words ≡ decimal status ∷ decimal rtt ∷ []) × IsTrue (is_between 100 999 status) × (rtt < 2 ^ 63)
+IsResult words (Answered status rtt) = (words ≡ decimal status ∷ decimal rtt ∷ []) × IsTrue (is_between 100 999 status)
+    × (rtt < 2 ^ 63)
 IsResult words (TimedOut rtt) = (words ≡ codes "timeout" ∷ decimal rtt ∷ []) × (rtt < 2 ^ 63)
 IsResult words Unreached = words ≡ codes "unreached" ∷ []
 IsResult words Unsent = words ≡ codes "unsent" ∷ []
 
 abbrev pub IsSpend : (words : List Text) (delivery : Seq) (now : Seconds) (post : PostResult) → Type 0
-IsSpend words delivery now post = (results : List Text) × IsResult results post × (words ≡ decimal delivery ∷ decimal now ∷ results)
+IsSpend words delivery now post = (results : List Text) × IsResult results post
+    × (words ≡ decimal delivery ∷ decimal now ∷ results)
     × (delivery < 2 ^ 64) × IsTrue (is_moment now)
 
 abbrev pub IsShow : (words : List Text) (name id : Text) → Type 0
@@ -150,9 +156,11 @@ AreArguments words (on.Limits name) = IsNamed words name
 AreArguments words (on.ShowEndpoint name) = IsNamed words name
 AreArguments words (on.Show name id) = IsShow words name id
 
--- Memory is taken for a target and for secrets once all words are read, and for a body once the words before it are. Other words lack none.
+-- Memory is taken for a target and for secrets once all words are read, and for a body once the words before it are.
+-- Other words lack none.
 abbrev pub MayLackForPut : List (List ℕ) → Type 0
-MayLackForPut words = (name : List ℕ) × (target : List ℕ) × (max : ℕ) × (secrets : List (List ℕ)) × IsPut words name target max secrets
+MayLackForPut words = (name : List ℕ) × (target : List ℕ) × (max : ℕ) × (secrets : List (List ℕ))
+    × IsPut words name target max secrets
 
 abbrev pub MayLackForSecrets : List (List ℕ) → Type 0
 MayLackForSecrets words = (name : List ℕ) × (secrets : List (List ℕ)) × IsSecrets words name secrets

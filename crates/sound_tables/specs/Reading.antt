@@ -34,7 +34,8 @@ IsReadAs shows row None = (x : _) → ¬ shows row x
 -- nothing is changed, and all rows of the answer show these values in turn, or it begins with rows that show no values
 abbrev pub Fits : {X : Type 0} → Shows X → (sql : List ℕ) → State → State → List X → Bool → Type 0
 Fits shows sql a b xs true = IsUnchanged a b × ((rows : List Row) × Shown sql [] a b rows × AllZip shows rows xs)
-Fits shows sql a b xs false = IsUnchanged a b × ((rows : List Row) × Begins sql [] a rows × ((ys : List _) → ¬ AllZip shows rows ys))
+Fits shows sql a b xs false = IsUnchanged a b
+    × ((rows : List Row) × Begins sql [] a rows × ((ys : List _) → ¬ AllZip shows rows ys))
 
 -- all rows of the answer show the values that were found, or it begins with rows that show none
 abbrev pub Finds : {X : Type 0} → Shows X → (sql : List ℕ) → State → State → Option (Vec X Global) → Type 0
@@ -49,7 +50,8 @@ pub record IsAnswerable (db : Database) (sql : List ℕ) : Type 0 where
   pub bare : compiled.names ≡ []
   pub timeless : compiled.formats ≡ []
   pub unlisted : reads_listing db.schema sql ≡ false
-  pub taken : (limit : Option ℕ) (e : Error) → RefusesToRead limit compiled.command db [] e → (e ≡ SqliteFailure OperationInterrupted) × IsSome limit
+  pub taken : (limit : Option ℕ) (e : Error) → RefusesToRead limit compiled.command db [] e
+      → (e ≡ SqliteFailure OperationInterrupted) × IsSome limit
 
 -- a query that can be answered is refused only for memory or by the store
 abbrev pub IsFault : (sql : List ℕ) → (old new : State) → Error → Type 0
@@ -67,7 +69,8 @@ module _ {S : Type 0} (g : Ghosts S) where
   pub record Looks (old new : Held S) : Type 0 where
     pub mode : old.in_transaction ≡ false → new.in_transaction ≡ false
     pub survives : Survives (state g old) (state g new) (λ _. ⊥)
-    pub left : HasCleanDisk (state g new) → IsTrue (state g new).is_open → IsUnchanged (state g old) (state g new) ⊎ IsRolledBack (state g old) (state g new)
+    pub left : HasCleanDisk (state g new) → IsTrue (state g new).is_open → IsUnchanged (state g old) (state g new)
+        ⊎ IsRolledBack (state g old) (state g new)
 
   -- A look that tells so much of a database whose schema is known, and changes nothing. It is refused only for memory
   -- or by the store.

@@ -94,7 +94,8 @@ fn tree_of(object: &Row) -> Option<u32>
 
 // What the row of `meta` tells, where it names the relay.
 fn read_meta_at<S: Alter>(store: &mut S, tree: u32, alloc: Global) -> Result<Option<Meta>, Error>
-    ensures meta { IfOk result (λ found. IsClean (S.Store.view store.new) → ReadsMeta (S.Store.view store.old) tree found) }
+    ensures meta { IfOk result (λ found. IsClean (S.Store.view store.new)
+        → ReadsMeta (S.Store.view store.old) tree found) }
     ensures clean { OnOk result (IsClean (S.Store.view store.new) → IsClean (S.Store.view store.old)) }
     ensures failed { IfErr result (IsOfStore (S.Store.blamed store.new)) }
 {

@@ -52,7 +52,8 @@ not_both b is other = absurd (let no : true ≡ false = sym is ∙ other in cc)
 -- The rows of a history, and its words on deliveries
 
 -- the attempts at a delivery are those of its rows
-attempts_tied : (d n : ℕ) (some : List Record) → filter_map (attempt_by_row d) (filter_map attempt_row (enumerate_from n some)) ≡ filter_map (attempt_by d) some
+attempts_tied : (d n : ℕ) (some : List Record)
+    → filter_map (attempt_by_row d) (filter_map attempt_row (enumerate_from n some)) ≡ filter_map (attempt_by d) some
 attempts_tied d n [] = refl
 attempts_tied d n (Put name target max secrets ∷ rest) = attempts_tied d (n + 1) rest
 attempts_tied d n (Secrets name secrets ∷ rest) = attempts_tied d (n + 1) rest
@@ -61,7 +62,8 @@ attempts_tied d n (Subscribed topic name flag ∷ rest) = attempts_tied d (n + 1
 attempts_tied d n (Accept name id body at ∷ rest) = attempts_tied d (n + 1) rest
 attempts_tied d n (Purge moment ∷ rest) = attempts_tied d (n + 1) rest
 attempts_tied d n (Outcome delivery attempt status at ∷ rest) =
-    ap (cons_option (if delivery == d then Some (record { number = attempt; status = status; at = at }) else None)) (attempts_tied d (n + 1) rest)
+    ap (cons_option (if delivery == d then Some (record { number = attempt; status = status; at = at }) else None))
+    (attempts_tied d (n + 1) rest)
 
 -- they are all there where the delivery isn't gone
 attempts_left : (gone : ℕ → Bool) (d : ℕ) (ts : List AttemptRow) → gone d ≡ false
@@ -135,7 +137,8 @@ no_more f (x ∷ xs) = at (f x) (no_more f xs)
 by_number : (n : ℕ) (name : Text) (es : List Endpoint) (found : Endpoint) → Rises n es → finds name es ≡ Some found
     → (find (λ (e : Endpoint). e.put == found.put) es ≡ Some found) × (found.name ≡ name)
 by_number n name [] found rises is = absurd (let no = is in cc)
-by_number n name (e ∷ es) found rises is = at (λ later. by_number (e.put + 1) name es found rises.1 later) (bytes_eq e.name name) refl is
+by_number n name (e ∷ es) found rises is = at (λ later. by_number (e.put + 1) name es found rises.1 later)
+    (bytes_eq e.name name) refl is
   where
     some_is : Some e ≡ Some found → e ≡ found
     some_is h = cc
@@ -143,18 +146,27 @@ by_number n name (e ∷ es) found rises is = at (λ later. by_number (e.put + 1)
     at : (finds name es ≡ Some found → (find (λ (x : Endpoint). x.put == found.put) es ≡ Some found)
         × (found.name ≡ name)) → (b : Bool) → bytes_eq e.name name ≡ b → (if b then Some e else finds name es)
         ≡ Some found → (find (λ (x : Endpoint). x.put == found.put) (e ∷ es) ≡ Some found) × (found.name ≡ name)
-    at more true same h = subst (λ (t : Endpoint). (find (λ (x : Endpoint). x.put == t.put) (e ∷ es) ≡ Some t) × (t.name ≡ name)) (some_is h)
-        (ap (λ b. if b then Some e else find (λ (x : Endpoint). x.put == e.put) es) (eq-eqb e.put e.put refl), (bytes_eq-Decides e.name name).0 same)
+    at more true same h = subst (λ (t : Endpoint). (find (λ (x : Endpoint). x.put == t.put) (e ∷ es) ≡ Some t)
+        × (t.name ≡ name)) (some_is h) (
+          ap (λ b. if b then Some e else find (λ (x : Endpoint). x.put == e.put) es) (eq-eqb e.put e.put refl),
+          (bytes_eq-Decides e.name name).0 same,
+        )
     at more false other h =
         let rest = more h in
-        let above = finds_above (e.put + 1) name es found rises.1 h in
-        (ap (λ b. if b then Some e else find (λ (x : Endpoint). x.put == found.put) es) (ne_eqb e.put found.put (λ same. omega (arith, same, above))) ∙ rest.0, rest.1)
+        let above = finds_above (e.put + 1) name es found rises.1 h in (
+          ap (λ b. if b then Some e else find (λ (x : Endpoint). x.put == found.put) es)
+              (ne_eqb e.put found.put (λ same. omega (arith, same, above))) ∙ rest.0,
+          rest.1,
+        )
 
 -- so the name of an endpoint is that of its number
-pub name_back : (records : List Record) (name : Text) → has_endpoint records name ≡ true → name_put (rows_of records).endpoints (put_of records name) ≡ name
+pub name_back : (records : List Record) (name : Text) → has_endpoint records name ≡ true
+    → name_put (rows_of records).endpoints (put_of records name) ≡ name
 name_back records name known = at (endpoint_of records name) refl known
   where
-    at : (o : Option Endpoint) → endpoint_of records name ≡ o → is_some o ≡ true → name_put (rows_of records).endpoints (option_map_or (λ (e : Endpoint). e.put) (endpoint_of records name) 0) ≡ name
+    at : (o : Option Endpoint) → endpoint_of records name ≡ o → is_some o ≡ true
+        → name_put (rows_of records).endpoints (option_map_or (λ (e : Endpoint). e.put) (endpoint_of records name) 0)
+        ≡ name
     at None is there = absurd (let no = there in cc)
     at (Some e) is there =
         let found = by_number 0 name (endpoints records) e (puts_rise records) is in
@@ -254,8 +266,10 @@ module _ (records : List Record) where
   -- One more attempt
 
   attempted_more : (before : List AttemptRow) (row : AttemptRow) (d : DeliveryRow)
-      → at_delivery row.delivery (with_attempt_restored row.status row.at) (attempted_entry records before d) ≡ attempted_entry records (before ++ row ∷ []) d
-  attempted_more before row d = pick (row.delivery == d.seq) ∙ ap entry_after (sym (filter_map-append (attempt_by_row d.seq) before (row ∷ [])))
+      → at_delivery row.delivery (with_attempt_restored row.status row.at) (attempted_entry records before d)
+      ≡ attempted_entry records (before ++ row ∷ []) d
+  attempted_more before row d = pick (row.delivery == d.seq)
+      ∙ ap entry_after (sym (filter_map-append (attempt_by_row d.seq) before (row ∷ [])))
     where
       a : Attempt
       a = record { number = row.number; status = row.status; at = row.at }
@@ -264,13 +278,23 @@ module _ (records : List Record) where
       mine = filter_map (attempt_by_row d.seq) before
 
       entry_after : List Attempt → Entry
-      entry_after attempts = record (fresh_entry records d) { latest = progress_of d.at attempts; settled = progress_of d.at attempts }
+      entry_after attempts = record (fresh_entry records d) {
+        latest = progress_of d.at attempts;
+        settled =
+            progress_of d.at attempts;
+      }
 
-      pick : (b : Bool) → (if b then with_attempt_restored row.status row.at (entry_after mine) else entry_after mine) ≡ entry_after (mine ++ cons_option (if b then Some a else None) [])
-      pick true = λ i. record (fresh_entry records d) { latest = sym (progress_of-append d.at mine a) i; settled = sym (progress_of-append d.at mine a) i }
+      pick : (b : Bool) → (if b then with_attempt_restored row.status row.at (entry_after mine) else entry_after mine)
+          ≡ entry_after (mine ++ cons_option (if b then Some a else None) [])
+      pick true = λ i. record (fresh_entry records d) {
+        latest = sym (progress_of-append d.at mine a) i;
+        settled = sym
+            (progress_of-append d.at mine a) i;
+      }
       pick false = ap entry_after (sym (append-nil mine))
 
-  map_after : (f : Entry → Entry) (before after : DeliveryRow → Entry) → ((d : DeliveryRow) → f (before d) ≡ after d) → (ds : List DeliveryRow) → map f (map before ds) ≡ map after ds
+  map_after : (f : Entry → Entry) (before after : DeliveryRow → Entry) → ((d : DeliveryRow) → f (before d) ≡ after d)
+      → (ds : List DeliveryRow) → map f (map before ds) ≡ map after ds
   map_after f before after same [] = refl
   map_after f before after same (d ∷ ds) = λ i. same d i ∷ map_after f before after same ds i
 
@@ -408,7 +432,8 @@ module _ (records : List Record) where
       → IsReadTo (λ (a : AttemptRow). a.seq) (rows_of records).attempts (HaveAttempts loaded records) 0
   attempts_none loaded legal h =
       read_none (λ (a : AttemptRow). a.seq) (rows_of records).attempts (HaveAttempts loaded records)
-      (rising_higher (λ (a : AttemptRow). a.seq) 0 (length records) MAX_RECORDS (rows_of records).attempts (legal_length records legal) attempts_rise) (record {
+      (rising_higher (λ (a : AttemptRow). a.seq) 0 (length records) MAX_RECORDS (rows_of records).attempts
+      (legal_length records legal) attempts_rise) (record {
         entries = h.entries;
         unsettled = h.unsettled;
         next_seq = accepted_within records loaded h;
@@ -417,9 +442,11 @@ module _ (records : List Record) where
       })
 
   -- all are read
-  pub attempts_all : (loaded : Deliveries) → IsLegal records → HaveAttempts loaded records (rows_of records).attempts → AreAttempted loaded records
+  pub attempts_all : (loaded : Deliveries) → IsLegal records → HaveAttempts loaded records (rows_of records).attempts
+      → AreAttempted loaded records
   attempts_all loaded legal h = record {
-    entries = h.entries ∙ entries_tied (length records) 0 records (take_all (length records) records (omega arith)) (legal_known records legal);
+    entries = h.entries ∙ entries_tied (length records) 0 records (take_all (length records) records (omega arith))
+        (legal_known records legal);
     unsettled = h.unsettled;
     next_seq = h.next_seq;
     settled_seq = h.settled_seq;

@@ -46,15 +46,19 @@ module _ (records : List Record) where
   some_is e = cc
 
   -- a name among those of the endpoints is that of the number
-  pub named : (names : List Known) (put : Seq) (name : Text) → AreNames names records → IsNameOf names put name → name_put rows put ≡ name
-  named names put name are (k, is) = at (slice_get rows k) refl (sym (get_map known_of rows k) ∙ ap (λ ks. slice_get ks k) (sym are) ∙ is)
+  pub named : (names : List Known) (put : Seq) (name : Text) → AreNames names records → IsNameOf names put name
+      → name_put rows put ≡ name
+  named names put name are (k, is) = at (slice_get rows k) refl (sym (get_map known_of rows k)
+      ∙ ap (λ ks. slice_get ks k) (sym are) ∙ is)
     where
-      at : (o : Option EndpointRow) → slice_get rows k ≡ o → option_map known_of o ≡ Some (record { put = put; name = name }) → name_put rows put ≡ name
+      at : (o : Option EndpointRow) → slice_get rows k ≡ o
+          → option_map known_of o ≡ Some (record { put = put; name = name }) → name_put rows put ≡ name
       at None e h = absurd (let no = h in cc)
       at (Some row) e h =
           let known : known_of row ≡ record { put = put; name = name } = some_is h in
           sym (ap (λ (n : Known). name_put rows n.put) known)
-          ∙ ap (λ o. option_map_or (λ (e : EndpointRow). e.name) o []) (rising_find (λ (e : EndpointRow). e.put) 0 (length records) k rows row (endpoints_rise records) e)
+          ∙ ap (λ o. option_map_or (λ (e : EndpointRow). e.name) o [])
+          (rising_find (λ (e : EndpointRow). e.put) 0 (length records) k rows row (endpoints_rise records) e)
           ∙ ap (λ (n : Known). n.name) known
 
   pub deliveries_rise : IsRising (λ (d : DeliveryRow). d.seq) 0 (length records) (rows_of records).deliveries
@@ -79,11 +83,14 @@ module _ (records : List Record) where
       at_seq k (Purge moment) d is = absurd (let no = is in cc)
 
   -- the event of one more row, for the endpoint of this name
-  pub accepted_more : (names : List Known) (row : DeliveryRow) (name : Text) (old new : Deliveries) → AreNames names records → IsNameOf names row.endpoint name
-      → new.book ≡ with_event old.book row.seq name row.id row.body row.at → new.clock ≡ max old.clock row.at → Accepts old new (row ∷ []) records
+  pub accepted_more : (names : List Known) (row : DeliveryRow) (name : Text) (old new : Deliveries)
+      → AreNames names records → IsNameOf names row.endpoint name
+      → new.book ≡ with_event old.book row.seq name row.id row.body row.at → new.clock ≡ max old.clock row.at
+      → Accepts old new (row ∷ []) records
   accepted_more names row name old new are is book clock before after parted h = record {
     entries = ap (λ (b : BookValue). b.entries) book
-        ∙ (λ i. h.entries i ++ new_entry row.seq (sym (named names row.endpoint name are is) i) row.id row.body row.at ∷ [])
+        ∙ (λ i. h.entries i ++ new_entry row.seq (sym (named names row.endpoint name are is) i) row.id row.body row.at
+        ∷ [])
         ∙ sym (map-append (fresh_entry records) before (row ∷ []));
     unsettled = ap (λ (b : BookValue). b.unsettled) book ∙ h.unsettled;
     left = λ rest following.
@@ -91,7 +98,8 @@ module _ (records : List Record) where
         (sym (ap (λ (b : BookValue). b.next_seq) book))
         (h.left (row ∷ rest) (following ∙ append_assoc before (row ∷ []) rest)).1;
     settled_seq = ap (λ (b : BookValue). b.settled_seq) book ∙ h.settled_seq;
-    clock = clock ∙ ap (λ c. max c row.at) h.clock ∙ later ∙ ap greatest (sym (map-append (λ (d : DeliveryRow). d.at) before (row ∷ [])));
+    clock = clock ∙ ap (λ c. max c row.at) h.clock ∙ later
+        ∙ ap greatest (sym (map-append (λ (d : DeliveryRow). d.at) before (row ∷ [])));
   }
     where
       moments : List Seconds
@@ -209,11 +217,13 @@ module _ (records : List Record) where
   accepted_within loaded h = h.left [] (sym (append-nil (rows_of records).deliveries))
 
 -- nothing is read yet
-pub accepted_none : (records : List Record) (loaded : Deliveries) → IsLegal records → loaded.book ≡ empty_book → loaded.clock ≡ 0
+pub accepted_none : (records : List Record) (loaded : Deliveries) → IsLegal records → loaded.book ≡ empty_book
+    → loaded.clock ≡ 0
     → IsReadTo (λ (d : DeliveryRow). d.seq) (rows_of records).deliveries (AreAccepted loaded records) 0
 accepted_none records loaded legal book clock =
     read_none (λ (d : DeliveryRow). d.seq) (rows_of records).deliveries (AreAccepted loaded records)
-    (rising_higher (λ (d : DeliveryRow). d.seq) 0 (length records) MAX_RECORDS (rows_of records).deliveries (legal_length records legal) (deliveries_rise records)) (record {
+    (rising_higher (λ (d : DeliveryRow). d.seq) 0 (length records) MAX_RECORDS (rows_of records).deliveries
+    (legal_length records legal) (deliveries_rise records)) (record {
       entries = ap (λ (b : BookValue). b.entries) book;
       unsettled = ap (λ (b : BookValue). b.unsettled) book;
       left = λ after parted.

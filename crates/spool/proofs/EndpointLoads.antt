@@ -9,7 +9,8 @@ use Rattle.std.proofs.lemmas.Bool.{eq-eqb, ne_eqb}
 use Rattle.std.proofs.lemmas.List.{map-append}
 use Rattle.std.proofs.lemmas.List.Elements.{filter-append}
 use Rattle.relay_types.specs.declared.record.Record.{Record}
-use Rattle.relay_types.specs.declared.record.Record.TheVariants.{Put, Secrets, Enabled, Accept, Outcome, Subscribed, Purge}
+use Rattle.relay_types.specs.declared.record.Record.TheVariants.{Put, Secrets, Enabled, Accept, Outcome, Subscribed}
+use Rattle.relay_types.specs.declared.record.Record.TheVariants.{Purge}
 use Rattle.relay_types.specs.Endpoints.{Endpoint, endpoint_by, endpoints, secrets_of}
 use Rattle.relay_types.specs.declared.limits.TheConstants.{MAX_RECORDS}
 use Rattle.relay_types.specs.Legal.{IsLegal}
@@ -39,22 +40,30 @@ has_put p s = s.endpoint == p
 abbrev row_at : ℕ → ℕ × List ℕ → SecretRow
 row_at put s = record { endpoint = put; place = s.0; secret = s.1 }
 
-all_own : (p n : ℕ) (secrets : List (List ℕ)) → filter (has_put p) (map (row_at p) (enumerate_from n secrets)) ≡ map (row_at p) (enumerate_from n secrets)
+all_own : (p n : ℕ) (secrets : List (List ℕ)) → filter (has_put p) (map (row_at p) (enumerate_from n secrets)) ≡ map
+    (row_at p) (enumerate_from n secrets)
 all_own p n [] = refl
 all_own p n (s ∷ rest) = rw (eq-eqb p p refl) (ap (λ more. row_at p (n, s) ∷ more) (all_own p (n + 1) rest))
 
-none_own : (p q n : ℕ) (secrets : List (List ℕ)) → (q ≡ p → ⊥) → filter (has_put p) (map (row_at q) (enumerate_from n secrets)) ≡ []
+none_own : (p q n : ℕ) (secrets : List (List ℕ)) → (q ≡ p → ⊥)
+    → filter (has_put p) (map (row_at q) (enumerate_from n secrets)) ≡ []
 none_own p q n [] other = refl
 none_own p q n (s ∷ rest) other = rw (ne_eqb q p other) (none_own p q (n + 1) rest other)
 
-places_rise : (p n : ℕ) (secrets : List (List ℕ)) → IsRising (λ (s : SecretRow). s.place) n (n + length secrets) (map (row_at p) (enumerate_from n secrets))
+places_rise : (p n : ℕ) (secrets : List (List ℕ)) → IsRising (λ (s : SecretRow). s.place) n (n + length secrets)
+    (map (row_at p) (enumerate_from n secrets))
 places_rise p n [] = omega arith
-places_rise p n (s ∷ rest) = (omega arith, subst (λ m. IsRising (λ (t : SecretRow). t.place) (n + 1) m (map (row_at p) (enumerate_from (n + 1) rest))) moved (places_rise p (n + 1) rest))
+places_rise p n (s ∷ rest) = (
+  omega arith,
+  subst (λ m. IsRising (λ (t : SecretRow). t.place) (n + 1) m
+      (map (row_at p) (enumerate_from (n + 1) rest))) moved (places_rise p (n + 1) rest),
+)
   where
     moved : n + 1 + length rest ≡ n + suc (length rest)
     moved = omega arith
 
-secrets_back : (p n : ℕ) (secrets : List (List ℕ)) → map (λ (s : SecretRow). s.secret) (map (row_at p) (enumerate_from n secrets)) ≡ secrets
+secrets_back : (p n : ℕ) (secrets : List (List ℕ))
+    → map (λ (s : SecretRow). s.secret) (map (row_at p) (enumerate_from n secrets)) ≡ secrets
 secrets_back p n [] = refl
 secrets_back p n (s ∷ rest) = ap (λ more. s ∷ more) (secrets_back p (n + 1) rest)
 
@@ -77,26 +86,33 @@ module _ (records : List Record) where
   none_above p n [] l h = refl
   none_above p n (e ∷ es) l h =
       filter-append (has_put p) (secrets_at e) (flat_map secrets_at es)
-      ∙ λ i. none_own p e.put 0 (secrets_of records e.name) (λ same. omega (arith, same, l, h.0)) i ++ none_above p (e.put + 1) es (omega (arith, l, h.0)) h.1 i
+      ∙ λ i. none_own p e.put 0 (secrets_of records e.name) (λ same. omega (arith, same, l, h.0)) i ++ none_above p
+      (e.put + 1) es (omega (arith, l, h.0)) h.1 i
 
   -- a row among those of rising endpoints stands from there on
-  row_above : (n : ℕ) (es : List Endpoint) (before after : List EndpointRow) (row : EndpointRow) → Rises n es → map (endpoint_row records) es ≡ before ++ (row ∷ after) → n ≤ row.put
+  row_above : (n : ℕ) (es : List Endpoint) (before after : List EndpointRow) (row : EndpointRow) → Rises n es
+      → map (endpoint_row records) es ≡ before ++ (row ∷ after) → n ≤ row.put
   row_above n [] [] after row h is = absurd (let no = is in cc)
   row_above n [] (b ∷ before) after row h is = absurd (let no = is in cc)
   row_above n (e ∷ es) [] after row h is = subst (λ (r : EndpointRow). n ≤ r.put) (head is) h.0
     where
       head : endpoint_row records e ∷ map (endpoint_row records) es ≡ row ∷ after → endpoint_row records e ≡ row
       head same = cc
-  row_above n (e ∷ es) (b ∷ before) after row h is = let more = row_above (e.put + 1) es before after row h.1 (tail is) in omega (arith, more, h.0)
+  row_above n (e ∷ es) (b ∷ before) after row h is = let more = row_above (e.put + 1) es before after row h.1 (tail is)
+      in omega (arith, more, h.0)
     where
-      tail : endpoint_row records e ∷ map (endpoint_row records) es ≡ b ∷ (before ++ (row ∷ after)) → map (endpoint_row records) es ≡ before ++ (row ∷ after)
+      tail : endpoint_row records e ∷ map (endpoint_row records) es ≡ b ∷ (before ++ (row ∷ after))
+          → map (endpoint_row records) es ≡ before ++ (row ∷ after)
       tail same = cc
 
-  own_secrets : (n : ℕ) (es : List Endpoint) (before after : List EndpointRow) (row : EndpointRow) → Rises n es → map (endpoint_row records) es ≡ before ++ (row ∷ after)
+  own_secrets : (n : ℕ) (es : List Endpoint) (before after : List EndpointRow) (row : EndpointRow) → Rises n es
+      → map (endpoint_row records) es ≡ before ++ (row ∷ after)
       → filter (has_put row.put) (flat_map secrets_at es) ≡ secret_rows row.put (secrets_of records row.name)
   own_secrets n [] [] after row h is = absurd (let no = is in cc)
   own_secrets n [] (b ∷ before) after row h is = absurd (let no = is in cc)
-  own_secrets n (e ∷ es) [] after row h is = subst (λ (r : EndpointRow). filter (has_put r.put) (flat_map secrets_at (e ∷ es)) ≡ secret_rows r.put (secrets_of records r.name)) (head is) (
+  own_secrets n (e ∷ es) [] after row h is = subst
+      (λ (r : EndpointRow). filter (has_put r.put) (flat_map secrets_at (e ∷ es)) ≡ secret_rows r.put
+      (secrets_of records r.name)) (head is) (
       filter-append (has_put e.put) (secrets_at e) (flat_map secrets_at es)
       ∙ (λ i. all_own e.put 0 (secrets_of records e.name) i ++ none_above e.put (e.put + 1) es (omega arith) h.1 i)
       ∙ append-nil (secrets_at e))
@@ -105,9 +121,11 @@ module _ (records : List Record) where
       head same = cc
   own_secrets n (e ∷ es) (b ∷ before) after row h is =
       filter-append (has_put row.put) (secrets_at e) (flat_map secrets_at es)
-      ∙ λ i. none_own row.put e.put 0 (secrets_of records e.name) differs i ++ own_secrets (e.put + 1) es before after row h.1 (tail is) i
+      ∙ λ i. none_own row.put e.put 0 (secrets_of records e.name) differs i ++ own_secrets (e.put + 1) es before after
+      row h.1 (tail is) i
     where
-      tail : endpoint_row records e ∷ map (endpoint_row records) es ≡ b ∷ (before ++ (row ∷ after)) → map (endpoint_row records) es ≡ before ++ (row ∷ after)
+      tail : endpoint_row records e ∷ map (endpoint_row records) es ≡ b ∷ (before ++ (row ∷ after))
+          → map (endpoint_row records) es ≡ before ++ (row ∷ after)
       tail same = cc
 
       above : e.put + 1 ≤ row.put
@@ -135,7 +153,8 @@ module _ (records : List Record) where
 
   pub endpoints_rise : IsRising (λ (e : EndpointRow). e.put) 0 (length records) (rows_of records).endpoints
   endpoints_rise = rising_map (endpoint_row records) (λ (e : EndpointRow). e.put) 0 (length records) (endpoints records)
-      (subst (λ m. IsRising (λ (e : Endpoint). e.put) 0 m (endpoints records)) whole (rows_rise endpoint_by (λ (e : Endpoint). e.put) at_seq 0 records))
+      (subst (λ m. IsRising (λ (e : Endpoint). e.put) 0 m (endpoints records)) whole
+      (rows_rise endpoint_by (λ (e : Endpoint). e.put) at_seq 0 records))
     where
       whole : 0 + length records ≡ length records
       whole = omega arith
@@ -156,11 +175,13 @@ module _ (records : List Record) where
   pub restored_more : (row : EndpointRow) (secrets : List (List ℕ)) (old new : Endpoints)
       → ((before after : List EndpointRow) → (rows_of records).endpoints ≡ before ++ (row ∷ after)
       → secrets ≡ secrets_of records row.name)
-      → new.book ≡ with_restored old.book (restored_entry row.put row.name row.url row.max secrets row.enabled) → new.names.items ≡ old.names.items ++ known_of row ∷ []
+      → new.book ≡ with_restored old.book (restored_entry row.put row.name row.url row.max secrets row.enabled)
+      → new.names.items ≡ old.names.items ++ known_of row ∷ []
       → Restores old new (row ∷ []) records
   restored_more row secrets old new given book names before after is h = record {
     entries = ap (λ (b : BookValue). b.entries) book
-        ∙ (λ i. h.entries i ++ restored_entry row.put row.name row.url row.max (given before after is i) row.enabled ∷ [])
+        ∙ (λ i. h.entries i ++ restored_entry row.put row.name row.url row.max (given before after is i) row.enabled
+        ∷ [])
         ∙ sym (map-append (entry_of_row records) before (row ∷ []));
     changes = ap (λ (b : BookValue). b.changes) book ∙ h.changes;
     topics = ap (λ (b : BookValue). b.topics) book ∙ h.topics;
@@ -173,7 +194,8 @@ module _ (records : List Record) where
   }
     where
       within : row.put < length records
-      within = rising_at (λ (e : EndpointRow). e.put) 0 (length records) before after row (subst (IsRising (λ (e : EndpointRow). e.put) 0 (length records)) is endpoints_rise)
+      within = rising_at (λ (e : EndpointRow). e.put) 0 (length records) before after row
+          (subst (IsRising (λ (e : EndpointRow). e.put) 0 (length records)) is endpoints_rise)
 
   -- the endpoint of the next row may be restored
   pub may_restore_next : (loaded : Endpoints) (row : EndpointRow) → IsLegal records
@@ -227,7 +249,8 @@ pub restored_none : (records : List Record) (loaded : Endpoints) → IsLegal rec
     (AreRestored loaded records) 0
 restored_none records loaded legal book names =
     read_none (λ (e : EndpointRow). e.put) (rows_of records).endpoints (AreRestored loaded records)
-    (rising_higher (λ (e : EndpointRow). e.put) 0 (length records) MAX_RECORDS (rows_of records).endpoints (legal_length records legal) (endpoints_rise records)) (record {
+    (rising_higher (λ (e : EndpointRow). e.put) 0 (length records) MAX_RECORDS (rows_of records).endpoints
+    (legal_length records legal) (endpoints_rise records)) (record {
       entries = ap (λ (b : BookValue). b.entries) book;
       changes = ap (λ (b : BookValue). b.changes) book;
       topics = ap (λ (b : BookValue). b.topics) book;

@@ -30,7 +30,8 @@ some_map f None = refl
 some_map f (Some x) = refl
 
 pub has_name-is : (records : List Record) (name : List ℕ) → has_name (rows_of records) name ≡ has_endpoint records name
-has_name-is records name = ap is_some (find_map (endpoint_row records) (λ (e : EndpointRow). bytes_eq e.name name) (endpoints records)) ∙ some_map (endpoint_row records) (endpoint_of records name)
+has_name-is records name = ap is_some (find_map (endpoint_row records) (λ (e : EndpointRow). bytes_eq e.name name)
+    (endpoints records)) ∙ some_map (endpoint_row records) (endpoint_of records name)
 
 -- Two names with one Put are the same
 
@@ -52,7 +53,8 @@ stands_at : (n : ℕ) (some : List Record) (name : List ℕ) (e : Endpoint)
     → find (λ (t : Endpoint). bytes_eq t.name name) (filter_map endpoint_by (enumerate_from n some)) ≡ Some e
     → StandsAt n some e × (bytes_eq e.name name ≡ true)
 stands_at n [] name e is = absurd (let h = is in cc)
-stands_at n (Put other target max secrets ∷ rest) name e is = at (bytes_eq other name) refl is (stands_at (n + 1) rest name e)
+stands_at n (Put other target max secrets ∷ rest) name e is = at (bytes_eq other name) refl
+    is (stands_at (n + 1) rest name e)
   where
     new : Endpoint
     new = record { put = n; name = other; target = target; max = max }
@@ -60,12 +62,18 @@ stands_at n (Put other target max secrets ∷ rest) name e is = at (bytes_eq oth
     more : Option Endpoint
     more = find (λ (t : Endpoint). bytes_eq t.name name) (filter_map endpoint_by (enumerate_from (n + 1) rest))
 
-    at : (b : Bool) → bytes_eq other name ≡ b → (if b then Some new else find (λ (t : Endpoint). bytes_eq t.name name) (filter_map endpoint_by (enumerate_from (n + 1) rest))) ≡ Some e
-        → (find (λ (t : Endpoint). bytes_eq t.name name) (filter_map endpoint_by (enumerate_from (n + 1) rest)) ≡ Some e → StandsAt (n + 1) rest e × (bytes_eq e.name name ≡ true))
+    at : (b : Bool) → bytes_eq other name ≡ b
+        → (if b then Some new else find (λ (t : Endpoint). bytes_eq t.name name)
+        (filter_map endpoint_by (enumerate_from (n + 1) rest))) ≡ Some e
+        → (find (λ (t : Endpoint). bytes_eq t.name name) (filter_map endpoint_by (enumerate_from (n + 1) rest)) ≡ Some e
+        → StandsAt (n + 1) rest e × (bytes_eq e.name name ≡ true))
         → StandsAt n (Put other target max secrets ∷ rest) e × (bytes_eq e.name name ≡ true)
     at true same is rest_is =
-        let new_is : record { put = n; name = other; target = target; max = max } ≡ e = some_is is in
-        ((0, ap (λ (t : Endpoint). t.put) (sym new_is) ∙ omega arith, ap (λ (t : Endpoint). Some t.name) new_is), ap (λ (t : Endpoint). bytes_eq t.name name) (sym new_is) ∙ same)
+        let new_is : record { put = n; name = other; target = target; max = max } ≡ e = some_is is in (
+          (0, ap (λ (t : Endpoint). t.put) (sym new_is) ∙ omega arith, ap (λ (t : Endpoint). Some t.name) new_is),
+          ap
+              (λ (t : Endpoint). bytes_eq t.name name) (sym new_is) ∙ same,
+        )
     at false same is rest_is =
         let found = rest_is is in
         (later n (Put other target max secrets) rest e found.0, found.1)
@@ -73,29 +81,36 @@ stands_at n (entry ∷ rest) name e is =
     let found = stands_at (n + 1) rest name e is in
     (later n entry rest e found.0, found.1)
 
-same_name : (records : List Record) (a b : List ℕ) (e f : Endpoint) → endpoint_of records a ≡ Some e → endpoint_of records b ≡ Some f → e.put ≡ f.put → a ≡ b
+same_name : (records : List Record) (a b : List ℕ) (e f : Endpoint) → endpoint_of records a ≡ Some e
+    → endpoint_of records b ≡ Some f → e.put ≡ f.put → a ≡ b
 same_name records a b e f is_e is_f same =
     let at_e = stands_at 0 records a e is_e in
     let at_f = stands_at 0 records b f is_f in
     let place : at_e.0.0 ≡ at_f.0.0 = omega (arith, at_e.0.1, at_f.0.1, same) in
-    let names : e.name ≡ f.name = some_is (sym at_e.0.2 ∙ ap (λ k. option_and_then name_in (slice_get records k)) place ∙ at_f.0.2) in
+    let names : e.name ≡ f.name = some_is (sym at_e.0.2 ∙ ap (λ k. option_and_then name_in (slice_get records k)) place
+    ∙ at_f.0.2) in
     sym ((bytes_eq-Decides e.name a).0 at_e.1) ∙ names ∙ (bytes_eq-Decides f.name b).0 at_f.1
 
-same_put : (records : List Record) (a b : List ℕ) → has_endpoint records a ≡ true → has_endpoint records b ≡ true → put_of records a ≡ put_of records b → a ≡ b
+same_put : (records : List Record) (a b : List ℕ) → has_endpoint records a ≡ true → has_endpoint records b ≡ true
+    → put_of records a ≡ put_of records b → a ≡ b
 same_put records a b has_a has_b same = at (endpoint_of records a) (endpoint_of records b) refl refl has_a has_b same
   where
-    at : (o p : Option Endpoint) → endpoint_of records a ≡ o → endpoint_of records b ≡ p → is_some o ≡ true → is_some p ≡ true
+    at : (o p : Option Endpoint) → endpoint_of records a ≡ o → endpoint_of records b ≡ p → is_some o ≡ true
+        → is_some p ≡ true
         → option_map_or (λ (e : Endpoint). e.put) o 0 ≡ option_map_or (λ (e : Endpoint). e.put) p 0 → a ≡ b
     at (Some e) (Some f) is_e is_f h i same = same_name records a b e f is_e is_f same
     at None p is_e is_f h i same = absurd (let e = h in cc)
     at (Some e) None is_e is_f h i same = absurd (let e = i in cc)
 
-put_tells : (records : List Record) (a b : List ℕ) → has_endpoint records a ≡ true → has_endpoint records b ≡ true → bytes_eq a b ≡ (put_of records a == put_of records b)
+put_tells : (records : List Record) (a b : List ℕ) → has_endpoint records a ≡ true → has_endpoint records b ≡ true
+    → bytes_eq a b ≡ (put_of records a == put_of records b)
 put_tells records a b has_a has_b = at (bytes_eq a b) refl
   where
     at : (t : Bool) → bytes_eq a b ≡ t → t ≡ (put_of records a == put_of records b)
     at true e = sym (eq-eqb (put_of records a) (put_of records b) (ap (put_of records) ((bytes_eq-Decides a b).0 e)))
-    at false e = sym (ne_eqb (put_of records a) (put_of records b) (λ same. absurd (let yes = (bytes_eq-Decides a b).1 (same_put records a b has_a has_b same) in let no = e in cc)))
+    at false e = sym (ne_eqb (put_of records a) (put_of records b)
+        (λ same. absurd (let yes = (bytes_eq-Decides a b).1 (same_put records a b has_a has_b same) in let no = e
+        in cc)))
 
 -- An event is known exactly where its row is there
 
@@ -161,32 +176,44 @@ has_event-is records name id known has =
 -- the look-ups allow what may follow
 
 pub allows_put-is : (records : List Record) (name : List ℕ) → allows_put (rows_of records) name ≡ may_put records name
-allows_put-is records name = λ i. not (has_name-is records name i) && nat_lt (length-map (endpoints records) (endpoint_row records) i) MAX_ENDPOINTS
+allows_put-is records name = λ i. not (has_name-is records name i)
+    && nat_lt (length-map (endpoints records) (endpoint_row records) i) MAX_ENDPOINTS
 
-allows_accept-is : (records : List Record) (name id : List ℕ) → IsLegal records → allows_accept (rows_of records) name id ≡ may_accept records name id
+allows_accept-is : (records : List Record) (name id : List ℕ) → IsLegal records
+    → allows_accept (rows_of records) name id ≡ may_accept records name id
 allows_accept-is records name id legal = by (has_endpoint records name) refl
   where
-    by : (b : Bool) → has_endpoint records name ≡ b → allows_accept (rows_of records) name id ≡ has_endpoint records name && not (is_some (known_as records name id))
-    by true has = λ i. has_name-is records name i && not (has_event-is records name id (legal_known records legal) has i)
+    by : (b : Bool) → has_endpoint records name ≡ b → allows_accept (rows_of records) name id ≡ has_endpoint records
+        name && not (is_some (known_as records name id))
+    by true has = λ i. has_name-is records name i
+        && not (has_event-is records name id (legal_known records legal) has i)
     by false lacks =
-        ap (λ b. b && not (has_event (rows_of records) (put_by_name (rows_of records) name) id)) (has_name-is records name ∙ lacks)
+        ap (λ b. b && not (has_event (rows_of records) (put_by_name (rows_of records) name) id))
+        (has_name-is records name ∙ lacks)
         ∙ ap (λ b. b && not (is_some (known_as records name id))) (sym lacks)
 
-pub allowed_for-is : (records : List Record) (name id : List ℕ) → IsLegal records → allowed_for (rows_of records) name id ≡ accepting records name id
-allowed_for-is records name id legal = λ i. if allows_accept-is records name id legal i then Some (put_by_name-is records name i) else None
+pub allowed_for-is : (records : List Record) (name id : List ℕ) → IsLegal records
+    → allowed_for (rows_of records) name id ≡ accepting records name id
+allowed_for-is records name id legal = λ i. if allows_accept-is records name id legal i then Some
+    (put_by_name-is records name i) else None
 
 -- No two endpoints of a legal history have one name
 
 abbrev Once : List Endpoint → Type 0
 Once es = (name : List ℕ) → length (filter (λ (e : Endpoint). bytes_eq e.name name) es) ≤ 1
 
-none_named : (es : List Endpoint) (name : List ℕ) → is_some (find (λ (e : Endpoint). bytes_eq e.name name) es) ≡ false → filter (λ (e : Endpoint). bytes_eq e.name name) es ≡ []
-none_named es name h = none_if_unnamed (filter (λ (e : Endpoint). bytes_eq e.name name) es) (ap is_some (sym (find_is_first (λ (e : Endpoint). bytes_eq e.name name) es)) ∙ h)
+none_named : (es : List Endpoint) (name : List ℕ) → is_some (find (λ (e : Endpoint). bytes_eq e.name name) es) ≡ false
+    → filter (λ (e : Endpoint). bytes_eq e.name name) es ≡ []
+none_named es name h = none_if_unnamed (filter (λ (e : Endpoint). bytes_eq e.name name) es)
+    (ap is_some (sym (find_is_first (λ (e : Endpoint). bytes_eq e.name name) es)) ∙ h)
 
-once_more : (es : List Endpoint) (new : Endpoint) → Once es → is_some (find (λ (e : Endpoint). bytes_eq e.name new.name) es) ≡ false → Once (es ++ new ∷ [])
-once_more es new once lacks other = rw (filter-append (λ (e : Endpoint). bytes_eq e.name other) es (new ∷ [])) (at (bytes_eq new.name other) refl)
+once_more : (es : List Endpoint) (new : Endpoint) → Once es
+    → is_some (find (λ (e : Endpoint). bytes_eq e.name new.name) es) ≡ false → Once (es ++ new ∷ [])
+once_more es new once lacks other = rw (filter-append (λ (e : Endpoint). bytes_eq e.name other) es (new ∷ []))
+    (at (bytes_eq new.name other) refl)
   where
-    at : (b : Bool) → bytes_eq new.name other ≡ b → length (filter (λ (e : Endpoint). bytes_eq e.name other) es ++ cond b (new ∷ []) []) ≤ 1
+    at : (b : Bool) → bytes_eq new.name other ≡ b
+        → length (filter (λ (e : Endpoint). bytes_eq e.name other) es ++ cond b (new ∷ []) []) ≤ 1
     at true e =
         let none : filter (λ (e : Endpoint). bytes_eq e.name other) es
         ≡ [] = subst (λ n. filter (λ (e : Endpoint). bytes_eq e.name n) es ≡ [])
@@ -194,7 +221,8 @@ once_more es new once lacks other = rw (filter-append (λ (e : Endpoint). bytes_
         rw none (omega arith)
     at false e = rw (append-nil (filter (λ (e : Endpoint). bytes_eq e.name other) es)) (once other)
 
-once_step : (before : List Record) (entry : Record) → Once (endpoints before) → may_follow before entry ≡ true → Once (endpoints before ++ cons_option (endpoint_by (length before, entry)) [])
+once_step : (before : List Record) (entry : Record) → Once (endpoints before) → may_follow before entry ≡ true
+    → Once (endpoints before ++ cons_option (endpoint_by (length before, entry)) [])
 once_step before (Put name target max secrets) once follows =
     once_more (endpoints before) (record { put = length before; name = name; target = target; max = max }) once
     (lacks (has_endpoint before name) (and_first (not (has_endpoint before name)) _ follows))
@@ -204,7 +232,8 @@ once_step before (Put name target max secrets) once follows =
     lacks false e = refl
 once_step before entry once follows = subst Once (sym (append-nil (endpoints before))) once
 
-all_once : (before later : List Record) → Once (endpoints before) → may_all_follow before later ≡ true → Once (endpoints (before ++ later))
+all_once : (before later : List Record) → Once (endpoints before) → may_all_follow before later ≡ true
+    → Once (endpoints (before ++ later))
 all_once before [] once h = subst (λ r. Once (endpoints r)) (sym (append-nil before)) once
 all_once before (entry ∷ later) once h =
     let follows = and_first (may_follow before entry) (may_all_follow (before ++ entry ∷ []) later) h in
@@ -219,11 +248,13 @@ filter_map_row : (records : List Record) (name : List ℕ) (es : List Endpoint)
 filter_map_row records name [] = refl
 filter_map_row records name (e ∷ es) = at (bytes_eq e.name name) (filter_map_row records name es)
   where
-    at : (b : Bool) → length (filter (λ (t : EndpointRow). bytes_eq t.name name) (map (endpoint_row records) es)) ≡ length (filter (λ (t : Endpoint). bytes_eq t.name name) es)
+    at : (b : Bool) → length (filter (λ (t : EndpointRow). bytes_eq t.name name) (map (endpoint_row records) es))
+        ≡ length (filter (λ (t : Endpoint). bytes_eq t.name name) es)
         → length (cond b (endpoint_row records e ∷ filter (λ (t : EndpointRow). bytes_eq t.name name)
         (map (endpoint_row records) es))
         (filter (λ (t : EndpointRow). bytes_eq t.name name) (map (endpoint_row records) es)))
-        ≡ length (cond b (e ∷ filter (λ (t : Endpoint). bytes_eq t.name name) es) (filter (λ (t : Endpoint). bytes_eq t.name name) es))
+        ≡ length (cond b (e ∷ filter (λ (t : Endpoint). bytes_eq t.name name) es)
+        (filter (λ (t : Endpoint). bytes_eq t.name name) es))
     at true h = ap suc h
     at false h = h
 

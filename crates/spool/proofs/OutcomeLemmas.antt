@@ -41,7 +41,8 @@ module _ (all : List Record) (seq : ℕ) where
   none_behind : (n : ℕ) (some : List Record) → seq < n → rows_from n some ≡ []
   none_behind n [] h = refl
   none_behind n (Accept name id body at ∷ rest) h =
-      ap (λ b. cond b (record { seq = n; endpoint = put_of all name; id = id; at = at; body = body } ∷ rows_from (n + 1) rest) (rows_from (n + 1) rest)) (ne_eqb n seq (λ same. omega (arith, same, h)))
+      ap (λ b. cond b (record { seq = n; endpoint = put_of all name; id = id; at = at; body = body } ∷ rows_from
+      (n + 1) rest) (rows_from (n + 1) rest)) (ne_eqb n seq (λ same. omega (arith, same, h)))
       ∙ none_behind (n + 1) rest (omega (arith, h))
   none_behind n (entry ∷ rest) h = none_behind (n + 1) rest (omega (arith, h))
 
@@ -93,22 +94,27 @@ first_is : (o : Option ℕ) → slice_get (cons_option o []) 0 ≡ o
 first_is None = refl
 first_is (Some x) = refl
 
-found_endpoint : (records : List Record) (d : ℕ) (found : Option ℕ) → IsEndpointOf d (rows_of records) found → found ≡ endpoint_put records d
+found_endpoint : (records : List Record) (d : ℕ) (found : Option ℕ) → IsEndpointOf d (rows_of records) found
+    → found ≡ endpoint_put records d
 found_endpoint records d found h =
     let all = endpoints_of_event records d in
     h.2
-    ∙ ap (λ puts. slice_get puts 0) (same_if_short (cons_option (endpoint_put records d) []) h.0 (short (endpoint_put records d)) (subst (λ xs. IsPermutation xs h.0) all h.1))
+    ∙ ap (λ puts. slice_get puts 0) (same_if_short (cons_option (endpoint_put records d) []) h.0
+    (short (endpoint_put records d)) (subst (λ xs. IsPermutation xs h.0) all h.1))
     ∙ first_is (endpoint_put records d)
 
 -- the table of changes finds the same one
-put_by_delivery-is : (records : List Record) (d : ℕ) → put_by_delivery (rows_of records) d ≡ option_map_or (λ put. put) (endpoint_put records d) 0
+put_by_delivery-is : (records : List Record) (d : ℕ) → put_by_delivery (rows_of records) d ≡ option_map_or (λ put. put)
+    (endpoint_put records d) 0
 put_by_delivery-is records d =
-    ap (λ o. option_map_or (λ (r : DeliveryRow). r.endpoint) o 0) (find_is_first (λ (r : DeliveryRow). r.seq == d) (rows_of records).deliveries)
+    ap (λ o. option_map_or (λ (r : DeliveryRow). r.endpoint) o 0)
+    (find_is_first (λ (r : DeliveryRow). r.seq == d) (rows_of records).deliveries)
     ∙ at (filter (λ (r : DeliveryRow). r.seq == d) (rows_of records).deliveries)
     ∙ ap (λ puts. option_map_or (λ put. put) (slice_get puts 0) 0) (endpoints_of_event records d)
     ∙ ap (λ o. option_map_or (λ put. put) o 0) (first_is (endpoint_put records d))
   where
-    at : (rows : List DeliveryRow) → option_map_or (λ (r : DeliveryRow). r.endpoint) (slice_get rows 0) 0 ≡ option_map_or (λ put. put) (slice_get (map (λ (r : DeliveryRow). r.endpoint) rows) 0) 0
+    at : (rows : List DeliveryRow) → option_map_or (λ (r : DeliveryRow). r.endpoint) (slice_get rows 0) 0
+        ≡ option_map_or (λ put. put) (slice_get (map (λ (r : DeliveryRow). r.endpoint) rows) 0) 0
     at [] = refl
     at (r ∷ rows) = refl
 
@@ -120,7 +126,9 @@ statuses_of attempts = map (λ (a : Attempt). a.status) attempts
 abbrev of_row : AttemptRow → ℕ
 of_row r = r.status
 
-statuses_in : (d n : ℕ) (some : List Record) → map of_row (filter (λ (r : AttemptRow). r.delivery == d) (filter_map attempt_row (enumerate_from n some))) ≡ statuses_of (filter_map (attempt_by d) some)
+statuses_in : (d n : ℕ) (some : List Record)
+    → map of_row (filter (λ (r : AttemptRow). r.delivery == d) (filter_map attempt_row (enumerate_from n some)))
+    ≡ statuses_of (filter_map (attempt_by d) some)
 statuses_in d n [] = refl
 statuses_in d n (Outcome delivery attempt status at ∷ rest) = by (delivery == d) (statuses_in d (n + 1) rest)
   where
@@ -128,24 +136,31 @@ statuses_in d n (Outcome delivery attempt status at ∷ rest) = by (delivery == 
     rows = filter (λ (r : AttemptRow). r.delivery == d) (filter_map attempt_row (enumerate_from (n + 1) rest))
 
     by : (b : Bool) → map of_row rows ≡ statuses_of (filter_map (attempt_by d) rest)
-        → map of_row (cond b (record { seq = n; delivery = delivery; number = attempt; status = status; at = at } ∷ rows) rows)
-        ≡ statuses_of (cons_option (if b then Some (record { number = attempt; status = status; at = at }) else None) (filter_map (attempt_by d) rest))
+        → map of_row (cond b (record { seq = n; delivery = delivery; number = attempt; status = status; at = at }
+        ∷ rows) rows)
+        ≡ statuses_of (cons_option (if b then Some (record { number = attempt; status = status; at = at }) else None)
+        (filter_map (attempt_by d) rest))
     by true same = ap (λ more. status ∷ more) same
     by false same = same
 statuses_in d n (entry ∷ rest) = statuses_in d (n + 1) rest
 
-any_status : (test : ℕ → Bool) (attempts : List Attempt) → list_any test (statuses_of attempts) ≡ list_any (λ (a : Attempt). test a.status) attempts
+any_status : (test : ℕ → Bool) (attempts : List Attempt) → list_any test (statuses_of attempts) ≡ list_any
+    (λ (a : Attempt). test a.status) attempts
 any_status test [] = refl
 any_status test (a ∷ rest) = ap (λ b. test a.status || b) (any_status test rest)
 
-count_status : (test : ℕ → Bool) (attempts : List Attempt) → count_by test (statuses_of attempts) ≡ count_by (λ (a : Attempt). test a.status) attempts
-count_status test attempts = sym (length-filter test (statuses_of attempts)) ∙ as_many attempts ∙ length-filter (λ (a : Attempt). test a.status) attempts
+count_status : (test : ℕ → Bool) (attempts : List Attempt) → count_by test (statuses_of attempts) ≡ count_by
+    (λ (a : Attempt). test a.status) attempts
+count_status test attempts = sym (length-filter test (statuses_of attempts)) ∙ as_many attempts
+    ∙ length-filter (λ (a : Attempt). test a.status) attempts
   where
-    as_many : (attempts : List Attempt) → length (filter test (statuses_of attempts)) ≡ length (filter (λ (a : Attempt). test a.status) attempts)
+    as_many : (attempts : List Attempt) → length (filter test (statuses_of attempts)) ≡ length
+        (filter (λ (a : Attempt). test a.status) attempts)
     as_many [] = refl
     as_many (a ∷ rest) = at (test a.status) (as_many rest)
       where
-        at : (b : Bool) → length (filter test (statuses_of rest)) ≡ length (filter (λ (x : Attempt). test x.status) rest)
+        at : (b : Bool) → length (filter test (statuses_of rest)) ≡ length
+            (filter (λ (x : Attempt). test x.status) rest)
             → length (cond b (a.status ∷ filter test (statuses_of rest)) (filter test (statuses_of rest)))
             ≡ length (cond b (a ∷ filter (λ (x : Attempt). test x.status) rest)
             (filter (λ (x : Attempt). test x.status) rest))
@@ -160,12 +175,16 @@ fewer_is n = at (nat_le MAX_FAILURES n) refl
     at true e = le-ltb n MAX_FAILURES (leb-true MAX_FAILURES n e)
     at false e = lt-ltb n MAX_FAILURES (leb-false MAX_FAILURES n e)
 
-pending_state : (delivered exhausted : Bool) → is_in_state Pending (if delivered then Delivered else (if exhausted then Exhausted else Pending)) ≡ not delivered && not exhausted
+pending_state : (delivered exhausted : Bool)
+    → is_in_state Pending (if delivered then Delivered else (if exhausted then Exhausted else Pending)) ≡ not delivered
+    && not exhausted
 pending_state true exhausted = refl
 pending_state false true = refl
 pending_state false false = refl
 
-are_pending-is : (records : List Record) (d : ℕ) (statuses : List ℕ) → IsPermutation (statuses_of (attempts_of records d)) statuses → are_pending statuses ≡ is_in_state Pending (state_of records d)
+are_pending-is : (records : List Record) (d : ℕ) (statuses : List ℕ)
+    → IsPermutation (statuses_of (attempts_of records d)) statuses → are_pending statuses ≡ is_in_state Pending
+    (state_of records d)
 are_pending-is records d statuses same =
     let attempts = attempts_of records d in
     let delivered : list_any is_delivered_status statuses ≡ is_delivered records d =
@@ -182,7 +201,8 @@ may_be_next-is : (records : List Record) (d attempt status : ℕ) (statuses : Li
     → true ≡ is_some (accepted records d) → AreStatusesOf d (rows_of records) statuses
     → may_be_next statuses attempt status ≡ may_attempt records d attempt status
 may_be_next-is records d attempt status statuses taken h =
-    let left = left_of (λ (r : AttemptRow). r.delivery) (is_purged records) d (filter_map attempt_row (numbered records))
+    let left = left_of (λ (r : AttemptRow). r.delivery) (is_purged records) d
+    (filter_map attempt_row (numbered records))
     (unpurged_if records d (sym taken)) in
     let same : IsPermutation (statuses_of (attempts_of records d)) statuses =
     subst (λ xs. IsPermutation xs statuses) (ap (map of_row) left ∙ statuses_in d 0 records) h in
@@ -193,29 +213,36 @@ may_be_next-is records d attempt status statuses taken h =
 
 -- ---- what they tell of an Outcome
 
-none_if_unknown : (o : Option Accepted) (records : List Record) → None ≡ option_map (λ (a : Accepted). put_of records a.endpoint) o → false ≡ is_some o
+none_if_unknown : (o : Option Accepted) (records : List Record)
+    → None ≡ option_map (λ (a : Accepted). put_of records a.endpoint) o → false ≡ is_some o
 none_if_unknown None records h = refl
 none_if_unknown (Some a) records h = absurd (let e = h in cc)
 
-some_if_known : (o : Option Accepted) (records : List Record) (put : ℕ) → Some put ≡ option_map (λ (a : Accepted). put_of records a.endpoint) o → true ≡ is_some o
+some_if_known : (o : Option Accepted) (records : List Record) (put : ℕ)
+    → Some put ≡ option_map (λ (a : Accepted). put_of records a.endpoint) o → true ≡ is_some o
 some_if_known None records put h = absurd (let e = h in cc)
 some_if_known (Some a) records put h = refl
 
 abbrev attempted : Bool → List Record → ℕ → Option ℕ
 attempted b records d = if b then Some (put_by_delivery (rows_of records) d) else None
 
-pub attempting-unknown : (records : List Record) (d attempt status : ℕ) → IsEndpointOf d (rows_of records) None → None ≡ attempting records d attempt status
+pub attempting-unknown : (records : List Record) (d attempt status : ℕ) → IsEndpointOf d (rows_of records) None
+    → None ≡ attempting records d attempt status
 attempting-unknown records d attempt status h =
-    ap (λ b. attempted ((b && is_in_state Pending (state_of records d)) && (attempt == length (attempts_of records d) + 1 && is_status status)) records d)
+    ap (λ b. attempted ((b && is_in_state Pending (state_of records d))
+    && (attempt == length (attempts_of records d) + 1 && is_status status)) records d)
     (none_if_unknown (accepted records d) records (found_endpoint records d None h))
 
 pub attempting-found : (records : List Record) (d attempt status put : ℕ) (statuses : List ℕ) (allowed : Bool)
     → IsEndpointOf d (rows_of records) (Some put) → AreStatusesOf d (rows_of records) statuses
-    → allowed ≡ may_be_next statuses attempt status → (if allowed then Some put else None) ≡ attempting records d attempt status
+    → allowed ≡ may_be_next statuses attempt status → (if allowed then Some put else None) ≡ attempting records d
+    attempt status
 attempting-found records d attempt status put statuses allowed h of is =
     let known = found_endpoint records d (Some put) h in
-    let same : put ≡ put_by_delivery (rows_of records) d = ap (λ o. option_map_or (λ p. p) o 0) known ∙ sym (put_by_delivery-is records d) in
-    let all = is ∙ may_be_next-is records d attempt status statuses (some_if_known (accepted records d) records put known) of in
+    let same : put ≡ put_by_delivery (rows_of records) d = ap (λ o. option_map_or (λ p. p) o 0) known
+    ∙ sym (put_by_delivery-is records d) in
+    let all = is ∙ may_be_next-is records d attempt status statuses
+    (some_if_known (accepted records d) records put known) of in
     λ i. if all i then Some (same i) else None
 
 -- ---- a number from the Outcome's own on names no event
@@ -223,9 +250,11 @@ attempting-found records d attempt status put statuses allowed h of is =
 below : (records : List Record) (d : ℕ) → is_some (accepted records d) ≡ true → d < length records
 below records d known = below_if_accepted records d (there_if records d known)
 
-unnamed : (records : List Record) (d attempt status : ℕ) → length records ≤ d → false ≡ may_attempt records d attempt status
+unnamed : (records : List Record) (d attempt status : ℕ) → length records ≤ d
+    → false ≡ may_attempt records d attempt status
 unnamed records d attempt status h =
-    ap (λ b. (b && is_in_state Pending (state_of records d)) && (attempt == length (attempts_of records d) + 1 && is_status status)) (at (is_some (accepted records d)) refl)
+    ap (λ b. (b && is_in_state Pending (state_of records d))
+    && (attempt == length (attempts_of records d) + 1 && is_status status)) (at (is_some (accepted records d)) refl)
   where
     at : (b : Bool) → is_some (accepted records d) ≡ b → false ≡ b
     at true e = absurd (omega (arith, h, below records d e))
@@ -236,21 +265,30 @@ pub attempted-none : (records : List Record) (next delivery attempt status : ℕ
 attempted-none records next delivery attempt status is h = at (nat_lt delivery next) refl
   where
     at : (b : Bool) → nat_lt delivery next ≡ b → false ≡ may_attempt records delivery attempt status
-    at true e = subst (λ d. false ≡ may_attempt records d attempt status) (min-eq_left (omega (arith, ltb-true delivery next e)))
+    at true e = subst (λ d. false ≡ may_attempt records d attempt status)
+        (min-eq_left (omega (arith, ltb-true delivery next e)))
         (answer-none (may_attempt records (min delivery next) attempt status) _ h)
     at false e = unnamed records delivery attempt status (omega (arith, is, ltb-false delivery next e))
 
 -- it is the number that the Outcome has, and the attempt may be recorded
-pub attempted-some : (records : List Record) (next delivery attempt status put : ℕ) → next ≡ length records → Some put ≡ attempting records (min delivery next) attempt status
-    → (min delivery next ≡ delivery) × ((true ≡ may_attempt records delivery attempt status) × (put ≡ put_by_delivery (rows_of records) delivery))
+pub attempted-some : (records : List Record) (next delivery attempt status put : ℕ) → next ≡ length records
+    → Some put ≡ attempting records (min delivery next) attempt status
+    → (min delivery next ≡ delivery)
+    × ((true ≡ may_attempt records delivery attempt status) × (put ≡ put_by_delivery (rows_of records) delivery))
 attempted-some records next delivery attempt status put is h =
     let named = answer-some (may_attempt records (min delivery next) attempt status) _ put h in
-    let same = at (nat_lt delivery next) refl (is_known (sym named.0)) in
-    (same, subst (λ d. (true ≡ may_attempt records d attempt status) × (put ≡ put_by_delivery (rows_of records) d)) same named)
+    let same = at (nat_lt delivery next) refl (is_known (sym named.0)) in (
+      same,
+      subst (λ d. (true ≡ may_attempt records d attempt status) × (put ≡ put_by_delivery (rows_of records) d)) same
+          named,
+    )
   where
-    is_known : may_attempt records (min delivery next) attempt status ≡ true → is_some (accepted records (min delivery next)) ≡ true
+    is_known : may_attempt records (min delivery next) attempt status ≡ true
+        → is_some (accepted records (min delivery next)) ≡ true
     is_known may = and_first _ _ (and_first (is_pending records (min delivery next)) _ may)
 
-    at : (b : Bool) → nat_lt delivery next ≡ b → is_some (accepted records (min delivery next)) ≡ true → min delivery next ≡ delivery
+    at : (b : Bool) → nat_lt delivery next ≡ b → is_some (accepted records (min delivery next)) ≡ true
+        → min delivery next ≡ delivery
     at true e known = min-eq_left (omega (arith, ltb-true delivery next e))
-    at false e known = absurd (omega (arith, is, below records (min delivery next) known, min-eq_right (ltb-false delivery next e)))
+    at false e known = absurd
+        (omega (arith, is, below records (min delivery next) known, min-eq_right (ltb-false delivery next e)))

@@ -33,7 +33,8 @@ module _ {X : Type 0} (number : X → ℕ) where
   rising_lower a b c [] l h = omega (arith, l, h)
   rising_lower a b c (x ∷ xs) l h = (omega (arith, l, h.0), h.1)
 
-  pub rising_append : (a b c : ℕ) (xs ys : List X) → IsRising number a b xs → IsRising number b c ys → IsRising number a c (xs ++ ys)
+  pub rising_append : (a b c : ℕ) (xs ys : List X) → IsRising number a b xs → IsRising number b c ys
+      → IsRising number a c (xs ++ ys)
   rising_append a b c [] ys h i = rising_lower a b c ys h i
   rising_append a b c (x ∷ xs) ys h i = (h.0, rising_append (number x + 1) b c xs ys h.1 i)
 
@@ -53,7 +54,8 @@ module _ {X : Type 0} (number : X → ℕ) where
   behind_last a [] = a
   behind_last a (x ∷ xs) = behind_last (number x + 1) xs
 
-  pub rising_parts : (a b : ℕ) (xs ys : List X) → IsRising number a b (xs ++ ys) → IsRising number a (behind_last a xs) xs × IsRising number (behind_last a xs) b ys
+  pub rising_parts : (a b : ℕ) (xs ys : List X) → IsRising number a b (xs ++ ys)
+      → IsRising number a (behind_last a xs) xs × IsRising number (behind_last a xs) b ys
   rising_parts a b [] ys h = (omega arith, h)
   rising_parts a b (x ∷ xs) ys h = let rest = rising_parts (number x + 1) b xs ys h.1 in ((h.0, rest.0), rest.1)
 
@@ -62,7 +64,8 @@ module _ {X : Type 0} (number : X → ℕ) where
   rising_higher a b c (x ∷ xs) l h = (h.0, rising_higher (number x + 1) b c xs l h.1)
 
   pub rising_at : (a b : ℕ) (xs ys : List X) (x : X) → IsRising number a b (xs ++ (x ∷ ys)) → number x < b
-  rising_at a b xs ys x h = let parts = rising_parts a b xs (x ∷ ys) h in omega (arith, rising_within (number x + 1) b ys parts.1.1)
+  rising_at a b xs ys x h = let parts = rising_parts a b xs (x ∷ ys) h
+      in omega (arith, rising_within (number x + 1) b ys parts.1.1)
 
   pub none_from : (a b c : ℕ) (xs : List X) → b ≤ c → IsRising number a b xs → filter (λ x. nat_le c (number x)) xs ≡ []
   none_from a b c [] l h = refl
@@ -73,25 +76,31 @@ module _ {X : Type 0} (number : X → ℕ) where
   pub all_from : (a b c : ℕ) (xs : List X) → c ≤ a → IsRising number a b xs → filter (λ x. nat_le c (number x)) xs ≡ xs
   all_from a b c [] l h = refl
   all_from a b c (x ∷ xs) l h =
-      rw (le-leb c (number x) (omega (arith, l, h.0))) (ap (λ rest. x ∷ rest) (all_from (number x + 1) b c xs (omega (arith, l, h.0)) h.1))
+      rw (le-leb c (number x) (omega (arith, l, h.0)))
+      (ap (λ rest. x ∷ rest) (all_from (number x + 1) b c xs (omega (arith, l, h.0)) h.1))
 
   -- A list in the order of numbers that differ is the one order of its elements
 
   above_none : (a b n : ℕ) (xs : List X) → n < a → IsRising number a b xs → filter (λ x. number x == n) xs ≡ []
   above_none a b n [] l h = refl
   above_none a b n (x ∷ xs) l h =
-      rw (ne_eqb (number x) n (λ same. absurd (omega (arith, same, l, h.0)))) (above_none (number x + 1) b n xs (omega (arith, l, h.0)) h.1)
+      rw (ne_eqb (number x) n (λ same. absurd (omega (arith, same, l, h.0))))
+      (above_none (number x + 1) b n xs (omega (arith, l, h.0)) h.1)
 
   once : (a b n : ℕ) (xs : List X) → IsRising number a b xs → length (filter (λ x. number x == n) xs) ≤ 1
   once a b n [] h = omega arith
   once a b n (x ∷ xs) h = at (once (number x + 1) b n xs h.1) (number x == n) refl
     where
-      at : length (filter (λ y. number y == n) xs) ≤ 1 → (t : Bool) → number x == n ≡ t → length (cond t (x ∷ filter (λ y. number y == n) xs) (filter (λ y. number y == n) xs)) ≤ 1
+      at : length (filter (λ y. number y == n) xs) ≤ 1 → (t : Bool) → number x == n ≡ t
+          → length (cond t (x ∷ filter (λ y. number y == n) xs) (filter (λ y. number y == n) xs)) ≤ 1
       at rest false e = rest
       at rest true e = rw (above_none (number x + 1) b n xs (omega (arith, eqb_is (number x) n e)) h.1) (omega arith)
         where
           eqb_is : (p q : ℕ) → p == q ≡ true → q < p + 1
-          eqb_is p q e = elim (cases_lt p q) [ inl lt ↦ absurd (let no = ne_eqb p q (λ same. absurd (omega (arith, same, lt))) in let yes = e in cc) | inr ge ↦ below ge ]
+          eqb_is p q e = elim (cases_lt p q) [
+            | inl lt ↦ absurd (let no = ne_eqb p q (λ same. absurd (omega (arith, same, lt))) in let yes = e in cc)
+            | inr ge ↦ below ge
+          ]
             where
               below : q ≤ p → q < p + 1
               below ge = omega (arith, ge)
@@ -100,26 +109,33 @@ module _ {X : Type 0} (number : X → ℕ) where
   short_same [] [] l p = refl
   short_same [] (v ∷ vs) l p = absurd (let n = length_permutation [] (v ∷ vs) p in omega (arith, n))
   short_same (u ∷ []) [] l p = absurd (let n = length_permutation (u ∷ []) [] p in omega (arith, n))
-  short_same (u ∷ []) (v ∷ []) l p = let each = all-permutation (λ w. w ≡ u) (u ∷ []) (v ∷ []) p (refl, tt) in ap (λ w. w ∷ []) each.0
+  short_same (u ∷ []) (v ∷ []) l p = let each = all-permutation (λ w. w ≡ u) (u ∷ []) (v ∷ []) p (refl, tt)
+      in ap (λ w. w ∷ []) each.0
   short_same (u ∷ []) (v ∷ w ∷ vs) l p = absurd (let n = length_permutation (u ∷ []) (v ∷ w ∷ vs) p in omega (arith, n))
   short_same (u ∷ w ∷ us) vs l p = absurd (omega (arith, l))
 
-  perm_same : (a b n : ℕ) (xs ys : List X) → IsRising number a b xs → IsPermutation xs ys → filter (λ x. number x == n) ys ≡ filter (λ x. number x == n) xs
+  perm_same : (a b n : ℕ) (xs ys : List X) → IsRising number a b xs → IsPermutation xs ys
+      → filter (λ x. number x == n) ys ≡ filter (λ x. number x == n) xs
   perm_same a b n xs ys h p = short_same _ _ (once a b n xs h) (IsPermutation-filter (λ x. number x == n) xs ys p)
 
   -- the first of a list in the order of its numbers has the least
-  first_least : (y : X) (ys : List X) → IsNonDecreasingBy number (y ∷ ys) → (n : ℕ) → n < number y → filter (λ x. number x == n) (y ∷ ys) ≡ []
-  first_least y ys h n l = rw (ne_eqb (number y) n (λ same. absurd (omega (arith, same, l)))) (rest ys (λ j d below. h 0 (suc j) d (omega arith) (omega (arith, below))))
+  first_least : (y : X) (ys : List X) → IsNonDecreasingBy number (y ∷ ys) → (n : ℕ) → n < number y
+      → filter (λ x. number x == n) (y ∷ ys) ≡ []
+  first_least y ys h n l = rw (ne_eqb (number y) n (λ same. absurd (omega (arith, same, l))))
+      (rest ys (λ j d below. h 0 (suc j) d (omega arith) (omega (arith, below))))
     where
-      rest : (zs : List X) → ((j : ℕ) (d : X) → j < length zs → number y ≤ number (slice_index_or zs j d)) → filter (λ x. number x == n) zs ≡ []
+      rest : (zs : List X) → ((j : ℕ) (d : X) → j < length zs → number y ≤ number (slice_index_or zs j d))
+          → filter (λ x. number x == n) zs ≡ []
       rest [] each = refl
       rest (z ∷ zs) each =
-          rw (ne_eqb (number z) n (λ same. absurd (omega (arith, same, l, each 0 z (omega arith))))) (rest zs (λ j d below. each (suc j) d (omega (arith, below))))
+          rw (ne_eqb (number z) n (λ same. absurd (omega (arith, same, l, each 0 z (omega arith)))))
+          (rest zs (λ j d below. each (suc j) d (omega (arith, below))))
 
   tail_order : (y : X) (ys : List X) → IsNonDecreasingBy number (y ∷ ys) → IsNonDecreasingBy number ys
   tail_order y ys h i j d l below = h (suc i) (suc j) d (omega (arith, l)) (omega (arith, below))
 
-  filter_head : (x : X) (xs : List X) (n : ℕ) → number x ≡ n → filter (λ z. number z == n) (x ∷ xs) ≡ x ∷ filter (λ z. number z == n) xs
+  filter_head : (x : X) (xs : List X) (n : ℕ) → number x ≡ n → filter (λ z. number z == n) (x ∷ xs) ≡ x ∷ filter
+      (λ z. number z == n) xs
   filter_head x xs n same = rw (eq-eqb (number x) n same) refl
 
   some_same : (x y : X) → Some x ≡ Some y → x ≡ y
@@ -134,20 +150,29 @@ module _ {X : Type 0} (number : X → ℕ) where
   cons_none : (x : X) (xs : List X) → x ∷ xs ≡ [] → ⊥
   cons_none x xs e = cc
 
-  sorted_same : (a b : ℕ) (xs ys : List X) → IsRising number a b xs → IsNonDecreasingBy number ys → ((n : ℕ) → filter (λ x. number x == n) ys ≡ filter (λ x. number x == n) xs) → ys ≡ xs
+  sorted_same : (a b : ℕ) (xs ys : List X) → IsRising number a b xs → IsNonDecreasingBy number ys
+      → ((n : ℕ) → filter (λ x. number x == n) ys ≡ filter (λ x. number x == n) xs) → ys ≡ xs
   sorted_same a b [] [] h o same = refl
-  sorted_same a b [] (y ∷ ys) h o same = absurd (cons_none y _ (sym (filter_head y ys (number y) refl) ∙ same (number y)))
-  sorted_same a b (x ∷ xs) [] h o same = absurd (cons_none x _ (sym (filter_head x xs (number x) refl) ∙ sym (same (number x))))
-  sorted_same a b (x ∷ xs) (y ∷ ys) h o same = (λ i. heads i ∷ sorted_same (number x + 1) b xs ys h.1 (tail_order y ys o) rests i)
+  sorted_same a b [] (y ∷ ys) h o same = absurd
+      (cons_none y _ (sym (filter_head y ys (number y) refl) ∙ same (number y)))
+  sorted_same a b (x ∷ xs) [] h o same = absurd
+      (cons_none x _ (sym (filter_head x xs (number x) refl) ∙ sym (same (number x))))
+  sorted_same a b (x ∷ xs) (y ∷ ys) h o same =
+      (λ i. heads i ∷ sorted_same (number x + 1) b xs ys h.1 (tail_order y ys o) rests i)
     where
       up : number x < number y → ⊥
-      up lt = cons_none x _ (sym (filter_head x xs (number x) refl) ∙ sym (same (number x)) ∙ first_least y ys o (number x) lt)
+      up lt = cons_none x _ (sym (filter_head x xs (number x) refl) ∙ sym (same (number x))
+          ∙ first_least y ys o (number x) lt)
 
       down : number y < number x → ⊥
-      down lt = cons_none y _ (sym (filter_head y ys (number y) refl) ∙ same (number y) ∙ above_none (number x) b (number y) (x ∷ xs) lt (omega arith, h.1))
+      down lt = cons_none y _ (sym (filter_head y ys (number y) refl) ∙ same (number y)
+          ∙ above_none (number x) b (number y) (x ∷ xs) lt (omega arith, h.1))
 
       numbers : number y ≡ number x
-      numbers = elim (cases_lt (number x) (number y)) [ inl lt ↦ absurd (up lt) | inr ge ↦ elim (cases_lt (number y) (number x)) [ inl lt ↦ absurd (down lt) | inr ge_too ↦ equal ge ge_too ] ]
+      numbers = elim (cases_lt (number x) (number y)) [
+        | inl lt ↦ absurd (up lt)
+        | inr ge ↦ elim (cases_lt (number y) (number x)) [ inl lt ↦ absurd (down lt) | inr ge_too ↦ equal ge ge_too ]
+      ]
         where
           equal : number y ≤ number x → number x ≤ number y → number y ≡ number x
           equal p q = omega (arith, p, q)
@@ -163,13 +188,16 @@ module _ {X : Type 0} (number : X → ℕ) where
         where
           at : (t : Bool) → number x == n ≡ t → filter (λ z. number z == n) ys ≡ filter (λ z. number z == n) xs
           at true e = cons_tail y x _ _ (
-              sym (ap (λ t. cond t (y ∷ filter (λ z. number z == n) ys) (filter (λ z. number z == n) ys)) (ap (λ m. m == n) numbers ∙ e))
+              sym (ap (λ t. cond t (y ∷ filter (λ z. number z == n) ys) (filter (λ z. number z == n) ys))
+              (ap (λ m. m == n) numbers ∙ e))
               ∙ same n ∙ ap (λ t. cond t (x ∷ filter (λ z. number z == n) xs) (filter (λ z. number z == n) xs)) e)
           at false e =
-              sym (ap (λ t. cond t (y ∷ filter (λ z. number z == n) ys) (filter (λ z. number z == n) ys)) (ap (λ m. m == n) numbers ∙ e))
+              sym (ap (λ t. cond t (y ∷ filter (λ z. number z == n) ys) (filter (λ z. number z == n) ys))
+              (ap (λ m. m == n) numbers ∙ e))
               ∙ same n ∙ ap (λ t. cond t (x ∷ filter (λ z. number z == n) xs) (filter (λ z. number z == n) xs)) e
 
-  pub rising_order : (a b : ℕ) (xs ys : List X) → IsRising number a b xs → IsPermutation xs ys → IsNonDecreasingBy number ys → ys ≡ xs
+  pub rising_order : (a b : ℕ) (xs ys : List X) → IsRising number a b xs → IsPermutation xs ys
+      → IsNonDecreasingBy number ys → ys ≡ xs
   rising_order a b xs ys h p o = sorted_same a b xs ys h o (λ n. perm_same a b n xs ys h p)
 
   -- Pages
@@ -179,16 +207,21 @@ module _ {X : Type 0} (number : X → ℕ) where
   left_all xs h = record { parted = refl; before = omega arith; behind = h }
 
   -- a page from there on has the first of the rows that are left
-  pub page_is : (from : ℕ) (xs read left page : List X) → IsLeft number from xs read left → IsPage number from xs page → page ≡ take page_rows left
-  page_is from xs read left page h p = p.3 ∙ ap (take page_rows) (rising_order from MAX_RECORDS left p.0 h.behind (subst (λ ys. IsPermutation ys p.0) those p.1) p.2)
+  pub page_is : (from : ℕ) (xs read left page : List X) → IsLeft number from xs read left → IsPage number from xs page
+      → page ≡ take page_rows left
+  page_is from xs read left page h p = p.3
+      ∙ ap (take page_rows)
+      (rising_order from MAX_RECORDS left p.0 h.behind (subst (λ ys. IsPermutation ys p.0) those p.1) p.2)
     where
       those : filter (λ x. nat_le from (number x)) xs ≡ left
       those =
           ap (filter (λ x. nat_le from (number x))) h.parted ∙ filter-append (λ x. nat_le from (number x)) read left
-          ∙ λ i. none_from 0 from from read (omega arith) h.before i ++ all_from from MAX_RECORDS from left (omega arith) h.behind i
+          ∙ λ i. none_from 0 from from read (omega arith) h.before i ++ all_from from MAX_RECORDS from left
+          (omega arith) h.behind i
 
   -- the rows behind a page are left
-  pub left_behind : (from : ℕ) (xs read page more : List X) → IsLeft number from xs read (page ++ more) → IsLeft number (behind_last from page) xs (read ++ page) more
+  pub left_behind : (from : ℕ) (xs read page more : List X) → IsLeft number from xs read (page ++ more)
+      → IsLeft number (behind_last from page) xs (read ++ page) more
   left_behind from xs read page more h =
       let parts = rising_parts from MAX_RECORDS page more h.behind in
       record {
@@ -198,7 +231,8 @@ module _ {X : Type 0} (number : X → ℕ) where
       }
 
   -- the last page is empty, and all is read
-  pub read_all : (from : ℕ) (xs read left : List X) → from ≤ MAX_RECORDS → IsLeft number from xs read left → take page_rows left ≡ [] → IsLeft number MAX_RECORDS xs read left
+  pub read_all : (from : ℕ) (xs read left : List X) → from ≤ MAX_RECORDS → IsLeft number from xs read left
+      → take page_rows left ≡ [] → IsLeft number MAX_RECORDS xs read left
   read_all from xs read left l h none = record {
     parted = h.parted;
     before = rising_higher 0 from MAX_RECORDS read l h.before;
@@ -212,15 +246,18 @@ module _ {X : Type 0} (number : X → ℕ) where
   -- nothing is left from the end on
   pub none_left : (from : ℕ) (xs read left : List X) → MAX_RECORDS ≤ from → IsLeft number from xs read left → left ≡ []
   none_left from xs read [] l h = refl
-  none_left from xs read (x ∷ left) l h = absurd (omega (arith, l, h.behind.0, rising_within (number x + 1) MAX_RECORDS left h.behind.1))
+  none_left from xs read (x ∷ left) l h = absurd
+      (omega (arith, l, h.behind.0, rising_within (number x + 1) MAX_RECORDS left h.behind.1))
 
-  pub behind_last-is : (a : ℕ) (xs : List X) (x : X) → slice_get xs (length xs - 1) ≡ Some x → behind_last a xs ≡ number x + 1
+  pub behind_last-is : (a : ℕ) (xs : List X) (x : X) → slice_get xs (length xs - 1) ≡ Some x
+      → behind_last a xs ≡ number x + 1
   behind_last-is a [] x is = absurd (let no = is in cc)
   behind_last-is a (y ∷ []) x is = ap (λ z. number z + 1) (some_is is)
     where
       some_is : Some y ≡ Some x → y ≡ x
       some_is e = cc
-  behind_last-is a (y ∷ z ∷ xs) x is = behind_last-is (number y + 1) (z ∷ xs) x (ap (slice_get (z ∷ xs)) down ∙ ap (slice_get (y ∷ z ∷ xs)) up ∙ is)
+  behind_last-is a (y ∷ z ∷ xs) x is = behind_last-is (number y + 1) (z ∷ xs) x (ap (slice_get (z ∷ xs)) down
+      ∙ ap (slice_get (y ∷ z ∷ xs)) up ∙ is)
     where
       down : length (z ∷ xs) - 1 ≡ length xs
       down = omega arith
@@ -236,24 +273,31 @@ module _ {X : Type 0} (number : X → ℕ) where
 
   pub parted_page : (from : ℕ) (xs read left page : List X) → IsLeft number from xs read left
       → page ≡ take page_rows left → left ≡ page ++ drop page_rows left
-  parted_page from xs read left page h is = sym (take-append-drop page_rows left) ∙ ap (λ ys. ys ++ drop page_rows left) (sym is)
+  parted_page from xs read left page h is = sym (take-append-drop page_rows left) ∙ ap (λ ys. ys ++ drop page_rows left)
+      (sym is)
 
   pub behind_some : (from next : ℕ) (xs read left page : List X) (last : X) → IsLeft number from xs read left
       → IsPage number from xs page → slice_get page (length page - 1) ≡ Some last → next ≡ number last + 1
       → IsBehind next xs read left page
   behind_some from next xs read left page last h p is at =
       let parted = parted_page from xs read left page h (page_is from xs read left page h p) in
-      let there : IsLeft number from xs read (page ++ drop page_rows left) = subst (IsLeft number from xs read) parted h in (
+      let there : IsLeft number from xs read (page ++ drop page_rows left) = subst (IsLeft number from xs read) parted h
+      in (
         drop page_rows left,
         parted,
         subst (λ n. IsLeft number n xs (read ++ page) (drop page_rows left))
             (behind_last-is from page last is ∙ sym at) (left_behind from xs read page (drop page_rows left) there),
       )
 
-  pub behind_none : (from : ℕ) (xs read left page : List X) → from ≤ MAX_RECORDS → IsLeft number from xs read left → IsPage number from xs page → page ≡ [] → IsBehind MAX_RECORDS xs read left page
+  pub behind_none : (from : ℕ) (xs read left page : List X) → from ≤ MAX_RECORDS → IsLeft number from xs read left
+      → IsPage number from xs page → page ≡ [] → IsBehind MAX_RECORDS xs read left page
   behind_none from xs read left page l h p none =
-      subst (IsBehind MAX_RECORDS xs read left) (sym none)
-      (left, refl, subst (λ ys. IsLeft number MAX_RECORDS xs ys left) (sym (append-nil read)) (read_all from xs read left l h (sym (page_is from xs read left page h p) ∙ none)))
+      subst (IsBehind MAX_RECORDS xs read left) (sym none) (
+        left,
+        refl,
+        subst (λ ys. IsLeft number MAX_RECORDS xs ys left) (sym (append-nil read))
+            (read_all from xs read left l h (sym (page_is from xs read left page h p) ∙ none)),
+      )
 
   -- One of a list whose numbers rise is found by its number
 
@@ -262,11 +306,14 @@ module _ {X : Type 0} (number : X → ℕ) where
   rising_get a b zero (y ∷ ys) x h is = subst (λ z. a ≤ number z) (some_same y x is) h.0
   rising_get a b (suc k) (y ∷ ys) x h is = omega (arith, h.0, rising_get (number y + 1) b k ys x h.1 is)
 
-  pub rising_find : (a b k : ℕ) (xs : List X) (x : X) → IsRising number a b xs → slice_get xs k ≡ Some x → find (λ y. number y == number x) xs ≡ Some x
+  pub rising_find : (a b k : ℕ) (xs : List X) (x : X) → IsRising number a b xs → slice_get xs k ≡ Some x
+      → find (λ y. number y == number x) xs ≡ Some x
   rising_find a b k [] x h is = absurd (let no = is in cc)
   rising_find a b zero (y ∷ ys) x h is = rw (eq-eqb (number y) (number x) (ap number (some_same y x is))) is
   rising_find a b (suc k) (y ∷ ys) x h is =
-      rw (ne_eqb (number y) (number x) (λ same. absurd (omega (arith, same, rising_get (number y + 1) b k ys x h.1 is)))) (rising_find (number y + 1) b k ys x h.1 is)
+      rw (ne_eqb (number y) (number x)
+      (λ same. absurd (omega (arith, same, rising_get (number y + 1) b k ys x h.1 is))))
+      (rising_find (number y + 1) b k ys x h.1 is)
 
   -- the last row of a page isn't below the number where the page begins
   pub not_fallen : (from : ℕ) (xs read left page : List X) (last : X) → IsLeft number from xs read left
@@ -350,28 +397,40 @@ module _ {X : Type 0} (number : X → ℕ) where
   few_below a b (x ∷ xs) h = omega (arith, h.0, few_below (number x + 1) b xs h.1)
 
 -- What is read of another list
-pub rising_map : {X Y : Type 0} (f : X → Y) (number : Y → ℕ) (a b : ℕ) (xs : List X) → IsRising (λ x. number (f x)) a b xs → IsRising number a b (map f xs)
+pub rising_map : {X Y : Type 0} (f : X → Y) (number : Y → ℕ) (a b : ℕ) (xs : List X)
+    → IsRising (λ x. number (f x)) a b xs → IsRising number a b (map f xs)
 rising_map f number a b [] h = h
 rising_map f number a b (x ∷ xs) h = (h.0, rising_map f number (number (f x) + 1) b xs h.1)
 
 -- the rows of records have their numbers
-pub rows_rise : {Y : Type 0} (f : ℕ × Record → Option Y) (number : Y → ℕ) → ((k : ℕ) (r : Record) (y : Y) → f (k, r) ≡ Some y → number y ≡ k) → (n : ℕ) (some : List Record)
+pub rows_rise : {Y : Type 0} (f : ℕ × Record → Option Y) (number : Y → ℕ)
+    → ((k : ℕ) (r : Record) (y : Y) → f (k, r) ≡ Some y → number y ≡ k) → (n : ℕ) (some : List Record)
     → IsRising number n (n + length some) (filter_map f (enumerate_from n some))
 rows_rise f number at_seq n [] = omega arith
-rows_rise {Y} f number at_seq n (r ∷ rest) = at (subst (λ m. IsRising number (n + 1) m (filter_map f (enumerate_from (n + 1) rest))) moved (rows_rise f number at_seq (n + 1) rest)) (f (n, r)) refl
+rows_rise {Y} f number at_seq n (r ∷ rest) =
+    at (subst (λ m. IsRising number (n + 1) m (filter_map f (enumerate_from (n + 1) rest))) moved
+    (rows_rise f number at_seq (n + 1) rest)) (f (n, r)) refl
   where
     moved : n + 1 + length rest ≡ n + suc (length rest)
     moved = omega arith
 
-    at : IsRising number (n + 1) (n + suc (length rest)) (filter_map f (enumerate_from (n + 1) rest)) → (o : Option Y) → f (n, r) ≡ o
+    at : IsRising number (n + 1) (n + suc (length rest)) (filter_map f (enumerate_from (n + 1) rest)) → (o : Option Y)
+        → f (n, r) ≡ o
         → IsRising number n (n + suc (length rest)) (cons_option o (filter_map f (enumerate_from (n + 1) rest)))
-    at more None e = rising_lower number n (n + 1) (n + suc (length rest)) (filter_map f (enumerate_from (n + 1) rest)) (omega arith) more
+    at more None e = rising_lower number n (n + 1) (n + suc (length rest)) (filter_map f (enumerate_from (n + 1) rest))
+        (omega arith) more
     at more (Some y) e =
-        let same = at_seq n r y e in
-        (omega (arith, same), subst (λ m. IsRising number (m + 1) (n + suc (length rest)) (filter_map f (enumerate_from (n + 1) rest))) (sym same) more)
+        let same = at_seq n r y e in (
+          omega (arith, same),
+          subst
+              (λ m. IsRising number (m + 1) (n + suc (length rest)) (filter_map f (enumerate_from (n + 1) rest)))
+              (sym same) more,
+        )
 
 pub legal_length : (records : List Record) → IsLegal records → length records ≤ MAX_RECORDS
-legal_length records h = leb-true (length records) MAX_RECORDS (and_second (list_all is_within_limits records) (nat_le (length records) MAX_RECORDS) (and_second (may_all_follow [] records) _ h))
+legal_length records h = leb-true (length records) MAX_RECORDS
+    (and_second (list_all is_within_limits records) (nat_le (length records) MAX_RECORDS)
+    (and_second (may_all_follow [] records) _ h))
 
 -- the last row of a page, as it is read
 
@@ -380,8 +439,10 @@ get_map f [] k = refl
 get_map f (x ∷ xs) zero = refl
 get_map f (x ∷ xs) (suc k) = get_map f xs k
 
-pub last_read : {X Y : Type 0} (f : X → Y) (xs : List X) (x : X) → Some x ≡ slice_get xs (length xs - 1) → slice_get (map f xs) (length (map f xs) - 1) ≡ Some (f x)
-last_read f xs x is = ap (λ n. slice_get (map f xs) (n - 1)) (length-map xs f) ∙ get_map f xs (length xs - 1) ∙ ap (option_map f) (sym is)
+pub last_read : {X Y : Type 0} (f : X → Y) (xs : List X) (x : X) → Some x ≡ slice_get xs (length xs - 1)
+    → slice_get (map f xs) (length (map f xs) - 1) ≡ Some (f x)
+last_read f xs x is = ap (λ n. slice_get (map f xs) (n - 1)) (length-map xs f) ∙ get_map f xs (length xs - 1)
+    ∙ ap (option_map f) (sym is)
 
 pub none_read : {X Y : Type 0} (f : X → Y) (xs : List X) → None ≡ slice_get xs (length xs - 1) → map f xs ≡ []
 none_read f [] is = refl

@@ -41,8 +41,10 @@ quiet_then a b c p q = record {
 }
 
 -- the tables of an open store are those of before
-pub tables_along : (a b : State) (rows : Rows) → IsQuiet a b → HasCleanDisk b → IsTrue b.is_open → IsTables a.now rows → IsTables b.now rows
-tables_along a b rows quiet clean is_open = subst (λ d. IsTables d rows) (sym (quiet.unchanged clean ((quiet.spares.kept clean).was_open is_open)).0.now_is)
+pub tables_along : (a b : State) (rows : Rows) → IsQuiet a b → HasCleanDisk b → IsTrue b.is_open → IsTables a.now rows
+    → IsTables b.now rows
+tables_along a b rows quiet clean is_open = subst (λ d. IsTables d rows)
+    (sym (quiet.unchanged clean ((quiet.spares.kept clean).was_open is_open)).0.now_is)
 
 -- What is read
 
@@ -55,24 +57,28 @@ module _ {X : Type 0} (number : X → Seq) (table : List X) where
   read_none P rises none = ([], table, left_all number table rises, none)
 
   read_page : (P Q : List X → Type 0) (from next : Seq) (page : List X) → ReadsOn table P Q page
-      → ((read left : List X) → IsLeft number from table read left → IsBehind number next table read left page) → IsReadTo P from → IsReadTo Q next
+      → ((read left : List X) → IsLeft number from table read left → IsBehind number next table read left page)
+      → IsReadTo P from → IsReadTo Q next
   read_page P Q from next page reads behind (read, left, h, so_far) =
       let after = behind read left h in
       (read ++ page, after.0, after.2, reads read after.0 (h.parted ∙ ap (λ rest. read ++ rest) after.1) so_far)
 
   -- one page more, looked up behind the reads before, and taken in
-  pub page_then : (a b m z : State) (rows : Rows) (P Q : List X → Type 0) (from next : Seq) (page : List X) → IsQuiet a b → Spares b m → (HasCleanDisk m → IsUnchanged b m) → Spares m z
+  pub page_then : (a b m z : State) (rows : Rows) (P Q : List X → Type 0) (from next : Seq) (page : List X)
+      → IsQuiet a b → Spares b m → (HasCleanDisk m → IsUnchanged b m) → Spares m z
       → (HasCleanDisk b → IsTables a.now rows → IsReadTo P from)
       → (HasCleanDisk m → IsTables b.now rows → IsPage number from table page)
       → (HasCleanDisk z → IsTables m.now rows → ReadsOn table P Q page)
-      → ((read left : List X) → IsLeft number from table read left → IsPage number from table page → IsBehind number next table read left page) → HasCleanDisk z → IsTables a.now rows → IsReadTo Q next
+      → ((read left : List X) → IsLeft number from table read left → IsPage number from table page
+      → IsBehind number next table read left page) → HasCleanDisk z → IsTables a.now rows → IsReadTo Q next
   page_then a b m z rows P Q from next page quiet look same step so_far found reads behind clean tables =
       let at_m = clean_before m z step clean in
       let at_b = clean_before b m look at_m in
       let unchanged = same at_m in
       let there = tables_along a b rows quiet at_b unchanged.0.was_open tables in
       let here = subst (λ d. IsTables d rows) (sym unchanged.0.now_is) there in
-      read_page P Q from next page (reads clean here) (λ read left h. behind read left h (found at_m there)) (so_far at_b tables)
+      read_page P Q from next page (reads clean here) (λ read left h. behind read left h (found at_m there))
+      (so_far at_b tables)
 
   -- a page from there on comes next
   pub comes_next : (P : List X → Type 0) (from : Seq) (page : List X) → IsReadTo P from → IsPage number from table page
@@ -96,10 +102,13 @@ module _ {X : Type 0} (table : List X) where
   reads_none P before after is h = subst P (sym (append-nil before)) h
 
   -- some rows, and then more
-  pub reads_then : (P Q R : List X → Type 0) (some more : List X) → ReadsOn table P Q some → ReadsOn table Q R more → ReadsOn table P R (some ++ more)
+  pub reads_then : (P Q R : List X → Type 0) (some more : List X) → ReadsOn table P Q some → ReadsOn table Q R more
+      → ReadsOn table P R (some ++ more)
   reads_then P Q R some more p q before after is h =
       let whole = is ∙ ap (λ rest. before ++ rest) (append_assoc some more after) in
-      subst R (append_assoc before some more) (q (before ++ some) after (whole ∙ sym (append_assoc before some (more ++ after))) (p before (more ++ after) whole h))
+      subst R (append_assoc before some more)
+      (q (before ++ some) after (whole ∙ sym (append_assoc before some (more ++ after)))
+      (p before (more ++ after) whole h))
 
   -- the next rows, of which some were read already
   pub next_then : (P Q : List X → Type 0) (some more : List X) → ReadsOn table P Q some

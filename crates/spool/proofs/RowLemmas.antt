@@ -1,5 +1,6 @@
 -- What the look-ups tell of the rows.
-use Rattle.std.proofs.Common.{◌≡◌, ◌≤◌, ◌==◌, ℕ, Bool, true, false, ◌&&◌, not, nat_lt, cond, List, [], ◌∷◌, map, length, Option, Some, None, refl, sym, ap, ◌∙◌, arith}
+use Rattle.std.proofs.Common.{◌≡◌, ◌≤◌, ◌==◌, ℕ, Bool, true, false, ◌&&◌, not, nat_lt, cond, List, [], ◌∷◌, map, length}
+use Rattle.std.proofs.Common.{Option, Some, None, refl, sym, ap, ◌∙◌, arith}
 use Rattle.std.specs.Prelude.{slice_get, is_some, find, filter, bytes_eq, sum_by, if◌then◌else◌}
 use Rattle.std.specs.Option.{option_map_or}
 use Rattle.std.specs.List.{list_any}
@@ -50,11 +51,13 @@ pub find_is_first : {X : Type 0} (test : X → Bool) (xs : List X) → find test
 find_is_first test [] = refl
 find_is_first test (x ∷ xs) = at (test x) (find_is_first test xs)
   where
-    at : (b : Bool) → find test xs ≡ slice_get (filter test xs) 0 → (if b then Some x else find test xs) ≡ slice_get (cond b (x ∷ filter test xs) (filter test xs)) 0
+    at : (b : Bool) → find test xs ≡ slice_get (filter test xs) 0 → (if b then Some x else find test xs) ≡ slice_get
+        (cond b (x ∷ filter test xs) (filter test xs)) 0
     at true rest = refl
     at false rest = rest
 
-some_if_long : {X Y : Type 0} (xs : List X) (ys : List Y) → length xs ≡ length ys → is_some (slice_get xs 0) ≡ is_some (slice_get ys 0)
+some_if_long : {X Y : Type 0} (xs : List X) (ys : List Y) → length xs ≡ length ys
+    → is_some (slice_get xs 0) ≡ is_some (slice_get ys 0)
 some_if_long [] [] e = refl
 some_if_long [] (y ∷ ys) e = absurd (omega (arith, e))
 some_if_long (x ∷ xs) [] e = absurd (omega (arith, e))
@@ -63,18 +66,23 @@ some_if_long (x ∷ xs) (y ∷ ys) e = refl
 abbrev put_in : EndpointRow → ℕ
 put_in e = e.put
 
-pub has_name-found : (rows : Rows) (name : List ℕ) (found : Option ℕ) → IsPutOf name rows found → is_some found ≡ has_name rows name
+pub has_name-found : (rows : Rows) (name : List ℕ) (found : Option ℕ) → IsPutOf name rows found
+    → is_some found ≡ has_name rows name
 has_name-found rows name found h =
     ap is_some h.2
-    ∙ some_if_long h.0 (endpoints_named name rows) (length_permutation (map put_in (endpoints_named name rows)) h.0 h.1 ∙ length-map (endpoints_named name rows) put_in)
+    ∙ some_if_long h.0 (endpoints_named name rows) (length_permutation (map put_in (endpoints_named name rows)) h.0 h.1
+    ∙ length-map (endpoints_named name rows) put_in)
     ∙ ap is_some (sym (find_is_first (λ (e : EndpointRow). bytes_eq e.name name) rows.endpoints))
 
-pub may_put-taken : (rows : Rows) (name : List ℕ) (found : Option ℕ) → IsPutOf name rows found → is_some found ≡ true → false ≡ allows_put rows name
-may_put-taken rows name found h is = ap (λ b. not b && nat_lt (length rows.endpoints) MAX_ENDPOINTS) (sym is ∙ has_name-found rows name found h)
+pub may_put-taken : (rows : Rows) (name : List ℕ) (found : Option ℕ) → IsPutOf name rows found → is_some found ≡ true
+    → false ≡ allows_put rows name
+may_put-taken rows name found h is = ap (λ b. not b && nat_lt (length rows.endpoints) MAX_ENDPOINTS)
+    (sym is ∙ has_name-found rows name found h)
 
 pub may_put-free : (rows : Rows) (name : List ℕ) (found : Option ℕ) (count : ℕ) → IsPutOf name rows found
     → is_some found ≡ false → count ≡ length rows.endpoints → nat_lt count MAX_ENDPOINTS ≡ allows_put rows name
-may_put-free rows name found count h is counted = ap (λ n. nat_lt n MAX_ENDPOINTS) counted ∙ ap (λ b. not b && nat_lt (length rows.endpoints) MAX_ENDPOINTS) (sym is ∙ has_name-found rows name found h)
+may_put-free rows name found count h is counted = ap (λ n. nat_lt n MAX_ENDPOINTS) counted
+    ∙ ap (λ b. not b && nat_lt (length rows.endpoints) MAX_ENDPOINTS) (sym is ∙ has_name-found rows name found h)
 
 -- a list of one number at most has one order
 pub same_if_short : (xs ys : List ℕ) → length xs ≤ 1 → IsPermutation xs ys → ys ≡ xs
@@ -83,7 +91,8 @@ same_if_short [] ys short same = none ys (length_permutation [] ys same)
     none : (ys : List ℕ) → length ys ≡ 0 → ys ≡ []
     none [] e = refl
     none (y ∷ rest) e = absurd (omega (arith, e))
-same_if_short (x ∷ []) ys short same = one ys (length_permutation (x ∷ []) ys same) (sum_by-IsPermutation (λ n. n) (x ∷ []) ys same)
+same_if_short (x ∷ []) ys short same = one ys (length_permutation (x ∷ []) ys same)
+    (sum_by-IsPermutation (λ n. n) (x ∷ []) ys same)
   where
     one : (ys : List ℕ) → length ys ≡ 1 → sum_by (λ n. n) ys ≡ sum_by (λ n. n) (x ∷ []) → ys ≡ x ∷ []
     one [] len sums = absurd (omega (arith, len))
@@ -92,25 +101,32 @@ same_if_short (x ∷ []) ys short same = one ys (length_permutation (x ∷ []) y
 same_if_short (x ∷ z ∷ rest) ys short same = absurd (omega (arith, short))
 
 -- of one name at most, the number that was found is that of the name
-only_put : (named : List EndpointRow) (puts : List ℕ) (put : ℕ) → length named ≤ 1 → IsPermutation (map put_in named) puts → Some put ≡ slice_get puts 0 → Some put ≡ slice_get (map put_in named) 0
-only_put named puts put once same is = is ∙ ap (λ ps. slice_get ps 0) (same_if_short (map put_in named) puts (omega (arith, once, length-map named put_in)) same)
+only_put : (named : List EndpointRow) (puts : List ℕ) (put : ℕ) → length named ≤ 1
+    → IsPermutation (map put_in named) puts → Some put ≡ slice_get puts 0 → Some put ≡ slice_get (map put_in named) 0
+only_put named puts put once same is = is ∙ ap (λ ps. slice_get ps 0)
+    (same_if_short (map put_in named) puts (omega (arith, once, length-map named put_in)) same)
 
-put_of_first : (named : List EndpointRow) (put : ℕ) → Some put ≡ slice_get (map put_in named) 0 → put ≡ option_map_or put_in (slice_get named 0) 0
+put_of_first : (named : List EndpointRow) (put : ℕ) → Some put ≡ slice_get (map put_in named) 0
+    → put ≡ option_map_or put_in (slice_get named 0) 0
 put_of_first [] put is = absurd (let e = is in cc)
 put_of_first (e ∷ rest) put is = same is
   where
     same : Some put ≡ Some (put_in e) → put ≡ put_in e
     same h = cc
 
-pub put_by_name-found : (rows : Rows) (name : List ℕ) (put : ℕ) → HasEachNameOnce rows → IsPutOf name rows (Some put) → put ≡ put_by_name rows name
+pub put_by_name-found : (rows : Rows) (name : List ℕ) (put : ℕ) → HasEachNameOnce rows → IsPutOf name rows (Some put)
+    → put ≡ put_by_name rows name
 put_by_name-found rows name put once h =
     put_of_first (endpoints_named name rows) put (only_put (endpoints_named name rows) h.0 put (once name) h.1 h.2)
-    ∙ ap (λ o. option_map_or put_in o 0) (sym (find_is_first (λ (e : EndpointRow). bytes_eq e.name name) rows.endpoints))
+    ∙ ap (λ o. option_map_or put_in o 0)
+    (sym (find_is_first (λ (e : EndpointRow). bytes_eq e.name name) rows.endpoints))
 
 pub accepting-unknown : (rows : Rows) (name id : List ℕ) → IsPutOf name rows None → None ≡ allowed_for rows name id
-accepting-unknown rows name id h = ap (λ b. if (b && not (has_event rows (put_by_name rows name) id)) then Some (put_by_name rows name) else None) (has_name-found rows name None h)
+accepting-unknown rows name id h = ap (λ b. if (b && not (has_event rows (put_by_name rows name) id)) then Some
+    (put_by_name rows name) else None) (has_name-found rows name None h)
 
-pub accepting-found : (rows : Rows) (name id : List ℕ) (put : ℕ) (known : Bool) → HasEachNameOnce rows → IsPutOf name rows (Some put) → known ≡ has_event rows put id
+pub accepting-found : (rows : Rows) (name id : List ℕ) (put : ℕ) (known : Bool) → HasEachNameOnce rows
+    → IsPutOf name rows (Some put) → known ≡ has_event rows put id
     → (if known then None else Some put) ≡ allowed_for rows name id
 accepting-found rows name id put known once h is = at known ∙ both
   where
@@ -125,7 +141,8 @@ accepting-found rows name id put known once h is = at known ∙ both
     same = put_by_name-found rows name put once h
 
     both : (if (true && not known) then Some put else None) ≡ allowed_for rows name id
-    both = ap (λ b. if (true && not b) then Some put else None) is ∙ λ i. if (named i && not (has_event rows (same i) id)) then Some (same i) else None
+    both = ap (λ b. if (true && not b) then Some put else None) is ∙ λ i. if
+        (named i && not (has_event rows (same i) id)) then Some (same i) else None
 
 pub none_if_unnamed : {X : Type 0} (named : List X) → is_some (slice_get named 0) ≡ false → named ≡ []
 none_if_unnamed [] h = refl

@@ -17,7 +17,15 @@ use Rattle.spool.specs.Entering.{with_secrets}
 pub spares_none : (s : State) → Spares s s
 spares_none s = record {
   kept = λ _. record { was_open = λ is_open. is_open; committed = λ _. refl };
-  survives = record { clean = omega arith; shield = λ it. it; counts = omega arith; limit = refl; closes = λ _ is_open. inl is_open; crash = λ _ db may. inl may };
+  survives = record {
+    clean = omega arith;
+    shield = λ it. it;
+    counts = omega arith;
+    limit = refl;
+    closes =
+        λ _ is_open. inl is_open;
+    crash = λ _ db may. inl may;
+  };
 }
 
 pub alters_none : (s : State) (put : ℕ) → IsTrue s.in_transaction → IsTrue s.is_open → Alters s s (with_secrets put [])
@@ -30,29 +38,40 @@ abbrev row_at : ℕ → ℕ × List ℕ → SecretRow
 row_at put s = record { endpoint = put; place = s.0; secret = s.1 }
 
 one_more : (put n k : ℕ) (xs : List (List ℕ)) (x : List ℕ) → slice_get xs k ≡ Some x
-    → map (row_at put) (enumerate_from n (take (suc k) xs)) ≡ map (row_at put) (enumerate_from n (take k xs)) ++ row_at put (n + k, x) ∷ []
+    → map (row_at put) (enumerate_from n (take (suc k) xs)) ≡ map (row_at put) (enumerate_from n (take k xs))
+    ++ row_at put (n + k, x) ∷ []
 one_more put n k [] x is = absurd (let e = is in cc)
 one_more put n zero (y ∷ ys) x is = λ i. row_at put (sym (add-zero n) i, same is i) ∷ []
   where
     same : {a b : List ℕ} → Some a ≡ Some b → a ≡ b
     same e = cc
 one_more put n (suc k) (y ∷ ys) x is =
-    ap (λ rest. row_at put (n, y) ∷ rest) (one_more put (n + 1) k ys x is ∙ ap (λ p. map (row_at put) (enumerate_from (n + 1) (take k ys)) ++ row_at put (p, x) ∷ []) moved)
+    ap (λ rest. row_at put (n, y) ∷ rest)
+    (one_more put (n + 1) k ys x is ∙ ap (λ p. map (row_at put) (enumerate_from (n + 1) (take k ys)) ++ row_at put
+    (p, x) ∷ []) moved)
   where
     moved : n + 1 + k ≡ n + suc k
     moved = omega arith
 
 pub secret_rows-more : (put k : ℕ) (xs : List (List ℕ)) (x : List ℕ) → slice_get xs k ≡ Some x
-    → secret_rows put (take (k + 1) xs) ≡ secret_rows put (take k xs) ++ record { endpoint = put; place = k; secret = x } ∷ []
+    → secret_rows put (take (k + 1) xs) ≡ secret_rows put (take k xs) ++ record {
+      endpoint = put;
+      place = k;
+      secret =
+          x;
+    } ∷ []
 secret_rows-more put k xs x is =
-    ap (λ n. secret_rows put (take n xs)) (add-one k) ∙ one_more put 0 k xs x is ∙ ap (λ p. secret_rows put (take k xs) ++ row_at put (p, x) ∷ []) moved
+    ap (λ n. secret_rows put (take n xs)) (add-one k) ∙ one_more put 0 k xs x is ∙ ap
+    (λ p. secret_rows put (take k xs) ++ row_at put (p, x) ∷ []) moved
   where
     moved : 0 + k ≡ k
     moved = omega arith
 
 -- one secret more
 pub alters_more : (a b c : State) (put k : ℕ) (xs : List (List ℕ)) (x : List ℕ) → slice_get xs k ≡ Some x
-    → Alters a b (with_secrets put (take k xs)) → Alters b c (with_secret (record { endpoint = put; place = k; secret = x })) → Alters a c (with_secrets put (take (k + 1) xs))
+    → Alters a b (with_secrets put (take k xs))
+    → Alters b c (with_secret (record { endpoint = put; place = k; secret = x }))
+    → Alters a c (with_secrets put (take (k + 1) xs))
 alters_more a b c put k xs x is so_far one =
     let both = alters_then a b c _ _ so_far one in
     record {
@@ -68,7 +87,8 @@ get_is_there [] k below is = omega (arith, below)
 get_is_there (x ∷ xs) zero below is = cc
 get_is_there (x ∷ xs) (suc k) below is = get_is_there xs k (omega (arith, below)) is
 
-all_next : (xs : List (List ℕ)) (k : ℕ) (x : List ℕ) → slice_get xs k ≡ Some x → list_all is_secret (take k xs) ≡ true → is_secret x ≡ true → list_all is_secret (take (suc k) xs) ≡ true
+all_next : (xs : List (List ℕ)) (k : ℕ) (x : List ℕ) → slice_get xs k ≡ Some x → list_all is_secret (take k xs) ≡ true
+    → is_secret x ≡ true → list_all is_secret (take (suc k) xs) ≡ true
 all_next [] k x is all one = absurd (let e = is in cc)
 all_next (y ∷ ys) zero x is all one = and_both (is_secret y) true (ap is_secret (same is) ∙ one) refl
   where
@@ -78,5 +98,6 @@ all_next (y ∷ ys) (suc k) x is all one = and_both (is_secret y) (list_all is_s
     (and_first (is_secret y) _ all)
     (all_next ys k x is (and_second (is_secret y) (list_all is_secret (take k ys)) all) one)
 
-pub all_more : (xs : List (List ℕ)) (k : ℕ) (x : List ℕ) → slice_get xs k ≡ Some x → IsTrue (list_all is_secret (take k xs)) → IsTrue (is_secret x) → IsTrue (list_all is_secret (take (k + 1) xs))
+pub all_more : (xs : List (List ℕ)) (k : ℕ) (x : List ℕ) → slice_get xs k ≡ Some x
+    → IsTrue (list_all is_secret (take k xs)) → IsTrue (is_secret x) → IsTrue (list_all is_secret (take (k + 1) xs))
 all_more xs k x is all one = ap (λ n. list_all is_secret (take n xs)) (add-one k) ∙ all_next xs k x is all one

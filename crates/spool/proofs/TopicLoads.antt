@@ -8,7 +8,8 @@ use Rattle.std.proofs.lemmas.List.{length-map}
 use Rattle.std.proofs.lemmas.List.Folds.{find-append}
 use Rattle.relay_types.specs.declared.limits.TheConstants.{MAX_RECORDS, MAX_SUBSCRIPTIONS}
 use Rattle.relay_types.specs.declared.record.Record.{Record}
-use Rattle.relay_types.specs.declared.record.Record.TheVariants.{Put, Secrets, Enabled, Accept, Outcome, Subscribed, Purge}
+use Rattle.relay_types.specs.declared.record.Record.TheVariants.{Put, Secrets, Enabled, Accept, Outcome, Subscribed}
+use Rattle.relay_types.specs.declared.record.Record.TheVariants.{Purge}
 use Rattle.relay_types.specs.Endpoints.{has_endpoint}
 use Rattle.relay_types.specs.Legal.{IsLegal}
 use Rattle.relay_types.specs.Rows.{EndpointRow, TopicRow, put_of, rows_of, topic_row}

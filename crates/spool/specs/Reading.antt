@@ -16,7 +16,8 @@ pub record IsLeft {X : Type 0} (number : X → Seq) (from : Seq) (xs read left :
 
 -- some rows of a table come next behind those before: what `old` says of those before, `new` says of both
 abbrev pub ReadsOn : {X : Type 0} → (table : List X) → (old new : List X → Type 0) → (more : List X) → Type 0
-ReadsOn table old new more = (before after : List _) → table ≡ before ++ (more ++ after) → old before → new (before ++ more)
+ReadsOn table old new more = (before after : List _) → table ≡ before ++ (more ++ after) → old before
+    → new (before ++ more)
 
 -- some rows of a table come next behind those before, of which so much is known
 abbrev pub ComeNext : {X : Type 0} → (table : List X) → (old : List X → Type 0) → (more : List X) → Type 0

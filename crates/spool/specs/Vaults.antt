@@ -19,7 +19,8 @@ pub record VaultValue (S : Type 0) : Type 0 where
 abbrev pub vault_code : {S : Type 0} → Coded S → Coded (VaultValue S)
 vault_code {S} store =
     code_by (Held S × (ℕ × (ℕ × Bool))) (coded× (held_code store) (coded× coded_ℕ (coded× coded_ℕ coded_bool)))
-    (λ v. (v.conn, (v.mark, (v.next, v.closed)))) (λ p. record { conn = p.0; mark = p.1.0; next = p.1.1.0; closed = p.1.1.1 }) (λ _. refl)
+    (λ v. (v.conn, (v.mark, (v.next, v.closed))))
+    (λ p. record { conn = p.0; mark = p.1.0; next = p.1.1.0; closed = p.1.1.1 }) (λ _. refl)
 
 -- the store is open, outside a transaction, and has the rows of this legal history, of so many records
 pub record HoldsAt (s : State) (count : ℕ) (records : List Record) : Type 0 where

@@ -26,7 +26,8 @@ use Rattle.sqlite_rules.proofs.TableLemmas.{int_is}
 use Rattle.sqlite.specs.Tree.{Trees, rowid, has_rowid, put_row, without_rowid}
 use Rattle.sqlite_rules.specs.Lists.{Has}
 use Rattle.sqlite_rules.specs.Cast.{cast_row}
-use Rattle.sqlite_rules.specs.Edit.{id_in, without_all, put_all, is_taken, are_fresh, edit_of, left_by, edited, taken_by}
+use Rattle.sqlite_rules.specs.Edit.{id_in, without_all, put_all, is_taken, are_fresh, edit_of, left_by, edited}
+use Rattle.sqlite_rules.specs.Edit.{taken_by}
 use Rattle.sqlite_rules.specs.Calls.{ids_of}
 use Rattle.sqlite_rules.proofs.ListLemmas.{all_has, all_from, has_filtered, has_kept, some_has, some_from}
 use Rattle.sqlite_rules.proofs.ProbeLemmas.{mapped_has}
@@ -58,13 +59,16 @@ all_left : (rows : List Row) → rows ≡ filter (λ r. not (has_one [] r)) rows
 all_left [] = refl
 all_left (r ∷ rows) = ap (λ xs. r ∷ xs) (all_left rows)
 
-left_twice : (id : ℤ) (ids : List ℤ) (rows : List Row) → filter (λ r. not (has_one ids r)) (without_rowid id rows) ≡ filter (λ r. not (has_one (id ∷ ids) r)) rows
+left_twice : (id : ℤ) (ids : List ℤ) (rows : List Row) → filter (λ r. not (has_one ids r)) (without_rowid id rows)
+    ≡ filter (λ r. not (has_one (id ∷ ids) r)) rows
 left_twice id ids [] = refl
 left_twice id ids (r ∷ rows) = tested (has_rowid id r) (has_one ids r) refl (left_twice id ids rows)
   where
-    tested : (a b : Bool) → has_one ids r ≡ b → filter (λ x. not (has_one ids x)) (without_rowid id rows) ≡ filter (λ x. not (has_one (id ∷ ids) x)) rows
+    tested : (a b : Bool) → has_one ids r ≡ b → filter (λ x. not (has_one ids x)) (without_rowid id rows) ≡ filter
+        (λ x. not (has_one (id ∷ ids) x)) rows
         → filter (λ x. not (has_one ids x)) (cond (not a) (r ∷ without_rowid id rows) (without_rowid id rows))
-        ≡ cond (not (a || b)) (r ∷ filter (λ x. not (has_one (id ∷ ids) x)) rows) (filter (λ x. not (has_one (id ∷ ids) x)) rows)
+        ≡ cond (not (a || b)) (r ∷ filter (λ x. not (has_one (id ∷ ids) x)) rows)
+        (filter (λ x. not (has_one (id ∷ ids) x)) rows)
     tested true b is rest = rest
     tested false true is rest = rw is rest
     tested false false is rest = rw is (ap (λ xs. r ∷ xs) rest)
@@ -79,12 +83,14 @@ has_image f (x ∷ xs) y (inl same) = (x, inl refl, same)
 has_image f (x ∷ xs) y (inr later) = let found = has_image f xs y later in (found.0, inr found.1, found.2)
 
 -- Where no other row has the rowid of one that passes, taking out these rowids takes out those that pass.
-pub left_over : (p : Row → Bool) (rows : List Row) (ids : List ℤ) → IsPermutation (map (λ r. id_in (rowid r)) (filter p rows)) ids
+pub left_over : (p : Row → Bool) (rows : List Row) (ids : List ℤ)
+    → IsPermutation (map (λ r. id_in (rowid r)) (filter p rows)) ids
     → ((r : Row) → Has rows r → p r ≡ true → has_rowid (id_in (rowid r)) r ≡ true)
     → ((r s : Row) → Has rows r → Has rows s → p s ≡ true → has_rowid (id_in (rowid s)) r ≡ true → p r ≡ true)
     → without_all rows ids ≡ filter (λ r. not (p r)) rows
 left_over p rows ids these own alone =
-    left_of ids rows ∙ filter_same (λ r. not (has_one ids r)) (λ r. not (p r)) rows (all_from _ rows (λ r there. ap not (both r there (cases_Bool (p r)))))
+    left_of ids rows ∙ filter_same (λ r. not (has_one ids r)) (λ r. not (p r)) rows
+    (all_from _ rows (λ r there. ap not (both r there (cases_Bool (p r)))))
   where
     f : Row → ℤ
     f r = id_in (rowid r)
@@ -94,7 +100,8 @@ left_over p rows ids these own alone =
 
     both : (r : Row) → Has rows r → (p r ≡ true) ⊎ (p r ≡ false) → has_one ids r ≡ p r
     both r there (inl passes) =
-        same_test r ∙ some_from (λ id. has_rowid id r) (map f (filter p rows)) (f r) (mapped_has f (filter p rows) r (has_kept p rows r there passes)) (own r there passes) ∙ sym passes
+        same_test r ∙ some_from (λ id. has_rowid id r) (map f (filter p rows)) (f r)
+        (mapped_has f (filter p rows) r (has_kept p rows r there passes)) (own r there passes) ∙ sym passes
     both r there (inr fails) = same_test r ∙ false_from_ne_true _ (λ some.
         let id = some_has (λ i. has_rowid i r) (map f (filter p rows)) some in
         let s = has_image f (filter p rows) id.0 id.1 in
@@ -123,12 +130,14 @@ module _ (tree : List Row) (rowids : HasRowids tree) (p : Row → Bool) where
       let keyed = int_is (rowid r) (all_has _ tree r rowids.numbered there) in
       subst (λ v. is_eq (value_cmp (rowid r) v) ≡ true) keyed (ap is_eq (tied_itself value_cmp_total (rowid r)))
 
-  pub left_in_table : (ids : List ℤ) → IsPermutation (map (λ r. id_in (rowid r)) (filter p tree)) ids → without_all tree ids ≡ filter (λ r. not (p r)) tree
+  pub left_in_table : (ids : List ℤ) → IsPermutation (map (λ r. id_in (rowid r)) (filter p tree)) ids
+      → without_all tree ids ≡ filter (λ r. not (p r)) tree
   left_in_table ids these =
       left_over p tree ids these (λ r there here. own_rowid r there)
       (λ r s there other here tie.
       let one = has_rowid (id_in (rowid s)) in
-      let same = one_at_most (filter one tree) r s (rowids.once (id_in (rowid s))) (has_kept one tree r there tie) (has_kept one tree s other (own_rowid s other)) in
+      let same = one_at_most (filter one tree) r s (rowids.once (id_in (rowid s))) (has_kept one tree r there tie)
+      (has_kept one tree s other (own_rowid s other)) in
       subst (λ x. p x ≡ true) (sym same) here)
 
 fewer : (p q : Row → Bool) (rows : List Row) → length (filter p (filter q rows)) ≤ length (filter p rows)
@@ -136,7 +145,8 @@ fewer p q [] = omega arith
 fewer p q (r ∷ rows) = at (q r) (p r) refl (fewer p q rows)
   where
     at : (a b : Bool) → p r ≡ b → length (filter p (filter q rows)) ≤ length (filter p rows)
-        → length (filter p (cond a (r ∷ filter q rows) (filter q rows))) ≤ length (cond b (r ∷ filter p rows) (filter p rows))
+        → length (filter p (cond a (r ∷ filter q rows) (filter q rows))) ≤ length
+        (cond b (r ∷ filter p rows) (filter p rows))
     at true true is less = rw is (omega (arith, less))
     at true false is less = rw is less
     at false true is less = omega (arith, less)
@@ -153,12 +163,14 @@ none_kept : {X : Type 0} (p : X → Bool) (xs : List X) → list_any p xs ≡ fa
 none_kept p [] e = refl
 none_kept p (x ∷ xs) e = at (p x) e (none_kept p xs)
   where
-    at : (b : Bool) → b || list_any p xs ≡ false → (list_any p xs ≡ false → filter p xs ≡ []) → cond b (x ∷ filter p xs) (filter p xs) ≡ []
+    at : (b : Bool) → b || list_any p xs ≡ false → (list_any p xs ≡ false → filter p xs ≡ [])
+        → cond b (x ∷ filter p xs) (filter p xs) ≡ []
     at true e rest = absurd (let f = e in cc)
     at false e rest = rest e
 
 -- a row whose rowid is free
-module _ (id : ℤ) (rest : Row) (rows : List Row) (free : are_fresh rows ((Int id ∷ rest) ∷ []) ≡ true) (rowids : HasRowids rows) where
+module _ (id : ℤ) (rest : Row) (rows : List Row) (free : are_fresh rows ((Int id ∷ rest) ∷ []) ≡ true)
+    (rowids : HasRowids rows) where
   abbrev put : Row
   put = Int id ∷ rest
 
@@ -169,7 +181,8 @@ module _ (id : ℤ) (rest : Row) (rows : List Row) (free : are_fresh rows ((Int 
       untaken false e = refl
       untaken true e = absurd (let f = e in cc)
 
-  few : (other : ℤ) (b : Bool) → is_eq (value_cmp (Int id) (Int other)) ≡ b → length (filter (has_rowid other) rows ++ cond b (put ∷ []) []) ≤ 1
+  few : (other : ℤ) (b : Bool) → is_eq (value_cmp (Int id) (Int other)) ≡ b
+      → length (filter (has_rowid other) rows ++ cond b (put ∷ []) []) ≤ 1
   few other false e = rw (append-nil (filter (has_rowid other) rows)) (rowids.once other)
   few other true e = rw (ap (λ n. filter (has_rowid n) rows) (same_int id other e) ∙ none_with) (omega arith)
 
@@ -178,7 +191,13 @@ module _ (id : ℤ) (rest : Row) (rows : List Row) (free : are_fresh rows ((Int 
     numbered = all-put_row _ put rows refl rowids.numbered;
     once = λ other.
         let long = length_permutation _ _ (IsPermutation-filter (has_rowid other) _ _ (put_fresh put rows free)) in
-        omega (arith, long, ap length (filter-append (has_rowid other) rows (put ∷ [])), few other (has_rowid other put) refl);
+        omega (
+          arith,
+          long,
+          ap length (filter-append (has_rowid other) rows (put ∷ [])),
+          few other (has_rowid other put)
+              refl,
+        );
   }
 
 -- ---- the rows that are put in
@@ -187,28 +206,35 @@ fresh_first : (a b : Bool) → not a && b ≡ true → (not a && true ≡ true) 
 fresh_first false b e = (refl, e)
 fresh_first true b e = absurd (let f = e in cc)
 
-pub put_all_fresh : (rows news : List Row) → are_fresh rows news ≡ true → IsPermutation (put_all rows news) (rows ++ news)
+pub put_all_fresh : (rows news : List Row) → are_fresh rows news ≡ true
+    → IsPermutation (put_all rows news) (rows ++ news)
 put_all_fresh rows [] free = subst (IsPermutation rows) (sym (append-nil rows)) (IsPermutation-refl rows)
 put_all_fresh rows (n ∷ news) free =
     let both = fresh_first (is_taken rows n) _ free in
     let rest = put_all_fresh (put_row n rows) news both.1 in
     subst (IsPermutation (put_all (put_row n rows) news)) (append_assoc rows (n ∷ []) news)
-    (IsPermutation-trans _ _ _ rest (IsPermutation-append _ _ news news (put_fresh n rows both.0) (IsPermutation-refl news)))
+    (IsPermutation-trans _ _ _ rest (IsPermutation-append _ _ news news (put_fresh n rows both.0)
+    (IsPermutation-refl news)))
 
 -- the rows that don't pass, and the others changed
-changed_where : (p : Row → Bool) (f : Row → Row) (rows : List Row) → IsPermutation (filter (λ r. not (p r)) rows ++ map f (filter p rows)) (map (λ r. cond (p r) (f r) r) rows)
+changed_where : (p : Row → Bool) (f : Row → Row) (rows : List Row)
+    → IsPermutation (filter (λ r. not (p r)) rows ++ map f (filter p rows)) (map (λ r. cond (p r) (f r) r) rows)
 changed_where p f [] = IsPermutation-refl []
 changed_where p f (r ∷ rows) = tested (p r) (changed_where p f rows)
   where
-    tested : (b : Bool) → IsPermutation (filter (λ x. not (p x)) rows ++ map f (filter p rows)) (map (λ x. cond (p x) (f x) x) rows)
-        → IsPermutation (cond (not b) (r ∷ filter (λ x. not (p x)) rows) (filter (λ x. not (p x)) rows) ++ map f (cond b (r ∷ filter p rows) (filter p rows)))
+    tested : (b : Bool) → IsPermutation (filter (λ x. not (p x)) rows ++ map f (filter p rows))
+        (map (λ x. cond (p x) (f x) x) rows)
+        → IsPermutation (cond (not b) (r ∷ filter (λ x. not (p x)) rows) (filter (λ x. not (p x)) rows) ++ map f
+        (cond b (r ∷ filter p rows) (filter p rows)))
         (cond b (f r) r ∷ map (λ x. cond (p x) (f x) x) rows)
-    tested true rest = IsPermutation-trans _ _ _ (IsPermutation-middle (filter (λ x. not (p x)) rows) (f r) (map f (filter p rows))) (IsPermutation-cons (f r) _ _ rest)
+    tested true rest = IsPermutation-trans _ _ _ (IsPermutation-middle (filter (λ x. not (p x)) rows) (f r)
+        (map f (filter p rows))) (IsPermutation-cons (f r) _ _ rest)
     tested false rest = IsPermutation-cons r _ _ rest
 
 -- ---- what an UPDATE makes of typed rows
 
-module _ {X : Type 0} (row : X → Row) (table : Table) (params : Row) (tests shown : List Term) (test : X → Bool) (edit : X → X)
+module _ {X : Type 0} (row : X → Row) (table : Table) (params : Row) (tests shown : List Term) (test : X → Bool)
+    (edit : X → X)
     (passed : (x : X) → passes params tests (row x) ≡ test x)
     (changed : (x : X) → cast_row table (drop 1 (shows params shown (row x))) ≡ row (edit x))
     (first : (r : Row) → rowid (shows params shown r) ≡ rowid r)
@@ -232,7 +258,8 @@ module _ {X : Type 0} (row : X → Row) (table : Table) (params : Row) (tests sh
   map_same [] = refl
   map_same (x ∷ xs) = ap₂ ◌∷◌ (change_is x) (map_same xs)
 
-  left_typed : (xs : List X) (found : List Row) → IsPermutation (map (shows params shown) (filter (passes params tests) (map row xs))) found
+  left_typed : (xs : List X) (found : List Row)
+      → IsPermutation (map (shows params shown) (filter (passes params tests) (map row xs))) found
       → without_all (map row xs) (ids_of found) ≡ filter (λ r. not (passes params tests r)) (map row xs)
   left_typed xs found all =
       let p = passes params tests in
@@ -241,33 +268,41 @@ module _ {X : Type 0} (row : X → Row) (table : Table) (params : Row) (tests sh
       (map_map (shows params shown) (λ r. id_in (rowid r)) (filter p (map row xs))
       ∙ id_same (filter p (map row xs))) (IsPermutation-map (λ r. id_in (rowid r)) _ _ all) in
       left_over p (map row xs) (ids_of found) ids
-      (λ r there here. let x = has_image row xs r there in subst (λ s. has_rowid (id_in (rowid s)) s ≡ true) (sym x.2) (own x.0))
+      (λ r there here. let x = has_image row xs r there in subst (λ s. has_rowid (id_in (rowid s)) s ≡ true) (sym x.2)
+      (own x.0))
       (λ r s there other here tie.
       let x = has_image row xs r there in
       let y = has_image row xs s other in
       let y_passes : test y.0 ≡ true = sym (passed y.0) ∙ subst (λ z. p z ≡ true) y.2 here in
-      let tied : has_rowid (id_in (rowid (row y.0))) (row x.0) ≡ true = subst₂ (λ a b. has_rowid (id_in (rowid a)) b ≡ true) y.2 x.2 tie in
+      let tied : has_rowid (id_in (rowid (row y.0))) (row x.0) ≡ true = subst₂
+      (λ a b. has_rowid (id_in (rowid a)) b ≡ true) y.2 x.2 tie in
       ap p x.2 ∙ passed x.0 ∙ alone x.0 y.0 y_passes tied)
     where
       id_same : (rs : List Row) → map (λ r. id_in (rowid (shows params shown r))) rs ≡ map (λ r. id_in (rowid r)) rs
       id_same [] = refl
       id_same (r ∷ rs) = ap₂ ◌∷◌ (ap id_in (first r)) (id_same rs)
 
-  changes_all : (db : Trees) (xs : List X) (found : List Row) → db table.tree ≡ map row xs → IsPermutation (map (shows params shown) (filter (passes params tests) (map row xs))) found
+  changes_all : (db : Trees) (xs : List X) (found : List Row) → db table.tree ≡ map row xs
+      → IsPermutation (map (shows params shown) (filter (passes params tests) (map row xs))) found
       → IsPutIn db (edit_of db table (ids_of found) Given 1 found)
       → IsPermutation (edited db (edit_of db table (ids_of found) Given 1 found)) (map row (map change xs))
   changes_all db xs found is all fresh =
       let p = passes params tests in
       let the = edit_of db table (ids_of found) Given 1 found in
-      let left : left_by db the ≡ filter (λ r. not (p r)) (map row xs) = ap (λ rows. without_all rows (ids_of found)) is ∙ left_typed xs found all in
+      let left : left_by db the ≡ filter (λ r. not (p r)) (map row xs) = ap (λ rows. without_all rows (ids_of found))
+      is ∙ left_typed xs found all in
       let news : the.news ≡ map (λ s. cast_row table (drop 1 s)) found = given _ _ in
       let moved : IsPermutation (map (λ s. cast_row table (drop 1 s)) found) (map made (filter p (map row xs))) =
-      subst (IsPermutation (map (λ s. cast_row table (drop 1 s)) found)) (map_map (shows params shown) (λ s. cast_row table (drop 1 s)) (filter p (map row xs)))
+      subst (IsPermutation (map (λ s. cast_row table (drop 1 s)) found))
+      (map_map (shows params shown) (λ s. cast_row table (drop 1 s)) (filter p (map row xs)))
       (IsPermutation-sym _ _ (IsPermutation-map (λ s. cast_row table (drop 1 s)) _ _ all)) in
       let put = put_all_fresh (left_by db the) the.news fresh in
-      let both : IsPermutation (left_by db the ++ the.news) (filter (λ r. not (p r)) (map row xs) ++ map made (filter p (map row xs))) =
-      IsPermutation-append _ _ _ _ (IsPermutation-same _ _ left) (subst (λ l. IsPermutation l (map made (filter p (map row xs)))) (sym news) moved) in
-      subst (IsPermutation (edited db the)) (map_same xs) (IsPermutation-trans _ _ _ put (IsPermutation-trans _ _ _ both (changed_where p made (map row xs))))
+      let both : IsPermutation (left_by db the ++ the.news)
+      (filter (λ r. not (p r)) (map row xs) ++ map made (filter p (map row xs))) =
+      IsPermutation-append _ _ _ _ (IsPermutation-same _ _ left)
+      (subst (λ l. IsPermutation l (map made (filter p (map row xs)))) (sym news) moved) in
+      subst (IsPermutation (edited db the)) (map_same xs)
+      (IsPermutation-trans _ _ _ put (IsPermutation-trans _ _ _ both (changed_where p made (map row xs))))
 
   pub updated_typed : (db : Trees) (xs : List X) (found : List Row) → IsPermutation (db table.tree) (map row xs)
       → IsPermutation (map (shows params shown) (filter (passes params tests) (db table.tree))) found
@@ -275,17 +310,25 @@ module _ {X : Type 0} (row : X → Row) (table : Table) (params : Row) (tests sh
       → IsPermutation (edited db (edit_of db table (ids_of found) Given 1 found)) (map row (map change xs))
   updated_typed db xs found are all fresh =
       let from = pull_back row (map row xs) (db table.tree) (IsPermutation-sym _ _ are) xs refl in
-      let here = changes_all db from.0 found from.2 (subst (λ rows. IsPermutation (map (shows params shown) (filter (passes params tests) rows)) found) from.2 all) fresh in
-      IsPermutation-trans _ _ _ here (IsPermutation-map row _ _ (IsPermutation-map change _ _ (IsPermutation-sym _ _ from.1)))
+      let here = changes_all db from.0 found from.2
+      (subst (λ rows. IsPermutation (map (shows params shown) (filter (passes params tests) rows)) found) from.2
+      all) fresh in
+      IsPermutation-trans _ _ _ here
+      (IsPermutation-map row _ _ (IsPermutation-map change _ _ (IsPermutation-sym _ _ from.1)))
 
 -- ---- what a DELETE does to a database of the relay
 
 deleted_by : (task : Task) (q : Program) (db : Trees) (w : Written) → Deletes task q db (Ok w)
-    → (rows : List Row) × Answers (record { schema = task.schema; trees = db }) q task.params rows × Goes task.schema task.keys db (edit_of db task.table (ids_of rows) Given 0 []) (Ok w.trees)
+    → (rows : List Row) × Answers (record { schema = task.schema; trees = db }) q task.params rows
+    × Goes task.schema task.keys db (edit_of db task.table (ids_of rows) Given 0 []) (Ok w.trees)
 deleted_by task q db w h =
     let found = went h in
-    let made = went found.2 in
-    (found.0, found.1, subst (λ t. Goes task.schema task.keys db (edit_of db task.table (ids_of found.0) Given 0 []) (Ok t)) (sym (ap (λ (it : Written). it.trees) (same_value made.2))) made.1)
+    let made = went found.2 in (
+      found.0,
+      found.1,
+      subst (λ t. Goes task.schema task.keys db (edit_of db task.table (ids_of found.0) Given 0 [])
+          (Ok t)) (sym (ap (λ (it : Written). it.trees) (same_value made.2))) made.1,
+    )
 
 module _ (schema : Schema) (sql : List ℕ) (params : Row) (at : ℕ) (q : Program) (table : Table)
     (means : Means schema sql (Delete at q)) (listed : slice_get schema.tables at ≡ Some table)
@@ -297,7 +340,14 @@ module _ (schema : Schema) (sql : List ℕ) (params : Row) (at : ℕ) (q : Progr
       let db = old.now.trees in
       let w = runs_as sql params old new schema has (Delete at q) means.is means.plain count h in
       let text = statement_of sql (understood schema sql) in
-      let task : Task = record { limit = old.step_limit; keys = Enforced; schema = schema; table = table; params = params } in
+      let task : Task = record {
+        limit = old.step_limit;
+        keys = Enforced;
+        schema = schema;
+        table = table;
+        params =
+            params;
+      } in
       let on : OnRows task (mode_of old) None (Delete at q) db (Ok (w.tally, new.now)) =
       rw listed at
       (subst (λ s. Does old.step_limit (mode_of old) params (record old.now { schema = s }) text None (Delete at q)

@@ -1,5 +1,6 @@
 -- What an INSERT of one row does to a database of the relay.
-use Rattle.std.proofs.Common.{◌≡◌, ◌≢◌, ◌⊎◌, inl, inr, ℕ, ◌/◌, ℤ, MatchBool, List, [], ◌∷◌, length, slice_get, Bool, true, false, cond, Some, None, Ok, Err, Result, refl, sym, ap, subst, subst₂, ◌∙◌}
+use Rattle.std.proofs.Common.{◌≡◌, ◌≢◌, ◌⊎◌, inl, inr, ℕ, ◌/◌, ℤ, MatchBool, List, [], ◌∷◌, length, slice_get, Bool}
+use Rattle.std.proofs.Common.{true, false, cond, Some, None, Ok, Err, Result, refl, sym, ap, subst, subst₂, ◌∙◌}
 use Rattle.std.specs.List.{AllByRecursion}
 use Rattle.sqlite.specs.Order.{Row}
 use Rattle.sqlite.specs.Term.{Term}
@@ -46,7 +47,8 @@ pub record Wrote (schema : Schema) (old new : State) (tree : ℕ) (rows : List R
   pub others : AllByRecursion (λ (t : Table). t.tree ≢ tree → new.now.trees t.tree ≡ old.now.trees t.tree) schema.tables
 
 -- a statement on rows leaves the trees that its part made
-pub left_as : (task : Task) (mode : Mode) (command : Command) (db : Trees) (tally : Tally) (after : Database) → OnRows task mode None command db (Ok (tally, after))
+pub left_as : (task : Task) (mode : Mode) (command : Command) (db : Trees) (tally : Tally) (after : Database)
+    → OnRows task mode None command db (Ok (tally, after))
     → (w : Written) × WritesRows task db command (Ok w) × (after ≡ record { schema = task.schema; trees = w.trees })
 left_as task mode command db tally after h =
     let done = went h in
@@ -66,8 +68,10 @@ no_count false c e = refl
 no_count true c e = absurd (let f = e in cc)
 
 -- an INSERT into a table with no AUTOINCREMENT makes one edit
-pub inserted_by : (task : Task) (from : Source) (db : Trees) (w : Written) → task.table.is_counted ≡ false → Inserts task from db (Ok w)
-    → (rows : List Row) × IsSource (record { schema = task.schema; trees = db }) (stamped task.table task.params) from rows
+pub inserted_by : (task : Task) (from : Source) (db : Trees) (w : Written) → task.table.is_counted ≡ false
+    → Inserts task from db (Ok w)
+    → (rows : List Row) × IsSource (record { schema = task.schema; trees = db }) (stamped task.table task.params) from
+    rows
     × Goes task.schema task.keys db (edit_of db task.table [] Chosen 0 rows) (Ok w.trees)
 inserted_by task from db w bare h =
     let given = went h in
@@ -83,18 +87,28 @@ inserted_by task from db w bare h =
     (given.0, given.1, subst₂ (λ i t. Goes task.schema task.keys db (edit i) (Ok t)) ids (sym trees) written.1)
 
 module _ (schema : Schema) (sql : List ℕ) (params : Row) (at : ℕ) (terms : List Term) (width : ℕ) (table : Table)
-    (means : Means schema sql (Insert at (Values terms width))) (listed : slice_get schema.tables at ≡ Some table) (uncounted : table.is_counted ≡ false)
+    (means : Means schema sql (Insert at (Values terms width))) (listed : slice_get schema.tables at ≡ Some table)
+    (uncounted : table.is_counted ≡ false)
     (row : Trees → Row)
-    (news : (db : Trees) → (edit_of db table [] Chosen 0 (value_rows (stamped table params) width (length terms / width) terms)).news ≡ row db ∷ [])
+    (news : (db : Trees) → (edit_of db table [] Chosen 0
+    (value_rows (stamped table params) width (length terms / width) terms)).news ≡ row db ∷ [])
     (idle : (tree : ℕ) (olds news : List Row) → works schema Enforced 0 tree olds news ≡ []) where
   pub inserts : (old new : State) (count : ℕ) → old.now.schema ≡ schema → Executes sql params old new (Ok count)
-      → Wrote schema old new table.tree (put_row (row old.now.trees) (old.now.trees table.tree)) × (are_fresh (old.now.trees table.tree) (row old.now.trees ∷ []) ≡ true)
+      → Wrote schema old new table.tree (put_row (row old.now.trees) (old.now.trees table.tree))
+      × (are_fresh (old.now.trees table.tree) (row old.now.trees ∷ []) ≡ true)
   inserts old new count has h =
       let db = old.now.trees in
       let command = Insert at (Values terms width) in
       let w = runs_as sql params old new schema has command means.is means.plain count h in
       let text = statement_of sql (understood schema sql) in
-      let task : Task = record { limit = old.step_limit; keys = Enforced; schema = schema; table = table; params = params } in
+      let task : Task = record {
+        limit = old.step_limit;
+        keys = Enforced;
+        schema = schema;
+        table = table;
+        params =
+            params;
+      } in
       let on : OnRows task (mode_of old) None command db (Ok (w.tally, new.now)) =
       rw listed at
       (subst (λ s. Does old.step_limit (mode_of old) params (record old.now { schema = s }) text None command
@@ -112,7 +126,8 @@ module _ (schema : Schema) (sql : List ℕ) (params : Row) (at : ℕ) (terms : L
           schema_is = schema_is;
           sound = subst (λ s. IsSound s new.now.trees) schema_is w.sound;
           rows_are = ap (λ (t : Trees). t table.tree) trees ∙ it.rows ∙ ap (put_all (db table.tree)) new_rows;
-          others = subst (λ (t : Trees). AllByRecursion (λ (x : Table). x.tree ≢ table.tree → t x.tree ≡ db x.tree) schema.tables) (sym trees) it.tables;
+          others = subst (λ (t : Trees). AllByRecursion (λ (x : Table). x.tree ≢ table.tree → t x.tree ≡ db x.tree)
+              schema.tables) (sym trees) it.tables;
         },
         subst (λ all. are_fresh (db table.tree) all ≡ true) new_rows it.fresh,
       )

@@ -72,7 +72,8 @@ module _ {X : Type 0} (row : X → Row) (number : X → ℕ) (t : ℕ) (shown : 
 -- ---- endpoints
 
 abbrev pub endpoints_page : List ℕ
-endpoints_page = codes "SELECT put, name, url, max, enabled, enabled_by, secrets_by FROM endpoints WHERE put >= ?1 ORDER BY put LIMIT 256"
+endpoints_page = codes
+    "SELECT put, name, url, max, enabled, enabled_by, secrets_by FROM endpoints WHERE put >= ?1 ORDER BY put LIMIT 256"
 
 abbrev endpoint_columns : List Term
 endpoint_columns = col 1 0 ∷ col 1 2 ∷ col 1 3 ∷ col 1 4 ∷ col 1 5 ∷ col 1 6 ∷ col 1 7 ∷ []

@@ -8,7 +8,8 @@ use Rattle.sqlite.specs.Command.TheVariants.{Rollback}
 use Rattle.sqlite.specs.Order.{Row}
 use Rattle.sqlite.specs.Schema.{Schema}
 use Rattle.sqlite.specs.Listing.{understood}
-use Rattle.sqlite.specs.State.{State, Shown, Survives, CommitsShowing, FailsToQuery, IsNotRun, IsNoStatement, IsUnchanged, Fails, store_error}
+use Rattle.sqlite.specs.State.{State, Shown, Survives, CommitsShowing, FailsToQuery, IsNotRun, IsNoStatement}
+use Rattle.sqlite.specs.State.{IsUnchanged, Fails, store_error}
 use Rattle.sqlite_resolve.specs.declared.compiled.Compiled.{Compiled}
 use Rattle.sqlite.proofs.Callers.{IsPlain, never_commits}
 use Rattle.sqlite_tied.specs.Compute.{everything}
@@ -53,7 +54,8 @@ never_shown old new rows h =
     (rw c at h.2).2
 
 -- so it is refused as no query, with nothing changed, or the store fails
-pub probed : (old new : State) (e : Error) → FailsToQuery rollback_text [] old new e → ((e ≡ InvalidQuery) × IsUnchanged old new) ⊎ Fails old new ⊥ e
+pub probed : (old new : State) (e : Error) → FailsToQuery rollback_text [] old new e
+    → ((e ≡ InvalidQuery) × IsUnchanged old new) ⊎ Fails old new ⊥ e
 unfolding FailsToQuery IsNotRun
 probed old new e (inl (inl h)) = absurd (never_no_statement old e h.0)
 probed old new e (inl (inr h)) = inr h
@@ -63,13 +65,18 @@ probed old new e (inr h) =
     inl (it.2, it.3)
 
 pub probed_open : (old new : State) → FailsToQuery rollback_text [] old new InvalidQuery → IsUnchanged old new
-probed_open old new h = elim (probed old new InvalidQuery h) [ inl same ↦ same.1 | inr failed ↦ absurd (never_named failed.0 failed.1) ]
+probed_open old new h = elim (probed old new InvalidQuery h) [
+  | inl same ↦ same.1
+  | inr failed ↦ absurd (never_named failed.0 failed.1)
+]
 
-pub probed_failed : (old new : State) (e : Error) → e ≢ InvalidQuery → FailsToQuery rollback_text [] old new e → Fails old new ⊥ e
+pub probed_failed : (old new : State) (e : Error) → e ≢ InvalidQuery → FailsToQuery rollback_text [] old new e
+    → Fails old new ⊥ e
 probed_failed old new e other h = elim (probed old new e h) [ inl same ↦ absurd (other same.0) | inr failed ↦ failed ]
 
 -- and it commits nothing
-pub probe_survives : (old new : State) → Survives old new (CommitsShowing rollback_text [] old) → Survives old new (λ _. ⊥)
+pub probe_survives : (old new : State) → Survives old new (CommitsShowing rollback_text [] old)
+    → Survives old new (λ _. ⊥)
 probe_survives old new s = record {
   clean = s.clean;
   shield = s.shield;
@@ -78,6 +85,7 @@ probe_survives old new s = record {
   closes = s.closes;
   crash = λ clean db may. elim (s.crash clean db may) [
     | inl was ↦ inl was
-    | inr shows ↦ absurd (never_commits rollback_text [] old db (subst IsPlain (sym (rollback_is old.now.schema)) (refl, refl)) shows)
+    | inr shows ↦ absurd (never_commits rollback_text [] old db
+        (subst IsPlain (sym (rollback_is old.now.schema)) (refl, refl)) shows)
   ];
 }

@@ -56,27 +56,35 @@ abbrev pub shows : Row → List Term → Row → Row
 shows params shown r = eval_all shown (params ∷ r ∷ [])
 
 pub matched : (params : Row) (tests : List Term) (rows : List Row)
-    → flat_map (λ r. cond (passes params tests r) ((params ∷ r ∷ []) ∷ []) []) rows ≡ map (λ r. params ∷ r ∷ []) (filter (passes params tests) rows)
+    → flat_map (λ r. cond (passes params tests r) ((params ∷ r ∷ []) ∷ []) []) rows ≡ map (λ r. params ∷ r ∷ [])
+    (filter (passes params tests) rows)
 matched params tests [] = refl
 matched params tests (r ∷ rows) = by_test (passes params tests r) (matched params tests rows)
   where
-    by_test : (b : Bool) → flat_map (λ x. cond (passes params tests x) ((params ∷ x ∷ []) ∷ []) []) rows ≡ map (λ x. params ∷ x ∷ []) (filter (passes params tests) rows)
-        → cond b ((params ∷ r ∷ []) ∷ []) [] ++ flat_map (λ x. cond (passes params tests x) ((params ∷ x ∷ []) ∷ []) []) rows
-        ≡ map (λ x. params ∷ x ∷ []) (cond b (r ∷ filter (passes params tests) rows) (filter (passes params tests) rows))
+    by_test : (b : Bool) → flat_map (λ x. cond (passes params tests x) ((params ∷ x ∷ []) ∷ []) []) rows ≡ map
+        (λ x. params ∷ x ∷ []) (filter (passes params tests) rows)
+        → cond b ((params ∷ r ∷ []) ∷ []) [] ++ flat_map (λ x. cond (passes params tests x) ((params ∷ x ∷ []) ∷ []) [])
+        rows
+        ≡ map (λ x. params ∷ x ∷ [])
+        (cond b (r ∷ filter (passes params tests) rows) (filter (passes params tests) rows))
     by_test true e = ap (λ xs. (params ∷ r ∷ []) ∷ xs) e
     by_test false e = e
 
 shown_of : (order : List (Term × Key)) (t : ℕ) (tests shown : List Term) (params : Row) (rows : List Row)
-    → map (λ (o : Output). o.1) (map (output (scan_by order t tests shown)) (map (λ r. params ∷ r ∷ []) rows)) ≡ map (shows params shown) rows
+    → map (λ (o : Output). o.1) (map (output (scan_by order t tests shown)) (map (λ r. params ∷ r ∷ []) rows)) ≡ map
+    (shows params shown) rows
 shown_of order t tests shown params [] = refl
-shown_of order t tests shown params (r ∷ rows) = ap (λ xs. shows params shown r ∷ xs) (shown_of order t tests shown params rows)
+shown_of order t tests shown params (r ∷ rows) = ap (λ xs. shows params shown r ∷ xs)
+    (shown_of order t tests shown params rows)
 
 pub no_tables : (b : Bool) (rows : List Row) (n : ℕ) → unwrap_or (cond b (slice_get [] n) None) rows ≡ rows
 no_tables true rows n = refl
 no_tables false rows n = refl
 
-pub scanned_by : (order : List (Term × Key)) (t : ℕ) (tests shown : List Term) (schema : Schema) (db : Trees) (params : Row) (rows : List Row)
-    → Answers (record { schema = schema; trees = db }) (record { lets = []; body = scan_by order t tests shown }) params rows
+pub scanned_by : (order : List (Term × Key)) (t : ℕ) (tests shown : List Term) (schema : Schema) (db : Trees)
+    (params : Row) (rows : List Row)
+    → Answers (record { schema = schema; trees = db }) (record { lets = []; body = scan_by order t tests shown }) params
+    rows
     → IsPermutation (map (shows params shown) (filter (passes params tests) (db t))) rows
 scanned_by order t tests shown schema db params rows h =
     let q = scan_by order t tests shown in
@@ -85,7 +93,8 @@ scanned_by order t tests shown schema db params rows h =
     let staged : a.staged ≡ map (λ r. params ∷ r ∷ []) (filter (passes params tests) (db t)) = a.grouped
     ∙ matched params tests (overlay db [] t)
     ∙ ap (λ x. map (λ r. params ∷ r ∷ []) (filter (passes params tests) x)) there in
-    let kept : a.kept ≡ map (output q) (map (λ r. params ∷ r ∷ []) (filter (passes params tests) (db t))) = a.distinct ∙ ap (map (output q)) staged in
+    let kept : a.kept ≡ map (output q) (map (λ r. params ∷ r ∷ []) (filter (passes params tests) (db t))) = a.distinct
+    ∙ ap (map (output q)) staged in
     let moved = IsPermutation-map (λ (o : Output). o.1) _ _ (subst (λ k. IsPermutation k a.ordered) kept a.same) in
     subst₂ IsPermutation (shown_of order t tests shown params (filter (passes params tests) (db t))) (sym a.shown) moved
 
@@ -97,13 +106,20 @@ scanned = scanned_by []
 -- ---- the statements
 
 pub updated_by : (task : Task) (q : Program) (db : Trees) (w : Written) → Updates task q task.params db (Ok w)
-    → (rows : List Row) × Answers (record { schema = task.schema; trees = db }) q task.params rows × Goes task.schema task.keys db (edit_of db task.table (ids_of rows) Given 1 rows) (Ok w.trees)
+    → (rows : List Row) × Answers (record { schema = task.schema; trees = db }) q task.params rows
+    × Goes task.schema task.keys db (edit_of db task.table (ids_of rows) Given 1 rows) (Ok w.trees)
 updated_by task q db w h =
     let found = went h in
-    let made = went found.2 in
-    (found.0, found.1, subst (λ t. Goes task.schema task.keys db (edit_of db task.table (ids_of found.0) Given 1 found.0) (Ok t)) (sym (ap (λ (it : Written). it.trees) (same_value made.2))) made.1)
+    let made = went found.2 in (
+      found.0,
+      found.1,
+      subst
+          (λ t. Goes task.schema task.keys db (edit_of db task.table (ids_of found.0) Given 1 found.0) (Ok t))
+          (sym (ap (λ (it : Written). it.trees) (same_value made.2))) made.1,
+    )
 
-pub wrote_by : (schema : Schema) (old new : State) (edit : Edit) (next : Trees) → IsDatabase new.now → new.now ≡ record { schema = schema; trees = next }
+pub wrote_by : (schema : Schema) (old new : State) (edit : Edit) (next : Trees) → IsDatabase new.now
+    → new.now ≡ record { schema = schema; trees = next }
     → Applies schema Enforced old.now.trees edit next → Wrote schema old new edit.table.tree (edited old.now.trees edit)
 wrote_by schema old new edit next sound same it =
     let trees : new.now.trees ≡ next = ap (λ (d : Database). d.trees) same in
@@ -112,7 +128,8 @@ wrote_by schema old new edit next sound same it =
       schema_is = schema_is;
       sound = subst (λ s. IsSound s new.now.trees) schema_is sound;
       rows_are = ap (λ (t : Trees). t edit.table.tree) trees ∙ it.rows;
-      others = subst (λ (t : Trees). AllByRecursion (λ (x : Table). x.tree ≢ edit.table.tree → t x.tree ≡ old.now.trees x.tree) schema.tables) (sym trees) it.tables;
+      others = subst (λ (t : Trees). AllByRecursion (λ (x : Table). x.tree ≢ edit.table.tree
+          → t x.tree ≡ old.now.trees x.tree) schema.tables) (sym trees) it.tables;
     }
 
 -- no new row has the rowid of one that stays
@@ -130,7 +147,14 @@ module _ (schema : Schema) (sql : List ℕ) (params : Row) (at : ℕ) (q : Progr
       let db = old.now.trees in
       let w = runs_as sql params old new schema has (Update at q) means.is means.plain count h in
       let text = statement_of sql (understood schema sql) in
-      let task : Task = record { limit = old.step_limit; keys = Enforced; schema = schema; table = table; params = params } in
+      let task : Task = record {
+        limit = old.step_limit;
+        keys = Enforced;
+        schema = schema;
+        table = table;
+        params =
+            params;
+      } in
       let on : OnRows task (mode_of old) None (Update at q) db (Ok (w.tally, new.now)) =
       rw listed at
       (subst (λ s. Does old.step_limit (mode_of old) params (record old.now { schema = s }) text None (Update at q)

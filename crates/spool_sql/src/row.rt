@@ -102,7 +102,8 @@ fn read_seq(row: &Row, at: usize) -> Result<Seq, RowFault>
 
 fn read_moment(row: &Row, at: usize) -> Result<Moment, RowFault>
     ensures value { IfOk result (λ moment. moment ≡ number_in (column row.now at)) }
-    ensures refused { IfErr result (λ fault. (n : ℕ) → IsAt row.now at (Int (pos n)) → IsTrue (is_moment n) → IsMemoryFault fault) }
+    ensures refused { IfErr result (λ fault. (n : ℕ) → IsAt row.now at (Int (pos n)) → IsTrue (is_moment n)
+        → IsMemoryFault fault) }
 {
     let seconds: u64 = row.get(at)?;
     match Moment::of(seconds) {
@@ -125,7 +126,8 @@ fn read_bytes(row: &Row, at: usize) -> Result<&[u8], RowFault>
 
 fn read_id(row: &Row, at: usize) -> Result<MsgId, RowFault>
     ensures value { IfOk result (λ id. id ≡ bytes (column row.now at)) }
-    ensures refused { IfErr result (λ fault. (text : List ℕ) → IsAt row.now at (Text text) → IsTrue (is_msg_id text) → IsMemoryFault fault) }
+    ensures refused { IfErr result (λ fault. (text : List ℕ) → IsAt row.now at (Text text) → IsTrue (is_msg_id text)
+        → IsMemoryFault fault) }
 {
     match MsgId::read(read_bytes(row, at)?) {
         Ok(id) => Ok(id),
@@ -135,7 +137,8 @@ fn read_id(row: &Row, at: usize) -> Result<MsgId, RowFault>
 
 fn read_body(row: &Row, at: usize, alloc: Global) -> Result<Body, RowFault>
     ensures value { IfOk result (λ body. body ≡ bytes (column row.now at)) }
-    ensures refused { IfErr result (λ fault. (blob : List ℕ) → IsAt row.now at (Blob blob) → IsTrue (is_body blob) → IsMemoryFault fault) }
+    ensures refused { IfErr result (λ fault. (blob : List ℕ) → IsAt row.now at (Blob blob) → IsTrue (is_body blob)
+        → IsMemoryFault fault) }
 {
     let bytes = Vec::from_slice(alloc, read_bytes(row, at)?).map_err(Error::from)?;
     let shared = Arc::new(alloc, bytes).map_err(Error::from)?;
@@ -147,7 +150,8 @@ fn read_body(row: &Row, at: usize, alloc: Global) -> Result<Body, RowFault>
 
 fn read_name(row: &Row, at: usize) -> Result<Name, RowFault>
     ensures value { IfOk result (λ name. name ≡ bytes (column row.now at)) }
-    ensures refused { IfErr result (λ fault. (text : List ℕ) → IsAt row.now at (Text text) → IsTrue (is_name text) → IsMemoryFault fault) }
+    ensures refused { IfErr result (λ fault. (text : List ℕ) → IsAt row.now at (Text text) → IsTrue (is_name text)
+        → IsMemoryFault fault) }
 {
     match Name::read(read_bytes(row, at)?) {
         Ok(name) => Ok(name),
@@ -157,7 +161,8 @@ fn read_name(row: &Row, at: usize) -> Result<Name, RowFault>
 
 fn read_target(row: &Row, at: usize, alloc: Global) -> Result<Target, RowFault>
     ensures value { IfOk result (λ target. target ≡ bytes (column row.now at)) }
-    ensures refused { IfErr result (λ fault. (text : List ℕ) → IsAt row.now at (Text text) → IsTrue (is_target text) → IsMemoryFault fault) }
+    ensures refused { IfErr result (λ fault. (text : List ℕ) → IsAt row.now at (Text text) → IsTrue (is_target text)
+        → IsMemoryFault fault) }
 {
     match Target::read(alloc, read_bytes(row, at)?) {
         Ok(target) => Ok(target),
@@ -170,7 +175,8 @@ fn read_target(row: &Row, at: usize, alloc: Global) -> Result<Target, RowFault>
 
 fn read_max(row: &Row, at: usize) -> Result<MaxLimit, RowFault>
     ensures value { IfOk result (λ max. max ≡ number_in (column row.now at)) }
-    ensures refused { IfErr result (λ fault. (n : ℕ) → IsAt row.now at (Int (pos n)) → IsTrue (is_max_limit n) → IsMemoryFault fault) }
+    ensures refused { IfErr result (λ fault. (n : ℕ) → IsAt row.now at (Int (pos n)) → IsTrue (is_max_limit n)
+        → IsMemoryFault fault) }
 {
     let limit: u64 = row.get(at)?;
     match MaxLimit::of(limit) {
@@ -181,7 +187,8 @@ fn read_max(row: &Row, at: usize) -> Result<MaxLimit, RowFault>
 
 fn read_flag(row: &Row, at: usize) -> Result<bool, RowFault>
     ensures value { IfOk result (λ flag. flag ≡ not (number_in (column row.now at) == 0)) }
-    ensures refused { IfErr result (λ fault. (flag : Bool) → IsAt row.now at (Int (pos (flag_number flag))) → IsMemoryFault fault) }
+    ensures refused { IfErr result (λ fault. (flag : Bool) → IsAt row.now at (Int (pos (flag_number flag)))
+        → IsMemoryFault fault) }
 {
     let number: u64 = row.get(at)?;
     match number {

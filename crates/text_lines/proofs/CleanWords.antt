@@ -1,5 +1,6 @@
 -- No space stands in a word that is read.
-use Rattle.std.proofs.Common.{◌≡◌, ℕ, ◌<◌, ◌^◌, ◌==◌, true, not, List, [], ◌∷◌, decimal, Some, IsTrue, refl, sym, ap, subst, arith, leb-true}
+use Rattle.std.proofs.Common.{◌≡◌, ℕ, ◌<◌, ◌^◌, ◌==◌, true, not, List, [], ◌∷◌, decimal, Some, IsTrue, refl, sym, ap}
+use Rattle.std.proofs.Common.{subst, arith, leb-true}
 use Rattle.std.specs.Prelude.{nat_le, is_some}
 use Rattle.std.specs.Char.{is_ascii_digit}
 use Rattle.std.specs.Str.{all_ascii_digits}
@@ -32,7 +33,8 @@ clean-digits (c ∷ text) h =
     clean-cons 32 c text (passes is_ascii_digit 32 c refl both.0) (clean-digits text both.1)
 
 pub clean-decimal : (n : ℕ) → n < 2 ^ 64 → IsTrue (has_no 32 (decimal n))
-clean-decimal n h = clean-digits (decimal n) (digits_decimal (numerals_by_value (λ ds. all_ascii_digits ds ≡ true) tells_all_ascii_digits) n h)
+clean-decimal n h = clean-digits (decimal n)
+    (digits_decimal (numerals_by_value (λ ds. all_ascii_digits ds ≡ true) tells_all_ascii_digits) n h)
 
 pub at_most : (n k : ℕ) → nat_le n k ≡ true → k < 2 ^ 64 → n < 2 ^ 64
 at_most n k h small = let le = leb-true n k h in omega (arith, le)
@@ -48,12 +50,15 @@ clean-bytes (c ∷ []) [] h = absurd h
 clean-bytes (c ∷ []) (b ∷ bytes) h = absurd h
 clean-bytes (high ∷ low ∷ word) [] h = absurd h
 clean-bytes (high ∷ low ∷ word) (b ∷ bytes) h =
-    clean-cons 32 high (low ∷ word) (clean-hex high h.0.0 h.0.2) (clean-cons 32 low word (clean-hex low h.0.1 h.0.3) (clean-bytes word bytes h.1))
+    clean-cons 32 high (low ∷ word) (clean-hex high h.0.0 h.0.2)
+    (clean-cons 32 low word (clean-hex low h.0.1 h.0.3) (clean-bytes word bytes h.1))
 
 pub clean-body : (word bytes : List ℕ) → IsBodyWord word bytes → IsTrue (has_no 32 word)
 clean-body word [] h = subst (λ xs. IsTrue (has_no 32 xs)) (sym h) refl
 clean-body word (b ∷ bytes) h = clean-bytes word (b ∷ bytes) h
 
-pub clean-secrets_word : (word : List ℕ) (secrets : List (List ℕ)) → IsSecretsWord word secrets → IsTrue (has_no 32 word)
+pub clean-secrets_word : (word : List ℕ) (secrets : List (List ℕ)) → IsSecretsWord word secrets
+    → IsTrue (has_no 32 word)
 clean-secrets_word word secrets (words, e, (reads, many)) =
-    subst (λ xs. IsTrue (has_no 32 xs)) (sym e) (clean-join 32 44 words refl (clean-secrets 32 words secrets refl reads))
+    subst (λ xs. IsTrue (has_no 32 xs)) (sym e)
+    (clean-join 32 44 words refl (clean-secrets 32 words secrets refl reads))

@@ -1,17 +1,22 @@
 -- Hexadecimal text as it is defined here, and as its reader answers.
-use Rattle.std.proofs.Common.{◌≡◌, ℕ, ◌+◌, ◌*◌, false, ◌==◌, List, [], ◌∷◌, length, codes, Option, Some, None, Result, Ok, Err, inl, inr, refl, sym, ap, ◌∙◌, arith}
+use Rattle.std.proofs.Common.{◌≡◌, ℕ, ◌+◌, ◌*◌, false, ◌==◌, List, [], ◌∷◌, length, codes, Option, Some, None, Result}
+use Rattle.std.proofs.Common.{Ok, Err, inl, inr, refl, sym, ap, ◌∙◌, arith}
 use Rattle.hex.specs.Hex.{decode_of, decode_pairs, digit_or_error, ◌>>=◌}
 use Rattle.hex.specs.declared.error.FromHexError.{FromHexError}
 use Rattle.hex.proofs.HexLemmas.{decode_of-even, decode_of-ok}
 use Rattle.text_lines.specs.Words.{hex_digit, HasBodyLength, HexOf, IsBodyWord}
 
 abbrev pair : Option ℕ → Option ℕ → ℕ → ℕ → ℕ → Result (List ℕ) FromHexError → Result (List ℕ) FromHexError
-pair high low h l i rest = ((digit_or_error h i high) >>= (λ x. (digit_or_error l (i + 1) low) >>= (λ y. Ok (x * 16 + y)))) >>= (λ byte. rest >>= (λ bytes. Ok (byte ∷ bytes)))
+pair high low h l i rest =
+    ((digit_or_error h i high) >>= (λ x. (digit_or_error l (i + 1) low) >>= (λ y. Ok (x * 16 + y)))) >>=
+    (λ byte. rest >>= (λ bytes. Ok (byte ∷ bytes)))
 
 abbrev IsPair : Option ℕ → Option ℕ → Result (List ℕ) FromHexError → List ℕ → Type 0
-IsPair high low rest bytes = (x : ℕ) × (y : ℕ) × (more : List ℕ) × (high ≡ Some x) × (low ≡ Some y) × (rest ≡ Ok more) × (bytes ≡ (16 * x + y) ∷ more)
+IsPair high low rest bytes = (x : ℕ) × (y : ℕ) × (more : List ℕ) × (high ≡ Some x) × (low ≡ Some y) × (rest ≡ Ok more)
+    × (bytes ≡ (16 * x + y) ∷ more)
 
-from_pair : (high low : Option ℕ) (h l i : ℕ) (rest : Result (List ℕ) FromHexError) (bytes : List ℕ) → pair high low h l i rest ≡ Ok bytes → IsPair high low rest bytes
+from_pair : (high low : Option ℕ) (h l i : ℕ) (rest : Result (List ℕ) FromHexError) (bytes : List ℕ)
+    → pair high low h l i rest ≡ Ok bytes → IsPair high low rest bytes
 from_pair None low h l i rest bytes e = cc
 from_pair (Some x) None h l i rest bytes e = cc
 from_pair (Some x) (Some y) h l i (Err fault) bytes e = cc
@@ -20,7 +25,8 @@ from_pair (Some x) (Some y) h l i (Ok more) bytes e =
     let byte : x * 16 + y ≡ 16 * x + y = omega arith in
     (x, y, more, refl, refl, refl, sym same ∙ ap (λ b. b ∷ more) byte)
 
-to_pair : (high low : Option ℕ) (h l i : ℕ) (rest : Result (List ℕ) FromHexError) (x y b : ℕ) (more : List ℕ) → high ≡ Some x → low ≡ Some y → rest ≡ Ok more
+to_pair : (high low : Option ℕ) (h l i : ℕ) (rest : Result (List ℕ) FromHexError) (x y b : ℕ) (more : List ℕ)
+    → high ≡ Some x → low ≡ Some y → rest ≡ Ok more
     → b ≡ 16 * x + y → pair high low h l i rest ≡ Ok (b ∷ more)
 to_pair high low h l i rest x y b more eh el er eb =
     let byte : x * 16 + y ≡ b = omega (arith, eb) in
@@ -39,8 +45,11 @@ HexOf-from_decoded i (high ∷ low ∷ word) (b ∷ bytes) e =
     let parts = from_pair (hex_digit high) (hex_digit low) high low i (decode_pairs (i + 2) word) (b ∷ bytes) e in
     let is = parts.6 in
     let byte : b ≡ 16 * parts.0 + parts.1 = cc in
-    let more : parts.2 ≡ bytes = cc in
-    ((parts.0, parts.1, parts.3, parts.4, byte), HexOf-from_decoded (i + 2) word bytes (parts.5 ∙ ap (λ (xs : List ℕ). Ok xs) more))
+    let more : parts.2 ≡ bytes = cc in (
+      (parts.0, parts.1, parts.3, parts.4, byte),
+      HexOf-from_decoded (i + 2) word bytes
+          (parts.5 ∙ ap (λ (xs : List ℕ). Ok xs) more),
+    )
 
 pub decoded-from_HexOf : (i : ℕ) (word bytes : List ℕ) → HexOf word bytes → decode_pairs i word ≡ Ok bytes
 unfolding decode_pairs
@@ -51,7 +60,8 @@ decoded-from_HexOf i (c ∷ []) (b ∷ bytes) h = absurd h
 decoded-from_HexOf i (high ∷ low ∷ word) [] h = absurd h
 decoded-from_HexOf i (high ∷ low ∷ word) (b ∷ bytes) h =
     let digits = h.0 in
-    to_pair (hex_digit high) (hex_digit low) high low i (decode_pairs (i + 2) word) digits.0 digits.1 b bytes digits.2 digits.3 (decoded-from_HexOf (i + 2) word bytes h.1) digits.4
+    to_pair (hex_digit high) (hex_digit low) high low i (decode_pairs (i + 2) word) digits.0 digits.1 b bytes digits.2
+    digits.3 (decoded-from_HexOf (i + 2) word bytes h.1) digits.4
 
 even : (word bytes : List ℕ) → HexOf word bytes → length word ≡ 2 * length bytes
 even [] [] h = refl
@@ -62,7 +72,8 @@ even (high ∷ low ∷ word) [] h = absurd h
 even (high ∷ low ∷ word) (b ∷ bytes) h = let same = even word bytes h.1 in omega (arith, same)
 
 decode_is : (word bytes : List ℕ) → HexOf word bytes → decode_of word ≡ Ok bytes
-decode_is word bytes h = let same = even word bytes h in decode_of-even word (omega (arith, same)) ∙ decoded-from_HexOf 0 word bytes h
+decode_is word bytes h = let same = even word bytes h in decode_of-even word (omega (arith, same))
+    ∙ decoded-from_HexOf 0 word bytes h
 
 -- ---- the word of a body
 
@@ -72,12 +83,14 @@ body_word (c ∷ []) [] some h = absurd h
 body_word (c ∷ d ∷ word) [] some h = absurd h
 body_word word (b ∷ bytes) some h = h
 
-pub IsBodyWord-decoded : (word bytes : List ℕ) → (length word == 0) ≡ false → decode_of word ≡ Ok bytes → IsBodyWord word bytes
+pub IsBodyWord-decoded : (word bytes : List ℕ) → (length word == 0) ≡ false → decode_of word ≡ Ok bytes
+    → IsBodyWord word bytes
 IsBodyWord-decoded word bytes some e =
     let parts = decode_of-ok word bytes e in
     body_word word bytes some (HexOf-from_decoded 0 word bytes (sym (decode_of-even word parts.0) ∙ e))
 
-pub no_body : (word bytes : List ℕ) (fault : FromHexError) → (word ≡ codes "-" → ⊥) → decode_of word ≡ Err fault → IsBodyWord word bytes → ⊥
+pub no_body : (word bytes : List ℕ) (fault : FromHexError) → (word ≡ codes "-" → ⊥) → decode_of word ≡ Err fault
+    → IsBodyWord word bytes → ⊥
 no_body word [] fault other e h = other h
 no_body word (b ∷ bytes) fault other e h = let is = decode_is word (b ∷ bytes) h in cc
 

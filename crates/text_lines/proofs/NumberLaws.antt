@@ -1,5 +1,6 @@
 -- The text of a number is read as that number.
-use Rattle.std.proofs.Common.{◌≡◌, ℕ, ◌<◌, ◌^◌, List, Option, Some, None, Result, Ok, Err, MatchResult, decimal, sym, ap, ◌∙◌, subst}
+use Rattle.std.proofs.Common.{◌≡◌, ℕ, ◌<◌, ◌^◌, List, Option, Some, None, Result, Ok, Err, MatchResult, decimal, sym}
+use Rattle.std.proofs.Common.{ap, ◌∙◌, subst}
 use Rattle.std.specs.Prelude.{bytes_eq, Bool, true, false}
 use Rattle.std.proofs.lemmas.Slice.Eq.{bytes_eq-Decides}
 use Rattle.std.specs.Borrow.{Bor}
@@ -9,16 +10,20 @@ use Rattle.std.specs.Str.Parse.{ParsesUnsigned}
 use Rattle.std.proofs.lemmas.Fmt.{IsAscii-decimal, parse-decimal}
 use Rattle.std.proofs.lemmas.Str.{IsUtf8-from_ascii}
 
-pub no_text : {E : Type 0} (r : Result (Bor (List ℕ)) E) (P : Bor (List ℕ) → Type 0) (Q : E → Type 0) (word : List ℕ) (n : ℕ)
+pub no_text : {E : Type 0} (r : Result (Bor (List ℕ)) E) (P : Bor (List ℕ) → Type 0) (Q : E → Type 0) (word : List ℕ)
+    (n : ℕ)
     → MatchResult r P (λ e. ¬ (IsUtf8 word) × Q e) → n < 2 ^ 64 → word ≡ decimal n → result_ok r ≡ None → ⊥
 no_text (Ok x) P Q word n h small e none = cc
-no_text (Err y) P Q word n h small e none = h.0 (subst IsUtf8 (sym e) (IsUtf8-from_ascii (decimal n) (IsAscii-decimal n small)))
+no_text (Err y) P Q word n h small e none = h.0
+    (subst IsUtf8 (sym e) (IsUtf8-from_ascii (decimal n) (IsAscii-decimal n small)))
 
-pub number_parsed : {E : Type 0} (r : Result ℕ E) (o : Option ℕ) (text : List ℕ) (n : ℕ) → ParsesUnsigned 64 10 text r → n < 2 ^ 64 → text ≡ decimal n
+pub number_parsed : {E : Type 0} (r : Result ℕ E) (o : Option ℕ) (text : List ℕ) (n : ℕ) → ParsesUnsigned 64 10 text r
+    → n < 2 ^ 64 → text ≡ decimal n
     → o ≡ result_ok r → o ≡ Some n
 number_parsed r o text n h small e is = is ∙ ap result_ok (parse-decimal 64 n text r small small e h)
 
-pub text_read : {E : Type 0} (r : Result (Bor (List ℕ)) E) (o : Option (Bor (List ℕ))) (text : Bor (List ℕ)) (P : Type 0) (Q : E → Type 0) (word : List ℕ)
+pub text_read : {E : Type 0} (r : Result (Bor (List ℕ)) E) (o : Option (Bor (List ℕ))) (text : Bor (List ℕ))
+    (P : Type 0) (Q : E → Type 0) (word : List ℕ)
     → MatchResult r (λ s. (s.now ≡ word) × P) Q → o ≡ result_ok r → o ≡ Some text → text.now ≡ word
 text_read (Ok x) o text P Q word h is was =
     let same : x ≡ text = cc in

@@ -11,7 +11,8 @@ pub AppendsFront-none : (known : Option (List ℕ)) (bytes : List ℕ) → Appen
 AppendsFront-none known bytes = (bytes, ([], refl, Appends-nil known))
 
 -- so it is at every end
-pub AppendsFront-any : {T E : Type 0} (r : Result T E) (known : Option (List ℕ)) (bytes : List ℕ) → OnErr r (AppendsFront known known bytes)
+pub AppendsFront-any : {T E : Type 0} (r : Result T E) (known : Option (List ℕ)) (bytes : List ℕ)
+    → OnErr r (AppendsFront known known bytes)
 AppendsFront-any (Ok x) known bytes = tt
 AppendsFront-any (Err e) known bytes = AppendsFront-none known bytes
 
@@ -22,7 +23,8 @@ AppendsFront-unwritten (Err e) None known = tt
 AppendsFront-unwritten (Err e) (Some bytes) known = AppendsFront-none known (with_feed bytes)
 
 -- one more write takes its bytes off the rest
-pub AppendsBefore-more : (old mid new : Option (List ℕ)) (bytes rest : List ℕ) (n : ℕ) → AppendsBefore rest old mid bytes → Appends mid new (take n rest)
+pub AppendsBefore-more : (old mid new : Option (List ℕ)) (bytes rest : List ℕ) (n : ℕ)
+    → AppendsBefore rest old mid bytes → Appends mid new (take n rest)
     → AppendsBefore (take (length rest - n) (drop n rest)) old new bytes
 AppendsBefore-more old mid new bytes rest n (front, e, grown) more =
     let P : List ℕ → Type 0 = λ xs. AppendsBefore xs old new bytes in
@@ -44,7 +46,8 @@ Appends-from_kept (Some xs) None h = h
 Appends-from_kept (Some xs) (Some ys) h = h ∙ sym (append-nil xs)
 
 -- what known bytes became
-pub Appends-known : (old new : Option (List ℕ)) (had more : List ℕ) → old ≡ Some had → Appends old new more → new ≡ Some (had ++ more)
+pub Appends-known : (old new : Option (List ℕ)) (had more : List ℕ) → old ≡ Some had → Appends old new more
+    → new ≡ Some (had ++ more)
 Appends-known old new had more is h = at new (subst (λ known. Appends known new more) is h)
   where
     at : (known : Option (List ℕ)) → Appends (Some had) known more → known ≡ Some (had ++ more)

@@ -1,5 +1,6 @@
 -- What is read from a reader and written to a writer, whose bytes are known.
-use Rattle.std.specs.Prelude.{◌≡◌, ◌≢◌, ℕ, ◌+◌, ◌≤◌, ◌<◌, Bool, List, [], ◌∷◌, ◌++◌, length, take, drop, Option, Some, None, IsTrue, IfSome, ◌⊎◌}
+use Rattle.std.specs.Prelude.{◌≡◌, ◌≢◌, ℕ, ◌+◌, ◌≤◌, ◌<◌, Bool, List, [], ◌∷◌, ◌++◌, length, take, drop, Option, Some}
+use Rattle.std.specs.Prelude.{None, IsTrue, IfSome, ◌⊎◌}
 use Rattle.text_lines.specs.Parts.{has_no}
 use Rattle.std.specs.Io.KnownBytes.{Appends, prepend_known}
 use Rattle.text_lines.specs.declared.limits.TheConstants.{MAX_LINE_BYTES, MAX_LINES}
@@ -19,8 +20,8 @@ AppendsBefore rest old new bytes = (front : List ℕ) × (bytes ≡ front ++ res
 abbrev pub AppendsFront : Option (List ℕ) → Option (List ℕ) → List ℕ → Type 0
 AppendsFront old new bytes = (rest : List ℕ) × AppendsBefore rest old new bytes
 
--- Where the reading of lines stands: the bytes that are read but in no line yet, the line, its number, and whether it ended in a
--- fault.
+-- Where the reading of lines stands: the bytes that are read but in no line yet, the line, its number, and whether it
+-- ended in a fault.
 pub record LinesValue : Type 0 where
   pub pending : List ℕ
   pub line : List ℕ
@@ -39,7 +40,8 @@ TakesLine (Some old) (Some new) line = (old ≡ line ++ 10 ∷ new) ⊎ ((old �
 
 -- more known bytes than a line may have stand before the first line feed
 abbrev pub BeginsTooLong : Option (List ℕ) → Type 0
-BeginsTooLong known = IfSome known (λ bytes. (front : List ℕ) × (rest : List ℕ) × (bytes ≡ front ++ rest) × IsTrue (has_no_feed front) × (MAX_LINE_BYTES < length front))
+BeginsTooLong known = IfSome known (λ bytes. (front : List ℕ) × (rest : List ℕ) × (bytes ≡ front ++ rest)
+    × IsTrue (has_no_feed front) × (MAX_LINE_BYTES < length front))
 
 -- The line after this many is too long, or one too many.
 abbrev pub IsTooLong : ℕ → Option (List ℕ) → Type 0
@@ -47,12 +49,15 @@ IsTooLong count known = ((MAX_LINES ≤ count) × IfSome known (λ bytes. bytes 
 
 -- the first line feed stands at the place
 abbrev pub IsFeedAt : List ℕ → ℕ → Type 0
-IsFeedAt bytes place = (place < length bytes) × (bytes ≡ take place bytes ++ 10 ∷ drop (place + 1) bytes) × IsTrue (has_no_feed (take place bytes))
+IsFeedAt bytes place = (place < length bytes) × (bytes ≡ take place bytes ++ 10 ∷ drop (place + 1) bytes)
+    × IsTrue (has_no_feed (take place bytes))
 
 -- the line grew by the pending bytes before the first line feed, and those behind it are pending
 abbrev pub TakesPiece : LinesValue → LinesValue → Type 0
-TakesPiece old new = (piece : List ℕ) × (old.pending ≡ piece ++ 10 ∷ new.pending) × (new.line ≡ old.line ++ piece) × IsTrue (has_no_feed piece)
+TakesPiece old new = (piece : List ℕ) × (old.pending ≡ piece ++ 10 ∷ new.pending) × (new.line ≡ old.line ++ piece)
+    × IsTrue (has_no_feed piece)
 
 -- with the pending bytes before the first line feed, the line is too long
 abbrev pub PassesBound : LinesValue → Type 0
-PassesBound old = (piece : List ℕ) × (rest : List ℕ) × (old.pending ≡ piece ++ rest) × IsTrue (has_no_feed piece) × (MAX_LINE_BYTES < length old.line + length piece)
+PassesBound old = (piece : List ℕ) × (rest : List ℕ) × (old.pending ≡ piece ++ rest) × IsTrue (has_no_feed piece)
+    × (MAX_LINE_BYTES < length old.line + length piece)

@@ -10,7 +10,8 @@ use Rattle.circular_buffer.specs.Buffer.{Buffer, buffer, keep_last}
 use Rattle.vegas.specs.declared.state.State.{State}
 use Rattle.vegas.specs.declared.sample.Sample.{Sample}
 use Rattle.vegas.specs.Vegas.{place_after, limit_of, noload_of, probes_of}
-use Rattle.vegas.specs.Estimators.{EstimatorValue, HasNumbers, StandsFor, before_last, Explains, IsExplained, IsInFlight, AreBounded, IsSound}
+use Rattle.vegas.specs.Estimators.{EstimatorValue, HasNumbers, StandsFor, before_last, Explains, IsExplained}
+use Rattle.vegas.specs.Estimators.{IsInFlight, AreBounded, IsSound}
 
 -- the first elements and the next one
 take_next : (xs : List Sample) (k : ℕ) (y : Sample) → slice_get xs k ≡ Some y → take (suc k) xs ≡ take k xs ++ y ∷ []
@@ -31,18 +32,27 @@ take_as : (i j : ℕ) (xs : List Sample) → i ≡ j → take i xs ≡ take j xs
 take_as i j xs same = ap (λ k. take k xs) same
 
 -- the last of the last and one more are the last of all and one more
-keep_last-keep : (n : ℕ) (xs : List Sample) (x : Sample) → keep_last n (keep_last n xs ++ x ∷ []) ≡ keep_last n (xs ++ x ∷ [])
+keep_last-keep : (n : ℕ) (xs : List Sample) (x : Sample) → keep_last n (keep_last n xs ++ x ∷ []) ≡ keep_last n
+    (xs ++ x ∷ [])
 keep_last-keep n xs x =
     ap (drop (length (keep_last n xs ++ x ∷ []) - n)) (sym (drop-append-le (length xs - n) xs (x ∷ []) (omega arith)))
     ∙ drop-drop _ _ (xs ++ x ∷ [])
-    ∙ ap (λ k. drop k (xs ++ x ∷ [])) (omega (arith, length-append (keep_last n xs) (x ∷ []), length-append xs (x ∷ []), length-drop (length xs - n) xs))
+    ∙ ap (λ k. drop k (xs ++ x ∷ []))
+    (omega (
+      arith,
+      length-append (keep_last n xs) (x ∷ []),
+      length-append xs (x ∷ []),
+      length-drop
+          (length xs - n) xs,
+    ))
 
 -- where there is room, none is pushed out
 keep_last-room : (last : List Sample) (x : Sample) → length last < 64 → keep_last 64 (last ++ x ∷ []) ≡ last ++ x ∷ []
 keep_last-room last x h = drop_as _ 0 (last ++ x ∷ []) (omega (arith, h, length-append last (x ∷ [])))
 
 -- where there is none, the first is
-keep_last-full : (last : List Sample) (x y : Sample) → length last ≡ 64 → slice_get (last ++ x ∷ []) 0 ≡ Some y → y ∷ keep_last 64 (last ++ x ∷ []) ≡ last ++ x ∷ []
+keep_last-full : (last : List Sample) (x y : Sample) → length last ≡ 64 → slice_get (last ++ x ∷ []) 0 ≡ Some y
+    → y ∷ keep_last 64 (last ++ x ∷ []) ≡ last ++ x ∷ []
 keep_last-full [] x y h first = absurd (omega (arith, h))
 keep_last-full (z ∷ last) x y h first =
     ap (λ zs. y ∷ zs) (drop_as _ 1 (z ∷ last ++ x ∷ []) (omega (arith, h, length-append last (x ∷ []))))
@@ -57,9 +67,16 @@ Follows most before after x = (xs : List Sample) → HasNumbers most before xs �
 
 -- the estimator with one sample more, and another base where the ring was full
 abbrev with_sample : EstimatorValue → State → State → Sample → EstimatorValue
-with_sample e state base x = record { maximum = e.maximum; state = state; base = base; last = keep_last 64 (e.last ++ x ∷ []) }
+with_sample e state base x = record {
+  maximum = e.maximum;
+  state = state;
+  base = base;
+  last = keep_last 64
+      (e.last ++ x ∷ []);
+}
 
-explained-room : (e : EstimatorValue) (x : Sample) (state : State) → length e.last < 64 → Follows e.maximum e.state state x
+explained-room : (e : EstimatorValue) (x : Sample) (state : State) → length e.last < 64
+    → Follows e.maximum e.state state x
     → IsExplained e → IsExplained (with_sample e state e.base x)
 explained-room e x state h moved is = record {
   earlier = is.earlier;
@@ -70,8 +87,10 @@ explained-room e x state h moved is = record {
   few = λ _. is.few h;
 }
 
-explained-full : (e : EstimatorValue) (x y : Sample) (state base : State) → length e.last ≡ 64 → slice_get (e.last ++ x ∷ []) 0 ≡ Some y
-    → Follows e.maximum e.state state x → Follows e.maximum e.base base y → IsExplained e → IsExplained (with_sample e state base x)
+explained-full : (e : EstimatorValue) (x y : Sample) (state base : State) → length e.last ≡ 64
+    → slice_get (e.last ++ x ∷ []) 0 ≡ Some y
+    → Follows e.maximum e.state state x → Follows e.maximum e.base base y → IsExplained e
+    → IsExplained (with_sample e state base x)
 explained-full e x y state base h first moved pushed is = record {
   earlier = is.earlier ++ y ∷ [];
   base = pushed is.earlier is.base;
@@ -79,11 +98,19 @@ explained-full e x y state base h first moved pushed is = record {
       (append_assoc is.earlier e.last (x ∷ []) ∙ ap (λ ys. is.earlier ++ ys) (sym (keep_last-full e.last x y h first))
       ∙ sym (append_assoc is.earlier (y ∷ []) (keep_last 64 (e.last ++ x ∷ []))))
       (moved (is.earlier ++ e.last) is.now);
-  few = λ less. absurd (omega (arith, less, h, length-append e.last (x ∷ []), length-drop (length (e.last ++ x ∷ []) - 64) (e.last ++ x ∷ [])));
+  few = λ less. absurd (omega (
+    arith,
+    less,
+    h,
+    length-append e.last (x ∷ []),
+    length-drop
+        (length (e.last ++ x ∷ []) - 64) (e.last ++ x ∷ []),
+  ));
 }
 
 -- the last of a list, by those that are kept of it
-last-more : (e : EstimatorValue) (x : Sample) (xs : List Sample) → Explains e xs → keep_last 64 (e.last ++ x ∷ []) ≡ keep_last 64 (xs ++ x ∷ [])
+last-more : (e : EstimatorValue) (x : Sample) (xs : List Sample) → Explains e xs
+    → keep_last 64 (e.last ++ x ∷ []) ≡ keep_last 64 (xs ++ x ∷ [])
 last-more e x xs s = ap (λ ys. keep_last 64 (ys ++ x ∷ [])) s.last ∙ keep_last-keep 64 xs x
 
 kept-count : (e : EstimatorValue) (xs : List Sample) → Explains e xs → length e.last ≡ length xs - (length xs - 64)
@@ -100,8 +127,10 @@ explains-room e x state h xs s = record {
     same = take_as _ 0 xs (omega (arith, h, kept-count e xs s))
         ∙ take_as 0 _ (xs ++ x ∷ []) (omega (arith, h, kept-count e xs s, length-append xs (x ∷ [])))
 
-explains-full : (e : EstimatorValue) (x y : Sample) (state base : State) → length e.last ≡ 64 → slice_get (e.last ++ x ∷ []) 0 ≡ Some y
-    → Follows e.maximum e.base base y → (xs : List Sample) → Explains e xs → Explains (with_sample e state base x) (xs ++ x ∷ [])
+explains-full : (e : EstimatorValue) (x y : Sample) (state base : State) → length e.last ≡ 64
+    → slice_get (e.last ++ x ∷ []) 0 ≡ Some y
+    → Follows e.maximum e.base base y → (xs : List Sample) → Explains e xs
+    → Explains (with_sample e state base x) (xs ++ x ∷ [])
 explains-full e x y state base h first pushed xs s = record {
   last = last-more e x xs s;
   base = subst (λ k. HasNumbers e.maximum base k) (sym grown) (pushed (before_last xs) s.base);
@@ -121,8 +150,10 @@ explains-full e x y state base h first pushed xs s = record {
         ∙ ap (λ ys. ys ++ y ∷ []) (take-append-le (length xs - 64) xs (x ∷ []) (omega arith))
 
 -- what the ring keeps was in flight as it may be, and is no more than it can hold
-in_flight-more : (last : List Sample) (x : Sample) → All IsInFlight last → IsInFlight x → All IsInFlight (keep_last 64 (last ++ x ∷ []))
-in_flight-more last x all one = All-drop IsInFlight (length (last ++ x ∷ []) - 64) (last ++ x ∷ []) (All-push IsInFlight last x all one)
+in_flight-more : (last : List Sample) (x : Sample) → All IsInFlight last → IsInFlight x
+    → All IsInFlight (keep_last 64 (last ++ x ∷ []))
+in_flight-more last x all one = All-drop IsInFlight (length (last ++ x ∷ []) - 64) (last ++ x ∷ [])
+    (All-push IsInFlight last x all one)
 
 at_most-more : (last : List Sample) (x : Sample) → length (keep_last 64 (last ++ x ∷ [])) ≤ 64
 at_most-more last x = omega (arith, length-drop (length (last ++ x ∷ []) - 64) (last ++ x ∷ []))
@@ -144,7 +175,8 @@ room-from_none (z ∷ last) n x is none = at (nat_lt (suc (length last)) n) refl
 
 -- and none where one is
 full-from_some : (last : List Sample) (n : ℕ) (x y : Sample) → n ≡ 64 → length last ≤ 64
-    → Some y ≡ (if nat_lt (length last) n then None else slice_get (last ++ x ∷ []) 0) → (length last ≡ 64) × (slice_get (last ++ x ∷ []) 0 ≡ Some y)
+    → Some y ≡ (if nat_lt (length last) n then None else slice_get (last ++ x ∷ []) 0) → (length last ≡ 64)
+    × (slice_get (last ++ x ∷ []) 0 ≡ Some y)
 full-from_some last n x y is within some = at (nat_lt (length last) n) refl some
   where
     at : (b : Bool) → nat_lt (length last) n ≡ b → Some y ≡ (if b then None else slice_get (last ++ x ∷ []) 0)
@@ -160,7 +192,8 @@ abbrev pub Holds : ℕ → State → State → Buffer Sample → Type 0
 Holds most state base ring = (ring.capacity ≡ 64) × IsSound (estimate most state base ring)
 
 -- the ring after a push
-pushed-ring : (ring after : Buffer Sample) (x : Sample) (out : Option Sample) → ring.capacity ≡ 64 → Pushes ring after x out
+pushed-ring : (ring after : Buffer Sample) (x : Sample) (out : Option Sample) → ring.capacity ≡ 64
+    → Pushes ring after x out
     → buffer (keep_last 64 (ring.items ++ x ∷ [])) 64 ≡ after
 pushed-ring ring after x out is push = ap (λ n. buffer (keep_last n (ring.items ++ x ∷ [])) n) (sym is) ∙ sym push.0
 
@@ -182,8 +215,10 @@ holds-room {most} {state} {base} {moved} {x} ring after (is, sound) push one bou
 
 pub holds-full : {most : ℕ} {state base moved pushed : State} {x y : Sample} → (ring after : Buffer Sample)
     → Holds most state base ring → Pushes ring after x (Some y)
-    → IsInFlight x → AreBounded most moved → Follows most state moved x → AreBounded most pushed → Follows most base pushed y → Holds most moved pushed after
-holds-full {most} {state} {base} {moved} {pushed} {x} {y} ring after (is, sound) push one bounded follows base_bounded base_follows =
+    → IsInFlight x → AreBounded most moved → Follows most state moved x → AreBounded most pushed
+    → Follows most base pushed y → Holds most moved pushed after
+holds-full {most} {state} {base} {moved} {pushed} {x} {y} ring after (is, sound) push one bounded follows base_bounded
+    base_follows =
     let full = full-from_some ring.items ring.capacity x y is sound.at_most_last push.1 in
     subst (Holds most moved pushed) (pushed-ring ring after x (Some y) is push) (
       refl,
@@ -192,13 +227,15 @@ holds-full {most} {state} {base} {moved} {pushed} {x} {y} ring after (is, sound)
         base = base_bounded;
         in_flight = in_flight-more ring.items x sound.in_flight one;
         at_most_last = at_most-more ring.items x;
-        explained = explained-full (estimate most state base ring) x y moved pushed full.0 full.1 follows base_follows sound.explained;
+        explained = explained-full (estimate most state base ring) x y moved pushed full.0 full.1 follows base_follows
+            sound.explained;
       },
     )
 
 pub room-explains : {most : ℕ} {state base moved : State} → (ring after : Buffer Sample) (x : Sample)
     → Holds most state base ring → Pushes ring after x None
-    → (xs : List Sample) → Explains (estimate most state base ring) xs → Explains (estimate most moved base after) (xs ++ x ∷ [])
+    → (xs : List Sample) → Explains (estimate most state base ring) xs → Explains (estimate most moved base after)
+    (xs ++ x ∷ [])
 room-explains {most} {state} {base} {moved} ring after x (is, sound) push xs s =
     let room = room-from_none ring.items ring.capacity x is push.1 in
     subst (λ r. Explains (estimate most moved base r) (xs ++ x ∷ [])) (pushed-ring ring after x None is push)
@@ -206,7 +243,8 @@ room-explains {most} {state} {base} {moved} ring after x (is, sound) push xs s =
 
 pub full-explains : {most : ℕ} {state base moved pushed : State} → (ring after : Buffer Sample) (x y : Sample)
     → Holds most state base ring → Pushes ring after x (Some y)
-    → Follows most base pushed y → (xs : List Sample) → Explains (estimate most state base ring) xs → Explains (estimate most moved pushed after) (xs ++ x ∷ [])
+    → Follows most base pushed y → (xs : List Sample) → Explains (estimate most state base ring) xs
+    → Explains (estimate most moved pushed after) (xs ++ x ∷ [])
 full-explains {most} {state} {base} {moved} {pushed} ring after x y (is, sound) push follows xs s =
     let full = full-from_some ring.items ring.capacity x y is sound.at_most_last push.1 in
     subst (λ r. Explains (estimate most moved pushed r) (xs ++ x ∷ [])) (pushed-ring ring after x (Some y) is push)

@@ -12,11 +12,18 @@ least_from-is test first (suc more) n low bound passes before =
     (λ h. least_from-is test (first + 1) more n h (omega (arith, bound)) (λ e. passes (omega (arith, e))) before)
   where
     at : (b : Bool) → (first < n → b ≡ false) → (first ≡ n → b ≡ true)
-        → (first + 1 ≤ n → least_from test (first + 1) more ≡ n) → (if b then first else least_from test (first + 1) more) ≡ n
+        → (first + 1 ≤ n → least_from test (first + 1) more ≡ n)
+        → (if b then first else least_from test (first + 1) more) ≡ n
     at true fails here later =
-        elim (dec_le (first + 1) n) [ yes above ↦ absurd (cc (fails (omega (arith, above)))) | no below ↦ omega (arith, low, below) ]
+        elim (dec_le (first + 1) n) [
+          | yes above ↦ absurd (cc (fails (omega (arith, above))))
+          | no below ↦ omega (arith, low, below)
+        ]
     at false fails here later =
-        elim (dec_le (first + 1) n) [ yes above ↦ later above | no below ↦ absurd (cc (here (omega (arith, low, below)))) ]
+        elim (dec_le (first + 1) n) [
+          | yes above ↦ later above
+          | no below ↦ absurd (cc (here (omega (arith, low, below))))
+        ]
 
 pub least-is : (test : ℕ → Bool) (bound n : ℕ) → n ≤ bound → (n < bound → test n ≡ true)
     → ((k : ℕ) → k < n → test k ≡ false) → least test bound ≡ n

@@ -9,7 +9,8 @@ use Rattle.std.proofs.Math.Seq.{drop-append_seam}
 use Rattle.std.proofs.lemmas.Bool.Decides.{nat_tests}
 use Rattle.std.proofs.lemmas.List.{take-append-le, drop-append-le, length-drop}
 use Rattle.vegas.specs.declared.sample.Sample.{Sample}
-use Rattle.vegas.specs.Vegas.{Place, round_trip, least_round_trip, noload_after, limit_at, next_place, place_after, limit_of, noload_of, probes_of}
+use Rattle.vegas.specs.Vegas.{Place, round_trip, least_round_trip, noload_after, limit_at, next_place, place_after}
+use Rattle.vegas.specs.Vegas.{limit_of, noload_of, probes_of}
 use Rattle.vegas.specs.declared.state.State.{State}
 use Rattle.vegas.specs.Estimators.{HasNumbers}
 
@@ -37,29 +38,34 @@ chosen_place most x p k noload probe low =
     if low then p else record p { limit = limit_at most p.limit noload x })
 
 -- what is known after k samples doesn't depend on those behind them
-noload_after-before : (xs ys : List Sample) (probe k : ℕ) → k ≤ length xs → noload_after (xs ++ ys) probe k ≡ noload_after xs probe k
+noload_after-before : (xs ys : List Sample) (probe k : ℕ) → k ≤ length xs
+    → noload_after (xs ++ ys) probe k ≡ noload_after xs probe k
 noload_after-before xs ys probe k h = ap (λ zs. least_round_trip (drop (probe - 1) zs)) (take-append-le k xs ys h)
 
 next_place-before : (most : ℕ) (xs ys : List Sample) (k : ℕ) (p : Place) (x : Sample) → k ≤ length xs
     → next_place most (xs ++ ys) (suc k) p x ≡ next_place most xs (suc k) p x
 next_place-before most xs ys k p x h = ap
-    (λ noload. chosen_place most x p (suc k) noload (nat_le (30 * p.limit) (suc k - p.probe)) (suc k == 1 || nat_lt (round_trip x) noload))
+    (λ noload. chosen_place most x p (suc k) noload (nat_le (30 * p.limit) (suc k - p.probe))
+    (suc k == 1 || nat_lt (round_trip x) noload))
     (noload_after-before xs ys p.probe (suc k - 1) (omega (arith, h)))
 
-place_after-before : (most : ℕ) (xs ys : List Sample) (k : ℕ) → k ≤ length xs → place_after most (xs ++ ys) k ≡ place_after most xs k
+place_after-before : (most : ℕ) (xs ys : List Sample) (k : ℕ) → k ≤ length xs
+    → place_after most (xs ++ ys) k ≡ place_after most xs k
 unfolding place_after
 place_after-before most xs ys zero h = refl
 place_after-before most xs ys (suc k) h =
     rw (slice_get-before xs ys k h, place_after-before most xs ys k (omega (arith, h))) (at (slice_get xs k))
   where
-    at : (o : Option Sample) → option_map_or (next_place most (xs ++ ys) (suc k) (place_after most xs k)) o (place_after most xs k)
+    at : (o : Option Sample) → option_map_or (next_place most (xs ++ ys) (suc k) (place_after most xs k)) o
+        (place_after most xs k)
         ≡ option_map_or (next_place most xs (suc k) (place_after most xs k)) o (place_after most xs k)
     at None = refl
     at (Some x) = next_place-before most xs ys k (place_after most xs k) x (omega (arith, h))
 
 -- the place at the last sample
 place_after-snoc : (most : ℕ) (xs : List Sample) (x : Sample)
-    → place_after most (xs ++ x ∷ []) (suc (length xs)) ≡ next_place most xs (suc (length xs)) (place_after most xs (length xs)) x
+    → place_after most (xs ++ x ∷ []) (suc (length xs)) ≡ next_place most xs (suc (length xs))
+    (place_after most xs (length xs)) x
 unfolding place_after
 place_after-snoc most xs x =
     rw (slice_get-last xs x, place_after-before most xs (x ∷ []) (length xs) (omega arith))
@@ -77,7 +83,8 @@ unfolding place_after
 place_after-probe most xs zero = omega arith
 place_after-probe most xs (suc k) = at (place_after most xs k) (place_after-probe most xs k) (slice_get xs k)
   where
-    at : (p : Place) → p.probe ≤ k → (o : Option Sample) → (option_map_or (next_place most xs (suc k) p) o p).probe ≤ suc k
+    at : (p : Place) → p.probe ≤ k → (o : Option Sample)
+        → (option_map_or (next_place most xs (suc k) p) o p).probe ≤ suc k
     at p h None = omega (arith, h)
     at p h (Some x) = chosen_place-probe most x p k _ _ _ h
 
@@ -98,7 +105,8 @@ least-low : (zs : List Sample) (x : Sample) → (least_round_trip zs ≡ 0) ⊎ 
 least-low [] x low = refl
 least-low (y ∷ zs) x low = least_round_trip-snoc x y zs ∙ at low
   where
-    at : (least_round_trip (y ∷ zs) ≡ 0) ⊎ (round_trip x < least_round_trip (y ∷ zs)) → min (least_round_trip (y ∷ zs)) (round_trip x) ≡ round_trip x
+    at : (least_round_trip (y ∷ zs) ≡ 0) ⊎ (round_trip x < least_round_trip (y ∷ zs))
+        → min (least_round_trip (y ∷ zs)) (round_trip x) ≡ round_trip x
     at (inl e) = absurd (omega (arith, e, least_round_trip-positive y zs))
     at (inr e) = omega (arith, e)
 
@@ -148,7 +156,8 @@ abbrev is_low : ℕ → List Sample → Sample → Bool
 is_low most xs x = suc (length xs) == 1 || nat_lt (round_trip x) (noload_of most xs)
 
 last_place-snoc : (most : ℕ) (xs : List Sample) (x : Sample) → last_place most (xs ++ x ∷ [])
-    ≡ chosen_place most x (last_place most xs) (suc (length xs)) (noload_of most xs) (is_probe most xs) (is_low most xs x)
+    ≡ chosen_place most x (last_place most xs) (suc (length xs)) (noload_of most xs) (is_probe most xs)
+    (is_low most xs x)
 unfolding limit_of noload_of probes_of
 last_place-snoc most xs x =
     ap (place_after most (xs ++ x ∷ [])) (length-snoc xs x)
@@ -156,9 +165,11 @@ last_place-snoc most xs x =
     ∙ ap (λ noload. chosen_place most x (last_place most xs) (suc (length xs)) noload
     (nat_le (30 * (last_place most xs).limit) (suc (length xs) - (last_place most xs).probe)) (suc (length xs) == 1
     || nat_lt (round_trip x) noload)) same
-    ∙ ap (λ count. chosen_place most x (last_place most xs) (suc (length xs)) (noload_of most xs) (nat_le (30 * (last_place most xs).limit) count) (is_low most xs x)) counted
+    ∙ ap (λ count. chosen_place most x (last_place most xs) (suc (length xs)) (noload_of most xs)
+    (nat_le (30 * (last_place most xs).limit) count) (is_low most xs x)) counted
   where
-    same : noload_after xs (last_place most xs).probe (suc (length xs) - 1) ≡ noload_after xs (last_place most xs).probe (length xs)
+    same : noload_after xs (last_place most xs).probe (suc (length xs) - 1) ≡ noload_after xs (last_place most xs).probe
+        (length xs)
     same = ap (noload_after xs (last_place most xs).probe) (omega arith)
 
     counted : suc (length xs) - (last_place most xs).probe ≡ length xs - (last_place most xs).probe + 1
@@ -169,7 +180,9 @@ place-probe : (most : ℕ) (xs : List Sample) (x : Sample) → 30 * limit_of mos
     → last_place most (xs ++ x ∷ []) ≡ record { limit = (last_place most xs).limit; probe = suc (length xs) }
 place-probe most xs x h =
     let probe : is_probe most xs ≡ true = grind (arith, nat_tests) in
-    last_place-snoc most xs x ∙ ap (λ b. chosen_place most x (last_place most xs) (suc (length xs)) (noload_of most xs) b (is_low most xs x)) probe
+    last_place-snoc most xs x
+    ∙ ap (λ b. chosen_place most x (last_place most xs) (suc (length xs)) (noload_of most xs) b (is_low most xs x))
+    probe
 
 place-low : (most : ℕ) (xs : List Sample) (x : Sample) → probes_of most xs + 1 < 30 * limit_of most xs
     → (noload_of most xs ≡ 0) ⊎ (round_trip x < noload_of most xs) → last_place most (xs ++ x ∷ []) ≡ last_place most xs
@@ -178,29 +191,37 @@ place-low most xs x h lower =
     let probe : is_probe most xs ≡ false = grind (arith, nat_tests) in
     let low : is_low most xs x ≡ true = grind (arith, nat_tests) in
     last_place-snoc most xs x
-    ∙ ap (λ b. chosen_place most x (last_place most xs) (suc (length xs)) (noload_of most xs) b (is_low most xs x)) probe
+    ∙ ap (λ b. chosen_place most x (last_place most xs) (suc (length xs)) (noload_of most xs) b (is_low most xs x))
+    probe
     ∙ ap (λ c. chosen_place most x (last_place most xs) (suc (length xs)) (noload_of most xs) false c) low
 
 place-moved : (most : ℕ) (xs : List Sample) (x : Sample) → probes_of most xs + 1 < 30 * limit_of most xs
     → noload_of most xs ≢ 0 → noload_of most xs ≤ round_trip x
-    → last_place most (xs ++ x ∷ []) ≡ record (last_place most xs) { limit = limit_at most (last_place most xs).limit (noload_of most xs) x }
+    → last_place most (xs ++ x ∷ []) ≡ record (last_place most xs) {
+      limit = limit_at most (last_place most xs).limit
+          (noload_of most xs) x;
+    }
 place-moved most xs x h known high =
     let none : length xs ≡ 0 → noload_of most xs ≡ 0 = noload_of-none most xs in
     let probe : is_probe most xs ≡ false = grind (arith, nat_tests) in
     let low : is_low most xs x ≡ false = grind (arith, nat_tests) in
     last_place-snoc most xs x
-    ∙ ap (λ b. chosen_place most x (last_place most xs) (suc (length xs)) (noload_of most xs) b (is_low most xs x)) probe
+    ∙ ap (λ b. chosen_place most x (last_place most xs) (suc (length xs)) (noload_of most xs) b (is_low most xs x))
+    probe
     ∙ ap (λ c. chosen_place most x (last_place most xs) (suc (length xs)) (noload_of most xs) false c) low
 
 -- what a place tells of a list with one more sample
-place-follows : (most : ℕ) (xs : List Sample) (x : Sample) (p : Place) (noload count : ℕ) → last_place most (xs ++ x ∷ []) ≡ p
+place-follows : (most : ℕ) (xs : List Sample) (x : Sample) (p : Place) (noload count : ℕ)
+    → last_place most (xs ++ x ∷ []) ≡ p
     → least_round_trip (drop (p.probe - 1) (xs ++ x ∷ [])) ≡ noload → suc (length xs) - p.probe ≡ count
     → HasNumbers most (record { limit = p.limit; noload = noload; probes = count }) (xs ++ x ∷ [])
 unfolding limit_of probes_of
 place-follows most xs x p noload count place least counted = record {
   limit = ap (λ (q : Place). q.limit) (sym place);
-  noload = sym least ∙ ap (λ (q : Place). least_round_trip (drop (q.probe - 1) (xs ++ x ∷ []))) (sym place) ∙ sym (noload_of-segment most (xs ++ x ∷ []));
-  probes = sym counted ∙ ap (λ (q : Place). suc (length xs) - q.probe) (sym place) ∙ ap (λ n. n - (last_place most (xs ++ x ∷ [])).probe) (sym (length-snoc xs x));
+  noload = sym least ∙ ap (λ (q : Place). least_round_trip (drop (q.probe - 1) (xs ++ x ∷ []))) (sym place)
+      ∙ sym (noload_of-segment most (xs ++ x ∷ []));
+  probes = sym counted ∙ ap (λ (q : Place). suc (length xs) - q.probe) (sym place)
+      ∙ ap (λ n. n - (last_place most (xs ++ x ∷ [])).probe) (sym (length-snoc xs x));
 }
 
 -- the samples from the last probe on, with one more
@@ -221,7 +242,8 @@ numbers_of-are most state xs s i = record { limit = sym s.limit i; noload = sym 
 
 -- A probe makes the round trip the no-load time, and leaves the limit.
 abbrev Probe : ℕ → List Sample → Sample → State → Type 0
-Probe most xs x s = 30 * s.limit ≤ s.probes + 1 → HasNumbers most (record s { noload = round_trip x; probes = 0 }) (xs ++ x ∷ [])
+Probe most xs x s = 30 * s.limit ≤ s.probes + 1 → HasNumbers most (record s { noload = round_trip x; probes = 0 })
+    (xs ++ x ∷ [])
 
 probe-at : (most : ℕ) (xs : List Sample) (x : Sample) → Probe most xs x (numbers_of most xs)
 unfolding limit_of
@@ -230,7 +252,8 @@ probe-at most xs x h = place-follows most xs x _ _ _ (place-probe most xs x h) o
     one : least_round_trip (drop (suc (length xs) - 1) (xs ++ x ∷ [])) ≡ round_trip x
     one = let n : suc (length xs) - 1 ≡ length xs = omega arith in rw (n, drop-append_seam xs (x ∷ [])) refl
 
-pub probe-follows : (most : ℕ) (state : State) (xs : List Sample) (x : Sample) → HasNumbers most state xs → Probe most xs x state
+pub probe-follows : (most : ℕ) (state : State) (xs : List Sample) (x : Sample) → HasNumbers most state xs
+    → Probe most xs x state
 probe-follows most state xs x s = subst (Probe most xs x) (numbers_of-are most state xs s) (probe-at most xs x)
 
 -- The first round trip of all, or a lower one, becomes the no-load time, and the limit stays.
@@ -246,7 +269,8 @@ low-at most xs x h lower = place-follows most xs x _ _ _ (place-low most xs x h 
     least = ap least_round_trip (segment-snoc most xs x)
         ∙ least-low _ x (subst (λ n. (n ≡ 0) ⊎ (round_trip x < n)) (noload_of-segment most xs) lower)
 
-pub low-follows : (most : ℕ) (state : State) (xs : List Sample) (x : Sample) → HasNumbers most state xs → Low most xs x state
+pub low-follows : (most : ℕ) (state : State) (xs : List Sample) (x : Sample) → HasNumbers most state xs
+    → Low most xs x state
 low-follows most state xs x s = subst (Low most xs x) (numbers_of-are most state xs s) (low-at most xs x)
 
 -- Any other sample moves the limit, and leaves the no-load time.
@@ -256,7 +280,8 @@ Other most xs x s = s.probes + 1 < 30 * s.limit → s.noload ≢ 0 → s.noload 
 
 other-at : (most : ℕ) (xs : List Sample) (x : Sample) → Other most xs x (numbers_of most xs)
 unfolding limit_of
-other-at most xs x h known high = place-follows most xs x _ _ _ (place-moved most xs x h known high) least (counted-snoc most xs)
+other-at most xs x h known high = place-follows most xs x _ _ _ (place-moved most xs x h known high) least
+    (counted-snoc most xs)
   where
     segment : noload_of most xs ≡ least_round_trip (last_segment most xs)
     segment = noload_of-segment most xs
@@ -266,5 +291,6 @@ other-at most xs x h known high = place-follows most xs x _ _ _ (place-moved mos
         ∙ least-high _ x (λ e. known (segment ∙ e)) (omega (arith, high, segment))
         ∙ sym segment
 
-pub other-follows : (most : ℕ) (state : State) (xs : List Sample) (x : Sample) → HasNumbers most state xs → Other most xs x state
+pub other-follows : (most : ℕ) (state : State) (xs : List Sample) (x : Sample) → HasNumbers most state xs
+    → Other most xs x state
 other-follows most state xs x s = subst (Other most xs x) (numbers_of-are most state xs s) (other-at most xs x)

@@ -17,10 +17,12 @@ abbrev after : ℕ → List Sample → ℕ → ℕ × ℕ
 after most xs k = (limit_of most (take k xs), noload_of most (take k xs))
 
 abbrev rising : List Sample
-rising = ok 100000 1 ∷ ok 100000 10 ∷ ok 100000 12 ∷ ok 100000 13 ∷ ok 110000 16 ∷ ok 105000 16 ∷ ok 200000 17 ∷ drop_at 200000 17 ∷ []
+rising = ok 100000 1 ∷ ok 100000 10 ∷ ok 100000 12 ∷ ok 100000 13 ∷ ok 110000 16 ∷ ok 105000 16 ∷ ok 200000 17 ∷ drop_at
+    200000 17 ∷ []
 
 worked_rising : map (after 1000 rising) (1 ∷ 2 ∷ 3 ∷ 4 ∷ 5 ∷ 6 ∷ 7 ∷ 8 ∷ [])
-    ≡ (20, 100000) ∷ (26, 100000) ∷ (26, 100000) ∷ (32, 100000) ∷ (32, 100000) ∷ (33, 100000) ∷ (32, 100000) ∷ (31, 100000) ∷ []
+    ≡ (20, 100000) ∷ (26, 100000) ∷ (26, 100000) ∷ (32, 100000) ∷ (32, 100000) ∷ (33, 100000) ∷ (32, 100000)
+    ∷ (31, 100000) ∷ []
 unfolding place_after limit_of noload_of
 worked_rising = refl
 
@@ -36,7 +38,8 @@ steps = refl
 abbrev grown : List Sample
 grown = ok 100000 1 ∷ replicate 13 (ok 100000 49) ++ ok 101500 49 ∷ ok 101500 50 ∷ ok 100000 50 ∷ []
 
-worked_grown : map (after 1000 grown) (14 ∷ 15 ∷ 16 ∷ 17 ∷ []) ≡ (98, 100000) ∷ (99, 100000) ∷ (100, 100000) ∷ (112, 100000) ∷ []
+worked_grown : map (after 1000 grown) (14 ∷ 15 ∷ 16 ∷ 17 ∷ []) ≡ (98, 100000) ∷ (99, 100000) ∷ (100, 100000)
+    ∷ (112, 100000) ∷ []
 unfolding place_after limit_of noload_of
 worked_grown = refl
 
@@ -44,7 +47,8 @@ worked_grown = refl
 abbrev of_one : List Sample
 of_one = ok 100000 1 ∷ drop_at 200000 1 ∷ replicate 27 (ok 100000 1) ++ ok 300000 1 ∷ ok 200000 1 ∷ []
 
-worked_of_one : map (after 1 of_one) (1 ∷ 2 ∷ 29 ∷ 30 ∷ 31 ∷ []) ≡ (1, 100000) ∷ (1, 100000) ∷ (1, 100000) ∷ (1, 300000) ∷ (1, 200000) ∷ []
+worked_of_one : map (after 1 of_one) (1 ∷ 2 ∷ 29 ∷ 30 ∷ 31 ∷ []) ≡ (1, 100000) ∷ (1, 100000) ∷ (1, 100000) ∷ (1, 300000)
+    ∷ (1, 200000) ∷ []
 unfolding place_after limit_of noload_of
 worked_of_one = refl
 

@@ -1,5 +1,6 @@
 -- The concurrency limit of a list of samples. Places are counted from 1.
-use Rattle.std.specs.Prelude.{ℕ, zero, suc, ◌+◌, ◌-◌, ◌*◌, ◌^◌, min, max, Bool, ◌||◌, nat_le, nat_lt, ◌==◌, List, [], ◌∷◌, length, take, drop, if◌then◌else◌, slice_get}
+use Rattle.std.specs.Prelude.{ℕ, zero, suc, ◌+◌, ◌-◌, ◌*◌, ◌^◌, min, max, Bool, ◌||◌, nat_le, nat_lt, ◌==◌, List, []}
+use Rattle.std.specs.Prelude.{◌∷◌, length, take, drop, if◌then◌else◌, slice_get}
 use Rattle.std.specs.Option.{option_map_or}
 use Rattle.relay_types.specs.Lists.{least}
 use Rattle.vegas.specs.declared.limits.TheConstants.{FIRST_LIMIT, MAX_ROUND_TRIP, SAMPLES_BY_LIMIT}

@@ -20,5 +20,6 @@ digit_printable : (n : ℕ) → n < 10 → IsTrue (is_between 32 126 (48 + n))
 digit_printable n h = grind (arith, nat_tests)
 
 pub decimal_printable : (n : ℕ) → n < 2 ^ 64 → IsTrue (is_printable (decimal n))
-decimal_printable = decimal_by_steps (λ n text. IsTrue (is_printable text)) (λ n h. and_from _ _ (digit_printable n h) refl)
+decimal_printable = decimal_by_steps (λ n text. IsTrue (is_printable text))
+    (λ n h. and_from _ _ (digit_printable n h) refl)
     (λ n text h front. rw (list_all-append, front) (and_from _ _ (digit_printable (n % 10) (omega arith)) refl))

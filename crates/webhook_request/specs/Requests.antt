@@ -5,7 +5,8 @@ use Rattle.relay_types.specs.Values.{Text, Seconds, is_between, is_lower, is_one
 use Rattle.relay_types.specs.Values.{authority_of, host_of, port_of, path_of, is_path_character}
 use Rattle.hmac_signer.specs.Signature.{signature_header}
 use Rattle.webhook_request.specs.declared.header.HeaderName.{HeaderName}
-use Rattle.webhook_request.specs.declared.header.HeaderName.TheVariants.{Host, UserAgent, ContentType, ContentLength, Connection}
+use Rattle.webhook_request.specs.declared.header.HeaderName.TheVariants.{Host, UserAgent, ContentType, ContentLength}
+use Rattle.webhook_request.specs.declared.header.HeaderName.TheVariants.{Connection}
 use Rattle.webhook_request.specs.declared.header.HeaderName.TheVariants.{WebhookId, WebhookTimestamp, WebhookSignature}
 
 -- a header: which one, and its value
@@ -64,7 +65,8 @@ abbrev pub webhook_headers : (id : Text) (at : Seconds) (signature : Text) → L
 webhook_headers id at signature =
     header WebhookId id ∷ header WebhookTimestamp (decimal at) ∷ header WebhookSignature signature ∷ []
 
-abbrev pub headers_of : (target : Text) (secrets : List Text) (id : Text) (at : Seconds) (body : Text) → List HeaderField
+abbrev pub headers_of : (target : Text) (secrets : List Text) (id : Text) (at : Seconds) (body : Text)
+    → List HeaderField
 headers_of target secrets id at body =
     connection_headers target body ++ webhook_headers id at (signature_header secrets id at body)
 

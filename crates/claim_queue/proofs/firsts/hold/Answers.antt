@@ -11,7 +11,8 @@ pub returns-clause-order : goal.returns-clause-order
 returns-clause-order c =
     let place = c.place_of-place.result in
     let pairs = c.args.firsts.now.items in
-    let items = c.insert.ensures.items ∙ ap (λ b. if b then insert pairs place c.args.pair else pairs) (c.insert.ensures.succeeds c.requires.place) in
+    let items = c.insert.ensures.items ∙ ap (λ b. if b then insert pairs place c.args.pair else pairs)
+    (c.insert.ensures.succeeds c.requires.place) in
     subst AreInOrder (sym items)
     (order_entered pairs c.deref.result.now place c.args.pair c.turn.result c.deref.ensures.value c.turn.ensures
     c.requires.order c.requires.unheld c.place_of-place.ensures.bound c.place_of-place.ensures.point)
@@ -20,5 +21,6 @@ pub returns-clause-pairs : goal.returns-clause-pairs
 returns-clause-pairs c =
     let place = c.place_of-place.result in
     let pairs = c.args.firsts.now.items in
-    let items = c.insert.ensures.items ∙ ap (λ b. if b then insert pairs place c.args.pair else pairs) (c.insert.ensures.succeeds c.requires.place) in
+    let items = c.insert.ensures.items ∙ ap (λ b. if b then insert pairs place c.args.pair else pairs)
+    (c.insert.ensures.succeeds c.requires.place) in
     λ other. ap (list_any (same_pair other)) items ∙ any_insert (same_pair other) pairs place c.args.pair

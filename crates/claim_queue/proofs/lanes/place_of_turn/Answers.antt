@@ -8,13 +8,17 @@ use Rattle.claim_queue.proofs.lanes.place_of_turn.Goals as goal
 pub returns-clause-before : goal.returns-clause-before
 returns-clause-before c =
     let turns = c.args.turns.now.items in
-    let weak : AllPairs (λ a b. comes_before b a ≡ false) turns = λ i j d less within. one_way (slice_index_or turns i d) (slice_index_or turns j d) (c.requires i j d less within) in
-    let point = IsPartitionPoint-from_clause (λ t. comes_before t c.args.turn) _ _ c.partition_point.ensures.partitioned (partitioned (λ t. t) turns c.args.turn weak) (λ a r q k. search rules) in
+    let weak : AllPairs (λ a b. comes_before b a ≡ false) turns = λ i j d less within. one_way
+    (slice_index_or turns i d) (slice_index_or turns j d) (c.requires i j d less within) in
+    let point = IsPartitionPoint-from_clause (λ t. comes_before t c.args.turn) _ _ c.partition_point.ensures.partitioned
+    (partitioned (λ t. t) turns c.args.turn weak) (λ a r q k. search rules) in
     λ k d from below. point.0 k d from below
 
 pub returns-clause-behind : goal.returns-clause-behind
 returns-clause-behind c =
     let turns = c.args.turns.now.items in
-    let weak : AllPairs (λ a b. comes_before b a ≡ false) turns = λ i j d less within. one_way (slice_index_or turns i d) (slice_index_or turns j d) (c.requires i j d less within) in
-    let point = IsPartitionPoint-from_clause (λ t. comes_before t c.args.turn) _ _ c.partition_point.ensures.partitioned (partitioned (λ t. t) turns c.args.turn weak) (λ a r q k. search rules) in
+    let weak : AllPairs (λ a b. comes_before b a ≡ false) turns = λ i j d less within. one_way
+    (slice_index_or turns i d) (slice_index_or turns j d) (c.requires i j d less within) in
+    let point = IsPartitionPoint-from_clause (λ t. comes_before t c.args.turn) _ _ c.partition_point.ensures.partitioned
+    (partitioned (λ t. t) turns c.args.turn weak) (λ a r q k. search rules) in
     λ k d from below. point.1 k d from below

@@ -14,4 +14,5 @@ loop-entry-preserved c =
 pub returns : goal.returns
 returns c =
     let l = c.loop-entry in
-    l.invariant ∙ half_all (marked c.args.seq c.args.moment) c.args.entries.now l.entry-index (omega (arith, c.loop-entry-test.false))
+    l.invariant ∙ half_all (marked c.args.seq c.args.moment) c.args.entries.now l.entry-index
+    (omega (arith, c.loop-entry-test.false))

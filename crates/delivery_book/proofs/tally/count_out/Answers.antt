@@ -13,7 +13,8 @@ remove-requires c =
     record {
       known = λ those among.
           subst (λ s. 0 < in_state s (counts_for l.tally those)) (sym c.state.ensures)
-          (gone_there c.args.entries.now c.args.seq l.entry-index c.entry-item.result c.loop-entry-test.true c.entry-item.is
+          (gone_there c.args.entries.now c.args.seq l.entry-index c.entry-item.result c.loop-entry-test.true
+          c.entry-item.is
           c.args.tally.now l.tally gone l.invariant.less c.requires those among);
     }
 
@@ -23,14 +24,16 @@ loop-entry-preserved c =
     let e : Entry = c.entry-item.result in
     let es : List Entry = c.args.entries.now in
     let some = filter (is_taken_below c.args.seq) (take (l.entry-index + 1) es) in
-    let both : HasMore c.if-not-is_left.tally (settled_among some) c.args.tally.now × KeepsRoom c.args.tally.now c.if-not-is_left.tally =
+    let both : HasMore c.if-not-is_left.tally (settled_among some) c.args.tally.now
+    × KeepsRoom c.args.tally.now c.if-not-is_left.tally =
     elim c.if-not-is_left.branch [
       | then-not-is_left w ↦
           subst (λ t. HasMore t (settled_among some) c.args.tally.now × KeepsRoom c.args.tally.now t) (sym w.tally-is) (
             gone_more es c.args.seq l.entry-index e c.loop-entry-test.true c.entry-item.is c.args.tally.now l.tally
                 w.remove.new.self (ap not (sym c.is_left.ensures ∙ w.if-not-is_left.true)) l.invariant.less
                 (λ those asked. w.remove.ensures.less those asked
-                ∙ ap (λ s. in_state asked (counts_for w.remove.new.self those) + one_of e.name s those asked) w.state.ensures),
+                ∙ ap (λ s. in_state asked (counts_for w.remove.new.self those) + one_of e.name s those asked)
+                w.state.ensures),
             (λ asked is. w.remove.ensures.stays asked (l.invariant.stays asked is)),
           )
       | else-not-is_left w ↦

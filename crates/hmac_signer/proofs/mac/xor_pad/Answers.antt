@@ -7,4 +7,5 @@ pub loop-byte-preserved : goal.loop-byte-preserved
 loop-byte-preserved c =
     let byte = get_or c.loop-byte.byte-items c.loop-byte.byte-index 0 in
     map_over_more (λ b. bit_xor b c.args.pad) c.args.block c.loop-byte.byte-items c.loop-byte.byte-index byte
-    (omega arith) c.loop-byte.invariant (get_or_default c.loop-byte.byte-items c.loop-byte.byte-index 0 byte (omega arith))
+    (omega arith) c.loop-byte.invariant (get_or_default c.loop-byte.byte-items c.loop-byte.byte-index 0 byte
+    (omega arith))

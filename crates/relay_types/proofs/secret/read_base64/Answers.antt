@@ -9,11 +9,13 @@ returns-in-Some-clause-value c = let h = c.in-Some.ensures.value in (h.0, inl h.
 pub returns-in-Some-clause-each : goal.returns-in-Some-clause-each
 returns-in-Some-clause-each c = λ secret h. elim h.1 [
   | inl e ↦ c.in-Some.ensures.each secret h.0 e
-  | inr e ↦ c.in-Some.ensures.each secret h.0 (e ∙ no_padding c.in-Some.secret secret (sym c.in-Some.ensures.value.1 ∙ e))
+  | inr e ↦ c.in-Some.ensures.each secret h.0
+      (e ∙ no_padding c.in-Some.secret secret (sym c.in-Some.ensures.value.1 ∙ e))
 ]
 
 pub returns-in-None-clause-value : goal.returns-in-None-clause-value
-returns-in-None-clause-value c = IfSome_then c.decode-in-None.result c.decode-in-None.ensures.value (λ secret h. (h.0, inr h.1))
+returns-in-None-clause-value c = IfSome_then c.decode-in-None.result c.decode-in-None.ensures.value
+    (λ secret h. (h.0, inr h.1))
 
 pub returns-in-None-clause-each : goal.returns-in-None-clause-each
 returns-in-None-clause-each c = λ secret h. elim h.1 [

@@ -9,4 +9,5 @@ one_fault a b e = cc
 pub returns-in_err-read_call-clause-bad : goal.returns-in_err-read_call-clause-bad
 returns-in_err-read_call-clause-bad c = λ e.
     let p = err_from_is_err_and c.from_residual.result c.from_residual.ensures.1 in
-    no_line c.args.line.now (c.in_err-read_call.ensures.bad (ap Err (sym p.2 ∙ one_fault p.0 _ (sym p.1 ∙ e)))) (λ is. absurd (let yes = c.is_word.ensures.1 is in let no = c.if-is_word.false in cc))
+    no_line c.args.line.now (c.in_err-read_call.ensures.bad (ap Err (sym p.2 ∙ one_fault p.0 _ (sym p.1 ∙ e))))
+    (λ is. absurd (let yes = c.is_word.ensures.1 is in let no = c.if-is_word.false in cc))

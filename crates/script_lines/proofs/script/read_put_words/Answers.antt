@@ -10,8 +10,10 @@ returns-in_err-max-clause-bad c = λ e of to most by h.
 
 pub returns-then-not-is_secrets_word-clause-bad : goal.returns-then-not-is_secrets_word-clause-bad
 returns-then-not-is_secrets_word-clause-bad c = λ e of to most by h.
-    c.if-not-is_secrets_word.ensures by (put_secrets c.args.name.now c.args.url.now c.args.max.now c.args.secrets.now of to most by h)
+    c.if-not-is_secrets_word.ensures by (put_secrets c.args.name.now c.args.url.now c.args.max.now c.args.secrets.now
+    of to most by h)
 
 pub returns-in_err-read_secrets-clause-bad : goal.returns-in_err-read_secrets-clause-bad
 returns-in_err-read_secrets-clause-bad c = λ e of to most by h.
-    c.in_err-read_secrets.ensures.bad (search rules) by (put_secrets c.args.name.now c.args.url.now c.args.max.now c.args.secrets.now of to most by h)
+    c.in_err-read_secrets.ensures.bad (search rules) by
+    (put_secrets c.args.name.now c.args.url.now c.args.max.now c.args.secrets.now of to most by h)

@@ -4,13 +4,16 @@ use Rattle.script_lines.proofs.CallLaws.{only_put, only_secrets, only_submit, on
 use Rattle.script_lines.proofs.script.read_worded.Goals as goal
 
 pub returns-then-is_word-clause-bad : goal.returns-then-is_word-clause-bad
-returns-then-is_word-clause-bad c = λ e. only_put (λ call. ⊥) c.args.word.now (texts c.args.arguments.now) (c.if-is_word.ensures.0 refl) (c.read_put.ensures.bad e)
+returns-then-is_word-clause-bad c = λ e. only_put (λ call. ⊥) c.args.word.now (texts c.args.arguments.now)
+    (c.if-is_word.ensures.0 refl) (c.read_put.ensures.bad e)
 
 pub returns-then-is_word-2-clause-bad : goal.returns-then-is_word-2-clause-bad
-returns-then-is_word-2-clause-bad c = λ e. only_secrets (λ call. ⊥) c.args.word.now (texts c.args.arguments.now) (c.if-is_word-2.ensures.0 refl) (c.read_new_secrets.ensures.bad e)
+returns-then-is_word-2-clause-bad c = λ e. only_secrets (λ call. ⊥) c.args.word.now (texts c.args.arguments.now)
+    (c.if-is_word-2.ensures.0 refl) (c.read_new_secrets.ensures.bad e)
 
 pub returns-then-is_word-8-clause-bad : goal.returns-then-is_word-8-clause-bad
-returns-then-is_word-8-clause-bad c = λ e. only_submit (λ call. ⊥) c.args.word.now (texts c.args.arguments.now) (c.if-is_word-8.ensures.0 refl) (c.read_submit.ensures.bad e)
+returns-then-is_word-8-clause-bad c = λ e. only_submit (λ call. ⊥) c.args.word.now (texts c.args.arguments.now)
+    (c.if-is_word-8.ensures.0 refl) (c.read_submit.ensures.bad e)
 
 pub returns-then-is_word-9-clause-bad : goal.returns-then-is_word-9-clause-bad
 returns-then-is_word-9-clause-bad c = λ e. only_publish (λ call. ⊥) c.args.word.now (texts c.args.arguments.now)
@@ -25,7 +28,8 @@ pub returns-then-is_word-clause-lacked : goal.returns-then-is_word-clause-lacked
 returns-then-is_word-clause-lacked c = λ e. inl (c.if-is_word.ensures.0 refl, c.read_put.ensures.lacked e)
 
 pub returns-then-is_word-2-clause-lacked : goal.returns-then-is_word-2-clause-lacked
-returns-then-is_word-2-clause-lacked c = λ e. inr (inl (c.if-is_word-2.ensures.0 refl, c.read_new_secrets.ensures.lacked e))
+returns-then-is_word-2-clause-lacked c = λ e. inr
+    (inl (c.if-is_word-2.ensures.0 refl, c.read_new_secrets.ensures.lacked e))
 
 pub returns-then-is_word-8-clause-lacked : goal.returns-then-is_word-8-clause-lacked
 returns-then-is_word-8-clause-lacked c =

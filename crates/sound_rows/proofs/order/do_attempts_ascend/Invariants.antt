@@ -4,7 +4,11 @@ use Rattle.sound_rows.specs.declared.numbers.Attempt.{Attempt}
 use Rattle.sound_rows.proofs.order.do_attempts_ascend.Given as goal
 
 abbrev pub invariant-loop-index : goal.invariant-loop-index
-invariant-loop-index l = record { some : 0 < l.index; next : AllAdjacentBelow (λ (x y : Attempt). x.seq < y.seq) l.attempts l.index }
+invariant-loop-index l = record {
+  some : 0 < l.index;
+  next : AllAdjacentBelow (λ (x y : Attempt). x.seq < y.seq)
+      l.attempts l.index;
+}
 
 abbrev pub decreases-loop-index : goal.decreases-loop-index
 decreases-loop-index l = length l.attempts - l.index

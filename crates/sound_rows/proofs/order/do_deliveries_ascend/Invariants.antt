@@ -4,7 +4,11 @@ use Rattle.sound_rows.specs.declared.numbers.Delivery.{Delivery}
 use Rattle.sound_rows.proofs.order.do_deliveries_ascend.Given as goal
 
 abbrev pub invariant-loop-index : goal.invariant-loop-index
-invariant-loop-index l = record { some : 0 < l.index; next : AllAdjacentBelow (λ (x y : Delivery). x.seq < y.seq) l.deliveries l.index }
+invariant-loop-index l = record {
+  some : 0 < l.index;
+  next : AllAdjacentBelow (λ (x y : Delivery). x.seq < y.seq)
+      l.deliveries l.index;
+}
 
 abbrev pub decreases-loop-index : goal.decreases-loop-index
 decreases-loop-index l = length l.deliveries - l.index

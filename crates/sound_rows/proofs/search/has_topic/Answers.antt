@@ -9,10 +9,12 @@ returns-in-Some c =
     let x = c.in-Some.found.now in
     let is = rw c.in-Some.is at c.get.ensures.lookup.1 in
     let within = rw c.in-Some.is at c.get.ensures.lookup.3 in
-    found_plain (λ (x : Topic). x.set_by) rows c.args.set_by place.result c.requires (λ k d h. place.ensures.below k d h) (λ k d h l. place.ensures.above k d h l) x within.0 is
+    found_plain (λ (x : Topic). x.set_by) rows c.args.set_by place.result c.requires
+    (λ k d h. place.ensures.below k d h) (λ k d h l. place.ensures.above k d h l) x within.0 is
 
 pub returns-in-None : goal.returns-in-None
 returns-in-None c =
     let place = c.place_of_topic in
     let behind = rw c.in-None.is at c.get.ensures.lookup.3 in
-    not_found_plain (λ (x : Topic). x.set_by) c.args.topics.now c.args.set_by place.result c.requires (λ k d h. place.ensures.below k d h) (λ k d h l. place.ensures.above k d h l) behind
+    not_found_plain (λ (x : Topic). x.set_by) c.args.topics.now c.args.set_by place.result c.requires
+    (λ k d h. place.ensures.below k d h) (λ k d h l. place.ensures.above k d h l) behind

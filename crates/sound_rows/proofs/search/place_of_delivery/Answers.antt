@@ -6,10 +6,14 @@ use Rattle.sound_rows.proofs.search.place_of_delivery.Goals as goal
 
 pub returns-clause-below : goal.returns-clause-below
 returns-clause-below c =
-    let point = IsPartitionPoint-from_clause (λ (x : Delivery). ltb x.seq c.args.seq) _ _ c.partition_point.ensures.partitioned (parted (λ (x : Delivery). x.seq) _ _ c.requires) (λ a r q k. search rules) in
+    let point = IsPartitionPoint-from_clause (λ (x : Delivery). ltb x.seq c.args.seq) _ _
+    c.partition_point.ensures.partitioned (parted (λ (x : Delivery). x.seq) _ _ c.requires)
+    (λ a r q k. search rules) in
     λ k d h. ltb-true _ _ (point.0 k d (omega arith) h)
 
 pub returns-clause-above : goal.returns-clause-above
 returns-clause-above c =
-    let point = IsPartitionPoint-from_clause (λ (x : Delivery). ltb x.seq c.args.seq) _ _ c.partition_point.ensures.partitioned (parted (λ (x : Delivery). x.seq) _ _ c.requires) (λ a r q k. search rules) in
+    let point = IsPartitionPoint-from_clause (λ (x : Delivery). ltb x.seq c.args.seq) _ _
+    c.partition_point.ensures.partitioned (parted (λ (x : Delivery). x.seq) _ _ c.requires)
+    (λ a r q k. search rules) in
     λ k d h l. ltb-false _ _ (point.1 k d h l)

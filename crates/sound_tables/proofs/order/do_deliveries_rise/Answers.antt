@@ -5,4 +5,5 @@ use Rattle.sound_tables.proofs.OrderLemmas.{rises_so}
 use Rattle.sound_tables.proofs.order.do_deliveries_rise.Goals as goal
 
 pub returns : goal.returns
-returns c = rises_so (λ (x : Delivery). x.seq) c.args.deliveries.now c.is_sorted_by.result (c.is_sorted_by.ensures.cases (λ x y. ltb x.seq y.seq) (answers_always _ _ _ (λ f a r g h. search rules)))
+returns c = rises_so (λ (x : Delivery). x.seq) c.args.deliveries.now c.is_sorted_by.result
+    (c.is_sorted_by.ensures.cases (λ x y. ltb x.seq y.seq) (answers_always _ _ _ (λ f a r g h. search rules)))

@@ -9,6 +9,7 @@ abbrev pub invariant-each : goal.invariant-each
 invariant-each g l = record {
   same_reference : l.rows.conn.ghost_name ≡ l.fn.rows.conn.ghost_name;
   still : IsStill g.S.Store l.fn.rows.conn.now l.rows.conn.now;
-  taken : HasCleanDisk (state g.S.Store l.rows.conn.now) → (sql : List ℕ) → HasTaken g.S.Store g.T.Reading.is_shown sql l.fn.rows.conn.now l.fn.found.items
+  taken : HasCleanDisk (state g.S.Store l.rows.conn.now) → (sql : List ℕ)
+      → HasTaken g.S.Store g.T.Reading.is_shown sql l.fn.rows.conn.now l.fn.found.items
       → HasTaken g.S.Store g.T.Reading.is_shown sql l.rows.conn.now l.found.items;
 }

@@ -6,7 +6,8 @@ use Rattle.spool.proofs.enabled.write_enabled.Goals as goal
 
 pub returns-in_default-clause-done : goal.returns-in_default-clause-done
 returns-in_default-clause-done g c clean inside =
-    enabled_refused (state g.S.Store c.args.tx.now.conn.now) (state g.S.Store c.select_put.new.tx.conn.now) c.args.seq c.args.name.now c.args.flag inside (c.in_ok-put.ensures.unchanged clean)
+    enabled_refused (state g.S.Store c.args.tx.now.conn.now) (state g.S.Store c.select_put.new.tx.conn.now) c.args.seq
+    c.args.name.now c.args.flag inside (c.in_ok-put.ensures.unchanged clean)
     (rw c.in_default.is at (c.in_ok-put.ensures.found clean))
 
 pub returns-clause-done : goal.returns-clause-done

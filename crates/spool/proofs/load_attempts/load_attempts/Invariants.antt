@@ -15,8 +15,10 @@ invariant-loop-from g l = record {
   same_reference : l.tx.conn.ghost_name ≡ l.fn.tx.conn.ghost_name;
   quiet : IsQuiet (state g.S.Store l.fn.tx.conn.now) (state g.S.Store l.tx.conn.now);
   bound : l.from ≤ MAX_RECORDS;
-  done : HasCleanDisk (state g.S.Store l.tx.conn.now) → (records : List Record) → IsLegal records → IsTables (state g.S.Store l.fn.tx.conn.now).now (rows_of records)
-      → AreAccepted l.fn.loaded records (rows_of records).deliveries → IsReadTo (λ (a : AttemptRow). a.seq) (rows_of records).attempts (HaveAttempts l.loaded records) l.from;
+  done : HasCleanDisk (state g.S.Store l.tx.conn.now) → (records : List Record) → IsLegal records
+      → IsTables (state g.S.Store l.fn.tx.conn.now).now (rows_of records)
+      → AreAccepted l.fn.loaded records (rows_of records).deliveries
+      → IsReadTo (λ (a : AttemptRow). a.seq) (rows_of records).attempts (HaveAttempts l.loaded records) l.from;
 }
 
 abbrev pub decreases-loop-from : goal.decreases-loop-from

@@ -17,11 +17,13 @@ pub loop-row-preserved : goal.loop-row-preserved
 loop-row-preserved c records =
     let row = attempt_of c.in-Some.row in
     let step = c.in_ok-restore.ensures in
-    subst (λ more. Attempts c.args.loaded.now c.restore.new.self more records) (sym (map-append attempt_of c.loop-row.yielded (c.in-Some.row ∷ [])))
+    subst (λ more. Attempts c.args.loaded.now c.restore.new.self more records)
+    (sym (map-append attempt_of c.loop-row.yielded (c.in-Some.row ∷ [])))
     (reads_then (rows_of records).attempts (HaveAttempts c.args.loaded.now records)
     (HaveAttempts c.loop-row.loaded records) (HaveAttempts c.restore.new.self records)
     (map attempt_of c.loop-row.yielded) (row ∷ [])
-    (c.loop-row.invariant records) (attempts_more records row c.loop-row.loaded c.restore.new.self step.book step.clock))
+    (c.loop-row.invariant records)
+    (attempts_more records row c.loop-row.loaded c.restore.new.self step.book step.clock))
 
 pub returns-clause-found : goal.returns-clause-found
 returns-clause-found c records =
@@ -30,7 +32,8 @@ returns-clause-found c records =
     c.loop-row.yielded c.loop-row.row-iterator c.loop-row.yielded_by c.next.result c.next.new.self c.in-None.is
     c.next.ensures.steps in
     let all : c.loop-row.yielded ≡ c.args.page.items = sym (map_itself c.loop-row.yielded) ∙ ended.0 in
-    subst (λ items. Attempts c.args.loaded.now c.loop-row.loaded (map attempt_of items) records) all (c.loop-row.invariant records)
+    subst (λ items. Attempts c.args.loaded.now c.loop-row.loaded (map attempt_of items) records) all
+    (c.loop-row.invariant records)
 
 pub returns-in_err-restore-clause-refused : goal.returns-in_err-restore-clause-refused
 returns-in_err-restore-clause-refused c failed records legal next =

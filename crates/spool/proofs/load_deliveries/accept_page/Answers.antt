@@ -25,11 +25,14 @@ loop-row-preserved c records are =
     let name = c.in-Some-name_of.name in
     let step = c.in_ok-accept.ensures in
     let is = subst (λ put. IsNameOf c.args.names.now put name) c.get.ensures.number c.in-Some-name_of.ensures.found in
-    subst (λ more. Accepts c.args.loaded.now c.accept.new.self more records) (sym (map-append delivery_of c.loop-row.yielded (c.in-Some.row ∷ [])))
+    subst (λ more. Accepts c.args.loaded.now c.accept.new.self more records)
+    (sym (map-append delivery_of c.loop-row.yielded (c.in-Some.row ∷ [])))
     (reads_then (rows_of records).deliveries (AreAccepted c.args.loaded.now records)
     (AreAccepted c.loop-row.loaded records) (AreAccepted c.accept.new.self records)
     (map delivery_of c.loop-row.yielded) (row ∷ [])
-    (c.loop-row.invariant records are) (accepted_more records c.args.names.now row name c.loop-row.loaded c.accept.new.self are is step.book step.clock))
+    (c.loop-row.invariant records are)
+    (accepted_more records c.args.names.now row name c.loop-row.loaded c.accept.new.self are is step.book
+    step.clock))
 
 pub returns-clause-found : goal.returns-clause-found
 returns-clause-found c records are =
@@ -38,7 +41,8 @@ returns-clause-found c records are =
     c.loop-row.yielded c.loop-row.row-iterator c.loop-row.yielded_by c.next.result c.next.new.self c.in-None.is
     c.next.ensures.steps in
     let all : c.loop-row.yielded ≡ c.args.page.items = sym (map_itself c.loop-row.yielded) ∙ ended.0 in
-    subst (λ items. Accepts c.args.loaded.now c.loop-row.loaded (map delivery_of items) records) all (c.loop-row.invariant records are)
+    subst (λ items. Accepts c.args.loaded.now c.loop-row.loaded (map delivery_of items) records) all
+    (c.loop-row.invariant records are)
 
 pub returns-in_default-clause-refused : goal.returns-in_default-clause-refused
 returns-in_default-clause-refused c records legal are next =

@@ -5,4 +5,5 @@ use Rattle.spool.specs.Loading.{Accepts, AreNames}
 use Rattle.spool.proofs.load_deliveries.accept_page.Given as goal
 
 abbrev pub invariant-loop-row : goal.invariant-loop-row
-invariant-loop-row l = (records : List Record) → AreNames l.names records → Accepts l.fn.loaded l.loaded (map delivery_of l.yielded) records
+invariant-loop-row l = (records : List Record) → AreNames l.names records
+    → Accepts l.fn.loaded l.loaded (map delivery_of l.yielded) records

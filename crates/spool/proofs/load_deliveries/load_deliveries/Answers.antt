@@ -42,8 +42,11 @@ loop-from-preserved g c =
             (λ early tables. so_far.done early records legal tables are)
             (λ early tables. rw c.of-in-loop-from.ensures at (look.found early (rows_of records) tables))
             (λ late tables. c.in_ok-accept_page.ensures.found records are)
-            (λ read left h page. behind_some (λ (d : DeliveryRow). d.seq) c.loop-from.from _ (rows_of records).deliveries read left (map delivery_of items) (delivery_of w.in-Some.last.now) h page
-            (last_read delivery_of items w.in-Some.last.now (rw c.deref.ensures.value at (rw w.in-Some.is at c.last.ensures.value))) w.in_ok-from-in-Some.ensures.number) clean tables;
+            (λ read left h page. behind_some (λ (d : DeliveryRow). d.seq) c.loop-from.from _
+            (rows_of records).deliveries read left (map delivery_of items) (delivery_of w.in-Some.last.now) h page
+            (last_read delivery_of items w.in-Some.last.now
+            (rw c.deref.ensures.value at (rw w.in-Some.is at c.last.ensures.value)))
+            w.in_ok-from-in-Some.ensures.number) clean tables;
       })
       | in-None w ↦ rw w.from-is (record {
         same_reference = look.same_reference ∙ so_far.same_reference;
@@ -57,8 +60,10 @@ loop-from-preserved g c =
             (λ early tables. so_far.done early records legal tables are)
             (λ early tables. rw c.of-in-loop-from.ensures at (look.found early (rows_of records) tables))
             (λ late tables. c.in_ok-accept_page.ensures.found records are)
-            (λ read left h page. behind_none (λ (d : DeliveryRow). d.seq) c.loop-from.from (rows_of records).deliveries read left (map delivery_of items) so_far.bound h page
-            (none_read delivery_of items (rw c.deref.ensures.value at (rw w.in-None.is at c.last.ensures.value)))) clean tables;
+            (λ read left h page. behind_none (λ (d : DeliveryRow). d.seq) c.loop-from.from (rows_of records).deliveries
+            read left (map delivery_of items) so_far.bound h page
+            (none_read delivery_of items (rw c.deref.ensures.value at (rw w.in-None.is at c.last.ensures.value)))) clean
+            tables;
       })
     ]
 

@@ -32,7 +32,8 @@ loop-from-preserved g c =
     let so_far = c.loop-from.invariant in
     let look = c.in_ok-page.ensures in
     let step = c.in_ok-restore_page.ensures in
-    let quiet = quiet_then a b z so_far.quiet (quiet_then b m z (quiet_look b m look.spares look.unchanged) (record { spares = step.spares; unchanged = step.unchanged })) in
+    let quiet = quiet_then a b z so_far.quiet (quiet_then b m z (quiet_look b m look.spares look.unchanged)
+    (record { spares = step.spares; unchanged = step.unchanged })) in
     let items = c.in_ok-page.page.items in
     elim c.match-last.branch [
       | in-Some+in_ok-from-in-Some w ↦ rw w.from-is (record {
@@ -47,8 +48,11 @@ loop-from-preserved g c =
             so_far.quiet look.spares look.unchanged step.spares (λ early. so_far.done early records legal)
             (λ early tables. rw c.of.ensures at (look.found early (rows_of records) tables))
             (λ late. step.found late records legal)
-            (λ read left h page. behind_some (λ (e : EndpointRow). e.put) c.loop-from.from _ (rows_of records).endpoints read left (map endpoint_of items) (endpoint_of w.in-Some.last.now) h page
-            (last_read endpoint_of items w.in-Some.last.now (rw c.deref.ensures.value at (rw w.in-Some.is at c.last.ensures.value))) w.in_ok-from-in-Some.ensures.number) clean;
+            (λ read left h page. behind_some (λ (e : EndpointRow). e.put) c.loop-from.from _ (rows_of records).endpoints
+            read left (map endpoint_of items) (endpoint_of w.in-Some.last.now) h page
+            (last_read endpoint_of items w.in-Some.last.now
+            (rw c.deref.ensures.value at (rw w.in-Some.is at c.last.ensures.value)))
+            w.in_ok-from-in-Some.ensures.number) clean;
       })
       | in-None w ↦ rw w.from-is (record {
         same_reference = step.same_reference ∙ look.same_reference ∙ so_far.same_reference;
@@ -62,8 +66,10 @@ loop-from-preserved g c =
             so_far.quiet look.spares look.unchanged step.spares (λ early. so_far.done early records legal)
             (λ early tables. rw c.of.ensures at (look.found early (rows_of records) tables))
             (λ late. step.found late records legal)
-            (λ read left h page. behind_none (λ (e : EndpointRow). e.put) c.loop-from.from (rows_of records).endpoints read left (map endpoint_of items) so_far.bound h page
-            (none_read endpoint_of items (rw c.deref.ensures.value at (rw w.in-None.is at c.last.ensures.value)))) clean;
+            (λ read left h page. behind_none (λ (e : EndpointRow). e.put) c.loop-from.from (rows_of records).endpoints
+            read left (map endpoint_of items) so_far.bound h page
+            (none_read endpoint_of items (rw c.deref.ensures.value at (rw w.in-None.is at c.last.ensures.value))))
+            clean;
       })
     ]
 

@@ -16,7 +16,8 @@ invariant-loop-from g l = record {
   quiet : IsQuiet (state g.S.Store l.fn.tx.conn.now) (state g.S.Store l.tx.conn.now);
   settled : l.loaded.book.changes ≡ [];
   bound : l.from ≤ MAX_RECORDS;
-  done : HasCleanDisk (state g.S.Store l.tx.conn.now) → (records : List Record) → IsLegal records → IsTables (state g.S.Store l.fn.tx.conn.now).now (rows_of records)
+  done : HasCleanDisk (state g.S.Store l.tx.conn.now) → (records : List Record) → IsLegal records
+      → IsTables (state g.S.Store l.fn.tx.conn.now).now (rows_of records)
       → IsReadTo (λ (e : EndpointRow). e.put) (rows_of records).endpoints (AreRestored l.loaded records) l.from;
 }
 

@@ -27,7 +27,8 @@ loop-row-preserved g c =
       done = λ clean records legal tables.
           let before = clean_before b z step.spares clean in
           let there = tables_along a b (rows_of records) so_far.quiet before (step.unchanged clean).0.was_open tables in
-          subst (λ more. Restores c.args.loaded.now c.restore_endpoint.new.loaded more records) (sym (map-append endpoint_of c.loop-row.yielded (c.in-Some.row ∷ [])))
+          subst (λ more. Restores c.args.loaded.now c.restore_endpoint.new.loaded more records)
+          (sym (map-append endpoint_of c.loop-row.yielded (c.in-Some.row ∷ [])))
           (reads_then (rows_of records).endpoints (AreRestored c.args.loaded.now records)
           (AreRestored c.loop-row.loaded records) (AreRestored c.restore_endpoint.new.loaded records)
           (map endpoint_of c.loop-row.yielded) (endpoint_of c.in-Some.row ∷ [])
@@ -49,7 +50,8 @@ returns-clause-found g c clean records legal tables =
     c.loop-row.yielded c.loop-row.row-iterator c.loop-row.yielded_by c.next.result c.next.new.self c.in-None.is
     c.next.ensures.steps in
     let all : c.loop-row.yielded ≡ c.args.page.items = sym (map_itself c.loop-row.yielded) ∙ ended.0 in
-    subst (λ items. Restores c.args.loaded.now c.loop-row.loaded (map endpoint_of items) records) all (c.loop-row.invariant.done clean records legal tables)
+    subst (λ items. Restores c.args.loaded.now c.loop-row.loaded (map endpoint_of items) records) all
+    (c.loop-row.invariant.done clean records legal tables)
 
 pub returns-in_err-restore_endpoint-clause-refused : goal.returns-in_err-restore_endpoint-clause-refused
 returns-in_err-restore_endpoint-clause-refused g c clean =

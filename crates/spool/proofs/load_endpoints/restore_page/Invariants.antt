@@ -14,6 +14,7 @@ invariant-loop-row g l = record {
   same_reference : l.tx.conn.ghost_name ≡ l.fn.tx.conn.ghost_name;
   quiet : IsQuiet (state g.S.Store l.fn.tx.conn.now) (state g.S.Store l.tx.conn.now);
   settled : l.loaded.book.changes ≡ [];
-  done : HasCleanDisk (state g.S.Store l.tx.conn.now) → (records : List Record) → IsLegal records → IsTables (state g.S.Store l.fn.tx.conn.now).now (rows_of records)
+  done : HasCleanDisk (state g.S.Store l.tx.conn.now) → (records : List Record) → IsLegal records
+      → IsTables (state g.S.Store l.fn.tx.conn.now).now (rows_of records)
       → Restores l.fn.loaded l.loaded (map endpoint_of l.yielded) records;
 }

@@ -11,7 +11,10 @@ invariant-loop-step g l = record {
   place : l.place ≡ l.next + length (records_of (take l.step-index l.steps));
   same_reference : l.tx.conn.ghost_name ≡ l.fn.tx.conn.ghost_name;
   spares : Spares (state g.S.Store l.fn.tx.conn.now) (state g.S.Store l.tx.conn.now);
-  inside : HasCleanDisk (state g.S.Store l.tx.conn.now) → IsTrue (state g.S.Store l.fn.tx.conn.now).in_transaction → IsTrue (state g.S.Store l.tx.conn.now).in_transaction;
-  done : HasCleanDisk (state g.S.Store l.tx.conn.now) → IsTrue (state g.S.Store l.fn.tx.conn.now).in_transaction → IsTrue (state g.S.Store l.fn.tx.conn.now).is_open
-      → Enters (state g.S.Store l.fn.tx.conn.now) (state g.S.Store l.tx.conn.now) l.next (records_of (take l.step-index l.steps)) true;
+  inside : HasCleanDisk (state g.S.Store l.tx.conn.now) → IsTrue (state g.S.Store l.fn.tx.conn.now).in_transaction
+      → IsTrue (state g.S.Store l.tx.conn.now).in_transaction;
+  done : HasCleanDisk (state g.S.Store l.tx.conn.now) → IsTrue (state g.S.Store l.fn.tx.conn.now).in_transaction
+      → IsTrue (state g.S.Store l.fn.tx.conn.now).is_open
+      → Enters (state g.S.Store l.fn.tx.conn.now) (state g.S.Store l.tx.conn.now) l.next
+      (records_of (take l.step-index l.steps)) true;
 }

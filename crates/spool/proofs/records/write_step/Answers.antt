@@ -17,11 +17,14 @@ returns-then-not-branch-clause-done g c clean inside =
     let split = split_at k c.args.records.now entry c.loop-entry-test.true c.entry-item.is in
     let front = length-take k c.args.records.now in
     let at_b : HasCleanDisk b = omega (arith, clean, c.in_ok-write_record.ensures.spares.survives.clean) in
-    let one = rw (c.of.ensures, c.if-not-branch.true) at (c.in_ok-write_record.ensures.done clean (c.loop-entry.invariant.inside at_b inside)) in
-    let so_far = c.loop-entry.invariant.done at_b inside ((c.loop-entry.invariant.spares.kept at_b).was_open one.on.was_open) in
+    let one = rw (c.of.ensures, c.if-not-branch.true) at (c.in_ok-write_record.ensures.done clean
+    (c.loop-entry.invariant.inside at_b inside)) in
+    let so_far = c.loop-entry.invariant.done at_b inside
+    ((c.loop-entry.invariant.spares.kept at_b).was_open one.on.was_open) in
     let stopped = enters_then a b z c.args.next c.loop-entry.place (take k c.args.records.now) (entry ∷ []) false
     (omega (arith, c.loop-entry.invariant.place, front, c.loop-entry-test.true)) so_far one in
-    subst (λ all. Enters a z c.args.next all false) (append_assoc (take k c.args.records.now) (entry ∷ []) split.0 ∙ sym split.1)
+    subst (λ all. Enters a z c.args.next all false) (append_assoc (take k c.args.records.now) (entry ∷ []) split.0
+    ∙ sym split.1)
     (enters_cut a z c.args.next (take k c.args.records.now ++ entry ∷ []) split.0 stopped)
 
 pub loop-entry-preserved : goal.loop-entry-preserved
@@ -43,14 +46,16 @@ loop-entry-preserved g c =
           (step.done clean (c.loop-entry.invariant.inside at_b inside)).on.mode;
       done = λ clean inside is_open.
           let at_b : HasCleanDisk b = omega (arith, clean, step.spares.survives.clean) in
-          let one = rw (c.of.ensures, c.if-not-branch.false) at (step.done clean (c.loop-entry.invariant.inside at_b inside)) in
+          let one = rw (c.of.ensures, c.if-not-branch.false)
+          at (step.done clean (c.loop-entry.invariant.inside at_b inside)) in
           subst (λ all. Enters a z c.args.next all true) (sym more)
           (enters_then a b z c.args.next c.loop-entry.place (take k c.args.records.now) (entry ∷ []) true
           (omega (arith, c.loop-entry.invariant.place, front, c.loop-entry-test.true))
           (c.loop-entry.invariant.done at_b inside is_open) one);
       was_open = λ clean inside some.
           let at_b : HasCleanDisk b = omega (arith, clean, step.spares.survives.clean) in
-          (c.loop-entry.invariant.spares.kept at_b).was_open (step.done clean (c.loop-entry.invariant.inside at_b inside)).on.was_open;
+          (c.loop-entry.invariant.spares.kept at_b).was_open
+          (step.done clean (c.loop-entry.invariant.inside at_b inside)).on.was_open;
     }
 
 pub returns-clause-done : goal.returns-clause-done
@@ -59,4 +64,5 @@ returns-clause-done g c clean inside =
     let b = state g.S.Store c.loop-entry.tx.conn.now in
     let all = take_all c.loop-entry.entry-index c.args.records.now c.loop-entry-test.false in
     subst (λ rs. Enters a b c.args.next rs true) all
-    (c.loop-entry.invariant.done clean inside (c.loop-entry.invariant.was_open clean inside (omega (arith, c.requires.some, c.loop-entry-test.false))))
+    (c.loop-entry.invariant.done clean inside
+    (c.loop-entry.invariant.was_open clean inside (omega (arith, c.requires.some, c.loop-entry-test.false))))

@@ -19,8 +19,11 @@ loop-place-preserved g c = elim c.match-get.branch [
         done = λ clean inside is_open.
             let before : HasCleanDisk b = omega (arith, clean, step.spares.survives.clean) in
             let so_far = c.loop-place.invariant.done before inside is_open in
-            alters_more a b z c.args.put c.loop-place.place c.args.secrets.now _ (sym c.get.ensures ∙ w.in-Some.is) so_far (step.done clean so_far.on.mode);
-        valid = all_more c.args.secrets.now c.loop-place.place _ (sym c.get.ensures ∙ w.in-Some.is) c.loop-place.invariant.valid step.limits;
+            alters_more a b z c.args.put c.loop-place.place c.args.secrets.now _ (sym c.get.ensures ∙ w.in-Some.is)
+            so_far (step.done clean so_far.on.mode);
+        valid = all_more c.args.secrets.now c.loop-place.place _ (sym c.get.ensures ∙ w.in-Some.is)
+            c.loop-place.invariant.valid step.limits;
       })
-  | in-None w ↦ absurd (get_is_there c.args.secrets.now c.loop-place.place (omega (arith, c.loop-place-test.true, c.count-place-end.ensures.count)) (sym w.in-None.is ∙ c.get.ensures))
+  | in-None w ↦ absurd (get_is_there c.args.secrets.now c.loop-place.place
+      (omega (arith, c.loop-place-test.true, c.count-place-end.ensures.count)) (sym w.in-None.is ∙ c.get.ensures))
 ]

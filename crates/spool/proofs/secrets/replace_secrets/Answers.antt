@@ -15,6 +15,8 @@ returns-clause-done g c clean inside =
     let at_d : HasCleanDisk d = omega (arith, clean, c.update_secrets_by.ensures.spares.survives.clean) in
     let at_b : HasCleanDisk b = omega (arith, at_d, c.in_ok-insert_secrets.ensures.spares.survives.clean) in
     let out = c.in_ok-delete_secrets.ensures.done at_b inside in
-    let both = alters_then a b d (without_secrets c.args.put) (with_secrets c.args.put c.args.secrets.now) out (c.in_ok-insert_secrets.ensures.done at_d out.on.mode out.on.is_open) in
-    alters_last a d z (λ rows. with_secrets c.args.put c.args.secrets.now (without_secrets c.args.put rows)) (with_secrets_by c.args.put c.args.by) c.update_secrets_by.result both
+    let both = alters_then a b d (without_secrets c.args.put) (with_secrets c.args.put c.args.secrets.now) out
+    (c.in_ok-insert_secrets.ensures.done at_d out.on.mode out.on.is_open) in
+    alters_last a d z (λ rows. with_secrets c.args.put c.args.secrets.now (without_secrets c.args.put rows))
+    (with_secrets_by c.args.put c.args.by) c.update_secrets_by.result both
     (c.update_secrets_by.ensures.done clean both.on.mode)

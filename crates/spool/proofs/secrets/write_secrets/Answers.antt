@@ -7,7 +7,8 @@ use Rattle.spool.proofs.secrets.write_secrets.Goals as goal
 
 pub returns-in_default-clause-done : goal.returns-in_default-clause-done
 returns-in_default-clause-done g c clean inside =
-    secrets_refused (state g.S.Store c.args.tx.now.conn.now) (state g.S.Store c.select_put.new.tx.conn.now) c.args.seq c.args.name.now c.args.secrets.now inside (c.in_ok-put.ensures.unchanged clean)
+    secrets_refused (state g.S.Store c.args.tx.now.conn.now) (state g.S.Store c.select_put.new.tx.conn.now) c.args.seq
+    c.args.name.now c.args.secrets.now inside (c.in_ok-put.ensures.unchanged clean)
     (rw c.in_default.is at (c.in_ok-put.ensures.found clean))
 
 pub returns-clause-done : goal.returns-clause-done
@@ -17,5 +18,7 @@ returns-clause-done g c clean inside =
     let z = state g.S.Store c.replace_secrets.new.tx.conn.now in
     let at_b : HasCleanDisk b = omega (arith, clean, c.in_ok-replace_secrets.ensures.spares.survives.clean) in
     let same = c.in_ok-put.ensures.unchanged at_b in
-    secrets_made a b z c.args.seq c.args.name.now c.args.secrets.now c.in-Some.put inside same (rw c.in-Some.is at (c.in_ok-put.ensures.found at_b))
-    (and_both _ _ c.in_ok-put.ensures.named c.in_ok-replace_secrets.ensures.limits) c.in_ok-replace_secrets.ensures.room (c.in_ok-replace_secrets.ensures.done clean (same.0.mode ∙ inside))
+    secrets_made a b z c.args.seq c.args.name.now c.args.secrets.now c.in-Some.put inside same
+    (rw c.in-Some.is at (c.in_ok-put.ensures.found at_b))
+    (and_both _ _ c.in_ok-put.ensures.named c.in_ok-replace_secrets.ensures.limits) c.in_ok-replace_secrets.ensures.room
+    (c.in_ok-replace_secrets.ensures.done clean (same.0.mode ∙ inside))

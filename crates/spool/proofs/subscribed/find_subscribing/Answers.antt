@@ -6,6 +6,7 @@ use Rattle.spool_sql.specs.Stored.{IsTables, with_records}
 use Rattle.spool.proofs.SubscribedLemmas.{full_told, named_told, room_told, unknown_told}
 use Rattle.spool.proofs.subscribed.find_subscribing.Goals as goal
 use Rattle.spool.proofs.subscribed.find_subscribing.Goals.{else-not-branch-via-else-not-branch}
+use Rattle.spool.proofs.subscribed.find_subscribing.Goals.{}
 use Rattle.spool.proofs.subscribed.find_subscribing.Goals.{else-not-branch-via-then-not-branch+in_ok-count_topics+else-branch-ge-MAX_SUBSCRIPTIONS}
 
 pub returns-in_default-clause-found : goal.returns-in_default-clause-found

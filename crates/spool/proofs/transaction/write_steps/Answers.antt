@@ -22,5 +22,6 @@ returns-clause-ends g c clean =
 
 pub returns-clause-cause : goal.returns-clause-cause
 returns-clause-cause g c clean =
-    caused (state g.S.Store c.args.conn.now) (state g.S.Store c.commit_steps-tried.new.conn) (state g.S.Store c.end_of.new.conn) c.commit_steps-tried.ensures.survives c.end_of.ensures.survives clean
+    caused (state g.S.Store c.args.conn.now) (state g.S.Store c.commit_steps-tried.new.conn)
+    (state g.S.Store c.end_of.new.conn) c.commit_steps-tried.ensures.survives c.end_of.ensures.survives clean
     c.commit_steps-tried.result c.end_of.result c.commit_steps-tried.ensures.cause c.end_of.ensures.told

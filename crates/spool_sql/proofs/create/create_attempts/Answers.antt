@@ -8,4 +8,8 @@ returns-clause-done g c clean inside =
     let old = state g.S.Store c.args.tx.now.conn.now in
     let new = state g.S.Store c.execute.new.self.conn.now in
     let ran = c.in_ok-execute.ensures.runs clean inside in
-    record { on = ran.1; begins = begins schema_4 attempts_text attempts makes_attempts old new c.in_ok-execute.field-0 ran.0 }
+    record {
+      on = ran.1;
+      begins = begins schema_4 attempts_text attempts makes_attempts old new c.in_ok-execute.field-0
+          ran.0;
+    }

@@ -7,4 +7,8 @@ pub returns-in_err-prepare-clause-spares : goal.returns-in_err-prepare-clause-sp
 returns-in_err-prepare-clause-spares g c =
     let old = state g.S.Store c.args.tx.now.conn.now in
     let new = state g.S.Store c.prepare.new.self.conn.now in
-    record { kept = λ clean. not_run_keeps _ [] old new _ (c.in_err-prepare.ensures.err clean []); survives = c.prepare.ensures.survives }
+    record {
+      kept = λ clean. not_run_keeps _ [] old new _ (c.in_err-prepare.ensures.err clean []);
+      survives =
+          c.prepare.ensures.survives;
+    }

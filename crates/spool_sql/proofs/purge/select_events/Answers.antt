@@ -21,7 +21,8 @@ returns-clause-unchanged g c clean =
 pub returns-clause-found : goal.returns-clause-found
 returns-clause-found g c clean =
     ok_then c.read_seqs.result _ _ c.read_seqs.ensures.value (λ found is rows t.
-    subst (IsPage (λ (n : ℕ). n) c.args.from (map (λ (d : DeliveryRow). d.seq) rows.deliveries)) (sym (is ∙ ap (map number_of) c.deref.ensures.value))
+    subst (IsPage (λ (n : ℕ). n) c.args.from (map (λ (d : DeliveryRow). d.seq) rows.deliveries))
+    (sym (is ∙ ap (map number_of) c.deref.ensures.value))
     (tells_events (state g.S.Store c.args.tx.now.conn.now) (state g.S.Store c.query_all.new.self.conn.now)
     c.in_ok-rows.rows.items rows t c.args.from
     (rw c.value.ensures.value at (c.in_ok-rows.ensures.ok clean))))

@@ -22,7 +22,8 @@ returns-clause-unchanged g c clean =
 pub returns-clause-found : goal.returns-clause-found
 returns-clause-found g c clean =
     ok_then c.read_attempts.result _ _ c.read_attempts.ensures.value (λ page is rows t.
-    subst (IsPage (λ (a : AttemptRow). a.seq) c.args.from rows.attempts) (sym (is ∙ ap (map attempt_in) c.deref.ensures.value))
+    subst (IsPage (λ (a : AttemptRow). a.seq) c.args.from rows.attempts)
+    (sym (is ∙ ap (map attempt_in) c.deref.ensures.value))
     (tells_attempts (state g.S.Store c.args.tx.now.conn.now) (state g.S.Store c.query_all.new.self.conn.now)
     c.in_ok-rows.rows.items rows t c.args.from (rw c.value.ensures.value at (c.in_ok-rows.ensures.ok clean))))
 
@@ -42,12 +43,18 @@ pub returns-in_err-rows-clause-refused : goal.returns-in_err-rows-clause-refused
 returns-in_err-rows-clause-refused g c clean =
     let a = state g.S.Store c.args.tx.now.conn.now in
     let b = state g.S.Store c.query_all.new.self.conn.now in
-    handed_on c.from_residual.result (Failed c.in_err-rows.field-0.0) (λ e. (rows : Rows) → IsTables a.now rows → AreReadable rows → IsRowRefusal a b e) c.from_residual.ensures.1
-    (λ rows t readable. attempts_refused c.args.from a b _ rows t (rw c.value.ensures.value at (c.in_err-rows.ensures.err clean)))
+    handed_on c.from_residual.result (Failed c.in_err-rows.field-0.0) (λ e. (rows : Rows) → IsTables a.now rows
+    → AreReadable rows → IsRowRefusal a b e) c.from_residual.ensures.1
+    (λ rows t readable. attempts_refused c.args.from a b _ rows t
+    (rw c.value.ensures.value at (c.in_err-rows.ensures.err clean)))
 
 pub returns-clause-refused : goal.returns-clause-refused
 returns-clause-refused g c clean =
     let a = state g.S.Store c.args.tx.now.conn.now in
     let b = state g.S.Store c.query_all.new.self.conn.now in
-    err_then c.read_attempts.result _ (λ e. (rows : Rows) → IsTables a.now rows → AreReadable rows → IsRowRefusal a b e) c.read_attempts.ensures.refused
-    (λ e memory rows t readable. row_memory a b e (memory (rw c.deref.ensures.value (shows_attempts a b _ rows t c.args.from (rw c.value.ensures.value at (c.in_ok-rows.ensures.ok clean)) readable))))
+    err_then c.read_attempts.result _ (λ e. (rows : Rows) → IsTables a.now rows → AreReadable rows → IsRowRefusal a b e)
+    c.read_attempts.ensures.refused
+    (λ e memory rows t readable. row_memory a b e
+    (memory (rw c.deref.ensures.value
+    (shows_attempts a b _ rows t c.args.from (rw c.value.ensures.value at (c.in_ok-rows.ensures.ok clean))
+    readable))))

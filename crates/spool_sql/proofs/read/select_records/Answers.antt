@@ -38,12 +38,15 @@ pub returns-in_err-rows-clause-refused : goal.returns-in_err-rows-clause-refused
 returns-in_err-rows-clause-refused g c clean =
     let a = state g.S.Store c.args.tx.now.conn.now in
     let b = state g.S.Store c.query_all.new.self.conn.now in
-    handed_on c.from_residual.result c.in_err-rows.field-0.0 (λ e. (rows : Rows) → IsTables a.now rows → AreReadable rows → IsRefusal a b e) c.from_residual.ensures.1
+    handed_on c.from_residual.result c.in_err-rows.field-0.0 (λ e. (rows : Rows) → IsTables a.now rows
+    → AreReadable rows → IsRefusal a b e) c.from_residual.ensures.1
     (λ rows t readable. records_refused a b _ rows t (c.in_err-rows.ensures.err clean))
 
 pub returns-clause-refused : goal.returns-clause-refused
 returns-clause-refused g c clean =
     let a = state g.S.Store c.args.tx.now.conn.now in
     let b = state g.S.Store c.query_all.new.self.conn.now in
-    err_then c.first_number.result _ (λ e. (rows : Rows) → IsTables a.now rows → AreReadable rows → IsRefusal a b e) c.first_number.ensures.refused
-    (λ e memory rows t readable. inl (memory rows.records (c.deref.ensures.value ∙ record_shown a b _ rows t (c.in_ok-rows.ensures.ok clean))))
+    err_then c.first_number.result _ (λ e. (rows : Rows) → IsTables a.now rows → AreReadable rows → IsRefusal a b e)
+    c.first_number.ensures.refused
+    (λ e memory rows t readable. inl
+    (memory rows.records (c.deref.ensures.value ∙ record_shown a b _ rows t (c.in_ok-rows.ensures.ok clean))))

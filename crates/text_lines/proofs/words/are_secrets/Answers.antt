@@ -9,5 +9,6 @@ pub returns : goal.returns
 returns c =
     parts_read _ c.args.word.now _ (HasParts-split 44 c.args.word.now)
     (cases_from_all _ _ _ IsRead IsUnread c.all.ensures.ran
-    (YieldsList-from_slice_split _ _ c.args.word.now c.split.ensures.rest c.split.ensures.done c.split.ensures.closure (λ x r q k. search (rules, tests)))
+    (YieldsList-from_slice_split _ _ c.args.word.now c.split.ensures.rest c.split.ensures.done c.split.ensures.closure
+    (λ x r q k. search (rules, tests)))
     (λ x q k. search (rules, tests)) (λ x q k. search (rules, tests)))

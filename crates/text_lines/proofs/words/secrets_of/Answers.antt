@@ -11,9 +11,16 @@ returns-clause-bad g c = λ e secrets h.
 
 pub returns-then-not-is_count_of_secrets-clause-bad : goal.returns-then-not-is_count_of_secrets-clause-bad
 returns-then-not-is_count_of_secrets-clause-bad g c = λ e secrets h.
-    true_not_false (sym h.1 ∙ ap (is_between 1 4) (sym (as_many g.T.AsSlice.items c.args.texts.now secrets h.0)) ∙ sym c.if-not-is_count_of_secrets.ensures)
+    true_not_false (sym h.1 ∙ ap (is_between 1 4) (sym (as_many g.T.AsSlice.items c.args.texts.now secrets h.0))
+    ∙ sym c.if-not-is_count_of_secrets.ensures)
 
 pub returns-in_err-secrets-clause-lacked : goal.returns-in_err-secrets-clause-lacked
 returns-in_err-secrets-clause-lacked g c = λ e.
-    let all = c.in_err-secrets.ensures.lacked (search rules) in
-    (all.0, (all.1, ap (is_between 1 4) (sym (as_many g.T.AsSlice.items c.args.texts.now all.0 all.1)) ∙ sym c.if-not-is_count_of_secrets.ensures))
+    let all = c.in_err-secrets.ensures.lacked (search rules) in (
+      all.0,
+      (
+        all.1,
+        ap (is_between 1 4) (sym (as_many g.T.AsSlice.items c.args.texts.now all.0 all.1))
+            ∙ sym c.if-not-is_count_of_secrets.ensures,
+      ),
+    )

@@ -9,4 +9,5 @@ pub returns : goal.returns
 returns c =
     HasParts-result c.collect.result (λ parts. texts parts.items) c.args.mark c.args.text.now
     (map_from_collect _ c.collect.ensures.ran
-    (YieldsList-from_slice_split _ _ c.args.text.now c.split.ensures.rest c.split.ensures.done c.split.ensures.closure (λ x r q k. search (rules, tests))))
+    (YieldsList-from_slice_split _ _ c.args.text.now c.split.ensures.rest c.split.ensures.done c.split.ensures.closure
+    (λ x r q k. search (rules, tests))))

@@ -2,7 +2,8 @@ use Rattle.std.proofs.Common.{◌≡◌, ◌≤◌, ◌<◌, inl, inr, subst}
 use Rattle.std.specs.Prelude.{◌⊎◌}
 use Rattle.vegas.proofs.VegasLaws.{probe-follows, low-follows, other-follows}
 use Rattle.vegas.proofs.rules.state_after.Goals as goal
-use Rattle.vegas.proofs.rules.state_after.Goals.{then-before-eq0-via-then-before-eq0, then-before-eq0-via-else-before-eq0+then-round_trip-before}
+use Rattle.vegas.proofs.rules.state_after.Goals.{then-before-eq0-via-then-before-eq0}
+use Rattle.vegas.proofs.rules.state_after.Goals.{then-before-eq0-via-else-before-eq0+then-round_trip-before}
 
 pub returns-then-before-count-clause-follows : goal.returns-then-before-count-clause-follows
 returns-then-before-count-clause-follows c = λ xs s.
@@ -21,6 +22,12 @@ returns-then-before-eq0-clause-follows c = λ xs s.
 
 pub returns-clause-follows : goal.returns-clause-follows
 returns-clause-follows c = λ xs s.
-    rw (c.clamp.ensures, c.moved-limit.ensures.value, c.queue-waiting.ensures.value, c.clamp-round_trip.ensures, c.get.ensures.number)
+    rw (
+      c.clamp.ensures,
+      c.moved-limit.ensures.value,
+      c.queue-waiting.ensures.value,
+      c.clamp-round_trip.ensures,
+      c.get.ensures.number,
+    )
     (other-follows c.args.maximum c.args.before xs c.args.sample s c.if-before-count.false c.if-before-eq0.false
     (subst (λ r. c.args.before.noload ≤ r) c.clamp-round_trip.ensures c.if-round_trip-before.false))

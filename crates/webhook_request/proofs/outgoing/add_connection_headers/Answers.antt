@@ -16,5 +16,15 @@ add-requires-4 c = rw (c.as_bytes-2.ensures.value, c.in_ok-length.ensures.ok) (d
 
 pub returns : goal.returns
 returns c =
-    rw (c.in_ok-add-4.ensures, c.in_ok-add-3.ensures, c.in_ok-add-2.ensures, c.in_ok-add.ensures, five, c.authority.ensures.text, c.as_bytes-2.ensures.value, c.in_ok-length.ensures.ok, c.as_bytes.ensures.bytes)
+    rw (
+      c.in_ok-add-4.ensures,
+      c.in_ok-add-3.ensures,
+      c.in_ok-add-2.ensures,
+      c.in_ok-add.ensures,
+      five,
+      c.authority.ensures.text,
+      c.as_bytes-2.ensures.value,
+      c.in_ok-length.ensures.ok,
+      c.as_bytes.ensures.bytes,
+    )
     at c.add-5.ensures

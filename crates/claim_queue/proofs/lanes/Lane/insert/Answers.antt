@@ -9,11 +9,13 @@ returns-in-Ok-clause-sound c =
     let turns = c.args.self.now.turns.items in
     record {
       order = subst IsInOrder (sym c.in-Ok.ensures.items)
-          (order_inserted turns c.place_of_turn-place.result c.args.turn c.requires.sound.order c.place_of_turn-place.ensures.bound
+          (order_inserted turns c.place_of_turn-place.result c.args.turn c.requires.sound.order
+          c.place_of_turn-place.ensures.bound
           c.place_of_turn-place.ensures.before c.place_of_turn-place.ensures.behind c.requires.unheld);
       within = omega (arith, c.requires.place, c.requires.sound.within, c.in-Ok.ensures.len, c.insert.ensures.capacity);
     }
 
 pub returns-in-Ok-clause-turns : goal.returns-in-Ok-clause-turns
 returns-in-Ok-clause-turns c =
-    λ other. ap (list_any (same_turn other)) c.in-Ok.ensures.items ∙ any_insert (same_turn other) c.args.self.now.turns.items c.place_of_turn-place.result c.args.turn
+    λ other. ap (list_any (same_turn other)) c.in-Ok.ensures.items
+    ∙ any_insert (same_turn other) c.args.self.now.turns.items c.place_of_turn-place.result c.args.turn

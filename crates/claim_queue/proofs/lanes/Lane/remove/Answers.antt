@@ -10,9 +10,11 @@ pub returns-in-Some-clause-sound : goal.returns-in-Some-clause-sound
 returns-in-Some-clause-sound c =
     let turns = c.args.self.now.turns.items in
     let place = c.place_of_turn-place.result in
-    let at = found turns place c.args.turn c.requires.sound.order c.place_of_turn-place.ensures.before c.place_of_turn-place.ensures.behind c.requires.held in
+    let at = found turns place c.args.turn c.requires.sound.order c.place_of_turn-place.ensures.before
+    c.place_of_turn-place.ensures.behind c.requires.held in
     record {
-      order = subst IsInOrder (sym c.in-Some.ensures.items) (all_pairs_remove (λ a b. IsTrue (comes_before a b)) turns place at.0 c.requires.sound.order);
+      order = subst IsInOrder (sym c.in-Some.ensures.items)
+          (all_pairs_remove (λ a b. IsTrue (comes_before a b)) turns place at.0 c.requires.sound.order);
       within = omega (arith, c.requires.sound.within, c.in-Some.ensures.len, c.remove.ensures.capacity);
     }
 
@@ -20,12 +22,16 @@ pub returns-in-Some-clause-turns : goal.returns-in-Some-clause-turns
 returns-in-Some-clause-turns c =
     let turns = c.args.self.now.turns.items in
     let place = c.place_of_turn-place.result in
-    let at = found turns place c.args.turn c.requires.sound.order c.place_of_turn-place.ensures.before c.place_of_turn-place.ensures.behind c.requires.held in
-    λ other. ap (list_any (same_turn other)) c.in-Some.ensures.items ∙ removed turns place c.args.turn other c.requires.sound.order at.0 at.1
+    let at = found turns place c.args.turn c.requires.sound.order c.place_of_turn-place.ensures.before
+    c.place_of_turn-place.ensures.behind c.requires.held in
+    λ other. ap (list_any (same_turn other)) c.in-Some.ensures.items
+    ∙ removed turns place c.args.turn other c.requires.sound.order at.0 at.1
 
 pub returns-in_default : goal.returns-in_default
 returns-in_default c =
     let turns = c.args.self.now.turns.items in
     let place = c.place_of_turn-place.result in
-    let at = found turns place c.args.turn c.requires.sound.order c.place_of_turn-place.ensures.before c.place_of_turn-place.ensures.behind c.requires.held in
-    absurd (let clash = sym (ap is_some c.in_default.is) ∙ c.remove.ensures.variant.1 (omega (arith, at.0, c.args.self.now.turns.ok.0)) in cc)
+    let at = found turns place c.args.turn c.requires.sound.order c.place_of_turn-place.ensures.before
+    c.place_of_turn-place.ensures.behind c.requires.held in
+    absurd (let clash = sym (ap is_some c.in_default.is)
+    ∙ c.remove.ensures.variant.1 (omega (arith, at.0, c.args.self.now.turns.ok.0)) in cc)

@@ -15,4 +15,5 @@ pub returns-in-None : goal.returns-in-None
 returns-in-None c =
     let none = sym (c.in-None.ensures ∙ ap (λ lanes. lane_in lanes c.args.endpoint) c.deref.ensures.value) in
     let pair = pair_of c.args.endpoint c.args.due c.args.seq in
-    subst (λ q. false ≡ is_held q pair) c.self.view_is (sym (held_in_none c.self.inside.lanes.items pair c.self.invariant.apart none))
+    subst (λ q. false ≡ is_held q pair) c.self.view_is
+    (sym (held_in_none c.self.inside.lanes.items pair c.self.invariant.apart none))

@@ -9,9 +9,11 @@ pub returns-in-Some : goal.returns-in-Some
 returns-in-Some c =
     let at = sym (c.in-Some.ensures ∙ ap (λ lanes. lane_in lanes c.args.endpoint) c.deref.ensures.value) in
     subst (λ q. c.in-Some.lane.now.mark.free ≡ free_places q c.args.endpoint) c.self.view_is
-    (sym (ap (λ o. option_map_or (λ m. m.free) o 0) (mark_at c.self.inside.lanes.items c.args.endpoint c.in-Some.lane.now at)))
+    (sym (ap (λ o. option_map_or (λ m. m.free) o 0)
+    (mark_at c.self.inside.lanes.items c.args.endpoint c.in-Some.lane.now at)))
 
 pub returns-in-None : goal.returns-in-None
 returns-in-None c =
     let none = sym (c.in-None.ensures ∙ ap (λ lanes. lane_in lanes c.args.endpoint) c.deref.ensures.value) in
-    subst (λ q. 0 ≡ free_places q c.args.endpoint) c.self.view_is (sym (ap (λ o. option_map_or (λ m. m.free) o 0) (no_mark c.self.inside.lanes.items c.args.endpoint none)))
+    subst (λ q. 0 ≡ free_places q c.args.endpoint) c.self.view_is
+    (sym (ap (λ o. option_map_or (λ m. m.free) o 0) (no_mark c.self.inside.lanes.items c.args.endpoint none)))

@@ -44,7 +44,8 @@ renew-requires-clause-held c =
     let held = c.index_mut-lane.result.now in
     let at = c.in-Some.ensures ∙ ap (position (is_of c.args.endpoint)) c.deref.ensures.value in
     let is = c.index_mut-lane.ensures.value in
-    first_held lanes c.self.inside.firsts.items _ _ c.args.endpoint held c.self.invariant (lane_at lanes c.args.endpoint c.in-Some.place held at is).0 c.first-before.result c.first-before.ensures
+    first_held lanes c.self.inside.firsts.items _ _ c.args.endpoint held c.self.invariant
+    (lane_at lanes c.args.endpoint c.in-Some.place held at is).0 c.first-before.result c.first-before.ensures
 
 pub renew-requires-clause-unheld : goal.renew-requires-clause-unheld
 renew-requires-clause-unheld c =
@@ -63,7 +64,8 @@ invariant_of-self c =
     let held = c.index_mut-lane.result.now in
     let at = c.in-Some.ensures ∙ ap (position (is_of c.args.endpoint)) c.deref.ensures.value in
     let is = c.index_mut-lane.ensures.value in
-    renewed lanes c.self.inside.firsts.items _ _ c.args.endpoint c.in-Some.place held c.insert.new.self c.renew.new.firsts.items _ _ c.first-before.result c.first-after.result
+    renewed lanes c.self.inside.firsts.items _ _ c.args.endpoint c.in-Some.place held c.insert.new.self
+    c.renew.new.firsts.items _ _ c.first-before.result c.first-after.result
     c.self.invariant at is (ap (λ (m : Mark). m.endpoint) c.insert.ensures.mark) c.insert.ensures.sound
     c.first-before.ensures c.first-after.ensures c.renew.ensures.order c.renew.ensures.pairs c.renew.ensures.len
     c.renew.ensures.capacity
@@ -74,7 +76,8 @@ returns-in-Some-clause-pairs c =
     let held = c.index_mut-lane.result.now in
     let at = c.in-Some.ensures ∙ ap (position (is_of c.args.endpoint)) c.deref.ensures.value in
     let is = c.index_mut-lane.ensures.value in
-    subst (λ q. Gains q (queue_of (slice_set lanes c.in-Some.place c.insert.new.self)) (pair_of c.args.endpoint c.args.due c.args.seq)) c.self.view_is
+    subst (λ q. Gains q (queue_of (slice_set lanes c.in-Some.place c.insert.new.self))
+    (pair_of c.args.endpoint c.args.due c.args.seq)) c.self.view_is
     (now_held lanes c.args.endpoint c.in-Some.place held c.insert.new.self
     (record { due = c.args.due; seq = c.args.seq }) (λ a b. a || b) c.self.invariant.apart at is
     (ap (λ (m : Mark). m.endpoint) c.insert.ensures.mark) or_none c.insert.ensures.turns)
@@ -85,11 +88,18 @@ returns-in-Some-clause-mark c =
     let held = c.index_mut-lane.result.now in
     let at = c.in-Some.ensures ∙ ap (position (is_of c.args.endpoint)) c.deref.ensures.value in
     let is = c.index_mut-lane.ensures.value in
-    subst (λ q. ChangesMark q (queue_of (slice_set lanes c.in-Some.place c.insert.new.self)) c.args.endpoint place_taken) c.self.view_is
-    (mark_changed lanes c.args.endpoint c.in-Some.place held c.insert.new.self place_taken at is (ap (λ (m : Mark). m.endpoint) c.insert.ensures.mark) c.insert.ensures.mark)
+    subst (λ q. ChangesMark q (queue_of (slice_set lanes c.in-Some.place c.insert.new.self)) c.args.endpoint
+    place_taken) c.self.view_is
+    (mark_changed lanes c.args.endpoint c.in-Some.place held c.insert.new.self place_taken
+    at is (ap (λ (m : Mark). m.endpoint) c.insert.ensures.mark) c.insert.ensures.mark)
 
 pub returns-in_default : goal.returns-in_default
 returns-in_default c =
     let lanes = c.self.inside.lanes.items in
-    let none = none_at lanes c.args.endpoint (sym c.in_default.is ∙ c.place_of.ensures ∙ ap (position (is_of c.args.endpoint)) c.deref.ensures.value) in
-    absurd (omega (arith, subst (λ q. 0 < free_places q c.args.endpoint) (sym c.self.view_is) c.requires.place, none_free lanes c.args.endpoint none))
+    let none = none_at lanes c.args.endpoint (sym c.in_default.is ∙ c.place_of.ensures
+    ∙ ap (position (is_of c.args.endpoint)) c.deref.ensures.value) in
+    absurd (omega (
+      arith,
+      subst (λ q. 0 < free_places q c.args.endpoint) (sym c.self.view_is) c.requires.place,
+      none_free lanes c.args.endpoint none,
+    ))

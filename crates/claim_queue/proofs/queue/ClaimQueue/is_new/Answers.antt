@@ -11,6 +11,11 @@ use Rattle.claim_queue.proofs.queue.ClaimQueue.is_new.Goals as goal
 pub returns : goal.returns
 returns c =
     let lanes = c.self.inside.lanes.items in
-    let is = c.has_seq.ensures ∙ ap (list_any (λ (lane : Lane). list_any (is_turn_numbered c.args.seq) lane.turns.items)) c.deref.ensures.value in
-    subst (λ q. IsTrue (not c.has_seq.result) ↔ IsNew q c.args.seq) c.self.view_is
-    (λ h. is_new lanes c.args.seq (sym is ∙ not-true c.has_seq.result h), λ h. ap not (is ∙ none_has lanes c.args.seq h))
+    let is = c.has_seq.ensures
+    ∙ ap (list_any (λ (lane : Lane). list_any (is_turn_numbered c.args.seq) lane.turns.items)) c.deref.ensures.value
+    in
+    subst (λ q. IsTrue (not c.has_seq.result) ↔ IsNew q c.args.seq) c.self.view_is (
+      λ h. is_new lanes c.args.seq (sym is ∙ not-true c.has_seq.result h),
+      λ h. ap not
+          (is ∙ none_has lanes c.args.seq h),
+    )

@@ -10,5 +10,6 @@ pub returns : goal.returns
 returns c =
     let lanes = c.self.inside.lanes.items in
     subst (λ q. c.is_some.result ≡ is_reserved q c.args.endpoint) c.self.view_is
-    (c.is_some.ensures ∙ sym (some_map (λ lent. lent.now) c.lane_of.result) ∙ ap is_some (c.lane_of.ensures ∙ ap (λ all. lane_in all c.args.endpoint) c.deref.ensures.value)
+    (c.is_some.ensures ∙ sym (some_map (λ lent. lent.now) c.lane_of.result)
+    ∙ ap is_some (c.lane_of.ensures ∙ ap (λ all. lane_in all c.args.endpoint) c.deref.ensures.value)
     ∙ sym (ap is_some (marked lanes c.args.endpoint) ∙ some_map (λ lane. lane.mark) (lane_in lanes c.args.endpoint)))

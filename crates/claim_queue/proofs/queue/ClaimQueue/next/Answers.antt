@@ -2,7 +2,8 @@ use Rattle.std.proofs.Common.{◌≡◌, ◌∙◌, ap, false, refl, sym, subst,
 use Rattle.std.specs.Prelude.{option_copied, slice_get}
 use Rattle.claim_queue.specs.Queues.{IsNext, NothingIsReady}
 use Rattle.claim_queue.proofs.QueueLaws.{first_ready, next_is, none_due, none_first}
-use Rattle.claim_queue.proofs.queue.ClaimQueue.next.Goals.{in_default-via-in-Some+else-pair-now, in_default-via-in_default}
+use Rattle.claim_queue.proofs.queue.ClaimQueue.next.Goals.{in_default-via-in-Some+else-pair-now}
+use Rattle.claim_queue.proofs.queue.ClaimQueue.next.Goals.{in_default-via-in_default}
 use Rattle.claim_queue.proofs.queue.ClaimQueue.next.Goals as goal
 
 pub returns-in-Some-clause-first : goal.returns-in-Some-clause-first
@@ -18,14 +19,20 @@ returns-in-Some-clause-none c =
     let lanes = c.self.inside.lanes.items in
     let firsts = c.self.inside.firsts.items in
     let at = sym (c.in-Some.ensures.value ∙ ap (λ pairs. slice_get pairs 0) c.deref.ensures.value) in
-    subst (λ q. (true ≡ false → NothingIsReady q c.args.now) × (NothingIsReady q c.args.now → true ≡ false)) c.self.view_is
-    (λ h. absurd (let clash = h in cc), λ none. sym (first_ready lanes firsts _ _ c.args.now c.in-Some.pair.now c.self.invariant at c.if-pair-now.true) ∙ none c.in-Some.pair.now)
+    subst (λ q. (true ≡ false → NothingIsReady q c.args.now) × (NothingIsReady q c.args.now → true ≡ false))
+    c.self.view_is (
+      λ h. absurd (let clash = h in cc),
+      λ none. sym
+          (first_ready lanes firsts _ _ c.args.now c.in-Some.pair.now c.self.invariant at c.if-pair-now.true)
+          ∙ none c.in-Some.pair.now,
+    )
 
 pub returns-in_default-clause-none : goal.returns-in_default-clause-none
 returns-in_default-clause-none c =
     let lanes = c.self.inside.lanes.items in
     let firsts = c.self.inside.firsts.items in
-    subst (λ q. (false ≡ false → NothingIsReady q c.args.now) × (NothingIsReady q c.args.now → false ≡ false)) c.self.view_is (
+    subst (λ q. (false ≡ false → NothingIsReady q c.args.now) × (NothingIsReady q c.args.now → false ≡ false))
+    c.self.view_is (
       λ h. elim c.in_default.branch [
         | in_default-via-in-Some+else-pair-now w ↦ none_due lanes firsts _ _ c.args.now w.in-Some.pair.now
             c.self.invariant (sym (w.in-Some.ensures.value ∙ ap (λ pairs. slice_get pairs 0) c.deref.ensures.value))

@@ -4,7 +4,8 @@ use Rattle.claim_queue.specs.declared.marks.Mark.{Mark}
 use Rattle.claim_queue.specs.Queues.{ChangesMark, Loses, free_places, is_held, pair_of, place_given}
 use Rattle.claim_queue.specs.Lanes.{is_of, queue_of}
 use Rattle.claim_queue.proofs.LaneLaws.{lane_at, none_at}
-use Rattle.claim_queue.proofs.QueueLaws.{first_held, free_at, free_set, held_in, held_in_none, mark_changed, now_held, own_held, renewed}
+use Rattle.claim_queue.proofs.QueueLaws.{first_held, free_at, free_set, held_in, held_in_none, mark_changed, now_held}
+use Rattle.claim_queue.proofs.QueueLaws.{own_held, renewed}
 use Rattle.claim_queue.proofs.queue.ClaimQueue.remove.Goals as goal
 
 and_all : (a : Bool) → (a && not false) ≡ a
@@ -35,7 +36,8 @@ renew-requires-clause-held c =
     let held = c.index_mut-lane.result.now in
     let at = c.in-Some.ensures ∙ ap (position (is_of c.args.endpoint)) c.deref.ensures.value in
     let is = c.index_mut-lane.ensures.value in
-    first_held lanes c.self.inside.firsts.items _ _ c.args.endpoint held c.self.invariant (lane_at lanes c.args.endpoint c.in-Some.place held at is).0 c.first-before.result c.first-before.ensures
+    first_held lanes c.self.inside.firsts.items _ _ c.args.endpoint held c.self.invariant
+    (lane_at lanes c.args.endpoint c.in-Some.place held at is).0 c.first-before.result c.first-before.ensures
 
 pub renew-requires-clause-unheld : goal.renew-requires-clause-unheld
 renew-requires-clause-unheld c =
@@ -54,7 +56,8 @@ invariant_of-self c =
     let held = c.index_mut-lane.result.now in
     let at = c.in-Some.ensures ∙ ap (position (is_of c.args.endpoint)) c.deref.ensures.value in
     let is = c.index_mut-lane.ensures.value in
-    renewed lanes c.self.inside.firsts.items _ _ c.args.endpoint c.in-Some.place held c.remove.new.self c.renew.new.firsts.items _ _ c.first-before.result c.first-after.result
+    renewed lanes c.self.inside.firsts.items _ _ c.args.endpoint c.in-Some.place held c.remove.new.self
+    c.renew.new.firsts.items _ _ c.first-before.result c.first-after.result
     c.self.invariant at is (ap (λ (m : Mark). m.endpoint) c.remove.ensures.mark) c.remove.ensures.sound
     c.first-before.ensures c.first-after.ensures c.renew.ensures.order c.renew.ensures.pairs c.renew.ensures.len
     c.renew.ensures.capacity
@@ -65,7 +68,8 @@ returns-in-Some-clause-pairs c =
     let held = c.index_mut-lane.result.now in
     let at = c.in-Some.ensures ∙ ap (position (is_of c.args.endpoint)) c.deref.ensures.value in
     let is = c.index_mut-lane.ensures.value in
-    subst (λ q. Loses q (queue_of (slice_set lanes c.in-Some.place c.remove.new.self)) (pair_of c.args.endpoint c.args.due c.args.seq)) c.self.view_is
+    subst (λ q. Loses q (queue_of (slice_set lanes c.in-Some.place c.remove.new.self))
+    (pair_of c.args.endpoint c.args.due c.args.seq)) c.self.view_is
     (now_held lanes c.args.endpoint c.in-Some.place held c.remove.new.self
     (record { due = c.args.due; seq = c.args.seq }) (λ a b. a && not b) c.self.invariant.apart at is
     (ap (λ (m : Mark). m.endpoint) c.remove.ensures.mark) and_all c.remove.ensures.turns)
@@ -76,8 +80,10 @@ returns-in-Some-clause-mark c =
     let held = c.index_mut-lane.result.now in
     let at = c.in-Some.ensures ∙ ap (position (is_of c.args.endpoint)) c.deref.ensures.value in
     let is = c.index_mut-lane.ensures.value in
-    subst (λ q. ChangesMark q (queue_of (slice_set lanes c.in-Some.place c.remove.new.self)) c.args.endpoint place_given) c.self.view_is
-    (mark_changed lanes c.args.endpoint c.in-Some.place held c.remove.new.self place_given at is (ap (λ (m : Mark). m.endpoint) c.remove.ensures.mark) c.remove.ensures.mark)
+    subst (λ q. ChangesMark q (queue_of (slice_set lanes c.in-Some.place c.remove.new.self)) c.args.endpoint
+    place_given) c.self.view_is
+    (mark_changed lanes c.args.endpoint c.in-Some.place held c.remove.new.self place_given
+    at is (ap (λ (m : Mark). m.endpoint) c.remove.ensures.mark) c.remove.ensures.mark)
 
 pub returns-in-Some-clause-place : goal.returns-in-Some-clause-place
 returns-in-Some-clause-place c =
@@ -85,15 +91,18 @@ returns-in-Some-clause-place c =
     let held = c.index_mut-lane.result.now in
     let at = c.in-Some.ensures ∙ ap (position (is_of c.args.endpoint)) c.deref.ensures.value in
     let is = c.index_mut-lane.ensures.value in
-    free_set lanes c.args.endpoint c.in-Some.place held c.remove.new.self at is (ap (λ (m : Mark). m.endpoint) c.remove.ensures.mark)
+    free_set lanes c.args.endpoint c.in-Some.place held c.remove.new.self
+    at is (ap (λ (m : Mark). m.endpoint) c.remove.ensures.mark)
     ∙ ap (λ (m : Mark). m.free) c.remove.ensures.mark
-    ∙ ap (λ n. n + 1) (sym (free_at lanes c.args.endpoint held (lane_at lanes c.args.endpoint c.in-Some.place held at is).0))
+    ∙ ap (λ n. n + 1) (sym
+    (free_at lanes c.args.endpoint held (lane_at lanes c.args.endpoint c.in-Some.place held at is).0))
     ∙ ap (λ q. free_places q c.args.endpoint + 1) c.self.view_is
 
 pub returns-in_default : goal.returns-in_default
 returns-in_default c =
     let lanes = c.self.inside.lanes.items in
-    let none = none_at lanes c.args.endpoint (sym c.in_default.is ∙ c.place_of.ensures ∙ ap (position (is_of c.args.endpoint)) c.deref.ensures.value) in
+    let none = none_at lanes c.args.endpoint (sym c.in_default.is ∙ c.place_of.ensures
+    ∙ ap (position (is_of c.args.endpoint)) c.deref.ensures.value) in
     absurd (let clash =
     sym (held_in_none lanes (pair_of c.args.endpoint c.args.due c.args.seq) c.self.invariant.apart none)
     ∙ ap (λ q. is_held q (pair_of c.args.endpoint c.args.due c.args.seq)) c.self.view_is ∙ c.requires.held in cc)

@@ -6,7 +6,8 @@ use Rattle.claim_queue.specs.declared.marks.Mark.{Mark}
 use Rattle.claim_queue.specs.Queues.{HasSamePairs, Sets, SetsMark, free_places, is_reserved, reserved_mark}
 use Rattle.claim_queue.specs.Lanes.{IsQueue, is_of, lane_in, queue_of}
 use Rattle.claim_queue.proofs.LaneLaws.{lane_at, none_at}
-use Rattle.claim_queue.proofs.QueueLaws.{free_at, kept, more, none_reserved, reserved_at, reserved_new, same_pairs, seen_the_same}
+use Rattle.claim_queue.proofs.QueueLaws.{free_at, kept, more, none_reserved, reserved_at, reserved_new, same_pairs}
+use Rattle.claim_queue.proofs.QueueLaws.{seen_the_same}
 use Rattle.claim_queue.proofs.queue.ClaimQueue.reserve.Goals as goal
 
 pub reserve-requires : goal.reserve-requires
@@ -32,7 +33,8 @@ returns-in-Some-clause-pairs c =
     let held = c.index_mut.result.now in
     let at = c.in-Some.ensures ∙ ap (position (is_of c.args.endpoint)) c.deref.ensures.value in
     let is = c.index_mut.ensures.value in
-    on_ok_weaker c.reserve.result (λ _. subst (λ q. HasSamePairs q (queue_of (slice_set lanes c.in-Some.place c.reserve.new.self))) c.self.view_is
+    on_ok_weaker c.reserve.result
+    (λ _. subst (λ q. HasSamePairs q (queue_of (slice_set lanes c.in-Some.place c.reserve.new.self))) c.self.view_is
     (λ pair. same_pairs lanes c.in-Some.place held c.reserve.new.self pair is
     (lane_at lanes c.args.endpoint c.in-Some.place held at is).1 c.reserve.ensures.endpoint
     c.reserve.ensures.turns)) c.reserve.ensures.mark
@@ -43,8 +45,11 @@ returns-in-Some-clause-mark c =
     let held = c.index_mut.result.now in
     let at = c.in-Some.ensures ∙ ap (position (is_of c.args.endpoint)) c.deref.ensures.value in
     let is = c.index_mut.ensures.value in
-    on_ok_weaker c.reserve.result (λ set. subst (λ q. SetsMark q (queue_of (slice_set lanes c.in-Some.place c.reserve.new.self)) (reserved_mark q c.args.endpoint c.args.more)) c.self.view_is
-    (reserved_at lanes c.args.endpoint c.in-Some.place c.args.more held c.reserve.new.self at is c.reserve.ensures.endpoint set)) c.reserve.ensures.mark
+    on_ok_weaker c.reserve.result
+    (λ set. subst (λ q. SetsMark q (queue_of (slice_set lanes c.in-Some.place c.reserve.new.self))
+    (reserved_mark q c.args.endpoint c.args.more)) c.self.view_is
+    (reserved_at lanes c.args.endpoint c.in-Some.place c.args.more held c.reserve.new.self
+    at is c.reserve.ensures.endpoint set)) c.reserve.ensures.mark
 
 pub returns-in-Some-clause-enough : goal.returns-in-Some-clause-enough
 returns-in-Some-clause-enough c =
@@ -72,39 +77,54 @@ returns-in-Some-clause-err c =
 pub returns-in_err-reserve-clause-enough : goal.returns-in_err-reserve-clause-enough
 returns-in_err-reserve-clause-enough c =
     let lanes = c.self.inside.lanes.items in
-    let none = none_at lanes c.args.endpoint (sym c.in_default.is ∙ c.place_of.ensures ∙ ap (position (is_of c.args.endpoint)) c.deref.ensures.value) in
-    λ h. absurd (none_reserved lanes c.args.endpoint none (ap (λ q. is_reserved q c.args.endpoint) c.self.view_is ∙ h.reserved))
+    let none = none_at lanes c.args.endpoint (sym c.in_default.is ∙ c.place_of.ensures
+    ∙ ap (position (is_of c.args.endpoint)) c.deref.ensures.value) in
+    λ h. absurd (none_reserved lanes c.args.endpoint none (ap (λ q. is_reserved q c.args.endpoint) c.self.view_is
+    ∙ h.reserved))
 
 pub returns-in_err-reserve-2-clause-enough : goal.returns-in_err-reserve-2-clause-enough
 returns-in_err-reserve-2-clause-enough c =
     let lanes = c.self.inside.lanes.items in
-    let none = none_at lanes c.args.endpoint (sym c.in_default.is ∙ c.place_of.ensures ∙ ap (position (is_of c.args.endpoint)) c.deref.ensures.value) in
-    λ h. absurd (none_reserved lanes c.args.endpoint none (ap (λ q. is_reserved q c.args.endpoint) c.self.view_is ∙ h.reserved))
+    let none = none_at lanes c.args.endpoint (sym c.in_default.is ∙ c.place_of.ensures
+    ∙ ap (position (is_of c.args.endpoint)) c.deref.ensures.value) in
+    λ h. absurd (none_reserved lanes c.args.endpoint none (ap (λ q. is_reserved q c.args.endpoint) c.self.view_is
+    ∙ h.reserved))
 
 pub returns-in_err-push-clause-enough : goal.returns-in_err-push-clause-enough
 returns-in_err-push-clause-enough c =
     let lanes = c.self.inside.lanes.items in
-    let none = none_at lanes c.args.endpoint (sym c.in_default.is ∙ c.place_of.ensures ∙ ap (position (is_of c.args.endpoint)) c.deref.ensures.value) in
-    λ h. absurd (none_reserved lanes c.args.endpoint none (ap (λ q. is_reserved q c.args.endpoint) c.self.view_is ∙ h.reserved))
+    let none = none_at lanes c.args.endpoint (sym c.in_default.is ∙ c.place_of.ensures
+    ∙ ap (position (is_of c.args.endpoint)) c.deref.ensures.value) in
+    λ h. absurd (none_reserved lanes c.args.endpoint none (ap (λ q. is_reserved q c.args.endpoint) c.self.view_is
+    ∙ h.reserved))
 
 pub invariant_of-self-2 : goal.invariant_of-self-2
 invariant_of-self-2 c =
     let lanes = c.self.inside.lanes.items in
-    let none = none_at lanes c.args.endpoint (sym c.in_default.is ∙ c.place_of.ensures ∙ ap (position (is_of c.args.endpoint)) c.deref.ensures.value) in
+    let none = none_at lanes c.args.endpoint (sym c.in_default.is ∙ c.place_of.ensures
+    ∙ ap (position (is_of c.args.endpoint)) c.deref.ensures.value) in
     let new = c.reserve-3.new.self in
     let name = c.reserve-3.ensures.endpoint ∙ ap (λ (m : Mark). m.endpoint) c.new-lane.ensures.mark in
-    subst (λ all. IsQueue all c.reserve-2.new.self.items (vec_len c.reserve-2.new.self) (vec_capacity c.reserve-2.new.self)) (sym c.in_ok-push.ensures.items)
-    (subst (λ pairs. IsQueue (lanes ++ new ∷ []) pairs (vec_len c.reserve-2.new.self) (vec_capacity c.reserve-2.new.self)) (sym c.reserve-2.ensures.items)
-    (subst (λ n. IsQueue (lanes ++ new ∷ []) c.self.inside.firsts.items n (vec_capacity c.reserve-2.new.self)) (sym c.reserve-2.ensures.len)
-    (more lanes c.self.inside.firsts.items _ _ new (vec_capacity c.reserve-2.new.self) c.self.invariant (ap (lane_in lanes) name ∙ none) c.reserve-3.ensures.sound
+    subst (λ all. IsQueue all c.reserve-2.new.self.items (vec_len c.reserve-2.new.self)
+    (vec_capacity c.reserve-2.new.self)) (sym c.in_ok-push.ensures.items)
+    (subst (λ pairs. IsQueue (lanes ++ new ∷ []) pairs (vec_len c.reserve-2.new.self)
+    (vec_capacity c.reserve-2.new.self)) (sym c.reserve-2.ensures.items)
+    (subst (λ n. IsQueue (lanes ++ new ∷ []) c.self.inside.firsts.items n (vec_capacity c.reserve-2.new.self))
+    (sym c.reserve-2.ensures.len)
+    (more lanes c.self.inside.firsts.items _ _ new (vec_capacity c.reserve-2.new.self) c.self.invariant
+    (ap (lane_in lanes) name ∙ none) c.reserve-3.ensures.sound
     (c.reserve-3.ensures.room ∙ ap (λ (m : Mark). m.room) c.new-lane.ensures.mark)
     (omega (arith, c.in_ok-reserve.ensures.ok, c.reserve-2.ensures.len, c.len.ensures, c.self.inside.lanes.ok.0)))))
 
 pub returns-clause-mark : goal.returns-clause-mark
 returns-clause-mark c =
     let lanes = c.self.inside.lanes.items in
-    let none = none_at lanes c.args.endpoint (sym c.in_default.is ∙ c.place_of.ensures ∙ ap (position (is_of c.args.endpoint)) c.deref.ensures.value) in
+    let none = none_at lanes c.args.endpoint (sym c.in_default.is ∙ c.place_of.ensures
+    ∙ ap (position (is_of c.args.endpoint)) c.deref.ensures.value) in
     let new = c.reserve-3.new.self in
-    subst (λ all. Sets c.args.self.now.marks (map (λ (lane : Lane). lane.mark) all) (reserved_mark c.args.self.now c.args.endpoint c.args.more)) (sym c.in_ok-push.ensures.items)
-    (subst (λ q. Sets q.marks (map (λ (lane : Lane). lane.mark) (lanes ++ new ∷ [])) (reserved_mark q c.args.endpoint c.args.more)) c.self.view_is
-    (reserved_new lanes c.args.endpoint c.args.more c.new-lane.result new none c.new-lane.ensures.mark c.in_ok-reserve-2.ensures.mark))
+    subst (λ all. Sets c.args.self.now.marks (map (λ (lane : Lane). lane.mark) all)
+    (reserved_mark c.args.self.now c.args.endpoint c.args.more)) (sym c.in_ok-push.ensures.items)
+    (subst (λ q. Sets q.marks (map (λ (lane : Lane). lane.mark) (lanes ++ new ∷ []))
+    (reserved_mark q c.args.endpoint c.args.more)) c.self.view_is
+    (reserved_new lanes c.args.endpoint c.args.more c.new-lane.result new none c.new-lane.ensures.mark
+    c.in_ok-reserve-2.ensures.mark))

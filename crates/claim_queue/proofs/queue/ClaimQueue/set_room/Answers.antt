@@ -13,7 +13,8 @@ renew-requires-clause-held c =
     let held = c.index_mut-lane.result.now in
     let at = c.in-Some.ensures ∙ ap (position (is_of c.args.endpoint)) c.deref.ensures.value in
     let is = c.index_mut-lane.ensures.value in
-    first_held lanes c.self.inside.firsts.items _ _ c.args.endpoint held c.self.invariant (lane_at lanes c.args.endpoint c.in-Some.place held at is).0 c.first-before.result c.first-before.ensures
+    first_held lanes c.self.inside.firsts.items _ _ c.args.endpoint held c.self.invariant
+    (lane_at lanes c.args.endpoint c.in-Some.place held at is).0 c.first-before.result c.first-before.ensures
 
 pub renew-requires-clause-unheld : goal.renew-requires-clause-unheld
 renew-requires-clause-unheld c =
@@ -33,8 +34,10 @@ invariant_of-self c =
     let at = c.in-Some.ensures ∙ ap (position (is_of c.args.endpoint)) c.deref.ensures.value in
     let is = c.index_mut-lane.ensures.value in
     let new : Lane = record held { mark = with_room c.args.room held.mark } in
-    let sound = c.self.invariant.sound c.args.endpoint held (lane_at lanes c.args.endpoint c.in-Some.place held at is).0 in
-    renewed lanes c.self.inside.firsts.items _ _ c.args.endpoint c.in-Some.place held new c.renew.new.firsts.items _ _ c.first-before.result c.first-after.result
+    let sound = c.self.invariant.sound c.args.endpoint held (lane_at lanes c.args.endpoint c.in-Some.place held at is).0
+    in
+    renewed lanes c.self.inside.firsts.items _ _ c.args.endpoint c.in-Some.place held new c.renew.new.firsts.items _ _
+    c.first-before.result c.first-after.result
     c.self.invariant at is refl (record { order = sound.order; within = sound.within }) c.first-before.ensures
     c.first-after.ensures c.renew.ensures.order c.renew.ensures.pairs c.renew.ensures.len c.renew.ensures.capacity
 
@@ -46,7 +49,8 @@ returns-in-Some-clause-pairs c =
     let is = c.index_mut-lane.ensures.value in
     let new : Lane = record held { mark = with_room c.args.room held.mark } in
     subst (λ q. HasSamePairs q (queue_of (slice_set lanes c.in-Some.place new))) c.self.view_is
-    (λ pair. same_pairs lanes c.in-Some.place held new pair is (lane_at lanes c.args.endpoint c.in-Some.place held at is).1 refl refl)
+    (λ pair. same_pairs lanes c.in-Some.place held new pair
+    is (lane_at lanes c.args.endpoint c.in-Some.place held at is).1 refl refl)
 
 pub returns-in-Some-clause-mark : goal.returns-in-Some-clause-mark
 returns-in-Some-clause-mark c =
@@ -55,11 +59,14 @@ returns-in-Some-clause-mark c =
     let at = c.in-Some.ensures ∙ ap (position (is_of c.args.endpoint)) c.deref.ensures.value in
     let is = c.index_mut-lane.ensures.value in
     let new : Lane = record held { mark = with_room c.args.room held.mark } in
-    subst (λ q. ChangesMark q (queue_of (slice_set lanes c.in-Some.place new)) c.args.endpoint (with_room c.args.room)) c.self.view_is
+    subst (λ q. ChangesMark q (queue_of (slice_set lanes c.in-Some.place new)) c.args.endpoint (with_room c.args.room))
+    c.self.view_is
     (mark_changed lanes c.args.endpoint c.in-Some.place held new (with_room c.args.room) at is refl refl)
 
 pub returns-in_default-clause-mark : goal.returns-in_default-clause-mark
 returns-in_default-clause-mark c =
     let lanes = c.self.inside.lanes.items in
-    let none = none_at lanes c.args.endpoint (sym c.in_default.is ∙ c.place_of.ensures ∙ ap (position (is_of c.args.endpoint)) c.deref.ensures.value) in
-    absurd (none_reserved lanes c.args.endpoint none (ap (λ q. is_reserved q c.args.endpoint) c.self.view_is ∙ c.requires.reserved))
+    let none = none_at lanes c.args.endpoint (sym c.in_default.is ∙ c.place_of.ensures
+    ∙ ap (position (is_of c.args.endpoint)) c.deref.ensures.value) in
+    absurd (none_reserved lanes c.args.endpoint none (ap (λ q. is_reserved q c.args.endpoint) c.self.view_is
+    ∙ c.requires.reserved))

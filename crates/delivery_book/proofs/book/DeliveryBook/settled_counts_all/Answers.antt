@@ -11,14 +11,25 @@ use Rattle.delivery_book.proofs.book.DeliveryBook.settled_counts_all.Goals as go
 
 pub returns-clause-stands : goal.returns-clause-stands
 returns-clause-stands c = λ records settled h.
-    let each : (asked : State) → in_state asked (counts_for c.self.inside.settled_tally None) ≡ count_in asked (take settled records) (deliveries_for (take settled records) None) =
+    let each : (asked : State) → in_state asked (counts_for c.self.inside.settled_tally None) ≡ count_in asked
+    (take settled records) (deliveries_for (take settled records) None) =
     λ asked. c.self.invariant.settled None asked
-    ∙ stands_settled_counts _ records settled c.self.inside.settled_entries None asked (subst (λ b. StandsFor b records settled) (sym c.self.view_is) h) (first_below _ _ _ c.self.invariant.keyed.settled_within c.self.invariant.keyed.settled_below c.self.invariant.keyed.settled_above) in
-    c.all.ensures ∙ (λ i. record { pending = each Pending i; delivered = each Delivered i; exhausted = each Exhausted i })
+    ∙ stands_settled_counts _ records settled c.self.inside.settled_entries None asked
+    (subst (λ b. StandsFor b records settled) (sym c.self.view_is) h)
+    (first_below _ _ _ c.self.invariant.keyed.settled_within c.self.invariant.keyed.settled_below
+    c.self.invariant.keyed.settled_above) in
+    c.all.ensures ∙ (λ i. record {
+      pending = each Pending i;
+      delivered = each Delivered i;
+      exhausted =
+          each Exhausted i;
+    })
 
 pub returns-clause-value : goal.returns-clause-value
 returns-clause-value c =
     let keyed = c.self.invariant.keyed in
     c.all.ensures
-    ∙ counts_told (the_view c.self.inside) c.self.inside.settled_entries (counts_for c.self.inside.settled_tally None) None (first_below _ _ _ keyed.settled_within keyed.settled_below keyed.settled_above) (c.self.invariant.settled None)
+    ∙ counts_told (the_view c.self.inside) c.self.inside.settled_entries (counts_for c.self.inside.settled_tally None)
+    None (first_below _ _ _ keyed.settled_within keyed.settled_below keyed.settled_above)
+    (c.self.invariant.settled None)
     ∙ ap (λ (b : BookValue). settled_counts b None) c.self.view_is

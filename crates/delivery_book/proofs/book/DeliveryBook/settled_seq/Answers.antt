@@ -4,4 +4,5 @@ use Rattle.delivery_book.proofs.Entries.{one_each}
 use Rattle.delivery_book.proofs.book.DeliveryBook.settled_seq.Goals as goal
 
 pub returns-clause-once : goal.returns-clause-once
-returns-clause-once c = subst (λ (b : BookValue). HasOneEach b) c.self.view_is (one_each _ c.self.invariant.keyed.ascending)
+returns-clause-once c = subst (λ (b : BookValue). HasOneEach b) c.self.view_is
+    (one_each _ c.self.invariant.keyed.ascending)

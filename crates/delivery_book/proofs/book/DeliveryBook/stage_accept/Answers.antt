@@ -15,49 +15,90 @@ pub invariant_of-self-in_err-open-2 : goal.invariant_of-self-in_err-open-2
 invariant_of-self-in_err-open-2 c =
     let b = c.self.inside in
     subst
-    (λ es. IsBook es b.index c.open.new.self c.open-2.new.self c.reserve-2.new.self.items (deque_capacity c.reserve-2.new.self) b.next_seq b.settled_seq b.settled_entries b.next_purge)
+    (λ es. IsBook es b.index c.open.new.self c.open-2.new.self c.reserve-2.new.self.items
+    (deque_capacity c.reserve-2.new.self) b.next_seq b.settled_seq b.settled_entries b.next_purge)
     (sym c.in_ok-reserve.ensures.items)
     (subst
-    (λ us. IsBook b.entries.items b.index c.open.new.self c.open-2.new.self us (deque_capacity c.reserve-2.new.self) b.next_seq b.settled_seq b.settled_entries b.next_purge)
+    (λ us. IsBook b.entries.items b.index c.open.new.self c.open-2.new.self us (deque_capacity c.reserve-2.new.self)
+    b.next_seq b.settled_seq b.settled_entries b.next_purge)
     (sym c.in_ok-reserve-2.ensures.items)
-    (book-same b.index b.index b.tally c.open.new.self b.settled_tally c.open-2.new.self b.entries.items b.unsettled.items (deque_capacity b.unsettled) (deque_capacity c.reserve-2.new.self) b.next_seq b.settled_seq b.settled_entries b.next_purge c.self.invariant (λ k. refl)
-    (λ those. c.in_ok-open.ensures.same those) (λ those. c.in_err-open-2.ensures.same those) (λ asked is. c.in_err-open-2.ensures.stays asked is) c.in_ok-reserve-2.ensures.capacity))
+    (book-same b.index b.index b.tally c.open.new.self b.settled_tally c.open-2.new.self b.entries.items
+    b.unsettled.items (deque_capacity b.unsettled) (deque_capacity c.reserve-2.new.self) b.next_seq b.settled_seq
+    b.settled_entries b.next_purge c.self.invariant (λ k. refl)
+    (λ those. c.in_ok-open.ensures.same those) (λ those. c.in_err-open-2.ensures.same those)
+    (λ asked is. c.in_err-open-2.ensures.stays asked is) c.in_ok-reserve-2.ensures.capacity))
 
 pub invariant_of-self-in_err-insert : goal.invariant_of-self-in_err-insert
 invariant_of-self-in_err-insert c =
     let b = c.self.inside in
     subst
-    (λ es. IsBook es c.insert.new.self c.open.new.self c.open-2.new.self c.reserve-2.new.self.items (deque_capacity c.reserve-2.new.self) b.next_seq b.settled_seq b.settled_entries b.next_purge)
+    (λ es. IsBook es c.insert.new.self c.open.new.self c.open-2.new.self c.reserve-2.new.self.items
+    (deque_capacity c.reserve-2.new.self) b.next_seq b.settled_seq b.settled_entries b.next_purge)
     (sym c.in_ok-reserve.ensures.items)
     (subst
-    (λ us. IsBook b.entries.items c.insert.new.self c.open.new.self c.open-2.new.self us (deque_capacity c.reserve-2.new.self) b.next_seq b.settled_seq b.settled_entries b.next_purge)
+    (λ us. IsBook b.entries.items c.insert.new.self c.open.new.self c.open-2.new.self us
+    (deque_capacity c.reserve-2.new.self) b.next_seq b.settled_seq b.settled_entries b.next_purge)
     (sym c.in_ok-reserve-2.ensures.items)
-    (book-same b.index c.insert.new.self b.tally c.open.new.self b.settled_tally c.open-2.new.self b.entries.items b.unsettled.items (deque_capacity b.unsettled) (deque_capacity c.reserve-2.new.self) b.next_seq b.settled_seq b.settled_entries b.next_purge c.self.invariant
+    (book-same b.index c.insert.new.self b.tally c.open.new.self b.settled_tally c.open-2.new.self b.entries.items
+    b.unsettled.items (deque_capacity b.unsettled) (deque_capacity c.reserve-2.new.self) b.next_seq b.settled_seq
+    b.settled_entries b.next_purge c.self.invariant
     (λ k. ap (lookup (is_at (event_cmp k))) c.in_err-insert.ensures.err)
-    (λ those. c.in_ok-open.ensures.same those) (λ those. c.in_ok-open-2.ensures.same those) (λ asked is. c.in_ok-open-2.ensures.stays asked is) c.in_ok-reserve-2.ensures.capacity))
+    (λ those. c.in_ok-open.ensures.same those) (λ those. c.in_ok-open-2.ensures.same those)
+    (λ asked is. c.in_ok-open-2.ensures.stays asked is) c.in_ok-reserve-2.ensures.capacity))
 
 pub add-requires-clause-room : goal.add-requires-clause-room
 add-requires-clause-room c = λ those among.
-    omega (arith, counted_most c.self.inside.tally (λ e. e.latest) c.self.inside.entries.items those Pending c.self.invariant.latest, ap (in_state Pending) (c.in_ok-open.ensures.same those), c.in_ok-reserve.ensures.ok, c.in_ok-reserve.ensures.len)
+    omega (
+      arith,
+      counted_most c.self.inside.tally (λ e. e.latest) c.self.inside.entries.items those Pending
+          c.self.invariant.latest,
+      ap (in_state Pending) (c.in_ok-open.ensures.same those),
+      c.in_ok-reserve.ensures.ok,
+      c.in_ok-reserve.ensures.len,
+    )
 
 pub invariant_of-self-2 : goal.invariant_of-self-2
 invariant_of-self-2 c =
     let a = c.args in
     let b = c.self.inside in
     subst
-    (λ es. IsBook es c.insert.new.self c.add.new.self c.open-2.new.self c.reserve-2.new.self.items (deque_capacity c.reserve-2.new.self) (a.seq + 1) b.settled_seq b.settled_entries b.next_purge)
+    (λ es. IsBook es c.insert.new.self c.add.new.self c.open-2.new.self c.reserve-2.new.self.items
+    (deque_capacity c.reserve-2.new.self) (a.seq + 1) b.settled_seq b.settled_entries b.next_purge)
     (sym (c.push_reserved.ensures.items
-    ∙ (λ i. c.in_ok-reserve.ensures.items i ++ record { seq = a.seq; name = a.name; id = a.id; body = a.body; at = a.at; latest = c.fresh-fresh.ensures i; settled = c.fresh-fresh.ensures i; taken_by = None } ∷ [])))
+    ∙ (λ i. c.in_ok-reserve.ensures.items i ++ record {
+      seq = a.seq;
+      name = a.name;
+      id = a.id;
+      body = a.body;
+      at =
+          a.at;
+      latest = c.fresh-fresh.ensures i;
+      settled = c.fresh-fresh.ensures i;
+      taken_by = None;
+    } ∷ [])))
     (subst
-    (λ us. IsBook (b.entries.items ++ new_entry a.seq a.name a.id a.body a.at ∷ []) c.insert.new.self c.add.new.self c.open-2.new.self us (deque_capacity c.reserve-2.new.self) (a.seq + 1) b.settled_seq b.settled_entries b.next_purge)
+    (λ us. IsBook (b.entries.items ++ new_entry a.seq a.name a.id a.body a.at ∷ []) c.insert.new.self c.add.new.self
+    c.open-2.new.self us (deque_capacity c.reserve-2.new.self) (a.seq + 1) b.settled_seq b.settled_entries
+    b.next_purge)
     (sym c.in_ok-reserve-2.ensures.items)
-    (book-push b.index c.insert.new.self b.tally c.add.new.self b.settled_tally c.open-2.new.self b.entries.items b.unsettled.items (deque_capacity b.unsettled) (deque_capacity c.reserve-2.new.self) b.next_seq b.settled_seq b.settled_entries a.seq b.next_purge a.name a.id a.body a.at c.self.invariant
+    (book-push b.index c.insert.new.self b.tally c.add.new.self b.settled_tally c.open-2.new.self b.entries.items
+    b.unsettled.items (deque_capacity b.unsettled) (deque_capacity c.reserve-2.new.self) b.next_seq b.settled_seq
+    b.settled_entries a.seq b.next_purge a.name a.id a.body a.at c.self.invariant
     (omega (arith, c.requires.above, ap (λ v. v.next_seq) c.self.view_is))
     (unmapped _ (ap (λ v. known_in v a.name a.id) c.self.view_is ∙ c.requires.unknown))
     (λ q. c.in_ok-insert.ensures.updates.0 q)
-    (λ those asked. c.add.ensures.more those asked ∙ ap (λ k. in_state asked k + one_of a.name Pending those asked) (c.in_ok-open.ensures.same those))
-    (λ those. c.in_ok-open-2.ensures.same those) c.in_ok-open-2.ensures.opened (λ asked is. c.in_ok-open-2.ensures.stays asked is)
-    (omega (arith, c.in_ok-reserve-2.ensures.ok, c.in_ok-reserve-2.ensures.len, c.len.ensures, c.len-2.ensures, c.in_ok-reserve.ensures.len))))
+    (λ those asked. c.add.ensures.more those asked ∙ ap (λ k. in_state asked k + one_of a.name Pending those asked)
+    (c.in_ok-open.ensures.same those))
+    (λ those. c.in_ok-open-2.ensures.same those) c.in_ok-open-2.ensures.opened
+    (λ asked is. c.in_ok-open-2.ensures.stays asked is)
+    (omega (
+      arith,
+      c.in_ok-reserve-2.ensures.ok,
+      c.in_ok-reserve-2.ensures.len,
+      c.len.ensures,
+      c.len-2.ensures,
+      c.in_ok-reserve.ensures.len,
+    ))))
 
 pub returns-clause-stands : goal.returns-clause-stands
 returns-clause-stands c =
@@ -67,7 +108,18 @@ returns-clause-stands c =
     (λ b. StandsFor b (records ++ Accept a.name a.id a.body a.at ∷ []) settled)
     (sym (λ i. record {
       entries = (c.push_reserved.ensures.items
-          ∙ (λ j. (c.in_ok-reserve.ensures.items ∙ ap (λ v. v.entries) c.self.view_is) j ++ record { seq = a.seq; name = a.name; id = a.id; body = a.body; at = a.at; latest = c.fresh-fresh.ensures j; settled = c.fresh-fresh.ensures j; taken_by = None } ∷ [])) i;
+          ∙ (λ j. (c.in_ok-reserve.ensures.items ∙ ap (λ v. v.entries) c.self.view_is) j
+          ++ record {
+            seq = a.seq;
+            name = a.name;
+            id = a.id;
+            body = a.body;
+            at = a.at;
+            latest =
+                c.fresh-fresh.ensures j;
+            settled = c.fresh-fresh.ensures j;
+            taken_by = None;
+          } ∷ [])) i;
       unsettled = (c.in_ok-reserve-2.ensures.items ∙ ap (λ v. v.unsettled) c.self.view_is) i;
       next_seq = a.seq + 1;
       settled_seq = ap (λ v. v.settled_seq) c.self.view_is i;

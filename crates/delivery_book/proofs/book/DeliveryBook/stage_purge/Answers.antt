@@ -17,16 +17,20 @@ invariant_of-self c =
     c.mark_done.ensures ∙ ap (map (marked a.seq a.before)) c.deref_mut.ensures.value in
     let all = written b.entries.len b.entries.items c.mark_done.new.entries
     (sym (ap length c.deref_mut.ensures.value) ∙ c.deref_mut.ensures.len)
-    (ap length c.mark_done.ensures ∙ length-map c.deref_mut.result.now (marked a.seq a.before) ∙ c.deref_mut.ensures.len) in
+    (ap length c.mark_done.ensures ∙ length-map c.deref_mut.result.now (marked a.seq a.before)
+    ∙ c.deref_mut.ensures.len) in
     subst
-    (λ es. IsBook es c.remove_done.new.index b.tally b.settled_tally b.unsettled.items (deque_capacity b.unsettled) (a.seq + 1)
+    (λ es. IsBook es c.remove_done.new.index b.tally b.settled_tally b.unsettled.items (deque_capacity b.unsettled)
+    (a.seq + 1)
     b.settled_seq b.settled_entries c.earlier-self-inside.result)
     (sym (all ∙ made))
     (book-purge b.index c.remove_done.new.index b.tally b.settled_tally b.entries.items b.unsettled.items
-    (deque_capacity b.unsettled) b.next_seq b.settled_seq b.settled_entries b.next_purge c.earlier-self-inside.result a.seq
+    (deque_capacity b.unsettled) b.next_seq b.settled_seq b.settled_entries b.next_purge c.earlier-self-inside.result
+    a.seq
     a.before c.self.invariant
     (omega (arith, c.requires.above, ap (λ v. v.next_seq) c.self.view_is))
-    (subst (λ es. HasLessKeys b.index (filter (λ e. is_kept e && is_done_before a.before e.latest) es) c.remove_done.new.index)
+    (subst (λ es. HasLessKeys b.index (filter (λ e. is_kept e && is_done_before a.before e.latest) es)
+    c.remove_done.new.index)
     c.deref.ensures.value c.remove_done.ensures)
     (λ e is. c.earlier-self-inside.ensures.first e is)
     (λ e is. c.earlier-self-inside.ensures.second e is))
@@ -39,7 +43,8 @@ returns c =
     c.mark_done.ensures ∙ ap (map (marked a.seq a.before)) c.deref_mut.ensures.value in
     let all = written b.entries.len b.entries.items c.mark_done.new.entries
     (sym (ap length c.deref_mut.ensures.value) ∙ c.deref_mut.ensures.len)
-    (ap length c.mark_done.ensures ∙ length-map c.deref_mut.result.now (marked a.seq a.before) ∙ c.deref_mut.ensures.len) in
+    (ap length c.mark_done.ensures ∙ length-map c.deref_mut.result.now (marked a.seq a.before)
+    ∙ c.deref_mut.ensures.len) in
     let old : BookValue = record {
       entries = b.entries.items;
       unsettled = b.unsettled.items;

@@ -9,12 +9,22 @@ returns-in-Some c =
     let value : c.is_open.result ≡ takes_outcome c.args.self.now c.args.delivery =
     c.is_open.ensures
     ∙ ap (λ o. option_map_or is_open o false) c.in-Some.ensures
-    ∙ ap (λ es. option_map_or is_open (entry_at es c.args.delivery) false) (c.deref.ensures.value ∙ ap (λ b. b.entries) c.self.view_is) in
-    record { value = value; stands = λ records settled h. value ∙ free_means c.args.self.now records settled c.args.delivery h }
+    ∙ ap (λ es. option_map_or is_open (entry_at es c.args.delivery) false)
+    (c.deref.ensures.value ∙ ap (λ b. b.entries) c.self.view_is) in
+    record {
+      value = value;
+      stands = λ records settled h. value
+          ∙ free_means c.args.self.now records settled c.args.delivery h;
+    }
 
 pub returns-in-None : goal.returns-in-None
 returns-in-None c =
     let value : false ≡ takes_outcome c.args.self.now c.args.delivery =
     ap (λ o. option_map_or is_open o false) c.in-None.ensures
-    ∙ ap (λ es. option_map_or is_open (entry_at es c.args.delivery) false) (c.deref.ensures.value ∙ ap (λ b. b.entries) c.self.view_is) in
-    record { value = value; stands = λ records settled h. value ∙ free_means c.args.self.now records settled c.args.delivery h }
+    ∙ ap (λ es. option_map_or is_open (entry_at es c.args.delivery) false)
+    (c.deref.ensures.value ∙ ap (λ b. b.entries) c.self.view_is) in
+    record {
+      value = value;
+      stands = λ records settled h. value
+          ∙ free_means c.args.self.now records settled c.args.delivery h;
+    }

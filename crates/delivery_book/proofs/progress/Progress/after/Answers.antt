@@ -17,7 +17,8 @@ pub overflow_add-self : goal.overflow_add-self
 overflow_add-self c = omega (arith, (pending_means c.args.self.is_delivered c.args.self.failures c.requires.pending).1)
 
 pub overflow_add-result : goal.overflow_add-result
-overflow_add-result c = omega (arith, (pending_means c.args.self.is_delivered c.args.self.failures c.requires.pending).1)
+overflow_add-result c = omega
+    (arith, (pending_means c.args.self.is_delivered c.args.self.failures c.requires.pending).1)
 
 pub returns-in-Delivered : goal.returns-in-Delivered
 returns-in-Delivered c =
@@ -33,11 +34,25 @@ returns-in-Delivered c =
 pub returns-in-Gone : goal.returns-in-Gone
 returns-in-Gone c =
     let v = c.in-Gone.ensures in
-    (λ i. record c.args.self { attempts = c.args.self.attempts + 1; due = Some (c.seconds-in-Gone.ensures.number i); last_status = Some c.args.status; last_at = Some (c.seconds.ensures.number i) })
-    ∙ after_gone c.args.self c.args.status c.args.at c.requires.pending (not_so (is_delivered_status c.args.status) (λ h. let e = v.delivered.1 h in cc)) (v.gone.0 refl)
+    (λ i. record c.args.self {
+      attempts = c.args.self.attempts + 1;
+      due = Some (c.seconds-in-Gone.ensures.number i);
+      last_status = Some c.args.status;
+      last_at = Some (c.seconds.ensures.number i);
+    })
+    ∙ after_gone c.args.self c.args.status c.args.at c.requires.pending
+    (not_so (is_delivered_status c.args.status) (λ h. let e = v.delivered.1 h in cc)) (v.gone.0 refl)
 
 pub returns-in-Failed : goal.returns-in-Failed
 returns-in-Failed c =
-    let two = neither (is_delivered_status c.args.status) (is_gone_status c.args.status) (c.in-Failed.ensures.failed.0 refl) in
-    (λ i. record c.args.self { attempts = c.args.self.attempts + 1; failures = c.args.self.failures + 1; due = c.due_after_failure.ensures i; last_status = Some c.args.status; last_at = Some (c.seconds.ensures.number i) })
+    let two = neither (is_delivered_status c.args.status) (is_gone_status c.args.status)
+    (c.in-Failed.ensures.failed.0 refl) in
+    (λ i. record c.args.self {
+      attempts = c.args.self.attempts + 1;
+      failures = c.args.self.failures + 1;
+      due =
+          c.due_after_failure.ensures i;
+      last_status = Some c.args.status;
+      last_at = Some (c.seconds.ensures.number i);
+    })
     ∙ after_failed c.args.self c.args.status c.args.at c.requires.pending two.0 two.1

@@ -15,12 +15,18 @@ there Delivered None h = absurd (omega (arith, h))
 there Exhausted None h = absurd (omega (arith, h))
 
 pub with_one_less-counts-requires : goal.with_one_less-counts-requires
-with_one_less-counts-requires c = omega (arith, c.requires.known (Some c.args.name) ((bytes_decides c.args.name c.args.name).1 refl), ap (in_state c.args.state) c.of.ensures)
+with_one_less-counts-requires c = omega (
+  arith,
+  c.requires.known (Some c.args.name) ((bytes_decides c.args.name c.args.name).1 refl),
+  ap
+      (in_state c.args.state) c.of.ensures,
+)
 
 pub with_one_less-self-requires : goal.with_one_less-self-requires
 with_one_less-self-requires c = omega (arith, c.requires.known None refl)
 
 pub returns-clause-opened : goal.returns-clause-opened
 returns-clause-opened c =
-    let was : has_room c.args.self.now c.args.name ≡ true = there c.args.state _ (c.requires.known (Some c.args.name) ((bytes_decides c.args.name c.args.name).1 refl)) in
+    let was : has_room c.args.self.now c.args.name ≡ true = there c.args.state _
+    (c.requires.known (Some c.args.name) ((bytes_decides c.args.name c.args.name).1 refl)) in
     search rules

@@ -16,4 +16,5 @@ returns-clause-count c =
     )
 
 pub returns-clause-stands : goal.returns-clause-stands
-returns-clause-stands c = λ records settled h. returns-clause-count c ∙ sym (length-map c.args.self.now.entries endpoint_by_entry) ∙ ap length h.tells.endpoints
+returns-clause-stands c = λ records settled h. returns-clause-count c
+    ∙ sym (length-map c.args.self.now.entries endpoint_by_entry) ∙ ap length h.tells.endpoints

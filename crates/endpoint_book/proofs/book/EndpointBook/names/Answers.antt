@@ -20,7 +20,8 @@ returns-clause-apart c =
 
 pub returns-clause-found : goal.returns-clause-found
 returns-clause-found c =
-    subst (λ (v : BookValue). AreFound v) c.self.view_is (found_each (entry_in c.self.inside.entries) c.self.inside.names.items c.self.invariant.are_names)
+    subst (λ (v : BookValue). AreFound v) c.self.view_is
+    (found_each (entry_in c.self.inside.entries) c.self.inside.names.items c.self.invariant.are_names)
 
 pub returns-clause-stands : goal.returns-clause-stands
 returns-clause-stands c = λ records settled h. returns-clause-value c ∙ names-told c.args.self.now records h.tells
@@ -31,7 +32,9 @@ returns-clause-in_step c = subst IsInStep c.self.view_is (c.self.invariant.in_st
 pub returns-clause-all_settled : goal.returns-clause-all_settled
 returns-clause-all_settled c = λ same.
     let b = c.self.inside in
-    let all : b.next_seq ≡ b.settled_seq = ap (λ (v : BookValue). v.next_seq) c.self.view_is ∙ same ∙ sym (ap (λ (v : BookValue). v.settled_seq) c.self.view_is) in
+    let all : b.next_seq ≡ b.settled_seq = ap (λ (v : BookValue). v.next_seq) c.self.view_is ∙ same
+    ∙ sym (ap (λ (v : BookValue). v.settled_seq) c.self.view_is) in
     sym (ap (λ (v : BookValue). v.changes) c.self.view_is)
     ∙ c.self.invariant.are_changes.parted b.settled_seq
-    ∙ λ i. c.self.invariant.are_changes.waiting i ++ c.self.invariant.are_changes.below_next b.settled_seq (omega (arith, all)) i
+    ∙ λ i. c.self.invariant.are_changes.waiting i ++ c.self.invariant.are_changes.below_next b.settled_seq
+    (omega (arith, all)) i

@@ -26,7 +26,8 @@ returns-clause-stands c = λ records settled h.
     let b = c.self.inside in
     omega (
       arith,
-      settled-count _ records settled (subst (λ v. StandsFor v records settled) (sym c.self.view_is) h) c.self.invariant.are_changes.waiting (c.self.invariant.are_changes.parted b.settled_seq),
+      settled-count _ records settled (subst (λ v. StandsFor v records settled) (sym c.self.view_is) h)
+          c.self.invariant.are_changes.waiting (c.self.invariant.are_changes.parted b.settled_seq),
       c.self.invariant.are_changes.puts_are,
       c.self.invariant.puts_within,
       ap length (named (entry_in b.entries) b.names.items c.self.invariant.are_names),

@@ -9,4 +9,5 @@ returns-clause-stands c =
     let a = c.args in
     λ records settled delivery attempt status at h at_end gone its legal.
     subst (λ b. StandsFor b (records ++ on.Outcome delivery attempt status at ∷ []) settled) (sym c.set_flag.ensures)
-    (stands-gone a.self.now records settled a.seq a.name delivery attempt status at h at_end gone its legal c.requires.known)
+    (stands-gone a.self.now records settled a.seq a.name delivery attempt status at h at_end gone its legal
+    c.requires.known)

@@ -14,16 +14,21 @@ pub invariant_of-self-in_err-put : goal.invariant_of-self-in_err-put
 invariant_of-self-in_err-put c =
     let b = c.self.inside in
     let room = vec_capacity c.reserve-2.new.self in
-    subst (λ ns. IsBook c.put.new.self ns c.reserve-2.new.self.items b.flags b.puts room b.next_seq b.settled_seq) (sym c.reserve.ensures.items)
-    (subst (λ cs. IsBook c.put.new.self b.names.items cs b.flags b.puts room b.next_seq b.settled_seq) (sym c.reserve-2.ensures.items)
-    (book-same b.entries c.put.new.self b.names.items b.changes.items b.flags b.puts (vec_capacity b.changes) b.next_seq b.settled_seq room c.self.invariant (λ asked. c.in_err-put.ensures.unchanged asked) c.reserve-2.ensures.capacity))
+    subst (λ ns. IsBook c.put.new.self ns c.reserve-2.new.self.items b.flags b.puts room b.next_seq b.settled_seq)
+    (sym c.reserve.ensures.items)
+    (subst (λ cs. IsBook c.put.new.self b.names.items cs b.flags b.puts room b.next_seq b.settled_seq)
+    (sym c.reserve-2.ensures.items)
+    (book-same b.entries c.put.new.self b.names.items b.changes.items b.flags b.puts (vec_capacity b.changes) b.next_seq
+    b.settled_seq room c.self.invariant (λ asked. c.in_err-put.ensures.unchanged asked)
+    c.reserve-2.ensures.capacity))
 
 pub returns-in_err-put-clause-unchanged : goal.returns-in_err-put-clause-unchanged
 returns-in_err-put-clause-unchanged c =
     let b = c.self.inside in
     on_err c.from_residual-in_err-put.result
     ((λ i. record {
-      entries = (ap (λ g. filter_map g c.reserve.new.self.items) (λ j asked. c.in_err-put.ensures.unchanged asked j) ∙ ap (listed b.entries) c.reserve.ensures.items) i;
+      entries = (ap (λ g. filter_map g c.reserve.new.self.items) (λ j asked. c.in_err-put.ensures.unchanged asked j)
+          ∙ ap (listed b.entries) c.reserve.ensures.items) i;
       changes = c.reserve-2.ensures.items i;
       topics = b.topics;
       next_seq = b.next_seq;
@@ -36,33 +41,83 @@ invariant_of-self-2 c =
     let b = c.self.inside in
     let a = c.args in
     let room = vec_capacity c.push_reserved-2.new.self in
-    let e : Entry = record { put = a.seq; name = a.name; target = a.target; max = a.max; enabled = true; secrets = a.secrets; settled = None } in
-    let there = entry-value a.self.now b.entries b.names.items b.topics b.changes.items b.next_seq b.settled_seq a.name c.self.invariant.are_names c.self.view_is in
-    subst (λ ns. IsBook c.put.new.self ns c.push_reserved-2.new.self.items b.flags (b.puts + 1) room (a.seq + 1) b.settled_seq) (sym (c.push_reserved.ensures.items ∙ ap (λ ns. ns ++ a.name ∷ []) c.reserve.ensures.items))
-    (subst (λ cs. IsBook c.put.new.self (b.names.items ++ a.name ∷ []) cs b.flags (b.puts + 1) room (a.seq + 1) b.settled_seq)
-    (sym (c.push_reserved-2.ensures.items ∙ λ i. c.reserve-2.ensures.items i ++ record { seq = a.seq; name = a.name; kind = Put; shown = record { enabled = true; secrets = c.count.ensures.count i } } ∷ []))
-    (book-put b.entries c.put.new.self b.names.items b.changes.items e b.flags b.puts (vec_capacity b.changes) b.next_seq b.settled_seq room c.self.invariant (there ∙ none_if _ c.requires.unknown) (λ asked. c.in_ok-put.ensures.put asked)
+    let e : Entry = record {
+      put = a.seq;
+      name = a.name;
+      target = a.target;
+      max = a.max;
+      enabled = true;
+      secrets =
+          a.secrets;
+      settled = None;
+    } in
+    let there = entry-value a.self.now b.entries b.names.items b.topics b.changes.items b.next_seq b.settled_seq a.name
+    c.self.invariant.are_names c.self.view_is in
+    subst (λ ns. IsBook c.put.new.self ns c.push_reserved-2.new.self.items b.flags (b.puts + 1) room
+    (a.seq + 1) b.settled_seq)
+    (sym (c.push_reserved.ensures.items ∙ ap (λ ns. ns ++ a.name ∷ []) c.reserve.ensures.items))
+    (subst (λ cs. IsBook c.put.new.self (b.names.items ++ a.name ∷ []) cs b.flags (b.puts + 1) room
+    (a.seq + 1) b.settled_seq)
+    (sym (c.push_reserved-2.ensures.items
+    ∙ λ i. c.reserve-2.ensures.items i ++ record {
+      seq = a.seq;
+      name = a.name;
+      kind = Put;
+      shown =
+          record { enabled = true; secrets = c.count.ensures.count i };
+    } ∷ []))
+    (book-put b.entries c.put.new.self b.names.items b.changes.items e b.flags b.puts (vec_capacity b.changes)
+    b.next_seq b.settled_seq room c.self.invariant (there ∙ none_if _ c.requires.unknown)
+    (λ asked. c.in_ok-put.ensures.put asked)
     (omega (arith, c.requires.above, ap (λ v. v.next_seq) c.self.view_is))
-    (omega (arith, c.in_ok-reserve-2.ensures.ok, c.push_reserved-2.ensures.capacity, ap length c.reserve-2.ensures.items)) refl))
+    (omega (
+      arith,
+      c.in_ok-reserve-2.ensures.ok,
+      c.push_reserved-2.ensures.capacity,
+      ap length
+          c.reserve-2.ensures.items,
+    )) refl))
 
 pub returns-clause-put : goal.returns-clause-put
 returns-clause-put c =
     let b = c.self.inside in
     let a = c.args in
-    let e : Entry = record { put = a.seq; name = a.name; target = a.target; max = a.max; enabled = true; secrets = a.secrets; settled = None } in
-    let there = entry-value a.self.now b.entries b.names.items b.topics b.changes.items b.next_seq b.settled_seq a.name c.self.invariant.are_names c.self.view_is in
+    let e : Entry = record {
+      put = a.seq;
+      name = a.name;
+      target = a.target;
+      max = a.max;
+      enabled = true;
+      secrets =
+          a.secrets;
+      settled = None;
+    } in
+    let there = entry-value a.self.now b.entries b.names.items b.topics b.changes.items b.next_seq b.settled_seq a.name
+    c.self.invariant.are_names c.self.view_is in
     (λ i. record {
-      entries = listed c.put.new.self ((c.push_reserved.ensures.items ∙ ap (λ ns. ns ++ a.name ∷ []) c.reserve.ensures.items) i);
-      changes = (c.push_reserved-2.ensures.items ∙ λ j. c.reserve-2.ensures.items j ++ record { seq = a.seq; name = a.name; kind = Put; shown = record { enabled = true; secrets = c.count.ensures.count j } } ∷ []) i;
+      entries = listed c.put.new.self
+          ((c.push_reserved.ensures.items ∙ ap (λ ns. ns ++ a.name ∷ []) c.reserve.ensures.items) i);
+      changes = (c.push_reserved-2.ensures.items
+          ∙ λ j. c.reserve-2.ensures.items j ++ record {
+            seq = a.seq;
+            name = a.name;
+            kind = Put;
+            shown =
+                record { enabled = true; secrets = c.count.ensures.count j };
+          } ∷ []) i;
       topics = b.topics;
       next_seq = a.seq + 1;
       settled_seq = b.settled_seq;
     })
-    ∙ put-value a.self.now b.entries c.put.new.self b.names.items b.topics b.changes.items e b.next_seq b.settled_seq c.self.invariant.are_names c.self.view_is (there ∙ none_if _ c.requires.unknown) (λ asked. c.in_ok-put.ensures.put asked)
+    ∙ put-value a.self.now b.entries c.put.new.self b.names.items b.topics b.changes.items e b.next_seq b.settled_seq
+    c.self.invariant.are_names c.self.view_is (there ∙ none_if _ c.requires.unknown)
+    (λ asked. c.in_ok-put.ensures.put asked)
 
 pub returns-clause-stands : goal.returns-clause-stands
 returns-clause-stands c =
     let a = c.args in
     λ records settled h at_end legal.
-    subst (λ v. StandsFor v (records ++ on.Put a.name a.target a.max a.secrets ∷ []) settled) (sym (returns-clause-put c))
-    (stands-put a.self.now records settled a.seq a.name a.target a.max a.secrets h at_end legal (none_if _ c.requires.unknown))
+    subst (λ v. StandsFor v (records ++ on.Put a.name a.target a.max a.secrets ∷ []) settled)
+    (sym (returns-clause-put c))
+    (stands-put a.self.now records settled a.seq a.name a.target a.max a.secrets h at_end legal
+    (none_if _ c.requires.unknown))

@@ -5,9 +5,11 @@ use Rattle.relay_types.proofs.short.Short.of.Goals as goal
 
 filled : (bytes : List ℕ) (N : ℕ) → length bytes ≤ N → length (bytes ++ drop (length bytes) (replicate N 0)) ≡ N
 filled bytes N h = length-append bytes (drop (length bytes) (replicate N 0))
-    ∙ ap (λ n. length bytes + n) (length-drop (length bytes) (replicate N 0) ∙ ap (λ n. n - length bytes) (length-replicate N 0)) ∙ omega (arith, h)
+    ∙ ap (λ n. length bytes + n) (length-drop (length bytes) (replicate N 0)
+    ∙ ap (λ n. n - length bytes) (length-replicate N 0)) ∙ omega (arith, h)
 
-zeros : (bytes : List ℕ) (N : ℕ) → drop (length bytes) (bytes ++ drop (length bytes) (replicate N 0)) ≡ replicate (N - length bytes) 0
+zeros : (bytes : List ℕ) (N : ℕ) → drop (length bytes) (bytes ++ drop (length bytes) (replicate N 0)) ≡ replicate
+    (N - length bytes) 0
 zeros bytes N = drop-append_seam bytes (drop (length bytes) (replicate N 0)) ∙ drop-replicate (length bytes) N 0
 
 pub invariant_of-result : goal.invariant_of-result

@@ -15,7 +15,8 @@ returns-then-not-is_gone c =
     let t = c.args.attempt.now in
     let gone = sym c.is_gone.ensures ∙ c.if-not-is_gone.true in
     none_at (λ (e : Endpoint). nat_lt e.enabled_by t.seq) (λ e. is_gone_attempt k e t) k.endpoints
-    (λ e. and_left (is_gone_status t.status) (list_any (λ d. d.seq == t.delivery && d.endpoint == e.put) k.deliveries) gone)
+    (λ e. and_left (is_gone_status t.status) (list_any (λ d. d.seq == t.delivery && d.endpoint == e.put) k.deliveries)
+    gone)
 
 pub returns-in-Some : goal.returns-in-Some
 returns-in-Some c =
@@ -26,8 +27,11 @@ returns-in-Some c =
     let told = rw (c.deref.ensures.value, c.in-Some.is) at c.get.ensures.lookup in
     let gone = sym c.is_gone.ensures ∙ c.if-not-is_gone.false in
     (rw c.deref-in-Some.ensures.value at c.has_older_flag.ensures)
-    ∙ (λ i. list_any (λ e. nat_lt e.enabled_by t.seq && found (λ (x : Delivery). x.seq) (λ x. x.endpoint == e.put) k.deliveries t.delivery c.place_of_delivery.result c.requires.deliveries (λ k d h. place.below k d h) (λ k d h l. place.above k d h l) x told.3.0 told.1 i) k.endpoints)
-    ∙ (λ i. list_any (λ e. nat_lt e.enabled_by t.seq && (sym gone i && list_any (λ d. d.seq == t.delivery && d.endpoint == e.put) k.deliveries)) k.endpoints)
+    ∙ (λ i. list_any (λ e. nat_lt e.enabled_by t.seq && found (λ (x : Delivery). x.seq) (λ x. x.endpoint == e.put)
+    k.deliveries t.delivery c.place_of_delivery.result c.requires.deliveries (λ k d h. place.below k d h)
+    (λ k d h l. place.above k d h l) x told.3.0 told.1 i) k.endpoints)
+    ∙ (λ i. list_any (λ e. nat_lt e.enabled_by t.seq
+    && (sym gone i && list_any (λ d. d.seq == t.delivery && d.endpoint == e.put) k.deliveries)) k.endpoints)
 
 pub returns-in-None : goal.returns-in-None
 returns-in-None c =
@@ -37,4 +41,6 @@ returns-in-None c =
     let told = rw (c.deref.ensures.value, c.in-None.is) at c.get.ensures.lookup in
     none_at (λ (e : Endpoint). nat_lt e.enabled_by t.seq) (λ e. is_gone_attempt k e t) k.endpoints
     (λ e. and_right (is_gone_status t.status) (list_any (λ d. d.seq == t.delivery && d.endpoint == e.put) k.deliveries)
-    (sym (not_found (λ (x : Delivery). x.seq) (λ x. x.endpoint == e.put) k.deliveries t.delivery c.place_of_delivery.result c.requires.deliveries (λ k d h. place.below k d h) (λ k d h l. place.above k d h l) told.3)))
+    (sym (not_found (λ (x : Delivery). x.seq) (λ x. x.endpoint == e.put) k.deliveries t.delivery
+    c.place_of_delivery.result c.requires.deliveries (λ k d h. place.below k d h) (λ k d h l. place.above k d h l)
+    told.3)))

@@ -9,7 +9,13 @@ returns-in_ok-extend_within-in-Some-clause-whole c =
     let fields = c.self.inside in
     let is_line = ap (λ (reading : LinesValue). reading.line) c.self.view_is in
     λ _. TakesPiece-from_range c.args.self.now
-    (record { pending = slice_range fields.chunk.items (fields.at + (c.in-Some.place + 1)) fields.end; line = c.extend_within.new.bytes.items; count = fields.count; failed = fields.failed })
+    (record {
+      pending = slice_range fields.chunk.items (fields.at + (c.in-Some.place + 1)) fields.end;
+      line =
+          c.extend_within.new.bytes.items;
+      count = fields.count;
+      failed = fields.failed;
+    })
     fields.chunk.items fields.at fields.end c.in-Some.place
     (ap (λ (reading : LinesValue). reading.pending) (sym c.self.view_is))
     (rw c.deref.ensures.value at c.in-Some.ensures)
