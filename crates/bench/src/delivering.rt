@@ -48,7 +48,7 @@ fn post_each<L: Ledger>(
 }
 
 /// Posts the event that is next.
-#[tactic(auto, using(crate::proofs::OutLaws::last_out))]
+#[tactic(auto, using(desk::proofs::RowLaws::given_out))]
 fn post<L: Ledger>(
     rt: &HostRuntime,
     began: Instant,

@@ -147,6 +147,10 @@ last_out permits last rows h e =
     let none = none_counted (same_row last) rows (none_found (same_row last) rows e) in
     absurd (omega (arith, h last, more, none, ap {B = ℕ} (λ b. cond b 1 0) (same_row_self last)))
 
+-- the permit that was given last is out
+pub given_out : (rows : List Row) (given : Row) → position (same_row given) (rows ++ given ∷ []) ≡ None → ⊥
+given_out rows given = last_out rows given (rows ++ given ∷ []) (λ r. refl)
+
 -- without it the others are all of those that are out
 pub last_back : (permits : List Row) (last : Row) (rows new : List Row) → AreAll (permits ++ last ∷ []) rows
     → ((i : ℕ) → position (same_row last) rows ≡ Some i → new ≡ remove rows i) → AreAll permits new

@@ -1,5 +1,6 @@
 //! How the desk takes an event for the subscribers of a topic.
-ghost use Rattle.std.specs.Prelude.{◌≡◌, ◌≢◌, ◌<◌, ◌≤◌, ◌+◌, length, map, false, count_by, nat_lt, All, AllPairs, IsTrue};
+ghost use Rattle.std.specs.Prelude.{◌≡◌, ◌≢◌, ◌<◌, ◌≤◌, ◌+◌, length, map, false, count_by, nat_lt, All, AllPairs};
+ghost use Rattle.std.specs.Prelude.{IsTrue};
 ghost use Rattle.std.specs.Prelude.{IfOk, IfErr, OnOk, OnErr};
 ghost use Rattle.std.specs.List.{list_all, list_any};
 ghost use Rattle.std.specs.Result.{result_map_both};
@@ -16,7 +17,8 @@ ghost use Rattle.desk.specs.World.{all_records};
 ghost use Rattle.desk.specs.Moves.{lacking, pending_among, publish, publish_faults, new_publish_faults};
 ghost use Rattle.desk.specs.declared.limits.TheConstants.{MAX_PENDING_ALL};
 ghost use Rattle.desk.specs.Desks.{IsMove, Checks, KeepsOut, OverWorlds, has_full_backlog_in, is_against_in};
-ghost use Rattle.desk.specs.Desks.{HasMorePlaces, HasPlaceFor, is_full_in, is_lacking_in, lacking_in, lacks_in, names_in};
+ghost use Rattle.desk.specs.Desks.{HasMorePlaces, HasPlaceFor, is_full_in, is_lacking_in, lacking_in, lacks_in};
+ghost use Rattle.desk.specs.Desks.{names_in};
 ghost use Rattle.desk.specs.Desks.{subscribed_in, ticket_by, with_publish};
 
 use crate::desk::Desk;
@@ -31,8 +33,9 @@ use std::alloc::AllocError;
 use std::sync::ledger::Ledger;
 
 impl<L: Ledger> Desk<L> {
-    /// Takes an event for the subscribers of a topic: those that don't know the id get it, in one step. There is one ticket
-    /// for each subscriber, in the order of their Puts. A refusal changes nothing; tickets of known events can lack memory too.
+    /// Takes an event for the subscribers of a topic: those that don't know the id get it, in one step. There is one
+    /// ticket for each subscriber, in the order of their Puts. A refusal changes nothing; tickets of known events can
+    /// lack memory too.
     pub fn publish(
         &mut self,
         now: Moment,

@@ -234,7 +234,7 @@ impl<L: Ledger> Attempt for Building<'_, L> {
 }
 
 // Builds the request of the event's attempt, and takes it back unsent.
-#[tactic(auto, using(crate::proofs::OutLaws::last_out))]
+#[tactic(auto, using(desk::proofs::RowLaws::given_out))]
 fn build<L: Ledger>(rt: &HostRuntime, desk: &mut Desk<L>, now: Moment) -> io::Result<bool> {
     let Ok(Some(job)) = desk.claim(now) else {
         return Ok(false);
