@@ -33,8 +33,8 @@ struct Purged {
     left: u64,
 }
 
-/// Delivers twice as many events over a store that is to have no table, purges the half that ended first, and prints how
-/// many are left and how many microseconds the purge took: its staging, its sealing and settling, and its commit.
+/// Delivers twice as many events over a store that is to have no table, purges the half that ended first, and prints
+/// how many are left and how many microseconds the purge took: its staging, its sealing and settling, and its commit.
 /// Whether that went well.
 pub(crate) fn print_purge<S: Alter + Drop>(
     rt: &HostRuntime,

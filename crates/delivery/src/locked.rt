@@ -33,7 +33,8 @@ use spool::Batch;
 use std::marker::{Brand, Model};
 use std::sync::ledger::Ledger;
 
-/// The desk, whether the end was asked for, the prefix of the log that the desk has settled, and the log of the staged records.
+/// The desk, whether the end was asked for, the prefix of the log that the desk has settled, and the log of the staged
+/// records.
 #[derive(Drop)]
 pub struct Locked<L: Ledger, I: LogId> {
     desk: Desk<L>,
@@ -53,8 +54,8 @@ impl<L: Ledger, I: LogId> Model for Locked<L, I> {
     ghost invariant = { λ l. HasRecords I.is_base I.start l.desk l.prefix l.staged };
 }
 
-/// Shows how a committer ended. Only what runs under the lock makes one: `Finished` once the end was asked for and nothing
-/// waits, `Halted` once the desk is halted.
+/// Shows how a committer ended. Only what runs under the lock makes one: `Finished` once the end was asked for and
+/// nothing waits, `Halted` once the desk is halted.
 #[derive(Drop)]
 pub struct Ended {
     how: CommitterEnd,
@@ -309,7 +310,8 @@ impl<L: Ledger, I: LogId> Locked<L, I> {
         self.desk.settled_records() <= seen && !self.is_closing && !self.desk.is_halted()
     }
 
-    // What the committer does next: `None` if nothing waits and the end wasn't asked for, or another committer has a batch.
+    // What the committer does next: `None` if nothing waits and the end wasn't asked for, or another committer has a
+    // batch.
     pub(crate) fn next_batch(&mut self) -> Option<Next>
         ensures moves { (reply : Result (Option BatchValue) Refusal) × (result ≡ next_by self.old.closing reply)
             × IsMove self.old.desk (seal self.old.desk.waiting.mark) reply self.new.desk }

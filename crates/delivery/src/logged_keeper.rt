@@ -12,8 +12,8 @@ use run_log::{Log, LogId, LogWriter, Prefix};
 use spool::{Batch, CommitEnd, Receipt, Unchanged};
 use std::marker::Model;
 
-/// The receipt of a batch, and the prefix of the log that ends with its records. `LoggedKeeper::commit` alone makes one. It can't be
-/// dropped or copied.
+/// The receipt of a batch, and the prefix of the log that ends with its records. `LoggedKeeper::commit` alone makes
+/// one. It can't be dropped or copied.
 pub struct Committed<I: LogId> {
     pub(crate) receipt: Receipt,
     pub(crate) prefix: Prefix<I>,

@@ -11,9 +11,9 @@ use desk::Desk;
 use run_log::{LogId, NewLog};
 use std::sync::ledger::Ledger;
 
-/// Begins a run with two empty logs, of what is committed and of what is staged: the desk, to be shared by threads, and the keeper, to be
-/// handed to the committer. The logs go on from what the desk has settled, and their first record has the keeper's next number. It takes no
-/// memory.
+/// Begins a run with two empty logs, of what is committed and of what is staged: the desk, to be shared by threads, and
+/// the keeper, to be handed to the committer. The logs go on from what the desk has settled, and their first record has
+/// the keeper's next number. It takes no memory.
 pub fn begin_run<L: Ledger, I: LogId, K: Keeper + Drop>(
     new_log: NewLog,
     new_staged: NewLog,

@@ -47,7 +47,8 @@ pub struct Shared<L: Ledger, I: LogId> {
 }
 
 impl<L: Ledger, I: LogId> Shared<L, I> {
-    /// The desk of a run that begins, with its log, of which the desk has settled this prefix, and an empty log for what is staged.
+    /// The desk of a run that begins, with its log, of which the desk has settled this prefix, and an empty log for
+    /// what is staged.
     pub fn new(log: Log<I>, new_log: NewLog, desk: Desk<L>, prefix: Prefix<I>) -> Shared<L, I>
         requires table { new_log ≡ I.staged }
         requires settled { HasSettled I.is_base I.start desk prefix }

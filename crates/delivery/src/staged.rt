@@ -9,7 +9,8 @@ use run_log::{Appending, Log, LogId, LogWriter, NewLog, Prefix, Staged};
 use std::marker::{Brand, Model};
 use std::sync::ledger::Ledger;
 
-/// A change that was staged: its ticket, and the prefix of the staged records that ends with its record. `Shared::command` alone gives one.
+/// A change that was staged: its ticket, and the prefix of the staged records that ends with its record.
+/// `Shared::command` alone gives one.
 #[derive(Drop)]
 pub struct StagedChange<I: LogId> {
     ticket: CommandTicket,
@@ -42,8 +43,8 @@ impl<I: LogId> StagedChange<I> {
     }
 }
 
-/// An event that was published: its topic, its id, the tickets of the topic's subscribers, and the prefix of the staged records by which
-/// these are its subscribers. `Shared::publish` alone gives one.
+/// An event that was published: its topic, its id, the tickets of the topic's subscribers, and the prefix of the staged
+/// records by which these are its subscribers. `Shared::publish` alone gives one.
 #[derive(Drop)]
 pub struct Published<I: LogId> {
     topic: Name,

@@ -43,8 +43,8 @@ pub(crate) enum Claimed<L: Ledger> {
     RoundOver(Round),
 }
 
-/// Claims the attempt that is due first, posts it with the lock free, and spends its permit by the result. A job whose request lacks memory
-/// is spent as unsent.
+/// Claims the attempt that is due first, posts it with the lock free, and spends its permit by the result. A job whose
+/// request lacks memory is spent as unsent.
 pub fn worker_round<L: Ledger, I: LogId, P: Poster, C: Clock, R: Wait>(
     rt: &R,
     alloc: Global,

@@ -12,8 +12,8 @@ pub struct Row {
     /// How many attempts ended.
     pub attempts: u64,
     pub state: State,
-    /// When the next attempt is due, in seconds since the epoch, which a pending delivery alone has. After a failed attempt
-    /// it may be later than any `Moment`.
+    /// When the next attempt is due, in seconds since the epoch, which a pending delivery alone has. After a failed
+    /// attempt it may be later than any `Moment`.
     pub due: Option<u64>,
     /// The status of the last attempt, if there was one: 0 where no answer came.
     pub last_status: Option<u16>,

@@ -1,9 +1,11 @@
 //! How many deliveries there are of each endpoint and of all, by state.
-ghost use Rattle.std.specs.Prelude.{◌≡◌, ◌+◌, ◌≤◌, ◌<◌, ◌^◌, Option, Some, None, true, length, filter, slice_range, OnOk};
+ghost use Rattle.std.specs.Prelude.{◌≡◌, ◌+◌, ◌≤◌, ◌<◌, ◌^◌, Option, Some, None, true, length, filter, slice_range};
+ghost use Rattle.std.specs.Prelude.{OnOk};
 ghost use Rattle.relay_types.specs.declared.state.State.{State};
 ghost use Rattle.relay_types.specs.Values.{Text};
 ghost use Rattle.delivery_book.specs.Fields.{in_state, one_if, one_of, counts_for, no_counts, settled_among, has_room};
-ghost use Rattle.delivery_book.specs.Fields.{AtCounts, HasMore, HasSame, KeepsRoom, HasRoomForAll, CanCount, HasCounted};
+ghost use Rattle.delivery_book.specs.Fields.{AtCounts, HasMore, HasSame, KeepsRoom, HasRoomForAll, CanCount};
+ghost use Rattle.delivery_book.specs.Fields.{HasCounted};
 ghost use Rattle.delivery_book.specs.Fields.{is_taken_below};
 
 use crate::entry::Entry;

@@ -1,5 +1,6 @@
 //! The book itself.
-ghost use Rattle.std.specs.Prelude.{◌≡◌, ◌≢◌, ◌≤◌, ◌<◌, ◌+◌, [], false, length, map, count_by, filter, is_some, option_copied};
+ghost use Rattle.std.specs.Prelude.{◌≡◌, ◌≢◌, ◌≤◌, ◌<◌, ◌+◌, [], false, length, map, count_by, filter, is_some};
+ghost use Rattle.std.specs.Prelude.{option_copied};
 ghost use Rattle.std.specs.Prelude.{option_map, AllPairs, IsTrue, IfOk, OnOk, OnErr};
 ghost use Rattle.relay_types.specs.declared.record.Record.TheVariants as on;
 ghost use Rattle.relay_types.specs.Endpoints.{endpoints, endpoint_of, has_endpoint, is_enabled};
@@ -7,7 +8,8 @@ ghost use Rattle.relay_types.specs.Subscriptions.{is_pair_named, is_subscribed, 
 ghost use Rattle.relay_types.specs.declared.limits.TheConstants.{MAX_SUBSCRIPTIONS};
 ghost use Rattle.endpoint_book.specs.Topics.{flag_of, has_place, is_on};
 ghost use Rattle.endpoint_book.specs.Subscribers.{still_subscribed};
-ghost use Rattle.endpoint_book.specs.Entries.{AreFound, empty_book, new_entry, restored_entry, entry_of, is_known, is_put, flags_in};
+ghost use Rattle.endpoint_book.specs.Entries.{AreFound, empty_book, new_entry, restored_entry, entry_of, is_known};
+ghost use Rattle.endpoint_book.specs.Entries.{is_put, flags_in};
 ghost use Rattle.endpoint_book.specs.Entries.{with_put, with_restored, with_flag, with_secrets, with_settled};
 ghost use Rattle.endpoint_book.specs.Entries.{with_restored_topic, with_topic};
 ghost use Rattle.endpoint_book.specs.Book.{StandsFor, Stages, StagesGone, Settles, OfAll, OfSettled, OfWaiting};
@@ -122,9 +124,9 @@ impl EndpointBook {
         Ok(())
     }
 
-    /// Puts an endpoint as its records left it: those behind its Put too are settled from now on. So a book is made of what
-    /// a store holds, and nothing may be staged before. `next_seq` and `contains` test the other conditions. An error is
-    /// want of memory.
+    /// Puts an endpoint as its records left it: those behind its Put too are settled from now on. So a book is made of
+    /// what a store holds, and nothing may be staged before. `next_seq` and `contains` test the other conditions. An
+    /// error is want of memory.
     pub fn restore(
         &mut self,
         seq: u64,
@@ -235,8 +237,8 @@ impl EndpointBook {
         }
     }
 
-    /// Subscribes an endpoint to a topic, or ends that, by the record with this sequence number. `next_seq`, `is_named` and
-    /// `free_subscriptions` test the conditions. An error means that an allocation failed.
+    /// Subscribes an endpoint to a topic, or ends that, by the record with this sequence number. `next_seq`, `is_named`
+    /// and `free_subscriptions` test the conditions. An error means that an allocation failed.
     pub fn stage_subscribed(
         &mut self,
         seq: u64,
@@ -256,9 +258,8 @@ impl EndpointBook {
         Ok(())
     }
 
-    /// Subscribes an endpoint to a topic, or not, as the records left it, which are settled. So a book is made of what a
-    /// store holds. `is_named` and `free_subscriptions` test the condition. An error means that an
-    /// allocation failed.
+    /// Subscribes an endpoint to a topic, or not, as the records left it, which are settled. So a book is made of what
+    /// a store holds. `is_named` and `free_subscriptions` test the condition. An error means that an allocation failed.
     pub fn restore_subscribed(
         &mut self,
         topic: Name,

@@ -1,5 +1,6 @@
 //! Who is subscribed to what.
-ghost use Rattle.std.specs.Prelude.{◌≡◌, ◌+◌, ◌≤◌, [], length, is_some, option_copied, IsTrue, OnOk, OnErr, if◌then◌else◌};
+ghost use Rattle.std.specs.Prelude.{◌≡◌, ◌+◌, ◌≤◌, [], length, is_some, option_copied, IsTrue, OnOk, OnErr};
+ghost use Rattle.std.specs.Prelude.{if◌then◌else◌};
 ghost use Rattle.relay_types.specs.declared.limits.TheConstants.{MAX_SUBSCRIPTIONS};
 ghost use Rattle.endpoint_book.specs.Topics.{flag_of, has_place, is_on, with_pair};
 

@@ -50,7 +50,8 @@ pub(crate) fn read_body(gathered: Gathered) -> BodyRead
     }
 }
 
-// The reply to the request. Its acknowledgement, if it has one, is handed in; of an event for a topic that of the last record.
+// The reply to the request. Its acknowledgement, if it has one, is handed in; of an event for a topic that of the last
+// record.
 pub(crate) fn reply_to<R, L, I>(
     rt: &R,
     shared: &Shared<L, I>,

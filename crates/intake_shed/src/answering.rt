@@ -3,7 +3,8 @@ ghost use Rattle.std.specs.Prelude.{◌≡◌, ◌≤◌, ◌⊎◌, Some, IfOk,
 ghost use Rattle.intake_shed.specs.Pages.{asks_for_page};
 ghost use Rattle.intake_shed.specs.Replies.{ask_reply};
 ghost use Rattle.intake_shed.specs.Requests.{AsksFor, IsRefusal, IsRefusedFor};
-ghost use Rattle.intake_shed.specs.Answers.{Answers, AnswersAsk, FailsBy, GivesPageAt, IsPublishTold, IsTold, OrLacksMemory};
+ghost use Rattle.intake_shed.specs.Answers.{Answers, AnswersAsk, FailsBy, GivesPageAt, IsPublishTold, IsTold};
+ghost use Rattle.intake_shed.specs.Answers.{OrLacksMemory};
 ghost use Rattle.intake_shed.specs.Answers.{TakesChange, may_fail};
 ghost use Rattle.intake_shed.specs.declared.fault.RequestError.{RequestError};
 

@@ -64,8 +64,8 @@ fn accepted_body(alloc: Global, id: &MsgId, seq: u64) -> Result<Value, AllocErro
     })
 }
 
-/// The reply to an event that is settled at each subscriber of its topic: its id, and the numbers of its records. Without memory
-/// for the text it is that of OutOfMemory, and the event stays settled.
+/// The reply to an event that is settled at each subscriber of its topic: its id, and the numbers of its records.
+/// Without memory for the text it is that of OutOfMemory, and the event stays settled.
 pub fn published_reply(alloc: Global, id: &MsgId, tickets: &[Ticket]) -> Reply
     ensures { IsDone 202 (published_text id.now (seqs_of tickets.now)) result }
 {

@@ -2,7 +2,8 @@
 ghost use Rattle.std.specs.Prelude.{◌≡◌, ◌≢◌, ◌<◌, ◌≤◌, ◌↔◌, Some, IsTrue, IfOk, IfErr};
 ghost use Rattle.desk.specs.OwnBooks as kept;
 ghost use Rattle.delivery.specs.Logs.{IsOfCommand};
-ghost use Rattle.intake_shed.specs.Acks.{AreBelow, AreSettled, IsOfEvent, IsOfPublish, ack_of, confirmed_of, publish_ack_of};
+ghost use Rattle.intake_shed.specs.Acks.{AreBelow, AreSettled, IsOfEvent, IsOfPublish, ack_of, confirmed_of};
+ghost use Rattle.intake_shed.specs.Acks.{publish_ack_of};
 ghost use Rattle.intake_shed.specs.Answers.{IsNoRefusal, may_fail, may_fail_event, may_fail_publish};
 
 use crate::ack::Ack;
@@ -67,8 +68,8 @@ fn acknowledge<L: Ledger, I: LogId>(
     Ok(ack)
 }
 
-/// Publishes an event, and waits until it is settled or won't be at each subscriber of the topic. The body is shared first,
-/// and only memory may be refused there; once the end was asked for nothing is taken.
+/// Publishes an event, and waits until it is settled or won't be at each subscriber of the topic. The body is shared
+/// first, and only memory may be refused there; once the end was asked for nothing is taken.
 pub fn publish_and_wait<L: Ledger, I: LogId, R: Wait>(
     rt: &R,
     shared: &Shared<L, I>,
@@ -91,7 +92,8 @@ pub fn publish_and_wait<L: Ledger, I: LogId, R: Wait>(
     acknowledge_all(shared.log(), &mut *locked, event, body, pass)
 }
 
-// Acknowledges an event that is waited for no more: it is settled at each subscriber, the desk halted, or a purge removed it.
+// Acknowledges an event that is waited for no more: it is settled at each subscriber, the desk halted, or a purge
+// removed it.
 fn acknowledge_all<L: Ledger, I: LogId>(
     log: &Log<I>,
     locked: &mut Locked<L, I>,

@@ -1,5 +1,6 @@
 //! The secrets of endpoints.
-ghost use Rattle.std.specs.Prelude.{◌≡◌, ◌↔◌, ◌≤◌, ℕ, List, Ok, Some, length, IsTrue, IsOk, IfOk, IfErr, IfSome, slice_get};
+ghost use Rattle.std.specs.Prelude.{◌≡◌, ◌↔◌, ◌≤◌, ℕ, List, Ok, Some, length, IsTrue, IsOk, IfOk, IfErr, IfSome};
+ghost use Rattle.std.specs.Prelude.{slice_get};
 ghost use Rattle.std.specs.String.{string_bytes};
 ghost use Rattle.base64.specs.GeneralPurpose.{IsStrict, encode_of};
 ghost use Rattle.relay_types.specs.SecretText.{ReadsSecret, IsPaddedOrNot, secret_text};
@@ -46,8 +47,8 @@ impl Secret {
         })
     }
 
-    /// Reads a secret as it is written (Standard Webhooks 1.0.0): `whsec_` and its base64 (RFC 4648, section 4). The prefix
-    /// and the padding may be left out. It takes no memory.
+    /// Reads a secret as it is written (Standard Webhooks 1.0.0): `whsec_` and its base64 (RFC 4648, section 4). The
+    /// prefix and the padding may be left out. It takes no memory.
     pub fn read(text: &[u8]) -> Result<Secret, ReadFault>
         ensures value { IfOk result (λ secret. ReadsSecret text.now secret) }
         ensures each { (secret : List ℕ) → ReadsSecret text.now secret → result ≡ Ok secret }

@@ -15,8 +15,8 @@ use std::marker::Model;
 use std::slice;
 use std::sync::Arc;
 
-/// What is written together or not at all: one record, or the Accepts of one event at 1 to 256 endpoints. A contract sees
-/// the list of its records.
+/// What is written together or not at all: one record, or the Accepts of one event at 1 to 256 endpoints. A contract
+/// sees the list of its records.
 #[derive(Drop)]
 pub struct Step {
     held: Held,
@@ -52,7 +52,8 @@ impl Step {
         }
     }
 
-    /// The step of one event at these endpoints, 1 to 256 of them: an Accept for each, in their order. It copies no body.
+    /// The step of one event at these endpoints, 1 to 256 of them: an Accept for each, in their order. It copies no
+    /// body.
     pub fn event(
         alloc: Global,
         names: &[Name],

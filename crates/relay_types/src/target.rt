@@ -1,8 +1,10 @@
 //! Where an endpoint listens.
 ghost use Rattle.std.specs.Prelude.{◌≡◌, ◌≤◌, ◌↔◌, ◌⊎◌, ◌==◌, length, drop, true, false, IsTrue, IfOk, IfErr};
 ghost use Rattle.std.specs.List.{list_all, before_first, position, position_or_len};
-ghost use Rattle.relay_types.specs.Values.{is_digit, has_scheme, behind_scheme, authority_of, path_part_of, host_of, port_part_of};
-ghost use Rattle.relay_types.specs.Values.{is_host, is_host_character, is_port, is_port_part, is_path_character, is_path_mark, is_target};
+ghost use Rattle.relay_types.specs.Values.{is_digit, has_scheme, behind_scheme, authority_of, path_part_of, host_of};
+ghost use Rattle.relay_types.specs.Values.{port_part_of};
+ghost use Rattle.relay_types.specs.Values.{is_host, is_host_character, is_port, is_port_part, is_path_character};
+ghost use Rattle.relay_types.specs.Values.{is_path_mark, is_target};
 ghost use Rattle.relay_types.specs.Values.{number_of, number_of_part, path_of_part, port_of, path_of, is_visible};
 
 use crate::fault::ReadFault;

@@ -1,7 +1,8 @@
 //! Whether no number is that of two kinds of records.
 ghost use Rattle.std.specs.Prelude.{◌≡◌, ◌||◌, not};
 ghost use Rattle.sound_rows.specs.Numbers.{AreAscending, kept};
-ghost use Rattle.sound_rows.specs.Checks.{are_apart, are_attempts_apart, are_deliveries_apart, are_puts_apart, is_attempt, is_delivery, is_put, is_taken, is_topic};
+ghost use Rattle.sound_rows.specs.Checks.{are_apart, are_attempts_apart, are_deliveries_apart, are_puts_apart};
+ghost use Rattle.sound_rows.specs.Checks.{is_attempt, is_delivery, is_put, is_taken, is_topic};
 
 use crate::numbers::Numbers;
 use crate::search::{has_attempt, has_delivery, has_topic};

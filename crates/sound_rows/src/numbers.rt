@@ -1,7 +1,7 @@
 //! The numbers in the rows.
 
-/// An endpoint, which the record with number `put` made. The record with number `enabled_by` decides whether it is enabled,
-/// and that with number `secrets_by` gave its secrets.
+/// An endpoint, which the record with number `put` made. The record with number `enabled_by` decides whether it is
+/// enabled, and that with number `secrets_by` gave its secrets.
 #[derive(Clone, Copy)]
 pub struct Endpoint {
     pub put: u64,
@@ -27,16 +27,16 @@ pub struct Attempt {
     pub status: u16,
 }
 
-/// A topic of the endpoint that the record with number `endpoint` made: the record with number `set_by` decides whether the
-/// endpoint is subscribed to it.
+/// A topic of the endpoint that the record with number `endpoint` made: the record with number `set_by` decides whether
+/// the endpoint is subscribed to it.
 #[derive(Clone, Copy)]
 pub struct Topic {
     pub endpoint: u64,
     pub set_by: u64,
 }
 
-/// What the tables tell of the numbers of a history: how many records it has, and the numbers in the rows of each table,
-/// in the order of their keys, but for topics in that of the records that decide them.
+/// What the tables tell of the numbers of a history: how many records it has, and the numbers in the rows of each
+/// table, in the order of their keys, but for topics in that of the records that decide them.
 #[derive(Drop)]
 pub struct Numbers {
     pub records: u64,

@@ -2,7 +2,8 @@
 ghost use Rattle.std.specs.Prelude.{◌≡◌, ◌==◌, ◌&&◌, nat_lt, not};
 ghost use Rattle.std.specs.List.{list_any, list_all};
 ghost use Rattle.sound_rows.specs.Numbers.{AreAscending, kept};
-ghost use Rattle.sound_rows.specs.Checks.{are_behind, are_flag_places, are_topics_placed, have_places, is_flag_command, is_flag_given, is_gone_attempt, is_overlooked, is_secrets_place};
+ghost use Rattle.sound_rows.specs.Checks.{are_behind, are_flag_places, are_topics_placed, have_places, is_flag_command};
+ghost use Rattle.sound_rows.specs.Checks.{is_flag_given, is_gone_attempt, is_overlooked, is_secrets_place};
 
 use crate::numbers::{Attempt, Delivery, Endpoint, Numbers};
 use crate::search::{is_delivery_of, place_of_attempt, place_of_delivery};
@@ -64,7 +65,8 @@ impl Numbers {
                 && !gave_flag(&self.endpoints, by)
     }
 
-    // Whether each endpoint's flag is that of a record that may have given it, and no attempt behind it took the flag away.
+    // Whether each endpoint's flag is that of a record that may have given it, and no attempt behind it took the flag
+    // away.
     fn are_flag_places(&self) -> bool
         requires { AreAscending (kept self.now) }
         ensures { result ≡ are_flag_places (kept self.now) }

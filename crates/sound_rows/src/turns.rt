@@ -57,8 +57,8 @@ impl Progress {
     }
 }
 
-// Whether each attempt stands behind its event and has the next number, and the attempts before it left the event pending.
-// An error is want of memory.
+// Whether each attempt stands behind its event and has the next number, and the attempts before it left the event
+// pending. An error is want of memory.
 pub(crate) fn are_in_turn(attempts: &[Attempt], alloc: Global) -> Result<bool, AllocError>
     requires { IsAscending (λ t. t.seq) attempts.now }
     ensures { IfOk result (λ answer. answer ≡ list_all (is_turn attempts.now) attempts.now) }

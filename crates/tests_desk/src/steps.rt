@@ -103,8 +103,8 @@ pub(crate) enum Step {
     Enable(&'static [u8], bool, Answer),
     /// Subscribes the endpoint of this name to the topic before it, or ends that.
     Subscribe(&'static [u8], &'static [u8], bool, Answer),
-    /// Subscribes endpoint `a` to topics `t0`, `t1` and so on, from this one on so many. The first one's record has this
-    /// number.
+    /// Subscribes endpoint `a` to topics `t0`, `t1` and so on, from this one on so many. The first one's record has
+    /// this number.
     Subscribes(u64, u64, u64),
     /// Purges before this moment.
     Purge(u64, Answer),

@@ -115,8 +115,8 @@ fn at_most_4096_pairs_are_named(rt: HostRuntime) -> Result<(), Fail> {
     take(&rt, rt.alloc(), Start::Empty, &AT_MOST_4096_PAIRS_ARE_NAMED)
 }
 
-/// A subscriber that knows the id keeps its event. The tickets stand in the order of the Puts, whatever the names are and
-/// whoever subscribed first. A repeated publish moves the clock, and a disabled endpoint is a subscriber.
+/// A subscriber that knows the id keeps its event. The tickets stand in the order of the Puts, whatever the names are
+/// and whoever subscribed first. A repeated publish moves the clock, and a disabled endpoint is a subscriber.
 static AN_EVENT_GOES_TO_EACH_SUBSCRIBER: [Step; 23] = [
     Step::Put(b"z", HOOK, Answer::Record(0)),
     Step::Put(b"a", HOOK, Answer::Record(1)),

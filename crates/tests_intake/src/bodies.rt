@@ -253,8 +253,8 @@ fn a_subscription_has_a_topic_and_a_bool(rt: HostRuntime) -> Result<(), Fail> {
     walk(&rt, rt.alloc(), &SUBSCRIPTIONS)
 }
 
-// A moment is a whole number from 0 to 2^40, written without a point or an exponent, and -0 is none. A number beyond all
-// floats is no JSON that is read.
+// A moment is a whole number from 0 to 2^40, written without a point or an exponent, and -0 is none. A number beyond
+// all floats is no JSON that is read.
 static MOMENTS: [Case; 6] = [
     Case {
         method: b"PUT",

@@ -138,8 +138,8 @@ fn what_is_not_in_the_table_is_not_found(rt: HostRuntime) -> Result<(), Fail> {
     walk(&rt, rt.alloc(), &NOT_IN_THE_TABLE)
 }
 
-// A name is what stands between two slashes, before a query, and nothing in it is decoded. It may be empty. A topic's is
-// what stands behind the last slash.
+// A name is what stands between two slashes, before a query, and nothing in it is decoded. It may be empty. A topic's
+// is what stands behind the last slash.
 static BAD_NAMES: [Case; 3] = [
     Case {
         method: b"PUT",

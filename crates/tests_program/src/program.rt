@@ -260,8 +260,8 @@ permit 1 a msg_1 attempt 1 at 1000 inflight 1
 none
 ";
 
-// What is delivered at 1000 stays before 1000 and goes before 1001. Its id is free at once, and it is shown until the purge
-// is settled.
+// What is delivered at 1000 stays before 1000 and goes before 1001. Its id is free at once, and it is shown until the
+// purge is settled.
 const REMOVED: &str = "put a http://127.0.0.1:9000/hook 100 whsec_MDEyMzQ1Njc4OTAxMjM0NTY3ODkwMTIz
 submit 1000 a msg_1 7b7d
 seal

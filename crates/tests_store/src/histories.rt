@@ -16,8 +16,8 @@ use std::test::Fail;
 /// How often a record is drawn for a history. One that may not follow is left out.
 const DRAWS: u32 = 120;
 
-/// The books of a history, the moments of its events and attempts, each beside its delivery, and the vault to which it is
-/// committed.
+/// The books of a history, the moments of its events and attempts, each beside its delivery, and the vault to which it
+/// is committed.
 #[derive(Drop)]
 struct Both {
     books: Books,
