@@ -16,7 +16,7 @@ use Rattle.relay_types.specs.Deliveries.{accept_at, accepted, is_accept_as, is_p
 use Rattle.relay_types.specs.Deliveries.{state_of, is_in_state, due_after, seqs_of}
 use Rattle.relay_types.proofs.PurgeLaws.{left, found_left, none_left}
 use Rattle.delivery_book.specs.declared.entry.Entry.{Entry}
-use Rattle.delivery_book.specs.declared.progress.Progress.{Progress}
+use Rattle.delivery_book.specs.Progress.{Progress}
 use Rattle.delivery_book.specs.declared.row.Row.{Row}
 use Rattle.delivery_book.specs.Entries.{entry_at, kept_at, is_entry_as, is_settled_as, is_kept, is_left, failed_among}
 use Rattle.delivery_book.specs.Entries.{is_delivered_among, state_by, state_in, progress_of, row_in}

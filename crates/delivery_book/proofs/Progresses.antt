@@ -1,7 +1,7 @@
 -- How far a delivery has come, with one more attempt, and among the first records.
-use Rattle.std.proofs.Common.{◌≡◌, ℕ, ◌+◌, ◌<◌, Bool, true, false, List, [], ◌∷◌, ◌++◌, Some, None, length, take, drop}
-use Rattle.std.proofs.Common.{refl, sym, ◌∙◌, ap, arith, cond, length-append, append-nil, add-zero}
-use Rattle.std.specs.Prelude.{option_map, ◌||◌, not}
+use Rattle.std.proofs.Common.{◌≡◌, ℕ, ◌+◌, List, [], ◌∷◌, ◌++◌, Some, length, take, drop}
+use Rattle.std.proofs.Common.{refl, sym, ◌∙◌, ap, arith, cond, length-append, append-nil}
+use Rattle.std.specs.Prelude.{option_map, ◌||◌}
 use Rattle.std.specs.Option.{option_map_or}
 use Rattle.std.proofs.Math.Bool.{or-false}
 use Rattle.std.proofs.lemmas.List.{take-append-drop}
@@ -11,12 +11,9 @@ use Rattle.std.proofs.lemmas.List.Sums.{sum_by_push}
 use Rattle.relay_types.specs.declared.record.Record.{Record}
 use Rattle.relay_types.specs.Lists.{last_of}
 use Rattle.relay_types.specs.Records.{Attempt, attempt_by}
-use Rattle.relay_types.specs.declared.state.State.TheVariants.{Pending}
-use Rattle.relay_types.specs.Judging.{is_delivered_status, is_gone_status, is_failed_status, delay_after}
+use Rattle.relay_types.specs.Judging.{is_delivered_status, is_failed_status}
 use Rattle.relay_types.specs.Deliveries.{attempts_of, due_after}
-use Rattle.delivery_book.specs.declared.progress.Progress.{Progress}
-use Rattle.delivery_book.specs.Entries.{state_by, state_in, due_by, failed_among, is_delivered_among, progress_of}
-use Rattle.delivery_book.specs.Entries.{progress_with, progress_after}
+use Rattle.delivery_book.specs.Entries.{due_by, failed_among, is_delivered_among, progress_of, progress_after}
 
 last_of-append : {X : Type 0} (xs : List X) (x : X) → last_of (xs ++ x ∷ []) ≡ Some x
 last_of-append [] x = refl
@@ -73,54 +70,3 @@ pub all_earlier : (records : List Record) (s d : ℕ) → attempts_of (drop s re
     → attempts_of records d ≡ attempts_of (take s records) d
 all_earlier records s d none = attempts_of-split records s d ∙ ap (λ more. attempts_of (take s records) d ++ more) none
     ∙ append-nil (attempts_of (take s records) d)
-
--- One more attempt at a pending delivery, by what its status says
-
-pub pending_means : (delivered : Bool) (failures : ℕ) → state_by delivered failures ≡ Pending → (delivered ≡ false)
-    × (failures < 10)
-pending_means true failures h = absurd (let e = h in cc)
-pending_means false failures h = grind arith
-
--- the attempt that a status and a moment make
-abbrev ended : ℕ → ℕ → Attempt
-ended status at = record { number = 0; status = status; at = at }
-
-no_failure : (p : Progress) (status : ℕ) → is_failed_status status ≡ false
-    → p.failures + cond (is_failed_status status) 1 0 ≡ p.failures
-no_failure p status h = ap (λ b. p.failures + cond b 1 0) h ∙ add-zero p.failures
-
-or_is : (p : Progress) (status : ℕ) (b : Bool) → state_in p ≡ Pending → is_delivered_status status ≡ b
-    → p.is_delivered || is_delivered_status status ≡ b
-or_is p status b pending is = ap (λ d. d || is_delivered_status status)
-    (pending_means p.is_delivered p.failures pending).0 ∙ is
-
-pub after_delivered : (p : Progress) (status at : ℕ) → state_in p ≡ Pending → is_delivered_status status ≡ true
-    → record p {
-      attempts = p.attempts + 1;
-      is_delivered = true;
-      due = None;
-      last_status = Some status;
-      last_at =
-          Some at;
-    } ≡ progress_after status at p
-after_delivered p status at pending is =
-    sym (λ i. progress_with (ended status at) (or_is p status true pending is i)
-    (no_failure p status (ap (λ b. not (b || is_gone_status status)) is) i) (p.attempts + 1))
-
-pub after_gone : (p : Progress) (status at : ℕ) → state_in p ≡ Pending → is_delivered_status status ≡ false
-    → is_gone_status status ≡ true
-    → record p { attempts = p.attempts + 1; due = Some at; last_status = Some status; last_at = Some at }
-    ≡ progress_after status at p
-after_gone p status at pending taken is = grind (arith, or_is, no_failure, pending_means)
-
-pub after_failed : (p : Progress) (status at : ℕ) → state_in p ≡ Pending → is_delivered_status status ≡ false
-    → is_gone_status status ≡ false
-    → record p {
-      attempts = p.attempts + 1;
-      failures = p.failures + 1;
-      due = due_by false (p.failures + 1)
-          (at + delay_after (p.failures + 1));
-      last_status = Some status;
-      last_at = Some at;
-    } ≡ progress_after status at p
-after_failed p status at pending taken wanted = grind (arith, or_is, pending_means)

@@ -19,7 +19,7 @@ use Rattle.relay_types.proofs.RowLaws.{find_map}
 use Rattle.relay_types.proofs.LookupLaws.{filter_both}
 use Rattle.delivery_book.specs.declared.entry.Entry.{Entry}
 use Rattle.delivery_book.specs.declared.entry.Unsettled.{Unsettled}
-use Rattle.delivery_book.specs.declared.progress.Progress.{Progress}
+use Rattle.delivery_book.specs.Progress.{Progress}
 use Rattle.delivery_book.specs.Book.{is_other, outcome_by, outcomes_from}
 use Rattle.delivery_book.specs.Entries.{BookValue, IsCaughtUp, IsInStep, at_delivery, at_outcomes, entry_at, event_by}
 use Rattle.delivery_book.specs.Entries.{events_from, front_below, is_done_before, is_kept, is_left, is_of_left, is_open}

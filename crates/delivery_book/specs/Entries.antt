@@ -16,8 +16,8 @@ use Rattle.relay_types.specs.Judging.{is_delivered_status, is_failed_status}
 use Rattle.relay_types.specs.Deliveries.{is_in_state, due_after}
 use Rattle.delivery_book.specs.declared.entry.Entry.{Entry}
 use Rattle.delivery_book.specs.declared.entry.Unsettled.{Unsettled}
-use Rattle.delivery_book.specs.declared.progress.Progress.{Progress}
 use Rattle.delivery_book.specs.declared.row.Row.{Row}
+use Rattle.delivery_book.specs.Progress.{Progress}
 
 -- How far a delivery has come
 

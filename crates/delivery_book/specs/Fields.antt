@@ -19,9 +19,9 @@ use Rattle.delivery_book.specs.declared.entry.Entry.{Entry}
 use Rattle.delivery_book.specs.declared.entry.Unsettled.{Unsettled}
 use Rattle.delivery_book.specs.declared.keys.EndpointKey.{EndpointKey}
 use Rattle.delivery_book.specs.declared.keys.EventKey.{EventKey}
-use Rattle.delivery_book.specs.declared.progress.Progress.{Progress}
 use Rattle.delivery_book.specs.declared.row.Counts.{Counts}
 use Rattle.delivery_book.specs.declared.tally.Tally.{Tally}
+use Rattle.delivery_book.specs.Progress.{Progress}
 use Rattle.delivery_book.specs.Entries.{BookValue, IsCaughtUp, is_entry_as, is_kept, is_left, is_of_left, state_in}
 
 -- Keys

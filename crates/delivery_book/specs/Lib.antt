@@ -1,4 +1,6 @@
+pub mod Progress
 pub mod Entries
+pub mod Kept
 pub mod Fields
 pub mod Book
 pub mod Laws

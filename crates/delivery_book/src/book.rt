@@ -313,7 +313,7 @@ impl DeliveryBook {
                 self.settled_seq == 0
                     && self.unsettled.is_empty()
                     && entry.is_open()
-                    && entry.latest.attempts < MAX_RECORDS
+                    && entry.latest.attempts() < MAX_RECORDS
             }
             None => false,
         }

@@ -28,7 +28,7 @@ impl Entry {
         ensures { result ≡ is_open self.now }
     {
         matches!(self.latest.state(), State::Pending)
-            && self.latest.attempts == self.settled.attempts
+            && self.latest.attempts() == self.settled.attempts()
     }
 
     /// Whether no Purge took the delivery.
@@ -100,10 +100,10 @@ impl Entry {
             endpoint: self.name,
             id: self.id,
             at: self.at,
-            attempts: progress.attempts,
+            attempts: progress.attempts(),
             state: progress.state(),
-            due: progress.due,
-            last_status: progress.last_status,
+            due: progress.due(),
+            last_status: progress.last_status(),
         }
     }
 }

@@ -12,7 +12,7 @@ use Rattle.desk.proofs.Words.{room_by, waits_as, DeskValue, IsDesk, by_bool, Hol
 use Rattle.desk.proofs.Words.{le-leb, leb-true, ne_eqb, list_all-append, sum_by-cons, find_map, Unsettled, at_delivery}
 use Rattle.desk.proofs.Words.{progress_after, takes_outcome, with_outcome, all_weaker, IsNew, AreApart, idle_pair}
 use Rattle.desk.proofs.Words.{is_own, is_told, is_unheld, rises, nat_tests, by_option, with_attempt, KeepsPlaces}
-use Rattle.delivery_book.specs.declared.progress.Progress.{Progress}
+use Rattle.delivery_book.specs.Progress.{Progress}
 use Rattle.endpoint_book.specs.Entries as endpoint_entries
 use Rattle.desk.proofs.Words.{BookRow, IsInStep, attempt_in, latest_row, row_in}
 use Rattle.desk.proofs.TakenLaws.{latest_open}

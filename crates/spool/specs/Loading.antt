@@ -16,7 +16,7 @@ use Rattle.endpoint_book.specs.declared.entry.Entry.{Entry}
 use Rattle.endpoint_book.specs.Entries.{BookValue, is_known, restored_entry}
 use Rattle.endpoint_book.specs.Topics.{TellsTopics, TopicsValue, flag_of}
 use Rattle.delivery_book.specs.declared.entry.Entry.{Entry as DeliveryEntry}
-use Rattle.delivery_book.specs.declared.progress.Progress.{Progress}
+use Rattle.delivery_book.specs.Progress.{Progress}
 use Rattle.delivery_book.specs.Entries.{BookValue as DeliveryBookValue, known_in, new_entry, progress_of}
 use Rattle.delivery_book.specs.Book.{entries_of}
 use Rattle.spool_sql.specs.declared.row.RowFault.{RowFault}
