@@ -26,13 +26,8 @@ module _ {K : Type 0} (holds : K → List Record → Type 0) (in_doubt : K → L
 
   -- what stands at the end: the history, and where the store was at fault perhaps the last batch behind it
   abbrev pub Stands : K → List Record → CommitterEnd → Type 0
-  Stands new records Finished = holds new records
   Stands new records (Halted (cause.Store error)) = (last : History) × in_doubt new records (records_of last)
-  Stands new records (Halted cause.Closed) = holds new records
-  Stands new records (Halted cause.OutOfTurn) = holds new records
-  Stands new records (Halted cause.Illegal) = holds new records
-  Stands new records (Halted cause.OutOfMemory) = holds new records
-  Stands new records (Halted cause.Halted) = holds new records
+  Stands new records _ = holds new records
 
 -- the number of the next record: a batch that is committed begins with it
 module _ {K : Type 0} (next : K → ℕ) where
@@ -79,13 +74,9 @@ EndsBy (Err (ends.Doubtful doubt error)) end = end ≡ Some (Halted (cause.Store
 
 -- the end names a fault of the store, or a keeper that takes no batch any more
 abbrev pub IsOfKeeper : CommitterEnd → Type 0
-IsOfKeeper Finished = ⊥
 IsOfKeeper (Halted (cause.Store error)) = Unit {0}
 IsOfKeeper (Halted cause.Closed) = Unit {0}
-IsOfKeeper (Halted cause.OutOfTurn) = ⊥
-IsOfKeeper (Halted cause.Illegal) = ⊥
-IsOfKeeper (Halted cause.OutOfMemory) = ⊥
-IsOfKeeper (Halted cause.Halted) = ⊥
+IsOfKeeper _ = ⊥
 
 -- the desk alone brings such an end
 abbrev pub IsOfDesk : CommitterEnd → Type 0
@@ -93,5 +84,4 @@ IsOfDesk end = (end ≡ Finished) ⊎ (end ≡ Halted cause.Halted)
 
 abbrev pub EndsByDesk : Next → Type 0
 EndsByDesk (next.End end) = IsOfDesk end
-EndsByDesk (next.Commit batch) = Unit {0}
-EndsByDesk next.Refused = Unit {0}
+EndsByDesk _ = Unit {0}

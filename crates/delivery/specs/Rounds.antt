@@ -19,20 +19,12 @@ abbrev pub IsPostedBy : (may_answer : Request → PostResult → Type 0) → Rou
 IsPostedBy may_answer (Posted endpoint attempt request result spent) =
     (job : JobValue) × (endpoint ≡ job.row.endpoint) × (attempt ≡ job.attempt) × (request ≡ request_of job)
     × may_answer request result × (spent.row ≡ job.row) × (spent.post ≡ result)
-IsPostedBy may_answer Idle = Unit {0}
-IsPostedBy may_answer Halted = Unit {0}
-IsPostedBy may_answer Closing = Unit {0}
-IsPostedBy may_answer NoMemory = Unit {0}
-IsPostedBy may_answer (WentBack told) = Unit {0}
+IsPostedBy may_answer _ = Unit {0}
 
 -- nothing was posted
 abbrev pub HasNotPosted : Round → Type 0
 HasNotPosted (Posted endpoint attempt request result spent) = ⊥
-HasNotPosted Idle = Unit {0}
-HasNotPosted Halted = Unit {0}
-HasNotPosted Closing = Unit {0}
-HasNotPosted NoMemory = Unit {0}
-HasNotPosted (WentBack told) = Unit {0}
+HasNotPosted _ = Unit {0}
 
 -- a claim without a job ends the round, in which nothing was posted
 abbrev pub EndsUnposted : {g : _} → Claimed g → Type 0

@@ -112,10 +112,8 @@ is_commit event = false
 
 -- a receipt, and what a committer that gives up hands over of what is held
 abbrev pub receipt_of : Held → Option BatchValue
-receipt_of held.Nothing = None
-receipt_of (held.Batch batch) = None
 receipt_of (held.Receipt receipt) = Some receipt
-receipt_of (held.Doubt doubt) = None
+receipt_of _ = None
 
 abbrev pub given_of : Held → waiting.Held
 given_of held.Nothing = waiting_held.Nothing

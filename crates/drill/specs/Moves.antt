@@ -217,32 +217,24 @@ commits_batch s = record {
 -- what a turn is told by what is out
 
 abbrev pub commits : Session → Out → Answer
-commits s Nothing = stays s says.NoBatch
 commits s Batch = commits_batch s
-commits s Receipt = stays s says.NoBatch
-commits s Doubt = stays s says.NoBatch
+commits s _ = stays s says.NoBatch
 
 abbrev pub settles : Session → Out → Answer
-settles s Nothing = stays s says.NoReceipt
-settles s Batch = stays s says.NoReceipt
 settles s Receipt = moves s (says.SettledTo (length (sealed_records s.world))) (desk.with_sealed_settled s.world)
-settles s Doubt = stays s says.NoReceipt
+settles s _ = stays s says.NoReceipt
 
 -- the places of the records that were sealed
 abbrev pub unsealed_reply : World → Reply
 unsealed_reply w = says.Unsealed (length (settled_records w)) (length (sealed_records w))
 
 abbrev pub unseals : Session → Out → Answer
-unseals s Nothing = stays s says.NoBatch
 unseals s Batch = moves s (unsealed_reply s.world) (desk.with_batch_back s.world)
-unseals s Receipt = stays s says.NoBatch
-unseals s Doubt = stays s says.NoBatch
+unseals s _ = stays s says.NoBatch
 
 abbrev pub halts : Session → Out → Answer
-halts s Nothing = moves s says.Halted (desk.with_halt s.world)
-halts s Batch = moves s says.Halted (desk.with_halt s.world)
 halts s Receipt = stays s wrong_turn
-halts s Doubt = moves s says.Halted (desk.with_halt s.world)
+halts s _ = moves s says.Halted (desk.with_halt s.world)
 
 -- What a call is told in a session.
 abbrev pub answer_to : Session → Call → Answer

@@ -77,9 +77,7 @@ abbrev pub IsOfBody : Ask → (fresh : Text) → Asked → Type 0
 IsOfBody ask fresh (asked.Change command) = (value : Data) × IsJson (bytes_of ask.body) value × Says value command
 IsOfBody ask fresh (asked.Post name id body) = (id ≡ id_of (texts ask.ids.now) fresh) × (body ≡ bytes_of ask.body)
 IsOfBody ask fresh (asked.Publish topic id body) = (id ≡ id_of (texts ask.ids.now) fresh) × (body ≡ bytes_of ask.body)
-IsOfBody ask fresh asked.Totals = Unit {0}
-IsOfBody ask fresh (asked.Endpoint name) = Unit {0}
-IsOfBody ask fresh (asked.Event name id) = Unit {0}
+IsOfBody ask fresh _ = Unit {0}
 
 -- what a request asks for: it stands on that line, passes the checks, and says so
 pub record AsksFor (ask : Ask) (fresh : Text) (what : Asked) : Type 0 where

@@ -13,11 +13,9 @@ use Rattle.spool.specs.declared.faults.OpenFault.TheVariants.{OutOfMemory}
 -- the store.
 abbrev pub IsRefusedAs : Schema → OpenFault → Type 0
 IsRefusedAs schema NotOurs = IsTrue (has_ours schema)
-IsRefusedAs schema NewerVersion = ⊥
-IsRefusedAs schema Damaged = ⊥
-IsRefusedAs schema OldVersion = ⊥
 IsRefusedAs schema OutOfMemory = Unit {0}
 IsRefusedAs schema (Store cause) = has_ours schema ≡ false
+IsRefusedAs schema _ = ⊥
 
 -- The connection is as it was, or its store has what the vault's opening leaves at this refusal.
 abbrev pub LeavesOr : {S : Type 0} → Ghosts S → (old new : Held S) → OpenFault → Type 0

@@ -43,13 +43,9 @@ IsNoFile fault = IsOfPath fault ⊎ (fault ≡ Store (SqliteFailure code.Databas
 
 -- a fault of the store is that the file can't be opened, that another program has it open, or that the store failed
 abbrev pub IsOfOpen : OpenFault → Type 0
-IsOfOpen NotOurs = Unit {0}
-IsOfOpen NewerVersion = Unit {0}
-IsOfOpen OldVersion = Unit {0}
-IsOfOpen Damaged = Unit {0}
 IsOfOpen (Store error) = (error ≡ SqliteFailure code.CannotOpen)
     ⊎ ((error ≡ SqliteFailure code.DatabaseBusy) ⊎ (cause error ≡ of.Store))
-IsOfOpen OutOfMemory = Unit {0}
+IsOfOpen _ = Unit {0}
 
 -- as what the store's refusal of an open is told, if it isn't that the file is none of SQLite's
 abbrev pub unopened_fault : Error → OpenFault

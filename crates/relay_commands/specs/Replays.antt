@@ -8,10 +8,8 @@ use Rattle.command_interface.specs.Reports.{Reports}
 -- what is written at an end; there are no arguments and no file
 abbrev pub ReplaysSo : Option (List ℕ) → Option (List ℕ) → Option (List ℕ) → Result (Unit {0}) CommandFault → Type 0
 ReplaysSo input old new (Ok done) = Replays input old new (Ok done)
-ReplaysSo input old new (Err (Argument fault)) = ⊥
-ReplaysSo input old new (Err (File fault)) = ⊥
-ReplaysSo input old new (Err (Store fault)) = ⊥
 ReplaysSo input old new (Err (Ended fault)) = Replays input old new (Err fault)
+ReplaysSo input old new _ = ⊥
 
 -- The replies to the script on the reader are written, and the exit status and standard error tell of the same end.
 abbrev pub ReplaysTo : Option (List ℕ) → Option (List ℕ) → Option (List ℕ) → Option (List ℕ) → Option (List ℕ) → ℕ

@@ -65,10 +65,7 @@ SignsSo id at texts input old new (Err (Ended TooLong)) = Asks id at texts (λ a
 SignsSo id at texts input old new (Err (Ended Read)) = Asks id at texts (λ asked. Keeps old new)
 SignsSo id at texts input old new (Err (Ended Write)) = Asks id at texts (SignsFront input old new)
 SignsSo id at texts input old new (Err (Ended OutOfMemory)) = HasIdAndMoment id at × Keeps old new
-SignsSo id at texts input old new (Err (Ended Lost)) = ⊥
-SignsSo id at texts input old new (Err (Ended (BadLine number))) = ⊥
-SignsSo id at texts input old new (Err (File fault)) = ⊥
-SignsSo id at texts input old new (Err (Store fault)) = ⊥
+SignsSo id at texts input old new _ = ⊥
 
 -- So it is, and the exit status and standard error tell of the same end.
 abbrev pub SignsTo : List ℕ → List ℕ → List (List ℕ) → Option (List ℕ) → Option (List ℕ) → Option (List ℕ)

@@ -15,12 +15,7 @@ abbrev pub serving_status : Result Served ServeFault → ℕ
 serving_status (Ok done) = 0
 serving_status (Err BadAddress) = 1
 serving_status (Err (File fault)) = exit_status (Err fault)
-serving_status (Err CannotListen) = 3
-serving_status (Err NoThread) = 3
-serving_status (Err (Halted cause)) = 3
-serving_status (Err (Audit fault)) = 3
-serving_status (Err Write) = 3
-serving_status (Err OutOfMemory) = 3
+serving_status _ = 3
 
 -- how a fault is told
 abbrev pub serving_text : ServeFault → List ℕ

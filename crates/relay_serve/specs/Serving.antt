@@ -23,15 +23,8 @@ use Rattle.relay_serve.specs.declared.fault.ServeFault.TheVariants.{Audit, Write
 
 -- how the committer ended, as the relay's end tells: it finished, unless it is told to be halted
 abbrev pub committer_end : Result Served ServeFault → CommitterEnd
-committer_end (Ok done) = committer.Finished
-committer_end (Err BadAddress) = committer.Finished
-committer_end (Err (File fault)) = committer.Finished
-committer_end (Err CannotListen) = committer.Finished
-committer_end (Err NoThread) = committer.Finished
 committer_end (Err (Halted cause)) = committer.Halted cause
-committer_end (Err (Audit fault)) = committer.Finished
-committer_end (Err Write) = committer.Finished
-committer_end (Err OutOfMemory) = committer.Finished
+committer_end _ = committer.Finished
 
 module _ {S : Type 0} (g : Ghosts S) where
   -- the store, if it is open, has the rows of these records, and a stop leaves them

@@ -85,11 +85,8 @@ IsFirstRefusedAt = Refuses First AreSoundFirstTables
 -- Why sound tables are refused: memory was, the store failed under this name, or a query took more steps than the
 -- connection may.
 abbrev pub IsSoundRefusal : (old new : State) → TableFault → Type 0
-IsSoundRefusal old new NotOurs = ⊥
-IsSoundRefusal old new NewerVersion = ⊥
-IsSoundRefusal old new OldVersion = ⊥
-IsSoundRefusal old new Damaged = ⊥
 IsSoundRefusal old new (Failed error) = IsRefusal old new error
+IsSoundRefusal old new _ = ⊥
 
 -- tables that have sound rows are refused only so
 abbrev pub RefusesSound : (old new : State) → TableFault → Type 0

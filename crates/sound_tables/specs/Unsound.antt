@@ -20,10 +20,7 @@ use Rattle.sound_tables.specs.declared.fault.TableFault.TheVariants.{NotOurs, Ne
 
 abbrev pub is_text : Value → List ℕ → Bool
 is_text (Text own) text = bytes_eq own text
-is_text Null text = false
-is_text (Int n) text = false
-is_text (Real x) text = false
-is_text (Blob b) text = false
+is_text _ text = false
 
 -- what the store lists: of each tree its number and one, its type, its name
 abbrev pub objects_of : View → List Row
@@ -75,8 +72,5 @@ IsOfStore blamed error = (why : StoreError) × (error ≡ store_error why) × Te
 
 -- a refused look is told so
 abbrev pub TellsFailed : Option StoreError → TableFault → Type 0
-TellsFailed blamed NotOurs = Unit {0}
-TellsFailed blamed NewerVersion = Unit {0}
-TellsFailed blamed OldVersion = Unit {0}
-TellsFailed blamed Damaged = Unit {0}
 TellsFailed blamed (Failed error) = IsOfStore blamed error
+TellsFailed blamed _ = Unit {0}

@@ -63,12 +63,9 @@ HaveHistory db = (records : List Record) × IsLegal records × IsTables db (rows
 -- Tables that have the rows of a legal history are refused only for memory, or because the store failed under this
 -- name, or a query took more steps than the connection may.
 abbrev pub IsOfStore : (old new : State) → OpenFault → Type 0
-IsOfStore old new NotOurs = ⊥
-IsOfStore old new NewerVersion = ⊥
-IsOfStore old new OldVersion = ⊥
-IsOfStore old new Damaged = ⊥
 IsOfStore old new (Store error) = (cause error ≡ of.Store) × IsRefusal old new error
 IsOfStore old new OutOfMemory = Unit {0}
+IsOfStore old new _ = ⊥
 
 -- they are of version 1, and have the rows of a legal history
 abbrev pub HaveFirstHistory : Database → Type 0
@@ -81,30 +78,21 @@ IsOldOrOfStore old new fault = IsOfStore old new fault
 
 -- As what a store without a table `meta` is told: as none of the relay's, or the look at it was refused.
 abbrev pub IsForeign : OpenFault → Type 0
-IsForeign NotOurs = Unit {0}
 IsForeign NewerVersion = ⊥
 IsForeign OldVersion = ⊥
 IsForeign Damaged = ⊥
-IsForeign (Store error) = Unit {0}
-IsForeign OutOfMemory = Unit {0}
+IsForeign _ = Unit {0}
 
 -- a fault of the store that is told is one that was met at it
 abbrev pub FailsIfOfStore : State → OpenFault → Type 0
-FailsIfOfStore new NotOurs = Unit {0}
-FailsIfOfStore new NewerVersion = Unit {0}
-FailsIfOfStore new OldVersion = Unit {0}
-FailsIfOfStore new Damaged = Unit {0}
 FailsIfOfStore new (Store error) = (why : StoreError) × (error ≡ store_error why) × Tells new.blamed why
-FailsIfOfStore new OutOfMemory = Unit {0}
+FailsIfOfStore new _ = Unit {0}
 
 -- what each refusal leaves: where it is of the tables, the store was seen to be open
 abbrev pub LeavesRead : State → State → OpenFault → Type 0
-LeavesRead old new NotOurs = IsReadOpen old new
-LeavesRead old new NewerVersion = IsReadOpen old new
-LeavesRead old new OldVersion = IsReadOpen old new
-LeavesRead old new Damaged = IsReadOpen old new
 LeavesRead old new (Store error) = IsOnlyRead old new
 LeavesRead old new OutOfMemory = IsOnlyRead old new
+LeavesRead old new _ = IsReadOpen old new
 
 -- ---- between the check and the look at the store behind it
 

@@ -216,10 +216,8 @@ abbrev pub IsCause : (old new : State) → Error → Type 0
 IsCause old new error = IsRefusal old new error ⊎ LeavesAsBefore old new
 
 abbrev pub HasCause : (old new : State) → WriteEnd → Type 0
-HasCause old new Committed = Unit {0}
-HasCause old new Illegal = Unit {0}
-HasCause old new OutOfMemory = Unit {0}
 HasCause old new (Doubtful error) = IsCause old new error
+HasCause old new _ = Unit {0}
 
 -- ---- which error was met where
 

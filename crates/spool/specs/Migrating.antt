@@ -87,12 +87,9 @@ IsUnmigrated old new OutOfMemory = Unit {0}
 -- Why tables of version 1 that have the rows of a legal history aren't migrated: memory was refused, the store failed
 -- and told this fault last, or nothing was written to the disk.
 abbrev pub IsUnmade : (old new : State) → OpenFault → Type 0
-IsUnmade old new NotOurs = ⊥
-IsUnmade old new NewerVersion = ⊥
-IsUnmade old new OldVersion = ⊥
-IsUnmade old new Damaged = ⊥
 IsUnmade old new (Store error) = IsCause old new error
 IsUnmade old new OutOfMemory = Unit {0}
+IsUnmade old new _ = ⊥
 
 -- ---- between the check and the vault
 

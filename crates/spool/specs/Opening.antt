@@ -25,11 +25,9 @@ has_ours schema =
 -- NotOurs comes of such a store, and every other refusal of another
 abbrev pub IsRefusedFor : Schema → OpenFault → Type 0
 IsRefusedFor schema NotOurs = IsTrue (has_ours schema)
-IsRefusedFor schema NewerVersion = ⊥
-IsRefusedFor schema Damaged = ⊥
-IsRefusedFor schema OldVersion = ⊥
 IsRefusedFor schema OutOfMemory = has_ours schema ≡ false
 IsRefusedFor schema (Store cause) = has_ours schema ≡ false
+IsRefusedFor schema _ = ⊥
 
 -- how a refusal is printed
 abbrev pub fault_name : OpenFault → List ℕ
@@ -68,20 +66,15 @@ MayBeMade old new = (db : Trees) → new.may_leave db → old.may_leave db
 -- What each refusal leaves. A fault of the store is the one that it told last, or nothing was written to the disk.
 abbrev pub LeavesAt : State → State → OpenFault → Type 0
 LeavesAt old new NotOurs = (db : Trees) → new.may_leave db → old.may_leave db
-LeavesAt old new NewerVersion = ⊥
-LeavesAt old new Damaged = ⊥
-LeavesAt old new OldVersion = ⊥
 LeavesAt old new OutOfMemory = KeepsTables old new
 LeavesAt old new (Store cause) = MayBeMade old new × IsCause old new cause
+LeavesAt old new _ = ⊥
 
 -- What is told of an error for which the tables weren't made. A fault of the store has that error, and the store told
 -- no other since, or that of the look at the store behind it, where the store failed.
 abbrev pub TellsFault : State → State → Error → OpenFault → Type 0
-TellsFault old new error NotOurs = ⊥
-TellsFault old new error NewerVersion = ⊥
-TellsFault old new error Damaged = ⊥
-TellsFault old new error OldVersion = ⊥
 TellsFault old new error OutOfMemory = cause error ≡ Memory
 TellsFault old new error (Store told) =
     ((told ≡ error) × (¬ (cause error ≡ Memory)) × (new.blamed ≡ old.blamed))
     ⊎ ((cause error ≡ Memory) × (HasCleanDisk new → Fails old new ⊥ told))
+TellsFault old new error _ = ⊥

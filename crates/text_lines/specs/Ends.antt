@@ -72,23 +72,17 @@ Ends Says IsBad input old new end =
 
 -- The end came between two lines: each line that was taken in is answered.
 abbrev pub IsBetweenLines : Result (Unit {0}) StreamFault → Type 0
-IsBetweenLines (Ok done) = Unit {0}
-IsBetweenLines (Err (BadLine number)) = Unit {0}
-IsBetweenLines (Err TooLong) = Unit {0}
-IsBetweenLines (Err Read) = Unit {0}
 IsBetweenLines (Err Write) = ⊥
 IsBetweenLines (Err Lost) = ⊥
 IsBetweenLines (Err OutOfMemory) = ⊥
+IsBetweenLines _ = Unit {0}
 
 -- the exit status of an end: 2 for what was read, 3 for the rest
 abbrev pub status_of : Result (Unit {0}) StreamFault → ℕ
 status_of (Ok done) = 0
 status_of (Err (BadLine number)) = 2
 status_of (Err TooLong) = 2
-status_of (Err Read) = 3
-status_of (Err Write) = 3
-status_of (Err Lost) = 3
-status_of (Err OutOfMemory) = 3
+status_of _ = 3
 
 -- how a fault is told
 abbrev pub fault_text : StreamFault → List ℕ

@@ -7,14 +7,8 @@ use Rattle.text_lines.specs.declared.words.WordFault.{WordFault}
 use Rattle.text_lines.specs.declared.words.WordFault.TheVariants.{Bad, OutOfMemory}
 
 abbrev pub word_fault : ReadFault → WordFault
-word_fault reader.BadName = Bad
-word_fault reader.BadId = Bad
-word_fault reader.BadSecret = Bad
-word_fault reader.BadUrl = Bad
-word_fault reader.BadMax = Bad
-word_fault reader.TooLong = Bad
-word_fault reader.BadMoment = Bad
 word_fault reader.OutOfMemory = OutOfMemory
+word_fault _ = Bad
 
 abbrev pub line_fault : WordFault → LineFault
 line_fault Bad = line.Bad
