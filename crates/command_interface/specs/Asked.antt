@@ -15,15 +15,15 @@ abbrev pub AskFor : List Row → ServeWords → Type 0
 AskFor rows asked =
     (first_of (codes "file") rows ≡ Some asked.file.now)
     × (first_of (codes "address") rows ≡ Some asked.address.now)
-    × HasNumber rows (codes "workers") asked.workers
-    × HasNumber rows (codes "intake") asked.intake
-    × HasNumber rows (codes "timeout") asked.timeout
-    × HasNumber rows (codes "requests") asked.requests
+    × HasNumber rows (codes "workers") asked.settings.workers
+    × HasNumber rows (codes "intake") asked.settings.intake
+    × HasNumber rows (codes "timeout") asked.settings.timeout
+    × HasNumber rows (codes "requests") asked.settings.requests
 
 -- each number is one of 64 bits
 abbrev pub AreWithinBits : ServeWords → Type 0
-AreWithinBits asked = (asked.workers < 2 ^ 64) × (asked.intake < 2 ^ 64) × (asked.timeout < 2 ^ 64)
-    × (asked.requests < 2 ^ 64)
+AreWithinBits asked = (asked.settings.workers < 2 ^ 64) × (asked.settings.intake < 2 ^ 64)
+    × (asked.settings.timeout < 2 ^ 64) × (asked.settings.requests < 2 ^ 64)
 
 -- the arguments ask for nothing: one is missing, or is no such number
 abbrev pub AskForNothing : List Row → Type 0

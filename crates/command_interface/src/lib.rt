@@ -8,4 +8,4 @@ mod serve_words;
 pub use crate::exit_status::{
     CommandFault, DONE, FAILED, FileFault, StoreFault, UNFIT, USAGE, end, tell_fault,
 };
-pub use crate::serve_words::{ServeWords, read_serve, serve_syntax};
+pub use crate::serve_words::{ServeWords, Settings, read_serve, serve_syntax};

@@ -20,11 +20,18 @@ pub struct ServeWords<'a> {
     pub file: &'a str,
     /// The address to listen on, as it was written.
     pub address: &'a str,
+    /// How it serves.
+    pub settings: Settings,
+}
+
+/// How a relay serves.
+#[derive(Clone, Copy, PartialEq, Eq, Debug)]
+pub struct Settings {
     /// How many threads post, 1 to 64.
     pub workers: u64,
-    /// How many threads take requests, 1 to 64.
+    /// How many threads take requests, each one connection at a time, 1 to 64.
     pub intake: u64,
-    /// How many seconds a subscriber has, 1 to 60.
+    /// How many seconds a subscriber has for the head of its answer, 1 to 60.
     pub timeout: u64,
     /// After so many answered requests the relay ends; 0 for never.
     pub requests: u64,
@@ -38,10 +45,12 @@ pub fn read_serve<'a>(words: &ArgMatches<'a>) -> Option<ServeWords<'a>>
     Some(ServeWords {
         file: words.get_str("file")?,
         address: words.get_str("address")?,
-        workers: words.get_one("workers")?,
-        intake: words.get_one("intake")?,
-        timeout: words.get_one("timeout")?,
-        requests: words.get_one("requests")?,
+        settings: Settings {
+            workers: words.get_one("workers")?,
+            intake: words.get_one("intake")?,
+            timeout: words.get_one("timeout")?,
+            requests: words.get_one("requests")?,
+        },
     })
 }
 

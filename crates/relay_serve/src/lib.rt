@@ -8,7 +8,6 @@ mod operator_log;
 mod relay;
 mod served;
 mod serving;
-mod settings;
 mod threads;
 mod work;
 
@@ -16,4 +15,3 @@ pub use crate::fault::{ServeFault, end_serving};
 pub use crate::operator_log::halt_text;
 pub use crate::served::Served;
 pub use crate::serving::{serve, serve_opened};
-pub use crate::settings::Settings;

@@ -17,9 +17,8 @@ use crate::opening::open_told;
 use crate::operator_log::{LogLine, tell};
 use crate::relay::Relay;
 use crate::served::Served;
-use crate::settings::Settings;
 use crate::threads::run_threads;
-use command_interface::ServeWords;
+use command_interface::{ServeWords, Settings};
 use delivery::{CommitterEnd, Ended, Keeper, LoggedKeeper, begin_run};
 use desk::Desk;
 use intake_shed::{Acknowledged, LatestAck};
@@ -111,9 +110,14 @@ where
             totals,
         },
     );
-    let settings = Settings::of(asked);
     let (_vault, ended, acknowledged) = serve_opened(
-        rt, listener, bound, desk, vault, place, settings,
+        rt,
+        listener,
+        bound,
+        desk,
+        vault,
+        place,
+        asked.settings,
     );
     if let Some(event) = acknowledged {
         tell(rt, rt.alloc(), &LogLine::Acknowledged(event.seq()));

@@ -4,8 +4,8 @@ ghost use Rattle.delivery.specs.Keepers.{Adds, AppendsBatches, IsOfKeeper, Keeps
 
 use crate::accept::{take_requests, wake};
 use crate::relay::Relay;
-use crate::settings::Settings;
 use crate::work::work;
+use command_interface::Settings;
 use delivery::{CommitterEnd, Ended, Keeper, LoggedKeeper, committer_run};
 use intake_shed::LatestAck;
 use run_log::LogId;

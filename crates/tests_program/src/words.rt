@@ -1,7 +1,7 @@
 //! The words of the command line: help, words that are refused, and a relay that is asked for.
 
 use crate::streams::{ask, holds, tell};
-use command_interface::ServeWords;
+use command_interface::{ServeWords, Settings};
 
 /// Words that ask for help, and how what is shown ends.
 #[derive(Clone, Copy)]
@@ -159,10 +159,12 @@ struct Serving {
 const USUAL: ServeWords<'static> = ServeWords {
     file: "relay.db",
     address: "127.0.0.1:8080",
-    workers: 8,
-    intake: 8,
-    timeout: 15,
-    requests: 0,
+    settings: Settings {
+        workers: 8,
+        intake: 8,
+        timeout: 15,
+        requests: 0,
+    },
 };
 
 static SERVING: &[Serving] = &[
@@ -188,10 +190,12 @@ static SERVING: &[Serving] = &[
         asked: ServeWords {
             file: "a",
             address: "b",
-            workers: 1,
-            intake: 64,
-            timeout: 60,
-            requests: 7,
+            settings: Settings {
+                workers: 1,
+                intake: 64,
+                timeout: 60,
+                requests: 7,
+            },
         },
     },
     Serving {
@@ -205,9 +209,12 @@ static SERVING: &[Serving] = &[
             "--timeout=1",
         ],
         asked: ServeWords {
-            workers: 64,
-            intake: 1,
-            timeout: 1,
+            settings: Settings {
+                workers: 64,
+                intake: 1,
+                timeout: 1,
+                requests: 0,
+            },
             ..USUAL
         },
     },
@@ -226,10 +233,12 @@ static SERVING: &[Serving] = &[
         asked: ServeWords {
             file: "relay.db",
             address: "[2001:0db8:0123:4567:89ab:cdef:0123:4567]:65535",
-            workers: 64,
-            intake: 64,
-            timeout: 60,
-            requests: u64::MAX,
+            settings: Settings {
+                workers: 64,
+                intake: 64,
+                timeout: 60,
+                requests: u64::MAX,
+            },
         },
     },
 ];

@@ -4,11 +4,12 @@ ghost use Rattle.permits.specs.declared.pool.TheConstants.{PARTS};
 
 use crate::given::{Host, MARK, SECRET, holds};
 use crate::wires::{exchange, take_post};
+use command_interface::Settings;
 use intake_shed::Acknowledged;
 use permits::PARTS;
 use recovery::create;
 use relay_host::{FileCheck, Place};
-use relay_serve::{Settings, serve_opened};
+use relay_serve::serve_opened;
 use relay_types::Name;
 use sqlite::{Alter, Connection, MemStore};
 use std::alloc::Global;
