@@ -4,7 +4,6 @@ use Rattle.std.proofs.Common.{Option, Some, None, length, get_or, refl, sym, ◌
 use Rattle.std.proofs.Common.{add-zero, length-append}
 use Rattle.std.specs.Prelude.{find, count_by, option_map}
 use Rattle.std.specs.List.{AllByRecursion, list_all}
-use Rattle.std.specs.BTreeMap.{BTreeMap, get, is_at}
 use Rattle.std.proofs.lemmas.Bool.{lt-ltb, le-ltb, cases_lt}
 use Rattle.std.proofs.lemmas.List.{take-append-le, get_or_append_left, get_or-append_right}
 use Rattle.std.proofs.lemmas.List.Elements.{All-from_recursion}
@@ -17,11 +16,12 @@ use Rattle.relay_types.specs.Deliveries.{is_in_state}
 use Rattle.relay_types.proofs.KnownLaws.{and_both}
 use Rattle.delivery_book.specs.declared.entry.Entry.{Entry}
 use Rattle.delivery_book.specs.declared.entry.Unsettled.{Unsettled}
-use Rattle.delivery_book.specs.declared.keys.EventKey.{EventKey}
+use Rattle.delivery_book.specs.declared.index.EventIndex.{EventIndex}
 use Rattle.delivery_book.specs.declared.tally.Tally.{Tally}
 use Rattle.delivery_book.specs.Entries.{new_entry, is_entry_as, is_kept, state_in}
-use Rattle.delivery_book.specs.Fields.{AreNew, IsBook, IsKeyed, IsIndex, HasMoreKeys, event_cmp, is_known_as}
-use Rattle.delivery_book.specs.Fields.{is_taken_below, key_of}
+use Rattle.delivery_book.specs.Fields.{AreNew, IsBook, IsKeyed, IsIndex, HasMoreKeys, HasNumber, HasSameKeys}
+use Rattle.delivery_book.specs.Fields.{is_known_as}
+use Rattle.delivery_book.specs.Fields.{is_taken_below, number_of}
 use Rattle.delivery_book.specs.Fields.{HasMore, HasSame, HasRoomForAll, KeepsRoom, in_state, counts_for, has_room}
 use Rattle.delivery_book.specs.Fields.{one_of}
 use Rattle.delivery_book.specs.Fields.{is_numbered, is_waiting, is_later, is_among, is_counted, settled_among}
@@ -79,7 +79,7 @@ numbered-append entries events next seq h up new =
         numbered_if last (get_or events k d) (omega (arith, l, new.numbers k d l))
         (omega (arith, (All-from_recursion IsFresh events new.fresh k d l).1))
 
-keyed-append : (index later : BTreeMap EventKey ℕ) (entries events : List Entry) (next seq settled n : ℕ)
+keyed-append : (index later : EventIndex) (entries events : List Entry) (next seq settled n : ℕ)
     → IsKeyed entries index next settled n → next ≤ seq → AreFrom seq events → IsIndex later (entries ++ events)
     → IsKeyed (entries ++ events) later (seq + length events) settled n
 keyed-append index later entries events next seq settled n h up new indexed = record {
@@ -124,7 +124,7 @@ found_still : (entries events : List Entry) (o : Unsettled) → is_later entries
     → is_later (entries ++ events) o ≡ true
 found_still entries events o h = grind (arith, find-append)
 
-pub book-append : (index later : BTreeMap EventKey ℕ) (tally counted settled_tally opened_tally : Tally)
+pub book-append : (index later : EventIndex) (tally counted settled_tally opened_tally : Tally)
     (entries events : List Entry) (unsettled : List Unsettled) (room more_room next settled n seq : ℕ)
     (first : Option ℕ)
     → IsBook entries index tally settled_tally unsettled room next settled n first → next ≤ seq → AreFrom seq events
@@ -168,17 +168,17 @@ book-append index later tally counted settled_tally opened_tally entries events 
     between i j d l m same =
         let b = get_or events j d in
         unknown_taken b.name b.id entries next b.seq i d
-        (unmapped (find (is_known_as (key_of b)) entries) (sym (h.keyed.indexed (key_of b)) ∙ unknown.unknown j d m))
+        (unmapped (find (is_known_as b.name b.id) entries)
+        (sym (h.keyed.indexed b.name b.id) ∙ unknown.unknown j d m))
         h.marks.taken (omega (arith, up, new.numbers j d m)) l same
 
 -- one more event
-pub book-push : (index later : BTreeMap EventKey ℕ) (tally counted settled_tally opened_tally : Tally)
+pub book-push : (index later : EventIndex) (tally counted settled_tally opened_tally : Tally)
     (entries : List Entry) (unsettled : List Unsettled) (room more_room next settled n : ℕ) (seq : ℕ) (first : Option ℕ)
     (name id body : List ℕ) (at : ℕ)
     → IsBook entries index tally settled_tally unsettled room next settled n first → next ≤ seq
     → find (λ x. is_entry_as name id x && is_kept x) entries ≡ None
-    → ((q : EventKey) → get event_cmp later q ≡ cond (is_at (event_cmp (record { name = name; id = id })) q) (Some seq)
-    (get event_cmp index q))
+    → HasNumber index name id (Some seq) later
     → ((those : Option (List ℕ)) (asked : State) → in_state asked (counts_for counted those) ≡ in_state asked
     (counts_for tally those) + one_of name Pending those asked)
     → ((those : Option (List ℕ)) → counts_for opened_tally those ≡ counts_for settled_tally those)
@@ -194,7 +194,7 @@ book-push index later tally counted settled_tally opened_tally entries unsettled
     settled n seq first h l (record { numbers = numbers; fresh = ((refl, refl, refl), tt) })
     (record { unknown = alone; apart = λ i j d lt m. absurd (omega (arith, lt, m)) })
     (keys-push index index later [] e missing refl
-    (λ q. sym (none_more (get event_cmp index q))) updated)
+    (λ name id. sym (none_more (number_of index name id))) updated)
     (λ those asked. again those asked
     ∙ ap (λ m. in_state asked (counts_for tally those) + m)
     (sym (sum_by-cons (one those asked) e [] ∙ add-zero (one those asked e))))
@@ -206,10 +206,11 @@ book-push index later tally counted settled_tally opened_tally entries unsettled
     one : Option (List ℕ) → State → Entry → ℕ
     one those asked x = cond (is_counted (λ y. y.settled) those asked x) 1 0
 
-    missing : get event_cmp index (key_of e) ≡ None
-    missing = h.keyed.indexed (key_of e) ∙ ap (option_map (λ x. x.seq)) unknown
+    missing : number_of index name id ≡ None
+    missing = h.keyed.indexed name id ∙ ap (option_map (λ x. x.seq)) unknown
 
-    alone : (k : ℕ) (d : Entry) → k < 1 → get event_cmp index (key_of (get_or (e ∷ []) k d)) ≡ None
+    alone : (k : ℕ) (d : Entry) → k < 1
+        → number_of index (get_or (e ∷ []) k d).name (get_or (e ∷ []) k d).id ≡ None
     alone zero d lt = missing
     alone (suc k) d lt = absurd (omega (arith, lt))
 
@@ -218,10 +219,10 @@ book-push index later tally counted settled_tally opened_tally entries unsettled
     numbers (suc k) d lt = absurd (omega (arith, lt))
 
 -- the same keys and counts, with as much room or more
-pub book-same : (index kept : BTreeMap EventKey ℕ) (tally counted settled_tally opened_tally : Tally)
+pub book-same : (index kept : EventIndex) (tally counted settled_tally opened_tally : Tally)
     (entries : List Entry) (unsettled : List Unsettled) (room more_room next settled n : ℕ) (first : Option ℕ)
     → IsBook entries index tally settled_tally unsettled room next settled n first
-    → ((k : EventKey) → get event_cmp kept k ≡ get event_cmp index k)
+    → HasSameKeys index kept
     → ((those : Option (List ℕ)) → counts_for counted those ≡ counts_for tally those)
     → ((those : Option (List ℕ)) → counts_for opened_tally those ≡ counts_for settled_tally those)
     → ((asked : List ℕ) → has_room settled_tally asked ≡ true → has_room opened_tally asked ≡ true)
@@ -232,7 +233,7 @@ book-same index kept tally counted settled_tally opened_tally entries unsettled 
         ascending = h.keyed.ascending;
         numbered = h.keyed.numbered;
         settled_next = h.keyed.settled_next;
-        indexed = λ k. keys k ∙ h.keyed.indexed k;
+        indexed = λ name id. keys name id ∙ h.keyed.indexed name id;
         settled_within = h.keyed.settled_within;
         settled_below = h.keyed.settled_below;
         settled_above = h.keyed.settled_above;

@@ -3,15 +3,14 @@ use Rattle.std.proofs.Common.{◌≡◌, ◌≢◌, ℕ, zero, suc, ◌+◌, ◌
 use Rattle.std.proofs.Common.{None, length, take, get_or, refl, sym, ◌∙◌, ap, arith, add-zero}
 use Rattle.std.specs.Prelude.{All, AllPairs, bytes_eq, find, option_map}
 use Rattle.std.specs.List.{AllByRecursion}
-use Rattle.std.specs.BTreeMap.{BTreeMap}
 use Rattle.std.specs.Cmp.Lexicographic.{bytes_decides}
 use Rattle.std.proofs.lemmas.Bool.{false_from_ne_true}
 use Rattle.std.proofs.lemmas.List.{length-take-le, take_more}
 use Rattle.relay_types.specs.Steps.{accepts}
 use Rattle.delivery_book.specs.declared.entry.Entry.{Entry}
-use Rattle.delivery_book.specs.declared.keys.EventKey.{EventKey}
+use Rattle.delivery_book.specs.declared.index.EventIndex.{EventIndex}
 use Rattle.delivery_book.specs.Entries.{events_from, is_entry_as, is_kept, new_entry}
-use Rattle.delivery_book.specs.Fields.{AreNew, IsIndex, is_known_as, key_of}
+use Rattle.delivery_book.specs.Fields.{AreNew, IsIndex, is_known_as}
 use Rattle.delivery_book.proofs.Books.{AreFrom}
 use Rattle.delivery_book.proofs.Updates.{IsFresh}
 
@@ -69,15 +68,15 @@ module _ (id body : List ℕ) (at : ℕ) where
   }
 
   -- the index has none of them, and each has a key of its own, where the endpoints are apart and none knows the id
-  pub made_new : (index : BTreeMap EventKey ℕ) (entries : List Entry) (seq : ℕ) (names : List (List ℕ))
+  pub made_new : (index : EventIndex) (entries : List Entry) (seq : ℕ) (names : List (List ℕ))
       → IsIndex index entries
       → AllPairs (λ a b. a ≢ b) names
       → All (λ name. option_map (λ e. e.seq) (find (λ e. is_entry_as name id e && is_kept e) entries) ≡ None) names
       → AreNew index (made seq names)
   made_new index entries seq names indexed apart unknown = record {
     unknown = λ k d h.
-        indexed (key_of (get_or (made seq names) k d))
-        ∙ ap (λ (e : Entry). option_map (λ (x : Entry). x.seq) (find (is_known_as (key_of e)) entries))
+        indexed (get_or (made seq names) k d).name (get_or (made seq names) k d).id
+        ∙ ap (λ (e : Entry). option_map (λ (x : Entry). x.seq) (find (is_known_as e.name e.id) entries))
         (made_at seq names k d [] (within k h))
         ∙ unknown k [] (within k h);
     apart = λ i j d lt h.

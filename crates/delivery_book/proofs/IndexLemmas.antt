@@ -1,48 +1,111 @@
 -- The keys of the index, as events are added and removed.
 use Rattle.std.proofs.Common.{◌≡◌, ◌&&◌, ℕ, suc, ◌+◌, ◌<◌, Bool, true, false, not, List, [], ◌∷◌, ◌++◌, Option, Some}
 use Rattle.std.proofs.Common.{None}
-use Rattle.std.proofs.Common.{length, map, take, get_or, refl, sym, ◌∙◌, ap, subst, arith, cond, true≢false}
+use Rattle.std.proofs.Common.{length, map, take, drop, get_or, refl, sym, ◌∙◌, ap, subst, arith, cond, true≢false}
 use Rattle.std.specs.Prelude.{◌||◌, All, AllPairs, OnErr, OnOk, Result, Ok, Err, is_err, is_some, filter, find}
 use Rattle.std.specs.Prelude.{option_map, bytes_eq}
 use Rattle.std.specs.List.{AllByRecursion, list_any}
 use Rattle.std.specs.Option.{option_or}
 use Rattle.std.specs.Cmp.{first_so, second_so}
 use Rattle.std.specs.Cmp.Lexicographic.{bytes_decides, slice_cmp}
-use Rattle.std.specs.BTreeMap.{BTreeMap, get, is_at}
-use Rattle.std.specs.declared.cmp.Ordering.{Ordering}
-use Rattle.std.specs.declared.cmp.Ordering.TheVariants.{Less, Equal, Greater}
-use Rattle.std.specs.Ordering.{is_eq, nat_cmp, ordering_then}
+use Rattle.std.specs.BTreeMap.{BTreeMap, UpdatesBy, get_by}
+use Rattle.std.specs.Box.{boxed_slice_items}
+use Rattle.std.specs.Map.{KeepsOthers}
+use Rattle.std.specs.Ordering.{is_eq, nat_cmp}
+use Rattle.std.specs.declared.alloc.Global.{Global}
+use Rattle.std.specs.declared.boxed.BoxedSlice.{BoxedSlice}
+use Rattle.std.proofs.lemmas.Cmp.{eq_by_cmp_equiv, nat_list_cmp_total}
 use Rattle.std.proofs.lemmas.Bool.{false_from_ne_true}
 use Rattle.std.proofs.lemmas.Map.Text.{is_eq-slice_cmp}
-use Rattle.std.proofs.lemmas.List.{get_or_default, get_or-take, length-take-le, take_more}
+use Rattle.std.proofs.lemmas.List.{take_at, drop_at, get_or_default, get_or-take, length-take-le, take_more}
 use Rattle.std.proofs.lemmas.List.Folds.{Any-from_list_any, find-append, list_any-append, list_any_none}
-use Rattle.relay_types.proofs.KnownLaws.{and_first, and_second}
+use Rattle.relay_types.proofs.KnownLaws.{and_both, and_first, and_second}
 use Rattle.relay_types.proofs.RowLaws.{find_map}
 use Rattle.delivery_book.specs.declared.entry.Entry.{Entry}
-use Rattle.delivery_book.specs.declared.keys.EventKey.{EventKey}
+use Rattle.delivery_book.specs.declared.index.EventIndex.{EventIndex}
 use Rattle.delivery_book.specs.Entries.{is_done_before, is_entry_as, is_kept, marked}
-use Rattle.delivery_book.specs.Fields.{AreApart, AreNew, HasLessKeys, HasMoreKeys, HasSameKeys, IsIndex, event_cmp}
-use Rattle.delivery_book.specs.Fields.{is_known_as, key_of}
+use Rattle.delivery_book.specs.Fields.{AreApart, AreNew, HasLessKeys, HasMoreKeys, HasNumber, HasSameKeys, IsIndex}
+use Rattle.delivery_book.specs.Fields.{is_known_as, key_bytes, number_of}
 use Rattle.delivery_book.proofs.Updates.{IsFresh}
 use Rattle.delivery_book.proofs.Marks.{kept_left, marked_keeps, marked_way}
 
-ties : (a b : Ordering) → is_eq (ordering_then a b) ≡ is_eq a && is_eq b
-ties Less b = refl
-ties Equal b = refl
-ties Greater b = refl
+-- where the characters of two events are the same, they are one
+same_event : (name id other other_id : List ℕ) → bytes_eq name other && bytes_eq id other_id ≡ true
+    → (name ≡ other) × (id ≡ other_id)
+same_event name id other other_id same = (
+  (bytes_decides name other).0 (first_so (bytes_eq name other) (bytes_eq id other_id) same),
+  (bytes_decides id other_id).0 (second_so (bytes_eq name other) (bytes_eq id other_id) same),
+)
 
--- keys tie exactly where their characters are the same
-same_at : (k q : EventKey) → is_at (event_cmp k) q ≡ bytes_eq k.name q.name && bytes_eq k.id q.id
-same_at k q =
-    ties (slice_cmp nat_cmp k.name q.name) (slice_cmp nat_cmp k.id q.id)
-    ∙ (λ i. is_eq-slice_cmp k.name q.name i && is_eq-slice_cmp k.id q.id i)
+-- what a map has at any bytes, after a change at some
+module _ (bs : List ℕ) (old new : BTreeMap (BoxedSlice ℕ Global) ℕ) (number : Option ℕ) where
+  pub number_set : UpdatesBy (λ x y. slice_cmp nat_cmp (boxed_slice_items x) (boxed_slice_items y))
+      (λ k. slice_cmp nat_cmp bs (boxed_slice_items k)) old new number
+      → (cs : List ℕ) → get_by (λ k. slice_cmp nat_cmp cs (boxed_slice_items k)) new
+      ≡ cond (bytes_eq bs cs) number (get_by (λ k. slice_cmp nat_cmp cs (boxed_slice_items k)) old)
+  unfolding KeepsOthers
+  number_set h cs = pick (bytes_eq bs cs) refl
+    where
+      apart : bytes_eq bs cs ≡ false → (k : BoxedSlice ℕ Global)
+          → is_eq (slice_cmp nat_cmp bs (boxed_slice_items k)) ≡ true
+          → is_eq (slice_cmp nat_cmp cs (boxed_slice_items k)) ≡ false
+      apart other k is = false_from_ne_true _ (λ also.
+          true≢false (sym ((bytes_decides bs cs).1
+          ((bytes_decides bs (boxed_slice_items k)).0 (sym (is_eq-slice_cmp bs (boxed_slice_items k)) ∙ is)
+          ∙ sym ((bytes_decides cs (boxed_slice_items k)).0 (sym (is_eq-slice_cmp cs (boxed_slice_items k)) ∙ also))))
+          ∙ other))
 
--- an entry with the characters of a key has that key
-same_key : (e : Entry) (q : EventKey) → bytes_eq e.name q.name && bytes_eq e.id q.id ≡ true → key_of e ≡ q
-same_key e q same i = record {
-  name = (bytes_decides e.name q.name).0 (first_so (bytes_eq e.name q.name) (bytes_eq e.id q.id) same) i;
-  id = (bytes_decides e.id q.id).0 (second_so (bytes_eq e.name q.name) (bytes_eq e.id q.id) same) i;
-}
+      pick : (b : Bool) → bytes_eq bs cs ≡ b
+          → get_by (λ k. slice_cmp nat_cmp cs (boxed_slice_items k)) new
+          ≡ cond b number (get_by (λ k. slice_cmp nat_cmp cs (boxed_slice_items k)) old)
+      pick true same =
+          ap (λ l. get_by (λ k. slice_cmp nat_cmp l (boxed_slice_items k)) new) (sym ((bytes_decides bs cs).0 same))
+          ∙ h.1
+      pick false other = h.3 (λ k. is_eq (slice_cmp nat_cmp cs (boxed_slice_items k)))
+          (λ x y. (eq_by_cmp_equiv nat_list_cmp_total).congr cs (boxed_slice_items x) (boxed_slice_items y))
+          (apart other)
+
+-- keys are the same exactly where the names and the ids are
+same_bools : (a b : Bool) → (a ≡ true → b ≡ true) → (b ≡ true → a ≡ true) → a ≡ b
+same_bools true b there back = sym (there refl)
+same_bools false true there back = absurd (true≢false (sym (back refl)))
+same_bools false false there back = refl
+
+pub same_key : (name id other other_id : List ℕ)
+    → bytes_eq (key_bytes name id) (key_bytes other other_id) ≡ bytes_eq name other && bytes_eq id other_id
+same_key name id other other_id =
+    same_bools (bytes_eq (key_bytes name id) (key_bytes other other_id)) (bytes_eq name other && bytes_eq id other_id)
+    there back
+  where
+    there : bytes_eq (key_bytes name id) (key_bytes other other_id) ≡ true
+        → bytes_eq name other && bytes_eq id other_id ≡ true
+    there same =
+        let is = (bytes_decides (key_bytes name id) (key_bytes other other_id)).0 same in
+        let long : length name ≡ length other = ap (λ l. get_or l 0 0) is in
+        let rest : name ++ id ≡ other ++ other_id = ap (drop 1) is in
+        and_both _ _
+        ((bytes_decides name other).1
+        (sym (take_at name id (length other) long) ∙ ap (take (length other)) rest
+        ∙ take_at other other_id (length other) refl))
+        ((bytes_decides id other_id).1
+        (sym (drop_at name id (length other) long) ∙ ap (drop (length other)) rest
+        ∙ drop_at other other_id (length other) refl))
+
+    back : bytes_eq name other && bytes_eq id other_id ≡ true
+        → bytes_eq (key_bytes name id) (key_bytes other other_id) ≡ true
+    back both =
+        let same = same_event name id other other_id both in
+        (bytes_decides (key_bytes name id) (key_bytes other other_id)).1 (λ i. key_bytes (same.0 i) (same.1 i))
+
+-- the index after a change at the key of an event
+pub number_changed : (old new : EventIndex) (key name id : List ℕ) (number : Option ℕ) → key ≡ key_bytes name id
+    → UpdatesBy (λ x y. slice_cmp nat_cmp (boxed_slice_items x) (boxed_slice_items y))
+    (λ k. slice_cmp nat_cmp key (boxed_slice_items k)) old.numbers new.numbers number
+    → HasNumber old name id number new
+number_changed old new key name id number is h other other_id =
+    number_set key old.numbers new.numbers number h (key_bytes other other_id)
+    ∙ ap (λ b. cond b number (number_of old other other_id))
+    (ap (λ k. bytes_eq k (key_bytes other other_id)) is ∙ same_key name id other other_id)
 
 pub none_more : {X : Type 0} (o : Option X) → option_or o None ≡ o
 none_more None = refl
@@ -79,42 +142,41 @@ on_err (Ok v) P h e = absurd (true≢false (sym e))
 on_err (Err x) P h e = h
 
 -- the index with the key of one more event
-pub keys-push : (index now later : BTreeMap EventKey ℕ) (events : List Entry) (e : Entry)
-    → get event_cmp index (key_of e) ≡ None → list_any (is_entry_as e.name e.id) events ≡ false
-    → HasMoreKeys index events now
-    → ((q : EventKey)
-    → get event_cmp later q ≡ cond (is_at (event_cmp (key_of e)) q) (Some e.seq) (get event_cmp now q))
+pub keys-push : (index now later : EventIndex) (events : List Entry) (e : Entry)
+    → number_of index e.name e.id ≡ None → list_any (is_entry_as e.name e.id) events ≡ false
+    → HasMoreKeys index events now → HasNumber now e.name e.id (Some e.seq) later
     → HasMoreKeys index (events ++ e ∷ []) later
-keys-push index now later events e unknown apart h updated q =
-    updated q
-    ∙ ap (λ b. cond b (Some e.seq) (get event_cmp now q)) (same_at (key_of e) q)
-    ∙ pick (bytes_eq e.name q.name && bytes_eq e.id q.id) refl
-    ∙ ap (λ o. option_or (get event_cmp index q) (option_map (λ (x : Entry). x.seq) o))
-    (sym (find-append (is_entry_as q.name q.id) events (e ∷ [])))
+keys-push index now later events e unknown apart h updated name id =
+    updated name id
+    ∙ pick (is_entry_as name id e) refl
+    ∙ ap (λ o. option_or (number_of index name id) (option_map (λ (x : Entry). x.seq) o))
+    (sym (find-append (is_entry_as name id) events (e ∷ [])))
   where
-    pick : (b : Bool) → bytes_eq e.name q.name && bytes_eq e.id q.id ≡ b
-        → cond b (Some e.seq) (get event_cmp now q)
-        ≡ option_or (get event_cmp index q)
-        (option_map (λ x. x.seq) (option_or (find (is_entry_as q.name q.id) events) (cond b (Some e) None)))
+    pick : (b : Bool) → is_entry_as name id e ≡ b
+        → cond b (Some e.seq) (number_of now name id)
+        ≡ option_or (number_of index name id)
+        (option_map (λ x. x.seq) (option_or (find (is_entry_as name id) events) (cond b (Some e) None)))
     pick true same = sym (λ i. option_or (none i) (option_map (λ (x : Entry). x.seq) (option_or (found i) (Some e))))
       where
-        none : get event_cmp index q ≡ None
-        none = ap (get event_cmp index) (sym (same_key e q same)) ∙ unknown
+        one : (e.name ≡ name) × (e.id ≡ id)
+        one = same_event e.name e.id name id same
 
-        found : find (is_entry_as q.name q.id) events ≡ None
+        none : number_of index name id ≡ None
+        none = (λ t. number_of index (sym one.0 t) (sym one.1 t)) ∙ unknown
+
+        found : find (is_entry_as name id) events ≡ None
         found =
-            ap (λ (k : EventKey). find (is_entry_as k.name k.id) events) (sym (same_key e q same))
+            (λ t. find (is_entry_as (sym one.0 t) (sym one.1 t)) events)
             ∙ none_found (is_entry_as e.name e.id) events apart
     pick false other =
-        h q
-        ∙ ap (λ o. option_or (get event_cmp index q) (option_map (λ (x : Entry). x.seq) o))
-        (sym (none_more (find (is_entry_as q.name q.id) events)))
+        h name id
+        ∙ ap (λ o. option_or (number_of index name id) (option_map (λ (x : Entry). x.seq) o))
+        (sym (none_more (find (is_entry_as name id) events)))
 
 -- at a step of a loop that adds keys
-pub keys-more : (index now later : BTreeMap EventKey ℕ) (events : List Entry) (i : ℕ) (e : Entry) → AreNew index events
+pub keys-more : (index now later : EventIndex) (events : List Entry) (i : ℕ) (e : Entry) → AreNew index events
     → i < length events → e ≡ get_or events i e → HasMoreKeys index (take i events) now
-    → ((q : EventKey)
-    → get event_cmp later q ≡ cond (is_at (event_cmp (key_of e)) q) (Some e.seq) (get event_cmp now q))
+    → HasNumber now e.name e.id (Some e.seq) later
     → HasMoreKeys index (take (i + 1) events) later
 keys-more index now later events i e new h is more updated =
     subst (λ es. HasMoreKeys index es later)
@@ -122,8 +184,8 @@ keys-more index now later events i e new h is more updated =
     (keys-push index now later (take i events) e unknown (list_any_none (is_entry_as e.name e.id) (take i events) apart)
     more updated)
   where
-    unknown : get event_cmp index (key_of e) ≡ None
-    unknown = ap (λ x. get event_cmp index (key_of x)) is ∙ new.unknown i e h
+    unknown : number_of index e.name e.id ≡ None
+    unknown = ap (λ (x : Entry). number_of index x.name x.id) is ∙ new.unknown i e h
 
     apart : (k : ℕ) (d : Entry) → k < length (take i events)
         → is_entry_as e.name e.id (get_or (take i events) k d) ≡ false
@@ -134,59 +196,59 @@ keys-more index now later events i e new h is more updated =
         ∙ new.apart k i d within h
 
 -- the index without the key of one more event
-pub keys-drop : (index now later : BTreeMap EventKey ℕ) (some : List Entry) (e : Entry) → HasLessKeys index some now
-    → ((q : EventKey) → get event_cmp later q ≡ cond (is_at (event_cmp (key_of e)) q) None (get event_cmp now q))
-    → HasLessKeys index (some ++ e ∷ []) later
-keys-drop index now later some e less updated q =
-    updated q
-    ∙ (λ t. cond (same_at (key_of e) q t) None (less q t))
-    ∙ pick (is_entry_as q.name q.id e) (list_any (is_entry_as q.name q.id) some)
-    ∙ ap (λ b. cond b None (get event_cmp index q)) (sym (list_any-append (is_entry_as q.name q.id) some (e ∷ [])))
+pub keys-drop : (index now later : EventIndex) (some : List Entry) (e : Entry) → HasLessKeys index some now
+    → HasNumber now e.name e.id None later → HasLessKeys index (some ++ e ∷ []) later
+keys-drop index now later some e less updated name id =
+    updated name id
+    ∙ (λ t. cond (is_entry_as name id e) None (less name id t))
+    ∙ pick (is_entry_as name id e) (list_any (is_entry_as name id) some)
+    ∙ ap (λ b. cond b None (number_of index name id)) (sym (list_any-append (is_entry_as name id) some (e ∷ [])))
   where
-    pick : (a b : Bool) → cond a None (cond b None (get event_cmp index q))
-        ≡ cond (b || (a || false)) None (get event_cmp index q)
+    pick : (a b : Bool) → cond a None (cond b None (number_of index name id))
+        ≡ cond (b || (a || false)) None (number_of index name id)
     pick true true = refl
     pick true false = refl
     pick false true = refl
     pick false false = refl
 
 -- at a step of a loop that removes them
-pub keys-less : (index now later : BTreeMap EventKey ℕ) (events : List Entry) (i : ℕ) (e : Entry)
+pub keys-less : (index now later : EventIndex) (events : List Entry) (i : ℕ) (e : Entry)
     → i < length events → e ≡ get_or events i e → HasLessKeys index (take i events) now
-    → ((q : EventKey) → get event_cmp later q ≡ cond (is_at (event_cmp (key_of e)) q) None (get event_cmp now q))
-    → HasLessKeys index (take (i + 1) events) later
+    → HasNumber now e.name e.id None later → HasLessKeys index (take (i + 1) events) later
 keys-less index now later events i e h is less updated =
     subst (λ es. HasLessKeys index es later) ((λ t. take i events ++ is t ∷ []) ∙ sym (take_more events i e h))
     (keys-drop index now later (take i events) e less updated)
 
 -- the index without the keys of events that it had not had before
-pub keys-undone : (index now later : BTreeMap EventKey ℕ) (events : List Entry)
-    → All (λ e. get event_cmp index (key_of e) ≡ None) events → HasMoreKeys index events now
+pub keys-undone : (index now later : EventIndex) (events : List Entry)
+    → All (λ e. number_of index e.name e.id ≡ None) events → HasMoreKeys index events now
     → HasLessKeys now events later → HasSameKeys index later
-keys-undone index now later events unknown more less q = less q ∙ pick (list_any (is_entry_as q.name q.id) events) refl
+keys-undone index now later events unknown more less name id =
+    less name id ∙ pick (list_any (is_entry_as name id) events) refl
   where
-    pick : (b : Bool) → list_any (is_entry_as q.name q.id) events ≡ b
-        → cond b None (get event_cmp now q) ≡ get event_cmp index q
+    pick : (b : Bool) → list_any (is_entry_as name id) events ≡ b
+        → cond b None (number_of now name id) ≡ number_of index name id
     pick true some =
-        let found = Any-from_list_any (is_entry_as q.name q.id) events some in
-        sym (ap (get event_cmp index) (sym (same_key found.1 q found.4))
-        ∙ ap (λ e. get event_cmp index (key_of e)) (sym found.3)
+        let found = Any-from_list_any (is_entry_as name id) events some in
+        let one = same_event found.1.name found.1.id name id found.4 in
+        sym ((λ t. number_of index (sym one.0 t) (sym one.1 t))
+        ∙ ap (λ (e : Entry). number_of index e.name e.id) (sym found.3)
         ∙ unknown found.0 found.1 found.2)
     pick false none =
-        more q
-        ∙ ap (λ o. option_or (get event_cmp index q) (option_map (λ (x : Entry). x.seq) o))
-        (none_found (is_entry_as q.name q.id) events none)
-        ∙ none_more (get event_cmp index q)
+        more name id
+        ∙ ap (λ o. option_or (number_of index name id) (option_map (λ (x : Entry). x.seq) o))
+        (none_found (is_entry_as name id) events none)
+        ∙ none_more (number_of index name id)
 
 -- the index with the keys of more events is that of the longer list
-pub indexed-append : (index later : BTreeMap EventKey ℕ) (entries events : List Entry)
+pub indexed-append : (index later : EventIndex) (entries events : List Entry)
     → IsIndex index entries → AllByRecursion IsFresh events → HasMoreKeys index events later
     → IsIndex later (entries ++ events)
-indexed-append index later entries events h fresh more q =
-    more q
-    ∙ (λ t. option_or (h q t) (option_map (λ x. x.seq) (all_kept events fresh t)))
-    ∙ either (find (is_known_as q) entries) (find (is_known_as q) events)
-    ∙ ap (option_map (λ x. x.seq)) (sym (find-append (is_known_as q) entries events))
+indexed-append index later entries events h fresh more name id =
+    more name id
+    ∙ (λ t. option_or (h name id t) (option_map (λ x. x.seq) (all_kept events fresh t)))
+    ∙ either (find (is_known_as name id) entries) (find (is_known_as name id) events)
+    ∙ ap (option_map (λ x. x.seq)) (sym (find-append (is_known_as name id) entries events))
   where
     either : (o r : Option Entry) → option_or (option_map (λ (x : Entry). x.seq) o) (option_map (λ x. x.seq) r)
         ≡ option_map (λ x. x.seq) (option_or o r)
@@ -198,9 +260,9 @@ indexed-append index later entries events h fresh more q =
     kept false o none = refl
 
     all_kept : (some : List Entry) → AllByRecursion IsFresh some
-        → find (is_entry_as q.name q.id) some ≡ find (is_known_as q) some
+        → find (is_entry_as name id) some ≡ find (is_known_as name id) some
     all_kept [] all = refl
-    all_kept (e ∷ es) all = λ t. cond (kept (is_entry_as q.name q.id e) e.taken_by all.0.2 t) (Some e)
+    all_kept (e ∷ es) all = λ t. cond (kept (is_entry_as name id e) e.taken_by all.0.2 t) (Some e)
         (all_kept es all.1 t)
 
 -- The index after a Purge
@@ -228,16 +290,16 @@ find_once p r (x ∷ xs) apart =
         (sym (any_fewer p (λ y. p y && r y) xs (λ y. fewer (λ c d. c && d) (p y) (r y) (λ c. refl)) (none refl)))
     pick false b none later = later
 
-module _ (seq moment : ℕ) (q : EventKey) where
+module _ (seq moment : ℕ) (name id : List ℕ) where
   -- no two entries of one event are known
   pub known_once : (entries : List Entry) → AreApart entries
-      → AllPairs (λ a b. is_known_as q a ≡ true → is_known_as q b ≡ false) entries
+      → AllPairs (λ a b. is_known_as name id a ≡ true → is_known_as name id b ≡ false) entries
   known_once entries apart i j d lt l known =
-      false_from_ne_true (is_known_as q b) (λ also.
-      let key = same_key b q (and_first (is_entry_as q.name q.id b) _ also) in
-      let same = (λ t. is_entry_as (key t).name (key t).id a) ∙ and_first (is_entry_as q.name q.id a) _ known in
+      false_from_ne_true (is_known_as name id b) (λ also.
+      let one = same_event b.name b.id name id (and_first (is_entry_as name id b) _ also) in
+      let same = (λ t. is_entry_as (one.0 t) (one.1 t) a) ∙ and_first (is_entry_as name id a) _ known in
       true≢false (sym (apart i j d lt l same)
-      ∙ ap not (kept_left b.seq a (and_second (is_entry_as q.name q.id a) _ known))))
+      ∙ ap not (kept_left b.seq a (and_second (is_entry_as name id a) _ known))))
     where
       a : Entry
       a = get_or entries i d
@@ -247,11 +309,12 @@ module _ (seq moment : ℕ) (q : EventKey) where
 
   -- which is known after the Purge
   still_known : (e : Entry)
-      → is_known_as q (marked seq moment e) ≡ is_known_as q e && not (is_done_before moment e.latest)
+      → is_known_as name id (marked seq moment e) ≡ is_known_as name id e && not (is_done_before moment e.latest)
   still_known e =
-      marked_way (λ x. is_known_as q x ≡ is_known_as q e && not (is_done_before moment e.latest)) seq moment e
-      (λ kept done. taken (is_entry_as q.name q.id e) (is_kept e) (is_done_before moment e.latest) done)
-      (other (is_entry_as q.name q.id e) (is_kept e) (is_done_before moment e.latest))
+      marked_way (λ x. is_known_as name id x ≡ is_known_as name id e && not (is_done_before moment e.latest)) seq moment
+      e
+      (λ kept done. taken (is_entry_as name id e) (is_kept e) (is_done_before moment e.latest) done)
+      (other (is_entry_as name id e) (is_kept e) (is_done_before moment e.latest))
     where
       taken : (a b c : Bool) → c ≡ true → a && false ≡ (a && b) && not c
       taken true true true is = refl
@@ -267,39 +330,41 @@ module _ (seq moment : ℕ) (q : EventKey) where
 
   -- those that the Purge takes, of which there are any
   done_any : (entries : List Entry)
-      → list_any (is_entry_as q.name q.id) (filter (λ e. is_kept e && is_done_before moment e.latest) entries)
-      ≡ list_any (λ e. is_known_as q e && is_done_before moment e.latest) entries
+      → list_any (is_entry_as name id) (filter (λ e. is_kept e && is_done_before moment e.latest) entries)
+      ≡ list_any (λ e. is_known_as name id e && is_done_before moment e.latest) entries
   done_any [] = refl
   done_any (x ∷ xs) =
-      pick (is_entry_as q.name q.id x) (is_kept x) (is_done_before moment x.latest) refl
-      ∙ ap (λ b. (is_known_as q x && is_done_before moment x.latest) || b) (done_any xs)
+      pick (is_entry_as name id x) (is_kept x) (is_done_before moment x.latest) refl
+      ∙ ap (λ b. (is_known_as name id x && is_done_before moment x.latest) || b) (done_any xs)
     where
       rest : List Entry
       rest = filter (λ e. is_kept e && is_done_before moment e.latest) xs
 
-      pick : (a b c : Bool) → is_entry_as q.name q.id x ≡ a
-          → list_any (is_entry_as q.name q.id) (cond (b && c) (x ∷ rest) rest)
-          ≡ ((a && b) && c) || list_any (is_entry_as q.name q.id) rest
-      pick true true true is = ap (λ o. o || list_any (is_entry_as q.name q.id) rest) is
-      pick false true true is = ap (λ o. o || list_any (is_entry_as q.name q.id) rest) is
+      pick : (a b c : Bool) → is_entry_as name id x ≡ a
+          → list_any (is_entry_as name id) (cond (b && c) (x ∷ rest) rest)
+          ≡ ((a && b) && c) || list_any (is_entry_as name id) rest
+      pick true true true is = ap (λ o. o || list_any (is_entry_as name id) rest) is
+      pick false true true is = ap (λ o. o || list_any (is_entry_as name id) rest) is
       pick true true false is = refl
       pick false true false is = refl
       pick true false c is = refl
       pick false false c is = refl
 
 -- the index without the keys of those that the Purge takes is that of the entries after it
-pub indexed-purge : (index later : BTreeMap EventKey ℕ) (entries : List Entry) (seq moment : ℕ) → IsIndex index entries
+pub indexed-purge : (index later : EventIndex) (entries : List Entry) (seq moment : ℕ) → IsIndex index entries
     → AreApart entries → HasLessKeys index (filter (λ e. is_kept e && is_done_before moment e.latest) entries) later
     → IsIndex later (map (marked seq moment) entries)
-indexed-purge index later entries seq moment h apart less q =
-    less q
-    ∙ (λ t. cond (done_any seq moment q entries t) None (h q t))
-    ∙ numbers (list_any (λ e. is_known_as q e && is_done_before moment e.latest) entries) (find (is_known_as q) entries)
+indexed-purge index later entries seq moment h apart less name id =
+    less name id
+    ∙ (λ t. cond (done_any seq moment name id entries t) None (h name id t))
+    ∙ numbers (list_any (λ e. is_known_as name id e && is_done_before moment e.latest) entries)
+    (find (is_known_as name id) entries)
     ∙ sym (ap (option_map (λ (e : Entry). e.seq))
-    (find_map (marked seq moment) (is_known_as q) entries
-    ∙ ap (λ p. option_map (marked seq moment) (find p entries)) (λ t e. still_known seq moment q e t)
+    (find_map (marked seq moment) (is_known_as name id) entries
+    ∙ ap (λ p. option_map (marked seq moment) (find p entries)) (λ t e. still_known seq moment name id e t)
     ∙ ap (option_map (marked seq moment))
-    (find_once (is_known_as q) (λ e. is_done_before moment e.latest) entries (known_once seq moment q entries apart))))
+    (find_once (is_known_as name id) (λ e. is_done_before moment e.latest) entries
+    (known_once seq moment name id entries apart))))
   where
     numbers : (b : Bool) (o : Option Entry) → cond b None (option_map (λ (e : Entry). e.seq) o)
         ≡ option_map (λ e. e.seq) (option_map (marked seq moment) (cond b None o))

@@ -6,7 +6,6 @@ use Rattle.std.proofs.Common.{append-nil, length-append}
 use Rattle.std.specs.Prelude.{count_by, filter, max, option_map, option_to_list}
 use Rattle.std.specs.Option.{option_map_or}
 use Rattle.std.specs.List.{AllByRecursion, list_all}
-use Rattle.std.specs.BTreeMap.{BTreeMap}
 use Rattle.std.proofs.lemmas.Bool.{cases_lt, lt-ltb, ltb-true}
 use Rattle.std.proofs.Math.Seq.{take-set-lt}
 use Rattle.std.proofs.lemmas.List.{drop_all, get_or-take, length-map, length-set, length-take-le, take-map, take_all}
@@ -18,7 +17,7 @@ use Rattle.relay_types.specs.declared.state.State.TheVariants.{Pending}
 use Rattle.relay_types.proofs.KnownLaws.{and_first, and_second, and_both}
 use Rattle.delivery_book.specs.declared.entry.Entry.{Entry}
 use Rattle.delivery_book.specs.declared.entry.Unsettled.{Unsettled}
-use Rattle.delivery_book.specs.declared.keys.EventKey.{EventKey}
+use Rattle.delivery_book.specs.declared.index.EventIndex.{EventIndex}
 use Rattle.delivery_book.specs.declared.tally.Tally.{Tally}
 use Rattle.delivery_book.specs.Entries.{BookValue, IsCaughtUp, with_attempt, with_attempt_restored, with_latest_settled}
 use Rattle.delivery_book.specs.Entries.{at_delivery, is_done_before, is_kept, is_left, marked, is_open, entry_at}
@@ -81,7 +80,7 @@ open_kept entries purge next i x h inside is free =
     pending_kept next x
     (ap (is_rightly_taken next) is ∙ all_at (is_rightly_taken next) entries i x inside h.taken) (open_means x free).0
 
-pub book-outcome : (index : BTreeMap EventKey ℕ) (tally less more settled_tally : Tally) (entries : List Entry)
+pub book-outcome : (index : EventIndex) (tally less more settled_tally : Tally) (entries : List Entry)
     (unsettled : List Unsettled) (room next settled n : ℕ) (purge : Option ℕ) (seq delivery status at i : ℕ) (x : Entry)
     → IsBook entries index tally settled_tally unsettled room next settled n purge → next ≤ seq → i < length entries
     → x ≡ get_or entries i x → x.seq ≡ delivery → is_open x ≡ true
@@ -181,7 +180,7 @@ book-outcome index tally less more settled_tally entries unsettled room next set
 -- One more outcome, settled at once
 
 -- where nothing is settled, no event is
-none_settled : (entries : List Entry) (index : BTreeMap EventKey ℕ) (next settled n : ℕ)
+none_settled : (entries : List Entry) (index : EventIndex) (next settled n : ℕ)
     → IsKeyed entries index next settled n → settled ≡ 0 → n ≡ 0
 none_settled [] index next settled n h none = omega (arith, h.settled_within)
 none_settled (x ∷ xs) index next settled n h none = ⊎_elim (λ lt. absurd (omega (arith, none, h.settled_below 0 x lt)))
@@ -193,7 +192,7 @@ pub restorable_means : (book : BookValue) (delivery : ℕ) (x : Entry) → may_r
     × (x.latest.attempts < MAX_RECORDS) × (is_open x ≡ true)
 restorable_means book delivery x h there = grind (arith, empty_if)
 
-pub book-restored : (index : BTreeMap EventKey ℕ) (tally less more settled_tally : Tally) (entries : List Entry)
+pub book-restored : (index : EventIndex) (tally less more settled_tally : Tally) (entries : List Entry)
     (unsettled : List Unsettled) (room next settled n : ℕ) (purge : Option ℕ) (delivery status at i : ℕ) (x : Entry)
     → IsBook entries index tally settled_tally unsettled room next settled n purge → unsettled ≡ [] → settled ≡ 0
     → i < length entries → x ≡ get_or entries i x → x.seq ≡ delivery → x.latest.attempts < MAX_RECORDS
@@ -260,7 +259,7 @@ book-restored index tally less more settled_tally entries unsettled room next se
 
 -- The events below a number, settled
 
-pub book-events : (index : BTreeMap EventKey ℕ) (tally settled_tally counted : Tally) (entries : List Entry)
+pub book-events : (index : EventIndex) (tally settled_tally counted : Tally) (entries : List Entry)
     (unsettled : List Unsettled) (room next settled n seq m : ℕ) (purge : Option ℕ)
     → IsBook entries index tally settled_tally unsettled room next settled n purge → n ≤ m → m ≤ length entries
     → ((k : ℕ) (d : Entry) → k < m → (get_or entries k d).seq < seq)
@@ -321,7 +320,7 @@ fewer_first (x ∷ xs) low high n m h within under over = ⊎_elim
 
 -- One outcome, settled
 
-pub book-settle : (index : BTreeMap EventKey ℕ) (tally settled_tally less more : Tally) (entries : List Entry)
+pub book-settle : (index : EventIndex) (tally settled_tally less more : Tally) (entries : List Entry)
     (o : Unsettled) (rest : List Unsettled) (room next settled n i : ℕ) (purge : Option ℕ) (x : Entry)
     → IsBook entries index tally settled_tally (o ∷ rest) room next settled n purge → i < n → x ≡ get_or entries i x
     → x.seq ≡ o.delivery
@@ -348,7 +347,8 @@ book-settle index tally settled_tally less more entries o rest room next settled
           (omega (arith, first, length-take-le n entries h.keyed.settled_within))
           (is ∙ sym (get_or-take n entries i x first)) refl h.settled fewer again);
       opened = ap (list_all (λ e. has_room more e.name)) changed
-          ∙ opened_still more g entries keeps (all_weaker (λ e. has_room settled_tally e.name) (λ e. has_room more e.name)
+          ∙ opened_still more g entries keeps
+          (all_weaker (λ e. has_room settled_tally e.name) (λ e. has_room more e.name)
           entries (λ e was. stays e.name was) h.opened);
       queue = record {
         later = all_weaker (is_later entries) (is_later (set entries i (with_latest_settled x))) rest
@@ -362,7 +362,8 @@ book-settle index tally settled_tally less more entries o rest room next settled
               x inside,
           at_most (is_waiting (get_or entries i x)),
         );
-        caught_up = subst (AllByRecursion (IsCaughtUp rest)) (sym changed) (caught-settle o rest entries h.queue.caught_up);
+        caught_up = subst (AllByRecursion (IsCaughtUp rest)) (sym changed)
+            (caught-settle o rest entries h.queue.caught_up);
         room = omega (arith, h.queue.room, length-set entries i (with_latest_settled x));
       };
       order = order_rest o rest next h.order;
@@ -402,7 +403,7 @@ pub front_is : (outcomes rest : List Unsettled) (o : Unsettled) (popped : Option
 front_is outcomes rest o popped e first is = e ∙ ap (λ p. option_to_list p ++ rest) (first ∙ ap Some (sym is))
 
 -- its delivery is one of the settled events
-pub first_settled : (entries : List Entry) (index : BTreeMap EventKey ℕ) (o : Unsettled) (rest : List Unsettled)
+pub first_settled : (entries : List Entry) (index : EventIndex) (o : Unsettled) (rest : List Unsettled)
     (next settled n i : ℕ) (x : Entry) → IsKeyed entries index next settled n
     → list_all (is_later entries) (o ∷ rest) ≡ true
     → o.seq < settled → i < length entries → x ≡ get_or entries i x → x.seq ≡ o.delivery → i < n
@@ -410,7 +411,7 @@ first_settled entries index o rest next settled n i x h later before inside is s
 
 -- One more Purge
 
-pub book-purge : (index later : BTreeMap EventKey ℕ) (tally settled_tally : Tally) (entries : List Entry)
+pub book-purge : (index later : EventIndex) (tally settled_tally : Tally) (entries : List Entry)
     (unsettled : List Unsettled) (room next settled n : ℕ) (purge after : Option ℕ) (seq moment : ℕ)
     → IsBook entries index tally settled_tally unsettled room next settled n purge → next ≤ seq
     → HasLessKeys index (filter (λ e. is_kept e && is_done_before moment e.latest) entries) later

@@ -6,7 +6,6 @@ use Rattle.std.proofs.Common.{true≢false}
 use Rattle.std.specs.Prelude.{count_by, filter, find, option_map}
 use Rattle.std.specs.List.{AllByRecursion, list_all, list_any}
 use Rattle.std.specs.Option.{option_map_or}
-use Rattle.std.specs.BTreeMap.{BTreeMap}
 use Rattle.std.proofs.lemmas.Bool.{eq-eqb, eqb-true, false_from_ne_true, lt-ltb, leb-false, ltb-false, not-true}
 use Rattle.std.proofs.lemmas.List.Elements.{All-from_recursion, filter_more}
 use Rattle.std.proofs.lemmas.List.Filters.{sum_by-filter_both}
@@ -19,7 +18,7 @@ use Rattle.relay_types.specs.Deliveries.{is_in_state}
 use Rattle.relay_types.proofs.KnownLaws.{and_first, and_second, and_both}
 use Rattle.delivery_book.specs.declared.entry.Entry.{Entry}
 use Rattle.delivery_book.specs.declared.entry.Unsettled.{Unsettled}
-use Rattle.delivery_book.specs.declared.keys.EventKey.{EventKey}
+use Rattle.delivery_book.specs.declared.index.EventIndex.{EventIndex}
 use Rattle.delivery_book.specs.declared.tally.Tally.{Tally}
 use Rattle.delivery_book.specs.Entries.{IsCaughtUp, entry_at, is_entry_as, is_kept, is_left, rest_from, state_in}
 use Rattle.delivery_book.specs.Fields.{AreFirst, AreInOrder, FirstBelow, HasCounted, HasMore, IsBook, KeepsRoom}
@@ -234,7 +233,7 @@ none_below seq next unsettled order rest k d l =
 
 -- What a settled Purge took
 
-module _ (entries : List Entry) (index : BTreeMap EventKey ℕ) (tally settled_tally : Tally) (unsettled : List Unsettled)
+module _ (entries : List Entry) (index : EventIndex) (tally settled_tally : Tally) (unsettled : List Unsettled)
     (room next settled n : ℕ) (first : Option ℕ)
     (h : IsBook entries index tally settled_tally unsettled room next settled n first)
     (waits : (k : ℕ) (d : Unsettled) → k < length unsettled → settled ≤ (get_or unsettled k d).seq) where
@@ -345,10 +344,10 @@ module _ (entries : List Entry) (index : BTreeMap EventKey ℕ) (tally settled_t
           ascending = AllPairs-filter (λ (a b : Entry). a.seq < b.seq) (is_left settled) entries h.keyed.ascending;
           numbered = all-filter (is_numbered next) (is_left settled) entries h.keyed.numbered;
           settled_next = h.keyed.settled_next;
-          indexed = λ k. h.keyed.indexed k
+          indexed = λ name id. h.keyed.indexed name id
               ∙ ap (option_map (λ (e : Entry). e.seq))
-              (sym (find-filter (is_known_as k) (is_left settled) entries
-              ∙ ap (λ p. find p entries) (λ t e. known_left k e t)));
+              (sym (find-filter (is_known_as name id) (is_left settled) entries
+              ∙ ap (λ p. find p entries) (λ t e. known_left name id e t)));
           settled_within = within;
           settled_below = under;
           settled_above = over;
@@ -400,8 +399,9 @@ module _ (entries : List Entry) (index : BTreeMap EventKey ℕ) (tally settled_t
         };
       }
     where
-      known_left : (k : EventKey) (e : Entry) → is_left settled e && is_known_as k e ≡ is_known_as k e
-      known_left k e = pick (is_left settled e) (is_entry_as k.name k.id e) (is_kept e) (kept_left settled e)
+      known_left : (name id : List ℕ) (e : Entry)
+          → is_left settled e && is_known_as name id e ≡ is_known_as name id e
+      known_left name id e = pick (is_left settled e) (is_entry_as name id e) (is_kept e) (kept_left settled e)
         where
           pick : (a b c : Bool) → (c ≡ true → a ≡ true) → a && (b && c) ≡ b && c
           pick true b c kept = refl

@@ -4,7 +4,6 @@ use Rattle.std.proofs.Common.{None, ◌++◌, length, take, drop, map, set, get_
 use Rattle.std.proofs.Common.{⊎_elim}
 use Rattle.std.specs.Prelude.{count_by, find, option_map, ◌||◌}
 use Rattle.std.specs.List.{AllByRecursion, list_all, list_any}
-use Rattle.std.specs.BTreeMap.{BTreeMap}
 use Rattle.std.proofs.lemmas.Bool.{eq-eqb, ne_eqb, cases_lt}
 use Rattle.std.proofs.lemmas.List.{get_or-map, length-map, length-set, take-append-drop}
 use Rattle.std.proofs.lemmas.List.Folds.{list_all_at, list_all_more, list_all-append, list_all-map, list_any-append}
@@ -13,10 +12,10 @@ use Rattle.relay_types.specs.declared.state.State.{State}
 use Rattle.relay_types.proofs.KnownLaws.{and_first, and_second, and_both}
 use Rattle.relay_types.proofs.RowLaws.{find_map}
 use Rattle.delivery_book.specs.declared.entry.Entry.{Entry}
-use Rattle.delivery_book.specs.declared.keys.EventKey.{EventKey}
 use Rattle.delivery_book.specs.Progress.{Progress}
 use Rattle.delivery_book.specs.declared.tally.Tally.{Tally}
 use Rattle.delivery_book.specs.declared.entry.Unsettled.{Unsettled}
+use Rattle.delivery_book.specs.declared.index.EventIndex.{EventIndex}
 use Rattle.delivery_book.specs.Entries.{IsCaughtUp, at_delivery, entry_at, state_in, with_attempt}
 use Rattle.delivery_book.specs.Entries.{with_attempt_restored, with_latest_settled}
 use Rattle.delivery_book.specs.Fields.{HasRoomForAll, KeepsRoom, IsAscending, IsIndex, IsKeyed, IsTally, is_known_as}
@@ -118,23 +117,23 @@ read g entries k d keeps h = ap (λ (e : Entry). e.seq)
     (get_or-map g entries k d d (omega (arith, h, length-map entries g))) ∙ (keeps (get_or entries k d)).0
 
 -- where the marks stay too, the index is that of the changed entries
-pub indexed-map : (g : Entry → Entry) (index : BTreeMap EventKey ℕ) (entries : List Entry) → KeepsKeys g
+pub indexed-map : (g : Entry → Entry) (index : EventIndex) (entries : List Entry) → KeepsKeys g
     → ((e : Entry) → (g e).taken_by ≡ e.taken_by) → IsIndex index entries → IsIndex index (map g entries)
-indexed-map g index entries keeps same h k =
-    h k
-    ∙ sym (ap (option_map (λ (e : Entry). e.seq)) (find_map g (is_known_as k) entries
+indexed-map g index entries keeps same h name id =
+    h name id
+    ∙ sym (ap (option_map (λ (e : Entry). e.seq)) (find_map g (is_known_as name id) entries
     ∙ ap (λ p. option_map g (find p entries)) alike)
-    ∙ numbers (find (is_known_as k) entries))
+    ∙ numbers (find (is_known_as name id) entries))
   where
-    alike : (λ e. is_known_as k (g e)) ≡ is_known_as k
-    alike i e = is_known_as k (record e { name = (keeps e).1 i; id = (keeps e).2 i; taken_by = same e i })
+    alike : (λ e. is_known_as name id (g e)) ≡ is_known_as name id
+    alike i e = is_known_as name id (record e { name = (keeps e).1 i; id = (keeps e).2 i; taken_by = same e i })
 
     numbers : (o : Option Entry) → option_map (λ (e : Entry). e.seq) (option_map g o) ≡ option_map
         (λ (e : Entry). e.seq) o
     numbers None = refl
     numbers (Some e) = ap Some (keeps e).0
 
-pub keyed-map : (g : Entry → Entry) (entries : List Entry) (index kept : BTreeMap EventKey ℕ) (next later settled n : ℕ)
+pub keyed-map : (g : Entry → Entry) (entries : List Entry) (index kept : EventIndex) (next later settled n : ℕ)
     → KeepsKeys g → settled ≤ later → list_all (is_numbered later) (map g entries) ≡ true → IsIndex kept (map g entries)
     → IsKeyed entries index next settled n → IsKeyed (map g entries) kept later settled n
 keyed-map g entries index kept next later settled n keeps l numbered indexed h = record {

@@ -1,15 +1,15 @@
 -- What ties the index, the counts and the room of a book to its entries.
-use Rattle.std.specs.Prelude.{◌≡◌, ℕ, ◌+◌, ◌^◌, ◌<◌, ◌≤◌, ◌&&◌, ◌==◌, not, Bool, true, false, nat_lt, nat_eq, List}
+use Rattle.std.specs.Prelude.{◌≡◌, ℕ, ◌+◌, ◌^◌, ◌<◌, ◌≤◌, ◌&&◌, ◌==◌, not, Bool, true, false, nat_lt, nat_eq, List, ◌∷◌}
+use Rattle.std.specs.Prelude.{◌++◌}
 use Rattle.std.specs.Prelude.{length, take, Option, Some, None, option_map, unwrap_or, is_some, slice_index_or}
 use Rattle.std.specs.Prelude.{filter, find, count_by, bytes_eq, All, AllPairs, IsTrue, if◌then◌else◌}
 use Rattle.std.specs.List.{AllByRecursion, list_all, list_any}
 use Rattle.std.specs.Option.{option_or, option_map_or}
-use Rattle.std.specs.BTreeMap.{BTreeMap}
-use Rattle.std.specs.BTreeMap as tree
+use Rattle.std.specs.BTreeMap.{get_by}
+use Rattle.std.specs.Box.{boxed_slice_items}
 use Rattle.std.specs.Cmp.Lexicographic.{pointwise, slice_cmp}
 use Rattle.std.specs.HashMap.{get}
-use Rattle.std.specs.declared.cmp.Ordering.{Ordering}
-use Rattle.std.specs.Ordering.{nat_cmp, on, then_cmp}
+use Rattle.std.specs.Ordering.{nat_cmp}
 use Rattle.relay_types.specs.declared.limits.TheConstants.{MAX_RECORDS}
 use Rattle.relay_types.specs.declared.state.State.{State}
 use Rattle.relay_types.specs.declared.state.State.TheVariants.{Pending, Delivered, Exhausted}
@@ -17,8 +17,8 @@ use Rattle.relay_types.specs.Values.{Text, Seq}
 use Rattle.relay_types.specs.Deliveries.{is_in_state}
 use Rattle.delivery_book.specs.declared.entry.Entry.{Entry}
 use Rattle.delivery_book.specs.declared.entry.Unsettled.{Unsettled}
+use Rattle.delivery_book.specs.declared.index.EventIndex.{EventIndex}
 use Rattle.delivery_book.specs.declared.keys.EndpointKey.{EndpointKey}
-use Rattle.delivery_book.specs.declared.keys.EventKey.{EventKey}
 use Rattle.delivery_book.specs.declared.row.Counts.{Counts}
 use Rattle.delivery_book.specs.declared.tally.Tally.{Tally}
 use Rattle.delivery_book.specs.Progress.{Progress}
@@ -30,16 +30,9 @@ use Rattle.delivery_book.specs.Entries.{BookValue, IsCaughtUp, is_entry_as, is_k
 abbrev pub same_endpoint : EndpointKey → EndpointKey → Bool
 same_endpoint a b = pointwise nat_eq a.name b.name
 
-abbrev pub same_event : EventKey → EventKey → Bool
-same_event a b = pointwise nat_eq a.name b.name && pointwise nat_eq a.id b.id
-
--- events stand in the order of their characters, the endpoint's before the id's
-abbrev pub event_cmp : EventKey → EventKey → Ordering
-event_cmp = then_cmp (on (λ k. k.name) (slice_cmp nat_cmp)) (on (λ k. k.id) (slice_cmp nat_cmp))
-
--- the key of an event
-abbrev pub key_of : Entry → EventKey
-key_of entry = record { name = entry.name; id = entry.id }
+-- the key of an event: how long the endpoint's name is, the name, and the id
+abbrev pub key_bytes : (name id : Text) → List ℕ
+key_bytes name id = length name ∷ name ++ id
 
 -- Counts by state
 
@@ -146,35 +139,48 @@ RestFrom n seq entries =
 abbrev pub is_numbered : (next : Seq) → Entry → Bool
 is_numbered next entry = nat_lt entry.seq next && not (nat_lt (next + MAX_RECORDS) entry.latest.attempts)
 
--- the entry is of the event with this key, and no Purge took it
-abbrev pub is_known_as : EventKey → Entry → Bool
-is_known_as k entry = is_entry_as k.name k.id entry && is_kept entry
+-- the number that the index has at a key, and that of an event
+abbrev pub number_at : EventIndex → (key : List ℕ) → Option Seq
+number_at index key = get_by (λ k. slice_cmp nat_cmp key (boxed_slice_items k)) index.numbers
+
+abbrev pub number_of : EventIndex → (name id : Text) → Option Seq
+number_of index name id = number_at index (key_bytes name id)
+
+-- the later index has this number of the event, or none, and has those of others as before
+abbrev pub HasNumber : (old : EventIndex) → (name id : Text) → Option Seq → (new : EventIndex) → Type 0
+HasNumber old name id number new =
+    (other : Text) (other_id : Text)
+    → number_of new other other_id
+    ≡ (if bytes_eq name other && bytes_eq id other_id then number else number_of old other other_id)
+
+-- the entry is of the event, and no Purge took it
+abbrev pub is_known_as : (name id : Text) → Entry → Bool
+is_known_as name id entry = is_entry_as name id entry && is_kept entry
 
 -- the index has the number of each event that no Purge took, and of no other
-abbrev pub IsIndex : BTreeMap EventKey ℕ → List Entry → Type 0
+abbrev pub IsIndex : EventIndex → List Entry → Type 0
 IsIndex index entries =
-    (k : EventKey) → tree.get event_cmp index k ≡ option_map (λ e. e.seq) (find (is_known_as k) entries)
+    (name id : Text) → number_of index name id ≡ option_map (λ e. e.seq) (find (is_known_as name id) entries)
 
 -- the index has the numbers of these events too
-abbrev pub HasMoreKeys : (old : BTreeMap EventKey ℕ) → (events : List Entry) → (new : BTreeMap EventKey ℕ) → Type 0
+abbrev pub HasMoreKeys : (old : EventIndex) → (events : List Entry) → (new : EventIndex) → Type 0
 HasMoreKeys old events new =
-    (k : EventKey)
-    → tree.get event_cmp new k
-    ≡ option_or (tree.get event_cmp old k) (option_map (λ e. e.seq) (find (is_entry_as k.name k.id) events))
+    (name id : Text)
+    → number_of new name id
+    ≡ option_or (number_of old name id) (option_map (λ e. e.seq) (find (is_entry_as name id) events))
 
 -- the index has the numbers of these events no more
-abbrev pub HasLessKeys : (old : BTreeMap EventKey ℕ) → (events : List Entry) → (new : BTreeMap EventKey ℕ) → Type 0
+abbrev pub HasLessKeys : (old : EventIndex) → (events : List Entry) → (new : EventIndex) → Type 0
 HasLessKeys old events new =
-    (k : EventKey)
-    → tree.get event_cmp new k
-    ≡ (if list_any (is_entry_as k.name k.id) events then None else tree.get event_cmp old k)
+    (name id : Text)
+    → number_of new name id ≡ (if list_any (is_entry_as name id) events then None else number_of old name id)
 
-abbrev pub HasSameKeys : (old new : BTreeMap EventKey ℕ) → Type 0
-HasSameKeys old new = (k : EventKey) → tree.get event_cmp new k ≡ tree.get event_cmp old k
+abbrev pub HasSameKeys : (old new : EventIndex) → Type 0
+HasSameKeys old new = (name id : Text) → number_of new name id ≡ number_of old name id
 
--- the index has none of these events, and no two of them have one key
-pub record AreNew (index : BTreeMap EventKey ℕ) (events : List Entry) : Type 0 where
-  pub unknown : All (λ e. tree.get event_cmp index (key_of e) ≡ None) events
+-- the index has none of these events, and no two of them are one
+pub record AreNew (index : EventIndex) (events : List Entry) : Type 0 where
+  pub unknown : All (λ e. number_of index e.name e.id ≡ None) events
   pub apart : AllPairs (λ a b. is_entry_as b.name b.id a ≡ false) events
 
 -- Outcomes that wait
@@ -221,7 +227,7 @@ pub record AreMarked (entries : List Entry) (next_purge : Option Seq) (next_seq 
 -- The book
 
 -- what holds of the entries and their numbers
-pub record IsKeyed (entries : List Entry) (index : BTreeMap EventKey ℕ) (next_seq settled_seq : Seq)
+pub record IsKeyed (entries : List Entry) (index : EventIndex) (next_seq settled_seq : Seq)
     (settled_entries : ℕ) : Type 0 where
   pub ascending : IsAscending entries
   pub numbered : IsTrue (list_all (is_numbered next_seq) entries)
@@ -244,7 +250,7 @@ pub record AreInOrder (unsettled : List Unsettled) (next_seq : Seq) : Type 0 whe
   pub below : IsTrue (list_all (λ o. nat_lt o.seq next_seq) unsettled)
 
 -- what holds of the fields of a book
-pub record IsBook (entries : List Entry) (index : BTreeMap EventKey ℕ) (tally settled_tally : Tally)
+pub record IsBook (entries : List Entry) (index : EventIndex) (tally settled_tally : Tally)
     (unsettled : List Unsettled) (capacity : ℕ) (next_seq settled_seq : Seq) (settled_entries : ℕ)
     (next_purge : Option Seq) : Type 0 where
   pub keyed : IsKeyed entries index next_seq settled_seq settled_entries

@@ -7,7 +7,8 @@ use Rattle.relay_types.specs.Deliveries.{due_after}
 use Rattle.delivery_book.specs.Progress.{Progress}
 use Rattle.delivery_book.specs.Entries.{due_by}
 
--- after so many attempts, of which the last came to this status at this moment, or before any at an event of this moment
+-- after so many attempts, of which the last came to this status at this moment, or before any at an event of this
+-- moment
 abbrev pub progress_by : (attempts : ℕ) (since : Seconds) (failures last_status : ℕ) (is_delivered : Bool) → Progress
 progress_by attempts since failures last_status is_delivered = record {
   attempts = attempts;

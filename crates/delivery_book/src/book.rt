@@ -7,7 +7,8 @@ ghost use Rattle.relay_types.specs.declared.record.Record.TheVariants.{Accept, O
 ghost use Rattle.relay_types.specs.Deliveries.{known_as};
 ghost use Rattle.relay_types.specs.Steps.{accepts};
 ghost use Rattle.delivery_book.specs.Entries.{empty_book, with_event, with_events, with_outcome, with_outcome_restored};
-ghost use Rattle.delivery_book.specs.Entries.{with_events_settled, settle_first, rest_from, with_settled, without_taken, with_purge};
+ghost use Rattle.delivery_book.specs.Entries.{with_events_settled, settle_first, rest_from, with_settled};
+ghost use Rattle.delivery_book.specs.Entries.{without_taken, with_purge};
 ghost use Rattle.delivery_book.specs.Entries.{known_in, known_settled_in};
 ghost use Rattle.delivery_book.specs.Entries.{takes_outcome, may_restore, HasOneEach, IsInStep};
 ghost use Rattle.delivery_book.specs.Entries.{entry_at, latest_row, settled_row, pending_in, next_settled};
@@ -17,8 +18,7 @@ ghost use Rattle.delivery_book.specs.Book.{body_left, counts_of, counts_of_all};
 
 use crate::entry::{Entry, Unsettled};
 use crate::events::events_of;
-use crate::index::{add_events, remove_done};
-use crate::keys::EventKey;
+use crate::index::{EventIndex, add_events, remove_done};
 use crate::progress::Progress;
 use crate::purge::{earlier, first_purge, is_below, keep_left, mark_done};
 use crate::row::{Counts, Row};
@@ -26,16 +26,17 @@ use crate::search::{count_below, entry_at, index_of};
 use crate::tally::{Tally, add_settled, add_settled_between, count_out};
 use relay_types::{Body, MAX_RECORDS, Moment, MsgId, Name, State};
 use std::alloc::{AllocError, Global};
-use std::collections::{BTreeMap, VecDeque};
+use std::collections::VecDeque;
 use std::marker::Model;
 
 /// The deliveries of a history, and what came of each. An event that was taken in stays in memory with its body until a
-/// Purge that took it is settled. Its id is known until a Purge takes it. A delivery is named by the sequence number of its
-/// record. The book is handed numbers that rise and may skip some: records of endpoints concern no delivery and need no call.
+/// Purge that took it is settled. Its id is known until a Purge takes it. A delivery is named by the sequence number of
+/// its record. The book is handed numbers that rise and may skip some: records of endpoints concern no delivery and
+/// need no call.
 #[derive(Drop)]
 pub struct DeliveryBook {
     entries: Vec<Entry>,
-    index: BTreeMap<EventKey, u64>,
+    index: EventIndex,
     unsettled: VecDeque<Unsettled>,
     tally: Tally,
     settled_tally: Tally,
@@ -73,7 +74,7 @@ impl DeliveryBook {
     {
         DeliveryBook {
             entries: Vec::new(alloc),
-            index: BTreeMap::new(alloc),
+            index: EventIndex::new(alloc),
             unsettled: VecDeque::new(alloc),
             tally: Tally::new(alloc),
             settled_tally: Tally::new(alloc),
@@ -84,8 +85,8 @@ impl DeliveryBook {
         }
     }
 
-    /// Takes in the event of the record with this number, and makes the room that its outcomes need. `next_seq` and `find`
-    /// test the conditions; that the endpoint is there is the caller's to know. An error is want of memory.
+    /// Takes in the event of the record with this number, and makes the room that its outcomes need. `next_seq` and
+    /// `find` test the conditions; that the endpoint is there is the caller's to know. An error is want of memory.
     pub fn stage_accept(
         &mut self,
         seq: u64,
@@ -106,7 +107,7 @@ impl DeliveryBook {
         self.unsettled.reserve(spare)?;
         self.tally.open(name)?;
         self.settled_tally.open(name)?;
-        self.index.insert(EventKey { name, id }, seq)?;
+        self.index.insert(name, &id, seq)?;
         self.tally.add(name, State::Pending);
         let fresh = Progress::fresh(at);
         self.entries.push_reserved(Entry {
@@ -157,8 +158,8 @@ impl DeliveryBook {
         Ok(())
     }
 
-    /// Takes in the outcome of the record with this number: an attempt at the delivery ended with this status, or 0 where none
-    /// came. `next_seq` and `takes_outcome` test the conditions. It takes no memory.
+    /// Takes in the outcome of the record with this number: an attempt at the delivery ended with this status, or 0
+    /// where none came. `next_seq` and `takes_outcome` test the conditions. It takes no memory.
     pub fn stage_outcome(&mut self, seq: u64, delivery: u64, status: u16, at: Moment)
         requires room { seq < MAX_RECORDS }
         requires above { self.old.next_seq ≤ seq }
@@ -179,8 +180,9 @@ impl DeliveryBook {
         self.next_seq = seq + 1;
     }
 
-    /// Takes in the Purge of this number: it takes each delivery that has ended, the last attempt before this moment. Their ids
-    /// are free from now on. They are given up once the Purge is settled. `next_seq` tests the condition. It takes no memory.
+    /// Takes in the Purge of this number: it takes each delivery that has ended, the last attempt before this moment.
+    /// Their ids are free from now on. They are given up once the Purge is settled. `next_seq` tests the condition. It
+    /// takes no memory.
     pub fn stage_purge(&mut self, seq: u64, before: Moment)
         requires room { seq < MAX_RECORDS }
         requires above { self.old.next_seq ≤ seq }
@@ -193,8 +195,8 @@ impl DeliveryBook {
         self.next_seq = seq + 1;
     }
 
-    /// Takes in an outcome of this delivery, whatever its number, as settled at once. So a book is made of what a store holds:
-    /// its events are taken in first, then their outcomes in the order of their numbers, and it is settled last.
+    /// Takes in an outcome of this delivery, whatever its number, as settled at once. So a book is made of what a store
+    /// holds: its events are taken in first, then their outcomes in the order of their numbers, and it is settled last.
     /// `may_restore` tests the condition. It takes no memory.
     pub fn restore_outcome(&mut self, delivery: u64, status: u16, at: Moment)
         requires { may_restore self.old delivery ≡ true }
@@ -212,7 +214,8 @@ impl DeliveryBook {
         self.tally.add(name, state);
     }
 
-    /// The records below this number are settled from now on. What Purges among them took is given up. It takes no memory.
+    /// The records below this number are settled from now on. What Purges among them took is given up. It takes no
+    /// memory.
     pub fn settle_to(&mut self, seq: u64)
         requires { self.old.settled_seq ≤ seq }
         ensures value { self.new ≡ with_settled self.old seq }
@@ -303,8 +306,8 @@ impl DeliveryBook {
         }
     }
 
-    /// Whether an outcome of the delivery can be restored: no record is settled, no outcome waits, and the delivery is pending and
-    /// has room to count one more attempt.
+    /// Whether an outcome of the delivery can be restored: no record is settled, no outcome waits, and the delivery is
+    /// pending and has room to count one more attempt.
     pub fn may_restore(&self, delivery: u64) -> bool
         ensures { result ≡ may_restore self.now delivery }
     {
@@ -324,11 +327,11 @@ impl DeliveryBook {
         ensures known { result ≡ known_in self.now name id.now }
         ensures stands { OverHistories self.now (λ records settled. result ≡ known_as records name id.now) }
     {
-        self.index.get(&EventKey { name, id: *id }).copied()
+        self.index.get(name, id)
     }
 
-    /// The delivery of the event that the endpoint knows by this id, as the settled records have it. While a Purge waits, it may
-    /// have to look through all entries for one that the Purge took.
+    /// The delivery of the event that the endpoint knows by this id, as the settled records have it. While a Purge
+    /// waits, it may have to look through all entries for one that the Purge took.
     pub fn find_settled(&self, name: Name, id: &MsgId) -> Option<u64>
         ensures known { result ≡ known_settled_in self.now name id.now }
         ensures stands { OverHistories self.now
@@ -375,7 +378,8 @@ impl DeliveryBook {
         }
     }
 
-    /// The delivery that is concerned where the next record is settled: the record takes it in, or tells of an attempt at it.
+    /// The delivery that is concerned where the next record is settled: the record takes it in, or tells of an attempt
+    /// at it.
     pub fn next_settled(&self) -> Option<u64>
         ensures value { result ≡ next_settled self.now }
         ensures in_step { IsInStep self.now }

@@ -1,14 +1,13 @@
 //! What the book keeps of one event.
 ghost use Rattle.std.specs.Prelude.{◌≡◌, ◌&&◌, Some, None, if◌then◌else◌};
 ghost use Rattle.delivery_book.specs.Entries.{is_done_before, is_entry_as, is_kept, is_left, is_open, marked, row_in};
-ghost use Rattle.delivery_book.specs.Fields.{key_of};
 
-use crate::keys::EventKey;
 use crate::progress::Progress;
 use crate::row::Row;
 use relay_types::{Body, Moment, MsgId, Name, State};
 
-/// An event that was taken in, by the record with this number, and what came of it: by all records, and by the settled ones.
+/// An event that was taken in, by the record with this number, and what came of it: by all records, and by the settled
+/// ones.
 #[derive(Drop)]
 pub struct Entry {
     pub(crate) seq: u64,
@@ -80,16 +79,6 @@ impl Entry {
         ensures { result ≡ is_entry_as name id.now self.now }
     {
         self.name.is(name) && self.id.is(*id)
-    }
-
-    /// The key of its event.
-    pub(crate) fn key(&self) -> EventKey
-        ensures { result ≡ key_of self.now }
-    {
-        EventKey {
-            name: self.name,
-            id: self.id,
-        }
     }
 
     /// The delivery as told where it has come this far.

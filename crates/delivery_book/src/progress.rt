@@ -7,7 +7,8 @@ use relay_types::{MAX_FAILURES, Moment, State};
 use retry_table::{delay_after, is_delivered, is_failed, is_gone};
 use std::marker::Model;
 
-/// What the attempts at an event came to. It stands twice in each entry, so it keeps only what the rest follows from.
+/// What the attempts at an event came to. It stands twice in each entry, so it keeps only what the
+/// rest follows from.
 #[derive(Clone, Copy)]
 pub struct Progress {
     attempts: u64,

@@ -1,9 +1,8 @@
-use Rattle.std.proofs.Common.{◌+◌, ◌&&◌, ◌∙◌, None, List, ap, cond, subst, sym, take}
+use Rattle.std.proofs.Common.{◌+◌, ◌&&◌, ◌∙◌, List, subst, sym, take}
 use Rattle.std.specs.Prelude.{filter}
-use Rattle.std.specs.BTreeMap.{get, is_at}
 use Rattle.delivery_book.specs.declared.entry.Entry.{Entry}
 use Rattle.delivery_book.specs.Entries.{is_done_before, is_kept}
-use Rattle.delivery_book.specs.Fields.{HasLessKeys, event_cmp}
+use Rattle.delivery_book.specs.Fields.{HasLessKeys}
 use Rattle.delivery_book.proofs.IndexLemmas.{keys-drop}
 use Rattle.delivery_book.proofs.Sweeps.{filter_no, filter_yes}
 use Rattle.delivery_book.proofs.index.remove_done.Goals as goal
@@ -22,8 +21,7 @@ loop-entry-preserved c =
           (sym (filter_yes done es l.entry-index e c.loop-entry-test.true c.entry-item.is
           (sym c.is_done_before.ensures ∙ w.if-is_done_before.true)))
           (keys-drop c.args.index.now l.index w.remove.new.self (filter done (take l.entry-index es)) e l.invariant
-          (λ q. w.remove.ensures.updates.0 q
-          ∙ ap (λ k. cond (is_at (event_cmp k) q) None (get event_cmp l.index q)) w.key.ensures)))
+          w.remove.ensures))
       | else-is_done_before w ↦
           subst (λ ix. HasLessKeys c.args.index.now (filter done (take (l.entry-index + 1) es)) ix) (sym w.index-is)
           (subst (λ some. HasLessKeys c.args.index.now some l.index)

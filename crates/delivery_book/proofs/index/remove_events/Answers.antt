@@ -1,12 +1,7 @@
-use Rattle.std.proofs.Common.{None, ap, ◌∙◌, cond}
-use Rattle.std.specs.BTreeMap.{get, is_at}
-use Rattle.delivery_book.specs.Fields.{event_cmp}
 use Rattle.delivery_book.proofs.IndexLemmas.{keys-less}
 use Rattle.delivery_book.proofs.index.remove_events.Goals as goal
 
 pub loop-event-preserved : goal.loop-event-preserved
 loop-event-preserved c =
     keys-less c.args.index.now c.loop-event.index c.remove.new.self c.args.events.now c.loop-event.event-index
-    c.event-item.result c.loop-event-test.true c.event-item.is c.loop-event.invariant
-    (λ q. c.remove.ensures.updates.0 q
-    ∙ ap (λ k. cond (is_at (event_cmp k) q) None (get event_cmp c.loop-event.index q)) c.key.ensures)
+    c.event-item.result c.loop-event-test.true c.event-item.is c.loop-event.invariant c.remove.ensures

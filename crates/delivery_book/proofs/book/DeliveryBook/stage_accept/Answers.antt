@@ -2,9 +2,7 @@ use Rattle.std.proofs.Common.{None, ◌++◌, ◌∷◌, [], ◌+◌, ◌∙◌,
 use Rattle.relay_types.specs.declared.record.Record.TheVariants.{Accept}
 use Rattle.relay_types.specs.declared.state.State.TheVariants.{Pending}
 use Rattle.delivery_book.specs.Entries.{known_in, new_entry}
-use Rattle.std.specs.BTreeMap.{is_at}
-use Rattle.std.specs.Map.{lookup}
-use Rattle.delivery_book.specs.Fields.{IsBook, event_cmp, in_state, one_of}
+use Rattle.delivery_book.specs.Fields.{IsBook, in_state, one_of}
 use Rattle.delivery_book.specs.Book.{StandsFor}
 use Rattle.delivery_book.proofs.Books.{book-push, book-same, unmapped}
 use Rattle.delivery_book.proofs.Updates.{counted_most}
@@ -24,7 +22,7 @@ invariant_of-self-in_err-open-2 c =
     (sym c.in_ok-reserve-2.ensures.items)
     (book-same b.index b.index b.tally c.open.new.self b.settled_tally c.open-2.new.self b.entries.items
     b.unsettled.items (deque_capacity b.unsettled) (deque_capacity c.reserve-2.new.self) b.next_seq b.settled_seq
-    b.settled_entries b.next_purge c.self.invariant (λ k. refl)
+    b.settled_entries b.next_purge c.self.invariant (λ name id. refl)
     (λ those. c.in_ok-open.ensures.same those) (λ those. c.in_err-open-2.ensures.same those)
     (λ asked is. c.in_err-open-2.ensures.stays asked is) c.in_ok-reserve-2.ensures.capacity))
 
@@ -42,7 +40,7 @@ invariant_of-self-in_err-insert c =
     (book-same b.index c.insert.new.self b.tally c.open.new.self b.settled_tally c.open-2.new.self b.entries.items
     b.unsettled.items (deque_capacity b.unsettled) (deque_capacity c.reserve-2.new.self) b.next_seq b.settled_seq
     b.settled_entries b.next_purge c.self.invariant
-    (λ k. ap (lookup (is_at (event_cmp k))) c.in_err-insert.ensures.err)
+    (λ name id. c.in_err-insert.ensures.unchanged name id)
     (λ those. c.in_ok-open.ensures.same those) (λ those. c.in_ok-open-2.ensures.same those)
     (λ asked is. c.in_ok-open-2.ensures.stays asked is) c.in_ok-reserve-2.ensures.capacity))
 
@@ -86,7 +84,7 @@ invariant_of-self-2 c =
     b.settled_entries a.seq b.next_purge a.name a.id a.body a.at c.self.invariant
     (omega (arith, c.requires.above, ap (λ v. v.next_seq) c.self.view_is))
     (unmapped _ (ap (λ v. known_in v a.name a.id) c.self.view_is ∙ c.requires.unknown))
-    (λ q. c.in_ok-insert.ensures.updates.0 q)
+    c.in_ok-insert.ensures.added
     (λ those asked. c.add.ensures.more those asked ∙ ap (λ k. in_state asked k + one_of a.name Pending those asked)
     (c.in_ok-open.ensures.same those))
     (λ those. c.in_ok-open-2.ensures.same those) c.in_ok-open-2.ensures.opened

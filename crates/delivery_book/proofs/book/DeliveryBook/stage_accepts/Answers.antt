@@ -57,7 +57,7 @@ invariant_of-self-in_err-open_all-2 c =
     (sym c.in_ok-reserve-2.ensures.items)
     (book-same b.index b.index b.tally c.open_all.new.self b.settled_tally c.open_all-2.new.self b.entries.items
     b.unsettled.items (deque_capacity b.unsettled) (deque_capacity c.reserve-2.new.self) b.next_seq b.settled_seq
-    b.settled_entries b.next_purge c.self.invariant (λ k. refl) (λ those. c.in_ok-open_all.ensures.same those)
+    b.settled_entries b.next_purge c.self.invariant (λ name id. refl) (λ those. c.in_ok-open_all.ensures.same those)
     (λ those. c.in_err-open_all-2.ensures.same those) (λ asked is. c.in_err-open_all-2.ensures.stays asked is)
     c.in_ok-reserve-2.ensures.capacity))
 
