@@ -103,8 +103,9 @@ def stop_all(rng, library, words, text, wanted, make, look, late=None):
     ends = []
     for lose in LOSSES:
         stop, lose = rng.randint(count - (late or count) + 1, count), lose or rng.randrange(1, 2**32)
-        replies, status, _ = play(stop, lose)
-        is_front = (status, replies) == (STOPPED, wanted[: len(replies)])
+        replies, status, made = play(stop, lose)
+        # The log of a new file has other random numbers, by which a run may make a call less, and end before the stop.
+        is_front = (status, replies) == (STOPPED, wanted[: len(replies)]) or (status, replies) == (0, wanted) and made < stop
         why, found = look(replies) if is_front else (f"status {status}, {replies}", None)
         ends.append((why and f"stopped at {stop} of {count}, {lose} lost: {why}", found))
     return ends
