@@ -162,7 +162,7 @@ static CASES: [Case; 15] = [
 ];
 
 /// Commits a record that disables endpoint `a`.
-fn commit_one_more(rt: &impl Abort, alloc: Global, vault: &mut Vault<MemStore>) {
+fn commit_one_more<S: Alter>(rt: &impl Abort, alloc: Global, vault: &mut Vault<S>) {
     let name = Name::read(b"a").expect(rt, "a name");
     let mut steps = Vec::new(alloc);
     steps
@@ -176,34 +176,51 @@ fn commit_one_more(rt: &impl Abort, alloc: Global, vault: &mut Vault<MemStore>) 
 }
 
 /// The store that the calls leave.
-fn left<L: Ledger>(
+fn left<L: Ledger, S: Alter + Drop>(
     rt: &impl Abort,
     alloc: Global,
     blank: Blank,
+    conn: Connection<S>,
     events: &[Event],
-) -> Vault<MemStore>
+) -> Vault<S>
     requires name { blank.name ≡ L.name }
     requires parts { blank.parts ≡ L.parts }
     requires enough { blank.parts ≡ PARTS }
 {
-    let conn = in_memory(rt, alloc);
-    match begun::<L, MemStore>(rt, alloc, blank, conn, events) {
+    match begun::<L, S>(rt, alloc, blank, conn, events) {
         Some((_pool, vault, _)) => vault,
         None => panic!(rt; "create was refused"),
     }
 }
 
-fn left_by(rt: &impl Abort, alloc: Global, path: Path) -> Vault<MemStore> {
+fn left_by<S: Alter + Drop>(
+    rt: &impl Abort,
+    alloc: Global,
+    conn: Connection<S>,
+    path: Path,
+) -> Vault<S> {
     let events = events_of(rt, alloc, &[path]);
-    left::<Brand>(rt, alloc, Blank::new(PARTS), &events)
+    left::<Brand, S>(rt, alloc, Blank::new(PARTS), conn, &events)
 }
 
-/// What the audit finds of the desk, whose own store this is.
-fn found<L: Ledger>(
+/// What the audit finds of the desk and the store that another run leaves.
+fn found_of_other<L: Ledger, S: Alter + Drop>(
     rt: &impl Abort,
     alloc: Global,
     desk: &Desk<L>,
-    own: &mut Vault<MemStore>,
+    conn: Connection<S>,
+    path: Path,
+) -> Option<AuditFault> {
+    let mut other = left_by(rt, alloc, conn, path);
+    audit(alloc, &mut other, desk).err()
+}
+
+/// What the audit finds of the desk, whose own store this is.
+fn found<L: Ledger, S: Alter>(
+    rt: &impl Abort,
+    alloc: Global,
+    desk: &Desk<L>,
+    own: &mut Vault<S>,
     store: Store,
 ) -> Option<AuditFault> {
     match store {
@@ -212,19 +229,16 @@ fn found<L: Ledger>(
             commit_one_more(rt, alloc, own);
             audit(alloc, own, desk).err()
         }
-        Store::Of(path) => {
-            let mut other = left_by(rt, alloc, path);
-            audit(alloc, &mut other, desk).err()
-        }
+        Store::Of(path) => found_of_other(rt, alloc, desk, in_memory(rt, alloc), path),
     }
 }
 
 /// What the audit finds after the calls, which are told what is wanted.
-fn found_after<L: Ledger>(
+fn found_after<L: Ledger, S: Alter + Drop>(
     rt: &impl Abort,
     alloc: Global,
     desk: Desk<L>,
-    vault: Vault<MemStore>,
+    vault: Vault<S>,
     case: Case,
 ) -> Option<AuditFault>
     requires out { HasNothingOut desk }
@@ -251,19 +265,19 @@ fn found_after<L: Ledger>(
     }
 }
 
-fn found_in<L: Ledger>(
+fn found_in<L: Ledger, S: Alter + Drop>(
     rt: &impl Abort,
     alloc: Global,
     blank: Blank,
+    conn: Connection<S>,
     case: Case,
 ) -> Option<AuditFault>
     requires name { blank.name ≡ L.name }
     requires parts { blank.parts ≡ L.parts }
     requires enough { blank.parts ≡ PARTS }
 {
-    let conn = in_memory(rt, alloc);
     assert!(rt; conn.is_autocommit());
-    match create::<L, MemStore>(alloc, blank, conn, MARK) {
+    match create::<L, S>(alloc, blank, conn, MARK) {
         Ok((desk, vault)) => found_after(rt, alloc, desk, vault, case),
         Err((_, _)) => panic!(rt; "create was refused"),
     }
@@ -272,7 +286,8 @@ fn found_in<L: Ledger>(
 #[test]
 fn finds_what_differs(rt: HostRuntime) {
     for (place, case) in CASES.iter().enumerate() {
-        let found = found_in::<Brand>(&rt, rt.alloc(), Blank::new(PARTS), *case);
+        let conn = in_memory(&rt, rt.alloc());
+        let found = found_in::<Brand, MemStore>(&rt, rt.alloc(), Blank::new(PARTS), conn, *case);
         assert!(rt; found == case.2, "case {place}");
     }
 }

@@ -6,7 +6,7 @@ use crate::given::Text;
 use crate::histories::{Way, after, history};
 use crate::sound::refusal_of;
 use crate::stores::{all_rows, number};
-use sqlite::{Connection, MemStore, Row};
+use sqlite::{Alter, Connection, MemStore, Row};
 use std::alloc::Global;
 use std::process::Abort;
 
@@ -88,10 +88,10 @@ struct Change {
 }
 
 /// What is asked of the row at this place of the table.
-fn row_at(
+fn row_at<S: Alter>(
     rt: &impl Abort,
     alloc: Global,
-    conn: &mut Connection<MemStore>,
+    conn: &mut Connection<S>,
     (table, what, place): (&str, &str, u64),
 ) -> Row {
     let sql = format!(in alloc;
@@ -101,16 +101,16 @@ fn row_at(
 }
 
 /// How many rows the table has.
-fn count(rt: &impl Abort, alloc: Global, conn: &mut Connection<MemStore>, table: &str) -> u64 {
+fn count<S: Alter>(rt: &impl Abort, alloc: Global, conn: &mut Connection<S>, table: &str) -> u64 {
     let sql = format!(in alloc; "SELECT count(*) FROM {table}").expect(rt, "memory");
     u64::try_from(number(rt, conn, &sql)).expect(rt, "a count")
 }
 
 /// Whether the cell has this value now. The schema may refuse it.
-fn set(
+fn set<S: Alter>(
     rt: &impl Abort,
     alloc: Global,
-    conn: &mut Connection<MemStore>,
+    conn: &mut Connection<S>,
     cell: Cell,
     value: &Row,
 ) -> bool {
@@ -133,10 +133,10 @@ fn draw_value(rt: &impl Abort, alloc: Global, numbers: &mut Numbers, column: &st
 }
 
 /// A change of a cell of this column, whose table has so many rows.
-fn draw_cell(
+fn draw_cell<S: Alter>(
     rt: &impl Abort,
     alloc: Global,
-    conn: &mut Connection<MemStore>,
+    conn: &mut Connection<S>,
     numbers: &mut Numbers,
     column: Column,
     rows: u64,
@@ -156,10 +156,10 @@ fn draw_cell(
 }
 
 /// A change that is drawn. None where its table is empty.
-fn draw_change(
+fn draw_change<S: Alter>(
     rt: &impl Abort,
     alloc: Global,
-    conn: &mut Connection<MemStore>,
+    conn: &mut Connection<S>,
     numbers: &mut Numbers,
 ) -> Option<Change> {
     let column = COLUMNS[numbers.below(28) as usize];
@@ -171,10 +171,10 @@ fn draw_change(
 }
 
 /// A change that was made. None where its table is empty, or the schema refuses it.
-fn changed(
+fn changed<S: Alter>(
     rt: &impl Abort,
     alloc: Global,
-    conn: &mut Connection<MemStore>,
+    conn: &mut Connection<S>,
     numbers: &mut Numbers,
 ) -> Option<Change> {
     let change = draw_change(rt, alloc, conn, numbers)?;
@@ -195,7 +195,7 @@ fn moved(rt: &impl Abort, change: &Change) -> Cell {
     Cell { column, rowid }
 }
 
-fn give_back(rt: &impl Abort, alloc: Global, conn: &mut Connection<MemStore>, change: &Change) {
+fn give_back<S: Alter>(rt: &impl Abort, alloc: Global, conn: &mut Connection<S>, change: &Change) {
     let cell = moved(rt, change);
     assert!(rt; set(rt, alloc, conn, cell, &change.old));
 }

@@ -7,7 +7,7 @@ use group_commit::WrongTurn;
 use relay_types::{Body, MaxLimit, Moment, MsgId, Name, Secret, Secrets, Target};
 use retry_table::{PostResult, Status};
 use spool::{Batch, Receipt, Vault};
-use sqlite::MemStore;
+use sqlite::Alter;
 use std::alloc::Global;
 use std::process::Abort;
 use std::sync::Arc;
@@ -221,7 +221,7 @@ fn call<L: Ledger>(
     }
 }
 
-fn written(rt: &impl Abort, vault: &mut Vault<MemStore>, batch: Batch) -> Receipt {
+fn written<S: Alter>(rt: &impl Abort, vault: &mut Vault<S>, batch: Batch) -> Receipt {
     match vault.commit(batch) {
         Ok(receipt) => receipt,
         Err(_end) => panic!(rt; "the commit was refused"),
@@ -236,7 +236,7 @@ fn settle<L: Ledger>(rt: &impl Abort, desk: &mut Desk<L>, receipt: Receipt) {
 }
 
 /// Seals what waits, commits it and settles it.
-fn turn<L: Ledger>(rt: &impl Abort, desk: &mut Desk<L>, vault: &mut Vault<MemStore>) {
+fn turn<L: Ledger, S: Alter>(rt: &impl Abort, desk: &mut Desk<L>, vault: &mut Vault<S>) {
     match desk.seal() {
         Ok(Some(batch)) => settle(rt, desk, written(rt, vault, batch)),
         Ok(None) => {}
@@ -251,11 +251,11 @@ fn draw_moment(rt: &impl Abort, numbers: &mut Numbers) -> Moment {
 }
 
 /// Makes random calls, and settles all that came of them.
-pub(crate) fn draw<L: Ledger>(
+pub(crate) fn draw<L: Ledger, S: Alter>(
     rt: &impl Abort,
     alloc: Global,
     desk: &mut Desk<L>,
-    vault: &mut Vault<MemStore>,
+    vault: &mut Vault<S>,
     numbers: &mut Numbers,
 ) {
     for _ in 0..DRAWS {

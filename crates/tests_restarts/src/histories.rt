@@ -11,7 +11,7 @@ use recovery::{create, reopen};
 use relay_types::Moment;
 use retry_table::PostResult;
 use spool::{OpenFault, Vault};
-use sqlite::{Connection, MemStore};
+use sqlite::{Alter, Connection, MemStore};
 use std::alloc::Global;
 use std::marker::Brand;
 use std::process::Abort;
@@ -46,12 +46,12 @@ fn check_clock<L: Ledger>(rt: &impl Abort, desk: &mut Desk<L>, latest: u64) {
 
 /// Whether the desk shows what plain SQL tells of the rows. Adds what it gives, of which nothing is asked where the
 /// opening might be refused.
-fn check_desk<L: Ledger>(
+fn check_desk<L: Ledger, S: Alter>(
     rt: &impl Abort,
     alloc: Global,
     way: Way,
     desk: &mut Desk<L>,
-    conn: &mut Connection<MemStore>,
+    conn: &mut Connection<S>,
     text: &mut Text,
 ) {
     check_pages(rt, alloc, conn, desk);
@@ -66,12 +66,12 @@ fn check_desk<L: Ledger>(
     }
 }
 
-fn draw_where_asked<L: Ledger>(
+fn draw_where_asked<L: Ledger, S: Alter>(
     rt: &impl Abort,
     alloc: Global,
     way: Way,
     desk: &mut Desk<L>,
-    vault: &mut Vault<MemStore>,
+    vault: &mut Vault<S>,
     numbers: &mut Numbers,
 ) {
     match way {
@@ -86,40 +86,40 @@ fn add_refusal(rt: &impl Abort, way: Way, fault: OpenFault, text: &mut Text) {
 }
 
 /// A desk of the store, and its vault.
-fn opened<L: Ledger>(
+fn opened<L: Ledger, S: Alter>(
     rt: &impl Abort,
     alloc: Global,
     blank: Blank,
     way: Way,
-    conn: Connection<MemStore>,
-) -> Result<(Desk<L>, Vault<MemStore>), (Connection<MemStore>, OpenFault)>
+    conn: Connection<S>,
+) -> Result<(Desk<L>, Vault<S>), (Connection<S>, OpenFault)>
     requires name { blank.name ≡ L.name }
     requires parts { blank.parts ≡ L.parts }
     requires enough { blank.parts ≡ PARTS }
 {
     assert!(rt; conn.is_autocommit());
     if matches!(way, Way::Begun) {
-        return create::<L, MemStore>(alloc, blank, conn, MARK);
+        return create::<L, S>(alloc, blank, conn, MARK);
     }
     let pool = Pool::<L>::new(alloc, blank).expect(rt, "memory");
     reopen(alloc, pool, conn, MARK)
 }
 
 /// Opens the store, and checks and does what the way asks for. The store, and what the desk gave, or the refusal.
-fn visit<L: Ledger>(
+fn visit<L: Ledger, S: Alter>(
     rt: &impl Abort,
     alloc: Global,
     blank: Blank,
     way: Way,
-    conn: Connection<MemStore>,
+    conn: Connection<S>,
     numbers: &mut Numbers,
     text: &mut Text,
-) -> Connection<MemStore>
+) -> Connection<S>
     requires name { blank.name ≡ L.name }
     requires parts { blank.parts ≡ L.parts }
     requires enough { blank.parts ≡ PARTS }
 {
-    match opened::<L>(rt, alloc, blank, way, conn) {
+    match opened::<L, S>(rt, alloc, blank, way, conn) {
         Ok((desk, vault)) => {
             let (mut desk, mut vault) = (desk, vault);
             draw_where_asked(rt, alloc, way, &mut desk, &mut vault, numbers);
@@ -144,7 +144,7 @@ pub(crate) fn after(
     text: &mut Text,
 ) -> Connection<MemStore> {
     let conn = again(rt, alloc, conn);
-    let conn = visit::<Brand>(rt, alloc, Blank::new(PARTS), way, conn, numbers, text);
+    let conn = visit::<Brand, MemStore>(rt, alloc, Blank::new(PARTS), way, conn, numbers, text);
     again(rt, alloc, conn)
 }
 
@@ -169,10 +169,10 @@ fn drawn(
 }
 
 /// Adds a topic of one of the endpoints by SQL, after up to two records that no row names.
-fn add_topic(
+fn add_topic<S: Alter>(
     rt: &impl Abort,
     alloc: Global,
-    conn: &mut Connection<MemStore>,
+    conn: &mut Connection<S>,
     numbers: &mut Numbers,
     endpoints: u64,
     topic: u64,
@@ -195,12 +195,12 @@ fn add_topic(
 }
 
 /// The store with up to three topics more, if it has endpoints.
-fn subscribed(
+fn subscribed<S: Alter>(
     rt: &impl Abort,
     alloc: Global,
-    conn: Connection<MemStore>,
+    conn: Connection<S>,
     numbers: &mut Numbers,
-) -> Connection<MemStore> {
+) -> Connection<S> {
     let mut conn = conn;
     let count = number(rt, &mut conn, "SELECT count(*) FROM endpoints");
     let endpoints = u64::try_from(count).expect(rt, "a count");

@@ -4,7 +4,7 @@ use crate::stores::{answer, number};
 use delivery_book::Row as Shown;
 use desk::{Desk, EndpointPage, Limits, Ticket, Told, Totals};
 use relay_types::{MsgId, Name, State};
-use sqlite::{Connection, MemStore, Row};
+use sqlite::{Alter, Connection, Row};
 use sqlite_value::value::ValueRef;
 use std::alloc::Global;
 use std::process::Abort;
@@ -50,10 +50,10 @@ const LATEST: &str = "SELECT coalesce(max(at), 0) FROM \
      (SELECT at FROM deliveries UNION ALL SELECT at FROM attempts)";
 
 /// What this query answers, which reads of how the attempts went.
-fn judged(
+fn judged<S: Alter>(
     rt: &impl Abort,
     alloc: Global,
-    conn: &mut Connection<MemStore>,
+    conn: &mut Connection<S>,
     query: &str,
 ) -> Vec<Row> {
     let sql = format!(in alloc; "{JUDGED}{query}").expect(rt, "memory");
@@ -228,10 +228,10 @@ fn check_events<L: Ledger>(rt: &impl Abort, desk: &Desk<L>, rows: &[Row]) {
 }
 
 /// Whether the desk shows what plain SQL tells of the rows.
-pub(crate) fn check_pages<L: Ledger>(
+pub(crate) fn check_pages<L: Ledger, S: Alter>(
     rt: &impl Abort,
     alloc: Global,
-    conn: &mut Connection<MemStore>,
+    conn: &mut Connection<S>,
     desk: &Desk<L>,
 ) {
     check_totals(rt, desk, &judged(rt, alloc, conn, ALL));
@@ -240,10 +240,10 @@ pub(crate) fn check_pages<L: Ledger>(
 }
 
 /// Whether each endpoint of the desk, which was opened from these rows, has its first limit, and nothing is under way.
-pub(crate) fn check_limits<L: Ledger>(
+pub(crate) fn check_limits<L: Ledger, S: Alter>(
     rt: &impl Abort,
     alloc: Global,
-    conn: &mut Connection<MemStore>,
+    conn: &mut Connection<S>,
     desk: &Desk<L>,
 ) {
     let rows = judged(rt, alloc, conn, ENDPOINTS);
@@ -253,6 +253,6 @@ pub(crate) fn check_limits<L: Ledger>(
 }
 
 /// The greatest moment in the rows, by plain SQL.
-pub(crate) fn latest(rt: &impl Abort, conn: &mut Connection<MemStore>) -> u64 {
+pub(crate) fn latest<S: Alter>(rt: &impl Abort, conn: &mut Connection<S>) -> u64 {
     u64::try_from(number(rt, conn, LATEST)).expect(rt, "a moment")
 }

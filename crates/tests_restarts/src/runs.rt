@@ -67,16 +67,15 @@ pub(crate) fn begun<L: Ledger, S: Alter + Drop>(
 }
 
 /// Makes the calls on what a run left, opened again.
-fn gone_on<L: Ledger>(
+fn gone_on<L: Ledger, S: Alter + Drop>(
     rt: &impl Abort,
     alloc: Global,
     pool: Pool<L>,
-    vault: Vault<MemStore>,
+    conn: Connection<S>,
     events: &[Event],
 ) -> Vec<Reply>
     requires { pool ≡ [] }
 {
-    let conn = again(rt, alloc, vault.release());
     assert!(rt; conn.is_autocommit());
     match reopen(alloc, pool, conn, MARK + 1) {
         Ok((desk, vault)) => closed(rt, alloc, desk, vault, events).2,
@@ -98,7 +97,10 @@ fn told<L: Ledger>(
 {
     let conn = in_memory(rt, alloc);
     match begun::<L, MemStore>(rt, alloc, blank, conn, first) {
-        Some((pool, vault, before)) => [before, gone_on(rt, alloc, pool, vault, then)],
+        Some((pool, vault, before)) => {
+            let conn = again(rt, alloc, vault.release());
+            [before, gone_on(rt, alloc, pool, conn, then)]
+        }
         None => panic!(rt; "create was refused"),
     }
 }

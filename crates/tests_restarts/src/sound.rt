@@ -1,7 +1,7 @@
 //! What the opening of a store is to answer, by plain SQL and the conditions of `docs/FORMATS.md`.
 
 use crate::stores::number;
-use sqlite::{Connection, MemStore};
+use sqlite::{Alter, Connection};
 use std::process::Abort;
 
 /// Each counts what breaks a rule of `docs/FORMATS.md`, "Rows that are opened", in rows that were those of a history
@@ -75,7 +75,7 @@ static OF_TOPICS: &[&str] = &[
 
 const OURS: &str = "SELECT count(*) FROM meta WHERE app = 'webhook-relay'";
 
-fn are_none(rt: &impl Abort, conn: &mut Connection<MemStore>, faults: &[&str]) -> bool {
+fn are_none<S: Alter>(rt: &impl Abort, conn: &mut Connection<S>, faults: &[&str]) -> bool {
     for fault in faults {
         if number(rt, conn, fault) > 0 {
             return false;
@@ -84,12 +84,12 @@ fn are_none(rt: &impl Abort, conn: &mut Connection<MemStore>, faults: &[&str]) -
     true
 }
 
-fn is_sound(rt: &impl Abort, conn: &mut Connection<MemStore>, version: i64) -> bool {
+fn is_sound<S: Alter>(rt: &impl Abort, conn: &mut Connection<S>, version: i64) -> bool {
     are_none(rt, conn, FAULTS) && (version == 1 || are_none(rt, conn, OF_TOPICS))
 }
 
 /// The refusal that the rows call for. It is empty where they are to be opened.
-pub(crate) fn refusal_of(rt: &impl Abort, conn: &mut Connection<MemStore>) -> &'static str {
+pub(crate) fn refusal_of<S: Alter>(rt: &impl Abort, conn: &mut Connection<S>) -> &'static str {
     if number(rt, conn, OURS) != 1 {
         return "NotOurs";
     }

@@ -1,6 +1,6 @@
 //! Stores, in memory.
 
-use sqlite::{Connection, MemStore, Row};
+use sqlite::{Alter, Connection, MemStore, Row};
 use std::alloc::Global;
 use std::process::Abort;
 
@@ -25,12 +25,12 @@ pub(crate) fn again(
     }
 }
 
-pub(crate) fn answer(rt: &impl Abort, conn: &mut Connection<MemStore>, sql: &str) -> Vec<Row> {
+pub(crate) fn answer<S: Alter>(rt: &impl Abort, conn: &mut Connection<S>, sql: &str) -> Vec<Row> {
     conn.query_all(sql, &[]).expect(rt, "rows")
 }
 
 /// The only number that this asks for.
-pub(crate) fn number(rt: &impl Abort, conn: &mut Connection<MemStore>, sql: &str) -> i64 {
+pub(crate) fn number<S: Alter>(rt: &impl Abort, conn: &mut Connection<S>, sql: &str) -> i64 {
     let row = conn.query_row(sql, &[]).expect(rt, "a row");
     row.get(0).expect(rt, "a number")
 }
@@ -44,10 +44,10 @@ static TABLES: [&str; 6] = [
     "SELECT rowid, * FROM topics",
 ];
 
-fn add_rows(
+fn add_rows<S: Alter>(
     rt: &impl Abort,
     alloc: Global,
-    conn: &mut Connection<MemStore>,
+    conn: &mut Connection<S>,
     sql: &str,
     text: &mut String,
 ) {
@@ -57,7 +57,11 @@ fn add_rows(
 }
 
 /// All rows, table by table.
-pub(crate) fn all_rows(rt: &impl Abort, alloc: Global, conn: &mut Connection<MemStore>) -> String {
+pub(crate) fn all_rows<S: Alter>(
+    rt: &impl Abort,
+    alloc: Global,
+    conn: &mut Connection<S>,
+) -> String {
     let mut text = String::new(alloc);
     for sql in TABLES.iter() {
         add_rows(rt, alloc, conn, sql, &mut text);
